@@ -19,10 +19,10 @@ use Rattle.alma_rules.specs.Answers.{first}
 use Rattle.alma_rules.specs.Scene.{Scene, is_first, is_structured}
 use Rattle.alma_rules.specs.Types as types
 use Rattle.alma_rules.specs.Decls as rules
-use Rattle.alma_check_env.specs.declared.env.Formal.{Formal as CodeFormal}
+use Rattle.alma_check_rules.specs.declared.env.Formal.{Formal as CodeFormal}
 use Rattle.alma_check_rules.specs.Views.{formal_view}
-use Rattle.alma_check_reader.specs.declared.reading.Reading.{Reading as CodeReading}
-use Rattle.alma_check_reader.specs.Told.{Told, told, tells, fault_of}
+use Rattle.alma_check_type.specs.declared.reading.Reading.{Reading as CodeReading}
+use Rattle.alma_check_type.specs.Told.{Told, told, tells, fault_of}
 use Rattle.alma_check_block.specs.declared.frame.Frame.{Frame}
 use Rattle.alma_check_block.specs.Shown.{ToldFrame, told_frame, shown, formals_view, param_shaped}
 

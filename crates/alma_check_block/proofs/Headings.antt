@@ -7,11 +7,11 @@ use Rattle.alma_rules.specs.Judged.{Broken, broken_at, unbroken}
 use Rattle.alma_rules.specs.Answers.{first}
 use Rattle.alma_rules.specs.Scene.{Scene, Heading, FormalOf, nothing, a_value}
 use Rattle.alma_rules.specs.Decls as rules
-use Rattle.alma_walk.proofs.Exprs.{next_of}
-use Rattle.alma_check_env.specs.declared.env.Formal.{Formal}
+use Rattle.alma_rules.proofs.Exprs.{next_of}
+use Rattle.alma_check_rules.specs.declared.env.Formal.{Formal}
 use Rattle.alma_check_rules.specs.Views.{formal_view}
-use Rattle.alma_check_reader.specs.declared.reading.Broken.{Broken as CodeBroken}
-use Rattle.alma_check_reader.specs.Told.{fault_of}
+use Rattle.alma_check_type.specs.declared.reading.Broken.{Broken as CodeBroken}
+use Rattle.alma_check_type.specs.Told.{fault_of}
 use Rattle.alma_check_block.specs.declared.frame.Frame.{Frame}
 use Rattle.alma_check_block.specs.Shown.{ToldFrame, told_frame, shown, formals_view, formals_in}
 use Rattle.alma_check_block.proofs.Frames.{moved}

@@ -14,8 +14,8 @@ use Rattle.alma_rules.specs.Judged.{broken_at}
 use Rattle.alma_rules.specs.Scene.{Scene, Returns, nothing, Heading, is_first, is_structured, text_at}
 use Rattle.alma_rules.specs.Types as types
 use Rattle.alma_rules.specs.Decls as rules
-use Rattle.alma_check_reader.specs.Around.{Outer, outer_of, left}
-use Rattle.alma_check_reader.specs.Told.{fault_of}
+use Rattle.alma_check_type.specs.Around.{Outer, outer_of, left}
+use Rattle.alma_check_type.specs.Told.{fault_of}
 use Rattle.alma_rules.specs.Answers.{first}
 use Rattle.alma_check_block.specs.declared.frame.Frame.{Frame}
 use Rattle.alma_check_block.specs.Shown.{ToldFrame, told_frame, shown}

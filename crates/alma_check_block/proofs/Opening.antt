@@ -10,9 +10,9 @@ use Rattle.alma_rules.specs.Numbered as tree
 use Rattle.alma_rules.specs.View as view
 use Rattle.alma_rules.specs.Scene.{Scene, nothing}
 use Rattle.alma_rules.specs.Decls as rules
-use Rattle.alma_walk.proofs.Exprs.{next_of}
-use Rattle.alma_check_reader.specs.Around.{entered}
-use Rattle.alma_walk.proofs.TypeRows.{procedure_is}
+use Rattle.alma_rules.proofs.Exprs.{next_of}
+use Rattle.alma_check_type.specs.Around.{entered}
+use Rattle.alma_rules.proofs.TypeRows.{procedure_is}
 use Rattle.alma_check_block.proofs.Frames.{none_counted, more_counted}
 
 -- ---- counts

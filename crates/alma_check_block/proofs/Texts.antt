@@ -16,7 +16,7 @@ use Rattle.alma_rules.specs.View as view
 use Rattle.alma_rules.specs.Scene.{Scene, text_at}
 use Rattle.alma_rules.specs.Types as types
 use Rattle.alma_rules.specs.Decls as rules
-use Rattle.alma_walk.proofs.TypeRows.{type_is, record_is}
+use Rattle.alma_rules.proofs.TypeRows.{type_is, record_is}
 
 -- ---- a list of names, and another behind it
 

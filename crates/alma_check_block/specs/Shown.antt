@@ -12,9 +12,9 @@ use Rattle.alma_rules.specs.Scene.{Scene, FormalOf, is_first, is_structured}
 use Rattle.alma_rules.specs.Answers.{first}
 use Rattle.alma_rules.specs.Types.{redeclared}
 use Rattle.alma_rules.specs.Decls as rules
-use Rattle.alma_check_env.specs.declared.env.Formal.{Formal}
+use Rattle.alma_check_rules.specs.declared.env.Formal.{Formal}
 use Rattle.alma_check_rules.specs.Views.{formal_view}
-use Rattle.alma_check_reader.specs.Told.{fault_of}
+use Rattle.alma_check_type.specs.Told.{fault_of}
 use Rattle.alma_check_block.specs.declared.frame.Frame.{Frame}
 
 -- formals, each None where its type is Bad, and all of them where none is

@@ -10,8 +10,7 @@ use crate::heading::read_heading;
 use crate::open::number_behind;
 use crate::variable::read_vars;
 use alma_base::NoMemory;
-use alma_check_reader::Reader;
-use alma_check_type::redeclared;
+use alma_check_type::{Reader, redeclared};
 use alma_tree::Decl;
 use std::alloc::Global;
 

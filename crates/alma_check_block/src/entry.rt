@@ -7,15 +7,14 @@ ghost use Rattle.alma_rules.specs.Places.{width, mark_expr, mark_type};
 ghost use Rattle.alma_rules.specs.Types as types;
 ghost use Rattle.alma_rules.specs.Decls as rules;
 ghost use Rattle.alma_rules.specs.View as view;
-ghost use Rattle.alma_check_reader.specs.Told.{fault_of, bound_of};
+ghost use Rattle.alma_check_type.specs.Told.{fault_of, bound_of};
 ghost use Rattle.alma_check_block.specs.Shown.{shown, told_frame};
 
 use crate::frame::Frame;
 use alma_base::NoMemory;
 use alma_check_decl::{read_constant, read_type};
 use alma_check_marks::{width_of_expr, width_of_type};
-use alma_check_reader::{Bound, Broken, Reader};
-use alma_check_type::redeclared;
+use alma_check_type::{Bound, Broken, Reader, redeclared};
 use alma_names::{Entry, ShapeId};
 use alma_tree::{ConstEntry, Expr, Name, TypeEntry, TypeNode};
 use std::alloc::Global;

@@ -5,12 +5,12 @@ ghost use Rattle.alma_rules.specs.Scene.{Scene};
 ghost use Rattle.alma_rules.specs.Answers.{first};
 ghost use Rattle.alma_rules.specs.Decls as rules;
 ghost use Rattle.alma_rules.specs.View.{view_name};
-ghost use Rattle.alma_check_reader.specs.Told.{fault_of};
+ghost use Rattle.alma_check_type.specs.Told.{fault_of};
 ghost use Rattle.alma_check_block.specs.Shown.{shown, told_frame};
 
 use alma_base::{CELL_LIMIT, CheckFault};
-use alma_check_reader::{Broken, earlier};
 use alma_check_rules::Formal;
+use alma_check_type::{Broken, earlier};
 use alma_ir::Param;
 use alma_tree::Name;
 use std::alloc::Global;

@@ -7,7 +7,7 @@ ghost use Rattle.alma_rules.specs.View as view;
 ghost use Rattle.alma_check_rules.specs.Views.{declares_view};
 
 use alma_base::NoMemory;
-use alma_check_reader::{Reader, with_name};
+use alma_check_type::{Reader, with_name};
 use alma_tree::{
     Arrays, Block, ConstEntry, Decl, Dimensions, FieldList, Formal, Name, Names, Params, PlainType,
     TypeEntry, TypeNode, VarEntry,

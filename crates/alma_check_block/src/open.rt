@@ -3,11 +3,11 @@ ghost use Rattle.std.specs.Prelude.{◌≡◌, ◌+◌, IfSome, OnOk, IfOk};
 ghost use Rattle.alma_rules.specs.Scene.{nothing};
 ghost use Rattle.alma_rules.specs.Decls as rules;
 ghost use Rattle.alma_rules.specs.View as view;
-ghost use Rattle.alma_check_reader.specs.Around.{outer_of};
+ghost use Rattle.alma_check_type.specs.Around.{outer_of};
 
 use crate::names::names_of_block;
 use alma_base::NoMemory;
-use alma_check_reader::{Around, Reader};
+use alma_check_type::{Around, Reader};
 use alma_names::Entry;
 use alma_tree::{Block, Decl, Params};
 use std::alloc::Global;

@@ -8,9 +8,9 @@ use Rattle.alma_rules.specs.Parts.{Typing}
 use Rattle.alma_rules.specs.Answers.{first}
 use Rattle.alma_rules.specs.Walk.{judge_expr}
 use Rattle.alma_rules.specs.Types.{reading_then, reading_at, reading_change, reading_with, read_constant, subrange_rules, subrange_of}
-use Rattle.alma_check_reader.specs.Told.{Told, told, told_both, told_sub, bound_of, a_told}
-use Rattle.alma_check_reader.specs.declared.reading.Bound.{Bound}
-use Rattle.alma_check_reader.proofs.Tells.{told_as}
+use Rattle.alma_check_type.specs.Told.{Told, told, told_both, told_sub, bound_of, a_told}
+use Rattle.alma_check_type.specs.declared.reading.Bound.{Bound}
+use Rattle.alma_check_type.proofs.Tells.{told_as}
 use Rattle.alma_check_type.proofs.SubSteps.{sub_told}
 use Rattle.alma_check_decl.proofs.Whole.{Whole, whole_gives, expr_whole}
 

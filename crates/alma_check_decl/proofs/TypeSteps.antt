@@ -7,20 +7,20 @@ use Rattle.alma_tree.specs.declared.type_node.FieldList as dw
 use Rattle.alma_tree.specs.declared.type_node.TypeNode as dy
 use Rattle.alma_tree.specs.declared.type_node.Arrays as dz
 use Rattle.alma_tree.specs.declared.leaf.Names.{Names}
-use Rattle.alma_shapes.specs.Shapes.{PlainField}
+use Rattle.alma_names.specs.Shapes.{PlainField}
 use Rattle.alma_rules.specs.Numbered as tree
 use Rattle.alma_rules.specs.View as view
 use Rattle.alma_rules.specs.Judged.{Broken}
 use Rattle.alma_rules.specs.Scene.{Scene}
 use Rattle.alma_rules.specs.Types as types
 use Rattle.std.proofs.lemmas.List.{drop_all}
-use Rattle.alma_walk.proofs.Exprs.{next_of}
-use Rattle.alma_check_reader.specs.Told.{Told, told, told_both, told_with, told_at, told_index, told_type, onward, join, alone, a_told}
+use Rattle.alma_rules.proofs.Exprs.{next_of}
+use Rattle.alma_check_type.specs.Told.{Told, told, told_both, told_with, told_at, told_index, told_type, onward, join, alone, a_told}
 use Rattle.alma_check_type.specs.Inner.Fields.{ToldFields, Knows, nothing_told, shaped, joined, told_on, told_list, told_record}
-use Rattle.alma_walk.proofs.TypeRows.{type_is, record_is}
+use Rattle.alma_rules.proofs.TypeRows.{type_is, record_is}
 use Rattle.alma_check_decl.proofs.TypeTokens.{type_tokens}
 use Rattle.alma_check_type.proofs.FieldSteps.{fields_told}
-use Rattle.alma_check_reader.proofs.Tells.{then_told, at_told, change_told, onward_begin, onward_both, onward_cons}
+use Rattle.alma_check_type.proofs.Tells.{then_told, at_told, change_told, onward_begin, onward_both, onward_cons}
 
 module _ (s : Scene) where
   type_eq : (n : ℕ) (dims : tree.Arrays) (p : tree.PlainType) → types.read_type s (tree.type_node n dims p)

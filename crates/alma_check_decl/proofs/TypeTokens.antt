@@ -2,7 +2,7 @@
 use Rattle.std.proofs.Common.{◌≡◌, ℕ, ◌+◌, List, [], ◌∷◌, ◌++◌, Option, None, Some, Bool, true, false, refl, ◌∙◌}
 use Rattle.std.specs.Prelude.{ℤ, option_map, if◌then◌else◌, length}
 use Rattle.alma_base.specs.Choice.{if_true}
-use Rattle.alma_shapes.specs.Shapes.{PlainShape, row, sub, listed, fields, is_too_large, placed_shape, cell_counts}
+use Rattle.alma_names.specs.Shapes.{PlainShape, row, sub, listed, fields, is_too_large, placed_shape, cell_counts}
 use Rattle.alma_names.specs.declared.block.Entry.{Entry}
 use Rattle.alma_names.specs.Scopes.{with_declared}
 use Rattle.alma_rules.specs.Numbered as tree

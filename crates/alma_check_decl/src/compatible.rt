@@ -1,6 +1,6 @@
 // Whether two types are compatible.
 ghost use Rattle.std.specs.Prelude.{◌≡◌};
-ghost use Rattle.alma_shapes.specs.Shapes.{base_at};
+ghost use Rattle.alma_names.specs.Shapes.{base_at};
 ghost use Rattle.alma_rules.specs.Answers as answers;
 
 use alma_names::{ShapeId, Shapes};

@@ -3,13 +3,12 @@ ghost use Rattle.std.specs.Prelude.{◌≡◌, IfOk, option_map};
 ghost use Rattle.alma_rules.specs.Types as types;
 ghost use Rattle.alma_rules.specs.View.{view_expr};
 ghost use Rattle.alma_check_rules.specs.Views.{typing_in};
-ghost use Rattle.alma_check_reader.specs.Told.{told, tells, tells_of, bound_of, formed_of};
+ghost use Rattle.alma_check_type.specs.Told.{told, tells, tells_of, bound_of, formed_of};
 
 use alma_base::NoMemory;
-use alma_check_expr::check_expr;
-use alma_check_reader::{Bound, Broken, Formed, Reader, Reading};
+use alma_check_phrases::check_expr;
 use alma_check_rules::{Place, Typed};
-use alma_check_type::join_subrange;
+use alma_check_type::{Bound, Broken, Formed, Reader, Reading, join_subrange};
 use alma_rules::Stop;
 use alma_tree::Expr;
 use std::alloc::Global;

@@ -1,6 +1,6 @@
 //! What declarations declare, and the first rule that is broken in them.
 // The line #![tactic(auto)] of every crate, with lemmas for all functions of this one.
-#![tactic(auto, using(alma_check_reader::proofs::Tells::steps, std::proofs::lemmas::Grind::common_steps))]
+#![tactic(auto, using(alma_check_type::proofs::Tells::steps, std::proofs::lemmas::Grind::common_steps))]
 
 mod compatible;
 mod constant;

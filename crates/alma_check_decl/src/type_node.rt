@@ -3,14 +3,14 @@ ghost use Rattle.std.specs.Prelude.{◌≡◌, ◌++◌, List, IfOk};
 ghost use Rattle.alma_rules.specs.Numbered as tree;
 ghost use Rattle.alma_rules.specs.Types as types;
 ghost use Rattle.alma_rules.specs.View.{view_type_node, view_plain_type, view_field_list, view_dimension, arrays_of, dimensions_of, plains_of, field_lists_of};
-ghost use Rattle.alma_check_reader.specs.Told.{told, tells, tells_of, fault_of, formed_of, items_of, items_in, onward};
+ghost use Rattle.alma_check_type.specs.Told.{told, tells, tells_of, fault_of, formed_of, items_of, items_in, onward};
 ghost use Rattle.alma_check_type.specs.Inner.Fields as spec;
 
 use crate::constant::read_subrange;
 use alma_base::NoMemory;
-use alma_check_reader::{Formed, Reader, Reading, read_named};
 use alma_check_type::{
-    Fields, join_fields, join_index, join_record, join_type, no_fields, plain_node, read_listed,
+    Fields, Formed, Reader, Reading, join_fields, join_index, join_record, join_type, no_fields,
+    plain_node, read_listed, read_named,
 };
 use alma_tree::{Arrays, Dimensions, FieldList, PlainType, TypeNode};
 use std::alloc::Global;

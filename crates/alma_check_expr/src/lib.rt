@@ -1,12 +1,10 @@
-//! The check of expressions and statements.
+//! What one constant or type expression alone is, in the environment that a reader holds.
+// The line #![tactic(auto)] of every crate, with lemmas for all functions of this one.
+#![tactic(auto, using(std::proofs::lemmas::Grind::common_steps))]
 
-#![tactic(auto)]
+mod phrase;
 
-mod branch;
-mod case;
-mod choice;
-mod sequence;
-mod turns;
-mod walk;
-
-pub use walk::{check_expr, check_stmts};
+pub use alma_check_decl::fits;
+pub use alma_check_rules::Env;
+pub use alma_rules::CheckError;
+pub use phrase::{const_value, shape_of};

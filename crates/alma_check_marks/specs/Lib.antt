@@ -1,1 +1,2 @@
-pub use Rattle.alma_phrase_marks.specs.Marking
+-- Definitions of contracts between the functions of this crate, and what its marks stand for.
+pub mod Marking

@@ -2,10 +2,11 @@
 ghost use Rattle.alma_rules.specs.Numbered as tree;
 ghost use Rattle.alma_rules.specs.Places as places;
 ghost use Rattle.alma_rules.specs.View as view;
-ghost use Rattle.alma_phrase_marks.specs.Marking.{Walks};
+ghost use Rattle.alma_check_marks.specs.Marking.{Walks};
 
+use crate::expression::mark_expr;
+use crate::mark::Marks;
 use alma_base::NoMemory;
-use alma_phrase_marks::{Marks, mark_expr};
 use alma_tree::{Arrays, Dimensions, Expr, FieldList, Name, Names, PlainType, TypeNode};
 
 /// Names.

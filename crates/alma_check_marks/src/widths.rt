@@ -2,11 +2,13 @@
 ghost use Rattle.std.specs.Prelude.{◌≡◌, ◌-◌, IfOk};
 ghost use Rattle.alma_rules.specs.Places as places;
 ghost use Rattle.alma_rules.specs.View as view;
-ghost use Rattle.alma_phrase_marks.specs.Marking.{marked};
+ghost use Rattle.alma_check_marks.specs.Marking.{marked};
 
+use crate::expression::mark_expr;
+use crate::mark::{Mark, Marks, first_token, marks_from};
+use crate::statement::mark_stmts;
 use crate::type_node::mark_type;
 use alma_base::NoMemory;
-use alma_phrase_marks::{Mark, Marks, first_token, mark_expr, mark_stmts, marks_from};
 use alma_tree::{Expr, Stmts, TypeNode};
 use std::alloc::Global;
 

@@ -1,1 +1,3 @@
-pub use Rattle.alma_check_env.specs.Views
+pub mod Views
+pub mod Labels
+pub mod Reach

@@ -1,15 +1,26 @@
-//! The rules of each node of an expression, in the order of the faults.
+//! What a phrase stands in, and the rules of expressions and statements, each as one function.
 // The line #![tactic(auto)] of every crate, with lemmas for all functions of this one.
 #![tactic(auto, using(std::proofs::lemmas::Grind::common_steps))]
 
+mod env;
+mod labels;
+mod name;
+mod part;
+mod reach;
 mod rule;
+mod stmt_rule;
 
-pub use alma_check_env::{
-    Argument, Behind, Callee, Denoted, Env, Formal, Found, Heading, Join, Located, Meaning,
-    Operand, Operator, Place, Returns, Span, Typed, Use,
+pub use env::{Env, Formal, Found, Heading, Place, Returns};
+pub use labels::Labels;
+pub use part::{
+    Argument, Behind, Callee, Denoted, Join, Located, Meaning, Operand, Operator, Span, Typed, Use,
 };
 pub use rule::{
     no_integer, pass_argument, pass_array, pass_call, pass_chr, pass_constant, pass_desig,
     pass_field, pass_index, pass_known, pass_literal, pass_name, pass_not, pass_operand,
     pass_relation, pass_simple, pass_test, structured,
+};
+pub use stmt_rule::{
+    pass_assign, pass_bare_return, pass_by, pass_case, pass_label, pass_loop, pass_loop_name,
+    pass_read, pass_return, pass_write, span_of,
 };

@@ -4,12 +4,11 @@ ghost use Rattle.alma_rules.specs.Judged.{holds, both_of};
 ghost use Rattle.alma_rules.specs.Answers.{Passes};
 ghost use Rattle.alma_rules.specs.Parts as parts;
 ghost use Rattle.alma_rules.specs.ExprRules as rules;
-ghost use Rattle.alma_check_env.specs.Views.{scene_of, found_view, headings_in, denoted_in, typing_in, located_in, operand_view, use_view, argument_view, formal_view, operator_view, somewhere, callee_in};
+ghost use Rattle.alma_check_rules.specs.Views.{scene_of, found_view, headings_in, denoted_in, typing_in, located_in, operand_view, use_view, argument_view, formal_view, operator_view, somewhere, callee_in};
 
+use crate::env::{Env, Formal, Found, Place};
+use crate::part::{Argument, Callee, Denoted, Located, Operand, Operator, Typed, Use};
 use alma_base::CheckFault;
-use alma_check_env::{
-    Argument, Callee, Denoted, Env, Formal, Found, Located, Operand, Operator, Place, Typed, Use,
-};
 use alma_rules::Stop;
 use alma_tree::{Mode, Relation};
 

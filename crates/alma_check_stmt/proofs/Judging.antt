@@ -7,15 +7,15 @@ use Rattle.alma_ir.specs.declared.program.Program.{Program}
 use Rattle.alma_ir.specs.View.{program_of, global_of}
 use Rattle.alma_ir.specs.declared.program.Global.{Global as Variable}
 use Rattle.alma_base.specs.declared.fault.NoMemory.{NoMemory}
-use Rattle.alma_check_gathered.specs.declared.checked.Checked.{Checked}
+use Rattle.alma_check_stmt.specs.declared.checked.Checked.{Checked}
 use Rattle.alma_ir.specs.Checked.{IsChecked}
 use Rattle.alma_rules.specs.declared.error.CheckError.{CheckError}
 use Rattle.alma_rules.specs.Answers.{Resolves}
 use Rattle.alma_rules.specs.Numbered as tree
 use Rattle.alma_rules.specs.Modules.{broken, resolved}
-use Rattle.alma_check_reader.specs.declared.reading.Broken.{Broken as CodeBroken}
-use Rattle.alma_check_reader.specs.Told.{fault_of}
-use Rattle.alma_check_gathered.specs.Inner.Shown.{unless_bad, routines_in}
+use Rattle.alma_check_type.specs.declared.reading.Broken.{Broken as CodeBroken}
+use Rattle.alma_check_type.specs.Told.{fault_of}
+use Rattle.alma_check_stmt.specs.Inner.Shown.{unless_bad, routines_in}
 use Rattle.alma_check_stmt.specs.declared.module.Whole.{Whole}
 use Rattle.alma_check_stmt.specs.Whole.{IsJudged}
 use Rattle.alma_check_stmt.proofs.Wholes.{unbroken_is_fine}

@@ -1,2 +1,9 @@
+pub mod Stays
+pub mod Headings
+pub mod Gathering
+pub mod Routines
+pub mod Own
+pub mod Checking
+pub mod Sizes
 pub mod Wholes
 pub mod Judging

@@ -11,11 +11,11 @@ use Rattle.alma_rules.specs.Scene.{Scene, nothing, text_of, text_at}
 use Rattle.alma_rules.specs.Decls.{Frame, with_block, new_frame, block_routines, decls_routines, read_decls}
 use Rattle.alma_rules.specs.Modules.{Bodied, judge_block, judge_bodies, judge_body, judge_module, first_scene, module_frame, broken, resolved, end_rules, with_shapes}
 use Rattle.alma_rules.specs.Rising.{IsRising}
-use Rattle.alma_check_gathered.specs.Inner.Gathered.{Stage, stage, through_read, with_least, unless_broken, joined_lists, IsReady}
+use Rattle.alma_check_stmt.specs.Inner.Gathered.{Stage, stage, through_read, with_least, unless_broken, joined_lists, IsReady}
 use Rattle.alma_check_stmt.specs.Whole.{IsJudged}
-use Rattle.alma_check_routine.proofs.Stays.{ground, ground_steady, headings_steady, block_same}
-use Rattle.alma_check_routine.proofs.Headings.{decls_ground}
-use Rattle.alma_check_routine.proofs.Gathering.{block_gathered, body_quiet, rising_module}
+use Rattle.alma_check_stmt.proofs.Stays.{ground, ground_steady, headings_steady, block_same}
+use Rattle.alma_check_stmt.proofs.Headings.{decls_ground}
+use Rattle.alma_check_stmt.proofs.Gathering.{block_gathered, body_quiet, rising_module}
 
 -- a module of its parts
 abbrev pub whole : ℕ → tree.Name → ℕ → tree.DeclTail → Option tree.Stmts → tree.Name → tree.Module

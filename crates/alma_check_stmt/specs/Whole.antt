@@ -5,7 +5,7 @@ use Rattle.alma_ir.specs.Tree as ir
 use Rattle.alma_rules.specs.Numbered as tree
 use Rattle.alma_rules.specs.Judged.{Broken, least}
 use Rattle.alma_rules.specs.Modules.{judge_module, program_of, broken}
-use Rattle.alma_check_gathered.specs.Inner.Gathered.{unless_broken}
+use Rattle.alma_check_stmt.specs.Inner.Gathered.{unless_broken}
 
 -- the least broken rule, the routines where no rule is broken, the name and the variables
 pub record IsJudged (source : List ℕ) (tokens : List Lexeme) (m : tree.Module) (fault : Option Broken) (routines : Option (List ir.Routine)) (name : List ℕ) (globals : List ir.Global) : Type 0 where

@@ -7,7 +7,7 @@ use Rattle.std.proofs.lemmas.Slice.Eq.{bytes_eq-Decides}
 use Rattle.indexmap.specs.IndexMap.{insert_entry}
 use Rattle.alma_base.specs.declared.fault.CheckFault.TheVariants as fault
 use Rattle.alma_tree.specs.declared.leaf.Name.{Name}
-use Rattle.alma_shapes.specs.Shapes.{PlainField, fields}
+use Rattle.alma_names.specs.Shapes.{PlainField, fields}
 use Rattle.alma_scan.specs.Tokens.{Lexeme}
 use Rattle.alma_rules.specs.Numbered as tree
 use Rattle.alma_rules.specs.View.{view_name, names_of}
@@ -15,12 +15,12 @@ use Rattle.alma_rules.specs.Judged.{Broken, both_of, broken_at, unbroken, when}
 use Rattle.alma_rules.specs.Scene.{Scene}
 use Rattle.alma_rules.specs.Answers.{first}
 use Rattle.alma_rules.specs.Types.{Reading, Formed, add_shape, is_field, redeclared_fields, fields_with, fields_of_type}
-use Rattle.alma_walk.proofs.Exprs.{next_of}
-use Rattle.alma_check_reader.specs.Told.{Told, told, earlier, join, a_told}
+use Rattle.alma_rules.proofs.Exprs.{next_of}
+use Rattle.alma_check_type.specs.Told.{Told, told, earlier, join, a_told}
 use Rattle.alma_check_type.specs.Inner.Tables.{field_view, fields_view}
 use Rattle.alma_check_type.specs.Inner.Fields.{text_in, among, Knows, ToldFields, unless_bad, field_at, field_as, with_field, with_fields, begun, shape_or_zero, shaped, joined, told_list, told_on, told_record}
-use Rattle.alma_check_reader.proofs.BlockSteps.{inserted}
-use Rattle.alma_check_reader.proofs.Tells.{first_joined, earlier_none, earlier_assoc, told_as}
+use Rattle.alma_check_type.proofs.BlockSteps.{inserted}
+use Rattle.alma_check_type.proofs.Tells.{first_joined, earlier_none, earlier_assoc, told_as}
 
 -- ---- texts
 

@@ -1,3 +1,5 @@
+pub mod Tells
+pub mod BlockSteps
 pub mod ShapeSteps
 pub mod FieldSteps
 pub mod SubSteps

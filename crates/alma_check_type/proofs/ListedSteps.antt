@@ -5,15 +5,15 @@ use Rattle.std.proofs.lemmas.List.{drop_all}
 use Rattle.alma_base.specs.Choice.{if_true}
 use Rattle.alma_base.specs.declared.fault.CheckFault.TheVariants as fault
 use Rattle.alma_tree.specs.declared.leaf.Name.{Name}
-use Rattle.alma_shapes.specs.Shapes.{listed}
+use Rattle.alma_names.specs.Shapes.{listed}
 use Rattle.alma_rules.specs.Numbered as tree
 use Rattle.alma_rules.specs.View.{view_name, names_of}
 use Rattle.alma_rules.specs.Judged.{Broken, broken_at, when}
 use Rattle.alma_rules.specs.Scene.{Scene, is_first}
 use Rattle.alma_rules.specs.Answers.{first}
 use Rattle.alma_rules.specs.Types.{redeclared, redeclared_all, all_first, last_token, declared, value_entry, declare_values, read_listed, listed_in, add_shape, Formed, formed, too_large}
-use Rattle.alma_walk.proofs.Exprs.{next_of}
-use Rattle.alma_check_reader.specs.Told.{Told, told, a_told}
+use Rattle.alma_rules.proofs.Exprs.{next_of}
+use Rattle.alma_check_type.specs.Told.{Told, told, a_told}
 use Rattle.alma_check_type.specs.Inner.Tables.{shape_of_formed, last_of}
 
 -- ---- names that are declared earlier

@@ -6,13 +6,13 @@ use Rattle.std.proofs.lemmas.List.{take_more, take_all, map-append}
 use Rattle.std.proofs.lemmas.Option.{get_or_from_slice_get, slice_get_within}
 use Rattle.std.proofs.lemmas.Map.Made.{AllPairs-from_IsDistinct}
 use Rattle.std.proofs.lemmas.Slice.Eq.{bytes_eq-Decides}
-use Rattle.alma_shapes.specs.declared.shapes.FieldOf.{FieldOf}
-use Rattle.alma_shapes.specs.Shapes.{PlainField, field_of, fields_of, names_of, AllBelow}
+use Rattle.alma_names.specs.declared.shapes.FieldOf.{FieldOf}
+use Rattle.alma_names.specs.Shapes.{PlainField, field_of, fields_of, names_of, AllBelow}
 use Rattle.alma_rules.specs.Scene.{Scene}
 use Rattle.alma_rules.specs.Judged.{Broken}
 use Rattle.alma_rules.specs.Types.{Formed, number_in, size_rules, row_on, rows_on}
-use Rattle.alma_check_reader.specs.Told.{Told, told_with, told_at, told_type, a_told}
-use Rattle.alma_check_env.specs.declared.env.Env.{Env}
+use Rattle.alma_check_type.specs.Told.{Told, told_with, told_at, told_type, a_told}
+use Rattle.alma_check_rules.specs.declared.env.Env.{Env}
 use Rattle.alma_check_rules.specs.Views.{scene_of, somewhere}
 use Rattle.alma_check_type.specs.Inner.Tables.{field_view, fields_view}
 

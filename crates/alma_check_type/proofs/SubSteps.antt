@@ -8,9 +8,9 @@ use Rattle.alma_rules.specs.Scene.{Scene}
 use Rattle.alma_rules.specs.Parts.{Typing}
 use Rattle.alma_rules.specs.Answers.{first}
 use Rattle.alma_rules.specs.Types.{Reading, reading_then, reading_with, reading_at, reading_change, read_constant, subrange_rules, subrange_of}
-use Rattle.alma_check_reader.specs.declared.reading.Bound.{Bound}
-use Rattle.alma_check_reader.specs.Told.{told, told_both, told_at, told_change, told_sub, earlier, bound_of, a_told, sub_of, pair_rules, first_rule}
-use Rattle.alma_check_reader.proofs.Tells.{then_told, at_told, change_told, earlier_none}
+use Rattle.alma_check_type.specs.declared.reading.Bound.{Bound}
+use Rattle.alma_check_type.specs.Told.{told, told_both, told_at, told_change, told_sub, earlier, bound_of, a_told, sub_of, pair_rules, first_rule}
+use Rattle.alma_check_type.proofs.Tells.{then_told, at_told, change_told, earlier_none}
 
 by_bounds : (n : ℕ) (s : Scene) (f : Option Broken) (v w : Option Typing)
     → told_change subrange_of (told_at n (subrange_rules s) (a_told f s (both_of v w))) ≡ told_sub n (a_told f s (both_of (option_map bound_of v) (option_map bound_of w)))

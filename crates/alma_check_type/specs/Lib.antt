@@ -1,1 +1,4 @@
+pub mod Told
+pub mod Outermost
+pub mod Around
 pub mod Inner

@@ -1,16 +1,17 @@
 // Fields of records.
 ghost use Rattle.std.specs.Prelude.{◌≡◌, ◌∷◌, ◌++◌, [], ℕ, List, true, false, IfOk};
 ghost use Rattle.alma_scan.specs.Tokens.{Lexeme};
-ghost use Rattle.alma_shapes.specs.Shapes.{PlainField};
+ghost use Rattle.alma_names.specs.Shapes.{PlainField};
 ghost use Rattle.alma_rules.specs.Numbered as tree;
 ghost use Rattle.alma_rules.specs.Types as types;
 ghost use Rattle.alma_rules.specs.View.{view_name, view_names, names_of};
-ghost use Rattle.alma_check_reader.specs.Told.{Told, tells, tells_of, fault_of, formed_of};
+ghost use Rattle.alma_check_type.specs.Told.{Told, tells, tells_of, fault_of, formed_of};
 ghost use Rattle.alma_check_type.specs.Inner.Fields as spec;
 
+use crate::reader::Reader;
+use crate::reading::{Broken, Formed, Reading, earlier};
 use crate::shape::add_record;
 use alma_base::{CheckFault, NoMemory};
-use alma_check_reader::{Broken, Formed, Reader, Reading, earlier};
 use alma_tree::{Name, Names};
 use indexmap::IndexMap;
 use std::alloc::Global;

@@ -6,12 +6,13 @@ ghost use Rattle.alma_rules.specs.Scene.{Scene};
 ghost use Rattle.alma_rules.specs.Types as types;
 ghost use Rattle.alma_rules.specs.View.{view_plain_type};
 ghost use Rattle.alma_check_rules.specs.Views.{scene_of, somewhere};
-ghost use Rattle.alma_check_reader.specs.Told.{Told, tells, tells_of, a_told, fault_of, earlier, formed_of, items_of, items_in, onward, told_at, told_with, told_number, told_index, told_type};
+ghost use Rattle.alma_check_type.specs.Told.{Told, tells, tells_of, a_told, fault_of, earlier, formed_of, items_of, items_in, onward, told_at, told_with, told_number, told_index, told_type};
 
+use crate::reader::Reader;
+use crate::reading::{Broken, Formed, Reading, earlier};
 use crate::shape::add_rows;
 use alma_base::{CheckFault, NoMemory};
-use alma_check_form::with_part;
-use alma_check_reader::{Broken, Formed, Reader, Reading, earlier};
+use alma_check_build_stmt::with_part;
 use alma_check_rules::Env;
 use alma_tree::PlainType;
 use std::alloc::Global;

@@ -1,15 +1,23 @@
-//! What a checker reads of types: enumerations, subranges, records and arrays, put together of parts that are read.
+//! Checking types: names that are looked up, shapes, fields, subranges.
 // The line #![tactic(auto)] of every crate, with lemmas for all functions of this one.
-#![tactic(auto, using(alma_check_reader::proofs::Tells::steps, std::proofs::lemmas::Grind::common_steps))]
+#![tactic(auto, using(crate::proofs::Tells::steps, std::proofs::lemmas::Grind::common_steps))]
 
+mod block;
 mod field;
 mod join;
 mod listed;
+mod name;
+mod reader;
+mod reading;
 mod shape;
 mod subrange;
 
+pub use block::{Around, with_name};
 pub use field::{Fields, join_fields, join_record, no_fields};
 pub use join::{join_index, join_type, plain_node};
 pub use listed::{last_token, read_listed, redeclared};
+pub use name::{read_named, read_type_name};
+pub use reader::Reader;
+pub use reading::{Bound, Broken, Formed, Reading, earlier};
 pub use shape::add_rows;
 pub use subrange::join_subrange;

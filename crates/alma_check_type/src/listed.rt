@@ -1,5 +1,5 @@
 // Enumerations.
-#![tactic(auto, using(crate::proofs::ListedSteps::lists, alma_check_reader::proofs::Tells::steps, std::proofs::lemmas::Grind::common_steps))]
+#![tactic(auto, using(crate::proofs::ListedSteps::lists, crate::proofs::Tells::steps, std::proofs::lemmas::Grind::common_steps))]
 
 ghost use Rattle.std.specs.Prelude.{◌≡◌, ◌+◌, ◌<◌, Some, None, length, OnOk, IfOk};
 ghost use Rattle.alma_rules.specs.Judged.{broken_at};
@@ -7,11 +7,12 @@ ghost use Rattle.alma_rules.specs.Answers.{first};
 ghost use Rattle.alma_rules.specs.Types as types;
 ghost use Rattle.alma_rules.specs.View.{view_name, view_names, names_of};
 ghost use Rattle.alma_check_type.specs.Inner.Tables.{shape_of_formed};
-ghost use Rattle.alma_check_reader.specs.Told.{told, tells_of, broken_of, fault_of, formed_of};
+ghost use Rattle.alma_check_type.specs.Told.{told, tells_of, broken_of, fault_of, formed_of};
 
+use crate::reader::Reader;
+use crate::reading::{Broken, Formed, Reading};
 use crate::shape::add_listed;
 use alma_base::{CheckFault, NoMemory};
-use alma_check_reader::{Broken, Formed, Reader, Reading};
 use alma_names::{Entry, ShapeId};
 use alma_tree::{Name, Names};
 use std::alloc::Global;

@@ -1,14 +1,15 @@
 // Shapes of types, put into the table. A shape that the table could not take, which no source shows, answers that memory ran out.
 ghost use Rattle.std.specs.Prelude.{◌≡◌, ◌<◌, Some, IfOk, length, option_map, slice_get};
-ghost use Rattle.alma_shapes.specs.Shapes as shapes;
+ghost use Rattle.alma_names.specs.Shapes as shapes;
 ghost use Rattle.alma_rules.specs.Types as types;
 ghost use Rattle.alma_rules.specs.Scene as scenes;
 ghost use Rattle.alma_check_rules.specs.Views.{scene_of, somewhere};
-ghost use Rattle.alma_check_reader.specs.Told.{formed_of};
+ghost use Rattle.alma_check_type.specs.Told.{formed_of};
 ghost use Rattle.alma_check_type.specs.Inner.Tables.{Shows, may_index, field_view, fields_view};
 
+use crate::reader::Reader;
+use crate::reading::Formed;
 use alma_base::{NoMemory, Range};
-use alma_check_reader::{Formed, Reader};
 use alma_check_rules::Env;
 use alma_names::{FieldOf, Shape, ShapeId};
 use indexmap::IndexMap;

@@ -2,11 +2,12 @@
 ghost use Rattle.std.specs.Prelude.{◌≡◌, Some, IfOk};
 ghost use Rattle.alma_rules.specs.StmtRules as rules;
 ghost use Rattle.alma_check_rules.specs.Views.{scene_of, somewhere};
-ghost use Rattle.alma_check_reader.specs.Told.{tells, tells_of, a_told, fault_of, formed_of, told_both, told_sub, sub_of, pair_rules, first_rule};
+ghost use Rattle.alma_check_type.specs.Told.{tells, tells_of, a_told, fault_of, formed_of, told_both, told_sub, sub_of, pair_rules, first_rule};
 
+use crate::reader::Reader;
+use crate::reading::{Bound, Broken, Formed, Reading, earlier};
 use crate::shape::add_sub;
 use alma_base::{CheckFault, NoMemory, Range};
-use alma_check_reader::{Bound, Broken, Formed, Reader, Reading, earlier};
 use alma_check_rules::Env;
 use std::alloc::Global;
 

@@ -5,7 +5,7 @@ use Rattle.std.proofs.lemmas.List.{length-map}
 use Rattle.alma_code.specs.declared.cell.SlotKind.{SlotKind}
 use Rattle.alma_code.specs.declared.instr.Instr.{Instr}
 use Rattle.alma_choice.specs.declared.emit.Emit.{Emit}
-use Rattle.alma_templates.specs.Lined.{Lined}
+use Rattle.alma_lower_templates.specs.Lined.{Lined}
 use Rattle.alma_choice.specs.Emitted.{lined, made, with_target, aimed, Appends}
 
 -- an instruction of the code is written anew with its target

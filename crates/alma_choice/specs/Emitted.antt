@@ -4,7 +4,7 @@ use Rattle.alma_code.specs.declared.cell.SlotKind.{SlotKind}
 use Rattle.alma_code.specs.declared.instr.Instr.{Instr}
 use Rattle.alma_code.specs.declared.instr.Instr.TheVariants as I
 use Rattle.alma_choice.specs.declared.emit.Emit.{Emit}
-use Rattle.alma_templates.specs.Lined.{Lined, own}
+use Rattle.alma_lower_templates.specs.Lined.{Lined, own}
 
 -- an instruction in memory beside its line
 abbrev pub lined : Instr × ℕ → Lined

@@ -2,8 +2,8 @@
 ghost use Rattle.std.specs.Prelude.{◌≡◌, ℕ, ◌+◌, List, [], ◌∷◌, ◌++◌, ◌≤◌, length, IfOk, OnOk};
 ghost use Rattle.alma_code.specs.declared.instr.Instr.TheVariants as instr;
 ghost use Rattle.alma_code.specs.declared.cell.SlotKind.TheVariants as slot;
-ghost use Rattle.alma_templates.specs.Lined.{own};
-ghost use Rattle.alma_templates.specs.Pieces as pieces;
+ghost use Rattle.alma_lower_templates.specs.Lined.{own};
+ghost use Rattle.alma_lower_templates.specs.Pieces as pieces;
 ghost use Rattle.alma_base.specs.Limits.{instr_limit};
 ghost use Rattle.alma_choice.specs.Emitted.{made, with_target, aimed, Appends, Aims, EndsEach, EndsForall};
 

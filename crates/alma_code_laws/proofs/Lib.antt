@@ -6,3 +6,6 @@ pub mod Links
 pub mod Steps
 pub mod Runs
 pub mod Verdicts
+pub mod Does
+pub mod UndoneActs
+pub mod Undoing

@@ -1,14 +1,14 @@
 // The top call: from the words to the status.
-ghost use Rattle.alma_words.specs.Words.{texts};
-ghost use Rattle.alma_outcome.specs.Outside.{sink_side, source_side, files_side, outside_of};
-ghost use Rattle.alma_outcome.specs.Course.{Answers};
-ghost use Rattle.alma_promise.specs.Causes.{Causes};
+ghost use Rattle.alma_driver_words.specs.Words.{texts};
+ghost use Rattle.alma_driver_outcome.specs.Outside.{sink_side, source_side, files_side, outside_of};
+ghost use Rattle.alma_driver_outcome.specs.Course.{Answers};
+ghost use Rattle.alma_driver_outcome.specs.Causes.{Causes};
 
 use alma_base::Status;
+use alma_driver_outcome::report;
+use alma_driver_serve::perform;
+use alma_driver_words::file_word;
 use alma_io::{Files, Sink, Source};
-use alma_report::report;
-use alma_serve::perform;
-use alma_words::file_word;
 use std::alloc::Global;
 
 /// All that the program does: what the words ask, over the files, the input and the two outputs. `words` are those behind

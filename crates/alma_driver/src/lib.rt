@@ -3,7 +3,7 @@
 
 mod driver;
 
-pub use alma_promise::laws;
-pub use alma_sample::sample_source;
-pub use alma_words::{Request, WordsError, read_words};
+pub use alma_driver_outcome::laws;
+pub use alma_driver_sample::sample_source;
+pub use alma_driver_words::{Request, WordsError, read_words};
 pub use driver::alma;

@@ -13,7 +13,7 @@ use Rattle.std.specs.Map.{lookup}
 use Rattle.std.specs.FinMap as finite
 use Rattle.std.proofs.lemmas.Map.Text.{is_eq-slice_cmp, btree_map_updates_text}
 use Rattle.std.proofs.lemmas.Bool.{false_from_ne_true}
-use Rattle.alma_outside.specs.Files.{Told, Untold, Missing, Has, NowHas}
+use Rattle.alma_io.specs.Files.{Told, Untold, Missing, Has, NowHas}
 use Rattle.alma_io.specs.Memory.{NamedBytes}
 use Rattle.alma_io.specs.Named.{named_bytes}
 

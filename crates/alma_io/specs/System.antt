@@ -1,9 +1,9 @@
 -- What the adapters are seen as, and what reading a whole file may answer.
 use Rattle.std.specs.Prelude.{◌≤◌, List, ℕ, length, Option, Result, Ok, Err}
 use Rattle.std.specs.Global.{Vec}
-use Rattle.alma_outside.specs.Files.{Told, MayHave, MayPass}
-use Rattle.alma_outside.specs.declared.files.Fetch.{Fetch}
-use Rattle.alma_outside.specs.declared.files.Fetch.TheVariants.{Absent, Failed, TooLong, Memory}
+use Rattle.alma_io.specs.Files.{Told, MayHave, MayPass}
+use Rattle.alma_io.specs.declared.files.Fetch.{Fetch}
+use Rattle.alma_io.specs.declared.files.Fetch.TheVariants.{Absent, Failed, TooLong, Memory}
 
 -- a reader or a writer with a count of its faults: the bytes that are left or written, where it tells them
 pub record StreamState : Type 0 where

@@ -3,3 +3,4 @@ pub mod Counts
 pub mod Saturated
 pub mod Each
 pub mod LinesBack
+pub mod Counted

@@ -1,11 +1,13 @@
-//! The resolved program: what the checker makes of a source, and what is compiled.
+//! The resolved program: its phrases, its size, and how many statements stand inside a phrase.
 #![tactic(auto)]
 
 mod count;
+mod inside;
 mod phrase;
 mod program;
 
 pub use count::size;
+pub use inside::{desig_inside, stmts_inside};
 pub use phrase::{
     Arg, Arm, Branch, Call, CaseArm, Cmp, Desig, Expr, Link, Loop, Op, ReadAs, Root, Sel, Stmt,
     Test, WriteAs,

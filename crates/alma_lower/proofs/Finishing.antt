@@ -3,15 +3,15 @@ use Rattle.std.proofs.Common.{◌≡◌, length, sym, ap, ◌∙◌, subst}
 use Rattle.std.specs.Prelude.{map}
 use Rattle.alma_code.specs.Plain.{PlainCode}
 use Rattle.alma_ir.specs.Tree.{Program}
-use Rattle.alma_sound.specs.Entries.{AreSome, HoldsEachOnce, program_ranges, program_texts}
-use Rattle.alma_sound.specs.Runs.{HasLongRuns}
-use Rattle.alma_sound.proofs.Whole.{long_runs}
-use Rattle.alma_templates.specs.CodeOf.{HoldsAllOf, IsCodeOf}
-use Rattle.alma_templates.specs.Compiled.{global_named, routines_code, routines_named, program_code}
-use Rattle.alma_templates.specs.Lined.{instrs_of, lines_of}
-use Rattle.alma_templates.specs.Tables.{Tables, same_range, same_text}
-use Rattle.alma_routines.specs.Routines.{AreHeads, runs_in}
-use Rattle.alma_routines.proofs.Making.{length_runs}
+use Rattle.alma_lower_sound.specs.Entries.{AreSome, HoldsEachOnce, program_ranges, program_texts}
+use Rattle.alma_lower_sound.specs.Runs.{HasLongRuns}
+use Rattle.alma_lower_sound.proofs.Whole.{long_runs}
+use Rattle.alma_lower_templates.specs.CodeOf.{HoldsAllOf, IsCodeOf}
+use Rattle.alma_lower_templates.specs.Compiled.{global_named, routines_code, routines_named, program_code}
+use Rattle.alma_lower_templates.specs.Lined.{instrs_of, lines_of}
+use Rattle.alma_lower_templates.specs.Tables.{Tables, same_range, same_text}
+use Rattle.alma_lower.specs.Routines.{AreHeads, runs_in}
+use Rattle.alma_lower.proofs.Making.{length_runs}
 
 module _ (p : Program) (t : Tables) (code : PlainCode) (version : code.version ≡ 2) (heads : AreHeads p t (length p.routines) code.routines) (globals : code.globals ≡ map global_named p.globals)
     (ranges : code.ranges ≡ t.ranges) (texts : code.texts ≡ t.texts) (instrs : code.instrs ≡ instrs_of (routines_code p t 0 (length p.routines) 0)) (lines : code.lines ≡ lines_of (routines_code p t 0 (length p.routines) 0)) where

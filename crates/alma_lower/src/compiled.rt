@@ -2,16 +2,15 @@
 ghost use Rattle.std.specs.Prelude.{IfOk};
 ghost use Rattle.alma_code.specs.Plain.{code_of};
 ghost use Rattle.alma_ir.specs.View.{program_of};
-ghost use Rattle.alma_sound.specs.Entries.{HoldsEachOnce};
-ghost use Rattle.alma_sound.specs.Runs.{HasLongRuns};
-ghost use Rattle.alma_templates.specs.CodeOf.{IsCodeOf, IsOfIntegers};
+ghost use Rattle.alma_lower_sound.specs.Entries.{HoldsEachOnce};
+ghost use Rattle.alma_lower_sound.specs.Runs.{HasLongRuns};
+ghost use Rattle.alma_lower_templates.specs.CodeOf.{IsCodeOf, IsOfIntegers};
 
+use crate::routines::lower_routines;
 use alma_base::{INSTR_LIMIT, NoMemory};
 use alma_code::Code;
-use alma_gather::gather;
-use alma_heads::{globals_of, instrs_of, lines_of};
 use alma_ir::Program;
-use alma_routines::lower_routines;
+use alma_lower_tables::{gather, globals_of, instrs_of, lines_of};
 use std::alloc::Global;
 
 /// The code of a program. At a limit this is NoMemory.

@@ -1,7 +1,11 @@
-//! From the resolved program to code.
+//! A resolved program as code.
 #![tactic(auto)]
 
 mod compiled;
+mod heads;
 mod lowering;
+mod routine;
+mod routines;
 
 pub use lowering::{LowerError, lower};
+pub use routines::{Routines, lower_routines};

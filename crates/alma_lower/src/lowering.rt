@@ -4,12 +4,12 @@ ghost use Rattle.alma_base.specs.Limits.{size_limit};
 ghost use Rattle.alma_code.specs.Plain.{code_of};
 ghost use Rattle.alma_code.specs.Records.{KeepsCounts, KeepsRecords, KeepsVersion};
 ghost use Rattle.alma_code.specs.Rules.{IsSound};
-ghost use Rattle.alma_implements.specs.Implements.{Implements};
+ghost use Rattle.alma_lower_implements.specs.Implements.{Implements};
 ghost use Rattle.alma_ir.specs.Checked.{IsChecked};
 ghost use Rattle.alma_ir.specs.Count.{saturate, nodes};
 ghost use Rattle.alma_ir.specs.View.{program_of};
 ghost use Rattle.alma_code.specs.Reads.{code_reads};
-ghost use Rattle.alma_sound.specs.Reads.{program_reads};
+ghost use Rattle.alma_lower_sound.specs.Reads.{program_reads};
 
 use crate::compiled::compiled;
 use alma_base::{NoMemory, SIZE_LIMIT};

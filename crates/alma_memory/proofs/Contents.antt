@@ -9,12 +9,12 @@ use Rattle.alma_code.specs.declared.cell.Cell.TheVariants.{Unknown}
 use Rattle.alma_code.specs.Kinds.{is_number}
 use Rattle.alma_code.specs.Picture.{PlainFrame, no_frame, frame_with, frames_with_cell, cell_at}
 use Rattle.alma_code.specs.Carries.{number_at, same_cell, diff_at}
-use Rattle.alma_frames.specs.Frames.{IsWhole, AreWhole}
-use Rattle.alma_frames.specs.Numbers.{number_in, number_of}
+use Rattle.alma_memory.specs.Frames.{IsWhole, AreWhole}
+use Rattle.alma_memory.specs.Numbers.{number_in, number_of}
 use Rattle.alma_memory.specs.Inner.Past.{frames_with_old_cells, over, change_between}
-use Rattle.alma_frames.proofs.Stores.{whole-set, whole-with, whole-at, number-slot}
-use Rattle.alma_frames.proofs.Carrying.{same-place-is}
-use Rattle.alma_frames.proofs.Rising.{if-keeps, same-itself}
+use Rattle.alma_memory.proofs.Stores.{whole-set, whole-with, whole-at, number-slot}
+use Rattle.alma_memory.proofs.Carrying.{same-place-is}
+use Rattle.alma_memory.proofs.Rising.{if-keeps, same-itself}
 use Rattle.alma_memory.proofs.Pasts.{shared-length, at-above}
 
 -- ---- what is laid over

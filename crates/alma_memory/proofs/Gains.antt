@@ -11,12 +11,12 @@ use Rattle.alma_code.specs.declared.cell.Cell.TheVariants.{Unknown}
 use Rattle.alma_code.specs.Picture.{PlainFrame, no_frame, cell_at}
 use Rattle.alma_code.specs.Carries.{number_at, differs, diff_at, slot_diffs, frame_diffs, diffs}
 use Rattle.alma_code.proofs.Cells.{same_itself}
-use Rattle.alma_frames.specs.Frames.{AreWhole}
-use Rattle.alma_frames.specs.Numbers.{number_of}
+use Rattle.alma_memory.specs.Frames.{AreWhole}
+use Rattle.alma_memory.specs.Numbers.{number_of}
 use Rattle.alma_memory.specs.Inner.Past.{frames_with_old_cells, over, change_between, diffs_at, diffs_between, SameGain}
-use Rattle.alma_frames.proofs.Carrying.{same-place-is}
-use Rattle.alma_frames.proofs.Rising.{same-itself, carried-with, rising-all, same-carry}
-use Rattle.alma_frames.proofs.Stores.{number-cell, number-frame}
+use Rattle.alma_memory.proofs.Carrying.{same-place-is}
+use Rattle.alma_memory.proofs.Rising.{same-itself, carried-with, rising-all, same-carry}
+use Rattle.alma_memory.proofs.Stores.{number-cell, number-frame}
 use Rattle.alma_memory.proofs.Pasts.{shared-length}
 use Rattle.alma_memory.proofs.Contents.{over-none, number-frames_with_old_cells, number-shared, diff-changed, change_at}
 

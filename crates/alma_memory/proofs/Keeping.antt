@@ -5,14 +5,14 @@ use Rattle.alma_base.specs.Carry.{Change, with_changes}
 use Rattle.alma_code.specs.declared.cell.Cell.{Cell}
 use Rattle.alma_code.specs.Picture.{PlainFrame, PlainEntry, no_entry, top_of, entry_at}
 use Rattle.alma_code.specs.Carries.{diffs, with_carry, held_after_keep}
-use Rattle.alma_trail.specs.declared.trail.Note.{Note}
-use Rattle.alma_trail.specs.declared.trail.Entry.{Entry}
-use Rattle.alma_trail.specs.Trail.{unwind, entry_of, held_of}
-use Rattle.alma_trail.specs.Held.{Rises, IsTrailed}
-use Rattle.alma_frames.specs.Carries.{IsRising}
+use Rattle.alma_memory.specs.declared.trail.Note.{Note}
+use Rattle.alma_memory.specs.declared.trail.Entry.{Entry}
+use Rattle.alma_memory.specs.Trail.{unwind, entry_of, held_of}
+use Rattle.alma_memory.specs.Held.{Rises, IsTrailed}
+use Rattle.alma_memory.specs.Carries.{IsRising}
 use Rattle.alma_memory.specs.Inner.Gain.{no_saved, entry_with_changes}
 use Rattle.alma_memory.specs.Inner.Past.{SameGain}
-use Rattle.alma_trail.proofs.Trails.{rises-take}
+use Rattle.alma_memory.proofs.Trails.{rises-take}
 
 -- a mark that stays leaves the marks rising
 pub rises-set : (low top : ℕ) (es : List Entry) (i : ℕ) (e d : Entry) → e.mark ≡ (get_or es i d).mark → Rises low es top → Rises low (set es i e) top

@@ -1,3 +1,10 @@
+pub mod Carrying
+pub mod Indexed
+pub mod Layouts
+pub mod Rising
+pub mod Stores
+pub mod Lays
+pub mod Trails
 pub mod Back
 pub mod Contents
 pub mod Gains

@@ -6,8 +6,8 @@ use Rattle.alma_base.specs.Choice.{if_true}
 use Rattle.alma_code.specs.declared.cell.Cell.{Cell}
 use Rattle.alma_code.specs.Picture.{PlainFrame, no_frame, frame_with, frames_with_cell, without_last}
 use Rattle.alma_memory.specs.Inner.Past.{frames_with_old_cells}
-use Rattle.alma_frames.proofs.Carrying.{same-place-is}
-use Rattle.alma_frames.proofs.Rising.{if-keeps, same-itself}
+use Rattle.alma_memory.proofs.Carrying.{same-place-is}
+use Rattle.alma_memory.proofs.Rising.{if-keeps, same-itself}
 
 -- ---- lists
 

@@ -1,17 +1,18 @@
 // How the carry of a FORALL gains what a body changed.
 ghost use Rattle.std.specs.Prelude.{◌≡◌, ◌-◌, ◌<◌, ◌≤◌, length, drop, set, is_ok, IfOk, OnOk, slice_index_or, if◌then◌else◌, vec_len, vec_capacity};
 ghost use Rattle.alma_code.specs.Carries.{diffs, held_after_keep};
-ghost use Rattle.alma_frames.specs.Carries.{IsRising, carry_of_entries};
+ghost use Rattle.alma_memory.specs.Carries.{IsRising, carry_of_entries};
 ghost use Rattle.alma_memory.specs.Inner.Gain.{no_saved, entry_with_changes};
-ghost use Rattle.alma_trail.specs.Held.{Fits, IsTrailed};
+ghost use Rattle.alma_memory.specs.Held.{Fits, IsTrailed};
 ghost use Rattle.alma_memory.specs.Inner.Past.{SameGain};
-ghost use Rattle.alma_trail.specs.Trail.{held_of, unwind};
+ghost use Rattle.alma_memory.specs.Trail.{held_of, unwind};
 
+use crate::carry::SlotPlace;
+use crate::frames::Frames;
 use crate::past::past_of;
+use crate::trail::{Entry, Note};
 use alma_base::NoMemory;
 use alma_code::Cell;
-use alma_frames::{Frames, SlotPlace};
-use alma_trail::{Entry, Note};
 use std::alloc::Global;
 
 // What number slots changed since a mark, by the notes above it.

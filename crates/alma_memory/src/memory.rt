@@ -9,14 +9,16 @@ ghost use Rattle.alma_memory.specs.Calls.{Choose, Cut, Enter, Fail, Finish, Keep
 ghost use Rattle.alma_memory.specs.Picture.{KeepsRooms};
 ghost use Rattle.alma_memory.specs.Refusals.{HasFrameRoom, RefusesFor};
 
+use crate::carry::{Carry, SlotPlace};
+use crate::frames::Frames;
 use crate::keep::keep_top;
+use crate::laying::{lay, lay_last};
+use crate::layout::{frame_from, start_from};
+use crate::trail::{
+    Entry, Note, cut_to, enter_noted, fail_to, leave_noted, room_for_notes, write_noted,
+};
 use alma_base::{CELL_LIMIT, FRAME_LIMIT, NoMemory};
 use alma_code::{Cell, ChoiceKind, Head, SlotKind};
-use alma_frames::{Carry, Frames, SlotPlace, frame_from, start_from};
-use alma_trail::{
-    Entry, Note, cut_to, enter_noted, fail_to, lay, lay_last, leave_noted, room_for_notes,
-    write_noted,
-};
 use std::alloc::Global;
 use std::marker::Model;
 
@@ -54,8 +56,8 @@ impl Model for Memory {
 
     ghost Value = { Picture };
 
-    ghost use Rattle.alma_trail.specs.Trail.{held_of};
-    ghost use Rattle.alma_trail.specs.Held.{IsTrailed};
+    ghost use Rattle.alma_memory.specs.Trail.{held_of};
+    ghost use Rattle.alma_memory.specs.Held.{IsTrailed};
 
     ghost view = { λ m. record {
       now = m.frames;

@@ -3,17 +3,19 @@ ghost use Rattle.std.specs.Prelude.{◌≡◌, ◌+◌, ◌<◌, ◌≤◌, ◌�
 ghost use Rattle.alma_base.specs.Limits.{frame_limit};
 ghost use Rattle.alma_code.specs.Picture.{no_frame, frames_with_cell, without_last};
 ghost use Rattle.alma_code.specs.Carries.{diffs, diff_at, slot_diffs, same_cell};
-ghost use Rattle.alma_frames.specs.Carries.{carry_of_entries};
-ghost use Rattle.alma_frames.specs.Frames.{AreLive, AreWhole};
-ghost use Rattle.alma_trail.specs.Held.{Fits, Undoes};
-ghost use Rattle.alma_frames.specs.Numbers.{number_of};
+ghost use Rattle.alma_memory.specs.Carries.{carry_of_entries};
+ghost use Rattle.alma_memory.specs.Frames.{AreLive, AreWhole};
+ghost use Rattle.alma_memory.specs.Held.{Fits, Undoes};
+ghost use Rattle.alma_memory.specs.Numbers.{number_of};
 ghost use Rattle.alma_memory.specs.Inner.Past.{over, change_between, diffs_at, diffs_between, SameGain};
-ghost use Rattle.alma_trail.specs.Trail.{undo, unwind};
+ghost use Rattle.alma_memory.specs.Trail.{undo, unwind};
 
+use crate::carry::{Carry, SlotPlace};
+use crate::frame::Frame;
+use crate::frames::Frames;
+use crate::trail::Note;
 use alma_base::NoMemory;
 use alma_code::Cell;
-use alma_frames::{Carry, Frame, Frames, SlotPlace};
-use alma_trail::Note;
 use std::alloc::Global;
 use std::marker::Model;
 

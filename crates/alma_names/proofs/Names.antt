@@ -9,7 +9,7 @@ use Rattle.std.proofs.lemmas.Option.{slice_get-map}
 use Rattle.std.proofs.lemmas.Bool.Decides.{nat_tests}
 use Rattle.indexmap.specs.IndexMap.{insert_entry}
 use Rattle.indexmap.proofs.MapLemmas.{some_index}
-use Rattle.alma_shapes.proofs.Added.{added}
+use Rattle.alma_names.proofs.Added.{added}
 use Rattle.alma_names.specs.declared.block.Declaration.{Declaration}
 use Rattle.alma_names.specs.Blocks.{DeclaredName, declared_of, place, seen, entry_in}
 

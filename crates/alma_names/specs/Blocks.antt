@@ -5,7 +5,7 @@ use Rattle.std.specs.HashMap.{HashMap}
 use Rattle.alma_names.specs.declared.block.Declaration.{Declaration}
 use Rattle.alma_names.specs.declared.block.Entry.{Entry}
 use Rattle.alma_names.specs.declared.block.Entry.TheVariants.{Constant, Named, Bad}
-use Rattle.alma_shapes.specs.declared.shapes.ShapeId.{ShapeId}
+use Rattle.alma_names.specs.declared.shapes.ShapeId.{ShapeId}
 
 -- a declared name, the token from which on it is visible, and what it stands for
 pub record DeclaredName : Type 0 where

@@ -2,8 +2,8 @@
 ghost use Rattle.std.specs.Prelude.{◌≡◌, ◌^◌, ◌<◌, List, [], ◌∷◌, ◌++◌, Option, None, Some, length, slice_get, IfSome, IfOk, OnErr, OnOk};
 ghost use Rattle.alma_names.specs.Blocks.{DeclaredName, block_of, predeclared, place, seen, entry_in};
 
+use crate::shapes::ShapeId;
 use alma_base::NoMemory;
-use alma_shapes::ShapeId;
 use indexmap::IndexMap;
 use std::alloc::Global;
 use std::marker::Model;

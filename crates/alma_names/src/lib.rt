@@ -2,8 +2,10 @@
 #![tactic(auto)]
 
 mod block;
+mod index;
 mod scopes;
+mod shapes;
 
-pub use alma_shapes::{FieldOf, Shape, ShapeError, ShapeId, Shapes};
 pub use block::{Access, Entry};
 pub use scopes::{DeclareError, Id, Scopes};
+pub use shapes::{FieldOf, Shape, ShapeError, ShapeId, Shapes};

@@ -4,14 +4,14 @@ use Rattle.std.specs.Prelude.{nat_eq, nat_le, ◌||◌, if◌then◌else◌, sum
 use Rattle.std.specs.List.{starts_with}
 use Rattle.alma_code.specs.Plain.{PlainCode}
 use Rattle.alma_code.specs.Records.{param_count, run_count, name_count, text_count}
-use Rattle.alma_format.specs.declared.header.Header.{Header}
-use Rattle.alma_format.specs.Bytes.{u16_bytes, words_bytes, u16_at, u32_at}
+use Rattle.alma_object_format.specs.declared.header.Header.{Header}
+use Rattle.alma_object_format.specs.Bytes.{u16_bytes, words_bytes, u16_at, u32_at}
 use Rattle.std.specs.Cmp.Lexicographic.{pointwise}
-use Rattle.alma_format.specs.declared.fault.ObjectFault.{ObjectFault}
-use Rattle.alma_format.specs.declared.fault.ObjectFault.TheVariants as fault
-use Rattle.alma_format.specs.Fault.{or_else}
-use Rattle.alma_format.specs.Header.{magic, header_of, count_fault, counts_fault, header_fault}
-use Rattle.alma_format.specs.Object.{IsObject, counts_of, header_bytes, object_bytes}
+use Rattle.alma_object_format.specs.declared.fault.ObjectFault.{ObjectFault}
+use Rattle.alma_object_format.specs.declared.fault.ObjectFault.TheVariants as fault
+use Rattle.alma_object_format.specs.Fault.{or_else}
+use Rattle.alma_object_format.specs.Header.{magic, header_of, count_fault, counts_fault, header_fault}
+use Rattle.alma_object_format.specs.Object.{IsObject, counts_of, header_bytes, object_bytes}
 use Rattle.alma_object.proofs.Slices.{words_from}
 use Rattle.alma_object.proofs.Stands.{Stands, AreWords, no_words, more_words, stands_all, stands_first, stands_second, stands_slice, stands_within, words_length, whole_true, unless_true, le_test, words_stand, u16_stands, u16_length}
 

@@ -13,14 +13,14 @@ use Rattle.alma_code.specs.declared.head.Run.{Run}
 use Rattle.alma_code.specs.declared.instr.Instr.TheVariants as I
 use Rattle.alma_code.specs.Head.{PlainHead}
 use Rattle.alma_code.specs.Plain.{PlainCode, PlainRoutine, PlainGlobal, routine_at, head_at, no_routine}
-use Rattle.alma_format.specs.Bytes.{u32_at}
+use Rattle.alma_object_format.specs.Bytes.{u32_at}
 use Rattle.alma_object.specs.Fields.{FitsFields, KeepsFormat}
-use Rattle.alma_format.specs.Header.{header_of, params_at, runs_at, ranges_at, name_pool_at, text_pool_at, instrs_at, lines_at}
-use Rattle.alma_format.specs.Instrs.{instr_at}
-use Rattle.alma_format.specs.Object.{IsObject, object_bytes, no_global, param_number, slot_number, slot_size}
-use Rattle.alma_format.specs.Reading.{items, param_kind, slot_kind, param_in, run_in, range_in, line_in, params_in, runs_in, name_in, text_in, routine_in, global_in, code_in}
+use Rattle.alma_object_format.specs.Header.{header_of, params_at, runs_at, ranges_at, name_pool_at, text_pool_at, instrs_at, lines_at}
+use Rattle.alma_object_format.specs.Instrs.{instr_at}
+use Rattle.alma_object_format.specs.Object.{IsObject, object_bytes, no_global, param_number, slot_number, slot_size}
+use Rattle.alma_object_format.specs.Reading.{items, param_kind, slot_kind, param_in, run_in, range_in, line_in, params_in, runs_in, name_in, text_in, routine_in, global_in, code_in}
 use Rattle.alma_object.specs.View.{no_line}
-use Rattle.alma_format.specs.Walk.{object_fault, start_of, params_end, runs_end, code_end, text_end, name_end}
+use Rattle.alma_object_format.specs.Walk.{object_fault, start_of, params_end, runs_end, code_end, text_end, name_end}
 use Rattle.alma_object.proofs.Accepted.{header_for, header_is}
 use Rattle.alma_object.proofs.Clean.{object_clean, no_param, no_run, no_range, routine_stands, global_stands, param_stands, run_stands, range_stands, text_end_is, line_stands, instr_stands, names_length, name_of_routine, name_of_global, name_in_pool, name_end_at, params_length, runs_length, runs_start}
 use Rattle.alma_object.proofs.Ends.{end_more, end_within, start_is, stands_part, flat_at}

@@ -18,20 +18,20 @@ use Rattle.alma_code.specs.Layout.{RunsRise}
 use Rattle.alma_code.specs.Plain.{PlainCode, PlainRoutine, PlainGlobal, routine_at, head_at, start_at, end_at, no_routine}
 use Rattle.alma_code.specs.Records.{param_count, run_count, name_count, text_count, is_name, has_cells, same_kind, runs_differ, is_routine_record, is_first_kind, is_first_param, is_first_form, is_first_routine, IsFirst}
 use Rattle.alma_code.proofs.Tables.{end_inside}
-use Rattle.alma_format.specs.declared.fault.ObjectFault.TheVariants as fault
-use Rattle.alma_format.specs.declared.header.Header.{Header}
-use Rattle.alma_format.specs.Bytes.{i64_bytes, u32_at, i64_at}
-use Rattle.alma_format.specs.Fault.{unless}
+use Rattle.alma_object_format.specs.declared.fault.ObjectFault.TheVariants as fault
+use Rattle.alma_object_format.specs.declared.header.Header.{Header}
+use Rattle.alma_object_format.specs.Bytes.{i64_bytes, u32_at, i64_at}
+use Rattle.alma_object_format.specs.Fault.{unless}
 use Rattle.alma_object.specs.Fields.{FitsFields}
-use Rattle.alma_format.specs.Header.{routines_at, globals_at, params_at, runs_at, ranges_at, texts_at, name_pool_at, text_pool_at, instrs_at, lines_at, end_at as end_offset}
-use Rattle.alma_format.specs.Instrs.{instr_bytes, is_instr}
-use Rattle.alma_format.specs.Object.{IsObject, end_of, no_global, param_number, slot_number, slot_size, routine_bytes, global_bytes, text_end_bytes, param_bytes, run_bytes, range_bytes, line_bytes}
+use Rattle.alma_object_format.specs.Header.{routines_at, globals_at, params_at, runs_at, ranges_at, texts_at, name_pool_at, text_pool_at, instrs_at, lines_at, end_at as end_offset}
+use Rattle.alma_object_format.specs.Instrs.{instr_bytes, is_instr}
+use Rattle.alma_object_format.specs.Object.{IsObject, end_of, no_global, param_number, slot_number, slot_size, routine_bytes, global_bytes, text_end_bytes, param_bytes, run_bytes, range_bytes, line_bytes}
 use Rattle.alma_object.specs.View.{no_line}
-use Rattle.alma_format.specs.Walk.{start_of, is_end, is_name_end, routine_field, params_end, runs_end, code_end, text_end, name_end, name_count as names_count, routine_fault, global_fault, param_fault, run_fault, routine_runs_fault, range_fault, text_fault, name_fault, pools_fault, instr_fault, line_fault, end_fault, sections_fault, object_fault, can_stand}
+use Rattle.alma_object_format.specs.Walk.{start_of, is_end, is_name_end, routine_field, params_end, runs_end, code_end, text_end, name_end, name_count as names_count, routine_fault, global_fault, param_fault, run_fault, routine_runs_fault, range_fault, text_fault, name_fault, pools_fault, instr_fault, line_fault, end_fault, sections_fault, object_fault, can_stand}
 use Rattle.alma_object.proofs.Accepted.{header_for, header_is, header_clean, or_clean}
 use Rattle.alma_object.proofs.Ends.{both, end_more, end_within, start_is, is_end_good, end_good, name_end_good, sum_map, end_first, end_second, section_nth, stands_part, flat_at, byte_stands, all_flat, all_at, name_stands, name_some}
 use Rattle.alma_object.proofs.Fields.{IsRead, field, instr_read}
-use Rattle.alma_sections.proofs.Kept.{and_parts}
+use Rattle.alma_object_format.proofs.Kept.{and_parts}
 use Rattle.alma_object.proofs.LineOrder.{below_from, next_line}
 use Rattle.alma_object.proofs.Places.{object_length, SectionsStand, sections_stand, names_of, instr_length, routine_length, global_length, text_length, param_length, run_length, range_length, line_length}
 use Rattle.alma_object.proofs.Sections.{name_end_routine, name_end_global}

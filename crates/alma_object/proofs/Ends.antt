@@ -9,9 +9,9 @@ use Rattle.std.proofs.lemmas.List.FromFn.{get_or-range_with_len, length-range_wi
 use Rattle.std.proofs.lemmas.List.Sums.{sum_by-cons, sum_by-append, sum_by_more, sum_by-take-le, AllPass-from_list_all}
 use Rattle.alma_base.specs.Reading.{is_digit}
 use Rattle.alma_code.specs.Records.{is_name, is_name_start}
-use Rattle.alma_format.specs.Object.{end_of, section}
-use Rattle.alma_format.specs.Walk.{start_of, is_end, is_name_end, can_stand}
-use Rattle.alma_sections.proofs.Kept.{and_parts}
+use Rattle.alma_object_format.specs.Object.{end_of, section}
+use Rattle.alma_object_format.specs.Walk.{start_of, is_end, is_name_end, can_stand}
+use Rattle.alma_object_format.proofs.Kept.{and_parts}
 use Rattle.alma_object.proofs.Stands.{Stands, stands_as, stands_first, stands_second, stands_nth, le_test, lt_test, eq_test, ne_test}
 
 pub both : (a b : Bool) → a ≡ true → b ≡ true → (a && b) ≡ true

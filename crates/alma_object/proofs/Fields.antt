@@ -8,9 +8,9 @@ use Rattle.std.proofs.lemmas.List.{get_or_past}
 use Rattle.alma_code.specs.declared.instr.Instr.{Instr}
 use Rattle.alma_code.specs.declared.instr.Instr.TheVariants as I
 use Rattle.alma_code.specs.Records.{is_first_form}
-use Rattle.alma_format.specs.Bytes.{words_bytes, i64_bytes, u32_at, i64_at}
+use Rattle.alma_object_format.specs.Bytes.{words_bytes, i64_bytes, u32_at, i64_at}
 use Rattle.alma_object.specs.Fields.{FitsInstr, fields}
-use Rattle.alma_format.specs.Instrs.{record_bytes, instr_bytes, instrs_with, used_words, last_opcode, words_at, is_instr, instr_at}
+use Rattle.alma_object_format.specs.Instrs.{record_bytes, instr_bytes, instrs_with, used_words, last_opcode, words_at, is_instr, instr_at}
 use Rattle.alma_object.proofs.Accepted.{word_at}
 use Rattle.alma_object.proofs.Slices.{one_slice}
 use Rattle.alma_object.proofs.Stands.{Stands, AreWords, no_words, more_words, each_word, stands_first, stands_second, stands_slice, stands_within, words_length, words_stand, i64_length, i64_stands, le_test}

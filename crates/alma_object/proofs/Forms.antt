@@ -4,9 +4,9 @@ use Rattle.std.specs.Prelude.{slice_index, slice_range, nat_eq, nat_le, if◌the
 use Rattle.std.specs.List.{list_all}
 use Rattle.std.proofs.lemmas.Bool.Decides.{nat_tests}
 use Rattle.alma_code.specs.declared.instr.Instr.TheVariants as I
-use Rattle.alma_format.specs.Bytes.{i64_bytes, words_bytes, u32_at, i64_at}
-use Rattle.alma_format.specs.Instrs.{record_bytes, instr_bytes, instrs_with, used_words, last_opcode, words_at, is_instr, instr_at}
-use Rattle.alma_sections.proofs.Kept.{and_parts, le_fact}
+use Rattle.alma_object_format.specs.Bytes.{i64_bytes, words_bytes, u32_at, i64_at}
+use Rattle.alma_object_format.specs.Instrs.{record_bytes, instr_bytes, instrs_with, used_words, last_opcode, words_at, is_instr, instr_at}
+use Rattle.alma_object_format.proofs.Kept.{and_parts, le_fact}
 use Rattle.alma_object.proofs.Slices.{IsBytes, words_slice, slice_join, one_slice}
 use Rattle.alma_object.proofs.Spelled.{i64_slice}
 

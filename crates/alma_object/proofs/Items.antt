@@ -4,7 +4,7 @@ use Rattle.std.specs.Prelude.{slice_get}
 use Rattle.std.proofs.lemmas.List.FromFn.{length-map-range_with_len, get_or-map-range_with_len}
 use Rattle.std.proofs.lemmas.Option.{slice_get-get_or, slice_get_past, slice_get_within, get_or_from_slice_get}
 use Rattle.std.proofs.lemmas.List.{take_more, take_all, map_push}
-use Rattle.alma_format.specs.Reading.{items}
+use Rattle.alma_object_format.specs.Reading.{items}
 
 pub length_items : {A : Type 0} (of : ℕ → A) (n : ℕ) → length (items of n) ≡ n
 length_items of n = length-map-range_with_len of 0 n

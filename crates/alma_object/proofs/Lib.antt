@@ -1,3 +1,4 @@
+pub mod Encoding
 pub mod Accepted
 pub mod Again
 pub mod Clean

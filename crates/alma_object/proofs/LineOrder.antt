@@ -6,7 +6,7 @@ use Rattle.alma_base.specs.Choice.{if_true}
 use Rattle.alma_code.specs.declared.code.Line.{Line}
 use Rattle.alma_code.specs.Lines.{last_line, lines_rise}
 use Rattle.alma_object.specs.View.{no_line, IsSplit}
-use Rattle.alma_sections.proofs.Kept.{and_parts, le_fact, lt_fact}
+use Rattle.alma_object_format.proofs.Kept.{and_parts, le_fact, lt_fact}
 use Rattle.alma_object.proofs.Stands.{le_test}
 
 -- the addresses of lines from low on, below the count

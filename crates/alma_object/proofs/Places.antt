@@ -12,12 +12,12 @@ use Rattle.alma_code.specs.declared.head.Run.{Run}
 use Rattle.alma_code.specs.declared.instr.Instr.{Instr}
 use Rattle.alma_code.specs.declared.instr.Instr.TheVariants as I
 use Rattle.alma_code.specs.Plain.{PlainCode, PlainRoutine, PlainGlobal, routine_at}
-use Rattle.alma_format.specs.Bytes.{u16_bytes, words_bytes, i64_bytes}
-use Rattle.alma_format.specs.Instrs.{instr_bytes, record_bytes}
-use Rattle.alma_format.specs.Header.{magic, routines_at, globals_at, params_at, runs_at, ranges_at, texts_at, name_pool_at, text_pool_at, instrs_at, lines_at, end_at}
-use Rattle.alma_format.specs.Object.{IsObject, end_of, no_global, param_number, slot_number, slot_size, section, counts_of, header_bytes, table_bytes, pool_bytes, object_bytes, routine_bytes, global_bytes, param_bytes, run_bytes, range_bytes, text_end_bytes, line_bytes}
+use Rattle.alma_object_format.specs.Bytes.{u16_bytes, words_bytes, i64_bytes}
+use Rattle.alma_object_format.specs.Instrs.{instr_bytes, record_bytes}
+use Rattle.alma_object_format.specs.Header.{magic, routines_at, globals_at, params_at, runs_at, ranges_at, texts_at, name_pool_at, text_pool_at, instrs_at, lines_at, end_at}
+use Rattle.alma_object_format.specs.Object.{IsObject, end_of, no_global, param_number, slot_number, slot_size, section, counts_of, header_bytes, table_bytes, pool_bytes, object_bytes, routine_bytes, global_bytes, param_bytes, run_bytes, range_bytes, text_end_bytes, line_bytes}
 use Rattle.alma_object.proofs.Accepted.{header_for}
-use Rattle.alma_encode.proofs.Encoding.{flat_map-map}
+use Rattle.alma_object.proofs.Encoding.{flat_map-map}
 use Rattle.alma_object.proofs.Stands.{Stands, stands_all, stands_first, stands_second, words_length, u16_length, i64_length, each_length}
 
 record_length : (opcode a b c d : ℕ) → length (record_bytes opcode a b c d) ≡ 17

@@ -11,17 +11,17 @@ use Rattle.alma_code.specs.declared.instr.Instr.TheVariants as I
 use Rattle.alma_code.specs.Lines.{lines_rise}
 use Rattle.alma_code.specs.Plain.{PlainGlobal}
 use Rattle.alma_code.specs.Records.{KeepsRecords, KeepsVersion, IsFirst, is_name, has_cells, same_kind, runs_differ, is_routine_record, is_first_kind, is_first_param, is_first_form, is_first_routine}
-use Rattle.alma_format.specs.declared.fault.ObjectFault.TheVariants as fault
-use Rattle.alma_format.specs.declared.header.Header.{Header}
-use Rattle.alma_format.specs.Bytes.{u32_at, i64_at}
-use Rattle.alma_format.specs.Fault.{unless, first_fault}
-use Rattle.alma_format.specs.Fault.{whole as whole_fault}
-use Rattle.alma_format.specs.Header.{IsWithin, params_at, runs_at, ranges_at, name_pool_at, text_pool_at, instrs_at, lines_at, end_at}
-use Rattle.alma_format.specs.Instrs.{instr_at, instrs_with, is_instr, last_opcode}
-use Rattle.alma_format.specs.Walk.{start_of, can_stand, name_count, name_end, params_end, runs_end, param_fault, range_fault, name_fault, instr_fault, line_fault, sections_fault}
-use Rattle.alma_format.specs.Reading.{items, param_kind, slot_kind, param_in, run_in, range_in, line_in, name_in, routine_in, global_in, code_in}
+use Rattle.alma_object_format.specs.declared.fault.ObjectFault.TheVariants as fault
+use Rattle.alma_object_format.specs.declared.header.Header.{Header}
+use Rattle.alma_object_format.specs.Bytes.{u32_at, i64_at}
+use Rattle.alma_object_format.specs.Fault.{unless, first_fault}
+use Rattle.alma_object_format.specs.Fault.{whole as whole_fault}
+use Rattle.alma_object_format.specs.Header.{IsWithin, params_at, runs_at, ranges_at, name_pool_at, text_pool_at, instrs_at, lines_at, end_at}
+use Rattle.alma_object_format.specs.Instrs.{instr_at, instrs_with, is_instr, last_opcode}
+use Rattle.alma_object_format.specs.Walk.{start_of, can_stand, name_count, name_end, params_end, runs_end, param_fault, range_fault, name_fault, instr_fault, line_fault, sections_fault}
+use Rattle.alma_object_format.specs.Reading.{items, param_kind, slot_kind, param_in, run_in, range_in, line_in, name_in, routine_in, global_in, code_in}
 use Rattle.alma_object.proofs.Items.{length_items}
-use Rattle.alma_sections.proofs.Kept.{unless_none, or_none, whole_none, le_fact, lt_fact, and_parts, first_none, routine_seen, name_seen, sections_kept}
+use Rattle.alma_object_format.proofs.Kept.{unless_none, or_none, whole_none, le_fact, lt_fact, and_parts, first_none, routine_seen, name_seen, sections_kept}
 use Rattle.alma_object.proofs.Sections.{param_none, run_none}
 use Rattle.alma_object.proofs.Slices.{IsBytes, can_name}
 use Rattle.alma_object.proofs.Tables.{RunKept, run_kept}

@@ -7,17 +7,17 @@ use Rattle.std.proofs.lemmas.Bool.{cases_lt}
 use Rattle.std.proofs.lemmas.Bool.Decides.{nat_tests}
 use Rattle.std.proofs.lemmas.List.Concat.{flat_map-append}
 use Rattle.alma_code.specs.Plain.{PlainRoutine, PlainGlobal, routine_at, no_routine}
-use Rattle.alma_format.specs.declared.header.Header.{Header}
-use Rattle.alma_format.specs.Bytes.{u32_bytes, words_bytes, u32_at}
-use Rattle.alma_format.specs.Header.{IsWithin, routines_at, globals_at, params_at, runs_at, ranges_at, texts_at, name_pool_at, text_pool_at, instrs_at, lines_at, end_at}
-use Rattle.alma_format.specs.Walk.{start_of, params_end, runs_end, code_end, name_end, text_end, sections_fault, param_fault, routine_runs_fault, run_fault, range_fault, line_fault, global_fault, instr_fault}
-use Rattle.alma_format.specs.Object.{section, end_of, param_bytes, run_bytes, range_bytes, line_bytes, routine_bytes, global_bytes, text_end_bytes, no_global}
-use Rattle.alma_format.specs.Reading.{items, param_in, run_in, range_in, line_in, routine_in, global_in, name_in, text_in, code_in}
-use Rattle.alma_format.specs.Instrs.{instr_bytes, instr_at}
-use Rattle.alma_encode.proofs.Encoding.{flat_map-map}
+use Rattle.alma_object_format.specs.declared.header.Header.{Header}
+use Rattle.alma_object_format.specs.Bytes.{u32_bytes, words_bytes, u32_at}
+use Rattle.alma_object_format.specs.Header.{IsWithin, routines_at, globals_at, params_at, runs_at, ranges_at, texts_at, name_pool_at, text_pool_at, instrs_at, lines_at, end_at}
+use Rattle.alma_object_format.specs.Walk.{start_of, params_end, runs_end, code_end, name_end, text_end, sections_fault, param_fault, routine_runs_fault, run_fault, range_fault, line_fault, global_fault, instr_fault}
+use Rattle.alma_object_format.specs.Object.{section, end_of, param_bytes, run_bytes, range_bytes, line_bytes, routine_bytes, global_bytes, text_end_bytes, no_global}
+use Rattle.alma_object_format.specs.Reading.{items, param_in, run_in, range_in, line_in, routine_in, global_in, name_in, text_in, code_in}
+use Rattle.alma_object_format.specs.Instrs.{instr_bytes, instr_at}
+use Rattle.alma_object.proofs.Encoding.{flat_map-map}
 use Rattle.alma_object.proofs.Forms.{instr_spelled}
 use Rattle.alma_object.proofs.Items.{length_items, item_at}
-use Rattle.alma_sections.proofs.Kept.{first_none, routine_seen, name_seen, text_seen, sections_kept, last_params, last_runs, whole_none, start_last, global_kept, unless_none}
+use Rattle.alma_object_format.proofs.Kept.{first_none, routine_seen, name_seen, text_seen, sections_kept, last_params, last_runs, whole_none, start_last, global_kept, unless_none}
 use Rattle.alma_object.proofs.Slices.{IsBytes, words_slice, slice_join, section_is, offsets_rise, shifted, u32_slice}
 use Rattle.alma_object.proofs.Spelled.{param_spelled, run_spelled, line_spelled, range_spelled, length_slice, three_words, starts_rise, end_is, sum_ends}
 

@@ -5,11 +5,11 @@ use Rattle.std.specs.Prelude.{slice_index, slice_range}
 use Rattle.std.specs.List.{flat_map, range_with_len, list_all}
 use Rattle.alma_base.specs.Reading.{is_digit}
 use Rattle.alma_code.specs.Records.{is_name, is_name_start}
-use Rattle.alma_format.specs.Walk.{can_stand}
+use Rattle.alma_object_format.specs.Walk.{can_stand}
 use Rattle.std.specs.Int.{w16, w32, from_le_bytes}
 use Rattle.std.proofs.lemmas.List.{take-append-drop, take-take, drop-take, drop-drop, drop_more}
 use Rattle.std.proofs.lemmas.Nat.{le_bytes_2, le_bytes_4}
-use Rattle.alma_format.specs.Bytes.{u16_bytes, u32_bytes, words_bytes, u16_at, u32_at}
+use Rattle.alma_object_format.specs.Bytes.{u16_bytes, u32_bytes, words_bytes, u16_at, u32_at}
 
 -- ---- parts that follow one another
 

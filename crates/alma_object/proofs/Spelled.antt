@@ -6,14 +6,14 @@ use Rattle.std.proofs.lemmas.List.{length-take, length-drop}
 use Rattle.std.proofs.lemmas.Nat.{le_bytes_8}
 use Rattle.std.proofs.lemmas.Int.{of_z-to_z}
 use Rattle.std.proofs.lemmas.Bool.Decides.{nat_tests}
-use Rattle.alma_format.specs.declared.header.Header.{Header}
-use Rattle.alma_format.specs.Bytes.{i64_bytes, words_bytes, u32_at, i64_at}
-use Rattle.alma_format.specs.Header.{params_at, runs_at}
-use Rattle.alma_format.specs.Walk.{start_of, param_fault, run_fault}
+use Rattle.alma_object_format.specs.declared.header.Header.{Header}
+use Rattle.alma_object_format.specs.Bytes.{i64_bytes, words_bytes, u32_at, i64_at}
+use Rattle.alma_object_format.specs.Header.{params_at, runs_at}
+use Rattle.alma_object_format.specs.Walk.{start_of, param_fault, run_fault}
 use Rattle.std.proofs.lemmas.List.FromFn.{sum_by-map-range_with_len_more, take-map-range_with_len}
-use Rattle.alma_format.specs.Object.{end_of, param_number, slot_number, slot_size, param_bytes, run_bytes, range_bytes, line_bytes}
-use Rattle.alma_format.specs.Reading.{items, param_kind, slot_kind, param_in, run_in, range_in, line_in}
-use Rattle.alma_sections.proofs.Kept.{unless_none, whole_none, le_fact}
+use Rattle.alma_object_format.specs.Object.{end_of, param_number, slot_number, slot_size, param_bytes, run_bytes, range_bytes, line_bytes}
+use Rattle.alma_object_format.specs.Reading.{items, param_kind, slot_kind, param_in, run_in, range_in, line_in}
+use Rattle.alma_object_format.proofs.Kept.{unless_none, whole_none, le_fact}
 use Rattle.alma_object.proofs.Slices.{IsBytes, words_slice, slice_join, long_at, long_slice}
 
 -- ---- kinds

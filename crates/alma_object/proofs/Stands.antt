@@ -11,10 +11,10 @@ use Rattle.std.proofs.Math.Facts.{Fits-of_z}
 use Rattle.std.proofs.lemmas.Bool.Decides.{nat_tests}
 use Rattle.std.specs.Prelude.{nat_eq, nat_lt, nat_le}
 use Rattle.std.proofs.Common.{Option, None}
-use Rattle.alma_format.specs.declared.fault.ObjectFault.{ObjectFault}
-use Rattle.alma_format.specs.declared.fault.ObjectFault.TheVariants as fault
-use Rattle.alma_format.specs.Fault.{unless, whole, or_else, first_fault}
-use Rattle.alma_format.specs.Bytes.{u16_bytes, u32_bytes, i64_bytes, words_bytes, u16_at, u32_at, i64_at}
+use Rattle.alma_object_format.specs.declared.fault.ObjectFault.{ObjectFault}
+use Rattle.alma_object_format.specs.declared.fault.ObjectFault.TheVariants as fault
+use Rattle.alma_object_format.specs.Fault.{unless, whole, or_else, first_fault}
+use Rattle.alma_object_format.specs.Bytes.{u16_bytes, u32_bytes, i64_bytes, words_bytes, u16_at, u32_at, i64_at}
 use Rattle.alma_object.proofs.Slices.{words_from, long_slice, u32_cells, u16_cells}
 
 -- the bytes have these at an offset, and more or nothing behind them

@@ -10,9 +10,9 @@ use Rattle.alma_base.specs.Choice.{if_true}
 use Rattle.alma_code.specs.Lines.{last_line, known_line}
 use Rattle.alma_code.specs.declared.code.Line.{Line}
 use Rattle.alma_code.specs.Plain.{PlainRoutine, no_routine, start_at}
-use Rattle.alma_format.specs.declared.header.Header.{Header}
-use Rattle.alma_format.specs.Walk.{start_of, code_end}
-use Rattle.alma_format.specs.Reading.{routine_in, code_in}
+use Rattle.alma_object_format.specs.declared.header.Header.{Header}
+use Rattle.alma_object_format.specs.Walk.{start_of, code_end}
+use Rattle.alma_object_format.specs.Reading.{routine_in, code_in}
 use Rattle.alma_object.proofs.Items.{item_at}
 
 pub code_start_is : (bytes : List ℕ) (h : Header) (r : ℕ) → r ≤ h.routines → start_of (code_end bytes h) r ≡ start_at (code_in bytes h) r

@@ -10,16 +10,16 @@ use Rattle.alma_code.specs.declared.code.Line.{Line}
 use Rattle.alma_code.specs.declared.instr.Instr.{Instr}
 use Rattle.alma_code.specs.Plain.{PlainCode, PlainRoutine, PlainGlobal}
 use Rattle.alma_code.specs.Records.{KeepsCounts}
-use Rattle.alma_format.specs.declared.header.Header.{Header}
-use Rattle.alma_format.specs.Bytes.{u16_bytes, words_bytes, u16_at, u32_at}
-use Rattle.alma_format.specs.Fault.{whole}
-use Rattle.alma_format.specs.Header.{IsWithin, magic, header_of, magic_fault, header_fault, routines_at, globals_at, params_at, runs_at, ranges_at, texts_at, name_pool_at, text_pool_at, instrs_at, lines_at, end_at}
-use Rattle.alma_format.specs.Walk.{sections_fault}
-use Rattle.alma_format.specs.Instrs.{instr_bytes}
-use Rattle.alma_format.specs.Object.{section, counts_of, header_bytes, table_bytes, pool_bytes, object_bytes, line_bytes, IsObject}
-use Rattle.alma_format.specs.Reading.{items, routine_in, global_in, text_in, code_in}
+use Rattle.alma_object_format.specs.declared.header.Header.{Header}
+use Rattle.alma_object_format.specs.Bytes.{u16_bytes, words_bytes, u16_at, u32_at}
+use Rattle.alma_object_format.specs.Fault.{whole}
+use Rattle.alma_object_format.specs.Header.{IsWithin, magic, header_of, magic_fault, header_fault, routines_at, globals_at, params_at, runs_at, ranges_at, texts_at, name_pool_at, text_pool_at, instrs_at, lines_at, end_at}
+use Rattle.alma_object_format.specs.Walk.{sections_fault}
+use Rattle.alma_object_format.specs.Instrs.{instr_bytes}
+use Rattle.alma_object_format.specs.Object.{section, counts_of, header_bytes, table_bytes, pool_bytes, object_bytes, line_bytes, IsObject}
+use Rattle.alma_object_format.specs.Reading.{items, routine_in, global_in, text_in, code_in}
 use Rattle.alma_object.proofs.Items.{length_items}
-use Rattle.alma_sections.proofs.Kept.{unless_none, or_none, whole_none}
+use Rattle.alma_object_format.proofs.Kept.{unless_none, or_none, whole_none}
 use Rattle.alma_object.proofs.Rows.{keeps_records, keeps_version}
 use Rattle.alma_object.proofs.Tables.{is_table, keeps_counts}
 use Rattle.alma_object.proofs.Sections.{routines_stand, globals_stand, params_stand, runs_stand, ranges_stand, text_ends_stand, names_stand, texts_stand, instrs_stand, lines_stand, names_total, params_total, runs_total, texts_total}

@@ -10,7 +10,7 @@ use Rattle.alma_code.specs.declared.instr.Instr.TheVariants as I
 use Rattle.alma_code.specs.Plain.{PlainCode, PlainRoutine, PlainGlobal}
 use Rattle.alma_code.specs.Records.{KeepsVersion, KeepsCounts, KeepsRecords}
 use Rattle.alma_code.specs.Rules.{IsTable}
-use Rattle.alma_format.specs.Object.{slot_size}
+use Rattle.alma_object_format.specs.Object.{slot_size}
 
 -- the words of an instruction
 unfoldable pub fields : Instr → List ℕ

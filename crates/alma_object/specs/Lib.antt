@@ -1,9 +1,9 @@
-pub use Rattle.alma_format.specs.Bytes
-pub use Rattle.alma_format.specs.Fault
-pub use Rattle.alma_format.specs.Header
-pub use Rattle.alma_format.specs.Instrs
-pub use Rattle.alma_format.specs.Object
-pub use Rattle.alma_format.specs.Reading
-pub use Rattle.alma_format.specs.Walk
+pub use Rattle.alma_object_format.specs.Bytes
+pub use Rattle.alma_object_format.specs.Fault
+pub use Rattle.alma_object_format.specs.Header
+pub use Rattle.alma_object_format.specs.Instrs
+pub use Rattle.alma_object_format.specs.Object
+pub use Rattle.alma_object_format.specs.Reading
+pub use Rattle.alma_object_format.specs.Walk
 pub mod Fields
 pub mod View

@@ -6,7 +6,7 @@ use Rattle.alma_code.specs.Plain.{PlainCode, PlainRoutine, PlainGlobal}
 use Rattle.alma_object.specs.declared.routine.RoutineView.{RoutineView}
 use Rattle.alma_object.specs.declared.view.ObjectView.{ObjectView}
 use Rattle.alma_object.specs.declared.view.readers.GlobalView.{GlobalView}
-use Rattle.alma_format.specs.Reading.{params_in, runs_in, code_in}
+use Rattle.alma_object_format.specs.Reading.{params_in, runs_in, code_in}
 
 -- the head of a routine view
 abbrev pub head_of_view : RoutineView → PlainHead

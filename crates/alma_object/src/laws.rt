@@ -2,10 +2,10 @@
 ghost use Rattle.std.specs.Prelude.{◌≡◌, List, ℕ, None};
 ghost use Rattle.alma_code.specs.Plain.{PlainCode};
 ghost use Rattle.alma_object.specs.Fields.{FitsFields, KeepsFormat};
-ghost use Rattle.alma_format.specs.Header.{header_of};
-ghost use Rattle.alma_format.specs.Object.{IsObject, object_bytes};
-ghost use Rattle.alma_format.specs.Reading.{code_in};
-ghost use Rattle.alma_format.specs.Walk.{object_fault};
+ghost use Rattle.alma_object_format.specs.Header.{header_of};
+ghost use Rattle.alma_object_format.specs.Object.{IsObject, object_bytes};
+ghost use Rattle.alma_object_format.specs.Reading.{code_in};
+ghost use Rattle.alma_object_format.specs.Walk.{object_fault};
 
 /// The walk finds no fault in the object of a code whose numbers fit their fields.
 #[tactic(auto, using(crate::proofs::Clean::object_clean))]

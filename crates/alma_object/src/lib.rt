@@ -1,11 +1,12 @@
-//! Object files: a code as bytes, and a view of such bytes.
+//! Objects: written, and read as a view of their bytes.
 #![tactic(auto)]
 
 pub mod laws;
 mod routine;
 mod view;
+mod writing;
 
-pub use alma_encode::encode;
-pub use alma_format::ObjectFault;
+pub use alma_object_format::ObjectFault;
 pub use routine::RoutineView;
 pub use view::{GlobalView, ObjectView};
+pub use writing::encode;

@@ -2,7 +2,7 @@
 ghost use Rattle.std.specs.Prelude.{◌≡◌, ◌+◌, ◌*◌, ◌≤◌, length};
 
 use alma_code::{CodeParam, Head, Run};
-use alma_format::{param_in, run_in};
+use alma_object_format::{param_in, run_in};
 
 /// A routine of an object. It lends the bytes of the object.
 #[derive(Clone, Copy)]

@@ -1,12 +1,12 @@
 // A view of the bytes of an object.
 ghost use Rattle.std.specs.Prelude.{◌≡◌, ◌<◌, ℕ, length, get_or, None};
-ghost use Rattle.alma_format.specs.Header.{IsWithin, header_of, header_fault, routines_at as routines_offset, instrs_at as instrs_offset, end_at};
-ghost use Rattle.alma_format.specs.Walk.{sections_fault};
+ghost use Rattle.alma_object_format.specs.Header.{IsWithin, header_of, header_fault, routines_at as routines_offset, instrs_at as instrs_offset, end_at};
+ghost use Rattle.alma_object_format.specs.Walk.{sections_fault};
 
 mod copy;
 mod readers;
 
-use alma_format::Header;
+use alma_object_format::Header;
 pub use readers::GlobalView;
 
 /// A view of the bytes of an object. It lends them, and each reader takes what it gives straight from them.

@@ -15,8 +15,8 @@ use Rattle.alma_tree.specs.Tree.{Module}
 use Rattle.alma_tree.specs.Spelling.{spelling}
 use Rattle.alma_scan.specs.declared.scanner.Token.{Token}
 use Rattle.alma_parse.specs.declared.error.ParseError.TheVariants as errors
-use Rattle.alma_cursor.specs.Parsing.{kinds_of}
-use Rattle.alma_parse_declarations.proofs.Modules.{as_many}
+use Rattle.alma_parse_cursor.specs.Parsing.{kinds_of}
+use Rattle.alma_parse.proofs.Modules.{as_many}
 use Rattle.alma_parse.specs.Refusals.{Refuses}
 
 -- ---- fronts of one list before one rest

@@ -1,8 +1,14 @@
-//! The parser: from the tokens of a source to its concrete tree, or to the first token at which no program goes on.
+//! Reading a module: its declarations, its body and its end.
 #![tactic(auto)]
 
+mod declarations;
+mod ending;
 mod error;
 mod parser;
+mod whole;
 
+pub use declarations::block;
+pub use ending::end_of_module;
 pub use error::ParseError;
 pub use parser::parse;
+pub use whole::module;

@@ -5,13 +5,13 @@ ghost use Rattle.alma_tree.specs.Spelling.{spelling};
 ghost use Rattle.alma_tree.specs.View.{view_module};
 ghost use Rattle.alma_tree.specs.Numbers.{IsNumbered};
 ghost use Rattle.alma_tree.specs.Depth.{depth};
-ghost use Rattle.alma_cursor.specs.Parsing.{kinds_of};
+ghost use Rattle.alma_parse_cursor.specs.Parsing.{kinds_of};
 ghost use Rattle.alma_parse.specs.Refusals.{Refuses};
 
 use crate::error::ParseError;
+use crate::whole::module;
 use alma_base::SyntaxFault;
-use alma_cursor::Fault;
-use alma_parse_declarations::module;
+use alma_parse_cursor::Fault;
 use alma_scan::Token;
 use alma_tree::Module;
 use std::alloc::Global;

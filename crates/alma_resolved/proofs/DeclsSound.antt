@@ -7,7 +7,7 @@ use Rattle.std.proofs.lemmas.List.{get_or-set_same, get_or-set_other, length-set
 use Rattle.alma_base.specs.Choice.{if_true}
 use Rattle.alma_names.specs.declared.block.Entry.{Entry}
 use Rattle.alma_names.specs.declared.block.Entry.TheVariants as entry
-use Rattle.alma_shapes.specs.Shapes.{PlainShape}
+use Rattle.alma_names.specs.Shapes.{PlainShape}
 use Rattle.alma_names.specs.Blocks.{DeclaredName, shape_id}
 use Rattle.alma_names.specs.Scopes.{with_declared}
 use Rattle.alma_ir.proofs.Each.{each_of_append, each_follows}

@@ -6,7 +6,7 @@ use Rattle.std.proofs.lemmas.Option.{slice_get_within}
 use Rattle.std.proofs.lemmas.Bool.{ltb-true, ltb-false}
 use Rattle.alma_names.specs.declared.block.Entry.{Entry}
 use Rattle.alma_names.specs.declared.block.Entry.TheVariants as entry
-use Rattle.alma_shapes.specs.Shapes.{PlainShape}
+use Rattle.alma_names.specs.Shapes.{PlainShape}
 use Rattle.alma_names.specs.Blocks.{DeclaredName, place, is_visible, visible_place, seen, entry_in}
 use Rattle.alma_names.specs.Scopes.{Blocks, entries_of, with_declared, or_else, visible_from, visible, entry_below, entry_at, level_from, level_of}
 use Rattle.alma_ir.proofs.Each.{each_of_append, each_follows}

@@ -7,7 +7,7 @@ use Rattle.std.proofs.lemmas.List.Sums.{sum_by-cons}
 use Rattle.alma_base.specs.Choice.{if_true}
 use Rattle.alma_tree.specs.declared.leaf.Mode.{Mode}
 use Rattle.alma_tree.specs.declared.leaf.Mode.TheVariants as modes
-use Rattle.alma_shapes.specs.Shapes.{PlainShape, integer, char, boolean, listed, sub, row, fields, range_of, range_at, cells_in, cell_counts, cell_counts_from}
+use Rattle.alma_names.specs.Shapes.{PlainShape, integer, char, boolean, listed, sub, row, fields, range_of, range_at, cells_in, cell_counts, cell_counts_from}
 use Rattle.alma_ir.specs.declared.program.ArgKind.{ArgKind}
 use Rattle.alma_ir.specs.declared.program.ArgKind.TheVariants as kinds
 use Rattle.alma_ir.specs.declared.program.Param.{Param}

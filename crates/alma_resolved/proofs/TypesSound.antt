@@ -7,7 +7,7 @@ use Rattle.alma_base.specs.declared.fault.CheckFault.{CheckFault}
 use Rattle.alma_base.specs.declared.fault.CheckFault.TheVariants as fault
 use Rattle.alma_names.specs.declared.block.Entry.{Entry}
 use Rattle.alma_names.specs.declared.block.Entry.TheVariants as entry
-use Rattle.alma_shapes.specs.Shapes.{PlainShape, listed, sub, row, fields, is_too_large, placed_shape, cell_counts}
+use Rattle.alma_names.specs.Shapes.{PlainShape, listed, sub, row, fields, is_too_large, placed_shape, cell_counts}
 use Rattle.alma_names.specs.Blocks.{shape_id}
 use Rattle.alma_ir.proofs.Each.{each_of_front, each_of_back}
 use Rattle.alma_rules.specs.Numbered as tree

@@ -3,3 +3,4 @@ pub mod Scenes
 pub mod Keeps
 pub mod Stand
 pub mod Frames
+pub mod Whole

@@ -1,7 +1,7 @@
 -- What a scene keeps in which a body is judged: its table of shapes, and what each name in it stands for, in a place of a program.
 use Rattle.std.specs.Prelude.{◌≡◌, ℕ, ◌+◌, ◌*◌, ◌<◌, ◌≤◌, Bool, false, List, [], ◌∷◌, length, Option, None, Some, not, is_some, slice_get, option_and_then, unwrap_or, IsSome, IsNone}
 use Rattle.alma_base.specs.Numbers.{range_size, whole_range}
-use Rattle.alma_shapes.specs.Shapes.{PlainShape, range_at, base_at, cells_at, field_at}
+use Rattle.alma_names.specs.Shapes.{PlainShape, range_at, base_at, cells_at, field_at}
 use Rattle.alma_ir.specs.declared.program.Param.{Param}
 use Rattle.alma_ir.specs.Tree.{Routine, routine_at}
 use Rattle.alma_ir.specs.Checked.{IsOrdered, LinksAgree}

@@ -1,4 +1,9 @@
-//! Laws of the rules of names and types: a resolved program is checked.
+//! Laws of resolved programs: numbers of nodes, kept rules, what a checked program holds, limits.
 #![tactic(auto)]
 
+pub mod conditions;
 pub mod laws;
+pub mod limits;
+mod numbers;
+
+pub use numbers::{one_numbered_tree, one_tree_of_a_spelling};

@@ -9,6 +9,12 @@ pub mod DeclsOrdered
 pub mod Bridge
 pub mod Sound
 pub mod SoundWalk
-mod Examples1
-mod Examples2
-mod Examples3
+pub mod Judging
+pub mod Rows
+pub mod TypeRows
+pub mod Onwards
+pub mod Exprs
+pub mod Desigs
+pub mod Stmts
+pub mod Turns
+pub mod Cases

@@ -2,7 +2,7 @@
 use Rattle.std.specs.Prelude.{ℕ, List, [], ◌∷◌, Option, None, Some}
 use Rattle.alma_base.specs.declared.fault.CheckFault.{CheckFault}
 use Rattle.alma_scan.specs.Tokens.{Lexeme}
-use Rattle.alma_shapes.specs.Shapes.{cell_counts}
+use Rattle.alma_names.specs.Shapes.{cell_counts}
 use Rattle.alma_ir.specs.Tree.{Program, Routine}
 use Rattle.alma_ir.specs.Lines.{stmts_with}
 use Rattle.alma_ir.specs.Phrases.{stmts_phrases}

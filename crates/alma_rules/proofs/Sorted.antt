@@ -1,7 +1,7 @@
 -- Computed on a source: in each pass over a block the first of the broken rules is the least.
 use Rattle.std.specs.Prelude.{ℕ, ◌+◌, Bool, true, not, ◌&&◌, List, [], ◌∷◌}
 use Rattle.alma_scan.specs.Tokens.{Lexeme}
-use Rattle.alma_shapes.specs.Shapes.{cell_counts}
+use Rattle.alma_names.specs.Shapes.{cell_counts}
 use Rattle.alma_rules.specs.Numbered as tree
 use Rattle.alma_rules.specs.Judged.{Broken, is_before}
 use Rattle.alma_rules.specs.Scene.{Scene}

@@ -8,7 +8,7 @@ use Rattle.alma_rules.specs.Judged.{Broken}
 use Rattle.alma_rules.specs.Scene.{Scene, Found, found, in_constant}
 use Rattle.alma_rules.specs.Parts.{Typing}
 use Rattle.alma_rules.specs.Types.{Reading, changed, reading_change, redeclared, redeclared_all, redeclared_fields, is_field, type_name_rules, shape_in, read_type_name, Formed, formed, too_large, index_type_rules, subrange_rules, size_rules, subrange_of, rows_of, record_of, listed_in, add_shape, declare_values, all_first, read_listed, all_names, read_constant, read_type, read_arrays, read_dimension_tail, read_dimensions, read_plains, read_plain, read_fields, read_field_tail, index_at, reading_then}
-use Rattle.alma_shapes.specs.Shapes.{listed}
+use Rattle.alma_names.specs.Shapes.{listed}
 use Rattle.std.specs.Prelude.{length}
 use Rattle.alma_rules.specs.Rising.{rise_expr, rise_more_names, rise_type, rise_arrays, rise_dimension_tail, rise_dimensions, rise_plains, rise_plain, rise_fields, rise_field_tail}
 use Rattle.alma_rules.proofs.Ranks.{InOrder, empty, append, one}

@@ -5,7 +5,7 @@ use Rattle.alma_base.specs.Numbers.{within}
 use Rattle.alma_scan.specs.Tokens.{Lexeme}
 use Rattle.alma_names.specs.declared.block.Entry.{Entry}
 use Rattle.alma_names.specs.declared.block.Entry.TheVariants as entry
-use Rattle.alma_shapes.specs.Shapes.{PlainShape, base_at, range_at}
+use Rattle.alma_names.specs.Shapes.{PlainShape, base_at, range_at}
 use Rattle.alma_names.specs.Blocks.{DeclaredName}
 use Rattle.alma_names.specs.Scopes.{Blocks}
 use Rattle.alma_ir.specs.Tree as ir

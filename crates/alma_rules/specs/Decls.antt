@@ -10,7 +10,7 @@ use Rattle.alma_names.specs.declared.block.Access.TheVariants as access
 use Rattle.alma_names.specs.declared.block.Entry.{Entry}
 use Rattle.alma_names.specs.declared.block.Entry.TheVariants as entry
 use Rattle.alma_base.specs.Limits.{cell_limit}
-use Rattle.alma_shapes.specs.Shapes.{}
+use Rattle.alma_names.specs.Shapes.{}
 use Rattle.alma_names.specs.Blocks.{shape_id}
 use Rattle.alma_names.specs.Scopes.{with_new_block}
 use Rattle.alma_ir.specs.declared.program.Param.{Param}

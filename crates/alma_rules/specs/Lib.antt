@@ -13,3 +13,6 @@ pub mod Decls
 pub mod Modules
 pub mod Answers
 pub mod Rising
+pub mod Appends
+pub mod Arms
+pub mod Onward

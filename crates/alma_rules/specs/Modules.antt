@@ -5,7 +5,7 @@ use Rattle.alma_base.specs.declared.fault.CheckFault.{CheckFault}
 use Rattle.alma_base.specs.declared.fault.CheckFault.TheVariants as fault
 use Rattle.alma_base.specs.declared.number.Range.{Range}
 use Rattle.alma_scan.specs.Tokens.{Lexeme}
-use Rattle.alma_shapes.specs.Shapes.{PlainShape, first_shapes}
+use Rattle.alma_names.specs.Shapes.{PlainShape, first_shapes}
 use Rattle.alma_names.specs.Scopes.{first_blocks}
 use Rattle.alma_ir.specs.Tree as ir
 use Rattle.alma_rules.specs.Numbered as tree

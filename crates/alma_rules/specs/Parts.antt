@@ -13,7 +13,7 @@ use Rattle.alma_tree.specs.declared.leaf.MulOperator.{MulOperator}
 use Rattle.alma_tree.specs.declared.leaf.MulOperator.TheVariants as muls
 use Rattle.alma_tree.specs.declared.leaf.Mode.{Mode}
 use Rattle.alma_tree.specs.declared.leaf.Mode.TheVariants as modes
-use Rattle.alma_shapes.specs.Shapes.{field_at}
+use Rattle.alma_names.specs.Shapes.{field_at}
 use Rattle.std.specs.Prelude.{slice_get}
 use Rattle.alma_ir.specs.declared.phrase.Op.{Op}
 use Rattle.alma_ir.specs.declared.phrase.Op.TheVariants as ops

@@ -10,7 +10,7 @@ use Rattle.alma_names.specs.declared.block.Access.{Access}
 use Rattle.alma_names.specs.declared.block.Access.TheVariants as access
 use Rattle.alma_names.specs.declared.block.Entry.{Entry}
 use Rattle.alma_names.specs.declared.block.Entry.TheVariants as entry
-use Rattle.alma_shapes.specs.Shapes.{PlainShape, row, fields, range_at, base_at, cells_at}
+use Rattle.alma_names.specs.Shapes.{PlainShape, row, fields, range_at, base_at, cells_at}
 use Rattle.alma_names.specs.Blocks.{DeclaredName}
 use Rattle.alma_names.specs.Scopes.{Blocks, visible, entry_at, level_of}
 use Rattle.alma_ir.specs.declared.program.Param.{Param}

@@ -1,4 +1,4 @@
-//! The check rules and the resolved program: definitions.
+//! The rules that a program keeps, and the judgement of each phrase.
 #![tactic(auto)]
 
 mod error;

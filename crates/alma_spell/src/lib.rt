@@ -1,7 +1,11 @@
-//! The kinds of the tokens that a tree is spelled with.
+//! A tree spelled as text.
 #![tactic(auto)]
 
 mod module;
+mod phrase;
 mod type_node;
+mod word;
 
 pub use module::spell;
+pub use phrase::{push_expr, push_stmts};
+pub use word::push;

@@ -1,12 +1,13 @@
 // The kinds of declarations and of the whole module.
 ghost use Rattle.std.specs.Prelude.{◌≡◌, IfOk, OnOk};
-ghost use Rattle.alma_spell_phrase.specs.Pushed.{Pushes};
+ghost use Rattle.alma_spell.specs.Pushed.{Pushes};
 ghost use Rattle.alma_tree.specs.Spelling.{spelling, spell_block, spell_body, spell_const_tail, spell_decl, spell_decl_tail, spell_formal, spell_formal_tail, spell_formals, spell_mode, spell_params, spell_result_name, spell_type_tail, spell_var_tail};
 ghost use Rattle.alma_tree.specs.View.{body_of, consts_of, decls_of, formal_tail_of, params_of, result_of, types_of, vars_of, view_block, view_decl, view_formal, view_formals, view_module};
 
+use crate::phrase::{push_expr, push_stmts};
 use crate::type_node::{push_names, push_type_node};
+use crate::word::push;
 use alma_base::NoMemory;
-use alma_spell_phrase::{push, push_expr, push_stmts};
 use alma_tree::{
     Block, ConstEntry, Decl, Formal, Formals, Kind, Mode, Module, Name, Params, Stmts, TypeEntry,
     VarEntry,

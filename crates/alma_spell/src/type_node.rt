@@ -1,11 +1,12 @@
 // The kinds of types.
 ghost use Rattle.std.specs.Prelude.{OnOk};
-ghost use Rattle.alma_spell_phrase.specs.Pushed.{Pushes};
+ghost use Rattle.alma_spell.specs.Pushed.{Pushes};
 ghost use Rattle.alma_tree.specs.Spelling.{spell_array_tail, spell_dimensions, spell_field_list, spell_field_list_tail, spell_name_tail, spell_names, spell_plain_tail, spell_plain_type, spell_type_node};
 ghost use Rattle.alma_tree.specs.View.{arrays_of, dimensions_of, field_lists_of, name_tail_of, plains_of, view_dimension, view_field_list, view_names, view_plain_type, view_type_node};
 
+use crate::phrase::push_expr;
+use crate::word::push;
 use alma_base::NoMemory;
-use alma_spell_phrase::{push, push_expr};
 use alma_tree::{Arrays, Dimensions, FieldList, Kind, Name, Names, PlainType, TypeNode};
 
 fn push_name_tail(trees: &[Name], out: &mut Vec<Kind>) -> Result<(), NoMemory>

@@ -1,4 +1,4 @@
-//! What public calls answer, and what is printed. Tests alone, of names, resolved programs and codes.
+//! Tests of names, programs, code and objects.
 #![tactic(auto)]
 
 #[cfg(test)]
@@ -7,3 +7,7 @@ mod code;
 mod ir;
 #[cfg(test)]
 mod names;
+#[cfg(test)]
+mod object;
+#[cfg(test)]
+mod verify;

@@ -1,7 +1,7 @@
 // What each table answers on its happy path and at its limits.
 ghost use Rattle.std.specs.Prelude.{◌≡◌, ◌+◌, ◌^◌, ◌<◌, ◌≤◌, ◌≤ℤ◌, pos, Some, slice_get, length, IfOk, OnOk};
 ghost use Rattle.alma_names.specs.Scopes.{first_blocks, with_new_block, entry_count};
-ghost use Rattle.alma_shapes.specs.Shapes.{integer};
+ghost use Rattle.alma_names.specs.Shapes.{integer};
 
 use alma_base::{NoMemory, Range};
 use alma_names::{

@@ -1,7 +1,9 @@
-//! What public calls answer, and what is printed. Tests alone, of runs of the machine.
+//! Tests of memory and machine.
 #![tactic(auto)]
 
 #[cfg(test)]
 mod machine;
+#[cfg(test)]
+mod memory;
 #[cfg(test)]
 mod over;

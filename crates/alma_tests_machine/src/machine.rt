@@ -5,8 +5,8 @@ ghost use Rattle.alma_tests_machine.specs.Small.{small_routine, small_code};
 
 use alma_base::{NoMemory, Range, RunFault};
 use alma_code::{Code, Instr, RoutineHead, Run, SlotKind};
-use alma_engine::{Machine, RunEnd, Step};
 use alma_io::MemSink;
+use alma_machine::{Machine, RunEnd, Step};
 use alma_object::{ObjectView, encode};
 use alma_verify::{Verified, verify};
 use std::alloc::Global;

@@ -7,7 +7,7 @@ ghost use Rattle.alma_verify.specs.Verified.{code_of_verified};
 
 use alma_base::NoMemory;
 use alma_code::End;
-use alma_engine::{CodeView, Machine, Step};
+use alma_machine::{CodeView, Machine, Step};
 use alma_memory::Memory;
 use alma_object::{ObjectView, RoutineView};
 use alma_verify::{Verified, verify};

@@ -1,6 +1,8 @@
-//! What public calls answer, and what is printed. Tests alone, of the text: tokens, trees, samples.
+//! Tests of trees, tokens, spellings and the parser.
 #![tactic(auto)]
 
+#[cfg(test)]
+mod parse;
 #[cfg(test)]
 mod sample;
 #[cfg(test)]

@@ -1,3 +1,4 @@
+pub mod Lines
 pub mod Naming
 pub mod Resolving
 pub mod Standing

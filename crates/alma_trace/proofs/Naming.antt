@@ -13,8 +13,8 @@ use Rattle.alma_code.specs.Machine.{State, Stepped, step, start}
 use Rattle.alma_code.specs.Picture.{PlainFrame}
 use Rattle.alma_code.specs.Plain.{PlainCode, PlainGlobal}
 use Rattle.alma_code.specs.TraceText.{same_name, value_of_name, watched_words, step_words, unless_done, trace_lines, cells_text}
-use Rattle.alma_watch.specs.declared.watch.Watch.{Watch}
-use Rattle.alma_watch.specs.Places.{value_at, watch_words}
+use Rattle.alma_trace.specs.declared.watch.Watch.{Watch}
+use Rattle.alma_trace.specs.Places.{value_at, watch_words}
 use Rattle.alma_trace.specs.Resolved.{IsResolved, TracesAreTheTraceText, place_of_name}
 use Rattle.alma_trace.specs.Traced.{traced_words, run_lines, steps_end}
 

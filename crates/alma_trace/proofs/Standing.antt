@@ -4,9 +4,9 @@ use Rattle.alma_code.specs.Fits.{FitsFrame, routines_of}
 use Rattle.alma_code.specs.Machine.{State}
 use Rattle.alma_code.specs.Picture.{PlainFrame, no_frame}
 use Rattle.alma_code.specs.Plain.{PlainCode, kinds_at}
-use Rattle.alma_engine.proofs.Counting.{few_kinds}
-use Rattle.alma_engine.specs.Stands.{Stands}
-use Rattle.alma_watch.specs.Places.{main_slots}
+use Rattle.alma_machine.proofs.Counting.{few_kinds}
+use Rattle.alma_machine.specs.Stands.{Stands}
+use Rattle.alma_trace.specs.Places.{main_slots}
 
 -- frame 0 has the slots of the frame of the module, which are few
 few_slots : (code : PlainCode) (s : State) → Stands code s → main_slots s.now < 2 ^ 32

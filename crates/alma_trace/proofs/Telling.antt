@@ -12,15 +12,15 @@ use Rattle.alma_code.specs.declared.step.Step.TheVariants as answer
 use Rattle.alma_code.specs.ListText.{text_line}
 use Rattle.alma_code.specs.Machine.{Mode, Going, Failing, Ended, Stuck, State, Stepped, step, after}
 use Rattle.alma_code.specs.TraceText.{unless_done}
-use Rattle.alma_engine.proofs.Budget.{Progress, made_is, out_front}
-use Rattle.alma_engine.specs.declared.machine.RunEnd.{RunEnd}
-use Rattle.alma_engine.specs.declared.machine.RunEnd.TheVariants as run
-use Rattle.alma_engine.specs.Runs.{OnWriteFault, made}
-use Rattle.alma_engine.specs.Steps.{IsLive, ModeAfter, stepped}
-use Rattle.alma_engine.specs.View.{MachineView, goes_on}
+use Rattle.alma_machine.proofs.Budget.{Progress, made_is, out_front}
+use Rattle.alma_machine.specs.declared.machine.RunEnd.{RunEnd}
+use Rattle.alma_machine.specs.declared.machine.RunEnd.TheVariants as run
+use Rattle.alma_machine.specs.Runs.{OnWriteFault, made}
+use Rattle.alma_machine.specs.Steps.{IsLive, ModeAfter, stepped}
+use Rattle.alma_machine.specs.View.{MachineView, goes_on}
 use Rattle.alma_io.specs.Fronts.{AppendsFront}
 use Rattle.alma_trace.specs.Cuts.{IsCut, OnCut, can_go}
-use Rattle.alma_watch.specs.declared.watch.Watch.{Watch}
+use Rattle.alma_trace.specs.declared.watch.Watch.{Watch}
 use Rattle.alma_trace.specs.Traced.{traced_words, step_text, steps_end, run_lines, traced, traced_within}
 
 -- what follows a step that goes on

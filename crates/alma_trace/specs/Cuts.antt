@@ -1,8 +1,8 @@
 -- Runs that are cut short.
 use Rattle.std.specs.Prelude.{Bool, true, false, Result, Ok, Err}
 use Rattle.alma_code.specs.Machine.{Mode, Going, Failing, Ended, Stuck}
-use Rattle.alma_engine.specs.declared.machine.RunEnd.{RunEnd}
-use Rattle.alma_engine.specs.declared.machine.RunEnd.TheVariants as run
+use Rattle.alma_machine.specs.declared.machine.RunEnd.{RunEnd}
+use Rattle.alma_machine.specs.declared.machine.RunEnd.TheVariants as run
 
 -- a fault of the sink or a want of memory
 abbrev pub IsCut : RunEnd → Type 0

@@ -1,4 +1,4 @@
-pub use Rattle.alma_watch.specs.Places
+pub mod Places
 pub mod Cuts
 pub mod Resolved
 pub mod Traced

@@ -6,8 +6,8 @@ use Rattle.alma_code.specs.Machine.{start}
 use Rattle.alma_code.specs.Plain.{PlainCode, PlainGlobal}
 use Rattle.alma_code.specs.Rules.{IsSound}
 use Rattle.alma_code.specs.TraceText.{same_name, trace_text}
-use Rattle.alma_watch.specs.declared.watch.Watch.{Watch}
-use Rattle.alma_watch.specs.Places.{AreOfModule}
+use Rattle.alma_trace.specs.declared.watch.Watch.{Watch}
+use Rattle.alma_trace.specs.Places.{AreOfModule}
 use Rattle.alma_trace.specs.Traced.{traced}
 
 -- the place of the first global with a name, where there is one

@@ -7,8 +7,8 @@ use Rattle.alma_code.specs.ListText.{text_line}
 use Rattle.alma_code.specs.Machine.{State, Stepped, step}
 use Rattle.alma_code.specs.Plain.{PlainCode}
 use Rattle.alma_code.specs.TraceText.{step_words, unless_done}
-use Rattle.alma_watch.specs.declared.watch.Watch.{Watch}
-use Rattle.alma_watch.specs.Places.{watch_words}
+use Rattle.alma_trace.specs.declared.watch.Watch.{Watch}
+use Rattle.alma_trace.specs.Places.{watch_words}
 
 -- the watched values of the state after a step, where the step shows them
 abbrev pub shown_words : Step → List Watch → State → List (List ℕ)

@@ -1,11 +1,14 @@
-//! The text that traces a run: a line for each step that has one, and the values of watched places at choices and fails.
+//! The tracer: a line for each choice, failure, cut, call, return and print.
 #![tactic(auto)]
 
 pub mod laws;
+mod line;
 mod resolve;
 mod step;
 mod tracer;
+mod watch;
 
-pub use alma_watch::Watch;
+pub use line::{put_number, put_three, put_two};
 pub use resolve::watches;
 pub use tracer::trace;
+pub use watch::{Watch, put_watched};

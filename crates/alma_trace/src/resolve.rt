@@ -4,9 +4,9 @@ ghost use Rattle.alma_code.specs.TraceText.{same_name};
 ghost use Rattle.alma_object.specs.View.{code_of_view};
 ghost use Rattle.alma_trace.specs.Resolved.{IsResolved, place_of_name};
 
+use crate::watch::Watch;
 use alma_base::NoMemory;
 use alma_object::ObjectView;
-use alma_watch::Watch;
 use std::alloc::Global;
 
 // Two names are alike.

@@ -3,15 +3,16 @@ ghost use Rattle.std.specs.Prelude.{◌≡◌, ◌∷◌, [], true, flat_map, co
 ghost use Rattle.alma_code.specs.ListText.{text_line};
 ghost use Rattle.alma_code.specs.Plain.{routine_at};
 ghost use Rattle.alma_code.specs.TraceText.{end_words};
-ghost use Rattle.alma_engine.specs.View.{goes_on};
+ghost use Rattle.alma_machine.specs.View.{goes_on};
 ghost use Rattle.alma_object.specs.View.{code_of_view};
-ghost use Rattle.alma_watch.specs.Places.{AreOfModule};
+ghost use Rattle.alma_trace.specs.Places.{AreOfModule};
 ghost use Rattle.alma_trace.specs.Traced.{step_text, steps_end};
 
+use crate::line::{put_number, put_three, put_two};
+use crate::watch::{Watch, put_watched};
 use alma_base::NoMemory;
-use alma_engine::{End, Machine, Step};
+use alma_machine::{End, Machine, Step};
 use alma_object::ObjectView;
-use alma_watch::{Watch, put_number, put_three, put_two, put_watched};
 use itoa::Buffer;
 
 // The line of an end.

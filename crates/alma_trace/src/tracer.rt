@@ -3,18 +3,18 @@ ghost use Rattle.std.specs.Prelude.{◌≡◌, ◌+◌, ◌^◌, ◌<◌, ◌≤
 ghost use Rattle.std.specs.Io.KnownBytes.{Appends};
 ghost use Rattle.alma_code.specs.ListText.{text_line};
 ghost use Rattle.alma_code.specs.Machine.{after};
-ghost use Rattle.alma_engine.specs.Runs.{run_end_of, is_steps_out, all_written, made, OnWhole, OnStepsOut, OnWriteFault};
-ghost use Rattle.alma_engine.specs.View.{goes_on};
+ghost use Rattle.alma_machine.specs.Runs.{run_end_of, is_steps_out, all_written, made, OnWhole, OnStepsOut, OnWriteFault};
+ghost use Rattle.alma_machine.specs.View.{goes_on};
 ghost use Rattle.alma_io.specs.Causes.{HasCause};
 ghost use Rattle.alma_io.specs.Fronts.{AppendsFront};
 ghost use Rattle.alma_trace.specs.Cuts.{IsCut, OnCut, can_go, cut_of};
-ghost use Rattle.alma_watch.specs.Places.{AreOfModule};
+ghost use Rattle.alma_trace.specs.Places.{AreOfModule};
 ghost use Rattle.alma_trace.specs.Traced.{step_text, steps_end, traced, traced_within};
 
 use crate::step::{put_step, put_steps_end};
-use alma_engine::{Machine, RunEnd, Step};
+use crate::watch::Watch;
 use alma_io::{Sink, write_all};
-use alma_watch::Watch;
+use alma_machine::{Machine, RunEnd, Step};
 use std::alloc::Global;
 
 // Writes the line of the machine's last step, in one call. An error is how the run is cut short.

@@ -7,11 +7,10 @@ ghost use Rattle.alma_code.specs.declared.instr.Instr.TheVariants as I;
 ghost use Rattle.alma_code.specs.Rules.{IsTable, instr_fault as instr_fault_spec, instrs_fault as instrs_fault_spec, routine_fault as routine_fault_spec, code_fault as code_fault_spec};
 
 use crate::heads::{rule_1, rule_2, rule_3};
+use crate::reader::CodeReader;
+use crate::rules::{rule_4, rule_5, rule_6, rule_7, rule_8, rule_9, rule_10, rule_11, rule_12};
+use crate::slots::start_of;
 use alma_code::VerifyFault;
-use alma_verify_rules::{
-    rule_4, rule_5, rule_6, rule_7, rule_8, rule_9, rule_10, rule_11, rule_12,
-};
-use alma_verify_slots::{CodeReader, start_of};
 
 /// The least broken rule of the instruction at an address of a routine.
 #[tactic(auto, unfolding(alma_code::specs::Rules::instr_fault))]

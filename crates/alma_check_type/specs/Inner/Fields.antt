@@ -3,14 +3,14 @@ use Rattle.std.specs.Global.{Global}
 use Rattle.std.specs.Map.{lookup}
 use Rattle.std.specs.Prelude.{◌≡◌, ℕ, Bool, true, false, ◌||◌, List, [], ◌∷◌, ◌++◌, slice_get, bytes_eq, Option, None, Some, is_some, option_map, Vec, if◌then◌else◌}
 use Rattle.alma_base.specs.declared.fault.CheckFault.TheVariants as fault
-use Rattle.alma_shapes.specs.Shapes.{PlainField}
+use Rattle.alma_names.specs.Shapes.{PlainField}
 use Rattle.alma_scan.specs.Tokens.{Lexeme}
 use Rattle.alma_rules.specs.Numbered as tree
 use Rattle.alma_rules.specs.Judged.{Broken}
 use Rattle.alma_rules.specs.Scene.{Scene, text_of}
 use Rattle.alma_rules.specs.Types.{Formed, record_of}
 use Rattle.alma_check_type.specs.declared.field.Fields.{Fields}
-use Rattle.alma_check_reader.specs.Told.{Told, fault_of, earlier, onward, told_change}
+use Rattle.alma_check_type.specs.Told.{Told, fault_of, earlier, onward, told_change}
 use Rattle.alma_check_type.specs.Inner.Tables.{fields_view}
 
 -- the text of a token

@@ -1,7 +1,7 @@
 -- What the tables of shapes take, and the names of an enumeration.
 use Rattle.std.specs.Global.{Global}
 use Rattle.std.specs.Prelude.{ℕ, Bool, true, false, List, [], ◌∷◌, map, slice_get, Option, None, Some, Vec}
-use Rattle.alma_shapes.specs.Shapes.{PlainShape, PlainField, is_index}
+use Rattle.alma_names.specs.Shapes.{PlainShape, PlainField, is_index}
 use Rattle.alma_rules.specs.Numbered as tree
 use Rattle.alma_rules.specs.Types.{Formed, formed, too_large}
 

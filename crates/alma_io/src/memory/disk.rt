@@ -1,7 +1,7 @@
 // Files in memory.
 ghost use Rattle.std.specs.Prelude.{◌≡◌, ◌≢◌, ◌<◌, ◌^◌, ◌↔◌, List, ℕ, None, Some, IfOk, OnOk, OnErr, IsErrOf, MatchOption};
 ghost use Rattle.std.specs.FinMap as map;
-ghost use Rattle.alma_outside.specs.Files.{MayPass, IsFetched, IsStored};
+ghost use Rattle.alma_io.specs.Files.{MayPass, IsFetched, IsStored};
 ghost use Rattle.alma_io.specs.Memory.{told_by, FailsNext, after_fetch, after_store};
 ghost use Rattle.alma_io.specs.Named.{named_bytes};
 

@@ -3,7 +3,7 @@ use Rattle.std.specs.Prelude.{List, []}
 use Rattle.alma_base.specs.Carry.{Change, with_changes}
 use Rattle.alma_code.specs.declared.cell.Cell.{Cell}
 use Rattle.alma_code.specs.declared.cell.ChoiceKind.TheVariants.{Branch}
-use Rattle.alma_trail.specs.declared.trail.Entry.{Entry}
+use Rattle.alma_memory.specs.declared.trail.Entry.{Entry}
 
 -- what stands for an entry that is not there
 abbrev pub no_saved : Entry

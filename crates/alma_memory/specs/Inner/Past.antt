@@ -7,7 +7,7 @@ use Rattle.alma_code.specs.Picture.{PlainFrame, no_frame, frames_with_cell}
 use Rattle.alma_code.specs.Carries.{same_cell, diff_at, slot_diffs}
 use Rattle.alma_code.specs.Kinds.{is_number}
 use Rattle.alma_memory.specs.declared.past.Past.TheInside.{Inside}
-use Rattle.alma_frames.specs.Carries.{IsRising}
+use Rattle.alma_memory.specs.Carries.{IsRising}
 
 -- frames of now, and frames from before
 pub record PlainPast : Type 0 where

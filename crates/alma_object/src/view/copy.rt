@@ -8,7 +8,7 @@ use crate::routine::RoutineView;
 use crate::view::{GlobalView, ObjectView};
 use alma_base::{NoMemory, Range};
 use alma_code::{Code, CodeGlobal, CodeParam, Head, Instr, Line, RoutineHead, Run};
-use alma_format::{line_in, range_in};
+use alma_object_format::{line_in, range_in};
 use std::alloc::Global;
 
 #[tactic(auto, using(crate::proofs::Items::take_steps))]

@@ -3,19 +3,19 @@ ghost use Rattle.std.specs.Prelude.{◌≡◌, ◌+◌, ◌<◌, ◌≤◌, leng
 ghost use Rattle.alma_code.specs.Lines.{line_of as line_of_code, known_line as known_line_of};
 ghost use Rattle.alma_code.specs.Plain.{start_at};
 ghost use Rattle.alma_code.specs.Reads.{is_read as is_read_of, code_reads};
-ghost use Rattle.alma_format.specs.Object.{IsObject};
-ghost use Rattle.alma_format.specs.Reading.{name_in, text_in, routine_in, global_in};
-ghost use Rattle.alma_format.specs.Walk.{object_fault};
+ghost use Rattle.alma_object_format.specs.Object.{IsObject};
+ghost use Rattle.alma_object_format.specs.Reading.{name_in, text_in, routine_in, global_in};
+ghost use Rattle.alma_object_format.specs.Walk.{object_fault};
 ghost use Rattle.alma_object.specs.View.{code_of_view, routine_of_view, global_of_view, IsSplit};
 
 use crate::routine::RoutineView;
 use crate::view::ObjectView;
 use alma_base::Range;
 use alma_code::{Instr, Line};
-use alma_format::{ObjectFault, instr_at, line_in, range_in, read_header, u32_at};
-use alma_sections::{
-    code_end, code_start, name_end, name_start, params_end, params_start, runs_end, runs_start,
-    sections_fault, text_end, text_start,
+use alma_object_format::{
+    ObjectFault, code_end, code_start, instr_at, line_in, name_end, name_start, params_end,
+    params_start, range_in, read_header, runs_end, runs_start, sections_fault, text_end,
+    text_start, u32_at,
 };
 
 /// A global of an object. It lends its name.
@@ -40,7 +40,7 @@ fn known_line(line: u32) -> Option<u32>
 
 impl<'b> ObjectView<'b> {
     /// The view of the bytes of an object, or the first fault of bytes that are none.
-    #[tactic(auto, unfolding(alma_format::specs::Walk::object_fault))]
+    #[tactic(auto, unfolding(alma_object_format::specs::Walk::object_fault))]
     pub fn new(bytes: &'b [u8]) -> Result<ObjectView<'b>, ObjectFault>
         ensures fault { MatchResult result (λ view. object_fault bytes.now ≡ None)
             (λ fault. object_fault bytes.now ≡ Some fault) }
@@ -121,7 +121,7 @@ impl<'b> ObjectView<'b> {
     }
 
     // A name of routines and globals.
-    #[tactic(auto, unfolding(alma_format::specs::Reading::name_in))]
+    #[tactic(auto, unfolding(alma_object_format::specs::Reading::name_in))]
     fn name(&self, name: u32) -> &'b [u8]
         requires { name < self.now.header.routines + self.now.header.globals }
         ensures { result.now ≡ name_in self.now.bytes.now self.now.header name }
@@ -133,7 +133,7 @@ impl<'b> ObjectView<'b> {
     }
 
     // A routine below their count.
-    #[tactic(auto, unfolding(alma_format::specs::Reading::routine_in), using(crate::proofs::Items::item_steps))]
+    #[tactic(auto, unfolding(alma_object_format::specs::Reading::routine_in), using(crate::proofs::Items::item_steps))]
     pub(crate) fn routine_view(&self, i: u32) -> RoutineView<'b>
         requires { i < self.now.header.routines }
         ensures routine { routine_of_view result ≡ routine_in self.now.bytes.now self.now.header i }
@@ -173,7 +173,7 @@ impl<'b> ObjectView<'b> {
     }
 
     // A global below their count.
-    #[tactic(auto, unfolding(alma_format::specs::Reading::global_in))]
+    #[tactic(auto, unfolding(alma_object_format::specs::Reading::global_in))]
     pub(crate) fn global_view(&self, i: u32) -> GlobalView<'b>
         requires { i < self.now.header.globals }
         ensures { global_of_view result ≡ global_in self.now.bytes.now self.now.header i }
@@ -199,7 +199,7 @@ impl<'b> ObjectView<'b> {
     }
 
     // The bytes of a text below their count.
-    #[tactic(auto, unfolding(alma_format::specs::Reading::text_in))]
+    #[tactic(auto, unfolding(alma_object_format::specs::Reading::text_in))]
     pub(crate) fn text_view(&self, i: u32) -> &'b [u8]
         requires { i < self.now.header.texts }
         ensures { result.now ≡ text_in self.now.bytes.now self.now.header i }

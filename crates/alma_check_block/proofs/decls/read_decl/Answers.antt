@@ -6,7 +6,7 @@ use Rattle.alma_rules.specs.Decls as rules
 use Rattle.alma_check_rules.specs.Views.{heading_view}
 use Rattle.std.specs.Prelude.{option_map}
 use Rattle.alma_check_block.specs.Shown.{told_frame}
-use Rattle.alma_walk.proofs.TypeRows.{procedure_is}
+use Rattle.alma_rules.proofs.TypeRows.{procedure_is}
 use Rattle.alma_check_block.proofs.Leaving.{heading_fault, heading_inside, procedure_read}
 use Rattle.alma_check_block.proofs.decls.read_decl.Goals as goal
 

@@ -6,8 +6,8 @@ use Rattle.alma_rules.specs.Scene.{a_value}
 use Rattle.alma_rules.specs.Types as types
 use Rattle.alma_rules.specs.Decls as rules
 use Rattle.alma_check_rules.specs.Views.{scene_of, somewhere, heading_view}
-use Rattle.alma_check_reader.specs.declared.reading.Reading.{Reading as CodeReading}
-use Rattle.alma_check_reader.specs.Told.{told, tells}
+use Rattle.alma_check_type.specs.declared.reading.Reading.{Reading as CodeReading}
+use Rattle.alma_check_type.specs.Told.{told, tells}
 use Rattle.alma_check_block.specs.Shown.{told_frame, shown}
 use Rattle.alma_check_block.proofs.Frames.{scene_is, read_in, read_fault, read_value}
 use Rattle.alma_check_block.proofs.Headings.{result_at, function_frame, faults_joined, ok_known, ok_to}

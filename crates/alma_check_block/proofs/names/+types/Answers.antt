@@ -1,6 +1,6 @@
 use Rattle.std.proofs.Common.{◌+◌, ap, drop, ◌∙◌}
 use Rattle.std.proofs.lemmas.List.{drop_all}
-use Rattle.alma_walk.proofs.Exprs.{next_of}
+use Rattle.alma_rules.proofs.Exprs.{next_of}
 use Rattle.alma_tree.specs.declared.type_node.TypeNode as dy
 use Rattle.alma_tree.specs.declared.type_node.Arrays as dz
 use Rattle.alma_rules.specs.View as view

@@ -1,6 +1,6 @@
 use Rattle.std.proofs.Common.{◌+◌, ◌∷◌, [], drop, ap}
 use Rattle.std.proofs.lemmas.List.{drop_all}
-use Rattle.alma_walk.proofs.Exprs.{next_of}
+use Rattle.alma_rules.proofs.Exprs.{next_of}
 use Rattle.alma_rules.specs.View as view
 use Rattle.alma_check_rules.specs.Views.{declares_view}
 use Rattle.alma_check_block.proofs.Texts.{names_on, names_end, name_at, name_is}

@@ -1,6 +1,6 @@
 use Rattle.std.proofs.Common.{◌+◌, ◌∷◌, [], drop, refl, ap, ◌∙◌}
 use Rattle.std.proofs.lemmas.List.{drop_all}
-use Rattle.alma_walk.proofs.Exprs.{next_of}
+use Rattle.alma_rules.proofs.Exprs.{next_of}
 use Rattle.alma_rules.specs.View as view
 use Rattle.alma_rules.specs.Types as types
 use Rattle.alma_rules.specs.Decls as rules

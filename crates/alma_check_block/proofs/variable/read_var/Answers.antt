@@ -3,7 +3,7 @@ use Rattle.alma_rules.specs.View as view
 use Rattle.alma_rules.specs.Types as types
 use Rattle.alma_rules.specs.Places.{width, mark_type}
 use Rattle.alma_rules.specs.Decls as rules
-use Rattle.alma_check_reader.specs.Told.{told, tells}
+use Rattle.alma_check_type.specs.Told.{told, tells}
 use Rattle.alma_check_block.specs.Shown.{told_frame}
 use Rattle.alma_check_block.proofs.Frames.{scene_is, scene_in, read_moves, read_fault, read_value}
 use Rattle.alma_check_block.proofs.variable.read_var.Goals as goal

@@ -2,7 +2,7 @@ use Rattle.std.proofs.Common.{ap, sym, subst, ◌∙◌}
 use Rattle.alma_rules.specs.Types as types
 use Rattle.alma_rules.specs.View as view
 use Rattle.alma_check_rules.specs.Views.{scene_of, somewhere}
-use Rattle.alma_check_reader.specs.Told.{told, fault_of, items_in, tells_of, formed_of}
+use Rattle.alma_check_type.specs.Told.{told, fault_of, items_in, tells_of, formed_of}
 use Rattle.alma_check_type.specs.Inner.Fields.{Knows, told_fields}
 use Rattle.alma_check_decl.proofs.Constants.{ok_as}
 use Rattle.alma_check_decl.proofs.TypeSteps as steps

@@ -2,7 +2,7 @@ use Rattle.std.proofs.Common.{◌≡◌, List, drop}
 use Rattle.alma_rules.specs.Numbered as tree
 use Rattle.alma_rules.specs.Types as types
 use Rattle.alma_rules.specs.View as view
-use Rattle.alma_check_reader.specs.Told.{told, onward, fault_of, items_in}
+use Rattle.alma_check_type.specs.Told.{told, onward, fault_of, items_in}
 use Rattle.alma_check_type.specs.Inner.Fields as spec
 use Rattle.alma_check_decl.proofs.TypeSteps.{Follows}
 use Rattle.alma_check_decl.proofs.type_node.+types.Given as goal

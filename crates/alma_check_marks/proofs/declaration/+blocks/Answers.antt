@@ -1,8 +1,8 @@
 use Rattle.std.proofs.Common.{refl, ap, ◌∙◌}
 use Rattle.alma_rules.specs.Places as places
 use Rattle.alma_rules.specs.View as view
-use Rattle.alma_walk.proofs.TypeRows as types
-use Rattle.alma_phrase_marks.proofs.Steps.{◌▹◌, ◌▸◌, ends, next, finish}
+use Rattle.alma_rules.proofs.TypeRows as types
+use Rattle.alma_check_marks.proofs.Steps.{◌▹◌, ◌▸◌, ends, next, finish}
 use Rattle.alma_check_marks.proofs.declaration.+blocks.Goals as goal
 
 pub mark_block-returns : goal.mark_block-returns

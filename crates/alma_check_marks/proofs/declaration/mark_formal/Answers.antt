@@ -1,4 +1,4 @@
-use Rattle.alma_phrase_marks.proofs.Steps.{◌▹◌, ends}
+use Rattle.alma_check_marks.proofs.Steps.{◌▹◌, ends}
 use Rattle.alma_check_marks.proofs.declaration.mark_formal.Goals as goal
 
 pub returns : goal.returns

@@ -1,4 +1,4 @@
-use Rattle.alma_phrase_marks.proofs.Steps.{◌▹◌, whole_from}
+use Rattle.alma_check_marks.proofs.Steps.{◌▹◌, whole_from}
 use Rattle.alma_check_marks.proofs.declaration.mark_module.Goals as goal
 
 pub returns : goal.returns

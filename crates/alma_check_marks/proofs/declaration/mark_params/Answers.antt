@@ -1,4 +1,4 @@
-use Rattle.alma_phrase_marks.proofs.Steps.{stays, ends_in}
+use Rattle.alma_check_marks.proofs.Steps.{stays, ends_in}
 use Rattle.alma_check_marks.proofs.declaration.mark_params.Goals as goal
 
 pub returns-in-None : goal.returns-in-None

@@ -1,7 +1,7 @@
 use Rattle.std.proofs.Common.{refl}
 use Rattle.alma_rules.specs.Places as places
 use Rattle.alma_rules.specs.View as view
-use Rattle.alma_phrase_marks.proofs.Steps.{◌▸◌, next, finish}
+use Rattle.alma_check_marks.proofs.Steps.{◌▸◌, next, finish}
 use Rattle.alma_check_marks.proofs.declaration.mark_vars.Goals as goal
 
 pub loop-entry-preserved : goal.loop-entry-preserved

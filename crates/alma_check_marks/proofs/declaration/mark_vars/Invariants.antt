@@ -1,8 +1,8 @@
 use Rattle.std.proofs.Common.{drop}
 use Rattle.alma_rules.specs.Places as places
 use Rattle.alma_rules.specs.View as view
-use Rattle.alma_phrase_marks.specs.Marking.{marked}
-use Rattle.alma_phrase_marks.proofs.Steps.{Rests}
+use Rattle.alma_check_marks.specs.Marking.{marked}
+use Rattle.alma_check_marks.proofs.Steps.{Rests}
 use Rattle.alma_check_marks.proofs.declaration.mark_vars.Given as goal
 
 abbrev pub invariant-loop-entry : goal.invariant-loop-entry

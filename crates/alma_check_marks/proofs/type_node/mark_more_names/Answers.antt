@@ -2,7 +2,7 @@ use Rattle.std.proofs.Common.{refl}
 use Rattle.alma_tree.specs.declared.leaf.Name.{Name}
 use Rattle.alma_rules.specs.Places as places
 use Rattle.alma_rules.specs.View as view
-use Rattle.alma_phrase_marks.proofs.Steps.{◌▸◌, next_at, finish}
+use Rattle.alma_check_marks.proofs.Steps.{◌▸◌, next_at, finish}
 use Rattle.alma_check_marks.proofs.type_node.mark_more_names.Goals as goal
 
 pub loop-name-preserved : goal.loop-name-preserved

@@ -1,4 +1,4 @@
-use Rattle.alma_phrase_marks.proofs.Steps.{◌▹◌, ends}
+use Rattle.alma_check_marks.proofs.Steps.{◌▹◌, ends}
 use Rattle.alma_check_marks.proofs.type_node.mark_names.Goals as goal
 
 pub returns : goal.returns

@@ -1,5 +1,5 @@
 use Rattle.alma_rules.specs.Places as places
-use Rattle.alma_phrase_marks.proofs.Steps.{◌▹◌, ends}
+use Rattle.alma_check_marks.proofs.Steps.{◌▹◌, ends}
 use Rattle.alma_check_marks.proofs.type_node.mark_subrange.Goals as goal
 
 pub returns : goal.returns

@@ -1,4 +1,4 @@
-use Rattle.alma_phrase_marks.proofs.Steps.{started}
+use Rattle.alma_check_marks.proofs.Steps.{started}
 use Rattle.alma_check_marks.proofs.widths.mark_body_at.Goals as goal
 
 pub returns : goal.returns

@@ -1,6 +1,6 @@
 use Rattle.std.proofs.Common.{◌≡◌, ◌++◌, map, drop}
 use Rattle.alma_rules.specs.Places as places
-use Rattle.alma_phrase_marks.specs.Marking.{mark_of}
+use Rattle.alma_check_marks.specs.Marking.{mark_of}
 use Rattle.alma_check_marks.proofs.widths.tokens_in.Given as goal
 
 abbrev pub invariant-loop-mark : goal.invariant-loop-mark

@@ -1,5 +1,5 @@
 use Rattle.std.proofs.Common.{ap}
-use Rattle.alma_phrase_marks.proofs.Steps.{started}
+use Rattle.alma_check_marks.proofs.Steps.{started}
 use Rattle.alma_check_marks.proofs.widths.width_of_expr.Goals as goal
 
 pub returns : goal.returns

@@ -4,12 +4,12 @@ use Rattle.alma_ir.specs.View.{global_of}
 use Rattle.alma_rules.specs.Scene.{text_at}
 use Rattle.alma_rules.specs.Decls.{new_frame}
 use Rattle.alma_rules.specs.View as view
-use Rattle.alma_check_reader.specs.Told.{fault_of}
+use Rattle.alma_check_type.specs.Told.{fault_of}
 use Rattle.alma_check_block.specs.Shown.{ToldFrame}
-use Rattle.alma_check_gathered.specs.Inner.Gathered.{Stage}
-use Rattle.alma_check_gathered.specs.Inner.Shown.{stand, routines_in}
-use Rattle.alma_check_routine.specs.Inner.Framed.{frame_in}
-use Rattle.alma_check_routine.proofs.Checking.{frame_told, no_fault}
+use Rattle.alma_check_stmt.specs.Inner.Gathered.{Stage}
+use Rattle.alma_check_stmt.specs.Inner.Shown.{stand, routines_in}
+use Rattle.alma_check_stmt.specs.Inner.Framed.{frame_in}
+use Rattle.alma_check_stmt.proofs.Checking.{frame_told, no_fault}
 use Rattle.alma_check_stmt.proofs.Judging.{named_judged}
 use Rattle.alma_check_stmt.proofs.Wholes.{module_ready, module_by}
 use Rattle.alma_check_stmt.proofs.module.judge_whole.Goals as goal

@@ -1,7 +1,7 @@
 use Rattle.std.proofs.Common.{ℕ, ap, sym, subst, ◌≡◌, ◌∙◌}
 use Rattle.alma_rules.specs.Scene.{Scene}
 use Rattle.alma_rules.specs.View.{view_name, names_of}
-use Rattle.alma_check_reader.specs.Told.{Told, tells}
+use Rattle.alma_check_type.specs.Told.{Told, tells}
 use Rattle.alma_check_type.specs.Inner.Fields.{Knows, told_fields, behind}
 use Rattle.alma_check_type.proofs.FieldSteps.{opened, fields_by}
 use Rattle.alma_check_type.proofs.field.join_fields.Goals as goal

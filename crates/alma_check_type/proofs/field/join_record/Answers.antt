@@ -1,5 +1,5 @@
 use Rattle.std.proofs.Common.{◌≡◌}
-use Rattle.alma_check_reader.specs.Told.{fault_of}
+use Rattle.alma_check_type.specs.Told.{fault_of}
 use Rattle.alma_check_type.specs.Inner.Tables.{fields_view}
 use Rattle.alma_check_type.specs.Inner.Fields.{told_fields, told_list}
 use Rattle.alma_check_type.proofs.FieldSteps.{opened, record_bad, record_fine}

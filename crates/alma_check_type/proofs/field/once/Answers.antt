@@ -1,7 +1,7 @@
 use Rattle.std.proofs.Common.{ap, ◌∙◌}
 use Rattle.alma_rules.specs.Scene.{Scene, text_at}
 use Rattle.alma_rules.specs.View.{view_name}
-use Rattle.alma_check_reader.specs.Told.{fault_of}
+use Rattle.alma_check_type.specs.Told.{fault_of}
 use Rattle.alma_check_type.proofs.FieldSteps.{entered}
 use Rattle.alma_check_type.proofs.field.once.Goals as goal
 

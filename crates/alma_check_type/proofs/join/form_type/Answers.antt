@@ -1,4 +1,4 @@
-use Rattle.alma_check_reader.specs.Told.{fault_of}
+use Rattle.alma_check_type.specs.Told.{fault_of}
 use Rattle.alma_check_type.proofs.ShapeSteps.{type_formed}
 use Rattle.alma_check_type.proofs.join.form_type.Goals as goal
 

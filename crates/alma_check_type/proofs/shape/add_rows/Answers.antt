@@ -1,5 +1,5 @@
 use Rattle.std.proofs.Common.{length, refl, sym, ◌∙◌}
-use Rattle.alma_check_reader.specs.Told.{formed_of}
+use Rattle.alma_check_type.specs.Told.{formed_of}
 use Rattle.alma_check_type.proofs.ShapeSteps.{rows_begin, rows_next, rows_end}
 use Rattle.alma_check_type.proofs.shape.add_rows.Goals as goal
 

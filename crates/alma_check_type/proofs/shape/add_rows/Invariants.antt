@@ -1,6 +1,6 @@
 use Rattle.std.proofs.Common.{◌≡◌, ◌-◌, take}
 use Rattle.alma_rules.specs.Types as types
-use Rattle.alma_check_reader.specs.Told.{formed_of}
+use Rattle.alma_check_type.specs.Told.{formed_of}
 use Rattle.alma_check_type.proofs.shape.add_rows.Given as goal
 
 abbrev pub invariant-loop-done : goal.invariant-loop-done

@@ -1,6 +1,6 @@
 use Rattle.std.proofs.Common.{None, ap, sym, ◌∙◌}
 use Rattle.alma_rules.specs.Scene.{Scene}
-use Rattle.alma_check_reader.specs.Told.{fault_of, a_told, pair_rules, first_rule}
+use Rattle.alma_check_type.specs.Told.{fault_of, a_told, pair_rules, first_rule}
 use Rattle.alma_check_type.proofs.SubSteps.{sub_broken}
 use Rattle.alma_check_type.proofs.subrange.read_between.Goals as goal
 

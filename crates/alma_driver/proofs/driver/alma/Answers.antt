@@ -1,4 +1,4 @@
-use Rattle.alma_promise.proofs.CauseLemmas.{causes_of}
+use Rattle.alma_driver_outcome.proofs.CauseLemmas.{causes_of}
 use Rattle.alma_driver.proofs.driver.alma.Goals as goal
 
 pub returns-clause-causes : goal.returns-clause-causes

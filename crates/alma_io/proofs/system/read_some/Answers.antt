@@ -1,4 +1,4 @@
-use Rattle.alma_outside.proofs.Known.{keeps_same, keeps_trans, kept_consumes}
+use Rattle.alma_io.proofs.Known.{keeps_same, keeps_trans, kept_consumes}
 use Rattle.alma_io.proofs.system.read_some.Goals as goal
 
 pub loop-init : goal.loop-init

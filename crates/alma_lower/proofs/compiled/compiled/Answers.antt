@@ -2,8 +2,8 @@ use Rattle.std.proofs.Common.{refl, ◌∙◌, ap}
 use Rattle.std.specs.Prelude.{map}
 use Rattle.alma_choice.specs.Emitted.{lined}
 use Rattle.alma_ir.specs.View.{program_of, global_of}
-use Rattle.alma_templates.specs.Compiled.{global_named}
-use Rattle.alma_templates.specs.Lined as lines
+use Rattle.alma_lower_templates.specs.Compiled.{global_named}
+use Rattle.alma_lower_templates.specs.Lined as lines
 use Rattle.alma_lower.proofs.Finishing.{is_code_of, has_long_runs, holds_each_once}
 use Rattle.alma_lower.proofs.compiled.compiled.Goals as goal
 

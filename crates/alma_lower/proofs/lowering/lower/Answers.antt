@@ -1,12 +1,12 @@
 use Rattle.std.proofs.Common.{◌*◌, ◌≤◌, arith}
 use Rattle.alma_ir.specs.Count.{nodes}
 use Rattle.alma_ir.specs.View.{program_of}
-use Rattle.alma_sound.proofs.Counts.{code_keeps_counts, code_keeps_version}
-use Rattle.alma_sound.proofs.ReadsAlike.{reads_alike}
-use Rattle.alma_sound.proofs.Records.{code_keeps_records}
-use Rattle.alma_sound.proofs.Sound.{code_is_sound}
-use Rattle.alma_templates.proofs.Law.{code_implements}
-use Rattle.alma_templates.proofs.Sizes.{code_is_short}
+use Rattle.alma_lower_sound.proofs.Counts.{code_keeps_counts, code_keeps_version}
+use Rattle.alma_lower_sound.proofs.ReadsAlike.{reads_alike}
+use Rattle.alma_lower_sound.proofs.Records.{code_keeps_records}
+use Rattle.alma_lower_sound.proofs.Sound.{code_is_sound}
+use Rattle.alma_lower_templates.proofs.Law.{code_implements}
+use Rattle.alma_lower_templates.proofs.Sizes.{code_is_short}
 use Rattle.alma_lower.proofs.lowering.lower.Goals as goal
 
 pub returns-in-Ok-clause-implements : goal.returns-in-Ok-clause-implements

@@ -1,5 +1,5 @@
 use Rattle.std.proofs.Common.{drop}
-use Rattle.alma_trail.proofs.Trails.{fits-drop, fits-now, fits-unwound}
+use Rattle.alma_memory.proofs.Trails.{fits-drop, fits-now, fits-unwound}
 use Rattle.alma_memory.proofs.keep.changes_since.Goals as goal
 
 pub changes-requires-clause-before : goal.changes-requires-clause-before

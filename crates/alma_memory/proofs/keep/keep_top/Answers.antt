@@ -1,10 +1,10 @@
 use Rattle.std.proofs.Common.{◌≡◌, ◌<◌, ◌-◌, length, take, drop, get_or, set, ap, ◌∙◌, arith}
 use Rattle.alma_code.specs.Carries.{diffs}
-use Rattle.alma_frames.specs.Carries.{carry_of_entries}
+use Rattle.alma_memory.specs.Carries.{carry_of_entries}
 use Rattle.alma_memory.specs.Inner.Gain.{no_saved, entry_with_changes}
 use Rattle.alma_memory.specs.Inner.Past.{SameGain}
-use Rattle.alma_trail.specs.Trail.{unwind}
-use Rattle.alma_trail.proofs.Trails.{rises-at}
+use Rattle.alma_memory.specs.Trail.{unwind}
+use Rattle.alma_memory.proofs.Trails.{rises-at}
 use Rattle.alma_memory.proofs.Keeping.{kept-held, kept-trailed}
 use Rattle.alma_memory.proofs.keep.keep_top.Goals as goal
 

@@ -1,5 +1,5 @@
 use Rattle.std.proofs.Common.{◌∙◌, arith}
-use Rattle.alma_trail.proofs.Trails.{note-at}
+use Rattle.alma_memory.proofs.Trails.{note-at}
 use Rattle.alma_memory.proofs.past.past_of.Goals as goal
 
 pub undo-requires-clause-undoes : goal.undo-requires-clause-undoes

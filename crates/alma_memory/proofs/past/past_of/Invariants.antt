@@ -1,5 +1,5 @@
 use Rattle.std.proofs.Common.{◌≡◌, ◌≤◌, drop, length}
-use Rattle.alma_trail.specs.Trail.{unwind}
+use Rattle.alma_memory.specs.Trail.{unwind}
 use Rattle.alma_memory.proofs.past.past_of.Given as goal
 
 abbrev pub invariant-loop-left : goal.invariant-loop-left

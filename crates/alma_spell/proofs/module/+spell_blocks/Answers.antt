@@ -4,7 +4,7 @@ use Rattle.alma_tree.specs.Spelling as spells
 use Rattle.alma_tree.specs.View as view
 use Rattle.alma_tree.specs.Tree as tree
 use Rattle.alma_tree.proofs.Rows as rows
-use Rattle.alma_spell_phrase.proofs.Ends as ends
+use Rattle.alma_spell.proofs.Ends as ends
 use Rattle.alma_spell.proofs.module.+spell_blocks.Goals as goal
 
 pub push_decl-returns-in_ok-push-in-Procedure-5 : goal.push_decl-returns-in_ok-push-in-Procedure-5

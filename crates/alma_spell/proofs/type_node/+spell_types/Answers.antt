@@ -5,7 +5,7 @@ use Rattle.alma_tree.specs.Spelling as spells
 use Rattle.alma_tree.specs.View as view
 use Rattle.alma_tree.specs.Tree as tree
 use Rattle.alma_tree.proofs.Rows as rows
-use Rattle.alma_spell_phrase.proofs.Ends as ends
+use Rattle.alma_spell.proofs.Ends as ends
 use Rattle.alma_spell.proofs.type_node.+spell_types.Goals as goal
 
 pub push_plain_type-returns-in_ok-push_field_list_tail-in-Record : goal.push_plain_type-returns-in_ok-push_field_list_tail-in-Record

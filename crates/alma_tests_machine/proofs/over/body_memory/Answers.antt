@@ -2,8 +2,8 @@ use Rattle.std.proofs.Common.{ap, sym, subst, arith}
 use Rattle.alma_code.specs.Head.{PlainHead}
 use Rattle.alma_code.specs.Layout.{IsHead}
 use Rattle.alma_verify.specs.Verified.{code_of_verified}
-use Rattle.alma_engine.proofs.Counting.{few_declared, some_slots}
-use Rattle.alma_engine.proofs.Needing.{head_is}
+use Rattle.alma_machine.proofs.Counting.{few_declared, some_slots}
+use Rattle.alma_machine.proofs.Needing.{head_is}
 use Rattle.alma_tests_machine.proofs.over.body_memory.Goals as goal
 
 pub new-requires-clause-head : goal.new-requires-clause-head

@@ -1,5 +1,5 @@
 use Rattle.std.proofs.Common.{ap}
-use Rattle.alma_engine.specs.View.{goes_on}
+use Rattle.alma_machine.specs.View.{goes_on}
 use Rattle.alma_trace.proofs.Standing.{few_shown}
 use Rattle.alma_trace.proofs.step.put_step.Goals as goal
 

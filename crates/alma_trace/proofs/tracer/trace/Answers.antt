@@ -4,9 +4,9 @@ use Rattle.alma_code.specs.ListText.{text_line}
 use Rattle.alma_code.specs.Machine.{State, after}
 use Rattle.alma_code.specs.Plain.{PlainCode}
 use Rattle.alma_code.specs.TraceText.{unless_done}
-use Rattle.alma_engine.specs.Runs.{run_end_of, made}
+use Rattle.alma_machine.specs.Runs.{run_end_of, made}
 use Rattle.alma_trace.specs.Cuts.{can_go}
-use Rattle.alma_engine.proofs.Budget.{progress_more, made_is, on_whole, finished, goes_unless, live_is_out, out_more, out_front}
+use Rattle.alma_machine.proofs.Budget.{progress_more, made_is, on_whole, finished, goes_unless, live_is_out, out_more, out_front}
 use Rattle.alma_io.specs.Fronts.{AppendsFront}
 use Rattle.alma_trace.specs.Traced.{step_text, steps_end, traced, traced_within}
 use Rattle.alma_trace.proofs.Telling.{text_of, end_within, end_whole, front_more, text_more, text_whole, text_out, within_now, within_then, on_cut, on_write_fault, live_can_go, goes_can_go, front_behind}

@@ -1,6 +1,6 @@
 use Rattle.std.proofs.Common.{◌≡◌, ◌≤◌, ◌-◌, true}
 use Rattle.std.specs.Io.KnownBytes.{Appends}
-use Rattle.alma_engine.proofs.Budget.{Progress}
+use Rattle.alma_machine.proofs.Budget.{Progress}
 use Rattle.alma_trace.proofs.Telling.{IsFront, text_of}
 use Rattle.alma_trace.proofs.tracer.trace.Given as goal
 

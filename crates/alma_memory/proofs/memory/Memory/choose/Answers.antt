@@ -1,8 +1,8 @@
 use Rattle.std.proofs.Common.{◌≡◌, [], ◌∷◌, ◌++◌, length, arith, rules, ap, ◌∙◌}
 use Rattle.std.proofs.lemmas.Grind.{common_steps}
 use Rattle.std.proofs.lemmas.List.{length_push}
-use Rattle.alma_trail.specs.declared.trail.Entry.{Entry}
-use Rattle.alma_trail.proofs.Trails.{chosen-rises}
+use Rattle.alma_memory.specs.declared.trail.Entry.{Entry}
+use Rattle.alma_memory.proofs.Trails.{chosen-rises}
 use Rattle.alma_memory.proofs.memory.Memory.choose.Goals as goal
 
 pub invariant_of-self-2 : goal.invariant_of-self-2

@@ -2,7 +2,7 @@ use Rattle.std.proofs.Common.{◌∙◌, ap, arith}
 use Rattle.alma_code.specs.Picture.{kind_at}
 use Rattle.alma_memory.specs.Picture.{Picture}
 use Rattle.std.proofs.Common.{sym}
-use Rattle.alma_trail.proofs.Trails.{kind-some}
+use Rattle.alma_memory.proofs.Trails.{kind-some}
 use Rattle.alma_memory.proofs.memory.Memory.kind_at.Goals as goal
 
 pub returns : goal.returns

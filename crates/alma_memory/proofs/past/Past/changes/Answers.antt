@@ -1,6 +1,6 @@
 use Rattle.std.proofs.Common.{◌≡◌, ◌≤◌, ◌-◌, ◌++◌, ◌∙◌, ap, refl, length, min, take}
 use Rattle.alma_memory.specs.Inner.Past.{PlainPast, frames_with_old_cells, diffs_at, diffs_between}
-use Rattle.alma_frames.specs.Carries.{carry_of_entries}
+use Rattle.alma_memory.specs.Carries.{carry_of_entries}
 use Rattle.alma_memory.proofs.Gains.{found-gain}
 use Rattle.alma_memory.proofs.past.Past.changes.Goals as goal
 

@@ -1,9 +1,9 @@
 use Rattle.std.proofs.Common.{◌≡◌, ◌<◌, ◌-◌, ◌∙◌, ap, sym, arith, length, get_or}
 use Rattle.std.proofs.lemmas.List.{get_or_read}
 use Rattle.alma_code.specs.Picture.{no_frame}
-use Rattle.alma_frames.specs.Numbers.{number_of, number_in}
+use Rattle.alma_memory.specs.Numbers.{number_of, number_in}
 use Rattle.alma_memory.specs.Inner.Past.{PlainPast, over}
-use Rattle.alma_frames.proofs.Stores.{whole-at}
+use Rattle.alma_memory.proofs.Stores.{whole-at}
 use Rattle.alma_memory.proofs.Pasts.{at-above}
 use Rattle.alma_memory.proofs.Contents.{number-frames_with_old_cells, number-shared, number-above}
 use Rattle.alma_memory.proofs.past.Past.number.Goals as goal

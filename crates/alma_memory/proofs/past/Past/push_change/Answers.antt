@@ -2,10 +2,10 @@ use Rattle.std.proofs.Common.{◌≡◌, ◌++◌, ◌∷◌, [], ◌∙◌, ap,
 use Rattle.std.specs.Prelude.{Some}
 use Rattle.std.proofs.lemmas.List.{map-append}
 use Rattle.alma_code.specs.declared.cell.Cell.{Cell}
-use Rattle.alma_frames.specs.declared.carry.SlotPlace.{SlotPlace}
-use Rattle.alma_frames.specs.Numbers.{number_of}
+use Rattle.alma_memory.specs.declared.carry.SlotPlace.{SlotPlace}
+use Rattle.alma_memory.specs.Numbers.{number_of}
 use Rattle.alma_memory.specs.Inner.Past.{PlainPast, change_between}
-use Rattle.alma_frames.specs.Carries.{carry_of_entries, change_of}
+use Rattle.alma_memory.specs.Carries.{carry_of_entries, change_of}
 use Rattle.alma_memory.proofs.Contents.{diff-changed, change_at}
 use Rattle.alma_memory.proofs.past.Past.push_change.Goals as goal
 

@@ -1,6 +1,6 @@
 use Rattle.std.proofs.Common.{◌≡◌, ◌++◌}
 use Rattle.alma_code.specs.Carries.{slot_diffs}
-use Rattle.alma_frames.specs.Carries.{carry_of_entries}
+use Rattle.alma_memory.specs.Carries.{carry_of_entries}
 use Rattle.alma_memory.proofs.past.Past.push_frame.Given as goal
 
 abbrev pub invariant-loop-slot : goal.invariant-loop-slot

@@ -1,5 +1,5 @@
 use Rattle.std.proofs.Common.{◌≡◌, ◌++◌}
-use Rattle.alma_frames.specs.Carries.{carry_of_entries}
+use Rattle.alma_memory.specs.Carries.{carry_of_entries}
 use Rattle.alma_memory.specs.Inner.Past.{diffs_at}
 use Rattle.alma_memory.proofs.past.Past.push_places.Given as goal
 

@@ -1,4 +1,4 @@
-use Rattle.alma_frames.proofs.Stores.{whole-at}
+use Rattle.alma_memory.proofs.Stores.{whole-at}
 use Rattle.alma_memory.proofs.past.Past.slots.Goals as goal
 
 pub slots-requires : goal.slots-requires

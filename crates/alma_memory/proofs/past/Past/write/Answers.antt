@@ -1,7 +1,7 @@
 use Rattle.std.proofs.Common.{◌≡◌, ◌-◌, ◌∙◌, ap, sym, set, get_or}
 use Rattle.alma_code.specs.Picture.{frame_with, frames_with_cell, no_frame}
 use Rattle.alma_memory.specs.Inner.Past.{PlainPast}
-use Rattle.alma_frames.specs.Carries.{change_of}
+use Rattle.alma_memory.specs.Carries.{change_of}
 use Rattle.alma_memory.proofs.Pasts.{wrote-shared, wrote-above, at-above, above-read}
 use Rattle.alma_memory.proofs.past.Past.write.Goals as goal
 

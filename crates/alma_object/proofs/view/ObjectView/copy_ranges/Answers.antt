@@ -1,6 +1,6 @@
 use Rattle.std.proofs.Common.{◌+◌, ◌*◌, ◌∙◌, ap}
-use Rattle.alma_format.specs.Header.{ranges_at}
-use Rattle.alma_format.specs.Reading.{range_in}
+use Rattle.alma_object_format.specs.Header.{ranges_at}
+use Rattle.alma_object_format.specs.Reading.{range_in}
 use Rattle.alma_object.proofs.Items.{copied_plain}
 use Rattle.alma_object.proofs.view.ObjectView.copy_ranges.Goals as goal
 

@@ -1,6 +1,6 @@
 use Rattle.std.proofs.Common.{◌∙◌}
 use Rattle.alma_code.specs.Plain.{routine_of}
-use Rattle.alma_format.specs.Reading.{routine_in}
+use Rattle.alma_object_format.specs.Reading.{routine_in}
 use Rattle.alma_object.proofs.Items.{copied}
 use Rattle.alma_object.proofs.view.ObjectView.copy_routines.Goals as goal
 

@@ -1,5 +1,5 @@
 use Rattle.std.proofs.Common.{◌∙◌}
-use Rattle.alma_format.specs.Reading.{text_in}
+use Rattle.alma_object_format.specs.Reading.{text_in}
 use Rattle.alma_object.proofs.Items.{copied}
 use Rattle.alma_object.proofs.view.ObjectView.copy_texts.Goals as goal
 

@@ -1,8 +1,8 @@
 use Rattle.std.proofs.Common.{◌+◌, ◌*◌, ◌∙◌, ap, sym, arith}
 use Rattle.std.specs.List.{list_any}
 use Rattle.std.proofs.lemmas.List.{take_all}
-use Rattle.alma_format.specs.Header.{instrs_at}
-use Rattle.alma_format.specs.Instrs.{instr_at}
+use Rattle.alma_object_format.specs.Header.{instrs_at}
+use Rattle.alma_object_format.specs.Instrs.{instr_at}
 use Rattle.alma_object.proofs.Items.{length_items}
 use Rattle.alma_code.specs.Reads.{is_read as is_read_of}
 use Rattle.alma_object.specs.View.{code_of_view}

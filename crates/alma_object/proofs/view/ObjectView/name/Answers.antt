@@ -1,5 +1,5 @@
 use Rattle.std.proofs.Common.{arith}
-use Rattle.alma_sections.proofs.Kept.{name_seen}
+use Rattle.alma_object_format.proofs.Kept.{name_seen}
 use Rattle.alma_object.proofs.view.ObjectView.name.Goals as goal
 
 pub part-requires-clause-order : goal.part-requires-clause-order

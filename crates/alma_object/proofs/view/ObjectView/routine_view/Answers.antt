@@ -1,5 +1,5 @@
 use Rattle.std.proofs.Common.{◌∙◌, arith}
-use Rattle.alma_sections.proofs.Kept.{routine_seen}
+use Rattle.alma_object_format.proofs.Kept.{routine_seen}
 use Rattle.alma_object.proofs.Views.{code_start_is}
 use Rattle.alma_object.proofs.view.ObjectView.routine_view.Goals as goal
 

@@ -1,5 +1,5 @@
 use Rattle.std.proofs.Common.{arith}
-use Rattle.alma_sections.proofs.Kept.{text_seen}
+use Rattle.alma_object_format.proofs.Kept.{text_seen}
 use Rattle.alma_object.proofs.view.ObjectView.text_view.Goals as goal
 
 pub part-requires-clause-order : goal.part-requires-clause-order

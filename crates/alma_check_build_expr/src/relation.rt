@@ -1,0 +1,169 @@
+// Relations of two values, built of their sides.
+ghost use Rattle.std.specs.Prelude.{◌≡◌, Some, option_map, IfOk};
+ghost use Rattle.alma_ir.specs.View.{expr_of};
+ghost use Rattle.alma_ir.specs.Tree as ir;
+ghost use Rattle.alma_rules.specs.Judged.{both_of};
+ghost use Rattle.alma_rules.specs.Parts as parts;
+ghost use Rattle.alma_check_rules.specs.Views.{scene_of, typing_in, typing_of, meaning_view, somewhere};
+
+use crate::expression::{as_value, boolean};
+use alma_check_rules::{Env, Meaning, Typed};
+use alma_ir::{Cmp, Expr, Test};
+use alma_tree::Relation;
+use std::alloc::{AllocError, Global};
+
+fn comparison(relation: Relation) -> Cmp
+    ensures { result ≡ parts.compare_of relation }
+{
+    match relation {
+        Relation::Equal => Cmp::Equal,
+        Relation::Unequal => Cmp::Unequal,
+        Relation::Less => Cmp::Less,
+        Relation::LessEq => Cmp::LessEq,
+        Relation::Greater => Cmp::Greater,
+        Relation::GreaterEq => Cmp::GreaterEq,
+    }
+}
+
+// An expression as a value, in a box.
+fn boxed_value(alloc: Global, meaning: Meaning) -> Result<Box<Expr>, AllocError>
+    ensures { IfOk result (λ e. expr_of e.value ≡ parts.value_of (meaning_view meaning)) }
+{
+    Ok(Box::new(alloc, as_value(alloc, meaning)?)?)
+}
+
+fn compare(alloc: Global, cmp: Cmp, left: Meaning, right: Meaning) -> Result<Meaning, AllocError>
+    ensures { IfOk result (λ m. meaning_view m ≡ parts.plain
+        (ir.Compare cmp (parts.value_of (meaning_view left))
+        (parts.value_of (meaning_view right)))) }
+{
+    let first = boxed_value(alloc, left)?;
+    let second = boxed_value(alloc, right)?;
+    Ok(Meaning::Plain(Expr::Compare(cmp, first, second)))
+}
+
+// An equation with exactly one designator binds it; one of two unifies them, or their cells.
+fn equation(alloc: Global, env: &Env, left: Typed, right: Typed) -> Result<Meaning, AllocError>
+    ensures { IfOk result (λ m. meaning_view m ≡ parts.equation_of (scene_of env.now somewhere)
+        (typing_of left) (typing_of right) (meaning_view left.meaning)
+        (meaning_view right.meaning)) }
+{
+    let first = left.shape;
+    let second = right.shape;
+    match left.meaning {
+        Meaning::Place(place) => match right.meaning {
+            Meaning::Place(other) => {
+                if env.is_structured(first) {
+                    return Ok(Meaning::Test(Test::SameCells(place, other)));
+                }
+                Ok(Meaning::Test(Test::Unify(place, env.range(first), other, env.range(second))))
+            }
+            Meaning::Plain(expr) => Ok(Meaning::Test(Test::Bind(
+                place,
+                expr,
+                env.range(first),
+                true,
+            ))),
+            Meaning::Test(test) => {
+                let truth = Expr::Truth(Box::new(alloc, test)?);
+                Ok(Meaning::Test(Test::Bind(place, truth, env.range(first), true)))
+            }
+        },
+        Meaning::Plain(value) => match right.meaning {
+            Meaning::Place(place) => Ok(Meaning::Test(Test::Bind(
+                place,
+                value,
+                env.range(second),
+                false,
+            ))),
+            Meaning::Plain(expr) => compare(
+                alloc,
+                Cmp::Equal,
+                Meaning::Plain(value),
+                Meaning::Plain(expr),
+            ),
+            Meaning::Test(test) => compare(
+                alloc,
+                Cmp::Equal,
+                Meaning::Plain(value),
+                Meaning::Test(test),
+            ),
+        },
+        Meaning::Test(value) => match right.meaning {
+            Meaning::Place(place) => {
+                let truth = Expr::Truth(Box::new(alloc, value)?);
+                Ok(Meaning::Test(Test::Bind(place, truth, env.range(second), false)))
+            }
+            Meaning::Plain(expr) => compare(
+                alloc,
+                Cmp::Equal,
+                Meaning::Test(value),
+                Meaning::Plain(expr),
+            ),
+            Meaning::Test(test) => compare(
+                alloc,
+                Cmp::Equal,
+                Meaning::Test(value),
+                Meaning::Test(test),
+            ),
+        },
+    }
+}
+
+fn relation_of(
+    alloc: Global,
+    env: &Env,
+    relation: Relation,
+    left: Typed,
+    right: Typed,
+) -> Result<Meaning, AllocError>
+    ensures { IfOk result (λ m. meaning_view m ≡ parts.relation_of
+        (scene_of env.now somewhere) relation (typing_of left, typing_of right)) }
+{
+    match relation {
+        Relation::Equal => equation(alloc, env, left, right),
+        Relation::Unequal
+        | Relation::Less
+        | Relation::LessEq
+        | Relation::Greater
+        | Relation::GreaterEq => {
+            compare(alloc, comparison(relation), left.meaning, right.meaning)
+        }
+    }
+}
+
+// A relation whose left side has a value.
+fn relate_to(
+    alloc: Global,
+    env: &Env,
+    relation: Relation,
+    left: Typed,
+    right: Option<Typed>,
+) -> Result<Option<Typed>, AllocError>
+    ensures { IfOk result (λ t. typing_in t ≡ option_map
+        (parts.related (scene_of env.now somewhere) relation)
+        (both_of (Some (typing_of left)) (typing_in right))) }
+{
+    match right {
+        None => Ok(None),
+        Some(right) => Ok(Some(boolean(relation_of(alloc, env, relation, left, right)?))),
+    }
+}
+
+/// A relation of two values, where both have one: an equation may bind, and any other compares.
+pub fn relate(
+    alloc: Global,
+    env: &Env,
+    relation: Relation,
+    left: Option<Typed>,
+    right: Option<Typed>,
+) -> Result<Option<Typed>, AllocError>
+    ensures { IfOk result (λ t. typing_in t ≡ option_map
+        (parts.related (scene_of env.now somewhere) relation)
+        (both_of (typing_in left) (typing_in right))) }
+{
+    match left {
+        None => Ok(None),
+        Some(left) => relate_to(alloc, env, relation, left, right),
+    }
+}

@@ -1,0 +1,16 @@
+//! Statements of the resolved program, put together of checked parts.
+// The line #![tactic(auto)] of every crate, with lemmas for all functions of this one.
+#![tactic(auto, using(alma_check_build_expr::proofs::Steps::steps, std::proofs::lemmas::Grind::common_steps))]
+
+mod case;
+mod list;
+mod statement;
+mod turns;
+
+pub use case::{case_arm, case_stmt};
+pub use list::with_part;
+pub use statement::{
+    assigned, bare_return, commit_stmt, condition, either_stmt, forall_stmt, guarded, if_stmt,
+    joined, line, nothing, read, repeat_stmt, returned, single, test_stmt, text, while_stmt, write,
+};
+pub use turns::{for_stmt, loop_of, some_stmt};

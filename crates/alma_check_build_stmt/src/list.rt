@@ -1,0 +1,34 @@
+// Lists of parts. A list is None where one of its parts is Bad.
+ghost use Rattle.std.specs.Prelude.{◌≡◌, ◌∷◌, [], IfOk};
+ghost use Rattle.alma_check_build_expr.specs.Lists.{items_in, pushed};
+
+use std::alloc::{AllocError, Global};
+
+// An item alone, whatever it is: a type of many variants costs nothing here.
+pub(crate) fn one<T: Drop>(alloc: Global, item: T) -> Result<Vec<T>, AllocError>
+    ensures { IfOk result (λ v. v.items ≡ item ∷ []) }
+{
+    let mut items: Vec<T> = Vec::with_capacity(alloc, 1)?;
+    items.push(item)?;
+    Ok(items)
+}
+
+/// One more part.
+pub fn with_part<T: Drop>(
+    parts: Option<Vec<T>>,
+    part: Option<T>,
+) -> Result<Option<Vec<T>>, AllocError>
+    ensures { IfOk result (λ k. items_in k ≡ pushed (items_in parts) part) }
+{
+    match parts {
+        None => Ok(None),
+        Some(parts) => match part {
+            None => Ok(None),
+            Some(part) => {
+                let mut parts = parts;
+                parts.push(part)?;
+                Ok(Some(parts))
+            }
+        },
+    }
+}

@@ -1,4 +1,0 @@
-use Rattle.alma_check_expr.proofs.walk.nested.Goals as goal
-
-pub returns : goal.returns
-returns g c = c.requires.judges _ _ _ _ _ _ _ c.inside.ensures

@@ -1,0 +1,4 @@
+pub mod Indexed
+pub mod Chains
+pub mod Alone
+pub mod Exact

@@ -1,0 +1,12 @@
+use Rattle.std.proofs.Common.{sym, ap, ◌∙◌}
+use Rattle.alma_rules.specs.Judged.{of_value}
+use Rattle.alma_rules.specs.Parts as parts
+use Rattle.alma_check_rules.specs.Views.{typing_in, typing_of}
+use Rattle.alma_rules.proofs.Judging.{passed, with_some_fine}
+use Rattle.alma_check_join_expr.proofs.expression.join_value.Goals as goal
+
+pub returns-in_err-found : goal.returns-in_err-found
+returns-in_err-found c = λ j m a. passed _ typing_of m _ _ c.from_residual.ensures.1 (rw c.in_err-found.was at a)
+
+pub returns : goal.returns
+returns c = λ j m a. with_some_fine parts.typing_in (j) m _ ((rw c.in_ok-found.was at a)) ∙ ap (of_value m) (sym c.as_typed.ensures)

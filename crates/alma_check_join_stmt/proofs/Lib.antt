@@ -1,0 +1,4 @@
+pub mod Labels
+pub mod Settled
+pub mod Steps
+pub mod Passed

@@ -1,7 +1,0 @@
-use Rattle.std.proofs.Common.{take}
-use Rattle.alma_check_labels.specs.Reach.{Rises}
-use Rattle.alma_check_labels.specs.Labels.{CoversAll}
-use Rattle.alma_check_labels.proofs.labels.note_spans.Given as goal
-
-abbrev pub invariant-loop-i : goal.invariant-loop-i
-invariant-loop-i l = record { rises : Rises l.ends; stay : CoversAll l.ends (take l.from l.spans); covers : CoversAll l.ends (take l.i l.spans) }

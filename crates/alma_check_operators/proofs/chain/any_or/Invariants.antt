@@ -1,7 +1,0 @@
-use Rattle.std.proofs.Common.{◌≡◌, drop}
-use Rattle.alma_rules.specs.View.{terms_of}
-use Rattle.alma_rules.specs.Nodes as nodes
-use Rattle.alma_check_operators.proofs.chain.any_or.Given as goal
-
-abbrev pub invariant-loop-link : goal.invariant-loop-link
-invariant-loop-link l = nodes.any_or (terms_of (drop l.link-index l.more)) ≡ nodes.any_or (terms_of l.more)

@@ -1,0 +1,16 @@
+use Rattle.std.proofs.Common.{refl}
+use Rattle.alma_rules.specs.View as view
+use Rattle.alma_check_rules.specs.Views.{scene_of}
+use Rattle.alma_rules.proofs.Stmts as stmts
+use Rattle.alma_check_phrases.proofs.case.check_case_else.Goals as goal
+
+pub returns-in-None : goal.returns-in-None
+returns-in-None g c =
+    rw (c.in-None.is, stmts.case_else_none (scene_of c.args.env.now c.args.place) c.args.slot.now) refl
+
+pub returns-in-Some : goal.returns-in-Some
+returns-in-Some g c =
+    rw (c.in-Some.is, stmts.case_else_some (scene_of c.args.env.now c.args.place) c.args.slot.now (view.view_stmts c.in-Some.body)) (c.join_else.ensures _ _ c.nested-stmts.ensures)
+
+pub nested-stmts-requires : goal.nested-stmts-requires
+nested-stmts-requires g c = record { callable = c.requires.callable; judges = c.requires.judges }

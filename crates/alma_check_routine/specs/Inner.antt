@@ -1,5 +1,0 @@
--- Definitions of contracts between the functions of the checker; no reader of `check` has to believe them.
-pub mod Framed
-pub mod Lined
-pub use Rattle.alma_check_gathered.specs.Inner.Gathered
-pub use Rattle.alma_check_gathered.specs.Inner.Shown

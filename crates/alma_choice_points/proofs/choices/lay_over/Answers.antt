@@ -1,6 +1,0 @@
-use Rattle.std.proofs.Common.{sym, ◌∙◌}
-use Rattle.alma_choice_points.proofs.Entries.{forall_found}
-use Rattle.alma_choice_points.proofs.choices.lay_over.Goals as goal
-
-pub overlay-requires : goal.overlay-requires
-overlay-requires c = forall_found c.reserve.new.self.held c.args.height (sym c.has_forall.ensures ∙ c.if-has_forall.true)

@@ -1,0 +1,104 @@
+-- Parts that are written one after another.
+use Rattle.std.proofs.Common.{◌≡◌, ◌<◌, ◌+◌, ℕ, zero, suc, List, [], ◌++◌, refl, length, take, drop, get_or, ap, sym, ◌∙◌, add-one, append_assoc, drop-cons}
+use Rattle.std.proofs.lemmas.List.{take-append-drop}
+use Rattle.std.proofs.lemmas.List.Concat.{flat_map-append}
+use Rattle.std.specs.Prelude.{Option, None, Some, Result, Ok, Err, OnOk, OnErr, flat_map, codes, decimal}
+use Rattle.alma_base.specs.Fault.{run_fault_text}
+use Rattle.alma_base.specs.declared.fault.RunFault.{RunFault}
+use Rattle.alma_code.specs.Lines.{known_line}
+use Rattle.alma_object_format.specs.declared.fault.ObjectFault.{ObjectFault}
+use Rattle.alma_driver_outcome.specs.Ends.{line_text, fault_text, object_fault_name, object_fault_number, number_text, object_text, rule_line, counts_line}
+use Rattle.std.specs.Borrow.{Bor}
+use Rattle.std.specs.Io.KnownBytes.{Appends}
+use Rattle.alma_io.specs.Fronts.{AppendsFront}
+use Rattle.alma_io.proofs.Known.{appends_trans}
+
+-- all parts, by those before one of them, that one, and those behind it
+pub parts_at : (parts : List (Bor (List ℕ))) (i : ℕ) (d : Bor (List ℕ)) → i < length parts
+    → flat_map (λ (part : Bor (List ℕ)). part.now) parts ≡ flat_map (λ (part : Bor (List ℕ)). part.now) (take i parts) ++ ((get_or parts i d).now ++ flat_map (λ (part : Bor (List ℕ)). part.now) (drop (i + 1) parts))
+parts_at parts i d h =
+    let f = λ (part : Bor (List ℕ)). part.now in
+    ap (flat_map f) (sym (take-append-drop i parts)) ∙ flat_map-append f (take i parts) (drop i parts)
+    ∙ ap (λ z. flat_map f (take i parts) ++ flat_map f z) (drop-cons parts i d h)
+    ∙ ap (λ k. flat_map f (take i parts) ++ ((get_or parts i d).now ++ flat_map f (drop k parts))) (sym (add-one i))
+
+-- bytes that are out, and then a prefix of the next, are a prefix of the whole
+pub front_after : (front bytes rest whole : List ℕ) (a b c : Option (List ℕ)) → whole ≡ front ++ (bytes ++ rest) → Appends a b front
+    → AppendsFront b c bytes → AppendsFront a c whole
+front_after front bytes rest whole a b c e h x = (
+  front ++ x.0,
+  x.1 ++ rest,
+  e ∙ ap (λ z. front ++ (z ++ rest)) x.2 ∙ ap (λ z. front ++ z) (append_assoc x.0 x.1 rest) ∙ sym (append_assoc front x.0 (x.1 ++ rest)),
+  appends_trans a b c front x.0 h x.3,
+)
+
+-- the parts of the text of a fault whose line is not known
+pub unknown_parts : (fault : RunFault) (line : ℕ) (front name end : List ℕ) → line ≡ 0 → front ≡ codes "alma: fault " → name ≡ run_fault_text fault → end ≡ codes "\n"
+    → front ++ (name ++ (end ++ [])) ≡ fault_text fault line
+unknown_parts fault line front name end z f n e =
+    ap (λ x. x ++ (name ++ (end ++ []))) f ∙ ap (λ x. codes "alma: fault " ++ (x ++ (end ++ []))) n ∙ ap (λ x. codes "alma: fault " ++ (run_fault_text fault ++ (x ++ []))) e
+    ∙ ap (λ k. codes "alma: fault " ++ (run_fault_text fault ++ (line_text (known_line k) ++ codes "\n"))) (sym z)
+
+-- and of one whose line is
+pub known_parts : (fault : RunFault) (line : ℕ) (front name middle number end : List ℕ) → (line ≡ 0 → ⊥) → front ≡ codes "alma: fault " → name ≡ run_fault_text fault
+    → middle ≡ codes " line " → number ≡ decimal line → end ≡ codes "\n" → front ++ (name ++ (middle ++ (number ++ (end ++ [])))) ≡ fault_text fault line
+known_parts fault zero front name middle number end some f n m d e = absurd (some refl)
+known_parts fault (suc k) front name middle number end some f n m d e =
+    ap (λ x. x ++ (name ++ (middle ++ (number ++ (end ++ []))))) f ∙ ap (λ x. codes "alma: fault " ++ (x ++ (middle ++ (number ++ (end ++ []))))) n
+    ∙ ap (λ x. codes "alma: fault " ++ (run_fault_text fault ++ (x ++ (number ++ (end ++ []))))) m
+    ∙ ap (λ x. codes "alma: fault " ++ (run_fault_text fault ++ (codes " line " ++ (x ++ (end ++ []))))) d
+    ∙ ap (λ x. codes "alma: fault " ++ (run_fault_text fault ++ (codes " line " ++ (decimal (suc k) ++ (x ++ []))))) e
+    ∙ ap (λ x. codes "alma: fault " ++ (run_fault_text fault ++ x)) (sym (append_assoc (codes " line ") (decimal (suc k)) (codes "\n")))
+
+-- the parts of the text of a broken rule
+pub rule_parts : (front rule middle at end : List ℕ) → front ≡ codes "alma: object Rule " → middle ≡ codes " " → end ≡ codes "\n"
+    → front ++ (rule ++ (middle ++ (at ++ (end ++ [])))) ≡ rule_line rule at
+rule_parts front rule middle at end f m e =
+    ap (λ x. x ++ (rule ++ (middle ++ (at ++ (end ++ []))))) f ∙ ap (λ x. codes "alma: object Rule " ++ (rule ++ (x ++ (at ++ (end ++ []))))) m
+    ∙ ap (λ x. codes "alma: object Rule " ++ (rule ++ (codes " " ++ (at ++ (x ++ []))))) e
+
+-- the parts of the text of an object's fault without a number
+pub numberless_parts : (fault : ObjectFault) (front name end : List ℕ) → object_fault_number fault ≡ None → front ≡ codes "alma: object " → name ≡ object_fault_name fault
+    → end ≡ codes "\n" → front ++ (name ++ (end ++ [])) ≡ object_text fault
+numberless_parts fault front name end none f n e =
+    ap (λ x. x ++ (name ++ (end ++ []))) f ∙ ap (λ x. codes "alma: object " ++ (x ++ (end ++ []))) n
+    ∙ ap (λ x. codes "alma: object " ++ (object_fault_name fault ++ (x ++ []))) e
+    ∙ ap (λ k. codes "alma: object " ++ (object_fault_name fault ++ (number_text k ++ codes "\n"))) (sym none)
+
+-- and of one with a number
+pub numbered_parts : (fault : ObjectFault) (number : ℕ) (front name middle digits end : List ℕ) → object_fault_number fault ≡ Some number → front ≡ codes "alma: object "
+    → name ≡ object_fault_name fault → middle ≡ codes " " → digits ≡ decimal number → end ≡ codes "\n"
+    → front ++ (name ++ (middle ++ (digits ++ (end ++ [])))) ≡ object_text fault
+numbered_parts fault number front name middle digits end some f n m d e =
+    ap (λ x. x ++ (name ++ (middle ++ (digits ++ (end ++ []))))) f ∙ ap (λ x. codes "alma: object " ++ (x ++ (middle ++ (digits ++ (end ++ []))))) n
+    ∙ ap (λ x. codes "alma: object " ++ (object_fault_name fault ++ (x ++ (digits ++ (end ++ []))))) m
+    ∙ ap (λ x. codes "alma: object " ++ (object_fault_name fault ++ (codes " " ++ (x ++ (end ++ []))))) d
+    ∙ ap (λ x. codes "alma: object " ++ (object_fault_name fault ++ (codes " " ++ (decimal number ++ (x ++ []))))) e
+    ∙ ap (λ x. codes "alma: object " ++ (object_fault_name fault ++ x)) (sym (append_assoc (codes " ") (decimal number) (codes "\n")))
+    ∙ ap (λ k. codes "alma: object " ++ (object_fault_name fault ++ (number_text k ++ codes "\n"))) (sym some)
+
+-- the parts of the line of counts
+pub counts_parts : (first steps second choices third fails end : List ℕ) → first ≡ codes "steps " → second ≡ codes " choices " → third ≡ codes " fails " → end ≡ codes "\n"
+    → first ++ (steps ++ (second ++ (choices ++ (third ++ (fails ++ (end ++ [])))))) ≡ counts_line steps choices fails
+counts_parts first steps second choices third fails end f s t e =
+    ap (λ x. x ++ (steps ++ (second ++ (choices ++ (third ++ (fails ++ (end ++ []))))))) f
+    ∙ ap (λ x. codes "steps " ++ (steps ++ (x ++ (choices ++ (third ++ (fails ++ (end ++ []))))))) s
+    ∙ ap (λ x. codes "steps " ++ (steps ++ (codes " choices " ++ (choices ++ (x ++ (fails ++ (end ++ []))))))) t
+    ∙ ap (λ x. codes "steps " ++ (steps ++ (codes " choices " ++ (choices ++ (codes " fails " ++ (fails ++ (x ++ []))))))) e
+
+-- bytes that are out, and then all of more
+pub ok_then : {T E : Type 0} (r : Result T E) (a b c : Option (List ℕ)) (bytes more : List ℕ) → Appends a b bytes → OnOk r (Appends b c more)
+    → OnOk r (Appends a c (bytes ++ more))
+ok_then (Ok v) a b c bytes more h k = appends_trans a b c bytes more h k
+ok_then (Err e) a b c bytes more h k = tt
+
+-- bytes that are out, and then a prefix of more
+pub front_then : {T E : Type 0} (r : Result T E) (a b c : Option (List ℕ)) (bytes more : List ℕ) → Appends a b bytes → OnErr r (AppendsFront b c more)
+    → OnErr r (AppendsFront a c (bytes ++ more))
+front_then (Ok v) a b c bytes more h k = tt
+front_then (Err e) a b c bytes more h x =
+    (bytes ++ x.0, x.1, ap (λ z. bytes ++ z) x.2 ∙ sym (append_assoc bytes x.0 x.1), appends_trans a b c bytes x.0 h x.3)
+
+-- a prefix of bytes is one of these and more
+pub front_more : (a b : Option (List ℕ)) (bytes more : List ℕ) → AppendsFront a b bytes → AppendsFront a b (bytes ++ more)
+front_more a b bytes more x = (x.0, x.1 ++ more, ap (λ z. z ++ more) x.2 ∙ append_assoc x.0 x.1 more, x.3)

@@ -1,0 +1,18 @@
+use Rattle.alma_driver_outcome.specs.Ends.{counts_text, counts_with, end_text}
+use Rattle.alma_driver_outcome.proofs.ReportLemmas.{ok_then, front_then, front_more}
+use Rattle.alma_driver_outcome.proofs.writing.write_end.Goals as goal
+
+pub returns-in-Ok-clause-ok : goal.returns-in-Ok-clause-ok
+returns-in-Ok-clause-ok g c =
+    ok_then c.write_text.result (g.E.Sink.written c.args.err.now) (g.E.Sink.written c.write_counts.new.err) (g.E.Sink.written c.write_text.new.err)
+    (counts_text (counts_with c.args.end)) (end_text c.args.file.now c.args.end) (rw c.counts.ensures at c.in-Ok.ensures.ok) c.write_text.ensures.ok
+
+pub returns-in-Ok-clause-front : goal.returns-in-Ok-clause-front
+returns-in-Ok-clause-front g c =
+    front_then c.write_text.result (g.E.Sink.written c.args.err.now) (g.E.Sink.written c.write_counts.new.err) (g.E.Sink.written c.write_text.new.err)
+    (counts_text (counts_with c.args.end)) (end_text c.args.file.now c.args.end) (rw c.counts.ensures at c.in-Ok.ensures.ok) c.write_text.ensures.front
+
+pub returns-in-Err-clause-front : goal.returns-in-Err-clause-front
+returns-in-Err-clause-front g c =
+    front_more (g.E.Sink.written c.args.err.now) (g.E.Sink.written c.write_counts.new.err)
+    (counts_text (counts_with c.args.end)) (end_text c.args.file.now c.args.end) (rw c.counts.ensures at c.in-Err.ensures.front)

@@ -1,0 +1,65 @@
+-- When a fault is answered, that none is hidden, and what out gained by then.
+use Rattle.std.specs.Prelude.{◌≡◌, ◌<◌, ◌⊎◌, List, ℕ, [], Option, None, Some}
+use Rattle.std.specs.Io.KnownBytes.{Appends}
+use Rattle.alma_io.specs.Causes.{Rose}
+use Rattle.alma_driver_words.specs.Words.{file_of}
+use Rattle.alma_driver_outcome.specs.Outside.{FilesSide, FilesStay, Outside}
+use Rattle.alma_driver_outcome.specs.Ends.{status_of, text_of}
+use Rattle.alma_driver_outcome.specs.Outcome.{Due, Stored, Outcome, Lacks}
+use Rattle.alma_driver_outcome.specs.Course.{Gains, GainsPrefix, HasStored, OthersStay, Takes, MayRead}
+
+-- a write or a store failed in the call
+abbrev pub WriteFailed : Outside → Outside → Type 0
+WriteFailed before after =
+    Rose before.out.faults after.out.faults ⊎ (Rose before.err.faults after.err.faults ⊎ Rose before.files.store_faults after.files.store_faults)
+
+-- a count of failed writes or stores is greater now
+abbrev pub WritesGrew : Outside → Outside → Type 0
+WritesGrew before after =
+    (before.out.faults < after.out.faults) ⊎ ((before.err.faults < after.err.faults) ⊎ (before.files.store_faults < after.files.store_faults))
+
+-- a fetch or a read of the input failed in the call
+abbrev pub ReadFailed : Outside → Outside → Type 0
+ReadFailed before after = Rose before.files.fetch_faults after.files.fetch_faults ⊎ Rose before.input.faults after.input.faults
+
+-- a count of failed fetches or reads is greater now
+abbrev pub ReadsGrew : Outside → Outside → Type 0
+ReadsGrew before after = (before.files.fetch_faults < after.files.fetch_faults) ⊎ (before.input.faults < after.input.faults)
+
+-- the files are what they become where this is to be stored
+abbrev pub Become : FilesSide → FilesSide → Option Stored → Type 0
+Become old new None = FilesStay old new
+Become old new (Some stored) = HasStored old new stored
+
+-- a file that is to be stored
+abbrev pub IsStoredName : (Due → Type 0) → List ℕ → Type 0
+IsStoredName outcome name = (due : Due) × (stored : Stored) × outcome due × (due.stored ≡ Some stored) × (stored.name ≡ name)
+
+-- What each status says of the call, and what a call shows that met a fault.
+pub record Causes (words : List (List ℕ)) (before after : Outside) (status : ℕ) : Type 0 where
+  -- a read fault comes only where a fetch or a read of the input failed, or where the file is told to be missing
+  pub read_fault : status ≡ 6 → ReadFailed before after ⊎ Lacks words before.files.told
+  -- at a read fault nothing was written to out
+  pub nothing : status ≡ 6 → Appends before.out.written after.out.written []
+  -- a write fault comes only where a write or a store failed
+  pub write_fault : status ≡ 7 → WriteFailed before after
+  -- whatever the status, out gained no more than what is due
+  pub prefix : GainsPrefix (Outcome words before.files.told before.input.left) before.out after.out
+  -- and the files stay, but for one that is to be stored
+  pub files : FilesStay before.files after.files
+      ⊎ ((name : List ℕ) × IsStoredName (Outcome words before.files.told before.input.left) name × OthersStay before.files after.files name)
+  -- at a read fault and at want of memory all of them stay
+  pub files_stay : (status ≡ 6) ⊎ (status ≡ 8) → FilesStay before.files after.files
+  -- but for read faults, write faults and want of memory, status, out, err, files and the input are all that is due
+  pub whole : (status ≡ 6 → ⊥) → (status ≡ 7 → ⊥) → (status ≡ 8 → ⊥)
+      → (due : Due) × Outcome words before.files.told before.input.left due × (status ≡ status_of due.end)
+      × Gains before.out after.out due.out × Gains before.err after.err (text_of (file_of words) due.end)
+      × Become before.files after.files due.stored × Takes due.reads before.input after.input
+  -- a failed write or store is not hidden: write fault, or want of memory
+  pub writes_shown : WritesGrew before after → (status ≡ 7) ⊎ (status ≡ 8)
+  -- nor a failed fetch or read, where no write failed: read fault, or want of memory
+  pub reads_shown : ReadsGrew before after → WriteFailed before after ⊎ ((status ≡ 6) ⊎ (status ≡ 8))
+  -- the input stays but where what the words ask may read it
+  pub input : (after.input ≡ before.input) ⊎ MayRead (Outcome words before.files.told before.input.left)
+  -- nor that the file is missing
+  pub absence_shown : Lacks words before.files.told → (status ≡ 6) ⊎ ((status ≡ 7) ⊎ (status ≡ 8))

@@ -1,0 +1,126 @@
+-- How a call that comes to an outcome may go: to its end, or into a fault or want of memory.
+use Rattle.std.specs.Prelude.{◌≡◌, ◌≢◌, ◌⊎◌, ◌+◌, Bool, true, false, List, ℕ, [], None, Some}
+use Rattle.alma_base.specs.Limits.{input_limit}
+use Rattle.std.specs.Io.KnownBytes.{Appends}
+use Rattle.alma_io.specs.Files.{NowHas}
+use Rattle.alma_io.specs.Fronts.{AppendsFront}
+use Rattle.alma_io.specs.Whole.{LosesAtMost}
+use Rattle.alma_driver_words.specs.Words.{file_of}
+use Rattle.alma_driver_outcome.specs.Outside.{SinkSide, SourceSide, FilesSide, Outside, HasRisen, FilesStay}
+use Rattle.alma_driver_outcome.specs.Ends.{status_of, text_of}
+use Rattle.alma_driver_outcome.specs.Outcome.{Due, Stored, Outcome}
+use Rattle.alma_driver_outcome.specs.declared.end.End.{End}
+use Rattle.alma_driver_outcome.specs.declared.end.End.TheVariants.{ReadFault, WriteFault, Memory}
+
+-- ---- the outputs
+
+-- the sink gained these bytes, and did not fail
+abbrev pub Gains : SinkSide → SinkSide → List ℕ → Type 0
+Gains old new bytes = Appends old.written new.written bytes × (new.faults ≡ old.faults)
+
+-- the sink gained a prefix of these bytes, and failed
+abbrev pub FailsWithin : SinkSide → SinkSide → List ℕ → Type 0
+FailsWithin old new bytes = AppendsFront old.written new.written bytes × HasRisen old.faults new.faults
+
+-- the sink gained a prefix of the bytes of an outcome; none is known where memory ran out before there was one
+abbrev pub GainsPrefix : (Due → Type 0) → SinkSide → SinkSide → Type 0
+GainsPrefix outcome old new = Appends old.written new.written [] ⊎ ((due : Due) × outcome due × AppendsFront old.written new.written due.out)
+
+-- How a call may come to this end, by what becomes of out: a write failed within the bytes of an outcome, memory ran
+-- out within them, or it is the end of an outcome, and all its bytes were written.
+abbrev pub Goes : (Due → Type 0) → SinkSide → SinkSide → End → Type 0
+Goes outcome old new WriteFault = (due : Due) × outcome due × FailsWithin old new due.out
+Goes outcome old new Memory = GainsPrefix outcome old new × (new.faults ≡ old.faults)
+Goes outcome old new end = (due : Due) × (due.end ≡ end) × outcome due × Gains old new due.out
+
+-- ---- the input
+
+-- where it is read no more is lost than its limit and one byte, and it did not fail; else it stays
+abbrev pub Takes : (reads : Bool) → SourceSide → SourceSide → Type 0
+Takes false old new = new ≡ old
+Takes true old new = LosesAtMost old.left new.left (input_limit + 1) × (new.faults ≡ old.faults)
+
+-- what is due is this, and the input is read where it says so
+abbrev pub Moves : (Due → Type 0) → SourceSide → SourceSide → Due → Type 0
+Moves outcome input input' due = outcome due × Takes due.reads input input'
+
+-- an outcome reads the input
+abbrev pub MayRead : (Due → Type 0) → Type 0
+MayRead outcome = (due : Due) × outcome due × (due.reads ≡ true)
+
+-- the input stays, or an outcome reads it
+abbrev pub ReadsOnly : (Due → Type 0) → SourceSide → SourceSide → Type 0
+ReadsOnly outcome input input' = (input' ≡ input) ⊎ (MayRead outcome × Takes true input input')
+
+-- an outcome reads the input, and that failed; nothing was written
+abbrev pub FailsToRead : (Due → Type 0) → SourceSide → SourceSide → SinkSide → SinkSide → End → Type 0
+FailsToRead outcome input input' out out' end =
+    (end ≡ ReadFault) × MayRead outcome × LosesAtMost input.left input'.left (input_limit + 1) × HasRisen input.faults input'.faults × Gains out out' []
+
+-- How a call may come to this end, by what becomes of the input and of out: the input failed; or it did not, and it was
+-- read where what is due says so, and, where memory ran out, only where an outcome reads it.
+abbrev pub Runs : (Due → Type 0) → SourceSide → SourceSide → SinkSide → SinkSide → End → Type 0
+Runs outcome input input' out out' end =
+    FailsToRead outcome input input' out out' end ⊎ (ReadsOnly outcome input input' × Goes (Moves outcome input input') out out' end)
+
+-- ---- the files
+
+-- the files tell what they told of all other names
+abbrev pub OthersStay : FilesSide → FilesSide → (name : List ℕ) → Type 0
+OthersStay old new name = (other : List ℕ) → other ≢ name → new.told other ≡ old.told other
+
+-- The file has these bytes, if it is told; all others stay, and no store failed.
+abbrev pub HasStored : FilesSide → FilesSide → Stored → Type 0
+HasStored old new stored =
+    OthersStay old new stored.name × NowHas (old.told stored.name) (new.told stored.name) stored.bytes × (new.store_faults ≡ old.store_faults)
+
+-- a store of the file failed; all others stay, and of this one nothing is said
+abbrev pub FailsToStore : FilesSide → FilesSide → Stored → Type 0
+FailsToStore old new stored = OthersStay old new stored.name × HasRisen old.store_faults new.store_faults
+
+-- what is due is this, and nothing is to be stored
+abbrev pub Keeps : (Due → Type 0) → Due → Type 0
+Keeps outcome due = outcome due × (due.stored ≡ None)
+
+-- What is due was stored, and the call is at its end; or it was to be stored, and that failed. Out gained what is due.
+pub data Stores (outcome : Due → Type 0) (files files' : FilesSide) (out out' : SinkSide) (end : End) : Type 0 where
+  done : (due : Due) (stored : Stored) → outcome due → due.stored ≡ Some stored → Gains out out' due.out → HasStored files files' stored
+      → due.end ≡ end → Stores outcome files files' out out' end
+  failed : (due : Due) (stored : Stored) → outcome due → due.stored ≡ Some stored → Gains out out' due.out → FailsToStore files files' stored
+      → end ≡ WriteFault → Stores outcome files files' out out' end
+
+-- How a call may come to this end, by what becomes of out and of the files: where nothing is stored they stay.
+abbrev pub Works : (Due → Type 0) → FilesSide → FilesSide → SinkSide → SinkSide → End → Type 0
+Works outcome files files' out out' end = (FilesStay files files' × Goes (Keeps outcome) out out' end) ⊎ Stores outcome files files' out out' end
+
+-- ---- the call
+
+-- the fetch of the file failed; nothing was written, and the files stay
+abbrev pub FailsToFetch : FilesSide → FilesSide → SinkSide → SinkSide → End → Type 0
+FailsToFetch files files' out out' end =
+    (end ≡ ReadFault) × HasRisen files.fetch_faults files'.fetch_faults × FilesStay files files' × Gains out out' []
+
+-- How a call may come to this end where no fetch failed: the input failed, and the files stay; or it did not.
+abbrev pub Serves : (Due → Type 0) → FilesSide → FilesSide → SourceSide → SourceSide → SinkSide → SinkSide → End → Type 0
+Serves outcome files files' input input' out out' end =
+    (FilesStay files files' × FailsToRead outcome input input' out out' end)
+    ⊎ (ReadsOnly outcome input input' × Works (Moves outcome input input') files files' out out' end)
+
+-- How a call may come to this end: a fetch failed, and the input stays; or none did.
+abbrev pub Performs : (Due → Type 0) → FilesSide → FilesSide → SourceSide → SourceSide → SinkSide → SinkSide → End → Type 0
+Performs outcome files files' input input' out out' end =
+    (FailsToFetch files files' out out' end × (input' ≡ input))
+    ⊎ ((files'.fetch_faults ≡ files.fetch_faults) × Serves outcome files files' input input' out out' end)
+
+-- How an end is reported, where the words name this file: err gained its text, and its status is answered; or err failed
+-- within the text.
+abbrev pub Reports : (file : List ℕ) → End → SinkSide → SinkSide → ℕ → Type 0
+Reports file end old new status =
+    ((status ≡ status_of end) × Gains old new (text_of file end))
+    ⊎ ((status ≡ 7) × FailsWithin old new (text_of file end))
+
+-- How a call with these words may change what is outside, and which status it may answer.
+pub record Answers (words : List (List ℕ)) (before after : Outside) (status : ℕ) : Type 0 where
+  pub end : End
+  pub performed : Performs (Outcome words before.files.told before.input.left) before.files after.files before.input after.input before.out after.out end
+  pub reported : Reports (file_of words) end before.err after.err status

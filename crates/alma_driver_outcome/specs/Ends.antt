@@ -1,0 +1,217 @@
+-- The ends of a call: their statuses and their texts.
+use Rattle.std.specs.Prelude.{Bool, true, false, List, ℕ, [], ◌++◌, codes, decimal, Option, Some, None}
+use Rattle.alma_base.specs.Fault.{lex_fault_text, syntax_fault_text, check_fault_text, run_fault_text}
+use Rattle.alma_base.specs.declared.place.Place.{Place}
+use Rattle.alma_io.specs.declared.files.Fetch.{Fetch}
+use Rattle.alma_io.specs.declared.files.Fetch.TheVariants as fetch
+use Rattle.alma_io.specs.declared.files.StoreFault.{StoreFault}
+use Rattle.alma_io.specs.declared.files.StoreFault.TheVariants as store
+use Rattle.alma_object_format.specs.declared.fault.ObjectFault.{ObjectFault}
+use Rattle.alma_object_format.specs.declared.fault.ObjectFault.TheVariants as object
+use Rattle.alma_lower.specs.declared.lowering.LowerError.{LowerError}
+use Rattle.alma_lower.specs.declared.lowering.LowerError.TheVariants as lower
+use Rattle.alma_code.specs.declared.step.End as code
+use Rattle.alma_code.specs.declared.step.End.TheVariants as ended
+use Rattle.alma_code.specs.Lines.{known_line}
+use Rattle.alma_code.specs.declared.step.VerifyFault.{VerifyFault}
+use Rattle.alma_base.specs.declared.fault.RunFault.{RunFault}
+use Rattle.alma_code.specs.Machine.{Mode, Going, Failing, Ended, Stuck, State}
+use Rattle.alma_machine.specs.declared.machine.RunEnd.{RunEnd}
+use Rattle.alma_machine.specs.declared.machine.RunEnd.TheVariants as run
+use Rattle.alma_io.specs.declared.whole.ReadAll.{ReadAll}
+use Rattle.alma_io.specs.declared.whole.ReadAll.TheVariants as whole
+use Rattle.alma_driver_words.specs.declared.words.WordsError.{WordsError}
+use Rattle.alma_driver_words.specs.declared.words.WordsError.TheVariants as words
+use Rattle.alma_driver_outcome.specs.declared.fault.SourceFault.{SourceFault}
+use Rattle.alma_driver_outcome.specs.declared.fault.SourceFault.TheVariants.{Lex, Syntax, Check}
+use Rattle.alma_driver_outcome.specs.declared.end.Counts.{Counts}
+use Rattle.alma_driver_outcome.specs.declared.end.End.{End}
+use Rattle.alma_driver_outcome.specs.declared.end.End.TheVariants.{Succeeded, Failed, BadWord, Refused, Faulted, StepsOut, ReadFault, WriteFault}
+use Rattle.alma_driver_outcome.specs.declared.end.End.TheVariants.{Memory, BadObject, BadCode, TooLong, TooMuchCode}
+
+-- the status of an end
+abbrev pub status_of : End → ℕ
+status_of (Succeeded counts) = 0
+status_of (Failed counts) = 1
+status_of (BadWord k) = 2
+status_of (Refused fault place) = 3
+status_of (Faulted fault line counts) = 4
+status_of (StepsOut counts) = 5
+status_of ReadFault = 6
+status_of WriteFault = 7
+status_of Memory = 8
+status_of (BadObject fault) = 9
+status_of (BadCode fault) = 9
+status_of TooLong = 10
+status_of (TooMuchCode size) = 11
+
+-- the text of an end, but for what names a word, a place, a fault, a size or counts
+abbrev pub fixed_text : End → List ℕ
+fixed_text (Succeeded counts) = []
+fixed_text (Failed counts) = []
+fixed_text (BadWord k) = []
+fixed_text (Refused fault place) = []
+fixed_text (Faulted fault line counts) = []
+fixed_text (StepsOut counts) = codes "alma: steps out\n"
+fixed_text ReadFault = codes "alma: read fault\n"
+fixed_text WriteFault = codes "alma: write fault\n"
+fixed_text Memory = codes "alma: out of memory\n"
+fixed_text (BadObject fault) = []
+fixed_text (BadCode fault) = []
+fixed_text TooLong = codes "alma: too long\n"
+fixed_text (TooMuchCode size) = []
+
+-- the name of a fault for which a source is refused
+abbrev pub source_fault_text : SourceFault → List ℕ
+source_fault_text (Lex fault) = lex_fault_text fault
+source_fault_text (Syntax fault) = syntax_fault_text fault
+source_fault_text (Check fault) = check_fault_text fault
+
+-- FILE:LINE:COLUMN: FAULT
+abbrev pub refusal_line : (file line column fault : List ℕ) → List ℕ
+refusal_line file line column fault = file ++ (codes ":" ++ (line ++ (codes ":" ++ (column ++ (codes ": " ++ (fault ++ codes "\n"))))))
+
+-- the line of a refusal
+abbrev pub refusal_text : (file : List ℕ) → SourceFault → Place → List ℕ
+refusal_text file fault place = refusal_line file (decimal place.line) (decimal place.column) (source_fault_text fault)
+
+-- where a run stopped in a fault, if its line is known
+abbrev pub line_text : Option ℕ → List ℕ
+line_text None = []
+line_text (Some line) = codes " line " ++ decimal line
+
+-- the text of a run that stopped in a fault
+abbrev pub fault_text : RunFault → (line : ℕ) → List ℕ
+fault_text fault line = codes "alma: fault " ++ (run_fault_text fault ++ (line_text (known_line line) ++ codes "\n"))
+
+-- the name of a fault of an object
+abbrev pub object_fault_name : ObjectFault → List ℕ
+object_fault_name object.Magic = codes "Magic"
+object_fault_name (object.Version version) = codes "Version"
+object_fault_name (object.Cut length) = codes "Cut"
+object_fault_name (object.Trailing offset) = codes "Trailing"
+object_fault_name (object.BadCount offset) = codes "BadCount"
+object_fault_name (object.BadOpcode offset) = codes "BadOpcode"
+object_fault_name (object.BadName offset) = codes "BadName"
+
+-- its number, which Magic has not
+abbrev pub object_fault_number : ObjectFault → Option ℕ
+object_fault_number object.Magic = None
+object_fault_number (object.Version version) = Some version
+object_fault_number (object.Cut length) = Some length
+object_fault_number (object.Trailing offset) = Some offset
+object_fault_number (object.BadCount offset) = Some offset
+object_fault_number (object.BadOpcode offset) = Some offset
+object_fault_number (object.BadName offset) = Some offset
+
+-- the number of a fault, if it has one
+abbrev pub number_text : Option ℕ → List ℕ
+number_text None = []
+number_text (Some number) = codes " " ++ decimal number
+
+-- the text of bytes that are no object
+abbrev pub object_text : ObjectFault → List ℕ
+object_text fault = codes "alma: object " ++ (object_fault_name fault ++ (number_text (object_fault_number fault) ++ codes "\n"))
+
+-- the text of code that is not sound, by the first rule that it breaks and where
+abbrev pub rule_line : (rule at : List ℕ) → List ℕ
+rule_line rule at = codes "alma: object Rule " ++ (rule ++ (codes " " ++ (at ++ codes "\n")))
+
+abbrev pub rule_text : VerifyFault → List ℕ
+rule_text fault = rule_line (decimal fault.rule) (decimal fault.at)
+
+-- the line of counts
+abbrev pub counts_line : (steps choices fails : List ℕ) → List ℕ
+counts_line steps choices fails =
+    codes "steps " ++ (steps ++ (codes " choices " ++ (choices ++ (codes " fails " ++ (fails ++ codes "\n")))))
+
+-- the same where there are counts
+abbrev pub counts_text : Option Counts → List ℕ
+counts_text None = []
+counts_text (Some counts) = counts_line (decimal counts.steps) (decimal counts.choices) (decimal counts.fails)
+
+-- the counts that an end tells
+abbrev pub counts_with : End → Option Counts
+counts_with (Succeeded counts) = counts
+counts_with (Failed counts) = counts
+counts_with (Faulted fault line counts) = counts
+counts_with (StepsOut counts) = counts
+counts_with end = None
+
+-- the text of an end behind its counts, where the words name this file
+abbrev pub end_text : (file : List ℕ) → End → List ℕ
+end_text file (BadWord k) = codes "alma: bad word " ++ (decimal k ++ codes "\n")
+end_text file (Refused fault place) = refusal_text file fault place
+end_text file (Faulted fault line counts) = fault_text fault line
+end_text file (BadObject fault) = object_text fault
+end_text file (BadCode fault) = rule_text fault
+end_text file (TooMuchCode size) = codes "alma: too much code " ++ (decimal size ++ codes "\n")
+end_text file end = fixed_text end
+
+-- the text of an end: counts come first
+abbrev pub text_of : (file : List ℕ) → End → List ℕ
+text_of file end = counts_text (counts_with end) ++ end_text file end
+
+-- the counts of a state, where they are asked for
+abbrev pub counts_in : (stats : Bool) → State → Option Counts
+counts_in false s = None
+counts_in true s = Some (record { steps = s.steps; choices = s.choices; fails = s.fails })
+
+-- the end of a call whose run ended, with the line of the last instruction, and counts
+abbrev pub ended_end : code.End → (line : ℕ) → Option Counts → End
+ended_end ended.Succeeded line counts = Succeeded counts
+ended_end ended.Failed line counts = Failed counts
+ended_end (ended.Fault fault) line counts = Faulted fault line counts
+
+-- the end of a call whose run is left in this mode
+abbrev pub mode_end : Mode → (line : ℕ) → Option Counts → End
+mode_end (Ended end) line counts = ended_end end line counts
+mode_end Going line counts = StepsOut counts
+mode_end Failing line counts = StepsOut counts
+mode_end Stuck line counts = StepsOut counts
+
+-- the end of a call by the answer of its run
+abbrev pub run_end : RunEnd → (line : ℕ) → Option Counts → End
+run_end run.Succeeded line counts = Succeeded counts
+run_end run.Failed line counts = Failed counts
+run_end (run.Fault fault) line counts = Faulted fault line counts
+run_end run.StepsOut line counts = StepsOut counts
+run_end run.WriteFault line counts = WriteFault
+run_end run.Memory line counts = Memory
+
+-- the end of a call whose input was not read
+abbrev pub input_end : ReadAll → End
+input_end whole.Fault = ReadFault
+input_end whole.TooLong = TooLong
+input_end whole.Memory = Memory
+
+-- the end of a program that was not compiled
+abbrev pub lower_end : LowerError → End
+lower_end (lower.TooMuchCode size) = TooMuchCode size
+lower_end lower.Memory = Memory
+
+-- the end of words that are no request
+abbrev pub words_end : WordsError → End
+words_end (words.Bad k) = BadWord k
+words_end words.Memory = Memory
+
+-- the end of a fetch that gave no file
+abbrev pub fetch_end : Fetch → End
+fetch_end fetch.Absent = ReadFault
+fetch_end fetch.Failed = ReadFault
+fetch_end fetch.TooLong = TooLong
+fetch_end fetch.Memory = Memory
+
+-- the end of a store that stored nothing
+abbrev pub store_end : StoreFault → End
+store_end store.Failed = WriteFault
+store_end store.Memory = Memory
+
+-- the line that sums up the run of a sample: its lines, the bytes of its source and of its output, and the status of its end
+abbrev pub summary_line : (lines bytes printed status : List ℕ) → List ℕ
+summary_line lines bytes printed status =
+    codes "lines " ++ (lines ++ (codes " bytes " ++ (bytes ++ (codes " printed " ++ (printed ++ (codes " status " ++ (status ++ codes "\n")))))))
+
+-- the same by numbers
+abbrev pub sample_line : (lines bytes printed status : ℕ) → List ℕ
+sample_line lines bytes printed status = summary_line (decimal lines) (decimal bytes) (decimal printed) (decimal status)

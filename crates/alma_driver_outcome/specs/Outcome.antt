@@ -1,0 +1,219 @@
+-- What a call comes to where memory is found and nothing fails, layer by layer.
+use Rattle.std.specs.Prelude.{◌≡◌, ◌<◌, ◌≤◌, ◌+◌, ◌*◌, ◌/◌, ◌⊎◌, suc, Bool, true, false, List, ℕ, [], length, Option, None, Some}
+use Rattle.alma_base.specs.Limits.{size_limit, input_limit}
+use Rattle.alma_io.specs.Files.{Told, Missing, MayHave, MayPass}
+use Rattle.alma_io.specs.Whole.{MayHaveMore}
+use Rattle.alma_ir.specs.Tree.{Program}
+use Rattle.alma_ir.specs.Count.{saturate, nodes}
+use Rattle.alma_mean.specs.Events.{first, end_of, visit_count, CutOff}
+use Rattle.alma_mean.specs.Meaning.{ev_program, result}
+use Rattle.alma_code.specs.declared.step.End as code
+use Rattle.alma_code.specs.declared.step.VerifyFault.{VerifyFault}
+use Rattle.alma_code.specs.ListText.{list_text}
+use Rattle.alma_code.specs.Plain.{PlainCode}
+use Rattle.alma_code.specs.Reads.{code_reads}
+use Rattle.alma_code.specs.Machine.{State}
+use Rattle.alma_code.specs.Rules.{IsSound, code_fault}
+use Rattle.alma_object_format.specs.declared.fault.ObjectFault.{ObjectFault}
+use Rattle.alma_object.specs.Object.{IsObject}
+use Rattle.alma_object.specs.Walk.{object_fault}
+use Rattle.alma_verify.specs.Bytes.{object_code}
+use Rattle.alma_driver_sample.specs.Sample.{sample_text}
+use Rattle.alma_lower_sound.specs.Reads.{program_reads}
+use Rattle.alma_lower_implements.specs.Implements.{Implements, Covers, meant_end, state_after, line_in}
+use Rattle.alma_driver_words.specs.Words.{Request, Check, Compile, Listing, Run, Exec, Trace, Sample, Asks, IsBadWord, default_steps}
+use Rattle.alma_driver_outcome.specs.Words.{read_by, limit_of}
+use Rattle.alma_driver_outcome.specs.Showing.{Showing, Prints, Traces, counts_shown, text_shown}
+use Rattle.alma_driver_outcome.specs.Ends.{ended_end, mode_end, counts_in, status_of, sample_line}
+use Rattle.alma_driver_outcome.specs.Refusal.{IsRefused, IsProgramOf, place_of}
+use Rattle.alma_driver_outcome.specs.declared.fault.SourceFault.{SourceFault}
+use Rattle.alma_driver_outcome.specs.declared.end.Counts.{Counts}
+use Rattle.alma_driver_outcome.specs.declared.end.End.{End}
+use Rattle.alma_driver_outcome.specs.declared.end.End.TheVariants.{Succeeded, BadWord, Refused, StepsOut, ReadFault, Memory, BadObject, BadCode, TooLong, TooMuchCode}
+
+-- the size of a program, by which its code is limited
+abbrev pub size_of : Program → ℕ
+size_of p = saturate (16 * nodes p)
+
+-- bytes under the name of a file
+pub record Stored : Type 0 where
+  pub name : List ℕ
+  pub bytes : List ℕ
+
+-- what is due from a call: its end, the bytes that it writes to out, what it stores, and whether it reads the input
+pub record Due : Type 0 where
+  pub end : End
+  pub out : List ℕ
+  pub stored : Option Stored
+  pub reads : Bool
+
+-- an end with these bytes on out, where nothing is stored and the input stays
+abbrev pub due_of : End → List ℕ → Due
+due_of end out = record { end = end; out = out; stored = None; reads = false }
+
+-- an end without a print
+abbrev pub silent : End → Due
+silent end = due_of end []
+
+-- success without a print, where these bytes are stored under this name
+abbrev pub storing : (name bytes : List ℕ) → Due
+storing name bytes = record { end = Succeeded None; out = []; stored = Some (record { name = name; bytes = bytes }); reads = false }
+
+-- ---- code and its input
+
+-- the end of code in a state, with the counts where they are asked for
+abbrev pub code_end : PlainCode → (stats : Bool) → State → End
+code_end code stats s = mode_end s.mode (line_in code s) (counts_in stats s)
+
+-- what a run of code on an input for so many steps comes to, by what it shows
+abbrev pub code_due : PlainCode → (input : List ℕ) → (steps : ℕ) → Showing → Due
+code_due code input steps showing = record {
+  end = code_end code (counts_shown showing) (state_after code input steps);
+  out = text_shown code input steps showing;
+  stored = None;
+  reads = code_reads code;
+}
+
+-- what is left of the input may be these bytes
+abbrev pub MayBeLeft : Option (List ℕ) → List ℕ → Type 0
+MayBeLeft None bytes = Unit {0}
+MayBeLeft (Some left) bytes = left ≡ bytes
+
+-- an input that was read and is too long
+abbrev pub long_input : Due
+long_input = record { end = TooLong; out = []; stored = None; reads = true }
+
+-- What a run of code comes to, by what is left of the input: where the code reads, the whole input is read before its
+-- first step, and may be too long; where it does not, it runs on an empty one.
+pub data InputOutcome (left : Option (List ℕ)) (code : PlainCode) (steps : ℕ) (showing : Showing) (due : Due) : Type 0 where
+  unread : code_reads code ≡ false → due ≡ code_due code [] steps showing → InputOutcome left code steps showing due
+  taken : (input : List ℕ) → code_reads code ≡ true → MayBeLeft left input → length input ≤ input_limit → due ≡ code_due code input steps showing
+      → InputOutcome left code steps showing due
+  past_input : code_reads code ≡ true → MayHaveMore left input_limit → due ≡ long_input → InputOutcome left code steps showing due
+
+-- ---- programs
+
+-- What a run of a program for so many steps comes to: what a sound code that implements it, and reads exactly where it does, comes
+-- to in so many steps, or the refusal of its size.
+pub data ProgramOutcome (left : Option (List ℕ)) (p : Program) (steps : ℕ) (showing : Showing) (due : Due) : Type 0 where
+  ran : (code : PlainCode) → size_of p ≤ size_limit → IsSound code → Implements code p → code_reads code ≡ program_reads p → InputOutcome left code steps showing due
+      → ProgramOutcome left p steps showing due
+  too_much_code : size_limit < size_of p → due ≡ silent (TooMuchCode (size_of p)) → ProgramOutcome left p steps showing due
+
+-- What compiling a program under a name comes to: the object of a sound code that implements it, and reads exactly where it
+-- does, is stored there, or the refusal of its size.
+pub data CompileOutcome (p : Program) (object : List ℕ) (due : Due) : Type 0 where
+  made : (code : PlainCode) (bytes : List ℕ) → size_of p ≤ size_limit → IsSound code → Implements code p → code_reads code ≡ program_reads p → IsObject code bytes
+      → due ≡ storing object bytes → CompileOutcome p object due
+  past_size : size_limit < size_of p → due ≡ silent (TooMuchCode (size_of p)) → CompileOutcome p object due
+
+-- ---- the same by the meaning alone
+
+-- So many steps may not be enough for the meaning of the program: at 32 steps for each visit, and 32 more, they would be.
+abbrev pub MayRunOut : Program → (input : List ℕ) → (steps : ℕ) → Type 0
+MayRunOut p input steps =
+    (level : ℕ) → (end_of (first (ev_program level p input)) ≡ CutOff → ⊥) → steps < 32 * (visit_count (first (ev_program level p input)) + 1)
+
+-- counts are told where they are asked for
+abbrev pub AreCounts : (stats : Bool) → Option Counts → Type 0
+AreCounts false counts = counts ≡ None
+AreCounts true counts = (told : Counts) × (counts ≡ Some told)
+
+-- What the meaning of a program says of such a run on an input: its result, a fault at the line where it comes, or a front
+-- of its prints that covers one visit for each 32 steps.
+pub data MeansOn (p : Program) (input : List ℕ) (steps : ℕ) (stats : Bool) (due : Due) : Type 0 where
+  whole : (printed : List ℕ) (end : code.End) (line : ℕ) (counts : Option Counts) → AreCounts stats counts
+      → result (suc steps) p input ≡ (printed, meant_end end line) → due.end ≡ ended_end end line counts → due.out ≡ printed
+      → MeansOn p input steps stats due
+  front : (printed : List ℕ) (counts : Option Counts) → AreCounts stats counts → Covers (first (ev_program (suc steps) p input)) printed (steps / 32)
+      → MayRunOut p input steps → due.end ≡ StepsOut counts → due.out ≡ printed → MeansOn p input steps stats due
+
+-- the input on which a run goes, by whether it is read
+abbrev pub IsTaken : Option (List ℕ) → (reads : Bool) → List ℕ → Type 0
+IsTaken left false input = input ≡ []
+IsTaken left true input = MayBeLeft left input × (length input ≤ input_limit)
+
+-- What it says by what is left of the input: the program runs on that, or, where it is not read, on an empty input; or the
+-- input is too long; or the refusal of its size.
+pub data Meant (left : Option (List ℕ)) (p : Program) (steps : ℕ) (stats : Bool) (due : Due) : Type 0 where
+  meant_on : (input : List ℕ) → size_of p ≤ size_limit → IsTaken left due.reads input → MeansOn p input steps stats due → Meant left p steps stats due
+  too_long : size_of p ≤ size_limit → MayHaveMore left input_limit → due ≡ long_input → Meant left p steps stats due
+  too_large : size_limit < size_of p → due ≡ silent (TooMuchCode (size_of p)) → Meant left p steps stats due
+
+-- ---- sources and objects
+
+-- the end of a source that is no program: its refusal
+pub data IsSourceEnd (source : List ℕ) (end : End) : Type 0 where
+  refused : (fault : SourceFault) (offset : ℕ) → IsRefused source fault offset → end ≡ Refused fault (place_of source offset) → IsSourceEnd source end
+
+-- what a source comes to: that end, or what its program comes to
+pub data SourceOutcome (source : List ℕ) (program_outcome : Program → Due → Type 0) (due : Due) : Type 0 where
+  stopped : (end : End) → IsSourceEnd source end → due ≡ silent end → SourceOutcome source program_outcome due
+  compiled : (p : Program) → IsProgramOf source p → program_outcome p due → SourceOutcome source program_outcome due
+
+-- what a program that is only checked comes to: success
+abbrev pub CheckOutcome : Program → Due → Type 0
+CheckOutcome p due = due ≡ silent (Succeeded None)
+
+-- What listing bytes comes to: the text of the code whose object they are, or the first fault of the format.
+pub data ListOutcome (bytes : List ℕ) (due : Due) : Type 0 where
+  listed : object_fault bytes ≡ None → IsObject (object_code bytes) bytes → due ≡ due_of (Succeeded None) (list_text (object_code bytes))
+      → ListOutcome bytes due
+  no_object : (fault : ObjectFault) → object_fault bytes ≡ Some fault → due ≡ silent (BadObject fault) → ListOutcome bytes due
+
+-- What running code of a stranger for so many steps comes to: what it comes to in so many steps, or the first rule that it breaks.
+pub data CodeOutcome (left : Option (List ℕ)) (code : PlainCode) (steps : ℕ) (stats : Bool) (due : Due) : Type 0 where
+  executed : code_fault code ≡ None → InputOutcome left code steps (Prints stats) due → CodeOutcome left code steps stats due
+  unsound : (fault : VerifyFault) → code_fault code ≡ Some fault → due ≡ silent (BadCode fault) → CodeOutcome left code steps stats due
+
+-- what running the code of an object comes to; or the first fault of the format of bytes that are none
+pub data ExecOutcome (left : Option (List ℕ)) (bytes : List ℕ) (steps : ℕ) (stats : Bool) (due : Due) : Type 0 where
+  opened : object_fault bytes ≡ None → CodeOutcome left (object_code bytes) steps stats due → ExecOutcome left bytes steps stats due
+  unopened : (fault : ObjectFault) → object_fault bytes ≡ Some fault → due ≡ silent (BadObject fault) → ExecOutcome left bytes steps stats due
+
+-- ---- requests
+
+-- the run of a source on an empty input, for as many steps as where words name none, prints so many bytes and comes to this status
+pub record IsSampled (source : List ℕ) (printed status : ℕ) : Type 0 where
+  pub run : Due
+  pub outcome : SourceOutcome source (λ p. ProgramOutcome (Some []) p default_steps (Prints false)) run
+  pub prints : length run.out ≡ printed
+  pub ends : status_of run.end ≡ status
+
+-- What a sample of so many lines comes to: success, and the line that sums up the run of its source.
+pub data SampleOutcome (lines : ℕ) (due : Due) : Type 0 where
+  summed : (printed status : ℕ) → IsSampled (sample_text lines) printed status
+      → due ≡ due_of (Succeeded None) (sample_line lines (length (sample_text lines)) printed status) → SampleOutcome lines due
+
+-- what a request comes to, by what is left of the input and the bytes of the file that it reads
+abbrev pub FileOutcome : Option (List ℕ) → Request → List ℕ → Due → Type 0
+FileOutcome left (Check name) source due = SourceOutcome source CheckOutcome due
+FileOutcome left (Compile name object) source due = SourceOutcome source (λ p. CompileOutcome p object) due
+FileOutcome left (Listing object) bytes due = ListOutcome bytes due
+FileOutcome left (Run name steps stats) source due = SourceOutcome source (λ p. ProgramOutcome left p steps (Prints stats)) due
+FileOutcome left (Exec object steps stats) bytes due = ExecOutcome left bytes steps stats due
+FileOutcome left (Trace name steps watch) source due = SourceOutcome source (λ p. ProgramOutcome left p steps (Traces watch)) due
+FileOutcome left (Sample lines) none due = SampleOutcome lines due
+
+-- What a request comes to, by what the files tell: its file is missing, or too long, or has these bytes; or it reads none.
+pub data RequestOutcome (told : List ℕ → Told) (left : Option (List ℕ)) (request : Request) (due : Due) : Type 0 where
+  absent : (name : List ℕ) → read_by request ≡ Some name → told name ≡ Missing → due ≡ silent ReadFault → RequestOutcome told left request due
+  past_limit : (name : List ℕ) → read_by request ≡ Some name → MayPass (told name) (limit_of request) → due ≡ silent TooLong → RequestOutcome told left request due
+  fetched : (name bytes : List ℕ) → read_by request ≡ Some name → MayHave (told name) bytes → length bytes ≤ limit_of request
+      → FileOutcome left request bytes due → RequestOutcome told left request due
+  unfetched : read_by request ≡ None → FileOutcome left request [] due → RequestOutcome told left request due
+
+-- what words come to, by what the files tell and what is left of the input
+pub data Outcome (words : List (List ℕ)) (told : List ℕ → Told) (left : Option (List ℕ)) (due : Due) : Type 0 where
+  bad_word : (k : ℕ) → IsBadWord words k → due ≡ silent (BadWord k) → Outcome words told left due
+  asks : (request : Request) → Asks words request → RequestOutcome told left request due → Outcome words told left due
+
+-- the words ask to read a file that is told to be missing
+abbrev pub Lacks : List (List ℕ) → (List ℕ → Told) → Type 0
+Lacks words told = (request : Request) × (name : List ℕ) × Asks words request × (read_by request ≡ Some name) × (told name ≡ Missing)
+
+-- ---- inner: how the reading of a source may stop
+
+-- memory ran out, or the source is no program
+abbrev pub IsStop : (source : List ℕ) → End → Type 0
+IsStop source end = (end ≡ Memory) ⊎ IsSourceEnd source end

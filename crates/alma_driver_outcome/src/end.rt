@@ -1,0 +1,187 @@
+// The ends of a call: how they come from the answers of its parts, their statuses and their texts.
+ghost use Rattle.std.specs.Prelude.{◌≡◌};
+ghost use Rattle.alma_code.specs.Lines.{line_at};
+ghost use Rattle.alma_object.specs.View.{code_of_view};
+ghost use Rattle.alma_driver_outcome.specs.Ends.{status_of, counts_with, fixed_text, run_end, input_end, lower_end, words_end, fetch_end, store_end};
+
+use crate::fault::SourceFault;
+use alma_base::{Place, RunFault};
+use alma_code::VerifyFault;
+use alma_driver_words::WordsError;
+use alma_io::{Fetch, ReadAll, StoreFault};
+use alma_lower::LowerError;
+use alma_machine::RunEnd;
+use alma_object::{ObjectFault, ObjectView};
+
+/// What a run counted: the steps that it made, the choice entries that it pushed, and those that it popped.
+#[derive(Clone, Copy, Debug, PartialEq, Eq)]
+pub struct Counts {
+    pub steps: u64,
+    pub choices: u64,
+    pub fails: u64,
+}
+
+/// How a call ends, but for what becomes of its text on err.
+#[derive(Clone, Copy, Debug, PartialEq, Eq)]
+pub enum End {
+    /// The call succeeded; with the counts of its run, where they are asked for.
+    Succeeded(Option<Counts>),
+    /// The program failed.
+    Failed(Option<Counts>),
+    /// The first word, from 1, that cannot stand where it is, or one more than there are.
+    BadWord(usize),
+    /// The source is no program: its fault, and the place of it.
+    Refused(SourceFault, Place),
+    /// The run stopped in a fault, at this line; 0 where none is known.
+    Faulted(RunFault, u32, Option<Counts>),
+    /// All steps were made, and the run was not at its end.
+    StepsOut(Option<Counts>),
+    /// The file is missing, or a fetch or a read of the input failed.
+    ReadFault,
+    /// A write or a store failed.
+    WriteFault,
+    /// Memory ran out.
+    Memory,
+    /// The bytes are no object: their fault.
+    BadObject(ObjectFault),
+    /// The code of the object is not sound: the first rule that it breaks, and where.
+    BadCode(VerifyFault),
+    /// The source, the object or the input is past its greatest length.
+    TooLong,
+    /// The size of the program, which is past the greatest.
+    TooMuchCode(u64),
+}
+
+impl End {
+    /// The exit status.
+    pub fn status(self) -> u8
+        ensures { result ≡ status_of self }
+    {
+        match self {
+            End::Succeeded(_) => 0,
+            End::Failed(_) => 1,
+            End::BadWord(_) => 2,
+            End::Refused(_, _) => 3,
+            End::Faulted(_, _, _) => 4,
+            End::StepsOut(_) => 5,
+            End::ReadFault => 6,
+            End::WriteFault => 7,
+            End::Memory => 8,
+            End::BadObject(_) | End::BadCode(_) => 9,
+            End::TooLong => 10,
+            End::TooMuchCode(_) => 11,
+        }
+    }
+
+    /// The counts that it tells.
+    pub fn counts(self) -> Option<Counts>
+        ensures { result ≡ counts_with self }
+    {
+        match self {
+            End::Succeeded(counts) => counts,
+            End::Failed(counts) => counts,
+            End::Faulted(_, _, counts) => counts,
+            End::StepsOut(counts) => counts,
+            _ => None,
+        }
+    }
+
+    /// The text on err behind counts, but for that of an end which names a word, a place, a fault, a size or counts.
+    pub fn fixed_text(self) -> &'static [u8]
+        ensures { result.now ≡ fixed_text self }
+    {
+        match self {
+            End::Succeeded(_) | End::Failed(_) => b"",
+            End::BadWord(_) | End::Refused(_, _) => b"",
+            End::Faulted(_, _, _) | End::TooMuchCode(_) => b"",
+            End::BadObject(_) | End::BadCode(_) => b"",
+            End::StepsOut(_) => b"alma: steps out\n",
+            End::ReadFault => b"alma: read fault\n",
+            End::WriteFault => b"alma: write fault\n",
+            End::Memory => b"alma: out of memory\n",
+            End::TooLong => b"alma: too long\n",
+        }
+    }
+}
+
+/// The end of a call by the answer of its run, the line of the last instruction, and counts.
+pub fn end_of(run: RunEnd, line: u32, counts: Option<Counts>) -> End
+    ensures { result ≡ run_end run line counts }
+{
+    match run {
+        RunEnd::Succeeded => End::Succeeded(counts),
+        RunEnd::Failed => End::Failed(counts),
+        RunEnd::Fault(fault) => End::Faulted(fault, line, counts),
+        RunEnd::StepsOut => End::StepsOut(counts),
+        RunEnd::WriteFault => End::WriteFault,
+        RunEnd::Memory => End::Memory,
+    }
+}
+
+/// The line of an address; 0 where none is known.
+pub fn line_of(view: &ObjectView<'_>, at: u32) -> u32
+    ensures { result ≡ line_at (code_of_view view.now) at }
+{
+    match view.line_of(at) {
+        Some(line) => line,
+        None => 0,
+    }
+}
+
+impl From<ReadAll> for End {
+    ghost from_gives = { λ error end. end ≡ input_end error };
+
+    fn from(error: ReadAll) -> Self {
+        match error {
+            ReadAll::Fault => End::ReadFault,
+            ReadAll::TooLong => End::TooLong,
+            ReadAll::Memory => End::Memory,
+        }
+    }
+}
+
+impl From<LowerError> for End {
+    ghost from_gives = { λ error end. end ≡ lower_end error };
+
+    fn from(error: LowerError) -> Self {
+        match error {
+            LowerError::TooMuchCode(size) => End::TooMuchCode(size),
+            LowerError::Memory => End::Memory,
+        }
+    }
+}
+
+impl From<WordsError> for End {
+    ghost from_gives = { λ error end. end ≡ words_end error };
+
+    fn from(error: WordsError) -> Self {
+        match error {
+            WordsError::Bad(word) => End::BadWord(word),
+            WordsError::Memory => End::Memory,
+        }
+    }
+}
+
+impl From<Fetch> for End {
+    ghost from_gives = { λ fault end. end ≡ fetch_end fault };
+
+    fn from(fault: Fetch) -> Self {
+        match fault {
+            Fetch::Absent => End::ReadFault,
+            Fetch::Failed => End::ReadFault,
+            Fetch::TooLong => End::TooLong,
+            Fetch::Memory => End::Memory,
+        }
+    }
+}
+
+impl From<StoreFault> for End {
+    ghost from_gives = { λ fault end. end ≡ store_end fault };
+
+    fn from(fault: StoreFault) -> Self {
+        match fault {
+            StoreFault::Failed => End::WriteFault,
+            StoreFault::Memory => End::Memory,
+        }
+    }
+}

@@ -1,0 +1,15 @@
+//! What a call of the program must come to, clause by clause, and what it tells of it.
+#![tactic(auto)]
+
+mod end;
+mod fault;
+pub mod laws;
+mod showing;
+mod stop;
+mod writing;
+
+pub use end::{Counts, End, end_of, line_of};
+pub use fault::{SourceFault, object_fault_name, object_fault_number};
+pub use showing::Showing;
+pub use stop::SourceStop;
+pub use writing::{report, write_parts};

@@ -1,0 +1,58 @@
+// The command `exec`.
+ghost use Rattle.std.specs.Prelude.{◌≤◌};
+ghost use Rattle.alma_object.specs.View.{code_of_view};
+ghost use Rattle.alma_driver_words.specs.Words.{greatest_steps};
+ghost use Rattle.alma_driver_outcome.specs.Outside.{sink_side, source_side};
+ghost use Rattle.alma_driver_outcome.specs.Outcome.{CodeOutcome, ExecOutcome};
+ghost use Rattle.alma_driver_outcome.specs.Course.{Runs};
+
+use crate::input::run_verified;
+use alma_driver_outcome::{End, Showing};
+use alma_io::{Sink, Source};
+use alma_object::ObjectView;
+use alma_verify::{open_object, verify};
+use std::alloc::Global;
+
+// Verifies the code of a view, and runs it for at most so many steps.
+fn exec_view<I: Source, O: Sink>(
+    alloc: Global,
+    view: ObjectView<'_>,
+    input: &mut I,
+    steps: u64,
+    stats: bool,
+    out: &mut O,
+) -> End
+    requires { steps ≤ greatest_steps }
+    ensures { Runs (CodeOutcome (I.left input.old) (code_of_view view.entry) steps stats)
+        (source_side (I.left input.old) (I.faults input.old))
+        (source_side (I.left input.new) (I.faults input.new))
+        (sink_side (O.written out.old) (O.faults out.old))
+        (sink_side (O.written out.new) (O.faults out.new)) result }
+{
+    match verify(view) {
+        Ok(code) => run_verified(alloc, code, input, steps, Showing::Prints(stats), out),
+        Err(fault) => End::BadCode(fault),
+    }
+}
+
+/// Verifies the code of an object, and runs it for at most so many steps.
+pub fn exec_object<I: Source, O: Sink>(
+    alloc: Global,
+    bytes: &[u8],
+    input: &mut I,
+    steps: u64,
+    stats: bool,
+    out: &mut O,
+) -> End
+    requires { steps ≤ greatest_steps }
+    ensures { Runs (ExecOutcome (I.left input.old) bytes.now steps stats)
+        (source_side (I.left input.old) (I.faults input.old))
+        (source_side (I.left input.new) (I.faults input.new))
+        (sink_side (O.written out.old) (O.faults out.old))
+        (sink_side (O.written out.new) (O.faults out.new)) result }
+{
+    match open_object(bytes) {
+        Ok(view) => exec_view(alloc, view, input, steps, stats, out),
+        Err(fault) => End::BadObject(fault),
+    }
+}

@@ -1,0 +1,125 @@
+// From the words to an end.
+ghost use Rattle.std.specs.Prelude.{◌≡◌, ◌≤◌, Some, length};
+ghost use Rattle.alma_driver_words.specs.Words.{asked, texts};
+ghost use Rattle.alma_driver_words.specs.Limits.{IsWithinLimits};
+ghost use Rattle.alma_driver_outcome.specs.Words.{limit_of, read_by};
+ghost use Rattle.alma_driver_outcome.specs.Outside.{sink_side, source_side, files_side};
+ghost use Rattle.alma_driver_outcome.specs.Outcome.{FileOutcome, RequestOutcome, Outcome};
+ghost use Rattle.alma_driver_outcome.specs.Course.{Serves, Performs};
+
+use crate::compile::compile_source;
+use crate::exec::exec_object;
+use crate::list::list_object;
+use crate::load::check_only;
+use crate::request::{file_read, read_limit};
+use crate::sample::sample;
+use crate::source::{run_source, trace_source};
+use alma_driver_outcome::{End, Showing};
+use alma_driver_words::{Request, read_words};
+use alma_io::{Files, Sink, Source};
+use std::alloc::Global;
+
+// Does what a request asks, with the bytes of the file that it reads.
+fn serve_file<F: Files, I: Source, O: Sink>(
+    alloc: Global,
+    request: &Request<'_>,
+    bytes: &[u8],
+    files: &mut F,
+    input: &mut I,
+    out: &mut O,
+) -> End
+    requires within { IsWithinLimits (asked request.now) }
+    requires short { length bytes.now ≤ limit_of (asked request.now) }
+    ensures fetch_count { F.fetch_faults files.new ≡ F.fetch_faults files.old }
+    ensures course { Serves (FileOutcome (I.left input.old) (asked request.now) bytes.now)
+        (files_side (F.told files.old) (F.fetch_faults files.old) (F.store_faults files.old))
+        (files_side (F.told files.new) (F.fetch_faults files.new) (F.store_faults files.new))
+        (source_side (I.left input.old) (I.faults input.old))
+        (source_side (I.left input.new) (I.faults input.new))
+        (sink_side (O.written out.old) (O.faults out.old))
+        (sink_side (O.written out.new) (O.faults out.new)) result }
+{
+    match request {
+        Request::Check(_) => check_only(alloc, bytes),
+        Request::Compile(_, object) => compile_source(alloc, bytes, object, files),
+        Request::List(_) => list_object(alloc, bytes, out),
+        Request::Run(_, steps, stats) => {
+            run_source(alloc, bytes, input, *steps, Showing::Prints(*stats), out)
+        }
+        Request::Exec(_, steps, stats) => exec_object(alloc, bytes, input, *steps, *stats, out),
+        Request::Trace(_, steps, names) => trace_source(alloc, bytes, input, *steps, names, out),
+        Request::Sample(lines) => sample(alloc, *lines, out),
+    }
+}
+
+// Fetches the file that a request reads, and does what it asks.
+fn serve_named<F: Files, I: Source, O: Sink>(
+    alloc: Global,
+    request: &Request<'_>,
+    file: &str,
+    files: &mut F,
+    input: &mut I,
+    out: &mut O,
+) -> End
+    requires within { IsWithinLimits (asked request.now) }
+    requires read { read_by (asked request.now) ≡ Some file.now }
+    ensures { Performs
+        (RequestOutcome (F.told files.old) (I.left input.old) (asked request.now))
+        (files_side (F.told files.old) (F.fetch_faults files.old) (F.store_faults files.old))
+        (files_side (F.told files.new) (F.fetch_faults files.new) (F.store_faults files.new))
+        (source_side (I.left input.old) (I.faults input.old))
+        (source_side (I.left input.new) (I.faults input.new))
+        (sink_side (O.written out.old) (O.faults out.old))
+        (sink_side (O.written out.new) (O.faults out.new)) result }
+{
+    match files.fetch(alloc, file, read_limit(request)) {
+        Ok(bytes) => serve_file(alloc, request, &bytes, files, input, out),
+        Err(fault) => End::from(fault),
+    }
+}
+
+// Does what a request asks. A sample reads no file.
+fn serve<F: Files, I: Source, O: Sink>(
+    alloc: Global,
+    request: &Request<'_>,
+    files: &mut F,
+    input: &mut I,
+    out: &mut O,
+) -> End
+    requires { IsWithinLimits (asked request.now) }
+    ensures { Performs
+        (RequestOutcome (F.told files.old) (I.left input.old) (asked request.now))
+        (files_side (F.told files.old) (F.fetch_faults files.old) (F.store_faults files.old))
+        (files_side (F.told files.new) (F.fetch_faults files.new) (F.store_faults files.new))
+        (source_side (I.left input.old) (I.faults input.old))
+        (source_side (I.left input.new) (I.faults input.new))
+        (sink_side (O.written out.old) (O.faults out.old))
+        (sink_side (O.written out.new) (O.faults out.new)) result }
+{
+    match file_read(request) {
+        Some(file) => serve_named(alloc, request, file, files, input, out),
+        None => serve_file(alloc, request, b"", files, input, out),
+    }
+}
+
+/// Does what the words ask: the end that it comes to, with all its bytes on `out` where none failed.
+pub fn perform<F: Files, I: Source, O: Sink>(
+    alloc: Global,
+    words: &[String],
+    files: &mut F,
+    input: &mut I,
+    out: &mut O,
+) -> End
+    ensures { Performs (Outcome (texts words.now) (F.told files.old) (I.left input.old))
+        (files_side (F.told files.old) (F.fetch_faults files.old) (F.store_faults files.old))
+        (files_side (F.told files.new) (F.fetch_faults files.new) (F.store_faults files.new))
+        (source_side (I.left input.old) (I.faults input.old))
+        (source_side (I.left input.new) (I.faults input.new))
+        (sink_side (O.written out.old) (O.faults out.old))
+        (sink_side (O.written out.new) (O.faults out.new)) result }
+{
+    match read_words(alloc, words) {
+        Ok(request) => serve(alloc, &request, files, input, out),
+        Err(error) => End::from(error),
+    }
+}

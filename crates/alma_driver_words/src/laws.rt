@@ -1,0 +1,20 @@
+//! Laws of the definitions that the contracts cite: functions without work, whose contracts are the laws.
+ghost use Rattle.std.specs.Prelude.{◌≡◌, List, ℕ};
+ghost use Rattle.alma_driver_words.specs.Words.{Request, Asks, IsBadWord};
+ghost use Rattle.alma_driver_words.specs.Limits.{IsWithinLimits};
+
+/// Words are no two requests, no two words are the first bad one, and words with a bad one are no request.
+pub fn words_have_one_answer()
+    ensures request { (words : List (List ℕ)) (first second : Request) → Asks words first
+        → Asks words second → first ≡ second }
+    ensures bad_word { (words : List (List ℕ)) (j k : ℕ) → IsBadWord words j → IsBadWord words k → j
+        ≡ k }
+    ensures apart { (words : List (List ℕ)) (request : Request) (k : ℕ) → Asks words request
+        → IsBadWord words k → ⊥ }
+{}
+
+/// What words ask for is within the limits.
+pub fn requests_are_within_limits()
+    ensures within { (words : List (List ℕ)) (request : Request) → Asks words request
+        → IsWithinLimits request }
+{}

@@ -1,5 +1,0 @@
-use Rattle.alma_emit_work.proofs.Joins.{on_ok_map}
-use Rattle.alma_emit_parts.proofs.form.put_number.Goals as goal
-
-pub returns : goal.returns
-returns c = on_ok_map c.add.result (λ h. record { b = _; first = c.in_ok-put_fit.ensures; second = h }) c.add.ensures

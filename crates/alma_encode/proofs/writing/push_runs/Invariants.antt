@@ -1,7 +1,0 @@
-use Rattle.std.proofs.Common.{◌≡◌, ◌++◌, take}
-use Rattle.std.specs.List.{flat_map}
-use Rattle.alma_format.specs.Object.{run_bytes}
-use Rattle.alma_encode.proofs.writing.push_runs.Given as goal
-
-abbrev pub invariant-loop-run : goal.invariant-loop-run
-invariant-loop-run l = l.out.items ≡ l.initial.out.items ++ flat_map run_bytes (take l.run-index l.runs)

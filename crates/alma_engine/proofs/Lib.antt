@@ -1,6 +1,0 @@
-pub mod Budget
-pub mod Counting
-pub mod Dashing
-pub mod Fitting
-pub mod Needing
-pub mod Stepping

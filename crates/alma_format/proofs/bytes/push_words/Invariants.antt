@@ -1,6 +1,0 @@
-use Rattle.std.proofs.Common.{◌≡◌, ◌++◌, take}
-use Rattle.alma_format.specs.Bytes.{words_bytes}
-use Rattle.alma_format.proofs.bytes.push_words.Given as goal
-
-abbrev pub invariant-loop-word : goal.invariant-loop-word
-invariant-loop-word l = l.out.items ≡ l.initial.out.items ++ words_bytes (take l.word-index l.words)

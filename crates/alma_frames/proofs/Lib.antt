@@ -1,5 +1,0 @@
-pub mod Carrying
-pub mod Indexed
-pub mod Layouts
-pub mod Rising
-pub mod Stores

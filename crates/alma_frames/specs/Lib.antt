@@ -1,4 +1,0 @@
-pub mod Frames
-pub mod Carries
-pub mod Numbers
-pub mod Counted

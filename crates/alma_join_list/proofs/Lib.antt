@@ -1,3 +1,0 @@
-pub mod Labels
-pub mod Settled
-pub mod Steps

@@ -1,6 +1,0 @@
-use Rattle.std.proofs.Common.{◌≡◌, ◌++◌, flat_map, take}
-use Rattle.alma_list_lines.specs.Spaces.{behind_space}
-use Rattle.alma_list_lines.proofs.line.push_numbers.Given as goal
-
-abbrev pub invariant-loop-number : goal.invariant-loop-number
-invariant-loop-number l = l.text.items ≡ l.fn.text.items ++ flat_map behind_space (take l.number-index l.numbers)

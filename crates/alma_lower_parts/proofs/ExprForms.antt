@@ -1,0 +1,153 @@
+-- What each form of expression adds.
+use Rattle.std.proofs.Common.{◌≡◌, ℕ, ℤ, ◌+◌, Bool, List, [], ◌∷◌, ◌++◌, length, Some, None, refl, sym, ap, ◌∙◌}
+use Rattle.std.specs.Prelude.{Option}
+use Rattle.alma_code.specs.declared.cell.SlotKind.TheVariants as slot
+use Rattle.alma_code.specs.declared.instr.Instr.TheVariants as I
+use Rattle.alma_ir.specs.declared.phrase.Op.{Op}
+use Rattle.alma_ir.specs.declared.phrase.Cmp.{Cmp}
+use Rattle.alma_ir.specs.Tree.{Expr, Links, Desig, Const, Load, Chain, Compare, Known, Chr, no_links, more_links}
+use Rattle.alma_ir.specs.Phrases.{stmts_phrases, expr_phrases, links_phrases}
+use Rattle.alma_ir.specs.Lines.{behind, stmts_with, expr_with, links_with, desig_with}
+use Rattle.alma_ir.proofs.LinesBack.{behind_two}
+use Rattle.alma_lower_work.specs.declared.stand.Stand.{Stand}
+use Rattle.alma_lower_work.specs.Front.{Around, Front, Codes, Takes}
+use Rattle.alma_lower_work.specs.Puts.{PutsExpr, PutsValue, PutsLinks, PutsDesig, PutsTarget, stand_by, stand_of, value_slot, load_instr}
+use Rattle.alma_lower_work.proofs.Joins.{nothing, then_adds, adds_as, adds_code, only_code, slot_adds}
+use Rattle.alma_lower_parts.proofs.With.{own_desig, own_expr, own_desig_passes, own_expr_passes}
+use Rattle.alma_lower_templates.specs.Lined.{own, in_row}
+use Rattle.alma_lower_templates.specs.Tables.{range_number}
+use Rattle.alma_lower_templates.specs.Slots.{bare_desig, bare, unless_bare, expr_slots, desig_slots}
+use Rattle.alma_lower_templates.specs.Pieces.{op_code, cmp_code, neg_code}
+use Rattle.alma_lower_templates.specs.Templates as T
+
+module _ (s : Around) (line : ℕ) where
+  pub const_put : (a b c : Front) (to : ℕ) (n : ℤ) → Takes a b slot.Number → to ≡ a.next → Codes b c (own line (I.Const to n ∷ [])) → PutsExpr s line a c (Const n)
+  unfolding stmts_with stmts_phrases
+  const_put a b c to n h is j = record { all = adds_as a c _ _ _ _ _ _ (slot_adds a b c _ _ _ _ h (only_code b c _ j)) (ap (λ m. own line (I.Const m n ∷ [])) is) refl refl }
+
+  -- ---- values that are used at once
+
+  pub own_value_put : (a : Front) (e : Expr) (from : ℕ) → bare e ≡ Some from → PutsValue s line a a e
+  own_value_put a e from h = record {
+    all = adds_as a a _ _ _ _ _ _ (nothing a)
+        (sym (ap (λ o. unless_bare o (T.expr_code s.program s.tables s.routine line (length a.code) a.next (expr_with e a.lines))) (own_expr e a.lines ∙ h)))
+        (sym (ap (λ o. unless_bare o (expr_slots s.program s.routine (expr_with e a.lines))) (own_expr e a.lines ∙ h)))
+        (sym (own_expr_passes e from a.lines h));
+  }
+
+  pub own_value_slot : (lo : ℕ) (ls : List ℕ) (e : Expr) (from : ℕ) → bare e ≡ Some from → value_slot s lo (expr_with e ls) ≡ T.own_slot s.program s.tables s.routine from
+  own_value_slot lo ls e from h = ap (λ o. T.slot_or s.program s.tables s.routine o lo) (own_expr e ls ∙ h)
+
+  pub made_value_put : (a b : Front) (e : Expr) → bare e ≡ None → PutsExpr s line a b e → PutsValue s line a b e
+  made_value_put a b e h j = record {
+    all = adds_as a b _ _ _ _ _ _ j.all
+        (sym (ap (λ o. unless_bare o (T.expr_code s.program s.tables s.routine line (length a.code) a.next (expr_with e a.lines))) (own_expr e a.lines ∙ h)))
+        (sym (ap (λ o. unless_bare o (expr_slots s.program s.routine (expr_with e a.lines))) (own_expr e a.lines ∙ h)))
+        refl;
+  }
+
+  pub made_value_slot : (lo : ℕ) (ls : List ℕ) (e : Expr) → bare e ≡ None → value_slot s lo (expr_with e ls) ≡ lo
+  made_value_slot lo ls e h = ap (λ o. T.slot_or s.program s.tables s.routine o lo) (own_expr e ls ∙ h)
+
+  -- ---- variables
+
+  pub own_target_put : (a : Front) (d : Desig) (from : ℕ) → bare_desig d ≡ Some from → PutsTarget s line a a d
+  own_target_put a d from h = record {
+    all = adds_as a a _ _ _ _ _ _ (nothing a)
+        (sym (ap (λ o. unless_bare o (T.desig_code s.program s.tables s.routine line (length a.code) a.next (desig_with d a.lines))) (own_desig d a.lines ∙ h)))
+        (sym (ap (λ o. unless_bare o (desig_slots s.program s.routine (desig_with d a.lines))) (own_desig d a.lines ∙ h)))
+        (sym (own_desig_passes d from a.lines h));
+  }
+
+  pub made_target_put : (a b : Front) (d : Desig) → bare_desig d ≡ None → PutsDesig s line a b d → PutsTarget s line a b d
+  made_target_put a b d h j = record {
+    all = adds_as a b _ _ _ _ _ _ j.all
+        (sym (ap (λ o. unless_bare o (T.desig_code s.program s.tables s.routine line (length a.code) a.next (desig_with d a.lines))) (own_desig d a.lines ∙ h)))
+        (sym (ap (λ o. unless_bare o (desig_slots s.program s.routine (desig_with d a.lines))) (own_desig d a.lines ∙ h)))
+        refl;
+  }
+
+  pub own_stand_of : (lo : ℕ) (ls : List ℕ) (d : Desig) (from : ℕ) → bare_desig d ≡ Some from → stand_of s lo (desig_with d ls) ≡ stand_by s (Some from) 0
+  own_stand_of lo ls d from h = ap (λ o. stand_by s o (T.place_at s.program s.tables s.routine lo (desig_with d ls))) (own_desig d ls ∙ h)
+
+  pub made_stand_of : (lo : ℕ) (ls : List ℕ) (d : Desig) → bare_desig d ≡ None → stand_of s lo (desig_with d ls) ≡ stand_by s None (T.place_at s.program s.tables s.routine lo (desig_with d ls))
+  made_stand_of lo ls d h = ap (λ o. stand_by s o (T.place_at s.program s.tables s.routine lo (desig_with d ls))) (own_desig d ls ∙ h)
+
+  load_by : (o : Option ℕ) (to place : ℕ) (d : Desig) → T.place_at s.program s.tables s.routine (to + 1) d ≡ place → load_instr (stand_by s o place) to ≡ T.load_by s.program s.tables s.routine o to d
+  load_by (Some from) to place d h = refl
+  load_by None to place d h = ap (λ n. I.Load to n) (sym h)
+
+  -- the number of a variable
+  pub load_put : (a b c d : Front) (x : Desig) (to : ℕ) (stand : Stand) → Takes a b slot.Number → to ≡ a.next → PutsTarget s line b c x → stand ≡ stand_of s b.next (desig_with x b.lines)
+      → Codes c d (own line (load_instr stand to ∷ [])) → PutsExpr s line a d (Load x)
+  unfolding stmts_with stmts_phrases
+  load_put a b c d x to stand h is j is2 k =
+      let ls = a.lines in
+      let y = desig_with x ls in
+      let same : stand_of s b.next (desig_with x b.lines) ≡ stand_of s (a.next + 1) y = ap (λ n. stand_of s n (desig_with x b.lines)) h.next_slot ∙ ap (λ n. stand_of s (a.next + 1) (desig_with x n)) h.left in
+      let instr : load_instr stand to ≡ T.load_code s.program s.tables s.routine a.next y = ap (λ n. load_instr n to) (is2 ∙ same) ∙ ap (load_instr (stand_of s (a.next + 1) y)) is
+      ∙ load_by (bare_desig y) a.next (T.place_at s.program s.tables s.routine (a.next + 1) y) y refl in
+      record {
+        all = adds_as a d _ _ _ _ _ _ (slot_adds a b d _ _ _ _ h (adds_code b c d _ _ _ _ j.all k))
+            (ap (λ i. unless_bare (bare_desig y) (T.desig_code s.program s.tables s.routine line (length a.code) (a.next + 1) y) ++ own line (i ∷ [])) instr) refl refl;
+      }
+
+  -- ---- operators
+
+  pub no_links_put : (a : Front) (to : ℕ) → PutsLinks s line to a a no_links
+  unfolding stmts_with stmts_phrases
+  no_links_put a to = record { all = adds_as a a _ _ _ _ _ _ (nothing a) refl refl refl }
+
+  pub links_put : (a b c d : Front) (to operand : ℕ) (op : Op) (e : Expr) (rest : Links) → PutsValue s line a b e → operand ≡ value_slot s a.next (expr_with e a.lines)
+      → Codes b c (own line (op_code op to operand ∷ [])) → PutsLinks s line to c d rest → PutsLinks s line to a d (more_links op e rest)
+  unfolding stmts_with stmts_phrases
+  links_put a b c d to operand op e rest h is j k =
+      let all = then_adds a c d _ _ _ _ _ _ (adds_code a b c _ _ _ _ h.all j) k.all in
+      let value = unless_bare (bare (expr_with e a.lines)) (T.expr_code s.program s.tables s.routine line (length a.code) a.next (expr_with e a.lines)) in
+      record {
+        all = adds_as a d _ _ _ _ _ _ all
+            (ap (λ n. in_row (length a.code) (value ++ own line (op_code op to n ∷ [])) (λ next. T.links_code s.program s.tables s.routine line next to (a.next + length (unless_bare (bare (expr_with e a.lines)) (expr_slots s.program s.routine (expr_with e a.lines)))) (links_with rest (behind (expr_phrases e) a.lines)))) is)
+            refl (sym (behind_two (expr_phrases e) (links_phrases rest) a.lines));
+      }
+
+  pub chain_put : (a b c d : Front) (to : ℕ) (negated : Bool) (e : Expr) (links : Links) → PutsExpr s line a b e → to ≡ a.next → Codes b c (own line (neg_code negated to))
+      → PutsLinks s line to c d links → PutsExpr s line a d (Chain negated e links)
+  unfolding stmts_with stmts_phrases
+  chain_put a b c d to negated e links h is j k =
+      let all = then_adds a c d _ _ _ _ _ _ (adds_code a b c _ _ _ _ h.all j) k.all in
+      let first = T.expr_code s.program s.tables s.routine line (length a.code) a.next (expr_with e a.lines) in
+      record {
+        all = adds_as a d _ _ _ _ _ _ all
+            (ap (λ n. in_row (length a.code) (first ++ own line (neg_code negated n)) (λ next. T.links_code s.program s.tables s.routine line next n (a.next + length (expr_slots s.program s.routine (expr_with e a.lines))) (links_with links (behind (expr_phrases e) a.lines)))) is)
+            refl (sym (behind_two (expr_phrases e) (links_phrases links) a.lines));
+      }
+
+  pub compare_put : (a b c d : Front) (to other : ℕ) (how : Cmp) (x y : Expr) → PutsExpr s line a b x → to ≡ a.next → PutsValue s line b c y → other ≡ value_slot s b.next (expr_with y b.lines)
+      → Codes c d (own line (cmp_code how to other)) → PutsExpr s line a d (Compare how x y)
+  unfolding stmts_with stmts_phrases
+  compare_put a b c d to other how x y h is j is2 k =
+      let ls = behind (expr_phrases x) a.lines in
+      let lo = a.next + length (expr_slots s.program s.routine (expr_with x a.lines)) in
+      let there : other ≡ value_slot s lo (expr_with y ls) = is2 ∙ ap (λ n. value_slot s n (expr_with y b.lines)) h.all.next_slot ∙ ap (λ n. value_slot s lo (expr_with y n)) h.all.left in
+      let all = adds_code a c d _ _ _ _ (then_adds a b c _ _ _ _ _ _ h.all j.all) k in
+      let both = in_row (length a.code) (T.expr_code s.program s.tables s.routine line (length a.code) a.next (expr_with x a.lines)) (λ next. unless_bare (bare (expr_with y ls)) (T.expr_code s.program s.tables s.routine line next lo (expr_with y ls))) in
+      record { all = adds_as a d _ _ _ _ _ _ all (ap (λ n. both ++ own line (cmp_code how n other)) is ∙ ap (λ n. both ++ own line (cmp_code how a.next n)) there) refl (sym (behind_two (expr_phrases x) (expr_phrases y) a.lines)) }
+
+  pub known_put : (a b c d : Front) (x : Desig) (to place : ℕ) → Takes a b slot.Number → to ≡ a.next → PutsDesig s line b c x → place ≡ T.place_at s.program s.tables s.routine b.next (desig_with x b.lines)
+      → Codes c d (own line (I.Known to place ∷ [])) → PutsExpr s line a d (Known x)
+  unfolding stmts_with stmts_phrases
+  known_put a b c d x to place h is j is2 k =
+      let y = desig_with x a.lines in
+      let there : place ≡ T.place_at s.program s.tables s.routine (a.next + 1) y = is2 ∙ ap (λ n. T.place_at s.program s.tables s.routine n (desig_with x b.lines)) h.next_slot ∙ ap (λ n. T.place_at s.program s.tables s.routine (a.next + 1) (desig_with x n)) h.left in
+      let code = T.desig_code s.program s.tables s.routine line (length a.code) (a.next + 1) y in
+      record {
+        all = adds_as a d _ _ _ _ _ _ (slot_adds a b d _ _ _ _ h (adds_code b c d _ _ _ _ j.all k))
+            (ap (λ n. code ++ own line (I.Known n place ∷ [])) is ∙ ap (λ n. code ++ own line (I.Known a.next n ∷ [])) there) refl refl;
+      }
+
+  pub chr_put : (a b c : Front) (e : Expr) (to range : ℕ) → PutsExpr s line a b e → to ≡ a.next → range ≡ range_number s.tables T.char_range
+      → Codes b c (own line (I.InRange to range ∷ [])) → PutsExpr s line a c (Chr e)
+  unfolding stmts_with stmts_phrases
+  chr_put a b c e to range h is is2 k =
+      let code = T.expr_code s.program s.tables s.routine line (length a.code) a.next (expr_with e a.lines) in
+      record { all = adds_as a c _ _ _ _ _ _ (adds_code a b c _ _ _ _ h.all k) (ap (λ n. code ++ own line (I.InRange n range ∷ [])) is ∙ ap (λ n. code ++ own line (I.InRange a.next n ∷ [])) is2) refl refl }

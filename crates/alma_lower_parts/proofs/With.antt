@@ -1,0 +1,120 @@
+-- Phrases with lines have the form of the phrases without.
+use Rattle.std.proofs.Common.{◌≡◌, ℕ, true, false, List, ◌∷◌, Some, refl, ap, ◌∙◌}
+use Rattle.std.specs.Prelude.{◌&&◌}
+use Rattle.alma_code.specs.declared.cell.SlotKind.TheVariants as slot
+use Rattle.alma_ir.specs.declared.phrase.Root.TheVariants as root
+use Rattle.alma_ir.specs.Tree.{Test, Expr, Links, Args, Arg, Desig, Sels, Sel, Value, Bind, Unify, SameCells, Seq, And, Or, Not, CallTest, Const, Load, Chain, Compare, Truth, Known, Chr, CallExpr, no_links, more_links, no_args, more_args, ByValue, ByCells, ByPlace, MixValue, MixPlace, a_desig, no_sels, more_sels, Field, Index}
+use Rattle.alma_ir.specs.Phrases.{stmts_phrases, expr_phrases, desig_phrases, sel_phrases, arg_phrases}
+use Rattle.alma_ir.specs.Lines.{behind, stmts_with, test_with, expr_with, links_with, args_with, arg_with, desig_with, sels_with, sel_with}
+use Rattle.alma_lower_templates.specs.Slots.{bare_desig, bare, is_simple_expr, are_simple_links, is_simple_desig, are_simple_sels, is_simple_sel, is_simple, cells_behind, desig_cells, arg_kind, handed_slots}
+
+-- ---- variables that stand in their own slots
+
+pub own_desig : (d : Desig) (ls : List ℕ) → bare_desig (desig_with d ls) ≡ bare_desig d
+unfolding stmts_with
+own_desig (a_desig (root.Local from) cells no_sels) ls = refl
+own_desig (a_desig (root.Local from) cells (more_sels x rest)) ls = refl
+own_desig (a_desig (root.Global from) cells sels) ls = refl
+own_desig (a_desig (root.Param from) cells sels) ls = refl
+own_desig (a_desig (root.Outer links from) cells sels) ls = refl
+own_desig (a_desig (root.OuterParam links from) cells sels) ls = refl
+
+pub own_expr : (e : Expr) (ls : List ℕ) → bare (expr_with e ls) ≡ bare e
+unfolding stmts_with
+own_expr (Const n) ls = refl
+own_expr (Load d) ls = own_desig d ls
+own_expr (Chain negated e links) ls = refl
+own_expr (Compare how x y) ls = refl
+own_expr (Truth t) ls = refl
+own_expr (Known d) ls = refl
+own_expr (Chr e) ls = refl
+own_expr (CallExpr r args up) ls = refl
+
+-- such a variable has no line inside
+pub own_desig_passes : (d : Desig) (from : ℕ) (ls : List ℕ) → bare_desig d ≡ Some from → behind (desig_phrases d) ls ≡ ls
+unfolding stmts_phrases
+own_desig_passes (a_desig (root.Local x) cells no_sels) from ls h = refl
+own_desig_passes (a_desig (root.Local x) cells (more_sels y rest)) from ls h = absurd (cc)
+own_desig_passes (a_desig (root.Global x) cells sels) from ls h = absurd (cc)
+own_desig_passes (a_desig (root.Param x) cells sels) from ls h = absurd (cc)
+own_desig_passes (a_desig (root.Outer links x) cells sels) from ls h = absurd (cc)
+own_desig_passes (a_desig (root.OuterParam links x) cells sels) from ls h = absurd (cc)
+
+pub own_expr_passes : (e : Expr) (from : ℕ) (ls : List ℕ) → bare e ≡ Some from → behind (expr_phrases e) ls ≡ ls
+unfolding stmts_phrases
+own_expr_passes (Const n) from ls h = absurd (cc)
+own_expr_passes (Load d) from ls h = own_desig_passes d from ls h
+own_expr_passes (Chain negated e links) from ls h = absurd (cc)
+own_expr_passes (Compare how x y) from ls h = absurd (cc)
+own_expr_passes (Truth t) from ls h = absurd (cc)
+own_expr_passes (Known d) from ls h = absurd (cc)
+own_expr_passes (Chr e) from ls h = absurd (cc)
+own_expr_passes (CallExpr r args up) from ls h = absurd (cc)
+
+-- ---- simple conditions
+
+mutual
+  unfolding stmts_with
+
+  pub simple_expr : (e : Expr) (ls : List ℕ) → is_simple_expr (expr_with e ls) ≡ is_simple_expr e
+  simple_expr (Const n) ls = refl
+  simple_expr (Load d) ls = simple_desig d ls
+  simple_expr (Chain negated e links) ls = ap (λ b. b && are_simple_links (links_with links (behind (expr_phrases e) ls))) (simple_expr e ls) ∙ ap (λ b. is_simple_expr e && b) (simple_links links (behind (expr_phrases e) ls))
+  simple_expr (Compare how x y) ls = ap (λ b. b && is_simple_expr (expr_with y (behind (expr_phrases x) ls))) (simple_expr x ls) ∙ ap (λ b. is_simple_expr x && b) (simple_expr y (behind (expr_phrases x) ls))
+  simple_expr (Truth t) ls = refl
+  simple_expr (Known d) ls = simple_desig d ls
+  simple_expr (Chr e) ls = simple_expr e ls
+  simple_expr (CallExpr r args up) ls = refl
+
+  simple_links : (links : Links) (ls : List ℕ) → are_simple_links (links_with links ls) ≡ are_simple_links links
+  simple_links no_links ls = refl
+  simple_links (more_links how e rest) ls = ap (λ b. b && are_simple_links (links_with rest (behind (expr_phrases e) ls))) (simple_expr e ls) ∙ ap (λ b. is_simple_expr e && b) (simple_links rest (behind (expr_phrases e) ls))
+
+  simple_desig : (d : Desig) (ls : List ℕ) → is_simple_desig (desig_with d ls) ≡ is_simple_desig d
+  simple_desig (a_desig root cells sels) ls = simple_sels sels ls
+
+  simple_sels : (sels : Sels) (ls : List ℕ) → are_simple_sels (sels_with sels ls) ≡ are_simple_sels sels
+  simple_sels no_sels ls = refl
+  simple_sels (more_sels x rest) ls = ap (λ b. b && are_simple_sels (sels_with rest (behind (sel_phrases x) ls))) (simple_sel x ls) ∙ ap (λ b. is_simple_sel x && b) (simple_sels rest (behind (sel_phrases x) ls))
+
+  simple_sel : (x : Sel) (ls : List ℕ) → is_simple_sel (sel_with x ls) ≡ is_simple_sel x
+  simple_sel (Field offset cells) ls = refl
+  simple_sel (Index e range cells) ls = simple_expr e ls
+
+pub simple_test : (t : Test) (ls : List ℕ) → is_simple (test_with t ls) ≡ is_simple t
+unfolding stmts_with
+simple_test (Value e) ls = simple_expr e ls
+simple_test (Bind d e range true) ls = refl
+simple_test (Bind d e range false) ls = refl
+simple_test (Unify d range e range2) ls = refl
+simple_test (SameCells d e) ls = refl
+simple_test (Seq x) ls = refl
+simple_test (And ts) ls = refl
+simple_test (Or ts) ls = refl
+simple_test (Not t) ls = refl
+simple_test (CallTest r args up) ls = refl
+
+-- ---- arguments
+
+behind_cells : (sels : Sels) (cells : ℕ) (ls : List ℕ) → cells_behind cells (sels_with sels ls) ≡ cells_behind cells sels
+unfolding stmts_with
+behind_cells no_sels cells ls = refl
+behind_cells (more_sels (Field offset part) rest) cells ls = behind_cells rest part (behind (sel_phrases (Field offset part)) ls)
+behind_cells (more_sels (Index e range part) rest) cells ls = behind_cells rest part (behind (sel_phrases (Index e range part)) ls)
+
+pub same_cells : (d : Desig) (ls : List ℕ) → desig_cells (desig_with d ls) ≡ desig_cells d
+unfolding stmts_with
+same_cells (a_desig root cells sels) ls = behind_cells sels cells ls
+
+same_arg : (x : Arg) (ls : List ℕ) → arg_kind (arg_with x ls) ≡ arg_kind x
+unfolding stmts_with
+same_arg (ByValue e range) ls = refl
+same_arg (ByCells d) ls = ap slot.Place (same_cells d ls)
+same_arg (ByPlace d) ls = ap slot.Place (same_cells d ls)
+same_arg (MixValue e range) ls = refl
+same_arg (MixPlace d) ls = ap slot.Place (same_cells d ls)
+
+pub same_handed : (args : Args) (ls : List ℕ) → handed_slots (args_with args ls) ≡ handed_slots args
+unfolding stmts_with
+same_handed no_args ls = refl
+same_handed (more_args x rest) ls = ap (λ k. k ∷ handed_slots (args_with rest (behind (arg_phrases x) ls))) (same_arg x ls) ∙ ap (λ l. arg_kind x ∷ l) (same_handed rest (behind (arg_phrases x) ls))

@@ -1,0 +1,38 @@
+//! Parts of templates, and forms that are put whole.
+#![tactic(auto)]
+
+mod call;
+mod case;
+mod choice;
+mod form;
+mod label;
+mod leaf;
+mod loops;
+mod pass;
+
+pub use alma_lower_work::{
+    Scene, Stand, Work, is_simple, op_instr, own_stand, own_value, put_cmp, put_fit, put_function,
+    put_links, put_neg, put_result_fit, put_root, put_truth, read_instr, slot_of, write_instr,
+};
+pub use call::{Handed, begin_call, first_handed, put_call_link, take_handed, take_result};
+pub use case::{
+    Labels, Miss, end_arm, end_dead, has_dead, put_label, put_last_label, take_labels,
+    then_take_labels,
+};
+pub use choice::{
+    begin_commit, begin_each, begin_first, begin_forall, end_both, end_each, end_first, end_forall,
+    end_not, then_begin_each,
+};
+pub use form::{
+    begin_place, begin_while, end_repeat, end_truth, put_bind, put_chr, put_index, put_number,
+    put_read, put_return, put_set, put_unify,
+};
+pub use label::put_labels;
+pub use leaf::{
+    emit_const, emit_field, emit_line, emit_text, is_plain, slot_behind, slot_past, stand_at,
+};
+pub use loops::{
+    Aims, Bounds, Counts, begin_for, begin_some, end_for, end_some, put_bounds, put_count,
+    put_counts, put_more, put_next, put_step,
+};
+pub use pass::{begin_loop, pass_desig, pass_stmts, pass_unlabelled};

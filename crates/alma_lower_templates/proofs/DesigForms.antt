@@ -1,0 +1,175 @@
+-- Selectors and designators, from template to run: each selector takes a part of the place before it.
+use Rattle.std.proofs.Common.{◌≡◌, ℕ, ◌+◌, ◌*◌, ◌<◌, ◌≤◌, Bool, true, false, List, [], ◌∷◌, ◌++◌, length, get_or, Some, refl, subst, arith, ℤ, ◌-ℤ◌}
+use Rattle.std.specs.Prelude.{slice_get, nat_abs}
+use Rattle.std.proofs.lemmas.List.{length-append}
+use Rattle.alma_base.specs.declared.fault.RunFault.TheVariants as fault
+use Rattle.alma_base.specs.declared.number.Range.{Range}
+use Rattle.alma_base.specs.Numbers.{within, range_size}
+use Rattle.alma_code.proofs.Ranges.{offset_within}
+use Rattle.alma_code.specs.declared.cell.CellPlace.{CellPlace}
+use Rattle.alma_code.specs.declared.cell.SlotKind.TheVariants as slot
+use Rattle.alma_code.specs.declared.instr.Instr.TheVariants as I
+use Rattle.alma_code.specs.Picture.{PlainFrame}
+use Rattle.alma_code.specs.Picture as picture
+use Rattle.alma_code.specs.Plain.{PlainCode, kinds_at}
+use Rattle.alma_ir.specs.declared.phrase.Root.{Root}
+use Rattle.alma_ir.specs.Tree.{Program, Expr, Sels, Sel, a_desig, no_sels, more_sels, Field, Index, routine_at}
+use Rattle.alma_ir.specs.Checked.{IsNested, sel_cells, cells_after}
+use Rattle.alma_mean.specs.Store.{Store, Place, part}
+use Rattle.alma_mean.specs.Events.{one, bind}
+use Rattle.alma_mean.specs.Arithmetic.{fault_unless}
+use Rattle.alma_mean.specs.Rows.{root_place, index_place}
+use Rattle.alma_mean.specs.Meaning.{Level, ev_expr, ev_desig, ev_sels, ev_sel}
+use Rattle.alma_lower_implements.proofs.Frames.{shift_in, own_end, AreNumbers, SamePlace, HasSlots}
+use Rattle.alma_lower_implements.proofs.ExprRows.{first_kind, slots_first, slots_behind}
+use Rattle.alma_lower_implements.proofs.Steps.{InstrAt}
+use Rattle.alma_lower_templates.specs.Lined.{Lined, own}
+use Rattle.alma_lower_templates.specs.Tables.{Tables, range_number}
+use Rattle.alma_lower_templates.specs.Slots.{bare, unless_bare, expr_slots, root_slots, sels_slots, sel_slots, desig_slots, behind_value}
+use Rattle.alma_lower_templates.specs.Templates.{expr_code, sels_code, sel_code, root_code, value_at, part_slot, part_at, behind_root}
+use Rattle.alma_lower_templates.specs.Stands.{Stands}
+use Rattle.alma_lower_templates.proofs.Stands.{stands_front, stands_back}
+use Rattle.alma_lower_templates.proofs.Parts.{Begins, begins, has_kind, place_after, IsPlace, IsValue, PlaceIn, NodeRuns, From, leaving, from_more, from_lower, node_runs, then_from, faults_here, ends_here, place_goes_on}
+use Rattle.alma_lower_templates.proofs.AtOnce.{AtOnce, at_once}
+use Rattle.alma_lower_templates.proofs.PlaceSteps.{field_step, index_reads, index_step, index_faults}
+use Rattle.alma_lower_templates.proofs.RootForms.{RootFits, root_from}
+use Rattle.alma_lower_templates.proofs.FormRuns.{DesigRuns, HasRange}
+
+module _ (p : Program) (code : PlainCode) (input : List ℕ) where
+  -- a part of a place
+  pub part_numbers : (v : Store) (now : List PlainFrame) (a : Place) (offset n : ℕ) → ((k : ℕ) → k < n → offset + k < a.size) → AreNumbers p code v now a → AreNumbers p code v now (part a offset n)
+  part_numbers v now a offset n room h = record {
+    frame = h.frame;
+    cells = λ k lt. omega (arith, h.cells (offset + k) (room k lt));
+    kinds = λ k lt.
+        let e : a.slot + (offset + k) ≡ a.slot + offset + k = omega arith in
+        subst (λ i. get_or (get_or now a.frame picture.no_frame).kinds (shift_in p v a.frame + i) slot.Mark ≡ slot.Number) e (h.kinds (offset + k) (room k lt));
+    free = λ e. omega (arith, h.free e);
+  }
+
+  pub part_same : (v : Store) (a : Place) (c : CellPlace) (offset n : ℕ) → SamePlace p v a c → SamePlace p v (part a offset n) (record { frame = c.frame; slot = c.slot + offset; len = n })
+  part_same v a c offset n h = record { frame = h.frame; slot = omega (arith, h.slot); size = refl }
+
+module _ (p : Program) (tables : Tables) (code : PlainCode) (input : List ℕ) (below : Level) (r line q : ℕ) where
+  -- ---- one selector
+
+  -- it takes a part of any place of so many cells that stands in the slot `from`
+  abbrev pub SelRuns : (at from lo size : ℕ) → Sel → Type 0
+  SelRuns at from lo size x =
+      Stands code at (sel_code p tables r line at from lo x) → (v : Store) (now : List PlainFrame) (a : Place) → Begins p code input r v now → IsPlace p code input from size v a now
+      → NodeRuns p code input line at (at + length (sel_code p tables r line at from lo x)) now (leaving p code input lo r now (PlaceIn p code input (part_slot p tables r lo x) (sel_cells x))) (ev_sel p input below x a v) q
+
+  pub field_runs : (at from lo size offset cells : ℕ) → HasSlots p code r lo (slot.Place cells ∷ []) → offset + cells ≤ size → SelRuns at from lo size (Field offset cells)
+  unfolding ev_expr
+  field_runs at from lo size offset cells slots room stands v now a b place =
+      let kind = first_kind p code input r lo (slot.Place cells) [] slots in
+      let c : CellPlace = place.place in
+      let m : CellPlace = record { frame = c.frame; slot = c.slot + offset; len = cells } in
+      let w = leaving p code input lo r now (PlaceIn p code input lo cells) in
+      node_runs p code input line 8 at (at + 1) now w (one v (part a offset cells)) q (omega arith)
+      (place_goes_on p code input line 7 at (at + 1) lo r lo cells v now (part a offset cells) m (PlaceIn p code input lo cells) (one v (part a offset cells)) q slots.behind (omega arith) kind b
+      (part_numbers p code input v now a offset cells (λ k lt. omega (arith, lt, room, place.sized)) place.numbers) refl (part_same p code input v a c offset cells place.same)
+      (λ held s is. field_step code input line at now held s is lo from offset cells c (record { instr = stands.0; on_line = stands.1 }) (has_kind p code input r lo v now (slot.Place cells) kind b) place.holds)
+      (λ t left there. ends_here p code input line 7 (at + 1) lo r v t (PlaceIn p code input lo cells) (part a offset cells) q (begins p code input lo r now v t left) there))
+
+  pub index_runs : (at from lo size cells : ℕ) (x : Expr) (range : Range) → from < lo → own_end p r ≤ from → HasRange p tables code input below r line q range → range_size range * cells ≤ size
+      → HasSlots p code r lo (sel_slots p r (Index x range cells)) → AtOnce p tables code input below r line q at lo x → SelRuns at from lo size (Index x range cells)
+  unfolding ev_expr
+  index_runs at from lo size cells x range lt behind has room slots once stands v now a b place =
+      let inner : List Lined = unless_bare (bare x) (expr_code p tables r line at lo x) in
+      let m : ℕ = at + length inner in
+      let to : ℕ = behind_value p r lo x in
+      let operand : ℕ = value_at p tables r lo x in
+      let n : ℕ = range_number tables range in
+      let last : List Lined = own line (I.Index to from operand n ∷ []) in
+      let back = stands_back code at inner last stands in
+      let i : InstrAt code input line m (I.Index to from operand n) = record { instr = back.0; on_line = back.1 } in
+      let whole : length (inner ++ last) ≡ length inner + 1 = length-append inner last in
+      let end : m + 1 ≡ at + length (inner ++ last) = omega (arith, whole) in
+      let kind : slice_get (kinds_at code r) to ≡ Some (slot.Place cells) = first_kind p code input r to (slot.Place cells) [] (slots_behind p code input r lo (unless_bare (bare x) (expr_slots p r x)) (slot.Place cells ∷ []) slots) in
+      let yields = PlaceIn p code input to cells in
+      subst (λ e. NodeRuns p code input line at e now (leaving p code input lo r now yields) (ev_sel p input below (Index x range cells) a v) q) end
+      (node_runs p code input line 0 at (m + 1) now (leaving p code input lo r now yields) (bind (ev_expr p input below x v) (λ t k. index_place t a k range cells)) q (omega arith)
+      (at_once p tables code input below r line q (m + 1) lo lo at v now yields (λ t k. index_place t a k range cells) (omega arith) slots.behind b x once
+      (stands_front code at inner last stands) i.on_line (λ held s is. (_, index_reads code input line m now held s is to from operand n place.place range i has place.holds))
+      (λ u k t left value.
+      let b1 = begins p code input lo r now u t left in
+      let there : IsPlace p code input from size u a t = place_after p code input lo r from size a v u now t b behind lt left place in
+      ends m to operand n k u t a (omega arith) b1 there kind i has room value (within range k) refl)))
+    where
+      ends : (m to operand n : ℕ) (k : ℤ) (u : Store) (t : List PlainFrame) (a : Place) → lo ≤ to → Begins p code input r u t → (there : IsPlace p code input from size u a t) → slice_get (kinds_at code r) to ≡ Some (slot.Place cells) → InstrAt code input line m (I.Index to from operand n) → slice_get code.ranges n ≡ Some range
+          → range_size range * cells ≤ size → IsValue p code input operand k t → (z : Bool) → within range k ≡ z
+          → From p code input line 8 m (m + 1) t (leaving p code input lo r t (PlaceIn p code input to cells)) (fault_unless fault.Index z (λ _. one u (part a (nat_abs (k -ℤ range.low) * cells) cells))) q
+      ends m to operand n k u t a le b1 there kind i has room value false out =
+          faults_here p code input line 7 m (m + 1) t (leaving p code input lo r t (PlaceIn p code input to cells)) fault.Index q
+          (λ held s is. index_faults code input line m t held s is to from operand n cells there.place range k i has there.holds value.holds out)
+      ends m to operand n k u t a le b1 there kind i has room value true in_it =
+          let offset : ℕ = nat_abs (k -ℤ range.low) * cells in
+          let c : CellPlace = there.place in
+          place_goes_on p code input line 7 m (m + 1) lo r to cells u t (part a offset cells) (record { frame = c.frame; slot = c.slot + offset; len = cells }) (PlaceIn p code input to cells) (one u (part a offset cells)) q slots.behind le kind b1
+          (part_numbers p code input u t a offset cells (λ j lt2. offset_within range.low k range.high cells j a.size in_it (omega (arith, room, there.sized)) lt2) there.numbers) refl (part_same p code input u a c offset cells there.same)
+          (λ held s is. index_step code input line m t held s is to from operand n cells c range k i has there.holds value.holds (has_kind p code input r to u t (slot.Place cells) kind b1) in_it)
+          (λ t2 left2 place2. ends_here p code input line 7 (m + 1) lo r u t2 (PlaceIn p code input to cells) (part a offset cells) q (begins p code input lo r t u t2 left2) place2)
+
+  -- ---- selectors in order
+
+  abbrev pub SelsRun : (at from lo size : ℕ) → Sels → Type 0
+  SelsRun at from lo size sels =
+      Stands code at (sels_code p tables r line at from lo sels) → (v : Store) (now : List PlainFrame) (a : Place) → Begins p code input r v now → IsPlace p code input from size v a now
+      → From p code input line 0 at (at + length (sels_code p tables r line at from lo sels)) now (leaving p code input lo r now (PlaceIn p code input (part_at p tables r from lo sels) (cells_after sels size))) (ev_sels p input below sels a v) q
+
+  pub no_sels_run : (at from lo size : ℕ) → SelsRun at from lo size no_sels
+  unfolding ev_expr
+  no_sels_run at from lo size stands v now a b place =
+      let zero : at ≡ at + 0 = omega arith in
+      subst (λ n. From p code input line 0 at n now (leaving p code input lo r now (PlaceIn p code input from size)) (one v a) q) zero
+      (ends_here p code input line 0 at lo r v now (PlaceIn p code input from size) a q b place)
+
+  part_behind : (lo : ℕ) (x : Sel) → lo ≤ part_slot p tables r lo x
+  part_behind lo (Field offset cells) = omega arith
+  part_behind lo (Index x range cells) = omega arith
+
+  pub more_sels_run : (at from lo size : ℕ) (x : Sel) (rest : Sels) → own_end p r ≤ lo → SelRuns at from lo size x
+      → ((next : ℕ) → SelsRun next (part_slot p tables r lo x) (part_slot p tables r lo x + 1) (sel_cells x) rest) → SelsRun at from lo size (more_sels x rest)
+  unfolding ev_expr
+  more_sels_run at from lo size x rest behind runs others stands v now a b place =
+      let inner : List Lined = sel_code p tables r line at from lo x in
+      let m : ℕ = at + length inner in
+      let to : ℕ = part_slot p tables r lo x in
+      let after : List Lined = sels_code p tables r line m to (to + 1) rest in
+      let whole : length (inner ++ after) ≡ length inner + length after = length-append inner after in
+      let exit : ℕ = m + length after in
+      let end : exit ≡ at + length (inner ++ after) = omega (arith, whole) in
+      let yields = PlaceIn p code input (part_at p tables r to (to + 1) rest) (cells_after rest (sel_cells x)) in
+      subst (λ n. From p code input line 0 at n now (leaving p code input lo r now yields) (ev_sels p input below (more_sels x rest) a v) q) end
+      (then_from p code input line at m exit lo lo r now (PlaceIn p code input to (sel_cells x)) yields (ev_sel p input below x a v) (λ t c. ev_sels p input below rest c t) q (omega arith) behind
+      (runs (stands_front code at inner after stands) v now a b place)
+      (λ u c t left there.
+      let b1 = begins p code input lo r now u t left in
+      from_more p code input line 0 8 m exit t (leaving p code input lo r t yields) (ev_sels p input below rest c u) q (omega arith)
+      (from_lower p code input line 0 m exit lo (to + 1) r u t yields (ev_sels p input below rest c u) q (omega (arith, part_behind lo x)) behind b1
+      (others m (stands_back code at inner after stands) u t c b1 there))))
+
+  -- ---- the whole designator
+
+  pub desig_runs : (at lo cells : ℕ) (root : Root) (sels : Sels) → RootFits p code input r root cells → ((s : ℕ) → s < length p.routines → IsNested p s (routine_at p s))
+      → HasSlots p code r lo (desig_slots p r (a_desig root cells sels)) → ((next : ℕ) → SelsRun next lo (behind_root p tables r lo root) cells sels) → DesigRuns p tables code input below r line q at lo (a_desig root cells sels)
+  unfolding ev_expr
+  desig_runs at lo cells root sels fits nested slots others stands v now b =
+      let first : List Lined = own line (root_code p tables r lo root) in
+      let m : ℕ = at + length first in
+      let next : ℕ = behind_root p tables r lo root in
+      let after : List Lined = sels_code p tables r line m lo next sels in
+      let whole : length (first ++ after) ≡ length first + length after = length-append first after in
+      let exit : ℕ = m + length after in
+      let end : exit ≡ at + length (first ++ after) = omega (arith, whole) in
+      let yields = PlaceIn p code input (part_at p tables r lo next sels) (cells_after sels cells) in
+      subst (λ n. NodeRuns p code input line at n now (leaving p code input lo r now yields) (ev_desig p input below (a_desig root cells sels) v) q) end
+      (node_runs p code input line 24 at exit now (leaving p code input lo r now yields) (bind (root_place v root cells) (λ t a. ev_sels p input below sels a t)) q (omega arith)
+      (root_from p code input tables line q at exit lo r cells root v now slots.behind yields (λ t a. ev_sels p input below sels a t) fits nested
+      (slots_first p code input r lo (slot.Place cells ∷ root_slots p r root) (sels_slots p r sels) slots) (stands_front code at first after stands) b
+      (λ a t left place.
+      let b1 = begins p code input lo r now v t left in
+      from_more p code input line 0 8 m exit t (leaving p code input lo r t yields) (ev_sels p input below sels a v) q (omega arith)
+      (from_lower p code input line 0 m exit lo next r v t yields (ev_sels p input below sels a v) q (omega arith) slots.behind b1
+      (others m (stands_back code at first after stands) v t a b1 place)))))

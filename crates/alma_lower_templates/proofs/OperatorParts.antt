@@ -1,0 +1,144 @@
+-- Operators, signs and comparisons inside of an expression: the value stands in the first slot of the expression, and an
+-- operand in any slot.
+use Rattle.std.proofs.Common.{◌≡◌, ℕ, ◌+◌, ◌≤◌, Bool, true, false, not, List, length, Some, refl, ap, ◌∙◌, subst, arith, ℤ, ◌+ℤ◌, ◌-ℤ◌, ◌*ℤ◌, neg_ℤ}
+use Rattle.std.specs.Prelude.{slice_get, int_lt, int_le}
+use Rattle.alma_base.specs.declared.fault.RunFault.TheVariants as fault
+use Rattle.alma_base.specs.Choice.{if_true}
+use Rattle.alma_base.specs.Numbers.{is_integer, is_zero, int_eq, bit, div_down_of, mod_down_of}
+use Rattle.alma_base.proofs.Rests.{rounds_down}
+use Rattle.alma_code.specs.declared.cell.Cell.TheVariants as cell
+use Rattle.alma_code.specs.declared.cell.SlotKind.TheVariants as slot
+use Rattle.alma_code.specs.declared.instr.Instr.TheVariants as I
+use Rattle.alma_code.specs.Lines.{line_at}
+use Rattle.alma_code.specs.Picture.{PlainFrame, PlainEntry}
+use Rattle.alma_code.specs.Plain.{PlainCode, kinds_at}
+use Rattle.alma_code.specs.Machine.{State, act, step, number, put_number, integer_result, ends_in_fault}
+use Rattle.alma_ir.specs.declared.phrase.Op.{Op}
+use Rattle.alma_ir.specs.declared.phrase.Op.TheVariants as op
+use Rattle.alma_ir.specs.declared.phrase.Cmp.{Cmp}
+use Rattle.alma_ir.specs.declared.phrase.Cmp.TheVariants as cmp
+use Rattle.alma_ir.specs.Tree.{Program}
+use Rattle.alma_mean.specs.Store.{Store}
+use Rattle.alma_mean.specs.Events.{Events, one, bind}
+use Rattle.alma_mean.specs.Arithmetic.{apply_op, apply_sign, check_integer, fault_unless, compares}
+use Rattle.alma_lower_implements.proofs.Frames.{own_end, IsAt}
+use Rattle.alma_lower_implements.proofs.Steps.{Holds, HasKind, InstrAt, passed, does, number_is, here_too, flip_step, equal_step, less_step, less_eq_step, fits_step, overflow_step, neg_does, add_does, sub_does, mul_does, div_does, mod_does, faults_now}
+use Rattle.alma_lower_implements.proofs.Numbers.{bit_integer, zero_bit, rest_integer, nonzero}
+use Rattle.alma_lower_implements.proofs.BareRow.{ReadsFirst}
+use Rattle.alma_lower_templates.specs.Lined.{own}
+use Rattle.alma_lower_templates.specs.Pieces.{op_code, cmp_code, neg_code}
+use Rattle.alma_lower_templates.specs.Stands.{Stands}
+use Rattle.alma_lower_templates.proofs.Parts.{Begins, begins, Left, left_self, has_kind, IsValue, ValueIn, From, leaving, from_more, alone_from, faults_here, value_ends, value_goes_on}
+
+module _ (p : Program) (code : PlainCode) (input : List ℕ) (line q lo r : ℕ) (behind : own_end p r ≤ lo) (kind : slice_get (kinds_at code r) lo ≡ Some slot.Number) where
+  -- ---- a second operand is read once the first is known
+
+  pub op_reads : (how : Op) (at operand : ℕ) (a : ℤ) (now : List PlainFrame) → InstrAt code input line at (op_code how lo operand) → Holds now lo (cell.Int a) → ReadsFirst code input at operand now
+  unfolding act
+  op_reads op.Add at operand a now i ha held s is = (_, does code input line at now held s (I.Add lo lo operand) is i ∙ number_is code input now (passed code input s) lo a (λ x. number (passed code input s) operand (λ y. integer_result (passed code input s) (x +ℤ y) (λ v. put_number (passed code input s) lo v))) is.frames ha)
+  op_reads op.Sub at operand a now i ha held s is = (_, does code input line at now held s (I.Sub lo lo operand) is i ∙ number_is code input now (passed code input s) lo a (λ x. number (passed code input s) operand (λ y. integer_result (passed code input s) (x -ℤ y) (λ v. put_number (passed code input s) lo v))) is.frames ha)
+  op_reads op.Mul at operand a now i ha held s is = (_, does code input line at now held s (I.Mul lo lo operand) is i ∙ number_is code input now (passed code input s) lo a (λ x. number (passed code input s) operand (λ y. integer_result (passed code input s) (x *ℤ y) (λ v. put_number (passed code input s) lo v))) is.frames ha)
+  op_reads op.Div at operand a now i ha held s is =
+      (_, does code input line at now held s (I.Div lo lo operand) is i ∙ number_is code input now (passed code input s) lo a (λ x. number (passed code input s) operand (λ y. if_true (is_zero y) (λ _. ends_in_fault fault.ZeroDivide (passed code input s)) (λ _. integer_result (passed code input s) (div_down_of x y) (λ v. put_number (passed code input s) lo v)))) is.frames ha)
+  op_reads op.Mod at operand a now i ha held s is =
+      (_, does code input line at now held s (I.Mod lo lo operand) is i ∙ number_is code input now (passed code input s) lo a (λ x. number (passed code input s) operand (λ y. if_true (is_zero y) (λ _. ends_in_fault fault.ZeroDivide (passed code input s)) (λ _. integer_result (passed code input s) (mod_down_of x y) (λ v. put_number (passed code input s) lo v)))) is.frames ha)
+
+  equal_reads : (at operand : ℕ) (a : ℤ) (now : List PlainFrame) → InstrAt code input line at (I.Equal lo lo operand) → Holds now lo (cell.Int a) → ReadsFirst code input at operand now
+  unfolding act
+  equal_reads at operand a now i ha held s is = (_, does code input line at now held s (I.Equal lo lo operand) is i ∙ number_is code input now (passed code input s) lo a (λ x. number (passed code input s) operand (λ y. put_number (passed code input s) lo (bit (int_eq x y)))) is.frames ha)
+
+  pub cmp_reads : (how : Cmp) (at operand : ℕ) (a : ℤ) (now : List PlainFrame) → Stands code at (own line (cmp_code how lo operand)) → Holds now lo (cell.Int a) → ReadsFirst code input at operand now
+  unfolding act
+  cmp_reads cmp.Equal at operand a now i ha held s is = equal_reads at operand a now (record { instr = i.0; on_line = i.1 }) ha held s is
+  cmp_reads cmp.Unequal at operand a now i ha held s is = equal_reads at operand a now (record { instr = i.0; on_line = i.1 }) ha held s is
+  cmp_reads cmp.Less at operand a now i ha held s is =
+      (_, does code input line at now held s (I.Less lo lo operand) is (record { instr = i.0; on_line = i.1 }) ∙ number_is code input now (passed code input s) lo a (λ x. number (passed code input s) operand (λ y. put_number (passed code input s) lo (bit (int_lt x y)))) is.frames ha)
+  cmp_reads cmp.LessEq at operand a now i ha held s is =
+      (_, does code input line at now held s (I.LessEq lo lo operand) is (record { instr = i.0; on_line = i.1 }) ∙ number_is code input now (passed code input s) lo a (λ x. number (passed code input s) operand (λ y. put_number (passed code input s) lo (bit (int_le x y)))) is.frames ha)
+  cmp_reads cmp.Greater at operand a now i ha held s is = (_, does code input line at now held s (I.Less lo operand lo) is (record { instr = i.0; on_line = i.1 }))
+  cmp_reads cmp.GreaterEq at operand a now i ha held s is = (_, does code input line at now held s (I.LessEq lo operand lo) is (record { instr = i.0; on_line = i.1 }))
+
+  module _ (v : Store) (now : List PlainFrame) (b : Begins p code input r v now) where
+    kind_now : HasKind now lo slot.Number
+    kind_now = has_kind p code input r lo v now slot.Number kind b
+
+    -- ---- operators
+
+    module _ {B : Type 0} (at exit : ℕ) (yields : Store → B → List PlainFrame → Type 0) (k : Store → ℤ → Events B) where
+      -- how the phrase goes on with a value
+      abbrev pub GoesOnWith : ℤ → Type 0
+      GoesOnWith z = (t : List PlainFrame) → Left p code input lo r now v t → IsValue p code input lo z t → From p code input line 7 (at + 1) exit t (leaving p code input lo r t yields) (k v z) q
+
+      abbrev pub Applied : Events ℤ → Type 0
+      Applied e = From p code input line 8 at exit now (leaving p code input lo r now yields) (bind e k) q
+
+      -- a result that must be one of INTEGER
+      checked_from : (z : ℤ) → line_at code at ≡ line → ((held : List PlainEntry) (s : State) → IsAt at now held s → step code input s ≡ integer_result (passed code input s) z (λ x. put_number (passed code input s) lo x)) → GoesOnWith z → Applied (check_integer v z)
+      checked_from z there e later = by (is_integer z) refl
+        where
+          by : (t : Bool) → is_integer z ≡ t → Applied (fault_unless fault.Overflow t (λ _. one v z))
+          by true fits =
+              alone_from p code input line 8 at exit now (leaving p code input lo r now yields) (k v z) q
+              (value_goes_on p code input line 7 at exit lo r v now z yields (k v z) q behind kind fits b (λ held s is. fits_step code input line at now held s is lo z kind_now fits (e held s is)) later)
+          by false fits = faults_here p code input line 7 at exit now (leaving p code input lo r now yields) fault.Overflow q (λ held s is. overflow_step code input line at now held s is lo z there fits (e held s is))
+
+      -- past the test of a divisor
+      divided_from : (y z : ℤ) (e : Events ℤ) → line_at code at ≡ line → ((held : List PlainEntry) (s : State) → IsAt at now held s → step code input s ≡ if_true (is_zero y) (λ _. ends_in_fault fault.ZeroDivide (passed code input s)) (λ _. integer_result (passed code input s) z (λ x. put_number (passed code input s) lo x)))
+          → (is_zero y ≡ false → ((held : List PlainEntry) (s : State) → IsAt at now held s → step code input s ≡ integer_result (passed code input s) z (λ x. put_number (passed code input s) lo x)) → Applied e)
+          → Applied (fault_unless fault.ZeroDivide (not (is_zero y)) (λ _. e))
+      divided_from y z e there does goes = by (is_zero y) refl
+        where
+          by : (t : Bool) → is_zero y ≡ t → Applied (fault_unless fault.ZeroDivide (not t) (λ _. e))
+          by false other = goes other (λ held s is. does held s is ∙ ap (λ t. if_true t (λ _. ends_in_fault fault.ZeroDivide (passed code input s)) (λ _. integer_result (passed code input s) z (λ x. put_number (passed code input s) lo x))) other)
+          by true zero_there =
+              faults_here p code input line 7 at exit now (leaving p code input lo r now yields) fault.ZeroDivide q
+              (λ held s is. faults_now code input line s fault.ZeroDivide (here_too code input line at now held s is there)
+              (does held s is ∙ ap (λ t. if_true t (λ _. ends_in_fault fault.ZeroDivide (passed code input s)) (λ _. integer_result (passed code input s) z (λ x. put_number (passed code input s) lo x))) zero_there))
+
+      pub op_from : (how : Op) (operand : ℕ) (x y : ℤ) → InstrAt code input line at (op_code how lo operand) → Holds now lo (cell.Int x) → IsValue p code input operand y now → ((z : ℤ) → GoesOnWith z) → Applied (apply_op v how x y)
+      op_from op.Add operand x y i hx hy later = checked_from (x +ℤ y) i.on_line (λ held s is. add_does code input line at now held s is lo lo operand x y i hx hy.holds) (later (x +ℤ y))
+      op_from op.Sub operand x y i hx hy later = checked_from (x -ℤ y) i.on_line (λ held s is. sub_does code input line at now held s is lo lo operand x y i hx hy.holds) (later (x -ℤ y))
+      op_from op.Mul operand x y i hx hy later = checked_from (x *ℤ y) i.on_line (λ held s is. mul_does code input line at now held s is lo lo operand x y i hx hy.holds) (later (x *ℤ y))
+      op_from op.Div operand x y i hx hy later =
+          divided_from y (div_down_of x y) (check_integer v (div_down_of x y)) i.on_line (λ held s is. div_does code input line at now held s is lo lo operand x y i hx hy.holds)
+          (λ other does. checked_from (div_down_of x y) i.on_line does (later (div_down_of x y)))
+      op_from op.Mod operand x y i hx hy later =
+          divided_from y (mod_down_of x y) (one v (mod_down_of x y)) i.on_line (λ held s is. mod_does code input line at now held s is lo lo operand x y i hx hy.holds)
+          (λ other does.
+          let fits = rest_integer y (mod_down_of x y) hy.integer (rounds_down x y (nonzero y other)) in
+          alone_from p code input line 8 at exit now (leaving p code input lo r now yields) (k v (mod_down_of x y)) q
+          (value_goes_on p code input line 7 at exit lo r v now (mod_down_of x y) yields (k v (mod_down_of x y)) q behind kind fits b (λ held s is. fits_step code input line at now held s is lo (mod_down_of x y) kind_now fits (does held s is)) (later (mod_down_of x y))))
+
+      pub neg_from : (x : ℤ) → InstrAt code input line at (I.Neg lo lo) → Holds now lo (cell.Int x) → ((z : ℤ) → GoesOnWith z) → Applied (apply_sign true v x)
+      neg_from x i hx later = checked_from (neg_ℤ x) i.on_line (λ held s is. neg_does code input line at now held s is lo lo x i hx) (later (neg_ℤ x))
+
+    -- the sign of a first operand
+    pub sign_from : {B : Type 0} (negated : Bool) (at exit : ℕ) (yields : Store → B → List PlainFrame → Type 0) (k : Store → ℤ → Events B) (x : ℤ) → Stands code at (own line (neg_code negated lo)) → IsValue p code input lo x now
+        → ((z : ℤ) (t : List PlainFrame) → Left p code input lo r now v t → IsValue p code input lo z t → From p code input line 7 (at + length (own line (neg_code negated lo))) exit t (leaving p code input lo r t yields) (k v z) q)
+        → From p code input line 8 at exit now (leaving p code input lo r now yields) (bind (apply_sign negated v x) k) q
+    sign_from true at exit yields k x i hx later = neg_from at exit yields k x (record { instr = i.0; on_line = i.1 }) hx.holds later
+    sign_from false at exit yields k x i hx later =
+        let zero : at + 0 ≡ at = omega arith in
+        alone_from p code input line 8 at exit now (leaving p code input lo r now yields) (k v x) q
+        (from_more p code input line 7 8 at exit now (leaving p code input lo r now yields) (k v x) q (omega arith)
+        (subst (λ n. From p code input line 7 n exit now (leaving p code input lo r now yields) (k v x) q) zero (later x now (left_self p code input lo r v now b) hx)))
+
+    -- ---- comparisons
+
+    pub compare_ends : (how : Cmp) (at operand : ℕ) (x y : ℤ) → Stands code at (own line (cmp_code how lo operand)) → Holds now lo (cell.Int x) → Holds now operand (cell.Int y)
+        → From p code input line 8 at (at + length (own line (cmp_code how lo operand))) now (leaving p code input lo r now (ValueIn p code input lo)) (one v (bit (compares how x y))) q
+    compare_ends cmp.Equal at operand x y i hx hy = value_ends p code input line 7 at lo r v now (bit (int_eq x y)) q behind kind (bit_integer (int_eq x y)) b (λ held s is. equal_step code input line at now held s is lo lo operand x y (record { instr = i.0; on_line = i.1 }) kind_now hx hy)
+    compare_ends cmp.Less at operand x y i hx hy = value_ends p code input line 7 at lo r v now (bit (int_lt x y)) q behind kind (bit_integer (int_lt x y)) b (λ held s is. less_step code input line at now held s is lo lo operand x y (record { instr = i.0; on_line = i.1 }) kind_now hx hy)
+    compare_ends cmp.LessEq at operand x y i hx hy = value_ends p code input line 7 at lo r v now (bit (int_le x y)) q behind kind (bit_integer (int_le x y)) b (λ held s is. less_eq_step code input line at now held s is lo lo operand x y (record { instr = i.0; on_line = i.1 }) kind_now hx hy)
+    compare_ends cmp.Greater at operand x y i hx hy = value_ends p code input line 7 at lo r v now (bit (int_lt y x)) q behind kind (bit_integer (int_lt y x)) b (λ held s is. less_step code input line at now held s is lo operand lo y x (record { instr = i.0; on_line = i.1 }) kind_now hy hx)
+    compare_ends cmp.GreaterEq at operand x y i hx hy = value_ends p code input line 7 at lo r v now (bit (int_le y x)) q behind kind (bit_integer (int_le y x)) b (λ held s is. less_eq_step code input line at now held s is lo operand lo y x (record { instr = i.0; on_line = i.1 }) kind_now hy hx)
+    compare_ends cmp.Unequal at operand x y i hx hy =
+        let two : at + 1 + 1 ≡ at + 2 = omega arith in
+        value_goes_on p code input line 7 at (at + 2) lo r v now (bit (int_eq x y)) (ValueIn p code input lo) (one v (bit (not (int_eq x y)))) q behind kind (bit_integer (int_eq x y)) b (λ held s is. equal_step code input line at now held s is lo lo operand x y (record { instr = i.0; on_line = i.1 }) kind_now hx hy)
+        (λ t left value.
+        let b1 = begins p code input lo r now v t left in
+        let said : bit (is_zero (bit (int_eq x y))) ≡ bit (not (int_eq x y)) = ap bit (zero_bit (int_eq x y)) in
+        subst (λ z. From p code input line 7 (at + 1) (at + 2) t (leaving p code input lo r t (ValueIn p code input lo)) (one v z) q) said
+        (subst (λ n. From p code input line 7 (at + 1) n t (leaving p code input lo r t (ValueIn p code input lo)) (one v (bit (is_zero (bit (int_eq x y))))) q) two
+        (value_ends p code input line 6 (at + 1) lo r v t (bit (is_zero (bit (int_eq x y)))) q behind kind (bit_integer (is_zero (bit (int_eq x y)))) b1
+        (λ held s is. flip_step code input line (at + 1) t held s is lo lo (bit (int_eq x y)) (record { instr = i.2.0; on_line = i.2.1 }) (has_kind p code input r lo v t slot.Number kind b1) value.holds))))

@@ -1,0 +1,208 @@
+-- The pieces of code that phrases share. An expression's value stands in a slot, a designator's place too; where a value is
+-- used at once, a variable of the routine stands for itself.
+use Rattle.std.specs.Prelude.{ℕ, zero, suc, ◌+◌, ◌*◌, Bool, true, false, ℤ, pos, negsuc, List, [], ◌∷◌, ◌++◌, length}
+use Rattle.alma_base.specs.declared.number.Range.{Range}
+use Rattle.alma_code.specs.declared.instr.Instr.{Instr}
+use Rattle.alma_code.specs.declared.instr.Instr.TheVariants as I
+use Rattle.alma_ir.specs.declared.phrase.Op.{Op}
+use Rattle.alma_ir.specs.declared.phrase.Op.TheVariants as op
+use Rattle.alma_ir.specs.declared.phrase.Cmp.{Cmp}
+use Rattle.alma_ir.specs.declared.phrase.Cmp.TheVariants as cmp
+use Rattle.alma_ir.specs.declared.phrase.ReadAs.{ReadAs}
+use Rattle.alma_ir.specs.declared.phrase.ReadAs.TheVariants as read_as
+use Rattle.alma_ir.specs.declared.phrase.WriteAs.{WriteAs}
+use Rattle.alma_ir.specs.declared.phrase.WriteAs.TheVariants as write_as
+use Rattle.alma_ir.specs.Tree.{CaseArms, no_cases, more_cases}
+use Rattle.alma_lower_templates.specs.Lined.{Lined, own, in_row}
+use Rattle.alma_lower_templates.specs.Tables.{Tables, range_number, is_whole}
+
+-- ---- numbers
+
+abbrev pub op_code : Op → (to operand : ℕ) → Instr
+op_code op.Add to operand = I.Add to to operand
+op_code op.Sub to operand = I.Sub to to operand
+op_code op.Mul to operand = I.Mul to to operand
+op_code op.Div to operand = I.Div to to operand
+op_code op.Mod to operand = I.Mod to to operand
+
+-- the first value stands in `to`, the second in `other`
+abbrev pub cmp_code : Cmp → (to other : ℕ) → List Instr
+cmp_code cmp.Equal to other = I.Equal to to other ∷ []
+cmp_code cmp.Unequal to other = I.Equal to to other ∷ I.Flip to to ∷ []
+cmp_code cmp.Less to other = I.Less to to other ∷ []
+cmp_code cmp.LessEq to other = I.LessEq to to other ∷ []
+cmp_code cmp.Greater to other = I.Less to other to ∷ []
+cmp_code cmp.GreaterEq to other = I.LessEq to other to ∷ []
+
+abbrev pub neg_code : Bool → (to : ℕ) → List Instr
+neg_code true to = I.Neg to to ∷ []
+neg_code false to = []
+
+abbrev pub write_code : WriteAs → (from : ℕ) → Instr
+write_code write_as.Int from = I.WriteInt from
+write_code write_as.Bool from = I.WriteBool from
+write_code write_as.Char from = I.WriteChar from
+
+abbrev pub read_code : ReadAs → (place range : ℕ) → Instr
+read_code read_as.Int place range = I.ReadInt place range
+read_code read_as.Char place range = I.ReadChar place range
+
+abbrev pub unless_whole : Bool → List Instr → List Instr
+unless_whole true check = []
+unless_whole false check = check
+
+-- the check that a number is in a range; none for a range of all numbers
+abbrev pub fit_code : Tables → Range → (value : ℕ) → List Instr
+fit_code tables range value = unless_whole (is_whole range) (I.InRange value (range_number tables range) ∷ [])
+
+-- ---- links
+
+-- from a link in the slot `from`, links to the frames on the way so many links up, each in the next slot
+abbrev pub chain_code : (from links : ℕ) → List Instr
+chain_code from zero = []
+chain_code from (suc links) = I.Chain (from + 1) from 0 ∷ chain_code (from + 1) links
+
+-- a link to the frame so many links up, in the slot `lo + links`
+abbrev pub link_code : (lo links : ℕ) → List Instr
+link_code lo links = I.Own lo ∷ chain_code lo links
+
+-- ---- choices
+
+-- the front of a phrase of which the first alternative is taken: where it has none, the code goes on at `none`. `Cut mark`
+-- goes behind the phrase
+abbrev pub begin_first : (line mark none : ℕ) → List Lined
+begin_first line mark none = own line (I.Mark mark ∷ I.Choose none ∷ [])
+
+-- a condition: where it has no alternative the code goes on at `none`. A simple one is tested by a jump
+abbrev pub condition : (simple : Bool) → (line at lo none : ℕ) → (jump : (at lo none : ℕ) → List Lined) → (test : (at lo : ℕ) → List Lined) → List Lined
+condition true line at lo none jump test = jump at lo none
+condition false line at lo none jump test = begin_first line lo none ++ (test (at + 2) (lo + 1) ++ own line (I.Cut lo ∷ []))
+
+-- a condition and what is done where it has an alternative; where it has none the code goes on `skipped` instructions
+-- behind that
+abbrev pub guarded_by : (at behind skipped : ℕ) → (condition : (none : ℕ) → List Lined) → (body : List Lined) → List Lined
+guarded_by at behind skipped condition body = condition (behind + length body + skipped) ++ body
+
+abbrev pub guarded : (at skipped : ℕ) → (condition : (none : ℕ) → List Lined) → (body : (at : ℕ) → List Lined) → List Lined
+guarded at skipped condition body =
+    guarded_by at (at + length (condition 0)) skipped condition (body (at + length (condition 0)))
+
+-- an alternative that is not the last, with the jump behind it
+abbrev pub chosen : (line at : ℕ) → (inner : List Lined) → List Lined
+chosen line at inner = own line (I.Choose (at + length inner + 1) ∷ []) ++ inner
+
+-- an operand of OR that is not the last, with the jump behind it
+abbrev pub first_of_two : (line at mark : ℕ) → (inner : List Lined) → List Lined
+first_of_two line at mark inner = begin_first line mark (at + length inner + 2) ++ (inner ++ own line (I.Cut mark ∷ []))
+
+-- NOT: an alternative fails, none goes on behind
+abbrev pub refused : (line at mark : ℕ) → (inner : List Lined) → List Lined
+refused line at mark inner = begin_first line mark (at + length inner + 2) ++ (inner ++ own line (I.Cut mark ∷ I.Fail ∷ []))
+
+-- a condition as a number: 1 where it has an alternative, 0 where it has none
+abbrev pub truth_code : (line to at : ℕ) → List Lined
+truth_code line to at = own line (I.Const to (pos 1) ∷ I.Jump (at + 3) ∷ I.Const to (pos 0) ∷ [])
+
+-- ---- FORALL
+
+abbrev pub begin_forall : (line mark out : ℕ) → List Lined
+begin_forall line mark out = own line (I.Forall mark out ∷ [])
+
+-- behind the alternative of the first part: the carry is laid over, and a body goes to `next` when it fails
+abbrev pub begin_each : (line mark inner next : ℕ) → List Lined
+begin_each line mark inner next = own line (I.Overlay mark next ∷ I.Mark inner ∷ [])
+
+abbrev pub end_each : (line mark inner : ℕ) → List Lined
+end_each line mark inner = own line (I.Cut inner ∷ I.Keep mark ∷ I.Fail ∷ [])
+
+abbrev pub end_forall : (line : ℕ) → List Lined
+end_forall line = own line (I.Finish ∷ [])
+
+-- both parts: a body stands behind `begin_each`; when it is done or fails, the `Fail` of `end_each` goes on to the next
+-- alternative, and with none left the `Finish` follows
+abbrev pub each_body : (line at mark inner : ℕ) → (body : List Lined) → List Lined
+each_body line at mark inner body = begin_each line mark inner (at + length body + 2) ++ (body ++ end_each line mark inner)
+
+abbrev pub forall_code : (line at mark : ℕ) → (parts : List Lined) → List Lined
+forall_code line at mark parts = begin_forall line mark (at + length parts) ++ (parts ++ end_forall line)
+
+-- ---- loops
+
+-- whether a loop has a turn: the slot `from` holds the first count, the slot `to` the limit; `from` becomes 0 where the
+-- first is beyond it
+abbrev pub entry_code : (by : ℤ) → (from to : ℕ) → Instr
+entry_code (pos step) from to = I.LessEq from from to
+entry_code (negsuc step) from to = I.LessEq from to from
+
+-- the step of a loop, and both bounds
+abbrev pub begin_loop : (line at step : ℕ) → (by : ℤ) → (from to : (at : ℕ) → List Lined) → List Lined
+begin_loop line at step by from to = own line (I.Const step by ∷ []) ++ in_row (at + 1) (from (at + 1)) to
+
+-- behind the bounds: both are stored, and where there is no turn the code goes on at `empty`
+abbrev pub bounds_code : (by : ℤ) → (counter limit first last empty : ℕ) → List Instr
+bounds_code by counter limit first last empty = I.Move counter first ∷ I.Move limit last ∷ entry_code by first last ∷ I.JumpZero first empty ∷ []
+
+-- a turn: the count is checked, the variable is located and set, and the body follows
+abbrev pub turn_code : (line at : ℕ) → (check : List Instr) → (locate : (at : ℕ) → List Lined) → (store : Instr) → (body : (at : ℕ) → List Lined) → List Lined
+turn_code line at check locate store body =
+    in_row at (own line check) (λ at. in_row at (locate at) (λ at. own line (store ∷ []) ++ body (at + 1)))
+
+-- the turns of FOR: behind each comes the next, or what is behind the loop
+abbrev pub for_turns : (line at : ℕ) → (by : ℤ) → (counter limit step first last : ℕ) → (turn : List Lined) → List Lined
+for_turns line at by counter limit step first last turn =
+    own line (bounds_code by counter limit first last (at + 4 + length turn + 2))
+    ++ (turn ++ own line (I.Step counter limit step (at + 4 + length turn + 2) ∷ I.Jump (at + 4) ∷ []))
+
+-- the turns of SOME: each but the last has a choice entry, at which the count is raised and the next turn begins; a loop
+-- without turns fails
+abbrev pub some_turns : (line at counter limit step first last more : ℕ) → (turn : List Lined) → List Lined
+some_turns line at counter limit step first last more turn =
+    own line (bounds_code (pos 1) counter limit first last (at + 7 + length turn + 3)
+    ++ (I.Less more counter limit ∷ I.JumpZero more (at + 7) ∷ I.Choose (at + 7 + length turn + 1) ∷ []))
+    ++ (turn ++ own line (I.Jump (at + 7 + length turn + 4) ∷ I.Add counter counter step ∷ I.Jump (at + 4) ∷ I.Fail ∷ []))
+
+-- ---- CASE
+
+-- a label that is not the last of its arm: goes to `hit` where the number in the slot `value` lies in it, else on behind
+abbrev pub label_code : (value bound at hit : ℕ) → Range → List Instr
+label_code value bound at hit label =
+    I.Const bound label.low ∷ I.LessEq (bound + 1) bound value ∷ I.JumpZero (bound + 1) (at + 7)
+    ∷ I.Const bound label.high ∷ I.LessEq (bound + 1) value bound ∷ I.JumpZero (bound + 1) (at + 7) ∷ I.Jump hit ∷ []
+
+-- the last label of an arm: goes on behind where the number lies in it, else to `miss`
+abbrev pub last_label_code : (value bound miss : ℕ) → Range → List Instr
+last_label_code value bound miss label =
+    I.Const bound label.low ∷ I.LessEq (bound + 1) bound value ∷ I.JumpZero (bound + 1) miss
+    ∷ I.Const bound label.high ∷ I.LessEq (bound + 1) value bound ∷ I.JumpZero (bound + 1) miss ∷ []
+
+abbrev pub labels_code : (value bound at hit miss : ℕ) → Range → List Range → List Instr
+labels_code value bound at hit miss label [] = last_label_code value bound miss label
+labels_code value bound at hit miss label (label' ∷ rest) =
+    label_code value bound at hit label ++ labels_code value bound (at + 7) hit miss label' rest
+
+-- the address behind the labels of an arm
+abbrev pub behind_labels : (at : ℕ) → List Range → ℕ
+behind_labels at rest = at + 7 * length rest + 6
+
+-- an arm: its labels and its body, with the jump behind it by which it leaves
+abbrev pub case_arm : (line value bound at : ℕ) → Range → List Range → (body : List Lined) → List Lined
+case_arm line value bound at label rest body =
+    own line (labels_code value bound at (behind_labels at rest) (behind_labels at rest + length body + 1) label rest) ++ body
+
+-- code that is never reached, and before it the jump that leads over it, where there is some
+abbrev pub passed_over : Bool → (line at : ℕ) → List Lined → List Lined
+passed_over false line at dead = []
+passed_over true line at dead = own line (I.Jump (at + 1 + length dead) ∷ []) ++ dead
+
+-- whether an arm of CASE has no label, and so is never tried
+abbrev pub has_dead : CaseArms → Bool
+has_dead no_cases = false
+has_dead (more_cases [] body rest) = true
+has_dead (more_cases (label ∷ labels) body rest) = has_dead rest
+
+-- ---- calls
+
+-- a call goes by its first argument slot, or 0 where nothing is handed over
+abbrev pub first_argument : (handed first : ℕ) → ℕ
+first_argument zero first = 0
+first_argument (suc more) first = first

@@ -1,0 +1,371 @@
+-- The code that is made of each phrase of a routine. A phrase stands at an address, has the line of the statement round it,
+-- and takes fresh slots from a slot on: those of `stmt_slots` and the like.
+use Rattle.std.specs.Prelude.{ℕ, zero, suc, ◌+◌, true, false, pos, List, [], ◌∷◌, ◌++◌, length, Option, Some, None}
+use Rattle.alma_base.specs.declared.number.Range.{Range}
+use Rattle.alma_code.specs.declared.instr.Instr.{Instr}
+use Rattle.alma_code.specs.declared.instr.Instr.TheVariants as I
+use Rattle.alma_ir.specs.declared.phrase.Root.{Root}
+use Rattle.alma_ir.specs.declared.phrase.Root.TheVariants as root
+use Rattle.alma_ir.specs.Tree.{Stmts, Stmt, Arms, CaseArms, Else, Branches, Loop, ReturnExpr, Test, Tests, Expr, Links, Args, Arg, Desig, Sels, Sel, Program, routine_at, no_stmts, more_stmts, TestStmt, Assign, CopyCells, If, While, Repeat, ForTo, SomeOf, Case, Either, Forall, Commit, Return, Read, WriteExpr, WriteText, WriteLine, no_arms, more_arms, no_cases, more_cases, no_else, else_part, no_branches, more_branches, a_loop, no_result, some_result, Value, Bind, Unify, SameCells, Seq, And, Or, Not, CallTest, no_tests, more_tests, Const, Load, Chain, Compare, Truth, Known, Chr, CallExpr, no_links, more_links, no_args, more_args, ByValue, ByCells, ByPlace, MixValue, MixPlace, a_desig, no_sels, more_sels, Field, Index}
+use Rattle.alma_ir.specs.Checked.{outer_at}
+use Rattle.alma_ir.specs.Lines.{body_with_lines}
+use Rattle.alma_lower_templates.specs.Lined.{Lined, own, in_row, leaving}
+use Rattle.alma_lower_templates.specs.Tables.{Tables, range_number, text_number}
+use Rattle.alma_lower_templates.specs.Slots.{shift_of, bare_desig, bare, unless_bare, is_simple, handed_slots, call_links, root_slots, arg_slots, behind_stmts, behind_stmt, behind_test, behind_condition, behind_expr, behind_dead, behind_value, behind_desig, behind_target, behind_variable, own_kinds}
+use Rattle.alma_lower_templates.specs.Pieces.{op_code, cmp_code, neg_code, write_code, read_code, fit_code, link_code, condition, guarded, chosen, first_of_two, refused, truth_code, each_body, forall_code, begin_loop, turn_code, for_turns, some_turns, behind_labels, case_arm, passed_over, has_dead, first_argument}
+
+-- the numbers of CHAR
+abbrev pub char_range : Range
+char_range = record { low = pos 0; high = pos 255 }
+
+module _ (p : Program) (tables : Tables) (r : ℕ) where
+  -- the slot of the code for a slot of the routine, and for one of the routine so many links up
+  abbrev pub own_slot : ℕ → ℕ
+  own_slot from = shift_of p r + from
+
+  abbrev pub outer_slot : (links from : ℕ) → ℕ
+  outer_slot links from = shift_of p (outer_at p r links) + from
+
+  -- ---- where a value stands that is used at once
+
+  abbrev pub slot_or : Option ℕ → ℕ → ℕ
+  slot_or (Some from) lo = own_slot from
+  slot_or None lo = lo
+
+  abbrev pub value_at : (lo : ℕ) → Expr → ℕ
+  value_at lo e = slot_or (bare e) lo
+
+  -- ---- where a place stands
+
+  -- the slot of the part that a selector names, which is its last
+  abbrev pub part_slot : (lo : ℕ) → Sel → ℕ
+  part_slot lo (Field offset cells) = lo
+  part_slot lo (Index e range cells) = behind_value p r lo e
+
+  abbrev pub part_at : (from lo : ℕ) → Sels → ℕ
+  part_at from lo no_sels = from
+  part_at from lo (more_sels x rest) = part_at (part_slot lo x) (part_slot lo x + 1) rest
+
+  -- the first slot behind those of a root
+  abbrev pub behind_root : (lo : ℕ) → Root → ℕ
+  behind_root lo root = lo + 1 + length (root_slots p r root)
+
+  abbrev pub place_at : (lo : ℕ) → Desig → ℕ
+  place_at lo (a_desig root cells sels) = part_at lo (behind_root lo root) sels
+
+  -- ---- designators without selectors
+
+  abbrev pub root_code : (lo : ℕ) → Root → List Instr
+  root_code lo (root.Local from) = I.Local lo (own_slot from) ∷ []
+  root_code lo (root.Global from) = I.Global lo from ∷ []
+  root_code lo (root.Param from) = I.Same lo (own_slot from) ∷ []
+  root_code lo (root.Outer links from) = link_code (lo + 1) links ++ (I.Outer lo (lo + 1 + links) (outer_slot links from) ∷ [])
+  root_code lo (root.OuterParam links from) = link_code (lo + 1) links ++ (I.OuterSame lo (lo + 1 + links) (outer_slot links from) ∷ [])
+
+  -- ---- calls
+
+  -- the link that is handed over, where there is one
+  abbrev pub link_if : (shift up lo : ℕ) → List Instr
+  link_if zero up lo = []
+  link_if (suc one) up lo = link_code lo up
+
+  abbrev pub call_link_code : (called up lo : ℕ) → List Instr
+  call_link_code called up lo = link_if (shift_of p called) up lo
+
+  -- how much is handed over, and the slot of the first
+  abbrev pub handed : (called : ℕ) → Args → ℕ
+  handed called args = shift_of p called + length (handed_slots args)
+
+  abbrev pub handed_from : (shift up lo : ℕ) → ℕ
+  handed_from zero up lo = lo
+  handed_from (suc one) up lo = lo + up
+
+  -- the slot of the first argument, behind that of the link
+  abbrev pub arguments_from : (called up lo : ℕ) → ℕ
+  arguments_from called up lo = lo + length (call_links p r called up)
+
+  abbrev pub call_code : (called : ℕ) → Args → (up lo to : ℕ) → Instr
+  call_code called args up lo to = I.Call called (first_argument (handed called args) (handed_from (shift_of p called) up lo)) to
+
+  -- ---- variables
+
+  -- the number in a slot goes to a variable
+  abbrev pub set_by : Option ℕ → (lo value : ℕ) → Desig → Instr
+  set_by (Some to) lo value d = I.Move (own_slot to) value
+  set_by None lo value d = I.Store (place_at lo d) value
+
+  abbrev pub set_code : (lo value : ℕ) → Desig → Instr
+  set_code lo value d = set_by (bare_desig d) lo value d
+
+  -- the number of a variable goes into a slot
+  abbrev pub load_by : Option ℕ → (lo : ℕ) → Desig → Instr
+  load_by (Some from) lo d = I.Move lo (own_slot from)
+  load_by None lo d = I.Load lo (place_at (lo + 1) d)
+
+  abbrev pub load_code : (lo : ℕ) → Desig → Instr
+  load_code lo d = load_by (bare_desig d) lo d
+
+  -- ---- the count of a turn
+
+  -- its slot: that of the counter where the variable is set in its own slot. Else it has a slot of its own, since the code that
+  -- locates the variable stands between
+  abbrev pub count_at : Option ℕ → (counter lo : ℕ) → ℕ
+  count_at (Some to) counter lo = counter
+  count_at None counter lo = lo
+
+  abbrev pub save_code : Option ℕ → (counter lo : ℕ) → List Instr
+  save_code (Some to) counter lo = []
+  save_code None counter lo = I.Move lo counter ∷ []
+
+  abbrev pub count_code : Option ℕ → Range → (counter lo : ℕ) → List Instr
+  count_code o range counter lo = save_code o counter lo ++ fit_code tables range (count_at o counter lo)
+
+  -- ---- RETURN
+
+  abbrev pub fit_result : Option Range → (value : ℕ) → List Instr
+  fit_result (Some range) value = fit_code tables range value
+  fit_result None value = []
+
+  -- ---- phrases
+
+  abbrev mutual
+    pub stmts_code : (at lo : ℕ) → Stmts → List Lined
+    stmts_code at lo no_stmts = []
+    stmts_code at lo (more_stmts line x rest) =
+        in_row at (stmt_code line at lo x) (λ next. stmts_code next (behind_stmt p r lo x) rest)
+
+    pub stmt_code : (line at lo : ℕ) → Stmt → List Lined
+    stmt_code line at lo (TestStmt t) = test_code line at lo t
+    stmt_code line at lo (Assign d e range) =
+        in_row at (unless_bare (bare_desig d) (desig_code line at lo d)) (λ next. unless_bare (bare e) (expr_code line next (behind_target p r lo d) e))
+        ++ own line (fit_code tables range (value_at (behind_target p r lo d) e) ++ (set_code lo (value_at (behind_target p r lo d) e) d ∷ []))
+    stmt_code line at lo (CopyCells d e) =
+        in_row at (desig_code line at lo d) (λ next. desig_code line next (behind_desig p r lo d) e)
+        ++ own line (I.CopyCells (place_at lo d) (place_at (behind_desig p r lo d) e) ∷ [])
+    stmt_code line at lo (If arms rest) = if_code line at lo arms (λ next lo. stmts_code next lo rest)
+    -- the first jump is the one step before the first condition
+    stmt_code line at lo (While t body) =
+        own line (I.Jump (at + 1) ∷ [])
+        ++ (guarded (at + 1) 1 (λ none. condition (is_simple t) line (at + 1) lo none (λ at lo none. jump_code line at lo none t) (λ at lo. test_code line at lo t))
+        (λ next. stmts_code next (behind_condition p r lo t) body)
+        ++ own line (I.Jump (at + 1) ∷ []))
+    stmt_code line at lo (Repeat body t) =
+        in_row at (stmts_code at lo body) (λ next. condition (is_simple t) line next (behind_stmts p r lo body) at (λ at lo none. jump_code line at lo none t) (λ at lo. test_code line at lo t))
+    stmt_code line at lo (ForTo l) = for_code line at lo l
+    stmt_code line at lo (SomeOf l) = some_code line at lo l
+    -- the value, the arms that are never tried, and two slots for the labels
+    stmt_code line at lo (Case e arms rest) =
+        let first : ℕ = behind_expr p r lo e in
+        let bound : ℕ = behind_dead p r first arms in
+        in_row at (expr_code line at lo e)
+        (λ next. in_row next (passed_over (has_dead arms) line next (dead_code (next + 1) first arms)) (λ next. case_code line lo bound next (bound + 2) arms (λ next lo. else_code line next lo rest)))
+    stmt_code line at lo (Either branches) = either_code line at lo branches
+    stmt_code line at lo (Forall x y) =
+        let inner : ℕ = behind_stmts p r (lo + 1) x in
+        forall_code line (at + 1) lo
+        (in_row (at + 1) (stmts_code (at + 1) (lo + 1) x) (λ next. each_body line (next + 2) lo inner (stmts_code (next + 2) (inner + 1) y)))
+    stmt_code line at lo (Commit x) = own line (I.Mark lo ∷ []) ++ (stmts_code (at + 1) (lo + 1) x ++ own line (I.Cut lo ∷ []))
+    stmt_code line at lo (Return e) = return_code line at lo e
+    stmt_code line at lo (Read d how range) = desig_code line at lo d ++ own line (read_code how (place_at lo d) (range_number tables range) ∷ [])
+    stmt_code line at lo (WriteExpr e how) = unless_bare (bare e) (expr_code line at lo e) ++ own line (write_code how (value_at lo e) ∷ [])
+    stmt_code line at lo (WriteText text) = own line (I.WriteText (text_number tables text) ∷ [])
+    stmt_code line at lo WriteLine = own line (I.WriteLine ∷ [])
+
+    -- the first arm leaves over all, the others by its jump
+    pub if_code : (line at lo : ℕ) → Arms → (otherwise : (at lo : ℕ) → List Lined) → List Lined
+    if_code line at lo no_arms otherwise = otherwise at lo
+    if_code line at lo (more_arms t body rest) otherwise =
+        leaving line at
+        (guarded at 1 (λ none. condition (is_simple t) line at lo none (λ at lo none. jump_code line at lo none t) (λ at lo. test_code line at lo t))
+        (λ next. stmts_code next (behind_condition p r lo t) body))
+        (λ next jump. arms_code line jump next (behind_stmts p r (behind_condition p r lo t) body) rest otherwise)
+
+    pub arms_code : (line jump at lo : ℕ) → Arms → (otherwise : (at lo : ℕ) → List Lined) → List Lined
+    arms_code line jump at lo no_arms otherwise = otherwise at lo
+    arms_code line jump at lo (more_arms t body rest) otherwise =
+        in_row at
+        (guarded at 1 (λ none. condition (is_simple t) line at lo none (λ at lo none. jump_code line at lo none t) (λ at lo. test_code line at lo t))
+        (λ next. stmts_code next (behind_condition p r lo t) body)
+        ++ own line (I.Jump jump ∷ []))
+        (λ next. arms_code line jump next (behind_stmts p r (behind_condition p r lo t) body) rest otherwise)
+
+    pub for_code : (line at lo : ℕ) → Loop → List Lined
+    for_code line at lo (a_loop d range counter limit from to by body) =
+        let last : ℕ = behind_expr p r (lo + 1) from in
+        let place : ℕ = behind_expr p r last to in
+        in_row at (begin_loop line at lo by (λ at. expr_code line at (lo + 1) from) (λ at. expr_code line at last to))
+        (λ next. for_turns line next by (own_slot counter) (own_slot limit) lo (lo + 1) last
+        (turn_code line (next + 4) (count_code (bare_desig d) range (own_slot counter) place) (λ at. unless_bare (bare_desig d) (desig_code line at (place + 1) d))
+        (set_code (place + 1) (count_at (bare_desig d) (own_slot counter) place) d) (λ at. stmts_code at (behind_variable p r place d) body)))
+
+    pub some_code : (line at lo : ℕ) → Loop → List Lined
+    some_code line at lo (a_loop d range counter limit from to by body) =
+        let last : ℕ = behind_expr p r (lo + 1) from in
+        let more : ℕ = behind_expr p r last to in
+        in_row at (begin_loop line at lo (pos 1) (λ at. expr_code line at (lo + 1) from) (λ at. expr_code line at last to))
+        (λ next. some_turns line next (own_slot counter) (own_slot limit) lo (lo + 1) last more
+        (turn_code line (next + 7) (count_code (bare_desig d) range (own_slot counter) (more + 1)) (λ at. unless_bare (bare_desig d) (desig_code line at (more + 1 + 1) d))
+        (set_code (more + 1 + 1) (count_at (bare_desig d) (own_slot counter) (more + 1)) d) (λ at. stmts_code at (behind_variable p r (more + 1) d) body)))
+
+    -- the arms without labels: nothing leads to them
+    pub dead_code : (at lo : ℕ) → CaseArms → List Lined
+    dead_code at lo no_cases = []
+    dead_code at lo (more_cases [] body rest) = in_row at (stmts_code at lo body) (λ next. dead_code next (behind_stmts p r lo body) rest)
+    dead_code at lo (more_cases (label ∷ labels) body rest) = dead_code at lo rest
+
+    -- the first arm that has a label leaves over all, the others by its jump
+    pub case_code : (line value bound at lo : ℕ) → CaseArms → (otherwise : (at lo : ℕ) → List Lined) → List Lined
+    case_code line value bound at lo no_cases otherwise = otherwise at lo
+    case_code line value bound at lo (more_cases [] body rest) otherwise = case_code line value bound at lo rest otherwise
+    case_code line value bound at lo (more_cases (label ∷ labels) body rest) otherwise =
+        leaving line at (case_arm line value bound at label labels (stmts_code (behind_labels at labels) lo body))
+        (λ next jump. cases_code line value bound jump next (behind_stmts p r lo body) rest otherwise)
+
+    pub cases_code : (line value bound jump at lo : ℕ) → CaseArms → (otherwise : (at lo : ℕ) → List Lined) → List Lined
+    cases_code line value bound jump at lo no_cases otherwise = otherwise at lo
+    cases_code line value bound jump at lo (more_cases [] body rest) otherwise = cases_code line value bound jump at lo rest otherwise
+    cases_code line value bound jump at lo (more_cases (label ∷ labels) body rest) otherwise =
+        in_row at (case_arm line value bound at label labels (stmts_code (behind_labels at labels) lo body) ++ own line (I.Jump jump ∷ []))
+        (λ next. cases_code line value bound jump next (behind_stmts p r lo body) rest otherwise)
+
+    -- 5 is the number of NoCase
+    pub else_code : (line at lo : ℕ) → Else → List Lined
+    else_code line at lo no_else = own line (I.Fault 5 ∷ [])
+    else_code line at lo (else_part body) = stmts_code at lo body
+
+    -- the first branch leaves over all, the others by its jump
+    pub either_code : (line at lo : ℕ) → Branches → List Lined
+    either_code line at lo no_branches = own line (I.Fail ∷ [])
+    either_code line at lo (more_branches body no_branches) = stmts_code at lo body
+    either_code line at lo (more_branches body (more_branches body' rest)) =
+        leaving line at (chosen line (at + 1) (stmts_code (at + 1) lo body))
+        (λ next jump. branches_code line jump next (behind_stmts p r lo body) (more_branches body' rest))
+
+    pub branches_code : (line jump at lo : ℕ) → Branches → List Lined
+    branches_code line jump at lo no_branches = []
+    branches_code line jump at lo (more_branches body no_branches) = stmts_code at lo body
+    branches_code line jump at lo (more_branches body (more_branches body' rest)) =
+        in_row at (chosen line (at + 1) (stmts_code (at + 1) lo body) ++ own line (I.Jump jump ∷ []))
+        (λ next. branches_code line jump next (behind_stmts p r lo body) (more_branches body' rest))
+
+    pub return_code : (line at lo : ℕ) → ReturnExpr → List Lined
+    return_code line at lo no_result = own line (I.Return ∷ [])
+    return_code line at lo (some_result e) =
+        unless_bare (bare e) (expr_code line at lo e) ++ own line (fit_result (routine_at p r).result (value_at lo e) ++ (I.ReturnValue (value_at lo e) ∷ []))
+
+    pub test_code : (line at lo : ℕ) → Test → List Lined
+    test_code line at lo (Value e) = unless_bare (bare e) (expr_code line at lo e) ++ own line (I.Check (value_at lo e) ∷ [])
+    test_code line at lo (Bind d e range true) =
+        in_row at (desig_code line at lo d) (λ next. unless_bare (bare e) (expr_code line next (behind_desig p r lo d) e))
+        ++ own line (I.Bind (place_at lo d) (value_at (behind_desig p r lo d) e) (range_number tables range) ∷ [])
+    test_code line at lo (Bind d e range false) =
+        in_row at (expr_code line at lo e) (λ next. desig_code line next (behind_expr p r lo e) d)
+        ++ own line (I.Bind (place_at (behind_expr p r lo e) d) lo (range_number tables range) ∷ [])
+    test_code line at lo (Unify d range e range') =
+        in_row at (desig_code line at lo d) (λ next. desig_code line next (behind_desig p r lo d) e)
+        ++ own line (I.Unify (place_at lo d) (range_number tables range) (place_at (behind_desig p r lo d) e) (range_number tables range') ∷ [])
+    test_code line at lo (SameCells d e) =
+        in_row at (desig_code line at lo d) (λ next. desig_code line next (behind_desig p r lo d) e)
+        ++ own line (I.SameCells (place_at lo d) (place_at (behind_desig p r lo d) e) ∷ [])
+    test_code line at lo (Seq x) = stmts_code at lo x
+    test_code line at lo (And ts) = and_code line at lo ts
+    test_code line at lo (Or ts) = or_code line at lo ts
+    test_code line at lo (Not t) = refused line (at + 2) lo (test_code line (at + 2) (lo + 1) t)
+    test_code line at lo (CallTest called args up) =
+        let first : ℕ = arguments_from called up lo in
+        in_row at (own line (call_link_code called up lo)) (λ next. args_code line next first (first + length (handed_slots args)) args)
+        ++ own line (call_code called args up lo 0 ∷ [])
+
+    pub and_code : (line at lo : ℕ) → Tests → List Lined
+    and_code line at lo no_tests = []
+    and_code line at lo (more_tests t rest) = in_row at (test_code line at lo t) (λ next. and_code line next (behind_test p r lo t) rest)
+
+    -- the first operand leaves over all, the others by its jump
+    pub or_code : (line at lo : ℕ) → Tests → List Lined
+    or_code line at lo no_tests = own line (I.Fail ∷ [])
+    or_code line at lo (more_tests t no_tests) = test_code line at lo t
+    or_code line at lo (more_tests t (more_tests t' rest)) =
+        leaving line at (first_of_two line (at + 2) lo (test_code line (at + 2) (lo + 1) t))
+        (λ next jump. operands_code line jump next (behind_test p r (lo + 1) t) (more_tests t' rest))
+
+    pub operands_code : (line jump at lo : ℕ) → Tests → List Lined
+    operands_code line jump at lo no_tests = []
+    operands_code line jump at lo (more_tests t no_tests) = test_code line at lo t
+    operands_code line jump at lo (more_tests t (more_tests t' rest)) =
+        in_row at (first_of_two line (at + 2) lo (test_code line (at + 2) (lo + 1) t) ++ own line (I.Jump jump ∷ []))
+        (λ next. operands_code line jump next (behind_test p r (lo + 1) t) (more_tests t' rest))
+
+    -- a simple condition goes to `none` where its value is 0
+    pub jump_code : (line at lo none : ℕ) → Test → List Lined
+    jump_code line at lo none (Value e) = unless_bare (bare e) (expr_code line at lo e) ++ own line (I.JumpZero (value_at lo e) none ∷ [])
+    jump_code line at lo none _ = []
+
+    -- the value goes into the slot `lo`
+    pub expr_code : (line at lo : ℕ) → Expr → List Lined
+    expr_code line at lo (Const n) = own line (I.Const lo n ∷ [])
+    expr_code line at lo (Load d) =
+        unless_bare (bare_desig d) (desig_code line at (lo + 1) d) ++ own line (load_code lo d ∷ [])
+    expr_code line at lo (Chain negated e links) =
+        in_row at (expr_code line at lo e ++ own line (neg_code negated lo)) (λ next. links_code line next lo (behind_expr p r lo e) links)
+    expr_code line at lo (Compare how x y) =
+        in_row at (expr_code line at lo x) (λ next. unless_bare (bare y) (expr_code line next (behind_expr p r lo x) y))
+        ++ own line (cmp_code how lo (value_at (behind_expr p r lo x) y))
+    expr_code line at lo (Truth t) =
+        in_row at (guarded at 2 (λ none. condition (is_simple t) line at (lo + 1) none (λ at lo none. jump_code line at lo none t) (λ at lo. test_code line at lo t)) (λ next. [])) (λ next. truth_code line lo next)
+    expr_code line at lo (Known d) = desig_code line at (lo + 1) d ++ own line (I.Known lo (place_at (lo + 1) d) ∷ [])
+    expr_code line at lo (Chr e) = expr_code line at lo e ++ own line (I.InRange lo (range_number tables char_range) ∷ [])
+    expr_code line at lo (CallExpr called args up) =
+        let first : ℕ = arguments_from called up (lo + 2) in
+        in_row at (own line (call_link_code called up (lo + 2))) (λ next. args_code line next first (first + length (handed_slots args)) args)
+        ++ own line (I.Mark (lo + 1) ∷ call_code called args up (lo + 2) lo ∷ I.Cut (lo + 1) ∷ [])
+
+    -- each operator goes over the slot `to` as soon as its operand is there
+    pub links_code : (line at to lo : ℕ) → Links → List Lined
+    links_code line at to lo no_links = []
+    links_code line at to lo (more_links how e rest) =
+        in_row at (unless_bare (bare e) (expr_code line at lo e) ++ own line (op_code how to (value_at lo e) ∷ []))
+        (λ next. links_code line next to (behind_value p r lo e) rest)
+
+    -- the arguments go into the slots from `to` on
+    pub args_code : (line at to lo : ℕ) → Args → List Lined
+    args_code line at to lo no_args = []
+    args_code line at to lo (more_args a rest) =
+        in_row at (arg_code line at to lo a) (λ next. args_code line next (to + 1) (lo + length (arg_slots p r a)) rest)
+
+    pub arg_code : (line at to lo : ℕ) → Arg → List Lined
+    arg_code line at to lo (ByValue e range) =
+        unless_bare (bare e) (expr_code line at lo e) ++ own line (fit_code tables range (value_at lo e) ++ (I.Move to (value_at lo e) ∷ []))
+    arg_code line at to lo (ByCells d) = desig_code line at lo d ++ own line (I.Same to (place_at lo d) ∷ [])
+    arg_code line at to lo (ByPlace d) = desig_code line at lo d ++ own line (I.Same to (place_at lo d) ∷ [])
+    arg_code line at to lo (MixValue e range) =
+        unless_bare (bare e) (expr_code line at lo e) ++ own line (fit_code tables range (value_at lo e) ++ (I.Move to (value_at lo e) ∷ []))
+    arg_code line at to lo (MixPlace d) = desig_code line at lo d ++ own line (I.Same to (place_at lo d) ∷ [])
+
+    -- the place goes into the slot `place_at lo`
+    pub desig_code : (line at lo : ℕ) → Desig → List Lined
+    desig_code line at lo (a_desig root cells sels) =
+        in_row at (own line (root_code lo root)) (λ next. sels_code line next lo (behind_root lo root) sels)
+
+    -- the place to be narrowed stands in the slot `from`
+    pub sels_code : (line at from lo : ℕ) → Sels → List Lined
+    sels_code line at from lo no_sels = []
+    sels_code line at from lo (more_sels x rest) =
+        in_row at (sel_code line at from lo x) (λ next. sels_code line next (part_slot lo x) (part_slot lo x + 1) rest)
+
+    pub sel_code : (line at from lo : ℕ) → Sel → List Lined
+    sel_code line at from lo (Field offset cells) = own line (I.Field lo from offset ∷ [])
+    sel_code line at from lo (Index e range cells) =
+        unless_bare (bare e) (expr_code line at lo e)
+        ++ own line (I.Index (behind_value p r lo e) from (value_at lo e) (range_number tables range) ∷ [])
+
+  -- ---- the whole routine
+
+  -- at its end a function has no result, 6 is the number of NoReturn, and any other routine is left
+  abbrev pub end_code : Option Range → Instr
+  end_code (Some range) = I.Fault 6
+  end_code None = I.Return
+
+  -- the body behind the own slots, and the end, which has the line of the routine
+  abbrev pub routine_code : (at : ℕ) → List Lined
+  routine_code at =
+      stmts_code at (length (own_kinds (routine_at p r))) (body_with_lines (routine_at p r)) ++ own (routine_at p r).line (end_code (routine_at p r).result ∷ [])

@@ -1,0 +1,107 @@
+-- A step that is made at once, and one that is left.
+use Rattle.std.proofs.Common.{◌≡◌, ℕ, zero, suc, ◌+◌, ◌≤◌, List, [], ◌∷◌, ◌++◌, refl, sym, ap, ◌∙◌, subst, arith}
+use Rattle.std.specs.Prelude.{Bool, true, false, if◌then◌else◌}
+use Rattle.std.proofs.lemmas.List.{append-nil}
+use Rattle.alma_code.specs.Fits.{Fits}
+use Rattle.alma_code.specs.Machine.{State, Stepped, Going, quiet_step, step, after, prints}
+use Rattle.alma_code.specs.Plain.{PlainCode}
+use Rattle.alma_code_laws.proofs.Runs.{stays_fit}
+use Rattle.alma_machine.specs.Quick.{Quickly}
+use Rattle.alma_machine.specs.Stands.{Stands}
+use Rattle.alma_machine.specs.Runs.{last_print}
+use Rattle.alma_machine_acts.specs.Steps.{IsLive}
+use Rattle.alma_machine.specs.View.{MachineView}
+use Rattle.alma_machine.proofs.Budget.{after_more, after_sum, prints_more, prints_sum, last_sum, Progress}
+
+-- a step that was made
+pub is_made : (b : Bool) (old new : State) (word : Stepped) → b ≡ true → Quickly b old new word → quiet_step new ≡ word
+is_made true old new word e h = h
+is_made false old new word e h = absurd (cc)
+
+-- one that was not
+pub is_left : (b : Bool) (old new : State) (word : Stepped) → b ≡ false → Quickly b old new word → new ≡ old
+is_left false old new word e h = h
+is_left true old new word e h = absurd (cc)
+
+-- a step that was made is counted
+pub is_counted : (b : Bool) (new old : ℕ) → b ≡ true → new ≡ old + (if b then 1 else 0) → new ≡ old + 1
+is_counted true new old e h = h
+is_counted false new old e h = absurd (cc)
+
+-- a machine that goes on is live
+pub going_is_live : (s : State) → s.mode ≡ Going → IsLive s.mode
+going_is_live s e = subst IsLive (sym e) tt
+
+-- so many steps were made, with nothing to tell, and the machine goes on
+pub record Dashed (code : PlainCode) (input : List ℕ) (m : ℕ) (old new : State) : Type 0 where
+  pub state : new ≡ after code input m old
+  pub silent : prints code input m old ≡ []
+  pub steps : new.steps ≡ old.steps + m
+  pub stands : Stands code new
+  pub going : new.mode ≡ Going
+
+-- none was made
+pub dashed_none : (code : PlainCode) (input : List ℕ) (s : State) → Stands code s → s.mode ≡ Going → Dashed code input 0 s s
+dashed_none code input s stands going = record { state = refl; silent = refl; steps = omega arith; stands = stands; going = going }
+
+-- one more of them
+pub dashed_more : (code : PlainCode) (input : List ℕ) (m : ℕ) (old now new : State) → Dashed code input m old now → quiet_step new ≡ step code input now
+    → new.mode ≡ Going → new.steps ≡ now.steps + 1 → new.choices ≡ now.choices → new.fails ≡ now.fails → Dashed code input (m + 1) old new
+dashed_more code input m old now new h done going steps choices fails =
+    let is : quiet_step new ≡ step code input (after code input m old) = done ∙ ap (step code input) h.state in
+    record {
+      state = ap (λ x. x.state) is ∙ sym (after_more code input m old);
+      silent =
+          prints_more code input m old ∙ ap (λ bytes. bytes ++ (step code input (after code input m old)).printed) h.silent
+          ∙ sym (ap (λ x. x.printed) is);
+      steps = omega (arith, steps, h.steps);
+      stands = record {
+        sound = h.stands.sound;
+        fits = subst (λ s. Fits code s) (sym (ap (λ x. x.state) done)) (stays_fit code input h.stands.sound now h.stands.fits);
+        live = going_is_live new going;
+        choices = omega (arith, steps, choices, h.stands.choices);
+        fails = omega (arith, steps, fails, h.stands.fails);
+      };
+      going = going;
+    }
+
+-- as many where a step was not made
+pub dashed_left : (code : PlainCode) (input : List ℕ) (m : ℕ) (old now new : State) → Dashed code input m old now → new ≡ now → Dashed code input m old new
+dashed_left code input m old now new h same = subst (λ s. Dashed code input m old s) (sym same) h
+
+-- the last part of nothing is nothing
+last_is_none : (xs ys : List ℕ) → xs ++ ys ≡ [] → ys ≡ []
+last_is_none [] ys h = h
+last_is_none (x ∷ xs) ys h = absurd (cc)
+
+-- what a machine shows after steps that printed nothing
+pub shown_after : (code : PlainCode) (input : List ℕ) (m : ℕ) (s : State) (old new : List ℕ) → prints code input m s ≡ [] → (m ≡ 0 → new ≡ old) → (1 ≤ m → new ≡ [])
+    → new ≡ last_print code input m s old
+shown_after code input zero s old new silent none some = none refl
+shown_after code input (suc n) s old new silent none some =
+    let one : suc n ≡ n + 1 = omega arith in
+    let last : List ℕ = (step code input (after code input n s)).printed in
+    some (omega arith) ∙ sym (last_is_none (prints code input n s) last (sym (prints_more code input n s) ∙ ap (λ k. prints code input k s) (sym one) ∙ silent))
+
+-- those steps come after others
+pub progress_dash : (old now new : MachineView) (m k : ℕ) → Progress old now m → new.state ≡ after now.code now.input k now.state
+    → new.printed ≡ last_print now.code now.input k now.state now.printed → new.state.steps ≡ now.state.steps + k
+    → (new.code ≡ now.code) × (new.input ≡ now.input) → Progress old new (m + k)
+progress_dash old now new m k h state shown steps same = record {
+  state = state ∙ ap (λ c. after c now.input k now.state) h.code ∙ ap (λ i. after old.code i k now.state) h.input ∙ ap (after old.code old.input k) h.state ∙ sym (after_sum old.code old.input m k old.state);
+  steps = omega (arith, steps, h.steps);
+  code = same.0 ∙ h.code;
+  input = same.1 ∙ h.input;
+  shown =
+      shown ∙ ap (λ c. last_print c now.input k now.state now.printed) h.code ∙ ap (λ i. last_print old.code i k now.state now.printed) h.input
+      ∙ ap (λ s. last_print old.code old.input k s now.printed) h.state ∙ ap (last_print old.code old.input k (after old.code old.input m old.state)) h.shown
+      ∙ sym (last_sum old.code old.input m k old.state old.printed);
+}
+
+-- and print nothing more
+pub prints_dash : (old now : MachineView) (m k : ℕ) → Progress old now m → prints now.code now.input k now.state ≡ []
+    → prints old.code old.input (m + k) old.state ≡ prints old.code old.input m old.state
+prints_dash old now m k h silent =
+    let none : prints old.code old.input k (after old.code old.input m old.state) ≡ [] =
+    ap (prints old.code old.input k) (sym h.state) ∙ ap (λ i. prints old.code i k now.state) (sym h.input) ∙ ap (λ c. prints c now.input k now.state) (sym h.code) ∙ silent in
+    prints_sum old.code old.input m k old.state ∙ ap (λ bytes. prints old.code old.input m old.state ++ bytes) none ∙ append-nil (prints old.code old.input m old.state)

@@ -1,0 +1,34 @@
+use Rattle.std.proofs.Common.{[], ap, sym, ◌∙◌}
+use Rattle.alma_code.specs.Machine.{act, arguments, enters_routine}
+use Rattle.alma_machine_acts.specs.Rows.{state_of}
+use Rattle.alma_machine.proofs.Acting.{call_is}
+use Rattle.alma_machine_acts.proofs.Words.{ok_is}
+use Rattle.alma_machine.proofs.Others.{call_else}
+use Rattle.alma_machine.proofs.dispatch.act_calls.Goals as goal
+
+pub act_input-requires : goal.act_input-requires
+act_input-requires g c =
+    let d = c.in_default in
+    record {
+      needs = c.requires.needs;
+      later = c.requires.later;
+      no_control = c.requires.no_control;
+      no_place = c.requires.no_place;
+      no_cell = c.requires.no_cell;
+      no_choice = c.requires.no_choice;
+      no_call = call_else c.args.instr d.not-Call d.not-Return d.not-ReturnValue;
+      few = c.requires.few;
+      lawful = c.requires.lawful;
+    }
+
+pub returns-in-Some-clause-ok : goal.returns-in-Some-clause-ok
+returns-in-Some-clause-ok g c =
+    let code = g.V.CodeView.code c.args.view.now in
+    let s = state_of c.args.registers.now in
+    let head = g.V.Routine.Head.head c.in-Some.head in
+    let r = c.in-Call.routine in
+    let first = c.in-Call.first in
+    ok_is c.call.result [] (state_of c.call.new.registers) (arguments head.params s first (λ args. enters_routine s r c.start.result head args)) (act code c.args.input.now c.args.instr s) c.call.ensures.ok
+    (ap (λ start. arguments head.params s first (λ args. enters_routine s r start head args)) c.start.ensures
+    ∙ call_is code c.args.input.now r first c.in-Call.to s head c.in-Some.ensures
+    ∙ sym (ap (λ i. act code c.args.input.now i s) c.in-Call.is))

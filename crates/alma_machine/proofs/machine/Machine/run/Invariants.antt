@@ -1,0 +1,18 @@
+use Rattle.std.proofs.Common.{◌≡◌, ◌≤◌, ◌-◌, true}
+use Rattle.std.specs.Io.KnownBytes.{Appends}
+use Rattle.alma_code.specs.Machine.{prints}
+use Rattle.alma_machine.proofs.Budget.{Progress}
+use Rattle.alma_machine.proofs.machine.Machine.run.Given as goal
+
+-- so many steps were made, their prints are out, nothing has failed and the machine is running
+abbrev pub invariant-loop-made : goal.invariant-loop-made
+invariant-loop-made g l = record {
+  within : l.made ≤ l.budget;
+  progress : Progress l.fn.self l.self l.made;
+  out : Appends (g.K.Sink.written l.fn.out) (g.K.Sink.written l.out) (prints l.fn.self.code l.fn.self.input l.made l.fn.self.state);
+  quiet : g.K.Sink.faults l.out ≡ g.K.Sink.faults l.fn.out;
+  running : l.self.running ≡ true;
+}
+
+abbrev pub decreases-loop-made : goal.decreases-loop-made
+decreases-loop-made g l = l.budget - l.made

@@ -1,0 +1,383 @@
+// What each instruction does.
+ghost use Rattle.std.specs.Prelude.{false, ◌≡◌, ◌+◌, ◌^◌, ◌<◌, ◌≤◌, List, ℕ, [], length, IfOk, OnErr};
+ghost use Rattle.alma_base.specs.Limits.{input_limit};
+ghost use Rattle.alma_code.specs.Machine.{State, act};
+ghost use Rattle.alma_code.specs.Plain.{PlainCode};
+ghost use Rattle.alma_machine.specs.Needs.{Computes, Needs, is_first_form, is_control_form, is_place_form, is_cell_form, is_choice_form, is_call_form, is_read_form, is_link_form};
+ghost use Rattle.alma_machine_acts.specs.Rows.{state_of, HasNumber, KeepsOn, put_or_fault};
+ghost use Rattle.alma_machine_acts.specs.Steps.{stepped, PrintsOnly};
+
+use alma_base::{NoMemory, RunFault};
+use alma_code::{ChoiceKind, End, Instr, Step};
+use alma_machine_acts::calls::{call, leave, leave_with};
+use alma_machine_acts::choices::{begin_body, choose, cut, finish, forall, keep, set_mark};
+use alma_machine_acts::copies::copy_cells;
+use alma_machine_acts::input::{read_char, read_number};
+use alma_machine_acts::output::{numbered, print_character, print_number, print_text, print_truth};
+use alma_machine_acts::{CodeView, Registers};
+
+/// The slot that an instruction of numbers writes, and the number that goes there.
+#[tactic(auto, unfolding(alma_code::specs::Machine::act, crate::specs::Needs::Computes))]
+#[inline(always)]
+pub(crate) fn computed(registers: &Registers, instr: Instr) -> (u32, Result<i64, RunFault>)
+    requires { Computes registers.now.memory.now instr }
+    ensures slot { HasNumber registers.now.memory.now result.0 }
+    ensures number { (code : PlainCode) (input : List ℕ) (s : State) → s.now
+        ≡ registers.now.memory.now
+        → act code input instr s ≡ put_or_fault s result.0 result.1 }
+{
+    match instr {
+        Instr::Const { to, value } => (to, Ok(value)),
+        Instr::Move { to, from } => (to, registers.number(from)),
+        Instr::Add { to, left, right } => (to, registers.sum(left, right)),
+        Instr::Sub { to, left, right } => (to, registers.difference(left, right)),
+        Instr::Mul { to, left, right } => (to, registers.product(left, right)),
+        Instr::Div { to, left, right } => (to, registers.quotient(left, right)),
+        Instr::Mod { to, left, right } => (to, registers.rest(left, right)),
+        Instr::Neg { to, from } => (to, registers.negated(from)),
+        Instr::Equal { to, left, right } => (to, registers.equal(left, right)),
+        Instr::Less { to, left, right } => (to, registers.less(left, right)),
+        Instr::LessEq { to, left, right } => (to, registers.at_most(left, right)),
+        Instr::Flip { to, from } => (to, registers.flipped(from)),
+        Instr::Load { to, from } => (to, registers.number_at(from)),
+        Instr::Known { to, of } => (to, registers.knows(of)),
+        _ => unreachable!(),
+    }
+}
+
+/// What an instruction does, with the address already at the next one. Where memory is wanted, nothing has happened.
+#[tactic(auto, unfolding(alma_code::specs::Machine::act, crate::specs::Needs::Needs), using(crate::proofs::Acting::actings))]
+pub fn act<V: CodeView>(
+    registers: &mut Registers,
+    view: &V,
+    instr: Instr,
+    input: &[u8],
+    bytes: &mut Vec<u8>,
+) -> Result<Step, NoMemory>
+    requires needs { Needs (V.code view.now) registers.old.memory.now instr }
+    requires few { registers.old.choices + 1 < 2 ^ 63 }
+    requires lawful { length input.now ≤ input_limit }
+    requires empty { bytes.old.items ≡ [] }
+    ensures ok { IfOk result (λ answer. stepped answer bytes.new.items (state_of registers.new)
+        ≡ act (V.code view.now) input.now instr (state_of registers.old)) }
+    ensures kept { IfOk result
+        (λ answer. KeepsOn answer (state_of registers.old) (state_of registers.new)) }
+    ensures quiet { IfOk result (λ answer. PrintsOnly answer bytes.new.items) }
+    ensures refused { OnErr result ((state_of registers.new ≡ state_of registers.old) × (bytes.new.items
+        ≡ [])) }
+{
+    match instr {
+        Instr::WriteInt { value } => print_number(registers, value, bytes),
+        Instr::WriteChar { value } => print_character(registers, value, bytes),
+        Instr::WriteBool { value } => print_truth(registers, value, bytes),
+        Instr::WriteText { text } => match view.text(text) {
+            Some(text) => print_text(text, bytes),
+            None => unreachable!(),
+        },
+        Instr::WriteLine => print_text(b"\n", bytes),
+        Instr::Const { .. }
+        | Instr::Move { .. }
+        | Instr::Add { .. }
+        | Instr::Sub { .. }
+        | Instr::Mul { .. }
+        | Instr::Div { .. }
+        | Instr::Mod { .. }
+        | Instr::Neg { .. }
+        | Instr::Equal { .. }
+        | Instr::Less { .. }
+        | Instr::LessEq { .. }
+        | Instr::Flip { .. }
+        | Instr::Load { .. }
+        | Instr::Known { .. } => {
+            let (to, number) = computed(registers, instr);
+            registers.put(to, number)
+        }
+        _ => act_control(registers, view, instr, input),
+    }
+}
+
+// Jumps, tests and counted loops, and else the next room.
+#[tactic(auto, unfolding(alma_code::specs::Machine::act, crate::specs::Needs::Needs), using(crate::proofs::Acting::actings))]
+fn act_control<V: CodeView>(
+    registers: &mut Registers,
+    view: &V,
+    instr: Instr,
+    input: &[u8],
+) -> Result<Step, NoMemory>
+    requires needs { Needs (V.code view.now) registers.old.memory.now instr }
+    requires later { is_first_form instr ≡ false }
+    requires few { registers.old.choices + 1 < 2 ^ 63 }
+    requires lawful { length input.now ≤ input_limit }
+    ensures ok { IfOk result (λ answer. stepped answer [] (state_of registers.new)
+        ≡ act (V.code view.now) input.now instr (state_of registers.old)) }
+    ensures kept { IfOk result
+        (λ answer. KeepsOn answer (state_of registers.old) (state_of registers.new)) }
+    ensures quiet { IfOk result (λ answer. PrintsOnly answer []) }
+    ensures refused { OnErr result (state_of registers.new ≡ state_of registers.old) }
+{
+    match instr {
+        Instr::InRange { value, range } => match view.range(range) {
+            Some(range) => Ok(registers.in_range(value, &range)),
+            None => unreachable!(),
+        },
+        Instr::Jump { to } => Ok(registers.jump(to)),
+        Instr::JumpZero { value, to } => Ok(registers.jump_zero(value, to)),
+        Instr::Check { value } => Ok(registers.check(value)),
+        Instr::Fail => Ok(registers.fail()),
+        Instr::Fault { number } => Ok(registers.end(End::Fault(numbered(number)))),
+        Instr::Step {
+            counter,
+            limit,
+            by,
+            out,
+        } => registers.count(counter, limit, by, out),
+        _ => act_places(registers, view, instr, input),
+    }
+}
+
+// Places, and else the next room.
+#[tactic(auto, unfolding(alma_code::specs::Machine::act, crate::specs::Needs::Needs), using(crate::proofs::Acting::actings))]
+fn act_places<V: CodeView>(
+    registers: &mut Registers,
+    view: &V,
+    instr: Instr,
+    input: &[u8],
+) -> Result<Step, NoMemory>
+    requires needs { Needs (V.code view.now) registers.old.memory.now instr }
+    requires later { is_first_form instr ≡ false }
+    requires no_control { is_control_form instr ≡ false }
+    requires few { registers.old.choices + 1 < 2 ^ 63 }
+    requires lawful { length input.now ≤ input_limit }
+    ensures ok { IfOk result (λ answer. stepped answer [] (state_of registers.new)
+        ≡ act (V.code view.now) input.now instr (state_of registers.old)) }
+    ensures kept { IfOk result
+        (λ answer. KeepsOn answer (state_of registers.old) (state_of registers.new)) }
+    ensures quiet { IfOk result (λ answer. PrintsOnly answer []) }
+    ensures refused { OnErr result (state_of registers.new ≡ state_of registers.old) }
+{
+    match instr {
+        Instr::Local { to, first } => {
+            let frame = registers.memory.frames() - 1;
+            registers.put_place(to, frame, first)
+        }
+        Instr::Global { to, first } => registers.put_place(to, 0, first),
+        Instr::Same { to, from } => {
+            let spot = registers.whole(from);
+            registers.point(to, spot)
+        }
+        Instr::Field { to, from, offset } => {
+            let spot = registers.field(from, offset);
+            registers.point(to, spot)
+        }
+        Instr::Index {
+            to,
+            from,
+            index,
+            range,
+        } => match view.range(range) {
+            Some(range) => {
+                let spot = registers.part(to, from, index, &range);
+                registers.point(to, spot)
+            }
+            None => unreachable!(),
+        },
+        _ => act_cells(registers, view, instr, input),
+    }
+}
+
+// Cells at places: stores, bindings, equations and copies, and else the next room.
+#[tactic(auto, unfolding(alma_code::specs::Machine::act, crate::specs::Needs::Needs), using(crate::proofs::Acting::actings))]
+fn act_cells<V: CodeView>(
+    registers: &mut Registers,
+    view: &V,
+    instr: Instr,
+    input: &[u8],
+) -> Result<Step, NoMemory>
+    requires needs { Needs (V.code view.now) registers.old.memory.now instr }
+    requires later { is_first_form instr ≡ false }
+    requires no_control { is_control_form instr ≡ false }
+    requires no_place { is_place_form instr ≡ false }
+    requires few { registers.old.choices + 1 < 2 ^ 63 }
+    requires lawful { length input.now ≤ input_limit }
+    ensures ok { IfOk result (λ answer. stepped answer [] (state_of registers.new)
+        ≡ act (V.code view.now) input.now instr (state_of registers.old)) }
+    ensures kept { IfOk result
+        (λ answer. KeepsOn answer (state_of registers.old) (state_of registers.new)) }
+    ensures quiet { IfOk result (λ answer. PrintsOnly answer []) }
+    ensures refused { OnErr result (state_of registers.new ≡ state_of registers.old) }
+{
+    match instr {
+        Instr::Store { to, from } => registers.store(to, from),
+        Instr::Bind {
+            place,
+            value,
+            range,
+        } => match view.range(range) {
+            Some(range) => registers.bind(place, value, &range),
+            None => unreachable!(),
+        },
+        Instr::Unify {
+            left,
+            left_range,
+            right,
+            right_range,
+        } => match (view.range(left_range), view.range(right_range)) {
+            (Some(first), Some(second)) => registers.unify(left, first, right, second),
+            _ => unreachable!(),
+        },
+        Instr::CopyCells { to, from } => copy_cells(registers, to, from),
+        Instr::SameCells { left, right } => registers.same_cells(left, right),
+        _ => act_choices(registers, view, instr, input),
+    }
+}
+
+// Choice entries, and else the next room.
+#[tactic(auto, unfolding(alma_code::specs::Machine::act, crate::specs::Needs::Needs), using(crate::proofs::Acting::actings))]
+fn act_choices<V: CodeView>(
+    registers: &mut Registers,
+    view: &V,
+    instr: Instr,
+    input: &[u8],
+) -> Result<Step, NoMemory>
+    requires needs { Needs (V.code view.now) registers.old.memory.now instr }
+    requires later { is_first_form instr ≡ false }
+    requires no_control { is_control_form instr ≡ false }
+    requires no_place { is_place_form instr ≡ false }
+    requires no_cell { is_cell_form instr ≡ false }
+    requires few { registers.old.choices + 1 < 2 ^ 63 }
+    requires lawful { length input.now ≤ input_limit }
+    ensures ok { IfOk result (λ answer. stepped answer [] (state_of registers.new)
+        ≡ act (V.code view.now) input.now instr (state_of registers.old)) }
+    ensures kept { IfOk result
+        (λ answer. KeepsOn answer (state_of registers.old) (state_of registers.new)) }
+    ensures quiet { IfOk result (λ answer. PrintsOnly answer []) }
+    ensures refused { OnErr result (state_of registers.new ≡ state_of registers.old) }
+{
+    match instr {
+        Instr::Mark { to } => set_mark(registers, to),
+        Instr::Cut { mark } => Ok(cut(registers, mark)),
+        Instr::Choose { resume } => choose(registers, ChoiceKind::Branch, resume),
+        Instr::Forall { mark, resume } => forall(registers, mark, resume),
+        Instr::Overlay { mark, resume } => begin_body(registers, mark, resume),
+        Instr::Keep { mark } => keep(registers, mark),
+        Instr::Finish => finish(registers),
+        _ => act_calls(registers, view, instr, input),
+    }
+}
+
+// Calls and returns, and else the next room.
+#[tactic(auto, unfolding(alma_code::specs::Machine::act, crate::specs::Needs::Needs), using(crate::proofs::Acting::actings))]
+fn act_calls<V: CodeView>(
+    registers: &mut Registers,
+    view: &V,
+    instr: Instr,
+    input: &[u8],
+) -> Result<Step, NoMemory>
+    requires needs { Needs (V.code view.now) registers.old.memory.now instr }
+    requires later { is_first_form instr ≡ false }
+    requires no_control { is_control_form instr ≡ false }
+    requires no_place { is_place_form instr ≡ false }
+    requires no_cell { is_cell_form instr ≡ false }
+    requires no_choice { is_choice_form instr ≡ false }
+    requires few { registers.old.choices + 1 < 2 ^ 63 }
+    requires lawful { length input.now ≤ input_limit }
+    ensures ok { IfOk result (λ answer. stepped answer [] (state_of registers.new)
+        ≡ act (V.code view.now) input.now instr (state_of registers.old)) }
+    ensures kept { IfOk result
+        (λ answer. KeepsOn answer (state_of registers.old) (state_of registers.new)) }
+    ensures quiet { IfOk result (λ answer. PrintsOnly answer []) }
+    ensures refused { OnErr result (state_of registers.new ≡ state_of registers.old) }
+{
+    match instr {
+        Instr::Call { routine, first, .. } => match view.routine(routine) {
+            Some(head) => call(registers, &head, routine, view.start(routine), first),
+            None => unreachable!(),
+        },
+        Instr::Return => leave(registers),
+        Instr::ReturnValue { value } => leave_with(registers, view, value),
+        _ => act_input(registers, view, instr, input),
+    }
+}
+
+// Reads of the input, and else the next room.
+#[tactic(auto, unfolding(alma_code::specs::Machine::act, crate::specs::Needs::Needs), using(crate::proofs::Acting::actings))]
+fn act_input<V: CodeView>(
+    registers: &mut Registers,
+    view: &V,
+    instr: Instr,
+    input: &[u8],
+) -> Result<Step, NoMemory>
+    requires needs { Needs (V.code view.now) registers.old.memory.now instr }
+    requires later { is_first_form instr ≡ false }
+    requires no_control { is_control_form instr ≡ false }
+    requires no_place { is_place_form instr ≡ false }
+    requires no_cell { is_cell_form instr ≡ false }
+    requires no_choice { is_choice_form instr ≡ false }
+    requires no_call { is_call_form instr ≡ false }
+    requires few { registers.old.choices + 1 < 2 ^ 63 }
+    requires lawful { length input.now ≤ input_limit }
+    ensures ok { IfOk result (λ answer. stepped answer [] (state_of registers.new)
+        ≡ act (V.code view.now) input.now instr (state_of registers.old)) }
+    ensures kept { IfOk result
+        (λ answer. KeepsOn answer (state_of registers.old) (state_of registers.new)) }
+    ensures quiet { IfOk result (λ answer. PrintsOnly answer []) }
+    ensures refused { OnErr result (state_of registers.new ≡ state_of registers.old) }
+{
+    match instr {
+        Instr::ReadInt { place, range } => match view.range(range) {
+            Some(range) => read_number(registers, input, place, &range),
+            None => unreachable!(),
+        },
+        Instr::ReadChar { place, range } => match view.range(range) {
+            Some(range) => read_char(registers, input, place, &range),
+            None => unreachable!(),
+        },
+        _ => act_links(registers, view, instr, input),
+    }
+}
+
+// Links, and else the next room.
+#[tactic(auto, unfolding(alma_code::specs::Machine::act, crate::specs::Needs::Needs), using(crate::proofs::Acting::actings))]
+fn act_links<V: CodeView>(
+    registers: &mut Registers,
+    view: &V,
+    instr: Instr,
+    input: &[u8],
+) -> Result<Step, NoMemory>
+    requires needs { Needs (V.code view.now) registers.old.memory.now instr }
+    requires later { is_first_form instr ≡ false }
+    requires no_control { is_control_form instr ≡ false }
+    requires no_place { is_place_form instr ≡ false }
+    requires no_cell { is_cell_form instr ≡ false }
+    requires no_choice { is_choice_form instr ≡ false }
+    requires no_call { is_call_form instr ≡ false }
+    requires no_read { is_read_form instr ≡ false }
+    requires few { registers.old.choices + 1 < 2 ^ 63 }
+    requires lawful { length input.now ≤ input_limit }
+    ensures ok { IfOk result (λ answer. stepped answer [] (state_of registers.new)
+        ≡ act (V.code view.now) input.now instr (state_of registers.old)) }
+    ensures kept { IfOk result
+        (λ answer. KeepsOn answer (state_of registers.old) (state_of registers.new)) }
+    ensures quiet { IfOk result (λ answer. PrintsOnly answer []) }
+    ensures refused { OnErr result (state_of registers.new ≡ state_of registers.old) }
+{
+    match instr {
+        Instr::Own { to } => {
+            let frame = registers.memory.frames() - 1;
+            registers.put_link(to, Ok(frame))
+        }
+        Instr::Chain { to, link, slot } => {
+            let frame = registers.chained(link, slot);
+            registers.put_link(to, frame)
+        }
+        Instr::Outer { to, link, first } => {
+            let spot = registers.outer(link, first);
+            registers.point(to, spot)
+        }
+        Instr::OuterSame { to, link, slot } => {
+            let spot = registers.outer_whole(link, slot);
+            registers.point(to, spot)
+        }
+        _ => unreachable!(),
+    }
+}

@@ -1,0 +1,13 @@
+//! The machine: one step, and runs of many.
+#![tactic(auto)]
+
+mod dispatch;
+mod machine;
+mod quick;
+mod quick_act;
+
+pub use alma_code::{End, Step};
+pub use alma_machine_acts::CodeView;
+pub use dispatch::act;
+pub use machine::{Machine, RunEnd};
+pub use quick_act::act_quickly;

@@ -1,0 +1,432 @@
+// The machine.
+ghost use Rattle.std.specs.Prelude.{◌≡◌, ◌+◌, ◌^◌, ◌<◌, ◌≤◌, [], ◌∷◌, true, length, IfOk, OnOk, OnErr, IsTrue};
+ghost use Rattle.alma_base.specs.Limits.{input_limit};
+ghost use Rattle.alma_code.specs.Layout.{start_frame};
+ghost use Rattle.alma_code.specs.Plain.{head_at};
+ghost use Rattle.alma_object.specs.View.{code_of_view, head_of_view};
+ghost use Rattle.alma_verify.specs.Verified.{code_of_verified};
+ghost use Rattle.alma_code.specs.Rules.{IsSound};
+ghost use Rattle.alma_code.specs.Machine.{Going, step, start, after, prints};
+ghost use Rattle.alma_machine_acts.specs.Rows.{state_of};
+ghost use Rattle.alma_machine_acts.specs.Steps.{stepped, ModeAfter, PrintsOnly};
+ghost use Rattle.alma_machine.specs.View.{runs_after};
+ghost use Rattle.alma_machine.specs.Stands.{Stands};
+ghost use Rattle.alma_io.specs.Causes.{HasCause};
+ghost use Rattle.alma_io.specs.Fronts.{AppendsFront};
+ghost use Rattle.alma_machine.specs.Runs.{ShowsLast, last_print, end_of, run_end_of, is_steps_out, all_written, made, OnWhole, OnStepsOut, OnWriteFault, OnMemory};
+ghost use Rattle.std.specs.Io.KnownBytes.{Appends};
+
+use crate::dispatch::act;
+use crate::quick::dash;
+use alma_base::{NoMemory, RunFault};
+use alma_code::{End, Step};
+use alma_io::{Sink, WriteFault, write_all};
+use alma_machine_acts::choices::pop;
+use alma_machine_acts::{CodeView, Mode, Registers};
+use alma_memory::Memory;
+use alma_object::{ObjectView, RoutineView};
+use alma_verify::Verified;
+use std::alloc::Global;
+use std::marker::Model;
+
+/// How a run with a budget ends.
+#[derive(Clone, Copy, Debug, PartialEq, Eq)]
+pub enum RunEnd {
+    Succeeded,
+    Failed,
+    Fault(RunFault),
+    StepsOut,
+    WriteFault,
+    /// Memory ran out.
+    Memory,
+}
+
+impl From<End> for RunEnd {
+    ghost from_gives = { λ end result. result ≡ end_of end };
+
+    fn from(end: End) -> RunEnd {
+        match end {
+            End::Succeeded => RunEnd::Succeeded,
+            End::Failed => RunEnd::Failed,
+            End::Fault(fault) => RunEnd::Fault(fault),
+        }
+    }
+}
+
+// The next instruction of the code. Where memory is wanted, nothing has happened.
+#[tactic(auto, using(crate::proofs::Stepping::taken))]
+fn take<V: CodeView>(
+    view: &V,
+    input: &[u8],
+    registers: &mut Registers,
+    printed: &mut Vec<u8>,
+) -> Result<Step, NoMemory>
+    requires keeps { Stands (V.code view.now) (state_of registers.old) }
+    requires going { (state_of registers.old).mode ≡ Going }
+    requires few { registers.old.steps + 1 < 2 ^ 63 }
+    requires lawful { length input.now ≤ input_limit }
+    requires empty { printed.old.items ≡ [] }
+    ensures step { IfOk result (λ answer. stepped answer printed.new.items (state_of registers.new)
+        ≡ step (V.code view.now) input.now (state_of registers.old)) }
+    ensures quiet { IfOk result (λ answer. PrintsOnly answer printed.new.items) }
+    ensures counted { OnOk result (registers.new.steps ≡ registers.old.steps + 1) }
+    ensures mode { IfOk result (λ answer. ModeAfter answer (state_of registers.new).mode) }
+    ensures choices { OnOk result (registers.new.choices ≤ registers.old.choices + 1) }
+    ensures fails { OnOk result (registers.new.fails ≤ registers.old.fails + 1) }
+    ensures refused { OnErr result ((state_of registers.new ≡ state_of registers.old)
+        × (printed.new.items ≡ [])) }
+{
+    let _count = view.code_count();
+    let instr = view.instr(registers.at);
+    let (at, last, steps) = (registers.at, registers.last, registers.steps);
+    registers.last = at;
+    registers.at = at + 1;
+    registers.steps = steps + 1;
+    let step = act(registers, view, instr, input, printed);
+    if step.is_err() {
+        registers.at = at;
+        registers.last = last;
+        registers.steps = steps;
+    }
+    step
+}
+
+// One step. Where memory is wanted, nothing has happened.
+#[tactic(auto, using(crate::proofs::Stepping::steps))]
+pub(crate) fn advance<V: CodeView>(
+    view: &V,
+    input: &[u8],
+    registers: &mut Registers,
+    printed: &mut Vec<u8>,
+) -> Result<Step, NoMemory>
+    requires keeps { Stands (V.code view.now) (state_of registers.old) }
+    requires few { registers.old.steps + 1 < 2 ^ 63 }
+    requires lawful { length input.now ≤ input_limit }
+    ensures step { IfOk result (λ answer. stepped answer printed.new.items (state_of registers.new)
+        ≡ step (V.code view.now) input.now (state_of registers.old)) }
+    ensures quiet { IfOk result (λ answer. PrintsOnly answer printed.new.items) }
+    ensures counted { OnOk result (registers.new.steps ≡ registers.old.steps + 1) }
+    ensures mode { IfOk result (λ answer. ModeAfter answer (state_of registers.new).mode) }
+    ensures choices { OnOk result (registers.new.choices ≤ registers.old.choices + 1) }
+    ensures fails { OnOk result (registers.new.fails ≤ registers.old.fails + 1) }
+    ensures refused { OnErr result ((state_of registers.new ≡ state_of registers.old)
+        × (printed.new.items ≡ [])) }
+{
+    printed.clear();
+    match registers.mode {
+        Mode::Going => take(view, input, registers, printed),
+        Mode::Failing => {
+            registers.steps += 1;
+            Ok(pop(registers))
+        }
+        Mode::Ended(_) => unreachable!(),
+    }
+}
+
+// Writes what a step printed; the sink is called only where it printed.
+fn write_printed<K: Sink>(step: Step, printed: &[u8], out: &mut K) -> Result<(), WriteFault>
+    requires quiet { PrintsOnly step printed.now }
+    ensures ok { OnOk result (Appends (K.written out.old) (K.written out.new) printed.now) }
+    ensures front { OnErr result
+        (AppendsFront (K.written out.old) (K.written out.new) printed.now) }
+    ensures cause { HasCause (K.faults out.old) (K.faults out.new) result }
+{
+    match step {
+        Step::Printed => write_all(out, printed),
+        _ => Ok(()),
+    }
+}
+
+// The machine goes on after a step that was not the last, and where memory was there.
+fn goes_on(step: &Result<Step, NoMemory>) -> bool
+    ensures { result ≡ runs_after step.now }
+{
+    match step {
+        Ok(Step::Done(_)) | Err(NoMemory) => false,
+        Ok(_) => true,
+    }
+}
+
+/// A run of the code of a verified object on an input. It lends both.
+#[derive(Drop)]
+pub struct Machine<'b, 'i> {
+    code: Verified<'b>,
+    input: &'i [u8],
+    registers: Registers,
+    running: bool,
+    printed: Vec<u8>,
+}
+
+impl<'b, 'i> Model for Machine<'b, 'i> {
+    ghost use Rattle.std.specs.Prelude.{◌≡◌, ◌≤◌, true, length};
+    ghost use Rattle.alma_machine.specs.View.{MachineView};
+
+    ghost Value = { MachineView };
+
+    ghost use Rattle.alma_base.specs.Limits.{input_limit};
+    ghost use Rattle.alma_machine_acts.specs.Rows.{state_of};
+    ghost use Rattle.alma_machine.specs.Stands.{Stands};
+    ghost use Rattle.alma_verify.specs.Verified.{code_of_verified};
+
+    ghost view = { λ m. record {
+      code = code_of_verified m.code;
+      input = m.input.now;
+      state = state_of m.registers;
+      running = m.running;
+      printed = m.printed.items;
+    } };
+
+    ghost invariant = { λ m. (length m.input.now ≤ input_limit)
+        × (m.running ≡ true → Stands (code_of_verified m.code) (state_of m.registers)) };
+}
+
+// The head of the module body.
+fn main_head<'b>(code: &Verified<'b>) -> RoutineView<'b>
+    ensures { head_of_view result ≡ head_at (code_of_verified code.now) 0 }
+{
+    code.keeps_sound();
+    match code.routine(0) {
+        Some(head) => head,
+        None => unreachable!(),
+    }
+}
+
+// A memory with the frame of the module body alone.
+fn first_memory<'b>(
+    alloc: Global,
+    code: &Verified<'b>,
+    head: &RoutineView<'b>,
+) -> Result<Memory, NoMemory>
+    requires { head_of_view head.now ≡ head_at (code_of_verified code.now) 0 }
+    ensures now { IfOk result (λ memory.
+        memory.now ≡ start_frame (head_at (code_of_verified code.now) 0) ∷ []) }
+    ensures held { IfOk result (λ memory. memory.held ≡ []) }
+{
+    code.keeps_sound();
+    Memory::new(alloc, head)
+}
+
+impl<'b, 'i> Machine<'b, 'i> {
+    /// A machine at the start of a code. The input has at most 16,777,216 bytes.
+    pub fn new(
+        alloc: Global,
+        code: Verified<'b>,
+        input: &'i [u8],
+    ) -> Result<Machine<'b, 'i>, NoMemory>
+        requires lawful { length input.now ≤ input_limit }
+        ensures { IfOk result (λ machine. machine ≡ record {
+          code = code_of_verified code.entry;
+          input = input.now;
+          state = start (code_of_verified code.entry);
+          running = true;
+          printed = [];
+        }) }
+    {
+        let head = main_head(&code);
+        let memory = first_memory(alloc, &code, &head)?;
+        Ok(Machine::over(alloc, code, input, memory))
+    }
+
+    /// A machine at the start of a code, over a memory with the frame of its module body alone.
+    /// The input has at most 16,777,216 bytes.
+    #[tactic(auto, using(crate::proofs::Stepping::firsts))]
+    pub fn over(
+        alloc: Global,
+        code: Verified<'b>,
+        input: &'i [u8],
+        memory: Memory,
+    ) -> Machine<'b, 'i>
+        requires now { memory.now ≡ start_frame (head_at (code_of_verified code) 0) ∷ [] }
+        requires held { memory.held ≡ [] }
+        requires lawful { length input.now ≤ input_limit }
+        ensures { result ≡ record {
+          code = code_of_verified code.entry;
+          input = input.now;
+          state = start (code_of_verified code.entry);
+          running = true;
+          printed = [];
+        } }
+    {
+        code.keeps_sound();
+        let registers = Registers {
+            alloc,
+            at: 0,
+            last: 0,
+            mode: Mode::Going,
+            memory,
+            steps: 0,
+            choices: 0,
+            fails: 0,
+        };
+        Machine {
+            code,
+            input,
+            registers,
+            running: true,
+            printed: Vec::new(alloc),
+        }
+    }
+
+    /// While it is running, its code is sound and its state fits it.
+    pub fn keeps_standing(&self)
+        ensures { self.now.running ≡ true → Stands self.now.code self.now.state }
+    {
+        let _ = &self.running;
+    }
+
+    /// Whether the machine can make a step.
+    pub fn is_running(&self) -> bool
+        ensures { result ≡ self.now.running }
+    {
+        self.running
+    }
+
+    /// One step.
+    #[tactic(auto, using(crate::proofs::Stepping::stands_after))]
+    pub fn step(&mut self) -> Result<Step, NoMemory>
+        requires running { IsTrue self.old.running }
+        requires few { self.old.state.steps + 1 < 2 ^ 63 }
+        ensures step { IfOk result (λ answer. stepped answer self.new.printed self.new.state
+            ≡ step self.old.code self.old.input self.old.state) }
+        ensures quiet { IfOk result (λ answer. PrintsOnly answer self.new.printed) }
+        ensures mode { IfOk result (λ answer. ModeAfter answer self.new.state.mode) }
+        ensures counted { OnOk result (self.new.state.steps ≡ self.old.state.steps + 1) }
+        ensures refused { OnErr result ((self.new.state ≡ self.old.state) × (self.new.printed
+            ≡ [])) }
+        ensures running { self.new.running ≡ runs_after result }
+        ensures same { (self.new.code ≡ self.old.code) × (self.new.input ≡ self.old.input) }
+    {
+        let step = advance(
+            &self.code,
+            self.input,
+            &mut self.registers,
+            &mut self.printed,
+        );
+        self.running = goes_on(&step);
+        step
+    }
+
+    // As many steps as can be made at once, and no more than so many. It answers how many.
+    fn dash(&mut self, most: u64) -> u64
+        requires running { IsTrue self.old.running }
+        requires few { self.old.state.steps + most < 2 ^ 63 }
+        ensures few { result ≤ most }
+        ensures state { self.new.state
+            ≡ after self.old.code self.old.input result self.old.state }
+        ensures silent { prints self.old.code self.old.input result self.old.state ≡ [] }
+        ensures shown { self.new.printed ≡ last_print self.old.code self.old.input result
+            self.old.state self.old.printed }
+        ensures counted { self.new.state.steps ≡ self.old.state.steps + result }
+        ensures running { self.new.running ≡ true }
+        ensures same { (self.new.code ≡ self.old.code) × (self.new.input ≡ self.old.input) }
+    {
+        let made = dash(&mut self.registers, &self.code, self.input, most);
+        if made > 0 {
+            self.printed.clear();
+        }
+        made
+    }
+
+    /// The bytes that the last step printed; none where it printed nothing or was refused.
+    pub fn printed(&self) -> &[u8]
+        ensures { result.now ≡ self.now.printed }
+    {
+        &self.printed
+    }
+
+    /// The memory: the live frames and the choice entries.
+    pub fn memory(&self) -> &Memory
+        ensures now { result.now.now ≡ self.now.state.now }
+        ensures held { result.now.held ≡ self.now.state.held }
+    {
+        &self.registers.memory
+    }
+
+    /// The object whose code runs.
+    pub fn view(&self) -> &ObjectView<'b>
+        ensures { code_of_view result.now ≡ self.now.code }
+    {
+        self.code.view()
+    }
+
+    /// The address of the last instruction taken.
+    pub fn at(&self) -> u32
+        ensures { result ≡ self.now.state.last }
+    {
+        self.registers.last
+    }
+
+    /// How many steps were made.
+    pub fn steps(&self) -> u64
+        ensures { result ≡ self.now.state.steps }
+    {
+        self.registers.steps
+    }
+
+    /// How many choice entries were pushed.
+    pub fn choices(&self) -> u64
+        ensures { result ≡ self.now.state.choices }
+    {
+        self.registers.choices
+    }
+
+    /// How many choice entries were popped.
+    pub fn fails(&self) -> u64
+        ensures { result ≡ self.now.state.fails }
+    {
+        self.registers.fails
+    }
+
+    /// Steps until the run ends, and at most `budget` of them. Each print is written as it comes, in one call.
+    pub fn run<K: Sink>(&mut self, budget: u64, out: &mut K) -> RunEnd
+        requires running { IsTrue self.old.running }
+        requires few { self.old.state.steps + budget < 2 ^ 63 }
+
+        // Without a fault of the sink and a want of memory: what the copying code machine does in so many steps.
+        ensures answer { OnWhole result (result
+            ≡ run_end_of (after self.old.code self.old.input budget self.old.state).mode) }
+        ensures state { OnWhole result (self.new.state
+            ≡ after self.old.code self.old.input budget self.old.state) }
+        ensures out { OnWhole result
+            (Appends (K.written out.old) (K.written out.new) (prints self.old.code self.old.input
+            budget self.old.state)) }
+
+        // In each case: what it does in the steps that were made.
+        ensures few { self.new.state.steps ≤ self.old.state.steps + budget }
+        ensures made { self.new.state
+            ≡ after self.old.code self.old.input (made self.old self.new) self.old.state }
+        ensures steps_out { OnStepsOut result (made self.old self.new ≡ budget) }
+        ensures memory { OnMemory result
+            (Appends (K.written out.old) (K.written out.new) (prints self.old.code self.old.input
+            (made self.old self.new) self.old.state)) }
+        ensures write_fault { OnWriteFault result
+            (AppendsFront (K.written out.old) (K.written out.new) (prints self.old.code
+            self.old.input (made self.old self.new) self.old.state)) }
+        ensures printed { ShowsLast result self.new.printed (last_print self.old.code self.old.input
+            (made self.old self.new) self.old.state self.old.printed) }
+        ensures cause { HasCause (K.faults out.old) (K.faults out.new) (all_written result) }
+        ensures running { self.new.running ≡ is_steps_out result }
+        ensures same { (self.new.code ≡ self.old.code) × (self.new.input ≡ self.old.input) }
+    {
+        let mut made = 0;
+        while made < budget {
+            let quick = self.dash(budget - made);
+            made += quick;
+            if made < budget {
+                let Ok(step) = self.step() else {
+                    return RunEnd::Memory;
+                };
+                if let Step::Done(end) = step {
+                    return RunEnd::from(end);
+                }
+                if write_printed(step, self.printed(), out).is_err() {
+                    self.running = false;
+                    return RunEnd::WriteFault;
+                }
+                made += 1;
+            }
+        }
+        let _ = &self.running;
+        RunEnd::StepsOut
+    }
+}

@@ -1,0 +1,78 @@
+// Steps that are made at once, one after another: those of instructions that come often, with nothing to tell. The first
+// step that is another is left to the whole machine.
+ghost use Rattle.std.specs.Prelude.{◌≡◌, ◌+◌, ◌^◌, ◌<◌, ◌≤◌, [], if◌then◌else◌};
+ghost use Rattle.alma_code.specs.Machine.{Going, step, after, prints};
+ghost use Rattle.alma_machine.specs.Quick.{Quickly};
+ghost use Rattle.alma_machine.specs.Stands.{Stands};
+ghost use Rattle.alma_machine_acts.specs.Rows.{state_of};
+
+use crate::quick_act::act_quickly;
+use alma_machine_acts::{CodeView, Mode, Registers};
+
+/// One step, if it is one that is made at once.
+#[inline(always)]
+#[tactic(auto, using(crate::proofs::Stepping::taken))]
+fn step_quickly<V: CodeView>(registers: &mut Registers, view: &V, input: &[u8]) -> bool
+    requires keeps { Stands (V.code view.now) (state_of registers.old) }
+    requires going { (state_of registers.old).mode ≡ Going }
+    requires few { registers.old.steps + 1 < 2 ^ 63 }
+    ensures step { Quickly result (state_of registers.old) (state_of registers.new)
+        (step (V.code view.now) input.now (state_of registers.old)) }
+    ensures counted { registers.new.steps ≡ registers.old.steps + (if result then 1 else 0) }
+    ensures mode { (state_of registers.new).mode ≡ Going }
+    ensures choices { registers.new.choices ≡ registers.old.choices }
+    ensures fails { registers.new.fails ≡ registers.old.fails }
+{
+    let _count = view.code_count();
+    let instr = view.instr(registers.at);
+    let (at, last, steps) = (registers.at, registers.last, registers.steps);
+    registers.last = at;
+    registers.at = at + 1;
+    registers.steps = steps + 1;
+    let is_done = act_quickly(registers, view, instr, input);
+    if !is_done {
+        registers.at = at;
+        registers.last = last;
+        registers.steps = steps;
+    }
+    is_done
+}
+
+// As many steps as can be made at once, and no more than so many. It answers how many.
+fn hurry<V: CodeView>(registers: &mut Registers, view: &V, input: &[u8], most: u64) -> u64
+    requires keeps { Stands (V.code view.now) (state_of registers.old) }
+    requires going { (state_of registers.old).mode ≡ Going }
+    requires few { registers.old.steps + most < 2 ^ 63 }
+    ensures few { result ≤ most }
+    ensures state { state_of registers.new
+        ≡ after (V.code view.now) input.now result (state_of registers.old) }
+    ensures silent { prints (V.code view.now) input.now result (state_of registers.old) ≡ [] }
+    ensures counted { registers.new.steps ≡ registers.old.steps + result }
+    ensures stands { Stands (V.code view.now) (state_of registers.new) }
+{
+    let mut made = 0;
+    while made < most {
+        if !step_quickly(registers, view, input) {
+            return made;
+        }
+        made += 1;
+    }
+    made
+}
+
+/// As many steps as can be made at once, and no more than so many. It answers how many.
+pub(crate) fn dash<V: CodeView>(registers: &mut Registers, view: &V, input: &[u8], most: u64) -> u64
+    requires keeps { Stands (V.code view.now) (state_of registers.old) }
+    requires few { registers.old.steps + most < 2 ^ 63 }
+    ensures few { result ≤ most }
+    ensures state { state_of registers.new
+        ≡ after (V.code view.now) input.now result (state_of registers.old) }
+    ensures silent { prints (V.code view.now) input.now result (state_of registers.old) ≡ [] }
+    ensures counted { registers.new.steps ≡ registers.old.steps + result }
+    ensures stands { Stands (V.code view.now) (state_of registers.new) }
+{
+    match registers.mode {
+        Mode::Going => hurry(registers, view, input, most),
+        Mode::Failing | Mode::Ended(_) => 0,
+    }
+}

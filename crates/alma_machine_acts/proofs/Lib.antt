@@ -1,0 +1,10 @@
+pub mod Held
+pub mod Meetings
+pub mod Parts
+pub mod Stays
+pub mod Words
+pub mod Entries
+pub mod Back
+pub mod Copying
+pub mod Given
+pub mod Reading

@@ -1,0 +1,88 @@
+-- What equations give.
+use Rattle.std.proofs.Common.{◌≡◌, ℕ, suc, ◌+◌, ◌-◌, ◌<◌, ◌^◌, List, [], refl, sym, ap, subst, arith, ◌∙◌}
+use Rattle.std.specs.Prelude.{ℤ, Option, Some, None, Result, Ok, Err, IfOk}
+use Rattle.alma_base.specs.declared.number.Range.{Range}
+use Rattle.alma_code.specs.Machine.{State, Stepped, equation_of_contents, equation, equations}
+use Rattle.alma_machine_acts.specs.declared.equations.Met.{Met}
+use Rattle.alma_machine_acts.specs.declared.equations.Met.TheVariants.{Holds, Ends}
+use Rattle.alma_machine_acts.specs.Meets.{Meets, MeetsOn, given}
+use Rattle.alma_machine_acts.specs.Rows.{HasNumberIn, IsCells, KeepsNumbers, AreNumbers}
+use Rattle.alma_machine_acts.specs.Steps.{stepped}
+use Rattle.alma_code.specs.Picture.{PlainFrame}
+use Rattle.alma_code.specs.declared.cell.CellPlace.{CellPlace}
+use Rattle.alma_code.specs.declared.step.Step.{Step}
+use Rattle.alma_code.specs.declared.step.Step.TheVariants as answer
+
+-- what a word gives another gives that is equal to it
+meets_as : (met : Met) (w w' : (State → Stepped) → Stepped) (new : State) → ((k : State → Stepped) → w' k ≡ w k) → Meets met w new → Meets met w' new
+meets_as Holds w w' new e h = λ k. e k ∙ h k
+meets_as (Ends step) w w' new e h = λ k. e k ∙ h k
+
+pub ok_meets : {E : Type 0} (r : Result Met E) (w w' : (State → Stepped) → Stepped) (new : State) → IfOk r (λ met. Meets met w new) → ((k : State → Stepped) → w' k ≡ w k) → IfOk r (λ met. Meets met w' new)
+ok_meets (Ok met) w w' new h e = meets_as met w w' new e h
+ok_meets (Err f) w w' new h e = tt
+
+-- where the first cell knows nothing it is given what the second knows
+pub equated_first : (s : State) (f i : ℕ) (r : Option Range) (g j : ℕ) (t : Option Range) (v : Option ℤ) (k : State → Stepped) → equation_of_contents s f i r None g j t v k ≡ given s f i r v k
+equated_first s f i r g j t None k = refl
+equated_first s f i r g j t (Some v) k = refl
+
+-- one of the cells, after writes that keep number slots
+pub cell_of : (old now : List PlainFrame) (f i n k : ℕ) → AreNumbers old f i n → KeepsNumbers old now → k < n → HasNumberIn now f (i + k)
+cell_of old now f i n k h keeps lt = keeps f (i + k) (h.each k lt)
+
+-- the cells of a place
+pub numbers_of : (now : List PlainFrame) (l n : ℕ) (p : CellPlace) → IsCells now l p → n ≡ l → AreNumbers now p.frame p.slot n
+numbers_of now l n p h e = record { few = λ some. subst (λ m. p.slot + m < 2 ^ 32) (sym e) (h.few (omega arith)); each = λ k lt. h.each k (omega arith) }
+
+-- where one equation holds the rest follows
+pub equations_more : (n k : ℕ) (s t : State) (f i g j : ℕ) → k < n → Meets Holds (λ q. equation s f (i + k) None g (j + k) None q) t
+    → equations (n - k) s f (i + k) g (j + k) ≡ equations (n - (k + 1)) t f (i + (k + 1)) g (j + (k + 1))
+equations_more n k s t f i g j lt holds =
+    let m = n - (k + 1) in
+    let more : n - k ≡ suc m = omega arith in
+    let a : suc (i + k) ≡ i + (k + 1) = omega arith in
+    let b : suc (j + k) ≡ j + (k + 1) = omega arith in
+    ap (λ x. equations x s f (i + k) g (j + k)) more
+    ∙ holds (λ u. equations m u f (suc (i + k)) g (suc (j + k)))
+    ∙ ap (λ x. equations m t f x g (suc (j + k))) a
+    ∙ ap (λ x. equations m t f (i + (k + 1)) g x) b
+
+-- where one ends the run all do
+pub equations_end : (n k : ℕ) (s t : State) (step : Step) (f i g j : ℕ) → k < n → Meets (Ends step) (λ q. equation s f (i + k) None g (j + k) None q) t
+    → equations (n - k) s f (i + k) g (j + k) ≡ stepped step [] t
+equations_end n k s t step f i g j lt ends =
+    let m = n - (k + 1) in
+    let more : n - k ≡ suc m = omega arith in
+    ap (λ x. equations x s f (i + k) g (j + k)) more ∙ ends (λ u. equations m u f (suc (i + k)) g (suc (j + k)))
+
+-- with none left they hold
+pub equations_none : (n k : ℕ) (s : State) (f i g j : ℕ) → k ≡ n → equations (n - k) s f (i + k) g (j + k) ≡ stepped answer.Went [] s
+equations_none n k s f i g j e = let none : n - k ≡ 0 = omega arith in ap (λ x. equations x s f (i + k) g (j + k)) none
+
+-- as far as the first k equations have come
+pub record Equated (n : ℕ) (s t : State) (f i g j k : ℕ) : Type 0 where
+  pub rest : equations n s f i g j ≡ equations (n - k) t f (i + k) g (j + k)
+  pub numbers : KeepsNumbers s.now t.now
+  pub kept : MeetsOn Holds s t
+
+-- at first
+pub equated_none : (n : ℕ) (s : State) (f i g j : ℕ) → Equated n s s f i g j 0
+equated_none n s f i g j =
+    let a : i ≡ i + 0 = omega arith in
+    let b : j ≡ j + 0 = omega arith in
+    let c : n ≡ n - 0 = omega arith in
+    record {
+      rest = ap (λ x. equations x s f i g j) c ∙ ap (λ x. equations (n - 0) s f x g j) a ∙ ap (λ x. equations (n - 0) s f (i + 0) g x) b;
+      numbers = λ f n h. h;
+      kept = (refl, λ h. h, refl, refl);
+    }
+
+-- and the next one holds
+pub equated_more : (n k : ℕ) (s t u : State) (f i g j : ℕ) → k < n → Equated n s t f i g j k → Meets Holds (λ q. equation t f (i + k) None g (j + k) None q) u → KeepsNumbers t.now u.now → MeetsOn Holds t u
+    → Equated n s u f i g j (k + 1)
+equated_more n k s t u f i g j lt e holds numbers kept = record {
+  rest = e.rest ∙ equations_more n k t u f i g j lt holds;
+  numbers = λ f n h. numbers f n (e.numbers f n h);
+  kept = (kept.0 ∙ e.kept.0, λ h. kept.1 (e.kept.1 h), kept.2 ∙ e.kept.2, kept.3 ∙ e.kept.3);
+}

@@ -1,0 +1,6 @@
+pub mod Meets
+pub mod Rows
+pub mod Steps
+pub mod Calls
+pub mod Copies
+pub mod Inputs

@@ -1,0 +1,184 @@
+// Calls and returns.
+ghost use Rattle.std.specs.Prelude.{◌≡◌, ◌≤◌, [], length, Some, IfOk, OnErr};
+ghost use Rattle.alma_code.specs.declared.step.End.TheVariants as end;
+ghost use Rattle.alma_code.specs.Carries.{IsLive};
+ghost use Rattle.alma_code.specs.Layout.{IsHead, FitsParams};
+ghost use Rattle.alma_base.specs.Choice.{if_true};
+ghost use Rattle.std.specs.Prelude.{nat_eq, ◌-◌, slice_get};
+ghost use Rattle.alma_code.specs.Machine.{number, arguments, enters_routine, ends_run, answers_return, state_after_leave, result_to};
+ghost use Rattle.alma_code.specs.Picture.{last_frame};
+ghost use Rattle.alma_machine_acts.specs.Rows.{state_of, HasNumber, KeepsOn};
+ghost use Rattle.alma_machine_acts.specs.Calls.{HasArgument, HasArguments, GivesArgument, GivesArguments, CallsBack, back_or_fault};
+ghost use Rattle.alma_machine_acts.specs.Steps.{stepped};
+
+use crate::codes::CodeView;
+use crate::registers::Registers;
+use alma_base::{NoMemory, RunFault};
+use alma_code::{Cell, CodeParam, End, Head, Instr, Step};
+use alma_memory::EnterError;
+
+// The argument of a parameter in a slot.
+#[tactic(auto, using(crate::proofs::Given::givens))]
+fn argument(registers: &Registers, param: CodeParam, slot: u32) -> Result<Cell, RunFault>
+    requires { HasArgument registers.now.memory.now param slot }
+    ensures { GivesArgument registers.now.memory.now param slot result }
+{
+    let cell = registers.memory.top(slot);
+    match cell {
+        Cell::Unknown | Cell::Unset => Err(RunFault::Unknown),
+        Cell::Int(_) | Cell::Place(_) => Ok(cell),
+        Cell::Mark(_) => unreachable!(),
+    }
+}
+
+// The arguments of all parameters, in the slots from the first on, or the fault of the first that is not known.
+fn arguments<H: Head>(
+    registers: &Registers,
+    head: &H,
+    first: u32,
+    args: &mut Vec<Cell>,
+) -> Result<Option<RunFault>, NoMemory>
+    requires has { HasArguments registers.now.memory.now (H.head head.now).params first }
+    requires empty { args.old.items ≡ [] }
+    ensures { IfOk result
+        (λ fault. GivesArguments registers.now.memory.now (H.head head.now).params first fault
+        args.new.items) }
+{
+    for i in 0..head.param_count() {
+        match argument(registers, head.param(i), first + i) {
+            Ok(cell) => args.push(cell)?,
+            Err(fault) => return Ok(Some(fault)),
+        }
+    }
+    Ok(None)
+}
+
+// Enters a routine with its arguments, or ends the run where there is no room for its frame.
+#[tactic(auto, using(crate::proofs::Given::enters))]
+fn enter<H: Head>(
+    registers: &mut Registers,
+    head: &H,
+    routine: u32,
+    start: u32,
+    args: &[Cell],
+) -> Result<Step, NoMemory>
+    requires head { IsHead (H.head head.now) }
+    requires args { FitsParams (IsLive registers.old.memory.now)
+        (λ routine. IsLive registers.old.memory.now) (H.head head.now).params args.now }
+    ensures ok { IfOk result (λ answer. stepped answer [] (state_of registers.new)
+        ≡ enters_routine (state_of registers.old) routine start (H.head head.now) args.now) }
+    ensures kept { IfOk result
+        (λ answer. KeepsOn answer (state_of registers.old) (state_of registers.new)) }
+    ensures refused { OnErr result (state_of registers.new ≡ state_of registers.old) }
+{
+    match registers.memory.enter(head, routine, registers.at, args) {
+        Ok(()) => {
+            registers.at = start;
+            Ok(Step::Called(routine, registers.memory.frames()))
+        }
+        Err(EnterError::DepthFull) => Ok(registers.end(End::Fault(RunFault::DepthFull))),
+        Err(EnterError::CellsFull) => Ok(registers.end(End::Fault(RunFault::CellsFull))),
+        Err(EnterError::Memory) => Err(NoMemory),
+    }
+}
+
+/// Calls a routine, with the arguments in the slots from the first on.
+pub fn call<H: Head>(
+    registers: &mut Registers,
+    head: &H,
+    routine: u32,
+    start: u32,
+    first: u32,
+) -> Result<Step, NoMemory>
+    requires head { IsHead (H.head head.now) }
+    requires args { HasArguments registers.old.memory.now (H.head head.now).params first }
+    ensures ok { let s = state_of registers.old in IfOk result
+        (λ answer. stepped answer [] (state_of registers.new)
+        ≡ arguments (H.head head.now).params s first
+        (λ args. enters_routine s routine start (H.head head.now) args)) }
+    ensures kept { IfOk result
+        (λ answer. KeepsOn answer (state_of registers.old) (state_of registers.new)) }
+    ensures refused { OnErr result (state_of registers.new ≡ state_of registers.old) }
+{
+    let mut args = Vec::new(registers.alloc);
+    match arguments(registers, head, first, &mut args)? {
+        Some(fault) => Ok(registers.end(End::Fault(fault))),
+        None => enter(registers, head, routine, start, &args),
+    }
+}
+
+/// Returns without a number, or ends the run where one frame is live.
+#[tactic(auto, using(crate::proofs::Given::returns))]
+pub fn leave(registers: &mut Registers) -> Result<Step, NoMemory>
+    requires { 1 ≤ length registers.old.memory.now }
+    ensures ok { let s = state_of registers.old in IfOk result
+        (λ answer. stepped answer [] (state_of registers.new)
+        ≡ if_true (nat_eq (length s.now) 1) (λ _. ends_run end.Succeeded s)
+        (λ _. answers_return (state_after_leave s))) }
+    ensures kept { IfOk result
+        (λ answer. KeepsOn answer (state_of registers.old) (state_of registers.new)) }
+    ensures refused { OnErr result (state_of registers.new ≡ state_of registers.old) }
+{
+    if registers.memory.frames() == 1 {
+        return Ok(registers.end(End::Succeeded));
+    }
+    registers.at = registers.memory.leave()?;
+    Ok(Step::Returned(registers.memory.frames()))
+}
+
+/// Returns a number to the slot that the Call before the return address names.
+pub fn leave_with<V: CodeView>(
+    registers: &mut Registers,
+    view: &V,
+    value: u32,
+) -> Result<Step, NoMemory>
+    requires slot { HasNumber registers.old.memory.now value }
+    requires back { CallsBack (V.code view.now) registers.old.memory.now }
+    ensures ok { let s = state_of registers.old in IfOk result
+        (λ answer. stepped answer [] (state_of registers.new)
+        ≡ number s value (λ v. result_to (slice_get (V.code view.now).instrs ((last_frame
+        s.now).back - 1)) (state_after_leave s) v)) }
+    ensures kept { IfOk result
+        (λ answer. KeepsOn answer (state_of registers.old) (state_of registers.new)) }
+    ensures refused { OnErr result (state_of registers.new ≡ state_of registers.old) }
+{
+    let number = registers.number(value);
+    give_back(registers, view, number)
+}
+
+// Leaves the top frame and puts a number into the slot of the caller, or ends the run in its fault.
+#[tactic(auto, using(crate::proofs::Back::backs))]
+fn give_back<V: CodeView>(
+    registers: &mut Registers,
+    view: &V,
+    number: Result<i64, RunFault>,
+) -> Result<Step, NoMemory>
+    requires { CallsBack (V.code view.now) registers.old.memory.now }
+    ensures ok { let s = state_of registers.old in IfOk result
+        (λ answer. stepped answer [] (state_of registers.new)
+        ≡ back_or_fault (slice_get (V.code view.now).instrs ((last_frame s.now).back - 1)) s
+        number) }
+    ensures kept { IfOk result
+        (λ answer. KeepsOn answer (state_of registers.old) (state_of registers.new)) }
+    ensures refused { OnErr result (state_of registers.new ≡ state_of registers.old) }
+{
+    let number = match number {
+        Ok(number) => number,
+        Err(fault) => return Ok(registers.end(End::Fault(fault))),
+    };
+    registers.memory.reserve(0, 2)?;
+    let back = match registers.memory.leave() {
+        Ok(back) => back,
+        Err(_) => unreachable!(),
+    };
+    let Instr::Call { to, .. } = view.instr(back - 1) else {
+        unreachable!()
+    };
+    let frame = registers.memory.frames() - 1;
+    match registers.memory.write(frame, to, Cell::Int(number)) {
+        Ok(()) => (),
+        Err(_) => unreachable!(),
+    }
+    registers.at = back;
+    Ok(Step::Returned(registers.memory.frames()))
+}

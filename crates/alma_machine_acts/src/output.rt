@@ -1,0 +1,117 @@
+// Prints, and the ends that are faults by their numbers.
+ghost use Rattle.std.specs.Prelude.{◌≡◌, [], not, pos, nat_abs, slice_get, Some, IfOk, OnErr};
+ghost use Rattle.std.specs.Int.{int_rem_euclid};
+ghost use Rattle.alma_base.specs.declared.value.Value.TheVariants as kind;
+ghost use Rattle.alma_base.specs.Numbers.{is_zero};
+ghost use Rattle.alma_base.specs.Value.{value_text};
+ghost use Rattle.alma_code.specs.Machine.{number, prints_bytes, run_faults};
+ghost use Rattle.alma_machine_acts.specs.Rows.{state_of, HasNumber, IsNumbered, KeepsOn};
+ghost use Rattle.alma_machine_acts.specs.Steps.{stepped, PrintsOnly};
+
+use crate::registers::Registers;
+use alma_base::{NoMemory, RunFault, Value, write_value};
+use alma_code::{End, Step};
+
+/// The fault of a number.
+pub fn numbered(number: u32) -> RunFault
+    requires { IsNumbered number }
+    ensures { slice_get run_faults number ≡ Some result }
+{
+    match number {
+        5 => RunFault::NoCase,
+        6 => RunFault::NoReturn,
+        _ => unreachable!(),
+    }
+}
+
+/// Prints a text.
+pub fn print_text(text: &[u8], bytes: &mut Vec<u8>) -> Result<Step, NoMemory>
+    requires { bytes.old.items ≡ [] }
+    ensures ok { IfOk result (λ answer. (answer ≡ Step.Printed) × (bytes.new.items ≡ text.now)) }
+    ensures refused { OnErr result (bytes.new.items ≡ []) }
+{
+    bytes.extend_from_slice(text)?;
+    Ok(Step::Printed)
+}
+
+/// Prints the number in a slot.
+#[tactic(auto, using(std::proofs::lemmas::Int::ints, std::proofs::lemmas::Grind::common_steps))]
+pub fn print_number(
+    registers: &mut Registers,
+    value: u32,
+    bytes: &mut Vec<u8>,
+) -> Result<Step, NoMemory>
+    requires slot { HasNumber registers.old.memory.now value }
+    requires empty { bytes.old.items ≡ [] }
+    ensures ok { let s = state_of registers.old in
+        IfOk result (λ answer. stepped answer bytes.new.items (state_of registers.new)
+        ≡ number s value (λ v. prints_bytes (value_text (kind.Int v)) s)) }
+    ensures kept { IfOk result
+        (λ answer. KeepsOn answer (state_of registers.old) (state_of registers.new)) }
+    ensures quiet { IfOk result (λ answer. PrintsOnly answer bytes.new.items) }
+    ensures refused { OnErr result ((state_of registers.new ≡ state_of registers.old) × (bytes.new.items
+        ≡ [])) }
+{
+    match registers.number(value) {
+        Ok(number) => {
+            write_value(bytes, &Value::Int(number))?;
+            Ok(Step::Printed)
+        }
+        Err(fault) => Ok(registers.end(End::Fault(fault))),
+    }
+}
+
+/// Prints the truth in a slot.
+#[tactic(auto, using(crate::proofs::Words::tests, std::proofs::lemmas::Int::ints, std::proofs::lemmas::Grind::common_steps))]
+pub fn print_truth(
+    registers: &mut Registers,
+    value: u32,
+    bytes: &mut Vec<u8>,
+) -> Result<Step, NoMemory>
+    requires slot { HasNumber registers.old.memory.now value }
+    requires empty { bytes.old.items ≡ [] }
+    ensures ok { let s = state_of registers.old in
+        IfOk result (λ answer. stepped answer bytes.new.items (state_of registers.new)
+        ≡ number s value (λ v. prints_bytes (value_text (kind.Bool (not (is_zero v)))) s)) }
+    ensures kept { IfOk result
+        (λ answer. KeepsOn answer (state_of registers.old) (state_of registers.new)) }
+    ensures quiet { IfOk result (λ answer. PrintsOnly answer bytes.new.items) }
+    ensures refused { OnErr result ((state_of registers.new ≡ state_of registers.old) × (bytes.new.items
+        ≡ [])) }
+{
+    match registers.number(value) {
+        Ok(number) => {
+            write_value(bytes, &Value::Bool(number != 0))?;
+            Ok(Step::Printed)
+        }
+        Err(fault) => Ok(registers.end(End::Fault(fault))),
+    }
+}
+
+/// Prints the character whose number is the number in a slot modulo 256.
+#[tactic(auto, using(std::proofs::lemmas::Int::ints, std::proofs::lemmas::Grind::common_steps))]
+pub fn print_character(
+    registers: &mut Registers,
+    value: u32,
+    bytes: &mut Vec<u8>,
+) -> Result<Step, NoMemory>
+    requires slot { HasNumber registers.old.memory.now value }
+    requires empty { bytes.old.items ≡ [] }
+    ensures ok { let s = state_of registers.old in
+        IfOk result (λ answer. stepped answer bytes.new.items (state_of registers.new)
+        ≡ number s value (λ v. prints_bytes (value_text (kind.Char (nat_abs (int_rem_euclid v (pos
+        256))))) s)) }
+    ensures kept { IfOk result
+        (λ answer. KeepsOn answer (state_of registers.old) (state_of registers.new)) }
+    ensures quiet { IfOk result (λ answer. PrintsOnly answer bytes.new.items) }
+    ensures refused { OnErr result ((state_of registers.new ≡ state_of registers.old) × (bytes.new.items
+        ≡ [])) }
+{
+    match registers.number(value) {
+        Ok(number) => {
+            write_value(bytes, &Value::Char(number.rem_euclid(256) as u8))?;
+            Ok(Step::Printed)
+        }
+        Err(fault) => Ok(registers.end(End::Fault(fault))),
+    }
+}

@@ -1,0 +1,93 @@
+// The state of the machine, and what ends or turns it.
+ghost use Rattle.std.specs.Prelude.{◌≡◌, [], IfOk, OnErr};
+ghost use Rattle.alma_code.specs.Machine.{ends_run, goes_to, fails_now, quiet_step, with_slot};
+ghost use Rattle.alma_machine_acts.specs.Rows.{state_of, HasSlot, HasNumber, KeepsOn, put_or_fault};
+ghost use Rattle.alma_machine_acts.specs.Steps.{stepped};
+
+use alma_base::{NoMemory, RunFault};
+use alma_code::{Cell, End, Step};
+use alma_memory::Memory;
+use std::alloc::Global;
+
+/// Whether the next step is an instruction or a pop, or the run has ended.
+#[derive(Clone, Copy)]
+pub enum Mode {
+    Going,
+    Failing,
+    Ended(End),
+}
+
+/// The state of a run: the next address, that of the last instruction taken, the mode, the memory and the counts.
+#[derive(Drop)]
+pub struct Registers {
+    pub alloc: Global,
+    pub at: u32,
+    pub last: u32,
+    pub mode: Mode,
+    pub memory: Memory,
+    pub steps: u64,
+    pub choices: u64,
+    pub fails: u64,
+}
+
+impl Registers {
+    /// Ends the run.
+    pub fn end(&mut self, end: End) -> Step
+        ensures step { stepped result [] (state_of self.new) ≡ ends_run end (state_of self.old) }
+        ensures memory { self.new.memory ≡ self.old.memory }
+        ensures kept { KeepsOn result (state_of self.old) (state_of self.new) }
+    {
+        self.mode = Mode::Ended(end);
+        Step::Done(end)
+    }
+
+    /// Goes to an address.
+    pub fn jump(&mut self, to: u32) -> Step
+        ensures step { stepped result [] (state_of self.new) ≡ goes_to to (state_of self.old) }
+        ensures kept { KeepsOn result (state_of self.old) (state_of self.new) }
+    {
+        self.at = to;
+        Step::Went
+    }
+
+    /// Fails.
+    pub fn fail(&mut self) -> Step
+        ensures step { stepped result [] (state_of self.new) ≡ fails_now (state_of self.old) }
+        ensures memory { self.new.memory ≡ self.old.memory }
+        ensures kept { KeepsOn result (state_of self.old) (state_of self.new) }
+    {
+        self.mode = Mode::Failing;
+        Step::Went
+    }
+
+    /// Puts a cell into a slot of the top frame.
+    #[inline(always)]
+    pub fn write(&mut self, to: u32, cell: Cell) -> Result<Step, NoMemory>
+        requires { HasSlot self.old.memory.now to }
+        ensures ok { IfOk result (λ answer. stepped answer [] (state_of self.new)
+            ≡ quiet_step (with_slot (state_of self.old) to cell)) }
+        ensures kept { IfOk result
+            (λ answer. KeepsOn answer (state_of self.old) (state_of self.new)) }
+        ensures refused { OnErr result (state_of self.new ≡ state_of self.old) }
+    {
+        let frame = self.memory.frames() - 1;
+        self.memory.write(frame, to, cell)?;
+        Ok(Step::Went)
+    }
+
+    /// Puts a number into a slot, or ends the run in its fault.
+    #[tactic(auto, using(crate::proofs::Words::puts))]
+    pub fn put(&mut self, to: u32, number: Result<i64, RunFault>) -> Result<Step, NoMemory>
+        requires { HasNumber self.old.memory.now to }
+        ensures ok { IfOk result (λ answer. stepped answer [] (state_of self.new)
+            ≡ put_or_fault (state_of self.old) to number) }
+        ensures kept { IfOk result
+            (λ answer. KeepsOn answer (state_of self.old) (state_of self.new)) }
+        ensures refused { OnErr result (state_of self.new ≡ state_of self.old) }
+    {
+        match number {
+            Ok(number) => self.write(to, Cell::Int(number)),
+            Err(fault) => Ok(self.end(End::Fault(fault))),
+        }
+    }
+}

@@ -1,0 +1,192 @@
+-- The walk over the bytes of an object behind its header, section by section, and the first fault that it meets.
+use Rattle.std.specs.Prelude.{ℕ, zero, suc, ◌+◌, ◌-◌, ◌*◌, Bool, not, ◌&&◌, ◌||◌, nat_eq, nat_lt, nat_le, int_le, if◌then◌else◌, Option, None, List, length, slice_index}
+use Rattle.alma_base.specs.Reading.{is_digit}
+use Rattle.alma_code.specs.Records.{is_name_start}
+use Rattle.alma_object_format.specs.declared.fault.ObjectFault.{ObjectFault}
+use Rattle.alma_object_format.specs.declared.fault.ObjectFault.TheVariants as fault
+use Rattle.alma_object_format.specs.declared.header.Header.{Header}
+use Rattle.alma_object_format.specs.Bytes.{u32_at, i64_at}
+use Rattle.alma_object_format.specs.Instrs.{is_instr}
+use Rattle.alma_object_format.specs.Fault.{unless, whole, or_else, first_fault}
+use Rattle.alma_object_format.specs.Header.{header_of, header_fault, routines_at, globals_at, params_at, runs_at, ranges_at, texts_at, name_pool_at, text_pool_at, instrs_at, lines_at, end_at}
+
+-- ---- ends
+
+-- where the part of an item begins: where that of the item before ends
+abbrev pub start_of : (end : ℕ → ℕ) → ℕ → ℕ
+start_of end zero = 0
+start_of end (suc before) = end before
+
+-- an end is not below the start nor above the count, and the last is the count
+abbrev pub is_end : (start end count : ℕ) (last : Bool) → Bool
+is_end start end count last = nat_le start end && (nat_le end count && (not last || nat_eq end count))
+
+-- the end of a name, which has at least one byte
+abbrev pub is_name_end : (start end count : ℕ) (last : Bool) → Bool
+is_name_end start end count last = nat_lt start end && (nat_le end count && (not last || nat_eq end count))
+
+-- a letter or `_` can stand in a name, and a digit where it is not the first byte
+abbrev pub can_stand : (first : Bool) → ℕ → Bool
+can_stand first byte = is_name_start byte || (not first && is_digit byte)
+
+module _ (bytes : List ℕ) (h : Header) where
+  -- the fields of a routine
+  abbrev pub routine_field : (field routine : ℕ) → ℕ
+  routine_field field routine = u32_at bytes (routines_at h + 28 * routine + field)
+
+  unfoldable pub params_end : ℕ → ℕ
+  params_end routine = routine_field 4 routine
+
+  unfoldable pub runs_end : ℕ → ℕ
+  runs_end routine = routine_field 8 routine
+
+  unfoldable pub code_end : ℕ → ℕ
+  code_end routine = routine_field 12 routine
+
+  unfoldable pub text_end : ℕ → ℕ
+  text_end text = u32_at bytes (texts_at h + 4 * text)
+
+  -- names run on through routines and then globals
+  abbrev pub name_count : ℕ
+  name_count = h.routines + h.globals
+
+  unfoldable pub name_end : ℕ → ℕ
+  name_end name = if nat_lt name h.routines then u32_at bytes (routines_at h + 28 * name) else u32_at bytes (globals_at h + 12 * (name - h.routines))
+
+  -- ---- routines
+
+  -- of the record of a routine, field by field; its result is 0 or 1
+  unfoldable pub routine_fault : ℕ → Option ObjectFault
+  routine_fault r =
+      let at = routines_at h + 28 * r in
+      let last = nat_eq (r + 1) h.routines in
+      whole bytes (at + 28)
+      (unless (is_name_end (start_of name_end r) (name_end r) h.name_bytes (nat_eq (r + 1) name_count)) (fault.BadName at)
+      (unless (is_end (start_of params_end r) (params_end r) h.params last) (fault.BadCount (at + 4))
+      (unless (is_end (start_of runs_end r) (runs_end r) h.runs last) (fault.BadCount (at + 8))
+      (unless (is_end (start_of code_end r) (code_end r) h.instrs last) (fault.BadCount (at + 12))
+      (unless (nat_le (routine_field 24 r) 1) (fault.BadCount (at + 24)) None)))))
+
+  abbrev pub routines_fault : Option ObjectFault
+  routines_fault = first_fault routine_fault 0 h.routines
+
+  -- ---- globals
+
+  -- of the record of a global
+  unfoldable pub global_fault : ℕ → Option ObjectFault
+  global_fault g =
+      let at = globals_at h + 12 * g in
+      let name = h.routines + g in
+      whole bytes (at + 12)
+      (unless (is_name_end (start_of name_end name) (name_end name) h.name_bytes (nat_eq (name + 1) name_count)) (fault.BadName at) None)
+
+  abbrev pub globals_fault : Option ObjectFault
+  globals_fault = first_fault global_fault 0 h.globals
+
+  -- ---- params
+
+  -- 0 Value, 1 Place, 2 Mix, 3 Cells, and from version 2 on 4 Link; Value and Mix have one cell
+  unfoldable pub param_fault : ℕ → Option ObjectFault
+  param_fault p =
+      let at = params_at h + 8 * p in
+      let kind = u32_at bytes at in
+      whole bytes (at + 8)
+      (unless (nat_le kind (if nat_eq h.version 2 then 4 else 3)) (fault.BadCount at)
+      (unless (not (nat_eq kind 0 || nat_eq kind 2) || nat_eq (u32_at bytes (at + 4)) 1) (fault.BadCount (at + 4)) None))
+
+  abbrev pub params_fault : Option ObjectFault
+  params_fault = first_fault param_fault 0 h.params
+
+  -- ---- runs
+
+  -- 0 Number, 1 Place, 2 Mark, and from version 2 on 3 Link; the length of a Number or Mark is 0
+  -- a run that is not the first of its routine differs from the one before in kind or length, and its end is above that end
+  unfoldable pub run_fault : (first : Bool) → ℕ → Option ObjectFault
+  run_fault first r =
+      let at = runs_at h + 12 * r in
+      let kind = u32_at bytes at in
+      let same = nat_eq (u32_at bytes (at - 12)) kind && nat_eq (u32_at bytes (at - 8)) (u32_at bytes (at + 4)) in
+      whole bytes (at + 12)
+      (unless (nat_le kind (if nat_eq h.version 2 then 3 else 2)) (fault.BadCount at)
+      (unless (nat_eq kind 1 || (nat_eq kind 3 || nat_eq (u32_at bytes (at + 4)) 0)) (fault.BadCount (at + 4))
+      (unless (first || not same) (fault.BadCount (at + 4))
+      (unless (nat_lt (if first then 0 else u32_at bytes (at - 4)) (u32_at bytes (at + 8))) (fault.BadCount (at + 8)) None))))
+
+  -- of the runs of a routine
+  unfoldable pub routine_runs_fault : ℕ → Option ObjectFault
+  routine_runs_fault r =
+      first_fault (λ run. run_fault (nat_eq run (start_of runs_end r)) run) (start_of runs_end r) (runs_end r - start_of runs_end r)
+
+  abbrev pub runs_fault : Option ObjectFault
+  runs_fault = first_fault routine_runs_fault 0 h.routines
+
+  -- ---- ranges
+
+  -- low is at most high
+  unfoldable pub range_fault : ℕ → Option ObjectFault
+  range_fault r =
+      let at = ranges_at h + 16 * r in
+      whole bytes (at + 16) (unless (int_le (i64_at bytes at) (i64_at bytes (at + 8))) (fault.BadCount (at + 8)) None)
+
+  abbrev pub ranges_fault : Option ObjectFault
+  ranges_fault = first_fault range_fault 0 h.ranges
+
+  -- ---- texts
+
+  unfoldable pub text_fault : ℕ → Option ObjectFault
+  text_fault t =
+      let at = texts_at h + 4 * t in
+      whole bytes (at + 4) (unless (is_end (start_of text_end t) (text_end t) h.text_bytes (nat_eq (t + 1) h.texts)) (fault.BadCount at) None)
+
+  abbrev pub texts_fault : Option ObjectFault
+  texts_fault = first_fault text_fault 0 h.texts
+
+  -- ---- the pools
+
+  -- of the bytes of a name
+  unfoldable pub name_fault : ℕ → Option ObjectFault
+  name_fault n =
+      let start = start_of name_end n in
+      first_fault (λ i. unless (can_stand (nat_eq i start) (slice_index bytes (name_pool_at h + i))) (fault.BadName (name_pool_at h + i)) None)
+      start (name_end n - start)
+
+  -- the name bytes, and behind them the text bytes
+  abbrev pub pools_fault : Option ObjectFault
+  pools_fault = whole bytes (text_pool_at h) (or_else (first_fault name_fault 0 name_count) (whole bytes (instrs_at h) None))
+
+  -- ---- the code
+
+  unfoldable pub instr_fault : ℕ → Option ObjectFault
+  instr_fault i =
+      let at = instrs_at h + 17 * i in
+      whole bytes (at + 17) (unless (is_instr h.version bytes at) (fault.BadOpcode at) None)
+
+  abbrev pub instrs_fault : Option ObjectFault
+  instrs_fault = first_fault instr_fault 0 h.instrs
+
+  -- ---- lines
+
+  -- an address is above that of the line before and below the code count
+  unfoldable pub line_fault : ℕ → Option ObjectFault
+  line_fault l =
+      let at = lines_at h + 8 * l in
+      whole bytes (at + 8)
+      (unless ((nat_eq l 0 || nat_lt (u32_at bytes (at - 8)) (u32_at bytes at)) && nat_lt (u32_at bytes at) h.instrs) (fault.BadCount at) None)
+
+  abbrev pub lines_fault : Option ObjectFault
+  lines_fault = first_fault line_fault 0 h.lines
+
+  -- ---- the sections in order, and the end
+
+  -- nothing stands behind the last section
+  abbrev pub end_fault : Option ObjectFault
+  end_fault = unless (nat_le (length bytes) (end_at h)) (fault.Trailing (end_at h)) None
+
+  unfoldable pub sections_fault : Option ObjectFault
+  sections_fault =
+      or_else routines_fault (or_else globals_fault (or_else params_fault (or_else runs_fault (or_else ranges_fault
+      (or_else texts_fault (or_else pools_fault (or_else instrs_fault (or_else lines_fault end_fault))))))))
+
+-- the first fault of the walk over the bytes, or nothing where they are an object
+unfoldable pub object_fault : List ℕ → Option ObjectFault
+object_fault bytes = or_else (header_fault bytes) (sections_fault bytes (header_of bytes))

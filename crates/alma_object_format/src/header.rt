@@ -1,0 +1,204 @@
+// The header of an object: its version and its counts.
+ghost use Rattle.std.specs.Prelude.{◌≡◌, ◌+◌, ◌≤◌, ◌<◌, ◌*◌, ◌^◌, ◌||◌, nat_eq, length, IfOk, MatchResult, Some, None, true};
+ghost use Rattle.alma_object_format.specs.Bytes.{u16_at as u16_there, u32_at as u32_there};
+ghost use Rattle.alma_object_format.specs.Fault.{or_else};
+ghost use Rattle.alma_object_format.specs.Header.{IsWithin, header_of, magic_fault, version_fault, count_fault, counts_fault, header_fault, routines_at, globals_at, params_at, runs_at, ranges_at, texts_at, name_pool_at, text_pool_at, instrs_at, lines_at, end_at};
+
+use crate::bytes::{u16_at, u32_at};
+use crate::fault::ObjectFault;
+
+/// The version, and how many records or bytes each section has.
+#[derive(Clone, Copy)]
+pub struct Header {
+    pub version: u16,
+    pub routines: u32,
+    pub globals: u32,
+    pub params: u32,
+    pub runs: u32,
+    pub ranges: u32,
+    pub texts: u32,
+    pub name_bytes: u32,
+    pub text_bytes: u32,
+    pub instrs: u32,
+    pub lines: u32,
+}
+
+impl Header {
+    /// The offset of the first record.
+    pub fn routines_at(&self) -> usize
+        ensures within { result < 2 ^ 6 }
+        ensures offset { result ≡ routines_at self.now }
+    {
+        if self.version == 2 { 50 } else { 46 }
+    }
+
+    pub fn globals_at(&self) -> usize
+        ensures within { result < 2 ^ 38 }
+        ensures offset { result ≡ globals_at self.now }
+    {
+        self.routines_at() + 28 * self.routines as usize
+    }
+
+    pub fn params_at(&self) -> usize
+        ensures within { result < 2 ^ 39 }
+        ensures offset { result ≡ params_at self.now }
+    {
+        self.globals_at() + 12 * self.globals as usize
+    }
+
+    pub fn runs_at(&self) -> usize
+        ensures within { result < 2 ^ 40 }
+        ensures offset { result ≡ runs_at self.now }
+    {
+        self.params_at() + 8 * self.params as usize
+    }
+
+    pub fn ranges_at(&self) -> usize
+        ensures within { result < 2 ^ 41 }
+        ensures offset { result ≡ ranges_at self.now }
+    {
+        self.runs_at() + 12 * self.runs as usize
+    }
+
+    pub fn texts_at(&self) -> usize
+        ensures within { result < 2 ^ 42 }
+        ensures offset { result ≡ texts_at self.now }
+    {
+        self.ranges_at() + 16 * self.ranges as usize
+    }
+
+    pub fn name_pool_at(&self) -> usize
+        ensures within { result < 2 ^ 43 }
+        ensures offset { result ≡ name_pool_at self.now }
+    {
+        self.texts_at() + 4 * self.texts as usize
+    }
+
+    pub fn text_pool_at(&self) -> usize
+        ensures within { result < 2 ^ 44 }
+        ensures offset { result ≡ text_pool_at self.now }
+    {
+        self.name_pool_at() + self.name_bytes as usize
+    }
+
+    pub fn instrs_at(&self) -> usize
+        ensures within { result < 2 ^ 45 }
+        ensures offset { result ≡ instrs_at self.now }
+    {
+        self.text_pool_at() + self.text_bytes as usize
+    }
+
+    pub fn lines_at(&self) -> usize
+        ensures within { result < 2 ^ 46 }
+        ensures offset { result ≡ lines_at self.now }
+    {
+        self.instrs_at() + 17 * self.instrs as usize
+    }
+
+    pub fn end_at(&self) -> usize
+        ensures within { result < 2 ^ 47 }
+        ensures offset { result ≡ end_at self.now }
+    {
+        self.lines_at() + 8 * self.lines as usize
+    }
+}
+
+// The count at an offset, with its greatest value.
+#[tactic(auto, unfolding(crate::specs::Header::count_fault))]
+fn read_count(bytes: &[u8], at: usize, greatest: u32) -> Result<u32, ObjectFault>
+    requires { at < 2 ^ 32 }
+    ensures count { IfOk result (λ n. (n ≡ u32_there bytes.now at) × (n ≤ greatest) ×
+        (at + 4 ≤ length bytes.now)) }
+    ensures fault { MatchResult result (λ n. count_fault bytes.now at greatest ≡ None)
+        (λ fault. count_fault bytes.now at greatest ≡ Some fault) }
+{
+    if bytes.len() < at + 4 {
+        return Err(ObjectFault::Cut(bytes.len()));
+    }
+    let count = u32_at(bytes, at);
+    if count > greatest {
+        return Err(ObjectFault::BadCount(at));
+    }
+    Ok(count)
+}
+
+// The magic and the version.
+fn read_version(bytes: &[u8]) -> Result<u16, ObjectFault>
+    ensures version { IfOk result (λ v. (v ≡ u16_there bytes.now 8) ×
+        ((nat_eq v 1 || nat_eq v 2) ≡ true)) }
+    ensures fault { MatchResult result (λ v. or_else (magic_fault bytes.now)
+        (version_fault bytes.now) ≡ None) (λ fault. or_else (magic_fault bytes.now)
+        (version_fault bytes.now) ≡ Some fault) }
+{
+    if bytes.len() < 8 {
+        return Err(ObjectFault::Cut(bytes.len()));
+    }
+    if !bytes.starts_with(b"ALMA0OBJ") {
+        return Err(ObjectFault::Magic);
+    }
+    if bytes.len() < 10 {
+        return Err(ObjectFault::Cut(bytes.len()));
+    }
+    let version = u16_at(bytes, 8);
+    if version != 1 && version != 2 {
+        return Err(ObjectFault::Version(version));
+    }
+    Ok(version)
+}
+
+// The counts.
+#[tactic(auto, unfolding(crate::specs::Header::counts_fault))]
+fn read_counts(bytes: &[u8], version: u16) -> Result<Header, ObjectFault>
+    requires version { version ≡ u16_there bytes.now 8 }
+    requires known { (nat_eq version 1 || nat_eq version 2) ≡ true }
+    ensures header { IfOk result (λ h. (h ≡ header_of bytes.now) × IsWithin h ×
+        (routines_at h ≤ length bytes.now)) }
+    ensures fault { MatchResult result (λ h. counts_fault bytes.now ≡ None)
+        (λ fault. counts_fault bytes.now ≡ Some fault) }
+{
+    let routines = read_count(bytes, 10, 262_144)?;
+    if routines == 0 {
+        return Err(ObjectFault::BadCount(10));
+    }
+    let globals = read_count(bytes, 14, 1_048_576)?;
+    let params = read_count(bytes, 18, 1_048_576)?;
+    let runs = read_count(bytes, 22, 8_388_608)?;
+    let ranges = read_count(bytes, 26, 1_048_576)?;
+    let texts = read_count(bytes, 30, 1_048_576)?;
+    let name_bytes = read_count(bytes, 34, 16_777_216)?;
+    let text_bytes = read_count(bytes, 38, 16_777_216)?;
+    if texts == 0 && text_bytes > 0 {
+        return Err(ObjectFault::BadCount(38));
+    }
+    let instrs = read_count(bytes, 42, 4_194_304)?;
+    let lines = if version == 2 {
+        read_count(bytes, 46, 1_048_576)?
+    } else {
+        0
+    };
+    Ok(Header {
+        version,
+        routines,
+        globals,
+        params,
+        runs,
+        ranges,
+        texts,
+        name_bytes,
+        text_bytes,
+        instrs,
+        lines,
+    })
+}
+
+/// The header of an object, or its first fault.
+#[tactic(auto, unfolding(crate::specs::Header::header_fault))]
+pub fn read_header(bytes: &[u8]) -> Result<Header, ObjectFault>
+    ensures header { IfOk result (λ h. (h ≡ header_of bytes.now) × IsWithin h ×
+        (routines_at h ≤ length bytes.now)) }
+    ensures fault { MatchResult result (λ h. header_fault bytes.now ≡ None)
+        (λ fault. header_fault bytes.now ≡ Some fault) }
+{
+    let version = read_version(bytes)?;
+    read_counts(bytes, version)
+}

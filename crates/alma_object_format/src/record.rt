@@ -1,0 +1,80 @@
+// Records of params, runs, ranges and lines in bytes.
+ghost use Rattle.std.specs.Prelude.{◌≡◌, ◌+◌, ◌≤◌, length};
+ghost use Rattle.alma_object_format.specs.Reading.{param_kind as param_kind_of, slot_kind as slot_kind_of, param_in as param_there, run_in as run_there, range_in as range_there, line_in as line_there};
+
+use crate::bytes::{i64_at, u32_at};
+use alma_base::Range;
+use alma_code::{CodeParam, Line, ParamKind, Run, SlotKind};
+
+#[tactic(auto, using(std::proofs::lemmas::List::get_or_past))]
+fn param_kind(number: u32) -> ParamKind
+    ensures { result ≡ param_kind_of number }
+{
+    match number {
+        0 => ParamKind::Value,
+        1 => ParamKind::Place,
+        2 => ParamKind::Mix,
+        3 => ParamKind::Cells,
+        _ => ParamKind::Link,
+    }
+}
+
+#[tactic(auto, using(std::proofs::lemmas::List::get_or_past))]
+fn slot_kind(number: u32, size: u32) -> SlotKind
+    ensures { result ≡ slot_kind_of number size }
+{
+    match number {
+        0 => SlotKind::Number,
+        1 => SlotKind::Place(size),
+        2 => SlotKind::Mark,
+        _ => SlotKind::Link(size),
+    }
+}
+
+/// The param whose record stands at an offset.
+#[tactic(auto, unfolding(crate::specs::Reading::param_in))]
+pub fn param_in(bytes: &[u8], at: usize) -> CodeParam
+    requires { at + 8 ≤ length bytes.now }
+    ensures { result ≡ param_there bytes.now at }
+{
+    CodeParam {
+        kind: param_kind(u32_at(bytes, at)),
+        cells: u32_at(bytes, at + 4),
+    }
+}
+
+/// The run whose record stands at an offset.
+#[tactic(auto, unfolding(crate::specs::Reading::run_in))]
+pub fn run_in(bytes: &[u8], at: usize) -> Run
+    requires { at + 12 ≤ length bytes.now }
+    ensures { result ≡ run_there bytes.now at }
+{
+    Run {
+        kind: slot_kind(u32_at(bytes, at), u32_at(bytes, at + 4)),
+        end: u32_at(bytes, at + 8),
+    }
+}
+
+/// The range whose record stands at an offset.
+#[tactic(auto, unfolding(crate::specs::Reading::range_in))]
+pub fn range_in(bytes: &[u8], at: usize) -> Range
+    requires { at + 16 ≤ length bytes.now }
+    ensures { result ≡ range_there bytes.now at }
+{
+    Range {
+        low: i64_at(bytes, at),
+        high: i64_at(bytes, at + 8),
+    }
+}
+
+/// The line whose record stands at an offset.
+#[tactic(auto, unfolding(crate::specs::Reading::line_in))]
+pub fn line_in(bytes: &[u8], at: usize) -> Line
+    requires { at + 8 ≤ length bytes.now }
+    ensures { result ≡ line_there bytes.now at }
+{
+    Line {
+        at: u32_at(bytes, at),
+        line: u32_at(bytes, at + 4),
+    }
+}

@@ -1,3 +1,0 @@
-pub mod DriverLemmas
-pub mod RefusalLemmas
-pub mod RunLemmas

@@ -1,4 +1,0 @@
-pub mod Causes
-pub mod Files
-pub mod Fronts
-pub mod Whole

@@ -1,0 +1,4 @@
+pub mod TypeItems
+pub mod TypesLeftOut
+pub mod Items
+pub mod LeftOut

@@ -1,0 +1,4 @@
+-- One ARRAY of a type.
+pub mod Dimensions
+-- Pieces of declarations.
+pub mod Entries

@@ -1,2 +1,0 @@
--- What stands behind the END of a module.
-pub mod End

@@ -1,2 +1,0 @@
--- Pieces of declarations.
-pub mod Entries

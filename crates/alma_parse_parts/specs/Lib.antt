@@ -1,0 +1,5 @@
+pub mod Heads
+pub mod Joins
+pub mod Made
+pub mod Nodes
+pub mod Pieces

@@ -1,0 +1,33 @@
+use Rattle.std.proofs.Common.{◌∷◌, refl, ap}
+use Rattle.alma_tree.specs.declared.kind.Kind.TheVariants as kinds
+use Rattle.alma_tree.specs.Spelling.{spell_stmt}
+use Rattle.alma_tree.specs.Numbers.{token, node, ◌>>◌, number_stmt}
+use Rattle.alma_tree.proofs.Rows as rows
+use Rattle.alma_tree.proofs.NumberRows as numbers
+use Rattle.alma_parse_cursor.proofs.Steps.{opened, after, first}
+use Rattle.alma_parse_parts.proofs.Stopped.{stopped}
+use Rattle.alma_parse_parts.proofs.Chain.{matching, ended_behind}
+use Rattle.alma_parse_parts.proofs.Values.{a_stmt, more_orelses, count_orelses}
+use Rattle.alma_parse_parts.proofs.Fronts.{part, and_then, whole}
+use Rattle.alma_parse_stmt.proofs.statement.either_stmt.Goals as goal
+
+pub returns-in_err-at : goal.returns-in_err-at
+returns-in_err-at g c = record { read = stopped _ _ _ _ c.from_residual.ensures.1 (first c.in_err-at.ensures.opened) }
+
+pub returns-in_err-first : goal.returns-in_err-first
+returns-in_err-first g c = record {
+  read = stopped _ _ _ _ c.from_residual-in_err-first.ensures.1 (after (opened refl
+      c.in_ok-at.ensures.opened) (first c.in_err-first.ensures.read));
+}
+
+pub returns : goal.returns
+returns g c = record { read = whole (λ v ks. more_orelses v.0 (kinds.End ∷ ks)) (λ v. count_orelses v.0 >> token >> node v.1) a_stmt number_stmt (and_then (part (opened refl c.in_ok-at.ensures.opened)) (part c.in_ok-first.ensures.read)) _ _ _ (λ v. ap spell_stmt (rows.either_laid v.1 c.in_ok-first.first v.0)) (λ v. numbers.either_laid v.1 c.in_ok-first.first v.0) c.numbered.result _ c.either_of.ensures.made (ended_behind more_orelses count_orelses _ _ _ _ _ _ (matching kinds.End refl refl c.in_ok-at.ensures.opened) c.orelse_list.result c.followed_by-more.result c.followed_by-more.ensures.followed c.orelse_list.ensures.read c.numbered.result c.numbered.ensures.numbered) }
+
+pub open-requires : goal.open-requires
+open-requires g c = record { opening = refl }
+
+pub nested-requires : goal.nested-requires
+nested-requires g c = record { callable = c.requires.callable; reads = c.requires.reads }
+
+pub orelse_list-requires : goal.orelse_list-requires
+orelse_list-requires g c = record { callable = c.requires.callable; reads = c.requires.reads }

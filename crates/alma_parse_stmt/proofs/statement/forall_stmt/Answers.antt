@@ -1,0 +1,35 @@
+use Rattle.std.proofs.Common.{◌∷◌, Err, refl, ap}
+use Rattle.alma_tree.specs.declared.kind.Kind.TheVariants as kinds
+use Rattle.alma_tree.specs.Spelling.{spell_stmt}
+use Rattle.alma_tree.specs.Numbers.{token, node, ◌>>◌, number_stmts, number_stmt}
+use Rattle.alma_tree.proofs.Rows as rows
+use Rattle.alma_tree.proofs.NumberRows as numbers
+use Rattle.alma_parse_cursor.proofs.Joins.{followed}
+use Rattle.alma_parse_cursor.proofs.Steps.{opened, after, first}
+use Rattle.alma_parse_parts.proofs.Stopped.{stopped}
+use Rattle.alma_parse_parts.proofs.Chain.{plain, matching, ended_behind}
+use Rattle.alma_parse_parts.proofs.Values.{a_stmt, some_stmts}
+use Rattle.alma_parse_parts.proofs.Fronts.{part, part_and, and_then, whole}
+use Rattle.alma_parse_stmt.proofs.statement.forall_stmt.Goals as goal
+
+pub returns-in_err-at : goal.returns-in_err-at
+returns-in_err-at g c = record { read = stopped _ _ _ _ c.from_residual.ensures.1 (first c.in_err-at.ensures.opened) }
+
+pub returns-in_err-choice : goal.returns-in_err-choice
+returns-in_err-choice g c = record {
+  read = stopped _ _ _ _ c.from_residual-in_err-choice.ensures.1 (after (opened refl
+      c.in_ok-at.ensures.opened) (first (followed some_stmts number_stmts _ _ _ _ _ (plain kinds.Do _ refl refl) c.nested.result (Err _)
+      c.in_err-choice.ensures.followed c.nested.ensures.read)));
+}
+
+pub returns : goal.returns
+returns g c = record { read = whole (λ v ks. some_stmts v.0 (kinds.End ∷ ks)) (λ v. number_stmts v.0 >> token >> node v.1) a_stmt number_stmt (and_then (part (opened refl c.in_ok-at.ensures.opened)) (part_and some_stmts number_stmts kinds.Do _ _ _ _ _ (plain kinds.Do _ refl refl) c.nested.result _ c.in_ok-choice.ensures.followed c.nested.ensures.read)) _ _ _ (λ v. ap spell_stmt (rows.forall_laid v.1 c.in_ok-choice.choice v.0)) (λ v. numbers.forall_laid v.1 c.in_ok-choice.choice v.0) c.numbered.result _ c.forall_of.ensures.made (ended_behind some_stmts number_stmts _ _ _ _ _ _ (matching kinds.End refl refl c.in_ok-at.ensures.opened) c.nested-2.result c.followed_by-body.result c.followed_by-body.ensures.followed c.nested-2.ensures.read c.numbered.result c.numbered.ensures.numbered) }
+
+pub open-requires : goal.open-requires
+open-requires g c = record { opening = refl }
+
+pub nested-requires : goal.nested-requires
+nested-requires g c = record { callable = c.requires.callable; reads = c.requires.reads }
+
+pub nested-requires-2 : goal.nested-requires-2
+nested-requires-2 g c = record { callable = c.requires.callable; reads = c.requires.reads }

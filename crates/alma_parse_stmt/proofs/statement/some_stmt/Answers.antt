@@ -1,0 +1,37 @@
+use Rattle.std.proofs.Common.{◌∷◌, Err, refl, ap}
+use Rattle.alma_tree.specs.declared.kind.Kind.TheVariants as kinds
+use Rattle.alma_tree.specs.Spelling.{spell_stmt}
+use Rattle.alma_tree.specs.Numbers.{token, node, ◌>>◌, number_stmts, number_stmt, number_expr}
+use Rattle.alma_tree.proofs.Rows as rows
+use Rattle.alma_tree.proofs.NumberRows as numbers
+use Rattle.alma_parse_cursor.proofs.Joins.{followed}
+use Rattle.alma_parse_cursor.proofs.Steps.{first}
+use Rattle.alma_parse_parts.proofs.Stopped.{stopped}
+use Rattle.alma_parse_parts.proofs.Chain.{plain, matching, ended_behind}
+use Rattle.alma_parse_parts.proofs.Values.{a_stmt, an_expr, some_stmts}
+use Rattle.alma_parse_parts.proofs.Fronts.{part_and, and_then, whole, loop_front}
+use Rattle.alma_parse_stmt.proofs.statement.some_stmt.Goals as goal
+
+pub returns-in_err-variable : goal.returns-in_err-variable
+returns-in_err-variable g c = record { read = stopped _ _ _ _ c.from_residual.ensures.1 (first c.in_err-variable.ensures.begins) }
+
+pub returns-in_err-from : goal.returns-in_err-from
+returns-in_err-from g c = record { read = stopped _ _ _ _ c.from_residual-in_err-from.ensures.1 ((loop_front refl c.in_ok-variable.ensures.begins).fails _ _ (first (followed an_expr number_expr _ _ _ _ _ (plain kinds.To _ refl refl) c.expr.result (Err _) c.in_err-from.ensures.followed c.expr.ensures.read))) }
+
+pub returns-in_err-to : goal.returns-in_err-to
+returns-in_err-to g c = record { read = stopped _ _ _ _ c.from_residual-in_err-to.ensures.1 ((and_then (loop_front refl c.in_ok-variable.ensures.begins) (part_and an_expr number_expr kinds.To _ _ _ _ _ (plain kinds.To _ refl refl) c.expr.result _ c.in_ok-from.ensures.followed c.expr.ensures.read)).fails _ _ (first (followed an_expr number_expr _ _ _ _ _ (plain kinds.Do _ refl refl) c.expr-2.result (Err _) c.in_err-to.ensures.followed c.expr-2.ensures.read))) }
+
+pub returns : goal.returns
+returns g c = record { read = whole (λ v ks. some_stmts v.0 (kinds.End ∷ ks)) (λ v. number_stmts v.0 >> token >> node v.1) a_stmt number_stmt (and_then (loop_front refl c.in_ok-variable.ensures.begins) (and_then (part_and an_expr number_expr kinds.To _ _ _ _ _ (plain kinds.To _ refl refl) c.expr.result _ c.in_ok-from.ensures.followed c.expr.ensures.read) (part_and an_expr number_expr kinds.Do _ _ _ _ _ (plain kinds.Do _ refl refl) c.expr-2.result _ c.in_ok-to.ensures.followed c.expr-2.ensures.read))) _ _ _ (λ v. ap spell_stmt (rows.some_laid v.1 c.in_ok-variable.variable c.in_ok-from.from c.in_ok-to.to v.0)) (λ v. numbers.some_laid v.1 c.in_ok-variable.variable c.in_ok-from.from c.in_ok-to.to v.0) c.numbered.result _ c.some_of.ensures.made (ended_behind some_stmts number_stmts _ _ _ _ _ _ (matching kinds.End refl refl c.in_ok-variable.ensures.begins.opens_first) c.nested.result c.followed_by-body.result c.followed_by-body.ensures.followed c.nested.ensures.read c.numbered.result c.numbered.ensures.numbered) }
+
+pub loop_head-requires : goal.loop_head-requires
+loop_head-requires g c = record { opening = refl }
+
+pub expr-requires : goal.expr-requires
+expr-requires g c = record { callable = c.requires.callable; reads = c.requires.reads }
+
+pub expr-requires-2 : goal.expr-requires-2
+expr-requires-2 g c = record { callable = c.requires.callable; reads = c.requires.reads }
+
+pub nested-requires : goal.nested-requires
+nested-requires g c = record { callable = c.requires.callable; reads = c.requires.reads }

@@ -1,0 +1,1 @@
+pub use Rattle.alma_parse_parts.specs.Pieces

@@ -1,2 +1,0 @@
--- One ARRAY of a type.
-pub mod Dimensions

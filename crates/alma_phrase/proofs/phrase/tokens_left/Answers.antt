@@ -1,6 +1,0 @@
-use Rattle.std.proofs.Common.{sym}
-use lib.ListN.{length-map}
-use Rattle.alma_phrase.proofs.phrase.tokens_left.Goals as goal
-
-pub returns : goal.returns
-returns c = record { counted = sym (length-map c.args.at.rest.now (λ t. t.kind)) }

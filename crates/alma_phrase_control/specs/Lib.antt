@@ -1,1 +1,0 @@
-pub use Rattle.alma_phrase_steps.specs.Pieces

@@ -1,8 +1,0 @@
-use Rattle.std.proofs.Common.{◌≡◌, map, drop}
-use Rattle.alma_rules.specs.Places as places
-use Rattle.alma_phrase_marks.specs.Marking.{mark_of}
-use Rattle.alma_phrase_marks.proofs.mark.first_token.Given as goal
-
-abbrev pub invariant-loop-mark : goal.invariant-loop-mark
-invariant-loop-mark l =
-    places.node_token l.node (map mark_of l.marks.marks.items) ≡ places.node_token l.node (map mark_of (drop l.mark-index l.marks.marks.items))

@@ -1,3 +1,0 @@
-pub mod CauseLemmas
-pub mod Unread
-pub mod HeadlineLemmas

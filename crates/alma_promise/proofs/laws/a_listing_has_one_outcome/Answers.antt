@@ -1,5 +1,0 @@
-use Rattle.alma_outcome.proofs.DriverLemmas.{one_listing}
-use Rattle.alma_promise.proofs.laws.a_listing_has_one_outcome.Goals as goal
-
-pub returns : goal.returns
-returns c = record { same = one_listing }

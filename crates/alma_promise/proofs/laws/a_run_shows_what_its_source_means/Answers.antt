@@ -1,5 +1,0 @@
-use Rattle.alma_promise.proofs.HeadlineLemmas.{run_ends}
-use Rattle.alma_promise.proofs.laws.a_run_shows_what_its_source_means.Goals as goal
-
-pub returns : goal.returns
-returns c = record { shown = run_ends }

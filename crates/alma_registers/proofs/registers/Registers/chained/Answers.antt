@@ -1,4 +1,0 @@
-use Rattle.alma_registers.proofs.registers.Registers.chained.Goals as goal
-
-pub held-requires : goal.held-requires
-held-requires c = c.in_ok-frame.ensures.0 c.args.slot c.requires.leads

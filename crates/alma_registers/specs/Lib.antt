@@ -1,3 +1,0 @@
-pub mod Meets
-pub mod Rows
-pub mod Steps

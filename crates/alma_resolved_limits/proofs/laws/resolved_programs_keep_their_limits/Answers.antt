@@ -1,5 +1,0 @@
-use Rattle.alma_resolved_limits.proofs.Routines.{program_keeps_limits}
-use Rattle.alma_resolved_limits.proofs.laws.resolved_programs_keep_their_limits.Goals as goal
-
-pub returns : goal.returns
-returns c = program_keeps_limits

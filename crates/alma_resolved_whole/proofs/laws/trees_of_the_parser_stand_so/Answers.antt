@@ -1,5 +1,0 @@
-use Rattle.alma_resolved_whole.proofs.Standing.{numbered_stands}
-use Rattle.alma_resolved_whole.proofs.laws.trees_of_the_parser_stand_so.Goals as goal
-
-pub returns : goal.returns
-returns c = numbered_stands

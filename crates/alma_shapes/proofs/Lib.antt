@@ -1,4 +1,0 @@
-pub mod Added
-pub mod Tables
-pub mod Placing
-pub mod Fields

@@ -1,2 +1,0 @@
-pub mod Lays
-pub mod Trails

@@ -1,4 +1,0 @@
-pub mod Back
-pub mod Copying
-pub mod Given
-pub mod Reading

@@ -1,5 +1,0 @@
-use Rattle.alma_transfers.proofs.Given.{ReadSo}
-use Rattle.alma_transfers.proofs.calls.arguments.Given as goal
-
-abbrev pub invariant-loop-i : goal.invariant-loop-i
-invariant-loop-i g l = ReadSo l.registers.memory.now (g.H.Head.head l.head).params l.first l.i l.args.items

@@ -1,3 +1,0 @@
-pub mod Does
-pub mod Acts
-pub mod Undoing

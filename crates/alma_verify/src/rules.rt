@@ -1,0 +1,318 @@
+// The rules of one instruction, one function each.
+ghost use Rattle.std.specs.Prelude.{slice_get, ◌≡◌, ◌<◌, length};
+ghost use Rattle.alma_code.specs.Plain.{head_at};
+ghost use Rattle.alma_code.specs.Rules.{IsTable, names_slot as names_slot_spec, rule_4 as rule_4_spec, rule_7 as rule_7_spec, names_entry as names_entry_spec, rule_8 as rule_8_spec, rule_12 as rule_12_spec, ends_routine as ends_routine_spec, rule_5 as rule_5_spec, rule_6 as rule_6_spec, has_room as has_room_spec, is_address as is_address_spec, names_address as names_address_spec, rule_9 as rule_9_spec, rule_10 as rule_10_spec, rule_11 as rule_11_spec, fits_argument as fits_argument_spec, fit_arguments, holds_result as holds_result_spec};
+
+use crate::reader::CodeReader;
+use crate::slots::{
+    are_cells, are_numbers_of_any, is_link, is_link_of, is_mark, is_number, is_place, is_place_of,
+    is_slot, kind_of, kind_of_any, length_of, link_of, start_of,
+};
+use crate::words::words_of;
+use alma_code::{CodeParam, Instr, ParamKind, Word};
+
+pub fn names_slot<R: CodeReader>(reader: &R, routine: u32, word: Word) -> bool
+    requires routine { routine < length (R.code reader.now).routines }
+    requires table { IsTable (R.code reader.now) }
+    ensures { result ≡ names_slot_spec (R.code reader.now) routine word }
+{
+    match word {
+        Word::Number(slot) => {
+            is_slot(reader, routine, slot) && is_number(kind_of(reader, routine, u64::from(slot)))
+        }
+        Word::Place(slot) => {
+            is_slot(reader, routine, slot) && is_place(kind_of(reader, routine, u64::from(slot)))
+        }
+        Word::Mark(slot) => {
+            is_slot(reader, routine, slot) && is_mark(kind_of(reader, routine, u64::from(slot)))
+        }
+        Word::Link(slot) => {
+            is_slot(reader, routine, slot) && is_link(kind_of(reader, routine, u64::from(slot)))
+        }
+        Word::Slot(slot) => is_slot(reader, routine, slot),
+        Word::Range(_) | Word::Text(_) | Word::Address(_) | Word::Free => true,
+    }
+}
+
+pub fn rule_4<R: CodeReader>(reader: &R, routine: u32, instr: Instr) -> bool
+    requires routine { routine < length (R.code reader.now).routines }
+    requires table { IsTable (R.code reader.now) }
+    ensures { result ≡ rule_4_spec (R.code reader.now) routine instr }
+{
+    let [a, b, c, d] = words_of(instr);
+    names_slot(reader, routine, a)
+        && names_slot(reader, routine, b)
+        && names_slot(reader, routine, c)
+        && names_slot(reader, routine, d)
+}
+
+#[tactic(auto, unfolding(alma_code::specs::Rules::rule_7))]
+pub fn rule_7<R: CodeReader>(reader: &R, routine: u32, instr: Instr) -> bool
+    requires routine { routine < length (R.code reader.now).routines }
+    requires table { IsTable (R.code reader.now) }
+    ensures { result ≡ rule_7_spec (R.code reader.now) routine instr }
+{
+    match instr {
+        Instr::Load { to: _, from } => length_of(reader, routine, from) == 1,
+        Instr::Store { to, from: _ } => length_of(reader, routine, to) == 1,
+        Instr::Known { to: _, of } => length_of(reader, routine, of) == 1,
+        Instr::Bind {
+            place,
+            value: _,
+            range: _,
+        } => length_of(reader, routine, place) == 1,
+        Instr::Unify {
+            left,
+            left_range: _,
+            right,
+            right_range: _,
+        } => { length_of(reader, routine, left) == 1 && length_of(reader, routine, right) == 1 }
+        Instr::CopyCells { to, from } => {
+            length_of(reader, routine, to) == length_of(reader, routine, from)
+        }
+        Instr::SameCells { left, right } => {
+            length_of(reader, routine, left) == length_of(reader, routine, right)
+        }
+        Instr::ReadInt { place, range: _ } => length_of(reader, routine, place) == 1,
+        Instr::ReadChar { place, range: _ } => length_of(reader, routine, place) == 1,
+        _ => true,
+    }
+}
+
+pub fn names_entry<R: CodeReader>(reader: &R, word: Word) -> bool
+    ensures { result ≡ names_entry_spec (R.code reader.now) word }
+{
+    match word {
+        Word::Range(range) => reader.range(range).is_some(),
+        Word::Text(text) => reader.has_text(text),
+        Word::Number(_)
+        | Word::Place(_)
+        | Word::Mark(_)
+        | Word::Link(_)
+        | Word::Slot(_)
+        | Word::Address(_)
+        | Word::Free => true,
+    }
+}
+
+pub fn rule_8<R: CodeReader>(reader: &R, instr: Instr) -> bool
+    ensures { result ≡ rule_8_spec (R.code reader.now) instr }
+{
+    let [a, b, c, d] = words_of(instr);
+    names_entry(reader, a)
+        && names_entry(reader, b)
+        && names_entry(reader, c)
+        && names_entry(reader, d)
+}
+
+#[tactic(auto, unfolding(alma_code::specs::Rules::rule_12))]
+pub fn rule_12<R: CodeReader>(reader: &R, routine: u32, instr: Instr) -> bool
+    requires { routine < length (R.code reader.now).routines }
+    ensures { result ≡ rule_12_spec (R.code reader.now) routine instr }
+{
+    match instr {
+        Instr::ReturnValue { value: _ } => reader.has_result(routine),
+        Instr::Return => !reader.has_result(routine),
+        Instr::Fault { number } => number == 5 || number == 6,
+        _ => true,
+    }
+}
+
+pub fn ends_routine(instr: Instr) -> bool
+    ensures { result ≡ ends_routine_spec instr }
+{
+    matches!(
+        instr,
+        Instr::Jump { .. }
+            | Instr::Fail
+            | Instr::Return
+            | Instr::ReturnValue { .. }
+            | Instr::Fault { .. }
+    )
+}
+
+#[tactic(auto, unfolding(alma_code::specs::Rules::rule_5))]
+pub fn rule_5<R: CodeReader>(reader: &R, routine: u32, instr: Instr) -> bool
+    requires routine { routine < length (R.code reader.now).routines }
+    requires table { IsTable (R.code reader.now) }
+    ensures { result ≡ rule_5_spec (R.code reader.now) routine instr }
+{
+    match instr {
+        Instr::Local { to, first } => {
+            are_cells(reader, routine, first, length_of(reader, routine, to))
+        }
+        Instr::Global { to, first } => are_cells(reader, 0, first, length_of(reader, routine, to)),
+        Instr::Same { to, from } => {
+            length_of(reader, routine, to) == length_of(reader, routine, from)
+        }
+        Instr::Field { to, from, offset } => {
+            u64::from(offset) + u64::from(length_of(reader, routine, to))
+                <= u64::from(length_of(reader, routine, from))
+        }
+        Instr::Own { to } => is_link_of(routine, kind_of(reader, routine, u64::from(to))),
+        Instr::Chain { to, link, slot } => is_link_of(
+            link_of(reader, routine, to),
+            kind_of_any(reader, link_of(reader, routine, link), slot),
+        ),
+        Instr::Outer { to, link, first } => are_numbers_of_any(
+            reader,
+            link_of(reader, routine, link),
+            first,
+            length_of(reader, routine, to),
+        ),
+        Instr::OuterSame { to, link, slot } => is_place_of(
+            length_of(reader, routine, to),
+            kind_of_any(reader, link_of(reader, routine, link), slot),
+        ),
+        _ => true,
+    }
+}
+
+pub fn is_address<R: CodeReader>(reader: &R, routine: u32, at: u32) -> bool
+    requires { routine < length (R.code reader.now).routines }
+    ensures { result ≡ is_address_spec (R.code reader.now) routine at }
+{
+    start_of(reader, routine) <= at && at < reader.code_end(routine)
+}
+
+pub fn names_address<R: CodeReader>(reader: &R, routine: u32, word: Word) -> bool
+    requires { routine < length (R.code reader.now).routines }
+    ensures { result ≡ names_address_spec (R.code reader.now) routine word }
+{
+    match word {
+        Word::Address(at) => is_address(reader, routine, at),
+        Word::Number(_)
+        | Word::Place(_)
+        | Word::Mark(_)
+        | Word::Link(_)
+        | Word::Slot(_)
+        | Word::Range(_)
+        | Word::Text(_)
+        | Word::Free => true,
+    }
+}
+
+pub fn rule_9<R: CodeReader>(reader: &R, routine: u32, instr: Instr) -> bool
+    requires { routine < length (R.code reader.now).routines }
+    ensures { result ≡ rule_9_spec (R.code reader.now) routine instr }
+{
+    let [a, b, c, d] = words_of(instr);
+    names_address(reader, routine, a)
+        && names_address(reader, routine, b)
+        && names_address(reader, routine, c)
+        && names_address(reader, routine, d)
+}
+
+#[tactic(auto, unfolding(alma_code::specs::Rules::rule_11))]
+pub fn rule_11<R: CodeReader>(reader: &R, routine: u32, at: u32, instr: Instr) -> bool
+    requires routine { routine < length (R.code reader.now).routines }
+    requires at { at < length (R.code reader.now).instrs }
+    ensures { result ≡ rule_11_spec (R.code reader.now) routine at instr }
+{
+    u64::from(at) + 1 < u64::from(reader.code_end(routine)) || ends_routine(instr)
+}
+
+pub fn fits_argument<R: CodeReader>(reader: &R, routine: u32, param: CodeParam, slot: u64) -> bool
+    requires routine { routine < length (R.code reader.now).routines }
+    requires table { IsTable (R.code reader.now) }
+    ensures { result ≡ fits_argument_spec (R.code reader.now) routine param.kind param.cells slot }
+{
+    let kind = kind_of(reader, routine, slot);
+    match param.kind {
+        ParamKind::Value => is_number(kind),
+        ParamKind::Place | ParamKind::Cells => is_place_of(param.cells, kind),
+        ParamKind::Mix => is_number(kind) || is_place_of(1, kind),
+        ParamKind::Link => is_link_of(param.cells, kind),
+    }
+}
+
+/// Whether the slots from first on can be the arguments of the callee.
+#[tactic(auto, using(crate::proofs::RuleStarts::argument_steps))]
+pub fn fit_all<R: CodeReader>(reader: &R, routine: u32, callee: u32, first: u32) -> bool
+    requires routine { routine < length (R.code reader.now).routines }
+    requires callee { callee < length (R.code reader.now).routines }
+    requires table { IsTable (R.code reader.now) }
+    ensures { result ≡ fit_arguments (R.code reader.now) routine
+        (head_at (R.code reader.now) callee).params first }
+{
+    let count = reader.param_count(callee);
+    for k in 0..count {
+        let slot = u64::from(first) + u64::from(k);
+        let param = reader.param(callee, k);
+        if !((routine > 0 || slot > 0) && fits_argument(reader, routine, param, slot)) {
+            return false;
+        }
+    }
+    true
+}
+
+pub fn has_place_for_result<R: CodeReader>(reader: &R, routine: u32, gives: bool, to: u32) -> bool
+    requires routine { routine < length (R.code reader.now).routines }
+    requires table { IsTable (R.code reader.now) }
+    ensures { result ≡ holds_result_spec (R.code reader.now) routine gives to }
+{
+    if gives {
+        (routine > 0 || to > 0) && is_number(kind_of(reader, routine, u64::from(to)))
+    } else {
+        to == 0
+    }
+}
+
+#[tactic(auto, unfolding(alma_code::specs::Rules::rule_10), using(crate::proofs::RuleStarts::firsts))]
+pub fn rule_10<R: CodeReader>(reader: &R, routine: u32, at: u32, instr: Instr) -> bool
+    requires routine { routine < length (R.code reader.now).routines }
+    requires table { IsTable (R.code reader.now) }
+    requires at { at < length (R.code reader.now).instrs }
+    ensures { result ≡ rule_10_spec (R.code reader.now) routine at instr }
+{
+    match instr {
+        Instr::Call {
+            routine: callee,
+            first,
+            to,
+        } => {
+            callee > 0
+                && callee < reader.routine_count()
+                && fit_all(reader, routine, callee, first)
+                && (reader.param_count(callee) > 0 || first == 0)
+                && has_place_for_result(reader, routine, reader.has_result(callee), to)
+                && u64::from(at) + 1 < u64::from(reader.code_end(routine))
+        }
+        _ => true,
+    }
+}
+
+/// Whether as many elements as a range has numbers fit into an array.
+pub fn has_room<R: CodeReader>(reader: &R, range: u32, each: u32, all: u32) -> bool
+    ensures { result ≡ has_room_spec (slice_get (R.code reader.now).ranges range) each all }
+{
+    match reader.range(range) {
+        None => true,
+        Some(range) => {
+            let size = (i128::from(range.high) - i128::from(range.low)).unsigned_abs() + 1;
+            size * u128::from(each) <= u128::from(all)
+        }
+    }
+}
+
+#[tactic(auto, unfolding(alma_code::specs::Rules::rule_6))]
+pub fn rule_6<R: CodeReader>(reader: &R, routine: u32, instr: Instr) -> bool
+    requires routine { routine < length (R.code reader.now).routines }
+    requires table { IsTable (R.code reader.now) }
+    ensures { result ≡ rule_6_spec (R.code reader.now) routine instr }
+{
+    match instr {
+        Instr::Index {
+            to,
+            from,
+            index: _,
+            range,
+        } => has_room(
+            reader,
+            range,
+            length_of(reader, routine, to),
+            length_of(reader, routine, from),
+        ),
+        _ => true,
+    }
+}

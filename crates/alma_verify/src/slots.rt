@@ -1,0 +1,203 @@
+// What kinds the slots of a routine have, and where its code begins.
+ghost use Rattle.std.specs.Prelude.{MatchOption, None, ◌^◌, ◌≡◌, ◌<◌, length};
+ghost use Rattle.alma_code.specs.Plain.{start_at, kinds_at};
+ghost use Rattle.alma_code.specs.Kinds.{is_number as is_number_spec, is_mark as is_mark_spec, is_place as is_place_spec, is_place_of as is_place_of_spec, is_link as is_link_spec, is_link_of as is_link_of_spec, numbers_from};
+ghost use Rattle.alma_code.specs.Rules.{IsTable, kind_in, length_in, link_in, place_length as place_length_spec, link_routine as link_routine_spec, is_slot as is_slot_spec, cells_in};
+ghost use Rattle.alma_verify.specs.Runs.{Covers};
+
+use crate::reader::CodeReader;
+use alma_code::{Run, SlotKind};
+
+/// The run over a slot, by halving.
+pub fn run_over<R: CodeReader>(reader: &R, routine: u32, slot: u64) -> Option<Run>
+    requires routine { routine < length (R.code reader.now).routines }
+    requires table { IsTable (R.code reader.now) }
+    ensures { MatchOption result (kind_in (R.code reader.now) routine slot ≡ None)
+        (λ r. Covers (kinds_at (R.code reader.now) routine) slot r) }
+{
+    let count = reader.run_count(routine);
+    let mut low = 0;
+    let mut high = count;
+    'halve: while low < high {
+        let middle = low + (high - low) / 2;
+        if slot < u64::from(reader.run(routine, middle).end) {
+            high = middle;
+        } else {
+            low = middle + 1;
+        }
+    }
+    if low < count {
+        Some(reader.run(routine, low))
+    } else {
+        None
+    }
+}
+
+/// The kind of a slot.
+pub fn kind_of<R: CodeReader>(reader: &R, routine: u32, slot: u64) -> Option<SlotKind>
+    requires routine { routine < length (R.code reader.now).routines }
+    requires table { IsTable (R.code reader.now) }
+    ensures { result ≡ kind_in (R.code reader.now) routine slot }
+{
+    match run_over(reader, routine, slot) {
+        Some(run) => Some(run.kind),
+        None => None,
+    }
+}
+
+pub fn is_number(kind: Option<SlotKind>) -> bool
+    ensures { result ≡ is_number_spec kind }
+{
+    matches!(kind, Some(SlotKind::Number))
+}
+
+pub fn is_mark(kind: Option<SlotKind>) -> bool
+    ensures { result ≡ is_mark_spec kind }
+{
+    matches!(kind, Some(SlotKind::Mark))
+}
+
+pub fn is_place(kind: Option<SlotKind>) -> bool
+    ensures { result ≡ is_place_spec kind }
+{
+    matches!(kind, Some(SlotKind::Place(_)))
+}
+
+pub fn is_place_of(length: u32, kind: Option<SlotKind>) -> bool
+    ensures { result ≡ is_place_of_spec length kind }
+{
+    match kind {
+        Some(SlotKind::Place(size)) => size == length,
+        Some(SlotKind::Number) | Some(SlotKind::Mark) | Some(SlotKind::Link(_)) | None => false,
+    }
+}
+
+pub fn place_length(kind: Option<SlotKind>) -> u32
+    ensures { result ≡ place_length_spec kind }
+{
+    match kind {
+        Some(SlotKind::Place(length)) => length,
+        Some(SlotKind::Number) | Some(SlotKind::Mark) | Some(SlotKind::Link(_)) | None => 0,
+    }
+}
+
+pub fn is_link(kind: Option<SlotKind>) -> bool
+    ensures { result ≡ is_link_spec kind }
+{
+    matches!(kind, Some(SlotKind::Link(_)))
+}
+
+pub fn is_link_of(routine: u32, kind: Option<SlotKind>) -> bool
+    ensures { result ≡ is_link_of_spec routine kind }
+{
+    match kind {
+        Some(SlotKind::Link(other)) => other == routine,
+        Some(SlotKind::Number) | Some(SlotKind::Mark) | Some(SlotKind::Place(_)) | None => false,
+    }
+}
+
+pub fn link_routine(kind: Option<SlotKind>) -> u32
+    ensures { result ≡ link_routine_spec kind }
+{
+    match kind {
+        Some(SlotKind::Link(routine)) => routine,
+        Some(SlotKind::Number) | Some(SlotKind::Mark) | Some(SlotKind::Place(_)) | None => 0,
+    }
+}
+
+/// A slot word below the routine's slots that is not the input position.
+pub fn is_slot<R: CodeReader>(reader: &R, routine: u32, slot: u32) -> bool
+    requires { routine < length (R.code reader.now).routines }
+    ensures { result ≡ is_slot_spec (R.code reader.now) routine slot }
+{
+    slot < reader.slots(routine) && (routine > 0 || slot > 0)
+}
+
+pub fn length_of<R: CodeReader>(reader: &R, routine: u32, slot: u32) -> u32
+    requires routine { routine < length (R.code reader.now).routines }
+    requires table { IsTable (R.code reader.now) }
+    ensures { result ≡ length_in (R.code reader.now) routine slot }
+{
+    place_length(kind_of(reader, routine, u64::from(slot)))
+}
+
+/// The routine to whose frames the links of a slot lead.
+pub fn link_of<R: CodeReader>(reader: &R, routine: u32, slot: u32) -> u32
+    requires routine { routine < length (R.code reader.now).routines }
+    requires table { IsTable (R.code reader.now) }
+    ensures { result ≡ link_in (R.code reader.now) routine slot }
+{
+    link_routine(kind_of(reader, routine, u64::from(slot)))
+}
+
+/// The kind of a slot of a routine that may not be there.
+pub fn kind_of_any<R: CodeReader>(reader: &R, routine: u32, slot: u32) -> Option<SlotKind>
+    requires table { IsTable (R.code reader.now) }
+    ensures { result ≡ kind_in (R.code reader.now) routine slot }
+{
+    if routine < reader.routine_count() {
+        kind_of(reader, routine, u64::from(slot))
+    } else {
+        None
+    }
+}
+
+#[tactic(auto, using(crate::proofs::SlotStarts::starts))]
+pub fn start_of<R: CodeReader>(reader: &R, routine: u32) -> u32
+    requires { routine < length (R.code reader.now).routines }
+    ensures { result ≡ start_at (R.code reader.now) routine }
+{
+    if routine == 0 {
+        0
+    } else {
+        reader.code_end(routine - 1)
+    }
+}
+
+/// Whether count slots from first on are number slots, a run at a time.
+pub fn are_numbers<R: CodeReader>(reader: &R, routine: u32, first: u64, count: u32) -> bool
+    requires routine { routine < length (R.code reader.now).routines }
+    requires table { IsTable (R.code reader.now) }
+    requires first { first < 2 ^ 62 }
+    ensures { result ≡ numbers_from count (kinds_at (R.code reader.now) routine) first }
+{
+    let end = first + u64::from(count);
+    let mut at = first;
+    'walk: while at < end {
+        match run_over(reader, routine, at) {
+            None => return false,
+            Some(run) => {
+                if !is_number(Some(run.kind)) {
+                    return false;
+                }
+                at = u64::from(run.end);
+            }
+        }
+    }
+    true
+}
+
+/// Whether count slots from first on are number slots other than the input position.
+#[tactic(auto, using(crate::proofs::SlotStarts::numbers))]
+pub fn are_cells<R: CodeReader>(reader: &R, routine: u32, first: u32, count: u32) -> bool
+    requires routine { routine < length (R.code reader.now).routines }
+    requires table { IsTable (R.code reader.now) }
+    ensures { result ≡ cells_in (R.code reader.now) routine first count }
+{
+    if count == 0 {
+        return true;
+    }
+    (routine > 0 || first > 0) && are_numbers(reader, routine, u64::from(first), count)
+}
+
+/// Whether count slots from first on, of a routine that may not be there, are number slots.
+pub fn are_numbers_of_any<R: CodeReader>(reader: &R, routine: u32, first: u32, count: u32) -> bool
+    requires table { IsTable (R.code reader.now) }
+    ensures { result ≡ numbers_from count (kinds_at (R.code reader.now) routine) first }
+{
+    if routine < reader.routine_count() {
+        are_numbers(reader, routine, u64::from(first), count)
+    } else {
+        count == 0
+    }
+}

@@ -1,2 +1,0 @@
-pub mod SlotRuns
-pub mod Starts

@@ -1,9 +1,0 @@
-pub mod Judging
-pub mod Rows
-pub mod TypeRows
-pub mod Onwards
-pub mod Exprs
-pub mod Desigs
-pub mod Stmts
-pub mod Turns
-pub mod Cases

@@ -1,3 +1,0 @@
-pub mod Appends
-pub mod Arms
-pub mod Onward

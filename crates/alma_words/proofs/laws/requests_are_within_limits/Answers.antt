@@ -1,5 +1,0 @@
-use Rattle.alma_words.proofs.WordLemmas.{within_limits}
-use Rattle.alma_words.proofs.laws.requests_are_within_limits.Goals as goal
-
-pub returns : goal.returns
-returns c = record { within = within_limits }
