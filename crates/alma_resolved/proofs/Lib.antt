@@ -37,7 +37,7 @@ pub mod BlocksMade
 pub mod Entering
 pub mod BlocksKeep
 pub mod Programs
-pub mod Conditions
+pub mod ConditionsMet
 pub mod Tallies
 pub mod Counts
 pub mod Counting

@@ -20,6 +20,7 @@ use Rattle.alma_rules.specs.Modules.{judge_body, routine_of, frame_of, with_shap
 use Rattle.alma_resolved.proofs.Fits.{when_is}
 use Rattle.alma_resolved.proofs.FramesKept.{parts}
 use Rattle.alma_resolved.proofs.Slots.{decls_steps}
+use Rattle.alma_resolved.specs.Room.{HasRoom}
 use Rattle.alma_resolved.specs.Whole.{IsTreeOf, KeepsSlots, ProgramFits}
 use Rattle.alma_resolved.proofs.HeadScenes.{block_same, head_same}
 use Rattle.alma_resolved.proofs.Named.{tokens_steady}
@@ -189,6 +190,20 @@ program_keeps_limits source tokens m p short t e = resolved_is source tokens x p
           names = omega (arith, short, b, g.1, w.names);
           texts = omega (arith, short, b, w.texts);
         }
+
+-- its names and its texts are each at most as long as the source
+pub program_has_room : (source : List ℕ) (tokens : List Lexeme) (m : Module) (p : Program) → length source ≤ source_limit → IsTreeOf source tokens m → resolved source tokens (numbered.view_module m) ≡ Some p → HasRoom p
+program_has_room source tokens m p short t e = resolved_is source tokens x p HasRoom e made
+  where
+    x : tree.Module
+    x = numbered.view_module m
+
+    made : (rs : List Routine) → (judge_module source tokens x).value ≡ Some rs → HasRoom (program_of source tokens x rs)
+    made rs value =
+        let w = made_within source tokens x rs value in
+        let g = globals_held source tokens x x.block in
+        let b : weigh_module (sizes tokens) x ≤ length source = texts_within source tokens m t in
+        omega (arith, short, b, g.1, w.names, w.texts)
 
 each_routine : (P : Routine → Type 0) (xs : List Routine) (i : ℕ) → AllByRecursion P xs → i < length xs → P (get_or xs i no_routine)
 each_routine P [] i h lt = absurd (omega (arith, lt))

@@ -4,3 +4,4 @@ pub mod Keeps
 pub mod Stand
 pub mod Frames
 pub mod Whole
+pub mod Room

@@ -3,7 +3,7 @@ use Rattle.alma_resolved.proofs.FramesKept.{program_keeps_frames}
 use Rattle.alma_resolved.proofs.GlobalsKept.{program_has_globals}
 use Rattle.alma_resolved.proofs.Standing.{numbered_stands}
 use Rattle.alma_resolved.proofs.Programs.{program_fits}
-use Rattle.alma_resolved.proofs.Conditions.{fits_checked}
+use Rattle.alma_resolved.proofs.ConditionsMet.{fits_checked}
 use Rattle.alma_resolved.proofs.Lined.{program_lines}
 use Rattle.alma_resolved.proofs.TreeNames.{tree_named}
 use Rattle.alma_resolved.proofs.Routines.{program_keeps_limits, program_keeps_slots}
