@@ -16,7 +16,9 @@ use Rattle.alma_check_rules.specs.Views.{scene_of, stmts_of}
 abbrev pub JudgesAt : Env → Place → ℕ → Stmts → ℕ → Result (Option (Vec Stmt Global)) Stop → Type 0
 JudgesAt env place slot body next r = Answers (judge_stmts (scene_of env place) slot (view_stmts body)) stmts_of next r
 
--- so does each call
-abbrev pub JudgesStmts : (Global → Bor Env → Place → MutBor ℕ → Bor Stmts → Result (Option (Vec Stmt Global)) Stop → MutBor ℕ → Type 0) → Type 0
-JudgesStmts post = (alloc : Global) (env : Bor Env) (place : Place) (slot : MutBor ℕ) (body : Bor Stmts) (r : Result (Option (Vec Stmt Global)) Stop) (left : MutBor ℕ) →
-    post alloc env place slot body r left → JudgesAt env.now place slot.now body.now left.now r
+-- it may be called in any environment, at any place and slot, and each call judges statements there
+pub record JudgesStmts (callable : Type 0)
+    (post : Global → Bor Env → Place → MutBor ℕ → Bor Stmts → Result (Option (Vec Stmt Global)) Stop → MutBor ℕ → Type 0) : Type 0 where
+  pub may_call : callable
+  pub each_call : (alloc : Global) (env : Bor Env) (place : Place) (slot : MutBor ℕ) (body : Bor Stmts) (r : Result (Option (Vec Stmt Global)) Stop)
+      (left : MutBor ℕ) → post alloc env place slot body r left → JudgesAt env.now place slot.now body.now left.now r

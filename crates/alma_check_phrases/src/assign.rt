@@ -30,8 +30,7 @@ pub fn check_assign<S>(
 ) -> Result<Option<Vec<IrStmt>>, Stop>
 where
     S: Fn(Global, &Env, Place, &mut u32, &Stmts) -> StmtsJudged,
-    requires callable { S.IsAlwaysCallable inside.now }
-    requires judges { JudgesStmts (λ a e p s b r t. S.post inside.now a e p s b r t) }
+    requires judges { JudgesStmts (S.IsAlwaysCallable inside.now) (S.post inside.now) }
     ensures { Answers (walk.judge_stmt (scene_of env.now place) slot.old
         (tree.assign node (view.view_desig target.now) (view.view_expr value.now))) stmts_of
         slot.new result }
@@ -53,8 +52,7 @@ pub fn check_condition<S>(
 ) -> Result<Option<Test>, Stop>
 where
     S: Fn(Global, &Env, Place, &mut u32, &Stmts) -> StmtsJudged,
-    requires callable { S.IsAlwaysCallable inside.now }
-    requires judges { JudgesStmts (λ a e p s b r t. S.post inside.now a e p s b r t) }
+    requires judges { JudgesStmts (S.IsAlwaysCallable inside.now) (S.post inside.now) }
     ensures { Answers (nodes.condition_at (scene_of env.now place) (view.view_expr test.now)
         (walk.judge_expr (scene_of env.now place) slot.old (view.view_expr test.now))) test_of
         slot.new result }
@@ -75,8 +73,7 @@ pub fn check_value<S>(
 ) -> Result<Option<Vec<IrStmt>>, Stop>
 where
     S: Fn(Global, &Env, Place, &mut u32, &Stmts) -> StmtsJudged,
-    requires callable { S.IsAlwaysCallable inside.now }
-    requires judges { JudgesStmts (λ a e p s b r t. S.post inside.now a e p s b r t) }
+    requires judges { JudgesStmts (S.IsAlwaysCallable inside.now) (S.post inside.now) }
     ensures { Answers (walk.judge_stmt (scene_of env.now place) slot.old
         (tree.value node (view.view_expr value.now))) stmts_of slot.new result }
 {

@@ -36,8 +36,7 @@ pub fn check_if<S>(
 ) -> Result<Option<Vec<IrStmt>>, Stop>
 where
     S: Fn(Global, &Env, Place, &mut u32, &Stmts) -> StmtsJudged,
-    requires callable { S.IsAlwaysCallable inside.now }
-    requires judges { JudgesStmts (λ a e p s b r t. S.post inside.now a e p s b r t) }
+    requires judges { JudgesStmts (S.IsAlwaysCallable inside.now) (S.post inside.now) }
     ensures { Answers (walk.judge_stmt (scene_of env.now place) slot.old
         (tree.if_stmt node (view.view_expr test.now) (view.view_stmts then.now)
         (view.elsifs_of elsifs.now) (view.else_of otherwise.now))) stmts_of slot.new result }
@@ -60,8 +59,7 @@ fn check_guarded<S>(
 ) -> Result<Option<Arm>, Stop>
 where
     S: Fn(Global, &Env, Place, &mut u32, &Stmts) -> StmtsJudged,
-    requires callable { S.IsAlwaysCallable inside.now }
-    requires judges { JudgesStmts (λ a e p s b r t. S.post inside.now a e p s b r t) }
+    requires judges { JudgesStmts (S.IsAlwaysCallable inside.now) (S.post inside.now) }
     ensures { Answers (and_then (nodes.condition_at (scene_of env.now place)
         (view.view_expr test.now) (walk.judge_expr (scene_of env.now place) slot.old
         (view.view_expr test.now))) (λ m. walk.judge_stmts (scene_of env.now place) m
@@ -83,8 +81,7 @@ fn check_elsifs<S>(
 ) -> Result<Option<Vec<Arm>>, Stop>
 where
     S: Fn(Global, &Env, Place, &mut u32, &Stmts) -> StmtsJudged,
-    requires callable { S.IsAlwaysCallable inside.now }
-    requires judges { JudgesStmts (λ a e p s b r t. S.post inside.now a e p s b r t) }
+    requires judges { JudgesStmts (S.IsAlwaysCallable inside.now) (S.post inside.now) }
     ensures { Answers (onward_arms (arms_in kept)
         (walk.judge_elsifs (scene_of env.now place) slot.old (view.elsifs_of elsifs.now))) arms_of
         slot.new result }
@@ -107,8 +104,7 @@ fn check_else<S>(
 ) -> Result<Option<Vec<IrStmt>>, Stop>
 where
     S: Fn(Global, &Env, Place, &mut u32, &Stmts) -> StmtsJudged,
-    requires callable { S.IsAlwaysCallable inside.now }
-    requires judges { JudgesStmts (λ a e p s b r t. S.post inside.now a e p s b r t) }
+    requires judges { JudgesStmts (S.IsAlwaysCallable inside.now) (S.post inside.now) }
     ensures { Answers (walk.judge_else (scene_of env.now place) slot.old
         (view.else_of otherwise.now)) stmts_of slot.new result }
 {
@@ -131,8 +127,7 @@ pub fn check_while<S>(
 ) -> Result<Option<Vec<IrStmt>>, Stop>
 where
     S: Fn(Global, &Env, Place, &mut u32, &Stmts) -> StmtsJudged,
-    requires callable { S.IsAlwaysCallable inside.now }
-    requires judges { JudgesStmts (λ a e p s b r t. S.post inside.now a e p s b r t) }
+    requires judges { JudgesStmts (S.IsAlwaysCallable inside.now) (S.post inside.now) }
     ensures { Answers (walk.judge_stmt (scene_of env.now place) slot.old
         (tree.while_stmt node (view.view_expr test.now) (view.view_stmts body.now))) stmts_of
         slot.new result }
@@ -155,8 +150,7 @@ pub fn check_repeat<S>(
 ) -> Result<Option<Vec<IrStmt>>, Stop>
 where
     S: Fn(Global, &Env, Place, &mut u32, &Stmts) -> StmtsJudged,
-    requires callable { S.IsAlwaysCallable inside.now }
-    requires judges { JudgesStmts (λ a e p s b r t. S.post inside.now a e p s b r t) }
+    requires judges { JudgesStmts (S.IsAlwaysCallable inside.now) (S.post inside.now) }
     ensures { Answers (walk.judge_stmt (scene_of env.now place) slot.old
         (tree.repeat_stmt node (view.view_stmts body.now) (view.view_expr test.now))) stmts_of
         slot.new result }

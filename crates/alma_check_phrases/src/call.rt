@@ -35,8 +35,7 @@ pub fn check_named<S>(
 ) -> Result<Option<Typed>, Stop>
 where
     S: Fn(Global, &Env, Place, &mut u32, &Stmts) -> StmtsJudged,
-    requires callable { S.IsAlwaysCallable inside.now }
-    requires judges { JudgesStmts (λ a e p s b r t. S.post inside.now a e p s b r t) }
+    requires judges { JudgesStmts (S.IsAlwaysCallable inside.now) (S.post inside.now) }
     ensures { Answers (judge_primary (scene_of env.now place) slot.old
         (tree.named node (view_desig desig.now) (tree_args args.now))) typing_of slot.new result }
 {
@@ -71,8 +70,7 @@ fn check_arguments<S>(
 ) -> Result<Option<Vec<Arg>>, Stop>
 where
     S: Fn(Global, &Env, Place, &mut u32, &Stmts) -> StmtsJudged,
-    requires callable { S.IsAlwaysCallable inside.now }
-    requires judges { JudgesStmts (λ a e p s b r t. S.post inside.now a e p s b r t) }
+    requires judges { JudgesStmts (S.IsAlwaysCallable inside.now) (S.post inside.now) }
     ensures { Answers (judge_arguments (scene_of env.now place) slot.old
         (nodes.formals_of (callee_in (headings_in env.now) callee)) (view_exprs values.now)) args_of
         slot.new result }
@@ -102,8 +100,7 @@ fn check_argument<S>(
 ) -> Result<Option<Arg>, Stop>
 where
     S: Fn(Global, &Env, Place, &mut u32, &Stmts) -> StmtsJudged,
-    requires callable { S.IsAlwaysCallable inside.now }
-    requires judges { JudgesStmts (λ a e p s b r t. S.post inside.now a e p s b r t) }
+    requires judges { JudgesStmts (S.IsAlwaysCallable inside.now) (S.post inside.now) }
     ensures { Answers (nodes.judged_argument (scene_of env.now place)
         (option_map formal_view formal) (view_expr value.now)
         (judge_expr (scene_of env.now place) slot.old (view_expr value.now))) arg_of

@@ -36,8 +36,7 @@ pub fn check_case<S>(
 ) -> Result<Option<Vec<IrStmt>>, Stop>
 where
     S: Fn(Global, &Env, Place, &mut u32, &Stmts) -> StmtsJudged,
-    requires callable { S.IsAlwaysCallable inside.now }
-    requires judges { JudgesStmts (λ a e p s b r t. S.post inside.now a e p s b r t) }
+    requires judges { JudgesStmts (S.IsAlwaysCallable inside.now) (S.post inside.now) }
     ensures { Answers (walk.judge_stmt (scene_of env.now place) slot.old
         (tree.case_stmt node (view.view_expr value.now) (view.view_arm first.now)
         (view.arms_of more.now) (view.else_of otherwise.now))) stmts_of slot.new result }
@@ -61,8 +60,7 @@ fn check_arms<S>(
 ) -> Result<Option<Vec<CaseArm>>, Stop>
 where
     S: Fn(Global, &Env, Place, &mut u32, &Stmts) -> StmtsJudged,
-    requires callable { S.IsAlwaysCallable inside.now }
-    requires judges { JudgesStmts (λ a e p s b r t. S.post inside.now a e p s b r t) }
+    requires judges { JudgesStmts (S.IsAlwaysCallable inside.now) (S.post inside.now) }
     ensures { Answers (arms_judged (scene_of env.now place) slot.old (typing_in case.now)
         (view.view_arm first.now) (view.arms_of more.now)) cases_of slot.new result }
 {
@@ -87,8 +85,7 @@ fn check_arm<S>(
 ) -> Result<Option<Vec<CaseArm>>, Stop>
 where
     S: Fn(Global, &Env, Place, &mut u32, &Stmts) -> StmtsJudged,
-    requires callable { S.IsAlwaysCallable inside.now }
-    requires judges { JudgesStmts (λ a e p s b r t. S.post inside.now a e p s b r t) }
+    requires judges { JudgesStmts (S.IsAlwaysCallable inside.now) (S.post inside.now) }
     ensures judged { Answers (walk.judge_arm (scene_of env.now place) slot.old (typing_in case.now)
         (spans_view spans.old) (view.view_arm arm.now)).arm cases_of slot.new result }
     ensures spans { OnOk result (spans_view spans.new
@@ -122,8 +119,7 @@ fn check_case_else<S>(
 ) -> Result<Option<Option<Vec<IrStmt>>>, Stop>
 where
     S: Fn(Global, &Env, Place, &mut u32, &Stmts) -> StmtsJudged,
-    requires callable { S.IsAlwaysCallable inside.now }
-    requires judges { JudgesStmts (λ a e p s b r t. S.post inside.now a e p s b r t) }
+    requires judges { JudgesStmts (S.IsAlwaysCallable inside.now) (S.post inside.now) }
     ensures { Answers (walk.judge_case_else (scene_of env.now place) slot.old
         (view.else_of otherwise.now)) else_option slot.new result }
 {
@@ -149,8 +145,7 @@ fn check_labels<S>(
 ) -> Result<Option<Vec<Span>>, Stop>
 where
     S: Fn(Global, &Env, Place, &mut u32, &Stmts) -> StmtsJudged,
-    requires callable { S.IsAlwaysCallable inside.now }
-    requires judges { JudgesStmts (λ a e p s b r t. S.post inside.now a e p s b r t) }
+    requires judges { JudgesStmts (S.IsAlwaysCallable inside.now) (S.post inside.now) }
     ensures judged { Answers (labels_judged (scene_of env.now place) slot.old (typing_in case.now)
         (spans_view spans.old) (view.view_label first.now) (view.labels_of more.now)) spans_of
         slot.new result }
@@ -178,8 +173,7 @@ fn check_label<S>(
 ) -> Result<Option<Span>, Stop>
 where
     S: Fn(Global, &Env, Place, &mut u32, &Stmts) -> StmtsJudged,
-    requires callable { S.IsAlwaysCallable inside.now }
-    requires judges { JudgesStmts (λ a e p s b r t. S.post inside.now a e p s b r t) }
+    requires judges { JudgesStmts (S.IsAlwaysCallable inside.now) (S.post inside.now) }
     ensures { Answers (walk.judge_label (scene_of env.now place) slot.old (typing_in case.now)
         (spans_view spans.now) (view.view_label label.now)) span_view slot.new result }
 {

@@ -27,8 +27,7 @@ pub fn check_desig<S>(
 ) -> Result<Option<Denoted>, Stop>
 where
     S: Fn(Global, &Env, Place, &mut u32, &Stmts) -> StmtsJudged,
-    requires callable { S.IsAlwaysCallable inside.now }
-    requires judges { JudgesStmts (λ a e p s b r t. S.post inside.now a e p s b r t) }
+    requires judges { JudgesStmts (S.IsAlwaysCallable inside.now) (S.post inside.now) }
     ensures { Answers (judge_desig (scene_of env.now place) slot.old (use_view wanted)
         (view_desig desig.now)) (denoted_of (headings_in env.now)) slot.new result }
 {
@@ -58,8 +57,7 @@ fn check_selectors<S>(
 ) -> Result<Option<Denoted>, Stop>
 where
     S: Fn(Global, &Env, Place, &mut u32, &Stmts) -> StmtsJudged,
-    requires callable { S.IsAlwaysCallable inside.now }
-    requires judges { JudgesStmts (λ a e p s b r t. S.post inside.now a e p s b r t) }
+    requires judges { JudgesStmts (S.IsAlwaysCallable inside.now) (S.post inside.now) }
     ensures { Answers (judge_selectors (scene_of env.now place)
         (of_value slot.old (denoted_in (headings_in env.now) start)) (selectors_of more.now))
         (denoted_of (headings_in env.now)) slot.new result }
@@ -83,8 +81,7 @@ fn check_selector<S>(
 ) -> Result<Option<Denoted>, Stop>
 where
     S: Fn(Global, &Env, Place, &mut u32, &Stmts) -> StmtsJudged,
-    requires callable { S.IsAlwaysCallable inside.now }
-    requires judges { JudgesStmts (λ a e p s b r t. S.post inside.now a e p s b r t) }
+    requires judges { JudgesStmts (S.IsAlwaysCallable inside.now) (S.post inside.now) }
     ensures { Answers (judge_selector (scene_of env.now place)
         (of_value slot.old (denoted_in (headings_in env.now) found)) (view_selector selector.now))
         (denoted_of (headings_in env.now)) slot.new result }
@@ -110,8 +107,7 @@ fn check_indices<S>(
 ) -> Result<Option<Denoted>, Stop>
 where
     S: Fn(Global, &Env, Place, &mut u32, &Stmts) -> StmtsJudged,
-    requires callable { S.IsAlwaysCallable inside.now }
-    requires judges { JudgesStmts (λ a e p s b r t. S.post inside.now a e p s b r t) }
+    requires judges { JudgesStmts (S.IsAlwaysCallable inside.now) (S.post inside.now) }
     ensures { Answers (judge_indices (scene_of env.now place)
         (of_value slot.old (denoted_in (headings_in env.now) found)) (view_exprs indices.now))
         (denoted_of (headings_in env.now)) slot.new result }
@@ -135,8 +131,7 @@ fn check_index<S>(
 ) -> Result<Option<Denoted>, Stop>
 where
     S: Fn(Global, &Env, Place, &mut u32, &Stmts) -> StmtsJudged,
-    requires callable { S.IsAlwaysCallable inside.now }
-    requires judges { JudgesStmts (λ a e p s b r t. S.post inside.now a e p s b r t) }
+    requires judges { JudgesStmts (S.IsAlwaysCallable inside.now) (S.post inside.now) }
     ensures { Answers (nodes.indexed (scene_of env.now place)
         (of_value slot.old (denoted_in (headings_in env.now) found))
         (tree.expr_node (view_expr index.now))

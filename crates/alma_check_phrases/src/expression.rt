@@ -37,8 +37,7 @@ pub fn check_expr<S>(
 ) -> Result<Option<Typed>, Stop>
 where
     S: Fn(Global, &Env, Place, &mut u32, &Stmts) -> StmtsJudged,
-    requires callable { S.IsAlwaysCallable inside.now }
-    requires judges { JudgesStmts (λ a e p s b r t. S.post inside.now a e p s b r t) }
+    requires judges { JudgesStmts (S.IsAlwaysCallable inside.now) (S.post inside.now) }
     ensures { Answers (judge_expr (scene_of env.now place) slot.old (view_expr expr.now)) typing_of
         slot.new result }
 {
@@ -63,8 +62,7 @@ fn check_simple<S>(
 ) -> Result<Option<Typed>, Stop>
 where
     S: Fn(Global, &Env, Place, &mut u32, &Stmts) -> StmtsJudged,
-    requires callable { S.IsAlwaysCallable inside.now }
-    requires judges { JudgesStmts (λ a e p s b r t. S.post inside.now a e p s b r t) }
+    requires judges { JudgesStmts (S.IsAlwaysCallable inside.now) (S.post inside.now) }
     ensures { Answers (judge_simple (scene_of env.now place) slot.old (view_simple simple.now))
         typing_of slot.new result }
 {
@@ -95,8 +93,7 @@ fn check_terms<S>(
 ) -> Result<Option<Vec<Behind>>, Stop>
 where
     S: Fn(Global, &Env, Place, &mut u32, &Stmts) -> StmtsJudged,
-    requires callable { S.IsAlwaysCallable inside.now }
-    requires judges { JudgesStmts (λ a e p s b r t. S.post inside.now a e p s b r t) }
+    requires judges { JudgesStmts (S.IsAlwaysCallable inside.now) (S.post inside.now) }
     ensures { Answers (judge_terms (scene_of env.now place) slot.old sort (terms_of more.now))
         operands_of slot.new result }
 {
@@ -122,8 +119,7 @@ fn check_term<S>(
 ) -> Result<Option<Typed>, Stop>
 where
     S: Fn(Global, &Env, Place, &mut u32, &Stmts) -> StmtsJudged,
-    requires callable { S.IsAlwaysCallable inside.now }
-    requires judges { JudgesStmts (λ a e p s b r t. S.post inside.now a e p s b r t) }
+    requires judges { JudgesStmts (S.IsAlwaysCallable inside.now) (S.post inside.now) }
     ensures { Answers (judge_term (scene_of env.now place) slot.old (operand_view operand)
         (view_term term.now)) typing_of slot.new result }
 {
@@ -147,8 +143,7 @@ fn check_factors<S>(
 ) -> Result<Option<Vec<Behind>>, Stop>
 where
     S: Fn(Global, &Env, Place, &mut u32, &Stmts) -> StmtsJudged,
-    requires callable { S.IsAlwaysCallable inside.now }
-    requires judges { JudgesStmts (λ a e p s b r t. S.post inside.now a e p s b r t) }
+    requires judges { JudgesStmts (S.IsAlwaysCallable inside.now) (S.post inside.now) }
     ensures { Answers (judge_factors (scene_of env.now place) slot.old sort (factors_of more.now))
         operands_of slot.new result }
 {
@@ -174,8 +169,7 @@ fn check_factor<S>(
 ) -> Result<Option<Typed>, Stop>
 where
     S: Fn(Global, &Env, Place, &mut u32, &Stmts) -> StmtsJudged,
-    requires callable { S.IsAlwaysCallable inside.now }
-    requires judges { JudgesStmts (λ a e p s b r t. S.post inside.now a e p s b r t) }
+    requires judges { JudgesStmts (S.IsAlwaysCallable inside.now) (S.post inside.now) }
     ensures { Answers (judge_factor (scene_of env.now place) slot.old (operand_view operand)
         (view_factor factor.now)) typing_of slot.new result }
 {
@@ -218,8 +212,7 @@ fn check_primary<S>(
 ) -> Result<Option<Typed>, Stop>
 where
     S: Fn(Global, &Env, Place, &mut u32, &Stmts) -> StmtsJudged,
-    requires callable { S.IsAlwaysCallable inside.now }
-    requires judges { JudgesStmts (λ a e p s b r t. S.post inside.now a e p s b r t) }
+    requires judges { JudgesStmts (S.IsAlwaysCallable inside.now) (S.post inside.now) }
     ensures { Answers (judge_primary (scene_of env.now place) slot.old (view_primary primary.now))
         typing_of slot.new result }
 {

@@ -34,8 +34,7 @@ pub fn check_return<S>(
 ) -> Result<Option<Vec<IrStmt>>, Stop>
 where
     S: Fn(Global, &Env, Place, &mut u32, &Stmts) -> StmtsJudged,
-    requires callable { S.IsAlwaysCallable inside.now }
-    requires judges { JudgesStmts (λ a e p s b r t. S.post inside.now a e p s b r t) }
+    requires judges { JudgesStmts (S.IsAlwaysCallable inside.now) (S.post inside.now) }
     ensures { Answers (walk.judge_stmt (scene_of env.now place) slot.old
         (tree.return_stmt node (view.returned_of value.now))) stmts_of slot.new result }
 {
@@ -61,8 +60,7 @@ pub fn check_read<S>(
 ) -> Result<Option<Vec<IrStmt>>, Stop>
 where
     S: Fn(Global, &Env, Place, &mut u32, &Stmts) -> StmtsJudged,
-    requires callable { S.IsAlwaysCallable inside.now }
-    requires judges { JudgesStmts (λ a e p s b r t. S.post inside.now a e p s b r t) }
+    requires judges { JudgesStmts (S.IsAlwaysCallable inside.now) (S.post inside.now) }
     ensures { Answers (walk.judge_stmt (scene_of env.now place) slot.old
         (tree.read_stmt node (view.view_desig first.now) (view.desigs_of more.now))) stmts_of
         slot.new result }
@@ -85,8 +83,7 @@ fn check_read_one<S>(
 ) -> Result<Option<Vec<IrStmt>>, Stop>
 where
     S: Fn(Global, &Env, Place, &mut u32, &Stmts) -> StmtsJudged,
-    requires callable { S.IsAlwaysCallable inside.now }
-    requires judges { JudgesStmts (λ a e p s b r t. S.post inside.now a e p s b r t) }
+    requires judges { JudgesStmts (S.IsAlwaysCallable inside.now) (S.post inside.now) }
     ensures { Answers (nodes.read_at (scene_of env.now place) (view.view_desig desig.now)
         (walk.judge_desig (scene_of env.now place) slot.old rules.as_variable
         (view.view_desig desig.now))) stmts_of slot.new result }
@@ -107,8 +104,7 @@ pub fn check_items<S>(
 ) -> Result<Option<Vec<IrStmt>>, Stop>
 where
     S: Fn(Global, &Env, Place, &mut u32, &Stmts) -> StmtsJudged,
-    requires callable { S.IsAlwaysCallable inside.now }
-    requires judges { JudgesStmts (λ a e p s b r t. S.post inside.now a e p s b r t) }
+    requires judges { JudgesStmts (S.IsAlwaysCallable inside.now) (S.post inside.now) }
     ensures { Answers (walk.judge_items (scene_of env.now place) slot.old
         (view.view_exprs items.now)) stmts_of slot.new result }
 {
@@ -130,8 +126,7 @@ fn check_item<S>(
 ) -> Result<Option<Vec<IrStmt>>, Stop>
 where
     S: Fn(Global, &Env, Place, &mut u32, &Stmts) -> StmtsJudged,
-    requires callable { S.IsAlwaysCallable inside.now }
-    requires judges { JudgesStmts (λ a e p s b r t. S.post inside.now a e p s b r t) }
+    requires judges { JudgesStmts (S.IsAlwaysCallable inside.now) (S.post inside.now) }
     ensures { Answers (nodes.item_of (scene_of env.now place) slot.old
         (tree.expr_node (view.view_expr item.now)) (nodes.item_literal (view.view_expr item.now))
         (walk.judge_expr (scene_of env.now place) slot.old (view.view_expr item.now))) stmts_of
@@ -158,8 +153,7 @@ pub fn check_writeln<S>(
 ) -> Result<Option<Vec<IrStmt>>, Stop>
 where
     S: Fn(Global, &Env, Place, &mut u32, &Stmts) -> StmtsJudged,
-    requires callable { S.IsAlwaysCallable inside.now }
-    requires judges { JudgesStmts (λ a e p s b r t. S.post inside.now a e p s b r t) }
+    requires judges { JudgesStmts (S.IsAlwaysCallable inside.now) (S.post inside.now) }
     ensures { Answers (walk.judge_stmt (scene_of env.now place) slot.old
         (tree.writeln_stmt node (view.args_of items.now))) stmts_of slot.new result }
 {

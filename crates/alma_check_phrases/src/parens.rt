@@ -27,8 +27,7 @@ pub fn check_parens<S>(
 ) -> Result<Option<Typed>, Stop>
 where
     S: Fn(Global, &Env, Place, &mut u32, &Stmts) -> StmtsJudged,
-    requires callable { S.IsAlwaysCallable inside.now }
-    requires judges { JudgesStmts (λ a e p s b r t. S.post inside.now a e p s b r t) }
+    requires judges { JudgesStmts (S.IsAlwaysCallable inside.now) (S.post inside.now) }
     ensures { Answers (judge_primary (scene_of env.now place) slot.old
         (tree.paren node (view_stmts body.now))) typing_of slot.new result }
 {
@@ -55,8 +54,7 @@ fn check_sequence<S>(
 ) -> Result<Option<Typed>, Stop>
 where
     S: Fn(Global, &Env, Place, &mut u32, &Stmts) -> StmtsJudged,
-    requires callable { S.IsAlwaysCallable inside.now }
-    requires judges { JudgesStmts (λ a e p s b r t. S.post inside.now a e p s b r t) }
+    requires judges { JudgesStmts (S.IsAlwaysCallable inside.now) (S.post inside.now) }
     ensures { Answers (nodes.as_sequence (scene_of env.now place) node
         (judge_stmts (inside_of (scene_of env.now place)) slot.old (view_stmts body.now))) typing_of
         slot.new result }

@@ -30,8 +30,7 @@ fn check_head<S>(
 ) -> Result<Head, Stop>
 where
     S: Fn(Global, &Env, Place, &mut u32, &Stmts) -> StmtsJudged,
-    requires callable { S.IsAlwaysCallable inside.now }
-    requires judges { JudgesStmts (λ a e p s b r t. S.post inside.now a e p s b r t) }
+    requires judges { JudgesStmts (S.IsAlwaysCallable inside.now) (S.post inside.now) }
     ensures judged { Headed env.now place (view.view_name variable.now) (view.view_expr from.now)
         (view.view_expr to.now) slot.old slot.new result }
     ensures limit { IfOk result (λ h. h.counter + 1 < 2 ^ 32) }
@@ -58,8 +57,7 @@ pub fn check_for<S>(
 ) -> Result<Option<Vec<IrStmt>>, Stop>
 where
     S: Fn(Global, &Env, Place, &mut u32, &Stmts) -> StmtsJudged,
-    requires callable { S.IsAlwaysCallable inside.now }
-    requires judges { JudgesStmts (λ a e p s b r t. S.post inside.now a e p s b r t) }
+    requires judges { JudgesStmts (S.IsAlwaysCallable inside.now) (S.post inside.now) }
     ensures { Answers (walk.judge_stmt (scene_of env.now place) slot.old
         (tree.for_stmt node (view.view_name variable.now) (view.view_expr from.now)
         (view.view_expr to.now) (view.by_of by.now) (view.view_stmts body.now))) stmts_of
@@ -82,8 +80,7 @@ fn check_by<S>(
 ) -> Result<Option<i64>, Stop>
 where
     S: Fn(Global, &Env, Place, &mut u32, &Stmts) -> StmtsJudged,
-    requires callable { S.IsAlwaysCallable inside.now }
-    requires judges { JudgesStmts (λ a e p s b r t. S.post inside.now a e p s b r t) }
+    requires judges { JudgesStmts (S.IsAlwaysCallable inside.now) (S.post inside.now) }
     ensures { Answers (walk.judge_by (scene_of env.now place) slot.old (view.by_of by.now))
         (λ v. v) slot.new result }
 {
@@ -115,8 +112,7 @@ pub fn check_some<S>(
 ) -> Result<Option<Vec<IrStmt>>, Stop>
 where
     S: Fn(Global, &Env, Place, &mut u32, &Stmts) -> StmtsJudged,
-    requires callable { S.IsAlwaysCallable inside.now }
-    requires judges { JudgesStmts (λ a e p s b r t. S.post inside.now a e p s b r t) }
+    requires judges { JudgesStmts (S.IsAlwaysCallable inside.now) (S.post inside.now) }
     ensures { Answers (walk.judge_stmt (scene_of env.now place) slot.old
         (tree.some_stmt node (view.view_name variable.now) (view.view_expr from.now)
         (view.view_expr to.now) (view.view_stmts body.now))) stmts_of slot.new result }

@@ -92,8 +92,7 @@ pub fn nested<S>(
 ) -> Result<Option<Vec<IrStmt>>, Stop>
 where
     S: Fn(Global, &Env, Place, &mut u32, &Stmts) -> StmtsJudged,
-    requires callable { S.IsAlwaysCallable inside.now }
-    requires judges { JudgesStmts (λ a e p s b r t. S.post inside.now a e p s b r t) }
+    requires judges { JudgesStmts (S.IsAlwaysCallable inside.now) (S.post inside.now) }
     ensures { Answers (walk.judge_stmts (scene_of env.now place) slot.old
         (view.view_stmts stmts.now)) stmts_of slot.new result }
 {

@@ -26,8 +26,7 @@ pub(crate) fn emit_call<S>(
 ) -> Result<u32, NoMemory>
 where
     S: for<'a, 'b, 'c, 'd> Fn(&'a mut Work, &'b Scene<'c>, &'d [Stmt]) -> Result<(), NoMemory>,
-    requires callable { S.IsAlwaysCallable inside.now }
-    requires emits { EmitsStmts (λ w s b r n. S.post inside.now w s b r n) }
+    requires emits { EmitsStmts (S.IsAlwaysCallable inside.now) (S.post inside.now) }
     ensures first { IfOk result (λ first. first ≡ first_slot (around scene.now) called up
         (front work.old).next (args_list args.now)) }
     ensures puts { OnOk result (PutsHanded (around scene.now) line called up
@@ -52,8 +51,7 @@ fn emit_args<S>(
 ) -> Result<(), NoMemory>
 where
     S: for<'a, 'b, 'c, 'd> Fn(&'a mut Work, &'b Scene<'c>, &'d [Stmt]) -> Result<(), NoMemory>,
-    requires callable { S.IsAlwaysCallable inside.now }
-    requires emits { EmitsStmts (λ w s b r n. S.post inside.now w s b r n) }
+    requires emits { EmitsStmts (S.IsAlwaysCallable inside.now) (S.post inside.now) }
     ensures puts { OnOk result (PutsArgs (around scene.now) line to
         (front work.old) (front work.new) (args_list args.now)) }
 {
@@ -76,8 +74,7 @@ fn emit_arg<S>(
 ) -> Result<(), NoMemory>
 where
     S: for<'a, 'b, 'c, 'd> Fn(&'a mut Work, &'b Scene<'c>, &'d [Stmt]) -> Result<(), NoMemory>,
-    requires callable { S.IsAlwaysCallable inside.now }
-    requires emits { EmitsStmts (λ w s b r n. S.post inside.now w s b r n) }
+    requires emits { EmitsStmts (S.IsAlwaysCallable inside.now) (S.post inside.now) }
     ensures puts { OnOk result (PutsArg (around scene.now) line to
         (front work.old) (front work.new) (arg_of arg.now)) }
 {
@@ -116,8 +113,7 @@ pub(crate) fn emit_call_value<S>(
 ) -> Result<u32, NoMemory>
 where
     S: for<'a, 'b, 'c, 'd> Fn(&'a mut Work, &'b Scene<'c>, &'d [Stmt]) -> Result<(), NoMemory>,
-    requires callable { S.IsAlwaysCallable inside.now }
-    requires emits { EmitsStmts (λ w s b r n. S.post inside.now w s b r n) }
+    requires emits { EmitsStmts (S.IsAlwaysCallable inside.now) (S.post inside.now) }
     ensures slot { IfOk result (λ slot. slot ≡ (front work.old).next) }
     ensures puts { OnOk result (PutsExpr (around scene.now) line
         (front work.old) (front work.new)

@@ -33,8 +33,7 @@ pub(crate) fn emit_case<S>(
 ) -> Result<(), NoMemory>
 where
     S: for<'a, 'b, 'c, 'd> Fn(&'a mut Work, &'b Scene<'c>, &'d [Stmt]) -> Result<(), NoMemory>,
-    requires callable { S.IsAlwaysCallable inside.now }
-    requires emits { EmitsStmts (λ w s b r n. S.post inside.now w s b r n) }
+    requires emits { EmitsStmts (S.IsAlwaysCallable inside.now) (S.post inside.now) }
     ensures puts { OnOk result (PutsStmt (around scene.now) line
         (front work.old) (front work.new)
         (tree.Case (expr_of value.now) (cases_list arms.now) (else_option rest.now))) }
@@ -56,8 +55,7 @@ fn emit_dead_arms<S>(
 ) -> Result<(), NoMemory>
 where
     S: for<'a, 'b, 'c, 'd> Fn(&'a mut Work, &'b Scene<'c>, &'d [Stmt]) -> Result<(), NoMemory>,
-    requires callable { S.IsAlwaysCallable inside.now }
-    requires emits { EmitsStmts (λ w s b r n. S.post inside.now w s b r n) }
+    requires emits { EmitsStmts (S.IsAlwaysCallable inside.now) (S.post inside.now) }
     ensures puts { OnOk result (PutsDead (around scene.now) line
         (front work.old) (front work.new) (cases_list arms.now)) }
 {
@@ -79,8 +77,7 @@ fn emit_dead_bodies<S>(
 ) -> Result<(), NoMemory>
 where
     S: for<'a, 'b, 'c, 'd> Fn(&'a mut Work, &'b Scene<'c>, &'d [Stmt]) -> Result<(), NoMemory>,
-    requires callable { S.IsAlwaysCallable inside.now }
-    requires emits { EmitsStmts (λ w s b r n. S.post inside.now w s b r n) }
+    requires emits { EmitsStmts (S.IsAlwaysCallable inside.now) (S.post inside.now) }
     ensures puts { OnOk result (PutsDeadBodies (around scene.now)
         (front work.old) (front work.new) (cases_list arms.now)) }
 {
@@ -99,8 +96,7 @@ fn emit_dead_body<S>(
 ) -> Result<(), NoMemory>
 where
     S: for<'a, 'b, 'c, 'd> Fn(&'a mut Work, &'b Scene<'c>, &'d [Stmt]) -> Result<(), NoMemory>,
-    requires callable { S.IsAlwaysCallable inside.now }
-    requires emits { EmitsStmts (λ w s b r n. S.post inside.now w s b r n) }
+    requires emits { EmitsStmts (S.IsAlwaysCallable inside.now) (S.post inside.now) }
     ensures puts { OnOk result ((c : Front) (rest : CaseArms)
         → PutsDeadBodies (around scene.now) (front work.new) c rest
         → PutsDeadBodies (around scene.now) (front work.old) c
@@ -124,8 +120,7 @@ fn emit_all_arms<S>(
 ) -> Result<(), NoMemory>
 where
     S: for<'a, 'b, 'c, 'd> Fn(&'a mut Work, &'b Scene<'c>, &'d [Stmt]) -> Result<(), NoMemory>,
-    requires callable { S.IsAlwaysCallable inside.now }
-    requires emits { EmitsStmts (λ w s b r n. S.post inside.now w s b r n) }
+    requires emits { EmitsStmts (S.IsAlwaysCallable inside.now) (S.post inside.now) }
     ensures puts { labels.test ≡ labels.bound + 1 → OnOk result (PutsAllArms (around scene.now) line
         labels.value labels.bound (front work.old) (front work.new) (cases_list arms.now)
         (else_option rest.now)) }
@@ -149,8 +144,7 @@ fn emit_labelled<S>(
 ) -> Result<(), NoMemory>
 where
     S: for<'a, 'b, 'c, 'd> Fn(&'a mut Work, &'b Scene<'c>, &'d [Stmt]) -> Result<(), NoMemory>,
-    requires callable { S.IsAlwaysCallable inside.now }
-    requires emits { EmitsStmts (λ w s b r n. S.post inside.now w s b r n) }
+    requires emits { EmitsStmts (S.IsAlwaysCallable inside.now) (S.post inside.now) }
     ensures puts { labels.test ≡ labels.bound + 1 → OnOk result (PutsAllArms (around scene.now) line
         labels.value labels.bound (front work.old) (front work.new) (cases_list arms.now)
         (else_option rest.now)) }
@@ -177,8 +171,7 @@ fn emit_cases<S>(
 ) -> Result<(), NoMemory>
 where
     S: for<'a, 'b, 'c, 'd> Fn(&'a mut Work, &'b Scene<'c>, &'d [Stmt]) -> Result<(), NoMemory>,
-    requires callable { S.IsAlwaysCallable inside.now }
-    requires emits { EmitsStmts (λ w s b r n. S.post inside.now w s b r n) }
+    requires emits { EmitsStmts (S.IsAlwaysCallable inside.now) (S.post inside.now) }
     ensures puts { labels.test ≡ labels.bound + 1 → OnOk result (PutsCases (around scene.now) line
         labels.value labels.bound exit (front work.old) (front work.new) (cases_list arms.now)) }
 {
@@ -200,8 +193,7 @@ fn emit_next_arm<S>(
 ) -> Result<(), NoMemory>
 where
     S: for<'a, 'b, 'c, 'd> Fn(&'a mut Work, &'b Scene<'c>, &'d [Stmt]) -> Result<(), NoMemory>,
-    requires callable { S.IsAlwaysCallable inside.now }
-    requires emits { EmitsStmts (λ w s b r n. S.post inside.now w s b r n) }
+    requires emits { EmitsStmts (S.IsAlwaysCallable inside.now) (S.post inside.now) }
     ensures puts { labels.test ≡ labels.bound + 1 → OnOk result ((c : Front) (rest : CaseArms)
         → PutsCases (around scene.now) line labels.value labels.bound exit (front work.new) c rest
         → PutsCases (around scene.now) line labels.value labels.bound exit (front work.old) c
@@ -225,8 +217,7 @@ fn emit_case_arm<S>(
 ) -> Result<(), NoMemory>
 where
     S: for<'a, 'b, 'c, 'd> Fn(&'a mut Work, &'b Scene<'c>, &'d [Stmt]) -> Result<(), NoMemory>,
-    requires callable { S.IsAlwaysCallable inside.now }
-    requires emits { EmitsStmts (λ w s b r n. S.post inside.now w s b r n) }
+    requires emits { EmitsStmts (S.IsAlwaysCallable inside.now) (S.post inside.now) }
     ensures puts { labels.test ≡ labels.bound + 1 → OnOk result (PutsArmOf (around scene.now) line
         labels.value labels.bound (front work.old) (front work.new) arm.now.labels.items
         (stmts_list arm.now.body.items)) }
@@ -246,8 +237,7 @@ fn emit_else<S>(
 ) -> Result<(), NoMemory>
 where
     S: for<'a, 'b, 'c, 'd> Fn(&'a mut Work, &'b Scene<'c>, &'d [Stmt]) -> Result<(), NoMemory>,
-    requires callable { S.IsAlwaysCallable inside.now }
-    requires emits { EmitsStmts (λ w s b r n. S.post inside.now w s b r n) }
+    requires emits { EmitsStmts (S.IsAlwaysCallable inside.now) (S.post inside.now) }
     ensures puts { OnOk result (PutsElse (around scene.now) line
         (front work.old) (front work.new) (else_option rest.now)) }
 {

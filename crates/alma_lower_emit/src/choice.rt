@@ -22,8 +22,7 @@ pub(crate) fn emit_either<S>(
 ) -> Result<(), NoMemory>
 where
     S: for<'a, 'b, 'c, 'd> Fn(&'a mut Work, &'b Scene<'c>, &'d [Stmt]) -> Result<(), NoMemory>,
-    requires callable { S.IsAlwaysCallable inside.now }
-    requires emits { EmitsStmts (λ w s b r n. S.post inside.now w s b r n) }
+    requires emits { EmitsStmts (S.IsAlwaysCallable inside.now) (S.post inside.now) }
     ensures puts { OnOk result (PutsStmt (around scene.now) line
         (front work.old) (front work.new) (tree.Either (branches_list branches.now))) }
 {
@@ -51,8 +50,7 @@ fn emit_branches<S>(
 ) -> Result<(), NoMemory>
 where
     S: for<'a, 'b, 'c, 'd> Fn(&'a mut Work, &'b Scene<'c>, &'d [Stmt]) -> Result<(), NoMemory>,
-    requires callable { S.IsAlwaysCallable inside.now }
-    requires emits { EmitsStmts (λ w s b r n. S.post inside.now w s b r n) }
+    requires emits { EmitsStmts (S.IsAlwaysCallable inside.now) (S.post inside.now) }
     ensures puts { 2 ≤ length branches.now → OnOk result (PutsBranches (around scene.now) line exit
         (front work.old) (front work.new) (branches_list (drop 1 branches.now))) }
 {
@@ -79,8 +77,7 @@ fn emit_chosen<S>(
 ) -> Result<(), NoMemory>
 where
     S: for<'a, 'b, 'c, 'd> Fn(&'a mut Work, &'b Scene<'c>, &'d [Stmt]) -> Result<(), NoMemory>,
-    requires callable { S.IsAlwaysCallable inside.now }
-    requires emits { EmitsStmts (λ w s b r n. S.post inside.now w s b r n) }
+    requires emits { EmitsStmts (S.IsAlwaysCallable inside.now) (S.post inside.now) }
     ensures puts { OnOk result (PutsChosen (around scene.now) line (front work.old)
         (front work.new) (stmts_list body.now)) }
 {
@@ -100,8 +97,7 @@ pub(crate) fn emit_forall<S>(
 ) -> Result<(), NoMemory>
 where
     S: for<'a, 'b, 'c, 'd> Fn(&'a mut Work, &'b Scene<'c>, &'d [Stmt]) -> Result<(), NoMemory>,
-    requires callable { S.IsAlwaysCallable inside.now }
-    requires emits { EmitsStmts (λ w s b r n. S.post inside.now w s b r n) }
+    requires emits { EmitsStmts (S.IsAlwaysCallable inside.now) (S.post inside.now) }
     ensures puts { OnOk result (PutsStmt (around scene.now) line
         (front work.old) (front work.new)
         (tree.Forall (stmts_list first.now) (stmts_list second.now))) }
@@ -123,8 +119,7 @@ pub(crate) fn emit_commit<S>(
 ) -> Result<(), NoMemory>
 where
     S: for<'a, 'b, 'c, 'd> Fn(&'a mut Work, &'b Scene<'c>, &'d [Stmt]) -> Result<(), NoMemory>,
-    requires callable { S.IsAlwaysCallable inside.now }
-    requires emits { EmitsStmts (λ w s b r n. S.post inside.now w s b r n) }
+    requires emits { EmitsStmts (S.IsAlwaysCallable inside.now) (S.post inside.now) }
     ensures puts { OnOk result (PutsStmt (around scene.now) line
         (front work.old) (front work.new) (tree.Commit (stmts_list body.now))) }
 {

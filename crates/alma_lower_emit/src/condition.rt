@@ -27,8 +27,7 @@ pub fn emit_guard<S>(
 ) -> Result<u32, NoMemory>
 where
     S: for<'a, 'b, 'c, 'd> Fn(&'a mut Work, &'b Scene<'c>, &'d [Stmt]) -> Result<(), NoMemory>,
-    requires callable { S.IsAlwaysCallable inside.now }
-    requires emits { EmitsStmts (λ w s b r n. S.post inside.now w s b r n) }
+    requires emits { EmitsStmts (S.IsAlwaysCallable inside.now) (S.post inside.now) }
     ensures guard { IfOk result (λ jump. PutsGuard (around scene.now) line (front work.old)
         (front work.new) (λ to xs. aimed xs jump to) (test_of test.now)) }
 {
@@ -55,8 +54,7 @@ fn emit_barrier<S>(
 ) -> Result<u32, NoMemory>
 where
     S: for<'a, 'b, 'c, 'd> Fn(&'a mut Work, &'b Scene<'c>, &'d [Stmt]) -> Result<(), NoMemory>,
-    requires callable { S.IsAlwaysCallable inside.now }
-    requires emits { EmitsStmts (λ w s b r n. S.post inside.now w s b r n) }
+    requires emits { EmitsStmts (S.IsAlwaysCallable inside.now) (S.post inside.now) }
     ensures guard { is_simple (test_of test.now) ≡ false → IfOk result (λ jump. PutsGuard
         (around scene.now) line (front work.old) (front work.new) (λ to xs. aimed xs jump to)
         (test_of test.now)) }

@@ -24,8 +24,7 @@ pub fn emit_desig<S>(
 ) -> Result<u32, NoMemory>
 where
     S: for<'a, 'b, 'c, 'd> Fn(&'a mut Work, &'b Scene<'c>, &'d [Stmt]) -> Result<(), NoMemory>,
-    requires callable { S.IsAlwaysCallable inside.now }
-    requires emits { EmitsStmts (λ w s b r n. S.post inside.now w s b r n) }
+    requires emits { EmitsStmts (S.IsAlwaysCallable inside.now) (S.post inside.now) }
     ensures place { IfOk result (λ place. place ≡ place_at (around scene.now).program
         (around scene.now).tables (around scene.now).routine (front work.old).next (desig_with
         (desig_of desig.now) (front work.old).lines)) }
@@ -47,8 +46,7 @@ pub fn emit_target<S>(
 ) -> Result<Stand, NoMemory>
 where
     S: for<'a, 'b, 'c, 'd> Fn(&'a mut Work, &'b Scene<'c>, &'d [Stmt]) -> Result<(), NoMemory>,
-    requires callable { S.IsAlwaysCallable inside.now }
-    requires emits { EmitsStmts (λ w s b r n. S.post inside.now w s b r n) }
+    requires emits { EmitsStmts (S.IsAlwaysCallable inside.now) (S.post inside.now) }
     ensures stand { IfOk result (λ stand. stand ≡ stand_of (around scene.now)
         (front work.old).next (desig_with (desig_of desig.now) (front work.old).lines)) }
     ensures puts { OnOk result (PutsTarget (around scene.now) line
@@ -72,8 +70,7 @@ fn emit_sels<S>(
 ) -> Result<u32, NoMemory>
 where
     S: for<'a, 'b, 'c, 'd> Fn(&'a mut Work, &'b Scene<'c>, &'d [Stmt]) -> Result<(), NoMemory>,
-    requires callable { S.IsAlwaysCallable inside.now }
-    requires emits { EmitsStmts (λ w s b r n. S.post inside.now w s b r n) }
+    requires emits { EmitsStmts (S.IsAlwaysCallable inside.now) (S.post inside.now) }
     ensures place { IfOk result (λ place. place ≡ part_at (around scene.now).program
         (around scene.now).tables (around scene.now).routine from (front work.old).next (sels_with
         (sels_list sels.now) (front work.old).lines)) }
@@ -99,8 +96,7 @@ fn emit_sel<S>(
 ) -> Result<u32, NoMemory>
 where
     S: for<'a, 'b, 'c, 'd> Fn(&'a mut Work, &'b Scene<'c>, &'d [Stmt]) -> Result<(), NoMemory>,
-    requires callable { S.IsAlwaysCallable inside.now }
-    requires emits { EmitsStmts (λ w s b r n. S.post inside.now w s b r n) }
+    requires emits { EmitsStmts (S.IsAlwaysCallable inside.now) (S.post inside.now) }
     ensures part { IfOk result (λ part. part ≡ part_slot (around scene.now).program
         (around scene.now).tables (around scene.now).routine (front work.old).next (sel_with
         (sel_of sel.now) (front work.old).lines)) }

@@ -29,8 +29,7 @@ pub fn emit_expr<S>(
 ) -> Result<u32, NoMemory>
 where
     S: for<'a, 'b, 'c, 'd> Fn(&'a mut Work, &'b Scene<'c>, &'d [Stmt]) -> Result<(), NoMemory>,
-    requires callable { S.IsAlwaysCallable inside.now }
-    requires emits { EmitsStmts (λ w s b r n. S.post inside.now w s b r n) }
+    requires emits { EmitsStmts (S.IsAlwaysCallable inside.now) (S.post inside.now) }
     ensures slot { IfOk result (λ slot. slot ≡ (front work.old).next) }
     ensures puts { OnOk result (PutsExpr (around scene.now) line
         (front work.old) (front work.new) (expr_of expr.now)) }
@@ -65,8 +64,7 @@ fn emit_load<S>(
 ) -> Result<u32, NoMemory>
 where
     S: for<'a, 'b, 'c, 'd> Fn(&'a mut Work, &'b Scene<'c>, &'d [Stmt]) -> Result<(), NoMemory>,
-    requires callable { S.IsAlwaysCallable inside.now }
-    requires emits { EmitsStmts (λ w s b r n. S.post inside.now w s b r n) }
+    requires emits { EmitsStmts (S.IsAlwaysCallable inside.now) (S.post inside.now) }
     ensures slot { IfOk result (λ slot. slot ≡ (front work.old).next) }
     ensures puts { OnOk result (PutsExpr (around scene.now) line
         (front work.old) (front work.new) (tree.Load (desig_of desig.now))) }
@@ -89,8 +87,7 @@ fn emit_chain<S>(
 ) -> Result<u32, NoMemory>
 where
     S: for<'a, 'b, 'c, 'd> Fn(&'a mut Work, &'b Scene<'c>, &'d [Stmt]) -> Result<(), NoMemory>,
-    requires callable { S.IsAlwaysCallable inside.now }
-    requires emits { EmitsStmts (λ w s b r n. S.post inside.now w s b r n) }
+    requires emits { EmitsStmts (S.IsAlwaysCallable inside.now) (S.post inside.now) }
     ensures slot { IfOk result (λ slot. slot ≡ (front work.old).next) }
     ensures puts { OnOk result (PutsExpr (around scene.now) line
         (front work.old) (front work.new)
@@ -113,8 +110,7 @@ fn emit_links<S>(
 ) -> Result<(), NoMemory>
 where
     S: for<'a, 'b, 'c, 'd> Fn(&'a mut Work, &'b Scene<'c>, &'d [Stmt]) -> Result<(), NoMemory>,
-    requires callable { S.IsAlwaysCallable inside.now }
-    requires emits { EmitsStmts (λ w s b r n. S.post inside.now w s b r n) }
+    requires emits { EmitsStmts (S.IsAlwaysCallable inside.now) (S.post inside.now) }
     ensures puts { OnOk result (PutsLinks (around scene.now) line to
         (front work.old) (front work.new) (links_list links.now)) }
 {
@@ -138,8 +134,7 @@ fn emit_compare<S>(
 ) -> Result<u32, NoMemory>
 where
     S: for<'a, 'b, 'c, 'd> Fn(&'a mut Work, &'b Scene<'c>, &'d [Stmt]) -> Result<(), NoMemory>,
-    requires callable { S.IsAlwaysCallable inside.now }
-    requires emits { EmitsStmts (λ w s b r n. S.post inside.now w s b r n) }
+    requires emits { EmitsStmts (S.IsAlwaysCallable inside.now) (S.post inside.now) }
     ensures slot { IfOk result (λ slot. slot ≡ (front work.old).next) }
     ensures puts { OnOk result (PutsExpr (around scene.now) line
         (front work.old) (front work.new)
@@ -161,8 +156,7 @@ fn emit_truth<S>(
 ) -> Result<u32, NoMemory>
 where
     S: for<'a, 'b, 'c, 'd> Fn(&'a mut Work, &'b Scene<'c>, &'d [Stmt]) -> Result<(), NoMemory>,
-    requires callable { S.IsAlwaysCallable inside.now }
-    requires emits { EmitsStmts (λ w s b r n. S.post inside.now w s b r n) }
+    requires emits { EmitsStmts (S.IsAlwaysCallable inside.now) (S.post inside.now) }
     ensures slot { IfOk result (λ slot. slot ≡ (front work.old).next) }
     ensures puts { OnOk result (PutsExpr (around scene.now) line
         (front work.old) (front work.new) (tree.Truth (test_of test.now))) }
@@ -183,8 +177,7 @@ fn emit_known<S>(
 ) -> Result<u32, NoMemory>
 where
     S: for<'a, 'b, 'c, 'd> Fn(&'a mut Work, &'b Scene<'c>, &'d [Stmt]) -> Result<(), NoMemory>,
-    requires callable { S.IsAlwaysCallable inside.now }
-    requires emits { EmitsStmts (λ w s b r n. S.post inside.now w s b r n) }
+    requires emits { EmitsStmts (S.IsAlwaysCallable inside.now) (S.post inside.now) }
     ensures slot { IfOk result (λ slot. slot ≡ (front work.old).next) }
     ensures puts { OnOk result (PutsExpr (around scene.now) line
         (front work.old) (front work.new) (tree.Known (desig_of desig.now))) }
@@ -205,8 +198,7 @@ pub fn emit_value<S>(
 ) -> Result<u32, NoMemory>
 where
     S: for<'a, 'b, 'c, 'd> Fn(&'a mut Work, &'b Scene<'c>, &'d [Stmt]) -> Result<(), NoMemory>,
-    requires callable { S.IsAlwaysCallable inside.now }
-    requires emits { EmitsStmts (λ w s b r n. S.post inside.now w s b r n) }
+    requires emits { EmitsStmts (S.IsAlwaysCallable inside.now) (S.post inside.now) }
     ensures value { IfOk result (λ value. value ≡ value_slot (around scene.now)
         (front work.old).next (expr_with (expr_of expr.now) (front work.old).lines)) }
     ensures puts { OnOk result (PutsValue (around scene.now) line

@@ -27,8 +27,7 @@ pub(crate) fn emit_for<S>(
 ) -> Result<(), NoMemory>
 where
     S: for<'a, 'b, 'c, 'd> Fn(&'a mut Work, &'b Scene<'c>, &'d [Stmt]) -> Result<(), NoMemory>,
-    requires callable { S.IsAlwaysCallable inside.now }
-    requires emits { EmitsStmts (λ w s b r n. S.post inside.now w s b r n) }
+    requires emits { EmitsStmts (S.IsAlwaysCallable inside.now) (S.post inside.now) }
     ensures puts { OnOk result (PutsStmt (around scene.now) line
         (front work.old) (front work.new) (tree.ForTo (loop_of each.now))) }
 {
@@ -51,8 +50,7 @@ pub(crate) fn emit_some<S>(
 ) -> Result<(), NoMemory>
 where
     S: for<'a, 'b, 'c, 'd> Fn(&'a mut Work, &'b Scene<'c>, &'d [Stmt]) -> Result<(), NoMemory>,
-    requires callable { S.IsAlwaysCallable inside.now }
-    requires emits { EmitsStmts (λ w s b r n. S.post inside.now w s b r n) }
+    requires emits { EmitsStmts (S.IsAlwaysCallable inside.now) (S.post inside.now) }
     ensures puts { OnOk result (PutsStmt (around scene.now) line
         (front work.old) (front work.new) (tree.SomeOf (loop_of each.now))) }
 {
@@ -76,8 +74,7 @@ fn emit_bounds<S>(
 ) -> Result<(u32, Bounds), NoMemory>
 where
     S: for<'a, 'b, 'c, 'd> Fn(&'a mut Work, &'b Scene<'c>, &'d [Stmt]) -> Result<(), NoMemory>,
-    requires callable { S.IsAlwaysCallable inside.now }
-    requires emits { EmitsStmts (λ w s b r n. S.post inside.now w s b r n) }
+    requires emits { EmitsStmts (S.IsAlwaysCallable inside.now) (S.post inside.now) }
     ensures counter { IfOk result (λ r. r.1.counter ≡ own_slot (around scene.now).program
         (around scene.now).tables (around scene.now).routine each.now.counter) }
     ensures limit { IfOk result (λ r. r.1.limit ≡ own_slot (around scene.now).program
@@ -112,8 +109,7 @@ fn emit_turn<S>(
 ) -> Result<(), NoMemory>
 where
     S: for<'a, 'b, 'c, 'd> Fn(&'a mut Work, &'b Scene<'c>, &'d [Stmt]) -> Result<(), NoMemory>,
-    requires callable { S.IsAlwaysCallable inside.now }
-    requires emits { EmitsStmts (λ w s b r n. S.post inside.now w s b r n) }
+    requires emits { EmitsStmts (S.IsAlwaysCallable inside.now) (S.post inside.now) }
     ensures puts { OnOk result (PutsTurn (around scene.now) line after each.now.range counter
         (front work.old) (front work.new) (desig_of each.now.var)
         (stmts_list each.now.body.items)) }

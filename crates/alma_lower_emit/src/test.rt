@@ -27,8 +27,7 @@ pub fn emit_test<S>(
 ) -> Result<(), NoMemory>
 where
     S: for<'a, 'b, 'c, 'd> Fn(&'a mut Work, &'b Scene<'c>, &'d [Stmt]) -> Result<(), NoMemory>,
-    requires callable { S.IsAlwaysCallable inside.now }
-    requires emits { EmitsStmts (λ w s b r n. S.post inside.now w s b r n) }
+    requires emits { EmitsStmts (S.IsAlwaysCallable inside.now) (S.post inside.now) }
     ensures puts { OnOk result (PutsTest (around scene.now) line
         (front work.old) (front work.new) (test_of test.now)) }
 {
@@ -69,8 +68,7 @@ fn emit_bind<S>(
 ) -> Result<(), NoMemory>
 where
     S: for<'a, 'b, 'c, 'd> Fn(&'a mut Work, &'b Scene<'c>, &'d [Stmt]) -> Result<(), NoMemory>,
-    requires callable { S.IsAlwaysCallable inside.now }
-    requires emits { EmitsStmts (λ w s b r n. S.post inside.now w s b r n) }
+    requires emits { EmitsStmts (S.IsAlwaysCallable inside.now) (S.post inside.now) }
     ensures puts { OnOk result (PutsTest (around scene.now) line
         (front work.old) (front work.new)
         (tree.Bind (desig_of desig.now) (expr_of value.now) range left)) }
@@ -95,8 +93,7 @@ fn emit_bind_left<S>(
 ) -> Result<(), NoMemory>
 where
     S: for<'a, 'b, 'c, 'd> Fn(&'a mut Work, &'b Scene<'c>, &'d [Stmt]) -> Result<(), NoMemory>,
-    requires callable { S.IsAlwaysCallable inside.now }
-    requires emits { EmitsStmts (λ w s b r n. S.post inside.now w s b r n) }
+    requires emits { EmitsStmts (S.IsAlwaysCallable inside.now) (S.post inside.now) }
     ensures puts { OnOk result (PutsTest (around scene.now) line
         (front work.old) (front work.new)
         (tree.Bind (desig_of desig.now) (expr_of value.now) range true)) }
@@ -119,8 +116,7 @@ fn emit_bind_right<S>(
 ) -> Result<(), NoMemory>
 where
     S: for<'a, 'b, 'c, 'd> Fn(&'a mut Work, &'b Scene<'c>, &'d [Stmt]) -> Result<(), NoMemory>,
-    requires callable { S.IsAlwaysCallable inside.now }
-    requires emits { EmitsStmts (λ w s b r n. S.post inside.now w s b r n) }
+    requires emits { EmitsStmts (S.IsAlwaysCallable inside.now) (S.post inside.now) }
     ensures puts { OnOk result (PutsTest (around scene.now) line
         (front work.old) (front work.new)
         (tree.Bind (desig_of desig.now) (expr_of value.now) range false)) }
@@ -144,8 +140,7 @@ fn emit_unify<S>(
 ) -> Result<(), NoMemory>
 where
     S: for<'a, 'b, 'c, 'd> Fn(&'a mut Work, &'b Scene<'c>, &'d [Stmt]) -> Result<(), NoMemory>,
-    requires callable { S.IsAlwaysCallable inside.now }
-    requires emits { EmitsStmts (λ w s b r n. S.post inside.now w s b r n) }
+    requires emits { EmitsStmts (S.IsAlwaysCallable inside.now) (S.post inside.now) }
     ensures puts { OnOk result (PutsTest (around scene.now) line
         (front work.old) (front work.new)
         (tree.Unify (desig_of left.now) left_range (desig_of right.now) right_range)) }
@@ -167,8 +162,7 @@ fn emit_same_cells<S>(
 ) -> Result<(), NoMemory>
 where
     S: for<'a, 'b, 'c, 'd> Fn(&'a mut Work, &'b Scene<'c>, &'d [Stmt]) -> Result<(), NoMemory>,
-    requires callable { S.IsAlwaysCallable inside.now }
-    requires emits { EmitsStmts (λ w s b r n. S.post inside.now w s b r n) }
+    requires emits { EmitsStmts (S.IsAlwaysCallable inside.now) (S.post inside.now) }
     ensures puts { OnOk result (PutsTest (around scene.now) line
         (front work.old) (front work.new)
         (tree.SameCells (desig_of left.now) (desig_of right.now))) }
@@ -189,8 +183,7 @@ fn emit_and<S>(
 ) -> Result<(), NoMemory>
 where
     S: for<'a, 'b, 'c, 'd> Fn(&'a mut Work, &'b Scene<'c>, &'d [Stmt]) -> Result<(), NoMemory>,
-    requires callable { S.IsAlwaysCallable inside.now }
-    requires emits { EmitsStmts (λ w s b r n. S.post inside.now w s b r n) }
+    requires emits { EmitsStmts (S.IsAlwaysCallable inside.now) (S.post inside.now) }
     ensures puts { OnOk result (PutsTest (around scene.now) line
         (front work.old) (front work.new) (tree.And (tests_list tests.now))) }
 {
@@ -211,8 +204,7 @@ fn emit_or<S>(
 ) -> Result<(), NoMemory>
 where
     S: for<'a, 'b, 'c, 'd> Fn(&'a mut Work, &'b Scene<'c>, &'d [Stmt]) -> Result<(), NoMemory>,
-    requires callable { S.IsAlwaysCallable inside.now }
-    requires emits { EmitsStmts (λ w s b r n. S.post inside.now w s b r n) }
+    requires emits { EmitsStmts (S.IsAlwaysCallable inside.now) (S.post inside.now) }
     ensures puts { OnOk result (PutsTest (around scene.now) line
         (front work.old) (front work.new) (tree.Or (tests_list tests.now))) }
 {
@@ -241,8 +233,7 @@ fn emit_operands<S>(
 ) -> Result<(), NoMemory>
 where
     S: for<'a, 'b, 'c, 'd> Fn(&'a mut Work, &'b Scene<'c>, &'d [Stmt]) -> Result<(), NoMemory>,
-    requires callable { S.IsAlwaysCallable inside.now }
-    requires emits { EmitsStmts (λ w s b r n. S.post inside.now w s b r n) }
+    requires emits { EmitsStmts (S.IsAlwaysCallable inside.now) (S.post inside.now) }
     ensures puts { 2 ≤ length tests.now → OnOk result (PutsOperands (around scene.now) line exit
         (front work.old) (front work.new) (tests_list (drop 1 tests.now))) }
 {
@@ -270,8 +261,7 @@ fn emit_operand<S>(
 ) -> Result<(), NoMemory>
 where
     S: for<'a, 'b, 'c, 'd> Fn(&'a mut Work, &'b Scene<'c>, &'d [Stmt]) -> Result<(), NoMemory>,
-    requires callable { S.IsAlwaysCallable inside.now }
-    requires emits { EmitsStmts (λ w s b r n. S.post inside.now w s b r n) }
+    requires emits { EmitsStmts (S.IsAlwaysCallable inside.now) (S.post inside.now) }
     ensures puts { OnOk result (PutsFirst (around scene.now) line (front work.old) (front work.new)
         (test_of test.now)) }
 {
@@ -291,8 +281,7 @@ fn emit_not<S>(
 ) -> Result<(), NoMemory>
 where
     S: for<'a, 'b, 'c, 'd> Fn(&'a mut Work, &'b Scene<'c>, &'d [Stmt]) -> Result<(), NoMemory>,
-    requires callable { S.IsAlwaysCallable inside.now }
-    requires emits { EmitsStmts (λ w s b r n. S.post inside.now w s b r n) }
+    requires emits { EmitsStmts (S.IsAlwaysCallable inside.now) (S.post inside.now) }
     ensures puts { OnOk result (PutsTest (around scene.now) line
         (front work.old) (front work.new) (tree.Not (test_of test.now))) }
 {

@@ -15,6 +15,7 @@ abbrev pub ReadsAt : Cursor → ℕ → Result (Stmts × Cursor) Fault → Type 
 ReadsAt at d r = MatchResult r (λ t. Reads (spell_stmts (view_stmts t.0)) (number_stmts t.0) stmts_parts d d (position_of at) (position_of t.1))
     (λ e. Fails e stmts_parts d (position_of at))
 
--- so does each call
-abbrev pub ReadsStmts : (Global → Cursor → ℕ → Result (Stmts × Cursor) Fault → Type 0) → Type 0
-ReadsStmts post = (alloc : Global) (at : Cursor) (d : ℕ) (r : Result (Stmts × Cursor) Fault) → post alloc at d r → ReadsAt at d r
+-- it may be called at any cursor and depth, and each call reads statements there
+pub record ReadsStmts (callable : Type 0) (post : Global → Cursor → ℕ → Result (Stmts × Cursor) Fault → Type 0) : Type 0 where
+  pub may_call : callable
+  pub each_call : (alloc : Global) (at : Cursor) (d : ℕ) (r : Result (Stmts × Cursor) Fault) → post alloc at d r → ReadsAt at d r

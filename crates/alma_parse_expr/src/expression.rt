@@ -41,8 +41,7 @@ pub fn expr<'t, 's, S>(
 ) -> Result<(Expr, Cursor<'t, 's>), Fault<'t, 's>>
 where
     S: for<'a, 'b> Fn(Global, Cursor<'a, 'b>, u32) -> StmtsRead<'a, 'b>,
-    requires callable { S.IsAlwaysCallable inside.now }
-    requires reads { ReadsStmts (λ a t d r. S.post inside.now a t d r) }
+    requires reads { ReadsStmts (S.IsAlwaysCallable inside.now) (S.post inside.now) }
     ensures read { MatchResult result (λ t. Reads (spell_expr (view_expr t.0))
         (number_expr t.0) expr_parts depth depth (position_of at.entry) (position_of t.1))
         (λ e. Fails e expr_parts depth (position_of at.entry)) }
@@ -62,8 +61,7 @@ fn expr_from<'t, 's, S>(
 ) -> Result<(Expr, Cursor<'t, 's>), Fault<'t, 's>>
 where
     S: for<'a, 'b> Fn(Global, Cursor<'a, 'b>, u32) -> StmtsRead<'a, 'b>,
-    requires callable { S.IsAlwaysCallable inside.now }
-    requires reads { ReadsStmts (λ a t d r. S.post inside.now a t d r) }
+    requires reads { ReadsStmts (S.IsAlwaysCallable inside.now) (S.post inside.now) }
     ensures read { MatchResult result
         (λ t. Extends (spell_simple (view_simple left)) (number_simple left)
         (λ o. compared_part ∷ o)
@@ -83,8 +81,7 @@ fn compared<'t, 's, S>(
 ) -> Result<(Option<Box<Compared>>, Cursor<'t, 's>), Fault<'t, 's>>
 where
     S: for<'a, 'b> Fn(Global, Cursor<'a, 'b>, u32) -> StmtsRead<'a, 'b>,
-    requires callable { S.IsAlwaysCallable inside.now }
-    requires reads { ReadsStmts (λ a t d r. S.post inside.now a t d r) }
+    requires reads { ReadsStmts (S.IsAlwaysCallable inside.now) (S.post inside.now) }
     ensures read { MatchResult result
         (λ t. Reads (spell_compared (compared_of t.0)) (numbers_of_compared t.0)
         (λ o. compared_part ∷ o) depth depth (position_of at.entry) (position_of t.1))
@@ -105,8 +102,7 @@ fn simple<'t, 's, S>(
 ) -> Result<(Simple, Cursor<'t, 's>), Fault<'t, 's>>
 where
     S: for<'a, 'b> Fn(Global, Cursor<'a, 'b>, u32) -> StmtsRead<'a, 'b>,
-    requires callable { S.IsAlwaysCallable inside.now }
-    requires reads { ReadsStmts (λ a t d r. S.post inside.now a t d r) }
+    requires reads { ReadsStmts (S.IsAlwaysCallable inside.now) (S.post inside.now) }
     ensures read { MatchResult result (λ t. Reads (spell_simple (view_simple t.0))
         (number_simple t.0) simple_parts depth depth (position_of at.entry) (position_of t.1))
         (λ e. Fails e simple_parts depth (position_of at.entry)) }
@@ -128,8 +124,7 @@ fn simple_from<'t, 's, S>(
 ) -> Result<(Simple, Cursor<'t, 's>), Fault<'t, 's>>
 where
     S: for<'a, 'b> Fn(Global, Cursor<'a, 'b>, u32) -> StmtsRead<'a, 'b>,
-    requires callable { S.IsAlwaysCallable inside.now }
-    requires reads { ReadsStmts (λ a t d r. S.post inside.now a t d r) }
+    requires reads { ReadsStmts (S.IsAlwaysCallable inside.now) (S.post inside.now) }
     ensures read { MatchResult result
         (λ t. Extends (spell_signed sign first) (number_signed sign first) (λ o. term_tail ∷ o)
         (spell_simple (view_simple t.0)) (number_simple t.0) depth (position_of at.entry)
@@ -153,8 +148,7 @@ fn terms<'t, 's, S>(
 ) -> Result<(Vec<AddLink>, Cursor<'t, 's>), Fault<'t, 's>>
 where
     S: for<'a, 'b> Fn(Global, Cursor<'a, 'b>, u32) -> StmtsRead<'a, 'b>,
-    requires callable { S.IsAlwaysCallable inside.now }
-    requires reads { ReadsStmts (λ a t d r. S.post inside.now a t d r) }
+    requires reads { ReadsStmts (S.IsAlwaysCallable inside.now) (S.post inside.now) }
     ensures read { MatchResult result
         (λ t. Reads (spell_term_tail (terms_of t.0.items)) (numbers_of_terms t.0.items)
         (λ o. term_tail ∷ o) depth depth (position_of at.entry) (position_of t.1))
@@ -179,8 +173,7 @@ fn term<'t, 's, S>(
 ) -> Result<(Term, Cursor<'t, 's>), Fault<'t, 's>>
 where
     S: for<'a, 'b> Fn(Global, Cursor<'a, 'b>, u32) -> StmtsRead<'a, 'b>,
-    requires callable { S.IsAlwaysCallable inside.now }
-    requires reads { ReadsStmts (λ a t d r. S.post inside.now a t d r) }
+    requires reads { ReadsStmts (S.IsAlwaysCallable inside.now) (S.post inside.now) }
     ensures read { MatchResult result (λ t. Reads (spell_term (view_term t.0))
         (number_term t.0) term_parts depth depth (position_of at.entry) (position_of t.1))
         (λ e. Fails e term_parts depth (position_of at.entry)) }
@@ -200,8 +193,7 @@ fn term_from<'t, 's, S>(
 ) -> Result<(Term, Cursor<'t, 's>), Fault<'t, 's>>
 where
     S: for<'a, 'b> Fn(Global, Cursor<'a, 'b>, u32) -> StmtsRead<'a, 'b>,
-    requires callable { S.IsAlwaysCallable inside.now }
-    requires reads { ReadsStmts (λ a t d r. S.post inside.now a t d r) }
+    requires reads { ReadsStmts (S.IsAlwaysCallable inside.now) (S.post inside.now) }
     ensures read { MatchResult result
         (λ t. Extends (spell_factor (view_factor first)) (number_factor first)
         (λ o. factor_tail ∷ o)
@@ -221,8 +213,7 @@ fn factors<'t, 's, S>(
 ) -> Result<(Vec<MulLink>, Cursor<'t, 's>), Fault<'t, 's>>
 where
     S: for<'a, 'b> Fn(Global, Cursor<'a, 'b>, u32) -> StmtsRead<'a, 'b>,
-    requires callable { S.IsAlwaysCallable inside.now }
-    requires reads { ReadsStmts (λ a t d r. S.post inside.now a t d r) }
+    requires reads { ReadsStmts (S.IsAlwaysCallable inside.now) (S.post inside.now) }
     ensures read { MatchResult result
         (λ t. Reads (spell_factor_tail (factors_of t.0.items)) (numbers_of_factors t.0.items)
         (λ o. factor_tail ∷ o) depth depth (position_of at.entry) (position_of t.1))
@@ -247,8 +238,7 @@ fn factor<'t, 's, S>(
 ) -> Result<(Factor, Cursor<'t, 's>), Fault<'t, 's>>
 where
     S: for<'a, 'b> Fn(Global, Cursor<'a, 'b>, u32) -> StmtsRead<'a, 'b>,
-    requires callable { S.IsAlwaysCallable inside.now }
-    requires reads { ReadsStmts (λ a t d r. S.post inside.now a t d r) }
+    requires reads { ReadsStmts (S.IsAlwaysCallable inside.now) (S.post inside.now) }
     ensures read { MatchResult result
         (λ t. Reads (spell_factor (view_factor t.0)) (number_factor t.0)
         (λ o. factor_part ∷ o) depth depth (position_of at.entry) (position_of t.1))
@@ -269,8 +259,7 @@ fn primary<'t, 's, S>(
 ) -> Result<(Primary, Cursor<'t, 's>), Fault<'t, 's>>
 where
     S: for<'a, 'b> Fn(Global, Cursor<'a, 'b>, u32) -> StmtsRead<'a, 'b>,
-    requires callable { S.IsAlwaysCallable inside.now }
-    requires reads { ReadsStmts (λ a t d r. S.post inside.now a t d r) }
+    requires reads { ReadsStmts (S.IsAlwaysCallable inside.now) (S.post inside.now) }
     ensures read { MatchResult result
         (λ t. Reads (spell_primary (view_primary t.0)) (number_primary t.0)
         (λ o. primary_part ∷ o) depth depth (position_of at.entry) (position_of t.1))
@@ -301,8 +290,7 @@ fn named<'t, 's, S>(
 ) -> Result<(Primary, Cursor<'t, 's>), Fault<'t, 's>>
 where
     S: for<'a, 'b> Fn(Global, Cursor<'a, 'b>, u32) -> StmtsRead<'a, 'b>,
-    requires callable { S.IsAlwaysCallable inside.now }
-    requires reads { ReadsStmts (λ a t d r. S.post inside.now a t d r) }
+    requires reads { ReadsStmts (S.IsAlwaysCallable inside.now) (S.post inside.now) }
     ensures read { MatchResult result
         (λ t. Extends (spell_desig (view_desig desig)) (number_desig desig) (λ o. args_part ∷ o)
         (spell_primary (view_primary t.0)) (number_primary t.0) depth (position_of at.entry)
@@ -321,8 +309,7 @@ fn paren<'t, 's, S>(
 ) -> Result<(Primary, Cursor<'t, 's>), Fault<'t, 's>>
 where
     S: for<'a, 'b> Fn(Global, Cursor<'a, 'b>, u32) -> StmtsRead<'a, 'b>,
-    requires callable { S.IsAlwaysCallable inside.now }
-    requires reads { ReadsStmts (λ a t d r. S.post inside.now a t d r) }
+    requires reads { ReadsStmts (S.IsAlwaysCallable inside.now) (S.post inside.now) }
     ensures read { MatchResult result (λ t. Reads (spell_primary (view_primary t.0))
         (number_primary t.0) paren_parts depth depth (position_of at.entry) (position_of t.1))
         (λ e. Fails e paren_parts depth (position_of at.entry)) }
@@ -341,8 +328,7 @@ fn known<'t, 's, S>(
 ) -> Result<(Primary, Cursor<'t, 's>), Fault<'t, 's>>
 where
     S: for<'a, 'b> Fn(Global, Cursor<'a, 'b>, u32) -> StmtsRead<'a, 'b>,
-    requires callable { S.IsAlwaysCallable inside.now }
-    requires reads { ReadsStmts (λ a t d r. S.post inside.now a t d r) }
+    requires reads { ReadsStmts (S.IsAlwaysCallable inside.now) (S.post inside.now) }
     ensures read { MatchResult result (λ t. Reads (spell_primary (view_primary t.0))
         (number_primary t.0) known_parts depth depth (position_of at.entry) (position_of t.1))
         (λ e. Fails e known_parts depth (position_of at.entry)) }
@@ -360,8 +346,7 @@ fn ord<'t, 's, S>(
 ) -> Result<(Primary, Cursor<'t, 's>), Fault<'t, 's>>
 where
     S: for<'a, 'b> Fn(Global, Cursor<'a, 'b>, u32) -> StmtsRead<'a, 'b>,
-    requires callable { S.IsAlwaysCallable inside.now }
-    requires reads { ReadsStmts (λ a t d r. S.post inside.now a t d r) }
+    requires reads { ReadsStmts (S.IsAlwaysCallable inside.now) (S.post inside.now) }
     ensures read { MatchResult result (λ t. Reads (spell_primary (view_primary t.0))
         (number_primary t.0) ord_parts depth depth (position_of at.entry) (position_of t.1))
         (λ e. Fails e ord_parts depth (position_of at.entry)) }
@@ -380,8 +365,7 @@ fn chr<'t, 's, S>(
 ) -> Result<(Primary, Cursor<'t, 's>), Fault<'t, 's>>
 where
     S: for<'a, 'b> Fn(Global, Cursor<'a, 'b>, u32) -> StmtsRead<'a, 'b>,
-    requires callable { S.IsAlwaysCallable inside.now }
-    requires reads { ReadsStmts (λ a t d r. S.post inside.now a t d r) }
+    requires reads { ReadsStmts (S.IsAlwaysCallable inside.now) (S.post inside.now) }
     ensures read { MatchResult result (λ t. Reads (spell_primary (view_primary t.0))
         (number_primary t.0) chr_parts depth depth (position_of at.entry) (position_of t.1))
         (λ e. Fails e chr_parts depth (position_of at.entry)) }
@@ -401,8 +385,7 @@ pub fn args<'t, 's, S>(
 ) -> Result<(Option<Args>, Cursor<'t, 's>), Fault<'t, 's>>
 where
     S: for<'a, 'b> Fn(Global, Cursor<'a, 'b>, u32) -> StmtsRead<'a, 'b>,
-    requires callable { S.IsAlwaysCallable inside.now }
-    requires reads { ReadsStmts (λ a t d r. S.post inside.now a t d r) }
+    requires reads { ReadsStmts (S.IsAlwaysCallable inside.now) (S.post inside.now) }
     ensures read { MatchResult result (λ t. Reads (spell_args (args_of t.0)) (numbers_of_args t.0)
         (λ o. args_part ∷ o) depth depth (position_of at.entry) (position_of t.1))
         (λ e. Fails e (λ o. args_part ∷ o) depth (position_of at.entry)) }
@@ -424,8 +407,7 @@ fn args_values<'t, 's, S>(
 ) -> Result<(Option<Exprs>, Cursor<'t, 's>), Fault<'t, 's>>
 where
     S: for<'a, 'b> Fn(Global, Cursor<'a, 'b>, u32) -> StmtsRead<'a, 'b>,
-    requires callable { S.IsAlwaysCallable inside.now }
-    requires reads { ReadsStmts (λ a t d r. S.post inside.now a t d r) }
+    requires reads { ReadsStmts (S.IsAlwaysCallable inside.now) (S.post inside.now) }
     ensures read { MatchResult result
         (λ t. Reads (spell_inside_args (inside_of t.0)) (number_inside_args t.0)
         (λ o. args_inside ∷ o) depth (pred depth) (position_of at.entry) (position_of t.1))
@@ -447,8 +429,7 @@ pub fn exprs<'t, 's, S>(
 ) -> Result<(Exprs, Cursor<'t, 's>), Fault<'t, 's>>
 where
     S: for<'a, 'b> Fn(Global, Cursor<'a, 'b>, u32) -> StmtsRead<'a, 'b>,
-    requires callable { S.IsAlwaysCallable inside.now }
-    requires reads { ReadsStmts (λ a t d r. S.post inside.now a t d r) }
+    requires reads { ReadsStmts (S.IsAlwaysCallable inside.now) (S.post inside.now) }
     ensures read { MatchResult result (λ t. Reads (spell_exprs (view_exprs t.0))
         (number_exprs t.0) exprs_parts depth depth (position_of at.entry) (position_of t.1))
         (λ e. Fails e exprs_parts depth (position_of at.entry)) }
@@ -466,8 +447,7 @@ fn expr_list<'t, 's, S>(
 ) -> Result<(Vec<Expr>, Cursor<'t, 's>), Fault<'t, 's>>
 where
     S: for<'a, 'b> Fn(Global, Cursor<'a, 'b>, u32) -> StmtsRead<'a, 'b>,
-    requires callable { S.IsAlwaysCallable inside.now }
-    requires reads { ReadsStmts (λ a t d r. S.post inside.now a t d r) }
+    requires reads { ReadsStmts (S.IsAlwaysCallable inside.now) (S.post inside.now) }
     ensures read { MatchResult result
         (λ t. Reads (spell_expr_tail (exprs_of t.0.items)) (numbers_of_exprs t.0.items)
         (λ o. expr_tail ∷ o) depth depth (position_of at.entry) (position_of t.1))
@@ -490,8 +470,7 @@ pub fn desig<'t, 's, S>(
 ) -> Result<(Desig, Cursor<'t, 's>), Fault<'t, 's>>
 where
     S: for<'a, 'b> Fn(Global, Cursor<'a, 'b>, u32) -> StmtsRead<'a, 'b>,
-    requires callable { S.IsAlwaysCallable inside.now }
-    requires reads { ReadsStmts (λ a t d r. S.post inside.now a t d r) }
+    requires reads { ReadsStmts (S.IsAlwaysCallable inside.now) (S.post inside.now) }
     ensures read { MatchResult result (λ t. Reads (spell_desig (view_desig t.0))
         (number_desig t.0) desig_parts depth depth (position_of at.entry) (position_of t.1))
         (λ e. Fails e desig_parts depth (position_of at.entry)) }
@@ -509,8 +488,7 @@ fn selectors<'t, 's, S>(
 ) -> Result<(Vec<Selector>, Cursor<'t, 's>), Fault<'t, 's>>
 where
     S: for<'a, 'b> Fn(Global, Cursor<'a, 'b>, u32) -> StmtsRead<'a, 'b>,
-    requires callable { S.IsAlwaysCallable inside.now }
-    requires reads { ReadsStmts (λ a t d r. S.post inside.now a t d r) }
+    requires reads { ReadsStmts (S.IsAlwaysCallable inside.now) (S.post inside.now) }
     ensures read { MatchResult result
         (λ t. Reads (spell_selector_tail (selectors_of t.0.items)) (numbers_of_selectors t.0.items)
         (λ o. selector_tail ∷ o) depth depth (position_of at.entry) (position_of t.1))
@@ -533,8 +511,7 @@ fn selector<'t, 's, S>(
 ) -> Result<(Selector, Cursor<'t, 's>), Fault<'t, 's>>
 where
     S: for<'a, 'b> Fn(Global, Cursor<'a, 'b>, u32) -> StmtsRead<'a, 'b>,
-    requires callable { S.IsAlwaysCallable inside.now }
-    requires reads { ReadsStmts (λ a t d r. S.post inside.now a t d r) }
+    requires reads { ReadsStmts (S.IsAlwaysCallable inside.now) (S.post inside.now) }
     ensures read { MatchResult result
         (λ t. Reads (spell_selector (view_selector t.0)) (number_selector t.0)
         (selector_form_parts form) depth depth (position_of at.entry) (position_of t.1))
@@ -557,8 +534,7 @@ fn index<'t, 's, S>(
 ) -> Result<(Selector, Cursor<'t, 's>), Fault<'t, 's>>
 where
     S: for<'a, 'b> Fn(Global, Cursor<'a, 'b>, u32) -> StmtsRead<'a, 'b>,
-    requires callable { S.IsAlwaysCallable inside.now }
-    requires reads { ReadsStmts (λ a t d r. S.post inside.now a t d r) }
+    requires reads { ReadsStmts (S.IsAlwaysCallable inside.now) (S.post inside.now) }
     ensures read { MatchResult result (λ t. Reads (spell_selector (view_selector t.0))
         (number_selector t.0) index_parts depth depth (position_of at.entry) (position_of t.1))
         (λ e. Fails e index_parts depth (position_of at.entry)) }
@@ -579,8 +555,7 @@ pub fn desig_value<'t, 's, S>(
 ) -> Result<(Expr, Cursor<'t, 's>), Fault<'t, 's>>
 where
     S: for<'a, 'b> Fn(Global, Cursor<'a, 'b>, u32) -> StmtsRead<'a, 'b>,
-    requires callable { S.IsAlwaysCallable inside.now }
-    requires reads { ReadsStmts (λ a t d r. S.post inside.now a t d r) }
+    requires reads { ReadsStmts (S.IsAlwaysCallable inside.now) (S.post inside.now) }
     ensures read { MatchResult result
         (λ t. Extends (spell_desig (view_desig desig)) (number_desig desig)
         (λ o. args_part ∷ factor_tail ∷ term_tail ∷ compared_part ∷ o)

@@ -28,8 +28,7 @@ pub fn if_stmt<'t, 's, S>(
 ) -> Result<(Stmt, Cursor<'t, 's>), Fault<'t, 's>>
 where
     S: for<'a, 'b> Fn(Global, Cursor<'a, 'b>, u32) -> StmtsRead<'a, 'b>,
-    requires callable { S.IsAlwaysCallable inside.now }
-    requires reads { ReadsStmts (λ a t d r. S.post inside.now a t d r) }
+    requires reads { ReadsStmts (S.IsAlwaysCallable inside.now) (S.post inside.now) }
     ensures read { MatchResult result (λ t. Reads (spell_stmt (view_stmt t.0))
         (number_stmt t.0) if_parts depth depth (position_of at.entry) (position_of t.1))
         (λ e. Fails e if_parts depth (position_of at.entry)) }
@@ -50,8 +49,7 @@ fn elsif_list<'t, 's, S>(
 ) -> Result<(Vec<Elsif>, Cursor<'t, 's>), Fault<'t, 's>>
 where
     S: for<'a, 'b> Fn(Global, Cursor<'a, 'b>, u32) -> StmtsRead<'a, 'b>,
-    requires callable { S.IsAlwaysCallable inside.now }
-    requires reads { ReadsStmts (λ a t d r. S.post inside.now a t d r) }
+    requires reads { ReadsStmts (S.IsAlwaysCallable inside.now) (S.post inside.now) }
     ensures read { MatchResult result
         (λ t. Reads (spell_elsif_tail (elsifs_of t.0.items)) (numbers_of_elsifs t.0.items)
         (λ o. elsif_tail ∷ o) depth depth (position_of at.entry) (position_of t.1))
@@ -76,8 +74,7 @@ fn otherwise<'t, 's, S>(
 ) -> Result<(Option<Stmts>, Cursor<'t, 's>), Fault<'t, 's>>
 where
     S: for<'a, 'b> Fn(Global, Cursor<'a, 'b>, u32) -> StmtsRead<'a, 'b>,
-    requires callable { S.IsAlwaysCallable inside.now }
-    requires reads { ReadsStmts (λ a t d r. S.post inside.now a t d r) }
+    requires reads { ReadsStmts (S.IsAlwaysCallable inside.now) (S.post inside.now) }
     ensures read { MatchResult result (λ t. Reads (spell_else (else_of t.0)) (numbers_of_else t.0)
         (λ o. else_part ∷ o) depth depth (position_of at.entry) (position_of t.1))
         (λ e. Fails e (λ o. else_part ∷ o) depth (position_of at.entry)) }
@@ -96,8 +93,7 @@ pub fn while_stmt<'t, 's, S>(
 ) -> Result<(Stmt, Cursor<'t, 's>), Fault<'t, 's>>
 where
     S: for<'a, 'b> Fn(Global, Cursor<'a, 'b>, u32) -> StmtsRead<'a, 'b>,
-    requires callable { S.IsAlwaysCallable inside.now }
-    requires reads { ReadsStmts (λ a t d r. S.post inside.now a t d r) }
+    requires reads { ReadsStmts (S.IsAlwaysCallable inside.now) (S.post inside.now) }
     ensures read { MatchResult result (λ t. Reads (spell_stmt (view_stmt t.0))
         (number_stmt t.0) while_parts depth depth (position_of at.entry) (position_of t.1))
         (λ e. Fails e while_parts depth (position_of at.entry)) }
@@ -118,8 +114,7 @@ pub fn repeat_stmt<'t, 's, S>(
 ) -> Result<(Stmt, Cursor<'t, 's>), Fault<'t, 's>>
 where
     S: for<'a, 'b> Fn(Global, Cursor<'a, 'b>, u32) -> StmtsRead<'a, 'b>,
-    requires callable { S.IsAlwaysCallable inside.now }
-    requires reads { ReadsStmts (λ a t d r. S.post inside.now a t d r) }
+    requires reads { ReadsStmts (S.IsAlwaysCallable inside.now) (S.post inside.now) }
     ensures read { MatchResult result (λ t. Reads (spell_stmt (view_stmt t.0))
         (number_stmt t.0) repeat_parts depth depth (position_of at.entry) (position_of t.1))
         (λ e. Fails e repeat_parts depth (position_of at.entry)) }
@@ -137,8 +132,7 @@ pub fn for_stmt<'t, 's, S>(
 ) -> Result<(Stmt, Cursor<'t, 's>), Fault<'t, 's>>
 where
     S: for<'a, 'b> Fn(Global, Cursor<'a, 'b>, u32) -> StmtsRead<'a, 'b>,
-    requires callable { S.IsAlwaysCallable inside.now }
-    requires reads { ReadsStmts (λ a t d r. S.post inside.now a t d r) }
+    requires reads { ReadsStmts (S.IsAlwaysCallable inside.now) (S.post inside.now) }
     ensures read { MatchResult result (λ t. Reads (spell_stmt (view_stmt t.0))
         (number_stmt t.0) for_parts depth depth (position_of at.entry) (position_of t.1))
         (λ e. Fails e for_parts depth (position_of at.entry)) }
@@ -160,8 +154,7 @@ fn step<'t, 's, S>(
 ) -> Result<(Option<Expr>, Cursor<'t, 's>), Fault<'t, 's>>
 where
     S: for<'a, 'b> Fn(Global, Cursor<'a, 'b>, u32) -> StmtsRead<'a, 'b>,
-    requires callable { S.IsAlwaysCallable inside.now }
-    requires reads { ReadsStmts (λ a t d r. S.post inside.now a t d r) }
+    requires reads { ReadsStmts (S.IsAlwaysCallable inside.now) (S.post inside.now) }
     ensures read { MatchResult result (λ t. Reads (spell_by (by_of t.0)) (numbers_of_by t.0)
         (λ o. by_part ∷ o) depth depth (position_of at.entry) (position_of t.1))
         (λ e. Fails e (λ o. by_part ∷ o) depth (position_of at.entry)) }
@@ -180,8 +173,7 @@ pub fn case_stmt<'t, 's, S>(
 ) -> Result<(Stmt, Cursor<'t, 's>), Fault<'t, 's>>
 where
     S: for<'a, 'b> Fn(Global, Cursor<'a, 'b>, u32) -> StmtsRead<'a, 'b>,
-    requires callable { S.IsAlwaysCallable inside.now }
-    requires reads { ReadsStmts (λ a t d r. S.post inside.now a t d r) }
+    requires reads { ReadsStmts (S.IsAlwaysCallable inside.now) (S.post inside.now) }
     ensures read { MatchResult result (λ t. Reads (spell_stmt (view_stmt t.0))
         (number_stmt t.0) case_parts depth depth (position_of at.entry) (position_of t.1))
         (λ e. Fails e case_parts depth (position_of at.entry)) }
@@ -202,8 +194,7 @@ fn arm<'t, 's, S>(
 ) -> Result<(Arm, Cursor<'t, 's>), Fault<'t, 's>>
 where
     S: for<'a, 'b> Fn(Global, Cursor<'a, 'b>, u32) -> StmtsRead<'a, 'b>,
-    requires callable { S.IsAlwaysCallable inside.now }
-    requires reads { ReadsStmts (λ a t d r. S.post inside.now a t d r) }
+    requires reads { ReadsStmts (S.IsAlwaysCallable inside.now) (S.post inside.now) }
     ensures read { MatchResult result (λ t. Reads (spell_arm (view_arm t.0)) (number_arm t.0)
         (λ o. arm_part ∷ o) depth depth (position_of at.entry) (position_of t.1))
         (λ e. Fails e (λ o. arm_part ∷ o) depth (position_of at.entry)) }
@@ -222,8 +213,7 @@ fn labelled_arm<'t, 's, S>(
 ) -> Result<(Arm, Cursor<'t, 's>), Fault<'t, 's>>
 where
     S: for<'a, 'b> Fn(Global, Cursor<'a, 'b>, u32) -> StmtsRead<'a, 'b>,
-    requires callable { S.IsAlwaysCallable inside.now }
-    requires reads { ReadsStmts (λ a t d r. S.post inside.now a t d r) }
+    requires reads { ReadsStmts (S.IsAlwaysCallable inside.now) (S.post inside.now) }
     ensures read { MatchResult result (λ t. Reads (spell_arm (view_arm t.0))
         (number_arm t.0) labelled_parts depth depth (position_of at.entry) (position_of t.1))
         (λ e. Fails e labelled_parts depth (position_of at.entry)) }
@@ -241,8 +231,7 @@ fn arm_list<'t, 's, S>(
 ) -> Result<(Vec<Arm>, Cursor<'t, 's>), Fault<'t, 's>>
 where
     S: for<'a, 'b> Fn(Global, Cursor<'a, 'b>, u32) -> StmtsRead<'a, 'b>,
-    requires callable { S.IsAlwaysCallable inside.now }
-    requires reads { ReadsStmts (λ a t d r. S.post inside.now a t d r) }
+    requires reads { ReadsStmts (S.IsAlwaysCallable inside.now) (S.post inside.now) }
     ensures read { MatchResult result (λ t. Reads (spell_arm_tail (arms_of t.0.items))
         (numbers_of_arms t.0.items)
         (λ o. arm_tail ∷ o) depth depth (position_of at.entry) (position_of t.1))
@@ -263,8 +252,7 @@ fn label<'t, 's, S>(
 ) -> Result<(Label, Cursor<'t, 's>), Fault<'t, 's>>
 where
     S: for<'a, 'b> Fn(Global, Cursor<'a, 'b>, u32) -> StmtsRead<'a, 'b>,
-    requires callable { S.IsAlwaysCallable inside.now }
-    requires reads { ReadsStmts (λ a t d r. S.post inside.now a t d r) }
+    requires reads { ReadsStmts (S.IsAlwaysCallable inside.now) (S.post inside.now) }
     ensures read { MatchResult result (λ t. Reads (spell_label (view_label t.0))
         (number_label t.0) label_parts depth depth (position_of at.entry) (position_of t.1))
         (λ e. Fails e label_parts depth (position_of at.entry)) }
@@ -281,8 +269,7 @@ fn high<'t, 's, S>(
 ) -> Result<(Option<Expr>, Cursor<'t, 's>), Fault<'t, 's>>
 where
     S: for<'a, 'b> Fn(Global, Cursor<'a, 'b>, u32) -> StmtsRead<'a, 'b>,
-    requires callable { S.IsAlwaysCallable inside.now }
-    requires reads { ReadsStmts (λ a t d r. S.post inside.now a t d r) }
+    requires reads { ReadsStmts (S.IsAlwaysCallable inside.now) (S.post inside.now) }
     ensures read { MatchResult result (λ t. Reads (spell_high (high_of t.0)) (numbers_of_high t.0)
         (λ o. high_part ∷ o) depth depth (position_of at.entry) (position_of t.1))
         (λ e. Fails e (λ o. high_part ∷ o) depth (position_of at.entry)) }
@@ -301,8 +288,7 @@ fn label_list<'t, 's, S>(
 ) -> Result<(Vec<Label>, Cursor<'t, 's>), Fault<'t, 's>>
 where
     S: for<'a, 'b> Fn(Global, Cursor<'a, 'b>, u32) -> StmtsRead<'a, 'b>,
-    requires callable { S.IsAlwaysCallable inside.now }
-    requires reads { ReadsStmts (λ a t d r. S.post inside.now a t d r) }
+    requires reads { ReadsStmts (S.IsAlwaysCallable inside.now) (S.post inside.now) }
     ensures read { MatchResult result
         (λ t. Reads (spell_label_tail (labels_of t.0.items)) (numbers_of_labels t.0.items)
         (λ o. label_tail ∷ o) depth depth (position_of at.entry) (position_of t.1))
@@ -324,8 +310,7 @@ pub fn nested<'t, 's, S>(
 ) -> StmtsRead<'t, 's>
 where
     S: for<'a, 'b> Fn(Global, Cursor<'a, 'b>, u32) -> StmtsRead<'a, 'b>,
-    requires callable { S.IsAlwaysCallable inside.now }
-    requires reads { ReadsStmts (λ a t d r. S.post inside.now a t d r) }
+    requires reads { ReadsStmts (S.IsAlwaysCallable inside.now) (S.post inside.now) }
     ensures read { ReadsAt at.entry depth result }
 {
     inside(alloc, at, depth)

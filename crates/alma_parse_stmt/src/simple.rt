@@ -28,8 +28,7 @@ pub fn simple_stmt<'t, 's, S>(
 ) -> Result<(Stmt, Cursor<'t, 's>), Fault<'t, 's>>
 where
     S: for<'a, 'b> Fn(Global, Cursor<'a, 'b>, u32) -> StmtsRead<'a, 'b>,
-    requires callable { S.IsAlwaysCallable inside.now }
-    requires reads { ReadsStmts (λ a t d r. S.post inside.now a t d r) }
+    requires reads { ReadsStmts (S.IsAlwaysCallable inside.now) (S.post inside.now) }
     ensures read { MatchResult result (λ t. Reads (spell_stmt (view_stmt t.0)) (number_stmt t.0)
         (stmt_form_parts form) depth depth (position_of at.entry) (position_of t.1))
         (λ e. Fails e (stmt_form_parts form) depth (position_of at.entry)) }
@@ -55,8 +54,7 @@ fn desig_stmt<'t, 's, S>(
 ) -> Result<(Stmt, Cursor<'t, 's>), Fault<'t, 's>>
 where
     S: for<'a, 'b> Fn(Global, Cursor<'a, 'b>, u32) -> StmtsRead<'a, 'b>,
-    requires callable { S.IsAlwaysCallable inside.now }
-    requires reads { ReadsStmts (λ a t d r. S.post inside.now a t d r) }
+    requires reads { ReadsStmts (S.IsAlwaysCallable inside.now) (S.post inside.now) }
     ensures read { MatchResult result (λ t. Reads (spell_stmt (view_stmt t.0))
         (number_stmt t.0) desig_stmt_parts depth depth (position_of at.entry) (position_of t.1))
         (λ e. Fails e desig_stmt_parts depth (position_of at.entry)) }
@@ -78,8 +76,7 @@ fn assign<'t, 's, S>(
 ) -> Result<(Stmt, Cursor<'t, 's>), Fault<'t, 's>>
 where
     S: for<'a, 'b> Fn(Global, Cursor<'a, 'b>, u32) -> StmtsRead<'a, 'b>,
-    requires callable { S.IsAlwaysCallable inside.now }
-    requires reads { ReadsStmts (λ a t d r. S.post inside.now a t d r) }
+    requires reads { ReadsStmts (S.IsAlwaysCallable inside.now) (S.post inside.now) }
     ensures read { MatchResult result
         (λ t. Extends (spell_desig (view_desig target)) (number_desig target)
         (λ o. one kinds.Assign ∷ expr_parts o)
@@ -99,8 +96,7 @@ fn value_stmt<'t, 's, S>(
 ) -> Result<(Stmt, Cursor<'t, 's>), Fault<'t, 's>>
 where
     S: for<'a, 'b> Fn(Global, Cursor<'a, 'b>, u32) -> StmtsRead<'a, 'b>,
-    requires callable { S.IsAlwaysCallable inside.now }
-    requires reads { ReadsStmts (λ a t d r. S.post inside.now a t d r) }
+    requires reads { ReadsStmts (S.IsAlwaysCallable inside.now) (S.post inside.now) }
     ensures read { MatchResult result (λ t. Reads (spell_stmt (view_stmt t.0))
         (number_stmt t.0) expr_parts depth depth (position_of at.entry) (position_of t.1))
         (λ e. Fails e expr_parts depth (position_of at.entry)) }
@@ -116,8 +112,7 @@ fn return_stmt<'t, 's, S>(
 ) -> Result<(Stmt, Cursor<'t, 's>), Fault<'t, 's>>
 where
     S: for<'a, 'b> Fn(Global, Cursor<'a, 'b>, u32) -> StmtsRead<'a, 'b>,
-    requires callable { S.IsAlwaysCallable inside.now }
-    requires reads { ReadsStmts (λ a t d r. S.post inside.now a t d r) }
+    requires reads { ReadsStmts (S.IsAlwaysCallable inside.now) (S.post inside.now) }
     ensures read { MatchResult result (λ t. Reads (spell_stmt (view_stmt t.0))
         (number_stmt t.0) return_parts depth depth (position_of at.entry) (position_of t.1))
         (λ e. Fails e return_parts depth (position_of at.entry)) }
@@ -134,8 +129,7 @@ fn returned<'t, 's, S>(
 ) -> Result<(Option<Expr>, Cursor<'t, 's>), Fault<'t, 's>>
 where
     S: for<'a, 'b> Fn(Global, Cursor<'a, 'b>, u32) -> StmtsRead<'a, 'b>,
-    requires callable { S.IsAlwaysCallable inside.now }
-    requires reads { ReadsStmts (λ a t d r. S.post inside.now a t d r) }
+    requires reads { ReadsStmts (S.IsAlwaysCallable inside.now) (S.post inside.now) }
     ensures read { MatchResult result
         (λ t. Reads (spell_returned (returned_of t.0)) (numbers_of_returned t.0)
         (λ o. returned_part ∷ o) depth depth (position_of at.entry) (position_of t.1))
@@ -155,8 +149,7 @@ fn read_stmt<'t, 's, S>(
 ) -> Result<(Stmt, Cursor<'t, 's>), Fault<'t, 's>>
 where
     S: for<'a, 'b> Fn(Global, Cursor<'a, 'b>, u32) -> StmtsRead<'a, 'b>,
-    requires callable { S.IsAlwaysCallable inside.now }
-    requires reads { ReadsStmts (λ a t d r. S.post inside.now a t d r) }
+    requires reads { ReadsStmts (S.IsAlwaysCallable inside.now) (S.post inside.now) }
     ensures read { MatchResult result (λ t. Reads (spell_stmt (view_stmt t.0))
         (number_stmt t.0) read_parts depth depth (position_of at.entry) (position_of t.1))
         (λ e. Fails e read_parts depth (position_of at.entry)) }
@@ -175,8 +168,7 @@ fn desig_list<'t, 's, S>(
 ) -> Result<(Vec<Desig>, Cursor<'t, 's>), Fault<'t, 's>>
 where
     S: for<'a, 'b> Fn(Global, Cursor<'a, 'b>, u32) -> StmtsRead<'a, 'b>,
-    requires callable { S.IsAlwaysCallable inside.now }
-    requires reads { ReadsStmts (λ a t d r. S.post inside.now a t d r) }
+    requires reads { ReadsStmts (S.IsAlwaysCallable inside.now) (S.post inside.now) }
     ensures read { MatchResult result
         (λ t. Reads (spell_desig_tail (desigs_of t.0.items)) (numbers_of_desigs t.0.items)
         (λ o. desig_tail ∷ o) depth depth (position_of at.entry) (position_of t.1))
@@ -197,8 +189,7 @@ fn write_stmt<'t, 's, S>(
 ) -> Result<(Stmt, Cursor<'t, 's>), Fault<'t, 's>>
 where
     S: for<'a, 'b> Fn(Global, Cursor<'a, 'b>, u32) -> StmtsRead<'a, 'b>,
-    requires callable { S.IsAlwaysCallable inside.now }
-    requires reads { ReadsStmts (λ a t d r. S.post inside.now a t d r) }
+    requires reads { ReadsStmts (S.IsAlwaysCallable inside.now) (S.post inside.now) }
     ensures read { MatchResult result (λ t. Reads (spell_stmt (view_stmt t.0))
         (number_stmt t.0) write_parts depth depth (position_of at.entry) (position_of t.1))
         (λ e. Fails e write_parts depth (position_of at.entry)) }
@@ -216,8 +207,7 @@ fn writeln_stmt<'t, 's, S>(
 ) -> Result<(Stmt, Cursor<'t, 's>), Fault<'t, 's>>
 where
     S: for<'a, 'b> Fn(Global, Cursor<'a, 'b>, u32) -> StmtsRead<'a, 'b>,
-    requires callable { S.IsAlwaysCallable inside.now }
-    requires reads { ReadsStmts (λ a t d r. S.post inside.now a t d r) }
+    requires reads { ReadsStmts (S.IsAlwaysCallable inside.now) (S.post inside.now) }
     ensures read { MatchResult result (λ t. Reads (spell_stmt (view_stmt t.0))
         (number_stmt t.0) writeln_parts depth depth (position_of at.entry) (position_of t.1))
         (λ e. Fails e writeln_parts depth (position_of at.entry)) }

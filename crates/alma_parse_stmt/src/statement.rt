@@ -27,8 +27,7 @@ pub(crate) fn statements<'t, 's, S>(
 ) -> Result<(Stmts, Cursor<'t, 's>), Fault<'t, 's>>
 where
     S: for<'a, 'b> Fn(Global, Cursor<'a, 'b>, u32) -> StmtsRead<'a, 'b>,
-    requires callable { S.IsAlwaysCallable inside.now }
-    requires reads { ReadsStmts (λ a t d r. S.post inside.now a t d r) }
+    requires reads { ReadsStmts (S.IsAlwaysCallable inside.now) (S.post inside.now) }
     ensures read { MatchResult result (λ t. Reads (spell_stmts (view_stmts t.0))
         (number_stmts t.0) stmts_parts depth depth (position_of at.entry) (position_of t.1))
         (λ e. Fails e stmts_parts depth (position_of at.entry)) }
@@ -45,8 +44,7 @@ fn stmt_list<'t, 's, S>(
 ) -> Result<(Vec<Stmt>, Cursor<'t, 's>), Fault<'t, 's>>
 where
     S: for<'a, 'b> Fn(Global, Cursor<'a, 'b>, u32) -> StmtsRead<'a, 'b>,
-    requires callable { S.IsAlwaysCallable inside.now }
-    requires reads { ReadsStmts (λ a t d r. S.post inside.now a t d r) }
+    requires reads { ReadsStmts (S.IsAlwaysCallable inside.now) (S.post inside.now) }
     ensures read { MatchResult result
         (λ t. Reads (spell_stmt_tail (stmts_of t.0.items)) (numbers_of_stmts t.0.items)
         (λ o. stmt_tail ∷ o) depth depth (position_of at.entry) (position_of t.1))
@@ -67,8 +65,7 @@ fn stmt<'t, 's, S>(
 ) -> Result<(Stmt, Cursor<'t, 's>), Fault<'t, 's>>
 where
     S: for<'a, 'b> Fn(Global, Cursor<'a, 'b>, u32) -> StmtsRead<'a, 'b>,
-    requires callable { S.IsAlwaysCallable inside.now }
-    requires reads { ReadsStmts (λ a t d r. S.post inside.now a t d r) }
+    requires reads { ReadsStmts (S.IsAlwaysCallable inside.now) (S.post inside.now) }
     ensures read { MatchResult result (λ t. Reads (spell_stmt (view_stmt t.0)) (number_stmt t.0)
         (λ o. stmt_part ∷ o) depth depth (position_of at.entry) (position_of t.1))
         (λ e. Fails e (λ o. stmt_part ∷ o) depth (position_of at.entry)) }
@@ -95,8 +92,7 @@ fn some_stmt<'t, 's, S>(
 ) -> Result<(Stmt, Cursor<'t, 's>), Fault<'t, 's>>
 where
     S: for<'a, 'b> Fn(Global, Cursor<'a, 'b>, u32) -> StmtsRead<'a, 'b>,
-    requires callable { S.IsAlwaysCallable inside.now }
-    requires reads { ReadsStmts (λ a t d r. S.post inside.now a t d r) }
+    requires reads { ReadsStmts (S.IsAlwaysCallable inside.now) (S.post inside.now) }
     ensures read { MatchResult result (λ t. Reads (spell_stmt (view_stmt t.0))
         (number_stmt t.0) some_parts depth depth (position_of at.entry) (position_of t.1))
         (λ e. Fails e some_parts depth (position_of at.entry)) }
@@ -116,8 +112,7 @@ fn either_stmt<'t, 's, S>(
 ) -> Result<(Stmt, Cursor<'t, 's>), Fault<'t, 's>>
 where
     S: for<'a, 'b> Fn(Global, Cursor<'a, 'b>, u32) -> StmtsRead<'a, 'b>,
-    requires callable { S.IsAlwaysCallable inside.now }
-    requires reads { ReadsStmts (λ a t d r. S.post inside.now a t d r) }
+    requires reads { ReadsStmts (S.IsAlwaysCallable inside.now) (S.post inside.now) }
     ensures read { MatchResult result (λ t. Reads (spell_stmt (view_stmt t.0))
         (number_stmt t.0) either_parts depth depth (position_of at.entry) (position_of t.1))
         (λ e. Fails e either_parts depth (position_of at.entry)) }
@@ -136,8 +131,7 @@ fn orelse_list<'t, 's, S>(
 ) -> Result<(Vec<Stmts>, Cursor<'t, 's>), Fault<'t, 's>>
 where
     S: for<'a, 'b> Fn(Global, Cursor<'a, 'b>, u32) -> StmtsRead<'a, 'b>,
-    requires callable { S.IsAlwaysCallable inside.now }
-    requires reads { ReadsStmts (λ a t d r. S.post inside.now a t d r) }
+    requires reads { ReadsStmts (S.IsAlwaysCallable inside.now) (S.post inside.now) }
     ensures read { MatchResult result
         (λ t. Reads (spell_orelse_tail (orelses_of t.0.items)) (numbers_of_orelses t.0.items)
         (λ o. orelse_tail ∷ o) depth depth (position_of at.entry) (position_of t.1))
@@ -158,8 +152,7 @@ fn forall_stmt<'t, 's, S>(
 ) -> Result<(Stmt, Cursor<'t, 's>), Fault<'t, 's>>
 where
     S: for<'a, 'b> Fn(Global, Cursor<'a, 'b>, u32) -> StmtsRead<'a, 'b>,
-    requires callable { S.IsAlwaysCallable inside.now }
-    requires reads { ReadsStmts (λ a t d r. S.post inside.now a t d r) }
+    requires reads { ReadsStmts (S.IsAlwaysCallable inside.now) (S.post inside.now) }
     ensures read { MatchResult result (λ t. Reads (spell_stmt (view_stmt t.0))
         (number_stmt t.0) forall_parts depth depth (position_of at.entry) (position_of t.1))
         (λ e. Fails e forall_parts depth (position_of at.entry)) }
@@ -178,8 +171,7 @@ fn commit_stmt<'t, 's, S>(
 ) -> Result<(Stmt, Cursor<'t, 's>), Fault<'t, 's>>
 where
     S: for<'a, 'b> Fn(Global, Cursor<'a, 'b>, u32) -> StmtsRead<'a, 'b>,
-    requires callable { S.IsAlwaysCallable inside.now }
-    requires reads { ReadsStmts (λ a t d r. S.post inside.now a t d r) }
+    requires reads { ReadsStmts (S.IsAlwaysCallable inside.now) (S.post inside.now) }
     ensures read { MatchResult result (λ t. Reads (spell_stmt (view_stmt t.0))
         (number_stmt t.0) commit_parts depth depth (position_of at.entry) (position_of t.1))
         (λ e. Fails e commit_parts depth (position_of at.entry)) }

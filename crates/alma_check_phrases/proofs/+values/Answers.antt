@@ -296,105 +296,99 @@ call::check_argument-returns g t c =
     (c.join_argument.ensures (walk.judge_expr (scene_of c.args.env.now c.args.place) c.args.slot.now (view.view_expr c.args.value.now)) _ c.check_expr-typed.ensures)
 
 pub expression::check_expr-check_simple-requires : goal.expression::check_expr-check_simple-requires
-expression::check_expr-check_simple-requires g t c κs within = (omega (arith, c.decreases, sizes.expr_left c.args.expr.now), (search rules, (c.requires.callable, c.requires.judges)))
+expression::check_expr-check_simple-requires g t c κs within = (omega (arith, c.decreases, sizes.expr_left c.args.expr.now), (search rules, c.requires.judges))
 
 pub expression::check_expr-check_simple-right-requires : goal.expression::check_expr-check_simple-right-requires
 expression::check_expr-check_simple-right-requires g t c κs within =
-    (omega (arith, c.decreases, sizes.expr_right c.args.expr.now c.in-Some.compared c.in-Some.is, ap (λ k. di.size-Simple (dc.out-Compared k).right) c.deref.ensures), (search rules, (c.requires.callable, c.requires.judges)))
+    (omega (arith, c.decreases, sizes.expr_right c.args.expr.now c.in-Some.compared c.in-Some.is, ap (λ k. di.size-Simple (dc.out-Compared k).right) c.deref.ensures), (search rules, c.requires.judges))
 
 pub expression::check_simple-check_term-requires : goal.expression::check_simple-check_term-requires
-expression::check_simple-check_term-requires g t c κs within = (omega (arith, c.decreases, sizes.simple_first c.args.simple.now, ap dm.size-Term c.deref-2.ensures), (search rules, (c.requires.callable, c.requires.judges)))
+expression::check_simple-check_term-requires g t c κs within = (omega (arith, c.decreases, sizes.simple_first c.args.simple.now, ap dm.size-Term c.deref-2.ensures), (search rules, c.requires.judges))
 
 pub expression::check_simple-check_terms-rest-requires : goal.expression::check_simple-check_terms-rest-requires
 expression::check_simple-check_terms-rest-requires g t c κs within =
-    (omega (arith, c.decreases, sizes.simple_more c.args.simple.now, ap (most dk.size-AddLink) c.deref-3.ensures.value), (search rules, (c.requires.callable, c.requires.judges)))
+    (omega (arith, c.decreases, sizes.simple_more c.args.simple.now, ap (most dk.size-AddLink) c.deref-3.ensures.value), (search rules, c.requires.judges))
 
 pub expression::check_terms-check_term-typed-requires : goal.expression::check_terms-check_term-typed-requires
 expression::check_terms-check_term-typed-requires g t c κs within =
-    (omega (arith, c.decreases, at_most dk.size-AddLink c.args.more.now c.loop-link.link-index c.link-item.result c.loop-link-test.true, ap dk.size-AddLink c.link-item.is, sizes.add_operand c.link-item.result), (search rules, (c.requires.callable, c.requires.judges)))
+    (omega (arith, c.decreases, at_most dk.size-AddLink c.args.more.now c.loop-link.link-index c.link-item.result c.loop-link-test.true, ap dk.size-AddLink c.link-item.is, sizes.add_operand c.link-item.result), (search rules, c.requires.judges))
 
 pub expression::check_term-check_factor-requires : goal.expression::check_term-check_factor-requires
-expression::check_term-check_factor-requires g t c κs within = (omega (arith, c.decreases, sizes.term_first c.args.term.now), (search rules, (c.requires.callable, c.requires.judges)))
+expression::check_term-check_factor-requires g t c κs within = (omega (arith, c.decreases, sizes.term_first c.args.term.now), (search rules, c.requires.judges))
 
 pub expression::check_term-check_factors-rest-requires : goal.expression::check_term-check_factors-rest-requires
 expression::check_term-check_factors-rest-requires g t c κs within =
-    (omega (arith, c.decreases, sizes.term_more c.args.term.now, ap (most dn.size-MulLink) c.deref-2.ensures.value), (search rules, (c.requires.callable, c.requires.judges)))
+    (omega (arith, c.decreases, sizes.term_more c.args.term.now, ap (most dn.size-MulLink) c.deref-2.ensures.value), (search rules, c.requires.judges))
 
 pub expression::check_factors-check_factor-typed-requires : goal.expression::check_factors-check_factor-typed-requires
 expression::check_factors-check_factor-typed-requires g t c κs within =
-    (omega (arith, c.decreases, at_most dn.size-MulLink c.args.more.now c.loop-link.link-index c.link-item.result c.loop-link-test.true, ap dn.size-MulLink c.link-item.is, sizes.mul_operand c.link-item.result), (search rules, (c.requires.callable, c.requires.judges)))
+    (omega (arith, c.decreases, at_most dn.size-MulLink c.args.more.now c.loop-link.link-index c.link-item.result c.loop-link-test.true, ap dn.size-MulLink c.link-item.is, sizes.mul_operand c.link-item.result), (search rules, c.requires.judges))
 
 pub expression::check_factor-check_primary-typed-requires : goal.expression::check_factor-check_primary-typed-requires
-expression::check_factor-check_primary-typed-requires g t c κs within = (omega (arith, c.decreases, ap dr.size-Factor c.in-Not.is ∙ views.sized-Not _ _), (search rules, (c.requires.callable, c.requires.judges)))
+expression::check_factor-check_primary-typed-requires g t c κs within = (omega (arith, c.decreases, ap dr.size-Factor c.in-Not.is ∙ views.sized-Not _ _), (search rules, c.requires.judges))
 
 pub expression::check_factor-check_primary-typed-requires-in-Plain : goal.expression::check_factor-check_primary-typed-requires-in-Plain
-expression::check_factor-check_primary-typed-requires-in-Plain g t c κs within = (omega (arith, c.decreases, ap dr.size-Factor c.in-Plain.is ∙ views.sized-Plain _ _), (search rules, (c.requires.callable, c.requires.judges)))
+expression::check_factor-check_primary-typed-requires-in-Plain g t c κs within = (omega (arith, c.decreases, ap dr.size-Factor c.in-Plain.is ∙ views.sized-Plain _ _), (search rules, c.requires.judges))
 
 pub expression::check_primary-check_named-requires : goal.expression::check_primary-check_named-requires
-expression::check_primary-check_named-requires g t c κs within = (omega (arith, c.decreases, ap dp.size-Primary c.in-Desig.is ∙ views.sized-Desig _ _ _), (search rules, (c.requires.callable, c.requires.judges)))
+expression::check_primary-check_named-requires g t c κs within = (omega (arith, c.decreases, ap dp.size-Primary c.in-Desig.is ∙ views.sized-Desig _ _ _), (search rules, c.requires.judges))
 
 pub expression::check_primary-check_parens-requires : goal.expression::check_primary-check_parens-requires
 expression::check_primary-check_parens-requires g t c κs within =
-    (omega (arith, c.decreases, ap dp.size-Primary c.in-Paren.is ∙ views.sized-Paren _ _, ap ds.size-Stmts c.deref.ensures), (search rules, (c.requires.callable, c.requires.judges)))
+    (omega (arith, c.decreases, ap dp.size-Primary c.in-Paren.is ∙ views.sized-Paren _ _, ap ds.size-Stmts c.deref.ensures), (search rules, c.requires.judges))
 
 pub expression::check_primary-check_desig-found-requires : goal.expression::check_primary-check_desig-found-requires
-expression::check_primary-check_desig-found-requires g t c κs within = (omega (arith, c.decreases, ap dp.size-Primary c.in-Known.is ∙ views.sized-Known _ _), (search rules, (c.requires.callable, c.requires.judges)))
+expression::check_primary-check_desig-found-requires g t c κs within = (omega (arith, c.decreases, ap dp.size-Primary c.in-Known.is ∙ views.sized-Known _ _), (search rules, c.requires.judges))
 
 pub expression::check_primary-check_expr-typed-requires : goal.expression::check_primary-check_expr-typed-requires
 expression::check_primary-check_expr-typed-requires g t c κs within =
-    (omega (arith, c.decreases, ap dp.size-Primary c.in-Ord.is ∙ views.sized-Ord _ _, ap de.size-Expr c.deref-in-Ord.ensures), (search rules, (c.requires.callable, c.requires.judges)))
+    (omega (arith, c.decreases, ap dp.size-Primary c.in-Ord.is ∙ views.sized-Ord _ _, ap de.size-Expr c.deref-in-Ord.ensures), (search rules, c.requires.judges))
 
 pub expression::check_primary-check_expr-typed-requires-in-Chr : goal.expression::check_primary-check_expr-typed-requires-in-Chr
 expression::check_primary-check_expr-typed-requires-in-Chr g t c κs within =
-    (omega (arith, c.decreases, ap dp.size-Primary c.in-Chr.is ∙ views.sized-Chr _ _, ap de.size-Expr c.deref-in-Chr.ensures), (search rules, (c.requires.callable, c.requires.judges)))
+    (omega (arith, c.decreases, ap dp.size-Primary c.in-Chr.is ∙ views.sized-Chr _ _, ap de.size-Expr c.deref-in-Chr.ensures), (search rules, c.requires.judges))
 
 pub call::check_named-check_desig-found-requires : goal.call::check_named-check_desig-found-requires
-call::check_named-check_desig-found-requires g t c κs within = (omega (arith, c.decreases), (search rules, (c.requires.callable, c.requires.judges)))
+call::check_named-check_desig-found-requires g t c κs within = (omega (arith, c.decreases), (search rules, c.requires.judges))
 
 pub call::check_named-check_desig-found-requires-in-Some : goal.call::check_named-check_desig-found-requires-in-Some
-call::check_named-check_desig-found-requires-in-Some g t c κs within = (omega (arith, c.decreases), (search rules, (c.requires.callable, c.requires.judges)))
+call::check_named-check_desig-found-requires-in-Some g t c κs within = (omega (arith, c.decreases), (search rules, c.requires.judges))
 
 pub call::check_named-check_arguments-args-requires : goal.call::check_named-check_arguments-args-requires
 call::check_named-check_arguments-args-requires g t c κs within =
-    (omega (arith, c.decreases, ap (shapes.weighed-Primary-Desig-2.weight _ dg.size-Args) c.in-Some.is, sizes.args_values c.in-Some.args c.in-Some-values.values c.in-Some-values.is), (search rules, (c.requires.callable, c.requires.judges)))
+    (omega (arith, c.decreases, ap (shapes.weighed-Primary-Desig-2.weight _ dg.size-Args) c.in-Some.is, sizes.args_values c.in-Some.args c.in-Some-values.values c.in-Some-values.is), (search rules, c.requires.judges))
 
 pub call::check_arguments-check_argument-first-requires : goal.call::check_arguments-check_argument-first-requires
-call::check_arguments-check_argument-first-requires g t c κs within = (omega (arith, c.decreases, sizes.exprs_first c.args.values.now, ap de.size-Expr c.deref.ensures), (search rules, (c.requires.callable, c.requires.judges)))
+call::check_arguments-check_argument-first-requires g t c κs within = (omega (arith, c.decreases, sizes.exprs_first c.args.values.now, ap de.size-Expr c.deref.ensures), (search rules, c.requires.judges))
 
 pub call::check_arguments-check_argument-arg-requires : goal.call::check_arguments-check_argument-arg-requires
 call::check_arguments-check_argument-arg-requires g t c κs within =
-    (omega (arith, c.decreases, at_most de.size-Expr c.deref-value-items.result.now c.loop-value.value-index c.value-item.result c.loop-value-test.true, ap de.size-Expr c.value-item.is, ap (most de.size-Expr) c.deref-value-items.ensures.value, sizes.exprs_more c.args.values.now), (search rules, (c.requires.callable, c.requires.judges)))
+    (omega (arith, c.decreases, at_most de.size-Expr c.deref-value-items.result.now c.loop-value.value-index c.value-item.result c.loop-value-test.true, ap de.size-Expr c.value-item.is, ap (most de.size-Expr) c.deref-value-items.ensures.value, sizes.exprs_more c.args.values.now), (search rules, c.requires.judges))
 
 pub call::check_argument-check_expr-typed-requires : goal.call::check_argument-check_expr-typed-requires
-call::check_argument-check_expr-typed-requires g t c κs within = (omega (arith, c.decreases), (search rules, (c.requires.callable, c.requires.judges)))
-
-pub parens::check_parens-check_sequence-requires : goal.parens::check_parens-check_sequence-requires
-parens::check_parens-check_sequence-requires g t c = record { callable = c.requires.callable; judges = c.requires.judges }
+call::check_argument-check_expr-typed-requires g t c κs within = (omega (arith, c.decreases), (search rules, c.requires.judges))
 
 pub parens::check_parens-check_expr-typed-requires : goal.parens::check_parens-check_expr-typed-requires
 parens::check_parens-check_expr-typed-requires g t c κs within =
-    (omega (arith, c.decreases, sizes.stmts_first c.args.body.now, ap dt.size-Stmt c.deref.ensures, ap dt.size-Stmt c.in-Value.is ∙ views.sized-Value _ _), (search rules, (c.requires.callable, c.requires.judges)))
-
-pub parens::check_parens-check_sequence-requires-in_default : goal.parens::check_parens-check_sequence-requires-in_default
-parens::check_parens-check_sequence-requires-in_default g t c = record { callable = c.requires.callable; judges = c.requires.judges }
+    (omega (arith, c.decreases, sizes.stmts_first c.args.body.now, ap dt.size-Stmt c.deref.ensures, ap dt.size-Stmt c.in-Value.is ∙ views.sized-Value _ _), (search rules, c.requires.judges))
 
 pub designator::check_desig-check_selectors-part-requires : goal.designator::check_desig-check_selectors-part-requires
 designator::check_desig-check_selectors-part-requires g t c κs within =
-    (omega (arith, c.decreases, sizes.desig_more c.args.desig.now, ap (most dj.size-Selector) c.deref.ensures.value), (search rules, (c.requires.callable, c.requires.judges)))
+    (omega (arith, c.decreases, sizes.desig_more c.args.desig.now, ap (most dj.size-Selector) c.deref.ensures.value), (search rules, c.requires.judges))
 
 pub designator::check_selectors-check_selector-requires : goal.designator::check_selectors-check_selector-requires
 designator::check_selectors-check_selector-requires g t c κs within =
-    (omega (arith, c.decreases, at_most dj.size-Selector c.args.more.now c.loop-selector.selector-index c.selector-item.result c.loop-selector-test.true, ap dj.size-Selector c.selector-item.is), (search rules, (c.requires.callable, c.requires.judges)))
+    (omega (arith, c.decreases, at_most dj.size-Selector c.args.more.now c.loop-selector.selector-index c.selector-item.result c.loop-selector-test.true, ap dj.size-Selector c.selector-item.is), (search rules, c.requires.judges))
 
 pub designator::check_selector-check_indices-part-requires : goal.designator::check_selector-check_indices-part-requires
-designator::check_selector-check_indices-part-requires g t c κs within = (omega (arith, c.decreases, ap dj.size-Selector c.in-Index.is ∙ views.sized-Index _ _), (search rules, (c.requires.callable, c.requires.judges)))
+designator::check_selector-check_indices-part-requires g t c κs within = (omega (arith, c.decreases, ap dj.size-Selector c.in-Index.is ∙ views.sized-Index _ _), (search rules, c.requires.judges))
 
 pub designator::check_indices-check_index-requires : goal.designator::check_indices-check_index-requires
-designator::check_indices-check_index-requires g t c κs within = (omega (arith, c.decreases, sizes.exprs_first c.args.indices.now, ap de.size-Expr c.deref.ensures), (search rules, (c.requires.callable, c.requires.judges)))
+designator::check_indices-check_index-requires g t c κs within = (omega (arith, c.decreases, sizes.exprs_first c.args.indices.now, ap de.size-Expr c.deref.ensures), (search rules, c.requires.judges))
 
 pub designator::check_indices-check_index-requires-in-loop-index : goal.designator::check_indices-check_index-requires-in-loop-index
 designator::check_indices-check_index-requires-in-loop-index g t c κs within =
-    (omega (arith, c.decreases, at_most de.size-Expr c.deref-index-items.result.now c.loop-index.index-index c.index-item.result c.loop-index-test.true, ap de.size-Expr c.index-item.is, ap (most de.size-Expr) c.deref-index-items.ensures.value, sizes.exprs_more c.args.indices.now), (search rules, (c.requires.callable, c.requires.judges)))
+    (omega (arith, c.decreases, at_most de.size-Expr c.deref-index-items.result.now c.loop-index.index-index c.index-item.result c.loop-index-test.true, ap de.size-Expr c.index-item.is, ap (most de.size-Expr) c.deref-index-items.ensures.value, sizes.exprs_more c.args.indices.now), (search rules, c.requires.judges))
 
 pub designator::check_index-check_expr-typed-requires : goal.designator::check_index-check_expr-typed-requires
-designator::check_index-check_expr-typed-requires g t c κs within = (omega (arith, c.decreases), (search rules, (c.requires.callable, c.requires.judges)))
+designator::check_index-check_expr-typed-requires g t c κs within = (omega (arith, c.decreases), (search rules, c.requires.judges))

@@ -315,83 +315,80 @@ test::emit_operands-loop-i-preserved g t c =
 pub expression::emit_expr-emit_load-requires : goal.expression::emit_expr-emit_load-requires
 expression::emit_expr-emit_load-requires g t c κs within =
     let view : expr_of c.args.expr.now ≡ tree.Load (desig_of c.in-Load.desig) = ap expr_of c.in-Load.is ∙ Views.load_view _ in
-    (omega (arith, ap expr_nodes view), (search rules, (c.requires.callable, c.requires.emits)))
+    (omega (arith, ap expr_nodes view), (search rules, c.requires.emits))
 
 pub expression::emit_expr-emit_chain-requires : goal.expression::emit_expr-emit_chain-requires
 expression::emit_expr-emit_chain-requires g t c κs within =
     let view : expr_of c.args.expr.now ≡ tree.Chain c.in-Chain.negated (expr_of c.deref.result.now) (links_list c.deref-in-Chain.result.now) = ap expr_of c.in-Chain.is ∙ Views.chain_view _ _ _ ∙ ap (λ x. tree.Chain c.in-Chain.negated (expr_of x) (links_list c.in-Chain.links.items)) (sym c.deref.ensures) ∙ ap (λ x. tree.Chain c.in-Chain.negated (expr_of c.deref.result.now) (links_list x)) (sym c.deref-in-Chain.ensures.value) in
-    (omega (arith, ap expr_nodes view), (search rules, (c.requires.callable, c.requires.emits)))
+    (omega (arith, ap expr_nodes view), (search rules, c.requires.emits))
 
 pub expression::emit_expr-emit_compare-requires : goal.expression::emit_expr-emit_compare-requires
 expression::emit_expr-emit_compare-requires g t c κs within =
     let view : expr_of c.args.expr.now ≡ tree.Compare c.in-Compare.cmp (expr_of c.deref-in-Compare.result.now) (expr_of c.deref-in-Compare-2.result.now) = ap expr_of c.in-Compare.is ∙ Views.compare_view _ _ _ ∙ ap (λ x. tree.Compare c.in-Compare.cmp (expr_of x) (expr_of c.in-Compare.right.value)) (sym c.deref-in-Compare.ensures) ∙ ap (λ x. tree.Compare c.in-Compare.cmp (expr_of c.deref-in-Compare.result.now) (expr_of x)) (sym c.deref-in-Compare-2.ensures) in
-    (omega (arith, ap expr_nodes view), (search rules, (c.requires.callable, c.requires.emits)))
+    (omega (arith, ap expr_nodes view), (search rules, c.requires.emits))
 
 pub expression::emit_expr-emit_truth-requires : goal.expression::emit_expr-emit_truth-requires
 expression::emit_expr-emit_truth-requires g t c κs within =
     let view : expr_of c.args.expr.now ≡ tree.Truth (test_of c.deref-in-Truth.result.now) = ap expr_of c.in-Truth.is ∙ Views.truth_view _ ∙ ap (λ x. tree.Truth (test_of x)) (sym c.deref-in-Truth.ensures) in
-    (omega (arith, ap expr_nodes view), (search rules, (c.requires.callable, c.requires.emits)))
+    (omega (arith, ap expr_nodes view), (search rules, c.requires.emits))
 
 pub expression::emit_expr-emit_known-requires : goal.expression::emit_expr-emit_known-requires
 expression::emit_expr-emit_known-requires g t c κs within =
     let view : expr_of c.args.expr.now ≡ tree.Known (desig_of c.in-Known.desig) = ap expr_of c.in-Known.is ∙ Views.known_view _ in
-    (omega (arith, ap expr_nodes view), (search rules, (c.requires.callable, c.requires.emits)))
+    (omega (arith, ap expr_nodes view), (search rules, c.requires.emits))
 
 pub expression::emit_expr-emit_call_value-requires : goal.expression::emit_expr-emit_call_value-requires
 expression::emit_expr-emit_call_value-requires g t c κs within =
     let view : expr_of c.args.expr.now ≡ tree.CallExpr c.in-Call.call.routine (args_list c.in-Call.call.args.items) c.in-Call.call.up = ap expr_of c.in-Call.is ∙ Views.callexpr_view _ in
-    (omega (arith, ap expr_nodes view), (search rules, (c.requires.callable, c.requires.emits)))
+    (omega (arith, ap expr_nodes view), (search rules, c.requires.emits))
 
 pub test::emit_test-emit_bind-requires : goal.test::emit_test-emit_bind-requires
 test::emit_test-emit_bind-requires g t c κs within =
     let view : test_of c.args.test.now ≡ tree.Bind (desig_of c.in-Bind.desig) (expr_of c.in-Bind.value) c.in-Bind.range c.in-Bind.left = ap test_of c.in-Bind.is ∙ Views.bind_view _ _ _ _ in
-    (omega (arith, ap test_nodes view), (search rules, (c.requires.callable, c.requires.emits)))
+    (omega (arith, ap test_nodes view), (search rules, c.requires.emits))
 
 pub test::emit_test-emit_unify-requires : goal.test::emit_test-emit_unify-requires
 test::emit_test-emit_unify-requires g t c κs within =
     let view : test_of c.args.test.now ≡ tree.Unify (desig_of c.in-Unify.left) c.in-Unify.range (desig_of c.in-Unify.right) c.in-Unify.other = ap test_of c.in-Unify.is ∙ Views.unify_view _ _ _ _ in
-    (omega (arith, ap test_nodes view), (search rules, (c.requires.callable, c.requires.emits)))
+    (omega (arith, ap test_nodes view), (search rules, c.requires.emits))
 
 pub test::emit_test-emit_same_cells-requires : goal.test::emit_test-emit_same_cells-requires
 test::emit_test-emit_same_cells-requires g t c κs within =
     let view : test_of c.args.test.now ≡ tree.SameCells (desig_of c.in-SameCells.left) (desig_of c.in-SameCells.right) = ap test_of c.in-SameCells.is ∙ Views.samecells_view _ _ in
-    (omega (arith, ap test_nodes view), (search rules, (c.requires.callable, c.requires.emits)))
+    (omega (arith, ap test_nodes view), (search rules, c.requires.emits))
 
 pub test::emit_test-emit_and-requires : goal.test::emit_test-emit_and-requires
 test::emit_test-emit_and-requires g t c κs within =
     let view : test_of c.args.test.now ≡ tree.And (tests_list c.deref-in-And.result.now) = ap test_of c.in-And.is ∙ Views.and_view _ ∙ ap (λ x. tree.And (tests_list x)) (sym c.deref-in-And.ensures.value) in
-    (omega (arith, ap test_nodes view), (search rules, (c.requires.callable, c.requires.emits)))
+    (omega (arith, ap test_nodes view), (search rules, c.requires.emits))
 
 pub test::emit_test-emit_or-requires : goal.test::emit_test-emit_or-requires
 test::emit_test-emit_or-requires g t c κs within =
     let view : test_of c.args.test.now ≡ tree.Or (tests_list c.deref-in-Or.result.now) = ap test_of c.in-Or.is ∙ Views.or_view _ ∙ ap (λ x. tree.Or (tests_list x)) (sym c.deref-in-Or.ensures.value) in
-    (omega (arith, ap test_nodes view), (search rules, (c.requires.callable, c.requires.emits)))
+    (omega (arith, ap test_nodes view), (search rules, c.requires.emits))
 
 pub test::emit_test-emit_not-requires : goal.test::emit_test-emit_not-requires
 test::emit_test-emit_not-requires g t c κs within =
     let view : test_of c.args.test.now ≡ tree.Not (test_of c.deref-in-Not.result.now) = ap test_of c.in-Not.is ∙ Views.not_view _ ∙ ap (λ x. tree.Not (test_of x)) (sym c.deref-in-Not.ensures) in
-    (omega (arith, ap test_nodes view), (search rules, (c.requires.callable, c.requires.emits)))
-
-pub test::emit_test-emit_inside-requires : goal.test::emit_test-emit_inside-requires
-test::emit_test-emit_inside-requires g t c = record { callable = c.requires.callable; emits = c.requires.emits }
+    (omega (arith, ap test_nodes view), (search rules, c.requires.emits))
 
 pub call::emit_args-emit_arg-requires : goal.call::emit_args-emit_arg-requires
-call::emit_args-emit_arg-requires g t c κs within = (omega (arith, arg_at _ _ _ c.loop-arg-test.true c.arg-item.is), (search rules, (c.requires.callable, c.requires.emits)))
+call::emit_args-emit_arg-requires g t c κs within = (omega (arith, arg_at _ _ _ c.loop-arg-test.true c.arg-item.is), (search rules, c.requires.emits))
 
 pub call::emit_call_value-emit_call-requires : goal.call::emit_call_value-emit_call-requires
-call::emit_call_value-emit_call-requires g t c κs within = (omega (arith, ap (λ x. args_nodes (args_list x)) c.deref.ensures.value), (search rules, (c.requires.callable, c.requires.emits)))
+call::emit_call_value-emit_call-requires g t c κs within = (omega (arith, ap (λ x. args_nodes (args_list x)) c.deref.ensures.value), (search rules, c.requires.emits))
 
 pub designator::emit_desig-emit_sels-requires : goal.designator::emit_desig-emit_sels-requires
-designator::emit_desig-emit_sels-requires g t c κs within = (omega (arith, ap (λ x. sels_nodes (sels_list x)) c.deref.ensures.value), (search rules, (c.requires.callable, c.requires.emits)))
+designator::emit_desig-emit_sels-requires g t c κs within = (omega (arith, ap (λ x. sels_nodes (sels_list x)) c.deref.ensures.value), (search rules, c.requires.emits))
 
 pub designator::emit_sels-emit_sel-requires : goal.designator::emit_sels-emit_sel-requires
-designator::emit_sels-emit_sel-requires g t c κs within = (omega (arith, sel_at _ _ _ c.loop-sel-test.true c.sel-item.is), (search rules, (c.requires.callable, c.requires.emits)))
+designator::emit_sels-emit_sel-requires g t c κs within = (omega (arith, sel_at _ _ _ c.loop-sel-test.true c.sel-item.is), (search rules, c.requires.emits))
 
 pub expression::emit_links-emit_value-requires : goal.expression::emit_links-emit_value-requires
-expression::emit_links-emit_value-requires g t c κs within = (omega (arith, link_at _ _ _ c.loop-link-test.true c.link-item.is), (search rules, (c.requires.callable, c.requires.emits)))
+expression::emit_links-emit_value-requires g t c κs within = (omega (arith, link_at _ _ _ c.loop-link-test.true c.link-item.is), (search rules, c.requires.emits))
 
 pub test::emit_and-emit_test-requires : goal.test::emit_and-emit_test-requires
-test::emit_and-emit_test-requires g t c κs within = (omega (arith, test_at _ _ _ c.loop-test-test.true c.test-item.is), (search rules, (c.requires.callable, c.requires.emits)))
+test::emit_and-emit_test-requires g t c κs within = (omega (arith, test_at _ _ _ c.loop-test-test.true c.test-item.is), (search rules, c.requires.emits))
 
 pub condition::emit_barrier-returns : goal.condition::emit_barrier-returns
 condition::emit_barrier-returns g t c =
@@ -434,61 +431,61 @@ test::emit_or-returns g t c =
     }
 
 pub test::emit_or-emit_test-requires : goal.test::emit_or-emit_test-requires
-test::emit_or-emit_test-requires g t c κs within = (omega (arith, test_at c.args.tests.now 0 c.index-tests-0.result (some_elements _ c.if-is_empty.ensures) c.index-tests-0.is), (search rules, (c.requires.callable, c.requires.emits)))
+test::emit_or-emit_test-requires g t c κs within = (omega (arith, test_at c.args.tests.now 0 c.index-tests-0.result (some_elements _ c.if-is_empty.ensures) c.index-tests-0.is), (search rules, c.requires.emits))
 
 pub test::emit_or-emit_operand-done-requires : goal.test::emit_or-emit_operand-done-requires
-test::emit_or-emit_operand-done-requires g t c κs within = (omega (arith, test_at c.args.tests.now 0 c.index-tests-0.result (some_elements _ c.if-is_empty.ensures) c.index-tests-0.is), (search rules, (c.requires.callable, c.requires.emits)))
+test::emit_or-emit_operand-done-requires g t c κs within = (omega (arith, test_at c.args.tests.now 0 c.index-tests-0.result (some_elements _ c.if-is_empty.ensures) c.index-tests-0.is), (search rules, c.requires.emits))
 
 pub test::emit_operands-emit_operand-done-requires : goal.test::emit_operands-emit_operand-done-requires
-test::emit_operands-emit_operand-done-requires g t c κs within = (omega (arith, test_at c.args.tests.now c.loop-i.i c.index-tests-i.result (omega (arith, c.loop-i-test.true)) c.index-tests-i.is), (search rules, (c.requires.callable, c.requires.emits)))
+test::emit_operands-emit_operand-done-requires g t c κs within = (omega (arith, test_at c.args.tests.now c.loop-i.i c.index-tests-i.result (omega (arith, c.loop-i-test.true)) c.index-tests-i.is), (search rules, c.requires.emits))
 
 pub test::emit_operands-emit_test-requires : goal.test::emit_operands-emit_test-requires
-test::emit_operands-emit_test-requires g t c κs within = (omega (arith, test_at c.args.tests.now (length c.args.tests.now - 1) c.index-tests-last.result (omega arith) c.index-tests-last.is), (search rules, (c.requires.callable, c.requires.emits)))
+test::emit_operands-emit_test-requires g t c κs within = (omega (arith, test_at c.args.tests.now (length c.args.tests.now - 1) c.index-tests-last.result (omega arith) c.index-tests-last.is), (search rules, c.requires.emits))
 
 pub call::emit_arg-emit_value-from-requires : goal.call::emit_arg-emit_value-from-requires
 call::emit_arg-emit_value-from-requires g t c κs within =
     let view : arg_of c.args.arg.now ≡ tree.ByValue (expr_of c.in-Value.value) c.in-Value.range = ap arg_of c.in-Value.is ∙ Views.byvalue_view _ _ in
-    (omega (arith, ap arg_nodes view), (search rules, (c.requires.callable, c.requires.emits)))
+    (omega (arith, ap arg_nodes view), (search rules, c.requires.emits))
 
 pub call::emit_arg-emit_value-from-requires-in-MixValue : goal.call::emit_arg-emit_value-from-requires-in-MixValue
 call::emit_arg-emit_value-from-requires-in-MixValue g t c κs within =
     let view : arg_of c.args.arg.now ≡ tree.MixValue (expr_of c.in-MixValue.value) c.in-MixValue.range = ap arg_of c.in-MixValue.is ∙ Views.mixvalue_view _ _ in
-    (omega (arith, ap arg_nodes view), (search rules, (c.requires.callable, c.requires.emits)))
+    (omega (arith, ap arg_nodes view), (search rules, c.requires.emits))
 
 pub call::emit_arg-emit_desig-from-requires : goal.call::emit_arg-emit_desig-from-requires
 call::emit_arg-emit_desig-from-requires g t c κs within =
     let view : arg_of c.args.arg.now ≡ tree.ByCells (desig_of c.in-Cells.desig) = ap arg_of c.in-Cells.is ∙ Views.bycells_view _ in
-    (omega (arith, ap arg_nodes view), (search rules, (c.requires.callable, c.requires.emits)))
+    (omega (arith, ap arg_nodes view), (search rules, c.requires.emits))
 
 pub call::emit_arg-emit_desig-from-requires-in-Place : goal.call::emit_arg-emit_desig-from-requires-in-Place
 call::emit_arg-emit_desig-from-requires-in-Place g t c κs within =
     let view : arg_of c.args.arg.now ≡ tree.ByPlace (desig_of c.in-Place.desig) = ap arg_of c.in-Place.is ∙ Views.byplace_view _ in
-    (omega (arith, ap arg_nodes view), (search rules, (c.requires.callable, c.requires.emits)))
+    (omega (arith, ap arg_nodes view), (search rules, c.requires.emits))
 
 pub call::emit_arg-emit_desig-from-requires-in-MixPlace : goal.call::emit_arg-emit_desig-from-requires-in-MixPlace
 call::emit_arg-emit_desig-from-requires-in-MixPlace g t c κs within =
     let view : arg_of c.args.arg.now ≡ tree.MixPlace (desig_of c.in-MixPlace.desig) = ap arg_of c.in-MixPlace.is ∙ Views.mixplace_view _ in
-    (omega (arith, ap arg_nodes view), (search rules, (c.requires.callable, c.requires.emits)))
+    (omega (arith, ap arg_nodes view), (search rules, c.requires.emits))
 
 pub test::emit_test-emit_value-number-requires : goal.test::emit_test-emit_value-number-requires
 test::emit_test-emit_value-number-requires g t c κs within =
     let view : test_of c.args.test.now ≡ tree.Value (expr_of c.in-Value.value) = ap test_of c.in-Value.is ∙ Views.value_view _ in
-    (omega (arith, ap test_nodes view), (search rules, (c.requires.callable, c.requires.emits)))
+    (omega (arith, ap test_nodes view), (search rules, c.requires.emits))
 
 pub test::emit_test-emit_call-first-requires : goal.test::emit_test-emit_call-first-requires
 test::emit_test-emit_call-first-requires g t c κs within =
     let view : test_of c.args.test.now ≡ tree.CallTest c.in-Call.call.routine (args_list c.deref-in-Call.result.now) c.in-Call.call.up = ap test_of c.in-Call.is ∙ Views.calltest_view _ ∙ ap (λ x. tree.CallTest c.in-Call.call.routine (args_list x) c.in-Call.call.up) (sym c.deref-in-Call.ensures.value) in
-    (omega (arith, ap test_nodes view), (search rules, (c.requires.callable, c.requires.emits)))
+    (omega (arith, ap test_nodes view), (search rules, c.requires.emits))
 
 pub expression::emit_expr-emit_expr-number-requires : goal.expression::emit_expr-emit_expr-number-requires
 expression::emit_expr-emit_expr-number-requires g t c κs within =
     let view : expr_of c.args.expr.now ≡ tree.Chr (expr_of c.deref-in-Chr.result.now) = ap expr_of c.in-Chr.is ∙ Views.chr_view _ ∙ ap (λ x. tree.Chr (expr_of x)) (sym c.deref-in-Chr.ensures) in
-    (omega (arith, ap expr_nodes view), (search rules, (c.requires.callable, c.requires.emits)))
+    (omega (arith, ap expr_nodes view), (search rules, c.requires.emits))
 
 pub designator::emit_sel-emit_value-number-requires : goal.designator::emit_sel-emit_value-number-requires
 designator::emit_sel-emit_value-number-requires g t c κs within =
     let view : sel_of c.args.sel.now ≡ tree.Index (expr_of c.in-Index.index) c.in-Index.range c.in-Index.cells = ap sel_of c.in-Index.is ∙ Views.index_view _ _ _ in
-    (omega (arith, ap sel_nodes view), (search rules, (c.requires.callable, c.requires.emits)))
+    (omega (arith, ap sel_nodes view), (search rules, c.requires.emits))
 
 pub condition::emit_guard-returns-then-not-is_plain : goal.condition::emit_guard-returns-then-not-is_plain
 condition::emit_guard-returns-then-not-is_plain g t c = record { guard = c.emit_barrier.ensures.guard (sym c.if-not-is_plain.ensures) }
@@ -499,79 +496,79 @@ condition::emit_guard-returns-in-Value g t c =
     record { guard = subst (λ x. IfOk c.jump_of.result (λ jump. PutsGuard (around c.args.scene.now) c.args.line (front c.args.work.now) (front c.jump_of.new.work) (λ to xs. aimed xs jump to) x)) (sym view) (jump_behind c.emit_value-number.result c.jump_of.result c.emit_value-number.ensures.puts c.emit_value-number.ensures.value c.jump_of.ensures.done c.jump_of.ensures.address c.jump_of.ensures.codes (λ at jump puts is here h. simple_guard (around c.args.scene.now) c.args.line _ _ _ _ _ jump (sym (ap is_simple view) ∙ sym c.if-not-is_plain.ensures) puts is here h)) }
 
 pub condition::emit_guard-emit_value-number-requires : goal.condition::emit_guard-emit_value-number-requires
-condition::emit_guard-emit_value-number-requires g t c κs within = (omega (arith, ap (λ x. test_nodes (test_of x)) c.in-Value.is, ap test_nodes (Views.value_view c.in-Value.value)), (search rules, (c.requires.callable, c.requires.emits)))
+condition::emit_guard-emit_value-number-requires g t c κs within = (omega (arith, ap (λ x. test_nodes (test_of x)) c.in-Value.is, ap test_nodes (Views.value_view c.in-Value.value)), (search rules, c.requires.emits))
 
 pub call::emit_call-emit_args-requires : goal.call::emit_call-emit_args-requires
-call::emit_call-emit_args-requires g t c κs within = (omega arith, (search rules, (c.requires.callable, c.requires.emits)))
+call::emit_call-emit_args-requires g t c κs within = (omega arith, (search rules, c.requires.emits))
 
 pub condition::emit_guard-emit_barrier-requires : goal.condition::emit_guard-emit_barrier-requires
-condition::emit_guard-emit_barrier-requires g t c κs within = (omega arith, (search rules, (c.requires.callable, c.requires.emits)))
+condition::emit_guard-emit_barrier-requires g t c κs within = (omega arith, (search rules, c.requires.emits))
 
 pub condition::emit_barrier-emit_test-done-requires : goal.condition::emit_barrier-emit_test-done-requires
-condition::emit_barrier-emit_test-done-requires g t c κs within = (omega arith, (search rules, (c.requires.callable, c.requires.emits)))
+condition::emit_barrier-emit_test-done-requires g t c κs within = (omega arith, (search rules, c.requires.emits))
 
 pub designator::emit_target-emit_desig-requires : goal.designator::emit_target-emit_desig-requires
-designator::emit_target-emit_desig-requires g t c κs within = (omega arith, (search rules, (c.requires.callable, c.requires.emits)))
+designator::emit_target-emit_desig-requires g t c κs within = (omega arith, (search rules, c.requires.emits))
 
 pub expression::emit_load-emit_target-requires : goal.expression::emit_load-emit_target-requires
-expression::emit_load-emit_target-requires g t c κs within = (omega arith, (search rules, (c.requires.callable, c.requires.emits)))
+expression::emit_load-emit_target-requires g t c κs within = (omega arith, (search rules, c.requires.emits))
 
 pub expression::emit_chain-emit_expr-requires : goal.expression::emit_chain-emit_expr-requires
-expression::emit_chain-emit_expr-requires g t c κs within = (omega arith, (search rules, (c.requires.callable, c.requires.emits)))
+expression::emit_chain-emit_expr-requires g t c κs within = (omega arith, (search rules, c.requires.emits))
 
 pub expression::emit_chain-emit_links-requires : goal.expression::emit_chain-emit_links-requires
-expression::emit_chain-emit_links-requires g t c κs within = (omega arith, (search rules, (c.requires.callable, c.requires.emits)))
+expression::emit_chain-emit_links-requires g t c κs within = (omega arith, (search rules, c.requires.emits))
 
 pub expression::emit_compare-emit_expr-requires : goal.expression::emit_compare-emit_expr-requires
-expression::emit_compare-emit_expr-requires g t c κs within = (omega arith, (search rules, (c.requires.callable, c.requires.emits)))
+expression::emit_compare-emit_expr-requires g t c κs within = (omega arith, (search rules, c.requires.emits))
 
 pub expression::emit_compare-emit_value-requires : goal.expression::emit_compare-emit_value-requires
-expression::emit_compare-emit_value-requires g t c κs within = (omega arith, (search rules, (c.requires.callable, c.requires.emits)))
+expression::emit_compare-emit_value-requires g t c κs within = (omega arith, (search rules, c.requires.emits))
 
 pub expression::emit_truth-emit_guard-requires : goal.expression::emit_truth-emit_guard-requires
-expression::emit_truth-emit_guard-requires g t c κs within = (omega arith, (search rules, (c.requires.callable, c.requires.emits)))
+expression::emit_truth-emit_guard-requires g t c κs within = (omega arith, (search rules, c.requires.emits))
 
 pub expression::emit_known-emit_desig-requires : goal.expression::emit_known-emit_desig-requires
-expression::emit_known-emit_desig-requires g t c κs within = (omega arith, (search rules, (c.requires.callable, c.requires.emits)))
+expression::emit_known-emit_desig-requires g t c κs within = (omega arith, (search rules, c.requires.emits))
 
 pub expression::emit_value-emit_expr-requires : goal.expression::emit_value-emit_expr-requires
-expression::emit_value-emit_expr-requires g t c κs within = (omega arith, (search rules, (c.requires.callable, c.requires.emits)))
+expression::emit_value-emit_expr-requires g t c κs within = (omega arith, (search rules, c.requires.emits))
 
 pub test::emit_bind-emit_bind_left-requires : goal.test::emit_bind-emit_bind_left-requires
-test::emit_bind-emit_bind_left-requires g t c κs within = (omega arith, (search rules, (c.requires.callable, c.requires.emits)))
+test::emit_bind-emit_bind_left-requires g t c κs within = (omega arith, (search rules, c.requires.emits))
 
 pub test::emit_bind-emit_bind_right-requires : goal.test::emit_bind-emit_bind_right-requires
-test::emit_bind-emit_bind_right-requires g t c κs within = (omega arith, (search rules, (c.requires.callable, c.requires.emits)))
+test::emit_bind-emit_bind_right-requires g t c κs within = (omega arith, (search rules, c.requires.emits))
 
 pub test::emit_bind_left-emit_desig-requires : goal.test::emit_bind_left-emit_desig-requires
-test::emit_bind_left-emit_desig-requires g t c κs within = (omega arith, (search rules, (c.requires.callable, c.requires.emits)))
+test::emit_bind_left-emit_desig-requires g t c κs within = (omega arith, (search rules, c.requires.emits))
 
 pub test::emit_bind_left-emit_value-number-requires : goal.test::emit_bind_left-emit_value-number-requires
-test::emit_bind_left-emit_value-number-requires g t c κs within = (omega arith, (search rules, (c.requires.callable, c.requires.emits)))
+test::emit_bind_left-emit_value-number-requires g t c κs within = (omega arith, (search rules, c.requires.emits))
 
 pub test::emit_bind_right-emit_expr-requires : goal.test::emit_bind_right-emit_expr-requires
-test::emit_bind_right-emit_expr-requires g t c κs within = (omega arith, (search rules, (c.requires.callable, c.requires.emits)))
+test::emit_bind_right-emit_expr-requires g t c κs within = (omega arith, (search rules, c.requires.emits))
 
 pub test::emit_bind_right-emit_desig-place-requires : goal.test::emit_bind_right-emit_desig-place-requires
-test::emit_bind_right-emit_desig-place-requires g t c κs within = (omega arith, (search rules, (c.requires.callable, c.requires.emits)))
+test::emit_bind_right-emit_desig-place-requires g t c κs within = (omega arith, (search rules, c.requires.emits))
 
 pub test::emit_unify-emit_desig-requires : goal.test::emit_unify-emit_desig-requires
-test::emit_unify-emit_desig-requires g t c κs within = (omega arith, (search rules, (c.requires.callable, c.requires.emits)))
+test::emit_unify-emit_desig-requires g t c κs within = (omega arith, (search rules, c.requires.emits))
 
 pub test::emit_unify-emit_desig-requires-2 : goal.test::emit_unify-emit_desig-requires-2
-test::emit_unify-emit_desig-requires-2 g t c κs within = (omega arith, (search rules, (c.requires.callable, c.requires.emits)))
+test::emit_unify-emit_desig-requires-2 g t c κs within = (omega arith, (search rules, c.requires.emits))
 
 pub test::emit_same_cells-emit_desig-requires : goal.test::emit_same_cells-emit_desig-requires
-test::emit_same_cells-emit_desig-requires g t c κs within = (omega arith, (search rules, (c.requires.callable, c.requires.emits)))
+test::emit_same_cells-emit_desig-requires g t c κs within = (omega arith, (search rules, c.requires.emits))
 
 pub test::emit_same_cells-emit_desig-requires-2 : goal.test::emit_same_cells-emit_desig-requires-2
-test::emit_same_cells-emit_desig-requires-2 g t c κs within = (omega arith, (search rules, (c.requires.callable, c.requires.emits)))
+test::emit_same_cells-emit_desig-requires-2 g t c κs within = (omega arith, (search rules, c.requires.emits))
 
 pub test::emit_or-emit_operands-done-requires : goal.test::emit_or-emit_operands-done-requires
-test::emit_or-emit_operands-done-requires g t c κs within = (omega arith, (search rules, (c.requires.callable, c.requires.emits)))
+test::emit_or-emit_operands-done-requires g t c κs within = (omega arith, (search rules, c.requires.emits))
 
 pub test::emit_operand-emit_test-done-requires : goal.test::emit_operand-emit_test-done-requires
-test::emit_operand-emit_test-done-requires g t c κs within = (omega arith, (search rules, (c.requires.callable, c.requires.emits)))
+test::emit_operand-emit_test-done-requires g t c κs within = (omega arith, (search rules, c.requires.emits))
 
 pub test::emit_not-emit_test-done-requires : goal.test::emit_not-emit_test-done-requires
-test::emit_not-emit_test-done-requires g t c κs within = (omega arith, (search rules, (c.requires.callable, c.requires.emits)))
+test::emit_not-emit_test-done-requires g t c κs within = (omega arith, (search rules, c.requires.emits))

@@ -14,9 +14,3 @@ returns-in_err-located g c =
 pub returns : goal.returns
 returns g c =
     stmts.assign_fine (scene_of c.args.env.now c.args.place) c.args.slot.now c.args.node (view.view_desig c.args.target.now) (view.view_expr c.args.value.now) stmts_of _ _ _ _ (c.in_ok-located.ensures (walk.judge_desig (scene_of c.args.env.now c.args.place) c.args.slot.now rules.as_variable (view.view_desig c.args.target.now)) _ c.check_desig-found.ensures) (c.join_assign.ensures _ c.check_desig-found.new.slot _ c.check_expr-typed.ensures)
-
-pub check_desig-found-requires : goal.check_desig-found-requires
-check_desig-found-requires g c = record { callable = c.requires.callable; judges = c.requires.judges }
-
-pub check_expr-typed-requires : goal.check_expr-typed-requires
-check_expr-typed-requires g c = record { callable = c.requires.callable; judges = c.requires.judges }

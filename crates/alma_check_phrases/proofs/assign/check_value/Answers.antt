@@ -6,6 +6,3 @@ use Rattle.alma_check_phrases.proofs.assign.check_value.Goals as goal
 pub returns : goal.returns
 returns g c =
     rw (stmts.value_at (scene_of c.args.env.now c.args.place) c.args.slot.now c.args.node (view.view_expr c.args.value.now)) (c.join_test.ensures _ _ c.check_condition-test.ensures)
-
-pub check_condition-test-requires : goal.check_condition-test-requires
-check_condition-test-requires g c = record { callable = c.requires.callable; judges = c.requires.judges }

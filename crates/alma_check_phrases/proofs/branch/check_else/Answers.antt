@@ -12,6 +12,3 @@ returns-in-None g c =
 pub returns-in-Some : goal.returns-in-Some
 returns-in-Some g c =
     rw (c.in-Some.is, stmts.else_some (scene_of c.args.env.now c.args.place) c.args.slot.now (view.view_stmts c.in-Some.body)) c.nested.ensures
-
-pub nested-requires : goal.nested-requires
-nested-requires g c = record { callable = c.requires.callable; judges = c.requires.judges }

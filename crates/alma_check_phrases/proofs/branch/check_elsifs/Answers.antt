@@ -26,6 +26,3 @@ pub returns : goal.returns
 returns g c =
     c.loop-elsif.invariant ∙ ap (onward_arms (arms_in c.loop-elsif.kept)) (stmts.elsifs_end (scene_of c.args.env.now c.args.place) c.loop-elsif.slot c.loop-elsif.elsif-index c.args.elsifs.now c.loop-elsif-test.false)
     ∙ onward_end append_arms ir.no_arms (arms_in c.loop-elsif.kept) c.loop-elsif.slot (stmts.arms_last (scene_of c.args.env.now c.args.place))
-
-pub check_guarded-arm-requires : goal.check_guarded-arm-requires
-check_guarded-arm-requires g c = record { callable = c.requires.callable; judges = c.requires.judges }

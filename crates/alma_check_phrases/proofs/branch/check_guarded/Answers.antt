@@ -18,9 +18,3 @@ returns-in_err-test g c =
 pub returns : goal.returns
 returns g c =
     first_fine (λ (j : Judged (ir.Test × ir.Stmts)). j) _ (nodes.condition_at (scene_of c.args.env.now c.args.place) (view.view_expr c.args.test.now) (walk.judge_expr (scene_of c.args.env.now c.args.place) c.args.slot.now (view.view_expr c.args.test.now))) (λ m. walk.judge_stmts (scene_of c.args.env.now c.args.place) m (view.view_stmts c.args.then.now)) guarded_of _ _ _ _ refl c.in_ok-test.ensures (c.join_guarded.ensures _ c.check_condition.new.slot _ c.nested-body.ensures)
-
-pub check_condition-requires : goal.check_condition-requires
-check_condition-requires g c = record { callable = c.requires.callable; judges = c.requires.judges }
-
-pub nested-body-requires : goal.nested-body-requires
-nested-body-requires g c = record { callable = c.requires.callable; judges = c.requires.judges }

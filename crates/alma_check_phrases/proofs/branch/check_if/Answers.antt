@@ -27,12 +27,3 @@ returns g c =
     stmts.if_fine (scene_of c.args.env.now c.args.place) c.args.slot.now c.args.node (view.view_expr c.args.test.now) (view.view_stmts c.args.then.now) (view.elsifs_of c.args.elsifs.now) (view.else_of c.args.otherwise.now) _ _ _ (arms_in c.in_ok-arms.arms) (arms_in c.in_ok-arms-2.arms) stmts_of _ (from_nothing append_arms ir.no_arms (arms_in (Some c.new.result)) _ _ (ap (λ l. Some (arms_list l)) c.new.ensures.items)
     (c.in_ok-arms.ensures (stmts.guarded (scene_of c.args.env.now c.args.place) c.args.slot.now (view.view_expr c.args.test.now) (view.view_stmts c.args.then.now)) _ (λ m. walk.judge_elsifs (scene_of c.args.env.now c.args.place) m (view.elsifs_of c.args.elsifs.now)) c.check_guarded-first.ensures)) c.in_ok-arms-2.ensures
     (c.join_if.ensures _ c.check_elsifs.new.slot _ c.check_else-other.ensures)
-
-pub check_guarded-first-requires : goal.check_guarded-first-requires
-check_guarded-first-requires g c = record { callable = c.requires.callable; judges = c.requires.judges }
-
-pub check_elsifs-requires : goal.check_elsifs-requires
-check_elsifs-requires g c = record { callable = c.requires.callable; judges = c.requires.judges }
-
-pub check_else-other-requires : goal.check_else-other-requires
-check_else-other-requires g c = record { callable = c.requires.callable; judges = c.requires.judges }

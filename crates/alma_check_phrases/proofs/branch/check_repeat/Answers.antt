@@ -12,9 +12,3 @@ returns-in_err-body g c =
 pub returns : goal.returns
 returns g c =
     stmts.repeat_fine (scene_of c.args.env.now c.args.place) c.args.slot.now c.args.node (view.view_stmts c.args.body.now) (view.view_expr c.args.test.now) stmts_of _ _ _ _ c.in_ok-body.ensures (c.join_repeat.ensures _ c.nested.new.slot _ c.check_condition-test.ensures)
-
-pub nested-requires : goal.nested-requires
-nested-requires g c = record { callable = c.requires.callable; judges = c.requires.judges }
-
-pub check_condition-test-requires : goal.check_condition-test-requires
-check_condition-test-requires g c = record { callable = c.requires.callable; judges = c.requires.judges }

@@ -12,9 +12,3 @@ returns-in_err-test g c =
 pub returns : goal.returns
 returns g c =
     stmts.while_fine (scene_of c.args.env.now c.args.place) c.args.slot.now c.args.node (view.view_expr c.args.test.now) (view.view_stmts c.args.body.now) stmts_of _ _ _ _ c.in_ok-test.ensures (c.join_while.ensures _ c.check_condition.new.slot _ c.nested-body.ensures)
-
-pub check_condition-requires : goal.check_condition-requires
-check_condition-requires g c = record { callable = c.requires.callable; judges = c.requires.judges }
-
-pub nested-body-requires : goal.nested-body-requires
-nested-body-requires g c = record { callable = c.requires.callable; judges = c.requires.judges }

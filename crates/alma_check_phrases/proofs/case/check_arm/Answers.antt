@@ -36,9 +36,3 @@ returns-in_ok-labels-in-Labelled-clause-spans g c =
     on_ok (spans_view c.settle.new.spans ≡ spans_view c.args.spans.now ++ (walk.judge_arm (scene_of c.args.env.now c.args.place) c.args.slot.now (typing_in c.args.case.now) (spans_view c.args.spans.now) (view.view_arm c.args.arm.now)).spans) c.join_arm.result (rw (c.in-Labelled.is, rows.labelled_is _ c.in-Labelled.first c.in-Labelled.more c.in-Labelled.body)
     (rw (cases.arm_spans (scene_of c.args.env.now c.args.place) c.args.slot.now _ (typing_in c.args.case.now) (spans_view c.args.spans.now) (view.view_label c.in-Labelled.first) (view.labels_of c.in-Labelled.more.items) (view.view_stmts c.in-Labelled.body) c.check_labels.new.slot (spans_in c.in_ok-labels-in-Labelled.labels) (rw c.deref.ensures.value at c.in_ok-labels-in-Labelled.ensures.judged))
     (settled (spans_view c.args.spans.now) (spans_view c.check_labels.new.spans) (spans_view c.settle.new.spans) c.len-before.result c.in_ok-labels-in-Labelled.labels (omega (arith, c.len-before.ensures, spans_count c.args.spans.now)) c.in_ok-labels-in-Labelled.ensures.spans c.settle.ensures)))
-
-pub check_labels-requires : goal.check_labels-requires
-check_labels-requires g c = record { callable = c.requires.callable; judges = c.requires.judges }
-
-pub nested-body-requires : goal.nested-body-requires
-nested-body-requires g c = record { callable = c.requires.callable; judges = c.requires.judges }

@@ -41,9 +41,3 @@ pub returns : goal.returns
 returns g c =
     c.loop-arm.invariant ∙ ap (onward_cases (cases_in c.loop-arm.arms)) (cases.arms_end (scene_of c.args.env.now c.args.place) c.loop-arm.slot c.loop-arm.arm-index (typing_in c.args.case.now) (spans_view c.loop-arm.spans) c.args.more.now c.loop-arm-test.false)
     ∙ onward_end parts.append_cases ir.no_cases (cases_in c.loop-arm.arms) c.loop-arm.slot cases.cases_last
-
-pub check_arm-requires : goal.check_arm-requires
-check_arm-requires g c = record { callable = c.requires.callable; judges = c.requires.judges }
-
-pub check_arm-next-requires : goal.check_arm-next-requires
-check_arm-next-requires g c = record { callable = c.requires.callable; judges = c.requires.judges }

@@ -24,12 +24,3 @@ returns g c =
     cases.case_fine (scene_of c.args.env.now c.args.place) c.args.slot.now c.args.node (view.view_expr c.args.value.now) (view.view_arm c.args.first.now) (view.arms_of c.args.more.now) (view.else_of c.args.otherwise.now)
     c.check_expr.new.slot c.check_arms-arms.new.slot _ (typing_in c.in_ok-typed.typed) (cases_in c.in_ok-case.case.arms) stmts_of _ c.in_ok-typed.ensures a.1
     (rw a.0 at (c.join_case.ensures (walk.judge_case_else (scene_of c.args.env.now c.args.place) c.check_arms-arms.new.slot (view.else_of c.args.otherwise.now)) c.check_expr.new.slot c.check_arms-arms.new.slot _ c.check_case_else-other.ensures))
-
-pub check_expr-requires : goal.check_expr-requires
-check_expr-requires g c = record { callable = c.requires.callable; judges = c.requires.judges }
-
-pub check_arms-arms-requires : goal.check_arms-arms-requires
-check_arms-arms-requires g c = record { callable = c.requires.callable; judges = c.requires.judges }
-
-pub check_case_else-other-requires : goal.check_case_else-other-requires
-check_case_else-other-requires g c = record { callable = c.requires.callable; judges = c.requires.judges }

@@ -11,6 +11,3 @@ returns-in-None g c =
 pub returns-in-Some : goal.returns-in-Some
 returns-in-Some g c =
     rw (c.in-Some.is, stmts.case_else_some (scene_of c.args.env.now c.args.place) c.args.slot.now (view.view_stmts c.in-Some.body)) (c.join_else.ensures _ _ c.nested-stmts.ensures)
-
-pub nested-stmts-requires : goal.nested-stmts-requires
-nested-stmts-requires g c = record { callable = c.requires.callable; judges = c.requires.judges }

@@ -21,12 +21,3 @@ pub returns-in_ok-low-in-Some : goal.returns-in_ok-low-in-Some
 returns-in_ok-low-in-Some g c =
     rw (cases.label_two (scene_of c.args.env.now c.args.place) c.args.slot.now (typing_in c.args.case.now) (spans_view c.args.spans.now) c.args.label.now c.in-Some.high _ _ c.in-Some.is c.in_ok-low-in-Some.ensures)
     (c.join_label.ensures (walk.judge_expr (in_constant (scene_of c.args.env.now c.args.place)) c.check_expr.new.slot (view.view_expr c.in-Some.high)) c.check_expr.new.slot _ c.check_expr-high.ensures)
-
-pub check_expr-low-requires : goal.check_expr-low-requires
-check_expr-low-requires g c = record { callable = c.requires.callable; judges = c.requires.judges }
-
-pub check_expr-requires : goal.check_expr-requires
-check_expr-requires g c = record { callable = c.requires.callable; judges = c.requires.judges }
-
-pub check_expr-high-requires : goal.check_expr-high-requires
-check_expr-high-requires g c = record { callable = c.requires.callable; judges = c.requires.judges }

@@ -47,9 +47,3 @@ returns g c = record {
       ∙ onward_end (λ (x y : List parts.Span). x ++ y) [] (spans_in c.loop-label.labels) c.loop-label.slot nothing_behind;
   spans = c.loop-label.invariant.1;
 }
-
-pub check_label-span-requires : goal.check_label-span-requires
-check_label-span-requires g c = record { callable = c.requires.callable; judges = c.requires.judges }
-
-pub check_label-span-requires-in-loop-label : goal.check_label-span-requires-in-loop-label
-check_label-span-requires-in-loop-label g c = record { callable = c.requires.callable; judges = c.requires.judges }

@@ -6,6 +6,3 @@ use Rattle.alma_check_phrases.proofs.choice.check_commit.Goals as goal
 pub returns : goal.returns
 returns g c =
     rw (stmts.commit_at (scene_of c.args.env.now c.args.place) c.args.slot.now c.args.node (view.view_stmts c.args.body.now)) (c.join_commit.ensures _ _ c.nested-body.ensures)
-
-pub nested-body-requires : goal.nested-body-requires
-nested-body-requires g c = record { callable = c.requires.callable; judges = c.requires.judges }

@@ -19,9 +19,3 @@ pub returns : goal.returns
 returns g c =
     rw (stmts.either_whole (scene_of c.args.env.now c.args.place) c.args.slot.now c.args.node (view.view_stmts c.args.first.now) (view.orelses_of c.args.more.now)) (c.join_either.ensures _ _ (answers_as _ _ branches_of _ _ (from_nothing append_branches ir.no_branches (branches_in (Some c.new.result)) _ _ (ap (λ l. Some (branches_list l)) c.new.ensures.items)
     (c.in_ok-branches.ensures (walk.judge_stmts (scene_of c.args.env.now c.args.place) c.args.slot.now (view.view_stmts c.args.first.now)) _ (λ m. walk.judge_orelses (scene_of c.args.env.now c.args.place) m (view.orelses_of c.args.more.now)) c.nested-first.ensures)) c.check_orelses-branches.ensures))
-
-pub nested-first-requires : goal.nested-first-requires
-nested-first-requires g c = record { callable = c.requires.callable; judges = c.requires.judges }
-
-pub check_orelses-branches-requires : goal.check_orelses-branches-requires
-check_orelses-branches-requires g c = record { callable = c.requires.callable; judges = c.requires.judges }

@@ -12,9 +12,3 @@ returns-in_err-choice g c =
 pub returns : goal.returns
 returns g c =
     stmts.forall_fine (scene_of c.args.env.now c.args.place) c.args.slot.now c.args.node (view.view_stmts c.args.choice.now) (view.view_stmts c.args.body.now) stmts_of _ _ _ _ c.in_ok-choice.ensures (c.join_forall.ensures _ c.nested.new.slot _ c.nested-body.ensures)
-
-pub nested-requires : goal.nested-requires
-nested-requires g c = record { callable = c.requires.callable; judges = c.requires.judges }
-
-pub nested-body-requires : goal.nested-body-requires
-nested-body-requires g c = record { callable = c.requires.callable; judges = c.requires.judges }

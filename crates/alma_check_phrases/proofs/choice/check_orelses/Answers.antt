@@ -26,6 +26,3 @@ pub returns : goal.returns
 returns g c =
     c.loop-body.invariant ∙ ap (onward_branches (branches_in c.loop-body.kept)) (stmts.orelses_end (scene_of c.args.env.now c.args.place) c.loop-body.slot c.loop-body.body-index c.args.more.now c.loop-body-test.false)
     ∙ onward_end append_branches ir.no_branches (branches_in c.loop-body.kept) c.loop-body.slot (stmts.branches_last (scene_of c.args.env.now c.args.place))
-
-pub nested-stmts-requires : goal.nested-stmts-requires
-nested-stmts-requires g c = record { callable = c.requires.callable; judges = c.requires.judges }

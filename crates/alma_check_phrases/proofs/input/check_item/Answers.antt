@@ -17,6 +17,3 @@ pub returns-in-Some : goal.returns-in-Some
 returns-in-Some g c =
     rw (items.item_text (scene_of c.args.env.now c.args.place) c.args.slot.now (tree.expr_node (view.view_expr c.args.item.now)) (walk.judge_expr (scene_of c.args.env.now c.args.place) c.args.slot.now (view.view_expr c.args.item.now)) (nodes.item_literal (view.view_expr c.args.item.now)) _ (sym c.in-Some.ensures))
     (c.check_text.ensures c.args.slot.now)
-
-pub check_expr-typed-requires : goal.check_expr-typed-requires
-check_expr-typed-requires g c = record { callable = c.requires.callable; judges = c.requires.judges }

@@ -35,9 +35,3 @@ returns-in_err-kept g c =
 pub loop-item-init : goal.loop-item-init
 loop-item-init g c =
     stmts.items_fine (scene_of c.args.env.now c.args.place) c.args.slot.now c.args.items.now _ _ (rw c.deref.ensures at c.in_ok-kept.ensures)
-
-pub check_item-requires : goal.check_item-requires
-check_item-requires g c = record { callable = c.requires.callable; judges = c.requires.judges }
-
-pub check_item-next-requires : goal.check_item-next-requires
-check_item-next-requires g c = record { callable = c.requires.callable; judges = c.requires.judges }

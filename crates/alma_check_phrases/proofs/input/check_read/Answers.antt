@@ -34,9 +34,3 @@ returns-in_err-kept g c =
 pub loop-desig-init : goal.loop-desig-init
 loop-desig-init g c =
     stmts.read_fine (scene_of c.args.env.now c.args.place) c.args.slot.now c.args.node (view.view_desig c.args.first.now) (view.desigs_of c.args.more.now) _ _ c.in_ok-kept.ensures
-
-pub check_read_one-requires : goal.check_read_one-requires
-check_read_one-requires g c = record { callable = c.requires.callable; judges = c.requires.judges }
-
-pub check_read_one-next-requires : goal.check_read_one-next-requires
-check_read_one-next-requires g c = record { callable = c.requires.callable; judges = c.requires.judges }

@@ -10,6 +10,3 @@ returns-in-None g c =
 pub returns-in-Some : goal.returns-in-Some
 returns-in-Some g c =
     rw (c.in-Some.is, stmts.return_is (scene_of c.args.env.now c.args.place) c.args.slot.now c.args.node (view.view_expr c.in-Some.value)) (c.join_return.ensures _ _ c.check_expr-typed.ensures)
-
-pub check_expr-typed-requires : goal.check_expr-typed-requires
-check_expr-typed-requires g c = record { callable = c.requires.callable; judges = c.requires.judges }

@@ -18,6 +18,3 @@ returns-in-None-values g c =
 pub returns-in-Some-values : goal.returns-in-Some-values
 returns-in-Some-values g c =
     rw (c.in-Some.is, c.in-Some-values.is, stmts.writeln_is (scene_of c.args.env.now c.args.place) c.args.slot.now c.args.node _) (c.join_line-in-Some-values.ensures _ _ (answers_as _ _ stmts_of _ _ (stmts.line_some (scene_of c.args.env.now c.args.place) c.args.slot.now (view.view_exprs c.in-Some-values.values)) c.check_items-stmts.ensures))
-
-pub check_items-stmts-requires : goal.check_items-stmts-requires
-check_items-stmts-requires g c = record { callable = c.requires.callable; judges = c.requires.judges }

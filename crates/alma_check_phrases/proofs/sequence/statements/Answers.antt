@@ -34,9 +34,3 @@ pub returns : goal.returns
 returns g c =
     c.loop-stmt.invariant ∙ ap (onward_stmts (stmts_in c.loop-stmt.kept)) (stmts.stmts_end (scene_of c.args.env.now c.args.place) c.loop-stmt.slot c.loop-stmt.stmt-index c.args.stmts.now.more.items (rw c.deref-stmt-items.ensures.value at c.loop-stmt-test.false))
     ∙ onward_end parts.append_stmts ir.no_stmts (stmts_in c.loop-stmt.kept) c.loop-stmt.slot stmts.stmts_last
-
-pub check_stmt-requires : goal.check_stmt-requires
-check_stmt-requires g c = record { callable = c.requires.callable; judges = c.requires.judges }
-
-pub check_stmt-next-requires : goal.check_stmt-next-requires
-check_stmt-next-requires g c = record { callable = c.requires.callable; judges = c.requires.judges }

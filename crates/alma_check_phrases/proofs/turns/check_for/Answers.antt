@@ -23,12 +23,3 @@ returns g c =
     let y = c.in_ok-turns.ensures (walk.judge_by (scene_of c.args.env.now c.args.place) c.check_head.new.slot (view.by_of c.args.by.now)) c.check_by-step.new.slot c.check_by-step.ensures in
     loops.for_joined c.args.env.now c.args.place c.args.slot.now c.args.node c.args.variable.now (view.view_expr c.args.from.now) (view.view_expr c.args.to.now) (view.by_of c.args.by.now) (view.view_stmts c.args.body.now) c.check_head.new.slot c.in_ok-head.head c.in_ok-head.ensures.judged c.in_ok-turns.turns c.check_by-step.new.slot _ _ y.0 y.1 y.2
     (c.join_for.ensures (walk.judge_stmts (scene_of c.args.env.now c.args.place) c.check_by-step.new.slot (view.view_stmts c.args.body.now)) c.args.slot.now (walk.judge_expr (scene_of c.args.env.now c.args.place) (c.args.slot.now + 2) (view.view_expr c.args.from.now)).next c.check_head.new.slot c.check_by-step.new.slot _ c.nested-body.ensures)
-
-pub check_head-requires : goal.check_head-requires
-check_head-requires g c = record { callable = c.requires.callable; judges = c.requires.judges }
-
-pub check_by-step-requires : goal.check_by-step-requires
-check_by-step-requires g c = record { callable = c.requires.callable; judges = c.requires.judges }
-
-pub nested-body-requires : goal.nested-body-requires
-nested-body-requires g c = record { callable = c.requires.callable; judges = c.requires.judges }

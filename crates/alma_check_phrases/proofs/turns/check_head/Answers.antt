@@ -20,9 +20,3 @@ returns g c =
       judged = loops.headed c.args.env.now c.args.place c.args.slot.now c.args.variable.now (view.view_expr c.args.from.now) (view.view_expr c.args.to.now) c.in_ok-start.start _ c.in_ok-start.ensures.started c.check_expr.new.slot _ _ _ c.in_ok-low.ensures head;
       limit = loops.head_limit c.in_ok-start.start _ (walk.judge_expr (scene_of c.args.env.now c.args.place) c.check_expr.new.slot (view.view_expr c.args.to.now)) _ _ head c.in_ok-start.ensures.limit;
     }
-
-pub check_expr-requires : goal.check_expr-requires
-check_expr-requires g c = record { callable = c.requires.callable; judges = c.requires.judges }
-
-pub check_expr-high-requires : goal.check_expr-high-requires
-check_expr-high-requires g c = record { callable = c.requires.callable; judges = c.requires.judges }

@@ -17,9 +17,3 @@ pub returns : goal.returns
 returns g c =
     loops.some_joined c.args.env.now c.args.place c.args.slot.now c.args.node c.args.variable.now (view.view_expr c.args.from.now) (view.view_expr c.args.to.now) (view.view_stmts c.args.body.now) c.check_head.new.slot _ c.in_ok-head.head _ c.in_ok-head.ensures.judged
     (c.join_some.ensures (walk.judge_stmts (scene_of c.args.env.now c.args.place) c.check_head.new.slot (view.view_stmts c.args.body.now)) c.args.slot.now (walk.judge_expr (scene_of c.args.env.now c.args.place) (c.args.slot.now + 2) (view.view_expr c.args.from.now)).next c.check_head.new.slot _ c.nested-body.ensures)
-
-pub check_head-requires : goal.check_head-requires
-check_head-requires g c = record { callable = c.requires.callable; judges = c.requires.judges }
-
-pub nested-body-requires : goal.nested-body-requires
-nested-body-requires g c = record { callable = c.requires.callable; judges = c.requires.judges }

@@ -11,9 +11,3 @@ returns-then-first-arms g c = record { puts = λ test. on_ok c.emit_else.result 
 
 pub returns : goal.returns
 returns g c = record { puts = λ test. on_ok c.emit_labelled.result (λ h. c.in_ok-first.ensures (around c.args.scene.now) c.args.line _ _ _ _ (all_is (around c.args.scene.now) c.args.line _ _ _ _ _ _ _ (ap cases_list (slice_rest c.args.arms.now c.in_ok-first.first)) h)) (c.emit_labelled.ensures.puts test) }
-
-pub emit_labelled-requires : goal.emit_labelled-requires
-emit_labelled-requires g c = record { callable = c.requires.callable; emits = c.requires.emits }
-
-pub emit_else-requires : goal.emit_else-requires
-emit_else-requires g c = record { callable = c.requires.callable; emits = c.requires.emits }

@@ -18,6 +18,3 @@ loop-arm-preserved g c =
 
 pub returns : goal.returns
 returns g c = record { puts = λ test. c.loop-arm.invariant test _ (cases_is (around c.args.scene.now) c.args.line _ _ _ _ _ _ _ (ap cases_list (sym (drop_of_length-le c.args.arms.now (omega (arith, c.loop-arm-test.false))))) (no_cases_put (around c.args.scene.now) c.args.line _ _ _ _)) }
-
-pub emit_next_arm-requires : goal.emit_next_arm-requires
-emit_next_arm-requires g c = record { callable = c.requires.callable; emits = c.requires.emits }

@@ -14,6 +14,3 @@ returns g c =
       puts = from_both c.end_dead.result c.end_dead.ensures.done c.end_dead.ensures.ends (λ ok e. dead_joined (around c.args.scene.now) c.args.line _ _ _ _ _ _ _ _ (sym c.if-not-has_dead.ensures) c.position-before.ensures c.in_ok-over.ensures.address c.in_ok-over.ensures.codes
           (said c.emit_dead_bodies-done.result ok c.emit_dead_bodies-done.ensures.puts) e.code e.kinds e.next e.lines e.whole e.aims);
     }
-
-pub emit_dead_bodies-done-requires : goal.emit_dead_bodies-done-requires
-emit_dead_bodies-done-requires g c = record { callable = c.requires.callable; emits = c.requires.emits }

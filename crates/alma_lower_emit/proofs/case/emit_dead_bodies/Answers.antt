@@ -18,6 +18,3 @@ loop-arm-preserved g c =
 
 pub returns : goal.returns
 returns g c = record { puts = c.loop-arm.invariant _ (bodies_is (around c.args.scene.now) 0 _ _ _ _ (ap cases_list (sym (drop_of_length-le c.args.arms.now (omega (arith, c.loop-arm-test.false))))) (no_bodies_put (around c.args.scene.now) 0 _)) }
-
-pub emit_dead_body-requires : goal.emit_dead_body-requires
-emit_dead_body-requires g c = record { callable = c.requires.callable; emits = c.requires.emits }

@@ -10,6 +10,3 @@ returns-then-not-is_empty g c = record { puts = on_ok c.pass_stmts.result (λ h 
 
 pub returns : goal.returns
 returns g c = record { puts = on_ok c.emit_inside.result (λ h e rest j. dead_body (around c.args.scene.now) 0 _ _ _ _ _ _ (omega (arith, no_elements _ c.if-not-is_empty.ensures, c.args.arm.now.labels.ok.0)) (stmts_is (around c.args.scene.now) 0 _ _ _ _ (ap stmts_list c.deref-2.ensures.value) h) j) c.emit_inside.ensures.puts }
-
-pub emit_inside-requires : goal.emit_inside-requires
-emit_inside-requires g c = record { callable = c.requires.callable; emits = c.requires.emits }

@@ -13,6 +13,3 @@ returns-in-Some g c =
 
 pub returns-in-None : goal.returns-in-None
 returns-in-None g c = record { puts = else_as c.add.result (around c.args.scene.now) c.args.line _ _ _ _ (ap else_option c.in-None.is) (on_ok c.add.result (no_else_put (around c.args.scene.now) c.args.line _ _) c.add.ensures) }
-
-pub emit_inside-requires : goal.emit_inside-requires
-emit_inside-requires g c = record { callable = c.requires.callable; emits = c.requires.emits }

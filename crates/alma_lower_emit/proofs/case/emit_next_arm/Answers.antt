@@ -10,6 +10,3 @@ returns g c = record { puts = λ test. from_both c.then_add.result c.then_add.en
 
 pub returns-then-is_empty : goal.returns-then-is_empty
 returns-then-is_empty g c = record { puts = λ test. on_ok c.pass_stmts.result (λ h e rest j. skipped_arm (around c.args.scene.now) c.args.line _ _ _ _ _ _ _ _ _ (omega (arith, no_elements _ c.if-is_empty.ensures, c.args.arm.now.labels.ok.0)) (turns_is (around c.args.scene.now) c.args.line _ _ _ _ (ap stmts_list c.deref.ensures.value) h) j) c.pass_stmts.ensures }
-
-pub emit_case_arm-done-requires : goal.emit_case_arm-done-requires
-emit_case_arm-done-requires g c = record { callable = c.requires.callable; emits = c.requires.emits }

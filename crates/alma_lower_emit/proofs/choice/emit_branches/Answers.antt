@@ -23,9 +23,3 @@ returns g c =
     let xs = c.args.branches.now in
     let at : l.i ≡ length xs - 1 = omega (arith, c.loop-i-test.false, c.loop-i.auto.i-end) in
     record { puts = λ two. on_ok c.emit_inside.result (λ h. l.invariant _ (branches_is (around c.args.scene.now) c.args.line c.args.exit _ _ _ _ (sym (ap (λ n. branches_list (drop n xs)) at ∙ ap branches_list (drop_last xs (length xs - 1) c.index-branches-last.result (omega (arith, two)) c.index-branches-last.is))) (last_branch_put (around c.args.scene.now) c.args.line _ _ _ _ (stmts_is (around c.args.scene.now) 0 _ _ _ _ (ap stmts_list c.deref-2.ensures.value) h)))) c.emit_inside.ensures.puts }
-
-pub emit_chosen-done-requires : goal.emit_chosen-done-requires
-emit_chosen-done-requires g c = record { callable = c.requires.callable; emits = c.requires.emits }
-
-pub emit_inside-requires : goal.emit_inside-requires
-emit_inside-requires g c = record { callable = c.requires.callable; emits = c.requires.emits }

@@ -18,12 +18,3 @@ returns g c =
       puts = from_both c.then_aim.result c.then_aim.ensures.done c.then_aim.ensures.aims (λ ok h. either_of (around c.args.scene.now) c.args.line _ _ _ _ _ _ c.args.branches.now c.index-branches-0.result two c.index-branches-0.is
           (chosen_is (around c.args.scene.now) c.args.line _ _ _ _ (ap stmts_list c.deref-2.ensures.value) (said c.emit_chosen-done.result c.in_ok-exit.ensures.done c.emit_chosen-done.ensures.puts)) c.in_ok-exit.ensures.address c.in_ok-exit.ensures.codes (said c.emit_branches-done.result ok (c.emit_branches-done.ensures.puts two)) h);
     }
-
-pub emit_inside-requires : goal.emit_inside-requires
-emit_inside-requires g c = record { callable = c.requires.callable; emits = c.requires.emits }
-
-pub emit_chosen-done-requires : goal.emit_chosen-done-requires
-emit_chosen-done-requires g c = record { callable = c.requires.callable; emits = c.requires.emits }
-
-pub emit_branches-done-requires : goal.emit_branches-done-requires
-emit_branches-done-requires g c = record { callable = c.requires.callable; emits = c.requires.emits }

@@ -20,6 +20,3 @@ loop-i-preserved g c =
 
 pub returns : goal.returns
 returns g c = record { puts = c.loop-i.invariant _ (arms_is (around c.args.scene.now) c.args.line _ _ _ _ _ (ap arms_list (sym (drop_of_length-le c.args.arms.now (omega (arith, c.loop-i-test.false))))) (no_arms_put (around c.args.scene.now) c.args.line _ _)) }
-
-pub emit_guarded-done-requires : goal.emit_guarded-done-requires
-emit_guarded-done-requires g c = record { callable = c.requires.callable; emits = c.requires.emits }

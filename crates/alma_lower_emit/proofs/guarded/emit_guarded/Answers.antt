@@ -6,9 +6,3 @@ use Rattle.alma_lower_emit.proofs.guarded.emit_guarded.Goals as goal
 
 pub returns : goal.returns
 returns g c = record { puts = from_both c.then_aim.result c.then_aim.ensures.done c.then_aim.ensures.aims (λ ok h. guarded_put (around c.args.scene.now) c.args.line _ _ _ _ _ _ _ _ _ c.in_ok-jump.ensures.guard (said c.emit_inside-done.result ok c.emit_inside-done.ensures.puts) h refl) }
-
-pub emit_guard-requires : goal.emit_guard-requires
-emit_guard-requires g c = record { callable = c.requires.callable; emits = c.requires.emits }
-
-pub emit_inside-done-requires : goal.emit_inside-done-requires
-emit_inside-done-requires g c = record { callable = c.requires.callable; emits = c.requires.emits }

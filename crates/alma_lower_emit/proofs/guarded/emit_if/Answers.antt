@@ -15,15 +15,3 @@ returns g c =
           (guarded_is (around c.args.scene.now) c.args.line _ _ _ _ _ (ap stmts_list c.deref.ensures.value) (said c.emit_guarded-done.result c.in_ok-exit.ensures.done c.emit_guarded-done.ensures.puts)) c.in_ok-exit.ensures.address c.in_ok-exit.ensures.codes c.in_ok-emit_arms.ensures.puts
           (said c.emit_inside-done.result ok c.emit_inside-done.ensures.puts) h);
     }
-
-pub emit_guarded-done-requires : goal.emit_guarded-done-requires
-emit_guarded-done-requires g c = record { callable = c.requires.callable; emits = c.requires.emits }
-
-pub emit_inside-requires : goal.emit_inside-requires
-emit_inside-requires g c = record { callable = c.requires.callable; emits = c.requires.emits }
-
-pub emit_arms-requires : goal.emit_arms-requires
-emit_arms-requires g c = record { callable = c.requires.callable; emits = c.requires.emits }
-
-pub emit_inside-done-requires : goal.emit_inside-done-requires
-emit_inside-done-requires g c = record { callable = c.requires.callable; emits = c.requires.emits }

@@ -18,9 +18,3 @@ returns g c =
           (for_joined (around c.args.scene.now) c.args.line _ _ _ _ _ _ _ _ _ _ _ _ _ _ _ _ _ _ _ _ _ _ _ _ _ _ c.in_ok-step.ensures.counter c.in_ok-step.ensures.limit c.position-before.ensures puts.passed puts.bounds c.position-after.ensures
           c.in_ok-jump.ensures.holes c.in_ok-jump.ensures.top c.go_to.ensures.code c.go_to.ensures.kinds c.go_to.ensures.next c.go_to.ensures.lines c.go_to.ensures.whole (said c.emit_turn-done.result ok c.emit_turn-done.ensures.puts) e.out_at e.codes e.aims));
     }
-
-pub emit_bounds-requires : goal.emit_bounds-requires
-emit_bounds-requires g c = record { callable = c.requires.callable; emits = c.requires.emits }
-
-pub emit_turn-done-requires : goal.emit_turn-done-requires
-emit_turn-done-requires g c = record { callable = c.requires.callable; emits = c.requires.emits }

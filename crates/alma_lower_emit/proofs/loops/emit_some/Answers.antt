@@ -12,9 +12,3 @@ returns g c =
           begins.takes begins.more_slot begins.bounds begins.top_at begins.turn_at begins.tests begins.choice_at begins.chooses c.go_to.ensures.code c.go_to.ensures.kinds c.go_to.ensures.next c.go_to.ensures.lines c.go_to.ensures.whole
           (said c.emit_turn-done.result ok c.emit_turn-done.ensures.puts) e.over_at e.aims_choice e.next e.aims_jump e.fails);
     }
-
-pub emit_bounds-requires : goal.emit_bounds-requires
-emit_bounds-requires g c = record { callable = c.requires.callable; emits = c.requires.emits }
-
-pub emit_turn-done-requires : goal.emit_turn-done-requires
-emit_turn-done-requires g c = record { callable = c.requires.callable; emits = c.requires.emits }

@@ -28,6 +28,3 @@ returns g c =
         body_put = stmts_is (around c.args.scene.now) 0 _ _ _ _ (ap stmts_list c.deref.ensures.value) h;
       }) c.emit_inside.ensures.puts;
     }
-
-pub emit_inside-requires : goal.emit_inside-requires
-emit_inside-requires g c = record { callable = c.requires.callable; emits = c.requires.emits }

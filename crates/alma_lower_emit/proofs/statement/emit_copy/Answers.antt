@@ -5,9 +5,3 @@ use Rattle.alma_lower_emit.proofs.statement.emit_copy.Goals as goal
 
 pub returns : goal.returns
 returns g c = record { puts = on_ok c.add.result (copy_put (around c.args.scene.now) c.args.line _ _ _ _ _ _ _ _ c.in_ok-to.ensures.puts c.in_ok-to.ensures.place c.in_ok-from.ensures.puts c.in_ok-from.ensures.place) c.add.ensures }
-
-pub emit_desig-requires : goal.emit_desig-requires
-emit_desig-requires g c = record { callable = c.requires.callable; emits = c.requires.emits }
-
-pub emit_desig-requires-2 : goal.emit_desig-requires-2
-emit_desig-requires-2 g c = record { callable = c.requires.callable; emits = c.requires.emits }

@@ -12,6 +12,3 @@ returns-in-Some g c = record { puts = stmt_as c.return_of.result (around c.args.
 
 pub returns-in-None : goal.returns-in-None
 returns-in-None g c = record { puts = stmt_as c.add.result (around c.args.scene.now) c.args.line _ _ _ _ (ap (λ x. tree.Return (return_option x)) c.in-None.is) (on_ok c.add.result (return_put (around c.args.scene.now) c.args.line _ _) c.add.ensures) }
-
-pub emit_value-number-requires : goal.emit_value-number-requires
-emit_value-number-requires g c = record { callable = c.requires.callable; emits = c.requires.emits }

@@ -18,6 +18,3 @@ loop-stmt-preserved g c =
 
 pub returns : goal.returns
 returns g c = record { puts = c.loop-stmt.invariant _ (stmts_is (around c.args.scene.now) 0 _ _ _ _ (ap stmts_list (sym (drop_of_length-le c.args.body.now (omega (arith, c.loop-stmt-test.false))))) (no_stmts_put (around c.args.scene.now) _)) }
-
-pub emit_stmt-requires : goal.emit_stmt-requires
-emit_stmt-requires g c = record { callable = c.requires.callable; emits = c.requires.emits }

@@ -103,7 +103,7 @@ pub known-returns : goal.known-returns
 known-returns g t c = record { read = made_gives (λ v ks. kinds.Known ∷ kinds.OpenParen ∷ a_desig v.0 (kinds.CloseParen ∷ ks)) (λ v. token >> token >> number_desig v.0 >> token >> node v.1) a_primary number_primary _ _ _ _ (λ v. dp.Known v.1 v.0) (λ v. ap spell_primary (rows.known_laid v.1 v.0)) (λ v. numbers.known_laid v.1 v.0) c.numbered.result c.known_of.result c.known_of.ensures.made (behind_front (λ v ks. kinds.OpenParen ∷ a_desig v.0 (kinds.CloseParen ∷ ks)) (λ v. token >> number_desig v.0 >> token >> node v.1) (passed refl refl c.in_ok-at.ensures.opened.passes) (λ o. one kinds.OpenParen ∷ desig_parts (one kinds.CloseParen ∷ o)) _ c.numbered.result (behind_front (λ v ks. a_desig v.0 (kinds.CloseParen ∷ ks)) (λ v. number_desig v.0 >> token >> node v.1) (opened refl c.in_ok-at.ensures.opened.opens_behind) (λ o. desig_parts (one kinds.CloseParen ∷ o)) _ c.numbered.result (ended_behind a_desig number_desig _ _ _ _ _ _ (matching kinds.CloseParen refl refl c.in_ok-at.ensures.opened.opens_behind) c.desig.result c.followed_by.result c.followed_by.ensures.followed c.desig.ensures.read c.numbered.result c.numbered.ensures.numbered))) }
 
 pub known-desig-requires : goal.known-desig-requires
-known-desig-requires g t c κs within = (omega (arith, c.in_ok-at.ensures.opened.passes.shorter, c.in_ok-at.ensures.opened.opens_behind.passes.shorter), (search rules, (c.requires.callable, c.requires.reads)))
+known-desig-requires g t c κs within = (omega (arith, c.in_ok-at.ensures.opened.passes.shorter, c.in_ok-at.ensures.opened.opens_behind.passes.shorter), (search rules, c.requires.reads))
 
 pub ord-returns-in_err-at : goal.ord-returns-in_err-at
 ord-returns-in_err-at g t c = record { read = stopped _ _ _ _ c.from_residual.ensures.1 (first c.in_err-at.ensures.opened) }
@@ -112,7 +112,7 @@ pub ord-returns : goal.ord-returns
 ord-returns g t c = record { read = made_gives (λ v ks. kinds.Ord ∷ kinds.OpenParen ∷ an_expr v.0.value (kinds.CloseParen ∷ ks)) (λ v. token >> token >> number_expr v.0.value >> token >> node v.1) a_primary number_primary _ _ _ _ (λ v. dp.Ord v.1 v.0) (λ v. ap spell_primary (rows.ord_laid v.1 v.0)) (λ v. refl) c.numbered.result c.ord_of.result c.ord_of.ensures.made (behind_front (λ v ks. kinds.OpenParen ∷ an_expr v.0.value (kinds.CloseParen ∷ ks)) (λ v. token >> number_expr v.0.value >> token >> node v.1) (passed refl refl c.in_ok-at.ensures.opened.passes) (λ o. one kinds.OpenParen ∷ expr_parts (one kinds.CloseParen ∷ o)) _ c.numbered.result (behind_front (λ v ks. an_expr v.0.value (kinds.CloseParen ∷ ks)) (λ v. number_expr v.0.value >> token >> node v.1) (opened refl c.in_ok-at.ensures.opened.opens_behind) (λ o. expr_parts (one kinds.CloseParen ∷ o)) _ c.numbered.result (ended_behind (λ v. an_expr v.value) (λ v. number_expr v.value) _ _ _ _ _ _ (matching kinds.CloseParen refl refl c.in_ok-at.ensures.opened.opens_behind) c.boxed-value.result c.followed_by.result c.followed_by.ensures.followed (in_box an_expr number_expr _ _ _ _ c.expr.result c.boxed-value.result c.boxed-value.ensures.boxed c.expr.ensures.read) c.numbered.result c.numbered.ensures.numbered))) }
 
 pub ord-expr-requires : goal.ord-expr-requires
-ord-expr-requires g t c κs within = (omega (arith, c.in_ok-at.ensures.opened.passes.shorter, c.in_ok-at.ensures.opened.opens_behind.passes.shorter), (search rules, (c.requires.callable, c.requires.reads)))
+ord-expr-requires g t c κs within = (omega (arith, c.in_ok-at.ensures.opened.passes.shorter, c.in_ok-at.ensures.opened.opens_behind.passes.shorter), (search rules, c.requires.reads))
 
 pub chr-returns-in_err-at : goal.chr-returns-in_err-at
 chr-returns-in_err-at g t c = record { read = stopped _ _ _ _ c.from_residual.ensures.1 (first c.in_err-at.ensures.opened) }
@@ -121,7 +121,7 @@ pub chr-returns : goal.chr-returns
 chr-returns g t c = record { read = made_gives (λ v ks. kinds.Chr ∷ kinds.OpenParen ∷ an_expr v.0.value (kinds.CloseParen ∷ ks)) (λ v. token >> token >> number_expr v.0.value >> token >> node v.1) a_primary number_primary _ _ _ _ (λ v. dp.Chr v.1 v.0) (λ v. ap spell_primary (rows.chr_laid v.1 v.0)) (λ v. refl) c.numbered.result c.chr_of.result c.chr_of.ensures.made (behind_front (λ v ks. kinds.OpenParen ∷ an_expr v.0.value (kinds.CloseParen ∷ ks)) (λ v. token >> number_expr v.0.value >> token >> node v.1) (passed refl refl c.in_ok-at.ensures.opened.passes) (λ o. one kinds.OpenParen ∷ expr_parts (one kinds.CloseParen ∷ o)) _ c.numbered.result (behind_front (λ v ks. an_expr v.0.value (kinds.CloseParen ∷ ks)) (λ v. number_expr v.0.value >> token >> node v.1) (opened refl c.in_ok-at.ensures.opened.opens_behind) (λ o. expr_parts (one kinds.CloseParen ∷ o)) _ c.numbered.result (ended_behind (λ v. an_expr v.value) (λ v. number_expr v.value) _ _ _ _ _ _ (matching kinds.CloseParen refl refl c.in_ok-at.ensures.opened.opens_behind) c.boxed-value.result c.followed_by.result c.followed_by.ensures.followed (in_box an_expr number_expr _ _ _ _ c.expr.result c.boxed-value.result c.boxed-value.ensures.boxed c.expr.ensures.read) c.numbered.result c.numbered.ensures.numbered))) }
 
 pub chr-expr-requires : goal.chr-expr-requires
-chr-expr-requires g t c κs within = (omega (arith, c.in_ok-at.ensures.opened.passes.shorter, c.in_ok-at.ensures.opened.opens_behind.passes.shorter), (search rules, (c.requires.callable, c.requires.reads)))
+chr-expr-requires g t c κs within = (omega (arith, c.in_ok-at.ensures.opened.passes.shorter, c.in_ok-at.ensures.opened.opens_behind.passes.shorter), (search rules, c.requires.reads))
 
 pub known-open_after-requires : goal.known-open_after-requires
 known-open_after-requires g t c = record { plain = refl; still = refl; opening = refl }
@@ -208,16 +208,16 @@ pub factors-returns : goal.factors-returns
 factors-returns g t c = record { read = loops.ended c.loop-operator.invariant c.in_default.ensures.passes }
 
 pub simple-term-requires : goal.simple-term-requires
-simple-term-requires g t c κs within = (omega (arith, (c.sign-sign.ensures.read 0).shorter), (search rules, (c.requires.callable, c.requires.reads)))
+simple-term-requires g t c κs within = (omega (arith, (c.sign-sign.ensures.read 0).shorter), (search rules, c.requires.reads))
 
 pub simple-simple_from-requires : goal.simple-simple_from-requires
-simple-simple_from-requires g t c κs within = (omega (arith, (c.sign-sign.ensures.read 0).shorter, c.in_ok-first.ensures.read.shorter), (search rules, (c.requires.callable, c.requires.reads)))
+simple-simple_from-requires g t c κs within = (omega (arith, (c.sign-sign.ensures.read 0).shorter, c.in_ok-first.ensures.read.shorter), (search rules, c.requires.reads))
 
 pub exprs-returns-in_err-first : goal.exprs-returns-in_err-first
 exprs-returns-in_err-first g t c = record { read = stopped _ _ _ _ c.from_residual.ensures.1 (first (in_box an_expr number_expr _ _ _ _ c.expr.result (Err _) c.in_err-first.ensures.boxed c.expr.ensures.read)) }
 
 pub exprs-expr_list-requires : goal.exprs-expr_list-requires
-exprs-expr_list-requires g t c κs within = (omega (arith, (in_box an_expr number_expr _ _ _ _ c.expr.result (Ok _) c.in_ok-first.ensures.boxed c.expr.ensures.read).shorter), (search rules, (c.requires.callable, c.requires.reads)))
+exprs-expr_list-requires g t c κs within = (omega (arith, (in_box an_expr number_expr _ _ _ _ c.expr.result (Ok _) c.in_ok-first.ensures.boxed c.expr.ensures.read).shorter), (search rules, c.requires.reads))
 
 pub expr_list-loop-after-init : goal.expr_list-loop-after-init
 expr_list-loop-after-init g t c = rw c.new-more.ensures.items loops.loops_start
@@ -306,7 +306,7 @@ pub selector-returns-in-Index-clause-read : goal.selector-returns-in-Index-claus
 selector-returns-in-Index-clause-read g t c = rw c.in-Index.is c.index.ensures.read
 
 pub desig-selectors-requires : goal.desig-selectors-requires
-desig-selectors-requires g t c κs within = (omega (arith, ap length (c.in_ok-name.ensures.read 0).spelled_so), (search rules, (c.requires.callable, c.requires.reads)))
+desig-selectors-requires g t c κs within = (omega (arith, ap length (c.in_ok-name.ensures.read 0).spelled_so), (search rules, c.requires.reads))
 
 pub index-open-requires : goal.index-open-requires
 index-open-requires g t c = record { opening = refl }

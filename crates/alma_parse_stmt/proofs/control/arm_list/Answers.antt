@@ -22,6 +22,3 @@ returns g c = record { read = loops.ended c.loop-after.invariant (heads.skips_ar
 
 pub returns-in_err-at : goal.returns-in_err-at
 returns-in_err-at g c = record { read = stopped _ _ _ _ c.from_residual.ensures.1 (no_more lists.arms (λ o. one kinds.Bar ∷ arm_part ∷ o) _ _ c.loop-after.invariant (heads.begins_arms c.in-Some.ensures.passes) c.arm.result _ c.in_err-at.ensures.pushed (both an_arm number_arm (part (passed refl refl c.in-Some.ensures.passes)) _ _ c.arm.result c.arm.ensures.read)) }
-
-pub arm-requires : goal.arm-requires
-arm-requires g c = record { callable = c.requires.callable; reads = c.requires.reads }

@@ -42,15 +42,3 @@ returns g c = record { read = whole (λ v ks. spell_else (else_of v.0) (kinds.En
 
 pub open-requires : goal.open-requires
 open-requires g c = record { opening = refl }
-
-pub expr-requires : goal.expr-requires
-expr-requires g c = record { callable = c.requires.callable; reads = c.requires.reads }
-
-pub arm-requires : goal.arm-requires
-arm-requires g c = record { callable = c.requires.callable; reads = c.requires.reads }
-
-pub arm_list-requires : goal.arm_list-requires
-arm_list-requires g c = record { callable = c.requires.callable; reads = c.requires.reads }
-
-pub otherwise-requires : goal.otherwise-requires
-otherwise-requires g c = record { callable = c.requires.callable; reads = c.requires.reads }

@@ -27,9 +27,3 @@ returns g c = record { read = loops.ended c.loop-after.invariant (heads.skips_el
 
 pub returns-in_err-at : goal.returns-in_err-at
 returns-in_err-at g c = record { read = stopped _ _ _ _ c.from_residual-in_err-at.ensures.1 (no_more lists.elsifs (λ o. one kinds.Elsif ∷ expr_parts (one kinds.Then ∷ stmts_parts o)) _ _ c.loop-after.invariant (heads.begins_elsifs c.in-Some.ensures.passes) c.elsif_of.result _ c.in_err-at.ensures.pushed (whole some_stmts number_stmts lists.an_elsif lists.number_elsif (and_then (part (passed refl refl c.in-Some.ensures.passes)) (part_and an_expr number_expr kinds.Then _ _ _ _ _ (plain kinds.Then _ refl refl) c.expr.result _ c.in_ok-test.ensures.followed c.expr.ensures.read)) _ _ _ (lists.elsif_spelled c.in_ok-test.test) (lists.elsif_numbered c.in_ok-test.test) c.nested.result _ c.elsif_of.ensures.made c.nested.ensures.read)) }
-
-pub expr-requires : goal.expr-requires
-expr-requires g c = record { callable = c.requires.callable; reads = c.requires.reads }
-
-pub nested-requires : goal.nested-requires
-nested-requires g c = record { callable = c.requires.callable; reads = c.requires.reads }

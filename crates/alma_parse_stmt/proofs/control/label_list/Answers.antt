@@ -23,6 +23,3 @@ returns g c = record { read = loops.ended c.loop-after.invariant (heads.skips_la
 
 pub returns-in_err-at : goal.returns-in_err-at
 returns-in_err-at g c = record { read = stopped _ _ _ _ c.from_residual.ensures.1 (no_more lists.labels (λ o. one kinds.Comma ∷ label_parts o) _ _ c.loop-after.invariant (heads.begins_labels c.in-Some.ensures.passes) c.label.result _ c.in_err-at.ensures.pushed (both (λ v. spell_label (view_label v)) number_label (part (passed refl refl c.in-Some.ensures.passes)) _ _ c.label.result c.label.ensures.read)) }
-
-pub label-requires : goal.label-requires
-label-requires g c = record { callable = c.requires.callable; reads = c.requires.reads }

@@ -24,12 +24,3 @@ returns-in_err-more g c = record {
 
 pub returns : goal.returns
 returns g c = record { read = whole (λ v. some_stmts v.0) (λ v. number_stmts v.0 >> node v.1) an_arm number_arm (and_then (part c.in_ok-first.ensures.read) (part_and more_labels count_labels kinds.Colon _ _ _ _ _ (plain kinds.Colon _ refl refl) c.label_list.result _ c.in_ok-more.ensures.followed c.label_list.ensures.read)) _ _ _ (λ v. ap spell_arm (rows.labelled_laid v.1 c.in_ok-first.first c.in_ok-more.more v.0)) (λ v. numbers.labelled_laid v.1 c.in_ok-first.first c.in_ok-more.more v.0) c.numbered.result _ c.labelled_of.ensures.made (ended some_stmts number_stmts _ _ _ _ c.nested.result c.numbered.result c.numbered.ensures.numbered c.nested.ensures.read) }
-
-pub label-requires : goal.label-requires
-label-requires g c = record { callable = c.requires.callable; reads = c.requires.reads }
-
-pub label_list-requires : goal.label_list-requires
-label_list-requires g c = record { callable = c.requires.callable; reads = c.requires.reads }
-
-pub nested-requires : goal.nested-requires
-nested-requires g c = record { callable = c.requires.callable; reads = c.requires.reads }

@@ -27,9 +27,3 @@ returns g c = record { read = whole (λ v. an_expr v.0) (λ v. number_expr v.0 >
 
 pub open-requires : goal.open-requires
 open-requires g c = record { opening = refl }
-
-pub nested-requires : goal.nested-requires
-nested-requires g c = record { callable = c.requires.callable; reads = c.requires.reads }
-
-pub expr-requires : goal.expr-requires
-expr-requires g c = record { callable = c.requires.callable; reads = c.requires.reads }

@@ -25,9 +25,3 @@ returns g c = record { read = whole (λ v ks. more_orelses v.0 (kinds.End ∷ ks
 
 pub open-requires : goal.open-requires
 open-requires g c = record { opening = refl }
-
-pub nested-requires : goal.nested-requires
-nested-requires g c = record { callable = c.requires.callable; reads = c.requires.reads }
-
-pub orelse_list-requires : goal.orelse_list-requires
-orelse_list-requires g c = record { callable = c.requires.callable; reads = c.requires.reads }

@@ -22,6 +22,3 @@ returns g c = record { read = loops.ended c.loop-after.invariant (heads.skips_or
 
 pub returns-in_err-at : goal.returns-in_err-at
 returns-in_err-at g c = record { read = stopped _ _ _ _ c.from_residual.ensures.1 (no_more lists.orelses (λ o. one kinds.Orelse ∷ stmts_parts o) _ _ c.loop-after.invariant (heads.begins_orelses c.in-Some.ensures.passes) c.nested.result _ c.in_err-at.ensures.pushed (both some_stmts number_stmts (part (passed refl refl c.in-Some.ensures.passes)) _ _ c.nested.result c.nested.ensures.read)) }
-
-pub nested-requires : goal.nested-requires
-nested-requires g c = record { callable = c.requires.callable; reads = c.requires.reads }

@@ -26,12 +26,3 @@ returns g c = record { read = whole (λ v ks. some_stmts v.0 (kinds.End ∷ ks))
 
 pub loop_head-requires : goal.loop_head-requires
 loop_head-requires g c = record { opening = refl }
-
-pub expr-requires : goal.expr-requires
-expr-requires g c = record { callable = c.requires.callable; reads = c.requires.reads }
-
-pub expr-requires-2 : goal.expr-requires-2
-expr-requires-2 g c = record { callable = c.requires.callable; reads = c.requires.reads }
-
-pub nested-requires : goal.nested-requires
-nested-requires g c = record { callable = c.requires.callable; reads = c.requires.reads }

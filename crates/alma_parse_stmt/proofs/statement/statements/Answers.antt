@@ -13,9 +13,3 @@ returns-in_err-first g c = record { read = stopped _ _ _ _ c.from_residual.ensur
 
 pub returns : goal.returns
 returns g c = record { read = whole (λ v. more_stmts v.0) (λ v. count_stmts v.0 >> node v.1) some_stmts number_stmts (part (in_box a_stmt number_stmt _ _ _ _ c.stmt.result (Ok _) c.in_ok-first.ensures.boxed c.stmt.ensures.read)) _ _ (λ v. record { node = v.1; first = c.in_ok-first.first; more = v.0 }) (λ v. refl) (λ v. refl) c.numbered.result _ c.stmts_of.ensures.made (ended more_stmts count_stmts _ _ _ _ c.stmt_list.result c.numbered.result c.numbered.ensures.numbered c.stmt_list.ensures.read) }
-
-pub stmt-requires : goal.stmt-requires
-stmt-requires g c = record { callable = c.requires.callable; reads = c.requires.reads }
-
-pub stmt_list-requires : goal.stmt_list-requires
-stmt_list-requires g c = record { callable = c.requires.callable; reads = c.requires.reads }

@@ -66,33 +66,3 @@ returns-in_default g c = record {
   read = instead c.simple_stmt.result (λ v. spell_stmt (view_stmt v)) number_stmt (λ o. stmt_part ∷ o)
       (forms.stmt_form_parts c.stmt_form.result) c.args.depth _ c.stmt_form.ensures.becomes c.simple_stmt.ensures.read;
 }
-
-pub if_stmt-requires : goal.if_stmt-requires
-if_stmt-requires g c = record { callable = c.requires.callable; reads = c.requires.reads }
-
-pub while_stmt-requires : goal.while_stmt-requires
-while_stmt-requires g c = record { callable = c.requires.callable; reads = c.requires.reads }
-
-pub repeat_stmt-requires : goal.repeat_stmt-requires
-repeat_stmt-requires g c = record { callable = c.requires.callable; reads = c.requires.reads }
-
-pub for_stmt-requires : goal.for_stmt-requires
-for_stmt-requires g c = record { callable = c.requires.callable; reads = c.requires.reads }
-
-pub some_stmt-requires : goal.some_stmt-requires
-some_stmt-requires g c = record { callable = c.requires.callable; reads = c.requires.reads }
-
-pub case_stmt-requires : goal.case_stmt-requires
-case_stmt-requires g c = record { callable = c.requires.callable; reads = c.requires.reads }
-
-pub either_stmt-requires : goal.either_stmt-requires
-either_stmt-requires g c = record { callable = c.requires.callable; reads = c.requires.reads }
-
-pub forall_stmt-requires : goal.forall_stmt-requires
-forall_stmt-requires g c = record { callable = c.requires.callable; reads = c.requires.reads }
-
-pub commit_stmt-requires : goal.commit_stmt-requires
-commit_stmt-requires g c = record { callable = c.requires.callable; reads = c.requires.reads }
-
-pub simple_stmt-requires : goal.simple_stmt-requires
-simple_stmt-requires g c = record { callable = c.requires.callable; reads = c.requires.reads }
