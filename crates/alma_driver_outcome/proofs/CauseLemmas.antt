@@ -18,9 +18,9 @@ use Rattle.alma_driver_outcome.specs.Showing.{Showing, Prints, Traces, counts_sh
 use Rattle.alma_driver_outcome.specs.Outside.{SinkSide, SourceSide, FilesSide, FilesStay, Outside}
 use Rattle.alma_driver_outcome.specs.declared.end.Counts.{Counts}
 use Rattle.alma_driver_outcome.specs.Ends.{mode_end, counts_in, status_of, text_of}
-use Rattle.alma_driver_outcome.specs.Outcome.{Due, Stored, InputOutcome, unread, taken, past_input, ProgramOutcome, ran, too_much_code, CompileOutcome, made, past_size, IsSourceEnd, refused, SourceOutcome, stopped, compiled, CheckOutcome, ListOutcome, listed, no_object, CodeOutcome, executed, unsound, ExecOutcome, opened, unopened, SampleOutcome, summed, FileOutcome, RequestOutcome, absent, past_limit, fetched, unfetched, Outcome, bad_word, asks, Lacks}
-use Rattle.alma_driver_outcome.specs.Course.{Gains, FailsWithin, GainsPrefix, Goes, OthersStay, FailsToStore, Keeps, Stores, done, failed, Works, Takes, Moves, MayRead, ReadsOnly, FailsToRead, Serves, FailsToFetch, Performs, Reports, Answers}
-use Rattle.alma_driver_outcome.specs.Causes.{Causes, WriteFailed, WritesGrew, ReadFailed, ReadsGrew, Become, IsStoredName}
+use Rattle.alma_driver_outcome.specs.Outcome.{Due, Stored, InputOutcome, unread, taken, past_input, ProgramOutcome, ran, too_much_code, CompileOutcome, made, past_size, IsSourceEnd, refused, SourceOutcome, stopped, compiled, CheckOutcome, ListOutcome, listed, no_object, CodeOutcome, executed, unsound, ExecOutcome, opened, unopened, SampleOutcome, summed, FileOutcome, RequestOutcome, absent, past_limit, fetched, unfetched, Outcome, bad_word, asks, AskToRead, Lacks}
+use Rattle.alma_driver_outcome.specs.Course.{Gains, FailsWithin, GainsPrefix, Goes, OthersStay, FailsToStore, Keeps, Stores, done, failed, Works, Takes, ReadsWhole, Moves, MayRead, ReadsOnly, FailsToRead, Serves, FailsToFetch, Performs, Reports, Answers}
+use Rattle.alma_driver_outcome.specs.Causes.{Causes, WriteFailed, WritesGrew, FetchFailed, InputFailed, ReadsGrew, Become, IsStoredName}
 use Rattle.alma_driver_outcome.specs.declared.end.End.{End}
 use Rattle.alma_driver_outcome.specs.declared.end.End.TheVariants.{Succeeded, Failed, BadWord, Refused, Faulted, StepsOut, ReadFault, WriteFault, Memory, BadObject, BadCode, TooLong, TooMuchCode}
 use Rattle.alma_driver_outcome.proofs.DriverLemmas.{check_keeps, run_keeps, list_keeps, exec_keeps, sample_keeps}
@@ -91,11 +91,11 @@ input_reads left code steps showing due (taken input some is short e) q = code_d
 input_reads left code steps showing due (past_input some more e) q = cc (sym (ap (λ (d : Due). d.end) e) ∙ q)
 
 program_reads : (left : Option (List ℕ)) (p : Program) (steps : ℕ) (showing : Showing) (due : Due) → ProgramOutcome left p steps showing due → due.end ≡ ReadFault → ⊥
-program_reads left p steps showing due (ran code size sound implements reads o) q = input_reads left code steps showing due o q
+program_reads left p steps showing due (ran code size sound implements reads names o) q = input_reads left code steps showing due o q
 program_reads left p steps showing due (too_much_code size e) q = cc (sym (ap (λ (d : Due). d.end) e) ∙ q)
 
 compile_reads : (p : Program) (object : List ℕ) (due : Due) → CompileOutcome p object due → due.end ≡ ReadFault → ⊥
-compile_reads p object due (made code bytes size sound implements reads is e) q = cc (sym (ap (λ (d : Due). d.end) e) ∙ q)
+compile_reads p object due (made code bytes size sound implements reads names is fits e) q = cc (sym (ap (λ (d : Due). d.end) e) ∙ q)
 compile_reads p object due (past_size size e) q = cc (sym (ap (λ (d : Due). d.end) e) ∙ q)
 
 source_end_reads : (source : List ℕ) (end : End) → IsSourceEnd source end → end ≡ ReadFault → ⊥
@@ -151,7 +151,7 @@ not_stored due stored none some = cc (none, some)
 
 -- a call that stores succeeds
 compile_succeeds : (p : Program) (object : List ℕ) (due : Due) (stored : Stored) → CompileOutcome p object due → due.stored ≡ Some stored → due.end ≡ Succeeded None
-compile_succeeds p object due stored (made code bytes size sound implements reads is e) s = ap (λ (d : Due). d.end) e
+compile_succeeds p object due stored (made code bytes size sound implements reads names is fits e) s = ap (λ (d : Due). d.end) e
 compile_succeeds p object due stored (past_size size e) s = absurd (not_stored due stored (ap (λ (d : Due). d.stored) e) s)
 
 source_succeeds : (source object : List ℕ) (due : Due) (stored : Stored) → SourceOutcome source (λ p. CompileOutcome p object) due → due.stored ≡ Some stored
@@ -242,8 +242,8 @@ moves_succeed words before after due stored m s = outcome_succeeds before.files.
 abbrev CourseOf : List (List ℕ) → Outside → Outside → End → Type 0
 CourseOf words before after end = Course (MovesOf words before after) before.files after.files before.out after.out end
 
-abbrev NoFetch : Outside → Outside → End → Type 0
-NoFetch before after end = FailsToFetch before.files after.files before.out after.out end × (after.input ≡ before.input)
+abbrev NoFetch : List (List ℕ) → Outside → Outside → End → Type 0
+NoFetch words before after end = FailsToFetch (AskToRead words) before.files after.files before.out after.out end × (after.input ≡ before.input)
 
 abbrev NoRead : List (List ℕ) → Outside → Outside → End → Type 0
 NoRead words before after end =
@@ -251,7 +251,7 @@ NoRead words before after end =
 
 -- the ways of a call
 data Ways (words : List (List ℕ)) (before after : Outside) (end : End) : Type 0 where
-  no_fetch : NoFetch before after end → Ways words before after end
+  no_fetch : NoFetch words before after end → Ways words before after end
   no_read : after.files.fetch_faults ≡ before.files.fetch_faults → NoRead words before after end → Ways words before after end
   works : after.files.fetch_faults ≡ before.files.fetch_faults → ReadsOnly (DueOf words before) before.input after.input → CourseOf words before after end
       → Ways words before after end
@@ -265,7 +265,7 @@ course_of words before after end (inr w) =
     stored_course (MovesOf words before after) (moves_succeed words before after) before.files after.files before.out after.out end w
 
 ways : (words : List (List ℕ)) (before after : Outside) (end : End)
-    → Performs (DueOf words before) before.files after.files before.input after.input before.out after.out end → Ways words before after end
+    → Performs (AskToRead words) (DueOf words before) before.files after.files before.input after.input before.out after.out end → Ways words before after end
 ways words before after end (inl p) = no_fetch p
 ways words before after end (inr p) = by p.1
   where
@@ -281,7 +281,7 @@ ReportOf words before after end status = Reports (file_of words) end before.err 
 -- at a read fault the file is missing, or a fetch or a read failed; nothing was written, and the files stay
 abbrev pub ReadFaultIs : List (List ℕ) → Outside → Outside → Type 0
 ReadFaultIs words before after =
-    (ReadFailed before after ⊎ Lacks words before.files.told) × Appends before.out.written after.out.written [] × FilesStay before.files after.files
+    (FetchFailed words before after ⊎ (InputFailed words before after ⊎ Lacks words before.files.told)) × Appends before.out.written after.out.written [] × FilesStay before.files after.files
 
 read_fault_of : (words : List (List ℕ)) (before after : Outside) (status : ℕ) → Answers words before after status → status ≡ 6 → ReadFaultIs words before after
 read_fault_of words before after status x e = by_parts (ways words before after x.end x.performed) x.reported where
@@ -290,13 +290,13 @@ read_fault_of words before after status x e = by_parts (ways words before after 
   by_course (hungry q g k s) r = cc (q, r)
   by_course (over n m due q o g s) r =
       let due_read = outcome_reads before.files.told before.input.left words due o.0 (q ∙ r) in
-      (inr due_read.0, subst (Appends before.out.written after.out.written) due_read.1 g.0, subst (Become before.files after.files) due_read.2 s)
+      (inr (inr due_read.0), subst (Appends before.out.written after.out.written) due_read.1 g.0, subst (Become before.files after.files) due_read.2 s)
   by_course (unstored q due stored o is g s) r = cc (q, r)
 
   by_parts : Ways words before after x.end → ReportOf words before after x.end status → ReadFaultIs words before after
   by_parts p (inr r) = absurd (omega (arith, e, r.0))
-  by_parts (no_fetch p) (inl r) = (inl (inl p.0.1.1), p.0.3.0, p.0.2)
-  by_parts (no_read f p) (inl r) = (inl (inr p.1.3.1), p.1.4.0, p.0)
+  by_parts (no_fetch p) (inl r) = (inl (p.0.1.1, p.0.4), p.0.3.0, p.0.2)
+  by_parts (no_read f p) (inl r) = (inr (inl (p.1.3.1, p.1.1)), p.1.4.0, p.0)
   by_parts (works f i p) (inl r) = by_course p (read_status x.end (sym r.0 ∙ e))
 
 write_fault_of : (words : List (List ℕ)) (before after : Outside) (status : ℕ) → Answers words before after status → status ≡ 7 → WriteFailed before after
@@ -381,6 +381,7 @@ abbrev pub IsWhole : List (List ℕ) → Outside → Outside → ℕ → Type 0
 IsWhole words before after status =
     (due : Due) × Outcome words before.files.told before.input.left due × (status ≡ status_of due.end) × Gains before.out after.out due.out
     × Gains before.err after.err (text_of (file_of words) due.end) × Become before.files after.files due.stored × Takes due.reads before.input after.input
+    × ReadsWhole due before.input after.input
 
 whole_of : (words : List (List ℕ)) (before after : Outside) (status : ℕ) → Answers words before after status
     → (status ≡ 6 → ⊥) → (status ≡ 7 → ⊥) → (status ≡ 8 → ⊥) → IsWhole words before after status
@@ -389,7 +390,7 @@ whole_of words before after status x no_six no_write no_want = by_parts (ways wo
   by_course (cut q due o f s) r t = absurd (no_write (r ∙ ap status_of q))
   by_course (hungry q g k s) r t = absurd (no_want (r ∙ ap status_of q))
   by_course (over n m due q o g s) r t =
-      (due, o.0, r ∙ ap status_of (sym q), g, subst (λ (end : End). Gains before.err after.err (text_of (file_of words) end)) (sym q) t, s, o.1)
+      (due, o.0, r ∙ ap status_of (sym q), g, subst (λ (end : End). Gains before.err after.err (text_of (file_of words) end)) (sym q) t, s, o.1, o.2)
   by_course (unstored q due stored o is g s) r t = absurd (no_write (r ∙ ap status_of q))
 
   by_parts : Ways words before after x.end → ReportOf words before after x.end status → IsWhole words before after status

@@ -28,14 +28,16 @@ use Rattle.alma_code.specs.Rules.{IsSound, code_fault}
 use Rattle.alma_code.specs.declared.step.VerifyFault.{VerifyFault}
 use Rattle.alma_object_format.specs.declared.fault.ObjectFault.{ObjectFault}
 use Rattle.alma_object.specs.Object.{IsObject, object_bytes}
+use Rattle.alma_object.specs.Fields.{FitsFields}
 use Rattle.alma_object.specs.Walk.{object_fault}
 use Rattle.alma_verify.specs.Bytes.{object_code}
 use Rattle.alma_lower.specs.declared.lowering.LowerError.{LowerError}
+use Rattle.alma_lower.specs.Names.{KeepsNames}
 use Rattle.alma_lower.specs.declared.lowering.LowerError.TheVariants as lower
 use Rattle.alma_lower_implements.specs.Implements.{Implements}
 use Rattle.alma_lower_sound.specs.Reads.{program_reads}
 use Rattle.alma_driver_words.specs.Words.{Request, Check, Compile, Listing, Run, Exec, Trace, Sample, Asks, Reads}
-use Rattle.alma_driver_outcome.specs.Words.{read_by, limit_of}
+use Rattle.alma_driver_outcome.specs.Words.{read_by, limit_of, IsReadBy}
 use Rattle.alma_driver_outcome.specs.Showing.{Showing, Prints}
 use Rattle.alma_driver_outcome.specs.Outside.{SinkSide, SourceSide, FilesSide, FilesStay}
 use Rattle.alma_base.specs.declared.place.Place.{Place}
@@ -43,8 +45,8 @@ use Rattle.alma_scan.specs.Places.{line_at, column_at}
 use Rattle.alma_driver_outcome.specs.Refusal.{IsRefused, IsProgramOf, place_of}
 use Rattle.alma_driver_outcome.specs.declared.fault.SourceFault.{SourceFault}
 use Rattle.alma_driver_outcome.specs.Ends.{lower_end, words_end, fetch_end, store_end, input_end}
-use Rattle.alma_driver_outcome.specs.Outcome.{Due, Stored, due_of, silent, storing, code_due, long_input, MayBeLeft, InputOutcome, unread, taken, past_input, size_of, ProgramOutcome, ran, too_much_code, CompileOutcome, made, past_size, IsSourceEnd, refused, IsStop, SourceOutcome, stopped, compiled, CheckOutcome, ListOutcome, listed, no_object, CodeOutcome, executed, unsound, ExecOutcome, opened, unopened, FileOutcome, SampleOutcome, summed, RequestOutcome, absent, past_limit, fetched, unfetched, Outcome, bad_word, asks}
-use Rattle.alma_driver_outcome.specs.Course.{Gains, GainsPrefix, Goes, OthersStay, Keeps, done, failed, Works, Takes, Moves, MayRead, ReadsOnly, FailsToRead, Runs, Serves, Performs}
+use Rattle.alma_driver_outcome.specs.Outcome.{Due, Stored, due_of, silent, storing, code_due, long_input, MayBeLeft, InputOutcome, unread, taken, past_input, size_of, ProgramOutcome, ran, too_much_code, CompileOutcome, made, past_size, IsSourceEnd, refused, IsStop, SourceOutcome, stopped, compiled, CheckOutcome, ListOutcome, listed, no_object, CodeOutcome, executed, unsound, ExecOutcome, opened, unopened, FileOutcome, SampleOutcome, summed, RequestOutcome, absent, past_limit, fetched, unfetched, Outcome, bad_word, asks, AskToRead}
+use Rattle.alma_driver_outcome.specs.Course.{Gains, GainsPrefix, Goes, OthersStay, Keeps, done, failed, Works, Takes, ReadsWhole, Moves, MayRead, ReadsOnly, FailsToRead, Runs, Serves, Performs}
 use Rattle.alma_driver_words.specs.declared.words.WordsError.{WordsError}
 use Rattle.alma_driver_words.specs.declared.words.WordsError.TheVariants as words
 use Rattle.alma_driver_outcome.specs.declared.end.End.{End}
@@ -84,9 +86,21 @@ goes_starved P a = (inl (appends_none a.written), refl)
 takes_none : (due : Due) (i : SourceSide) → due.reads ≡ false → Takes due.reads i i
 takes_none due i e = subst (λ (r : Bool). Takes r i i) (sym e) refl
 
+-- and nothing is said of its end
+whole_none : (due : Due) (i : SourceSide) → due.reads ≡ false → ReadsWhole due i i
+whole_none due i e = λ reads long. absurd (cc (e, reads))
+
+-- what is due leaves the input
+moves_none : (P : Due → Type 0) (i : SourceSide) (due : Due) → P due → due.reads ≡ false → Moves P i i due
+moves_none P i due o e = (o, takes_none due i e, whole_none due i e)
+
+-- as an end without a print does
+moves_silent : (P : Due → Type 0) (i : SourceSide) (end : End) → P (silent end) → Moves P i i (silent end)
+moves_silent P i end o = moves_none P i (silent end) o refl
+
 -- a call that leaves the input
 pub runs_still : (P : Due → Type 0) → ((due : Due) → P due → due.reads ≡ false) → (i : SourceSide) (a b : SinkSide) (end : End) → Goes P a b end → Runs P i i a b end
-runs_still P none i a b end g = inr (inl refl, goes_map P (Moves P i i) (λ due o. (o, takes_none due i (none due o))) a b end g)
+runs_still P none i a b end g = inr (inl refl, goes_map P (Moves P i i) (λ due o. moves_none P i due o (none due o)) a b end g)
 
 -- memory was wanted before the input was read
 pub runs_starved : (P : Due → Type 0) (i : SourceSide) (a : SinkSide) → Runs P i i a a Memory
@@ -104,7 +118,7 @@ reads_map P Q f i j (inl e) = inl e
 reads_map P Q f i j (inr h) = inr (may_read_map P Q f h.0, h.1)
 
 moves_map : (P Q : Due → Type 0) → ((due : Due) → P due → Q due) → (i j : SourceSide) (due : Due) → Moves P i j due → Moves Q i j due
-moves_map P Q f i j due m = (f due m.0, m.1)
+moves_map P Q f i j due m = (f due m.0, m.1, m.2)
 
 -- a run inside another
 pub runs_map : (P Q : Due → Type 0) → ((due : Due) → P due → Q due) → (i j : SourceSide) (a b : SinkSide) (end : End) → Runs P i j a b end → Runs Q i j a b end
@@ -118,7 +132,7 @@ runs_unread code steps showing i a b end quiet g =
     inr (
       inl refl,
       goes_map (IsDue code [] steps showing) (Moves (InputOutcome i.left code steps showing) i i)
-          (λ due e. (unread quiet e, takes_none due i (ap (λ (d : Due). d.reads) e ∙ quiet))) a b end g,
+          (λ due e. moves_none (InputOutcome i.left code steps showing) i due (unread quiet e) (ap (λ (d : Due). d.reads) e ∙ quiet)) a b end g,
     )
 
 -- what is read to the end is what was left
@@ -146,7 +160,11 @@ runs_taken code steps showing i j bytes a b end q c e short same g =
     inr (
       inr (reading_due i.left code steps showing q, (loses, same)),
       goes_map (IsDue code bytes steps showing) (Moves (InputOutcome i.left code steps showing) i j)
-          (λ due d. (taken bytes q left short d, subst (λ (r : Bool). Takes r i j) (sym (ap (λ (x : Due). x.reads) d ∙ q)) (loses, same))) a b end g,
+          (λ due d. (
+            taken bytes q left short d,
+            subst (λ (r : Bool). Takes r i j) (sym (ap (λ (x : Due). x.reads) d ∙ q)) (loses, same),
+            λ reads long. (bytes, c, e),
+          )) a b end g,
     )
 
 -- what reading the input answers where it gives no bytes
@@ -160,7 +178,7 @@ pub runs_lost : (code : PlainCode) (steps : ℕ) (showing : Showing) (i j : Sour
 runs_lost code steps showing i j reading.Fault a q loses cause more =
     inl (refl, reading_due i.left code steps showing q, loses, (cause.0, cause.1), gains_none a)
 runs_lost code steps showing i j reading.TooLong a q loses cause more =
-    inr (inr (reading_due i.left code steps showing q, (loses, cause)), (long_input, refl, (past_input q (more refl) refl, (loses, cause)), gains_none a))
+    inr (inr (reading_due i.left code steps showing q, (loses, cause)), (long_input, refl, (past_input q (more refl) refl, (loses, cause), λ reads long. absurd (long refl)), gains_none a))
 runs_lost code steps showing i j reading.Memory a q loses cause more =
     inr (inr (reading_due i.left code steps showing q, (loses, cause)), goes_starved (Moves (InputOutcome i.left code steps showing) i j) a)
 
@@ -181,7 +199,7 @@ stop_refused source fault offset place h line column =
 runs_source_end : (source : List ℕ) (P : Program → Due → Type 0) (i : SourceSide) (a : SinkSide) (end : End) → IsSourceEnd source end → Runs (SourceOutcome source P) i i a a end
 runs_source_end source P i a end (refused fault offset h e) =
     subst (Runs (SourceOutcome source P) i i a a) (sym e)
-    (inr (inl refl, (silent (Refused fault (place_of source offset)), refl, (stopped (Refused fault (place_of source offset)) (refused fault offset h refl) refl, refl), gains_none a)))
+    (inr (inl refl, (silent (Refused fault (place_of source offset)), refl, moves_silent (SourceOutcome source P) i (Refused fault (place_of source offset)) (stopped (Refused fault (place_of source offset)) (refused fault offset h refl) refl), gains_none a)))
 
 pub runs_stopped : (source : List ℕ) (P : Program → Due → Type 0) (i : SourceSide) (a : SinkSide) (end : End) → IsStop source end → Runs (SourceOutcome source P) i i a a end
 runs_stopped source P i a end (inl e) = subst (Runs (SourceOutcome source P) i i a a) (sym e) (runs_starved (SourceOutcome source P) i a)
@@ -223,7 +241,7 @@ pub runs_refused : (p : Program) (steps : ℕ) (showing : Showing) (error : Lowe
     → Runs (ProgramOutcome i.left p steps showing) i i a a (lower_end error)
 runs_refused p steps showing error i a (large past e) =
     subst (Runs (ProgramOutcome i.left p steps showing) i i a a) (sym e)
-    (inr (inl refl, (silent (TooMuchCode (size_of p)), refl, (too_much_code past refl, refl), gains_none a)))
+    (inr (inl refl, (silent (TooMuchCode (size_of p)), refl, moves_silent (ProgramOutcome i.left p steps showing) i (TooMuchCode (size_of p)) (too_much_code past refl), gains_none a)))
 runs_refused p steps showing error i a (starved e) =
     subst (Runs (ProgramOutcome i.left p steps showing) i i a a) (sym e) (runs_starved (ProgramOutcome i.left p steps showing) i a)
 
@@ -238,9 +256,9 @@ compiled_within p code too_much = by (cases_lt size_limit (size_of p))
 
 -- a program that was compiled and run
 pub runs_compiled : (p : Program) (code : PlainCode) (steps : ℕ) (showing : Showing) (i j : SourceSide) (a b : SinkSide) (end : End) → IsSound code → Implements code p
-    → code_reads code ≡ program_reads p → size_of p ≤ size_limit → Runs (InputOutcome i.left code steps showing) i j a b end → Runs (ProgramOutcome i.left p steps showing) i j a b end
-runs_compiled p code steps showing i j a b end sound implements reads within g =
-    runs_map (InputOutcome i.left code steps showing) (ProgramOutcome i.left p steps showing) (λ due o. ran code within sound implements reads o) i j a b end g
+    → code_reads code ≡ program_reads p → KeepsNames code p → size_of p ≤ size_limit → Runs (InputOutcome i.left code steps showing) i j a b end → Runs (ProgramOutcome i.left p steps showing) i j a b end
+runs_compiled p code steps showing i j a b end sound implements reads names within g =
+    runs_map (InputOutcome i.left code steps showing) (ProgramOutcome i.left p steps showing) (λ due o. ran code within sound implements reads names o) i j a b end g
 
 -- ---- listing
 
@@ -279,7 +297,7 @@ runs_executed code steps stats i j a b end clean g =
 -- code that is not sound
 pub runs_unsound : (code : PlainCode) (steps : ℕ) (stats : Bool) (fault : VerifyFault) (i : SourceSide) (a : SinkSide) → code_fault code ≡ Some fault
     → Runs (CodeOutcome i.left code steps stats) i i a a (BadCode fault)
-runs_unsound code steps stats fault i a is = inr (inl refl, (silent (BadCode fault), refl, (unsound fault is refl, refl), gains_none a))
+runs_unsound code steps stats fault i a is = inr (inl refl, (silent (BadCode fault), refl, moves_silent (CodeOutcome i.left code steps stats) i (BadCode fault) (unsound fault is refl), gains_none a))
 
 -- an object whose code was run
 pub runs_opened : (bytes : List ℕ) (code : PlainCode) (steps : ℕ) (stats : Bool) (i j : SourceSide) (a b : SinkSide) (end : End) → object_fault bytes ≡ None
@@ -291,7 +309,7 @@ runs_opened bytes code steps stats i j a b end clean same g =
 -- bytes that are none
 pub runs_unopened : (bytes : List ℕ) (steps : ℕ) (stats : Bool) (fault : ObjectFault) (i : SourceSide) (a : SinkSide) → object_fault bytes ≡ Some fault
     → Runs (ExecOutcome i.left bytes steps stats) i i a a (BadObject fault)
-runs_unopened bytes steps stats fault i a is = inr (inl refl, (silent (BadObject fault), refl, (unopened fault is refl, refl), gains_none a))
+runs_unopened bytes steps stats fault i a is = inr (inl refl, (silent (BadObject fault), refl, moves_silent (ExecOutcome i.left bytes steps stats) i (BadObject fault) (unopened fault is refl), gains_none a))
 
 -- running code on an input that is told comes to one outcome
 one_input : (input : List ℕ) (code : PlainCode) (steps : ℕ) (showing : Showing) (first second : Due) → InputOutcome (Some input) code steps showing first
@@ -379,11 +397,11 @@ works_after P f m f' a b end s (inr (failed due stored o is gains fails e)) =
 
 -- a program that was compiled and stored
 pub works_compiled : (p : Program) (code : PlainCode) (object : List ℕ) (f f' : FilesSide) (a : SinkSide) (end : End) → IsSound code → Implements code p
-    → code_reads code ≡ program_reads p → KeepsVersion code → KeepsCounts code → KeepsRecords code → size_of p ≤ size_limit
+    → code_reads code ≡ program_reads p → KeepsNames code p → KeepsVersion code → KeepsCounts code → KeepsRecords code → FitsFields code → size_of p ≤ size_limit
     → Works (IsStoring object (object_bytes code)) f f' a a end → Works (CompileOutcome p object) f f' a a end
-works_compiled p code object f f' a end sound implements reads version counts records within w =
+works_compiled p code object f f' a end sound implements reads names version counts records fits within w =
     let is : IsObject code (object_bytes code) = record { version = version; counts = counts; records = records; table = sound.table; spelled = refl } in
-    works_map (IsStoring object (object_bytes code)) (CompileOutcome p object) (λ due e. made code (object_bytes code) within sound implements reads is e) f f' a a end w
+    works_map (IsStoring object (object_bytes code)) (CompileOutcome p object) (λ due e. made code (object_bytes code) within sound implements reads names is fits e) f f' a a end w
 
 -- a program that was not compiled is not stored
 pub works_refused : (p : Program) (object : List ℕ) (error : LowerError) (f : FilesSide) (a : SinkSide) → IsUnlowered p error
@@ -414,7 +432,7 @@ serves_run P none f i j a b end (inr h) =
 -- a course that leaves the input
 pub serves_still : (P : Due → Type 0) → ((due : Due) → P due → due.reads ≡ false) → (f f' : FilesSide) (i : SourceSide) (a b : SinkSide) (end : End)
     → Works P f f' a b end → Serves P f f' i i a b end
-serves_still P none f f' i a b end w = inr (inl refl, works_map P (Moves P i i) (λ due o. (o, takes_none due i (none due o))) f f' a b end w)
+serves_still P none f f' i a b end w = inr (inl refl, works_map P (Moves P i i) (λ due o. moves_none P i due o (none due o)) f f' a b end w)
 
 input_keeps : (left : Option (List ℕ)) (code : PlainCode) (steps : ℕ) (showing : Showing) (due : Due) → InputOutcome left code steps showing due → due.stored ≡ None
 input_keeps left code steps showing due (unread q e) = ap (λ (d : Due). d.stored) e
@@ -422,7 +440,7 @@ input_keeps left code steps showing due (taken bytes q l s e) = ap (λ (d : Due)
 input_keeps left code steps showing due (past_input q m e) = ap (λ (d : Due). d.stored) e
 
 program_keeps : (left : Option (List ℕ)) (p : Program) (steps : ℕ) (showing : Showing) (due : Due) → ProgramOutcome left p steps showing due → due.stored ≡ None
-program_keeps left p steps showing due (ran code size sound implements reads o) = input_keeps left code steps showing due o
+program_keeps left p steps showing due (ran code size sound implements reads names o) = input_keeps left code steps showing due o
 program_keeps left p steps showing due (too_much_code size e) = ap (λ (d : Due). d.stored) e
 
 pub run_keeps : (left : Option (List ℕ)) (source : List ℕ) (steps : ℕ) (showing : Showing) (due : Due) → SourceOutcome source (λ p. ProgramOutcome left p steps showing) due
@@ -439,7 +457,7 @@ list_still bytes due (listed clean is e) = ap (λ (d : Due). d.reads) e
 list_still bytes due (no_object fault is e) = ap (λ (d : Due). d.reads) e
 
 program_still : (p : Program) (object : List ℕ) (due : Due) → CompileOutcome p object due → due.reads ≡ false
-program_still p object due (made code bytes size sound implements reads is e) = ap (λ (d : Due). d.reads) e
+program_still p object due (made code bytes size sound implements reads names is fits e) = ap (λ (d : Due). d.reads) e
 program_still p object due (past_size size e) = ap (λ (d : Due). d.reads) e
 
 compile_still : (source object : List ℕ) (due : Due) → SourceOutcome source (λ p. CompileOutcome p object) due → due.reads ≡ false
@@ -549,12 +567,13 @@ serves_silent P f f' i a end s g = inr (inl refl, inl (s, g))
 
 -- a file that was not fetched
 pub performs_unfetched : (f f' : FilesSide) (r : Request) (name : List ℕ) (fault : Fetch) (i : SourceSide) (a : SinkSide) → read_by r ≡ Some name → FilesStay f f'
-    → IsFetched (f.told name) (limit_of r) f.fetch_faults f'.fetch_faults (Err fault) → Performs (RequestOutcome f.told i.left r) f f' i i a a (fetch_end fault)
+    → IsFetched (f.told name) (limit_of r) f.fetch_faults f'.fetch_faults (Err fault)
+    → Performs (IsReadBy r) (RequestOutcome f.told i.left r) f f' i i a a (fetch_end fault)
 performs_unfetched f f' r name fetch.Absent i a is s h =
-    inr (h.1, serves_silent (RequestOutcome f.told i.left r) f f' i a ReadFault s (silent ReadFault, refl, ((absent name is h.0 refl, refl), refl), gains_none a))
-performs_unfetched f f' r name fetch.Failed i a is s h = inl ((refl, (h.0, h.1), s, gains_none a), refl)
+    inr (h.1, serves_silent (RequestOutcome f.told i.left r) f f' i a ReadFault s (silent ReadFault, refl, (moves_silent (RequestOutcome f.told i.left r) i ReadFault (absent name is h.0 refl), refl), gains_none a))
+performs_unfetched f f' r name fetch.Failed i a is s h = inl ((refl, (h.0, h.1), s, gains_none a, (name, is)), refl)
 performs_unfetched f f' r name fetch.TooLong i a is s h =
-    inr (h.1, serves_silent (RequestOutcome f.told i.left r) f f' i a TooLong s (silent TooLong, refl, ((past_limit name is h.0 refl, refl), refl), gains_none a))
+    inr (h.1, serves_silent (RequestOutcome f.told i.left r) f f' i a TooLong s (silent TooLong, refl, (moves_silent (RequestOutcome f.told i.left r) i TooLong (past_limit name is h.0 refl), refl), gains_none a))
 performs_unfetched f f' r name fetch.Memory i a is s h =
     inr (h, serves_silent (RequestOutcome f.told i.left r) f f' i a Memory s (goes_starved (Keeps (Moves (RequestOutcome f.told i.left r) i i)) a))
 
@@ -573,7 +592,7 @@ serves_after P f m f' i j a b end s (inr h) = inr (h.0, works_after (Moves P i j
 -- a file that was fetched
 pub performs_fetched : (f m f' : FilesSide) (r : Request) (name bytes : List ℕ) (i j : SourceSide) (a b : SinkSide) (end : End) → read_by r ≡ Some name → FilesStay f m
     → MayHave (f.told name) bytes → length bytes ≤ limit_of r → m.fetch_faults ≡ f.fetch_faults → f'.fetch_faults ≡ m.fetch_faults
-    → Serves (FileOutcome i.left r bytes) m f' i j a b end → Performs (RequestOutcome f.told i.left r) f f' i j a b end
+    → Serves (FileOutcome i.left r bytes) m f' i j a b end → Performs (IsReadBy r) (RequestOutcome f.told i.left r) f f' i j a b end
 performs_fetched f m f' r name bytes i j a b end is s has short q q' w =
     inr (
       q' ∙ q,
@@ -583,21 +602,24 @@ performs_fetched f m f' r name bytes i j a b end is s has short q q' w =
 
 -- a request that reads no file
 pub performs_alone : (f f' : FilesSide) (r : Request) (i j : SourceSide) (a b : SinkSide) (end : End) → read_by r ≡ None → f'.fetch_faults ≡ f.fetch_faults
-    → Serves (FileOutcome i.left r []) f f' i j a b end → Performs (RequestOutcome f.told i.left r) f f' i j a b end
+    → Serves (FileOutcome i.left r []) f f' i j a b end → Performs (IsReadBy r) (RequestOutcome f.told i.left r) f f' i j a b end
 performs_alone f f' r i j a b end is q w =
     inr (q, serves_map (FileOutcome i.left r []) (RequestOutcome f.told i.left r) (λ due o. unfetched is o) f f' i j a b end w)
 
 -- words that are no request
 pub performs_bad : (words : List (List ℕ)) (f : FilesSide) (error : WordsError) (i : SourceSide) (a : SinkSide)
-    → Reads words (Err error) → Performs (Outcome words f.told i.left) f f i i a a (words_end error)
+    → Reads words (Err error) → Performs (AskToRead words) (Outcome words f.told i.left) f f i i a a (words_end error)
 performs_bad ws f (words.Bad k) i a h =
-    inr (refl, serves_silent (Outcome ws f.told i.left) f f i a (BadWord k) (files_same f) (silent (BadWord k), refl, ((bad_word k h refl, refl), refl), gains_none a))
+    inr (refl, serves_silent (Outcome ws f.told i.left) f f i a (BadWord k) (files_same f) (silent (BadWord k), refl, (moves_silent (Outcome ws f.told i.left) i (BadWord k) (bad_word k h refl), refl), gains_none a))
 performs_bad ws f words.Memory i a h =
     inr (refl, serves_silent (Outcome ws f.told i.left) f f i a Memory (files_same f) (goes_starved (Keeps (Moves (Outcome ws f.told i.left) i i)) a))
 
 -- words that are a request
 pub performs_asked : (words : List (List ℕ)) (request : Request) (f f' : FilesSide) (i j : SourceSide) (a b : SinkSide) (end : End)
-    → Asks words request → Performs (RequestOutcome f.told i.left request) f f' i j a b end → Performs (Outcome words f.told i.left) f f' i j a b end
-performs_asked words request f f' i j a b end h (inl p) = inl p
+    → Asks words request → Performs (IsReadBy request) (RequestOutcome f.told i.left request) f f' i j a b end
+    → Performs (AskToRead words) (Outcome words f.told i.left) f f' i j a b end
+performs_asked words request f f' i j a b end h (inl p) =
+    let fetch = p.0 in
+    inl ((fetch.0, fetch.1, fetch.2, fetch.3, (fetch.4.0, (request, h, fetch.4.1))), p.1)
 performs_asked words request f f' i j a b end h (inr p) =
     inr (p.0, serves_map (RequestOutcome f.told i.left request) (Outcome words f.told i.left) (λ due o. asks request h o) f f' i j a b end p.1)

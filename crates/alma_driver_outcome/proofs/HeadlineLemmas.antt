@@ -22,7 +22,7 @@ use Rattle.alma_driver_outcome.specs.Ends.{status_of, text_of, ended_end, counts
 use Rattle.alma_driver_outcome.specs.Refusal.{IsProgramOf, place_of}
 use Rattle.alma_driver_outcome.specs.Outcome.{Due, silent, size_of, code_due, InputOutcome, unread, taken, past_input, ProgramOutcome, ran, too_much_code, MayRunOut, MeansOn, whole, front, IsSourceEnd, refused, SourceOutcome, stopped, compiled, RequestOutcome, absent, past_limit, fetched, unfetched, Outcome, bad_word, asks, Lacks}
 use Rattle.alma_driver_outcome.specs.Course.{Gains}
-use Rattle.alma_driver_outcome.specs.Causes.{Causes, ReadFailed}
+use Rattle.alma_driver_outcome.specs.Causes.{Causes, FetchFailed, InputFailed}
 use Rattle.alma_driver_outcome.specs.Headline.{AsksToRun, IsUndisturbed, Shows, ShowsResult, RunEnds, refuses, too_large, ended, ran_out, meant_status, meant_text}
 use Rattle.alma_driver_outcome.specs.declared.end.Counts.{Counts}
 use Rattle.alma_driver_outcome.specs.declared.end.End.{End}
@@ -49,7 +49,7 @@ run_means input p code steps stats due short implements (past_input q more e) = 
 
 told_means : (input : List ℕ) (p : Program) (steps : ℕ) (stats : Bool) (due : Due) → length input ≤ input_limit
     → ProgramOutcome (Some input) p steps (Prints stats) due → ToldMeans input p steps stats due
-told_means input p steps stats due short (ran code size sound implements reads o) = small size (run_means input p code steps stats due short implements o)
+told_means input p steps stats due short (ran code size sound implements reads names o) = small size (run_means input p code steps stats due short implements o)
 told_means input p steps stats due short (too_much_code size e) = large size e
 
 -- ---- what a call shows
@@ -151,7 +151,7 @@ source_run told name source steps stats left due has short (fetched n bytes is m
 source_run told name source steps stats left due has short (unfetched is o) = cc is
 
 -- the outcome of words that ask for it
-words_run : (words : List (List ℕ)) (before : Outside) (source input : List ℕ) (steps : ℕ) (stats : Bool) (due : Due) → AsksToRun words before source input steps stats
+pub words_run : (words : List (List ℕ)) (before : Outside) (source input : List ℕ) (steps : ℕ) (stats : Bool) (due : Due) → AsksToRun words before source input steps stats
     → Outcome words before.files.told before.input.left due → SourceOutcome source (λ p. ProgramOutcome (Some input) p steps (Prints stats)) due
 words_run words before source input steps stats due a (bad_word k bad e) = absurd (bad.none (Run a.name steps stats) a.asks)
 words_run words before source input steps stats due a (asks r h o) =
@@ -174,9 +174,11 @@ not_lacking words before source input steps stats a l =
 
 -- nothing that reads failed
 nothing_unread : (words : List (List ℕ)) (source input : List ℕ) (steps : ℕ) (stats : Bool) (before after : Outside) (status : ℕ)
-    → AsksToRun words before source input steps stats → IsUndisturbed before after status → ReadFailed before after ⊎ Lacks words before.files.told → ⊥
-nothing_unread words source input steps stats before after status a u (inl failed) = u.no_read_failed failed
-nothing_unread words source input steps stats before after status a u (inr lacks) = not_lacking words before source input steps stats a lacks
+    → AsksToRun words before source input steps stats → IsUndisturbed before after status
+    → FetchFailed words before after ⊎ (InputFailed words before after ⊎ Lacks words before.files.told) → ⊥
+nothing_unread words source input steps stats before after status a u (inl failed) = u.no_read_failed (inl failed.0)
+nothing_unread words source input steps stats before after status a u (inr (inl failed)) = u.no_read_failed (inr failed.0)
+nothing_unread words source input steps stats before after status a u (inr (inr lacks)) = not_lacking words before source input steps stats a lacks
 
 -- what a run shows where all that is due came
 ends_whole : (words : List (List ℕ)) (source input : List ℕ) (steps : ℕ) (stats : Bool) (before after : Outside) (status : ℕ)
@@ -185,13 +187,19 @@ ends_whole words source input steps stats before after status a w =
     ends_of words source input steps stats before after status w.0 a.input_short (record { status_is = w.2; out = w.3; err = w.4 })
     (words_run words before source input steps stats w.0 a w.1)
 
+-- all that is due from a run came where nothing failed
+pub whole_run : (words : List (List ℕ)) (source input : List ℕ) (steps : ℕ) (stats : Bool) (before after : Outside) (status : ℕ)
+    → AsksToRun words before source input steps stats → Causes words before after status → IsUndisturbed before after status
+    → IsWhole words before after status
+whole_run words source input steps stats before after status a c u =
+    c.whole (λ e. nothing_unread words source input steps stats before after status a u (c.read_fault e)) (λ e. u.no_write_failed (c.write_fault e)) u.memory
+
 -- what a run shows where nothing failed
 pub run_ends : (words : List (List ℕ)) (source input : List ℕ) (steps : ℕ) (stats : Bool) (before after : Outside) (status : ℕ)
     → AsksToRun words before source input steps stats → Causes words before after status → IsUndisturbed before after status
     → RunEnds words source input steps stats before after status
 run_ends words source input steps stats before after status a c u =
-    ends_whole words source input steps stats before after status a
-    (c.whole (λ e. nothing_unread words source input steps stats before after status a u (c.read_fault e)) (λ e. u.no_write_failed (c.write_fault e)) u.memory)
+    ends_whole words source input steps stats before after status a (whole_run words source input steps stats before after status a c u)
 
 -- ---- enough steps
 

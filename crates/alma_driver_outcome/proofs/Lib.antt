@@ -4,4 +4,7 @@ pub mod RunLemmas
 pub mod CauseLemmas
 pub mod Unread
 pub mod HeadlineLemmas
+pub mod InputLemmas
+pub mod StoredLemmas
+pub mod VariableLemmas
 pub mod ReportLemmas

@@ -189,5 +189,5 @@ input_means left p code steps stats due size implements (past_input q more e) = 
 
 -- what a run of a program comes to is what the program means
 pub outcome_means : (left : Option (List ℕ)) (p : Program) (steps : ℕ) (stats : Bool) (due : Due) → ProgramOutcome left p steps (Prints stats) due → Meant left p steps stats due
-outcome_means left p steps stats due (ran code size sound implements reads o) = input_means left p code steps stats due size implements o
+outcome_means left p steps stats due (ran code size sound implements reads names o) = input_means left p code steps stats due size implements o
 outcome_means left p steps stats due (too_much_code size e) = too_large size e

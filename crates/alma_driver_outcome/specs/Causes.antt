@@ -5,8 +5,8 @@ use Rattle.alma_io.specs.Causes.{Rose}
 use Rattle.alma_driver_words.specs.Words.{file_of}
 use Rattle.alma_driver_outcome.specs.Outside.{FilesSide, FilesStay, Outside}
 use Rattle.alma_driver_outcome.specs.Ends.{status_of, text_of}
-use Rattle.alma_driver_outcome.specs.Outcome.{Due, Stored, Outcome, Lacks}
-use Rattle.alma_driver_outcome.specs.Course.{Gains, GainsPrefix, HasStored, OthersStay, Takes, MayRead}
+use Rattle.alma_driver_outcome.specs.Outcome.{Due, Stored, Outcome, AskToRead, Lacks}
+use Rattle.alma_driver_outcome.specs.Course.{Gains, GainsPrefix, HasStored, OthersStay, Takes, ReadsWhole, MayRead, ReadsFile}
 
 -- a write or a store failed in the call
 abbrev pub WriteFailed : Outside → Outside → Type 0
@@ -21,6 +21,15 @@ WritesGrew before after =
 -- a fetch or a read of the input failed in the call
 abbrev pub ReadFailed : Outside → Outside → Type 0
 ReadFailed before after = Rose before.files.fetch_faults after.files.fetch_faults ⊎ Rose before.input.faults after.input.faults
+
+-- a fetch failed in the call, and the words ask to read a file
+abbrev pub FetchFailed : (words : List (List ℕ)) → Outside → Outside → Type 0
+FetchFailed words before after = Rose before.files.fetch_faults after.files.fetch_faults × ReadsFile (AskToRead words)
+
+-- a read of the input failed in the call, and what the words ask may read it
+abbrev pub InputFailed : (words : List (List ℕ)) → Outside → Outside → Type 0
+InputFailed words before after =
+    Rose before.input.faults after.input.faults × MayRead (Outcome words before.files.told before.input.left)
 
 -- a count of failed fetches or reads is greater now
 abbrev pub ReadsGrew : Outside → Outside → Type 0
@@ -37,8 +46,9 @@ IsStoredName outcome name = (due : Due) × (stored : Stored) × outcome due × (
 
 -- What each status says of the call, and what a call shows that met a fault.
 pub record Causes (words : List (List ℕ)) (before after : Outside) (status : ℕ) : Type 0 where
-  -- a read fault comes only where a fetch or a read of the input failed, or where the file is told to be missing
-  pub read_fault : status ≡ 6 → ReadFailed before after ⊎ Lacks words before.files.told
+  -- a read fault comes only where a fetch failed and the words ask to read a file, where a read of the input failed that what they
+  -- ask may read, or where their file is told to be missing
+  pub read_fault : status ≡ 6 → FetchFailed words before after ⊎ (InputFailed words before after ⊎ Lacks words before.files.told)
   -- at a read fault nothing was written to out
   pub nothing : status ≡ 6 → Appends before.out.written after.out.written []
   -- a write fault comes only where a write or a store failed
@@ -54,7 +64,7 @@ pub record Causes (words : List (List ℕ)) (before after : Outside) (status : �
   pub whole : (status ≡ 6 → ⊥) → (status ≡ 7 → ⊥) → (status ≡ 8 → ⊥)
       → (due : Due) × Outcome words before.files.told before.input.left due × (status ≡ status_of due.end)
       × Gains before.out after.out due.out × Gains before.err after.err (text_of (file_of words) due.end)
-      × Become before.files after.files due.stored × Takes due.reads before.input after.input
+      × Become before.files after.files due.stored × Takes due.reads before.input after.input × ReadsWhole due before.input after.input
   -- a failed write or store is not hidden: write fault, or want of memory
   pub writes_shown : WritesGrew before after → (status ≡ 7) ⊎ (status ≡ 8)
   -- nor a failed fetch or read, where no write failed: read fault, or want of memory

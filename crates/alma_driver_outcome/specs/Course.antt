@@ -1,16 +1,16 @@
 -- How a call that comes to an outcome may go: to its end, or into a fault or want of memory.
 use Rattle.std.specs.Prelude.{◌≡◌, ◌≢◌, ◌⊎◌, ◌+◌, Bool, true, false, List, ℕ, [], None, Some}
 use Rattle.alma_base.specs.Limits.{input_limit}
-use Rattle.std.specs.Io.KnownBytes.{Appends}
+use Rattle.std.specs.Io.KnownBytes.{Appends, Consumes, IsAtEnd}
 use Rattle.alma_io.specs.Files.{NowHas}
 use Rattle.alma_io.specs.Fronts.{AppendsFront}
 use Rattle.alma_io.specs.Whole.{LosesAtMost}
 use Rattle.alma_driver_words.specs.Words.{file_of}
 use Rattle.alma_driver_outcome.specs.Outside.{SinkSide, SourceSide, FilesSide, Outside, HasRisen, FilesStay}
 use Rattle.alma_driver_outcome.specs.Ends.{status_of, text_of}
-use Rattle.alma_driver_outcome.specs.Outcome.{Due, Stored, Outcome}
+use Rattle.alma_driver_outcome.specs.Outcome.{Due, Stored, Outcome, AskToRead}
 use Rattle.alma_driver_outcome.specs.declared.end.End.{End}
-use Rattle.alma_driver_outcome.specs.declared.end.End.TheVariants.{ReadFault, WriteFault, Memory}
+use Rattle.alma_driver_outcome.specs.declared.end.End.TheVariants.{ReadFault, WriteFault, Memory, TooLong}
 
 -- ---- the outputs
 
@@ -40,9 +40,17 @@ abbrev pub Takes : (reads : Bool) → SourceSide → SourceSide → Type 0
 Takes false old new = new ≡ old
 Takes true old new = LosesAtMost old.left new.left (input_limit + 1) × (new.faults ≡ old.faults)
 
--- what is due is this, and the input is read where it says so
+-- all that was left was read, up to the end
+abbrev pub IsReadWhole : SourceSide → SourceSide → Type 0
+IsReadWhole old new = (bytes : List ℕ) × Consumes old.left new.left bytes × IsAtEnd new.left
+
+-- where what is due reads the input, and does not find it too long, the input is read whole
+abbrev pub ReadsWhole : Due → SourceSide → SourceSide → Type 0
+ReadsWhole due old new = due.reads ≡ true → due.end ≢ TooLong → IsReadWhole old new
+
+-- what is due is this, and the input is read where it says so, up to its end where it is not too long
 abbrev pub Moves : (Due → Type 0) → SourceSide → SourceSide → Due → Type 0
-Moves outcome input input' due = outcome due × Takes due.reads input input'
+Moves outcome input input' due = outcome due × Takes due.reads input input' × ReadsWhole due input input'
 
 -- an outcome reads the input
 abbrev pub MayRead : (Due → Type 0) → Type 0
@@ -95,10 +103,14 @@ Works outcome files files' out out' end = (FilesStay files files' × Goes (Keeps
 
 -- ---- the call
 
--- the fetch of the file failed; nothing was written, and the files stay
-abbrev pub FailsToFetch : FilesSide → FilesSide → SinkSide → SinkSide → End → Type 0
-FailsToFetch files files' out out' end =
-    (end ≡ ReadFault) × HasRisen files.fetch_faults files'.fetch_faults × FilesStay files files' × Gains out out' []
+-- there is a file that is to be read
+abbrev pub ReadsFile : (to_read : List ℕ → Type 0) → Type 0
+ReadsFile to_read = (name : List ℕ) × to_read name
+
+-- there is a file that is to be read, and a fetch failed; nothing was written, and the files stay
+abbrev pub FailsToFetch : (to_read : List ℕ → Type 0) → FilesSide → FilesSide → SinkSide → SinkSide → End → Type 0
+FailsToFetch to_read files files' out out' end =
+    (end ≡ ReadFault) × HasRisen files.fetch_faults files'.fetch_faults × FilesStay files files' × Gains out out' [] × ReadsFile to_read
 
 -- How a call may come to this end where no fetch failed: the input failed, and the files stay; or it did not.
 abbrev pub Serves : (Due → Type 0) → FilesSide → FilesSide → SourceSide → SourceSide → SinkSide → SinkSide → End → Type 0
@@ -106,10 +118,10 @@ Serves outcome files files' input input' out out' end =
     (FilesStay files files' × FailsToRead outcome input input' out out' end)
     ⊎ (ReadsOnly outcome input input' × Works (Moves outcome input input') files files' out out' end)
 
--- How a call may come to this end: a fetch failed, and the input stays; or none did.
-abbrev pub Performs : (Due → Type 0) → FilesSide → FilesSide → SourceSide → SourceSide → SinkSide → SinkSide → End → Type 0
-Performs outcome files files' input input' out out' end =
-    (FailsToFetch files files' out out' end × (input' ≡ input))
+-- How a call may come to this end: the fetch of a file that is to be read failed, and the input stays; or no fetch did.
+abbrev pub Performs : (to_read : List ℕ → Type 0) → (Due → Type 0) → FilesSide → FilesSide → SourceSide → SourceSide → SinkSide → SinkSide → End → Type 0
+Performs to_read outcome files files' input input' out out' end =
+    (FailsToFetch to_read files files' out out' end × (input' ≡ input))
     ⊎ ((files'.fetch_faults ≡ files.fetch_faults) × Serves outcome files files' input input' out out' end)
 
 -- How an end is reported, where the words name this file: err gained its text, and its status is answered; or err failed
@@ -122,5 +134,5 @@ Reports file end old new status =
 -- How a call with these words may change what is outside, and which status it may answer.
 pub record Answers (words : List (List ℕ)) (before after : Outside) (status : ℕ) : Type 0 where
   pub end : End
-  pub performed : Performs (Outcome words before.files.told before.input.left) before.files after.files before.input after.input before.out after.out end
+  pub performed : Performs (AskToRead words) (Outcome words before.files.told before.input.left) before.files after.files before.input after.input before.out after.out end
   pub reported : Reports (file_of words) end before.err after.err status

@@ -1,5 +1,5 @@
 -- What a run of a source comes to, in the words of a reader of its meaning.
-use Rattle.std.specs.Prelude.{◌≡◌, ◌<◌, ◌≤◌, ◌++◌, ◌/◌, suc, Bool, List, ℕ, [], length, Option, Some}
+use Rattle.std.specs.Prelude.{◌≡◌, ◌<◌, ◌≤◌, ◌++◌, ◌/◌, suc, Bool, true, false, List, ℕ, [], length, Option, Some}
 use Rattle.alma_base.specs.Limits.{source_limit, size_limit, input_limit}
 use Rattle.alma_io.specs.Files.{Has}
 use Rattle.alma_ir.specs.Tree.{Program}
@@ -7,7 +7,7 @@ use Rattle.alma_mean.specs.Events.{End, Succeeded, Failed, Faulted, CutOff, firs
 use Rattle.alma_mean.specs.Meaning.{ev_program, result}
 use Rattle.alma_lower_implements.specs.Implements.{Covers}
 use Rattle.alma_driver_words.specs.Words.{Asks, Run, file_of}
-use Rattle.alma_driver_outcome.specs.Outside.{Outside}
+use Rattle.alma_driver_outcome.specs.Outside.{Outside, SourceSide}
 use Rattle.alma_driver_outcome.specs.Causes.{ReadFailed, WriteFailed}
 use Rattle.alma_driver_outcome.specs.Course.{Gains}
 use Rattle.alma_driver_outcome.specs.Ends.{counts_text, fault_text, text_of}
@@ -35,6 +35,11 @@ pub record IsUndisturbed (before after : Outside) (status : ℕ) : Type 0 where
 -- what out and err gained
 abbrev pub Shows : (before after : Outside) → (out err : List ℕ) → Type 0
 Shows before after out err = Gains before.out after.out out × Gains before.err after.err err
+
+-- what becomes of an input that is told: nothing of it is left where it is read, and else it stays
+abbrev pub IsInputLeft : (reads : Bool) → SourceSide → SourceSide → Type 0
+IsInputLeft true before after = after.left ≡ Some []
+IsInputLeft false before after = after ≡ before
 
 -- the status of an end of the meaning; steps ran out where it is cut off
 abbrev pub meant_status : End → ℕ

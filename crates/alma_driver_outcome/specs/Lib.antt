@@ -7,3 +7,5 @@ pub mod Outcome
 pub mod Course
 pub mod Causes
 pub mod Headline
+pub mod Stored
+pub mod Variables

@@ -16,13 +16,15 @@ use Rattle.alma_code.specs.Machine.{State}
 use Rattle.alma_code.specs.Rules.{IsSound, code_fault}
 use Rattle.alma_object_format.specs.declared.fault.ObjectFault.{ObjectFault}
 use Rattle.alma_object.specs.Object.{IsObject}
+use Rattle.alma_object.specs.Fields.{FitsFields}
 use Rattle.alma_object.specs.Walk.{object_fault}
 use Rattle.alma_verify.specs.Bytes.{object_code}
 use Rattle.alma_driver_sample.specs.Sample.{sample_text}
 use Rattle.alma_lower_sound.specs.Reads.{program_reads}
+use Rattle.alma_lower.specs.Names.{KeepsNames}
 use Rattle.alma_lower_implements.specs.Implements.{Implements, Covers, meant_end, state_after, line_in}
 use Rattle.alma_driver_words.specs.Words.{Request, Check, Compile, Listing, Run, Exec, Trace, Sample, Asks, IsBadWord, default_steps}
-use Rattle.alma_driver_outcome.specs.Words.{read_by, limit_of}
+use Rattle.alma_driver_outcome.specs.Words.{read_by, limit_of, IsReadBy}
 use Rattle.alma_driver_outcome.specs.Showing.{Showing, Prints, Traces, counts_shown, text_shown}
 use Rattle.alma_driver_outcome.specs.Ends.{ended_end, mode_end, counts_in, status_of, sample_line}
 use Rattle.alma_driver_outcome.specs.Refusal.{IsRefused, IsProgramOf, place_of}
@@ -93,18 +95,19 @@ pub data InputOutcome (left : Option (List ℕ)) (code : PlainCode) (steps : ℕ
 
 -- ---- programs
 
--- What a run of a program for so many steps comes to: what a sound code that implements it, and reads exactly where it does, comes
--- to in so many steps, or the refusal of its size.
+-- What a run of a program for so many steps comes to: what a sound code that implements it, reads exactly where it does, and keeps its
+-- names, comes to in so many steps, or the refusal of its size.
 pub data ProgramOutcome (left : Option (List ℕ)) (p : Program) (steps : ℕ) (showing : Showing) (due : Due) : Type 0 where
-  ran : (code : PlainCode) → size_of p ≤ size_limit → IsSound code → Implements code p → code_reads code ≡ program_reads p → InputOutcome left code steps showing due
+  ran : (code : PlainCode) → size_of p ≤ size_limit → IsSound code → Implements code p → code_reads code ≡ program_reads p → KeepsNames code p
+      → InputOutcome left code steps showing due
       → ProgramOutcome left p steps showing due
   too_much_code : size_limit < size_of p → due ≡ silent (TooMuchCode (size_of p)) → ProgramOutcome left p steps showing due
 
--- What compiling a program under a name comes to: the object of a sound code that implements it, and reads exactly where it
--- does, is stored there, or the refusal of its size.
+-- What compiling a program under a name comes to: the object of a sound code that implements it, reads exactly where it does, keeps
+-- its names, and has numbers that fit their fields, so that it is read back as that code, is stored there; or the refusal of its size.
 pub data CompileOutcome (p : Program) (object : List ℕ) (due : Due) : Type 0 where
-  made : (code : PlainCode) (bytes : List ℕ) → size_of p ≤ size_limit → IsSound code → Implements code p → code_reads code ≡ program_reads p → IsObject code bytes
-      → due ≡ storing object bytes → CompileOutcome p object due
+  made : (code : PlainCode) (bytes : List ℕ) → size_of p ≤ size_limit → IsSound code → Implements code p → code_reads code ≡ program_reads p → KeepsNames code p
+      → IsObject code bytes → FitsFields code → due ≡ storing object bytes → CompileOutcome p object due
   past_size : size_limit < size_of p → due ≡ silent (TooMuchCode (size_of p)) → CompileOutcome p object due
 
 -- ---- the same by the meaning alone
@@ -207,6 +210,10 @@ pub data RequestOutcome (told : List ℕ → Told) (left : Option (List ℕ)) (r
 pub data Outcome (words : List (List ℕ)) (told : List ℕ → Told) (left : Option (List ℕ)) (due : Due) : Type 0 where
   bad_word : (k : ℕ) → IsBadWord words k → due ≡ silent (BadWord k) → Outcome words told left due
   asks : (request : Request) → Asks words request → RequestOutcome told left request due → Outcome words told left due
+
+-- the words ask to read this file
+abbrev pub AskToRead : List (List ℕ) → (name : List ℕ) → Type 0
+AskToRead words name = (request : Request) × Asks words request × IsReadBy request name
 
 -- the words ask to read a file that is told to be missing
 abbrev pub Lacks : List (List ℕ) → (List ℕ → Told) → Type 0

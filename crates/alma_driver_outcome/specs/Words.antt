@@ -1,5 +1,5 @@
 -- What the requests of the words read.
-use Rattle.std.specs.Prelude.{List, ℕ, Option, Some, None}
+use Rattle.std.specs.Prelude.{◌≡◌, List, ℕ, Option, Some, None}
 use Rattle.alma_base.specs.Limits.{source_limit, object_limit}
 use Rattle.alma_driver_words.specs.Words.{Request, Check, Compile, Listing, Run, Exec, Trace, Sample}
 
@@ -12,6 +12,10 @@ read_by (Run name steps stats) = Some name
 read_by (Exec object steps stats) = Some object
 read_by (Trace name steps watch) = Some name
 read_by (Sample lines) = None
+
+-- a request reads this file
+abbrev pub IsReadBy : Request → (name : List ℕ) → Type 0
+IsReadBy request name = read_by request ≡ Some name
 
 -- the greatest number of bytes of that file
 abbrev pub limit_of : Request → ℕ

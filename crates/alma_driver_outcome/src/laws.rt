@@ -1,12 +1,21 @@
 //! Laws of the definitions that the contracts cite: functions without work, whose contracts are the laws.
-ghost use Rattle.std.specs.Prelude.{◌≡◌, ◌≤◌, ◌+◌, ◌*◌, Bool, List, ℕ, Option, Some};
+ghost use Rattle.std.specs.Prelude.{◌≡◌, ◌≤◌, ◌+◌, ◌*◌, Bool, List, ℕ, Option, Some, map};
 ghost use Rattle.alma_base.specs.Limits.{size_limit};
 ghost use Rattle.alma_grammar.specs.Laws.{IsProgram};
 ghost use Rattle.alma_driver_outcome.specs.declared.fault.SourceFault.{SourceFault};
 ghost use Rattle.alma_driver_outcome.specs.Refusal.{kinds, IsOfGrammar, IsParsed, IsRefused, IsProgramOf};
-ghost use Rattle.alma_driver_outcome.specs.Outcome.{Due, size_of, ProgramOutcome, Meant, ListOutcome, ExecOutcome};
+ghost use Rattle.alma_driver_outcome.specs.Outcome.{Due, Stored, size_of, ProgramOutcome, CompileOutcome, SourceOutcome, Meant, ListOutcome, ExecOutcome};
 ghost use Rattle.alma_driver_outcome.specs.Causes.{Causes};
-ghost use Rattle.alma_driver_outcome.specs.Headline.{AsksToRun, IsUndisturbed, RunEnds, ShowsResult};
+ghost use Rattle.alma_driver_outcome.specs.Headline.{AsksToRun, IsUndisturbed, IsInputLeft, RunEnds, ShowsResult};
+ghost use Rattle.alma_driver_outcome.specs.Stored.{SpellsCodeOf};
+ghost use Rattle.alma_driver_outcome.specs.Variables.{variable_word};
+ghost use Rattle.alma_lower.specs.Names.{KeepsNames};
+ghost use Rattle.alma_code.specs.Plain.{PlainCode};
+ghost use Rattle.alma_code.specs.Plain as plain;
+ghost use Rattle.alma_code.specs.Machine.{State};
+ghost use Rattle.alma_code.specs.TraceText.{watched_words};
+ghost use Rattle.alma_ir.specs.Tree as tree;
+ghost use Rattle.alma_lower_sound.specs.Reads.{program_reads};
 ghost use Rattle.alma_driver_outcome.specs.Outside.{Outside};
 ghost use Rattle.alma_driver_outcome.specs.Showing.{Prints};
 ghost use Rattle.alma_ir.specs.Tree.{Program};
@@ -64,6 +73,32 @@ pub fn an_execution_has_one_outcome()
         stats second → first ≡ second }
 {}
 
+/// The bytes that compiling a program stores are read back as a sound code that implements it.
+pub fn what_is_stored_implements_its_program()
+    ensures object { (p : Program) (object : List ℕ) (due : Due) (stored : Stored)
+        → CompileOutcome p object due → due.stored ≡ Some stored
+        → SpellsCodeOf p stored.bytes }
+{}
+
+/// What `exec` comes to of the bytes that compiling a source stores is what `run` of that source comes to.
+pub fn a_stored_object_runs_as_its_source()
+    ensures runs { (source object : List ℕ) (left : Option (List ℕ)) (steps : ℕ) (stats : Bool)
+        (compiling running : Due) (stored : Stored)
+        → SourceOutcome source (λ p. CompileOutcome p object) compiling
+        → compiling.stored ≡ Some stored → ExecOutcome left stored.bytes steps stats running
+        → SourceOutcome source (λ p. ProgramOutcome left p steps (Prints stats)) running }
+{}
+
+/// The values that a trace shows of watched names are those of the variables of the source: of each the cells from its slot on. The routines
+/// that a trace and a listing name have the names of the source's.
+pub fn a_trace_shows_the_variables_of_its_source()
+    ensures variables { (code : PlainCode) (p : Program) (names : List (List ℕ)) (s : State)
+        → KeepsNames code p
+        → watched_words code names s ≡ map (variable_word s.now p.globals) names }
+    ensures routines { (code : PlainCode) (p : Program) (r : ℕ) → KeepsNames code p
+        → (plain.routine_at code r).name ≡ (tree.routine_at p r).name }
+{}
+
 /// A run of a source on an input, where memory is found and nothing fails outside, refuses the source for its one stated fault, or for
 /// its size; or prints what its program means and ends in its success, failure or fault; or its steps ran out, and it printed
 /// a front of that, which covers one visit for each 32 steps.
@@ -72,6 +107,16 @@ pub fn a_run_shows_what_its_source_means()
         (before after : Outside) (status : ℕ) → AsksToRun words before source input steps stats
         → Causes words before after status → IsUndisturbed before after status
         → RunEnds words source input steps stats before after status }
+{}
+
+/// A run of a source, where memory is found and nothing fails outside, reads the input whole where its program has a READ, and leaves it elsewhere.
+pub fn the_input_is_read_whole_where_the_program_reads()
+    ensures left { (words : List (List ℕ)) (source input : List ℕ) (steps : ℕ) (stats : Bool)
+        (before after : Outside) (status : ℕ) (p : Program)
+        → AsksToRun words before source input steps stats
+        → Causes words before after status → IsUndisturbed before after status
+        → IsProgramOf source p → size_of p ≤ size_limit
+        → IsInputLeft (program_reads p) before.input after.input }
 {}
 
 /// Where the meaning comes to its end at some level, 32 steps for each of its visits, and 32 more, are enough for its result.

@@ -3,6 +3,7 @@ ghost use Rattle.std.specs.Prelude.{◌≡◌, ◌≤◌, length};
 ghost use Rattle.alma_base.specs.Limits.{source_limit};
 ghost use Rattle.alma_code.specs.Plain.{code_of};
 ghost use Rattle.alma_code.specs.Records.{KeepsCounts};
+ghost use Rattle.alma_object.specs.Fields.{FitsFields};
 ghost use Rattle.alma_object.specs.Object.{object_bytes};
 ghost use Rattle.alma_ir.specs.View.{program_of};
 ghost use Rattle.alma_ir.specs.Checked.{IsChecked};
@@ -18,6 +19,7 @@ use alma_io::Files;
 use alma_ir::Program;
 use alma_lower::lower;
 use alma_object::encode;
+use alma_verify::fits_fields;
 use std::alloc::Global;
 
 // Stores bytes under a name.
@@ -37,6 +39,7 @@ fn store_object<F: Files>(alloc: Global, object: &str, bytes: &[u8], files: &mut
 // Stores the object of a code.
 fn store_code<F: Files>(alloc: Global, code: &Code, object: &str, files: &mut F) -> End
     requires { KeepsCounts (code_of code.now) }
+    ensures fields { FitsFields (code_of code.now) }
     ensures fetch_count { F.fetch_faults files.new ≡ F.fetch_faults files.old }
     ensures course { (out : SinkSide) → Works (λ due. due ≡ storing object.now
         (object_bytes (code_of code.now)))
@@ -44,6 +47,7 @@ fn store_code<F: Files>(alloc: Global, code: &Code, object: &str, files: &mut F)
         (files_side (F.told files.new) (F.fetch_faults files.new) (F.store_faults files.new))
         out out result }
 {
+    fits_fields(code);
     match encode(alloc, code) {
         Ok(bytes) => store_object(alloc, object, &bytes, files),
         Err(NoMemory) => End::Memory,

@@ -2,9 +2,9 @@
 ghost use Rattle.std.specs.Prelude.{◌≡◌, ◌≤◌, Some, length};
 ghost use Rattle.alma_driver_words.specs.Words.{asked, texts};
 ghost use Rattle.alma_driver_words.specs.Limits.{IsWithinLimits};
-ghost use Rattle.alma_driver_outcome.specs.Words.{limit_of, read_by};
+ghost use Rattle.alma_driver_outcome.specs.Words.{limit_of, read_by, IsReadBy};
 ghost use Rattle.alma_driver_outcome.specs.Outside.{sink_side, source_side, files_side};
-ghost use Rattle.alma_driver_outcome.specs.Outcome.{FileOutcome, RequestOutcome, Outcome};
+ghost use Rattle.alma_driver_outcome.specs.Outcome.{FileOutcome, RequestOutcome, Outcome, AskToRead};
 ghost use Rattle.alma_driver_outcome.specs.Course.{Serves, Performs};
 
 use crate::compile::compile_source;
@@ -63,7 +63,7 @@ fn serve_named<F: Files, I: Source, O: Sink>(
 ) -> End
     requires within { IsWithinLimits (asked request.now) }
     requires read { read_by (asked request.now) ≡ Some file.now }
-    ensures { Performs
+    ensures { Performs (IsReadBy (asked request.now))
         (RequestOutcome (F.told files.old) (I.left input.old) (asked request.now))
         (files_side (F.told files.old) (F.fetch_faults files.old) (F.store_faults files.old))
         (files_side (F.told files.new) (F.fetch_faults files.new) (F.store_faults files.new))
@@ -87,7 +87,7 @@ fn serve<F: Files, I: Source, O: Sink>(
     out: &mut O,
 ) -> End
     requires { IsWithinLimits (asked request.now) }
-    ensures { Performs
+    ensures { Performs (IsReadBy (asked request.now))
         (RequestOutcome (F.told files.old) (I.left input.old) (asked request.now))
         (files_side (F.told files.old) (F.fetch_faults files.old) (F.store_faults files.old))
         (files_side (F.told files.new) (F.fetch_faults files.new) (F.store_faults files.new))
@@ -110,7 +110,8 @@ pub fn perform<F: Files, I: Source, O: Sink>(
     input: &mut I,
     out: &mut O,
 ) -> End
-    ensures { Performs (Outcome (texts words.now) (F.told files.old) (I.left input.old))
+    ensures { Performs (AskToRead (texts words.now))
+        (Outcome (texts words.now) (F.told files.old) (I.left input.old))
         (files_side (F.told files.old) (F.fetch_faults files.old) (F.store_faults files.old))
         (files_side (F.told files.new) (F.fetch_faults files.new) (F.store_faults files.new))
         (source_side (I.left input.old) (I.faults input.old))

@@ -9,6 +9,7 @@ ghost use Rattle.alma_ir.specs.Checked.{IsChecked};
 ghost use Rattle.alma_ir.specs.Count.{saturate, nodes};
 ghost use Rattle.alma_ir.specs.View.{program_of};
 ghost use Rattle.alma_code.specs.Reads.{code_reads};
+ghost use Rattle.alma_lower.specs.Names.{KeepsNames};
 ghost use Rattle.alma_lower_sound.specs.Reads.{program_reads};
 
 use crate::compiled::compiled;
@@ -34,6 +35,7 @@ pub fn lower(alloc: Global, program: &Program) -> Result<Code, LowerError>
     requires checked { IsChecked (program_of program.now) }
     ensures implements { IfOk result (λ code. Implements (code_of code) (program_of program.now)) }
     ensures sound { IfOk result (λ code. IsSound (code_of code)) }
+    ensures names { IfOk result (λ code. KeepsNames (code_of code) (program_of program.now)) }
     ensures version { IfOk result (λ code. KeepsVersion (code_of code)) }
     ensures counts { IfOk result (λ code. KeepsCounts (code_of code)) }
     ensures records { IfOk result (λ code. KeepsRecords (code_of code)) }

@@ -11,7 +11,7 @@ returns-in-Ok-clause-course g c = λ out.
     works_compiled p (code_of c.in-Ok.code) c.args.object.now
     (files_side (g.F.Files.told c.args.files.now) (g.F.Files.fetch_faults c.args.files.now) (g.F.Files.store_faults c.args.files.now))
     (files_side (g.F.Files.told c.store_code.new.files) (g.F.Files.fetch_faults c.store_code.new.files) (g.F.Files.store_faults c.store_code.new.files))
-    out c.store_code.result made.sound made.implements made.reads made.version made.counts made.records (compiled_within p c.in-Ok.code made.too_much) (c.store_code.ensures.course out)
+    out c.store_code.result made.sound made.implements made.reads made.names made.version made.counts made.records c.store_code.ensures.fields (compiled_within p c.in-Ok.code made.too_much) (c.store_code.ensures.course out)
 
 pub returns-in-Err-clause-course : goal.returns-in-Err-clause-course
 returns-in-Err-clause-course g c = λ out.

@@ -11,7 +11,7 @@ returns-in-Ok g c =
     runs_compiled p (code_of c.in-Ok.code) c.args.steps (shown_of c.args.showing) (source_side (g.I.Source.left c.args.input.now) (g.I.Source.faults c.args.input.now))
     (source_side (g.I.Source.left c.run_code.new.input) (g.I.Source.faults c.run_code.new.input)) (sink_side (g.O.Sink.written c.args.out.now) (g.O.Sink.faults c.args.out.now))
     (sink_side (g.O.Sink.written c.run_code.new.out) (g.O.Sink.faults c.run_code.new.out)) c.run_code.result
-    c.in-Ok.ensures.sound c.in-Ok.ensures.implements c.in-Ok.ensures.reads (compiled_within p c.in-Ok.code c.in-Ok.ensures.too_much) c.run_code.ensures
+    c.in-Ok.ensures.sound c.in-Ok.ensures.implements c.in-Ok.ensures.reads c.in-Ok.ensures.names (compiled_within p c.in-Ok.code c.in-Ok.ensures.too_much) c.run_code.ensures
 
 pub returns-in-Err : goal.returns-in-Err
 returns-in-Err g c =

@@ -7,6 +7,7 @@ use Rattle.alma_lower_sound.proofs.Records.{code_keeps_records}
 use Rattle.alma_lower_sound.proofs.Sound.{code_is_sound}
 use Rattle.alma_lower_templates.proofs.Law.{code_implements}
 use Rattle.alma_lower_templates.proofs.Sizes.{code_is_short}
+use Rattle.alma_lower.proofs.Naming.{keeps_names}
 use Rattle.alma_lower.proofs.lowering.lower.Goals as goal
 
 pub returns-in-Ok-clause-implements : goal.returns-in-Ok-clause-implements
@@ -16,6 +17,9 @@ pub returns-in-Ok-clause-sound : goal.returns-in-Ok-clause-sound
 returns-in-Ok-clause-sound c =
     let small : 16 * nodes (program_of c.args.program.now) ≤ 4194304 = omega (arith, c.if-size-gt-SIZE_LIMIT.false, c.size-size.ensures) in
     code_is_sound _ _ c.requires.checked c.in-Ok.ensures.code c.in-Ok.ensures.runs small
+
+pub returns-in-Ok-clause-names : goal.returns-in-Ok-clause-names
+returns-in-Ok-clause-names c = keeps_names _ _ c.in-Ok.ensures.code
 
 pub returns-in-Ok-clause-version : goal.returns-in-Ok-clause-version
 returns-in-Ok-clause-version c = code_keeps_version _ _ c.in-Ok.ensures.code
