@@ -1,6 +1,6 @@
 // The top call: from the words to the status.
 ghost use Rattle.alma_driver_words.specs.Words.{texts};
-ghost use Rattle.alma_driver_outcome.specs.Outside.{sink_side, source_side, files_side, outside_of};
+ghost use Rattle.alma_driver_outcome.specs.Outside.{outside_of};
 ghost use Rattle.alma_driver_outcome.specs.Course.{Answers};
 ghost use Rattle.alma_driver_outcome.specs.Causes.{Causes};
 
@@ -29,28 +29,24 @@ pub fn alma<F: Files, I: Source, O: Sink, E: Sink>(
     err: &mut E,
 ) -> Status
     ensures answer { Answers (texts words.now)
-        (outside_of (files_side (F.told files.old) (F.fetch_faults files.old)
-        (F.store_faults files.old))
-        (source_side (I.left input.old) (I.faults input.old))
-        (sink_side (O.written out.old) (O.faults out.old))
-        (sink_side (E.written err.old) (E.faults err.old)))
-        (outside_of (files_side (F.told files.new) (F.fetch_faults files.new)
-        (F.store_faults files.new))
-        (source_side (I.left input.new) (I.faults input.new))
-        (sink_side (O.written out.new) (O.faults out.new))
-        (sink_side (E.written err.new) (E.faults err.new)))
+        (outside_of (F.side files.old)
+        (I.side input.old)
+        (O.side out.old)
+        (E.side err.old))
+        (outside_of (F.side files.new)
+        (I.side input.new)
+        (O.side out.new)
+        (E.side err.new))
         result.0 }
     ensures causes { Causes (texts words.now)
-        (outside_of (files_side (F.told files.old) (F.fetch_faults files.old)
-        (F.store_faults files.old))
-        (source_side (I.left input.old) (I.faults input.old))
-        (sink_side (O.written out.old) (O.faults out.old))
-        (sink_side (E.written err.old) (E.faults err.old)))
-        (outside_of (files_side (F.told files.new) (F.fetch_faults files.new)
-        (F.store_faults files.new))
-        (source_side (I.left input.new) (I.faults input.new))
-        (sink_side (O.written out.new) (O.faults out.new))
-        (sink_side (E.written err.new) (E.faults err.new)))
+        (outside_of (F.side files.old)
+        (I.side input.old)
+        (O.side out.old)
+        (E.side err.old))
+        (outside_of (F.side files.new)
+        (I.side input.new)
+        (O.side out.new)
+        (E.side err.new))
         result.0 }
 {
     let end = perform(alloc, words, files, input, out);

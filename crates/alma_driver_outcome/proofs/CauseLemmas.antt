@@ -15,7 +15,8 @@ use Rattle.alma_driver_words.proofs.WordLemmas.{one_request}
 use Rattle.alma_code.specs.declared.step.End.TheVariants as code_end
 use Rattle.alma_driver_outcome.specs.Words.{read_by, limit_of}
 use Rattle.alma_driver_outcome.specs.Showing.{Showing, Prints, Traces, counts_shown}
-use Rattle.alma_driver_outcome.specs.Outside.{SinkSide, SourceSide, FilesSide, FilesStay, Outside}
+use Rattle.alma_io.specs.Sides.{SinkSide, SourceSide, FilesSide}
+use Rattle.alma_driver_outcome.specs.Outside.{FilesStay, Outside}
 use Rattle.alma_driver_outcome.specs.declared.end.Counts.{Counts}
 use Rattle.alma_driver_outcome.specs.Ends.{mode_end, counts_in, status_of, text_of}
 use Rattle.alma_driver_outcome.specs.Outcome.{Due, Stored, InputOutcome, unread, taken, past_input, ProgramOutcome, ran, too_much_code, CompileOutcome, made, past_size, IsSourceEnd, refused, SourceOutcome, stopped, compiled, CheckOutcome, ListOutcome, listed, no_object, CodeOutcome, executed, unsound, ExecOutcome, opened, unopened, SampleOutcome, summed, FileOutcome, RequestOutcome, absent, past_limit, fetched, unfetched, Outcome, bad_word, asks, AskToRead, Lacks}

@@ -39,7 +39,8 @@ use Rattle.alma_lower_sound.specs.Reads.{program_reads}
 use Rattle.alma_driver_words.specs.Words.{Request, Check, Compile, Listing, Run, Exec, Trace, Sample, Asks, Reads}
 use Rattle.alma_driver_outcome.specs.Words.{read_by, limit_of, IsReadBy}
 use Rattle.alma_driver_outcome.specs.Showing.{Showing, Prints}
-use Rattle.alma_driver_outcome.specs.Outside.{SinkSide, SourceSide, FilesSide, FilesStay}
+use Rattle.alma_io.specs.Sides.{SinkSide, SourceSide, FilesSide}
+use Rattle.alma_driver_outcome.specs.Outside.{FilesStay}
 use Rattle.alma_base.specs.declared.place.Place.{Place}
 use Rattle.alma_scan.specs.Places.{line_at, column_at}
 use Rattle.alma_driver_outcome.specs.Refusal.{IsRefused, IsProgramOf, place_of}

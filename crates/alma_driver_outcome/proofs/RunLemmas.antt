@@ -22,7 +22,7 @@ use Rattle.alma_machine.specs.declared.machine.RunEnd.TheVariants as run
 use Rattle.alma_machine.specs.Runs.{run_end_of, made, all_written, OnWhole, OnMemory, OnWriteFault}
 use Rattle.alma_machine.specs.View.{MachineView}
 use Rattle.alma_machine.proofs.Budget.{ended_after}
-use Rattle.alma_driver_outcome.specs.Outside.{SinkSide}
+use Rattle.alma_io.specs.Sides.{SinkSide}
 use Rattle.alma_driver_outcome.specs.declared.end.Counts.{Counts}
 use Rattle.alma_driver_outcome.specs.Ends.{mode_end, run_end, counts_in}
 use Rattle.alma_driver_outcome.specs.Outcome.{Due, code_end, code_due, size_of, InputOutcome, unread, taken, past_input, AreCounts, MayRunOut, MeansOn, whole, front, ProgramOutcome, ran, too_much_code, IsTaken, Meant, meant_on, too_long, too_large}

@@ -3,7 +3,8 @@ use Rattle.std.specs.Prelude.{◌≡◌, ◌<◌, ◌⊎◌, List, ℕ, [], Opti
 use Rattle.std.specs.Io.KnownBytes.{Appends}
 use Rattle.alma_io.specs.Causes.{Rose}
 use Rattle.alma_driver_words.specs.Words.{file_of}
-use Rattle.alma_driver_outcome.specs.Outside.{FilesSide, FilesStay, Outside}
+use Rattle.alma_io.specs.Sides.{FilesSide}
+use Rattle.alma_driver_outcome.specs.Outside.{FilesStay, Outside}
 use Rattle.alma_driver_outcome.specs.Ends.{status_of, text_of}
 use Rattle.alma_driver_outcome.specs.Outcome.{Due, Stored, Outcome, AskToRead, Lacks}
 use Rattle.alma_driver_outcome.specs.Course.{Gains, GainsPrefix, HasStored, OthersStay, Takes, ReadsWhole, MayRead, ReadsFile}

@@ -6,7 +6,8 @@ use Rattle.alma_io.specs.Files.{NowHas}
 use Rattle.alma_io.specs.Fronts.{AppendsFront}
 use Rattle.alma_io.specs.Whole.{LosesAtMost}
 use Rattle.alma_driver_words.specs.Words.{file_of}
-use Rattle.alma_driver_outcome.specs.Outside.{SinkSide, SourceSide, FilesSide, Outside, HasRisen, FilesStay}
+use Rattle.alma_io.specs.Sides.{SinkSide, SourceSide, FilesSide}
+use Rattle.alma_driver_outcome.specs.Outside.{Outside, HasRisen, FilesStay}
 use Rattle.alma_driver_outcome.specs.Ends.{status_of, text_of}
 use Rattle.alma_driver_outcome.specs.Outcome.{Due, Stored, Outcome, AskToRead}
 use Rattle.alma_driver_outcome.specs.declared.end.End.{End}

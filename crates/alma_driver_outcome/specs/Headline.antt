@@ -7,7 +7,8 @@ use Rattle.alma_mean.specs.Events.{End, Succeeded, Failed, Faulted, CutOff, firs
 use Rattle.alma_mean.specs.Meaning.{ev_program, result}
 use Rattle.alma_lower_implements.specs.Implements.{Covers}
 use Rattle.alma_driver_words.specs.Words.{Asks, Run, file_of}
-use Rattle.alma_driver_outcome.specs.Outside.{Outside, SourceSide}
+use Rattle.alma_io.specs.Sides.{SourceSide}
+use Rattle.alma_driver_outcome.specs.Outside.{Outside}
 use Rattle.alma_driver_outcome.specs.Causes.{ReadFailed, WriteFailed}
 use Rattle.alma_driver_outcome.specs.Course.{Gains}
 use Rattle.alma_driver_outcome.specs.Ends.{counts_text, fault_text, text_of}

@@ -3,7 +3,6 @@ ghost use Rattle.std.specs.Prelude.{◌++◌, codes, flat_map, OnOk, OnErr, Some
 ghost use Rattle.std.specs.Io.KnownBytes.{Appends};
 ghost use Rattle.alma_io.specs.Causes.{HasCause};
 ghost use Rattle.alma_io.specs.Fronts.{AppendsFront};
-ghost use Rattle.alma_driver_outcome.specs.Outside.{sink_side};
 ghost use Rattle.alma_driver_outcome.specs.Ends.{counts_line, counts_text, end_text, fault_text, object_text, refusal_line, refusal_text, rule_line, rule_text, text_of};
 ghost use Rattle.alma_driver_outcome.specs.Course.{Reports};
 
@@ -17,11 +16,11 @@ use itoa::Buffer;
 
 /// Writes parts one after another.
 pub fn write_parts<E: Sink>(err: &mut E, parts: &[&[u8]]) -> Result<(), WriteFault>
-    ensures ok { OnOk result (Appends (E.written err.old) (E.written err.new)
+    ensures ok { OnOk result (Appends (E.side err.old).written (E.side err.new).written
         (flat_map (λ part. part.now) parts.now)) }
-    ensures front { OnErr result (AppendsFront (E.written err.old) (E.written err.new)
+    ensures front { OnErr result (AppendsFront (E.side err.old).written (E.side err.new).written
         (flat_map (λ part. part.now) parts.now)) }
-    ensures cause { HasCause (E.faults err.old) (E.faults err.new) result }
+    ensures cause { HasCause (E.side err.old).faults (E.side err.new).faults result }
 {
     for part in parts {
         write_all(err, part)?;
@@ -31,11 +30,11 @@ pub fn write_parts<E: Sink>(err: &mut E, parts: &[&[u8]]) -> Result<(), WriteFau
 
 // Writes a line of two parts.
 fn write_line<E: Sink>(err: &mut E, front: &[u8], back: &[u8]) -> Result<(), WriteFault>
-    ensures ok { OnOk result (Appends (E.written err.old) (E.written err.new)
+    ensures ok { OnOk result (Appends (E.side err.old).written (E.side err.new).written
         (front.now ++ (back.now ++ codes "\n"))) }
-    ensures front { OnErr result (AppendsFront (E.written err.old) (E.written err.new)
+    ensures front { OnErr result (AppendsFront (E.side err.old).written (E.side err.new).written
         (front.now ++ (back.now ++ codes "\n"))) }
-    ensures cause { HasCause (E.faults err.old) (E.faults err.new) result }
+    ensures cause { HasCause (E.side err.old).faults (E.side err.new).faults result }
 {
     write_parts(err, &[front, back, b"\n".as_slice()])
 }
@@ -48,11 +47,11 @@ fn write_refusal_line<E: Sink>(
     column: &[u8],
     fault: &[u8],
 ) -> Result<(), WriteFault>
-    ensures ok { OnOk result (Appends (E.written err.old) (E.written err.new)
+    ensures ok { OnOk result (Appends (E.side err.old).written (E.side err.new).written
         (refusal_line file.now line.now column.now fault.now)) }
-    ensures front { OnErr result (AppendsFront (E.written err.old) (E.written err.new)
+    ensures front { OnErr result (AppendsFront (E.side err.old).written (E.side err.new).written
         (refusal_line file.now line.now column.now fault.now)) }
-    ensures cause { HasCause (E.faults err.old) (E.faults err.new) result }
+    ensures cause { HasCause (E.side err.old).faults (E.side err.new).faults result }
 {
     let colon = b":".as_slice();
     let blank = b": ".as_slice();
@@ -67,11 +66,11 @@ fn write_refusal<E: Sink>(
     fault: SourceFault,
     place: Place,
 ) -> Result<(), WriteFault>
-    ensures ok { OnOk result (Appends (E.written err.old) (E.written err.new)
+    ensures ok { OnOk result (Appends (E.side err.old).written (E.side err.new).written
         (refusal_text file.now fault place)) }
-    ensures front { OnErr result (AppendsFront (E.written err.old) (E.written err.new)
+    ensures front { OnErr result (AppendsFront (E.side err.old).written (E.side err.new).written
         (refusal_text file.now fault place)) }
-    ensures cause { HasCause (E.faults err.old) (E.faults err.new) result }
+    ensures cause { HasCause (E.side err.old).faults (E.side err.new).faults result }
 {
     let mut line = Buffer::new();
     let mut column = Buffer::new();
@@ -82,11 +81,11 @@ fn write_refusal<E: Sink>(
 
 // Writes the fault of a run, and its line where it is known.
 fn write_fault<E: Sink>(err: &mut E, fault: RunFault, line: u32) -> Result<(), WriteFault>
-    ensures ok { OnOk result (Appends (E.written err.old) (E.written err.new)
+    ensures ok { OnOk result (Appends (E.side err.old).written (E.side err.new).written
         (fault_text fault line)) }
-    ensures front { OnErr result (AppendsFront (E.written err.old) (E.written err.new)
+    ensures front { OnErr result (AppendsFront (E.side err.old).written (E.side err.new).written
         (fault_text fault line)) }
-    ensures cause { HasCause (E.faults err.old) (E.faults err.new) result }
+    ensures cause { HasCause (E.side err.old).faults (E.side err.new).faults result }
 {
     let front = b"alma: fault ".as_slice();
     let name = fault.text().as_bytes();
@@ -101,11 +100,11 @@ fn write_fault<E: Sink>(err: &mut E, fault: RunFault, line: u32) -> Result<(), W
 
 // Writes the fault of bytes that are no object, and its number where it has one.
 fn write_object_fault<E: Sink>(err: &mut E, fault: ObjectFault) -> Result<(), WriteFault>
-    ensures ok { OnOk result (Appends (E.written err.old) (E.written err.new)
+    ensures ok { OnOk result (Appends (E.side err.old).written (E.side err.new).written
         (object_text fault)) }
-    ensures front { OnErr result (AppendsFront (E.written err.old) (E.written err.new)
+    ensures front { OnErr result (AppendsFront (E.side err.old).written (E.side err.new).written
         (object_text fault)) }
-    ensures cause { HasCause (E.faults err.old) (E.faults err.new) result }
+    ensures cause { HasCause (E.side err.old).faults (E.side err.new).faults result }
 {
     let front = b"alma: object ".as_slice();
     let name = object_fault_name(fault);
@@ -122,11 +121,11 @@ fn write_object_fault<E: Sink>(err: &mut E, fault: ObjectFault) -> Result<(), Wr
 
 // Writes the line of a broken rule, by the texts in it.
 fn write_rule_line<E: Sink>(err: &mut E, rule: &[u8], at: &[u8]) -> Result<(), WriteFault>
-    ensures ok { OnOk result (Appends (E.written err.old) (E.written err.new)
+    ensures ok { OnOk result (Appends (E.side err.old).written (E.side err.new).written
         (rule_line rule.now at.now)) }
-    ensures front { OnErr result (AppendsFront (E.written err.old) (E.written err.new)
+    ensures front { OnErr result (AppendsFront (E.side err.old).written (E.side err.new).written
         (rule_line rule.now at.now)) }
-    ensures cause { HasCause (E.faults err.old) (E.faults err.new) result }
+    ensures cause { HasCause (E.side err.old).faults (E.side err.new).faults result }
 {
     let front = b"alma: object Rule ".as_slice();
     let blank = b" ".as_slice();
@@ -136,11 +135,11 @@ fn write_rule_line<E: Sink>(err: &mut E, rule: &[u8], at: &[u8]) -> Result<(), W
 
 // Writes the first rule that the code of an object breaks, and where.
 fn write_rule<E: Sink>(err: &mut E, fault: VerifyFault) -> Result<(), WriteFault>
-    ensures ok { OnOk result (Appends (E.written err.old) (E.written err.new)
+    ensures ok { OnOk result (Appends (E.side err.old).written (E.side err.new).written
         (rule_text fault)) }
-    ensures front { OnErr result (AppendsFront (E.written err.old) (E.written err.new)
+    ensures front { OnErr result (AppendsFront (E.side err.old).written (E.side err.new).written
         (rule_text fault)) }
-    ensures cause { HasCause (E.faults err.old) (E.faults err.new) result }
+    ensures cause { HasCause (E.side err.old).faults (E.side err.new).faults result }
 {
     let mut rule = Buffer::new();
     let mut at = Buffer::new();
@@ -156,11 +155,11 @@ fn write_counts_line<E: Sink>(
     choices: &[u8],
     fails: &[u8],
 ) -> Result<(), WriteFault>
-    ensures ok { OnOk result (Appends (E.written err.old) (E.written err.new)
+    ensures ok { OnOk result (Appends (E.side err.old).written (E.side err.new).written
         (counts_line steps.now choices.now fails.now)) }
-    ensures front { OnErr result (AppendsFront (E.written err.old) (E.written err.new)
+    ensures front { OnErr result (AppendsFront (E.side err.old).written (E.side err.new).written
         (counts_line steps.now choices.now fails.now)) }
-    ensures cause { HasCause (E.faults err.old) (E.faults err.new) result }
+    ensures cause { HasCause (E.side err.old).faults (E.side err.new).faults result }
 {
     let first = b"steps ".as_slice();
     let second = b" choices ".as_slice();
@@ -171,11 +170,11 @@ fn write_counts_line<E: Sink>(
 
 // Writes counts.
 fn write_known_counts<E: Sink>(err: &mut E, counts: Counts) -> Result<(), WriteFault>
-    ensures ok { OnOk result (Appends (E.written err.old) (E.written err.new)
+    ensures ok { OnOk result (Appends (E.side err.old).written (E.side err.new).written
         (counts_text (Some counts))) }
-    ensures front { OnErr result (AppendsFront (E.written err.old) (E.written err.new)
+    ensures front { OnErr result (AppendsFront (E.side err.old).written (E.side err.new).written
         (counts_text (Some counts))) }
-    ensures cause { HasCause (E.faults err.old) (E.faults err.new) result }
+    ensures cause { HasCause (E.side err.old).faults (E.side err.new).faults result }
 {
     let mut steps = Buffer::new();
     let mut choices = Buffer::new();
@@ -189,11 +188,11 @@ fn write_known_counts<E: Sink>(err: &mut E, counts: Counts) -> Result<(), WriteF
 // Writes the line of counts, where there are any.
 #[tactic(auto, using(alma_io::proofs::Known::appends_none))]
 fn write_counts<E: Sink>(err: &mut E, counts: Option<Counts>) -> Result<(), WriteFault>
-    ensures ok { OnOk result (Appends (E.written err.old) (E.written err.new)
+    ensures ok { OnOk result (Appends (E.side err.old).written (E.side err.new).written
         (counts_text counts)) }
-    ensures front { OnErr result (AppendsFront (E.written err.old) (E.written err.new)
+    ensures front { OnErr result (AppendsFront (E.side err.old).written (E.side err.new).written
         (counts_text counts)) }
-    ensures cause { HasCause (E.faults err.old) (E.faults err.new) result }
+    ensures cause { HasCause (E.side err.old).faults (E.side err.new).faults result }
 {
     match counts {
         Some(counts) => write_known_counts(err, counts),
@@ -203,11 +202,11 @@ fn write_counts<E: Sink>(err: &mut E, counts: Option<Counts>) -> Result<(), Writ
 
 // Writes the text of an end behind its counts, where the words name this file.
 fn write_text<E: Sink>(err: &mut E, file: &str, end: End) -> Result<(), WriteFault>
-    ensures ok { OnOk result (Appends (E.written err.old) (E.written err.new)
+    ensures ok { OnOk result (Appends (E.side err.old).written (E.side err.new).written
         (end_text file.now end)) }
-    ensures front { OnErr result (AppendsFront (E.written err.old) (E.written err.new)
+    ensures front { OnErr result (AppendsFront (E.side err.old).written (E.side err.new).written
         (end_text file.now end)) }
-    ensures cause { HasCause (E.faults err.old) (E.faults err.new) result }
+    ensures cause { HasCause (E.side err.old).faults (E.side err.new).faults result }
 {
     let mut digits = Buffer::new();
     match end {
@@ -227,11 +226,11 @@ fn write_text<E: Sink>(err: &mut E, file: &str, end: End) -> Result<(), WriteFau
 
 // Writes counts, where an end has them, and its text.
 fn write_end<E: Sink>(err: &mut E, file: &str, end: End) -> Result<(), WriteFault>
-    ensures ok { OnOk result (Appends (E.written err.old) (E.written err.new)
+    ensures ok { OnOk result (Appends (E.side err.old).written (E.side err.new).written
         (text_of file.now end)) }
-    ensures front { OnErr result (AppendsFront (E.written err.old) (E.written err.new)
+    ensures front { OnErr result (AppendsFront (E.side err.old).written (E.side err.new).written
         (text_of file.now end)) }
-    ensures cause { HasCause (E.faults err.old) (E.faults err.new) result }
+    ensures cause { HasCause (E.side err.old).faults (E.side err.new).faults result }
 {
     match write_counts(err, end.counts()) {
         Ok(()) => write_text(err, file, end),
@@ -242,8 +241,8 @@ fn write_end<E: Sink>(err: &mut E, file: &str, end: End) -> Result<(), WriteFaul
 /// Writes the text of an end to err, where the words name this file, and gives the status: that of a write fault where err
 /// fails.
 pub fn report<E: Sink>(err: &mut E, file: &str, end: End) -> Status
-    ensures { Reports file.now end (sink_side (E.written err.old) (E.faults err.old))
-        (sink_side (E.written err.new) (E.faults err.new)) result.0 }
+    ensures { Reports file.now end (E.side err.old)
+        (E.side err.new) result.0 }
 {
     match write_end(err, file, end) {
         Ok(()) => Status(end.status()),

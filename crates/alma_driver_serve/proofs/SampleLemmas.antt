@@ -1,9 +1,9 @@
 -- What the run of a sample comes to.
 use Rattle.std.proofs.Common.{◌≡◌, ◌∙◌, ◌++◌, ℕ, List, [], length, inl, inr, ap, sym, subst}
-use Rattle.std.specs.Prelude.{false, Some, None, codes}
+use Rattle.std.specs.Prelude.{false, Option, Some, None, codes}
 use Rattle.alma_driver_sample.specs.Sample.{sample_text}
 use Rattle.alma_driver_words.specs.Words.{default_steps}
-use Rattle.alma_driver_outcome.specs.Outside.{SinkSide, SourceSide, sink_side, source_side}
+use Rattle.alma_io.specs.Sides.{SinkSide, SourceSide}
 use Rattle.alma_driver_outcome.specs.Ends.{status_of, sample_line, summary_line}
 use Rattle.alma_driver_outcome.specs.Showing.{Prints}
 use Rattle.alma_driver_outcome.specs.Outcome.{Due, due_of, ProgramOutcome, SourceOutcome, IsSampled, SampleOutcome, summed}
@@ -12,6 +12,13 @@ use Rattle.alma_driver_outcome.specs.declared.end.End.{End}
 use Rattle.alma_driver_outcome.specs.declared.end.End.TheVariants.{Succeeded, ReadFault, WriteFault, Memory}
 use Rattle.alma_driver_outcome.proofs.DriverLemmas.{goes_map}
 use Rattle.alma_driver_outcome.proofs.CauseLemmas.{Way, broken, starved, ended, way_of}
+
+-- the sides of a sink and of a source by their parts
+abbrev pub sink_side : Option (List ℕ) → ℕ → SinkSide
+sink_side written faults = record { written = written; faults = faults }
+
+abbrev pub source_side : Option (List ℕ) → ℕ → SourceSide
+source_side left faults = record { left = left; faults = faults }
 
 -- the end is none of want of memory, and of faults of the outside
 pub record IsOwn (end : End) : Type 0 where

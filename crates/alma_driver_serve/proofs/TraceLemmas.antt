@@ -23,7 +23,7 @@ use Rattle.alma_trace.specs.Cuts.{OnCut}
 use Rattle.alma_trace.specs.Resolved.{IsResolved}
 use Rattle.alma_trace.specs.Traced.{traced, traced_within, traced_words, run_lines, steps_end}
 use Rattle.alma_trace.proofs.Naming.{traces_are_the_trace_text}
-use Rattle.alma_driver_outcome.specs.Outside.{SinkSide}
+use Rattle.alma_io.specs.Sides.{SinkSide}
 use Rattle.alma_driver_outcome.specs.Ends.{run_end}
 use Rattle.alma_driver_outcome.specs.Outcome.{Due, code_due}
 use Rattle.alma_driver_outcome.specs.Showing.{Traces}

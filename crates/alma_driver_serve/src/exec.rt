@@ -2,7 +2,6 @@
 ghost use Rattle.std.specs.Prelude.{◌≤◌};
 ghost use Rattle.alma_object.specs.View.{code_of_view};
 ghost use Rattle.alma_driver_words.specs.Words.{greatest_steps};
-ghost use Rattle.alma_driver_outcome.specs.Outside.{sink_side, source_side};
 ghost use Rattle.alma_driver_outcome.specs.Outcome.{CodeOutcome, ExecOutcome};
 ghost use Rattle.alma_driver_outcome.specs.Course.{Runs};
 
@@ -23,11 +22,11 @@ fn exec_view<I: Source, O: Sink>(
     out: &mut O,
 ) -> End
     requires { steps ≤ greatest_steps }
-    ensures { Runs (CodeOutcome (I.left input.old) (code_of_view view.entry) steps stats)
-        (source_side (I.left input.old) (I.faults input.old))
-        (source_side (I.left input.new) (I.faults input.new))
-        (sink_side (O.written out.old) (O.faults out.old))
-        (sink_side (O.written out.new) (O.faults out.new)) result }
+    ensures { Runs (CodeOutcome (I.side input.old).left (code_of_view view.entry) steps stats)
+        (I.side input.old)
+        (I.side input.new)
+        (O.side out.old)
+        (O.side out.new) result }
 {
     match verify(view) {
         Ok(code) => run_verified(alloc, code, input, steps, Showing::Prints(stats), out),
@@ -45,11 +44,11 @@ pub fn exec_object<I: Source, O: Sink>(
     out: &mut O,
 ) -> End
     requires { steps ≤ greatest_steps }
-    ensures { Runs (ExecOutcome (I.left input.old) bytes.now steps stats)
-        (source_side (I.left input.old) (I.faults input.old))
-        (source_side (I.left input.new) (I.faults input.new))
-        (sink_side (O.written out.old) (O.faults out.old))
-        (sink_side (O.written out.new) (O.faults out.new)) result }
+    ensures { Runs (ExecOutcome (I.side input.old).left bytes.now steps stats)
+        (I.side input.old)
+        (I.side input.new)
+        (O.side out.old)
+        (O.side out.new) result }
 {
     match open_object(bytes) {
         Ok(view) => exec_view(alloc, view, input, steps, stats, out),

@@ -4,7 +4,6 @@ ghost use Rattle.alma_base.specs.Limits.{input_limit};
 ghost use Rattle.alma_verify.specs.Verified.{code_of_verified};
 ghost use Rattle.alma_driver_words.specs.Words.{greatest_steps};
 ghost use Rattle.alma_driver_outcome.specs.Ends.{counts_in};
-ghost use Rattle.alma_driver_outcome.specs.Outside.{sink_side, source_side};
 ghost use Rattle.alma_code.specs.Reads.{code_reads};
 ghost use Rattle.alma_driver_outcome.specs.Outcome.{code_due, InputOutcome};
 ghost use Rattle.alma_driver_outcome.specs.Showing.{Prints, shown_of};
@@ -46,8 +45,8 @@ fn print_on<O: Sink>(
     requires lawful { length input.now ≤ input_limit }
     ensures { Goes (λ due. due ≡ code_due (code_of_verified code.entry) input.now steps
         (Prints stats))
-        (sink_side (O.written out.old) (O.faults out.old))
-        (sink_side (O.written out.new) (O.faults out.new)) result }
+        (O.side out.old)
+        (O.side out.new) result }
 {
     match Machine::new(alloc, code, input) {
         Ok(mut machine) => {
@@ -72,8 +71,8 @@ fn run_on<O: Sink>(
     requires lawful { length input.now ≤ input_limit }
     ensures { Goes (λ due. due ≡ code_due (code_of_verified code.entry) input.now steps
         (shown_of showing.entry))
-        (sink_side (O.written out.old) (O.faults out.old))
-        (sink_side (O.written out.new) (O.faults out.new)) result }
+        (O.side out.old)
+        (O.side out.new) result }
 {
     match showing {
         Showing::Prints(stats) => print_on(alloc, code, input, steps, stats, out),
@@ -92,12 +91,12 @@ fn run_reading<I: Source, O: Sink>(
 ) -> End
     requires few { steps ≤ greatest_steps }
     requires reads { code_reads (code_of_verified code) ≡ true }
-    ensures { Runs (InputOutcome (I.left input.old) (code_of_verified code.entry) steps
+    ensures { Runs (InputOutcome (I.side input.old).left (code_of_verified code.entry) steps
         (shown_of showing.entry))
-        (source_side (I.left input.old) (I.faults input.old))
-        (source_side (I.left input.new) (I.faults input.new))
-        (sink_side (O.written out.old) (O.faults out.old))
-        (sink_side (O.written out.new) (O.faults out.new)) result }
+        (I.side input.old)
+        (I.side input.new)
+        (O.side out.old)
+        (O.side out.new) result }
 {
     match read_all(alloc, input, INPUT_LIMIT) {
         Ok(bytes) => run_on(alloc, code, &bytes, steps, showing, out),
@@ -115,12 +114,12 @@ pub fn run_verified<I: Source, O: Sink>(
     out: &mut O,
 ) -> End
     requires { steps ≤ greatest_steps }
-    ensures { Runs (InputOutcome (I.left input.old) (code_of_verified code.entry) steps
+    ensures { Runs (InputOutcome (I.side input.old).left (code_of_verified code.entry) steps
         (shown_of showing.entry))
-        (source_side (I.left input.old) (I.faults input.old))
-        (source_side (I.left input.new) (I.faults input.new))
-        (sink_side (O.written out.old) (O.faults out.old))
-        (sink_side (O.written out.new) (O.faults out.new)) result }
+        (I.side input.old)
+        (I.side input.new)
+        (O.side out.old)
+        (O.side out.new) result }
 {
     if code.view().has_read() {
         return run_reading(alloc, code, input, steps, showing, out);

@@ -4,7 +4,6 @@ ghost use Rattle.alma_code.specs.ListText.{list_text as list_text_of};
 ghost use Rattle.alma_code.specs.Plain.{code_of};
 ghost use Rattle.alma_object.specs.View.{code_of_view};
 ghost use Rattle.alma_driver_outcome.specs.declared.end.End.TheVariants.{Succeeded};
-ghost use Rattle.alma_driver_outcome.specs.Outside.{sink_side};
 ghost use Rattle.alma_driver_outcome.specs.Outcome.{due_of, ListOutcome};
 ghost use Rattle.alma_driver_outcome.specs.Course.{Goes};
 
@@ -20,8 +19,8 @@ use std::alloc::Global;
 // Writes a text.
 fn write_text<O: Sink>(text: &[u8], out: &mut O) -> End
     ensures { Goes (λ due. due ≡ due_of (Succeeded None) text.now)
-        (sink_side (O.written out.old) (O.faults out.old))
-        (sink_side (O.written out.new) (O.faults out.new)) result }
+        (O.side out.old)
+        (O.side out.new) result }
 {
     match write_all(out, text) {
         Ok(()) => End::Succeeded(None),
@@ -32,8 +31,8 @@ fn write_text<O: Sink>(text: &[u8], out: &mut O) -> End
 // Writes the text that lists a code.
 fn list_code<O: Sink>(alloc: Global, code: &Code, out: &mut O) -> End
     ensures { Goes (λ due. due ≡ due_of (Succeeded None) (list_text_of (code_of code.now)))
-        (sink_side (O.written out.old) (O.faults out.old))
-        (sink_side (O.written out.new) (O.faults out.new)) result }
+        (O.side out.old)
+        (O.side out.new) result }
 {
     match list_text(alloc, code) {
         Ok(text) => write_text(&text, out),
@@ -44,8 +43,8 @@ fn list_code<O: Sink>(alloc: Global, code: &Code, out: &mut O) -> End
 // Writes the text that lists the code of a view.
 fn list_view<O: Sink>(alloc: Global, view: &ObjectView<'_>, out: &mut O) -> End
     ensures { Goes (λ due. due ≡ due_of (Succeeded None) (list_text_of (code_of_view view.now)))
-        (sink_side (O.written out.old) (O.faults out.old))
-        (sink_side (O.written out.new) (O.faults out.new)) result }
+        (O.side out.old)
+        (O.side out.new) result }
 {
     match view.to_code(alloc) {
         Ok(code) => list_code(alloc, &code, out),
@@ -56,8 +55,8 @@ fn list_view<O: Sink>(alloc: Global, view: &ObjectView<'_>, out: &mut O) -> End
 /// Writes the text that lists the code of an object, which is not verified.
 pub fn list_object<O: Sink>(alloc: Global, bytes: &[u8], out: &mut O) -> End
     ensures { Goes (ListOutcome bytes.now)
-        (sink_side (O.written out.old) (O.faults out.old))
-        (sink_side (O.written out.new) (O.faults out.new)) result }
+        (O.side out.old)
+        (O.side out.new) result }
 {
     match open_object(bytes) {
         Ok(view) => list_view(alloc, &view, out),

@@ -4,7 +4,6 @@ ghost use Rattle.alma_code.specs.Plain.{code_of};
 ghost use Rattle.alma_code.specs.Records.{KeepsCounts, KeepsRecords, KeepsVersion};
 ghost use Rattle.alma_code.specs.Rules.{IsSound};
 ghost use Rattle.alma_driver_words.specs.Words.{greatest_steps};
-ghost use Rattle.alma_driver_outcome.specs.Outside.{sink_side, source_side};
 ghost use Rattle.alma_driver_outcome.specs.Outcome.{InputOutcome};
 ghost use Rattle.alma_driver_outcome.specs.Showing.{shown_of};
 ghost use Rattle.alma_driver_outcome.specs.Course.{Runs};
@@ -32,11 +31,11 @@ pub fn run_code<I: Source, O: Sink>(
     requires counts { KeepsCounts (code_of code.now) }
     requires records { KeepsRecords (code_of code.now) }
     requires few { steps ≤ greatest_steps }
-    ensures { Runs (InputOutcome (I.left input.old) (code_of code.now) steps (shown_of showing.entry))
-        (source_side (I.left input.old) (I.faults input.old))
-        (source_side (I.left input.new) (I.faults input.new))
-        (sink_side (O.written out.old) (O.faults out.old))
-        (sink_side (O.written out.new) (O.faults out.new)) result }
+    ensures { Runs (InputOutcome (I.side input.old).left (code_of code.now) steps (shown_of showing.entry))
+        (I.side input.old)
+        (I.side input.new)
+        (O.side out.old)
+        (O.side out.new) result }
 {
     match encode(alloc, code) {
         Ok(object) => {

@@ -7,7 +7,6 @@ ghost use Rattle.alma_io.specs.Fronts.{AppendsFront};
 ghost use Rattle.alma_driver_sample.specs.Sample.{sample_text};
 ghost use Rattle.alma_driver_outcome.specs.declared.end.End.TheVariants.{Succeeded};
 ghost use Rattle.alma_driver_outcome.specs.Ends.{sample_line, summary_line};
-ghost use Rattle.alma_driver_outcome.specs.Outside.{sink_side};
 ghost use Rattle.alma_driver_outcome.specs.Outcome.{due_of, IsSampled, SampleOutcome};
 ghost use Rattle.alma_driver_outcome.specs.Course.{Goes};
 
@@ -31,11 +30,11 @@ fn write_summary_line<O: Sink>(
     printed: &[u8],
     status: &[u8],
 ) -> Result<(), WriteFault>
-    ensures ok { OnOk result (Appends (O.written out.old) (O.written out.new)
+    ensures ok { OnOk result (Appends (O.side out.old).written (O.side out.new).written
         (summary_line lines.now bytes.now printed.now status.now)) }
-    ensures front { OnErr result (AppendsFront (O.written out.old) (O.written out.new)
+    ensures front { OnErr result (AppendsFront (O.side out.old).written (O.side out.new).written
         (summary_line lines.now bytes.now printed.now status.now)) }
-    ensures cause { HasCause (O.faults out.old) (O.faults out.new) result }
+    ensures cause { HasCause (O.side out.old).faults (O.side out.new).faults result }
 {
     let first = b"lines ".as_slice();
     let second = b" bytes ".as_slice();
@@ -58,11 +57,11 @@ fn write_summary<O: Sink>(
     printed: usize,
     status: u8,
 ) -> Result<(), WriteFault>
-    ensures ok { OnOk result (Appends (O.written out.old) (O.written out.new)
+    ensures ok { OnOk result (Appends (O.side out.old).written (O.side out.new).written
         (sample_line lines bytes printed status)) }
-    ensures front { OnErr result (AppendsFront (O.written out.old) (O.written out.new)
+    ensures front { OnErr result (AppendsFront (O.side out.old).written (O.side out.new).written
         (sample_line lines bytes printed status)) }
-    ensures cause { HasCause (O.faults out.old) (O.faults out.new) result }
+    ensures cause { HasCause (O.side out.old).faults (O.side out.new).faults result }
 {
     let mut first = Buffer::new();
     let mut second = Buffer::new();
@@ -110,8 +109,8 @@ fn run_aside(alloc: Global, source: &[u8]) -> Result<Summary, NoMemory>
 fn tell<O: Sink>(out: &mut O, lines: u32, bytes: usize, told: Summary) -> End
     ensures { Goes (λ due. due
         ≡ due_of (Succeeded None) (sample_line lines bytes told.printed told.status))
-        (sink_side (O.written out.old) (O.faults out.old))
-        (sink_side (O.written out.new) (O.faults out.new)) result }
+        (O.side out.old)
+        (O.side out.new) result }
 {
     match write_summary(out, lines, bytes, told.printed, told.status) {
         Ok(()) => End::Succeeded(None),
@@ -124,8 +123,8 @@ fn sum_up<O: Sink>(alloc: Global, lines: u32, source: &[u8], out: &mut O) -> End
     requires text { source.now ≡ sample_text lines }
     requires short { length source.now ≤ source_limit }
     ensures { Goes (SampleOutcome lines)
-        (sink_side (O.written out.old) (O.faults out.old))
-        (sink_side (O.written out.new) (O.faults out.new)) result }
+        (O.side out.old)
+        (O.side out.new) result }
 {
     match run_aside(alloc, source) {
         Ok(told) => tell(out, lines, source.len(), told),
@@ -137,8 +136,8 @@ fn sum_up<O: Sink>(alloc: Global, lines: u32, source: &[u8], out: &mut O) -> End
 pub fn sample<O: Sink>(alloc: Global, lines: u32, out: &mut O) -> End
     requires few { lines ≤ 5000 }
     ensures { Goes (SampleOutcome lines)
-        (sink_side (O.written out.old) (O.faults out.old))
-        (sink_side (O.written out.new) (O.faults out.new)) result }
+        (O.side out.old)
+        (O.side out.new) result }
 {
     match sample_source(alloc, lines) {
         Ok(source) => sum_up(alloc, lines, &source, out),

@@ -3,7 +3,6 @@ ghost use Rattle.std.specs.Prelude.{◌≡◌, ◌≤◌, Some, length};
 ghost use Rattle.alma_driver_words.specs.Words.{asked, texts};
 ghost use Rattle.alma_driver_words.specs.Limits.{IsWithinLimits};
 ghost use Rattle.alma_driver_outcome.specs.Words.{limit_of, read_by, IsReadBy};
-ghost use Rattle.alma_driver_outcome.specs.Outside.{sink_side, source_side, files_side};
 ghost use Rattle.alma_driver_outcome.specs.Outcome.{FileOutcome, RequestOutcome, Outcome, AskToRead};
 ghost use Rattle.alma_driver_outcome.specs.Course.{Serves, Performs};
 
@@ -30,14 +29,14 @@ fn serve_file<F: Files, I: Source, O: Sink>(
 ) -> End
     requires within { IsWithinLimits (asked request.now) }
     requires short { length bytes.now ≤ limit_of (asked request.now) }
-    ensures fetch_count { F.fetch_faults files.new ≡ F.fetch_faults files.old }
-    ensures course { Serves (FileOutcome (I.left input.old) (asked request.now) bytes.now)
-        (files_side (F.told files.old) (F.fetch_faults files.old) (F.store_faults files.old))
-        (files_side (F.told files.new) (F.fetch_faults files.new) (F.store_faults files.new))
-        (source_side (I.left input.old) (I.faults input.old))
-        (source_side (I.left input.new) (I.faults input.new))
-        (sink_side (O.written out.old) (O.faults out.old))
-        (sink_side (O.written out.new) (O.faults out.new)) result }
+    ensures fetch_count { (F.side files.new).fetch_faults ≡ (F.side files.old).fetch_faults }
+    ensures course { Serves (FileOutcome (I.side input.old).left (asked request.now) bytes.now)
+        (F.side files.old)
+        (F.side files.new)
+        (I.side input.old)
+        (I.side input.new)
+        (O.side out.old)
+        (O.side out.new) result }
 {
     match request {
         Request::Check(_) => check_only(alloc, bytes),
@@ -64,13 +63,13 @@ fn serve_named<F: Files, I: Source, O: Sink>(
     requires within { IsWithinLimits (asked request.now) }
     requires read { read_by (asked request.now) ≡ Some file.now }
     ensures { Performs (IsReadBy (asked request.now))
-        (RequestOutcome (F.told files.old) (I.left input.old) (asked request.now))
-        (files_side (F.told files.old) (F.fetch_faults files.old) (F.store_faults files.old))
-        (files_side (F.told files.new) (F.fetch_faults files.new) (F.store_faults files.new))
-        (source_side (I.left input.old) (I.faults input.old))
-        (source_side (I.left input.new) (I.faults input.new))
-        (sink_side (O.written out.old) (O.faults out.old))
-        (sink_side (O.written out.new) (O.faults out.new)) result }
+        (RequestOutcome (F.side files.old).told (I.side input.old).left (asked request.now))
+        (F.side files.old)
+        (F.side files.new)
+        (I.side input.old)
+        (I.side input.new)
+        (O.side out.old)
+        (O.side out.new) result }
 {
     match files.fetch(alloc, file, read_limit(request)) {
         Ok(bytes) => serve_file(alloc, request, &bytes, files, input, out),
@@ -88,13 +87,13 @@ fn serve<F: Files, I: Source, O: Sink>(
 ) -> End
     requires { IsWithinLimits (asked request.now) }
     ensures { Performs (IsReadBy (asked request.now))
-        (RequestOutcome (F.told files.old) (I.left input.old) (asked request.now))
-        (files_side (F.told files.old) (F.fetch_faults files.old) (F.store_faults files.old))
-        (files_side (F.told files.new) (F.fetch_faults files.new) (F.store_faults files.new))
-        (source_side (I.left input.old) (I.faults input.old))
-        (source_side (I.left input.new) (I.faults input.new))
-        (sink_side (O.written out.old) (O.faults out.old))
-        (sink_side (O.written out.new) (O.faults out.new)) result }
+        (RequestOutcome (F.side files.old).told (I.side input.old).left (asked request.now))
+        (F.side files.old)
+        (F.side files.new)
+        (I.side input.old)
+        (I.side input.new)
+        (O.side out.old)
+        (O.side out.new) result }
 {
     match file_read(request) {
         Some(file) => serve_named(alloc, request, file, files, input, out),
@@ -111,13 +110,13 @@ pub fn perform<F: Files, I: Source, O: Sink>(
     out: &mut O,
 ) -> End
     ensures { Performs (AskToRead (texts words.now))
-        (Outcome (texts words.now) (F.told files.old) (I.left input.old))
-        (files_side (F.told files.old) (F.fetch_faults files.old) (F.store_faults files.old))
-        (files_side (F.told files.new) (F.fetch_faults files.new) (F.store_faults files.new))
-        (source_side (I.left input.old) (I.faults input.old))
-        (source_side (I.left input.new) (I.faults input.new))
-        (sink_side (O.written out.old) (O.faults out.old))
-        (sink_side (O.written out.new) (O.faults out.new)) result }
+        (Outcome (texts words.now) (F.side files.old).told (I.side input.old).left)
+        (F.side files.old)
+        (F.side files.new)
+        (I.side input.old)
+        (I.side input.new)
+        (O.side out.old)
+        (O.side out.new) result }
 {
     match read_words(alloc, words) {
         Ok(request) => serve(alloc, &request, files, input, out),

@@ -4,7 +4,6 @@ ghost use Rattle.alma_base.specs.Limits.{source_limit};
 ghost use Rattle.alma_ir.specs.View.{program_of};
 ghost use Rattle.alma_ir.specs.Checked.{IsChecked};
 ghost use Rattle.alma_driver_words.specs.Words.{greatest_steps};
-ghost use Rattle.alma_driver_outcome.specs.Outside.{sink_side, source_side};
 ghost use Rattle.alma_driver_outcome.specs.Outcome.{ProgramOutcome, SourceOutcome};
 ghost use Rattle.alma_driver_outcome.specs.Showing.{Traces, shown_of};
 ghost use Rattle.alma_driver_outcome.specs.Course.{Runs};
@@ -28,12 +27,12 @@ fn run_program<I: Source, O: Sink>(
 ) -> End
     requires checked { IsChecked (program_of program.now) }
     requires few { steps ≤ greatest_steps }
-    ensures { Runs (ProgramOutcome (I.left input.old) (program_of program.now) steps
+    ensures { Runs (ProgramOutcome (I.side input.old).left (program_of program.now) steps
         (shown_of showing.entry))
-        (source_side (I.left input.old) (I.faults input.old))
-        (source_side (I.left input.new) (I.faults input.new))
-        (sink_side (O.written out.old) (O.faults out.old))
-        (sink_side (O.written out.new) (O.faults out.new)) result }
+        (I.side input.old)
+        (I.side input.new)
+        (O.side out.old)
+        (O.side out.new) result }
 {
     match lower(alloc, program) {
         Ok(code) => run_code(alloc, &code, input, steps, showing, out),
@@ -53,11 +52,11 @@ pub fn run_source<I: Source, O: Sink>(
     requires short { length source.now ≤ source_limit }
     requires few { steps ≤ greatest_steps }
     ensures { Runs (SourceOutcome source.now
-        (λ p. ProgramOutcome (I.left input.old) p steps (shown_of showing.entry)))
-        (source_side (I.left input.old) (I.faults input.old))
-        (source_side (I.left input.new) (I.faults input.new))
-        (sink_side (O.written out.old) (O.faults out.old))
-        (sink_side (O.written out.new) (O.faults out.new)) result }
+        (λ p. ProgramOutcome (I.side input.old).left p steps (shown_of showing.entry)))
+        (I.side input.old)
+        (I.side input.new)
+        (O.side out.old)
+        (O.side out.new) result }
 {
     match load_source(alloc, source) {
         Ok(program) => run_program(alloc, &program, input, steps, showing, out),
@@ -77,11 +76,11 @@ pub fn trace_source<I: Source, O: Sink>(
     requires short { length source.now ≤ source_limit }
     requires few { steps ≤ greatest_steps }
     ensures { Runs (SourceOutcome source.now
-        (λ p. ProgramOutcome (I.left input.old) p steps (Traces (map (λ name. name.now) names.now))))
-        (source_side (I.left input.old) (I.faults input.old))
-        (source_side (I.left input.new) (I.faults input.new))
-        (sink_side (O.written out.old) (O.faults out.old))
-        (sink_side (O.written out.new) (O.faults out.new)) result }
+        (λ p. ProgramOutcome (I.side input.old).left p steps (Traces (map (λ name. name.now) names.now))))
+        (I.side input.old)
+        (I.side input.new)
+        (O.side out.old)
+        (O.side out.new) result }
 {
     run_source(alloc, source, input, steps, Showing::Traces(names), out)
 }

@@ -3,7 +3,6 @@ ghost use Rattle.std.specs.Prelude.{◌≡◌, ◌≤◌, length, map, All, IfOk
 ghost use Rattle.alma_base.specs.Limits.{input_limit};
 ghost use Rattle.alma_verify.specs.Verified.{code_of_verified};
 ghost use Rattle.alma_driver_words.specs.Words.{greatest_steps};
-ghost use Rattle.alma_driver_outcome.specs.Outside.{sink_side};
 ghost use Rattle.alma_driver_outcome.specs.Outcome.{code_due};
 ghost use Rattle.alma_driver_outcome.specs.Showing.{Traces};
 ghost use Rattle.alma_driver_outcome.specs.Course.{Goes};
@@ -43,8 +42,8 @@ fn trace_watched<O: Sink>(
     requires resolved { All (IsResolved (code_of_verified code)) watched.now }
     ensures { Goes (λ due. due ≡ code_due (code_of_verified code.entry) input.now steps
         (Traces (map (λ watch. watch.name.now) watched.now)))
-        (sink_side (O.written out.old) (O.faults out.old))
-        (sink_side (O.written out.new) (O.faults out.new)) result }
+        (O.side out.old)
+        (O.side out.new) result }
 {
     code.keeps_sound();
     match Machine::new(alloc, code, input) {
@@ -70,8 +69,8 @@ fn trace_named<O: Sink>(
     requires lawful { length input.now ≤ input_limit }
     ensures { Goes (λ due. due ≡ code_due (code_of_verified code.entry) input.now steps
         (Traces (map (λ name. name.now) names.now)))
-        (sink_side (O.written out.old) (O.faults out.old))
-        (sink_side (O.written out.new) (O.faults out.new)) result }
+        (O.side out.old)
+        (O.side out.new) result }
 {
     match watches(alloc, code.view(), names) {
         Ok(watched) => trace_watched(alloc, code, input, steps, &watched, out),
@@ -92,8 +91,8 @@ pub fn trace_on<O: Sink>(
     requires lawful { length input.now ≤ input_limit }
     ensures { Goes (λ due. due ≡ code_due (code_of_verified code.entry) input.now steps
         (Traces (map (λ name. name.now) names.now)))
-        (sink_side (O.written out.old) (O.faults out.old))
-        (sink_side (O.written out.new) (O.faults out.new)) result }
+        (O.side out.old)
+        (O.side out.new) result }
 {
     match bytes_of(alloc, names) {
         Ok(bytes) => trace_named(alloc, code, input, steps, &bytes, out),

@@ -29,14 +29,14 @@ fn make_buffer(alloc: Global, len: usize) -> Result<Vec<u8>, NoMemory>
 /// an error is lost.
 pub fn read_all<S: Source>(alloc: Global, source: &mut S, limit: usize) -> Result<Vec<u8>, ReadAll>
     requires limit { limit < 2 ^ 62 }
-    ensures all { IfOk result (λ bytes. Consumes (S.left source.old) (S.left source.new) bytes.items
-        × IsAtEnd (S.left source.new)) }
+    ensures all { IfOk result (λ bytes. Consumes (S.side source.old).left (S.side source.new).left bytes.items
+        × IsAtEnd (S.side source.new).left) }
     ensures within { IfOk result (λ bytes. length bytes.items ≤ limit) }
-    ensures too_long { IsErrOf result ReadAll.TooLong → MayHaveMore (S.left source.old) limit }
-    ensures one_past { IsErrOf result ReadAll.TooLong → LosesBytes (S.left source.old)
-        (S.left source.new) (limit + 1) }
-    ensures prefix { OnErr result (LosesAtMost (S.left source.old) (S.left source.new) (limit + 1)) }
-    ensures cause { HasReadCause (S.faults source.old) (S.faults source.new) result }
+    ensures too_long { IsErrOf result ReadAll.TooLong → MayHaveMore (S.side source.old).left limit }
+    ensures one_past { IsErrOf result ReadAll.TooLong → LosesBytes (S.side source.old).left
+        (S.side source.new).left (limit + 1) }
+    ensures prefix { OnErr result (LosesAtMost (S.side source.old).left (S.side source.new).left (limit + 1)) }
+    ensures cause { HasReadCause (S.side source.old).faults (S.side source.new).faults result }
 {
     let mut bytes = Vec::new(alloc);
     let Ok(mut chunk) = make_buffer(alloc, CHUNK) else {

@@ -126,10 +126,10 @@ pub(crate) fn advance<V: CodeView>(
 // Writes what a step printed; the sink is called only where it printed.
 fn write_printed<K: Sink>(step: Step, printed: &[u8], out: &mut K) -> Result<(), WriteFault>
     requires quiet { PrintsOnly step printed.now }
-    ensures ok { OnOk result (Appends (K.written out.old) (K.written out.new) printed.now) }
+    ensures ok { OnOk result (Appends (K.side out.old).written (K.side out.new).written printed.now) }
     ensures front { OnErr result
-        (AppendsFront (K.written out.old) (K.written out.new) printed.now) }
-    ensures cause { HasCause (K.faults out.old) (K.faults out.new) result }
+        (AppendsFront (K.side out.old).written (K.side out.new).written printed.now) }
+    ensures cause { HasCause (K.side out.old).faults (K.side out.new).faults result }
 {
     match step {
         Step::Printed => write_all(out, printed),
@@ -388,7 +388,7 @@ impl<'b, 'i> Machine<'b, 'i> {
         ensures state { OnWhole result (self.new.state
             ≡ after self.old.code self.old.input budget self.old.state) }
         ensures out { OnWhole result
-            (Appends (K.written out.old) (K.written out.new) (prints self.old.code self.old.input
+            (Appends (K.side out.old).written (K.side out.new).written (prints self.old.code self.old.input
             budget self.old.state)) }
 
         // In each case: what it does in the steps that were made.
@@ -397,14 +397,14 @@ impl<'b, 'i> Machine<'b, 'i> {
             ≡ after self.old.code self.old.input (made self.old self.new) self.old.state }
         ensures steps_out { OnStepsOut result (made self.old self.new ≡ budget) }
         ensures memory { OnMemory result
-            (Appends (K.written out.old) (K.written out.new) (prints self.old.code self.old.input
+            (Appends (K.side out.old).written (K.side out.new).written (prints self.old.code self.old.input
             (made self.old self.new) self.old.state)) }
         ensures write_fault { OnWriteFault result
-            (AppendsFront (K.written out.old) (K.written out.new) (prints self.old.code
+            (AppendsFront (K.side out.old).written (K.side out.new).written (prints self.old.code
             self.old.input (made self.old self.new) self.old.state)) }
         ensures printed { ShowsLast result self.new.printed (last_print self.old.code self.old.input
             (made self.old self.new) self.old.state self.old.printed) }
-        ensures cause { HasCause (K.faults out.old) (K.faults out.new) (all_written result) }
+        ensures cause { HasCause (K.side out.old).faults (K.side out.new).faults (all_written result) }
         ensures running { self.new.running ≡ is_steps_out result }
         ensures same { (self.new.code ≡ self.old.code) × (self.new.input ≡ self.old.input) }
     {

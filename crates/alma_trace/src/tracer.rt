@@ -27,12 +27,12 @@ fn tell<K: Sink>(
 ) -> Result<(), RunEnd>
     requires running { goes_on step ≡ true → machine.now.running ≡ true }
     requires watched { AreOfModule machine.now.code watches.now }
-    ensures ok { OnOk result (Appends (K.written out.old) (K.written out.new)
+    ensures ok { OnOk result (Appends (K.side out.old).written (K.side out.new).written
         (step_text machine.now.code watches.now step machine.now.printed machine.now.state)) }
-    ensures front { OnErr result (AppendsFront (K.written out.old) (K.written out.new)
+    ensures front { OnErr result (AppendsFront (K.side out.old).written (K.side out.new).written
         (step_text machine.now.code watches.now step machine.now.printed machine.now.state)) }
     ensures cut { IfErr result IsCut }
-    ensures cause { HasCause (K.faults out.old) (K.faults out.new) (all_written (cut_of result)) }
+    ensures cause { HasCause (K.side out.old).faults (K.side out.new).faults (all_written (cut_of result)) }
 {
     if put_step(line, machine, step, watches).is_err() {
         return Err(RunEnd::Memory);
@@ -46,11 +46,11 @@ fn tell<K: Sink>(
 // Writes that the steps ran out. An error is how the run is cut short.
 fn tell_steps_end<K: Sink>(line: &mut Vec<u8>, out: &mut K) -> Result<(), RunEnd>
     ensures ok { OnOk result
-        (Appends (K.written out.old) (K.written out.new) (flat_map text_line steps_end)) }
+        (Appends (K.side out.old).written (K.side out.new).written (flat_map text_line steps_end)) }
     ensures front { OnErr result
-        (AppendsFront (K.written out.old) (K.written out.new) (flat_map text_line steps_end)) }
+        (AppendsFront (K.side out.old).written (K.side out.new).written (flat_map text_line steps_end)) }
     ensures cut { IfErr result IsCut }
-    ensures cause { HasCause (K.faults out.old) (K.faults out.new) (all_written (cut_of result)) }
+    ensures cause { HasCause (K.side out.old).faults (K.side out.new).faults (all_written (cut_of result)) }
 {
     if put_steps_end(line).is_err() {
         return Err(RunEnd::Memory);
@@ -80,7 +80,7 @@ pub fn trace<K: Sink>(
         ≡ run_end_of (after machine.old.code machine.old.input budget machine.old.state).mode) }
     ensures state { OnWhole result (machine.new.state
         ≡ after machine.old.code machine.old.input budget machine.old.state) }
-    ensures out { OnWhole result (Appends (K.written out.old) (K.written out.new)
+    ensures out { OnWhole result (Appends (K.side out.old).written (K.side out.new).written
         (traced machine.old.code machine.old.input watches.now budget machine.old.state)) }
     ensures running { OnWhole result (machine.new.running ≡ is_steps_out result) }
 
@@ -90,11 +90,11 @@ pub fn trace<K: Sink>(
         ≡ after machine.old.code machine.old.input (made machine.old machine.new)
         machine.old.state }
     ensures steps_out { OnStepsOut result (made machine.old machine.new ≡ budget) }
-    ensures front { OnCut result (AppendsFront (K.written out.old) (K.written out.new)
+    ensures front { OnCut result (AppendsFront (K.side out.old).written (K.side out.new).written
         (traced_within machine.old.code machine.old.input watches.now (made machine.old machine.new)
         budget machine.old.state)) }
     ensures stopped { OnWriteFault result (machine.new.running ≡ can_go machine.new.state.mode) }
-    ensures cause { HasCause (K.faults out.old) (K.faults out.new) (all_written result) }
+    ensures cause { HasCause (K.side out.old).faults (K.side out.new).faults (all_written result) }
     ensures same { (machine.new.code ≡ machine.old.code)
         × (machine.new.input ≡ machine.old.input) }
 {

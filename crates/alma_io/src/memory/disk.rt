@@ -98,11 +98,11 @@ impl MemFiles {
 }
 
 impl Files for MemFiles {
-    ghost told = { λ f name. told_by (map.get f.files name) };
-
-    ghost fetch_faults = { λ f. f.fetch_faults };
-
-    ghost store_faults = { λ f. f.store_faults };
+    ghost side = { λ f. record {
+      told = λ name. told_by (map.get f.files name);
+      fetch_faults = f.fetch_faults;
+      store_faults = f.store_faults;
+    } };
 
     fn fetch(&mut self, alloc: Global, name: &str, limit: usize) -> Result<Vec<u8>, Fetch>
         requires { limit < 2 ^ 62 }

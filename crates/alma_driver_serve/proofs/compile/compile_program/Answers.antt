@@ -1,6 +1,5 @@
 use Rattle.alma_code.specs.Plain.{code_of}
 use Rattle.alma_ir.specs.View.{program_of}
-use Rattle.alma_driver_outcome.specs.Outside.{files_side}
 use Rattle.alma_driver_outcome.proofs.DriverLemmas.{unlowered, compiled_within, works_compiled, works_refused}
 use Rattle.alma_driver_serve.proofs.compile.compile_program.Goals as goal
 
@@ -9,13 +8,13 @@ returns-in-Ok-clause-course g c = λ out.
     let p = program_of c.args.program.now in
     let made = c.in-Ok.ensures in
     works_compiled p (code_of c.in-Ok.code) c.args.object.now
-    (files_side (g.F.Files.told c.args.files.now) (g.F.Files.fetch_faults c.args.files.now) (g.F.Files.store_faults c.args.files.now))
-    (files_side (g.F.Files.told c.store_code.new.files) (g.F.Files.fetch_faults c.store_code.new.files) (g.F.Files.store_faults c.store_code.new.files))
+    (g.F.Files.side c.args.files.now)
+    (g.F.Files.side c.store_code.new.files)
     out c.store_code.result made.sound made.implements made.reads made.names made.version made.counts made.records c.store_code.ensures.fields (compiled_within p c.in-Ok.code made.too_much) (c.store_code.ensures.course out)
 
 pub returns-in-Err-clause-course : goal.returns-in-Err-clause-course
 returns-in-Err-clause-course g c = λ out.
     let p = program_of c.args.program.now in
     rw c.from.ensures (works_refused p c.args.object.now c.in-Err.error
-    (files_side (g.F.Files.told c.args.files.now) (g.F.Files.fetch_faults c.args.files.now) (g.F.Files.store_faults c.args.files.now)) out
+    (g.F.Files.side c.args.files.now) out
     (unlowered p c.in-Err.error c.in-Err.ensures.too_much c.in-Err.ensures.within))

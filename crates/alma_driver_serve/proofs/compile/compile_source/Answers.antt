@@ -1,5 +1,4 @@
 use Rattle.alma_ir.specs.View.{program_of}
-use Rattle.alma_driver_outcome.specs.Outside.{files_side}
 use Rattle.alma_driver_outcome.specs.Outcome.{CompileOutcome}
 use Rattle.alma_driver_outcome.proofs.DriverLemmas.{works_read, works_stopped}
 use Rattle.alma_driver_serve.proofs.compile.compile_source.Goals as goal
@@ -10,11 +9,11 @@ compile_program-requires g c = record { checked = c.in-Ok.ensures.checked }
 pub returns-in-Ok-clause-course : goal.returns-in-Ok-clause-course
 returns-in-Ok-clause-course g c = λ out.
     works_read c.args.source.now (λ p. CompileOutcome p c.args.object.now) (program_of c.in-Ok.program)
-    (files_side (g.F.Files.told c.args.files.now) (g.F.Files.fetch_faults c.args.files.now) (g.F.Files.store_faults c.args.files.now))
-    (files_side (g.F.Files.told c.compile_program.new.files) (g.F.Files.fetch_faults c.compile_program.new.files) (g.F.Files.store_faults c.compile_program.new.files))
+    (g.F.Files.side c.args.files.now)
+    (g.F.Files.side c.compile_program.new.files)
     out out c.compile_program.result c.in-Ok.ensures.program (c.compile_program.ensures.course out)
 
 pub returns-in-Err-clause-course : goal.returns-in-Err-clause-course
 returns-in-Err-clause-course g c = λ out.
     works_stopped c.args.source.now (λ p. CompileOutcome p c.args.object.now)
-    (files_side (g.F.Files.told c.args.files.now) (g.F.Files.fetch_faults c.args.files.now) (g.F.Files.store_faults c.args.files.now)) out c.in-Err.end c.in-Err.ensures.stop
+    (g.F.Files.side c.args.files.now) out c.in-Err.end c.in-Err.ensures.stop

@@ -1,7 +1,6 @@
 use Rattle.std.proofs.Common.{inl}
 use Rattle.alma_code.specs.Plain.{code_of}
 use Rattle.alma_object.specs.Object.{object_bytes}
-use Rattle.alma_driver_outcome.specs.Outside.{files_side}
 use Rattle.alma_driver_outcome.specs.Course.{Keeps}
 use Rattle.alma_driver_outcome.proofs.DriverLemmas.{IsStoring, files_same, goes_starved}
 use Rattle.alma_driver_serve.proofs.compile.store_code.Goals as goal
@@ -12,6 +11,6 @@ returns-in-Ok-clause-course g c = λ out. rw (c.deref.ensures.value, c.in-Ok.ens
 pub returns-in-Err-clause-course : goal.returns-in-Err-clause-course
 returns-in-Err-clause-course g c = λ out.
     inl (
-      files_same (files_side (g.F.Files.told c.args.files.now) (g.F.Files.fetch_faults c.args.files.now) (g.F.Files.store_faults c.args.files.now)),
+      files_same (g.F.Files.side c.args.files.now),
       goes_starved (Keeps (IsStoring c.args.object.now (object_bytes (code_of c.args.code.now)))) out,
     )

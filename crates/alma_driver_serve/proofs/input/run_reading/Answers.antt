@@ -1,5 +1,4 @@
 use Rattle.alma_verify.specs.Verified.{code_of_verified}
-use Rattle.alma_driver_outcome.specs.Outside.{sink_side, source_side}
 use Rattle.alma_driver_outcome.specs.Showing.{shown_of}
 use Rattle.alma_driver_outcome.proofs.DriverLemmas.{runs_taken, runs_lost}
 use Rattle.alma_driver_serve.proofs.input.run_reading.Goals as goal
@@ -9,13 +8,13 @@ run_on-requires-clause-lawful g c = rw c.deref.ensures.value c.in-Ok.ensures.wit
 
 pub returns-in-Ok : goal.returns-in-Ok
 returns-in-Ok g c =
-    runs_taken (code_of_verified c.args.code) c.args.steps (shown_of c.args.showing) (source_side (g.I.Source.left c.args.input.now) (g.I.Source.faults c.args.input.now))
-    (source_side (g.I.Source.left c.read_all.new.source) (g.I.Source.faults c.read_all.new.source)) c.in-Ok.bytes.items (sink_side (g.O.Sink.written c.args.out.now) (g.O.Sink.faults c.args.out.now))
-    (sink_side (g.O.Sink.written c.run_on.new.out) (g.O.Sink.faults c.run_on.new.out)) c.run_on.result c.requires.reads
+    runs_taken (code_of_verified c.args.code) c.args.steps (shown_of c.args.showing) (g.I.Source.side c.args.input.now)
+    (g.I.Source.side c.read_all.new.source) c.in-Ok.bytes.items (g.O.Sink.side c.args.out.now)
+    (g.O.Sink.side c.run_on.new.out) c.run_on.result c.requires.reads
     c.in-Ok.ensures.all.0 c.in-Ok.ensures.all.1 c.in-Ok.ensures.within c.in-Ok.ensures.cause (rw c.deref.ensures.value at c.run_on.ensures)
 
 pub returns-in-Err : goal.returns-in-Err
 returns-in-Err g c =
-    rw c.from.ensures (runs_lost (code_of_verified c.args.code) c.args.steps (shown_of c.args.showing) (source_side (g.I.Source.left c.args.input.now) (g.I.Source.faults c.args.input.now))
-    (source_side (g.I.Source.left c.read_all.new.source) (g.I.Source.faults c.read_all.new.source)) c.in-Err.error (sink_side (g.O.Sink.written c.args.out.now) (g.O.Sink.faults c.args.out.now)) c.requires.reads
+    rw c.from.ensures (runs_lost (code_of_verified c.args.code) c.args.steps (shown_of c.args.showing) (g.I.Source.side c.args.input.now)
+    (g.I.Source.side c.read_all.new.source) c.in-Err.error (g.O.Sink.side c.args.out.now) c.requires.reads
     c.in-Err.ensures.prefix c.in-Err.ensures.cause c.in-Err.ensures.too_long)

@@ -1,5 +1,4 @@
 use Rattle.alma_code.specs.Plain.{code_of}
-use Rattle.alma_driver_outcome.specs.Outside.{sink_side}
 use Rattle.alma_driver_outcome.proofs.DriverLemmas.{IsListed, goes_starved}
 use Rattle.alma_driver_serve.proofs.list.list_code.Goals as goal
 
@@ -7,4 +6,4 @@ pub returns-in-Ok : goal.returns-in-Ok
 returns-in-Ok g c = rw (c.deref.ensures.value, c.in-Ok.ensures) at c.write_text.ensures
 
 pub returns-in-Err : goal.returns-in-Err
-returns-in-Err g c = goes_starved (IsListed (code_of c.args.code.now)) (sink_side (g.O.Sink.written c.args.out.now) (g.O.Sink.faults c.args.out.now))
+returns-in-Err g c = goes_starved (IsListed (code_of c.args.code.now)) (g.O.Sink.side c.args.out.now)

@@ -2,7 +2,6 @@ use Rattle.std.proofs.Common.{subst, sym, ◌∙◌}
 use Rattle.alma_code.specs.Plain.{PlainCode, code_of}
 use Rattle.alma_driver_outcome.specs.Course.{Runs}
 use Rattle.alma_driver_outcome.specs.Outcome.{InputOutcome}
-use Rattle.alma_driver_outcome.specs.Outside.{sink_side, source_side}
 use Rattle.alma_driver_outcome.specs.Showing.{shown_of}
 use Rattle.alma_driver_outcome.proofs.DriverLemmas.{runs_starved}
 use Rattle.alma_driver_serve.proofs.run.run_code.Goals as goal
@@ -18,10 +17,10 @@ open_encoded-verified-requires-clause-object g c = record {
 
 pub returns-in-Ok : goal.returns-in-Ok
 returns-in-Ok g c =
-    subst (λ (code : PlainCode). Runs (InputOutcome (g.I.Source.left c.args.input.now) code c.args.steps (shown_of c.args.showing)) (source_side (g.I.Source.left c.args.input.now) (g.I.Source.faults c.args.input.now))
-    (source_side (g.I.Source.left c.run_verified.new.input) (g.I.Source.faults c.run_verified.new.input)) (sink_side (g.O.Sink.written c.args.out.now) (g.O.Sink.faults c.args.out.now))
-    (sink_side (g.O.Sink.written c.run_verified.new.out) (g.O.Sink.faults c.run_verified.new.out)) c.run_verified.result) c.open_encoded-verified.ensures c.run_verified.ensures
+    subst (λ (code : PlainCode). Runs (InputOutcome (g.I.Source.side c.args.input.now).left code c.args.steps (shown_of c.args.showing)) (g.I.Source.side c.args.input.now)
+    (g.I.Source.side c.run_verified.new.input) (g.O.Sink.side c.args.out.now)
+    (g.O.Sink.side c.run_verified.new.out) c.run_verified.result) c.open_encoded-verified.ensures c.run_verified.ensures
 
 pub returns-in-Err : goal.returns-in-Err
 returns-in-Err g c =
-    runs_starved (InputOutcome (g.I.Source.left c.args.input.now) (code_of c.args.code.now) c.args.steps (shown_of c.args.showing)) (source_side (g.I.Source.left c.args.input.now) (g.I.Source.faults c.args.input.now)) (sink_side (g.O.Sink.written c.args.out.now) (g.O.Sink.faults c.args.out.now))
+    runs_starved (InputOutcome (g.I.Source.side c.args.input.now).left (code_of c.args.code.now) c.args.steps (shown_of c.args.showing)) (g.I.Source.side c.args.input.now) (g.O.Sink.side c.args.out.now)

@@ -1,8 +1,7 @@
 use Rattle.std.proofs.Common.{ap}
 use Rattle.std.specs.Prelude.{Some}
 use Rattle.alma_io.specs.Memory.{SourceState, SinkState}
-use Rattle.alma_driver_outcome.specs.Outside.{source_side}
-use Rattle.alma_driver_serve.proofs.SampleLemmas.{IsOwn, sampled_by}
+use Rattle.alma_driver_serve.proofs.SampleLemmas.{IsOwn, sampled_by, source_side}
 use Rattle.alma_driver_serve.proofs.sample.run_aside.Goals as goal
 
 pub returns : goal.returns

@@ -1,6 +1,5 @@
 use Rattle.std.proofs.Common.{◌∙◌}
 use Rattle.alma_driver_outcome.specs.Outcome.{SampleOutcome}
-use Rattle.alma_driver_outcome.specs.Outside.{sink_side}
 use Rattle.alma_driver_outcome.proofs.DriverLemmas.{goes_starved}
 use Rattle.alma_driver_serve.proofs.sample.sample.Goals as goal
 
@@ -11,4 +10,4 @@ pub sum_up-requires-clause-short : goal.sum_up-requires-clause-short
 sum_up-requires-clause-short g c = rw (c.deref.ensures.value, c.in-Ok.ensures.text) c.in-Ok.ensures.short
 
 pub returns-in-Err : goal.returns-in-Err
-returns-in-Err g c = goes_starved (SampleOutcome c.args.lines) (sink_side (g.O.Sink.written c.args.out.now) (g.O.Sink.faults c.args.out.now))
+returns-in-Err g c = goes_starved (SampleOutcome c.args.lines) (g.O.Sink.side c.args.out.now)

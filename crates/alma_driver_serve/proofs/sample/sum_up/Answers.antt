@@ -1,13 +1,12 @@
 use Rattle.alma_driver_outcome.specs.Outcome.{SampleOutcome}
-use Rattle.alma_driver_outcome.specs.Outside.{sink_side}
 use Rattle.alma_driver_outcome.proofs.DriverLemmas.{goes_starved}
 use Rattle.alma_driver_serve.proofs.SampleLemmas.{goes_summed}
 use Rattle.alma_driver_serve.proofs.sample.sum_up.Goals as goal
 
 pub returns-in-Ok : goal.returns-in-Ok
 returns-in-Ok g c =
-    goes_summed c.args.lines c.args.source.now c.in-Ok.told.printed c.in-Ok.told.status (sink_side (g.O.Sink.written c.args.out.now) (g.O.Sink.faults c.args.out.now))
-    (sink_side (g.O.Sink.written c.tell.new.out) (g.O.Sink.faults c.tell.new.out)) c.tell.result c.requires.text c.in-Ok.ensures c.tell.ensures
+    goes_summed c.args.lines c.args.source.now c.in-Ok.told.printed c.in-Ok.told.status (g.O.Sink.side c.args.out.now)
+    (g.O.Sink.side c.tell.new.out) c.tell.result c.requires.text c.in-Ok.ensures c.tell.ensures
 
 pub returns-in-Err : goal.returns-in-Err
-returns-in-Err g c = goes_starved (SampleOutcome c.args.lines) (sink_side (g.O.Sink.written c.args.out.now) (g.O.Sink.faults c.args.out.now))
+returns-in-Err g c = goes_starved (SampleOutcome c.args.lines) (g.O.Sink.side c.args.out.now)

@@ -1,6 +1,5 @@
 use Rattle.alma_code.specs.Plain.{code_of}
 use Rattle.alma_ir.specs.View.{program_of}
-use Rattle.alma_driver_outcome.specs.Outside.{sink_side, source_side}
 use Rattle.alma_driver_outcome.specs.Showing.{shown_of}
 use Rattle.alma_driver_outcome.proofs.DriverLemmas.{unlowered, compiled_within, runs_compiled, runs_refused}
 use Rattle.alma_driver_serve.proofs.source.run_program.Goals as goal
@@ -8,13 +7,13 @@ use Rattle.alma_driver_serve.proofs.source.run_program.Goals as goal
 pub returns-in-Ok : goal.returns-in-Ok
 returns-in-Ok g c =
     let p = program_of c.args.program.now in
-    runs_compiled p (code_of c.in-Ok.code) c.args.steps (shown_of c.args.showing) (source_side (g.I.Source.left c.args.input.now) (g.I.Source.faults c.args.input.now))
-    (source_side (g.I.Source.left c.run_code.new.input) (g.I.Source.faults c.run_code.new.input)) (sink_side (g.O.Sink.written c.args.out.now) (g.O.Sink.faults c.args.out.now))
-    (sink_side (g.O.Sink.written c.run_code.new.out) (g.O.Sink.faults c.run_code.new.out)) c.run_code.result
+    runs_compiled p (code_of c.in-Ok.code) c.args.steps (shown_of c.args.showing) (g.I.Source.side c.args.input.now)
+    (g.I.Source.side c.run_code.new.input) (g.O.Sink.side c.args.out.now)
+    (g.O.Sink.side c.run_code.new.out) c.run_code.result
     c.in-Ok.ensures.sound c.in-Ok.ensures.implements c.in-Ok.ensures.reads c.in-Ok.ensures.names (compiled_within p c.in-Ok.code c.in-Ok.ensures.too_much) c.run_code.ensures
 
 pub returns-in-Err : goal.returns-in-Err
 returns-in-Err g c =
     let p = program_of c.args.program.now in
-    rw c.from.ensures (runs_refused p c.args.steps (shown_of c.args.showing) c.in-Err.error (source_side (g.I.Source.left c.args.input.now) (g.I.Source.faults c.args.input.now)) (sink_side (g.O.Sink.written c.args.out.now) (g.O.Sink.faults c.args.out.now))
+    rw c.from.ensures (runs_refused p c.args.steps (shown_of c.args.showing) c.in-Err.error (g.I.Source.side c.args.input.now) (g.O.Sink.side c.args.out.now)
     (unlowered p c.in-Err.error c.in-Err.ensures.too_much c.in-Err.ensures.within))

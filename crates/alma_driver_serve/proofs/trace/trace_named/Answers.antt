@@ -6,7 +6,6 @@ use Rattle.alma_trace.specs.declared.watch.Watch.{Watch}
 use Rattle.alma_trace.specs.Resolved.{IsResolved}
 use Rattle.alma_verify.specs.Verified.{code_of_verified}
 use Rattle.alma_driver_outcome.specs.Course.{Goes}
-use Rattle.alma_driver_outcome.specs.Outside.{sink_side}
 use Rattle.alma_driver_outcome.specs.Showing.{Traces}
 use Rattle.alma_driver_outcome.proofs.DriverLemmas.{goes_starved}
 use Rattle.alma_driver_outcome.proofs.RunLemmas.{IsDue}
@@ -21,9 +20,9 @@ trace_watched-requires-clause-resolved g c =
 pub returns-in-Ok : goal.returns-in-Ok
 returns-in-Ok g c =
     let same : names_of c.deref.result.now ≡ map (λ (name : Bor (List ℕ)). name.now) c.args.names.now = ap names_of c.deref.ensures.value ∙ c.in-Ok.ensures.names in
-    subst (λ (names : List (List ℕ)). Goes (IsDue (code_of_verified c.args.code) c.args.input.now c.args.steps (Traces names)) (sink_side (g.O.Sink.written c.args.out.now) (g.O.Sink.faults c.args.out.now))
-    (sink_side (g.O.Sink.written c.trace_watched.new.out) (g.O.Sink.faults c.trace_watched.new.out)) c.trace_watched.result) same c.trace_watched.ensures
+    subst (λ (names : List (List ℕ)). Goes (IsDue (code_of_verified c.args.code) c.args.input.now c.args.steps (Traces names)) (g.O.Sink.side c.args.out.now)
+    (g.O.Sink.side c.trace_watched.new.out) c.trace_watched.result) same c.trace_watched.ensures
 
 pub returns-in-Err : goal.returns-in-Err
 returns-in-Err g c =
-    goes_starved (IsDue (code_of_verified c.args.code) c.args.input.now c.args.steps (Traces (map (λ (name : Bor (List ℕ)). name.now) c.args.names.now))) (sink_side (g.O.Sink.written c.args.out.now) (g.O.Sink.faults c.args.out.now))
+    goes_starved (IsDue (code_of_verified c.args.code) c.args.input.now c.args.steps (Traces (map (λ (name : Bor (List ℕ)). name.now) c.args.names.now))) (g.O.Sink.side c.args.out.now)

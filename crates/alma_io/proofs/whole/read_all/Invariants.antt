@@ -7,8 +7,8 @@ abbrev pub invariant-loop-count : goal.invariant-loop-count
 invariant-loop-count g l = record {
   within : vec_len l.bytes ≤ l.limit;
   chunk : 0 < vec_len l.chunk;
-  front : Consumes (g.S.Source.left l.fn.source) (g.S.Source.left l.source) l.bytes.items;
-  quiet : g.S.Source.faults l.source ≡ g.S.Source.faults l.fn.source;
+  front : Consumes (g.S.Source.side l.fn.source).left (g.S.Source.side l.source).left l.bytes.items;
+  quiet : (g.S.Source.side l.source).faults ≡ (g.S.Source.side l.fn.source).faults;
 }
 
 abbrev pub decreases-loop-count : goal.decreases-loop-count

@@ -27,11 +27,11 @@ returns-in-Err-clause-front g c =
     let m = c.loop-made.made in
     let a = c.in-Ok.step in
     let p = progress_more old c.loop-made.machine new m a c.loop-made.invariant.progress c.in-Ok.ensures.step c.in-Ok.ensures.counted c.in-Ok.ensures.same in
-    let front = subst (λ (code : PlainCode). AppendsFront (g.K.Sink.written c.loop-made.out) (g.K.Sink.written c.tell.new.out) (step_text code watches a new.printed new.state)) p.code c.in-Err.ensures.front in
+    let front = subst (λ (code : PlainCode). AppendsFront (g.K.Sink.side c.loop-made.out).written (g.K.Sink.side c.tell.new.out).written (step_text code watches a new.printed new.state)) p.code c.in-Err.ensures.front in
     let whole = within_then old c.loop-made.machine new watches m c.args.budget a c.loop-made.invariant.front c.loop-made.invariant.progress p c.in-Ok.ensures.step in
-    on_cut c.in-Err.cut (AppendsFront (g.K.Sink.written c.args.out.now) (g.K.Sink.written c.tell.new.out) (traced_within old.code old.input watches (made old new) c.args.budget old.state))
+    on_cut c.in-Err.cut (AppendsFront (g.K.Sink.side c.args.out.now).written (g.K.Sink.side c.tell.new.out).written (traced_within old.code old.input watches (made old new) c.args.budget old.state))
     c.in-Err.ensures.cut
-    (front_behind (g.K.Sink.written c.args.out.now) (g.K.Sink.written c.loop-made.out) (g.K.Sink.written c.tell.new.out) (text_of old watches m) (step_text old.code watches a new.printed new.state)
+    (front_behind (g.K.Sink.side c.args.out.now).written (g.K.Sink.side c.loop-made.out).written (g.K.Sink.side c.tell.new.out).written (text_of old watches m) (step_text old.code watches a new.printed new.state)
     (flat_map text_line (unless_done a (λ _. end_within (m + 1) c.args.budget))) (traced_within old.code old.input watches (made old new) c.args.budget old.state)
     c.loop-made.invariant.out front whole)
 
@@ -59,9 +59,9 @@ returns-in-Done-clause-out g c =
     let m = c.loop-made.made in
     let a = c.in-Ok.step in
     let p = progress_more old c.loop-made.machine new m a c.loop-made.invariant.progress c.in-Ok.ensures.step c.in-Ok.ensures.counted c.in-Ok.ensures.same in
-    let told = subst (λ (code : PlainCode). Appends (g.K.Sink.written c.loop-made.out) (g.K.Sink.written c.tell.new.out) (step_text code watches a new.printed new.state)) p.code c.in_default-tell.ensures.ok in
-    on_whole c.from.result (Appends (g.K.Sink.written c.args.out.now) (g.K.Sink.written c.tell.new.out) (traced old.code old.input watches c.args.budget old.state))
-    (out_more (g.K.Sink.written c.args.out.now) (g.K.Sink.written c.loop-made.out) (g.K.Sink.written c.tell.new.out) (text_of old watches m) (step_text old.code watches a new.printed new.state)
+    let told = subst (λ (code : PlainCode). Appends (g.K.Sink.side c.loop-made.out).written (g.K.Sink.side c.tell.new.out).written (step_text code watches a new.printed new.state)) p.code c.in_default-tell.ensures.ok in
+    on_whole c.from.result (Appends (g.K.Sink.side c.args.out.now).written (g.K.Sink.side c.tell.new.out).written (traced old.code old.input watches c.args.budget old.state))
+    (out_more (g.K.Sink.side c.args.out.now).written (g.K.Sink.side c.loop-made.out).written (g.K.Sink.side c.tell.new.out).written (text_of old watches m) (step_text old.code watches a new.printed new.state)
     (traced old.code old.input watches c.args.budget old.state) c.loop-made.invariant.out told
     (text_whole old c.loop-made.machine new watches m c.args.budget a c.in-Done.end c.loop-made.invariant.front c.loop-made.invariant.progress c.in-Ok.ensures.step c.in-Done.is c.loop-made-test.true))
 
@@ -81,12 +81,12 @@ loop-made-preserved g c =
     let a = c.in-Ok.step in
     let p = progress_more old c.loop-made.machine new m a c.loop-made.invariant.progress c.in-Ok.ensures.step c.in-Ok.ensures.counted c.in-Ok.ensures.same in
     let goes = goes_unless a c.in_default-step.not-Done in
-    let told = subst (λ (code : PlainCode). Appends (g.K.Sink.written c.loop-made.out) (g.K.Sink.written c.tell.new.out) (step_text code watches a new.printed new.state)) p.code c.in_default-tell.ensures.ok in
+    let told = subst (λ (code : PlainCode). Appends (g.K.Sink.side c.loop-made.out).written (g.K.Sink.side c.tell.new.out).written (step_text code watches a new.printed new.state)) p.code c.in_default-tell.ensures.ok in
     record {
       within = omega arith;
       progress = p;
       front = front_more old c.loop-made.machine new watches m a c.loop-made.invariant.front c.loop-made.invariant.progress p c.in-Ok.ensures.step goes;
-      out = out_more (g.K.Sink.written c.args.out.now) (g.K.Sink.written c.loop-made.out) (g.K.Sink.written c.tell.new.out) (text_of old watches m) (step_text old.code watches a new.printed new.state)
+      out = out_more (g.K.Sink.side c.args.out.now).written (g.K.Sink.side c.loop-made.out).written (g.K.Sink.side c.tell.new.out).written (text_of old watches m) (step_text old.code watches a new.printed new.state)
           (text_of old watches (m + 1)) c.loop-made.invariant.out told
           (text_more old c.loop-made.machine new watches m a c.loop-made.invariant.front c.loop-made.invariant.progress c.in-Ok.ensures.step);
       quiet = c.in_default-tell.ensures.cause.ok ∙ c.loop-made.invariant.quiet;
@@ -101,9 +101,9 @@ returns-in-Err-tell_steps_end-clause-front g c =
     let m = c.loop-made.made in
     let all : c.loop-made.made ≡ c.args.budget = omega (arith, c.loop-made.invariant.within, c.loop-made-test.false) in
     on_cut c.in-Err-tell_steps_end.cut
-    (AppendsFront (g.K.Sink.written c.args.out.now) (g.K.Sink.written c.tell_steps_end.new.out) (traced_within old.code old.input watches (made old now) c.args.budget old.state))
+    (AppendsFront (g.K.Sink.side c.args.out.now).written (g.K.Sink.side c.tell_steps_end.new.out).written (traced_within old.code old.input watches (made old now) c.args.budget old.state))
     c.in-Err-tell_steps_end.ensures.cut
-    (out_front (g.K.Sink.written c.args.out.now) (g.K.Sink.written c.loop-made.out) (g.K.Sink.written c.tell_steps_end.new.out) (text_of old watches m) (flat_map text_line steps_end)
+    (out_front (g.K.Sink.side c.args.out.now).written (g.K.Sink.side c.loop-made.out).written (g.K.Sink.side c.tell_steps_end.new.out).written (text_of old watches m) (flat_map text_line steps_end)
     (traced_within old.code old.input watches (made old now) c.args.budget old.state) c.loop-made.invariant.out c.in-Err-tell_steps_end.ensures.front
     (within_now old now watches m c.args.budget c.loop-made.invariant.front c.loop-made.invariant.progress
     ∙ ap (λ (z : List (List (List ℕ))). text_of old watches m ++ flat_map text_line z) (ap (λ n. end_within n c.args.budget) all ∙ end_whole c.args.budget)))
@@ -122,7 +122,7 @@ returns-clause-out g c =
     let watches = c.args.watches.now in
     let m = c.loop-made.made in
     let all : c.loop-made.made ≡ c.args.budget = omega (arith, c.loop-made.invariant.within, c.loop-made-test.false) in
-    out_more (g.K.Sink.written c.args.out.now) (g.K.Sink.written c.loop-made.out) (g.K.Sink.written c.tell_steps_end.new.out) (text_of old watches m) (flat_map text_line steps_end)
+    out_more (g.K.Sink.side c.args.out.now).written (g.K.Sink.side c.loop-made.out).written (g.K.Sink.side c.tell_steps_end.new.out).written (text_of old watches m) (flat_map text_line steps_end)
     (traced old.code old.input watches c.args.budget old.state) c.loop-made.invariant.out c.in_default-tell_steps_end.ensures.ok
     (ap (λ n. traced old.code old.input watches n old.state) (sym all) ∙ text_out old watches m c.loop-made.invariant.front)
 

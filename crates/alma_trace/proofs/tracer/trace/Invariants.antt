@@ -10,8 +10,8 @@ invariant-loop-made g l = record {
   within : l.made ≤ l.budget;
   progress : Progress l.fn.machine l.machine l.made;
   front : IsFront l.fn.machine l.watches l.made;
-  out : Appends (g.K.Sink.written l.fn.out) (g.K.Sink.written l.out) (text_of l.fn.machine l.watches l.made);
-  quiet : g.K.Sink.faults l.out ≡ g.K.Sink.faults l.fn.out;
+  out : Appends (g.K.Sink.side l.fn.out).written (g.K.Sink.side l.out).written (text_of l.fn.machine l.watches l.made);
+  quiet : (g.K.Sink.side l.out).faults ≡ (g.K.Sink.side l.fn.out).faults;
   running : l.machine.running ≡ true;
 }
 

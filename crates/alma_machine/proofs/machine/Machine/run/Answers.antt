@@ -42,8 +42,8 @@ returns-in-Done-clause-out g c =
     let now = progress_dash old c.loop-made.self d.new.self c.loop-made.made d.result before d.ensures.state d.ensures.shown d.ensures.counted d.ensures.same in
     let p = progress_more old d.new.self c.step.new.self m c.in-Ok.step now c.in-Ok.ensures.step c.in-Ok.ensures.counted c.in-Ok.ensures.same in
     let h = finished old d.new.self c.step.new.self m c.args.budget c.in-Ok.step c.in-Done.end now p c.in-Ok.ensures.step c.in-Done.is c.in-Ok.ensures.mode c.in-Ok.ensures.quiet c.if-made-budget.true in
-    on_whole c.from.result (Appends (g.K.Sink.written c.args.out.now) (g.K.Sink.written c.loop-made.out) (prints old.code old.input c.args.budget old.state))
-    (subst (λ (bytes : List ℕ). Appends (g.K.Sink.written c.args.out.now) (g.K.Sink.written c.loop-made.out) bytes) h.printed (subst (λ (bytes : List ℕ). Appends (g.K.Sink.written c.args.out.now) (g.K.Sink.written c.loop-made.out) bytes) (sym (prints_dash old c.loop-made.self c.loop-made.made d.result before d.ensures.silent)) c.loop-made.invariant.out))
+    on_whole c.from.result (Appends (g.K.Sink.side c.args.out.now).written (g.K.Sink.side c.loop-made.out).written (prints old.code old.input c.args.budget old.state))
+    (subst (λ (bytes : List ℕ). Appends (g.K.Sink.side c.args.out.now).written (g.K.Sink.side c.loop-made.out).written bytes) h.printed (subst (λ (bytes : List ℕ). Appends (g.K.Sink.side c.args.out.now).written (g.K.Sink.side c.loop-made.out).written bytes) (sym (prints_dash old c.loop-made.self c.loop-made.made d.result before d.ensures.silent)) c.loop-made.invariant.out))
 
 pub returns-in-Done-clause-made : goal.returns-in-Done-clause-made
 returns-in-Done-clause-made g c =
@@ -80,9 +80,9 @@ returns-then-is_err-clause-write_fault g c =
     let p = progress_more old d.new.self c.step.new.self m c.in-Ok.step now c.in-Ok.ensures.step c.in-Ok.ensures.counted c.in-Ok.ensures.same in
     let q = progress_stopped old c.step.new.self stopped (m + 1) (ap (λ x. x.state) c.self.view_is) (ap (λ x. x.code) c.self.view_is) (ap (λ x. x.input) c.self.view_is) (ap (λ x. x.printed) c.self.view_is) p in
     let failed : is_err c.write_printed.result ≡ true = search rules in
-    let front = on_err c.write_printed.result (AppendsFront (g.K.Sink.written c.loop-made.out) (g.K.Sink.written c.write_printed.new.out) c.printed.result.now) failed c.write_printed.ensures.front in
-    out_front (g.K.Sink.written c.args.out.now) (g.K.Sink.written c.loop-made.out) (g.K.Sink.written c.write_printed.new.out) (prints old.code old.input m old.state) c.printed.result.now
-    (prints old.code old.input (made old stopped) old.state) (subst (λ (bytes : List ℕ). Appends (g.K.Sink.written c.args.out.now) (g.K.Sink.written c.loop-made.out) bytes) (sym (prints_dash old c.loop-made.self c.loop-made.made d.result before d.ensures.silent)) c.loop-made.invariant.out) front
+    let front = on_err c.write_printed.result (AppendsFront (g.K.Sink.side c.loop-made.out).written (g.K.Sink.side c.write_printed.new.out).written c.printed.result.now) failed c.write_printed.ensures.front in
+    out_front (g.K.Sink.side c.args.out.now).written (g.K.Sink.side c.loop-made.out).written (g.K.Sink.side c.write_printed.new.out).written (prints old.code old.input m old.state) c.printed.result.now
+    (prints old.code old.input (made old stopped) old.state) (subst (λ (bytes : List ℕ). Appends (g.K.Sink.side c.args.out.now).written (g.K.Sink.side c.loop-made.out).written bytes) (sym (prints_dash old c.loop-made.self c.loop-made.made d.result before d.ensures.silent)) c.loop-made.invariant.out) front
     (ap (λ k. prints old.code old.input k old.state) (made_is old stopped (m + 1) q)
     ∙ prints_then old d.new.self c.step.new.self m c.in-Ok.step now c.in-Ok.ensures.step
     ∙ ap (λ bytes. prints old.code old.input m old.state ++ bytes) (sym c.printed.ensures))
@@ -97,7 +97,7 @@ loop-made-preserved g c =
     record {
       within = omega (arith, d.ensures.few, c.loop-made-test.true);
       progress = now;
-      out = (subst (λ (bytes : List ℕ). Appends (g.K.Sink.written c.args.out.now) (g.K.Sink.written c.loop-made.out) bytes) (sym (prints_dash old c.loop-made.self c.loop-made.made d.result before d.ensures.silent)) c.loop-made.invariant.out);
+      out = (subst (λ (bytes : List ℕ). Appends (g.K.Sink.side c.args.out.now).written (g.K.Sink.side c.loop-made.out).written bytes) (sym (prints_dash old c.loop-made.self c.loop-made.made d.result before d.ensures.silent)) c.loop-made.invariant.out);
       quiet = c.loop-made.invariant.quiet;
       running = d.ensures.running;
     }
@@ -124,8 +124,8 @@ returns-in_default-clause-memory g c =
     let failed : is_err c.step.result ≡ true = search rules in
     let refused = on_err c.step.result ((c.step.new.self.state ≡ d.new.self.state) × (c.step.new.self.printed ≡ [])) failed c.step.ensures.refused in
     let count : made old c.step.new.self ≡ m = omega (arith, now.steps, ap (λ (s : State). s.steps) refused.0) in
-    subst (λ k. Appends (g.K.Sink.written c.args.out.now) (g.K.Sink.written c.loop-made.out) (prints old.code old.input k old.state)) (sym count)
-    (subst (λ (bytes : List ℕ). Appends (g.K.Sink.written c.args.out.now) (g.K.Sink.written c.loop-made.out) bytes) (sym (prints_dash old c.loop-made.self c.loop-made.made d.result before d.ensures.silent)) c.loop-made.invariant.out)
+    subst (λ k. Appends (g.K.Sink.side c.args.out.now).written (g.K.Sink.side c.loop-made.out).written (prints old.code old.input k old.state)) (sym count)
+    (subst (λ (bytes : List ℕ). Appends (g.K.Sink.side c.args.out.now).written (g.K.Sink.side c.loop-made.out).written bytes) (sym (prints_dash old c.loop-made.self c.loop-made.made d.result before d.ensures.silent)) c.loop-made.invariant.out)
 
 pub loop-made-preserved-then-made-budget : goal.loop-made-preserved-then-made-budget
 loop-made-preserved-then-made-budget g c =
@@ -136,13 +136,13 @@ loop-made-preserved-then-made-budget g c =
     let now = progress_dash old c.loop-made.self d.new.self c.loop-made.made d.result before d.ensures.state d.ensures.shown d.ensures.counted d.ensures.same in
     let p = progress_more old d.new.self c.step.new.self m c.in-Ok.step now c.in-Ok.ensures.step c.in-Ok.ensures.counted c.in-Ok.ensures.same in
     let written : is_err c.write_printed.result ≡ false = search rules in
-    let out = on_ok c.write_printed.result (Appends (g.K.Sink.written c.loop-made.out) (g.K.Sink.written c.write_printed.new.out) c.printed.result.now) written c.write_printed.ensures.ok in
-    let quiet = on_ok c.write_printed.result (g.K.Sink.faults c.write_printed.new.out ≡ g.K.Sink.faults c.loop-made.out) written c.write_printed.ensures.cause.ok in
+    let out = on_ok c.write_printed.result (Appends (g.K.Sink.side c.loop-made.out).written (g.K.Sink.side c.write_printed.new.out).written c.printed.result.now) written c.write_printed.ensures.ok in
+    let quiet = on_ok c.write_printed.result ((g.K.Sink.side c.write_printed.new.out).faults ≡ (g.K.Sink.side c.loop-made.out).faults) written c.write_printed.ensures.cause.ok in
     record {
       within = omega (arith, c.if-made-budget.true);
       progress = p;
-      out = out_more (g.K.Sink.written c.args.out.now) (g.K.Sink.written c.loop-made.out) (g.K.Sink.written c.write_printed.new.out) (prints old.code old.input m old.state) c.printed.result.now
-          (prints old.code old.input (m + 1) old.state) (subst (λ (bytes : List ℕ). Appends (g.K.Sink.written c.args.out.now) (g.K.Sink.written c.loop-made.out) bytes) (sym (prints_dash old c.loop-made.self c.loop-made.made d.result before d.ensures.silent)) c.loop-made.invariant.out) out
+      out = out_more (g.K.Sink.side c.args.out.now).written (g.K.Sink.side c.loop-made.out).written (g.K.Sink.side c.write_printed.new.out).written (prints old.code old.input m old.state) c.printed.result.now
+          (prints old.code old.input (m + 1) old.state) (subst (λ (bytes : List ℕ). Appends (g.K.Sink.side c.args.out.now).written (g.K.Sink.side c.loop-made.out).written bytes) (sym (prints_dash old c.loop-made.self c.loop-made.made d.result before d.ensures.silent)) c.loop-made.invariant.out) out
           (prints_then old d.new.self c.step.new.self m c.in-Ok.step now c.in-Ok.ensures.step
           ∙ ap (λ bytes. prints old.code old.input m old.state ++ bytes) (sym c.printed.ensures));
       quiet = quiet ∙ c.loop-made.invariant.quiet;
