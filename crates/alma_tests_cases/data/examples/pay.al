@@ -1,5 +1,5 @@
 MODULE Pay;
-(* Nine, paid in three coins. A call keeps its choices: where the sum fails, the last coin is taken back, and the next one is tried. *)
+(* Nine, in three coins. Where the sum fails, the last call of Coin goes on with its next branch. *)
 VAR first, second, third: INTEGER;
 
 PROCEDURE Coin(VAR value: INTEGER);
