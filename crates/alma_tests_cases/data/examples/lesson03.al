@@ -1,5 +1,6 @@
 MODULE Lesson03;
-(* A variable is unknown until it gets a value. An equation gives an unknown side the value of the other one, and else compares. *)
+(* A variable is unknown until it gets a value.
+   An equation gives an unknown side the value of the other one, and else compares. *)
 VAR x, y: INTEGER;
 BEGIN
   WRITELN(KNOWN(x));

@@ -1,5 +1,6 @@
 MODULE Lesson07;
-(* NOT succeeds where what is inside has no way. A test in the place of a value is TRUE in the memory of its first way, else FALSE. *)
+(* NOT succeeds where what is inside has no way.
+   A test in the place of a value is TRUE in the memory of its first way, else FALSE. *)
 VAR x: INTEGER; found: BOOLEAN;
 BEGIN
   x := 5;

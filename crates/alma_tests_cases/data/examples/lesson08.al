@@ -1,5 +1,6 @@
 MODULE Lesson08;
-(* A procedure returns with its choices open: a failure behind the call goes back into it. A function takes its first way. *)
+(* A procedure returns with its choices open: a failure behind the call goes back into it.
+   A function takes its first way. *)
 VAR first, second, third: INTEGER;
 
 PROCEDURE Double(n: INTEGER): INTEGER;

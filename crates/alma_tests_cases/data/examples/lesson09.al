@@ -1,5 +1,6 @@
 MODULE Lesson09;
-(* A MIX parameter is the caller's variable where the argument is one, and else holds its value: one procedure tests and generates. *)
+(* A MIX parameter is the caller's variable where the argument is one, and else holds its value:
+   one procedure tests and generates. *)
 VAR d: INTEGER;
 
 PROCEDURE Digit(MIX x: INTEGER);

@@ -1,5 +1,6 @@
 MODULE Lesson10;
-(* FORALL makes its second part after each way of its first one. What the second part changes stays, what the first part changes goes. *)
+(* FORALL makes its second part after each way of its first one.
+   What the second part changes stays, what the first part changes goes. *)
 VAR a, b, count: INTEGER;
 BEGIN
   count := 0;

@@ -1,5 +1,6 @@
 MODULE Lesson12;
-(* A procedure inside another uses its variables. Its choices are retried like all others, and its frames come back with them. *)
+(* A procedure inside another uses its variables.
+   Its choices are retried like all others, and its frames come back with them. *)
 PROCEDURE Zigzag(n: INTEGER);
 VAR way: ARRAY [1..9] OF INTEGER; i: INTEGER;
 
