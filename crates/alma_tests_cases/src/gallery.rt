@@ -4,7 +4,7 @@ use alma_io::{StdFiles, StdSink};
 use anyhow::Result;
 
 // The examples, which lie in the folder `examples`.
-const NAMES: [&str; 33] = [
+const NAMES: [&str; 34] = [
     "change",
     "collatz",
     "colours",
@@ -30,6 +30,7 @@ const NAMES: [&str; 33] = [
     "packing",
     "pair",
     "path",
+    "pay",
     "queens",
     "river",
     "squares",
