@@ -1,12 +1,13 @@
 -- Code with a jump aimed late.
-use Rattle.std.proofs.Common.{◌≡◌, ℕ, zero, suc, ◌+◌, ◌<◌, ◌≤◌, List, [], ◌∷◌, ◌++◌, length, map, get_or, refl, ap, ◌∙◌, arith, append_assoc, length-append}
+use Rattle.std.proofs.Common.{◌≡◌, ℕ, zero, suc, ◌+◌, ◌<◌, ◌≤◌, List, [], ◌∷◌, ◌++◌, length, map, get_or, refl, sym, ap, ◌∙◌, arith, append_assoc, append-nil, length-append}
 use Rattle.std.specs.Prelude.{slice_set}
 use Rattle.std.proofs.lemmas.List.{length-map}
 use Rattle.alma_code.specs.declared.cell.SlotKind.{SlotKind}
 use Rattle.alma_code.specs.declared.instr.Instr.{Instr}
+use Rattle.alma_code.specs.declared.instr.Instr.TheVariants as I
 use Rattle.alma_choice.specs.declared.emit.Emit.{Emit}
-use Rattle.alma_lower_templates.specs.Lined.{Lined}
-use Rattle.alma_choice.specs.Emitted.{lined, made, with_target, aimed, Appends}
+use Rattle.alma_lower_templates.specs.Lined.{Lined, own}
+use Rattle.alma_choice.specs.Emitted.{lined, made, with_target, aimed, Appends, Aims, EndsEach, EndsForall}
 
 -- an instruction of the code is written anew with its target
 pub aimed_in : (xs : List (Instr × ℕ)) (at to : ℕ) (d : Instr × ℕ) → at < length xs
@@ -38,3 +39,26 @@ append_then a b c f g k l h j = record {
 -- the code is as long as its instructions
 pub made_long : (e : Emit) → length (made e) ≡ length e.code.items
 made_long e = length-map e.code.items lined
+
+-- an instruction without a target may be put before the jump is aimed
+aimed_front : (xs : List Lined) (x : Lined) (at to : ℕ) → with_target x.instr to ≡ x.instr → aimed (xs ++ x ∷ []) at to ≡ aimed xs at to ++ x ∷ []
+aimed_front [] x zero to e = ap (λ (i : Instr). record { line = x.line; instr = i } ∷ []) e
+aimed_front [] x (suc at) to e = refl
+aimed_front (y ∷ xs) x zero to e = refl
+aimed_front (y ∷ xs) x (suc at) to e = ap (λ l. y ∷ l) (aimed_front xs x at to e)
+
+-- the ends of FORALL, aimed when they are put
+pub ends_each : (a b c : Emit) (line mark inner overlay : ℕ) → Appends a b (own line (I.Cut inner ∷ I.Keep mark ∷ I.Fail ∷ [])) [] → Aims b c overlay (length (made a) + 2) → EndsEach a c line mark inner overlay
+ends_each a b c line mark inner overlay h aims = record {
+  instrs = aims.instrs ∙ ap (λ l. aimed l overlay (length (made a) + 2)) (h.instrs ∙ sym (append_assoc (made a) (own line (I.Cut inner ∷ I.Keep mark ∷ [])) (own line (I.Fail ∷ []))))
+      ∙ aimed_front (made a ++ own line (I.Cut inner ∷ I.Keep mark ∷ [])) (record { line = line; instr = I.Fail }) overlay (length (made a) + 2) refl;
+  kinds = aims.kinds ∙ h.kinds ∙ append-nil a.kinds.items;
+  next = omega (arith, aims.next, h.next);
+}
+
+pub ends_forall : (a b c : Emit) (line forall : ℕ) → Appends a b (own line (I.Finish ∷ [])) [] → Aims b c forall (length (made a)) → EndsForall a c line forall
+ends_forall a b c line forall h aims = record {
+  instrs = aims.instrs ∙ ap (λ l. aimed l forall (length (made a))) h.instrs ∙ aimed_front (made a) (record { line = line; instr = I.Finish }) forall (length (made a)) refl;
+  kinds = aims.kinds ∙ h.kinds ∙ append-nil a.kinds.items;
+  next = omega (arith, aims.next, h.next);
+}

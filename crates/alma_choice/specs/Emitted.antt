@@ -1,5 +1,6 @@
 -- What an emitter has put, and what a call of it adds.
-use Rattle.std.specs.Prelude.{◌≡◌, ℕ, zero, suc, ◌+◌, List, [], ◌∷◌, ◌++◌, length, map}
+use Rattle.std.specs.Prelude.{◌≡◌, ℕ, zero, suc, ◌+◌, List, [], ◌∷◌, ◌++◌, ◌<◌, length, map, vec_len, vec_capacity}
+use Rattle.alma_base.specs.Limits.{slot_limit}
 use Rattle.alma_code.specs.declared.cell.SlotKind.{SlotKind}
 use Rattle.alma_code.specs.declared.instr.Instr.{Instr}
 use Rattle.alma_code.specs.declared.instr.Instr.TheVariants as I
@@ -35,6 +36,17 @@ pub record Appends (a b : Emit) (code : List Lined) (slots : List SlotKind) : Ty
   pub instrs : made b ≡ made a ++ code
   pub kinds : b.kinds.items ≡ a.kinds.items ++ slots
   pub next : b.next ≡ a.next + length slots
+
+-- b has the same code and the same slots as a
+pub record IsAsBefore (a b : Emit) : Type 0 where
+  pub instrs : b.code.items ≡ a.code.items
+  pub kinds : b.kinds.items ≡ a.kinds.items
+  pub next : b.next ≡ a.next
+
+-- one more slot can be taken
+pub record HasSlotRoom (a : Emit) : Type 0 where
+  pub limit : a.next < slot_limit
+  pub memory : vec_len a.kinds < vec_capacity a.kinds
 
 -- b is a with the jump at an address aimed at another
 pub record Aims (a b : Emit) (at to : ℕ) : Type 0 where

@@ -1,11 +1,11 @@
 // Instructions with their lines, slots, and jumps that are aimed late.
-ghost use Rattle.std.specs.Prelude.{◌≡◌, ℕ, ◌+◌, List, [], ◌∷◌, ◌++◌, ◌≤◌, length, IfOk, OnOk};
+ghost use Rattle.std.specs.Prelude.{◌≡◌, ℕ, ◌+◌, List, [], ◌∷◌, ◌++◌, ◌≤◌, length, IfOk, OnOk, OnErr};
 ghost use Rattle.alma_code.specs.declared.instr.Instr.TheVariants as instr;
 ghost use Rattle.alma_code.specs.declared.cell.SlotKind.TheVariants as slot;
 ghost use Rattle.alma_lower_templates.specs.Lined.{own};
 ghost use Rattle.alma_lower_templates.specs.Pieces as pieces;
 ghost use Rattle.alma_base.specs.Limits.{instr_limit};
-ghost use Rattle.alma_choice.specs.Emitted.{made, with_target, aimed, Appends, Aims, EndsEach, EndsForall};
+ghost use Rattle.alma_choice.specs.Emitted.{made, with_target, aimed, Appends, Aims, EndsEach, EndsForall, IsAsBefore, HasSlotRoom};
 
 use alma_base::{INSTR_LIMIT, NoMemory, SLOT_LIMIT};
 use alma_code::{Instr, SlotKind};
@@ -43,31 +43,86 @@ impl Emit {
         self.next = slots;
     }
 
+    // All of these instructions or none, and the address of the first.
+    fn put_all(&mut self, line: u32, instrs: &[Instr]) -> Result<u32, NoMemory>
+        ensures address { IfOk result (λ at. at ≡ length (made self.old)) }
+        ensures small { IfOk result (λ at. at + length instrs.now ≤ instr_limit) }
+        ensures puts { OnOk result (Appends self.old self.new (own line instrs.now) []) }
+        ensures kinds { self.new.kinds ≡ self.old.kinds }
+        ensures next { self.new.next ≡ self.old.next }
+        ensures refused { OnErr result (IsAsBefore self.old self.new) }
+    {
+        let at = self.code.len();
+        if at + instrs.len() > INSTR_LIMIT as usize {
+            return Err(NoMemory);
+        }
+        self.code.reserve(instrs.len())?;
+        for i in 0..instrs.len() {
+            match self.code.push((instrs[i], line)) {
+                Ok(()) => (),
+                Err(_) => unreachable!(),
+            }
+        }
+        Ok(at as u32)
+    }
+
+    // Room for one more slot.
+    fn reserve_slot(&mut self) -> Result<(), NoMemory>
+        ensures same { IsAsBefore self.old self.new }
+        ensures room { OnOk result (HasSlotRoom self.new) }
+    {
+        if self.next >= SLOT_LIMIT {
+            return Err(NoMemory);
+        }
+        self.kinds.reserve(1)?;
+        Ok(())
+    }
+
+    // One more slot, for which there is room, and its number.
+    fn take_slot(&mut self, kind: SlotKind) -> u32
+        requires { HasSlotRoom self.old }
+        ensures slot { result ≡ self.old.next }
+        ensures takes { Appends self.old self.new [] (kind ∷ []) }
+    {
+        let slot = self.next;
+        match self.kinds.push(kind) {
+            Ok(()) => (),
+            Err(_) => unreachable!(),
+        }
+        self.next += 1;
+        slot
+    }
+
+    // A mark slot, which is the next slot, and all of these instructions, or neither; and the address of the first.
+    fn put_marked(&mut self, line: u32, instrs: &[Instr]) -> Result<u32, NoMemory>
+        ensures address { IfOk result (λ at. at ≡ length (made self.old)) }
+        ensures small { IfOk result (λ at. at + length instrs.now ≤ instr_limit) }
+        ensures puts { OnOk result (Appends self.old self.new (own line instrs.now) (slot.Mark ∷ [])) }
+        ensures refused { OnErr result (IsAsBefore self.old self.new) }
+    {
+        self.reserve_slot()?;
+        let at = self.put_all(line, instrs)?;
+        self.take_slot(SlotKind::Mark);
+        Ok(at)
+    }
+
     /// One more instruction, and its address. At the limit of instructions this is NoMemory.
     pub fn put(&mut self, line: u32, instr: Instr) -> Result<u32, NoMemory>
         ensures address { IfOk result (λ at. at ≡ length (made self.old)) }
         ensures puts { OnOk result (Appends self.old self.new (own line (instr ∷ [])) []) }
+        ensures refused { OnErr result (IsAsBefore self.old self.new) }
     {
-        if self.code.len() >= INSTR_LIMIT as usize {
-            return Err(NoMemory);
-        }
-        let at = self.code.len() as u32;
-        self.code.push((instr, line))?;
-        Ok(at)
+        self.put_all(line, &[instr])
     }
 
     /// One more slot, and its number. At the limit of slots this is NoMemory.
     pub fn slot(&mut self, kind: SlotKind) -> Result<u32, NoMemory>
         ensures slot { IfOk result (λ slot. slot ≡ self.old.next) }
         ensures puts { OnOk result (Appends self.old self.new [] (kind ∷ [])) }
+        ensures refused { OnErr result (IsAsBefore self.old self.new) }
     {
-        if self.next >= SLOT_LIMIT {
-            return Err(NoMemory);
-        }
-        let slot = self.next;
-        self.kinds.push(kind)?;
-        self.next += 1;
-        Ok(slot)
+        self.reserve_slot()?;
+        Ok(self.take_slot(kind))
     }
 
     /// The address of the next instruction.
@@ -99,11 +154,14 @@ impl Emit {
         ensures choice { IfOk result (λ r. r.1 ≡ length (made self.old) + 1) }
         ensures puts { OnOk result (Appends self.old self.new
             (pieces.begin_first line self.old.next 0) (slot.Mark ∷ [])) }
+        ensures refused { OnErr result (IsAsBefore self.old self.new) }
     {
-        let mark = self.slot(SlotKind::Mark)?;
-        self.put(line, Instr::Mark { to: mark })?;
-        let choice = self.put(line, Instr::Choose { resume: 0 })?;
-        Ok((mark, choice))
+        let mark = self.next;
+        let at = self.put_marked(
+            line,
+            &[Instr::Mark { to: mark }, Instr::Choose { resume: 0 }],
+        )?;
+        Ok((mark, at + 1))
     }
 
     /// The front of FORALL: its mark, and its address, which is still to be aimed.
@@ -112,9 +170,10 @@ impl Emit {
         ensures forall { IfOk result (λ r. r.1 ≡ length (made self.old)) }
         ensures puts { OnOk result (Appends self.old self.new
             (pieces.begin_forall line self.old.next 0) (slot.Mark ∷ [])) }
+        ensures refused { OnErr result (IsAsBefore self.old self.new) }
     {
-        let mark = self.slot(SlotKind::Mark)?;
-        let forall = self.put(line, Instr::Forall { mark, resume: 0 })?;
+        let mark = self.next;
+        let forall = self.put_marked(line, &[Instr::Forall { mark, resume: 0 }])?;
         Ok((mark, forall))
     }
 
@@ -125,10 +184,16 @@ impl Emit {
         ensures overlay { IfOk result (λ r. r.1 ≡ length (made self.old)) }
         ensures puts { OnOk result (Appends self.old self.new
             (pieces.begin_each line mark self.old.next 0) (slot.Mark ∷ [])) }
+        ensures refused { OnErr result (IsAsBefore self.old self.new) }
     {
-        let inner = self.slot(SlotKind::Mark)?;
-        let overlay = self.put(line, Instr::Overlay { mark, resume: 0 })?;
-        self.put(line, Instr::Mark { to: inner })?;
+        let inner = self.next;
+        let overlay = self.put_marked(
+            line,
+            &[
+                Instr::Overlay { mark, resume: 0 },
+                Instr::Mark { to: inner },
+            ],
+        )?;
         Ok((inner, overlay))
     }
 
@@ -141,22 +206,27 @@ impl Emit {
         overlay: u32,
     ) -> Result<(), NoMemory>
         ensures ends { OnOk result (EndsEach self.old self.new line mark inner overlay) }
+        ensures refused { OnErr result (IsAsBefore self.old self.new) }
     {
-        self.put(line, Instr::Cut { mark: inner })?;
-        self.put(line, Instr::Keep { mark })?;
-        let next = self.here()?;
-        self.aim(overlay, next);
-        self.put(line, Instr::Fail)?;
+        let at = self.put_all(
+            line,
+            &[
+                Instr::Cut { mark: inner },
+                Instr::Keep { mark },
+                Instr::Fail,
+            ],
+        )?;
+        self.aim(overlay, at + 2);
         Ok(())
     }
 
     /// Behind both parts of FORALL.
     pub fn end_forall(&mut self, line: u32, forall: u32) -> Result<(), NoMemory>
         ensures ends { OnOk result (EndsForall self.old self.new line forall) }
+        ensures refused { OnErr result (IsAsBefore self.old self.new) }
     {
-        let next = self.here()?;
-        self.aim(forall, next);
-        self.put(line, Instr::Finish)?;
+        let at = self.put_all(line, &[Instr::Finish])?;
+        self.aim(forall, at);
         Ok(())
     }
 

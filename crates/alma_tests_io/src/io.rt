@@ -3,7 +3,8 @@ use alma_io::{
     Failed, Fetch, Files, MemFiles, MemSink, MemSource, ReadAll, Sink, Source, StdFiles, StdSink,
     StdSource, StoreFault, WriteFault, read_all, write_all,
 };
-use std::io::{ErrorKind, Read, Write};
+use std::alloc::Allocator;
+use std::io::{ErrorKind, Read, Seek, SeekFrom, Write};
 use std::test::Fail;
 use std::{fs, io};
 
@@ -99,6 +100,140 @@ fn a_file_is_stored_and_fetched_up_to_its_limit(rt: HostRuntime) -> Result<(), F
         files.store(rt.alloc(), "no_folder/x", b"x"),
         Err(StoreFault::Failed)
     );
+    Ok(())
+}
+
+/// The file system on a disk where each file takes four bytes.
+#[derive(Drop)]
+struct FullDisk<'r, R: fs::Files> {
+    rt: &'r R,
+}
+
+#[derive(Drop)]
+struct FullFile<F: Drop> {
+    file: F,
+    room: usize,
+}
+
+impl<F: Read + Drop> Read for FullFile<F> {
+    fn read(&mut self, buf: &mut [u8]) -> io::Result<usize> {
+        self.file.read(buf)
+    }
+}
+
+impl<F: Write + Drop> Write for FullFile<F> {
+    fn write(&mut self, piece: &[u8]) -> io::Result<usize> {
+        let len = self.room.min(piece.len());
+        if len == 0 {
+            return Err(io::Error::from(ErrorKind::StorageFull));
+        }
+        let count = self.file.write(&piece[..len])?;
+        self.room = self.room.saturating_sub(count);
+        Ok(count)
+    }
+
+    fn flush(&mut self) -> io::Result<()> {
+        self.file.flush()
+    }
+}
+
+impl<F: Seek + Drop> Seek for FullFile<F> {
+    fn seek(&mut self, pos: SeekFrom) -> io::Result<u64> {
+        self.file.seek(pos)
+    }
+}
+
+impl<F: fs::OpenFile + Drop> fs::OpenFile for FullFile<F> {
+    fn metadata(&self) -> io::Result<fs::Metadata> {
+        self.file.metadata()
+    }
+
+    fn set_len(&self, size: u64) -> io::Result<()> {
+        self.file.set_len(size)
+    }
+
+    fn sync_all(&self) -> io::Result<()> {
+        self.file.sync_all()
+    }
+
+    fn sync_data(&self) -> io::Result<()> {
+        self.file.sync_data()
+    }
+}
+
+impl<R: fs::Files> fs::Files for FullDisk<'_, R> {
+    type File = FullFile<R::File>;
+
+    type Dir = R::Dir;
+
+    fn open_file(&self, how: &fs::OpenOptions, path: &str) -> io::Result<FullFile<R::File>> {
+        let file = self.rt.open_file(how, path)?;
+        Ok(FullFile { file, room: 4 })
+    }
+
+    fn open_dir(&self, path: &str) -> io::Result<R::Dir> {
+        self.rt.open_dir(path)
+    }
+
+    fn metadata(&self, path: &str) -> io::Result<fs::Metadata> {
+        self.rt.metadata(path)
+    }
+
+    fn symlink_metadata(&self, path: &str) -> io::Result<fs::Metadata> {
+        self.rt.symlink_metadata(path)
+    }
+
+    fn copy(&self, from: &str, to: &str) -> io::Result<u64> {
+        self.rt.copy(from, to)
+    }
+
+    fn rename(&self, from: &str, to: &str) -> io::Result<()> {
+        self.rt.rename(from, to)
+    }
+
+    fn remove_file(&self, path: &str) -> io::Result<()> {
+        self.rt.remove_file(path)
+    }
+
+    fn create_dir(&self, path: &str) -> io::Result<()> {
+        self.rt.create_dir(path)
+    }
+
+    fn remove_dir(&self, path: &str) -> io::Result<()> {
+        self.rt.remove_dir(path)
+    }
+
+    fn remove_dir_all<B: Allocator>(&self, alloc: B, path: &str) -> io::Result<()> {
+        self.rt.remove_dir_all(alloc, path)
+    }
+
+    fn set_permissions(&self, path: &str, permissions: fs::Permissions) -> io::Result<()> {
+        self.rt.set_permissions(path, permissions)
+    }
+}
+
+#[test]
+fn a_full_disk_keeps_the_old_file(rt: HostRuntime) -> Result<(), Fail> {
+    let name = "alma_io_full.bin";
+    let part = "alma_io_full.bin.part";
+    let mut files = StdFiles::new(&rt);
+    assert_eq!(rt; files.store(rt.alloc(), name, b"older"), Ok(()));
+    let disk = FullDisk { rt: &rt };
+    let mut full = StdFiles::new(&disk);
+    assert_eq!(rt;
+        full.store(rt.alloc(), name, b"newer"),
+        Err(StoreFault::Failed)
+    );
+    assert_eq!(rt; fs::read(&rt, name)?.as_slice(), b"older".as_slice());
+    assert!(rt; !fs::exists(&rt, part)?, "the part is taken away");
+    assert_eq!(rt; full.store(rt.alloc(), name, b"new"), Ok(()));
+    assert_eq!(rt; fs::read(&rt, name)?.as_slice(), b"new".as_slice());
+    fs::write(&rt, part, b"another")?;
+    assert_eq!(rt; files.store(rt.alloc(), name, b"straight"), Ok(()));
+    assert_eq!(rt; fs::read(&rt, name)?.as_slice(), b"straight".as_slice());
+    assert_eq!(rt; fs::read(&rt, part)?.as_slice(), b"another".as_slice());
+    fs::remove_file(&rt, part)?;
+    fs::remove_file(&rt, name)?;
     Ok(())
 }
 

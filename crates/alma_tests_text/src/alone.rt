@@ -1,0 +1,121 @@
+// What one constant or type expression alone is, where memory is ample.
+use alma_base::CheckFault;
+use alma_check_expr::{const_value, shape_of};
+use alma_check_type::Reader;
+use alma_parse::{ParseError, parse};
+use alma_rules::CheckError;
+use alma_scan::scan;
+use alma_tree::{Block, Decl};
+use std::alloc::Global;
+use std::test::Fail;
+
+/// The shape and the value of a constant, the shape of a type, or the broken rule and its token.
+#[derive(Clone, Copy, Debug, PartialEq, Eq)]
+enum Answer {
+    Constant(u32, i64),
+    Type(u32),
+    Broken(CheckFault, usize),
+    Nothing,
+    Memory,
+}
+
+/// A module, and what its first declaration is where nothing but the names outside each module is declared.
+struct Row {
+    source: &'static [u8],
+    answer: Answer,
+}
+
+const ROWS: [Row; 9] = [
+    Row {
+        source: b"MODULE A; CONST c = 1 + 2 * 3; END A.",
+        answer: Answer::Constant(0, 7),
+    },
+    Row {
+        source: b"MODULE A; CONST c = 'a'; END A.",
+        answer: Answer::Constant(1, 97),
+    },
+    Row {
+        source: b"MODULE A; CONST c = 1 < 2; END A.",
+        answer: Answer::Constant(2, 1),
+    },
+    Row {
+        source: b"MODULE A; CONST c = 1 + d; END A.",
+        answer: Answer::Broken(CheckFault::Undeclared, 8),
+    },
+    Row {
+        source: b"MODULE A; CONST c = 7 DIV 0; END A.",
+        answer: Answer::Broken(CheckFault::ConstRange, 6),
+    },
+    Row {
+        source: b"MODULE A; TYPE T = CHAR; END A.",
+        answer: Answer::Type(1),
+    },
+    Row {
+        source: b"MODULE A; TYPE T = ARRAY [1 .. 9] OF CHAR; END A.",
+        answer: Answer::Type(4),
+    },
+    Row {
+        source: b"MODULE A; TYPE T = RECORD a : INTEGER; b : U END; END A.",
+        answer: Answer::Broken(CheckFault::Undeclared, 13),
+    },
+    Row {
+        source: b"MODULE A; TYPE T = [9 .. 1]; END A.",
+        answer: Answer::Broken(CheckFault::ConstRange, 6),
+    },
+];
+
+fn broken(error: CheckError) -> Answer {
+    match error {
+        CheckError::Fault(fault, _, token) => Answer::Broken(fault, token),
+        CheckError::Memory => Answer::Memory,
+    }
+}
+
+/// What the first declaration of a block is; its phrase begins two tokens behind its name.
+fn first_of(alloc: Global, reader: &mut Reader<'_, '_>, block: &Block) -> Answer {
+    match block.decls.first() {
+        Some(Decl::Const { entries, .. }) => match entries.first() {
+            Some(entry) => {
+                let at = entry.name.token.saturating_add(2);
+                match const_value(alloc, reader, &entry.value, at) {
+                    Ok(Some((shape, value))) => Answer::Constant(shape.0, value),
+                    Ok(None) => Answer::Nothing,
+                    Err(error) => broken(error),
+                }
+            }
+            None => Answer::Nothing,
+        },
+        Some(Decl::Type { entries, .. }) => match entries.first() {
+            Some(entry) => {
+                let at = entry.name.token.saturating_add(2);
+                match shape_of(alloc, reader, &entry.type_node, at) {
+                    Ok(Some(shape)) => Answer::Type(shape.0),
+                    Ok(None) => Answer::Nothing,
+                    Err(error) => broken(error),
+                }
+            }
+            None => Answer::Nothing,
+        },
+        _ => Answer::Nothing,
+    }
+}
+
+fn answer(alloc: Global, source: &[u8]) -> Result<Answer, Fail> {
+    let tokens = scan(alloc, source)?;
+    if tokens.len() > 1_048_576 {
+        return Err(ParseError::Memory.into());
+    }
+    let module = parse(alloc, &tokens)?;
+    match Reader::new(alloc, source, &tokens, 0) {
+        Ok(mut reader) => Ok(first_of(alloc, &mut reader, &module.block)),
+        Err(_) => Ok(Answer::Memory),
+    }
+}
+
+#[test]
+fn phrases_alone(rt: HostRuntime) -> Result<(), Fail> {
+    for (number, row) in ROWS.iter().enumerate() {
+        assert_eq!(rt; answer(rt.alloc(), row.source)?, row.answer, "row {number}");
+    }
+    Ok(())
+}
