@@ -4,19 +4,32 @@ _alma_faults() {
   sed -n 's/^### \([A-Za-z]*\).*/\1/p' "$(dirname "$(readlink -f "$(command -v "${COMP_WORDS[0]}")")")/docs/FAULTS.md" 2>/dev/null
 }
 
+# Those of the options that are not given yet; --watch may be given again.
+_alma_options() {
+  local option
+  for option in "$@"; do
+    if [ "$option" = --watch= ] || [[ " ${COMP_WORDS[*]:0:COMP_CWORD} " != *" ${option%=} "* ]]; then echo "$option"; fi
+  done
+}
+
 _alma() {
-  local word=${COMP_WORDS[COMP_CWORD]}
+  local word=${COMP_WORDS[COMP_CWORD]} command=${COMP_WORDS[1]} place=$COMP_CWORD
   COMPREPLY=()
-  if [ "$COMP_CWORD" -eq 1 ]; then
-    mapfile -t COMPREPLY < <(compgen -W "check run trace compile list exec sample help --help --version" -- "$word")
-    return
-  fi
-  case ${COMP_WORDS[1]},$COMP_CWORD in
-  check,2 | run,2 | trace,2 | compile,2) mapfile -t COMPREPLY < <(compgen -o plusdirs -f -X '!*.al' -- "$word") ;;
-  run,[34] | exec,[34]) mapfile -t COMPREPLY < <(compgen -W "--steps= --stats" -- "$word") && compopt -o nospace ;;
-  trace,[1-9]*) mapfile -t COMPREPLY < <(compgen -W "--steps= --watch=" -- "$word") && compopt -o nospace ;;
-  help,2) mapfile -t COMPREPLY < <(compgen -W "$(_alma_faults)" -- "$word") ;;
-  compile,3 | list,2 | exec,2) mapfile -t COMPREPLY < <(compgen -f -- "$word") ;;
+  # `=` is a word of its own here: behind it stands a number or a name.
+  if [ "$word" = = ] || [ "${COMP_WORDS[COMP_CWORD - 1]}" = = ]; then return; fi
+  if [ "$command" = why ] && [ "$place" -gt 1 ]; then command=${COMP_WORDS[2]} place=$((place - 1)); fi
+  case $place,$command in
+  1,*) mapfile -t COMPREPLY < <(compgen -W "check run trace compile list exec sample why replay help --help --version" -- "$word") ;;
+  2,check | 2,run | 2,trace | 2,compile | 2,replay) mapfile -t COMPREPLY < <(compgen -o plusdirs -f -X '!*.al' -- "$word") ;;
+  2,list | 2,exec | 3,compile) mapfile -t COMPREPLY < <(compgen -f -- "$word") ;;
+  2,help) mapfile -t COMPREPLY < <(compgen -W "$(_alma_faults)" -- "$word") ;;
+  *,run | *,exec) mapfile -t COMPREPLY < <(compgen -W "$(_alma_options --steps= --stats)" -- "$word") ;;
+  *,trace) mapfile -t COMPREPLY < <(compgen -W "$(_alma_options --steps= --watch=)" -- "$word") ;;
+  esac
+  case ${COMPREPLY[0]-} in
+  --*=) compopt -o nospace ;;
+  --*) ;;
+  *) if [ "$place" -gt 1 ]; then compopt -o filenames; fi ;;
   esac
 }
-complete -o filenames -F _alma alma ./alma
+complete -F _alma alma ./alma

@@ -1,4 +1,19 @@
 # Completion of alma for fish: put this file into ~/.config/fish/completions.
+# __alma_at PLACE COMMAND..: so many words stand before the cursor, `why` uncounted, and the command is one of these.
+function __alma_at
+    set -l words (commandline -opc)
+    if test "$words[2]" = why
+        set -e words[2]
+    end
+    contains -- "$words[2]" $argv[2..-1]; and test (count $words) -eq $argv[1]
+end
+
+function __alma_behind
+    for place in 3 4 5 6 7 8 9 10 11 12
+        __alma_at $place $argv; and return
+    end
+end
+
 complete -c alma -f
 complete -c alma -n __fish_use_subcommand -a check -d 'tell whether a source is a program'
 complete -c alma -n __fish_use_subcommand -a run -d 'compile a source and run it'
@@ -7,11 +22,16 @@ complete -c alma -n __fish_use_subcommand -a compile -d 'compile a source and st
 complete -c alma -n __fish_use_subcommand -a list -d 'print the text of an object'
 complete -c alma -n __fish_use_subcommand -a exec -d 'verify an object and run it'
 complete -c alma -n __fish_use_subcommand -a sample -d 'compile and run a source of so many lines'
+complete -c alma -n __fish_use_subcommand -a why -d 'do what the words ask, and tell what its end means'
+complete -c alma -n __fish_use_subcommand -a replay -d 'write a page in which a run is watched'
 complete -c alma -n __fish_use_subcommand -a help -d 'print the commands, or what a fault means'
 complete -c alma -n __fish_use_subcommand -l help -d 'print the commands'
 complete -c alma -n __fish_use_subcommand -l version -d 'print which program runs'
-complete -c alma -n '__fish_seen_subcommand_from check run trace compile' -a '(__fish_complete_suffix .al)'
-complete -c alma -n '__fish_seen_subcommand_from run trace exec' -l steps -x -d 'the greatest number of machine steps'
-complete -c alma -n '__fish_seen_subcommand_from trace' -l watch -x -d 'a variable whose values are shown'
-complete -c alma -n '__fish_seen_subcommand_from run exec' -l stats -d 'tell the counts of the run'
-complete -c alma -n '__fish_seen_subcommand_from list exec' -F
+complete -c alma -n '__fish_seen_subcommand_from why; and __alma_at 1 ""' -a 'check run trace compile list exec'
+complete -c alma -n '__alma_at 2 check run trace compile replay' -a '(__fish_complete_suffix .al | string match -r ".*(?:\.al|/)(?:\t.*)?\$")'
+complete -c alma -n '__alma_at 2 list exec; or __alma_at 3 compile' -F
+complete -c alma -n '__alma_behind run trace exec; and not string match -q -- "--steps=*" (commandline -opc)' -a --steps= -d 'the greatest number of machine steps'
+complete -c alma -n '__alma_behind trace' -a --watch= -d 'a variable whose values are shown'
+complete -c alma -n '__alma_behind run exec; and not contains -- --stats (commandline -opc)' -a --stats -d 'tell the counts of the run'
+# The faults of docs/FAULTS.md beside the script.
+complete -c alma -n '__alma_at 2 help' -d fault -a '(sed -n "s/^### \([A-Za-z]*\).*/\1/p" (dirname (realpath (command -s (commandline -opc)[1])))/docs/FAULTS.md 2>/dev/null)'

@@ -3,6 +3,5 @@ if exists("current_compiler")
   finish
 endif
 let current_compiler = "alma"
-" One machine step: the source is read whole, and hardly run.
-CompilerSet makeprg=alma\ run\ %\ --steps=1
+CompilerSet makeprg=alma\ check\ %:S
 CompilerSet errorformat=%f:%l:%c:\ %m
