@@ -40,6 +40,19 @@ append_then a b c f g k l h j = record {
 pub made_long : (e : Emit) → length (made e) ≡ length e.code.items
 made_long e = length-map e.code.items lined
 
+-- instructions of one line behind the code
+own_behind : (xs : List (Instr × ℕ)) (line : ℕ) (instrs : List Instr) → map lined (xs ++ map (λ i. (i, line)) instrs) ≡ map lined xs ++ own line instrs
+own_behind [] line [] = refl
+own_behind [] line (i ∷ instrs) = ap (λ l. record { line = line; instr = i } ∷ l) (own_behind [] line instrs)
+own_behind (x ∷ xs) line instrs = ap (λ l. lined x ∷ l) (own_behind xs line instrs)
+
+pub puts_all : (a b : Emit) (line : ℕ) (instrs : List Instr) → b.code.items ≡ a.code.items ++ map (λ i. (i, line)) instrs → b.kinds ≡ a.kinds → b.next ≡ a.next → Appends a b (own line instrs) []
+puts_all a b line instrs code kinds next = record {
+  instrs = ap (λ l. map lined l) code ∙ own_behind a.code.items line instrs;
+  kinds = ap (λ k. k.items) kinds ∙ sym (append-nil a.kinds.items);
+  next = omega (arith, next);
+}
+
 -- an instruction without a target may be put before the jump is aimed
 aimed_front : (xs : List Lined) (x : Lined) (at to : ℕ) → with_target x.instr to ≡ x.instr → aimed (xs ++ x ∷ []) at to ≡ aimed xs at to ++ x ∷ []
 aimed_front [] x zero to e = ap (λ (i : Instr). record { line = x.line; instr = i } ∷ []) e
