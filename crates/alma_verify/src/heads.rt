@@ -6,8 +6,9 @@ ghost use Rattle.alma_code.specs.Layout.{holds_param as holds_param_spec, hold_p
 ghost use Rattle.alma_code.specs.Plain.{head_at, kinds_at};
 ghost use Rattle.alma_code.specs.Rules.{IsTable, is_global, is_main as is_main_spec, rule_1 as rule_1_spec, last_end, names_routine as names_routine_spec, rule_2 as rule_2_spec, has_position as has_position_spec, rule_3 as rule_3_spec};
 
+use crate::kinds::{is_link_of, is_number, is_place_of};
 use crate::reader::CodeReader;
-use crate::slots::{are_cells, are_numbers, is_link_of, is_number, is_place_of, kind_of, start_of};
+use crate::slots::{are_cells, are_numbers, kind_of, start_of};
 use alma_code::{CodeParam, ParamKind, SlotKind};
 
 #[tactic(auto, using(std::proofs::lemmas::List::Folds::list_all_more, std::proofs::lemmas::List::Folds::list_all_at))]

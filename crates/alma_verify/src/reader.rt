@@ -1,12 +1,14 @@
 // What the verifier reads of a code.
-ghost use Rattle.std.specs.Prelude.{◌≡◌, ◌<◌, nat_lt, length, get_or, slice_get, slice_index_or};
-ghost use Rattle.alma_code.specs.Plain.{PlainCode, head_at, end_at};
-ghost use Rattle.alma_verify.specs.Runs.{no_global};
+ghost use Rattle.std.specs.Prelude.{◌≡◌, ◌<◌, MatchOption, None, nat_lt, length, get_or, slice_get, slice_index_or};
+ghost use Rattle.alma_code.specs.Plain.{PlainCode, head_at, end_at, kinds_at};
+ghost use Rattle.alma_code.specs.Rules.{IsTable, kind_in, fit_arguments};
+ghost use Rattle.alma_verify.specs.Runs.{no_global, Covers};
 
 use alma_base::Range;
 use alma_code::{CodeParam, Instr, Run};
 
-/// What the verifier reads of a code. Each reader takes the same time, whatever the size of the code.
+/// What the verifier reads of a code. Each reader but the last two of a routine takes the same time, whatever the size of the
+/// code; those halve the runs of a routine once, and the second goes through the parameters.
 pub trait CodeReader {
     ghost code: { Self → PlainCode };
 
@@ -46,6 +48,21 @@ pub trait CodeReader {
         requires routine { routine < length (code self.now).routines }
         requires run { i < length (head_at (code self.now) routine).runs }
         ensures { result ≡ slice_index_or (head_at (code self.now) routine).runs i result };
+
+    /// The run over a slot.
+    fn run_over(&self, routine: u32, slot: u64) -> Option<Run>
+        requires routine { routine < length (code self.now).routines }
+        requires table { IsTable (code self.now) }
+        ensures { MatchOption result (kind_in (code self.now) routine slot ≡ None)
+            (λ run. Covers (kinds_at (code self.now) routine) slot run) };
+
+    /// Whether the slots of a routine from first on can be the arguments of another.
+    fn fit_all(&self, routine: u32, callee: u32, first: u32) -> bool
+        requires routine { routine < length (code self.now).routines }
+        requires callee { callee < length (code self.now).routines }
+        requires table { IsTable (code self.now) }
+        ensures { result ≡ fit_arguments (code self.now) routine
+            (head_at (code self.now) callee).params first };
 
     fn global_count(&self) -> u32
         ensures { result ≡ length (code self.now).globals };

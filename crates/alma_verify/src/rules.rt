@@ -1,15 +1,17 @@
 // The rules of one instruction, one function each.
 ghost use Rattle.std.specs.Prelude.{slice_get, ◌≡◌, ◌<◌, length};
 ghost use Rattle.alma_code.specs.Plain.{head_at};
-ghost use Rattle.alma_code.specs.Rules.{IsTable, names_slot as names_slot_spec, rule_4 as rule_4_spec, rule_7 as rule_7_spec, names_entry as names_entry_spec, rule_8 as rule_8_spec, rule_12 as rule_12_spec, ends_routine as ends_routine_spec, rule_5 as rule_5_spec, rule_6 as rule_6_spec, has_room as has_room_spec, is_address as is_address_spec, names_address as names_address_spec, rule_9 as rule_9_spec, rule_10 as rule_10_spec, rule_11 as rule_11_spec, fits_argument as fits_argument_spec, fit_arguments, holds_result as holds_result_spec};
+ghost use Rattle.alma_code.specs.Rules.{IsTable, names_slot as names_slot_spec, rule_4 as rule_4_spec, rule_7 as rule_7_spec, names_entry as names_entry_spec, rule_8 as rule_8_spec, rule_12 as rule_12_spec, ends_routine as ends_routine_spec, rule_5 as rule_5_spec, rule_6 as rule_6_spec, has_room as has_room_spec, is_address as is_address_spec, names_address as names_address_spec, rule_9 as rule_9_spec, rule_10 as rule_10_spec, rule_11 as rule_11_spec, holds_result as holds_result_spec};
+ghost use Rattle.alma_verify.specs.Seen.{AreFit};
 
+use crate::kinds::{is_link, is_link_of, is_mark, is_number, is_place, is_place_of};
 use crate::reader::CodeReader;
+use crate::seen::SeenCalls;
 use crate::slots::{
-    are_cells, are_numbers_of_any, is_link, is_link_of, is_mark, is_number, is_place, is_place_of,
-    is_slot, kind_of, kind_of_any, length_of, link_of, start_of,
+    are_cells, are_numbers_of_any, is_slot, kind_of, kind_of_any, length_of, link_of, start_of,
 };
 use crate::words::words_of;
-use alma_code::{CodeParam, Instr, ParamKind, Word};
+use alma_code::{Instr, Word};
 
 pub fn names_slot<R: CodeReader>(reader: &R, routine: u32, word: Word) -> bool
     requires routine { routine < length (R.code reader.now).routines }
@@ -212,40 +214,6 @@ pub fn rule_11<R: CodeReader>(reader: &R, routine: u32, at: u32, instr: Instr) -
     u64::from(at) + 1 < u64::from(reader.code_end(routine)) || ends_routine(instr)
 }
 
-pub fn fits_argument<R: CodeReader>(reader: &R, routine: u32, param: CodeParam, slot: u64) -> bool
-    requires routine { routine < length (R.code reader.now).routines }
-    requires table { IsTable (R.code reader.now) }
-    ensures { result ≡ fits_argument_spec (R.code reader.now) routine param.kind param.cells slot }
-{
-    let kind = kind_of(reader, routine, slot);
-    match param.kind {
-        ParamKind::Value => is_number(kind),
-        ParamKind::Place | ParamKind::Cells => is_place_of(param.cells, kind),
-        ParamKind::Mix => is_number(kind) || is_place_of(1, kind),
-        ParamKind::Link => is_link_of(param.cells, kind),
-    }
-}
-
-/// Whether the slots from first on can be the arguments of the callee.
-#[tactic(auto, using(crate::proofs::RuleStarts::argument_steps))]
-pub fn fit_all<R: CodeReader>(reader: &R, routine: u32, callee: u32, first: u32) -> bool
-    requires routine { routine < length (R.code reader.now).routines }
-    requires callee { callee < length (R.code reader.now).routines }
-    requires table { IsTable (R.code reader.now) }
-    ensures { result ≡ fit_arguments (R.code reader.now) routine
-        (head_at (R.code reader.now) callee).params first }
-{
-    let count = reader.param_count(callee);
-    for k in 0..count {
-        let slot = u64::from(first) + u64::from(k);
-        let param = reader.param(callee, k);
-        if !((routine > 0 || slot > 0) && fits_argument(reader, routine, param, slot)) {
-            return false;
-        }
-    }
-    true
-}
-
 pub fn has_place_for_result<R: CodeReader>(reader: &R, routine: u32, gives: bool, to: u32) -> bool
     requires routine { routine < length (R.code reader.now).routines }
     requires table { IsTable (R.code reader.now) }
@@ -259,11 +227,19 @@ pub fn has_place_for_result<R: CodeReader>(reader: &R, routine: u32, gives: bool
 }
 
 #[tactic(auto, unfolding(alma_code::specs::Rules::rule_10), using(crate::proofs::RuleStarts::firsts))]
-pub fn rule_10<R: CodeReader>(reader: &R, routine: u32, at: u32, instr: Instr) -> bool
+pub fn rule_10<R: CodeReader>(
+    reader: &R,
+    routine: u32,
+    at: u32,
+    instr: Instr,
+    seen: &mut SeenCalls,
+) -> bool
     requires routine { routine < length (R.code reader.now).routines }
     requires table { IsTable (R.code reader.now) }
     requires at { at < length (R.code reader.now).instrs }
-    ensures { result ≡ rule_10_spec (R.code reader.now) routine at instr }
+    requires seen { AreFit (R.code reader.now) seen.old }
+    ensures rule { result ≡ rule_10_spec (R.code reader.now) routine at instr }
+    ensures seen { AreFit (R.code reader.now) seen.new }
 {
     match instr {
         Instr::Call {
@@ -273,7 +249,7 @@ pub fn rule_10<R: CodeReader>(reader: &R, routine: u32, at: u32, instr: Instr) -
         } => {
             callee > 0
                 && callee < reader.routine_count()
-                && fit_all(reader, routine, callee, first)
+                && seen.fit_all(reader, routine, callee, first)
                 && (reader.param_count(callee) > 0 || first == 0)
                 && has_place_for_result(reader, routine, reader.has_result(callee), to)
                 && u64::from(at) + 1 < u64::from(reader.code_end(routine))

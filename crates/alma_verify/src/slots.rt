@@ -1,37 +1,12 @@
 // What kinds the slots of a routine have, and where its code begins.
-ghost use Rattle.std.specs.Prelude.{MatchOption, None, ◌^◌, ◌≡◌, ◌<◌, length};
+ghost use Rattle.std.specs.Prelude.{◌^◌, ◌≡◌, ◌<◌, length};
 ghost use Rattle.alma_code.specs.Plain.{start_at, kinds_at};
-ghost use Rattle.alma_code.specs.Kinds.{is_number as is_number_spec, is_mark as is_mark_spec, is_place as is_place_spec, is_place_of as is_place_of_spec, is_link as is_link_spec, is_link_of as is_link_of_spec, numbers_from};
-ghost use Rattle.alma_code.specs.Rules.{IsTable, kind_in, length_in, link_in, place_length as place_length_spec, link_routine as link_routine_spec, is_slot as is_slot_spec, cells_in};
-ghost use Rattle.alma_verify.specs.Runs.{Covers};
+ghost use Rattle.alma_code.specs.Kinds.{numbers_from};
+ghost use Rattle.alma_code.specs.Rules.{IsTable, kind_in, length_in, link_in, is_slot as is_slot_spec, cells_in};
 
+use crate::kinds::{is_number, link_routine, place_length};
 use crate::reader::CodeReader;
-use alma_code::{Run, SlotKind};
-
-/// The run over a slot, by halving.
-pub fn run_over<R: CodeReader>(reader: &R, routine: u32, slot: u64) -> Option<Run>
-    requires routine { routine < length (R.code reader.now).routines }
-    requires table { IsTable (R.code reader.now) }
-    ensures { MatchOption result (kind_in (R.code reader.now) routine slot ≡ None)
-        (λ r. Covers (kinds_at (R.code reader.now) routine) slot r) }
-{
-    let count = reader.run_count(routine);
-    let mut low = 0;
-    let mut high = count;
-    'halve: while low < high {
-        let middle = low + (high - low) / 2;
-        if slot < u64::from(reader.run(routine, middle).end) {
-            high = middle;
-        } else {
-            low = middle + 1;
-        }
-    }
-    if low < count {
-        Some(reader.run(routine, low))
-    } else {
-        None
-    }
-}
+use alma_code::SlotKind;
 
 /// The kind of a slot.
 pub fn kind_of<R: CodeReader>(reader: &R, routine: u32, slot: u64) -> Option<SlotKind>
@@ -39,69 +14,9 @@ pub fn kind_of<R: CodeReader>(reader: &R, routine: u32, slot: u64) -> Option<Slo
     requires table { IsTable (R.code reader.now) }
     ensures { result ≡ kind_in (R.code reader.now) routine slot }
 {
-    match run_over(reader, routine, slot) {
+    match reader.run_over(routine, slot) {
         Some(run) => Some(run.kind),
         None => None,
-    }
-}
-
-pub fn is_number(kind: Option<SlotKind>) -> bool
-    ensures { result ≡ is_number_spec kind }
-{
-    matches!(kind, Some(SlotKind::Number))
-}
-
-pub fn is_mark(kind: Option<SlotKind>) -> bool
-    ensures { result ≡ is_mark_spec kind }
-{
-    matches!(kind, Some(SlotKind::Mark))
-}
-
-pub fn is_place(kind: Option<SlotKind>) -> bool
-    ensures { result ≡ is_place_spec kind }
-{
-    matches!(kind, Some(SlotKind::Place(_)))
-}
-
-pub fn is_place_of(length: u32, kind: Option<SlotKind>) -> bool
-    ensures { result ≡ is_place_of_spec length kind }
-{
-    match kind {
-        Some(SlotKind::Place(size)) => size == length,
-        Some(SlotKind::Number) | Some(SlotKind::Mark) | Some(SlotKind::Link(_)) | None => false,
-    }
-}
-
-pub fn place_length(kind: Option<SlotKind>) -> u32
-    ensures { result ≡ place_length_spec kind }
-{
-    match kind {
-        Some(SlotKind::Place(length)) => length,
-        Some(SlotKind::Number) | Some(SlotKind::Mark) | Some(SlotKind::Link(_)) | None => 0,
-    }
-}
-
-pub fn is_link(kind: Option<SlotKind>) -> bool
-    ensures { result ≡ is_link_spec kind }
-{
-    matches!(kind, Some(SlotKind::Link(_)))
-}
-
-pub fn is_link_of(routine: u32, kind: Option<SlotKind>) -> bool
-    ensures { result ≡ is_link_of_spec routine kind }
-{
-    match kind {
-        Some(SlotKind::Link(other)) => other == routine,
-        Some(SlotKind::Number) | Some(SlotKind::Mark) | Some(SlotKind::Place(_)) | None => false,
-    }
-}
-
-pub fn link_routine(kind: Option<SlotKind>) -> u32
-    ensures { result ≡ link_routine_spec kind }
-{
-    match kind {
-        Some(SlotKind::Link(routine)) => routine,
-        Some(SlotKind::Number) | Some(SlotKind::Mark) | Some(SlotKind::Place(_)) | None => 0,
     }
 }
 
@@ -164,7 +79,7 @@ pub fn are_numbers<R: CodeReader>(reader: &R, routine: u32, first: u64, count: u
     let end = first + u64::from(count);
     let mut at = first;
     'walk: while at < end {
-        match run_over(reader, routine, at) {
+        match reader.run_over(routine, at) {
             None => return false,
             Some(run) => {
                 if !is_number(Some(run.kind)) {

@@ -4,21 +4,30 @@ ghost use Rattle.alma_base.specs.Limits.{record_limit};
 ghost use Rattle.alma_code.specs.Plain.{head_at, start_at, end_at};
 ghost use Rattle.alma_code.specs.Records.{KeepsCounts};
 ghost use Rattle.alma_code.specs.declared.instr.Instr.TheVariants as I;
+ghost use Rattle.alma_verify.specs.Seen.{AreFit};
 ghost use Rattle.alma_code.specs.Rules.{IsTable, instr_fault as instr_fault_spec, instrs_fault as instrs_fault_spec, routine_fault as routine_fault_spec, code_fault as code_fault_spec};
 
 use crate::heads::{rule_1, rule_2, rule_3};
 use crate::reader::CodeReader;
 use crate::rules::{rule_4, rule_5, rule_6, rule_7, rule_8, rule_9, rule_10, rule_11, rule_12};
+use crate::seen::SeenCalls;
 use crate::slots::start_of;
 use alma_code::VerifyFault;
 
 /// The least broken rule of the instruction at an address of a routine.
 #[tactic(auto, unfolding(alma_code::specs::Rules::instr_fault))]
-pub fn instr_fault<R: CodeReader>(reader: &R, routine: u32, at: u32) -> Option<VerifyFault>
+pub fn instr_fault<R: CodeReader>(
+    reader: &R,
+    routine: u32,
+    at: u32,
+    seen: &mut SeenCalls,
+) -> Option<VerifyFault>
     requires routine { routine < length (R.code reader.now).routines }
     requires table { IsTable (R.code reader.now) }
     requires at { at < length (R.code reader.now).instrs }
-    ensures { result ≡ instr_fault_spec (R.code reader.now) routine at
+    requires seen { AreFit (R.code reader.now) seen.old }
+    ensures seen { AreFit (R.code reader.now) seen.new }
+    ensures fault { result ≡ instr_fault_spec (R.code reader.now) routine at
         (get_or (R.code reader.now).instrs at I.Fail) }
 {
     let instr = reader.instr(at);
@@ -40,7 +49,7 @@ pub fn instr_fault<R: CodeReader>(reader: &R, routine: u32, at: u32) -> Option<V
     if !rule_9(reader, routine, instr) {
         return Some(VerifyFault { rule: 9, at });
     }
-    if !rule_10(reader, routine, at, instr) {
+    if !rule_10(reader, routine, at, instr, seen) {
         return Some(VerifyFault { rule: 10, at });
     }
     if !rule_11(reader, routine, at, instr) {
@@ -58,15 +67,18 @@ pub fn instrs_fault<R: CodeReader>(
     routine: u32,
     start: u32,
     end: u32,
+    seen: &mut SeenCalls,
 ) -> Option<VerifyFault>
     requires routine { routine < length (R.code reader.now).routines }
     requires table { IsTable (R.code reader.now) }
     requires order { start ≤ end }
     requires end { end ≤ length (R.code reader.now).instrs }
-    ensures { result ≡ instrs_fault_spec (R.code reader.now) routine start (end - start) }
+    requires seen { AreFit (R.code reader.now) seen.old }
+    ensures seen { AreFit (R.code reader.now) seen.new }
+    ensures fault { result ≡ instrs_fault_spec (R.code reader.now) routine start (end - start) }
 {
     for at in start..end {
-        if let Some(fault) = instr_fault(reader, routine, at) {
+        if let Some(fault) = instr_fault(reader, routine, at, seen) {
             return Some(fault);
         }
     }
@@ -74,13 +86,19 @@ pub fn instrs_fault<R: CodeReader>(
 }
 
 #[tactic(auto, unfolding(alma_code::specs::Rules::routine_fault))]
-pub fn routine_fault<R: CodeReader>(reader: &R, routine: u32) -> Option<VerifyFault>
+pub fn routine_fault<R: CodeReader>(
+    reader: &R,
+    routine: u32,
+    seen: &mut SeenCalls,
+) -> Option<VerifyFault>
     requires routine { routine < length (R.code reader.now).routines }
     requires table { IsTable (R.code reader.now) }
     requires few { length (head_at (R.code reader.now) routine).params ≤ record_limit }
     requires order { start_at (R.code reader.now) routine ≤ end_at (R.code reader.now) routine }
     requires end { end_at (R.code reader.now) routine ≤ length (R.code reader.now).instrs }
-    ensures { result ≡ routine_fault_spec (R.code reader.now) routine }
+    requires seen { AreFit (R.code reader.now) seen.old }
+    ensures seen { AreFit (R.code reader.now) seen.new }
+    ensures fault { result ≡ routine_fault_spec (R.code reader.now) routine }
 {
     if !rule_1(reader, routine) {
         return Some(VerifyFault {
@@ -105,6 +123,7 @@ pub fn routine_fault<R: CodeReader>(reader: &R, routine: u32) -> Option<VerifyFa
         routine,
         start_of(reader, routine),
         reader.code_end(routine),
+        seen,
     )
 }
 
@@ -115,8 +134,9 @@ pub fn code_fault<R: CodeReader>(reader: &R) -> Option<VerifyFault>
     requires counts { KeepsCounts (R.code reader.now) }
     ensures { result ≡ code_fault_spec (R.code reader.now) }
 {
+    let mut seen = SeenCalls::none();
     for routine in 0..reader.routine_count() {
-        if let Some(fault) = routine_fault(reader, routine) {
+        if let Some(fault) = routine_fault(reader, routine, &mut seen) {
             return Some(fault);
         }
     }

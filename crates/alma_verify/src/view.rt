@@ -1,9 +1,12 @@
 // What the verifier reads of the view of an object.
-ghost use Rattle.std.specs.Prelude.{◌≡◌, ◌<◌, length, get_or};
-ghost use Rattle.alma_code.specs.Plain.{routine_at};
+ghost use Rattle.std.specs.Prelude.{◌≡◌, ◌<◌, MatchOption, None, length, get_or};
+ghost use Rattle.alma_code.specs.Plain.{routine_at, head_at, kinds_at};
+ghost use Rattle.alma_code.specs.Rules.{IsTable, kind_in, fit_arguments as fit_arguments_spec};
 ghost use Rattle.alma_object.specs.View.{code_of_view, routine_of_view, global_of_view};
-ghost use Rattle.alma_verify.specs.Runs.{no_global};
+ghost use Rattle.alma_verify.specs.Runs.{Covers, no_global};
 
+use crate::arguments::fit_all;
+use crate::halving::run_at;
 use crate::reader::CodeReader;
 use alma_base::Range;
 use alma_code::{CodeParam, Head, Instr, Run};
@@ -29,6 +32,29 @@ fn global_of<'b>(view: &ObjectView<'b>, i: u32) -> GlobalView<'b>
         Some(found) => found,
         None => unreachable!(),
     }
+}
+
+// The run over a slot of a routine.
+fn run_over(view: &ObjectView<'_>, routine: u32, slot: u64) -> Option<Run>
+    requires routine { routine < length (code_of_view view.now).routines }
+    requires table { IsTable (code_of_view view.now) }
+    ensures { MatchOption result (kind_in (code_of_view view.now) routine slot ≡ None)
+        (λ run. Covers (kinds_at (code_of_view view.now) routine) slot run) }
+{
+    run_at(&routine_of(view, routine), slot)
+}
+
+// Whether the slots of a routine from first on can be the arguments of another.
+fn fit_arguments(view: &ObjectView<'_>, routine: u32, callee: u32, first: u32) -> bool
+    requires routine { routine < length (code_of_view view.now).routines }
+    requires callee { callee < length (code_of_view view.now).routines }
+    requires table { IsTable (code_of_view view.now) }
+    ensures { result ≡ fit_arguments_spec (code_of_view view.now) routine
+        (head_at (code_of_view view.now) callee).params first }
+{
+    let caller = routine_of(view, routine);
+    let called = routine_of(view, callee);
+    fit_all(&caller, &called, routine, first)
 }
 
 impl<'b> CodeReader for ObjectView<'b> {
@@ -68,6 +94,14 @@ impl<'b> CodeReader for ObjectView<'b> {
 
     fn run(&self, routine: u32, i: u32) -> Run {
         routine_of(self, routine).run(i)
+    }
+
+    fn run_over(&self, routine: u32, slot: u64) -> Option<Run> {
+        run_over(self, routine, slot)
+    }
+
+    fn fit_all(&self, routine: u32, callee: u32, first: u32) -> bool {
+        fit_arguments(self, routine, callee, first)
     }
 
     fn global_count(&self) -> u32 {

@@ -7,4 +7,10 @@ pub returns : goal.returns
 returns g c =
     let code = g.R.CodeReader.code c.args.reader.now in
     let left : length code.routines - c.loop-routine.routine ≡ 0 = omega arith in
-    sym (c.loop-routine.invariant ∙ ap (routines_fault code c.loop-routine.routine) left ∙ routines_none code c.loop-routine.routine)
+    sym (c.loop-routine.invariant.rest ∙ ap (routines_fault code c.loop-routine.routine) left ∙ routines_none code c.loop-routine.routine)
+
+pub loop-routine-init : goal.loop-routine-init
+loop-routine-init g c =
+    let code = g.R.CodeReader.code c.args.reader.now in
+    let all : length code.routines ≡ length code.routines - 0 = omega arith in
+    record { rest = ap (routines_fault code 0) all; seen = c.none-seen.ensures code }

@@ -1,12 +1,11 @@
 use Rattle.std.proofs.Common.{◌≡◌, ◌≤◌, ◌<◌, ◌-◌, List, length, get_or}
 use Rattle.alma_code.specs.declared.head.Run.{Run}
-use Rattle.alma_code.specs.Plain.{head_at}
 use Rattle.alma_verify.specs.Runs.{begin_from, no_run}
-use Rattle.alma_verify.proofs.slots.run_over.Given as goal
+use Rattle.alma_verify.proofs.halving.passed_runs.Given as goal
 
 abbrev pub invariant-halve : goal.invariant-halve
 invariant-halve g l =
-    let runs : List Run = (head_at (g.R.CodeReader.code l.reader) l.routine).runs in
+    let runs : List Run = (g.H.Head.head l.head).runs in
     record {
       order : l.low ≤ l.high;
       top : l.high ≤ l.count;
