@@ -8,7 +8,7 @@ use Rattle.alma_code.specs.declared.cell.ChoiceKind.TheVariants.{Branch, Forall,
 use Rattle.alma_code.specs.Picture.{PlainFrame, PlainEntry, no_entry, top_of, entry_at, stack_after_pop, entry_after_pop, entry_of_kind_after_pop}
 use Rattle.alma_base.specs.Carry.{with_changes}
 use Rattle.alma_code.specs.Carries.{with_carry, diffs}
-use Rattle.alma_memory.proofs.Gains.{or-above}
+use Rattle.std.proofs.lemmas.Bool.{cases_lt}
 use Rattle.alma_memory.specs.Picture.{Picture}
 use Rattle.alma_memory.specs.Calls.{Call, Nothing, Write, Enter, Leave, Choose, Fail, Cut, Overlay, Keep, Finish, Makes, Leads, GivesBack}
 
@@ -45,7 +45,7 @@ copy-stack_after_pop held i l m =
     let n : ℕ = length held - 1 in
     let less : n ≤ length held = omega arith in
     let len : length (take n held) ≡ n = length-take-le n held less in
-    elim (or-above i n) [
+    elim (cases_lt i n) [
       | inl lt ↦ copy-append (take n held) (entry_after_pop (top_of held)) i (rw len lt) ∙ copy-take n held i lt
       | inr le ↦ (
           let here : i ≡ n = omega arith in

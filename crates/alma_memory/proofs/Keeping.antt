@@ -1,63 +1,32 @@
 -- Lemmas on a body that is kept: the carry below it gains what differs, and the body is dropped.
-use Rattle.std.proofs.Common.{◌≡◌, ◌≤◌, ◌<◌, ◌-◌, ℕ, suc, zero, List, [], ◌∷◌, length, take, drop, get_or, set, refl, sym, ap, ◌∙◌, arith}
-use Rattle.std.proofs.lemmas.List.{take-map, map-set, get_or-map, length-map, length-set, length-take-le}
+use Rattle.std.proofs.Common.{◌≡◌, ◌≤◌, ◌<◌, ◌-◌, ℕ, suc, zero, List, [], ◌∷◌, length, take, get_or, set, refl, sym, ap, ◌∙◌, arith}
 use Rattle.alma_base.specs.Carry.{Change, with_changes}
 use Rattle.alma_code.specs.declared.cell.Cell.{Cell}
 use Rattle.alma_code.specs.Picture.{PlainFrame, PlainEntry, no_entry, top_of, entry_at}
 use Rattle.alma_code.specs.Carries.{diffs, with_carry, held_after_keep}
-use Rattle.alma_memory.specs.declared.trail.Note.{Note}
-use Rattle.alma_memory.specs.declared.trail.Entry.{Entry}
-use Rattle.alma_memory.specs.Trail.{unwind, entry_of, held_of}
-use Rattle.alma_memory.specs.Held.{Rises, IsTrailed}
-use Rattle.alma_memory.specs.Carries.{IsRising}
+use Rattle.alma_memory_rewind.specs.Rewound.{top_copy}
+use Rattle.alma_memory_store.specs.Carries.{IsRising}
+use Rattle.alma_memory_store.specs.Past.{SameGain}
+use Rattle.alma_memory.specs.declared.stack.Entry.{Entry}
 use Rattle.alma_memory.specs.Inner.Gain.{no_saved, entry_with_changes}
-use Rattle.alma_memory.specs.Inner.Past.{SameGain}
-use Rattle.alma_memory.proofs.Trails.{rises-take}
-
--- a mark that stays leaves the marks rising
-pub rises-set : (low top : ℕ) (es : List Entry) (i : ℕ) (e d : Entry) → e.mark ≡ (get_or es i d).mark → Rises low es top → Rises low (set es i e) top
-rises-set low top [] i e d q r = r
-rises-set low top (x ∷ es) zero e d q r = (rw q r.0, rw q r.1)
-rises-set low top (x ∷ es) (suc i) e d q r = (r.0, rises-set x.mark top es i e d q r.1)
+use Rattle.alma_memory.specs.Inner.Stack.{entry_with, stack_of}
+use Rattle.alma_memory.proofs.Stacks.{stack-length, stack-at, stack-set, stack-top}
 
 -- the entry below gains what differs from the copy of the top one
-pub kept-held : (h : ℕ) (trail : List Note) (fs : List PlainFrame) (es es' : List Entry) (found : List (Change Cell)) (top : Entry) →
-    es' ≡ take (length es - 1) (set es (h - 1) (entry_with_changes (get_or es (h - 1) no_saved) found)) →
-    IsRising (get_or es (h - 1) no_saved).carry → SameGain found (diffs (unwind (drop top.mark trail) fs) fs) →
-    top ≡ get_or es (length es - 1) top → 1 ≤ h → h < length es →
-    held_of trail fs es' ≡ held_after_keep (held_of trail fs es) h fs
-kept-held h trail fs es es' found top p r g t a b =
-    let held : List PlainEntry = held_of trail fs es in
+pub kept-held : (h top : ℕ) (es es' : List Entry) (hs : List (List PlainFrame)) (now : List PlainFrame) (found : List (Change Cell)) (after : List PlainEntry) → length es ≡ length hs → 1 ≤ h → h < length es →
+    es' ≡ set es (h - 1) (entry_with_changes (get_or es (h - 1) no_saved) found) → top ≡ length es - 1 → after ≡ take top (stack_of es' hs) →
+    IsRising (get_or es (h - 1) no_saved).carry → SameGain found (diffs (top_copy hs) now) → after ≡ held_after_keep (stack_of es hs) h now
+kept-held h top es es' hs now found after e a b p t q r g =
     let base : Entry = get_or es (h - 1) no_saved in
-    let wide : length held ≡ length es = length-map es (entry_of trail fs) in
-    let i : h - 1 < length es = omega arith in
-    let j : length es - 1 < length es = omega arith in
-    let old : entry_at held h ≡ entry_of trail fs base = get_or-map (entry_of trail fs) es (h - 1) no_saved no_entry i in
-    let topmost : top_of held ≡ entry_of trail fs top =
-    ap (λ n. get_or held (n - 1) no_entry) wide ∙ (get_or-map (entry_of trail fs) es (length es - 1) top no_entry j ∙ ap (entry_of trail fs) (sym t)) in
-    let gains : with_changes found base.carry ≡ with_changes (diffs (top_of held).frames fs) base.carry =
-    g base.carry r ∙ ap (λ (x : PlainEntry). with_changes (diffs x.frames fs) base.carry) (sym topmost) in
-    let new : entry_of trail fs (entry_with_changes base found) ≡ with_carry (entry_at held h) (with_changes (diffs (top_of held).frames fs) (entry_at held h).carry) =
-    ap (λ cs. with_carry (entry_of trail fs base) cs) gains
-    ∙ ap (λ (x : PlainEntry). with_carry x (with_changes (diffs (top_of held).frames fs) x.carry)) (sym old) in
-    let put : held_of trail fs (set es (h - 1) (entry_with_changes base found)) ≡ set held (h - 1) (entry_of trail fs (entry_with_changes base found)) =
-    map-set (entry_of trail fs) es (h - 1) (entry_with_changes base found) in
-    ap (held_of trail fs) p ∙ (sym (take-map (entry_of trail fs) (length es - 1) (set es (h - 1) (entry_with_changes base found)))
-    ∙ (ap (take (length es - 1)) put ∙ (ap (λ x. take (length es - 1) (set held (h - 1) x)) new
-    ∙ ap (λ n. take (n - 1) (set held (h - 1) (with_carry (entry_at held h) (with_changes (diffs (top_of held).frames fs) (entry_at held h).carry)))) (sym wide))))
-
--- the notes and the marks stay
-pub kept-trailed : (h : ℕ) (trail : List Note) (fs : List PlainFrame) (es es' : List Entry) (found : List (Change Cell)) →
-    es' ≡ take (length es - 1) (set es (h - 1) (entry_with_changes (get_or es (h - 1) no_saved) found)) → 1 ≤ h → h < length es → IsTrailed es trail fs → IsTrailed es' trail fs
-kept-trailed h trail fs es es' found p a b t =
-    let gained : List Entry = set es (h - 1) (entry_with_changes (get_or es (h - 1) no_saved) found) in
-    let wide : length gained ≡ length es = length-set es (h - 1) (entry_with_changes (get_or es (h - 1) no_saved) found) in
-    let short : length (take (length es - 1) gained) ≡ length es - 1 = length-take-le (length es - 1) gained (omega (arith, wide)) in
-    let len : length es' ≡ length es - 1 = ap length p ∙ short in
-    record {
-      fits = t.fits;
-      live = t.live;
-      rises = rw p (rises-take (length es - 1) 0 (length trail) gained
-          (rises-set 0 (length trail) es (h - 1) (entry_with_changes (get_or es (h - 1) no_saved) found) no_saved refl t.rises));
-      idle = λ e. absurd (omega (arith, len, e));
-    }
+    let held : List PlainEntry = stack_of es hs in
+    let wide : length held ≡ length es = stack-length es hs e in
+    let old : entry_at held h ≡ entry_with base (get_or hs (h - 1) []) = stack-at (h - 1) es hs e (omega (arith, a, b)) in
+    let topmost : top_of held ≡ entry_with (get_or es (length es - 1) no_saved) (top_copy hs) = stack-top es hs e (omega (arith, a, b)) in
+    let frames : (top_of held).frames ≡ top_copy hs = ap (λ (x : PlainEntry). x.frames) topmost in
+    let gains : with_changes found base.carry ≡ with_changes (diffs (top_of held).frames now) base.carry = g base.carry r ∙ ap (λ fs. with_changes (diffs fs now) base.carry) (sym frames) in
+    let new : entry_with (entry_with_changes base found) (get_or hs (h - 1) []) ≡ with_carry (entry_at held h) (with_changes (diffs (top_of held).frames now) (entry_at held h).carry) =
+    ap (λ cs. with_carry (entry_with base (get_or hs (h - 1) [])) cs) gains
+    ∙ ap (λ (x : PlainEntry). with_carry x (with_changes (diffs (top_of held).frames now) x.carry)) (sym old) in
+    q ∙ (ap (λ v. take top (stack_of v hs)) p ∙ (ap (take top) (stack-set (h - 1) es hs (entry_with_changes base found) e)
+    ∙ (ap (λ x. take top (set held (h - 1) x)) new
+    ∙ ap (λ k. take k (set held (h - 1) (with_carry (entry_at held h) (with_changes (diffs (top_of held).frames now) (entry_at held h).carry)))) (t ∙ ap (λ k. k - 1) (sym wide)))))

@@ -1,13 +1,5 @@
-pub mod Carrying
-pub mod Indexed
-pub mod Layouts
-pub mod Rising
-pub mod Stores
-pub mod Lays
-pub mod Trails
-pub mod Back
-pub mod Contents
-pub mod Gains
+pub mod Stacks
 pub mod Keeping
-pub mod Pasts
+pub mod Lays
+pub mod Back
 pub mod Slots

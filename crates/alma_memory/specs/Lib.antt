@@ -1,9 +1,3 @@
-pub mod Frames
-pub mod Carries
-pub mod Numbers
-pub mod Counted
-pub mod Trail
-pub mod Held
 pub mod Picture
 pub mod Calls
 pub mod Refusals

@@ -1,24 +1,18 @@
 // The memory of the machine, and its calls.
-ghost use Rattle.std.specs.Prelude.{◌≡◌, ◌≢◌, ◌+◌, ◌-◌, ◌<◌, ◌≤◌, [], ◌∷◌, ◌++◌, length, take, is_ok, is_some, slice_index_or, slice_get, Some, IfOk, OnOk, OnErr, IsOk, IsSome, IsNone, IfSome, IfNone, MatchResult, if◌then◌else◌, ◌↔◌};
+ghost use Rattle.std.specs.Prelude.{◌≡◌, ◌≢◌, ℕ, ◌+◌, ◌-◌, ◌<◌, ◌≤◌, [], ◌∷◌, ◌++◌, length, take, is_ok, is_some, slice_index_or, slice_get, Some, IfOk, OnOk, OnErr, IsOk, IsSome, IsNone, IfSome, IfNone, MatchResult, if◌then◌else◌, ◌↔◌};
 ghost use Rattle.alma_base.specs.Limits.{cell_limit};
 ghost use Rattle.alma_code.specs.Picture.{no_frame, frames_with_cell, cell_at, kind_at, last_frame, without_last, live_cells, stack_after_pop, top_of, entry_at};
 ghost use Rattle.alma_code.specs.Carries.{IsLive, IsForallAt, IsTop, held_after_keep, frames_with_carry};
 ghost use Rattle.alma_code.specs.Layout.{IsHead, FitsParams, start_frame, frame_of_call};
 ghost use Rattle.alma_code.specs.declared.cell.Cell.TheVariants as cell;
 ghost use Rattle.alma_memory.specs.Calls.{Choose, Cut, Enter, Fail, Finish, Keep, Leave, Makes, Nothing, Overlay, Write};
-ghost use Rattle.alma_memory.specs.Picture.{KeepsRooms};
+ghost use Rattle.alma_memory.specs.Picture.{IsNoted, KeepsRooms};
 ghost use Rattle.alma_memory.specs.Refusals.{HasFrameRoom, RefusesFor};
 
-use crate::carry::{Carry, SlotPlace};
-use crate::frames::Frames;
-use crate::keep::keep_top;
-use crate::laying::{lay, lay_last};
-use crate::layout::{frame_from, start_from};
-use crate::trail::{
-    Entry, Note, cut_to, enter_noted, fail_to, leave_noted, room_for_notes, write_noted,
-};
+use crate::stack::{Entry, cut_to, keep_top, lay, lay_top, pop_entry, push_entry};
 use alma_base::{CELL_LIMIT, FRAME_LIMIT, NoMemory};
 use alma_code::{Cell, ChoiceKind, Head, SlotKind};
+use alma_memory_store::{Store, put_call, put_start};
 use std::alloc::Global;
 use std::marker::Model;
 
@@ -44,29 +38,31 @@ pub enum EnterError {
 #[derive(Drop)]
 pub struct Memory {
     alloc: Global,
-    frames: Frames,
-    trail: Vec<Note>,
+    store: Store,
     entries: Vec<Entry>,
+    // For the frame that is entered.
+    kinds: Vec<SlotKind>,
+    cells: Vec<Cell>,
 }
 
 impl Model for Memory {
-    ghost use Rattle.std.specs.Prelude.{◌-◌};
+    ghost use Rattle.std.specs.Prelude.{◌≡◌, ◌-◌, min, length};
     ghost use Rattle.std.specs.Vec.{vec_len, vec_capacity};
     ghost use Rattle.alma_memory.specs.Picture.{Picture};
 
     ghost Value = { Picture };
 
-    ghost use Rattle.alma_memory.specs.Trail.{held_of};
-    ghost use Rattle.alma_memory.specs.Held.{IsTrailed};
+    ghost use Rattle.alma_memory.specs.Inner.Stack.{stack_of};
 
     ghost view = { λ m. record {
-      now = m.frames;
-      held = held_of m.trail.items m.frames m.entries.items;
-      choice_room = vec_capacity m.entries - vec_len m.entries;
-      trail_room = vec_capacity m.trail - vec_len m.trail;
+      now = m.store.now;
+      held = stack_of m.entries.items m.store.held;
+      noted = m.store.noted;
+      choice_room = min (vec_capacity m.entries - vec_len m.entries) m.store.choice_room;
+      trail_room = m.store.trail_room;
     } };
 
-    ghost invariant = { λ m. IsTrailed m.entries.items m.trail.items m.frames };
+    ghost invariant = { λ m. length m.entries.items ≡ length m.store.held };
 }
 
 impl Memory {
@@ -78,12 +74,16 @@ impl Memory {
         ensures now { IfOk result (λ memory. memory.now ≡ start_frame (H.head head.now) ∷ []) }
         ensures held { IfOk result (λ memory. memory.held ≡ []) }
     {
-        let frame = start_from(alloc, head)?;
+        let mut kinds = Vec::new(alloc);
+        let mut cells = Vec::new(alloc);
+        put_start(&mut kinds, &mut cells, head)?;
+        let store = Store::start(alloc, head.declared(), kinds.as_slice(), cells.as_slice())?;
         Ok(Memory {
             alloc,
-            frames: Frames::start(alloc, frame)?,
-            trail: Vec::new(alloc),
+            store,
             entries: Vec::new(alloc),
+            kinds,
+            cells,
         })
     }
 
@@ -96,10 +96,11 @@ impl Memory {
             → IsOk result }
         ensures choice_room { OnOk result (choices ≤ self.new.choice_room) }
         ensures trail_room { OnOk result (trail ≤ self.new.trail_room) }
+        ensures noted { self.new.noted ≡ self.old.noted }
         ensures call { Makes Nothing self.old self.new }
     {
         self.entries.reserve(choices)?;
-        self.trail.reserve(trail)?;
+        self.store.reserve(choices, trail)?;
         Ok(())
     }
 
@@ -107,35 +108,35 @@ impl Memory {
     pub fn choice_room(&self) -> usize
         ensures { result ≡ self.now.choice_room }
     {
-        self.entries.capacity() - self.entries.len()
+        (self.entries.capacity() - self.entries.len()).min(self.store.choice_room())
     }
 
     /// How many more changes can be noted without taking memory.
     pub fn trail_room(&self) -> usize
         ensures { result ≡ self.now.trail_room }
     {
-        self.trail.capacity() - self.trail.len()
+        self.store.trail_room()
     }
 
     /// How many frames are live.
     pub fn frames(&self) -> u32
         ensures { result ≡ length self.now.now }
     {
-        self.frames.len()
+        self.store.len() as u32
     }
 
     /// The routine of the top frame.
     pub fn routine(&self) -> u32
         ensures { result ≡ (last_frame self.now.now).routine }
     {
-        self.frames.at(self.frames.len() - 1).routine()
+        self.store.routine()
     }
 
     /// How many cells the live frames declare together.
     pub fn live_cells(&self) -> u32
         ensures { result ≡ live_cells self.now.now }
     {
-        self.frames.declared()
+        self.store.declared()
     }
 
     pub fn read(&self, frame: u32, slot: u32) -> Cell
@@ -143,7 +144,7 @@ impl Memory {
         requires slot_of { slot < length (slice_index_or self.now.now frame no_frame).cells }
         ensures { result ≡ cell_at self.now.now frame slot cell.Unknown }
     {
-        self.frames.cell(SlotPlace { frame, slot })
+        self.store.read(frame as usize, slot as usize)
     }
 
     /// What a slot of the top frame holds.
@@ -151,7 +152,7 @@ impl Memory {
         requires { slot < length (last_frame self.now.now).cells }
         ensures { slice_get (last_frame self.now.now).cells slot ≡ Some result }
     {
-        self.frames.top().cell(slot)
+        self.store.read(self.store.len() - 1, slot as usize)
     }
 
     /// The kind of a slot of the top frame.
@@ -159,7 +160,7 @@ impl Memory {
         requires { slot < length (last_frame self.now.now).kinds }
         ensures { slice_get (last_frame self.now.now).kinds slot ≡ Some result }
     {
-        self.frames.top().kind(slot)
+        self.store.kind(self.store.len() - 1, slot as usize)
     }
 
     pub fn write(&mut self, frame: u32, slot: u32, cell: Cell) -> Result<(), NoMemory>
@@ -173,18 +174,14 @@ impl Memory {
         ensures choice_room { self.old.choice_room ≤ self.new.choice_room }
         ensures trail_room { self.old.trail_room ≤ self.new.trail_room +
             (if is_ok result then 1 else 0) }
+        ensures free { IsNoted self.old.noted frame slot
+            → IsOk result × (self.new.trail_room ≡ self.old.trail_room) }
+        ensures noted { OnOk result (IsNoted self.new.noted frame slot) }
+        ensures kept { (f s : ℕ) → IsNoted self.old.noted f s → IsNoted self.new.noted f s }
         ensures call { Makes (if is_ok result then Write frame slot cell else Nothing) self.old
             self.new }
     {
-        room_for_notes(self.entries.as_slice(), &mut self.trail, 1)?;
-        write_noted(
-            self.entries.as_slice(),
-            &mut self.frames,
-            &mut self.trail,
-            SlotPlace { frame, slot },
-            cell,
-        );
-        Ok(())
+        self.store.write(frame as usize, slot as usize, cell)
     }
 
     /// Pushes a frame, laid out by its head and its arguments.
@@ -209,29 +206,35 @@ impl Memory {
         ensures choice_room { self.old.choice_room ≤ self.new.choice_room }
         ensures trail_room { self.old.trail_room ≤ self.new.trail_room +
             (if is_ok result then 1 else 0) }
+        ensures kept { (f s : ℕ) → IsNoted self.old.noted f s → IsNoted self.new.noted f s }
         ensures call { Makes
             (if is_ok result then Enter (frame_of_call self.old.now
             (H.head head.now) routine ret args.now) else Nothing)
             self.old self.new }
     {
-        if self.frames.len() >= FRAME_LIMIT {
+        if self.store.len() >= FRAME_LIMIT as usize {
             return Err(EnterError::DepthFull);
         }
-        if head.declared() > CELL_LIMIT - self.frames.declared() {
+        if head.declared() > CELL_LIMIT - self.store.declared() {
             return Err(EnterError::CellsFull);
         }
-        let Ok(frame) = frame_from(self.alloc, &self.frames, head, routine, ret, args) else {
-            return Err(EnterError::Memory);
-        };
-        if room_for_notes(self.entries.as_slice(), &mut self.trail, 1).is_err() {
+        if put_call(&mut self.kinds, &mut self.cells, &self.store, head, args).is_err() {
             return Err(EnterError::Memory);
         }
-        enter_noted(
-            self.entries.as_slice(),
-            &mut self.frames,
-            &mut self.trail,
-            frame,
-        );
+        let declared = head.declared();
+        if self
+            .store
+            .enter(
+                routine,
+                ret,
+                declared,
+                self.kinds.as_slice(),
+                self.cells.as_slice(),
+            )
+            .is_err()
+        {
+            return Err(EnterError::Memory);
+        }
         Ok(())
     }
 
@@ -248,8 +251,7 @@ impl Memory {
             (if is_ok result then 1 else 0) }
         ensures call { Makes (if is_ok result then Leave else Nothing) self.old self.new }
     {
-        room_for_notes(self.entries.as_slice(), &mut self.trail, 1)?;
-        Ok(leave_noted(self.entries.as_slice(), &mut self.frames, &mut self.trail))
+        Ok(self.store.leave())
     }
 
     /// Pushes an entry with a copy of the frames, a Forall with an empty carry.
@@ -271,14 +273,7 @@ impl Memory {
         ensures call { Makes (if is_ok result then Choose kind resume else Nothing) self.old
             self.new }
     {
-        let entry = Entry {
-            kind,
-            resume,
-            mark: self.trail.len(),
-            carry: Carry::new(self.alloc),
-        };
-        self.entries.push(entry)?;
-        Ok(())
+        push_entry(self.alloc, &mut self.entries, &mut self.store, kind, resume)
     }
 
     /// Goes back to the top entry: its copy becomes the frames, and the entry is dropped, but a Forall stays as a Done.
@@ -293,12 +288,15 @@ impl Memory {
         ensures rooms { KeepsRooms self.old self.new }
         ensures call { Makes (if is_some result then Fail else Nothing) self.old self.new }
     {
-        let entry = self.entries.pop()?;
+        if self.entries.is_empty() {
+            return None;
+        }
+        let entry = &self.entries[self.entries.len() - 1];
         let resumed = Resumed {
             kind: entry.kind,
             resume: entry.resume,
         };
-        fail_to(&mut self.entries, &mut self.frames, &mut self.trail, entry);
+        pop_entry(&mut self.entries, &mut self.store);
         Some(resumed)
     }
 
@@ -309,7 +307,7 @@ impl Memory {
         ensures rooms { KeepsRooms self.old self.new }
         ensures call { Makes (Cut height) self.old self.new }
     {
-        cut_to(&mut self.entries, &self.frames, &mut self.trail, height);
+        cut_to(&mut self.entries, &mut self.store, height);
     }
 
     /// How many entries there are.
@@ -344,13 +342,8 @@ impl Memory {
         ensures call { Makes (if is_ok result then Overlay height else Nothing) self.old self.new }
     {
         let carry = &self.entries[height - 1].carry;
-        room_for_notes(self.entries.as_slice(), &mut self.trail, carry.len())?;
-        lay(
-            self.entries.as_slice(),
-            &mut self.frames,
-            &mut self.trail,
-            carry,
-        );
+        self.store.reserve(0, carry.len())?;
+        lay(&mut self.store, carry);
         Ok(())
     }
 
@@ -367,13 +360,7 @@ impl Memory {
         ensures rooms { KeepsRooms self.old self.new }
         ensures call { Makes (if is_ok result then Keep height else Nothing) self.old self.new }
     {
-        keep_top(
-            self.alloc,
-            &mut self.entries,
-            &self.frames,
-            self.trail.as_slice(),
-            height,
-        )
+        keep_top(self.alloc, &mut self.entries, &mut self.store, height)
     }
 
     /// Drops the Done on top, and lays its carry over the frames.
@@ -390,16 +377,8 @@ impl Memory {
         ensures call { Makes (if is_ok result then Finish else Nothing) self.old self.new }
     {
         let carry = &self.entries[self.entries.len() - 1].carry;
-        room_for_notes(self.entries.as_slice(), &mut self.trail, carry.len())?;
-        let Some(entry) = self.entries.pop() else {
-            unreachable!()
-        };
-        lay_last(
-            self.entries.as_slice(),
-            &mut self.frames,
-            &mut self.trail,
-            entry,
-        );
+        self.store.reserve(0, carry.len())?;
+        lay_top(&mut self.entries, &mut self.store);
         Ok(())
     }
 }

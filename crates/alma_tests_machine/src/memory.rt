@@ -131,6 +131,26 @@ fn a_pop_leaves_unknown_what_was_unknown(rt: HostRuntime) -> Result<(), Fail> {
     Ok(())
 }
 
+#[test]
+fn a_noted_slot_is_written_with_no_room(rt: HostRuntime) -> Result<(), Fail> {
+    let mut memory = start(rt.alloc(), 2)?;
+    memory.reserve(1, 1)?;
+    branch_and_write(&mut memory, 7, 1, 5)?;
+    let room = memory.trail_room();
+    memory.write(0, 1, Cell::Int(6))?;
+    let is_same = memory.trail_room() == room;
+    let resumed = memory.fail();
+    let branch = Resumed {
+        kind: ChoiceKind::Branch,
+        resume: 7,
+    };
+    assert_eq!(rt;
+        (is_same, resumed, memory.read(0, 1)),
+        (true, Some(branch), Cell::Unknown)
+    );
+    Ok(())
+}
+
 // The one slot of the global frame.
 const PLACE: CellPlace = CellPlace {
     frame: 0,

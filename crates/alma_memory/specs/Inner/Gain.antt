@@ -3,11 +3,11 @@ use Rattle.std.specs.Prelude.{List, []}
 use Rattle.alma_base.specs.Carry.{Change, with_changes}
 use Rattle.alma_code.specs.declared.cell.Cell.{Cell}
 use Rattle.alma_code.specs.declared.cell.ChoiceKind.TheVariants.{Branch}
-use Rattle.alma_memory.specs.declared.trail.Entry.{Entry}
+use Rattle.alma_memory.specs.declared.stack.Entry.{Entry}
 
 -- what stands for an entry that is not there
 abbrev pub no_saved : Entry
-no_saved = record { kind = Branch; resume = 0; mark = 0; carry = [] }
+no_saved = record { kind = Branch; resume = 0; carry = [] }
 
 -- the entry with these places set in its carry
 abbrev pub entry_with_changes : Entry → List (Change Cell) → Entry

@@ -1,5 +1,0 @@
-use Rattle.alma_memory.proofs.Stores.{whole-at}
-use Rattle.alma_memory.proofs.frames.Frames.number.Goals as goal
-
-pub number-requires : goal.number-requires
-number-requires c = rw c.at.ensures (whole-at c.args.self.now c.args.place.frame c.requires)

@@ -1,6 +1,0 @@
-use Rattle.std.proofs.Common.{◌≡◌}
-use Rattle.alma_code.specs.Layout.{args_cells}
-use Rattle.alma_memory.proofs.layout.cells_from.Given as goal
-
-abbrev pub invariant-loop-i : goal.invariant-loop-i
-invariant-loop-i g l = l.cells.items ≡ args_cells l.frames (g.H.Head.head l.head).params l.args l.i

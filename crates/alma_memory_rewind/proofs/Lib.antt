@@ -1,0 +1,5 @@
+pub mod Trails
+pub mod Stamps
+pub mod Changes
+mod Olds
+mod Sweeps

@@ -1,0 +1,23 @@
+use Rattle.std.proofs.Common.{◌≡◌, ◌<◌, ◌≤◌, ◌+◌, ◌-◌, ◌++◌, ◌∷◌, [], ℕ, List, length, get_or, take, drop, set, sym, ap, refl, ◌∙◌, true, false, arith}
+use Rattle.std.proofs.lemmas.Grind.{common_steps}
+use Rattle.alma_memory_rewind.specs.declared.rewind.Mark.{Mark}
+use Rattle.alma_memory_rewind.specs.Rewound.{Rewound, needed, top_copy}
+use Rattle.alma_memory_rewind.specs.Trail.{held_of, last_mark, is_free, free_from, trail_for}
+use Rattle.alma_memory_rewind.proofs.Trails.{needed-top, rises-pop}
+use Rattle.alma_memory_rewind.proofs.Changes.{top-le}
+use Rattle.alma_memory_rewind.proofs.rewind.Rewind.needed.Goals as goal
+
+pub returns-clause-value : goal.returns-clause-value
+returns-clause-value g c =
+    let e : needed (held_of c.self.inside.trail.items c.self.inside.items.items c.self.inside.marks.items) ≡ (last_mark c.self.inside.marks.items).top =
+    needed-top c.self.inside.trail.items c.self.inside.items.items c.self.inside.marks.items (length c.self.inside.trail.items) c.self.invariant.rises in
+    let v : needed (held_of c.self.inside.trail.items c.self.inside.items.items c.self.inside.marks.items) ≡ needed c.args.self.now.held = ap (λ (p : Rewound g.row.T.Denot). needed p.held) c.self.view_is in
+    let a : (last_mark c.as_slice.result.now).top ≡ (last_mark c.self.inside.marks.items).top = ap (λ ms. (last_mark ms).top) c.as_slice.ensures.value in
+    c.top_of.ensures ∙ (a ∙ (sym e ∙ v))
+
+pub returns-clause-within : goal.returns-clause-within
+returns-clause-within g c =
+    let a : (last_mark c.as_slice.result.now).top ≡ (last_mark c.self.inside.marks.items).top = ap (λ ms. (last_mark ms).top) c.as_slice.ensures.value in
+    let low : (last_mark c.self.inside.marks.items).top ≤ length c.self.inside.items.items = top-le c.self.inside.marks.items (length c.self.inside.trail.items) (length c.self.inside.items.items) c.self.invariant.rises in
+    let wide : length c.self.inside.items.items ≡ length c.args.self.now.now = ap (λ (p : Rewound g.row.T.Denot). length p.now) c.self.view_is in
+    omega (arith, c.top_of.ensures, a, low, wide)

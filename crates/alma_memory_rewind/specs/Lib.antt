@@ -1,0 +1,3 @@
+pub mod Rewound
+pub mod Trail
+pub mod Sound

@@ -1,0 +1,518 @@
+// A list, its copies as marks, and the trail.
+ghost use Rattle.std.specs.Prelude.{◌≡◌, ℕ, ◌+◌, ◌-◌, ◌<◌, ◌≤◌, [], ◌∷◌, ◌++◌, length, take, drop, set, slice_get, slice_index_or, Some, true, false, is_ok, IsOk, OnOk, OnErr, IfOk, IsTrue, if◌then◌else◌, vec_len, vec_capacity};
+ghost use Rattle.std.specs.BTreeMap.{get};
+ghost use Rattle.std.specs.Ordering.{nat_cmp};
+ghost use Rattle.alma_memory_rewind.specs.Rewound.{IsOlds, needed, top_copy};
+ghost use Rattle.alma_memory_rewind.specs.Trail.{before, first_of, held_of, is_free, last_mark, free_from, trail_for};
+ghost use Rattle.alma_memory_rewind.specs.Sound.{AddsNoted, AreOld, AreStamps, IsSound, Keeps, Sweeps, SweepsOn};
+
+use alma_base::NoMemory;
+use std::alloc::Global;
+use std::collections::BTreeMap;
+use std::marker::Model;
+
+// So many notes are never looked at.
+const FIRST_LIMIT: usize = 256;
+
+/// The place of a write, with the stamp and the item from before.
+#[derive(Clone, Copy)]
+pub struct Note<T> {
+    pub at: usize,
+    pub stamp: usize,
+    pub old: T,
+}
+
+/// A copy: the length of the trail when it was made, how many items it has, and its number among all copies so far.
+#[derive(Clone, Copy)]
+pub struct Mark {
+    pub mark: usize,
+    pub top: usize,
+    pub serial: usize,
+}
+
+/// A list that goes back.
+#[derive(Drop)]
+pub struct Rewind<T> {
+    items: Vec<T>,
+    stamps: Vec<usize>,
+    trail: Vec<Note<T>>,
+    marks: Vec<Mark>,
+    // The greatest serial so far.
+    counter: usize,
+    // So many notes may stand in the trail before a cut looks for those that no copy needs.
+    limit: usize,
+}
+
+impl<T> Model for Rewind<T> {
+    ghost use Rattle.std.specs.Prelude.{◌-◌, ◌^◌, min};
+    ghost use Rattle.std.specs.Vec.{vec_len, vec_capacity};
+    ghost use Rattle.alma_memory_rewind.specs.Rewound.{Rewound, rewound_code};
+
+    ghost Value = { Rewound T };
+
+    ghost coded = { rewound_code T.code };
+
+    ghost use Rattle.alma_memory_rewind.specs.Trail.{held_of, free_from};
+    ghost use Rattle.alma_memory_rewind.specs.Sound.{IsSound};
+
+    ghost view = { λ r. record {
+      now = r.items.items;
+      held = held_of r.trail.items r.items.items r.marks.items;
+      noted = free_from r.marks.items 0 r.stamps.items;
+      choice_room = min (vec_capacity r.marks - vec_len r.marks) (2 ^ 64 - 1 - r.counter);
+      trail_room = vec_capacity r.trail - vec_len r.trail;
+    } };
+
+    ghost invariant = { λ r. IsSound r.marks.items r.trail.items r.items.items r.stamps.items r.counter };
+}
+
+// Whether a write at a place with this stamp needs no note.
+fn needs_no_note(marks: &[Mark], at: usize, stamp: usize) -> bool
+    ensures { result ≡ is_free marks.now at stamp }
+{
+    if marks.is_empty() {
+        return true;
+    }
+    let last = marks[marks.len() - 1];
+    last.top <= at || last.serial <= stamp
+}
+
+// How many items from the bottom the copies need.
+fn top_of(marks: &[Mark]) -> usize
+    ensures { result ≡ (last_mark marks.now).top }
+{
+    if marks.is_empty() {
+        return 0;
+    }
+    marks[marks.len() - 1].top
+}
+
+// Room for a note, where one is needed.
+fn room_for_note<T: Copy>(free: bool, trail: &mut Vec<Note<T>>) -> Result<(), NoMemory>
+    ensures items { trail.new.items ≡ trail.old.items }
+    ensures len { vec_len trail.new ≡ vec_len trail.old }
+    ensures room { OnOk result (free ≡ false → vec_len trail.new < vec_capacity trail.new) }
+    ensures capacity { vec_capacity trail.old ≤ vec_capacity trail.new }
+    ensures free { free ≡ true → IsOk result }
+    ensures same { free ≡ true → vec_capacity trail.new ≡ vec_capacity trail.old }
+    ensures succeeds { vec_len trail.old + 1 ≤ vec_capacity trail.old → IsOk result }
+{
+    if !free {
+        trail.reserve(1)?;
+    }
+    Ok(())
+}
+
+// The serial of the top copy, or 0.
+fn top_serial(marks: &[Mark]) -> usize
+    ensures { result ≡ (last_mark marks.now).serial }
+{
+    if marks.is_empty() {
+        return 0;
+    }
+    marks[marks.len() - 1].serial
+}
+
+// Notes what stood at a place, and stamps the place.
+fn add_note<T: Copy>(
+    stamps: &mut Vec<usize>,
+    trail: &mut Vec<Note<T>>,
+    at: usize,
+    old: T,
+    serial: usize,
+)
+    requires wide { at < length stamps.old.items }
+    requires room { vec_len trail.old < vec_capacity trail.old }
+    ensures stamps { stamps.new.items ≡ set stamps.old.items at serial }
+    ensures trail { trail.new.items ≡ trail.old.items
+        ++ (record { at = at; stamp = slice_index_or stamps.old.items at 0; old = old }) ∷ [] }
+    ensures len { vec_len trail.new ≡ vec_len trail.old + 1 }
+    ensures capacity { vec_capacity trail.old ≤ vec_capacity trail.new }
+{
+    let stamp = stamps[at];
+    match trail.push(Note { at, stamp, old }) {
+        Ok(()) => (),
+        Err(_) => unreachable!(),
+    }
+    stamps[at] = serial;
+}
+
+// Notes what stands at a place, where a note is needed.
+fn note_old<T: Copy>(
+    marks: &[Mark],
+    items: &[T],
+    stamps: &mut Vec<usize>,
+    trail: &mut Vec<Note<T>>,
+    at: usize,
+)
+    requires inside { at < length items.now }
+    requires wide { at < length stamps.old.items }
+    requires room { is_free marks.now at (slice_index_or stamps.old.items at 0) ≡ false → vec_len trail.old < vec_capacity trail.old }
+    ensures keeps { (x : T) (counter : ℕ) → IsSound marks.now trail.old.items items.now stamps.old.items counter
+        → Keeps marks.now trail.old.items trail.new.items items.now (set items.now at x) stamps.new.items counter }
+    ensures noted { AddsNoted marks.now stamps.old.items stamps.new.items at }
+    ensures free { is_free marks.now at (slice_index_or stamps.old.items at 0) ≡ true → (vec_len trail.new ≡ vec_len trail.old) × (vec_capacity trail.new ≡ vec_capacity trail.old) }
+    ensures len { vec_len trail.new ≤ vec_len trail.old + 1 }
+    ensures capacity { vec_capacity trail.old ≤ vec_capacity trail.new }
+{
+    let free = needs_no_note(marks, at, stamps[at]);
+    if !free {
+        let old = items[at];
+        add_note(stamps, trail, at, old, top_serial(marks));
+    }
+}
+
+// Puts back what a note holds.
+fn put_back<T: Copy>(items: &mut Vec<T>, stamps: &mut Vec<usize>, note: Note<T>)
+    requires { length stamps.old.items ≡ length items.old.items }
+    ensures items { items.new.items ≡ set items.old.items note.at note.old }
+    ensures stamps { stamps.new.items ≡ set stamps.old.items note.at note.stamp }
+{
+    if note.at < items.len() {
+        items[note.at] = note.old;
+        stamps[note.at] = note.stamp;
+    }
+}
+
+// Undoes the notes above a mark, the last one first.
+fn unwind_to<T: Copy>(
+    marks: &[Mark],
+    items: &mut Vec<T>,
+    stamps: &mut Vec<usize>,
+    trail: &mut Vec<Note<T>>,
+    mark: usize,
+    counter: usize,
+)
+    requires stamped { AreStamps marks.now trail.old.items stamps.old.items }
+    requires old { AreOld marks.now trail.old.items stamps.old.items counter }
+    requires wide { length stamps.old.items ≡ length items.old.items }
+    requires mark { mark ≤ length trail.old.items }
+    ensures items { items.new.items ≡ before (drop mark trail.old.items) items.old.items }
+    ensures trail { trail.new.items ≡ take mark trail.old.items }
+    ensures stamped { AreStamps marks.now trail.new.items stamps.new.items }
+    ensures old { AreOld marks.now trail.new.items stamps.new.items counter }
+    ensures wide { length stamps.new.items ≡ length items.new.items }
+    ensures capacity { vec_capacity trail.new ≡ vec_capacity trail.old }
+{
+    while trail.len() > mark {
+        if let Some(note) = trail.pop() {
+            put_back(items, stamps, note);
+        }
+    }
+}
+
+// For each place of a note above a mark, what the first of them holds.
+fn olds_of<T: Copy>(
+    alloc: Global,
+    trail: &[Note<T>],
+    mark: usize,
+) -> Result<BTreeMap<usize, T>, NoMemory>
+    requires { mark ≤ length trail.now }
+    ensures { IfOk result (λ olds. (at : ℕ) → get nat_cmp olds at
+        ≡ first_of (drop mark trail.now) at) }
+{
+    let mut olds = BTreeMap::new(alloc);
+    let mut left = trail.len();
+    while left > mark {
+        left -= 1;
+        let note = trail[left];
+        let _ = olds.insert(note.at, note.old)?;
+    }
+    Ok(olds)
+}
+
+// Drops all notes where no copy is left that needs them.
+fn settle<T: Copy>(marks: &[Mark], trail: &mut Vec<Note<T>>)
+    ensures trail { trail.new.items ≡ trail_for marks.now trail.old.items }
+    ensures capacity { vec_capacity trail.new ≡ vec_capacity trail.old }
+    ensures len { vec_len trail.new ≤ vec_len trail.old }
+{
+    if marks.is_empty() {
+        trail.clear();
+    }
+}
+
+// Moves a note down, where a copy needs it, and answers where the next one goes.
+fn move_note<T: Copy>(marks: &[Mark], trail: &mut Vec<Note<T>>, at: usize, to: usize) -> usize
+    requires some { 1 ≤ length marks.now }
+    requires from { (last_mark marks.now).mark ≤ to }
+    requires low { to ≤ at }
+    requires within { at < length trail.old.items }
+    ensures keeps { SweepsOn marks.now (take to trail.old.items ++ drop at trail.old.items)
+        (take result trail.new.items ++ drop (at + 1) trail.new.items) }
+    ensures low { to ≤ result }
+    ensures high { result ≤ at + 1 }
+    ensures same { length trail.new.items ≡ length trail.old.items }
+    ensures capacity { vec_capacity trail.new ≡ vec_capacity trail.old }
+{
+    let note = trail[at];
+    if needs_no_note(marks, note.at, note.stamp) {
+        return to;
+    }
+    trail[to] = note;
+    to + 1
+}
+
+// Drops the notes from a place on that no copy needs. The place is not below the last mark.
+fn sweep<T: Copy>(marks: &[Mark], trail: &mut Vec<Note<T>>, from: usize)
+    requires some { 1 ≤ length marks.now }
+    requires from { (last_mark marks.now).mark ≤ from }
+    requires within { from ≤ length trail.old.items }
+    ensures keeps { Sweeps marks.now trail.old.items trail.new.items }
+    ensures capacity { vec_capacity trail.new ≡ vec_capacity trail.old }
+    ensures len { vec_len trail.new ≤ vec_len trail.old }
+{
+    let mut to = from;
+    for at in from..trail.len() {
+        to = move_note(marks, trail, at, to);
+    }
+    trail.truncate(to);
+}
+
+// Drops the notes above the last mark that no copy needs.
+fn sweep_top<T: Copy>(marks: &[Mark], trail: &mut Vec<Note<T>>)
+    ensures keeps { Sweeps marks.now trail.old.items trail.new.items }
+    ensures capacity { vec_capacity trail.new ≡ vec_capacity trail.old }
+    ensures len { vec_len trail.new ≤ vec_len trail.old }
+{
+    if marks.is_empty() {
+        return;
+    }
+    let from = marks[marks.len() - 1].mark;
+    if from < trail.len() {
+        sweep(marks, trail, from);
+    }
+}
+
+// How many notes may stand before they are looked at again.
+fn limit_for(len: usize) -> usize {
+    FIRST_LIMIT.max(len.saturating_mul(2))
+}
+
+// Sweeps where more notes stand than the limit, and answers the next limit.
+fn sweep_full<T: Copy>(marks: &[Mark], trail: &mut Vec<Note<T>>, limit: usize) -> usize
+    ensures keeps { Sweeps marks.now trail.old.items trail.new.items }
+    ensures capacity { vec_capacity trail.new ≡ vec_capacity trail.old }
+    ensures len { vec_len trail.new ≤ vec_len trail.old }
+{
+    if trail.len() <= limit {
+        return limit;
+    }
+    sweep_top(marks, trail);
+    limit_for(trail.len())
+}
+
+// Pushes an item and its stamp.
+fn push_both<T: Copy>(items: &mut Vec<T>, stamps: &mut Vec<usize>, value: T)
+    requires items { vec_len items.old < vec_capacity items.old }
+    requires stamps { vec_len stamps.old < vec_capacity stamps.old }
+    ensures items { items.new.items ≡ items.old.items ++ value ∷ [] }
+    ensures stamps { stamps.new.items ≡ stamps.old.items ++ 0 ∷ [] }
+{
+    match items.push(value) {
+        Ok(()) => (),
+        Err(_) => unreachable!(),
+    }
+    match stamps.push(0) {
+        Ok(()) => (),
+        Err(_) => unreachable!(),
+    }
+}
+
+impl<T: Copy> Rewind<T> {
+    /// No item and no copy.
+    pub fn new(alloc: Global) -> Rewind<T>
+        ensures now { result.now ≡ [] }
+        ensures held { result.held ≡ [] }
+    {
+        Rewind {
+            items: Vec::new(alloc),
+            stamps: Vec::new(alloc),
+            trail: Vec::new(alloc),
+            marks: Vec::new(alloc),
+            counter: 0,
+            limit: FIRST_LIMIT,
+        }
+    }
+
+    pub fn len(&self) -> usize
+        ensures { result ≡ length self.now.now }
+    {
+        self.items.len()
+    }
+
+    /// How many copies there are.
+    pub fn height(&self) -> usize
+        ensures { result ≡ length self.now.held }
+    {
+        self.marks.len()
+    }
+
+    /// How many items from the bottom the copies need.
+    pub fn needed(&self) -> usize
+        ensures value { result ≡ needed self.now.held }
+        ensures within { result ≤ length self.now.now }
+    {
+        top_of(self.marks.as_slice())
+    }
+
+    pub fn get(&self, at: usize) -> T
+        requires { at < length self.now.now }
+        ensures { slice_get self.now.now at ≡ Some result }
+    {
+        self.items[at]
+    }
+
+    pub fn as_slice(&self) -> &[T]
+        ensures { result.now ≡ self.now.now }
+    {
+        self.items.as_slice()
+    }
+
+    /// How many more copies can be made without taking memory.
+    pub fn choice_room(&self) -> usize
+        ensures { result ≡ self.now.choice_room }
+    {
+        let left = usize::MAX.saturating_sub(self.counter);
+        (self.marks.capacity() - self.marks.len()).min(left)
+    }
+
+    /// How many more notes can be made without taking memory.
+    pub fn trail_room(&self) -> usize
+        ensures { result ≡ self.now.trail_room }
+    {
+        self.trail.capacity() - self.trail.len()
+    }
+
+    /// Makes room for so many more copies and notes.
+    pub fn reserve(&mut self, choices: usize, trail: usize) -> Result<(), NoMemory>
+        ensures now { self.new.now ≡ self.old.now }
+        ensures held { self.new.held ≡ self.old.held }
+        ensures noted { self.new.noted ≡ self.old.noted }
+        ensures succeeds { choices ≤ self.old.choice_room → trail ≤ self.old.trail_room → IsOk result }
+        ensures choice_room { OnOk result (choices ≤ self.new.choice_room) }
+        ensures trail_room { OnOk result (trail ≤ self.new.trail_room) }
+        ensures no_less { (self.old.choice_room ≤ self.new.choice_room) × (self.old.trail_room ≤ self.new.trail_room) }
+    {
+        if usize::MAX - self.counter < choices {
+            return Err(NoMemory);
+        }
+        self.marks.reserve(choices)?;
+        self.trail.reserve(trail)?;
+        Ok(())
+    }
+
+    /// Writes an item. It takes a note where the place is not noted yet.
+    pub fn write(&mut self, at: usize, value: T) -> Result<(), NoMemory>
+        requires { at < length self.old.now }
+        ensures now { self.new.now ≡ (if is_ok result then set self.old.now at value else self.old.now) }
+        ensures held { self.new.held ≡ self.old.held }
+        ensures succeeds { 1 ≤ self.old.trail_room → IsOk result }
+        ensures free { slice_index_or self.old.noted at false ≡ true → IsOk result × (self.new.trail_room ≡ self.old.trail_room) }
+        ensures noted { OnOk result (slice_index_or self.new.noted at false ≡ true) }
+        ensures kept { (p : ℕ) → slice_index_or self.old.noted p false ≡ true → slice_index_or self.new.noted p false ≡ true }
+        ensures choice_room { self.new.choice_room ≡ self.old.choice_room }
+        ensures trail_room { self.old.trail_room ≤ self.new.trail_room + (if is_ok result then 1 else 0) }
+    {
+        let free = needs_no_note(self.marks.as_slice(), at, self.stamps[at]);
+        room_for_note(free, &mut self.trail)?;
+        note_old(
+            self.marks.as_slice(),
+            self.items.as_slice(),
+            &mut self.stamps,
+            &mut self.trail,
+            at,
+        );
+        self.items[at] = value;
+        Ok(())
+    }
+
+    /// Drops the items from `len` on, of which no copy needs one.
+    pub fn truncate(&mut self, len: usize)
+        requires { needed self.old.held ≤ len }
+        ensures now { self.new.now ≡ take len self.old.now }
+        ensures held { self.new.held ≡ self.old.held }
+        ensures noted { self.new.noted ≡ take len self.old.noted }
+        ensures choice_room { self.new.choice_room ≡ self.old.choice_room }
+        ensures trail_room { self.new.trail_room ≡ self.old.trail_room }
+    {
+        self.items.truncate(len);
+        self.stamps.truncate(len);
+    }
+
+    /// Pushes an item, which needs no note until a copy is made.
+    pub fn push(&mut self, value: T) -> Result<(), NoMemory>
+        ensures now { self.new.now ≡ (if is_ok result then self.old.now ++ value ∷ [] else self.old.now) }
+        ensures held { self.new.held ≡ self.old.held }
+        ensures noted { self.new.noted ≡ (if is_ok result then self.old.noted ++ true ∷ [] else self.old.noted) }
+        ensures choice_room { self.new.choice_room ≡ self.old.choice_room }
+        ensures trail_room { self.new.trail_room ≡ self.old.trail_room }
+    {
+        self.items.reserve(1)?;
+        self.stamps.reserve(1)?;
+        push_both(&mut self.items, &mut self.stamps, value);
+        Ok(())
+    }
+
+    /// Makes a copy of the first `top` items.
+    pub fn choose(&mut self, top: usize) -> Result<(), NoMemory>
+        requires low { needed self.old.held ≤ top }
+        requires high { top ≤ length self.old.now }
+        ensures now { self.new.now ≡ self.old.now }
+        ensures held { self.new.held ≡ (if is_ok result then self.old.held ++ take top self.old.now ∷ [] else self.old.held) }
+        ensures succeeds { 1 ≤ self.old.choice_room → IsOk result }
+        ensures choice_room { self.old.choice_room ≤ self.new.choice_room + (if is_ok result then 1 else 0) }
+        ensures trail_room { self.new.trail_room ≡ self.old.trail_room }
+    {
+        if self.counter == usize::MAX {
+            return Err(NoMemory);
+        }
+        let mark = Mark {
+            mark: self.trail.len(),
+            top,
+            serial: self.counter + 1,
+        };
+        self.marks.push(mark)?;
+        self.counter += 1;
+        Ok(())
+    }
+
+    /// Goes back to the top copy, which stays. What stands above the copy is left as it comes.
+    pub fn back(&mut self)
+        requires { 1 ≤ length self.old.held }
+        ensures now { take (needed self.old.held) self.new.now ≡ top_copy self.old.held }
+        ensures held { self.new.held ≡ self.old.held }
+        ensures choice_room { self.new.choice_room ≡ self.old.choice_room }
+        ensures trail_room { self.old.trail_room ≤ self.new.trail_room }
+    {
+        let mark = self.marks[self.marks.len() - 1];
+        unwind_to(
+            self.marks.as_slice(),
+            &mut self.items,
+            &mut self.stamps,
+            &mut self.trail,
+            mark.mark,
+            self.counter,
+        );
+    }
+
+    /// For each place that was written since the top copy, the item that stood there in it.
+    pub fn olds(&self, alloc: Global) -> Result<BTreeMap<usize, T>, NoMemory>
+        requires { 1 ≤ length self.now.held }
+        ensures { IfOk result (λ olds. IsOlds self.now.now self.now.held (get nat_cmp olds)) }
+    {
+        let mark = self.marks[self.marks.len() - 1];
+        olds_of(alloc, self.trail.as_slice(), mark.mark)
+    }
+
+    /// Drops the copies above a height.
+    pub fn cut(&mut self, height: usize)
+        ensures now { self.new.now ≡ self.old.now }
+        ensures held { self.new.held ≡ take height self.old.held }
+        ensures rooms { (self.old.choice_room ≤ self.new.choice_room) × (self.old.trail_room ≤ self.new.trail_room) }
+    {
+        self.marks.truncate(height);
+        settle(self.marks.as_slice(), &mut self.trail);
+        self.limit = sweep_full(self.marks.as_slice(), &mut self.trail, self.limit);
+    }
+}

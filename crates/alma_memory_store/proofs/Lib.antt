@@ -1,0 +1,12 @@
+pub mod Stores
+pub mod Carrying
+pub mod Rising
+pub mod Indexed
+pub mod Frames
+pub mod Totals
+pub mod Copies
+pub mod Finds
+pub mod Flags
+pub mod Layouts
+pub mod Gains
+pub mod Covers

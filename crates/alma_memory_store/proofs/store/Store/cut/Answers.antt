@@ -1,0 +1,18 @@
+use Rattle.std.proofs.Common.{◌≡◌, ◌<◌, ◌≤◌, ◌+◌, ◌-◌, ◌++◌, ◌∷◌, [], ℕ, List, length, get_or, take, drop, set, sym, ap, refl, subst, ◌∙◌, true, false, max, arith}
+use Rattle.alma_code.specs.Picture.{PlainFrame, no_frame, without_last, last_frame, frames_with_cell, live_cells}
+use Rattle.alma_memory_rewind.specs.Rewound.{needed, top_copy}
+use Rattle.alma_memory_store.specs.declared.store.Region.{Region}
+use Rattle.alma_memory_store.specs.declared.store.Slot.{Slot}
+use Rattle.alma_memory_store.specs.Regions.{AreLaid, end_of, frames_of, frame_of, frame_with_slots, no_region, no_slot, slots_of, slot_number, declared_in}
+use Rattle.alma_memory_store.specs.Stored.{Stored, IsState, AreStates, copies_of, flags_of, IsNoted}
+use Rattle.alma_memory_store.proofs.Copies.{states-take, copies-take}
+use Rattle.alma_memory_store.proofs.store.Store.cut.Goals as goal
+
+pub invariant_of-self : goal.invariant_of-self
+invariant_of-self c =
+    rw (c.cut.ensures.now, c.cut-2.ensures.now, c.cut.ensures.held, c.cut-2.ensures.held, c.truncate.ensures.items) (c.self.invariant.0, states-take c.args.height c.self.inside.slots.held c.self.inside.regions.held c.self.inside.lives.items c.self.invariant.1)
+
+pub returns-clause-held : goal.returns-clause-held
+returns-clause-held c =
+    let vh : copies_of c.self.inside.slots.held c.self.inside.regions.held c.self.inside.lives.items ≡ c.args.self.now.held = ap (λ (p : Stored). p.held) c.self.view_is in
+    rw (c.cut.ensures.held, c.cut-2.ensures.held, c.truncate.ensures.items) (copies-take c.args.height c.self.inside.slots.held c.self.inside.regions.held c.self.inside.lives.items ∙ ap (take c.args.height) vh)

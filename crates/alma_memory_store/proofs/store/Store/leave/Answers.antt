@@ -1,0 +1,35 @@
+use Rattle.std.proofs.Common.{◌≡◌, ◌<◌, ◌≤◌, ◌+◌, ◌-◌, ◌++◌, ◌∷◌, [], ℕ, List, length, get_or, take, drop, set, sym, ap, refl, subst, ◌∙◌, true, false, max, arith}
+use Rattle.alma_code.specs.Picture.{PlainFrame, no_frame, without_last, last_frame, frames_with_cell, live_cells}
+use Rattle.alma_memory_rewind.specs.Rewound.{needed, top_copy}
+use Rattle.alma_memory_store.specs.declared.store.Region.{Region}
+use Rattle.alma_memory_store.specs.declared.store.Slot.{Slot}
+use Rattle.alma_memory_store.specs.Regions.{AreLaid, end_of, frames_of, frame_of, frame_with_slots, no_region, no_slot, slots_of, slot_number, declared_in}
+use Rattle.alma_memory_store.specs.Stored.{Stored, IsState, AreStates, copies_of, flags_of, IsNoted}
+use Rattle.alma_memory_store.proofs.Finds.{live-length, last-back}
+use Rattle.alma_memory_store.proofs.Copies.{leaves, leaves-state}
+use Rattle.alma_memory_store.proofs.store.Store.leave.Goals as goal
+
+pub invariant_of-self : goal.invariant_of-self
+invariant_of-self c =
+    let slots = c.self.inside.slots.now in
+    let regions = c.self.inside.regions.now in
+    let n = c.self.inside.live in
+    let vn : frames_of slots (take n regions) ≡ c.args.self.now.now = ap (λ (p : Stored). p.now) c.self.view_is in
+    let wide : length c.args.self.now.now ≡ n = sym (ap length vn) ∙ live-length slots regions n c.self.invariant.0.live in
+    (leaves-state slots regions n (omega (arith, wide, c.requires)) c.self.invariant.0, c.self.invariant.1)
+
+pub returns-clause-now : goal.returns-clause-now
+returns-clause-now c =
+    let slots = c.self.inside.slots.now in
+    let regions = c.self.inside.regions.now in
+    let n = c.self.inside.live in
+    let vn : frames_of slots (take n regions) ≡ c.args.self.now.now = ap (λ (p : Stored). p.now) c.self.view_is in
+    leaves slots regions n c.self.invariant.0.live ∙ ap without_last vn
+
+pub returns-clause-back : goal.returns-clause-back
+returns-clause-back c =
+    let slots = c.self.inside.slots.now in
+    let regions = c.self.inside.regions.now in
+    let n = c.self.inside.live in
+    let vn : frames_of slots (take n regions) ≡ c.args.self.now.now = ap (λ (p : Stored). p.now) c.self.view_is in
+    sym (last-back slots regions n c.get-region.result c.self.invariant.0.live c.self.invariant.0.some c.get-region.ensures) ∙ ap (λ fs. (last_frame fs).back) vn

@@ -1,0 +1,39 @@
+use Rattle.std.proofs.Common.{◌≡◌, ◌<◌, ◌≤◌, ◌+◌, ◌-◌, ◌++◌, ◌∷◌, [], ℕ, List, length, get_or, take, drop, set, sym, ap, refl, subst, ◌∙◌, true, false, max, arith}
+use Rattle.alma_code.specs.Picture.{PlainFrame, no_frame, without_last, last_frame, frames_with_cell, live_cells}
+use Rattle.alma_memory_rewind.specs.Rewound.{needed, top_copy}
+use Rattle.alma_memory_store.specs.declared.store.Region.{Region}
+use Rattle.alma_memory_store.specs.declared.store.Slot.{Slot}
+use Rattle.alma_memory_store.specs.Regions.{AreLaid, end_of, frames_of, frame_of, frame_with_slots, no_region, no_slot, slots_of, slot_number, declared_in}
+use Rattle.alma_memory_store.specs.Stored.{Stored, IsState, AreStates, copies_of, flags_of, IsNoted}
+use Rattle.alma_memory_store.proofs.Finds.{finds}
+use Rattle.std.proofs.lemmas.Option.{get_or_from_slice_get}
+use Rattle.alma_memory_store.proofs.store.Store.read.Goals as goal
+
+pub place_of-at-requires : goal.place_of-at-requires
+place_of-at-requires c =
+    let slots = c.self.inside.slots.now in
+    let regions = c.self.inside.regions.now in
+    let n = c.self.inside.live in
+    let vn : frames_of slots (take n regions) ≡ c.args.self.now.now = ap (λ (p : Stored). p.now) c.self.view_is in
+    let f = finds slots regions n c.args.frame c.args.slot c.get-region.result c.args.self.now.now c.self.invariant.0 vn c.requires.live c.requires.slot_of c.get-region.ensures in
+    omega (arith, f.inside, c.len.ensures)
+
+pub get-requires : goal.get-requires
+get-requires c =
+    let slots = c.self.inside.slots.now in
+    let regions = c.self.inside.regions.now in
+    let n = c.self.inside.live in
+    let vn : frames_of slots (take n regions) ≡ c.args.self.now.now = ap (λ (p : Stored). p.now) c.self.view_is in
+    let f = finds slots regions n c.args.frame c.args.slot c.get-region.result c.args.self.now.now c.self.invariant.0 vn c.requires.live c.requires.slot_of c.get-region.ensures in
+    omega (arith, f.inside, c.place_of-at.ensures)
+
+pub returns : goal.returns
+returns c =
+    let slots = c.self.inside.slots.now in
+    let regions = c.self.inside.regions.now in
+    let n = c.self.inside.live in
+    let vn : frames_of slots (take n regions) ≡ c.args.self.now.now = ap (λ (p : Stored). p.now) c.self.view_is in
+    let f = finds slots regions n c.args.frame c.args.slot c.get-region.result c.args.self.now.now c.self.invariant.0 vn c.requires.live c.requires.slot_of c.get-region.ensures in
+    let got : get_or slots c.place_of-at.result no_slot ≡ c.get.result = get_or_from_slice_get slots c.place_of-at.result c.get.result no_slot c.get.ensures in
+    let here : get_or slots (c.get-region.result.base + c.args.slot) no_slot ≡ c.get.result = ap (λ k. get_or slots k no_slot) (sym c.place_of-at.ensures) ∙ got in
+    sym (ap (λ (x : Slot). x.cell) here) ∙ f.read

@@ -1,0 +1,30 @@
+use Rattle.std.proofs.Common.{◌≡◌, ◌<◌, ◌≤◌, ◌+◌, ◌-◌, ◌/◌, ◌++◌, ◌∷◌, [], ℕ, List, length, get_or, take, drop, set, sym, ap, refl, subst, ◌∙◌, true, false, max, arith, append_assoc}
+use Rattle.alma_code.specs.Picture.{PlainFrame, no_frame, without_last, last_frame, frames_with_cell, live_cells}
+use Rattle.alma_memory_rewind.specs.Rewound.{needed, top_copy, first_or}
+use Rattle.alma_memory_store.specs.declared.store.Region.{Region}
+use Rattle.alma_memory_store.specs.declared.store.Slot.{Slot}
+use Rattle.alma_memory_store.specs.Regions.{AreLaid, end_of, frames_of, frame_of, frame_with_slots, no_region, no_slot, slots_of, slot_number, declared_in}
+use Rattle.alma_memory_store.specs.Stored.{Stored, IsState, AreStates, copies_of, flags_of, IsNoted}
+use Rattle.alma_memory_store.proofs.Frames.{slots-length, kinds-back, cells-back}
+use Rattle.alma_memory_store.proofs.Copies.{starts}
+use Rattle.alma_memory_store.proofs.store.Store.start.Goals as goal
+
+pub invariant_of-result : goal.invariant_of-result
+invariant_of-result c =
+    let more : List Slot = slots_of c.args.kinds.now c.args.cells.now in
+    let r : Region = record { routine = 0; back = 0; declared = c.args.declared; total = c.args.declared; base = 0; slots = length c.args.cells.now } in
+    let regions : c.push.new.self.now ≡ r ∷ [] = c.in_ok-push.ensures.now ∙ ap (λ v. v ++ r ∷ []) c.new-regions.ensures.now in
+    let e = starts c.lay.new.slots.now more c.push.new.self.now r c.in_ok-lay.ensures.all regions refl c.requires.limit refl (sym (slots-length c.args.kinds.now c.args.cells.now c.requires.same)) in
+    (e.state, rw (c.lay.ensures.held ∙ c.new-slots.ensures.held, c.push.ensures.held ∙ c.new-regions.ensures.held, c.new-lives.ensures.items) tt)
+
+pub returns-clause-now : goal.returns-clause-now
+returns-clause-now c =
+    let more : List Slot = slots_of c.args.kinds.now c.args.cells.now in
+    let r : Region = record { routine = 0; back = 0; declared = c.args.declared; total = c.args.declared; base = 0; slots = length c.args.cells.now } in
+    let regions : c.push.new.self.now ≡ r ∷ [] = c.in_ok-push.ensures.now ∙ ap (λ v. v ++ r ∷ []) c.new-regions.ensures.now in
+    let e = starts c.lay.new.slots.now more c.push.new.self.now r c.in_ok-lay.ensures.all regions refl c.requires.limit refl (sym (slots-length c.args.kinds.now c.args.cells.now c.requires.same)) in
+    let ks = kinds-back c.args.kinds.now c.args.cells.now c.requires.same in
+    let cs = cells-back c.args.kinds.now c.args.cells.now c.requires.same in
+    e.frames
+    ∙ (ap (λ k. (record (frame_with_slots r more) { kinds = k }) ∷ []) ks
+    ∙ ap (λ v. (record { routine = 0; back = 0; declared = c.args.declared; kinds = c.args.kinds.now; cells = v }) ∷ []) cs)

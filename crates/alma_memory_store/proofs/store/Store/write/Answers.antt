@@ -1,0 +1,92 @@
+use Rattle.std.proofs.Common.{◌≡◌, ◌<◌, ◌≤◌, ◌+◌, ◌-◌, ◌++◌, ◌∷◌, [], ℕ, List, length, get_or, take, drop, set, sym, ap, refl, subst, ◌∙◌, true, false, max, arith}
+use Rattle.alma_code.specs.Picture.{PlainFrame, no_frame, without_last, last_frame, frames_with_cell, live_cells}
+use Rattle.alma_memory_rewind.specs.Rewound.{needed, top_copy}
+use Rattle.alma_memory_store.specs.declared.store.Region.{Region}
+use Rattle.alma_memory_store.specs.declared.store.Slot.{Slot}
+use Rattle.alma_memory_store.specs.Regions.{AreLaid, end_of, frames_of, frame_of, frame_with_slots, no_region, no_slot, slots_of, slot_number, declared_in}
+use Rattle.alma_memory_store.specs.Stored.{Stored, IsState, AreStates, copies_of, flags_of, IsNoted}
+use Rattle.std.proofs.lemmas.List.{length-take-le}
+use Rattle.std.proofs.lemmas.Option.{get_or_from_slice_get}
+use Rattle.alma_memory_store.proofs.Finds.{finds, write-result, live-length, region-at}
+use Rattle.alma_memory_store.proofs.Flags.{flag-there, flags-kept, on-ok}
+use Rattle.alma_memory_store.proofs.store.Store.write.Goals as goal
+
+pub place_of-at-requires : goal.place_of-at-requires
+place_of-at-requires c =
+    let slots = c.self.inside.slots.now in
+    let regions = c.self.inside.regions.now in
+    let n = c.self.inside.live in
+    let vn : frames_of slots (take n regions) ≡ c.args.self.now.now = ap (λ (p : Stored). p.now) c.self.view_is in
+    let f = finds slots regions n c.args.frame c.args.slot c.get-region.result c.args.self.now.now c.self.invariant.0 vn c.requires.live c.requires.slot_of c.get-region.ensures in
+    omega (arith, f.inside, c.len.ensures)
+
+pub get-kind-requires : goal.get-kind-requires
+get-kind-requires c =
+    let slots = c.self.inside.slots.now in
+    let regions = c.self.inside.regions.now in
+    let n = c.self.inside.live in
+    let vn : frames_of slots (take n regions) ≡ c.args.self.now.now = ap (λ (p : Stored). p.now) c.self.view_is in
+    let f = finds slots regions n c.args.frame c.args.slot c.get-region.result c.args.self.now.now c.self.invariant.0 vn c.requires.live c.requires.slot_of c.get-region.ensures in
+    omega (arith, f.inside, c.place_of-at.ensures)
+
+pub write-requires : goal.write-requires
+write-requires c =
+    let slots = c.self.inside.slots.now in
+    let regions = c.self.inside.regions.now in
+    let n = c.self.inside.live in
+    let vn : frames_of slots (take n regions) ≡ c.args.self.now.now = ap (λ (p : Stored). p.now) c.self.view_is in
+    let f = finds slots regions n c.args.frame c.args.slot c.get-region.result c.args.self.now.now c.self.invariant.0 vn c.requires.live c.requires.slot_of c.get-region.ensures in
+    omega (arith, f.inside, c.place_of-at.ensures)
+
+pub returns-clause-now : goal.returns-clause-now
+returns-clause-now c =
+    let slots = c.self.inside.slots.now in
+    let regions = c.self.inside.regions.now in
+    let n = c.self.inside.live in
+    let vn : frames_of slots (take n regions) ≡ c.args.self.now.now = ap (λ (p : Stored). p.now) c.self.view_is in
+    let f = finds slots regions n c.args.frame c.args.slot c.get-region.result c.args.self.now.now c.self.invariant.0 vn c.requires.live c.requires.slot_of c.get-region.ensures in
+    let at = c.place_of-at.ensures in
+    let e = c.write.ensures.now in
+    let got : get_or slots c.place_of-at.result no_slot ≡ c.get-kind.result = get_or_from_slice_get slots c.place_of-at.result c.get-kind.result no_slot c.get-kind.ensures in
+    let here : get_or slots (c.get-region.result.base + c.args.slot) no_slot ≡ c.get-kind.result = ap (λ k. get_or slots k no_slot) (sym at) ∙ got in
+    let x : Slot = record { kind = c.get-kind.result.kind; cell = c.args.cell } in
+    write-result slots c.write.new.self.now (take n regions) c.args.self.now.now (frames_with_cell c.args.self.now.now c.args.frame c.args.slot c.args.cell) (c.get-region.result.base + c.args.slot) x _ vn
+    (f.write x (sym (ap (λ (y : Slot). y.kind) here))) (rw at at e)
+
+pub returns-clause-free : goal.returns-clause-free
+returns-clause-free c = λ h.
+    let slots = c.self.inside.slots.now in
+    let regions = c.self.inside.regions.now in
+    let n = c.self.inside.live in
+    let vn : frames_of slots (take n regions) ≡ c.args.self.now.now = ap (λ (p : Stored). p.now) c.self.view_is in
+    let f = finds slots regions n c.args.frame c.args.slot c.get-region.result c.args.self.now.now c.self.invariant.0 vn c.requires.live c.requires.slot_of c.get-region.ensures in
+    let wide : length c.args.self.now.now ≡ n = sym (ap length vn) ∙ live-length slots regions n c.self.invariant.0.live in
+    let lt : c.args.frame < n = omega (arith, wide, c.requires.live) in
+    let there : c.args.frame < length (take n regions) = rw (length-take-le n regions c.self.invariant.0.live) lt in
+    let at : get_or (take n regions) c.args.frame no_region ≡ c.get-region.result = region-at regions n c.args.frame c.get-region.result lt c.get-region.ensures in
+    let vf : flags_of c.self.inside.slots.noted (take n regions) ≡ c.args.self.now.noted = ap (λ (p : Stored). p.noted) c.self.view_is in
+    let own : get_or c.self.inside.slots.noted (c.get-region.result.base + c.args.slot) false ≡ true =
+    sym (flag-there c.self.inside.slots.noted (take n regions) c.args.frame c.args.slot c.get-region.result there at f.own) ∙ (ap (λ fs. get_or (get_or fs c.args.frame []) c.args.slot false) vf ∙ h) in
+    let mine : get_or c.self.inside.slots.noted c.place_of-at.result false ≡ true = rw c.place_of-at.ensures own in
+    let done = c.write.ensures.free mine in
+    let room : c.self.inside.slots.trail_room ≡ c.args.self.now.trail_room = ap (λ (p : Stored). p.trail_room) c.self.view_is in
+    (done.0, done.1 ∙ room)
+
+pub returns-clause-noted : goal.returns-clause-noted
+returns-clause-noted c =
+    let slots = c.self.inside.slots.now in
+    let regions = c.self.inside.regions.now in
+    let n = c.self.inside.live in
+    let vn : frames_of slots (take n regions) ≡ c.args.self.now.now = ap (λ (p : Stored). p.now) c.self.view_is in
+    let f = finds slots regions n c.args.frame c.args.slot c.get-region.result c.args.self.now.now c.self.invariant.0 vn c.requires.live c.requires.slot_of c.get-region.ensures in
+    let wide : length c.args.self.now.now ≡ n = sym (ap length vn) ∙ live-length slots regions n c.self.invariant.0.live in
+    let lt : c.args.frame < n = omega (arith, wide, c.requires.live) in
+    let there : c.args.frame < length (take n regions) = rw (length-take-le n regions c.self.invariant.0.live) lt in
+    let at : get_or (take n regions) c.args.frame no_region ≡ c.get-region.result = region-at regions n c.args.frame c.get-region.result lt c.get-region.ensures in
+    on-ok c.write.result _ _ (λ h. flag-there c.write.new.self.noted (take n regions) c.args.frame c.args.slot c.get-region.result there at f.own
+    ∙ (ap (λ k. get_or c.write.new.self.noted k false) (sym c.place_of-at.ensures) ∙ h)) c.write.ensures.noted
+
+pub returns-clause-kept : goal.returns-clause-kept
+returns-clause-kept c = λ f s h.
+    let vf : flags_of c.self.inside.slots.noted (take c.self.inside.live c.self.inside.regions.now) ≡ c.args.self.now.noted = ap (λ (p : Stored). p.noted) c.self.view_is in
+    flags-kept c.self.inside.slots.noted c.write.new.self.noted (take c.self.inside.live c.self.inside.regions.now) c.write.ensures.kept f s (ap (λ fs. get_or (get_or fs f []) s false) vf ∙ h)

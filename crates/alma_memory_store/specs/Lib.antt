@@ -1,0 +1,6 @@
+pub mod Frames
+pub mod Carries
+pub mod Numbers
+pub mod Regions
+pub mod Stored
+pub mod Past

@@ -1,0 +1,11 @@
+//! The live frames as regions of one list of slots, with whole copies that cost nothing, and the carry of a FORALL.
+#![tactic(auto)]
+
+mod carry;
+mod layout;
+mod past;
+mod store;
+
+pub use carry::{Carry, SlotPlace};
+pub use layout::{put_call, put_start};
+pub use store::{Region, Slot, Store};
