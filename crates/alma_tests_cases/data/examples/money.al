@@ -1,34 +1,59 @@
 MODULE Money;
-(* SEND + MORE = MONEY: each letter is another digit. The columns are added from the right, so a wrong digit is found early. A letter is an
-   unknown variable, and Digit gives it a value that no other letter has. *)
-TYPE Digits = [0..9]; Flags = ARRAY Digits OF BOOLEAN;
-VAR s, e, n, d, m, o, r, y: Digits; carry: ARRAY [0..4] OF INTEGER; taken: Flags; i: INTEGER;
+(* SEND + MORE = MONEY: each letter is another digit. The columns are added from the right, so a wrong digit is found early. A letter
+   is an unknown variable; Column tests the digit below the line where it is known, and else gives it its value. *)
+TYPE Digit = [0..9];
+VAR used: ARRAY Digit OF BOOLEAN;
+    s, e, n, d, m, o, r, y: INTEGER;
+    i, found: INTEGER;
 
-PROCEDURE Digit(VAR letter: Digits);
-VAR i: INTEGER;
+PROCEDURE Pick(VAR x: INTEGER);
+(* an unused digit for x, each in turn *)
+VAR k: INTEGER;
 BEGIN
-  SOME i := 0 TO 9 DO NOT taken[i]; taken[i] := TRUE; letter = i END
-END Digit;
+  SOME k := 0 TO 9 DO
+    NOT used[k];
+    used[k] := TRUE;
+    x := k
+  END
+END Pick;
 
-PROCEDURE Column(a, b: INTEGER; VAR sum: Digits; at: INTEGER);
-VAR whole: INTEGER;
+PROCEDURE Column(a, b, carry: INTEGER; VAR sum: INTEGER; VAR out: INTEGER);
+(* the digit below the line is known, or is picked if it is free *)
+VAR total: INTEGER;
 BEGIN
-  whole := a + b + carry[at - 1];
-  carry[at] := whole DIV 10;
-  IF KNOWN(sum) THEN sum = whole MOD 10
-  ELSE NOT taken[whole MOD 10]; taken[whole MOD 10] := TRUE; sum = whole MOD 10
+  total := a + b + carry;
+  out := total DIV 10;
+  IF KNOWN(sum) THEN
+    sum = total MOD 10
+  ELSE
+    NOT used[total MOD 10];
+    used[total MOD 10] := TRUE;
+    sum := total MOD 10
   END
 END Column;
 
+PROCEDURE Solve;
+VAR c1, c2, c3, c4: INTEGER;
 BEGIN
-  FOR i := 0 TO 9 DO taken[i] := FALSE END;
-  carry[0] := 0;
-  Digit(d); Digit(e); Column(d, e, y, 1);
-  Digit(n); Digit(r); Column(n, r, e, 2);
-  Digit(o); Column(e, o, n, 3);
-  Digit(s); s > 0; Digit(m); m > 0; Column(s, m, o, 4);
-  carry[4] = m;
-  WRITELN("  ", s, e, n, d);
-  WRITELN("+ ", m, o, r, e);
-  WRITELN(" ", m, o, n, e, y)
+  Pick(d); Pick(e);
+  Column(d, e, 0, y, c1);
+  Pick(n); Pick(r);
+  Column(n, r, c1, e, c2);
+  Pick(o);
+  Column(e, o, c2, n, c3);
+  Pick(s); Pick(m); s > 0; m > 0;
+  Column(s, m, c3, o, c4);
+  c4 = m
+END Solve;
+
+BEGIN
+  FOR i := 0 TO 9 DO used[i] := FALSE END;
+  found := 0;
+  FORALL Solve DO
+    found := found + 1;
+    WRITELN("  ", s, e, n, d);
+    WRITELN("+ ", m, o, r, e);
+    WRITELN("=", m, o, n, e, y)
+  END;
+  WRITELN(found, " solution")
 END Money.

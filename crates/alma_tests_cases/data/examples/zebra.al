@@ -1,40 +1,72 @@
 MODULE Zebra;
-(* Five houses in a row, each with a colour, and in each a person with a pet, a drink and a trade: who drinks water, and who has the zebra?
-   Every unknown is the number of a house. Permute gives five of them five different numbers, one after another, and the clues are tests
-   that stand as early as they can. *)
-TYPE House = [1..5]; Group = ARRAY [1..5] OF House;
-VAR colour, person, pet, drink, trade: Group; i: INTEGER;
+(* Five houses in a row: who keeps the zebra, and who drinks water? A house is a number from 1 to 5, and a clue is an equation.
+   House5 tests a house that is known and gives each in turn to one that is not; FORALL goes on to the end, so the answer is the
+   only one. *)
+TYPE House = [1..5];
+VAR
+  red, green, ivory, yellow, blue: INTEGER;
+  english, spaniard, ukrainian, norwegian, japanese: INTEGER;
+  coffee, tea, milk, juice, water: INTEGER;
+  dog, snails, fox, horse, zebra: INTEGER;
+  oldgold, kools, chesterfield, lucky, parliament: INTEGER;
+  count: INTEGER;
 
-PROCEDURE Other(VAR group: Group; place: INTEGER);
-VAR house, i: INTEGER;
+PROCEDURE House5(MIX h: INTEGER);
+(* h is a house: tests a known one, gives each in turn to an unknown one *)
+VAR i: INTEGER;
+BEGIN SOME i := 1 TO 5 DO h = i END END House5;
+
+PROCEDURE Different(MIX a, b, c, d, e: INTEGER);
 BEGIN
-  SOME house := 1 TO 5 DO
-    group[place] = house;
-    FOR i := 1 TO place - 1 DO group[i] <> house END
+  House5(a);
+  House5(b); b <> a;
+  House5(c); c <> a; c <> b;
+  House5(d); d <> a; d <> b; d <> c;
+  House5(e); e <> a; e <> b; e <> c; e <> d
+END Different;
+
+PROCEDURE NextTo(a: INTEGER; MIX b: INTEGER);
+BEGIN EITHER b = a + 1 ORELSE b = a - 1 END END NextTo;
+
+PROCEDURE Solve;
+BEGIN
+  norwegian = 1;
+  NextTo(norwegian, blue);
+  milk = 3;
+  Different(red, green, ivory, yellow, blue);
+  green = ivory + 1;
+  english = red;
+  Different(english, spaniard, ukrainian, norwegian, japanese);
+  coffee = green;
+  ukrainian = tea;
+  Different(coffee, tea, milk, juice, water);
+  kools = yellow;
+  lucky = juice;
+  parliament = japanese;
+  Different(oldgold, kools, chesterfield, lucky, parliament);
+  dog = spaniard;
+  snails = oldgold;
+  NextTo(chesterfield, fox);
+  NextTo(kools, horse);
+  Different(dog, snails, fox, horse, zebra)
+END Solve;
+
+PROCEDURE Who(house: INTEGER);
+BEGIN
+  IF english = house THEN WRITELN("the Englishman")
+  ELSIF spaniard = house THEN WRITELN("the Spaniard")
+  ELSIF ukrainian = house THEN WRITELN("the Ukrainian")
+  ELSIF norwegian = house THEN WRITELN("the Norwegian")
+  ELSE WRITELN("the Japanese")
   END
-END Other;
-
-PROCEDURE Beside(a, b: House);
-BEGIN
-  (a - b = 1) OR (b - a = 1)
-END Beside;
+END Who;
 
 BEGIN
-  (* Colours: 1 red, 2 green, 3 white, 4 yellow, 5 blue. The green house is right of the white one. *)
-  Other(colour, 1); Other(colour, 2); Other(colour, 3); colour[2] - 1 = colour[3]; Other(colour, 4); Other(colour, 5);
-  (* Persons: 1 English, 2 Spanish, 3 Ukrainian, 4 Norwegian, 5 Japanese. *)
-  person[1] = colour[1]; Other(person, 2); person[2] <> person[1]; Other(person, 3);
-  Other(person, 4); person[4] = 1; Beside(person[4], colour[5]); Other(person, 5);
-  (* Drinks: 1 coffee, 2 tea, 3 milk, 4 juice, 5 water. *)
-  drink[1] = colour[2]; drink[2] = person[3]; drink[2] <> drink[1]; Other(drink, 3); drink[3] = 3; Other(drink, 4); Other(drink, 5);
-  (* Trades: 1 sculptor, 2 diplomat, 3 violinist, 4 doctor, 5 acrobat. *)
-  Other(trade, 1); trade[2] = colour[4]; trade[2] <> trade[1]; trade[3] = drink[4]; trade[3] <> trade[1]; trade[3] <> trade[2];
-  Other(trade, 4); trade[5] = person[5]; FOR i := 1 TO 4 DO trade[i] <> trade[5] END;
-  (* Pets: 1 dog, 2 snails, 3 fox, 4 horse, 5 zebra. *)
-  pet[1] = person[2]; pet[2] = trade[1]; pet[2] <> pet[1];
-  Other(pet, 3); Beside(trade[4], pet[3]); Other(pet, 4); Beside(trade[2], pet[4]); Other(pet, 5);
-  FOR i := 1 TO 5 DO
-    IF person[i] = drink[5] THEN WRITELN("person ", i, " drinks water") END;
-    IF person[i] = pet[5] THEN WRITELN("person ", i, " has the zebra") END
-  END
+  count := 0;
+  FORALL Solve DO
+    count := count + 1;
+    WRITE("The zebra is kept by "); Who(zebra);
+    WRITE("Water is drunk by "); Who(water)
+  END;
+  WRITELN(count, " solution")
 END Zebra.
