@@ -26,8 +26,7 @@ use std::alloc::Global;
 fn store_object<F: Files>(alloc: Global, object: &str, bytes: &[u8], files: &mut F) -> End
     ensures fetch_count { (F.side files.new).fetch_faults ≡ (F.side files.old).fetch_faults }
     ensures course { (out : SinkSide) → Works (λ due. due ≡ storing object.now bytes.now)
-        (F.side files.old)
-        (F.side files.new)
+        (F.side files.old) (F.side files.new)
         out out result }
 {
     match files.store(alloc, object, bytes) {
@@ -43,8 +42,7 @@ fn store_code<F: Files>(alloc: Global, code: &Code, object: &str, files: &mut F)
     ensures fetch_count { (F.side files.new).fetch_faults ≡ (F.side files.old).fetch_faults }
     ensures course { (out : SinkSide) → Works (λ due. due ≡ storing object.now
         (object_bytes (code_of code.now)))
-        (F.side files.old)
-        (F.side files.new)
+        (F.side files.old) (F.side files.new)
         out out result }
 {
     fits_fields(code);
@@ -59,8 +57,7 @@ fn compile_program<F: Files>(alloc: Global, program: &Program, object: &str, fil
     requires checked { IsChecked (program_of program.now) }
     ensures fetch_count { (F.side files.new).fetch_faults ≡ (F.side files.old).fetch_faults }
     ensures course { (out : SinkSide) → Works (CompileOutcome (program_of program.now) object.now)
-        (F.side files.old)
-        (F.side files.new)
+        (F.side files.old) (F.side files.new)
         out out result }
 {
     match lower(alloc, program) {
@@ -75,8 +72,7 @@ pub fn compile_source<F: Files>(alloc: Global, source: &[u8], object: &str, file
     ensures fetch_count { (F.side files.new).fetch_faults ≡ (F.side files.old).fetch_faults }
     ensures course { (out : SinkSide) → Works (SourceOutcome source.now
         (λ p. CompileOutcome p object.now))
-        (F.side files.old)
-        (F.side files.new)
+        (F.side files.old) (F.side files.new)
         out out result }
 {
     match load_source(alloc, source) {

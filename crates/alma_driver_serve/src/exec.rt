@@ -23,10 +23,7 @@ fn exec_view<I: Source, O: Sink>(
 ) -> End
     requires { steps ≤ greatest_steps }
     ensures { Runs (CodeOutcome (I.side input.old).left (code_of_view view.entry) steps stats)
-        (I.side input.old)
-        (I.side input.new)
-        (O.side out.old)
-        (O.side out.new) result }
+        (I.side input.old) (I.side input.new) (O.side out.old) (O.side out.new) result }
 {
     match verify(view) {
         Ok(code) => run_verified(alloc, code, input, steps, Showing::Prints(stats), out),
@@ -45,10 +42,7 @@ pub fn exec_object<I: Source, O: Sink>(
 ) -> End
     requires { steps ≤ greatest_steps }
     ensures { Runs (ExecOutcome (I.side input.old).left bytes.now steps stats)
-        (I.side input.old)
-        (I.side input.new)
-        (O.side out.old)
-        (O.side out.new) result }
+        (I.side input.old) (I.side input.new) (O.side out.old) (O.side out.new) result }
 {
     match open_object(bytes) {
         Ok(view) => exec_view(alloc, view, input, steps, stats, out),

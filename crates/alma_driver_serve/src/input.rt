@@ -45,8 +45,7 @@ fn print_on<O: Sink>(
     requires lawful { length input.now ≤ input_limit }
     ensures { Goes (λ due. due ≡ code_due (code_of_verified code.entry) input.now steps
         (Prints stats))
-        (O.side out.old)
-        (O.side out.new) result }
+        (O.side out.old) (O.side out.new) result }
 {
     match Machine::new(alloc, code, input) {
         Ok(mut machine) => {
@@ -71,8 +70,7 @@ fn run_on<O: Sink>(
     requires lawful { length input.now ≤ input_limit }
     ensures { Goes (λ due. due ≡ code_due (code_of_verified code.entry) input.now steps
         (shown_of showing.entry))
-        (O.side out.old)
-        (O.side out.new) result }
+        (O.side out.old) (O.side out.new) result }
 {
     match showing {
         Showing::Prints(stats) => print_on(alloc, code, input, steps, stats, out),
@@ -93,10 +91,7 @@ fn run_reading<I: Source, O: Sink>(
     requires reads { code_reads (code_of_verified code) ≡ true }
     ensures { Runs (InputOutcome (I.side input.old).left (code_of_verified code.entry) steps
         (shown_of showing.entry))
-        (I.side input.old)
-        (I.side input.new)
-        (O.side out.old)
-        (O.side out.new) result }
+        (I.side input.old) (I.side input.new) (O.side out.old) (O.side out.new) result }
 {
     match read_all(alloc, input, INPUT_LIMIT) {
         Ok(bytes) => run_on(alloc, code, &bytes, steps, showing, out),
@@ -116,10 +111,7 @@ pub fn run_verified<I: Source, O: Sink>(
     requires { steps ≤ greatest_steps }
     ensures { Runs (InputOutcome (I.side input.old).left (code_of_verified code.entry) steps
         (shown_of showing.entry))
-        (I.side input.old)
-        (I.side input.new)
-        (O.side out.old)
-        (O.side out.new) result }
+        (I.side input.old) (I.side input.new) (O.side out.old) (O.side out.new) result }
 {
     if code.view().has_read() {
         return run_reading(alloc, code, input, steps, showing, out);

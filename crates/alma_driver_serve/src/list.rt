@@ -19,8 +19,7 @@ use std::alloc::Global;
 // Writes a text.
 fn write_text<O: Sink>(text: &[u8], out: &mut O) -> End
     ensures { Goes (λ due. due ≡ due_of (Succeeded None) text.now)
-        (O.side out.old)
-        (O.side out.new) result }
+        (O.side out.old) (O.side out.new) result }
 {
     match write_all(out, text) {
         Ok(()) => End::Succeeded(None),
@@ -31,8 +30,7 @@ fn write_text<O: Sink>(text: &[u8], out: &mut O) -> End
 // Writes the text that lists a code.
 fn list_code<O: Sink>(alloc: Global, code: &Code, out: &mut O) -> End
     ensures { Goes (λ due. due ≡ due_of (Succeeded None) (list_text_of (code_of code.now)))
-        (O.side out.old)
-        (O.side out.new) result }
+        (O.side out.old) (O.side out.new) result }
 {
     match list_text(alloc, code) {
         Ok(text) => write_text(&text, out),
@@ -43,8 +41,7 @@ fn list_code<O: Sink>(alloc: Global, code: &Code, out: &mut O) -> End
 // Writes the text that lists the code of a view.
 fn list_view<O: Sink>(alloc: Global, view: &ObjectView<'_>, out: &mut O) -> End
     ensures { Goes (λ due. due ≡ due_of (Succeeded None) (list_text_of (code_of_view view.now)))
-        (O.side out.old)
-        (O.side out.new) result }
+        (O.side out.old) (O.side out.new) result }
 {
     match view.to_code(alloc) {
         Ok(code) => list_code(alloc, &code, out),
@@ -55,8 +52,7 @@ fn list_view<O: Sink>(alloc: Global, view: &ObjectView<'_>, out: &mut O) -> End
 /// Writes the text that lists the code of an object, which is not verified.
 pub fn list_object<O: Sink>(alloc: Global, bytes: &[u8], out: &mut O) -> End
     ensures { Goes (ListOutcome bytes.now)
-        (O.side out.old)
-        (O.side out.new) result }
+        (O.side out.old) (O.side out.new) result }
 {
     match open_object(bytes) {
         Ok(view) => list_view(alloc, &view, out),

@@ -32,10 +32,7 @@ pub fn run_code<I: Source, O: Sink>(
     requires records { KeepsRecords (code_of code.now) }
     requires few { steps ≤ greatest_steps }
     ensures { Runs (InputOutcome (I.side input.old).left (code_of code.now) steps (shown_of showing.entry))
-        (I.side input.old)
-        (I.side input.new)
-        (O.side out.old)
-        (O.side out.new) result }
+        (I.side input.old) (I.side input.new) (O.side out.old) (O.side out.new) result }
 {
     match encode(alloc, code) {
         Ok(object) => {

@@ -109,8 +109,7 @@ fn run_aside(alloc: Global, source: &[u8]) -> Result<Summary, NoMemory>
 fn tell<O: Sink>(out: &mut O, lines: u32, bytes: usize, told: Summary) -> End
     ensures { Goes (λ due. due
         ≡ due_of (Succeeded None) (sample_line lines bytes told.printed told.status))
-        (O.side out.old)
-        (O.side out.new) result }
+        (O.side out.old) (O.side out.new) result }
 {
     match write_summary(out, lines, bytes, told.printed, told.status) {
         Ok(()) => End::Succeeded(None),
@@ -123,8 +122,7 @@ fn sum_up<O: Sink>(alloc: Global, lines: u32, source: &[u8], out: &mut O) -> End
     requires text { source.now ≡ sample_text lines }
     requires short { length source.now ≤ source_limit }
     ensures { Goes (SampleOutcome lines)
-        (O.side out.old)
-        (O.side out.new) result }
+        (O.side out.old) (O.side out.new) result }
 {
     match run_aside(alloc, source) {
         Ok(told) => tell(out, lines, source.len(), told),
@@ -136,8 +134,7 @@ fn sum_up<O: Sink>(alloc: Global, lines: u32, source: &[u8], out: &mut O) -> End
 pub fn sample<O: Sink>(alloc: Global, lines: u32, out: &mut O) -> End
     requires few { lines ≤ 5000 }
     ensures { Goes (SampleOutcome lines)
-        (O.side out.old)
-        (O.side out.new) result }
+        (O.side out.old) (O.side out.new) result }
 {
     match sample_source(alloc, lines) {
         Ok(source) => sum_up(alloc, lines, &source, out),

@@ -31,11 +31,7 @@ fn serve_file<F: Files, I: Source, O: Sink>(
     requires short { length bytes.now ≤ limit_of (asked request.now) }
     ensures fetch_count { (F.side files.new).fetch_faults ≡ (F.side files.old).fetch_faults }
     ensures course { Serves (FileOutcome (I.side input.old).left (asked request.now) bytes.now)
-        (F.side files.old)
-        (F.side files.new)
-        (I.side input.old)
-        (I.side input.new)
-        (O.side out.old)
+        (F.side files.old) (F.side files.new) (I.side input.old) (I.side input.new) (O.side out.old)
         (O.side out.new) result }
 {
     match request {
@@ -64,11 +60,7 @@ fn serve_named<F: Files, I: Source, O: Sink>(
     requires read { read_by (asked request.now) ≡ Some file.now }
     ensures { Performs (IsReadBy (asked request.now))
         (RequestOutcome (F.side files.old).told (I.side input.old).left (asked request.now))
-        (F.side files.old)
-        (F.side files.new)
-        (I.side input.old)
-        (I.side input.new)
-        (O.side out.old)
+        (F.side files.old) (F.side files.new) (I.side input.old) (I.side input.new) (O.side out.old)
         (O.side out.new) result }
 {
     match files.fetch(alloc, file, read_limit(request)) {
@@ -88,11 +80,7 @@ fn serve<F: Files, I: Source, O: Sink>(
     requires { IsWithinLimits (asked request.now) }
     ensures { Performs (IsReadBy (asked request.now))
         (RequestOutcome (F.side files.old).told (I.side input.old).left (asked request.now))
-        (F.side files.old)
-        (F.side files.new)
-        (I.side input.old)
-        (I.side input.new)
-        (O.side out.old)
+        (F.side files.old) (F.side files.new) (I.side input.old) (I.side input.new) (O.side out.old)
         (O.side out.new) result }
 {
     match file_read(request) {
@@ -111,11 +99,7 @@ pub fn perform<F: Files, I: Source, O: Sink>(
 ) -> End
     ensures { Performs (AskToRead (texts words.now))
         (Outcome (texts words.now) (F.side files.old).told (I.side input.old).left)
-        (F.side files.old)
-        (F.side files.new)
-        (I.side input.old)
-        (I.side input.new)
-        (O.side out.old)
+        (F.side files.old) (F.side files.new) (I.side input.old) (I.side input.new) (O.side out.old)
         (O.side out.new) result }
 {
     match read_words(alloc, words) {

@@ -29,10 +29,7 @@ fn run_program<I: Source, O: Sink>(
     requires few { steps ≤ greatest_steps }
     ensures { Runs (ProgramOutcome (I.side input.old).left (program_of program.now) steps
         (shown_of showing.entry))
-        (I.side input.old)
-        (I.side input.new)
-        (O.side out.old)
-        (O.side out.new) result }
+        (I.side input.old) (I.side input.new) (O.side out.old) (O.side out.new) result }
 {
     match lower(alloc, program) {
         Ok(code) => run_code(alloc, &code, input, steps, showing, out),
@@ -53,10 +50,7 @@ pub fn run_source<I: Source, O: Sink>(
     requires few { steps ≤ greatest_steps }
     ensures { Runs (SourceOutcome source.now
         (λ p. ProgramOutcome (I.side input.old).left p steps (shown_of showing.entry)))
-        (I.side input.old)
-        (I.side input.new)
-        (O.side out.old)
-        (O.side out.new) result }
+        (I.side input.old) (I.side input.new) (O.side out.old) (O.side out.new) result }
 {
     match load_source(alloc, source) {
         Ok(program) => run_program(alloc, &program, input, steps, showing, out),
@@ -77,10 +71,7 @@ pub fn trace_source<I: Source, O: Sink>(
     requires few { steps ≤ greatest_steps }
     ensures { Runs (SourceOutcome source.now
         (λ p. ProgramOutcome (I.side input.old).left p steps (Traces (map (λ name. name.now) names.now))))
-        (I.side input.old)
-        (I.side input.new)
-        (O.side out.old)
-        (O.side out.new) result }
+        (I.side input.old) (I.side input.new) (O.side out.old) (O.side out.new) result }
 {
     run_source(alloc, source, input, steps, Showing::Traces(names), out)
 }

@@ -42,8 +42,7 @@ fn trace_watched<O: Sink>(
     requires resolved { All (IsResolved (code_of_verified code)) watched.now }
     ensures { Goes (λ due. due ≡ code_due (code_of_verified code.entry) input.now steps
         (Traces (map (λ watch. watch.name.now) watched.now)))
-        (O.side out.old)
-        (O.side out.new) result }
+        (O.side out.old) (O.side out.new) result }
 {
     code.keeps_sound();
     match Machine::new(alloc, code, input) {
@@ -69,8 +68,7 @@ fn trace_named<O: Sink>(
     requires lawful { length input.now ≤ input_limit }
     ensures { Goes (λ due. due ≡ code_due (code_of_verified code.entry) input.now steps
         (Traces (map (λ name. name.now) names.now)))
-        (O.side out.old)
-        (O.side out.new) result }
+        (O.side out.old) (O.side out.new) result }
 {
     match watches(alloc, code.view(), names) {
         Ok(watched) => trace_watched(alloc, code, input, steps, &watched, out),
@@ -91,8 +89,7 @@ pub fn trace_on<O: Sink>(
     requires lawful { length input.now ≤ input_limit }
     ensures { Goes (λ due. due ≡ code_due (code_of_verified code.entry) input.now steps
         (Traces (map (λ name. name.now) names.now)))
-        (O.side out.old)
-        (O.side out.new) result }
+        (O.side out.old) (O.side out.new) result }
 {
     match bytes_of(alloc, names) {
         Ok(bytes) => trace_named(alloc, code, input, steps, &bytes, out),
