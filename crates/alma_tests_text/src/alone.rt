@@ -35,7 +35,7 @@ const ROWS: [Row; 9] = [
         answer: Answer::Constant(1, 97),
     },
     Row {
-        source: b"MODULE A; CONST c = 1 < 2; END A.",
+        source: b"MODULE A; CONST c = TRUE; END A.",
         answer: Answer::Constant(2, 1),
     },
     Row {
