@@ -100,7 +100,7 @@ fn first_of(alloc: Global, reader: &mut Reader<'_, '_>, block: &Block) -> Answer
     }
 }
 
-fn answer(alloc: Global, source: &[u8]) -> Result<Answer, Fail> {
+fn what_stands_in(alloc: Global, source: &[u8]) -> Result<Answer, Fail> {
     let tokens = scan(alloc, source)?;
     if tokens.len() > 1_048_576 {
         return Err(ParseError::Memory.into());
@@ -115,7 +115,11 @@ fn answer(alloc: Global, source: &[u8]) -> Result<Answer, Fail> {
 #[test]
 fn phrases_alone(rt: HostRuntime) -> Result<(), Fail> {
     for (number, row) in ROWS.iter().enumerate() {
-        assert_eq!(rt; answer(rt.alloc(), row.source)?, row.answer, "row {number}");
+        assert_eq!(rt;
+            what_stands_in(rt.alloc(), row.source)?,
+            row.answer,
+            "row {number}"
+        );
     }
     Ok(())
 }
