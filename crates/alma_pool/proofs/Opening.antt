@@ -16,8 +16,8 @@ use Rattle.alma_pool.specs.Due.{rule_refusal, refusal_by, object_refusal, or_ref
 use Rattle.alma_pool.specs.Inner.{all_bytes, codes_of}
 
 -- what is left of a list from one of its items on
-pub drop_here : {X : Type 0} (xs : List X) (i : ℕ) (x : X) → i < length xs → x ≡ get_or xs i x → drop i xs ≡ x ∷ drop (i + 1) xs
-drop_here xs i x within is = drop_more xs i x within ∙ ap (λ y. y ∷ drop (i + 1) xs) (sym is)
+pub drop_here : {X : Type 0} (xs : List X) (i : ℕ) (x d : X) → i < length xs → x ≡ get_or xs i d → drop i xs ≡ x ∷ drop (i + 1) xs
+drop_here xs i x d within is = drop_more xs i d within ∙ ap (λ y. y ∷ drop (i + 1) xs) (sym is)
 
 -- an object without a fault of the format is refused by its code alone
 pub refused_by_code : (bytes : List ℕ) (code : PlainCode) → object_fault bytes ≡ None → code ≡ object_code bytes
@@ -25,12 +25,12 @@ pub refused_by_code : (bytes : List ℕ) (code : PlainCode) → object_fault byt
 refused_by_code bytes code none same =
     ap (λ k. rule_refusal (code_fault k)) same ∙ ap (λ f. refusal_by f (code_fault (object_code bytes))) (sym none)
 
-module _ (objects : List (Vec ℕ)) (i : ℕ) (object : Vec ℕ) (got : List PlainCode) (within : i < length objects) (is : object ≡ get_or objects i object)
+module _ (objects : List (Vec ℕ)) (i : ℕ) (object d : Vec ℕ) (got : List PlainCode) (within : i < length objects) (is : object ≡ get_or objects i d)
     (before : opening [] (all_bytes objects) ≡ opening got (all_bytes (drop i objects))) where
   -- what comes of the objects, from one of them on
   opening_here : opening [] (all_bytes objects)
       ≡ or_refused (object_refusal object.items) (opening (got ++ object_code object.items ∷ []) (all_bytes (drop (i + 1) objects)))
-  opening_here = before ∙ ap (λ xs. opening got (all_bytes xs)) (drop_here objects i object within is)
+  opening_here = before ∙ ap (λ xs. opening got (all_bytes xs)) (drop_here objects i object d within is)
 
   -- it is refused
   pub opening_stops : (end : Ending) → object_refusal object.items ≡ Some end → opening [] (all_bytes objects) ≡ Err end
@@ -54,6 +54,10 @@ pub codes_more : (verified : List Verified) (one : Verified) → codes_of (verif
 codes_more verified one = map-append code_of_verified verified (one ∷ [])
 
 -- whether one of the codes reads, from one of them on
-pub reads_here : (verified : List Verified) (i : ℕ) (one : Verified) → i < length verified → one ≡ get_or verified i one
+pub reads_here : (verified : List Verified) (i : ℕ) (one d : Verified) → i < length verified → one ≡ get_or verified i d
     → list_any code_reads (codes_of (drop i verified)) ≡ (code_reads (code_of_verified one) || list_any code_reads (codes_of (drop (i + 1) verified)))
-reads_here verified i one within is = ap (λ xs. list_any code_reads (codes_of xs)) (drop_here verified i one within is)
+reads_here verified i one d within is = ap (λ xs. list_any code_reads (codes_of xs)) (drop_here verified i one d within is)
+
+-- none of them does, and there are no more
+pub reads_none : (verified : List Verified) (i : ℕ) → length verified ≤ i → list_any code_reads (codes_of (drop i verified)) ≡ false
+reads_none verified i all = ap (λ xs. list_any code_reads (codes_of xs)) (drop_all i verified all)

@@ -132,11 +132,11 @@ abbrev with_program : PoolView → Played → PoolView
 with_program pool p = record pool { programs = pool.programs ++ p ∷ [] }
 
 -- the programs of the codes so far, and of one more
-pub gathered : (verified : List Verified) (input : List ℕ) (i : ℕ) (one : Verified) (old new : PoolView) → i < length verified → one ≡ get_or verified i one
+pub gathered : (verified : List Verified) (input : List ℕ) (i : ℕ) (one d : Verified) (old new : PoolView) → i < length verified → one ≡ get_or verified i d
     → old ≡ pool_of (all_begun (codes_of (take i verified)) input) true
     → new ≡ with_program old (begun (code_of_verified one) input) → new ≡ pool_of (all_begun (codes_of (take (i + 1) verified)) input) true
-gathered verified input i one old new within is before more =
-    let all : take (i + 1) verified ≡ take i verified ++ one ∷ [] = take_more verified i one within ∙ ap (λ x. take i verified ++ x ∷ []) (sym is) in
+gathered verified input i one d old new within is before more =
+    let all : take (i + 1) verified ≡ take i verified ++ one ∷ [] = take_more verified i d within ∙ ap (λ x. take i verified ++ x ∷ []) (sym is) in
     let begin : PlainCode → Played = λ code. begun code input in
     let split : all_begun (codes_of (take (i + 1) verified)) input ≡ all_begun (codes_of (take i verified)) input ++ begun (code_of_verified one) input ∷ [] =
     ap (λ xs. all_begun (codes_of xs) input) all ∙ ap (λ cs. all_begun cs input) (map-append code_of_verified (take i verified) (one ∷ []))

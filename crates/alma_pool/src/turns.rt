@@ -42,7 +42,8 @@ fn take_turn(pool: &mut Pool<'_, '_>, byte: u8) -> Result<(), NoMemory>
     if byte == b'\n' {
         return Ok(());
     }
-    pool.turn(usize::from(byte - b'a'))
+    let letter = byte - b'a';
+    pool.turn(usize::from(letter))
 }
 
 /// Makes all turns of a file, none of which is bad, by programs that made no step so far.

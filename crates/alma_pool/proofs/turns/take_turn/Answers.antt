@@ -11,13 +11,16 @@ returns-then-byte-eq10-clause-turn c = sym (ap (after_turns c.args.pool.now) (fe
 pub returns-then-byte-eq10-clause-few : goal.returns-then-byte-eq10-clause-few
 returns-then-byte-eq10-clause-few c = λ most all. few_still c.args.pool.now.programs most all
 
+pub overflow_sub-letter : goal.overflow_sub-letter
+overflow_sub-letter c = (letter_fits (length c.args.pool.now.programs) c.args.byte c.requires.good c.if-byte-eq10.false).0
+
 pub turn-requires-clause-there : goal.turn-requires-clause-there
-turn-requires-clause-there c = omega (arith, c.from.ensures, letter_fits (length c.args.pool.now.programs) c.args.byte c.requires.good c.if-byte-eq10.false)
+turn-requires-clause-there c = omega (arith, c.from.ensures, (letter_fits (length c.args.pool.now.programs) c.args.byte c.requires.good c.if-byte-eq10.false).1)
 
 pub turn-requires-clause-few : goal.turn-requires-clause-few
 turn-requires-clause-few c =
     let there : c.from.result < length c.args.pool.now.programs =
-    omega (arith, c.from.ensures, letter_fits (length c.args.pool.now.programs) c.args.byte c.requires.good c.if-byte-eq10.false) in
+    omega (arith, c.from.ensures, (letter_fits (length c.args.pool.now.programs) c.args.byte c.requires.good c.if-byte-eq10.false).1) in
     c.requires.few c.from.result no_program there
 
 pub returns-clause-turn : goal.returns-clause-turn
@@ -30,5 +33,5 @@ returns-clause-turn c =
 pub returns-clause-few : goal.returns-clause-few
 returns-clause-few c =
     let there : c.from.result < length c.args.pool.now.programs =
-    omega (arith, c.from.ensures, letter_fits (length c.args.pool.now.programs) c.args.byte c.requires.good c.if-byte-eq10.false) in
+    omega (arith, c.from.ensures, (letter_fits (length c.args.pool.now.programs) c.args.byte c.requires.good c.if-byte-eq10.false).1) in
     few_result c.turn.result c.args.pool.now c.turn.new.self c.from.result there c.turn.ensures.turn c.turn.ensures.counted
