@@ -1,14 +1,14 @@
 -- Why a call with a plan answers a fault, and that none is hidden.
-use Rattle.std.proofs.Common.{◌≡◌, ◌≤◌, ◌<◌, ◌∙◌, ℕ, List, [], length, refl, sym, ap, subst, inl, inr, arith}
+use Rattle.std.proofs.Common.{◌≡◌, ◌<◌, ◌∙◌, ℕ, List, [], length, refl, sym, ap, subst, inl, inr, arith}
 use Rattle.std.proofs.lemmas.List.{append-nil}
 use Rattle.std.specs.Prelude.{◌≢◌, ◌⊎◌, Option, None, Some}
 use Rattle.std.specs.Io.KnownBytes.{Appends}
-use Rattle.alma_io.specs.Files.{Told, Missing, Has, MayHave, MayPass}
+use Rattle.alma_io.specs.Files.{Told, MayHave, MayPass}
 use Rattle.alma_io.specs.Fronts.{AppendsFront}
 use Rattle.alma_io.specs.Sides.{SourceSide, FilesSide}
 use Rattle.alma_plan.specs.Outside.{FilesStay, Outside}
 use Rattle.alma_plan.specs.Plan.{Stored, Ending, Due, Plan, Fetches, Reads, Ends, Reading, Kept, Finished, Passed, MayLack, Lacks, Comes}
-use Rattle.alma_plan.specs.Course.{Gains, Takes, OthersStay, Become, MayRead, ReadsOnly, GainsPrefix, Course, Follows, unfetched, unread, unwritten, unstored, starved, done, Reports, said, unsaid, Answers}
+use Rattle.alma_plan.specs.Course.{Gains, Takes, OthersStay, Become, MayRead, ReadsOnly, GainsPrefix, Follows, unfetched, unread, unwritten, unstored, starved, done, Reports, said, unsaid, Answers}
 use Rattle.alma_plan.specs.Causes.{WriteFailed, WritesGrew, ReadsGrew, FetchFailed, InputFailed, MayCome, IsStoredName, MayEnd, unread_end, unwritten_end, starved_end, due_end, HasOwnEnds, Causes}
 
 -- all bytes are a prefix

@@ -2,11 +2,11 @@
 use Rattle.std.proofs.Common.{◌≡◌, ◌≤◌, ◌<◌, ◌+◌, ◌∙◌, ℕ, List, [], ◌++◌, length, refl, sym, ap, subst, inl, inr, arith}
 use Rattle.std.proofs.lemmas.List.{append-nil}
 use Rattle.std.proofs.lemmas.Bool.{cases_lt}
-use Rattle.std.specs.Prelude.{◌⊎◌, Option, None, Some, Result, Ok, Err}
+use Rattle.std.specs.Prelude.{◌⊎◌, Option, None, Some, Result, Err}
 use Rattle.std.specs.Global.{Vec}
 use Rattle.std.specs.Io.KnownBytes.{Consumes, IsAtEnd}
 use Rattle.alma_base.specs.Limits.{input_limit}
-use Rattle.alma_io.specs.Files.{Told, Missing, MayHave, MayPass, NowHas, IsFetched}
+use Rattle.alma_io.specs.Files.{Told, MayHave, MayPass, NowHas, IsFetched}
 use Rattle.alma_io.specs.Sides.{SinkSide, SourceSide, FilesSide}
 use Rattle.alma_io.specs.Whole.{LosesAtMost, LosesBytes, MayHaveMore, HasReadCause}
 use Rattle.alma_io.specs.declared.files.Fetch.{Fetch}

@@ -54,7 +54,11 @@ fn refuse_named<'t, E: Sink>(
         Some(number) => {
             let mut digits = Buffer::new();
             let number = digits.format(number).as_bytes();
-            report(err, 9, &[program, front, name, b" ".as_slice(), number, end])
+            report(
+                err,
+                9,
+                &[program, front, name, b" ".as_slice(), number, end],
+            )
         }
     }
 }
@@ -64,7 +68,12 @@ fn refuse_object<E: Sink>(err: &mut E, program: &[u8], fault: ObjectFault) -> St
     ensures { Reports (tells program.now 9 (object_fault_text fault)) (E.side err.old)
         (E.side err.new) result.0 }
 {
-    refuse_named(err, program, object_fault_name(fault), object_fault_number(fault))
+    refuse_named(
+        err,
+        program,
+        object_fault_name(fault),
+        object_fault_number(fault),
+    )
 }
 
 // Says that code is not sound.

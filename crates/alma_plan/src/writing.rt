@@ -1,5 +1,5 @@
 // Texts in parts, and what a call says on err at its end.
-ghost use Rattle.std.specs.Prelude.{◌++◌, flat_map, OnOk, OnErr};
+ghost use Rattle.std.specs.Prelude.{flat_map, OnOk, OnErr};
 ghost use Rattle.std.specs.Io.KnownBytes.{Appends};
 ghost use Rattle.alma_io.specs.Causes.{HasCause};
 ghost use Rattle.alma_io.specs.Fronts.{AppendsFront};

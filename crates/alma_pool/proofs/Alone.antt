@@ -1,8 +1,8 @@
 -- Each program of a pool runs as if it were alone.
-use Rattle.std.proofs.Common.{◌≡◌, ◌<◌, ◌+◌, ◌∙◌, ℕ, zero, suc, List, [], ◌∷◌, ◌++◌, length, get_or, set, refl, sym, ap, subst, inl, inr, arith}
+use Rattle.std.proofs.Common.{◌≡◌, ◌<◌, ◌+◌, ◌∙◌, ℕ, List, [], ◌∷◌, ◌++◌, length, sym, ap, subst, inl, inr, arith}
 use Rattle.std.proofs.lemmas.List.{get_or-set_same, get_or-set_other, length-set}
 use Rattle.std.proofs.lemmas.Bool.{cases_eq, eq-eqb, ne_eqb}
-use Rattle.std.specs.Prelude.{◌⊎◌, eqb, cond, true, false}
+use Rattle.std.specs.Prelude.{◌⊎◌, eqb, cond}
 use Rattle.alma_code.specs.Machine.{State, step, after, prints, start}
 use Rattle.alma_code.specs.Plain.{PlainCode}
 use Rattle.alma_machine.proofs.Budget.{after_more, prints_more, prints_sum}

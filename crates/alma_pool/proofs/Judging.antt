@@ -1,5 +1,5 @@
 -- How a call goes by its plan when all files are there.
-use Rattle.std.proofs.Common.{◌≡◌, ◌+◌, ◌∙◌, ℕ, List, [], ◌∷◌, ◌++◌, length, map, refl, sym, ap, subst, inl, inr, arith}
+use Rattle.std.proofs.Common.{◌≡◌, ◌+◌, ◌∙◌, ℕ, List, [], ◌∷◌, ◌++◌, length, refl, sym, ap, subst, inl, inr, arith}
 use Rattle.std.proofs.lemmas.List.{length-map, length-append}
 use Rattle.std.specs.Prelude.{Option, None, Some, Result, Ok, Err, codes, decimal}
 use Rattle.alma_code.specs.Plain.{PlainCode}
@@ -8,7 +8,7 @@ use Rattle.alma_verify.specs.Bytes.{object_code}
 use Rattle.alma_verify.specs.Verified.{code_of_verified}
 use Rattle.alma_verify.specs.declared.verified.Verified.{Verified}
 use Rattle.alma_plan.specs.Course.{Follows, whole}
-use Rattle.alma_plan.specs.Plan.{Ending, Due, line_of, silent, tells}
+use Rattle.alma_plan.specs.Plan.{Ending, line_of, silent, tells}
 use Rattle.alma_plan.specs.Refusals.{refusal_end}
 use Rattle.alma_plan.specs.declared.refusal.Refusal.{Refusal}
 use Rattle.alma_plan.proofs.Courses.{course_ends, course_starved, gains_none}

@@ -1,6 +1,6 @@
 -- The plan of the program has ends of its own, and something is due of it.
 use Rattle.std.proofs.Common.{◌≡◌, ◌∙◌, ℕ, List, [], ◌∷◌, ◌++◌, refl, sym, ap, arith}
-use Rattle.std.specs.Prelude.{◌≢◌, Bool, true, false, Option, None, Some, Result, Ok, Err, decimal}
+use Rattle.std.specs.Prelude.{◌≢◌, Bool, true, false, Option, None, Some, Result, Ok, Err}
 use Rattle.std.specs.List.{list_any}
 use Rattle.alma_code.specs.Plain.{PlainCode}
 use Rattle.alma_code.specs.Reads.{code_reads}
@@ -9,9 +9,9 @@ use Rattle.alma_code.specs.declared.step.VerifyFault.{VerifyFault}
 use Rattle.alma_object_format.specs.Walk.{object_fault}
 use Rattle.alma_object_format.specs.declared.fault.ObjectFault.{ObjectFault}
 use Rattle.alma_verify.specs.Bytes.{object_code}
-use Rattle.alma_plan.specs.Plan.{Due, Ending, Plan, silent, prints}
+use Rattle.alma_plan.specs.Plan.{Due, Ending, silent, prints}
 use Rattle.alma_plan.specs.Causes.{IsOwn, HasOwnEnds}
-use Rattle.alma_pool.specs.Due.{IsDue, pool_text, rule_refusal, refusal_by, object_refusal, or_refused, opening, played_on, played, judged_by, judged, fetching, asked, planned, pool_plan, bad_turn_behind, bad_word_behind}
+use Rattle.alma_pool.specs.Due.{IsDue, pool_text, rule_refusal, refusal_by, object_refusal, or_refused, opening, played_on, played, judged_by, fetching, asked, planned, pool_plan, bad_word_behind}
 
 -- a last value is due
 pub is_due : (last : List ℕ → Due) (bytes : List ℕ) → (due : Due) × IsDue (last bytes) due

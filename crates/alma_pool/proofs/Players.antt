@@ -1,10 +1,10 @@
 -- The programs of a pool, one of which took a turn.
-use Rattle.std.proofs.Common.{◌≡◌, ◌<◌, ◌≤◌, ◌+◌, ◌∙◌, ℕ, List, length, get_or, set, map, refl, sym, ap, subst, arith}
+use Rattle.std.proofs.Common.{◌≡◌, ◌<◌, ◌≤◌, ◌+◌, ◌∙◌, ℕ, List, length, get_or, set, map, sym, ap, arith}
 use Rattle.std.proofs.lemmas.List.{map-set, get_or-map, get_or-set_same, length-map}
 use Rattle.std.specs.Prelude.{Bool, false, Result, Ok, Err, OnOk, is_err}
 use Rattle.alma_pool.specs.declared.pool.Player.{Player}
 use Rattle.alma_pool.specs.Pool.{Played, PoolView, turned, no_program, program_at, after_turn}
-use Rattle.alma_pool.specs.Ready.{IsReady, played_of}
+use Rattle.alma_pool.specs.Ready.{played_of}
 
 -- a pool by its parts
 abbrev pub pool_of : List Played → Bool → PoolView

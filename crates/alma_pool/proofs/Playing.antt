@@ -1,10 +1,10 @@
 -- All turns of a file.
-use Rattle.std.proofs.Common.{◌≡◌, ◌<◌, ◌≤◌, ◌+◌, ◌-◌, ◌^◌, ◌∙◌, ℕ, zero, suc, List, [], ◌∷◌, ◌++◌, length, get_or, set, take, drop, map, refl, sym, ap, subst, arith}
+use Rattle.std.proofs.Common.{◌≡◌, ◌<◌, ◌≤◌, ◌+◌, ◌-◌, ◌^◌, ◌∙◌, ℕ, zero, suc, List, [], ◌∷◌, ◌++◌, length, get_or, take, drop, refl, sym, ap, subst, arith}
 use Rattle.std.proofs.lemmas.Bool.{and_parts, leb-true, ltb-true, eq-eqb, ne_eqb}
 use Rattle.std.proofs.lemmas.List.{get_or-set_same, length-set, take_more, drop_more, drop_all, append-nil, map-append, length-map}
 use Rattle.std.proofs.lemmas.List.Concat.{flat_map-append}
 use Rattle.std.proofs.lemmas.List.Elements.{All-set, All-map}
-use Rattle.std.specs.Prelude.{Bool, true, false, ◌&&◌, ◌||◌, eqb, leb, ltb, cond, flat_map, Option, None, Some, Result, Ok, Err, OnOk, All}
+use Rattle.std.specs.Prelude.{Bool, true, false, ◌&&◌, ◌||◌, leb, ltb, cond, Option, None, Some, Result, Ok, Err, OnOk, All}
 use Rattle.alma_code.specs.Plain.{PlainCode}
 use Rattle.alma_verify.specs.Verified.{code_of_verified}
 use Rattle.alma_verify.specs.declared.verified.Verified.{Verified}
@@ -47,11 +47,11 @@ letter_fits programs byte good other =
     (leb-true 97 byte parts.0, ltb-true (byte - 97) programs parts.1)
 
 -- the turn of a letter, and of a line feed
-pub letter_turn : (byte : ℕ) → (byte ≡ 10 → ⊥) → turn_in byte ≡ byte - 97 ∷ []
-letter_turn byte other = ap (λ b. cond b [] (byte - 97 ∷ [])) (ne_eqb byte 10 other)
+pub letter_turn : (byte : ℕ) → (byte ≡ 10 → ⊥) → turn_in byte ≡ (byte - 97) ∷ []
+letter_turn byte other = ap (λ b. cond b [] ((byte - 97) ∷ [])) (ne_eqb byte 10 other)
 
 pub feed_turn : (byte : ℕ) → byte ≡ 10 → turn_in byte ≡ []
-feed_turn byte is = ap (λ b. cond b [] (byte - 97 ∷ [])) (eq-eqb byte 10 is)
+feed_turn byte is = ap (λ b. cond b [] ((byte - 97) ∷ [])) (eq-eqb byte 10 is)
 
 -- the first bad byte, from one of the bytes on
 bad_here : (programs : ℕ) (turns : List ℕ) (i d : ℕ) → i < length turns

@@ -1,5 +1,5 @@
 -- The lines of programs.
-use Rattle.std.proofs.Common.{◌≡◌, ◌<◌, ◌+◌, ◌∙◌, ℕ, zero, suc, List, [], ◌∷◌, ◌++◌, length, get_or, take, drop, map, refl, sym, ap, arith, append_assoc, length-take-le}
+use Rattle.std.proofs.Common.{◌≡◌, ◌<◌, ◌+◌, ◌∙◌, ℕ, zero, suc, List, [], ◌∷◌, ◌++◌, length, get_or, take, drop, refl, sym, ap, arith, append_assoc, length-take-le}
 use Rattle.std.proofs.lemmas.List.{append-nil, take-append-drop, take_more, drop_more, get_or-map, length-map}
 use Rattle.std.specs.Prelude.{Option, None, Some, true, codes, decimal}
 use Rattle.alma_code.specs.declared.step.End.{End}
@@ -91,8 +91,8 @@ shown_is before (p ∷ ps) (code ∷ codes) input turns e each =
     let first : seen_of p ≡ lone code input (turns_of before turns) = each zero (omega arith) ∙ ap (λ n. lone code input (turns_of n turns)) none in
     let rest : shown_text (before + 1) ps ≡ pool_text (before + 1) codes input turns =
     shown_is (before + 1) ps codes input turns (omega (arith, e)) (λ k within.
-      let one : before + suc k ≡ before + 1 + k = omega arith in
-      each (suc k) (omega (arith, within)) ∙ ap (λ n. lone (get_or codes k no_code) input (turns_of n turns)) one) in
+    let one : before + suc k ≡ before + 1 + k = omega arith in
+    each (suc k) (omega (arith, within)) ∙ ap (λ n. lone (get_or codes k no_code) input (turns_of n turns)) one) in
     ap (λ (l : Lone). program_text (before + 1) l ++ shown_text (before + 1) ps) first
     ∙ ap (λ z. program_text (before + 1) (lone code input (turns_of before turns)) ++ z) rest
 
@@ -101,10 +101,10 @@ pub shown_alone : (codes : List PlainCode) (input turns : List ℕ) (before now 
     → length now.programs ≡ length codes → shown_text 0 now.programs ≡ pool_text 0 codes input turns
 shown_alone codes input turns before now start is count =
     shown_is 0 now.programs codes input turns count (λ k within.
-      let begin : PlainCode → Played = λ code. begun code input in
-      let there : k < length before.programs = omega (arith, within, ap (λ (p : PoolView). length p.programs) start, length-map codes begin) in
-      let at : program_at before k ≡ begun (get_or codes k no_code) input =
-      ap (λ (p : PoolView). program_at p k) start ∙ get_or-map begin codes k no_code no_program within in
-      let none : k ≡ 0 + k = omega arith in
-      ap (λ (p : PoolView). seen_of (program_at p k)) is ∙ run_alone before turns k (get_or codes k no_code) input there at
-      ∙ ap (λ n. lone (get_or codes k no_code) input (turns_of n turns)) none)
+    let begin : PlainCode → Played = λ code. begun code input in
+    let there : k < length before.programs = omega (arith, within, ap (λ (p : PoolView). length p.programs) start, length-map codes begin) in
+    let at : program_at before k ≡ begun (get_or codes k no_code) input =
+    ap (λ (p : PoolView). program_at p k) start ∙ get_or-map begin codes k no_code no_program within in
+    let none : k ≡ 0 + k = omega arith in
+    ap (λ (p : PoolView). seen_of (program_at p k)) is ∙ run_alone before turns k (get_or codes k no_code) input there at
+    ∙ ap (λ n. lone (get_or codes k no_code) input (turns_of n turns)) none)

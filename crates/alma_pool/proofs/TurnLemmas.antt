@@ -1,7 +1,7 @@
 -- What a turn is.
-use Rattle.std.proofs.Common.{◌≡◌, ◌∙◌, ℕ, List, [], ◌++◌, refl, sym, ap, subst}
+use Rattle.std.proofs.Common.{◌≡◌, ◌∙◌, ℕ, List, ◌++◌, refl, sym, ap}
 use Rattle.std.proofs.lemmas.List.{append-nil}
-use Rattle.std.specs.Prelude.{Option, None, Some, is_some, true, false, Result, Ok}
+use Rattle.std.specs.Prelude.{Option, None, Some, is_some, false}
 use Rattle.alma_code.specs.declared.step.End.{End}
 use Rattle.alma_code.specs.declared.step.Step.{Step}
 use Rattle.alma_code.specs.Plain.{PlainCode}

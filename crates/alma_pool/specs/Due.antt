@@ -52,7 +52,7 @@ bad_turn_behind programs seen (byte ∷ bytes) = unless (is_turn programs byte) 
 
 -- the programs that take turns, by their numbers from 0: a line feed is no turn
 abbrev pub turn_in : (byte : ℕ) → List ℕ
-turn_in byte = cond (eqb byte 10) [] (byte - 97 ∷ [])
+turn_in byte = cond (eqb byte 10) [] ((byte - 97) ∷ [])
 
 abbrev pub turns_in : List ℕ → List ℕ
 turns_in bytes = flat_map turn_in bytes

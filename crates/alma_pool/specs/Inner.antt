@@ -1,5 +1,5 @@
 -- Of contracts between the functions of this crate.
-use Rattle.std.specs.Prelude.{◌≡◌, ◌⊎◌, ◌+◌, List, ℕ, [], ◌∷◌, ◌++◌, map, codes, Option, None, Some, Result, Err}
+use Rattle.std.specs.Prelude.{◌≡◌, ◌⊎◌, ◌+◌, List, ℕ, [], ◌∷◌, ◌++◌, map, codes, Option, None, Some, Err}
 use Rattle.std.specs.Global.{Vec}
 use Rattle.alma_base.specs.Fault.{run_fault_text}
 use Rattle.alma_code.specs.declared.step.End.{End}

@@ -1,5 +1,5 @@
 -- That each program of a pool runs as if it were alone.
-use Rattle.std.specs.Prelude.{◌≡◌, ◌<◌, ◌++◌, ℕ, List, length}
+use Rattle.std.specs.Prelude.{◌≡◌, ◌<◌, ◌+◌, ◌++◌, ℕ, List, length}
 use Rattle.alma_code.specs.Plain.{PlainCode}
 use Rattle.alma_pool.specs.Pool.{PoolView, lone, seen_of, begun, program_at, after_turns, turns_of}
 

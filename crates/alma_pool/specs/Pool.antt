@@ -1,5 +1,5 @@
 -- Programs that take turns, each by itself.
-use Rattle.std.specs.Prelude.{◌≡◌, ◌<◌, ◌+◌, ℕ, Bool, true, List, [], ◌∷◌, ◌++◌, length, get_or, set, eqb, cond, Option, None, Some}
+use Rattle.std.specs.Prelude.{◌+◌, ℕ, Bool, List, [], ◌∷◌, ◌++◌, get_or, set, eqb, cond, Option, None, Some}
 use Rattle.alma_code.specs.declared.step.End.{End}
 use Rattle.alma_code.specs.Machine.{Mode, Going, Failing, Ended, Stuck, State, step, after, prints, start}
 use Rattle.alma_code.specs.Plain.{PlainCode}

@@ -57,7 +57,12 @@ fn show_parts<'t, O: Sink>(
     let bytes = b" bytes ".as_slice();
     let count = count_digits.format(output.len()).as_bytes();
     let end = b"\n".as_slice();
-    write_parts(out, &[first, number, blank, word, fault, bytes, count, end, output, end])
+    write_parts(
+        out,
+        &[
+            first, number, blank, word, fault, bytes, count, end, output, end,
+        ],
+    )
 }
 
 // Writes the lines of the program of a number.
@@ -71,7 +76,13 @@ fn show_one<O: Sink>(pool: &Pool<'_, '_>, k: usize, out: &mut O) -> Result<(), W
     ensures cause { HasCause (O.side out.old).faults (O.side out.new).faults result }
 {
     let ended = pool.end(k);
-    show_parts(out, k + 1, end_word(ended), fault_word(ended), pool.output(k))
+    show_parts(
+        out,
+        k + 1,
+        end_word(ended),
+        fault_word(ended),
+        pool.output(k),
+    )
 }
 
 /// Writes the lines of all programs, in the order of their numbers.

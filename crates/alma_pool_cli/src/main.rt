@@ -3,8 +3,8 @@
 // The program: its words, the file system, and the standard streams.
 
 use alma_base::NoMemory;
-use alma_pool::pool_main;
 use alma_io::{Sink, StdFiles, StdSink, StdSource, write_all};
+use alma_pool::pool_main;
 use std::alloc::Global;
 use std::env::{Env, FillError};
 use std::process::ExitCode;

@@ -1,12 +1,12 @@
 use Rattle.std.proofs.Common.{◌≡◌, ◌∙◌, List, ℕ, refl, sym, ap, subst, length}
-use Rattle.std.specs.Prelude.{None, true, All}
+use Rattle.std.specs.Prelude.{All}
 use Rattle.std.specs.Io.KnownBytes.{Appends}
 use Rattle.alma_io.specs.Fronts.{AppendsFront}
 use Rattle.alma_plan.specs.Course.{cut_short, hungry, whole}
 use Rattle.alma_plan.specs.Plan.{prints}
 use Rattle.alma_plan.proofs.Courses.{gains_none}
 use Rattle.alma_pool.specs.Due.{bad_turn_behind, pool_text, turns_in}
-use Rattle.alma_pool.specs.Inner.{all_begun, codes_of, shown_text}
+use Rattle.alma_pool.specs.Inner.{codes_of}
 use Rattle.alma_pool.specs.Pool.{Played, PoolView, after_turns}
 use Rattle.alma_pool.proofs.Players.{ok_of}
 use Rattle.alma_pool.proofs.Playing.{begun_fresh, begun_count, still_whole, played_count}

@@ -1,4 +1,4 @@
-use Rattle.std.proofs.Common.{[], ◌++◌, ◌∷◌, refl}
+use Rattle.std.proofs.Common.{[], refl}
 use Rattle.alma_plan.proofs.Courses.{course_ends, course_fetched, course_unfetched, gains_none}
 use Rattle.alma_plan.specs.Course.{whole}
 use Rattle.alma_plan.specs.Plan.{silent, bad_word}

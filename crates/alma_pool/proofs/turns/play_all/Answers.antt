@@ -1,5 +1,4 @@
-use Rattle.std.proofs.Common.{length, take}
-use Rattle.alma_pool.specs.Due.{turns_in}
+use Rattle.std.proofs.Common.{length}
 use Rattle.alma_pool.proofs.Playing.{still_whole, good_turn, few_enough, turns_more}
 use Rattle.alma_pool.proofs.turns.play_all.Goals as goal
 
