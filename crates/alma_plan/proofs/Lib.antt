@@ -1,0 +1,4 @@
+pub mod PartLemmas
+pub mod RefusalLemmas
+pub mod Courses
+pub mod CauseLemmas

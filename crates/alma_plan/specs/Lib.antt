@@ -1,0 +1,6 @@
+pub mod Outside
+pub mod Plan
+pub mod Course
+pub mod Causes
+pub mod Refusals
+pub mod Words

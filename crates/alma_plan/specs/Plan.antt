@@ -1,0 +1,116 @@
+-- Plans: what a program reads, in which order, and what it comes to. A program's plan is a function of its words.
+use Rattle.std.specs.Prelude.{◌≡◌, ◌≤◌, ◌⊎◌, List, ℕ, [], ◌++◌, codes, decimal, length, Option, None, Some}
+use Rattle.alma_base.specs.Limits.{input_limit}
+use Rattle.alma_io.specs.Files.{Told, Missing, Has, MayHave, MayPass}
+use Rattle.alma_io.specs.Whole.{MayHaveMore}
+
+-- ---- what is due
+
+-- bytes under the name of a file
+pub record Stored : Type 0 where
+  pub name : List ℕ
+  pub bytes : List ℕ
+
+-- how a call ends: its status, and its text on err
+pub record Ending : Type 0 where
+  pub status : ℕ
+  pub text : List ℕ
+
+-- what is due from a call: its end, the bytes that it writes to out, and what it stores
+pub record Due : Type 0 where
+  pub end : Ending
+  pub out : List ℕ
+  pub stored : Option Stored
+
+-- an end by its parts
+abbrev pub ending_of : (status : ℕ) → (text : List ℕ) → Ending
+ending_of status text = record { status = status; text = text }
+
+-- a line on err in the name of a program
+abbrev pub line_of : (program text : List ℕ) → List ℕ
+line_of program text = program ++ (codes ": " ++ (text ++ codes "\n"))
+
+-- an end with such a line
+abbrev pub tells : (program : List ℕ) → (status : ℕ) → (text : List ℕ) → Ending
+tells program status text = ending_of status (line_of program text)
+
+-- the ends that every program may come to; a bad word is told by its number, from 1
+abbrev pub bad_word : (program : List ℕ) → (word : ℕ) → Ending
+bad_word program word = tells program 2 (codes "bad word " ++ decimal word)
+
+abbrev pub read_fault : (program : List ℕ) → Ending
+read_fault program = tells program 6 (codes "read fault")
+
+abbrev pub write_fault : (program : List ℕ) → Ending
+write_fault program = tells program 7 (codes "write fault")
+
+abbrev pub no_memory : (program : List ℕ) → Ending
+no_memory program = tells program 8 (codes "out of memory")
+
+abbrev pub too_long : (program : List ℕ) → Ending
+too_long program = tells program 10 (codes "too long")
+
+-- success, without a word on err
+abbrev pub success : Ending
+success = ending_of 0 []
+
+-- an end without a print
+abbrev pub silent : Ending → Due
+silent end = record { end = end; out = []; stored = None }
+
+-- success with these bytes on out
+abbrev pub prints : List ℕ → Due
+prints out = record { end = success; out = out; stored = None }
+
+-- ---- plans
+
+-- A plan: a file is fetched, of so many bytes at most, and what comes then goes by its bytes; or the whole input is read, of
+-- so many bytes as an input may have, and what is due follows from a last value that goes by them; or it follows from a last
+-- value at once.
+pub data Plan (L : Type 0) : Type 0 where
+  Fetches : (name : List ℕ) (limit : ℕ) (next : List ℕ → Plan L) → Plan L
+  Reads : (last : List ℕ → L) → Plan L
+  Ends : (last : L) → Plan L
+
+-- what becomes of the input: it stays, it is read to its end, or it is found to be longer than an input may be
+pub data Reading : Type 0 where
+  Kept : Reading
+  Finished : Reading
+  Passed : Reading
+
+-- what is left of the input may be these bytes
+abbrev pub MayBeLeft : Option (List ℕ) → List ℕ → Type 0
+MayBeLeft None bytes = Unit {0}
+MayBeLeft (Some left) bytes = left ≡ bytes
+
+module _ {L : Type 0} (told : List ℕ → Told) where
+  -- the plan may ask for this file, by what the files tell
+  abbrev pub Asks : Plan L → (name : List ℕ) → Type 0
+  Asks (Fetches name limit next) asked =
+      (name ≡ asked) ⊎ ((bytes : List ℕ) × MayHave (told name) bytes × (length bytes ≤ limit) × Asks (next bytes) asked)
+  Asks (Reads last) asked = ⊥
+  Asks (Ends last) asked = ⊥
+
+  -- it may ask for a file that is told to be missing
+  abbrev pub MayLack : Plan L → Type 0
+  MayLack plan = (name : List ℕ) × Asks plan name × (told name ≡ Missing)
+
+  -- it does so: the files that it asks for before are told too
+  abbrev pub Lacks : Plan L → Type 0
+  Lacks (Fetches name limit next) =
+      (told name ≡ Missing) ⊎ ((bytes : List ℕ) × (told name ≡ Has bytes) × (length bytes ≤ limit) × Lacks (next bytes))
+  Lacks (Reads last) = ⊥
+  Lacks (Ends last) = ⊥
+
+module _ {L : Type 0} (means : L → Due → Type 0) (program : List ℕ) (told : List ℕ → Told) (left : Option (List ℕ)) where
+  -- What a plan may come to, by what the files tell and what is left of the input, and what becomes of the input then: a file
+  -- that is missing is a read fault, and one that passes its limit, or an input that does, is too long.
+  abbrev pub Comes : Plan L → Reading → Due → Type 0
+  Comes (Fetches name limit next) reading due =
+      ((told name ≡ Missing) × (reading ≡ Kept) × (due ≡ silent (read_fault program)))
+      ⊎ ((MayPass (told name) limit × (reading ≡ Kept) × (due ≡ silent (too_long program)))
+      ⊎ ((bytes : List ℕ) × MayHave (told name) bytes × (length bytes ≤ limit) × Comes (next bytes) reading due))
+  Comes (Reads last) reading due =
+      (MayHaveMore left input_limit × (reading ≡ Passed) × (due ≡ silent (too_long program)))
+      ⊎ ((bytes : List ℕ) × MayBeLeft left bytes × (length bytes ≤ input_limit) × (reading ≡ Finished) × means (last bytes) due)
+  Comes (Ends last) reading due = (reading ≡ Kept) × means last due

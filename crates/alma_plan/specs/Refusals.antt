@@ -1,0 +1,88 @@
+-- What stops a call, and why one is refused: statuses and texts.
+use Rattle.std.specs.Prelude.{List, ℕ, ◌++◌, codes, decimal, Option, None, Some}
+use Rattle.alma_code.specs.declared.step.VerifyFault.{VerifyFault}
+use Rattle.alma_io.specs.declared.files.Fetch.{Fetch}
+use Rattle.alma_io.specs.declared.files.Fetch.TheVariants as fetch
+use Rattle.alma_io.specs.declared.whole.ReadAll.{ReadAll}
+use Rattle.alma_io.specs.declared.whole.ReadAll.TheVariants as whole
+use Rattle.alma_object_format.specs.declared.fault.ObjectFault.{ObjectFault}
+use Rattle.alma_object_format.specs.declared.fault.ObjectFault.TheVariants as object
+use Rattle.alma_plan.specs.Plan.{Ending, tells, bad_word}
+use Rattle.alma_plan.specs.declared.refusal.Refusal.{Refusal}
+use Rattle.alma_plan.specs.declared.refusal.Refusal.TheVariants.{BadWord, BadObject, BadCode, Stopped}
+use Rattle.alma_plan.specs.declared.stop.Stop.{Stop}
+use Rattle.alma_plan.specs.declared.stop.Stop.TheVariants.{Read, Write, Memory, TooLong}
+
+-- ---- what stops any call
+
+abbrev pub stop_status : Stop → ℕ
+stop_status Read = 6
+stop_status Write = 7
+stop_status Memory = 8
+stop_status TooLong = 10
+
+abbrev pub stop_text : Stop → List ℕ
+stop_text Read = codes "read fault"
+stop_text Write = codes "write fault"
+stop_text Memory = codes "out of memory"
+stop_text TooLong = codes "too long"
+
+-- the end of a program that was stopped
+abbrev pub stop_end : (program : List ℕ) → Stop → Ending
+stop_end program stop = tells program (stop_status stop) (stop_text stop)
+
+-- what a fetch, and what reading the input, stops at
+abbrev pub fetch_stop : Fetch → Stop
+fetch_stop fetch.Absent = Read
+fetch_stop fetch.Failed = Read
+fetch_stop fetch.TooLong = TooLong
+fetch_stop fetch.Memory = Memory
+
+abbrev pub read_stop : ReadAll → Stop
+read_stop whole.Fault = Read
+read_stop whole.TooLong = TooLong
+read_stop whole.Memory = Memory
+
+-- ---- objects
+
+-- the name of a fault of an object
+abbrev pub object_fault_name : ObjectFault → List ℕ
+object_fault_name object.Magic = codes "Magic"
+object_fault_name (object.Version version) = codes "Version"
+object_fault_name (object.Cut length) = codes "Cut"
+object_fault_name (object.Trailing offset) = codes "Trailing"
+object_fault_name (object.BadCount offset) = codes "BadCount"
+object_fault_name (object.BadOpcode offset) = codes "BadOpcode"
+object_fault_name (object.BadName offset) = codes "BadName"
+
+-- its number, which Magic has not
+abbrev pub object_fault_number : ObjectFault → Option ℕ
+object_fault_number object.Magic = None
+object_fault_number (object.Version version) = Some version
+object_fault_number (object.Cut length) = Some length
+object_fault_number (object.Trailing offset) = Some offset
+object_fault_number (object.BadCount offset) = Some offset
+object_fault_number (object.BadOpcode offset) = Some offset
+object_fault_number (object.BadName offset) = Some offset
+
+-- the name, with the number where there is one
+abbrev pub numbered : (name : List ℕ) → Option ℕ → List ℕ
+numbered name None = name
+numbered name (Some number) = name ++ (codes " " ++ decimal number)
+
+-- what is said of bytes that are no object
+abbrev pub object_fault_text : ObjectFault → List ℕ
+object_fault_text fault = codes "object " ++ numbered (object_fault_name fault) (object_fault_number fault)
+
+-- and of code that is not sound, by the first rule that it breaks and where
+abbrev pub rule_fault_text : VerifyFault → List ℕ
+rule_fault_text fault = codes "object Rule " ++ (decimal fault.rule ++ (codes " " ++ decimal fault.at))
+
+-- ---- refusals
+
+-- the end of a program that refuses
+abbrev pub refusal_end : (program : List ℕ) → Refusal → Ending
+refusal_end program (BadWord word) = bad_word program word
+refusal_end program (BadObject fault) = tells program 9 (object_fault_text fault)
+refusal_end program (BadCode fault) = tells program 9 (rule_fault_text fault)
+refusal_end program (Stopped stop) = stop_end program stop

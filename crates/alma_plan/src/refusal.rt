@@ -1,0 +1,115 @@
+// Why calls are refused, in the words that all programs share.
+ghost use Rattle.std.specs.Prelude.{◌++◌, codes};
+ghost use Rattle.alma_plan.specs.Plan.{bad_word, tells};
+ghost use Rattle.alma_plan.specs.Course.{Reports};
+ghost use Rattle.alma_plan.specs.Refusals.{numbered, object_fault_text, rule_fault_text, refusal_end};
+
+use crate::object::{object_fault_name, object_fault_number};
+use crate::stop::Stop;
+use crate::writing::report;
+use alma_base::Status;
+use alma_code::VerifyFault;
+use alma_io::Sink;
+use alma_object_format::ObjectFault;
+use itoa::Buffer;
+
+/// Why a call is refused, where every program may refuse it so.
+#[derive(Clone, Copy)]
+pub enum Refusal {
+    /// The first word, from 1, that cannot stand where it is, or one more than there are.
+    BadWord(usize),
+    /// The bytes are no object: their fault.
+    BadObject(ObjectFault),
+    /// The code of an object is not sound: the first rule that it breaks, and where.
+    BadCode(VerifyFault),
+    /// What stops any call.
+    Stopped(Stop),
+}
+
+// Says that a word cannot stand where it is.
+fn refuse_word<E: Sink>(err: &mut E, program: &[u8], word: usize) -> Status
+    ensures { Reports (bad_word program.now word) (E.side err.old) (E.side err.new) result.0 }
+{
+    let mut digits = Buffer::new();
+    let front = b": bad word ".as_slice();
+    let number = digits.format(word).as_bytes();
+    let end = b"\n".as_slice();
+    report(err, 2, &[program, front, number, end])
+}
+
+// Says that bytes are no object, by the name of the fault and its number, where it has one.
+fn refuse_named<'t, E: Sink>(
+    err: &mut E,
+    program: &'t [u8],
+    name: &'t [u8],
+    number: Option<usize>,
+) -> Status
+    ensures { Reports (tells program.now 9 (codes "object " ++ numbered name.now number))
+        (E.side err.old) (E.side err.new) result.0 }
+{
+    let front = b": object ".as_slice();
+    let end = b"\n".as_slice();
+    match number {
+        None => report(err, 9, &[program, front, name, end]),
+        Some(number) => {
+            let mut digits = Buffer::new();
+            let number = digits.format(number).as_bytes();
+            report(
+                err,
+                9,
+                &[program, front, name, b" ".as_slice(), number, end],
+            )
+        }
+    }
+}
+
+// Says that bytes are no object.
+fn refuse_object<E: Sink>(err: &mut E, program: &[u8], fault: ObjectFault) -> Status
+    ensures { Reports (tells program.now 9 (object_fault_text fault)) (E.side err.old)
+        (E.side err.new) result.0 }
+{
+    refuse_named(
+        err,
+        program,
+        object_fault_name(fault),
+        object_fault_number(fault),
+    )
+}
+
+// Says that code is not sound.
+fn refuse_code<E: Sink>(err: &mut E, program: &[u8], fault: VerifyFault) -> Status
+    ensures { Reports (tells program.now 9 (rule_fault_text fault)) (E.side err.old)
+        (E.side err.new) result.0 }
+{
+    let mut rule_digits = Buffer::new();
+    let mut at_digits = Buffer::new();
+    let front = b": object Rule ".as_slice();
+    let rule = rule_digits.format(fault.rule).as_bytes();
+    let middle = b" ".as_slice();
+    let at = at_digits.format(fault.at).as_bytes();
+    let end = b"\n".as_slice();
+    report(err, 9, &[program, front, rule, middle, at, end])
+}
+
+// Says a line on err in the name of a program.
+fn refuse_with<'t, E: Sink>(err: &mut E, program: &'t [u8], status: u8, text: &'t [u8]) -> Status
+    ensures { Reports (tells program.now status text.now) (E.side err.old) (E.side err.new)
+        result.0 }
+{
+    let front = b": ".as_slice();
+    let end = b"\n".as_slice();
+    report(err, status, &[program, front, text, end])
+}
+
+/// Says on err, in the name of a program, why a call is refused: the status of that, or that of a write fault where err
+/// fails.
+pub fn refuse<E: Sink>(err: &mut E, program: &[u8], refusal: Refusal) -> Status
+    ensures { Reports (refusal_end program.now refusal) (E.side err.old) (E.side err.new) result.0 }
+{
+    match refusal {
+        Refusal::BadWord(word) => refuse_word(err, program, word),
+        Refusal::BadObject(fault) => refuse_object(err, program, fault),
+        Refusal::BadCode(fault) => refuse_code(err, program, fault),
+        Refusal::Stopped(stop) => refuse_with(err, program, stop.status(), stop.text()),
+    }
+}

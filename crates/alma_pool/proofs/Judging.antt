@@ -1,0 +1,69 @@
+-- How a call goes by its plan when all files are there.
+use Rattle.std.proofs.Common.{◌≡◌, ◌+◌, ◌∙◌, ℕ, List, [], ◌∷◌, ◌++◌, length, refl, sym, ap, subst, inl, inr, arith}
+use Rattle.std.proofs.lemmas.List.{length-map, length-append}
+use Rattle.std.specs.Prelude.{Option, None, Some, Result, Ok, Err, codes, decimal}
+use Rattle.alma_code.specs.Plain.{PlainCode}
+use Rattle.alma_io.specs.Sides.{SinkSide, SourceSide, FilesSide}
+use Rattle.alma_verify.specs.Bytes.{object_code}
+use Rattle.alma_verify.specs.Verified.{code_of_verified}
+use Rattle.alma_verify.specs.declared.verified.Verified.{Verified}
+use Rattle.alma_plan.specs.Course.{Follows, whole}
+use Rattle.alma_plan.specs.Plan.{Ending, line_of, silent, tells}
+use Rattle.alma_plan.specs.Refusals.{refusal_end}
+use Rattle.alma_plan.specs.declared.refusal.Refusal.{Refusal}
+use Rattle.alma_plan.proofs.Courses.{course_ends, course_starved, gains_none}
+use Rattle.alma_pool.specs.Due.{program, IsDue, or_refused, object_refusal, opening, played, judged_by, judged, bad_turn_behind, turns_in}
+use Rattle.alma_pool.specs.Inner.{codes_of, IsRefused}
+
+-- the parts of the text of a bad turn
+pub turn_parts : (front number end : List ℕ) (turn : ℕ) → front ≡ codes "alma_pool: bad turn " → number ≡ decimal turn → end ≡ codes "\n"
+    → front ++ (number ++ (end ++ [])) ≡ line_of program (codes "bad turn " ++ decimal turn)
+turn_parts front number end turn f n e =
+    ap (λ x. x ++ (number ++ (end ++ []))) f ∙ ap (λ x. codes "alma_pool: bad turn " ++ (x ++ (end ++ []))) n
+    ∙ ap (λ x. codes "alma_pool: bad turn " ++ (decimal turn ++ (x ++ []))) e
+
+-- as many codes as objects
+opened_ok : (o : Option Ending) (rest : Result (List PlainCode) Ending) (all : List PlainCode) → or_refused o rest ≡ Ok all → rest ≡ Ok all
+opened_ok None rest all e = e
+opened_ok (Some end) rest all e = cc e
+
+opening_count : (got : List PlainCode) (objects : List (List ℕ)) (all : List PlainCode) → opening got objects ≡ Ok all → length all ≡ length got + length objects
+opening_count got [] all e =
+    let same : got ≡ all = cc e in
+    omega (arith, ap (λ (xs : List PlainCode). length xs) same)
+opening_count got (bytes ∷ objects) all e =
+    let rest = opened_ok (object_refusal bytes) (opening (got ++ object_code bytes ∷ []) objects) all e in
+    omega (arith, opening_count (got ++ object_code bytes ∷ []) objects all rest, length-append got (object_code bytes ∷ []))
+
+pub opened_count : (objects : List (List ℕ)) (verified : List Verified) → opening [] objects ≡ Ok (codes_of verified) → length verified ≡ length objects
+opened_count objects verified e = omega (arith, opening_count [] objects (codes_of verified) e, length-map verified code_of_verified)
+
+-- an end without a print
+silent_end : (end : Ending) (files : FilesSide) (input : SourceSide) (out : SinkSide)
+    → Follows IsDue program (played (Err end) []) files files input input out out end
+silent_end end files input out = course_ends IsDue program (silent end) files input out out end (whole (silent end) refl refl refl (gains_none out))
+
+-- an object is refused, or memory ran out before it was known
+pub played_refused : (objects : List (List ℕ)) (turns : List ℕ) (refusal : Refusal) (files : FilesSide) (input : SourceSide) (out : SinkSide) → IsRefused objects refusal
+    → Follows IsDue program (played (opening [] objects) turns) files files input input out out (refusal_end program refusal)
+played_refused objects turns refusal files input out (inl e) =
+    subst (λ (end : Ending). Follows IsDue program (played (opening [] objects) turns) files files input input out out end) (sym (ap (refusal_end program) e))
+    (course_starved program _ _ files input out)
+played_refused objects turns refusal files input out (inr e) =
+    subst (λ (r : Result (List PlainCode) Ending). Follows IsDue program (played r turns) files files input input out out (refusal_end program refusal)) (sym e)
+    (silent_end (refusal_end program refusal) files input out)
+
+module _ (turns : List ℕ) (objects : List (List ℕ)) (files : FilesSide) (input input' : SourceSide) (out out' : SinkSide) where
+  -- a byte may not stand in the file of turns
+  pub judged_bad : (turn : ℕ) → bad_turn_behind (length objects) 0 turns ≡ Some turn
+      → Follows IsDue program (judged turns objects) files files input input out out (tells program 13 (codes "bad turn " ++ decimal turn))
+  judged_bad turn e =
+      subst (λ (bad : Option ℕ). Follows IsDue program (judged_by bad turns objects) files files input input out out (tells program 13 (codes "bad turn " ++ decimal turn))) (sym e)
+      (silent_end (tells program 13 (codes "bad turn " ++ decimal turn)) files input out)
+
+  -- all may
+  pub judged_good : (end : Ending) → bad_turn_behind (length objects) 0 turns ≡ None
+      → Follows IsDue program (played (opening [] objects) (turns_in turns)) files files input input' out out' end
+      → Follows IsDue program (judged turns objects) files files input input' out out' end
+  judged_good end e follows =
+      subst (λ (bad : Option ℕ). Follows IsDue program (judged_by bad turns objects) files files input input' out out' end) (sym e) follows

@@ -1,0 +1,14 @@
+use Rattle.alma_plan.specs.Words.{texts}
+use Rattle.alma_plan.proofs.CauseLemmas.{causes_of}
+use Rattle.alma_pool.specs.Due.{program, IsDue, pool_plan}
+use Rattle.alma_pool.specs.Ends.{pool_end}
+use Rattle.alma_pool.proofs.Plans.{own_plan}
+use Rattle.alma_pool.proofs.main_call.pool_main.Goals as goal
+
+pub returns-clause-answer : goal.returns-clause-answer
+returns-clause-answer g c = record { end = pool_end c.perform-end.result; course = c.perform-end.ensures; reported = c.tell.ensures }
+
+pub returns-clause-causes : goal.returns-clause-causes
+returns-clause-causes g c =
+    causes_of IsDue program (pool_plan (texts c.args.words.now)) (own_plan (texts c.args.words.now)) _ _ _
+    (record { end = pool_end c.perform-end.result; course = c.perform-end.ensures; reported = c.tell.ensures })

@@ -1,0 +1,144 @@
+-- What a call of the program comes to: its plan.
+use Rattle.std.specs.Prelude.{◌≡◌, ◌+◌, ◌-◌, ℕ, Bool, true, false, ◌&&◌, ◌||◌, List, [], ◌∷◌, ◌++◌, length, codes, decimal, eqb, leb, ltb, cond, flat_map, Option, None, Some, Result, Ok, Err}
+use Rattle.std.specs.List.{list_any}
+use Rattle.alma_base.specs.Fault.{run_fault_text}
+use Rattle.alma_base.specs.Limits.{object_limit}
+use Rattle.alma_code.specs.declared.step.End.{End}
+use Rattle.alma_code.specs.declared.step.End.TheVariants as ended
+use Rattle.alma_code.specs.Plain.{PlainCode}
+use Rattle.alma_code.specs.Reads.{code_reads}
+use Rattle.alma_code.specs.Rules.{code_fault}
+use Rattle.alma_code.specs.declared.step.VerifyFault.{VerifyFault}
+use Rattle.alma_object_format.specs.Walk.{object_fault}
+use Rattle.alma_object_format.specs.declared.fault.ObjectFault.{ObjectFault}
+use Rattle.alma_verify.specs.Bytes.{object_code}
+use Rattle.alma_plan.specs.Plan.{Due, Ending, Plan, Fetches, Reads, Ends, silent, prints, tells, bad_word}
+use Rattle.alma_plan.specs.Refusals.{object_fault_text, rule_fault_text}
+use Rattle.alma_plan.specs.Words.{is_file_name}
+use Rattle.alma_pool.specs.Pool.{Lone, lone, turns_of}
+
+-- the name of the program
+abbrev pub program : List ℕ
+program = codes "alma_pool"
+
+-- the greatest number of bytes of a file of turns
+abbrev pub turns_limit : ℕ
+turns_limit = 16777216
+
+-- ---- the words, and the bytes of a file of turns
+
+-- the number of this one where it is not good, else what comes of the rest
+abbrev pub unless : (good : Bool) → (number : ℕ) → (rest : Option ℕ) → Option ℕ
+unless true number rest = rest
+unless false number rest = Some number
+
+-- one more than so many, if these are no more than a file of turns
+abbrev pub too_few : (seen : ℕ) → Option ℕ
+too_few seen = cond (ltb seen 2) (Some (seen + 1)) None
+
+-- a file of turns and from 1 to 16 objects: the first word, from 1, that cannot stand where it is, or one more than there are, behind so many
+abbrev pub bad_word_behind : (seen : ℕ) → List (List ℕ) → Option ℕ
+bad_word_behind seen [] = too_few seen
+bad_word_behind seen (word ∷ words) = unless (is_file_name word && ltb seen 17) (seen + 1) (bad_word_behind (seen + 1) words)
+
+-- the byte may stand in a file of turns of so many programs: a line feed, or the letter of a program; that of the first is `a`
+abbrev pub is_turn : (programs byte : ℕ) → Bool
+is_turn programs byte = eqb byte 10 || (leb 97 byte && ltb (byte - 97) programs)
+
+-- the first byte, from 1, that may not stand there, behind so many
+abbrev pub bad_turn_behind : (programs seen : ℕ) → List ℕ → Option ℕ
+bad_turn_behind programs seen [] = None
+bad_turn_behind programs seen (byte ∷ bytes) = unless (is_turn programs byte) (seen + 1) (bad_turn_behind programs (seen + 1) bytes)
+
+-- the programs that take turns, by their numbers from 0: a line feed is no turn
+abbrev pub turn_in : (byte : ℕ) → List ℕ
+turn_in byte = cond (eqb byte 10) [] ((byte - 97) ∷ [])
+
+abbrev pub turns_in : List ℕ → List ℕ
+turns_in bytes = flat_map turn_in bytes
+
+-- ---- what is printed
+
+-- the words for an end
+abbrev pub end_text : Option End → List ℕ
+end_text None = codes "waiting"
+end_text (Some ended.Succeeded) = codes "succeeded"
+end_text (Some ended.Failed) = codes "failed"
+end_text (Some (ended.Fault fault)) = codes "fault " ++ run_fault_text fault
+
+-- the lines of a program of a number
+abbrev pub program_lines : (number : ℕ) → (ended output : List ℕ) → List ℕ
+program_lines number ended output =
+    codes "program " ++ (decimal number ++ (codes " " ++ (ended ++ (codes " bytes " ++ (decimal (length output) ++ (codes "\n" ++ (output ++ codes "\n")))))))
+
+abbrev pub program_text : (number : ℕ) → Lone → List ℕ
+program_text number l = program_lines number (end_text l.end) l.output
+
+-- The lines of these programs, which stand behind so many others: each shows its run alone, for as many turns as are its own.
+abbrev pub pool_text : (before : ℕ) → List PlainCode → (input : List ℕ) → (turns : List ℕ) → List ℕ
+pool_text before [] input turns = []
+pool_text before (code ∷ more) input turns =
+    program_text (before + 1) (lone code input (turns_of before turns)) ++ pool_text (before + 1) more input turns
+
+-- ---- the objects
+
+-- the end that bytes bring about which are no object, or whose code is not sound
+abbrev pub rule_refusal : Option VerifyFault → Option Ending
+rule_refusal None = None
+rule_refusal (Some fault) = Some (tells program 9 (rule_fault_text fault))
+
+abbrev pub refusal_by : Option ObjectFault → Option VerifyFault → Option Ending
+refusal_by None rule = rule_refusal rule
+refusal_by (Some fault) rule = Some (tells program 9 (object_fault_text fault))
+
+abbrev pub object_refusal : List ℕ → Option Ending
+object_refusal bytes = refusal_by (object_fault bytes) (code_fault (object_code bytes))
+
+-- the codes of objects, behind those that were, or the end that the first brings about which is refused
+abbrev pub or_refused : Option Ending → Result (List PlainCode) Ending → Result (List PlainCode) Ending
+or_refused None rest = rest
+or_refused (Some end) rest = Err end
+
+abbrev pub opening : (got : List PlainCode) → (objects : List (List ℕ)) → Result (List PlainCode) Ending
+opening got [] = Ok got
+opening got (bytes ∷ objects) = or_refused (object_refusal bytes) (opening (got ++ object_code bytes ∷ []) objects)
+
+-- ---- the plan
+
+-- codes that take turns, where the input is read if one of them reads it
+abbrev pub played_on : (reads : Bool) → List PlainCode → (turns : List ℕ) → Plan Due
+played_on true all turns = Reads (λ input. prints (pool_text 0 all input turns))
+played_on false all turns = Ends (prints (pool_text 0 all [] turns))
+
+abbrev pub played : Result (List PlainCode) Ending → (turns : List ℕ) → Plan Due
+played (Ok all) turns = played_on (list_any code_reads all) all turns
+played (Err end) turns = Ends (silent end)
+
+-- all files are there
+abbrev pub judged_by : (bad_turn : Option ℕ) → (turns : List ℕ) → (objects : List (List ℕ)) → Plan Due
+judged_by (Some turn) turns objects = Ends (silent (tells program 13 (codes "bad turn " ++ decimal turn)))
+judged_by None turns objects = played (opening [] objects) (turns_in turns)
+
+abbrev pub judged : (turns : List ℕ) → (objects : List (List ℕ)) → Plan Due
+judged turns objects = judged_by (bad_turn_behind (length objects) 0 turns) turns objects
+
+-- the objects of these names are fetched, behind those that were
+abbrev pub fetching : (turns : List ℕ) → (got : List (List ℕ)) → (names : List (List ℕ)) → Plan Due
+fetching turns got [] = judged turns got
+fetching turns got (name ∷ names) = Fetches name object_limit (λ bytes. fetching turns (got ++ bytes ∷ []) names)
+
+-- words that can stand
+abbrev pub asked : List (List ℕ) → Plan Due
+asked [] = Ends (silent (bad_word program 1))
+asked (turns ∷ objects) = Fetches turns turns_limit (λ bytes. fetching bytes [] objects)
+
+abbrev pub planned : (bad : Option ℕ) → (words : List (List ℕ)) → Plan Due
+planned (Some word) words = Ends (silent (bad_word program word))
+planned None words = asked words
+
+abbrev pub pool_plan : (words : List (List ℕ)) → Plan Due
+pool_plan words = planned (bad_word_behind 0 words) words
+
+-- a last value is what is due
+abbrev pub IsDue : Due → Due → Type 0
+IsDue last due = due ≡ last

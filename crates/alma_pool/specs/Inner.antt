@@ -1,0 +1,48 @@
+-- Of contracts between the functions of this crate.
+use Rattle.std.specs.Prelude.{◌≡◌, ◌⊎◌, ◌+◌, List, ℕ, [], ◌∷◌, ◌++◌, map, codes, Option, None, Some, Err}
+use Rattle.std.specs.Global.{Vec}
+use Rattle.alma_base.specs.Fault.{run_fault_text}
+use Rattle.alma_code.specs.declared.step.End.{End}
+use Rattle.alma_code.specs.declared.step.End.TheVariants as ended
+use Rattle.alma_code.specs.Plain.{PlainCode}
+use Rattle.alma_verify.specs.Verified.{code_of_verified}
+use Rattle.alma_verify.specs.declared.verified.Verified.{Verified}
+use Rattle.alma_plan.specs.Refusals.{refusal_end}
+use Rattle.alma_plan.specs.declared.refusal.Refusal.{Refusal}
+use Rattle.alma_plan.specs.declared.refusal.Refusal.TheVariants.{Stopped}
+use Rattle.alma_plan.specs.declared.stop.Stop.TheVariants.{Memory}
+use Rattle.alma_pool.specs.Due.{program, opening, program_text}
+use Rattle.alma_pool.specs.Pool.{Played, begun, seen_of}
+
+-- the bytes of files, and the codes of verified views
+abbrev pub all_bytes : List (Vec ℕ) → List (List ℕ)
+all_bytes files = map (λ file. file.items) files
+
+abbrev pub codes_of : List Verified → List PlainCode
+codes_of verified = map code_of_verified verified
+
+-- memory ran out, or it is the end that these objects bring about
+abbrev pub IsRefused : (objects : List (List ℕ)) → Refusal → Type 0
+IsRefused objects refusal = (refusal ≡ Stopped Memory) ⊎ (opening [] objects ≡ Err (refusal_end program refusal))
+
+-- codes before their first turn, on one input
+abbrev pub all_begun : List PlainCode → (input : List ℕ) → List Played
+all_begun codes input = map (λ code. begun code input) codes
+
+-- the words for an end, but for the name of a fault, and that name
+abbrev pub end_word : Option End → List ℕ
+end_word None = codes "waiting"
+end_word (Some ended.Succeeded) = codes "succeeded"
+end_word (Some ended.Failed) = codes "failed"
+end_word (Some (ended.Fault fault)) = codes "fault "
+
+abbrev pub fault_word : Option End → List ℕ
+fault_word None = []
+fault_word (Some ended.Succeeded) = []
+fault_word (Some ended.Failed) = []
+fault_word (Some (ended.Fault fault)) = run_fault_text fault
+
+-- the lines of programs, which stand behind so many others
+abbrev pub shown_text : (before : ℕ) → List Played → List ℕ
+shown_text before [] = []
+shown_text before (p ∷ more) = program_text (before + 1) (seen_of p) ++ shown_text (before + 1) more

@@ -1,0 +1,69 @@
+// The top call: from the words to the status.
+ghost use Rattle.std.specs.Prelude.{◌++◌, codes, decimal};
+ghost use Rattle.alma_plan.specs.Causes.{Causes};
+ghost use Rattle.alma_plan.specs.Course.{Answers, Reports};
+ghost use Rattle.alma_plan.specs.Outside.{outside_of};
+ghost use Rattle.alma_plan.specs.Plan.{tells};
+ghost use Rattle.alma_plan.specs.Words.{texts};
+ghost use Rattle.alma_pool.specs.Due.{program, IsDue, pool_plan};
+ghost use Rattle.alma_pool.specs.Ends.{pool_end};
+
+use crate::end::PoolEnd;
+use crate::serve::perform;
+use alma_base::Status;
+use alma_io::{Files, Sink, Source};
+use alma_plan::{refuse, report};
+use itoa::Buffer;
+use std::alloc::Global;
+
+// Says that a byte may not stand in the file of turns.
+fn refuse_turn<E: Sink>(err: &mut E, turn: usize) -> Status
+    ensures { Reports (tells program 13 (codes "bad turn " ++ decimal turn)) (E.side err.old)
+        (E.side err.new) result.0 }
+{
+    let mut digits = Buffer::new();
+    let front = b"alma_pool: bad turn ".as_slice();
+    let number = digits.format(turn).as_bytes();
+    let end = b"\n".as_slice();
+    report(err, 13, &[front, number, end])
+}
+
+// Says on err how the call ends: the status of that, or that of a write fault where err fails.
+fn tell<E: Sink>(err: &mut E, end: PoolEnd) -> Status
+    ensures { Reports (pool_end end) (E.side err.old) (E.side err.new) result.0 }
+{
+    match end {
+        PoolEnd::Shown => Status(0),
+        PoolEnd::BadTurn(turn) => refuse_turn(err, turn),
+        PoolEnd::Refused(refusal) => refuse(err, b"alma_pool", refusal),
+    }
+}
+
+/// All that the program does: it fetches a file of turns and the objects that the words name behind it, gives the programs
+/// their turns, each step by step on an input of its own, and prints for each how far it came, and its output. `words` are
+/// those behind the program's name.
+///
+/// The status is 0 where all turns were made, 2 for a bad word, 6 for a read fault, 7 for a write fault, 8 for want of memory, 9
+/// for bytes that are no object and for code that is not sound, 10 for a file of turns of more than 16,777,216 bytes, an
+/// object of more than 268,435,456 or an input of more than 16,777,216, and 13 for a byte that may not stand in the file of
+/// turns. The input is read only where one of the codes reads.
+pub fn pool_main<F: Files, I: Source, O: Sink, E: Sink>(
+    alloc: Global,
+    words: &[String],
+    files: &mut F,
+    input: &mut I,
+    out: &mut O,
+    err: &mut E,
+) -> Status
+    ensures answer { Answers IsDue program (pool_plan (texts words.now))
+        (outside_of (F.side files.old) (I.side input.old) (O.side out.old) (E.side err.old))
+        (outside_of (F.side files.new) (I.side input.new) (O.side out.new) (E.side err.new))
+        result.0 }
+    ensures causes { Causes IsDue program (pool_plan (texts words.now))
+        (outside_of (F.side files.old) (I.side input.old) (O.side out.old) (E.side err.old))
+        (outside_of (F.side files.new) (I.side input.new) (O.side out.new) (E.side err.new))
+        result.0 }
+{
+    let end = perform(alloc, words, files, input, out);
+    tell(err, end)
+}

@@ -1,0 +1,149 @@
+// The turns of a call, when all files are there.
+ghost use Rattle.std.specs.Prelude.{◌≡◌, ◌≤◌, [], None, true, length, IfOk};
+ghost use Rattle.std.specs.List.{list_any};
+ghost use Rattle.alma_base.specs.Limits.{input_limit};
+ghost use Rattle.alma_code.specs.Reads.{code_reads};
+ghost use Rattle.alma_io.specs.Sides.{FilesSide};
+ghost use Rattle.alma_plan.specs.Course.{Follows, Goes};
+ghost use Rattle.alma_plan.specs.Plan.{Reads, prints};
+ghost use Rattle.alma_pool.specs.Due.{program, IsDue, bad_turn_behind, judged, opening, played, played_on, pool_text, turns_in, turns_limit};
+ghost use Rattle.alma_pool.specs.Ends.{pool_end};
+ghost use Rattle.alma_pool.specs.Inner.{all_begun, all_bytes, codes_of};
+
+use crate::end::PoolEnd;
+use crate::open::{any_reads, open_all};
+use crate::pool::Pool;
+use crate::show::show_all;
+use crate::turns::{bad_turn, play_all};
+use alma_base::{INPUT_LIMIT, NoMemory};
+use alma_io::{Sink, Source, read_all};
+use alma_plan::{Refusal, Stop};
+use alma_verify::Verified;
+use std::alloc::Global;
+
+// A pool of these codes, each at its start, on one input of at most 16,777,216 bytes.
+fn gather<'b, 'i>(
+    alloc: Global,
+    verified: &[Verified<'b>],
+    input: &'i [u8],
+) -> Result<Pool<'b, 'i>, NoMemory>
+    requires { length input.now ≤ input_limit }
+    ensures { IfOk result (λ pool. pool ≡ record {
+      programs = all_begun (codes_of verified.now) input.now;
+      whole = true;
+    }) }
+{
+    let mut pool = Pool::new(alloc);
+    for code in verified {
+        pool.add(*code, input)?;
+    }
+    Ok(pool)
+}
+
+// Makes all turns on an input, and shows the programs.
+fn play_on<O: Sink>(
+    alloc: Global,
+    verified: &[Verified<'_>],
+    turns: &[u8],
+    input: &[u8],
+    out: &mut O,
+) -> PoolEnd
+    requires good { bad_turn_behind (length verified.now) 0 turns.now ≡ None }
+    requires short { length turns.now ≤ turns_limit }
+    requires lawful { length input.now ≤ input_limit }
+    ensures { Goes program (IsDue (prints (pool_text 0 (codes_of verified.now) input.now
+        (turns_in turns.now)))) (O.side out.old) (O.side out.new) (pool_end result) }
+{
+    let Ok(mut pool) = gather(alloc, verified, input) else {
+        return PoolEnd::Refused(Refusal::Stopped(Stop::Memory));
+    };
+    if play_all(&mut pool, turns).is_err() {
+        return PoolEnd::Refused(Refusal::Stopped(Stop::Memory));
+    }
+    match show_all(&pool, out) {
+        Ok(()) => PoolEnd::Shown,
+        Err(_) => PoolEnd::Refused(Refusal::Stopped(Stop::Write)),
+    }
+}
+
+// Reads the whole input, makes all turns on it, and shows the programs.
+fn play_reading<I: Source, O: Sink>(
+    alloc: Global,
+    verified: &[Verified<'_>],
+    turns: &[u8],
+    input: &mut I,
+    out: &mut O,
+) -> PoolEnd
+    requires good { bad_turn_behind (length verified.now) 0 turns.now ≡ None }
+    requires short { length turns.now ≤ turns_limit }
+    ensures { (files : FilesSide) → Follows IsDue program
+        (Reads (λ bytes. prints (pool_text 0 (codes_of verified.now) bytes (turns_in turns.now))))
+        files files (I.side input.old) (I.side input.new) (O.side out.old) (O.side out.new)
+        (pool_end result) }
+{
+    match read_all(alloc, input, INPUT_LIMIT) {
+        Ok(bytes) => play_on(alloc, verified, turns, &bytes, out),
+        Err(error) => PoolEnd::Refused(Refusal::Stopped(Stop::from(error))),
+    }
+}
+
+// Makes all turns, and shows the programs. The input is read where one of the codes reads.
+fn play<I: Source, O: Sink>(
+    alloc: Global,
+    verified: &[Verified<'_>],
+    turns: &[u8],
+    input: &mut I,
+    out: &mut O,
+) -> PoolEnd
+    requires good { bad_turn_behind (length verified.now) 0 turns.now ≡ None }
+    requires short { length turns.now ≤ turns_limit }
+    ensures { (files : FilesSide) → Follows IsDue program
+        (played_on (list_any code_reads (codes_of verified.now)) (codes_of verified.now)
+        (turns_in turns.now)) files files (I.side input.old) (I.side input.new) (O.side out.old)
+        (O.side out.new) (pool_end result) }
+{
+    if any_reads(verified) {
+        return play_reading(alloc, verified, turns, input, out);
+    }
+    play_on(alloc, verified, turns, b"", out)
+}
+
+// Opens the objects, makes all turns, and shows the programs.
+fn play_objects<I: Source, O: Sink>(
+    alloc: Global,
+    turns: &[u8],
+    objects: &[Vec<u8>],
+    input: &mut I,
+    out: &mut O,
+) -> PoolEnd
+    requires good { bad_turn_behind (length objects.now) 0 turns.now ≡ None }
+    requires short { length turns.now ≤ turns_limit }
+    ensures { (files : FilesSide) → Follows IsDue program
+        (played (opening [] (all_bytes objects.now)) (turns_in turns.now)) files files
+        (I.side input.old) (I.side input.new) (O.side out.old) (O.side out.new)
+        (pool_end result) }
+{
+    match open_all(alloc, objects) {
+        Ok(verified) => play(alloc, &verified, turns, input, out),
+        Err(refusal) => PoolEnd::Refused(refusal),
+    }
+}
+
+/// All files are there: the turns are made, unless one of them may not stand there, or an object is refused.
+pub fn judge<I: Source, O: Sink>(
+    alloc: Global,
+    turns: &[u8],
+    objects: &[Vec<u8>],
+    input: &mut I,
+    out: &mut O,
+) -> PoolEnd
+    requires { length turns.now ≤ turns_limit }
+    ensures { (files : FilesSide) → Follows IsDue program
+        (judged turns.now (all_bytes objects.now)) files files (I.side input.old) (I.side input.new)
+        (O.side out.old) (O.side out.new) (pool_end result) }
+{
+    match bad_turn(objects.len(), turns) {
+        Some(turn) => PoolEnd::BadTurn(turn),
+        None => play_objects(alloc, turns, objects, input, out),
+    }
+}

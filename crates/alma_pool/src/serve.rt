@@ -1,0 +1,103 @@
+// From the words to an end.
+ghost use Rattle.std.specs.Prelude.{◌≡◌, ◌≤◌, length};
+ghost use Rattle.alma_plan.specs.Course.{Follows};
+ghost use Rattle.alma_plan.specs.Words.{texts};
+ghost use Rattle.alma_pool.specs.Due.{program, IsDue, fetching, asked, pool_plan, bad_word_behind, turns_limit};
+ghost use Rattle.alma_pool.specs.Ends.{pool_end};
+ghost use Rattle.alma_pool.specs.Inner.{all_bytes};
+
+use crate::end::PoolEnd;
+use crate::play::judge;
+use crate::turns::TURNS_LIMIT;
+use alma_base::OBJECT_LIMIT;
+use alma_io::{Files, Sink, Source};
+use alma_plan::{Refusal, Stop, is_file_name, split_word};
+use std::alloc::Global;
+
+// Fetches the objects of these names, behind those that were, and then makes the turns.
+fn serve_objects<F: Files, I: Source, O: Sink>(
+    alloc: Global,
+    turns: &[u8],
+    got: &mut Vec<Vec<u8>>,
+    names: &[String],
+    files: &mut F,
+    input: &mut I,
+    out: &mut O,
+) -> PoolEnd
+    requires { length turns.now ≤ turns_limit }
+    ensures { Follows IsDue program (fetching turns.now (all_bytes got.old.items) (texts names.now))
+        (F.side files.old) (F.side files.new) (I.side input.old) (I.side input.new)
+        (O.side out.old) (O.side out.new) (pool_end result) }
+{
+    let Some((name, rest)) = split_word(names) else {
+        return judge(alloc, turns, got.as_slice(), input, out);
+    };
+    match files.fetch(alloc, name, OBJECT_LIMIT) {
+        Ok(bytes) => {
+            if got.push(bytes).is_err() {
+                return PoolEnd::Refused(Refusal::Stopped(Stop::Memory));
+            }
+            serve_objects(alloc, turns, got, rest, files, input, out)
+        }
+        Err(fault) => PoolEnd::Refused(Refusal::Stopped(Stop::from(fault))),
+    }
+}
+
+// The first word, from 1, that cannot stand where it is, or one more than there are, behind so many.
+fn bad_word(seen: usize, words: &[String]) -> Option<usize>
+    requires { seen ≤ 17 }
+    ensures { result ≡ bad_word_behind seen (texts words.now) }
+{
+    match words {
+        [] => { if seen < 2 { Some(seen + 1) } else { None } }
+        [word, rest @ ..] => {
+            if is_file_name(word.as_str()) && seen < 17 {
+                bad_word(seen + 1, rest)
+            } else {
+                Some(seen + 1)
+            }
+        }
+    }
+}
+
+// Does what words ask that can stand.
+fn serve<F: Files, I: Source, O: Sink>(
+    alloc: Global,
+    words: &[String],
+    files: &mut F,
+    input: &mut I,
+    out: &mut O,
+) -> PoolEnd
+    ensures { Follows IsDue program (asked (texts words.now)) (F.side files.old)
+        (F.side files.new) (I.side input.old) (I.side input.new) (O.side out.old)
+        (O.side out.new) (pool_end result) }
+{
+    let Some((turns, objects)) = split_word(words) else {
+        return PoolEnd::Refused(Refusal::BadWord(1));
+    };
+    match files.fetch(alloc, turns, TURNS_LIMIT) {
+        Ok(bytes) => {
+            let mut got = Vec::new(alloc);
+            serve_objects(alloc, &bytes, &mut got, objects, files, input, out)
+        }
+        Err(fault) => PoolEnd::Refused(Refusal::Stopped(Stop::from(fault))),
+    }
+}
+
+/// Does what the words ask: the end that it comes to, with all its bytes on `out` where none failed.
+pub fn perform<F: Files, I: Source, O: Sink>(
+    alloc: Global,
+    words: &[String],
+    files: &mut F,
+    input: &mut I,
+    out: &mut O,
+) -> PoolEnd
+    ensures { Follows IsDue program (pool_plan (texts words.now)) (F.side files.old)
+        (F.side files.new) (I.side input.old) (I.side input.new) (O.side out.old)
+        (O.side out.new) (pool_end result) }
+{
+    match bad_word(0, words) {
+        Some(word) => PoolEnd::Refused(Refusal::BadWord(word)),
+        None => serve(alloc, words, files, input, out),
+    }
+}
