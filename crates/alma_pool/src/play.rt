@@ -1,5 +1,5 @@
 // The turns of a call, when all files are there.
-ghost use Rattle.std.specs.Prelude.{◌≡◌, ◌≤◌, [], None, true, length, IfOk};
+ghost use Rattle.std.specs.Prelude.{◌≡◌, ◌≤◌, [], All, None, true, length, IfOk, IsTrue};
 ghost use Rattle.std.specs.List.{list_any};
 ghost use Rattle.alma_base.specs.Limits.{input_limit};
 ghost use Rattle.alma_code.specs.Reads.{code_reads};
@@ -8,7 +8,8 @@ ghost use Rattle.alma_plan.specs.Course.{Follows, Goes};
 ghost use Rattle.alma_plan.specs.Plan.{Reads, prints};
 ghost use Rattle.alma_pool.specs.Due.{program, IsDue, bad_turn_behind, judged, opening, played, played_on, pool_text, turns_in, turns_limit};
 ghost use Rattle.alma_pool.specs.Ends.{pool_end};
-ghost use Rattle.alma_pool.specs.Inner.{all_begun, all_bytes, codes_of};
+ghost use Rattle.alma_pool.specs.Inner.{all_begun, all_bytes, codes_of, shown_text};
+ghost use Rattle.alma_pool.specs.Pool.{after_turns};
 
 use crate::end::PoolEnd;
 use crate::open::{any_reads, open_all};
@@ -40,7 +41,26 @@ fn gather<'b, 'i>(
     Ok(pool)
 }
 
-// Makes all turns on an input, and shows the programs.
+// Makes all turns by programs that made no step so far, and shows them.
+fn play_in<O: Sink>(pool: &mut Pool<'_, '_>, turns: &[u8], out: &mut O) -> PoolEnd
+    requires whole { IsTrue pool.old.whole }
+    requires fresh { All (λ p. p.state.steps ≡ 0) pool.old.programs }
+    requires good { bad_turn_behind (length pool.old.programs) 0 turns.now ≡ None }
+    requires short { length turns.now ≤ turns_limit }
+    ensures { Goes program (IsDue (prints (shown_text 0
+        (after_turns pool.old (turns_in turns.now)).programs))) (O.side out.old) (O.side out.new)
+        (pool_end result) }
+{
+    if play_all(pool, turns).is_err() {
+        return PoolEnd::Refused(Refusal::Stopped(Stop::Memory));
+    }
+    match show_all(pool, out) {
+        Ok(()) => PoolEnd::Shown,
+        Err(_) => PoolEnd::Refused(Refusal::Stopped(Stop::Write)),
+    }
+}
+
+// Makes all turns by these codes on an input, and shows them.
 fn play_on<O: Sink>(
     alloc: Global,
     verified: &[Verified<'_>],
@@ -54,15 +74,9 @@ fn play_on<O: Sink>(
     ensures { Goes program (IsDue (prints (pool_text 0 (codes_of verified.now) input.now
         (turns_in turns.now)))) (O.side out.old) (O.side out.new) (pool_end result) }
 {
-    let Ok(mut pool) = gather(alloc, verified, input) else {
-        return PoolEnd::Refused(Refusal::Stopped(Stop::Memory));
-    };
-    if play_all(&mut pool, turns).is_err() {
-        return PoolEnd::Refused(Refusal::Stopped(Stop::Memory));
-    }
-    match show_all(&pool, out) {
-        Ok(()) => PoolEnd::Shown,
-        Err(_) => PoolEnd::Refused(Refusal::Stopped(Stop::Write)),
+    match gather(alloc, verified, input) {
+        Ok(mut pool) => play_in(&mut pool, turns, out),
+        Err(NoMemory) => PoolEnd::Refused(Refusal::Stopped(Stop::Memory)),
     }
 }
 
