@@ -16,8 +16,8 @@ pub loop-k-preserved : goal.loop-k-preserved
 loop-k-preserved g c =
     let within : c.loop-k.k < length c.args.pool.now.programs = omega (arith, c.loop-k-test.true, c.count-k-end.ensures) in
     record {
-  out = subst (λ (bytes : List ℕ). Appends (g.O.Sink.side c.args.out.now).written (g.O.Sink.side c.show_one.new.out).written bytes)
-      (sym (shown_more c.args.pool.now.programs c.loop-k.k within))
-      (appends_trans _ _ _ _ _ c.loop-k.invariant.out c.in_ok-show_one.ensures.ok);
-  quiet = c.in_ok-show_one.ensures.cause.ok ∙ c.loop-k.invariant.quiet;
-}
+      out = subst (λ (bytes : List ℕ). Appends (g.O.Sink.side c.args.out.now).written (g.O.Sink.side c.show_one.new.out).written bytes)
+          (sym (shown_more c.args.pool.now.programs c.loop-k.k within))
+          (appends_trans _ _ _ _ _ c.loop-k.invariant.out c.in_ok-show_one.ensures.ok);
+      quiet = c.in_ok-show_one.ensures.cause.ok ∙ c.loop-k.invariant.quiet;
+    }
