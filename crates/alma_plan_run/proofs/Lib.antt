@@ -1,0 +1,4 @@
+mod TextLemmas
+mod Running
+mod Sizes
+mod Storing
