@@ -1,0 +1,56 @@
+-- The directory as its modules are gone through.
+use Rattle.std.proofs.Common.{◌≡◌, ℕ, ◌+◌, ◌<◌, ◌≤◌, Bool, true, false, List, [], ◌∷◌, ◌++◌, length, get_or, take, map, refl, sym, ap, subst, ◌∙◌, arith, Vec, Global, Option, None}
+use Rattle.std.specs.Prelude.{nat_eq}
+use Rattle.std.proofs.lemmas.Bool.Decides.{nat_tests}
+use Rattle.std.proofs.lemmas.List.{take_more, take_all, map-append, length-map, length-take}
+use Rattle.std.proofs.lemmas.Bool.{eq-eqb, cases_eq}
+use Rattle.indexmap.specs.IndexMap.{IndexMap}
+use Rattle.alma_base.specs.Choice.{if_true}
+use Rattle.alma_ir.specs.declared.program.Program as whole
+use Rattle.alma_ir.specs.Tree.{Routine, Program, routine_at}
+use Rattle.alma_ir.specs.View.{program_of}
+use Rattle.alma_joined.specs.Joined.{Kept, is_bare, kept_of, kept_in, matches}
+use Rattle.alma_join.specs.Bare.{MarksBare}
+use Rattle.alma_join.specs.declared.directory.Export.{Export}
+use Rattle.alma_join.specs.declared.directory.Directory.{Directory}
+use Rattle.alma_join.specs.declared.directory.Matches.{Matches}
+use Rattle.alma_join.specs.Directory.{PlainExport, plain_export, entries_in, alike, sharing, others, Lists, Holds, Enters, EntersOne, IsAnswer}
+use Rattle.alma_join.proofs.Keeping.{Passed, passed_none, passed_bare, passed_kept, passed_all, kept_append}
+use Rattle.alma_join.proofs.Sharing.{enters_none, enters_both, matches_others}
+
+-- the routines before this one were gone through
+pub record UnitGoes (a b : Directory) (unit : ℕ) (p : Program) (r : ℕ) : Type 0 where
+  pub front : List Kept
+  pub passed : Passed unit p r front
+  pub enters : Enters a b front
+
+pub goes_none : (a : Directory) (unit : ℕ) (p : Program) → UnitGoes a a unit p 1
+goes_none a unit p = record { front = []; passed = passed_none unit p; enters = enters_none a }
+
+pub goes_bare : (a b : Directory) (unit : ℕ) (p : Program) (r : ℕ) → r < length p.routines → is_bare p r (routine_at p r) ≡ true → UnitGoes a b unit p r → UnitGoes a b unit p (r + 1)
+goes_bare a b unit p r within bare h = record { front = h.front; passed = passed_bare unit p r h.front within h.passed bare; enters = h.enters }
+
+pub goes_kept : (a b c : Directory) (unit : ℕ) (p : Program) (r : ℕ) (x : Routine) → r < length p.routines → is_bare p r (routine_at p r) ≡ false → routine_at p r ≡ x
+    → UnitGoes a b unit p r → EntersOne b c unit x → UnitGoes a c unit p (r + 1)
+goes_kept a b c unit p r x within bare is h one = record {
+  front = h.front ++ record { unit = unit; number = r; routine = routine_at p r } ∷ [];
+  passed = passed_kept unit p r h.front within h.passed bare;
+  enters = enters_both a b c h.front _ h.enters (subst (λ y. Enters b c (record { unit = unit; number = r; routine = y } ∷ [])) (sym is) (one.enters r));
+}
+
+pub goes_all : (a b : Directory) (unit : ℕ) (p : Program) (r : ℕ) → length p.routines ≤ r → UnitGoes a b unit p r → Enters a b (kept_of unit p)
+goes_all a b unit p r past h = subst (Enters a b) (passed_all unit p r h.front past h.passed) h.enters
+
+-- ---- modules
+
+pub unit_more : (a b : Directory) (units : List whole.Program) (i unit : ℕ) (x : whole.Program) → i < length units → x ≡ get_or units i x → unit ≡ i + 1 → Holds a (kept_in 1 (map program_of (take i units)))
+    → Enters a b (kept_of unit (program_of x)) → Holds b (kept_in 1 (map program_of (take (i + 1) units)))
+unit_more a b units i unit x within is number h enters =
+    let front : List Program = map program_of (take i units) in
+    let len : 1 + length front ≡ unit = omega (arith, number, length-map (take i units) program_of, length-take i units, within) in
+    let all : map program_of (take (i + 1) units) ≡ front ++ program_of x ∷ [] =
+    ap (map program_of) (take_more units i x within ∙ ap (λ y. take i units ++ y ∷ []) (sym is)) ∙ map-append program_of (take i units) (x ∷ []) in
+    let same : kept_in 1 (map program_of (take (i + 1) units)) ≡ kept_in 1 front ++ kept_of unit (program_of x) =
+    ap (kept_in 1) all ∙ kept_append 1 front (program_of x) ∙ ap (λ n. kept_in 1 front ++ kept_of n (program_of x)) len in
+    subst (Holds b) (sym same) (enters.holds (kept_in 1 front) h)
+

@@ -1,0 +1,6 @@
+pub mod Exports
+pub mod Going
+pub mod Keeping
+pub mod Marks
+pub mod Rows
+pub mod Sharing

@@ -1,0 +1,9 @@
+//! Modules that were checked apart, joined to one program.
+#![tactic(auto)]
+
+mod bare;
+mod directory;
+mod error;
+mod head;
+
+pub use error::JoinError;
