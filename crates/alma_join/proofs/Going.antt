@@ -2,9 +2,10 @@
 use Rattle.std.proofs.Common.{◌≡◌, ℕ, ◌+◌, ◌<◌, ◌≤◌, Bool, true, false, List, [], ◌∷◌, ◌++◌, length, get_or, take, map, refl, sym, ap, subst, ◌∙◌, arith, Vec, Global, Option, None}
 use Rattle.std.specs.Prelude.{nat_eq}
 use Rattle.std.proofs.lemmas.Bool.Decides.{nat_tests}
-use Rattle.std.proofs.lemmas.List.{take_more, take_all, map-append, length-map, length-take}
+use Rattle.std.proofs.lemmas.List.{take_more, take_all, map-append, append-nil, length-map, length-take}
 use Rattle.std.proofs.lemmas.Bool.{eq-eqb, cases_eq}
-use Rattle.indexmap.specs.IndexMap.{IndexMap}
+use Rattle.std.specs.Map.{lookup}
+use Rattle.indexmap.specs.IndexMap.{get}
 use Rattle.alma_base.specs.Choice.{if_true}
 use Rattle.alma_ir.specs.declared.program.Program as whole
 use Rattle.alma_ir.specs.Tree.{Routine, Program, routine_at}
@@ -54,3 +55,46 @@ unit_more a b units i unit x within is number h enters =
     ap (kept_in 1) all ∙ kept_append 1 front (program_of x) ∙ ap (λ n. kept_in 1 front ++ kept_of n (program_of x)) len in
     subst (Holds b) (sym same) (enters.holds (kept_in 1 front) h)
 
+
+pub holds_none : (d : Directory) → d.next ≡ 1 → d.entries.entries ≡ [] → Holds d []
+holds_none d next empty = record { next = next; lists = record { named = λ q. ap (λ es. entries_in (lookup (λ k. alike q k) es)) empty } }
+
+pub holds_all : (d : Directory) (units : List whole.Program) (i : ℕ) → length units ≤ i → Holds d (kept_in 1 (map program_of (take i units))) → Holds d (kept_in 1 (map program_of units))
+holds_all d units i past h = subst (λ l. Holds d (kept_in 1 (map program_of l))) (take_all i units past) h
+
+-- ---- matches
+
+abbrev pub plain_front : List Export → ℕ → List PlainExport
+plain_front xs i = map plain_export (take i xs)
+
+others_append : (unit : ℕ) (xs ys : List PlainExport) → others unit (xs ++ ys) ≡ others unit xs ++ others unit ys
+others_append unit [] ys = refl
+others_append unit (e ∷ xs) ys = by (nat_eq e.unit unit) (others_append unit xs ys)
+  where
+    by : (b : Bool) → others unit (xs ++ ys) ≡ others unit xs ++ others unit ys
+        → if_true b (λ _. others unit (xs ++ ys)) (λ _. (e.number, e.routine) ∷ others unit (xs ++ ys)) ≡ if_true b (λ _. others unit xs) (λ _. (e.number, e.routine) ∷ others unit xs) ++ others unit ys
+    by true h = h
+    by false h = ap (λ l. (e.number, e.routine) ∷ l) h
+
+others_more : (unit : ℕ) (xs : List Export) (i : ℕ) (x : Export) (b : Bool) → i < length xs → x ≡ get_or xs i x → nat_eq x.unit unit ≡ b
+    → others unit (plain_front xs (i + 1)) ≡ others unit (plain_front xs i) ++ if_true b (λ _. []) (λ _. (x.number, (plain_export x).routine) ∷ [])
+others_more unit xs i x b within is e =
+    ap (λ l. others unit (map plain_export l)) (take_more xs i x within ∙ ap (λ y. take i xs ++ y ∷ []) (sym is))
+    ∙ ap (others unit) (map-append plain_export (take i xs) (x ∷ [])) ∙ others_append unit (plain_front xs i) (plain_export x ∷ [])
+    ∙ ap (λ t. others unit (plain_front xs i) ++ if_true t (λ _. []) (λ _. (x.number, (plain_export x).routine) ∷ [])) e
+
+pub answer_same : (m : Matches) (unit : ℕ) (xs : List Export) (i : ℕ) (x : Export) → i < length xs → x ≡ get_or xs i x → x.unit ≡ unit → IsAnswer m (others unit (plain_front xs i)) → IsAnswer m (others unit (plain_front xs (i + 1)))
+answer_same m unit xs i x within is e h = subst (IsAnswer m) (sym (others_more unit xs i x true within is (eq-eqb x.unit unit e) ∙ append-nil _)) h
+
+pub answer_more : (m : Matches) (unit : ℕ) (xs : List Export) (i : ℕ) (x : Export) → i < length xs → x ≡ get_or xs i x → (x.unit ≡ unit → ⊥) → IsAnswer m (others unit (plain_front xs i) ++ (x.number, (plain_export x).routine) ∷ []) → IsAnswer m (others unit (plain_front xs (i + 1)))
+answer_more m unit xs i x within is ne h =
+    let other : nat_eq x.unit unit ≡ false = grind (arith, nat_tests, ne) in
+    subst (IsAnswer m) (sym (others_more unit xs i x false within is other)) h
+
+pub answer_all : (m : Matches) (unit : ℕ) (xs : List Export) (i : ℕ) → length xs ≤ i → IsAnswer m (others unit (plain_front xs i)) → IsAnswer m (others unit (map plain_export xs))
+answer_all m unit xs i past h = subst (λ l. IsAnswer m (others unit (map plain_export l))) (take_all i xs past) h
+
+-- the entries of a name give its matches
+pub matches_listed : (d : Directory) (all : List Kept) (unit : ℕ) (name : Vec ℕ Global) (m : Matches) (found : List PlainExport) → Holds d all → entries_in (get alike d.entries name) ≡ found → IsAnswer m (others unit found)
+    → IsAnswer m (matches all 1 unit name.items)
+matches_listed d all unit name m found h e a = subst (IsAnswer m) (ap (others unit) (sym e ∙ h.lists.named name) ∙ sym (matches_others all 1 unit name.items)) a

@@ -1,5 +1,6 @@
 pub mod Exports
 pub mod Going
+pub mod Heads
 pub mod Keeping
 pub mod Marks
 pub mod Rows

@@ -1,2 +1,4 @@
 pub mod Bare
 pub mod Directory
+pub mod Fault
+pub mod Numbers

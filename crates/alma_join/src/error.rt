@@ -3,6 +3,7 @@ ghost use Rattle.std.specs.Prelude.{◌≡◌};
 ghost use Rattle.alma_join.specs.declared.error.JoinError.TheVariants.{Memory};
 
 use alma_base::NoMemory;
+use std::alloc::AllocFailed;
 
 /// Why modules are not joined: the fault of the first bare routine that has one, by its unit, from 1, and its number; or
 /// the unit with which a bound is first passed.
@@ -22,6 +23,14 @@ impl From<NoMemory> for JoinError {
     ghost from_gives = { λ fault error. error ≡ Memory };
 
     fn from(_: NoMemory) -> Self {
+        JoinError::Memory
+    }
+}
+
+impl<T: Drop> From<AllocFailed<T>> for JoinError {
+    ghost from_gives = { λ fault error. error ≡ Memory };
+
+    fn from(_: AllocFailed<T>) -> Self {
         JoinError::Memory
     }
 }

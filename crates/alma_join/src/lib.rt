@@ -5,5 +5,6 @@ mod bare;
 mod directory;
 mod error;
 mod head;
+mod import;
 
 pub use error::JoinError;

@@ -1,4 +1,4 @@
-use Rattle.std.proofs.Common.{◌≡◌, ◌≤◌, ◌<◌, sym, ◌∙◌, arith, length, subst}
+use Rattle.std.proofs.Common.{◌≡◌, ◌+◌, ◌≤◌, ◌<◌, sym, ◌∙◌, arith, length, subst}
 use Rattle.alma_ir.specs.View.{program_of}
 use Rattle.alma_join.proofs.Marks.{bare_by, routine_there, within_program, past_program}
 use Rattle.alma_join.proofs.Going.{UnitGoes, goes_none, goes_bare, goes_kept, goes_all}
