@@ -37,7 +37,7 @@ module _ (unit : ℕ) (p : Program) (r : ℕ) (front : List Kept) (within : r < 
   abbrev here : Routine
   here = routine_at p r
 
-  rest_here : drop r p.routines ≡ here ∷ drop (r + 1) p.routines
+  pub rest_here : drop r p.routines ≡ here ∷ drop (r + 1) p.routines
   rest_here = rest_from p.routines r here within (at_any p.routines r within)
     where
       at_any : (xs : List Routine) (i : ℕ) → i < length xs → get_or xs i no_routine ≡ get_or xs i (get_or xs i no_routine)
@@ -91,7 +91,7 @@ of_unit unit p r (x ∷ xs) = by _ _ (is_bare p r x) refl (of_unit unit p (suc r
     by ks k true e h = h
     by ks k false e h = (e, h)
 
-each_to : (P Q : Kept → Type 0) (ks : List Kept) → ((k : Kept) → P k → Q k) → AllByRecursion P ks → AllByRecursion Q ks
+pub each_to : (P Q : Kept → Type 0) (ks : List Kept) → ((k : Kept) → P k → Q k) → AllByRecursion P ks → AllByRecursion Q ks
 each_to P Q [] f h = tt
 each_to P Q (k ∷ ks) f h = (f k h.0, each_to P Q ks f h.1)
 

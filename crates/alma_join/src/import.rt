@@ -66,7 +66,8 @@ fn number_routine(
 ) -> Result<u32, JoinError>
     ensures bare { is_bare ≡ true → (all : List Kept) → Holds directory.now all
         → Resolves unit place (routine_of routine.now)
-        (matches all 1 unit routine.now.name.items) result × (next.new ≡ next.old) }
+        (matches all 1 unit routine.now.name.items) result }
+    ensures same { is_bare ≡ true → next.new ≡ next.old }
     ensures kept { is_bare ≡ false → IfOk result (λ n. (n ≡ next.old) × (next.new ≡ next.old + 1)) }
     ensures memory { is_bare ≡ false → IfErr result (λ e. e ≡ Memory) }
 {
