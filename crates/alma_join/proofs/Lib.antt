@@ -6,3 +6,4 @@ pub mod Marks
 pub mod Numbering
 pub mod Rows
 pub mod Sharing
+pub mod Units

@@ -32,7 +32,8 @@ pub record NumbersUnit (all : List Kept) (unit : ℕ) (p : Program) (table : Lis
 
 -- the tables have those of all units
 abbrev pub NumbersUnits : List Kept → (unit : ℕ) → List Program → List (List ℕ) → Type 0
-NumbersUnits all unit [] tables = Unit {0}
+NumbersUnits all unit [] [] = Unit {0}
+NumbersUnits all unit [] (table ∷ tables) = ⊥
 NumbersUnits all unit (p ∷ ps) [] = ⊥
 NumbersUnits all unit (p ∷ ps) (table ∷ tables) = NumbersUnit all unit p table × NumbersUnits all (suc unit) ps tables
 
