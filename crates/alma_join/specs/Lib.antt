@@ -2,3 +2,4 @@ pub mod Bare
 pub mod Directory
 pub mod Fault
 pub mod Numbers
+pub mod Parts

@@ -6,5 +6,6 @@ mod directory;
 mod error;
 mod head;
 mod import;
+mod part;
 
 pub use error::JoinError;
