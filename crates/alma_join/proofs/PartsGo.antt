@@ -105,13 +105,13 @@ module _ (units : List Program) (i : ℕ) (p : Program) (within : i < length uni
 
   body_goes : append_stmts (stmts_list b.body.items) (joined_stmts all (i + 1 + 1) b.slots rest) ≡ joined_stmts all 1 0 units
   body_goes =
-      (λ j. append_stmts ((adds.body ∙ ap (λ m. append_stmts (stmts_list a.body.items) (moved_stmts m (routine_at p 0).body)) body_is) j) (joined_stmts all (sym (add-one (i + 1)) j) (adds.slots j) rest))
+      (λ j. append_stmts ((adds.body ∙ ap (λ m. append_stmts (stmts_list a.body.items) (moved_stmts m (routine_at p 0).body)) body_is) j) (joined_stmts all (add-one (i + 1) j) (adds.slots j) rest))
       ∙ append_both (stmts_list a.body.items) (moved_stmts (body_moves all (i + 1) p a.slots) (routine_at p 0).body) (joined_stmts all (suc (i + 1)) (a.slots + own_slots p) rest)
       ∙ ap (λ us. append_stmts (stmts_list a.body.items) (joined_stmts all (i + 1) a.slots us)) (sym rest_is) ∙ h.body
 
   procedures_go : map routine_of b.procedures.items ++ joined_procedures all (i + 1 + 1) b.slots rest ≡ joined_procedures all 1 0 units
   procedures_go =
-      (λ j. (adds.procedures (i + 1) ∙ ap (λ m. map routine_of a.procedures.items ++ map (moved_procedure m) (kept_of (i + 1) p)) procedures_are) j ++ joined_procedures all (sym (add-one (i + 1)) j) (adds.slots j) rest)
+      (λ j. (adds.procedures (i + 1) ∙ ap (λ m. map routine_of a.procedures.items ++ map (moved_procedure m) (kept_of (i + 1) p)) procedures_are) j ++ joined_procedures all (add-one (i + 1) j) (adds.slots j) rest)
       ∙ append_assoc (map routine_of a.procedures.items) (map (moved_procedure (procedure_moves all (i + 1) p a.slots)) (kept_of (i + 1) p)) (joined_procedures all (suc (i + 1)) (a.slots + own_slots p) rest)
       ∙ ap (λ us. map routine_of a.procedures.items ++ joined_procedures all (i + 1) a.slots us) (sym rest_is) ∙ h.procedures
 

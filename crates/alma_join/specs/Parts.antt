@@ -1,5 +1,5 @@
 -- The parts of a joined program, unit after unit.
-use Rattle.std.specs.Prelude.{◌≡◌, ℕ, ◌+◌, ◌-◌, List, ◌++◌, map, sum_by}
+use Rattle.std.specs.Prelude.{◌≡◌, ℕ, ◌+◌, ◌-◌, List, ◌∷◌, ◌++◌, map, sum_by}
 use Rattle.alma_copy.specs.Moved.{Moves, moved_stmts, moved_global}
 use Rattle.alma_copy.specs.Numbers.{slot_behind, number_in}
 use Rattle.alma_ir.specs.Tree.{Routine, Program, routine_at}
@@ -41,3 +41,11 @@ pub record ArePartsOf (parts : Parts) (units : List Program) : Type 0 where
   pub procedures : map routine_of parts.procedures.items ≡ joined_procedures (kept_in 1 units) 1 0 units
   pub declared : parts.declared ≡ sum_by (λ p. (routine_at p 0).declared) units
   pub slots : parts.slots ≡ sum_by own_slots units
+
+-- a program of these parts, with the name of a module and the head of its body
+abbrev pub with_body : Program → Parts → Program
+with_body first parts = record {
+  name = first.name;
+  globals = map global_of parts.globals.items;
+  routines = record (routine_at first 0) { declared = parts.declared; slots = 1 + parts.slots; body = stmts_list parts.body.items; lines = parts.lines.items } ∷ map routine_of parts.procedures.items;
+}

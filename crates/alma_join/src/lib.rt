@@ -6,6 +6,8 @@ mod directory;
 mod error;
 mod head;
 mod import;
+mod join;
 mod part;
 
 pub use error::JoinError;
+pub use join::join;

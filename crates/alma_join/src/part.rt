@@ -123,7 +123,8 @@ fn add_unit(
     let in_procedures = Moves { own: 0, ..in_body };
     add_globals(alloc, &mut parts.globals, &program.globals, &in_body)?;
     add_procedures(alloc, &mut parts.procedures, program, &in_procedures)?;
-    add_body(alloc, parts, &program.routines[0], &in_body)
+    add_body(alloc, parts, &program.routines[0], &in_body)?;
+    Ok(())
 }
 
 /// The parts of all units, given the new numbers of each.

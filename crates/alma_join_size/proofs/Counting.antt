@@ -87,13 +87,13 @@ module _ (units : List whole.Program) (i : ℕ) (x : whole.Program) (totals more
       ∙ (λ j. if_true (sym e j) (λ _. Some (joined.TooLarge (i + 1))) (λ _. joined.size_fault with_x (sym (add-one (i + 1)) j) (drop (i + 1) plain)))
 
   pub sizes_pass : (b : Bool) → ((all : joined.Totals) → AreTotals more all → b ≡ joined.passes all) → b ≡ true → joined.size_fault joined.no_totals 1 plain ≡ Some (joined.TooLarge (i + 1))
-  sizes_pass b tells yes = fault_is b (tells with_x (added h.all h.are)) ∙ ap (λ t. if_true t (λ _. Some (joined.TooLarge (i + 1))) (λ _. joined.size_fault with_x (i + 1 + 1) (drop (i + 1) plain))) yes
+  sizes_pass b tells passed = fault_is b (tells with_x (added h.all h.are)) ∙ ap (λ t. if_true t (λ _. Some (joined.TooLarge (i + 1))) (λ _. joined.size_fault with_x (i + 1 + 1) (drop (i + 1) plain))) passed
 
   pub sizes_more : (b : Bool) → ((all : joined.Totals) → AreTotals more all → b ≡ joined.passes all) → b ≡ false → SizesGo plain (i + 1) more
-  sizes_more b tells no = record {
+  sizes_more b tells stays = record {
     all = with_x;
     are = added h.all h.are;
-    rest = sym (fault_is b (tells with_x (added h.all h.are)) ∙ ap (λ t. if_true t (λ _. Some (joined.TooLarge (i + 1))) (λ _. joined.size_fault with_x (i + 1 + 1) (drop (i + 1) plain))) no);
+    rest = sym (fault_is b (tells with_x (added h.all h.are)) ∙ ap (λ t. if_true t (λ _. Some (joined.TooLarge (i + 1))) (λ _. joined.size_fault with_x (i + 1 + 1) (drop (i + 1) plain))) stays);
   }
 
 pub sizes_all : (units : List whole.Program) (i : ℕ) (totals : memory.Totals) → length units ≤ i → SizesGo (map program_of units) i totals → joined.size_fault joined.no_totals 1 (map program_of units) ≡ None

@@ -107,7 +107,9 @@ fn with_unit(totals: Totals, program: &Program) -> Totals
         declared: totals.declared.saturating_add(declared_of(program)),
         slots: totals.slots.saturating_add(slots_of(program)),
         globals: totals.globals.saturating_add(program.globals.len() as u64),
-        params: totals.params.saturating_add(count_params(&program.routines)),
+        params: totals
+            .params
+            .saturating_add(count_params(&program.routines)),
         names: totals.names.saturating_add(names),
         texts: totals.texts.saturating_add(count_texts(&program.routines)),
     }

@@ -27,29 +27,22 @@ fn count_stmt(stmt: &Stmt) -> u64
 {
     match stmt {
         Stmt::Test(test) => count_test(test),
-        Stmt::Assign(desig, value, _) => count_desig(desig)
-            .saturating_add(count_expr(value)),
-        Stmt::CopyCells(desig, from) => count_desig(desig)
-            .saturating_add(count_desig(from)),
-        Stmt::If(arms, rest) => count_arms(arms)
-            .saturating_add(count_stmts(rest)),
-        Stmt::While(test, body) => count_test(test)
-            .saturating_add(count_stmts(body)),
-        Stmt::Repeat(body, test) => count_stmts(body)
-            .saturating_add(count_test(test)),
+        Stmt::Assign(desig, value, _) => count_desig(desig).saturating_add(count_expr(value)),
+        Stmt::CopyCells(desig, from) => count_desig(desig).saturating_add(count_desig(from)),
+        Stmt::If(arms, rest) => count_arms(arms).saturating_add(count_stmts(rest)),
+        Stmt::While(test, body) => count_test(test).saturating_add(count_stmts(body)),
+        Stmt::Repeat(body, test) => count_stmts(body).saturating_add(count_test(test)),
         Stmt::ForTo(each) => count_loop(each),
         Stmt::SomeOf(each) => count_loop(each),
         Stmt::Case(value, arms, rest) => {
-            let total = count_expr(value)
-                .saturating_add(count_cases(arms));
+            let total = count_expr(value).saturating_add(count_cases(arms));
             match rest {
                 None => total,
                 Some(rest) => total.saturating_add(count_stmts(rest)),
             }
         }
         Stmt::Either(branches) => count_branches(branches),
-        Stmt::Forall(each, body) => count_stmts(each)
-            .saturating_add(count_stmts(body)),
+        Stmt::Forall(each, body) => count_stmts(each).saturating_add(count_stmts(body)),
         Stmt::Commit(body) => count_stmts(body),
         Stmt::Return(value) => match value {
             None => 0,
