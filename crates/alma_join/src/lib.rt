@@ -6,8 +6,9 @@ mod directory;
 mod error;
 mod head;
 mod import;
-mod join;
+
 mod part;
+mod program;
 
 pub use error::JoinError;
-pub use join::join;
+pub use program::join;
