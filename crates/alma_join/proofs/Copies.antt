@@ -1,6 +1,6 @@
 -- Copies that are put behind others.
-use Rattle.std.proofs.Common.{◌≡◌, ℕ, ◌+◌, ◌<◌, ◌≤◌, Bool, true, false, List, [], ◌∷◌, ◌++◌, length, get_or, take, map, refl, sym, ap, subst, ◌∙◌, arith}
-use Rattle.std.proofs.lemmas.List.{append-nil, append_assoc, map-append, take_more, take_all}
+use Rattle.std.proofs.Common.{◌≡◌, ℕ, ◌+◌, ◌<◌, ◌≤◌, true, false, List, [], ◌∷◌, ◌++◌, length, get_or, take, map, refl, sym, ap, ◌∙◌}
+use Rattle.std.proofs.lemmas.List.{append-nil, append_assoc, map-append, take_more}
 use Rattle.alma_copy.specs.Moved.{Moves, moved_global, moved_routine}
 use Rattle.alma_ir.specs.declared.phrase.Stmt.{Stmt}
 use Rattle.alma_ir.specs.declared.program.Routine as memory
@@ -56,9 +56,9 @@ copied_kept m p old new longer r x copy within bare is h put e = record { as_uni
       front = k.front ++ record { unit = unit; number = r; routine = routine_at p r } ∷ [];
       passed = passed_kept unit p r k.front within k.passed bare;
       copied =
-      ap (map routine_of) put ∙ map-append routine_of new (copy ∷ []) ∙ (λ j. k.copied j ++ (e ∙ ap (moved_routine m) (sym is)) j ∷ [])
-      ∙ append_assoc (map routine_of old) (map (moved_procedure m) k.front) (moved_routine m (routine_at p r) ∷ [])
-      ∙ ap (λ l. map routine_of old ++ l) (sym (map-append (moved_procedure m) k.front (record { unit = unit; number = r; routine = routine_at p r } ∷ [])));
+          ap (map routine_of) put ∙ map-append routine_of new (copy ∷ []) ∙ (λ j. k.copied j ++ (e ∙ ap (moved_routine m) (sym is)) j ∷ [])
+          ∙ append_assoc (map routine_of old) (map (moved_procedure m) k.front) (moved_routine m (routine_at p r) ∷ [])
+          ∙ ap (λ l. map routine_of old ++ l) (sym (map-append (moved_procedure m) k.front (record { unit = unit; number = r; routine = routine_at p r } ∷ [])));
     }
 
 pub copied_all : (m : Moves) (p : Program) (old new : List memory.Routine) (r : ℕ) → length p.routines ≤ r → ProceduresCopied m p old new r → (unit : ℕ) → map routine_of new ≡ map routine_of old ++ map (moved_procedure m) (kept_of unit p)

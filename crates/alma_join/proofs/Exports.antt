@@ -1,5 +1,5 @@
 -- Exports under their names.
-use Rattle.std.proofs.Common.{◌≡◌, ℕ, suc, ◌+◌, inl, inr, Bool, true, false, List, [], ◌∷◌, ◌++◌, length, map, refl, sym, ap, ◌∙◌, arith, cond, Option, None, Some, Vec, Global}
+use Rattle.std.proofs.Common.{◌≡◌, ℕ, inl, inr, true, false, [], ◌∷◌, ◌++◌, map, sym, ap, ◌∙◌, cond, Option, None, Some, Vec, Global}
 use Rattle.std.specs.Prelude.{nat_eq}
 use Rattle.std.specs.Cmp.Lexicographic.{pointwise, bytes_decides}
 use Rattle.std.proofs.lemmas.Bool.{cases_Bool}
@@ -7,7 +7,7 @@ use Rattle.std.proofs.lemmas.List.{map-append}
 use Rattle.std.specs.Map.{lookup}
 use Rattle.indexmap.specs.IndexMap.{IndexMap, get}
 use Rattle.alma_join.specs.declared.directory.Export.{Export}
-use Rattle.alma_join.specs.Directory.{PlainExport, plain_export, entries_in, alike}
+use Rattle.alma_join.specs.Directory.{plain_export, entries_in, alike}
 
 pub alike_by : (x y : Vec ℕ Global) → x.items ≡ y.items → alike x y ≡ true
 alike_by x y e = (bytes_decides x.items y.items).1 e

@@ -1,9 +1,9 @@
 -- The directory as its modules are gone through.
-use Rattle.std.proofs.Common.{◌≡◌, ℕ, ◌+◌, ◌<◌, ◌≤◌, Bool, true, false, List, [], ◌∷◌, ◌++◌, length, get_or, take, map, refl, sym, ap, subst, ◌∙◌, arith, Vec, Global, Option, None}
+use Rattle.std.proofs.Common.{◌≡◌, ℕ, ◌+◌, ◌<◌, ◌≤◌, Bool, true, false, List, [], ◌∷◌, ◌++◌, length, get_or, take, map, refl, sym, ap, subst, ◌∙◌, arith, Vec, Global}
 use Rattle.std.specs.Prelude.{nat_eq}
 use Rattle.std.proofs.lemmas.Bool.Decides.{nat_tests}
 use Rattle.std.proofs.lemmas.List.{take_more, take_all, map-append, append-nil, length-map, length-take}
-use Rattle.std.proofs.lemmas.Bool.{eq-eqb, cases_eq}
+use Rattle.std.proofs.lemmas.Bool.{eq-eqb}
 use Rattle.std.specs.Map.{lookup}
 use Rattle.indexmap.specs.IndexMap.{get}
 use Rattle.alma_base.specs.Choice.{if_true}
@@ -11,11 +11,10 @@ use Rattle.alma_ir.specs.declared.program.Program as whole
 use Rattle.alma_ir.specs.Tree.{Routine, Program, routine_at}
 use Rattle.alma_ir.specs.View.{program_of}
 use Rattle.alma_joined.specs.Joined.{Kept, is_bare, kept_of, kept_in, matches}
-use Rattle.alma_join.specs.Bare.{MarksBare}
 use Rattle.alma_join.specs.declared.directory.Export.{Export}
 use Rattle.alma_join.specs.declared.directory.Directory.{Directory}
 use Rattle.alma_join.specs.declared.directory.Matches.{Matches}
-use Rattle.alma_join.specs.Directory.{PlainExport, plain_export, entries_in, alike, sharing, others, Lists, Holds, Enters, EntersOne, IsAnswer}
+use Rattle.alma_join.specs.Directory.{PlainExport, plain_export, entries_in, alike, others, Holds, Enters, EntersOne, IsAnswer}
 use Rattle.alma_join.proofs.Keeping.{Passed, passed_none, passed_bare, passed_kept, passed_all, kept_append}
 use Rattle.alma_join.proofs.Sharing.{enters_none, enters_both, matches_others}
 
@@ -54,7 +53,6 @@ unit_more a b units i unit x within is number h enters =
     let same : kept_in 1 (map program_of (take (i + 1) units)) ≡ kept_in 1 front ++ kept_of unit (program_of x) =
     ap (kept_in 1) all ∙ kept_append 1 front (program_of x) ∙ ap (λ n. kept_in 1 front ++ kept_of n (program_of x)) len in
     subst (Holds b) (sym same) (enters.holds (kept_in 1 front) h)
-
 
 pub holds_none : (d : Directory) → d.next ≡ 1 → d.entries.entries ≡ [] → Holds d []
 holds_none d next empty = record { next = next; lists = record { named = λ q. ap (λ es. entries_in (lookup (λ k. alike q k) es)) empty } }

@@ -1,10 +1,10 @@
 -- The routines of a module that stay, one after another, and their new numbers.
-use Rattle.std.proofs.Common.{◌≡◌, ℕ, zero, suc, ◌+◌, ◌-◌, ◌<◌, ◌≤◌, inl, inr, Bool, true, false, List, [], ◌∷◌, ◌++◌, length, get_or, take, drop, map, refl, sym, ap, subst, ◌∙◌, arith, add-one}
+use Rattle.std.proofs.Common.{◌≡◌, ℕ, zero, suc, ◌+◌, ◌<◌, ◌≤◌, Bool, true, false, List, [], ◌∷◌, ◌++◌, length, get_or, drop, refl, sym, ap, ◌∙◌, arith, add-one}
 use Rattle.std.specs.Prelude.{nat_eq, ◌&&◌}
 use Rattle.std.specs.List.{AllByRecursion}
-use Rattle.std.proofs.lemmas.Bool.{eq-eqb, cases_eq}
+use Rattle.std.proofs.lemmas.Bool.{eq-eqb}
 use Rattle.std.proofs.lemmas.Bool.Decides.{nat_tests}
-use Rattle.std.proofs.lemmas.List.{append-nil, append_assoc, length-append, get_or_past}
+use Rattle.std.proofs.lemmas.List.{append-nil, append_assoc}
 use Rattle.alma_base.specs.Choice.{if_true}
 use Rattle.alma_ir.specs.Tree.{Routine, Program, routine_at, no_routine}
 use Rattle.alma_joined.specs.Joined.{Kept, is_bare, kept_from, kept_of, kept_in, matches, first_match, number_of_kept, new_number}

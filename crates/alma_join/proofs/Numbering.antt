@@ -1,5 +1,5 @@
 -- The routines of a unit, numbered one after another.
-use Rattle.std.proofs.Common.{◌≡◌, ℕ, zero, suc, ◌+◌, ◌<◌, ◌≤◌, inl, inr, Bool, true, false, List, [], ◌∷◌, ◌++◌, length, get_or, drop, refl, sym, ap, subst, ◌∙◌, arith, add-one, Option, None, Some, Result, Ok, Err, IfOk, IfErr}
+use Rattle.std.proofs.Common.{◌≡◌, ℕ, zero, suc, ◌+◌, ◌<◌, ◌≤◌, inl, inr, Bool, true, false, List, [], ◌∷◌, ◌++◌, length, get_or, drop, refl, sym, ap, subst, ◌∙◌, arith, add-one, Option, None, Result, Ok, Err, IfErr}
 use Rattle.std.specs.Result.{IsErrAnd}
 use Rattle.std.specs.List.{AllByRecursion}
 use Rattle.std.proofs.lemmas.Bool.{cases_lt}
@@ -16,7 +16,7 @@ use Rattle.alma_join.specs.declared.error.JoinError.TheVariants as error
 use Rattle.alma_join.specs.Directory.{Holds}
 use Rattle.alma_join.specs.Fault.{IsErrorOf}
 use Rattle.alma_join.specs.Numbers.{Resolves, StandsAt, unit_fault, NumbersUnit}
-use Rattle.alma_join.proofs.Keeping.{Passed, IsBelow, passed_none, passed_bare, passed_kept, passed_all, here_is, rest_here, each_to, Differs, differs_by_unit, differs_by_number, number_there, number_none, new_number_if}
+use Rattle.alma_join.proofs.Keeping.{Passed, passed_none, passed_bare, passed_kept, passed_all, here_is, rest_here, each_to, Differs, differs_by_unit, differs_by_number, number_there, number_none, new_number_if}
 use Rattle.alma_join.proofs.Rows.{rest_none}
 
 -- an error of the first of two is one of both
@@ -52,7 +52,7 @@ module _ (d : Directory) (unit : ℕ) (p : Program) (first : ℕ) where
     counted = omega arith;
     long = ap length is;
     sound = λ all h. refl;
-    at = λ all h s j lt. first_number all j lt ;
+    at = λ all h s j lt. first_number all j lt;
   }
     where
       first_number : (all : List Kept) (j : ℕ) → j < 1 → get_or table j j ≡ new_number all unit p j

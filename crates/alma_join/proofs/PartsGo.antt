@@ -1,10 +1,9 @@
 -- The parts of the units, one after another.
-use Rattle.std.proofs.Common.{◌≡◌, ℕ, zero, suc, ◌+◌, ◌<◌, ◌≤◌, List, [], ◌∷◌, ◌++◌, length, get_or, drop, map, refl, sym, ap, subst, ◌∙◌, arith, add-one, Vec, Global}
+use Rattle.std.proofs.Common.{◌≡◌, ℕ, zero, suc, ◌+◌, ◌<◌, ◌≤◌, List, [], ◌∷◌, ◌++◌, length, get_or, drop, map, refl, sym, ap, subst, ◌∙◌, arith, add-one}
 use Rattle.std.specs.Prelude.{sum_by}
 use Rattle.std.specs.List.{AllByRecursion}
 use Rattle.std.proofs.lemmas.List.{append-nil, append_assoc}
-use Rattle.std.proofs.lemmas.List.Sums.{sum_by-cons}
-use Rattle.alma_copy.specs.Moved.{Moves, moved_stmts, moved_global}
+use Rattle.alma_copy.specs.Moved.{moved_stmts, moved_global}
 use Rattle.alma_copy.specs.Numbers.{slot_behind}
 use Rattle.alma_ir.specs.Tree as ir
 use Rattle.alma_ir.specs.Tree.{Stmts, Program, Routine, routine_at}

@@ -1,5 +1,5 @@
 -- What shares a name, and the matches among it.
-use Rattle.std.proofs.Common.{◌≡◌, ℕ, zero, suc, ◌+◌, ◌<◌, ◌⊎◌, inl, inr, Bool, true, false, List, [], ◌∷◌, ◌++◌, length, map, refl, sym, ap, subst, ◌∙◌, arith, Vec, Global, Option, None, Some, true≢false}
+use Rattle.std.proofs.Common.{◌≡◌, ℕ, suc, ◌+◌, ◌⊎◌, inl, inr, Bool, true, false, List, [], ◌∷◌, ◌++◌, length, refl, sym, ap, subst, ◌∙◌, arith, Vec, Global, true≢false}
 use Rattle.std.specs.Prelude.{nat_eq, ◌&&◌, not}
 use Rattle.std.proofs.lemmas.Bool.{eq-eqb, cases_eq, cases_Bool}
 use Rattle.std.proofs.lemmas.Bool.Decides.{nat_tests}
@@ -83,10 +83,12 @@ module _ (d d' : Directory) (unit : ℕ) (routine : Routine) (step : d'.next ≡
 
   -- another gets none
   pub passed : nat_eq routine.level 1 ≡ false → ((q : Vec ℕ Global) → entries_in (get alike d'.entries q) ≡ entries_in (get alike d.entries q)) → EntersOne d d' unit routine
-  passed level same = by_lists (λ r all next h. record { named = λ q.
-      same q ∙ h.named q ∙ sym (append-nil _)
-      ∙ ap (λ t. sharing all 1 q.items ++ if_true (t && same_name routine.name q.items) (λ _. record { unit = unit; number = 1 + length all; routine = routine } ∷ []) (λ _. [])) (sym level)
-      ∙ sym (sharing_append all (kept r ∷ []) 1 q.items) })
+  passed level same = by_lists (λ r all next h. record {
+    named = λ q.
+        same q ∙ h.named q ∙ sym (append-nil _)
+        ∙ ap (λ t. sharing all 1 q.items ++ if_true (t && same_name routine.name q.items) (λ _. record { unit = unit; number = 1 + length all; routine = routine } ∷ []) (λ _. [])) (sym level)
+        ∙ sym (sharing_append all (kept r ∷ []) 1 q.items);
+  })
 
 pub enters_none : (d : Directory) → Enters d d []
 enters_none d = record { next = omega arith; holds = λ all h. record { next = h.next ∙ ap (λ l. 1 + length l) (sym (append-nil all)); lists = record { named = λ q. h.lists.named q ∙ ap (λ l. sharing l 1 q.items) (sym (append-nil all)) } } }

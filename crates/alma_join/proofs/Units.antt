@@ -1,14 +1,11 @@
 -- Units that are gone through one after another.
-use Rattle.std.proofs.Common.{◌≡◌, ℕ, suc, ◌+◌, ◌<◌, ◌≤◌, List, [], ◌∷◌, ◌++◌, length, get_or, take, drop, map, refl, sym, ap, subst, ◌∙◌, arith, add-one, Vec, Global, Option, None}
-use Rattle.std.specs.List.{AllByRecursion}
-use Rattle.std.proofs.lemmas.List.{take_more, take_all, take-append-drop, length-take, length-map, length-append, map-append, append_assoc}
+use Rattle.std.proofs.Common.{◌≡◌, ℕ, suc, ◌+◌, ◌<◌, ◌≤◌, List, [], ◌∷◌, ◌++◌, length, get_or, take, drop, map, refl, sym, ap, subst, ◌∙◌, arith, add-one, Vec, Global, None}
+use Rattle.std.proofs.lemmas.List.{take_more, take_all, take-append-drop, length-take, length-map, length-append}
 use Rattle.alma_ir.specs.declared.program.Program as whole
 use Rattle.alma_ir.specs.Tree.{Program}
 use Rattle.alma_ir.specs.View.{program_of}
-use Rattle.alma_joined.specs.Joined.{Kept, JoinFault, kept_of, kept_in, import_fault, or_next}
-use Rattle.alma_join.specs.declared.directory.Directory.{Directory}
+use Rattle.alma_joined.specs.Joined.{Kept, kept_of, kept_in, import_fault, or_next}
 use Rattle.alma_join.specs.declared.error.JoinError.{JoinError}
-use Rattle.alma_join.specs.Directory.{Holds}
 use Rattle.alma_join.specs.Fault.{IsErrorOf}
 use Rattle.alma_join.specs.Numbers.{StandsAt, unit_fault, NumbersUnit, NumbersUnits, numbers_in}
 use Rattle.alma_join.proofs.Keeping.{each_to, kept_append, kept_split, units_from, units_below}
@@ -76,7 +73,7 @@ module _ (units : List Program) (i : ℕ) (p : Program) (within : i < length uni
   units_numbered_more next' table longer more numbers none count = record {
     next_is = omega (arith, count, h.next_is, ap length (kept_more units i p within is), length-append (kept_in 1 (take i units)) (kept_of (i + 1) p));
     numbers = subst (NumbersUnits all 1 (take (i + 1) units)) (sym more) (subst (λ l. NumbersUnits all 1 l (tables ++ table ∷ [])) (sym (front_more units i p within is))
-    (numbers_append all 1 (i + 1) (take i units) tables p table (omega (arith, front_length units i p within is)) h.numbers numbers));
+        (numbers_append all 1 (i + 1) (take i units) tables p table (omega (arith, front_length units i p within is)) h.numbers numbers));
     sound = ap (λ o. or_next o (λ _. import_fault all (i + 1 + 1) (drop (i + 1) units))) (sym none) ∙ sym fault_is ∙ h.sound;
   }
 

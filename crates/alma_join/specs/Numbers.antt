@@ -1,10 +1,10 @@
 -- New numbers, as tables.
-use Rattle.std.specs.Prelude.{◌≡◌, ℕ, suc, ◌+◌, ◌<◌, List, [], ◌∷◌, ◌++◌, length, get_or, drop, Option, None, Result, Vec, IfOk, IfErr}
+use Rattle.std.specs.Prelude.{◌≡◌, ℕ, suc, ◌+◌, ◌<◌, List, [], ◌∷◌, ◌++◌, length, drop, Option, None, Result, Vec, IfOk, IfErr}
 use Rattle.std.specs.Global.{Global}
 use Rattle.std.specs.List.{AllByRecursion}
 use Rattle.alma_copy.specs.Numbers.{number_in}
 use Rattle.alma_ir.specs.Tree.{Routine, Program}
-use Rattle.alma_joined.specs.Joined.{Kept, JoinFault, kept_of, matches, first_match, match_fault, fault_from, new_number}
+use Rattle.alma_joined.specs.Joined.{Kept, JoinFault, kept_of, first_match, match_fault, fault_from, new_number}
 use Rattle.alma_join.specs.declared.error.JoinError.{JoinError}
 use Rattle.alma_join.specs.Fault.{IsErrorOf}
 

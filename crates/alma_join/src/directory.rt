@@ -107,10 +107,7 @@ fn add_unit<'p>(
 }
 
 /// The directory of all modules.
-pub fn directory_of<'p>(
-    alloc: Global,
-    units: &'p [Program],
-) -> Result<Directory<'p>, NoMemory>
+pub fn directory_of<'p>(alloc: Global, units: &'p [Program]) -> Result<Directory<'p>, NoMemory>
     requires few { length units.now ≤ 16 }
     ensures { IfOk result (λ d. Holds d (kept_in 1 (map program_of units.now))) }
 {
@@ -149,11 +146,7 @@ fn matches_among<'p>(exports: &[Export<'p>], unit: u32) -> Matches<'p>
 }
 
 /// What an import of a unit may stand for.
-pub fn matches_of<'p>(
-    directory: &Directory<'p>,
-    unit: u32,
-    routine: &Routine,
-) -> Matches<'p>
+pub fn matches_of<'p>(directory: &Directory<'p>, unit: u32, routine: &Routine) -> Matches<'p>
     ensures { (all : List Kept) → Holds directory.now all → IsAnswer result
         (matches all 1 unit routine.now.name.items) }
 {

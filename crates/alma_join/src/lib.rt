@@ -6,7 +6,6 @@ mod directory;
 mod error;
 mod head;
 mod import;
-
 mod part;
 mod program;
 

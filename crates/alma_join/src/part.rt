@@ -128,11 +128,7 @@ fn add_unit(
 }
 
 /// The parts of all units, given the new numbers of each.
-pub fn parts_of(
-    alloc: Global,
-    units: &[Program],
-    tables: &[Vec<u32>],
-) -> Result<Parts, NoMemory>
+pub fn parts_of(alloc: Global, units: &[Program], tables: &[Vec<u32>]) -> Result<Parts, NoMemory>
     requires bodies { AllByRecursion (λ p. 0 < length p.routines) (map program_of units.now) }
     requires numbers { NumbersUnits (kept_in 1 (map program_of units.now)) 1
         (map program_of units.now) (map numbers_in tables.now) }

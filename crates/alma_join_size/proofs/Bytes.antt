@@ -1,5 +1,5 @@
 -- Counts of bytes as sums, and what one value counts.
-use Rattle.std.proofs.Common.{◌≡◌, ℕ, ◌+◌, List, [], ◌∷◌, ◌++◌, length, refl, ap, ◌∙◌, arith}
+use Rattle.std.proofs.Common.{◌≡◌, ℕ, ◌+◌, List, [], ◌∷◌, ◌++◌, length, refl, ap, arith}
 use Rattle.std.specs.Prelude.{Vec, Some, None, sum_by}
 use Rattle.std.specs.declared.alloc.Global.{Global}
 use Rattle.alma_ir.specs.declared.phrase.Stmt as S
@@ -18,7 +18,6 @@ use Rattle.alma_ir.specs.View.{stmt_of, test_of, expr_of, arg_of, sel_of, desig_
 use Rattle.alma_ir.specs.Phrases.{Phrase}
 use Rattle.alma_join_size.specs.Texts.{text_count}
 use Rattle.alma_ir.specs.Phrases.{stmts_phrases, stmt_phrases, arms_phrases, cases_phrases, branches_phrases, loop_phrases, test_phrases, tests_phrases, expr_phrases, links_phrases, args_phrases, arg_phrases, desig_phrases, sels_phrases, sel_phrases}
-use Rattle.alma_ir.specs.Checked.{text_bytes}
 use Rattle.alma_ir.proofs.Views
 use Rattle.std.proofs.lemmas.List.Recursion.{is_sum_by}
 

@@ -1,4 +1,4 @@
-use Rattle.std.proofs.Common.{◌≡◌, ◌<◌, ◌∙◌, arith, length}
+use Rattle.std.proofs.Common.{◌<◌, ◌∙◌, arith, length}
 use Rattle.alma_join.proofs.Marks.{bare_more, bare_here}
 use Rattle.alma_join.proofs.bare.mark_bare.Goals as goal
 

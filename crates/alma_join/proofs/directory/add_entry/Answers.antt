@@ -1,6 +1,6 @@
-use Rattle.std.proofs.Common.{refl, sym, ap, ◌∙◌, None, Some, cond}
+use Rattle.std.proofs.Common.{sym, ◌∙◌}
 use Rattle.indexmap.specs.IndexMap.{get}
-use Rattle.alma_join.specs.Directory.{entries_in, alike}
+use Rattle.alma_join.specs.Directory.{alike}
 use Rattle.alma_join.proofs.Exports.{own_put, other_put, same_there, found_some, found_none}
 use Rattle.alma_join.proofs.directory.add_entry.Goals as goal
 use Rattle.alma_join.proofs.directory.add_entry.Goals.{in-Some, in-None}

@@ -1,6 +1,4 @@
-use Rattle.std.proofs.Common.{List}
 use Rattle.alma_ir.specs.View.{program_of}
-use Rattle.alma_joined.specs.Joined.{Kept}
 use Rattle.alma_join.proofs.Going.{UnitGoes}
 use Rattle.alma_join.proofs.directory.add_unit.Given as goal
 

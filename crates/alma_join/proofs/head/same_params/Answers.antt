@@ -1,4 +1,4 @@
-use Rattle.std.proofs.Common.{◌≡◌, ◌<◌, ◌≤◌, refl, arith, length}
+use Rattle.std.proofs.Common.{◌<◌, ◌≤◌, refl, arith, length}
 use Rattle.alma_join.proofs.Heads.{lengths_differ, params_apart, params_alike, params_all, param_is}
 use Rattle.alma_join.proofs.head.same_params.Goals as goal
 

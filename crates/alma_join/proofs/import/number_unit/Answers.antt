@@ -1,5 +1,4 @@
-use Rattle.std.proofs.Common.{◌≡◌, ◌<◌, ◌≤◌, ◌++◌, ◌∷◌, [], ◌∙◌, ap, refl, arith, length}
-use Rattle.alma_ir.specs.View.{program_of}
+use Rattle.std.proofs.Common.{◌<◌, ◌≤◌, ◌++◌, ◌∷◌, [], ◌∙◌, ap, refl, arith, length}
 use Rattle.alma_join.proofs.Marks.{bare_by, routine_there, within_program, past_program}
 use Rattle.alma_join.proofs.Numbering.{numbered_none, numbered_more, fault_more, handed_on, next_all, sound_all, numbers_all}
 use Rattle.alma_join.proofs.import.number_unit.Goals as goal

@@ -1,4 +1,4 @@
-use Rattle.std.proofs.Common.{◌≡◌, ◌+◌, ◌≤◌, ◌<◌, sym, ◌∙◌, arith, length, subst}
+use Rattle.std.proofs.Common.{◌+◌, ◌≤◌, ◌<◌, sym, arith, length, subst}
 use Rattle.alma_copy.specs.Numbers.{moves_of}
 use Rattle.alma_ir.specs.View.{program_of}
 use Rattle.alma_join.proofs.Marks.{bare_by, routine_there, within_program, past_program}
@@ -16,10 +16,10 @@ loop-r-preserved c =
     let within : c.loop-r.r < length c.args.program.now.routines.items = omega (arith, c.loop-r-test.true, c.len-r-end.ensures, c.args.program.now.routines.ok) in
     elim c.if-not-index.branch [
       | then-not-index+in_ok-copy_routine+in_ok-push w ↦ subst (λ v. ProceduresCopied m (program_of p) c.args.procedures.now.items v.items (c.loop-r.r + 1)) (sym w.procedures-is)
-        (copied_kept m _ _ c.loop-r.procedures.items _ _ _ _ (within_program p _ within) (bare_by p _ _ _ _ within c.in_ok-bare.ensures c.index.ensures w.if-not-index.true)
-        (routine_there p c.loop-r.r w.index-then-not-index.result.now within w.index-then-not-index.ensures) c.loop-r.invariant w.in_ok-push.ensures.items w.in_ok-copy_routine.ensures.copy)
+          (copied_kept m _ _ c.loop-r.procedures.items _ _ _ _ (within_program p _ within) (bare_by p _ _ _ _ within c.in_ok-bare.ensures c.index.ensures w.if-not-index.true)
+          (routine_there p c.loop-r.r w.index-then-not-index.result.now within w.index-then-not-index.ensures) c.loop-r.invariant w.in_ok-push.ensures.items w.in_ok-copy_routine.ensures.copy)
       | else-not-index w ↦ subst (λ v. ProceduresCopied m (program_of p) c.args.procedures.now.items v.items (c.loop-r.r + 1)) (sym w.procedures-is)
-        (copied_bare m _ _ c.loop-r.procedures.items _ (within_program p _ within) (bare_by p _ _ _ _ within c.in_ok-bare.ensures c.index.ensures w.if-not-index.false) c.loop-r.invariant)
+          (copied_bare m _ _ c.loop-r.procedures.items _ (within_program p _ within) (bare_by p _ _ _ _ within c.in_ok-bare.ensures c.index.ensures w.if-not-index.false) c.loop-r.invariant)
     ]
 
 pub returns : goal.returns
