@@ -1,0 +1,9 @@
+-- The program of joined modules is a checked one.
+use Rattle.std.proofs.Common.{◌≡◌, List}
+use Rattle.alma_ir.specs.Tree.{Program}
+use Rattle.alma_joined.specs.Joined.{JoinedIsChecked}
+use Rattle.alma_joined_checked.proofs.Moving as moving
+use Rattle.alma_joined_checked.proofs.KeptLists as kept_lists
+
+pub joined_is_checked : JoinedIsChecked
+joined_is_checked units are fine = ?
