@@ -4,6 +4,8 @@ use Rattle.alma_ir.specs.Tree.{Program}
 use Rattle.alma_joined.specs.Joined.{JoinedIsChecked}
 use Rattle.alma_joined_checked.proofs.Moving as moving
 use Rattle.alma_joined_checked.proofs.KeptLists as kept_lists
+use Rattle.alma_joined_checked.proofs.Forms as forms
+use Rattle.alma_joined_checked.proofs.Places as places
 
 pub joined_is_checked : JoinedIsChecked
 joined_is_checked units are fine = ?

@@ -1,3 +1,5 @@
 mod Moving
+mod Forms
 mod KeptLists
+mod Places
 mod JoinedChecked
