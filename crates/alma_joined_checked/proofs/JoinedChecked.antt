@@ -6,6 +6,7 @@ use Rattle.alma_joined_checked.proofs.Moving as moving
 use Rattle.alma_joined_checked.proofs.KeptLists as kept_lists
 use Rattle.alma_joined_checked.proofs.Forms as forms
 use Rattle.alma_joined_checked.proofs.Places as places
+use Rattle.alma_joined_checked.proofs.Slots as slots
 
 pub joined_is_checked : JoinedIsChecked
 joined_is_checked units are fine = ?

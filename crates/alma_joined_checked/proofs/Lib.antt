@@ -2,4 +2,5 @@ mod Moving
 mod Forms
 mod KeptLists
 mod Places
+mod Slots
 mod JoinedChecked

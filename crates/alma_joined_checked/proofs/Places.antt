@@ -60,6 +60,22 @@ number_stays : (all : List Kept) (unit : ℕ) (p : Program) (r : ℕ) → 0 < r 
 number_stays all unit p zero low stays = absurd (omega (arith, low))
 number_stays all unit p (suc r) low stays = ap (λ b. if_true b (λ _. first_match (matches all 1 unit (routine_at p (suc r)).name)) (λ _. number_of_kept all 1 unit (suc r))) stays
 
+-- the slots of one module, and those before it, are slots of all; and they are before those of a later one
+pub before_fits : (ps : List Program) (i : ℕ) → i < length ps → before_at ps i + own_slots (unit_at ps i) ≤ sum_by own_slots ps
+before_fits [] i lt = absurd (omega (arith, lt))
+before_fits (p ∷ ps) zero lt = omega (arith, sum_by-cons own_slots p ps)
+before_fits (p ∷ ps) (suc i) lt = omega (arith, sum_by-cons own_slots p ps, before_fits ps i (omega (arith, lt)))
+
+before_less : (ps : List Program) (i j : ℕ) → i < j → j < length ps → before_at ps i + own_slots (unit_at ps i) ≤ before_at ps j
+before_less [] i j less lt = absurd (omega (arith, lt))
+before_less (p ∷ ps) i zero less lt = absurd (omega (arith, less))
+before_less (p ∷ ps) zero (suc j) less lt = omega arith
+before_less (p ∷ ps) (suc i) (suc j) less lt = omega (arith, before_less ps i j (omega (arith, less)) (omega (arith, lt)))
+
+pub first_is : (ps : List Program) → first_of ps ≡ unit_at ps 0
+first_is [] = refl
+first_is (p ∷ ps) = refl
+
 -- whose routine stands behind the body at this place
 pub record Home (units : List Program) (n : ℕ) : Type 0 where
   pub unit : ℕ
@@ -70,6 +86,7 @@ pub record Home (units : List Program) (n : ℕ) : Type 0 where
   pub is_routine : routine_at (joined units) (suc n) ≡ moved_routine units unit own
   pub of_unit : (get_or (kept_in 1 units) n no_kept).unit ≡ suc unit
   pub of_number : (get_or (kept_in 1 units) n no_kept).number ≡ own
+  pub kept : (get_or (kept_in 1 units) n no_kept).routine ≡ routine_at (unit_at units unit) own
 
 module _ (units : List Program) where
   abbrev all : List Kept
@@ -91,6 +108,7 @@ module _ (units : List Program) where
         is_routine = m.moved ∙ λ t. moved_procedure (procedure_moves all (of_unit t) (unit_at units m.index) (slots t)) (record { unit = k.unit; number = k.number; routine = m.is_routine t });
         of_unit = of_unit;
         of_number = refl;
+        kept = m.is_routine;
       }
 
   -- the home of a routine
@@ -134,17 +152,6 @@ module _ (units : List Program) where
       (omega (arith, unit, h.house.of_unit, k.house.of_unit, h.same_unit, k.same_unit), sym h.same_number ∙ sym h.house.of_number ∙ own ∙ k.house.of_number ∙ k.same_number)
 
   -- ---- slots of the bodies
-
-  pub before_fits : (ps : List Program) (i : ℕ) → i < length ps → before_at ps i + own_slots (unit_at ps i) ≤ sum_by own_slots ps
-  before_fits [] i lt = absurd (omega (arith, lt))
-  before_fits (p ∷ ps) zero lt = omega (arith, sum_by-cons own_slots p ps)
-  before_fits (p ∷ ps) (suc i) lt = omega (arith, sum_by-cons own_slots p ps, before_fits ps i (omega (arith, lt)))
-
-  before_less : (ps : List Program) (i j : ℕ) → i < j → j < length ps → before_at ps i + own_slots (unit_at ps i) ≤ before_at ps j
-  before_less [] i j less lt = absurd (omega (arith, lt))
-  before_less (p ∷ ps) i zero less lt = absurd (omega (arith, less))
-  before_less (p ∷ ps) zero (suc j) less lt = omega arith
-  before_less (p ∷ ps) (suc i) (suc j) less lt = omega (arith, before_less ps i j (omega (arith, less)) (omega (arith, lt)))
 
   -- what leaves out a slot of its own module leaves it out in the joined body, and what stands in another module does
   pub body_apart : (i j from cells slot : ℕ) → i < length units → j < length units → from + cells ≤ (routine_at (unit_at units j) 0).slots → 0 < from
@@ -192,10 +199,6 @@ module _ (units : List Program) where
     pub result : (routine_at (joined units) (number units i r)).result ≡ (routine_at (unit_at units i) r).result
     pub level : (routine_at (joined units) (number units i r)).level ≡ (routine_at (unit_at units i) r).level
     pub outer : (routine_at (joined units) (number units i r)).outer ≡ number units i (routine_at (unit_at units i) r).outer
-
-  first_is : (ps : List Program) → first_of ps ≡ unit_at ps 0
-  first_is [] = refl
-  first_is (p ∷ ps) = refl
 
   module _ (are : AreUnits units) where
     pub checked : (i : ℕ) → i < length units → IsChecked (unit_at units i)
@@ -260,6 +263,10 @@ module _ (units : List Program) where
         let none : (routine_at (joined units) 0).params ≡ [] = (head i 0 s).params ∙ c.body_takes_nothing.0 in
         record { exist = omega (arith, h.exist, before_fits units i s.exists, c.body.1); kinds = subst (λ ps. AllByRecursion (λ z. HoldsPlace z.kind → IsOutside (suc slot + before_at units i) cells z.slot) ps) (sym none) tt }
     numbers_own i (suc r) slot cells s position h = subst (λ x. AreNumbers x slot cells) (sym (routine_is i (suc r) s (omega arith))) (record { exist = h.exist; kinds = h.kinds })
+
+    pub numbers_out : (i r slot cells : ℕ) → Stands units i r → 0 < r → AreNumbers (routine_at (unit_at units i) r) slot cells → AreNumbers (routine_at (joined units) (number units i r)) slot cells
+    numbers_out i zero slot cells s low h = absurd (omega (arith, low))
+    numbers_out i (suc r) slot cells s low h = numbers_own i (suc r) slot cells s (λ e. absurd (omega (arith, e))) h
 
     -- ---- facts of all routines
 
