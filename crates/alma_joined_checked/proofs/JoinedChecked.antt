@@ -7,6 +7,7 @@ use Rattle.alma_joined_checked.proofs.KeptLists as kept_lists
 use Rattle.alma_joined_checked.proofs.Forms as forms
 use Rattle.alma_joined_checked.proofs.Places as places
 use Rattle.alma_joined_checked.proofs.Slots as slots
+use Rattle.alma_joined_checked.proofs.Calls as calls
 
 pub joined_is_checked : JoinedIsChecked
 joined_is_checked units are fine = ?

@@ -3,4 +3,6 @@ mod Forms
 mod KeptLists
 mod Places
 mod Slots
+mod Imports
+mod Calls
 mod JoinedChecked
