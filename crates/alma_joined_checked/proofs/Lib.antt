@@ -5,4 +5,5 @@ mod Places
 mod Slots
 mod Imports
 mod Calls
+mod Limits
 mod JoinedChecked

@@ -16,7 +16,7 @@ use Rattle.alma_joined_checked.proofs.Places.{number, own_slot, moves, Stands, m
 
 -- ---- slots
 
-slot_low : (before slot : ℕ) → 0 < slot → 0 < new_slot before slot
+pub slot_low : (before slot : ℕ) → 0 < slot → 0 < new_slot before slot
 slot_low before zero low = absurd (omega (arith, low))
 slot_low before (suc slot) low = omega arith
 
