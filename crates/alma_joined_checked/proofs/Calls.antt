@@ -1,13 +1,12 @@
 -- Calls, in the joined program.
-use Rattle.std.proofs.Common.{◌≡◌, ℕ, zero, suc, ◌+◌, ◌<◌, List, [], ◌∷◌, length, false, refl, sym, ap, ◌∙◌, subst, arith}
-use Rattle.std.specs.Prelude.{None, is_some}
-use Rattle.std.specs.List.{AllByRecursion}
+use Rattle.std.proofs.Common.{◌≡◌, ℕ, ◌<◌, List, [], ◌∷◌, length, sym, ap, ◌∙◌, arith}
+use Rattle.std.specs.Prelude.{None}
 use Rattle.alma_ir.specs.declared.program.Param.{Param}
-use Rattle.alma_ir.specs.Tree.{Stmts, Stmt, Arms, CaseArms, Else, Branches, Loop, ReturnExpr, Test, Tests, Expr, Links, Args, Arg, Desig, Sels, Sel, no_stmts, more_stmts, TestStmt, Assign, CopyCells, If, While, Repeat, ForTo, SomeOf, Case, Either, Forall, Commit, Return, Read, WriteExpr, WriteText, WriteLine, no_arms, more_arms, no_cases, more_cases, no_else, else_part, no_branches, more_branches, a_loop, no_result, some_result, Value, Bind, Unify, SameCells, Seq, And, Or, Not, CallTest, no_tests, more_tests, Const, Load, Chain, Compare, Truth, Known, Chr, CallExpr, no_links, more_links, no_args, more_args, ByValue, ByCells, ByPlace, MixValue, MixPlace, a_desig, no_sels, more_sels, Field, Index}
+use Rattle.alma_ir.specs.Tree.{Args, Arg, Value, Bind, Unify, SameCells, Seq, And, Or, Not, CallTest, no_tests, more_tests, Const, Load, Chain, Compare, Truth, Known, Chr, CallExpr, no_args, more_args, ByValue, ByCells, ByPlace, MixValue, MixPlace}
 use Rattle.alma_ir.specs.Tree.{Program, Routine, routine_at}
 use Rattle.alma_ir.specs.Phrases.{Phrase, StmtPhrase, TestPhrase, ExprPhrase, ArgPhrase, DesigPhrase, SelPhrase, stmts_phrases}
-use Rattle.alma_ir.specs.Checked.{EachPhrase, CalleeExists, ResultAgrees, LinksAgree, CallLeads, ArgFits, ArgsFit, CallFits, outer_at}
-use Rattle.alma_ir.proofs.Each.{each_of_both, each_follows}
+use Rattle.alma_ir.specs.Checked.{EachPhrase, CalleeExists, ResultAgrees, LinksAgree, CallLeads, ArgFits, ArgsFit, CallFits}
+use Rattle.alma_ir.proofs.Each.{each_of_both}
 use Rattle.alma_copy.specs.Moved.{Moves, moved_stmts, moved_arg, moved_args}
 use Rattle.alma_joined.specs.Joined.{kept_in, import_fault, joined, AreUnits}
 use Rattle.alma_joined_checked.proofs.Moving.{moved_phrase}

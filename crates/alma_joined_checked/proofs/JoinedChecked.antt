@@ -1,18 +1,18 @@
 -- The program of joined modules is a checked one.
-use Rattle.std.proofs.Common.{◌≡◌, ◌⊎◌, inl, inr, ℕ, zero, suc, ◌+◌, ◌-◌, ◌<◌, ◌≤◌, List, [], ◌∷◌, length, get_or, refl, sym, ap, ◌∙◌, subst, arith}
+use Rattle.std.proofs.Common.{◌≡◌, ℕ, suc, ◌+◌, ◌<◌, ◌≤◌, List, [], ◌∷◌, length, get_or, refl, sym, ap, ◌∙◌, subst, arith}
 use Rattle.std.specs.Prelude.{sum_by, None, IsNone, is_some}
 use Rattle.std.specs.List.{AllByRecursion}
 use Rattle.std.proofs.lemmas.List.Sums.{sum_by-cons}
-use Rattle.alma_ir.specs.Tree.{Program, Routine, Global, routine_at, no_routine}
-use Rattle.alma_ir.specs.Phrases.{Phrase, stmts_phrases}
+use Rattle.alma_ir.specs.Tree.{Program, routine_at, no_routine}
+use Rattle.alma_ir.specs.Phrases.{stmts_phrases}
 use Rattle.alma_ir.specs.Lines.{stmt_count}
-use Rattle.alma_ir.specs.Checked.{IsChecked, EachRoutine, EachPhrase, IsGlobal, LoopIsApart, loops_of, CalleeExists, ResultAgrees, CallLeads, CallFits, PartsExist, CellsAgree, RangesOrdered, HasStep, HasChoice, ReturnAgrees, ReturnsStay, ParamsFirst, AreLaidOut, param_slots, HasOneCellAs, DeclaredFits, IsNested, HeadRangesOrdered, IsOrdered, RoutineKeepsLimits, HasLines, NamesSpelled, IsName, link_slots, BodyTakesNothing}
+use Rattle.alma_ir.specs.Checked.{IsChecked, EachRoutine, EachPhrase, IsGlobal, loops_of, CalleeExists, ResultAgrees, CallLeads, CallFits, PartsExist, CellsAgree, RangesOrdered, HasStep, HasChoice, ReturnAgrees, ReturnsStay, ParamsFirst, AreLaidOut, param_slots, HasOneCellAs, DeclaredFits, IsNested, HeadRangesOrdered, IsOrdered, RoutineKeepsLimits, HasLines, NamesSpelled, IsName, link_slots}
 use Rattle.alma_ir.proofs.Each.{each_follows}
-use Rattle.alma_joined.specs.Joined.{kept_in, import_fault, join_fault, own_slots, procedure_moves, moved_global, joined_body, joined, first_of, AreUnits, JoinedIsChecked}
-use Rattle.alma_joined_checked.proofs.Moving.{moved_phrase, stmts_moved}
+use Rattle.alma_joined.specs.Joined.{kept_in, join_fault, own_slots, procedure_moves, moved_global, joined_body, joined, AreUnits, JoinedIsChecked}
+use Rattle.alma_joined_checked.proofs.Moving.{stmts_moved}
 use Rattle.alma_joined_checked.proofs.Forms.{parts_moved, cells_moved, ranges_moved, steps_moved, choices_moved, returns_moved, stays_moved, count_moved}
 use Rattle.alma_joined_checked.proofs.KeptLists.{each_at, unit_at, before_at}
-use Rattle.alma_joined_checked.proofs.Places.{number, moves, Stands, moved_routine, SameHead, number_low, number_high, first_is, checked, body_stands, head, outer_stands, numbers_own, each_global, each_routine, each_phrase}
+use Rattle.alma_joined_checked.proofs.Places.{number, moves, Stands, SameHead, number_low, number_high, first_is, checked, body_stands, head, outer_stands, numbers_own, each_global, each_routine, each_phrase}
 use Rattle.alma_joined_checked.proofs.Slots.{slot_low, roots_checked, loops_checked}
 use Rattle.alma_joined_checked.proofs.Imports.{no_faults}
 use Rattle.alma_joined_checked.proofs.Calls.{Calls, calls_checked}
@@ -83,14 +83,14 @@ module _ (units : List Program) (are : AreUnits units) where
         above = λ low. absurd (omega (arith, low));
         few = omega (arith, no_level);
       }) (λ i r s low.
-        let k = (checked units are i s.exists).nested r s.high in
-        let o : Stands units i (routine_at (u i) r).outer = outer_stands units are i r s in
-        record {
-          body = λ e. absurd (omega (arith, e, number_low units i r s low));
-          exists = number_high units i (routine_at (u i) r).outer o;
-          above = λ l. k.above low ∙ ap suc (sym (head units are i (routine_at (u i) r).outer o).level);
-          few = k.few;
-        })
+      let k = (checked units are i s.exists).nested r s.high in
+      let o : Stands units i (routine_at (u i) r).outer = outer_stands units are i r s in
+      record {
+        body = λ e. absurd (omega (arith, e, number_low units i r s low));
+        exists = number_high units i (routine_at (u i) r).outer o;
+        above = λ l. k.above low ∙ ap suc (sym (head units are i (routine_at (u i) r).outer o).level);
+        few = k.few;
+      })
 
   head_ranges_checked : EachRoutine q (λ r routine. HeadRangesOrdered routine)
   head_ranges_checked =
@@ -108,9 +108,9 @@ module _ (units : List Program) (are : AreUnits units) where
   lines_checked =
       each_routine units are (λ r routine. HasLines routine)
       (body_has_lines units are.some (each_follows IsChecked (λ p. HasLines (routine_at p 0)) (λ p h. h.lines 0 h.body.0) units are.checked)) (λ i r s low.
-        let k = (checked units are i s.exists).lines r s.high in
-        let m = procedure_moves (kept_in 1 units) (suc i) (u i) (before_at units i) in
-        record { line = k.line; count = k.count ∙ sym (ap stmt_count (stmts_moved m (routine_at (u i) r).body) ∙ count_moved m (stmts_phrases (routine_at (u i) r).body)); lines = k.lines })
+      let k = (checked units are i s.exists).lines r s.high in
+      let m = procedure_moves (kept_in 1 units) (suc i) (u i) (before_at units i) in
+      record { line = k.line; count = k.count ∙ sym (ap stmt_count (stmts_moved m (routine_at (u i) r).body) ∙ count_moved m (stmts_phrases (routine_at (u i) r).body)); lines = k.lines })
 
   -- ---- conditions that speak of a phrase alone
 

@@ -1,5 +1,5 @@
 -- Where the routines of modules stand in the joined program, and what their heads say there.
-use Rattle.std.proofs.Common.{◌≡◌, ◌⊎◌, inl, inr, ℕ, zero, suc, ◌+◌, ◌-◌, ◌<◌, ◌≤◌, true, false, List, [], ◌∷◌, ◌++◌, length, get_or, refl, sym, ap, ◌∙◌, subst, arith, eq-zero-or-pos}
+use Rattle.std.proofs.Common.{◌≡◌, inl, inr, ℕ, zero, suc, ◌+◌, ◌<◌, ◌≤◌, true, false, List, [], ◌∷◌, length, get_or, refl, sym, ap, ◌∙◌, subst, arith, eq-zero-or-pos}
 use Rattle.std.specs.Prelude.{nat_eq, ◌&&◌, not, sum_by, Option, Some, None, IsNone}
 use Rattle.std.specs.List.{AllByRecursion, list_any}
 use Rattle.std.proofs.lemmas.Bool.{true≢false, eq-eqb, and_right, not_from_true, cases_lt, cases_eq}
@@ -7,11 +7,10 @@ use Rattle.std.proofs.lemmas.List.Folds.{list_any_at}
 use Rattle.std.proofs.lemmas.List.Sums.{sum_by-cons}
 use Rattle.alma_base.specs.Choice.{if_true}
 use Rattle.alma_base.specs.declared.number.Range.{Range}
-use Rattle.alma_ir.specs.Tree.{Stmts, Program, Routine, Global, routine_at, no_routine, no_stmts, more_stmts}
+use Rattle.alma_ir.specs.Tree.{Program, Routine, Global, routine_at, no_routine}
 use Rattle.alma_ir.specs.Phrases.{Phrase, stmts_phrases}
 use Rattle.alma_ir.specs.Checked.{IsChecked, EachRoutine, EachPhrase, AreNumbers, IsOutside, HoldsPlace, LeavesPosition, LeadOut, outer_at, param_slots}
 use Rattle.alma_ir.proofs.Each.{each_of_append, each_follows}
-use Rattle.alma_rules.specs.Parts.{append_stmts}
 use Rattle.alma_copy.specs.Moved.{Moves, moved_stmts}
 use Rattle.alma_joined.specs.Joined.{Kept, is_empty, is_bare, kept_in, number_of_kept, matches, first_match, new_number, new_slot, own_slots, body_moves, procedure_moves, moved_procedure, moved_global, joined_globals, joined_stmts, joined_procedures, first_of, joined_body, joined, AreUnits}
 use Rattle.alma_joined_checked.proofs.Moving.{moved_phrase, stmts_moved, append_phrases}
@@ -249,8 +248,8 @@ module _ (units : List Program) where
         let p : Program = unit_at units i in
         let c : IsChecked p = checked i s.exists in elim (eq-zero-or-pos (outer_at p r links)) [
           | inl e ↦
-            let at_body : (routine_at p (outer_at p r links)).level ≡ 0 = ap (λ n. (routine_at p n).level) e ∙ ((c.nested 0 c.body.0).body refl).0 in
-            absurd (omega (arith, at_body, lead.1, level_out p c links r s.high (omega (arith, lead.1))))
+              let at_body : (routine_at p (outer_at p r links)).level ≡ 0 = ap (λ n. (routine_at p n).level) e ∙ ((c.nested 0 c.body.0).body refl).0 in
+              absurd (omega (arith, at_body, lead.1, level_out p c links r s.high (omega (arith, lead.1))))
           | inr some ↦ some
         ]
 
@@ -291,10 +290,10 @@ module _ (units : List Program) where
         → ((i : ℕ) → i < length units → EachPhrase (unit_at units i) (P i)) → EachPhrase (joined units) Q
     each_phrase P Q move h zero lt =
         body_each (Q 0 (joined_body units)) all units 1 0 (λ i u b few e1 e2.
-          let unit : suc i ≡ u = omega (arith, e1) in
-          let before : before_at units i ≡ b = omega (arith, e2) in
-          subst (λ n. AllByRecursion (Q 0 (joined_body units)) (stmts_phrases (moved_stmts (body_moves all n (unit_at units i) b) (routine_at (unit_at units i) 0).body))) unit
-          (subst (λ n. AllByRecursion (Q 0 (joined_body units)) (stmts_phrases (moved_stmts (body_moves all (suc i) (unit_at units i) n) (routine_at (unit_at units i) 0).body))) before (phrases_at P Q move h i 0 (body_stands i few))))
+        let unit : suc i ≡ u = omega (arith, e1) in
+        let before : before_at units i ≡ b = omega (arith, e2) in
+        subst (λ n. AllByRecursion (Q 0 (joined_body units)) (stmts_phrases (moved_stmts (body_moves all n (unit_at units i) b) (routine_at (unit_at units i) 0).body))) unit
+        (subst (λ n. AllByRecursion (Q 0 (joined_body units)) (stmts_phrases (moved_stmts (body_moves all (suc i) (unit_at units i) n) (routine_at (unit_at units i) 0).body))) before (phrases_at P Q move h i 0 (body_stands i few))))
     each_phrase P Q move h (suc n) lt =
         let o : Home units n = home n (omega (arith, lt, count_is)) in
         subst (λ k. AllByRecursion (Q k (routine_at (joined units) k)) (stmts_phrases (routine_at (joined units) k).body)) o.place

@@ -1,18 +1,18 @@
 -- Roots, and the hidden slots of loops, in the joined program.
-use Rattle.std.proofs.Common.{◌≡◌, ◌⊎◌, inl, inr, ℕ, zero, suc, ◌+◌, ◌<◌, ◌≤◌, List, [], ◌∷◌, ◌++◌, length, map, refl, sym, ap, ◌∙◌, subst, arith}
+use Rattle.std.proofs.Common.{◌≡◌, inl, inr, ℕ, zero, suc, ◌<◌, List, [], length, refl, sym, ap, ◌∙◌, subst, arith}
 use Rattle.std.specs.List.{AllByRecursion}
 use Rattle.std.proofs.lemmas.Bool.{cases_eq}
 use Rattle.alma_ir.specs.declared.phrase.Root.TheVariants as root
-use Rattle.alma_ir.specs.Tree.{Stmts, Loop, Program, Routine, Global, routine_at, a_loop, a_desig}
+use Rattle.alma_ir.specs.Tree.{Loop, Program, Routine, routine_at, a_loop, a_desig}
 use Rattle.alma_ir.specs.Phrases.{Phrase, StmtPhrase, TestPhrase, ExprPhrase, ArgPhrase, DesigPhrase, SelPhrase, stmts_phrases, loop_phrases}
-use Rattle.alma_ir.specs.Checked.{IsChecked, EachPhrase, AreNumbers, IsOutside, HoldPlace, LeavesPosition, LeadOut, outer_at, RootExists, RootLeaves, IsHiddenSlot, LoopLeaves, LoopIsApart, loops_of, IsGlobal, param_slots}
+use Rattle.alma_ir.specs.Checked.{EachPhrase, AreNumbers, IsOutside, HoldPlace, LeavesPosition, LeadOut, outer_at, RootExists, RootLeaves, IsHiddenSlot, LoopLeaves, LoopIsApart, loops_of, IsGlobal, param_slots}
 use Rattle.alma_ir.proofs.Each.{each_of_both, each_follows}
-use Rattle.alma_copy.specs.Moved.{Moves, moved_stmts, moved_loop}
+use Rattle.alma_copy.specs.Moved.{moved_stmts, moved_loop}
 use Rattle.alma_joined.specs.Joined.{new_slot, joined, AreUnits}
 use Rattle.alma_joined_checked.proofs.Moving.{moved_phrase, loop_moved}
 use Rattle.alma_joined_checked.proofs.Forms.{each_of_map, loops_moved}
 use Rattle.alma_joined_checked.proofs.KeptLists.{unit_at, before_at}
-use Rattle.alma_joined_checked.proofs.Places.{number, own_slot, moves, Stands, moved_routine, routine_is, number_low, same_place, before_fits, body_apart, each_global, checked, body_stands, head, outer_moves, out_low, numbers_own, numbers_out, each_phrase}
+use Rattle.alma_joined_checked.proofs.Places.{number, own_slot, moves, Stands, routine_is, number_low, same_place, before_fits, body_apart, each_global, checked, body_stands, head, outer_moves, out_low, numbers_own, numbers_out, each_phrase}
 
 -- ---- slots
 
@@ -87,8 +87,8 @@ module _ (units : List Program) (are : AreUnits units) where
       let exist : AllByRecursion (RootExists (u j) s (routine_at (u j) s)) xs = (checked units are j lt).roots s few in
       each_of_both (RootExists (u j) s (routine_at (u j) s)) (λ x. j ≡ i → RootLeaves (u i) s r slot x) xs exist (elim (cases_eq j i) [
         | inl e ↦
-          let here : EachPhrase (u j) (λ holder routine x. RootLeaves (u i) holder r slot x) = subst (λ n. EachPhrase (u n) (λ holder routine x. RootLeaves (u i) holder r slot x)) (sym e) k.roots in
-          each_follows (λ x. RootLeaves (u i) s r slot x) (λ x. j ≡ i → RootLeaves (u i) s r slot x) (λ x h same. h) xs (here s few)
+            let here : EachPhrase (u j) (λ holder routine x. RootLeaves (u i) holder r slot x) = subst (λ n. EachPhrase (u n) (λ holder routine x. RootLeaves (u i) holder r slot x)) (sym e) k.roots in
+            each_follows (λ x. RootLeaves (u i) s r slot x) (λ x. j ≡ i → RootLeaves (u i) s r slot x) (λ x h same. h) xs (here s few)
         | inr ne ↦ each_follows (RootExists (u j) s (routine_at (u j) s)) (λ x. j ≡ i → RootLeaves (u i) s r slot x) (λ x h same. absurd (ne same)) xs exist
       ])
 
