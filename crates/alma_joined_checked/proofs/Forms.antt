@@ -42,7 +42,8 @@ module _ (m : Moves) where
   parts_stay : (x : Sels) (cells : ℕ) → ArePartsOf x cells → ArePartsOf (moved_sels m x) cells
   unfolding moved_stmts
   parts_stay no_sels cells h = tt
-  parts_stay (more_sels x rest) cells h = (part_stays x cells h.0, subst (ArePartsOf (moved_sels m rest)) (sym (sel_stays x)) (parts_stay rest (sel_cells x) h.1))
+  parts_stay (more_sels x rest) cells h =
+      (part_stays x cells h.0, subst (ArePartsOf (moved_sels m rest)) (sym (sel_stays x)) (parts_stay rest (sel_cells x) h.1))
 
   pub parts_moved : (x : Phrase) → PartsExist x → PartsExist (moved_phrase m x)
   unfolding moved_stmts
@@ -186,7 +187,8 @@ module _ (m : Moves) where
   step_moved (a_loop d range counter limit from to by body) h = h
 
   pub steps_moved : (x : Phrase) → AllByRecursion HasStep (loops_of x) → AllByRecursion HasStep (loops_of (moved_phrase m x))
-  steps_moved x h = subst (AllByRecursion HasStep) (sym (loops_moved x)) (each_of_map HasStep (moved_loop m) (loops_of x) (each_follows HasStep (λ l. HasStep (moved_loop m l)) step_moved (loops_of x) h))
+  steps_moved x h = subst (AllByRecursion HasStep) (sym (loops_moved x))
+      (each_of_map HasStep (moved_loop m) (loops_of x) (each_follows HasStep (λ l. HasStep (moved_loop m l)) step_moved (loops_of x) h))
 
   -- ---- choices and RETURN
 
@@ -283,7 +285,8 @@ module _ (m : Moves) where
   none_moved : (x : Stmts) → HaveNoReturn x → HaveNoReturn (moved_stmts m x)
   none_moved x h =
       subst (AllByRecursion IsNoReturn) (sym (stmts_moved m x))
-      (each_of_map IsNoReturn (moved_phrase m) (stmts_phrases x) (each_follows IsNoReturn (λ y. IsNoReturn (moved_phrase m y)) no_return_moved (stmts_phrases x) h))
+      (each_of_map IsNoReturn (moved_phrase m) (stmts_phrases x)
+      (each_follows IsNoReturn (λ y. IsNoReturn (moved_phrase m y)) no_return_moved (stmts_phrases x) h))
 
   pub stays_moved : (x : Phrase) → ReturnsStay x → ReturnsStay (moved_phrase m x)
   unfolding moved_stmts
@@ -352,7 +355,13 @@ module _ (m : Moves) where
 
   pub texts_moved : (xs : List Phrase) → sum_by text_bytes (map (moved_phrase m) xs) ≡ sum_by text_bytes xs
   texts_moved [] = refl
-  texts_moved (x ∷ xs) = omega (arith, sum_by-cons text_bytes (moved_phrase m x) (map (moved_phrase m) xs), sum_by-cons text_bytes x xs, text_moved x, texts_moved xs)
+  texts_moved (x ∷ xs) = omega (
+    arith,
+    sum_by-cons text_bytes (moved_phrase m x) (map (moved_phrase m) xs),
+    sum_by-cons text_bytes x xs,
+    text_moved x,
+    texts_moved xs,
+  )
 
   pub count_moved : (xs : List Phrase) → stmt_count (map (moved_phrase m) xs) ≡ stmt_count xs
   count_moved [] = refl

@@ -26,37 +26,50 @@ none_next None next e = (refl, e)
 none_next (Some f) next e = absurd (some_none f e)
 
 -- the imports have none, and the sizes have none
-pub no_faults : (units : List Program) → join_fault units ≡ None → (import_fault (kept_in 1 units) 1 units ≡ None) × (size_fault no_totals 1 units ≡ None)
+pub no_faults : (units : List Program) → join_fault units ≡ None
+    → (import_fault (kept_in 1 units) 1 units ≡ None) × (size_fault no_totals 1 units ≡ None)
 no_faults units e = none_next (import_fault (kept_in 1 units) 1 units) (λ _. size_fault no_totals 1 units) e
 
-faults_of_unit : (all : List Kept) (ps : List Program) (unit i v : ℕ) → import_fault all unit ps ≡ None → v ≡ unit + i → i < length ps → fault_from all v (unit_at ps i) 1 (drop 1 (unit_at ps i).routines) ≡ None
+faults_of_unit : (all : List Kept) (ps : List Program) (unit i v : ℕ) → import_fault all unit ps ≡ None → v ≡ unit + i → i < length ps
+    → fault_from all v (unit_at ps i) 1 (drop 1 (unit_at ps i).routines) ≡ None
 faults_of_unit all [] unit i v e at lt = absurd (omega (arith, lt))
 faults_of_unit all (p ∷ ps) unit zero v e at lt =
     let same : unit ≡ v = omega (arith, at) in
-    subst (λ n. fault_from all n p 1 (drop 1 p.routines) ≡ None) same (none_next (fault_from all unit p 1 (drop 1 p.routines)) (λ _. import_fault all (suc unit) ps) e).0
+    subst (λ n. fault_from all n p 1 (drop 1 p.routines) ≡ None) same
+    (none_next (fault_from all unit p 1 (drop 1 p.routines)) (λ _. import_fault all (suc unit) ps) e).0
 faults_of_unit all (p ∷ ps) unit (suc i) v e at lt =
-    faults_of_unit all ps (suc unit) i v (none_next (fault_from all unit p 1 (drop 1 p.routines)) (λ _. import_fault all (suc unit) ps) e).1 (omega (arith, at)) (omega (arith, lt))
+    faults_of_unit all ps (suc unit) i v (none_next (fault_from all unit p 1 (drop 1 p.routines)) (λ _. import_fault all (suc unit) ps) e).1
+    (omega (arith, at)) (omega (arith, lt))
 
-fault_of_one : (all : List Kept) (unit : ℕ) (p : Program) (r : ℕ) (xs : List Routine) (j n : ℕ) → fault_from all unit p r xs ≡ None → n ≡ r + j → j < length xs → is_bare p n (get_or xs j no_routine) ≡ true
+fault_of_one : (all : List Kept) (unit : ℕ) (p : Program) (r : ℕ) (xs : List Routine) (j n : ℕ) → fault_from all unit p r xs ≡ None
+    → n ≡ r + j → j < length xs → is_bare p n (get_or xs j no_routine) ≡ true
     → match_fault unit n (get_or xs j no_routine) (matches all 1 unit (get_or xs j no_routine).name) ≡ None
 fault_of_one all unit p r [] j n e at lt bare = absurd (omega (arith, lt))
 fault_of_one all unit p r (x ∷ xs) zero n e at lt bare =
     let same : n ≡ r = omega (arith, at) in
-    let first = (none_next (if_true (is_bare p r x) (λ _. match_fault unit r x (matches all 1 unit x.name)) (λ _. None)) (λ _. fault_from all unit p (suc r) xs) e).0 in
+    let first = (none_next (if_true (is_bare p r x) (λ _. match_fault unit r x (matches all 1 unit x.name)) (λ _. None))
+    (λ _. fault_from all unit p (suc r) xs) e).0 in
     let here : is_bare p r x ≡ true = subst (λ k. is_bare p k x ≡ true) same bare in
-    subst (λ k. match_fault unit k x (matches all 1 unit x.name) ≡ None) (sym same) (subst (λ b. if_true b (λ _. match_fault unit r x (matches all 1 unit x.name)) (λ _. None) ≡ None) here first)
+    subst (λ k. match_fault unit k x (matches all 1 unit x.name) ≡ None) (sym same)
+    (subst (λ b. if_true b (λ _. match_fault unit r x (matches all 1 unit x.name)) (λ _. None) ≡ None) here first)
 fault_of_one all unit p r (x ∷ xs) (suc j) n e at lt bare =
-    fault_of_one all unit p (suc r) xs j n (none_next (if_true (is_bare p r x) (λ _. match_fault unit r x (matches all 1 unit x.name)) (λ _. None)) (λ _. fault_from all unit p (suc r) xs) e).1 (omega (arith, at)) (omega (arith, lt)) bare
+    fault_of_one all unit p (suc r) xs j n
+    (none_next (if_true (is_bare p r x) (λ _. match_fault unit r x (matches all 1 unit x.name)) (λ _. None))
+    (λ _. fault_from all unit p (suc r) xs) e).1 (omega (arith, at)) (omega (arith, lt)) bare
 
-fault_of_import : (units : List Program) → import_fault (kept_in 1 units) 1 units ≡ None → (i c : ℕ) → i < length units → 0 < c → c < length (unit_at units i).routines
+fault_of_import : (units : List Program) → import_fault (kept_in 1 units) 1 units ≡ None → (i c : ℕ) → i < length units → 0 < c
+    → c < length (unit_at units i).routines
     → is_bare (unit_at units i) c (routine_at (unit_at units i) c) ≡ true
-    → match_fault (suc i) c (routine_at (unit_at units i) c) (matches (kept_in 1 units) 1 (suc i) (routine_at (unit_at units i) c).name) ≡ None
+    → match_fault (suc i) c (routine_at (unit_at units i) c)
+    (matches (kept_in 1 units) 1 (suc i) (routine_at (unit_at units i) c).name) ≡ None
 fault_of_import units e i zero lt low high bare = absurd (omega (arith, low))
 fault_of_import units e i (suc j) lt low high bare =
     let p : Program = unit_at units i in
-    let of_unit : fault_from (kept_in 1 units) (suc i) p 1 (drop 1 p.routines) ≡ None = faults_of_unit (kept_in 1 units) units 1 i (suc i) e (omega arith) lt in
+    let of_unit : fault_from (kept_in 1 units) (suc i) p 1 (drop 1 p.routines) ≡ None = faults_of_unit (kept_in 1 units) units 1 i (suc i) e
+    (omega arith) lt in
     subst (λ x. match_fault (suc i) (suc j) x (matches (kept_in 1 units) 1 (suc i) x.name) ≡ None) (behind_first p.routines j)
-    (fault_of_one (kept_in 1 units) (suc i) p 1 (drop 1 p.routines) j (suc j) of_unit (omega arith) (fewer_behind p.routines j high) (subst (λ x. is_bare p (suc j) x ≡ true) (sym (behind_first p.routines j)) bare))
+    (fault_of_one (kept_in 1 units) (suc i) p 1 (drop 1 p.routines) j (suc j) of_unit (omega arith) (fewer_behind p.routines j high)
+    (subst (λ x. is_bare p (suc j) x ≡ true) (sym (behind_first p.routines j)) bare))
 
 -- ---- matches
 
@@ -70,7 +83,8 @@ one_match : (unit r : ℕ) (routine : Routine) (ms : List (ℕ × Routine)) → 
 one_match unit r routine [] e = absurd (some_none (Missing unit r) e)
 one_match unit r routine (m ∷ []) e = elim (cases_Bool (same_head m.1 routine)) [
   | inl same ↦ record { one = m; only = refl; same = same }
-  | inr differ ↦ absurd (some_none (HeadDiffers unit r) (subst (λ b. if_true b (λ _. None) (λ _. Some (HeadDiffers unit r)) ≡ None) differ e))
+  | inr differ ↦ absurd (some_none (HeadDiffers unit r)
+      (subst (λ b. if_true b (λ _. None) (λ _. Some (HeadDiffers unit r)) ≡ None) differ e))
 ]
 one_match unit r routine (m ∷ (m2 ∷ rest)) e = absurd (some_none (Twice unit r) e)
 
@@ -86,10 +100,29 @@ each_match : (ks : List Kept) (at unit : ℕ) (name : List ℕ) → AllByRecursi
 each_match [] at unit name = tt
 each_match (k ∷ ks) at unit name =
     let rest : AllByRecursion (IsMatch (k ∷ ks) at) (matches ks (suc at) unit name) =
-    each_follows (IsMatch ks (suc at)) (IsMatch (k ∷ ks) at) (λ m h. record { place = suc h.place; few = omega (arith, h.few); is_number = omega (arith, h.is_number); is_routine = h.is_routine; level = h.level }) (matches ks (suc at) unit name)
+    each_follows (IsMatch ks (suc at)) (IsMatch (k ∷ ks) at)
+    (λ m h. record {
+      place = suc h.place;
+      few = omega (arith, h.few);
+      is_number = omega
+          (arith, h.is_number);
+      is_routine = h.is_routine;
+      level = h.level;
+    }) (matches ks (suc at) unit name)
     (each_match ks (suc at) unit name) in
-    by_test (AllByRecursion (IsMatch (k ∷ ks) at)) (nat_eq k.routine.level 1 && (not (nat_eq k.unit unit) && same_name k.routine.name name)) (λ _. (at, k.routine) ∷ matches ks (suc at) unit name) (λ _. matches ks (suc at) unit name)
-    (λ t. (record { place = 0; few = omega arith; is_number = omega arith; is_routine = refl; level = eqb-true k.routine.level 1 (and_parts _ _ t).0 }, rest)) (λ t. rest)
+    by_test (AllByRecursion (IsMatch (k ∷ ks) at)) (nat_eq k.routine.level 1 && (not (nat_eq k.unit unit) && same_name k.routine.name name))
+    (λ _. (at, k.routine) ∷ matches ks (suc at) unit name) (λ _. matches ks (suc at) unit name)
+    (λ t. (
+      record {
+        place = 0;
+        few = omega arith;
+        is_number = omega arith;
+        is_routine = refl;
+        level = eqb-true k.routine.level 1
+            (and_parts _ _ t).0;
+      },
+      rest,
+    )) (λ t. rest)
 
 -- ---- heads
 
@@ -167,30 +200,39 @@ module _ (units : List Program) (are : AreUnits units) (fine : import_fault (kep
         result = ap is_some h.result;
         level = h.level;
         outer = h.outer;
-        params = subst (Alike (routine_at (unit_at units i) c).params) (sym h.params) (alike_itself (routine_at (unit_at units i) c).params);
+        params = subst (Alike (routine_at (unit_at units i) c).params) (sym h.params)
+            (alike_itself (routine_at (unit_at units i) c).params);
       }
 
   -- the number of an import is that of its match
-  number_of_import : (i c : ℕ) (one : ℕ × Routine) → 0 < c → is_bare (unit_at units i) c (routine_at (unit_at units i) c) ≡ true → matches (kept_in 1 units) 1 (suc i) (routine_at (unit_at units i) c).name ≡ one ∷ [] → number units i c ≡ one.0
+  number_of_import : (i c : ℕ) (one : ℕ × Routine) → 0 < c → is_bare (unit_at units i) c (routine_at (unit_at units i) c) ≡ true
+      → matches (kept_in 1 units) 1 (suc i) (routine_at (unit_at units i) c).name ≡ one ∷ [] → number units i c ≡ one.0
   number_of_import i zero one low bare only = absurd (omega (arith, low))
   number_of_import i (suc c) one low bare only =
-      ap (λ b. if_true b (λ _. first_match (matches (kept_in 1 units) 1 (suc i) (routine_at (unit_at units i) (suc c)).name)) (λ _. number_of_kept (kept_in 1 units) 1 (suc i) (suc c))) bare ∙ ap first_match only
+      ap (λ b. if_true b (λ _. first_match (matches (kept_in 1 units) 1 (suc i) (routine_at (unit_at units i) (suc c)).name))
+      (λ _. number_of_kept (kept_in 1 units) 1 (suc i) (suc c))) bare ∙ ap first_match only
 
-  called_import : (i c : ℕ) → i < length units → 0 < c → c < length (unit_at units i).routines → is_bare (unit_at units i) c (routine_at (unit_at units i) c) ≡ true → Called units i c
+  called_import : (i c : ℕ) → i < length units → 0 < c → c < length (unit_at units i).routines
+      → is_bare (unit_at units i) c (routine_at (unit_at units i) c) ≡ true → Called units i c
   called_import i c lt low high bare =
       let x : Routine = routine_at (unit_at units i) c in
       let all : List Kept = kept_in 1 units in
-      let m : OneMatch x (matches all 1 (suc i) x.name) = one_match (suc i) c x (matches all 1 (suc i) x.name) (fault_of_import units fine i c lt low high bare) in
+      let m : OneMatch x (matches all 1 (suc i) x.name) = one_match (suc i) c x (matches all 1 (suc i) x.name)
+      (fault_of_import units fine i c lt low high bare) in
       let is : IsMatch all 1 m.one = (subst (AllByRecursion (IsMatch all 1)) m.only (each_match all 1 (suc i) x.name)).0 in
       let at : number units i c ≡ suc is.place = number_of_import i c m.one low bare m.only ∙ is.is_number ∙ omega arith in
       let h : Home units is.place = home units is.place is.few in
-      let standing : routine_at (joined units) (number units i c) ≡ moved_routine units h.unit h.own = ap (routine_at (joined units)) at ∙ h.is_routine in
+      let standing : routine_at (joined units) (number units i c) ≡ moved_routine units h.unit h.own = ap (routine_at (joined units)) at
+      ∙ h.is_routine in
       let y : Routine = routine_at (unit_at units h.unit) h.own in
       let matched : m.one.1 ≡ y = is.is_routine ∙ h.kept in
       let same : same_head y x ≡ true = subst (λ z. same_head z x ≡ true) matched m.same in
       let parts = and_parts (same_params y.params x.params) (same_result y.result x.result) same in
       let one : y.level ≡ 1 = ap (λ z. z.level) (sym h.kept) ∙ is.level in
-      let bare_one : x.level ≡ 1 = eqb-true x.level 1 (and_parts (nat_eq x.level 1) (is_empty x.body && (nat_eq x.slots (sum_by param_slots x.params) && not (list_any (λ z. nat_eq z.outer c) (unit_at units i).routines))) bare).0 in
+      let bare_one : x.level ≡ 1 = eqb-true x.level 1
+      (and_parts (nat_eq x.level 1)
+      (is_empty x.body && (nat_eq x.slots (sum_by param_slots x.params) && not
+      (list_any (λ z. nat_eq z.outer c) (unit_at units i).routines))) bare).0 in
       let outer : y.outer ≡ 0 = level_one (unit_at units h.unit) (checked units are h.unit h.stands.exists) h.own h.low h.stands.high one in
       let bare_outer : x.outer ≡ 0 = level_one (unit_at units i) (checked units are i lt) c low high bare_one in
       record {

@@ -27,11 +27,23 @@ all_from P d (x ∷ xs) h = (h 0 (omega arith), all_from P d xs (λ i lt. h (suc
 declared_fit : (ps : List Program) → AllByRecursion IsChecked ps → sum_by (λ p. (routine_at p 0).declared) ps ≤ sum_by own_slots ps
 declared_fit [] h = omega arith
 declared_fit (p ∷ ps) h =
-    omega (arith, (h.0.declared 0 h.0.body.0).body refl, sum_by-cons (λ x. (routine_at x 0).declared) p ps, sum_by-cons own_slots p ps, declared_fit ps h.1)
+    omega (
+      arith,
+      (h.0.declared 0 h.0.body.0).body refl,
+      sum_by-cons (λ x. (routine_at x 0).declared) p ps,
+      sum_by-cons own_slots p ps,
+      declared_fit ps h.1,
+    )
 
 slots_fit : (ps : List Program) → AllByRecursion IsChecked ps → sum_by own_slots ps + length ps ≤ sum_by (λ p. (routine_at p 0).slots) ps
 slots_fit [] h = omega arith
-slots_fit (p ∷ ps) h = omega (arith, h.0.body.1, sum_by-cons (λ x. (routine_at x 0).slots) p ps, sum_by-cons own_slots p ps, slots_fit ps h.1)
+slots_fit (p ∷ ps) h = omega (
+  arith,
+  h.0.body.1,
+  sum_by-cons (λ x. (routine_at x 0).slots) p ps,
+  sum_by-cons own_slots p ps,
+  slots_fit ps h.1,
+)
 
 module _ (units : List Program) (are : AreUnits units) where
   abbrev u : ℕ → Program
@@ -68,12 +80,19 @@ module _ (units : List Program) (are : AreUnits units) where
         laid_out = subst (λ ps. AreLaidOut 0 ps) (sym no_params) tt;
         fit = subst (λ ps. sum_by param_slots ps ≤ (joined_body units).slots) (sym no_params) (omega arith);
         cells = subst (λ ps. AllByRecursion (λ z. HasOneCellAs z.kind z.cells) ps) (sym no_params) tt;
-      }) (λ i r s low. let k = (checked units are i s.exists).params r s.high in record { laid_out = k.laid_out; fit = k.fit; cells = k.cells })
+      }) (λ i r s low.
+      let k = (checked units are i s.exists).params r s.high in
+      record { laid_out = k.laid_out; fit = k.fit; cells = k.cells })
 
   declared_checked : EachRoutine q DeclaredFits
   declared_checked =
-      each_routine units are DeclaredFits (record { within = omega (arith, declared_fit units are.checked); body = λ e. omega (arith, declared_fit units are.checked) })
-      (λ i r s low. record { within = ((checked units are i s.exists).declared r s.high).within; body = λ e. absurd (omega (arith, e, number_low units i r s low)) })
+      each_routine units are DeclaredFits
+      (record { within = omega (arith, declared_fit units are.checked); body = λ e. omega (arith, declared_fit units are.checked) })
+      (λ i r s low. record {
+        within = ((checked units are i s.exists).declared r s.high).within;
+        body = λ e. absurd
+            (omega (arith, e, number_low units i r s low));
+      })
 
   nested_checked : EachRoutine q (IsNested q)
   nested_checked =
@@ -102,41 +121,60 @@ module _ (units : List Program) (are : AreUnits units) where
   globals_checked : AllByRecursion (IsGlobal q) q.globals
   globals_checked =
       each_global units (IsGlobal q) (λ i lt. each_follows (IsGlobal (u i)) (λ g. IsGlobal q (moved_global (before_at units i) g))
-      (λ g k. record { slots = numbers_own units are i 0 g.slot g.cells (body_stands units are i lt) (λ e. k.position) k.slots; position = slot_low (before_at units i) g.slot k.position }) (u i).globals (checked units are i lt).globals)
+      (λ g k. record {
+        slots = numbers_own units are i 0 g.slot g.cells (body_stands units are i lt)
+            (λ e. k.position) k.slots;
+        position = slot_low (before_at units i) g.slot k.position;
+      }) (u i).globals
+      (checked units are i lt).globals)
 
   lines_checked : EachRoutine q (λ r routine. HasLines routine)
   lines_checked =
       each_routine units are (λ r routine. HasLines routine)
-      (body_has_lines units are.some (each_follows IsChecked (λ p. HasLines (routine_at p 0)) (λ p h. h.lines 0 h.body.0) units are.checked)) (λ i r s low.
+      (body_has_lines units are.some
+      (each_follows IsChecked (λ p. HasLines (routine_at p 0)) (λ p h. h.lines 0 h.body.0) units are.checked)) (λ i r s low.
       let k = (checked units are i s.exists).lines r s.high in
       let m = procedure_moves (kept_in 1 units) (suc i) (u i) (before_at units i) in
-      record { line = k.line; count = k.count ∙ sym (ap stmt_count (stmts_moved m (routine_at (u i) r).body) ∙ count_moved m (stmts_phrases (routine_at (u i) r).body)); lines = k.lines })
+      record {
+        line = k.line;
+        count = k.count
+            ∙ sym (ap stmt_count (stmts_moved m (routine_at (u i) r).body)
+            ∙ count_moved m (stmts_phrases (routine_at (u i) r).body));
+        lines = k.lines;
+      })
 
   -- ---- conditions that speak of a phrase alone
 
   parts_checked : EachPhrase q (λ r routine x. PartsExist x)
-  parts_checked = each_phrase units are (λ i r routine x. PartsExist x) (λ r routine x. PartsExist x) (λ i r s x h. parts_moved (moves units i r) x h) (λ i lt. (checked units are i lt).parts)
+  parts_checked = each_phrase units are (λ i r routine x. PartsExist x) (λ r routine x. PartsExist x)
+      (λ i r s x h. parts_moved (moves units i r) x h) (λ i lt. (checked units are i lt).parts)
 
   cells_checked : EachPhrase q (λ r routine x. CellsAgree x)
-  cells_checked = each_phrase units are (λ i r routine x. CellsAgree x) (λ r routine x. CellsAgree x) (λ i r s x h. cells_moved (moves units i r) x h) (λ i lt. (checked units are i lt).cells)
+  cells_checked = each_phrase units are (λ i r routine x. CellsAgree x) (λ r routine x. CellsAgree x)
+      (λ i r s x h. cells_moved (moves units i r) x h) (λ i lt. (checked units are i lt).cells)
 
   ranges_checked : EachPhrase q (λ r routine x. RangesOrdered x)
-  ranges_checked = each_phrase units are (λ i r routine x. RangesOrdered x) (λ r routine x. RangesOrdered x) (λ i r s x h. ranges_moved (moves units i r) x h) (λ i lt. (checked units are i lt).ranges)
+  ranges_checked = each_phrase units are (λ i r routine x. RangesOrdered x) (λ r routine x. RangesOrdered x)
+      (λ i r s x h. ranges_moved (moves units i r) x h) (λ i lt. (checked units are i lt).ranges)
 
   steps_checked : EachPhrase q (λ r routine x. AllByRecursion HasStep (loops_of x))
   steps_checked =
-      each_phrase units are (λ i r routine x. AllByRecursion HasStep (loops_of x)) (λ r routine x. AllByRecursion HasStep (loops_of x)) (λ i r s x h. steps_moved (moves units i r) x h) (λ i lt. (checked units are i lt).steps)
+      each_phrase units are (λ i r routine x. AllByRecursion HasStep (loops_of x)) (λ r routine x. AllByRecursion HasStep (loops_of x))
+      (λ i r s x h. steps_moved (moves units i r) x h) (λ i lt. (checked units are i lt).steps)
 
   choices_checked : EachPhrase q (λ r routine x. HasChoice x)
-  choices_checked = each_phrase units are (λ i r routine x. HasChoice x) (λ r routine x. HasChoice x) (λ i r s x h. choices_moved (moves units i r) x h) (λ i lt. (checked units are i lt).choices)
+  choices_checked = each_phrase units are (λ i r routine x. HasChoice x) (λ r routine x. HasChoice x)
+      (λ i r s x h. choices_moved (moves units i r) x h) (λ i lt. (checked units are i lt).choices)
 
   returns_checked : EachPhrase q (λ r routine x. ReturnAgrees routine x)
   returns_checked =
       each_phrase units are (λ i r routine x. ReturnAgrees routine x) (λ r routine x. ReturnAgrees routine x)
-      (λ i r s x h. returns_moved (moves units i r) (routine_at (u i) r) (routine_at q (number units i r)) (sym (head units are i r s).result) x h) (λ i lt. (checked units are i lt).returns)
+      (λ i r s x h. returns_moved (moves units i r) (routine_at (u i) r) (routine_at q (number units i r))
+      (sym (head units are i r s).result) x h) (λ i lt. (checked units are i lt).returns)
 
   stays_checked : EachPhrase q (λ r routine x. ReturnsStay x)
-  stays_checked = each_phrase units are (λ i r routine x. ReturnsStay x) (λ r routine x. ReturnsStay x) (λ i r s x h. stays_moved (moves units i r) x h) (λ i lt. (checked units are i lt).returns_stay)
+  stays_checked = each_phrase units are (λ i r routine x. ReturnsStay x) (λ r routine x. ReturnsStay x)
+      (λ i r s x h. stays_moved (moves units i r) x h) (λ i lt. (checked units are i lt).returns_stay)
 
   -- ---- names
 
@@ -151,7 +189,9 @@ module _ (units : List Program) (are : AreUnits units) where
 
       named : EachRoutine q (λ r routine. IsName routine.name)
       named =
-          each_routine units are (λ r routine. IsName routine.name) (subst (λ p. IsName (routine_at p 0).name) (sym (first_is units)) (name_at 0 0 are.some first_checked.body.0)) (λ i r s low. name_at i r s.exists s.high)
+          each_routine units are (λ r routine. IsName routine.name)
+          (subst (λ p. IsName (routine_at p 0).name) (sym (first_is units)) (name_at 0 0 are.some first_checked.body.0))
+          (λ i r s low. name_at i r s.exists s.high)
 
   -- ---- all conditions
 
@@ -162,7 +202,8 @@ module _ (units : List Program) (are : AreUnits units) where
     limits_of_routines : EachRoutine q (λ r routine. RoutineKeepsLimits routine)
     limits_of_routines =
         let link : link_slots (joined_body units).level ≡ 0 = ap link_slots no_level in
-        each_routine units are (λ r routine. RoutineKeepsLimits routine) (record { declared = little.declared; slots = omega (arith, little.slots, link, slots_fit units are.checked, are.some) })
+        each_routine units are (λ r routine. RoutineKeepsLimits routine)
+        (record { declared = little.declared; slots = omega (arith, little.slots, link, slots_fit units are.checked, are.some) })
         (λ i r s low. let k = (checked units are i s.exists).routine_limits r s.high in record { declared = k.declared; slots = k.slots })
 
     calls_in : EachPhrase q (Calls q)
@@ -183,10 +224,14 @@ module _ (units : List Program) (are : AreUnits units) where
       ranges = ranges_checked;
       steps = steps_checked;
       loops = loops_checked units are;
-      callees = λ r lt. each_follows (Calls q r (routine_at q r)) (λ x. CalleeExists q x) (λ x k. k.0.0) (stmts_phrases (routine_at q r).body) (calls_in r lt);
-      results = λ r lt. each_follows (Calls q r (routine_at q r)) (λ x. ResultAgrees q x) (λ x k. k.0.1) (stmts_phrases (routine_at q r).body) (calls_in r lt);
-      links = λ r lt. each_follows (Calls q r (routine_at q r)) (CallLeads q r (routine_at q r)) (λ x k. k.1.0) (stmts_phrases (routine_at q r).body) (calls_in r lt);
-      arguments = λ r lt. each_follows (Calls q r (routine_at q r)) (λ x. CallFits q x) (λ x k. k.1.1) (stmts_phrases (routine_at q r).body) (calls_in r lt);
+      callees = λ r lt. each_follows (Calls q r (routine_at q r)) (λ x. CalleeExists q x) (λ x k. k.0.0)
+          (stmts_phrases (routine_at q r).body) (calls_in r lt);
+      results = λ r lt. each_follows (Calls q r (routine_at q r)) (λ x. ResultAgrees q x) (λ x k. k.0.1)
+          (stmts_phrases (routine_at q r).body) (calls_in r lt);
+      links = λ r lt. each_follows (Calls q r (routine_at q r)) (CallLeads q r (routine_at q r)) (λ x k. k.1.0)
+          (stmts_phrases (routine_at q r).body) (calls_in r lt);
+      arguments = λ r lt. each_follows (Calls q r (routine_at q r)) (λ x. CallFits q x) (λ x k. k.1.1) (stmts_phrases (routine_at q r).body)
+          (calls_in r lt);
       choices = choices_checked;
       returns = returns_checked;
       returns_stay = stays_checked;

@@ -30,12 +30,15 @@ none_passes : (t : Totals) (unit : ℕ) (ps : List Program) → passes t ≡ fal
 unfolding totals
 none_passes t unit [] few e = few
 none_passes t unit (p ∷ ps) few e = elim (cases_Bool (passes (with_unit t p))) [
-  | inl many ↦ absurd (true≢false (ap is_some (subst (λ b. if_true b (λ _. Some (TooLarge unit)) (λ _. size_fault (with_unit t p) (suc unit) ps) ≡ None) many e)))
-  | inr still ↦ none_passes (with_unit t p) (suc unit) ps still (subst (λ b. if_true b (λ _. Some (TooLarge unit)) (λ _. size_fault (with_unit t p) (suc unit) ps) ≡ None) still e)
+  | inl many ↦ absurd (true≢false
+      (ap is_some (subst (λ b. if_true b (λ _. Some (TooLarge unit)) (λ _. size_fault (with_unit t p) (suc unit) ps) ≡ None) many e)))
+  | inr still ↦ none_passes (with_unit t p) (suc unit) ps still
+      (subst (λ b. if_true b (λ _. Some (TooLarge unit)) (λ _. size_fault (with_unit t p) (suc unit) ps) ≡ None) still e)
 ]
 
 -- each is a sum over the modules
-total_is : (part : Totals → ℕ) (f : Program → ℕ) → ((t : Totals) (p : Program) → part (with_unit t p) ≡ part t + f p) → (t : Totals) (ps : List Program) → part (totals t ps) ≡ part t + sum_by f ps
+total_is : (part : Totals → ℕ) (f : Program → ℕ) → ((t : Totals) (p : Program) → part (with_unit t p) ≡ part t + f p)
+    → (t : Totals) (ps : List Program) → part (totals t ps) ≡ part t + sum_by f ps
 unfolding totals
 total_is part f step t [] = omega arith
 total_is part f step t (p ∷ ps) = omega (arith, total_is part f step (with_unit t p) ps, step t p, sum_by-cons f p ps)
@@ -52,18 +55,51 @@ pub record HoldLittle (ps : List Program) : Type 0 where
 pub hold_little : (ps : List Program) → size_fault no_totals 1 ps ≡ None → HoldLittle ps
 hold_little ps e =
     let t : Totals = totals no_totals ps in
-    let parts = or_parts (nat_lt cell_limit t.declared) (nat_lt routine_slot_limit t.slots || (nat_lt record_limit t.globals || (nat_lt record_limit t.params || (nat_lt pool_limit t.names || nat_lt pool_limit t.texts)))) (none_passes no_totals 1 ps refl e) in
-    let slots = or_parts (nat_lt routine_slot_limit t.slots) (nat_lt record_limit t.globals || (nat_lt record_limit t.params || (nat_lt pool_limit t.names || nat_lt pool_limit t.texts))) parts.1 in
-    let globals = or_parts (nat_lt record_limit t.globals) (nat_lt record_limit t.params || (nat_lt pool_limit t.names || nat_lt pool_limit t.texts)) slots.1 in
+    let parts = or_parts (nat_lt cell_limit t.declared)
+    (nat_lt routine_slot_limit t.slots ||
+    (nat_lt record_limit t.globals || (nat_lt record_limit t.params || (nat_lt pool_limit t.names || nat_lt pool_limit t.texts))))
+    (none_passes no_totals 1 ps refl e) in
+    let slots = or_parts (nat_lt routine_slot_limit t.slots)
+    (nat_lt record_limit t.globals ||
+    (nat_lt record_limit t.params || (nat_lt pool_limit t.names || nat_lt pool_limit t.texts))) parts.1 in
+    let globals = or_parts (nat_lt record_limit t.globals)
+    (nat_lt record_limit t.params || (nat_lt pool_limit t.names || nat_lt pool_limit t.texts)) slots.1 in
     let params = or_parts (nat_lt record_limit t.params) (nat_lt pool_limit t.names || nat_lt pool_limit t.texts) globals.1 in
     let pools = or_parts (nat_lt pool_limit t.names) (nat_lt pool_limit t.texts) params.1 in
     record {
-      declared = omega (arith, ltb-false cell_limit t.declared parts.0, total_is (λ s. s.declared) (λ p. (routine_at p 0).declared) (λ s p. refl) no_totals ps);
-      slots = omega (arith, ltb-false routine_slot_limit t.slots slots.0, total_is (λ s. s.slots) (λ p. (routine_at p 0).slots) (λ s p. refl) no_totals ps);
-      globals = omega (arith, ltb-false record_limit t.globals globals.0, total_is (λ s. s.globals) (λ p. length p.globals) (λ s p. refl) no_totals ps);
-      params = omega (arith, ltb-false record_limit t.params params.0, total_is (λ s. s.params) (λ p. sum_by (λ r. length r.params + link_slots r.level) p.routines) (λ s p. refl) no_totals ps);
-      names = omega (arith, ltb-false pool_limit t.names pools.0, total_is (λ s. s.names) (λ p. sum_by (λ r. length r.name) p.routines + sum_by (λ g. length g.name) p.globals) (λ s p. refl) no_totals ps);
-      texts = omega (arith, ltb-false pool_limit t.texts pools.1, total_is (λ s. s.texts) (λ p. sum_by (λ r. sum_by text_bytes (stmts_phrases r.body)) p.routines) (λ s p. refl) no_totals ps);
+      declared = omega (
+        arith,
+        ltb-false cell_limit t.declared parts.0,
+        total_is (λ s. s.declared) (λ p. (routine_at p 0).declared) (λ s p. refl) no_totals ps,
+      );
+      slots = omega (
+        arith,
+        ltb-false routine_slot_limit t.slots slots.0,
+        total_is (λ s. s.slots) (λ p. (routine_at p 0).slots) (λ s p. refl) no_totals ps,
+      );
+      globals = omega (
+        arith,
+        ltb-false record_limit t.globals globals.0,
+        total_is (λ s. s.globals) (λ p. length p.globals) (λ s p. refl) no_totals ps,
+      );
+      params = omega (
+        arith,
+        ltb-false record_limit t.params params.0,
+        total_is (λ s. s.params)
+            (λ p. sum_by (λ r. length r.params + link_slots r.level) p.routines) (λ s p. refl) no_totals ps,
+      );
+      names = omega (
+        arith,
+        ltb-false pool_limit t.names pools.0,
+        total_is (λ s. s.names)
+            (λ p. sum_by (λ r. length r.name) p.routines + sum_by (λ g. length g.name) p.globals) (λ s p. refl) no_totals ps,
+      );
+      texts = omega (
+        arith,
+        ltb-false pool_limit t.texts pools.1,
+        total_is (λ s. s.texts)
+            (λ p. sum_by (λ r. sum_by text_bytes (stmts_phrases r.body)) p.routines) (λ s p. refl) no_totals ps,
+      );
     }
 
 -- ---- sums over the routines
@@ -78,19 +114,31 @@ first_within f (p ∷ ps) some = omega (arith, sum_by-cons f p ps)
 
 -- what is counted of a routine, and of its procedure in the joined program, is the same
 module _ (f : Routine → ℕ) (stays : (m : Moves) (k : Kept) → f (moved_procedure m k) ≡ f k.routine) (nothing : f no_routine ≡ 0) where
-  kept_within : (m : Moves) (unit : ℕ) (p : Program) (r : ℕ) (xs : List Routine) → sum_by f (map (moved_procedure m) (kept_from unit p r xs)) ≤ sum_by f xs
+  kept_within : (m : Moves) (unit : ℕ) (p : Program) (r : ℕ) (xs : List Routine)
+      → sum_by f (map (moved_procedure m) (kept_from unit p r xs)) ≤ sum_by f xs
   kept_within m unit p r [] = omega arith
   kept_within m unit p r (x ∷ xs) =
       let rest : sum_by f (map (moved_procedure m) (kept_from unit p (suc r) xs)) ≤ sum_by f xs = kept_within m unit p (suc r) xs in
       let here : Kept = record { unit = unit; number = r; routine = x } in
-      by_test (λ ks. sum_by f (map (moved_procedure m) ks) ≤ sum_by f (x ∷ xs)) (is_bare p r x) (λ _. kept_from unit p (suc r) xs) (λ _. here ∷ kept_from unit p (suc r) xs) (λ t. omega (arith, rest, sum_by-cons f x xs))
-      (λ t. omega (arith, rest, stays m here, sum_by-cons f x xs, sum_by-cons f (moved_procedure m here) (map (moved_procedure m) (kept_from unit p (suc r) xs))))
+      by_test (λ ks. sum_by f (map (moved_procedure m) ks) ≤ sum_by f (x ∷ xs)) (is_bare p r x) (λ _. kept_from unit p (suc r) xs)
+      (λ _. here ∷ kept_from unit p (suc r) xs) (λ t. omega (arith, rest, sum_by-cons f x xs))
+      (λ t. omega (
+        arith,
+        rest,
+        stays m here,
+        sum_by-cons f x xs,
+        sum_by-cons f (moved_procedure m here) (map (moved_procedure m) (kept_from unit p (suc r) xs)),
+      ))
 
-  behind_body : (rs : List Routine) (p : Program) → p.routines ≡ rs → f (routine_at p 0) + sum_by f (drop 1 p.routines) ≤ sum_by f p.routines
-  behind_body [] p e = subst (λ xs. f (routine_at (record p { routines = xs }) 0) + sum_by f (drop 1 xs) ≤ sum_by f xs) (sym e) (omega (arith, nothing))
-  behind_body (x ∷ xs) p e = subst (λ ys. f (routine_at (record p { routines = ys }) 0) + sum_by f (drop 1 ys) ≤ sum_by f ys) (sym e) (omega (arith, sum_by-cons f x xs))
+  behind_body : (rs : List Routine) (p : Program) → p.routines ≡ rs
+      → f (routine_at p 0) + sum_by f (drop 1 p.routines) ≤ sum_by f p.routines
+  behind_body [] p e = subst (λ xs. f (routine_at (record p { routines = xs }) 0) + sum_by f (drop 1 xs) ≤ sum_by f xs) (sym e)
+      (omega (arith, nothing))
+  behind_body (x ∷ xs) p e = subst (λ ys. f (routine_at (record p { routines = ys }) 0) + sum_by f (drop 1 ys) ≤ sum_by f ys) (sym e)
+      (omega (arith, sum_by-cons f x xs))
 
-  pub procedures_within : (all : List Kept) (unit before : ℕ) (ps : List Program) → sum_by f (joined_procedures all unit before ps) + sum_by (λ p. f (routine_at p 0)) ps ≤ sum_by (λ p. sum_by f p.routines) ps
+  pub procedures_within : (all : List Kept) (unit before : ℕ) (ps : List Program)
+      → sum_by f (joined_procedures all unit before ps) + sum_by (λ p. f (routine_at p 0)) ps ≤ sum_by (λ p. sum_by f p.routines) ps
   procedures_within all unit before [] = omega arith
   procedures_within all unit before (p ∷ ps) =
       let m : Moves = procedure_moves all unit p before in
@@ -109,13 +157,25 @@ module _ (f : Routine → ℕ) (stays : (m : Moves) (k : Kept) → f (moved_proc
 globals_count : (before : ℕ) (ps : List Program) → length (joined_globals before ps) ≡ sum_by (λ p. length p.globals) ps
 globals_count before [] = refl
 globals_count before (p ∷ ps) =
-    omega (arith, length-append (map (moved_global before) p.globals) (joined_globals (before + own_slots p) ps), length-map p.globals (moved_global before), globals_count (before + own_slots p) ps, sum_by-cons (λ x. length x.globals) p ps)
+    omega (
+      arith,
+      length-append (map (moved_global before) p.globals) (joined_globals (before + own_slots p) ps),
+      length-map p.globals (moved_global before),
+      globals_count (before + own_slots p) ps,
+      sum_by-cons (λ x. length x.globals) p ps,
+    )
 
 names_stay : (before : ℕ) (gs : List Global) → sum_by (λ g. length g.name) (map (moved_global before) gs) ≡ sum_by (λ g. length g.name) gs
 names_stay before [] = refl
-names_stay before (g ∷ gs) = omega (arith, sum_by-cons (λ x. length x.name) g gs, sum_by-cons (λ x. length x.name) (moved_global before g) (map (moved_global before) gs), names_stay before gs)
+names_stay before (g ∷ gs) = omega (
+  arith,
+  sum_by-cons (λ x. length x.name) g gs,
+  sum_by-cons (λ x. length x.name) (moved_global before g) (map (moved_global before) gs),
+  names_stay before gs,
+)
 
-globals_names : (before : ℕ) (ps : List Program) → sum_by (λ g. length g.name) (joined_globals before ps) ≡ sum_by (λ p. sum_by (λ g. length g.name) p.globals) ps
+globals_names : (before : ℕ) (ps : List Program)
+    → sum_by (λ g. length g.name) (joined_globals before ps) ≡ sum_by (λ p. sum_by (λ g. length g.name) p.globals) ps
 globals_names before [] = refl
 globals_names before (p ∷ ps) =
     omega (
@@ -129,7 +189,9 @@ globals_names before (p ∷ ps) =
 pub texts_stay : (m : Moves) (x : Stmts) → sum_by text_bytes (stmts_phrases (moved_stmts m x)) ≡ sum_by text_bytes (stmts_phrases x)
 texts_stay m x = ap (sum_by text_bytes) (stmts_moved m x) ∙ texts_moved m (stmts_phrases x)
 
-body_texts : (all : List Kept) (unit before : ℕ) (ps : List Program) → sum_by text_bytes (stmts_phrases (joined_stmts all unit before ps)) ≡ sum_by (λ p. sum_by text_bytes (stmts_phrases (routine_at p 0).body)) ps
+body_texts : (all : List Kept) (unit before : ℕ) (ps : List Program)
+    → sum_by text_bytes (stmts_phrases (joined_stmts all unit before ps)) ≡ sum_by
+    (λ p. sum_by text_bytes (stmts_phrases (routine_at p 0).body)) ps
 unfolding stmts_phrases
 body_texts all unit before [] = refl
 body_texts all unit before (p ∷ ps) =
@@ -148,14 +210,24 @@ body_texts all unit before (p ∷ ps) =
 abbrev HaveLines : List Program → Type 0
 HaveLines ps = AllByRecursion (λ p. HasLines (routine_at p 0)) ps
 
-body_count : (all : List Kept) (unit before : ℕ) (ps : List Program) → HaveLines ps → length (joined_lines ps) ≡ stmt_count (stmts_phrases (joined_stmts all unit before ps))
+body_count : (all : List Kept) (unit before : ℕ) (ps : List Program) → HaveLines ps
+    → length (joined_lines ps) ≡ stmt_count (stmts_phrases (joined_stmts all unit before ps))
 unfolding stmts_phrases
 body_count all unit before [] h = refl
 body_count all unit before (p ∷ ps) h =
     let x : Stmts = moved_stmts (body_moves all unit p before) (routine_at p 0).body in
     let y : Stmts = joined_stmts all (suc unit) (before + own_slots p) ps in
-    let here : stmt_count (stmts_phrases x) ≡ stmt_count (stmts_phrases (routine_at p 0).body) = ap stmt_count (stmts_moved (body_moves all unit p before) (routine_at p 0).body) ∙ count_moved (body_moves all unit p before) (stmts_phrases (routine_at p 0).body) in
-    omega (arith, length-append (routine_at p 0).lines (joined_lines ps), h.0.count, here, body_count all (suc unit) (before + own_slots p) ps h.1, count_sum (stmts_phrases x) (stmts_phrases y))
+    let here : stmt_count (stmts_phrases x) ≡ stmt_count (stmts_phrases (routine_at p 0).body) = ap stmt_count
+    (stmts_moved (body_moves all unit p before) (routine_at p 0).body)
+    ∙ count_moved (body_moves all unit p before) (stmts_phrases (routine_at p 0).body) in
+    omega (
+      arith,
+      length-append (routine_at p 0).lines (joined_lines ps),
+      h.0.count,
+      here,
+      body_count all (suc unit) (before + own_slots p) ps h.1,
+      count_sum (stmts_phrases x) (stmts_phrases y),
+    )
     ∙ sym (ap stmt_count (append_phrases x y))
 
 body_lines : (ps : List Program) → HaveLines ps → AllByRecursion (λ l. 0 < l) (joined_lines ps)
@@ -175,7 +247,8 @@ no_texts : sum_by text_bytes (stmts_phrases no_stmts) ≡ 0
 unfolding stmts_phrases
 no_texts = refl
 
-module _ (ps : List Program) (some : 0 < length ps) (little : HoldLittle ps) (takes_nothing : (routine_at (joined ps) 0).params ≡ []) (level_zero : (routine_at (joined ps) 0).level ≡ 0) where
+module _ (ps : List Program) (some : 0 < length ps) (little : HoldLittle ps) (takes_nothing : (routine_at (joined ps) 0).params ≡ [])
+    (level_zero : (routine_at (joined ps) 0).level ≡ 0) where
   abbrev body : Routine
   body = joined_body ps
 
@@ -183,7 +256,10 @@ module _ (ps : List Program) (some : 0 < length ps) (little : HoldLittle ps) (ta
   procedures = joined_procedures (kept_in 1 ps) 1 0 ps
 
   body_params : length body.params + link_slots body.level ≡ 0
-  body_params = let none : length body.params ≡ 0 = ap length takes_nothing in let link : link_slots body.level ≡ 0 = ap link_slots level_zero in omega (arith, none, link)
+  body_params =
+      let none : length body.params ≡ 0 = ap length takes_nothing in
+      let link : link_slots body.level ≡ 0 = ap link_slots level_zero in
+      omega (arith, none, link)
 
   pub limits_kept : KeepsLimits (joined ps)
   limits_kept = record {

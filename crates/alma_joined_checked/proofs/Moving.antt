@@ -10,7 +10,8 @@ use Rattle.alma_copy.specs.Moved.{Moves, moved_stmts, moved_stmt, moved_arms, mo
 pub append_phrases : (x y : Stmts) → stmts_phrases (append_stmts x y) ≡ stmts_phrases x ++ stmts_phrases y
 unfolding stmts_phrases
 append_phrases no_stmts y = refl
-append_phrases (more_stmts line x rest) y = ap (λ o. stmt_phrases x ++ o) (append_phrases rest y) ∙ sym (append_assoc (stmt_phrases x) (stmts_phrases rest) (stmts_phrases y))
+append_phrases (more_stmts line x rest) y = ap (λ o. stmt_phrases x ++ o) (append_phrases rest y)
+    ∙ sym (append_assoc (stmt_phrases x) (stmts_phrases rest) (stmts_phrases y))
 
 -- a phrase numbered anew
 abbrev pub moved_phrase : Moves → Phrase → Phrase
@@ -23,7 +24,8 @@ moved_phrase m (SelPhrase x) = SelPhrase (moved_sel m x)
 
 module _ (m : Moves) where
   -- of two lists in a row
-  two : (xs ys : List Phrase) {us vs : List Phrase} → us ≡ map (moved_phrase m) xs → vs ≡ map (moved_phrase m) ys → us ++ vs ≡ map (moved_phrase m) (xs ++ ys)
+  two : (xs ys : List Phrase) {us vs : List Phrase} → us ≡ map (moved_phrase m) xs → vs ≡ map (moved_phrase m) ys
+      → us ++ vs ≡ map (moved_phrase m) (xs ++ ys)
   two xs ys p q = (λ i. p i ++ q i) ∙ sym (map-append (moved_phrase m) xs ys)
 
   mutual
@@ -35,16 +37,23 @@ module _ (m : Moves) where
 
     stmt_moved : (x : Stmt) → stmt_phrases (moved_stmt m x) ≡ map (moved_phrase m) (stmt_phrases x)
     stmt_moved (TestStmt t) = λ i. StmtPhrase (moved_stmt m (TestStmt t)) ∷ test_moved t i
-    stmt_moved (Assign d e range) = λ i. StmtPhrase (moved_stmt m (Assign d e range)) ∷ two (desig_phrases d) (expr_phrases e) (desig_moved d) (expr_moved e) i
-    stmt_moved (CopyCells d e) = λ i. StmtPhrase (moved_stmt m (CopyCells d e)) ∷ two (desig_phrases d) (desig_phrases e) (desig_moved d) (desig_moved e) i
-    stmt_moved (If arms rest) = λ i. StmtPhrase (moved_stmt m (If arms rest)) ∷ two (arms_phrases arms) (stmts_phrases rest) (arms_moved arms) (stmts_moved rest) i
-    stmt_moved (While t body) = λ i. StmtPhrase (moved_stmt m (While t body)) ∷ two (test_phrases t) (stmts_phrases body) (test_moved t) (stmts_moved body) i
-    stmt_moved (Repeat body t) = λ i. StmtPhrase (moved_stmt m (Repeat body t)) ∷ two (stmts_phrases body) (test_phrases t) (stmts_moved body) (test_moved t) i
+    stmt_moved (Assign d e range) = λ i. StmtPhrase (moved_stmt m (Assign d e range)) ∷ two (desig_phrases d) (expr_phrases e)
+        (desig_moved d) (expr_moved e) i
+    stmt_moved (CopyCells d e) = λ i. StmtPhrase (moved_stmt m (CopyCells d e)) ∷ two (desig_phrases d) (desig_phrases e) (desig_moved d)
+        (desig_moved e) i
+    stmt_moved (If arms rest) = λ i. StmtPhrase (moved_stmt m (If arms rest)) ∷ two (arms_phrases arms) (stmts_phrases rest)
+        (arms_moved arms) (stmts_moved rest) i
+    stmt_moved (While t body) = λ i. StmtPhrase (moved_stmt m (While t body)) ∷ two (test_phrases t) (stmts_phrases body) (test_moved t)
+        (stmts_moved body) i
+    stmt_moved (Repeat body t) = λ i. StmtPhrase (moved_stmt m (Repeat body t)) ∷ two (stmts_phrases body) (test_phrases t)
+        (stmts_moved body) (test_moved t) i
     stmt_moved (ForTo l) = λ i. StmtPhrase (moved_stmt m (ForTo l)) ∷ loop_moved l i
     stmt_moved (SomeOf l) = λ i. StmtPhrase (moved_stmt m (SomeOf l)) ∷ loop_moved l i
-    stmt_moved (Case e arms rest) = λ i. StmtPhrase (moved_stmt m (Case e arms rest)) ∷ two (expr_phrases e ++ cases_phrases arms) (else_phrases rest) (two (expr_phrases e) (cases_phrases arms) (expr_moved e) (cases_moved arms)) (else_moved rest) i
+    stmt_moved (Case e arms rest) = λ i. StmtPhrase (moved_stmt m (Case e arms rest)) ∷ two (expr_phrases e ++ cases_phrases arms)
+        (else_phrases rest) (two (expr_phrases e) (cases_phrases arms) (expr_moved e) (cases_moved arms)) (else_moved rest) i
     stmt_moved (Either branches) = λ i. StmtPhrase (moved_stmt m (Either branches)) ∷ branches_moved branches i
-    stmt_moved (Forall x y) = λ i. StmtPhrase (moved_stmt m (Forall x y)) ∷ two (stmts_phrases x) (stmts_phrases y) (stmts_moved x) (stmts_moved y) i
+    stmt_moved (Forall x y) = λ i. StmtPhrase (moved_stmt m (Forall x y)) ∷ two (stmts_phrases x) (stmts_phrases y) (stmts_moved x)
+        (stmts_moved y) i
     stmt_moved (Commit x) = λ i. StmtPhrase (moved_stmt m (Commit x)) ∷ stmts_moved x i
     stmt_moved (Return e) = λ i. StmtPhrase (moved_stmt m (Return e)) ∷ return_moved e i
     stmt_moved (Read d how range) = λ i. StmtPhrase (moved_stmt m (Read d how range)) ∷ desig_moved d i
@@ -54,7 +63,8 @@ module _ (m : Moves) where
 
     arms_moved : (x : Arms) → arms_phrases (moved_arms m x) ≡ map (moved_phrase m) (arms_phrases x)
     arms_moved no_arms = refl
-    arms_moved (more_arms t body rest) = two (test_phrases t ++ stmts_phrases body) (arms_phrases rest) (two (test_phrases t) (stmts_phrases body) (test_moved t) (stmts_moved body)) (arms_moved rest)
+    arms_moved (more_arms t body rest) = two (test_phrases t ++ stmts_phrases body) (arms_phrases rest)
+        (two (test_phrases t) (stmts_phrases body) (test_moved t) (stmts_moved body)) (arms_moved rest)
 
     cases_moved : (x : CaseArms) → cases_phrases (moved_cases m x) ≡ map (moved_phrase m) (cases_phrases x)
     cases_moved no_cases = refl
@@ -69,7 +79,9 @@ module _ (m : Moves) where
     branches_moved (more_branches body rest) = two (stmts_phrases body) (branches_phrases rest) (stmts_moved body) (branches_moved rest)
 
     pub loop_moved : (x : Loop) → loop_phrases (moved_loop m x) ≡ map (moved_phrase m) (loop_phrases x)
-    loop_moved (a_loop d range counter limit from to by body) = two (desig_phrases d ++ expr_phrases from ++ expr_phrases to) (stmts_phrases body) (two (desig_phrases d ++ expr_phrases from) (expr_phrases to) (two (desig_phrases d) (expr_phrases from) (desig_moved d) (expr_moved from)) (expr_moved to)) (stmts_moved body)
+    loop_moved (a_loop d range counter limit from to by body) = two (desig_phrases d ++ expr_phrases from ++ expr_phrases to)
+        (stmts_phrases body) (two (desig_phrases d ++ expr_phrases from) (expr_phrases to)
+        (two (desig_phrases d) (expr_phrases from) (desig_moved d) (expr_moved from)) (expr_moved to)) (stmts_moved body)
 
     return_moved : (x : ReturnExpr) → return_phrases (moved_return m x) ≡ map (moved_phrase m) (return_phrases x)
     return_moved no_result = refl
@@ -77,9 +89,12 @@ module _ (m : Moves) where
 
     test_moved : (x : Test) → test_phrases (moved_test m x) ≡ map (moved_phrase m) (test_phrases x)
     test_moved (Value e) = λ i. TestPhrase (moved_test m (Value e)) ∷ expr_moved e i
-    test_moved (Bind d e range left) = λ i. TestPhrase (moved_test m (Bind d e range left)) ∷ two (desig_phrases d) (expr_phrases e) (desig_moved d) (expr_moved e) i
-    test_moved (Unify d range e range') = λ i. TestPhrase (moved_test m (Unify d range e range')) ∷ two (desig_phrases d) (desig_phrases e) (desig_moved d) (desig_moved e) i
-    test_moved (SameCells d e) = λ i. TestPhrase (moved_test m (SameCells d e)) ∷ two (desig_phrases d) (desig_phrases e) (desig_moved d) (desig_moved e) i
+    test_moved (Bind d e range left) = λ i. TestPhrase (moved_test m (Bind d e range left)) ∷ two (desig_phrases d) (expr_phrases e)
+        (desig_moved d) (expr_moved e) i
+    test_moved (Unify d range e range') = λ i. TestPhrase (moved_test m (Unify d range e range')) ∷ two (desig_phrases d) (desig_phrases e)
+        (desig_moved d) (desig_moved e) i
+    test_moved (SameCells d e) = λ i. TestPhrase (moved_test m (SameCells d e)) ∷ two (desig_phrases d) (desig_phrases e) (desig_moved d)
+        (desig_moved e) i
     test_moved (Seq x) = λ i. TestPhrase (moved_test m (Seq x)) ∷ stmts_moved x i
     test_moved (And ts) = λ i. TestPhrase (moved_test m (And ts)) ∷ tests_moved ts i
     test_moved (Or ts) = λ i. TestPhrase (moved_test m (Or ts)) ∷ tests_moved ts i
@@ -93,8 +108,10 @@ module _ (m : Moves) where
     expr_moved : (x : Expr) → expr_phrases (moved_expr m x) ≡ map (moved_phrase m) (expr_phrases x)
     expr_moved (Const n) = refl
     expr_moved (Load d) = λ i. ExprPhrase (moved_expr m (Load d)) ∷ desig_moved d i
-    expr_moved (Chain negated e links) = λ i. ExprPhrase (moved_expr m (Chain negated e links)) ∷ two (expr_phrases e) (links_phrases links) (expr_moved e) (links_moved links) i
-    expr_moved (Compare how x y) = λ i. ExprPhrase (moved_expr m (Compare how x y)) ∷ two (expr_phrases x) (expr_phrases y) (expr_moved x) (expr_moved y) i
+    expr_moved (Chain negated e links) = λ i. ExprPhrase (moved_expr m (Chain negated e links)) ∷ two (expr_phrases e) (links_phrases links)
+        (expr_moved e) (links_moved links) i
+    expr_moved (Compare how x y) = λ i. ExprPhrase (moved_expr m (Compare how x y)) ∷ two (expr_phrases x) (expr_phrases y) (expr_moved x)
+        (expr_moved y) i
     expr_moved (Truth t) = λ i. ExprPhrase (moved_expr m (Truth t)) ∷ test_moved t i
     expr_moved (Known d) = λ i. ExprPhrase (moved_expr m (Known d)) ∷ desig_moved d i
     expr_moved (Chr e) = λ i. ExprPhrase (moved_expr m (Chr e)) ∷ expr_moved e i
