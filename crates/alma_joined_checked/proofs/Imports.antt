@@ -104,8 +104,7 @@ each_match (k ∷ ks) at unit name =
     (λ m h. record {
       place = suc h.place;
       few = omega (arith, h.few);
-      is_number = omega
-          (arith, h.is_number);
+      is_number = omega (arith, h.is_number);
       is_routine = h.is_routine;
       level = h.level;
     }) (matches ks (suc at) unit name)
@@ -118,8 +117,7 @@ each_match (k ∷ ks) at unit name =
         few = omega arith;
         is_number = omega arith;
         is_routine = refl;
-        level = eqb-true k.routine.level 1
-            (and_parts _ _ t).0;
+        level = eqb-true k.routine.level 1 (and_parts _ _ t).0;
       },
       rest,
     )) (λ t. rest)

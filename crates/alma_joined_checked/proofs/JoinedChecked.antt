@@ -90,8 +90,7 @@ module _ (units : List Program) (are : AreUnits units) where
       (record { within = omega (arith, declared_fit units are.checked); body = λ e. omega (arith, declared_fit units are.checked) })
       (λ i r s low. record {
         within = ((checked units are i s.exists).declared r s.high).within;
-        body = λ e. absurd
-            (omega (arith, e, number_low units i r s low));
+        body = λ e. absurd (omega (arith, e, number_low units i r s low));
       })
 
   nested_checked : EachRoutine q (IsNested q)
@@ -122,8 +121,7 @@ module _ (units : List Program) (are : AreUnits units) where
   globals_checked =
       each_global units (IsGlobal q) (λ i lt. each_follows (IsGlobal (u i)) (λ g. IsGlobal q (moved_global (before_at units i) g))
       (λ g k. record {
-        slots = numbers_own units are i 0 g.slot g.cells (body_stands units are i lt)
-            (λ e. k.position) k.slots;
+        slots = numbers_own units are i 0 g.slot g.cells (body_stands units are i lt) (λ e. k.position) k.slots;
         position = slot_low (before_at units i) g.slot k.position;
       }) (u i).globals
       (checked units are i lt).globals)

@@ -146,8 +146,7 @@ found [] unit r h = absurd h
 found (k ∷ ks) unit r (inl h) = record { place = 0; exists = omega arith; of_unit = h.0; of_number = h.1 }
 found (k ∷ ks) unit r (inr h) = let f = found ks unit r h in record {
   place = suc f.place;
-  exists = omega
-      (arith, f.exists);
+  exists = omega (arith, f.exists);
   of_unit = f.of_unit;
   of_number = f.of_number;
 }

@@ -190,8 +190,8 @@ pub texts_stay : (m : Moves) (x : Stmts) → sum_by text_bytes (stmts_phrases (m
 texts_stay m x = ap (sum_by text_bytes) (stmts_moved m x) ∙ texts_moved m (stmts_phrases x)
 
 body_texts : (all : List Kept) (unit before : ℕ) (ps : List Program)
-    → sum_by text_bytes (stmts_phrases (joined_stmts all unit before ps)) ≡ sum_by
-    (λ p. sum_by text_bytes (stmts_phrases (routine_at p 0).body)) ps
+    → sum_by text_bytes (stmts_phrases (joined_stmts all unit before ps))
+    ≡ sum_by (λ p. sum_by text_bytes (stmts_phrases (routine_at p 0).body)) ps
 unfolding stmts_phrases
 body_texts all unit before [] = refl
 body_texts all unit before (p ∷ ps) =

@@ -133,8 +133,7 @@ module _ (units : List Program) where
         at = f.place;
         few = f.exists;
         house = h;
-        same_unit = omega
-            (arith, h.of_unit, f.of_unit);
+        same_unit = omega (arith, h.of_unit, f.of_unit);
         same_number = sym h.of_number ∙ f.of_number;
       }
 
@@ -253,33 +252,31 @@ module _ (units : List Program) where
               ∙ sym (ap (number units i) outer_zero);
         }
     head i (suc r) s =
-        let is : routine_at (joined units) (number units i (suc r)) ≡ moved_routine units i (suc r) = routine_is i (suc r) s
-        (omega arith) in
+        let is : routine_at (joined units) (number units i (suc r)) ≡ moved_routine units i (suc r) =
+        routine_is i (suc r) s (omega arith) in
         record {
           params = ap (λ x. x.params) is;
           result = ap (λ x. x.result) is;
           level = ap (λ x. x.level) is;
-          outer = ap
-              (λ x. x.outer) is;
+          outer = ap (λ x. x.outer) is;
         }
 
     pub outer_stands : (i r : ℕ) → Stands units i r → Stands units i (routine_at (unit_at units i) r).outer
     outer_stands i r s =
         let p : Program = unit_at units i in
         let o : ℕ = (routine_at p r).outer in
-        let inside : list_any (λ x. nat_eq x.outer o) p.routines ≡ true = list_any_at (λ x. nat_eq x.outer o) p.routines r no_routine s.high
-        (eq-eqb o o refl) in
+        let inside : list_any (λ x. nat_eq x.outer o) p.routines ≡ true =
+        list_any_at (λ x. nat_eq x.outer o) p.routines r no_routine s.high (eq-eqb o o refl) in
         record {
           exists = s.exists;
           high = ((checked i s.exists).nested r s.high).exists;
-          stays = λ low. not_bare p o
-              (routine_at p o) inside;
+          stays = λ low. not_bare p o (routine_at p o) inside;
         }
 
     -- links lead to the same routines
     pub outer_moves : (links i r : ℕ) → Stands units i r
-        → (outer_at (joined units) (number units i r) links ≡ number units i (outer_at (unit_at units i) r links)) × Stands units i
-        (outer_at (unit_at units i) r links)
+        → (outer_at (joined units) (number units i r) links ≡ number units i (outer_at (unit_at units i) r links))
+        × Stands units i (outer_at (unit_at units i) r links)
     outer_moves zero i r s = (refl, s)
     outer_moves (suc links) i r s =
         let further = outer_moves links i (routine_at (unit_at units i) r).outer (outer_stands i r s) in

@@ -77,8 +77,8 @@ module _ (units : List Program) (are : AreUnits units) where
     numbers_own units are i 0 slot cells (body_stands units are i s.exists) (λ e. k.2) k.1,
     slot_low (before_at units i) slot k.2,
   )
-  root_moved i r s (DesigPhrase (a_desig (root.Param slot) cells sels)) k = subst (λ ps. HoldPlace ps slot cells)
-      (sym (head units are i r s).params) k
+  root_moved i r s (DesigPhrase (a_desig (root.Param slot) cells sels)) k =
+      subst (λ ps. HoldPlace ps slot cells) (sym (head units are i r s).params) k
   root_moved i r s (DesigPhrase (a_desig (root.Outer links slot) cells sels)) k = outer_numbers i r links slot cells s k.0 k.1
   root_moved i r s (DesigPhrase (a_desig (root.OuterParam links slot) cells sels)) k = outer_place i r links slot cells s k.0 k.1
   root_moved i r s (SelPhrase x) k = tt
@@ -122,18 +122,12 @@ module _ (units : List Program) (are : AreUnits units) where
     body_leaves j r s (ExprPhrase x) h = tt
     body_leaves j r s (ArgPhrase x) h = tt
     body_leaves j r s (DesigPhrase (a_desig (root.Local from) cells sels)) h = λ e. local_apart j r from cells s h.0 h.1 e
-    body_leaves j r s (DesigPhrase
-        (a_desig (root.Global from) cells sels)) h = λ e. body_apart units i j from cells slot lt s.exists h.0.1.exist h.0.2 k.exists
-        (k.position refl) (λ same. h.1 same refl)
+    body_leaves j r s (DesigPhrase (a_desig (root.Global from) cells sels)) h = λ e.
+        body_apart units i j from cells slot lt s.exists h.0.1.exist h.0.2 k.exists (k.position refl) (λ same. h.1 same refl)
     body_leaves j r s (DesigPhrase (a_desig (root.Param from) cells sels)) h = tt
-    body_leaves j r s (DesigPhrase (a_desig (root.Outer links from) cells sels)) h = λ e. absurd
-        (omega (
-          arith,
-          e,
-          (outer_moves units are links j r s).0,
-          number_low units j (outer_at (u j) r links)
-              (outer_moves units are links j r s).1 (out_low units are j r links s h.0.0),
-        ))
+    body_leaves j r s (DesigPhrase (a_desig (root.Outer links from) cells sels)) h = λ e.
+        let o = outer_moves units are links j r s in
+        absurd (omega (arith, e, o.0, number_low units j (outer_at (u j) r links) o.1 (out_low units are j r links s h.0.0)))
     body_leaves j r s (DesigPhrase (a_desig (root.OuterParam links from) cells sels)) h = tt
     body_leaves j r s (SelPhrase x) h = tt
 
@@ -181,8 +175,8 @@ module _ (units : List Program) (are : AreUnits units) where
         → outer_at q (number units j s) links ≡ number units i r → IsOutside from cells slot
     out_apart j s links from cells stands lead leaves e =
         let o = outer_moves units are links j s stands in
-        let same = same_place units j (outer_at (u j) s links) i r o.1 (out_low units are j s links stands lead) here low
-        (sym o.0 ∙ e) in leaves same.0 (ap (λ n. outer_at (u n) s links) (sym same.0) ∙ same.1)
+        let same = same_place units j (outer_at (u j) s links) i r o.1 (out_low units are j s links stands lead) here low (sym o.0 ∙ e) in
+        leaves same.0 (ap (λ n. outer_at (u n) s links) (sym same.0) ∙ same.1)
 
     procedure_leaves : (j s : ℕ) → Stands units j s → (x : Phrase) → Leaves i r slot j s (routine_at (u j) s) x
         → RootLeaves q (number units j s) (number units i r) slot (moved_phrase (moves units j s) x)
@@ -192,8 +186,8 @@ module _ (units : List Program) (are : AreUnits units) where
     procedure_leaves j n s (ExprPhrase x) h = tt
     procedure_leaves j n s (ArgPhrase x) h = tt
     procedure_leaves j n s (DesigPhrase (a_desig (root.Local from) cells sels)) h = λ e. own_apart j n from cells s h.1 e
-    procedure_leaves j n s (DesigPhrase (a_desig (root.Global from) cells sels)) h = λ e. absurd
-        (omega (arith, e, number_low units i r here low))
+    procedure_leaves j n s (DesigPhrase (a_desig (root.Global from) cells sels)) h = λ e.
+        absurd (omega (arith, e, number_low units i r here low))
     procedure_leaves j n s (DesigPhrase (a_desig (root.Param from) cells sels)) h = tt
     procedure_leaves j n s (DesigPhrase (a_desig (root.Outer links from) cells sels)) h = λ e. out_apart j n links from cells s h.0.0 h.1 e
     procedure_leaves j n s (DesigPhrase (a_desig (root.OuterParam links from) cells sels)) h = tt
