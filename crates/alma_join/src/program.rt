@@ -1,5 +1,6 @@
 // One program of several modules.
 ghost use Rattle.std.specs.Prelude.{◌≡◌, ◌+◌, ◌<◌, ◌∷◌, length, map, None, IfOk, IfErr};
+ghost use Rattle.alma_ir.specs.Checked.{IsChecked};
 ghost use Rattle.alma_ir.specs.View.{program_of, routine_of, global_of, stmts_list};
 ghost use Rattle.alma_joined.specs.Joined.{AreUnits, joined, join_fault};
 ghost use Rattle.alma_join.specs.Fault.{IsJoinError};
@@ -12,6 +13,7 @@ use crate::part::{Parts, parts_of};
 use alma_base::NoMemory;
 use alma_ir::{Program, Routine};
 use alma_join_size::first_too_large;
+use alma_joined_checked::laws::joined_is_checked;
 use std::alloc::Global;
 
 // The program with the name of a module and the head of its body.
@@ -51,6 +53,7 @@ pub fn join(alloc: Global, units: &[Program]) -> Result<Program, JoinError>
     requires units { AreUnits (map program_of units.now) }
     ensures joined { IfOk result (λ p. program_of p ≡ joined (map program_of units.now)) }
     ensures sound { IfOk result (λ p. join_fault (map program_of units.now) ≡ None) }
+    ensures checked { IfOk result (λ p. IsChecked (program_of p)) }
     ensures refused { IfErr result (λ e. IsJoinError e (map program_of units.now)) }
 {
     let directory = directory_of(alloc, units)?;
@@ -58,6 +61,7 @@ pub fn join(alloc: Global, units: &[Program]) -> Result<Program, JoinError>
     if let Some(unit) = first_too_large(units) {
         return Err(JoinError::TooLarge(unit));
     }
+    joined_is_checked();
     let parts = parts_of(alloc, units, &tables)?;
     Ok(program_with(alloc, &units[0], parts)?)
 }
