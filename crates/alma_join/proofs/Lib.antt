@@ -9,3 +9,4 @@ pub mod PartsGo
 pub mod Rows
 pub mod Sharing
 pub mod Units
+pub mod Whole
