@@ -2,3 +2,4 @@ mod TextLemmas
 mod Running
 mod Sizes
 mod Storing
+pub mod Sources

@@ -4,9 +4,11 @@
 mod end;
 mod object;
 mod run;
+mod source;
 mod telling;
 
 pub use end::ProgramEnd;
 pub use object::store_program;
 pub use run::run_program;
+pub use source::{FileStop, tell_file};
 pub use telling::{tell_program, tell_refusal};
