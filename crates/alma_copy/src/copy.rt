@@ -153,8 +153,10 @@ fn copy_stmt(alloc: Global, stmt: &Stmt, moves: &Moves<'_>) -> Result<Stmt, NoMe
             Ok(Stmt::Forall(each, body))
         }
         Stmt::Commit(body) => Ok(Stmt::Commit(copy_stmts(alloc, body, moves)?)),
-        Stmt::Return(None) => Ok(Stmt::Return(None)),
-        Stmt::Return(Some(value)) => Ok(Stmt::Return(Some(copy_expr(alloc, value, moves)?))),
+        Stmt::Return(value) => match value {
+            None => Ok(Stmt::Return(None)),
+            Some(value) => Ok(Stmt::Return(Some(copy_expr(alloc, value, moves)?))),
+        },
         Stmt::Read(desig, how, range) => {
             Ok(Stmt::Read(copy_desig(alloc, desig, moves)?, *how, *range))
         }
