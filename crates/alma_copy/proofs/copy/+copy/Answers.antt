@@ -1,5 +1,5 @@
 -- A copy is made of the copies of its parts; each part is smaller than what it stands in.
-use Rattle.std.proofs.Common.{ap, ◌∙◌, sym, refl, arith, w64, rules}
+use Rattle.std.proofs.Common.{ap, ◌∙◌, refl, arith, w64, rules}
 use Rattle.std.proofs.lemmas.Int.{to_z-of_z}
 use Rattle.alma_copy.specs.Numbers.{moves_of}
 use Rattle.alma_copy.proofs.Copies
