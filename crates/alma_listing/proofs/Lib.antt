@@ -1,0 +1,15 @@
+pub mod AlikeLists
+pub mod AlikeRows
+pub mod Alike
+pub mod Worked
+pub mod Closes
+pub mod Writes
+pub mod Cells
+pub mod Line
+pub mod LinesFront
+pub mod Listed
+pub mod Results
+pub mod LineEach
+pub mod ListerChecked
+pub mod ReadsAlike
+pub mod NoReturns
