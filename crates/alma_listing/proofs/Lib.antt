@@ -13,3 +13,6 @@ pub mod LineEach
 pub mod ListerChecked
 pub mod ReadsAlike
 pub mod NoReturns
+pub mod Built
+pub mod Walks
+pub mod Parts

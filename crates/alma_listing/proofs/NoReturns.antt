@@ -1,7 +1,12 @@
 -- A RETURN stands in statements of a checked program exactly where the walk over the statements alone finds one.
-use Rattle.std.proofs.Common.{◌≡◌, Bool, true, false, List, ◌++◌, refl, sym, true≢false}
+use Rattle.std.proofs.Common.{◌≡◌, Bool, true, false, List, ◌∷◌, ◌++◌, refl, sym, true≢false}
 use Rattle.std.specs.Prelude.{◌||◌}
 use Rattle.std.specs.List.{AllByRecursion}
+use Rattle.alma_ir.specs.declared.phrase.Stmt as S
+use Rattle.alma_ir.specs.declared.phrase.Arm.{Arm}
+use Rattle.alma_ir.specs.declared.phrase.CaseArm.{CaseArm}
+use Rattle.alma_ir.specs.declared.phrase.Branch.{Branch}
+use Rattle.alma_ir.specs.View.{stmts_list, stmt_of, arms_list, cases_list, branches_list}
 use Rattle.alma_ir.specs.Tree.{Stmts, Stmt, Arms, CaseArms, Else, Branches, Loop, Test, Tests, Expr, Links, Args, Arg, Desig, Sels, Sel, no_stmts, more_stmts, TestStmt, Assign, CopyCells, If, While, Repeat, ForTo, SomeOf, Case, Either, Forall, Commit, Return, Read, WriteExpr, WriteText, WriteLine, no_arms, more_arms, no_cases, more_cases, no_else, else_part, no_branches, more_branches, a_loop, Value, Bind, Unify, SameCells, Seq, And, Or, Not, CallTest, no_tests, more_tests, Const, Load, Chain, Compare, Truth, Known, Chr, CallExpr, no_links, more_links, no_args, more_args, ByValue, ByCells, ByPlace, MixValue, MixPlace, a_desig, no_sels, more_sels, Field, Index}
 use Rattle.alma_ir.specs.Phrases.{Phrase, stmts_phrases, stmt_phrases, arms_phrases, cases_phrases, else_phrases, branches_phrases, loop_phrases, test_phrases, tests_phrases, expr_phrases, links_phrases, args_phrases, arg_phrases, desig_phrases, sels_phrases, sel_phrases}
 use Rattle.alma_ir.specs.Checked.{IsNoReturn, ReturnsStay}
@@ -24,6 +29,28 @@ both_false false b e = (refl, e)
 in_either : (a b : Bool) → (a || b) ≡ true → (a ≡ true → ⊥) → (b ≡ true → ⊥) → ⊥
 in_either true b e f g = f refl
 in_either false b e f g = g e
+
+-- ---- lists as the program holds them
+
+pub stmts_step : (x : S.Stmt) (xs : List S.Stmt) → stmts_return (stmts_list (x ∷ xs)) ≡ (stmt_returns (stmt_of x) || stmts_return (stmts_list xs))
+unfolding stmts_return
+stmts_step x xs = refl
+
+pub arms_step : (x : Arm) (xs : List Arm) → arms_return (arms_list (x ∷ xs)) ≡ (stmts_return (stmts_list x.body.items) || arms_return (arms_list xs))
+unfolding stmts_return
+arms_step x xs = refl
+
+pub cases_step : (x : CaseArm) (xs : List CaseArm) → cases_return (cases_list (x ∷ xs)) ≡ (stmts_return (stmts_list x.body.items) || cases_return (cases_list xs))
+unfolding stmts_return
+cases_step x xs = refl
+
+pub branches_step : (x : Branch) (xs : List Branch) → branches_return (branches_list (x ∷ xs)) ≡ (stmts_return (stmts_list x.body.items) || branches_return (branches_list xs))
+unfolding stmts_return
+branches_step x xs = refl
+
+pub none_at_end : (stmts_return no_stmts ≡ false) × (arms_return no_arms ≡ false) × (cases_return no_cases ≡ false) × (branches_return no_branches ≡ false)
+unfolding stmts_return
+none_at_end = (refl, refl, refl, refl)
 
 -- ---- tests and expressions hold statements in sequences alone, where no RETURN stands
 

@@ -1,6 +1,16 @@
 -- What the private functions of this crate promise. No reader of the contracts needs it.
-use Rattle.std.specs.Prelude.{Bool, true, false, ◌||◌}
-use Rattle.alma_ir.specs.Tree.{Stmts, Stmt, Arms, CaseArms, Else, Branches, Loop, no_stmts, more_stmts, TestStmt, Assign, CopyCells, If, While, Repeat, ForTo, SomeOf, Case, Either, Forall, Commit, Return, Read, WriteExpr, WriteText, WriteLine, no_arms, more_arms, no_cases, more_cases, no_else, else_part, no_branches, more_branches, a_loop}
+use Rattle.std.specs.Prelude.{ℕ, zero, suc, ◌++◌, List, [], Bool, true, false, ◌||◌, codes}
+use Rattle.alma_ir.specs.Tree.{Global, Stmts, Stmt, Arms, CaseArms, Else, Branches, Loop, no_stmts, more_stmts, TestStmt, Assign, CopyCells, If, While, Repeat, ForTo, SomeOf, Case, Either, Forall, Commit, Return, Read, WriteExpr, WriteText, WriteLine, no_arms, more_arms, no_cases, more_cases, no_else, else_part, no_branches, more_branches, a_loop}
+use Rattle.alma_listing.specs.Lister.{write_cells}
+
+-- what stands before a global, given how many are before it
+abbrev pub space_before : ℕ → List ℕ
+space_before zero = []
+space_before (suc n) = codes " "
+
+-- the statements of one global, and then others
+abbrev pub write_global : (before : List ℕ) → Global → Stmts → Stmts
+write_global before g rest = more_stmts 0 (WriteText (before ++ g.name ++ codes "=")) (write_cells g.slot g.cells rest)
 
 -- a RETURN stands in the statements, and in no test or expression of them
 unfoldable mutual

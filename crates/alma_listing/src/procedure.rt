@@ -1,9 +1,11 @@
 // The procedure that writes the line of the store.
 ghost use Rattle.std.specs.Prelude.{◌≡◌, ◌++◌, ℕ, suc, IfOk, map, codes, [], ◌∷◌};
-ghost use Rattle.alma_ir.specs.Tree.{more_arms, no_arms, a_desig, no_sels, Value, WriteText};
+ghost use Rattle.alma_ir.specs.Tree.{Stmts, more_arms, no_arms, a_desig, no_sels, Value, WriteText};
 ghost use Rattle.alma_ir.specs.declared.phrase.Root.TheVariants as root;
 ghost use Rattle.alma_ir.specs.View.{routine_of, global_of, stmts_list, stmt_of, arms_list, loop_of, expr_of, desig_of};
+ghost use Rattle.alma_rules.specs.Parts.{append_stmts};
 ghost use Rattle.alma_listing.specs.Lister as spec;
+ghost use Rattle.alma_listing.specs.Inner.{space_before, write_global};
 
 use alma_base::{NoMemory, Range};
 use alma_ir::{
@@ -44,14 +46,33 @@ fn write_line(alloc: Global, globals: &[Variable]) -> Result<Vec<Stmt>, NoMemory
 {
     let mut body = one(alloc, text(alloc, b"{")?)?;
     for (place, global) in globals.iter().enumerate() {
-        let before: &[u8] = if place == 0 { b"" } else { b" " };
-        body.push(Stmt::WriteText(name_text(alloc, before, &global.name)?))?;
-        if global.cells > 0 {
-            body.push(Stmt::ForTo(cells_loop(alloc, global, global.cells - 1)?))?;
-        }
+        write_global(alloc, &mut body, space_before(place), global)?;
     }
     body.push(text(alloc, b"}\n")?)?;
     Ok(body)
+}
+
+fn space_before(place: usize) -> &'static [u8]
+    ensures { result.now ≡ space_before place }
+{
+    if place == 0 { b"" } else { b" " }
+}
+
+// The statements of one global, behind those of the ones before.
+fn write_global(
+    alloc: Global,
+    body: &mut Vec<Stmt>,
+    before: &[u8],
+    global: &Variable,
+) -> Result<(), NoMemory>
+    ensures { IfOk result (λ _. (rest : Stmts) → append_stmts (stmts_list body.new.items) rest
+        ≡ append_stmts (stmts_list body.old.items) (write_global before.now (global_of global.now) rest)) }
+{
+    body.push(Stmt::WriteText(name_text(alloc, before, &global.name)?))?;
+    if global.cells > 0 {
+        body.push(Stmt::ForTo(cells_loop(alloc, global, global.cells - 1)?))?;
+    }
+    Ok(())
 }
 
 fn name_text(alloc: Global, before: &[u8], name: &[u8]) -> Result<Vec<u8>, NoMemory>

@@ -1,5 +1,5 @@
 // The program that lists.
-ghost use Rattle.std.specs.Prelude.{◌≡◌, ◌<◌, ◌≤◌, ◌^◌, Err, IfOk, length, map, [], ◌∷◌};
+ghost use Rattle.std.specs.Prelude.{◌≡◌, ◌<◌, Err, IfOk, length, map, [], ◌∷◌};
 ghost use Rattle.alma_ir.specs.Tree.{routine_at};
 ghost use Rattle.alma_ir.specs.View.{program_of, routine_of, global_of};
 ghost use Rattle.alma_ir.specs.Checked.{IsChecked, HaveNoReturn};
@@ -46,33 +46,60 @@ pub fn listing_program(alloc: Global, program: &Program) -> Result<Program, AllE
     if has_return(&program.routines[0].body) {
         return Err(AllError::ModuleReturn);
     }
-    Ok(copy_with_lister(alloc, program)?)
+    Ok(copy_program(alloc, program)?)
 }
 
-const SAME: Moves<'static> = Moves {
-    own: 0,
-    global: 0,
-    routines: &[],
-};
+// Every slot and routine keeps its number.
+fn same_numbers() -> Moves<'static>
+    ensures own { result.own ≡ 0 }
+    ensures global { result.global ≡ 0 }
+    ensures routines { result.routines.now ≡ [] }
+{
+    Moves {
+        own: 0,
+        global: 0,
+        routines: &[],
+    }
+}
 
-fn copy_with_lister(alloc: Global, program: &Program) -> Result<Program, NoMemory>
+fn copy_name(alloc: Global, name: &[u8]) -> Result<Vec<u8>, NoMemory>
+    ensures { IfOk result (λ v. v.items ≡ name.now) }
+{
+    Ok(name.to_vec(alloc)?)
+}
+
+fn copy_program(alloc: Global, program: &Program) -> Result<Program, NoMemory>
     requires body { 0 < length program.now.routines.items }
-    requires few { length program.now.routines.items < 2 ^ 32 }
+    requires few { length program.now.routines.items < 4294967295 }
     ensures { IfOk result (λ q. program_of q ≡ listing_of (program_of program.now)) }
 {
     let routines = &program.routines;
-    let line = routines[0].line;
-    let mut copies = Vec::with_capacity(alloc, routines.len())?;
-    copies.push(listing_body(alloc, &routines[0], routines.len() as u32)?)?;
-    for routine in &routines[1..] {
-        copies.push(copy_routine(alloc, routine, &SAME)?)?;
-    }
-    copies.push(lister(alloc, &program.globals, line)?)?;
     Ok(Program {
-        name: program.name.to_vec(alloc)?,
+        name: copy_name(alloc, &program.name)?,
         globals: copy_globals(alloc, &program.globals)?,
-        routines: copies,
+        routines: copy_routines(alloc, &routines[0], &routines[1..], &program.globals)?,
     })
+}
+
+// The routines, the procedure last: its number is theirs.
+fn copy_routines(
+    alloc: Global,
+    body: &Routine,
+    rest: &[Routine],
+    globals: &[Variable],
+) -> Result<Vec<Routine>, NoMemory>
+    requires few { length rest.now < 4294967295 }
+    ensures { IfOk result (λ v. map routine_of v.items
+        ≡ spec.listing_routines (routine_of body.now ∷ map routine_of rest.now) (map global_of globals.now)) }
+{
+    let number = rest.len() as u32 + 1;
+    let mut copies = Vec::with_capacity(alloc, rest.len())?;
+    copies.push(listing_body(alloc, body, number)?)?;
+    for routine in rest {
+        copies.push(copy_routine(alloc, routine, &same_numbers())?)?;
+    }
+    copies.push(lister(alloc, globals, body.line)?)?;
+    Ok(copies)
 }
 
 fn copy_globals(alloc: Global, globals: &[Variable]) -> Result<Vec<Variable>, NoMemory>
@@ -80,7 +107,7 @@ fn copy_globals(alloc: Global, globals: &[Variable]) -> Result<Vec<Variable>, No
 {
     let mut copies = Vec::with_capacity(alloc, globals.len())?;
     for global in globals {
-        copies.push(copy_global(alloc, global, &SAME)?)?;
+        copies.push(copy_global(alloc, global, &same_numbers())?)?;
     }
     Ok(copies)
 }
@@ -89,7 +116,7 @@ fn copy_globals(alloc: Global, globals: &[Variable]) -> Result<Vec<Variable>, No
 fn listing_body(alloc: Global, body: &Routine, number: u32) -> Result<Routine, NoMemory>
     ensures { IfOk result (λ r. routine_of r ≡ spec.listing_body (routine_of body.now) number) }
 {
-    let mut copy = copy_routine(alloc, body, &SAME)?;
+    let mut copy = copy_routine(alloc, body, &same_numbers())?;
     copy.body.push(Stmt::Test(Test::Call(Call {
         routine: number,
         args: Vec::new(alloc),

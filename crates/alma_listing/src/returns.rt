@@ -30,8 +30,10 @@ fn is_returning(stmt: &Stmt) -> bool
         Stmt::Repeat(body, _) => has_return(body),
         Stmt::ForTo(each) => has_return(&each.body),
         Stmt::SomeOf(each) => has_return(&each.body),
-        Stmt::Case(_, arms, None) => cases_return(arms),
-        Stmt::Case(_, arms, Some(rest)) => cases_return(arms) || has_return(rest),
+        Stmt::Case(_, arms, rest) => match rest {
+            None => cases_return(arms),
+            Some(rest) => cases_return(arms) || has_return(rest),
+        },
         Stmt::Either(branches) => branches_return(branches),
         Stmt::Test(_) | Stmt::Assign(_, _, _) | Stmt::CopyCells(_, _) | Stmt::Forall(_, _) => false,
         Stmt::Commit(_) | Stmt::Read(_, _, _) | Stmt::WriteExpr(_, _) => false,
