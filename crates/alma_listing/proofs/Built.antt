@@ -2,7 +2,7 @@
 use Rattle.std.proofs.Common.{◌≡◌, ℕ, zero, suc, ◌+◌, ◌-◌, ◌<◌, ◌≤◌, List, [], ◌∷◌, ◌++◌, length, get_or, take, drop, map, refl, sym, ap, subst, ◌∙◌, arith}
 use Rattle.std.specs.Prelude.{sum_by, codes}
 use Rattle.std.specs.List.{AllByRecursion}
-use Rattle.std.proofs.lemmas.List.{take_all}
+use Rattle.std.proofs.lemmas.List.{take_all, take_more, map-append}
 use Rattle.std.proofs.lemmas.List.Sums.{sum_by-cons}
 use Rattle.alma_ir.specs.declared.phrase.Stmt as S
 use Rattle.alma_ir.specs.declared.program.Global.{Global as Variable}
@@ -15,7 +15,7 @@ use Rattle.alma_copy.specs.declared.copy.Moves.{Moves as Numbers}
 use Rattle.alma_copy.specs.Moved.{moved_stmts, moved_routine, moved_global}
 use Rattle.alma_copy.specs.Numbers.{slot_behind, number_in, moves_of}
 use Rattle.alma_copy.proofs.Stays.{stmts_stay}
-use Rattle.alma_listing.specs.Lister.{write_cells, write_globals, write_line, cells_loop}
+use Rattle.alma_listing.specs.Lister.{write_cells, write_globals, write_line, cells_loop, list_and_fail, listing_body}
 use Rattle.alma_listing.specs.Inner.{space_before, write_global}
 
 -- ---- pushes
@@ -115,7 +115,29 @@ routine_stays m own global routines r =
 pub global_stays : (m : Numbers) → m.global ≡ 0 → (g : Global) → moved_global (moves_of m) g ≡ g
 global_stays m global g = λ i. record g { slot = slot_stays m.global g.slot global i }
 
+-- the body of the module with more statements and lines
+pub body_is : (r s : Routine) (number : ℕ) (body : Stmts) (lines : List ℕ) → r ≡ s → body ≡ append_stmts r.body (list_and_fail number) → lines ≡ r.lines ++ (s.line ∷ s.line ∷ []) →
+    record r { body = body; lines = lines } ≡ listing_body s number
+body_is r s number body lines same of_body of_lines =
+    λ i. record (same i) {
+      body = (of_body ∙ ap (λ x. append_stmts x.body (list_and_fail number)) same) i;
+      lines = (of_lines ∙ ap (λ x. x.lines ++ (s.line ∷ s.line ∷ [])) same) i;
+    }
+
 -- ---- the routines
+
+-- a turn of a loop behind a first element
+pub next_behind : {X Y Z : Type 0} (f : Y → Z) (g : X → Z) (z : Z) (xs : List X) (i : ℕ) (x : X) (ys new : List Y) (y : Y) → i < length xs → x ≡ get_or xs i x →
+    map f ys ≡ z ∷ map g (take i xs) → f y ≡ g x → new ≡ ys ++ (y ∷ []) → map f new ≡ z ∷ map g (take (i + 1) xs)
+next_behind f g z xs i x ys new y within is before one push =
+    ap (map f) push ∙ map-append f ys (y ∷ []) ∙ (λ k. before k ++ (one k ∷ []))
+    ∙ ap (λ l. z ∷ l) (sym (ap (map g) (take_more xs i x within ∙ ap (λ z. take i xs ++ (z ∷ [])) (sym is)) ∙ map-append g (take i xs) (x ∷ [])))
+
+-- all of them, and the last
+pub routines_are : {X Y Z : Type 0} (f : Y → Z) (g : X → Z) (z w : Z) (xs : List X) (i : ℕ) (ys new : List Y) (y : Y) → length xs ≤ i → map f ys ≡ z ∷ map g (take i xs) → f y ≡ w → new ≡ ys ++ (y ∷ []) →
+    map f new ≡ z ∷ (map g xs ++ (w ∷ []))
+routines_are f g z w xs i ys new y end before last push =
+    ap (map f) push ∙ map-append f ys (y ∷ []) ∙ (λ k. (before ∙ ap (λ l. z ∷ map g l) (take_all i xs end)) k ++ (last k ∷ []))
 
 -- a list with its first taken off
 pub first_and_rest : {X : Type 0} (xs : List X) (x : X) (rest : List X) → 0 < length xs → x ≡ get_or xs 0 x → rest ≡ take (length xs - 1) (drop 1 xs) → xs ≡ x ∷ rest

@@ -1,5 +1,5 @@
 -- A RETURN stands in statements of a checked program exactly where the walk over the statements alone finds one.
-use Rattle.std.proofs.Common.{◌≡◌, Bool, true, false, List, ◌∷◌, ◌++◌, refl, sym, true≢false}
+use Rattle.std.proofs.Common.{◌≡◌, Bool, true, false, List, ◌∷◌, ◌++◌, refl, sym, ap, ◌∙◌, true≢false}
 use Rattle.std.specs.Prelude.{◌||◌}
 use Rattle.std.specs.List.{AllByRecursion}
 use Rattle.alma_ir.specs.declared.phrase.Stmt as S
@@ -51,6 +51,19 @@ branches_step x xs = refl
 pub none_at_end : (stmts_return no_stmts ≡ false) × (arms_return no_arms ≡ false) × (cases_return no_cases ≡ false) × (branches_return no_branches ≡ false)
 unfolding stmts_return
 none_at_end = (refl, refl, refl, refl)
+
+-- the first of two is found, or it is not and the second decides
+pub then_is : (r a b s : Bool) → r ≡ a → true ≡ a → s ≡ (a || b) → r ≡ s
+then_is r a b s h hit e = h ∙ sym hit ∙ ap (λ z. z || b) hit ∙ sym e
+
+pub else_is : (r a b s : Bool) → r ≡ b → false ≡ a → s ≡ (a || b) → r ≡ s
+else_is r a b s h miss e = h ∙ ap (λ z. z || b) miss ∙ sym e
+
+pub none_is : (r a s : Bool) → r ≡ a → s ≡ (a || false) → r ≡ s
+none_is true true s h e = sym e
+none_is true false s h e = h ∙ sym e
+none_is false true s h e = h ∙ sym e
+none_is false false s h e = sym e
 
 -- ---- tests and expressions hold statements in sequences alone, where no RETURN stands
 

@@ -16,13 +16,13 @@ module _ {X : Type 0} (f : List X → Bool) (g : X → Bool) (none : f [] ≡ fa
 
   -- an item that is none of them
   pub missed : (xs : List X) (i : ℕ) (x : X) → i < length xs → x ≡ get_or xs i x → f xs ≡ f (drop i xs) → false ≡ g x → f xs ≡ f (drop (i + 1) xs)
-  missed xs i x within is h no =
+  missed xs i x within is h miss =
       let on : suc i ≡ i + 1 = omega arith in
-      h ∙ item_and_rest xs i x within is ∙ ap (λ b. b || f (drop (suc i) xs)) (sym no) ∙ ap (λ n. f (drop n xs)) on
+      h ∙ item_and_rest xs i x within is ∙ ap (λ b. b || f (drop (suc i) xs)) (sym miss) ∙ ap (λ n. f (drop n xs)) on
 
   -- one that is
   pub found : (xs : List X) (i : ℕ) (x : X) → i < length xs → x ≡ get_or xs i x → f xs ≡ f (drop i xs) → true ≡ g x → true ≡ f xs
-  found xs i x within is h yes = sym (h ∙ item_and_rest xs i x within is ∙ ap (λ b. b || f (drop (suc i) xs)) (sym yes))
+  found xs i x within is h hit = sym (h ∙ item_and_rest xs i x within is ∙ ap (λ b. b || f (drop (suc i) xs)) (sym hit))
 
   -- none was
   pub missed_all : (xs : List X) (i : ℕ) → length xs ≤ i → f xs ≡ f (drop i xs) → false ≡ f xs

@@ -35,9 +35,15 @@ fn is_returning(stmt: &Stmt) -> bool
             Some(rest) => cases_return(arms) || has_return(rest),
         },
         Stmt::Either(branches) => branches_return(branches),
-        Stmt::Test(_) | Stmt::Assign(_, _, _) | Stmt::CopyCells(_, _) | Stmt::Forall(_, _) => false,
-        Stmt::Commit(_) | Stmt::Read(_, _, _) | Stmt::WriteExpr(_, _) => false,
-        Stmt::WriteText(_) | Stmt::WriteLine => false,
+        Stmt::Test(_) => false,
+        Stmt::Assign(_, _, _) => false,
+        Stmt::CopyCells(_, _) => false,
+        Stmt::Forall(_, _) => false,
+        Stmt::Commit(_) => false,
+        Stmt::Read(_, _, _) => false,
+        Stmt::WriteExpr(_, _) => false,
+        Stmt::WriteText(_) => false,
+        Stmt::WriteLine => false,
     }
 }
 
