@@ -1,0 +1,4 @@
+mod WordLemmas
+mod Returns
+mod Plans
+mod Listings
