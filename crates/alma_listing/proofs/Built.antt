@@ -1,13 +1,15 @@
 -- What is pushed behind statements, and what a copy with the same numbers is.
 use Rattle.std.proofs.Common.{◌≡◌, ℕ, zero, suc, ◌+◌, ◌-◌, ◌<◌, ◌≤◌, List, [], ◌∷◌, ◌++◌, length, get_or, take, drop, map, refl, sym, ap, subst, ◌∙◌, arith}
-use Rattle.std.specs.Prelude.{sum_by, codes}
+use Rattle.std.specs.Prelude.{sum_by, slice_index_or, codes}
 use Rattle.std.specs.List.{AllByRecursion}
-use Rattle.std.proofs.lemmas.List.{take_all, take_more, map-append}
+use Rattle.std.proofs.lemmas.List.{take_all, take_more, map-append, length-map}
 use Rattle.std.proofs.lemmas.List.Sums.{sum_by-cons}
 use Rattle.alma_ir.specs.declared.phrase.Stmt as S
 use Rattle.alma_ir.specs.declared.program.Global.{Global as Variable}
-use Rattle.alma_ir.specs.Tree.{Stmts, Stmt, Routine, Global, Program, no_stmts, more_stmts, WriteText, ForTo}
-use Rattle.alma_ir.specs.View.{stmts_list, stmt_of, global_of}
+use Rattle.alma_ir.specs.declared.program.Routine.{Routine as RoutineInMemory}
+use Rattle.alma_ir.specs.declared.program.Program.{Program as InMemory}
+use Rattle.alma_ir.specs.Tree.{Stmts, Stmt, Routine, Global, Program, no_routine, no_stmts, more_stmts, WriteText, ForTo}
+use Rattle.alma_ir.specs.View.{program_of, routine_of, stmts_list, stmt_of, global_of}
 use Rattle.alma_ir.specs.Checked.{IsChecked, IsName}
 use Rattle.alma_resolved.specs.Room.{HasRoom}
 use Rattle.alma_rules.specs.Parts.{append_stmts}
@@ -155,3 +157,17 @@ names_long (r ∷ rs) h = omega (arith, sum_by-cons (λ r. length r.name) r rs, 
 -- a program whose names have room has few routines
 pub few_routines : (p : Program) → IsChecked p → HasRoom p → length p.routines ≤ 4194304
 few_routines p h room = omega (arith, names_long p.routines h.names.routines, room)
+
+-- a checked program in memory has a routine, and few
+pub some_routine : (p : InMemory) → IsChecked (program_of p) → 0 < length p.routines.items
+some_routine p h = let same : length (map routine_of p.routines.items) ≡ length p.routines.items = length-map p.routines.items routine_of in omega (arith, h.body.0, same)
+
+pub few_in_memory : (p : InMemory) → IsChecked (program_of p) → HasRoom (program_of p) → length p.routines.items < 4294967295
+few_in_memory p h room =
+    let same : length (map routine_of p.routines.items) ≡ length p.routines.items = length-map p.routines.items routine_of in
+    omega (arith, few_routines (program_of p) h room, same)
+
+-- the statements of its first routine
+pub first_body : (rs : List RoutineInMemory) (x : RoutineInMemory) (body : List S.Stmt) → 0 < length rs → x ≡ slice_index_or rs 0 x → body ≡ x.body.items → stmts_list body ≡ (get_or (map routine_of rs) 0 no_routine).body
+first_body [] x body some is of_body = absurd (omega (arith, some))
+first_body (y ∷ ys) x body some is of_body = ap stmts_list (of_body ∙ ap (λ r. r.body.items) is)

@@ -2,7 +2,6 @@
 use Rattle.std.proofs.Common.{◌≡◌, ℕ, Bool, true, false, List, [], ◌∷◌, ◌++◌, length, refl, sym, ap, ◌∙◌}
 use Rattle.std.specs.Prelude.{◌||◌, suc, pos}
 use Rattle.std.specs.List.{AllByRecursion, list_any}
-use Rattle.std.proofs.lemmas.Bool.{or-false}
 use Rattle.std.proofs.lemmas.List.Folds.{list_any-append}
 use Rattle.alma_ir.specs.Tree.{Stmts, Program, Routine, Global}
 use Rattle.alma_ir.specs.Phrases.{Phrase, stmts_phrases}
@@ -12,6 +11,10 @@ use Rattle.alma_lower_sound.specs.Reads.{is_read_phrase, program_reads}
 use Rattle.alma_listing.specs.Lister.{lister, list_and_fail, listing_of, write_line}
 use Rattle.alma_listing.specs.Listing.{EachReadsAlike}
 use Rattle.alma_listing.proofs.LineEach.{append_phrases, line_each}
+
+or_false : (b : Bool) → (b || false) ≡ b
+or_false true = refl
+or_false false = refl
 
 -- the phrases of a routine, and whether any is a READ
 abbrev phrases : Routine → List Phrase
@@ -49,7 +52,7 @@ with_last (x ∷ rs) r e =
 with_tail : (x y : Stmts) → some_read (stmts_phrases y) ≡ false → some_read (stmts_phrases (append_stmts x y)) ≡ some_read (stmts_phrases x)
 with_tail x y e =
     ap some_read (append_phrases x y) ∙ list_any-append is_read_phrase (stmts_phrases x) (stmts_phrases y) ∙ ap (λ b. some_read (stmts_phrases x) || b) e
-    ∙ or-false (some_read (stmts_phrases x))
+    ∙ or_false (some_read (stmts_phrases x))
 
 by_routines : (name : List ℕ) (gs : List Global) (rs : List Routine)
     → program_reads (listing_of (record { name = name; globals = gs; routines = rs })) ≡ program_reads (record { name = name; globals = gs; routines = rs })
