@@ -14,7 +14,7 @@ use Rattle.alma_ir.specs.Checked.{IsChecked, IsName}
 use Rattle.alma_resolved.specs.Room.{HasRoom}
 use Rattle.alma_rules.specs.Parts.{append_stmts}
 use Rattle.alma_copy.specs.declared.copy.Moves.{Moves as Numbers}
-use Rattle.alma_copy.specs.Moved.{moved_stmts, moved_routine, moved_global}
+use Rattle.alma_copy.specs.Moved.{moved_routine, moved_global}
 use Rattle.alma_copy.specs.Numbers.{slot_behind, number_in, moves_of}
 use Rattle.alma_copy.proofs.Stays.{stmts_stay}
 use Rattle.alma_listing.specs.Lister.{write_cells, write_globals, write_line, cells_loop, list_and_fail, listing_body}

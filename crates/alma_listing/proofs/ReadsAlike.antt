@@ -1,9 +1,9 @@
 -- The program that lists holds a READ exactly where the listed one does.
 use Rattle.std.proofs.Common.{◌≡◌, ℕ, Bool, true, false, List, [], ◌∷◌, ◌++◌, length, refl, sym, ap, ◌∙◌}
-use Rattle.std.specs.Prelude.{◌||◌, suc, pos}
+use Rattle.std.specs.Prelude.{◌||◌, suc}
 use Rattle.std.specs.List.{AllByRecursion, list_any}
 use Rattle.std.proofs.lemmas.List.Folds.{list_any-append}
-use Rattle.alma_ir.specs.Tree.{Stmts, Program, Routine, Global}
+use Rattle.alma_ir.specs.Tree.{Stmts, Routine, Global}
 use Rattle.alma_ir.specs.Phrases.{Phrase, stmts_phrases}
 use Rattle.alma_rules.specs.Parts.{append_stmts}
 use Rattle.alma_lower_sound.specs.Entries.{of_each}

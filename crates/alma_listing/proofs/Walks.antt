@@ -1,5 +1,5 @@
 -- A loop that looks for the first of a list.
-use Rattle.std.proofs.Common.{◌≡◌, ℕ, zero, suc, ◌+◌, ◌<◌, ◌≤◌, Bool, true, false, List, [], ◌∷◌, length, get_or, drop, refl, sym, ap, ◌∙◌, arith}
+use Rattle.std.proofs.Common.{◌≡◌, ℕ, zero, suc, ◌+◌, ◌<◌, ◌≤◌, Bool, true, false, List, [], ◌∷◌, length, get_or, drop, sym, ap, ◌∙◌, arith}
 use Rattle.std.specs.Prelude.{◌||◌}
 
 module _ {X : Type 0} (f : List X → Bool) (g : X → Bool) (none : f [] ≡ false) (step : (x : X) (xs : List X) → f (x ∷ xs) ≡ (g x || f xs)) where

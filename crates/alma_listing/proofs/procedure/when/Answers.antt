@@ -1,4 +1,4 @@
-use Rattle.std.proofs.Common.{ap, ◌∙◌}
+use Rattle.std.proofs.Common.{ap}
 use Rattle.alma_ir.specs.Tree.{more_arms, no_arms}
 use Rattle.alma_ir.specs.View.{stmts_list}
 use Rattle.alma_ir.proofs.Views

@@ -1,6 +1,6 @@
 -- What is said of the program that lists follows from what it is.
 use Rattle.std.proofs.Common.{◌≡◌, sym, ap, ◌∙◌, subst}
-use Rattle.alma_ir.specs.Tree.{Stmts, routine_at}
+use Rattle.alma_ir.specs.Tree.{routine_at}
 use Rattle.alma_ir.specs.View.{program_of, stmts_list}
 use Rattle.alma_ir.specs.Checked.{IsChecked}
 use Rattle.alma_lower_sound.specs.Reads.{program_reads}
