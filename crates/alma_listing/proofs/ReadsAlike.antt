@@ -34,14 +34,17 @@ anything (g ∷ gs) = (tt, anything gs)
 line_reads_none : (gs : List Global) → some_read (stmts_phrases (write_line gs)) ≡ false
 line_reads_none gs =
     none_reads (stmts_phrases (write_line gs))
-    (line_each (λ x. is_read_phrase x ≡ false) (λ slot cells. Unit {0}) (λ t. refl) (λ v. refl) refl refl refl refl (λ slot last g. refl) (λ slot last g. refl) (λ slot last g. refl) (λ slot last g. refl) (λ slot last g. refl) (λ slot last g. refl) (λ slot last g. refl) (λ slot last g. refl) gs (anything gs))
+    (line_each (λ x. is_read_phrase x ≡ false) (λ slot cells. Unit {0}) (λ t. refl) (λ v. refl) refl refl refl refl (λ slot last g. refl)
+    (λ slot last g. refl) (λ slot last g. refl) (λ slot last g. refl) (λ slot last g. refl) (λ slot last g. refl)
+    (λ slot last g. refl) (λ slot last g. refl) gs (anything gs))
 
 tail_reads_none : (r : ℕ) → some_read (stmts_phrases (list_and_fail r)) ≡ false
 unfolding stmts_phrases
 tail_reads_none r = refl
 
 -- a routine with no READ behind others
-with_last : (rs : List Routine) (r : Routine) → some_read (phrases r) ≡ false → some_read (of_each phrases (rs ++ (r ∷ []))) ≡ some_read (of_each phrases rs)
+with_last : (rs : List Routine) (r : Routine) → some_read (phrases r) ≡ false → some_read (of_each phrases (rs ++ (r ∷ []))) ≡ some_read
+    (of_each phrases rs)
 with_last [] r e = list_any-append is_read_phrase (phrases r) [] ∙ ap (λ b. b || false) e
 with_last (x ∷ rs) r e =
     list_any-append is_read_phrase (phrases x) (of_each phrases (rs ++ (r ∷ [])))
@@ -51,11 +54,13 @@ with_last (x ∷ rs) r e =
 -- statements with no READ behind others
 with_tail : (x y : Stmts) → some_read (stmts_phrases y) ≡ false → some_read (stmts_phrases (append_stmts x y)) ≡ some_read (stmts_phrases x)
 with_tail x y e =
-    ap some_read (append_phrases x y) ∙ list_any-append is_read_phrase (stmts_phrases x) (stmts_phrases y) ∙ ap (λ b. some_read (stmts_phrases x) || b) e
+    ap some_read (append_phrases x y) ∙ list_any-append is_read_phrase (stmts_phrases x) (stmts_phrases y)
+    ∙ ap (λ b. some_read (stmts_phrases x) || b) e
     ∙ or_false (some_read (stmts_phrases x))
 
 by_routines : (name : List ℕ) (gs : List Global) (rs : List Routine)
-    → program_reads (listing_of (record { name = name; globals = gs; routines = rs })) ≡ program_reads (record { name = name; globals = gs; routines = rs })
+    → program_reads (listing_of (record { name = name; globals = gs; routines = rs })) ≡ program_reads
+    (record { name = name; globals = gs; routines = rs })
 by_routines name gs [] = refl
 by_routines name gs (body ∷ rest) =
     let number : ℕ = suc (length rest) in

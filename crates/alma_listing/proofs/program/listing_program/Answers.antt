@@ -33,7 +33,8 @@ returns-clause-taken c =
 
 pub returns-clause-checked : goal.returns-clause-checked
 returns-clause-checked c =
-    subst (λ q. IsChecked q) (sym c.in_ok-copy_program.ensures) (lister_is_checked (program_of c.args.program.now) c.requires.checked c.requires.room)
+    subst (λ q. IsChecked q) (sym c.in_ok-copy_program.ensures)
+    (lister_is_checked (program_of c.args.program.now) c.requires.checked c.requires.room)
 
 pub returns-clause-lists : goal.returns-clause-lists
 returns-clause-lists c =
