@@ -46,7 +46,8 @@ offset k = grind (arith, ints)
 -- the statement that writes a cell, with the lines of those inside it
 abbrev pub cell_if : (slot last a c : ℕ) → Stmt
 cell_if slot last a c =
-    If (more_arms (Value (Known (cell_of_global slot last))) (more_stmts a (WriteExpr (Load (cell_of_global slot last)) write_as.Int) no_stmts) no_arms)
+    If (more_arms (Value (Known (cell_of_global slot last)))
+    (more_stmts a (WriteExpr (Load (cell_of_global slot last)) write_as.Int) no_stmts) no_arms)
     (more_stmts c (WriteText (codes "?")) no_stmts)
 
 -- the comma before each cell but the first
@@ -71,9 +72,11 @@ module _ (p : Program) (input : List ℕ) (b : Level) (f : Frame) (r k : ℕ) (y
     abbrev place : Place
     place = record { frame = 0; slot = slot + k; size = 1 }
 
-    part_gives : {C : Type 0} (t : Store) (q : Place) → Writes Place (Gives t (part q k 1)) C 0 [] (index_place t q (pos k) (cell_range last) 1)
+    part_gives : {C : Type 0} (t : Store) (q : Place) → Writes Place (Gives t (part q k 1)) C 0 []
+        (index_place t q (pos k) (cell_range last) 1)
     part_gives {C = C} t q =
-        subst (λ w. Writes Place (Gives t (part q k 1)) C 0 [] (fault_unless fault.Index w (λ _. one t (part q (nat_abs (pos k -ℤ pos 0) * 1) 1)))) (sym (in_range k last le))
+        subst (λ w. Writes Place (Gives t (part q k 1)) C 0 []
+        (fault_unless fault.Index w (λ _. one t (part q (nat_abs (pos k -ℤ pos 0) * 1) 1)))) (sym (in_range k last le))
         (w_done (refl, ap (λ o. part q o 1) (offset k)))
 
     whole : Place
@@ -82,9 +85,11 @@ module _ (p : Program) (input : List ℕ) (b : Level) (f : Frame) (r k : ℕ) (y
     pub desig_gives : {C : Type 0} → Writes Place (Gives here place) C 8 [] (ev_desig p input b (cell_of_global slot last) here)
     unfolding ev_stmts whole
     desig_gives {C = C} =
-        let index_of : (t : Store) (v : ℤ) → Gives here (pos k) t v → Writes Place (Gives here place) C 0 [] (index_place t whole v (cell_range last) 1) =
+        let index_of : (t : Store) (v : ℤ) → Gives here (pos k) t v → Writes Place (Gives here place) C 0 []
+        (index_place t whole v (cell_range last) 1) =
         λ t v h. subst (λ u. Writes Place (Gives here place) C 0 [] (index_place u whole v (cell_range last) 1)) (sym h.0)
-        (subst (λ u. Writes Place (Gives here place) C 0 [] (index_place here whole u (cell_range last) 1)) (sym h.1) (part_gives here whole)) in
+        (subst (λ u. Writes Place (Gives here place) C 0 [] (index_place here whole u (cell_range last) 1)) (sym h.1)
+        (part_gives here whole)) in
         w_noded (w_alone (w_bound 0 [] (w_noded (w_bound 0 [] index_gives index_of)) (λ t q h. w_done h)))
 
     -- what stands in the cell
@@ -93,46 +98,60 @@ module _ (p : Program) (input : List ℕ) (b : Level) (f : Frame) (r k : ℕ) (y
 
     known_gives : {C : Type 0} → Writes ℤ (Gives here (known_bit cell)) C 10 [] (ev_expr p input b (Known (cell_of_global slot last)) here)
     unfolding ev_stmts
-    known_gives = w_noded (w_bound 0 [] desig_gives (λ t q h. w_done (h.0, ap known_bit (ap (λ u. cell_of u q) h.0 ∙ ap (λ u. cell_of here u) h.1))))
+    known_gives =
+        w_noded (w_bound 0 [] desig_gives (λ t q h. w_done (h.0, ap known_bit (ap (λ u. cell_of u q) h.0 ∙ ap (λ u. cell_of here u) h.1))))
 
-    test_succeeds : {C : Type 0} → known_bit cell ≡ pos 1 → Writes NoYield (Is here) C 12 [] (ev_test p input b (Value (Known (cell_of_global slot last))) here)
+    test_succeeds : {C : Type 0} → known_bit cell ≡ pos 1 → Writes NoYield (Is here) C 12 []
+        (ev_test p input b (Value (Known (cell_of_global slot last))) here)
     unfolding ev_stmts
     test_succeeds {C = C} e = w_noded (w_bound 0 [] known_gives (λ t v h.
         subst (λ n. Writes NoYield (Is here) C 0 [] (if_true (is_zero n) (λ _. Fail) (λ _. one t tt))) (sym (h.1 ∙ e)) (w_done h.0)))
 
-    test_fails : {C : Type 0} → known_bit cell ≡ pos 0 → Closes C 12 [] Failed (ev_test p input b (Value (Known (cell_of_global slot last))) here)
+    test_fails : {C : Type 0} → known_bit cell ≡ pos 0 →
+        Closes C 12 [] Failed (ev_test p input b (Value (Known (cell_of_global slot last))) here)
     unfolding ev_stmts
     test_fails {C = C} e = c_visit (c_visited (c_more 11 (w_closed 0 [] known_gives (λ t v h.
         subst (λ n. Closes C 0 [] Failed (if_true (is_zero n) (λ _. Fail) (λ _. one t tt))) (sym (h.1 ∙ e)) c_fail)) (omega arith)))
 
-    load_gives : {C : Type 0} (v : ℤ) → cell ≡ Number v → Writes ℤ (Gives here v) C 10 [] (ev_expr p input b (Load (cell_of_global slot last)) here)
+    load_gives : {C : Type 0} (v : ℤ) → cell ≡ Number v → Writes ℤ (Gives here v) C 10 []
+        (ev_expr p input b (Load (cell_of_global slot last)) here)
     unfolding ev_stmts
     load_gives {C = C} v e = w_noded (w_bound 0 [] desig_gives (λ t q h.
-        subst (λ c. Writes ℤ (Gives here v) C 0 [] (read_cell c (λ n. one t n))) (sym (ap (λ u. cell_of u q) h.0 ∙ ap (λ u. cell_of here u) h.1 ∙ e)) (w_done (h.0, refl))))
+        subst (λ c. Writes ℤ (Gives here v) C 0 [] (read_cell c (λ n. one t n)))
+        (sym (ap (λ u. cell_of u q) h.0 ∙ ap (λ u. cell_of here u) h.1 ∙ e)) (w_done (h.0, refl))))
 
-    number_written : {C : Type 0} (line : ℕ) (v : ℤ) → cell ≡ Number v → Writes NoYield (Is here) C 12 (signed_decimal v) (ev_stmts p input b (more_stmts line (WriteExpr (Load (cell_of_global slot last)) write_as.Int) no_stmts) here)
+    number_written : {C : Type 0} (line : ℕ) (v : ℤ) → cell ≡ Number v → Writes NoYield (Is here) C 12 (signed_decimal v)
+        (ev_stmts p input b (more_stmts line (WriteExpr (Load (cell_of_global slot last)) write_as.Int) no_stmts) here)
     unfolding ev_stmts
     number_written {C = C} line v e =
-        w_says (append-nil _ ∙ append-nil _) (w_bound 0 [] (w_lined line (w_noded (w_bound 0 (signed_decimal v ++ []) (load_gives v e) (λ t n h.
-        subst (λ m. Writes NoYield (Is here) C 0 (signed_decimal v ++ []) (Print (signed_decimal m) (one t tt))) (sym h.1) (w_print (w_done h.0)))))) (λ t _ h. w_done h))
+        w_says (append-nil _ ∙ append-nil _)
+        (w_bound 0 [] (w_lined line (w_noded (w_bound 0 (signed_decimal v ++ []) (load_gives v e) (λ t n h.
+        subst (λ m. Writes NoYield (Is here) C 0 (signed_decimal v ++ []) (Print (signed_decimal m) (one t tt))) (sym h.1)
+        (w_print (w_done h.0)))))) (λ t _ h. w_done h))
 
-    mark_written : {C : Type 0} (line : ℕ) → Writes NoYield (Is here) C 2 (codes "?") (ev_stmts p input b (more_stmts line (WriteText (codes "?")) no_stmts) here)
+    mark_written : {C : Type 0} (line : ℕ) → Writes NoYield (Is here) C 2 (codes "?")
+        (ev_stmts p input b (more_stmts line (WriteText (codes "?")) no_stmts) here)
     unfolding ev_stmts
     mark_written line = w_visit (w_print (w_visit (w_done refl)))
 
-    known_written : {C : Type 0} (a c : ℕ) (v : ℤ) → cell ≡ Number v → Writes NoYield (Is here) C 28 (signed_decimal v) (ev_stmt p input b (cell_if slot last a c) here)
+    known_written : {C : Type 0} (a c : ℕ) (v : ℤ) → cell ≡ Number v → Writes NoYield (Is here) C 28 (signed_decimal v)
+        (ev_stmt p input b (cell_if slot last a c) here)
     unfolding ev_stmts
     known_written {C = C} a c v e =
-        let body_of : (t : Store) (g : Flow NoYield) → Taken (Is here) t g → Writes NoYield (Is here) C 13 (signed_decimal v) (visit_each (ev_stmts p input b (more_stmts a (WriteExpr (Load (cell_of_global slot last)) write_as.Int) no_stmts) t)) =
-        λ t g h. subst (λ u. Writes NoYield (Is here) C 13 (signed_decimal v) (visit_each (ev_stmts p input b (more_stmts a (WriteExpr (Load (cell_of_global slot last)) write_as.Int) no_stmts) u)))
+        let body_of : (t : Store) (g : Flow NoYield) → Taken (Is here) t g → Writes NoYield (Is here) C 13 (signed_decimal v)
+        (visit_each (ev_stmts p input b (more_stmts a (WriteExpr (Load (cell_of_global slot last)) write_as.Int) no_stmts) t)) =
+        λ t g h. subst (λ u. Writes NoYield (Is here) C 13 (signed_decimal v)
+        (visit_each (ev_stmts p input b (more_stmts a (WriteExpr (Load (cell_of_global slot last)) write_as.Int) no_stmts) u)))
         (sym (taken_is t g h)) (w_visited (number_written a v e)) in
         w_noded (w_visit (w_first _ 13 (signed_decimal v) (test_succeeds (ap known_bit e)) body_of))
 
-    unknown_written : {C : Type 0} (a c : ℕ) → known_bit cell ≡ pos 0 → Writes NoYield (Is here) C 28 (codes "?") (ev_stmt p input b (cell_if slot last a c) here)
+    unknown_written : {C : Type 0} (a c : ℕ) → known_bit cell ≡ pos 0 → Writes NoYield (Is here) C 28 (codes "?")
+        (ev_stmt p input b (cell_if slot last a c) here)
     unfolding ev_stmts
     unknown_written a c e = w_more 28 (w_noded (w_visit (c_first _ 2 [] (codes "?") (test_fails e) (λ _. mark_written c)))) (omega arith)
 
-    pub cell_written : {C : Type 0} (a c : ℕ) → Writes NoYield (Is here) C 28 (cell_text cell) (ev_stmt p input b (cell_if slot last a c) here)
+    pub cell_written : {C : Type 0} (a c : ℕ) → Writes NoYield (Is here) C 28 (cell_text cell)
+        (ev_stmt p input b (cell_if slot last a c) here)
     cell_written {C = C} a c = by_cell cell refl
       where
         by_cell : (x : Cell) → cell ≡ x → Writes NoYield (Is here) C 28 (cell_text cell) (ev_stmt p input b (cell_if slot last a c) here)
@@ -150,15 +169,18 @@ module _ (p : Program) (input : List ℕ) (b : Level) (f : Frame) (r k : ℕ) (y
   index_fails {C = C} e = c_visit (c_visited (c_more 5 (w_closed 0 [] index_gives (λ t v h.
       subst (λ m. Closes C 0 [] Failed (if_true (is_zero m) (λ _. Fail) (λ _. one t tt))) (sym (h.1 ∙ ap pos e)) c_fail)) (omega arith)))
 
-  comma_text : {C : Type 0} (line : ℕ) → Writes NoYield (Is here) C 2 (codes ",") (ev_stmts p input b (more_stmts line (WriteText (codes ",")) no_stmts) here)
+  comma_text : {C : Type 0} (line : ℕ) → Writes NoYield (Is here) C 2 (codes ",")
+      (ev_stmts p input b (more_stmts line (WriteText (codes ",")) no_stmts) here)
   unfolding ev_stmts
   comma_text line = w_visit (w_print (w_visit (w_done refl)))
 
   some_comma : {C : Type 0} (a n : ℕ) → k ≡ suc n → Writes NoYield (Is here) C 12 (codes ",") (ev_stmt p input b (comma_if a) here)
   unfolding ev_stmts
   some_comma {C = C} a n e =
-      let body_of : (t : Store) (g : Flow NoYield) → Taken (Is here) t g → Writes NoYield (Is here) C 3 (codes ",") (visit_each (ev_stmts p input b (more_stmts a (WriteText (codes ",")) no_stmts) t)) =
-      λ t g h. subst (λ u. Writes NoYield (Is here) C 3 (codes ",") (visit_each (ev_stmts p input b (more_stmts a (WriteText (codes ",")) no_stmts) u)))
+      let body_of : (t : Store) (g : Flow NoYield) → Taken (Is here) t g → Writes NoYield (Is here) C 3 (codes ",")
+      (visit_each (ev_stmts p input b (more_stmts a (WriteText (codes ",")) no_stmts) t)) =
+      λ t g h. subst (λ u. Writes NoYield (Is here) C 3 (codes ",")
+      (visit_each (ev_stmts p input b (more_stmts a (WriteText (codes ",")) no_stmts) u)))
       (sym (taken_is t g h)) (w_visited (comma_text a)) in
       w_noded (w_visit (w_first _ 3 (codes ",") (index_succeeds n e) body_of))
 

@@ -38,7 +38,8 @@ prints_front c_fault = ([], refl)
 prints_front c_end = ([], refl)
 prints_front (c_cut {out = out} c) = (out, refl)
 
-pub prints_whole : {C : Type 0} {v : ℕ} {out : List ℕ} {z : End} {e : Events NoYield} → Closes C v out z e → ends_in_cut e ≡ false → (prints e ≡ out) × (closes e ≡ z)
+pub prints_whole : {C : Type 0} {v : ℕ} {out : List ℕ} {z : End} {e : Events NoYield} → Closes C v out z e → ends_in_cut e ≡ false →
+    (prints e ≡ out) × (closes e ≡ z)
 prints_whole (c_visit h) n = prints_whole h n
 prints_whole (c_print {b = b} h) n = let r = prints_whole h n in (ap (λ x. b ++ x) r.0, r.1)
 prints_whole c_fail n = (refl, refl)
@@ -61,7 +62,8 @@ is_cut Failed = false
 is_cut (Faulted x l) = false
 is_cut CutOff = true
 
-pub never_cut : {C : Type 0} {v : ℕ} {out : List ℕ} {z : End} {e : Events NoYield} → Closes C v out z e → (C → ⊥) → is_cut z ≡ false → ends_in_cut e ≡ false
+pub never_cut : {C : Type 0} {v : ℕ} {out : List ℕ} {z : End} {e : Events NoYield} → Closes C v out z e → (C → ⊥) → is_cut z ≡ false →
+    ends_in_cut e ≡ false
 never_cut (c_visit h) never k = never_cut h never k
 never_cut (c_print h) never k = never_cut h never k
 never_cut c_fail never k = refl
@@ -99,7 +101,8 @@ c_weaker up c_end = c_end
 c_weaker up (c_cut c) = c_cut (up c)
 
 -- a list that fails, and then another
-pub c_joined : {C : Type 0} {v w : ℕ} {out more : List ℕ} {z : End} {e f : Events NoYield} → Closes C v out Failed e → Closes C w more z f → Closes C (v + w) (out ++ more) z (join e f)
+pub c_joined : {C : Type 0} {v w : ℕ} {out more : List ℕ} {z : End} {e f : Events NoYield} → Closes C v out Failed e →
+    Closes C w more z f → Closes C (v + w) (out ++ more) z (join e f)
 c_joined {w = w} {more = more} {z = z} (c_visit {v = v} {out = out} {e = e} h) k =
     let r = c_joined h k in c_more (suc v + w) (c_visit r) (omega arith)
 c_joined {C = C} {w = w} {more = more} {z = z} {f = f} (c_print {v = v} {b = b} {out = out} {e = e} h) k =
@@ -118,8 +121,10 @@ c_visited (c_cut c) = c_cut c
 
 -- where each alternative of a list of stores of one frame goes on, and what stands in its place
 -- prints the line of its store and fails, the listing of the list is printed
-pub lists : {C : Type 0} (V : ℕ) (gs : List Global) {K : Store → Events NoYield} → ((t : Store) → length t ≡ 1 → Closes C V (line_of_store gs t) Failed (K t))
-    → {e e2 : Events NoYield} → Alike NoYield 1 (Unit {0}) e e2 → Closes C (visit_count e2 + V * alternatives e2) (listed gs e2) (closes e2) (bind e (λ t _. K t))
+pub lists : {C : Type 0} (V : ℕ) (gs : List Global) {K : Store → Events NoYield} →
+    ((t : Store) → length t ≡ 1 → Closes C V (line_of_store gs t) Failed (K t))
+    → {e e2 : Events NoYield} → Alike NoYield 1 (Unit {0}) e e2 → Closes C (visit_count e2 + V * alternatives e2) (listed gs e2)
+    (closes e2) (bind e (λ t _. K t))
 lists V gs h (on_visit {f = f} k) = c_more (suc (visit_count f) + V * alternatives f) (c_visit (lists V gs h k)) (omega arith)
 lists V gs h (on_print k) = c_print (lists V gs h k)
 lists V gs h (on_alt {s = s} {w = Go y} {f = f} l g k) =

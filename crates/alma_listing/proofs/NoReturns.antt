@@ -32,23 +32,28 @@ in_either false b e f g = g e
 
 -- ---- lists as the program holds them
 
-pub stmts_step : (x : S.Stmt) (xs : List S.Stmt) → stmts_return (stmts_list (x ∷ xs)) ≡ (stmt_returns (stmt_of x) || stmts_return (stmts_list xs))
+pub stmts_step : (x : S.Stmt) (xs : List S.Stmt) → stmts_return (stmts_list (x ∷ xs)) ≡
+    (stmt_returns (stmt_of x) || stmts_return (stmts_list xs))
 unfolding stmts_return
 stmts_step x xs = refl
 
-pub arms_step : (x : Arm) (xs : List Arm) → arms_return (arms_list (x ∷ xs)) ≡ (stmts_return (stmts_list x.body.items) || arms_return (arms_list xs))
+pub arms_step : (x : Arm) (xs : List Arm) → arms_return (arms_list (x ∷ xs)) ≡
+    (stmts_return (stmts_list x.body.items) || arms_return (arms_list xs))
 unfolding stmts_return
 arms_step x xs = refl
 
-pub cases_step : (x : CaseArm) (xs : List CaseArm) → cases_return (cases_list (x ∷ xs)) ≡ (stmts_return (stmts_list x.body.items) || cases_return (cases_list xs))
+pub cases_step : (x : CaseArm) (xs : List CaseArm) → cases_return (cases_list (x ∷ xs)) ≡
+    (stmts_return (stmts_list x.body.items) || cases_return (cases_list xs))
 unfolding stmts_return
 cases_step x xs = refl
 
-pub branches_step : (x : Branch) (xs : List Branch) → branches_return (branches_list (x ∷ xs)) ≡ (stmts_return (stmts_list x.body.items) || branches_return (branches_list xs))
+pub branches_step : (x : Branch) (xs : List Branch) → branches_return (branches_list (x ∷ xs)) ≡
+    (stmts_return (stmts_list x.body.items) || branches_return (branches_list xs))
 unfolding stmts_return
 branches_step x xs = refl
 
-pub none_at_end : (stmts_return no_stmts ≡ false) × (arms_return no_arms ≡ false) × (cases_return no_cases ≡ false) × (branches_return no_branches ≡ false)
+pub none_at_end : (stmts_return no_stmts ≡ false) × (arms_return no_arms ≡ false) × (cases_return no_cases ≡ false) ×
+    (branches_return no_branches ≡ false)
 unfolding stmts_return
 none_at_end = (refl, refl, refl, refl)
 
@@ -144,8 +149,11 @@ mutual
   stmt_plain (ForTo x) none h = (tt, loop_plain x none h.1)
   stmt_plain (SomeOf x) none h = (tt, loop_plain x none h.1)
   stmt_plain (Case e arms rest) none h =
-      let b : (cases_return arms ≡ false) × (else_returns rest ≡ false) = both_false (cases_return arms) (else_returns rest) none in
-      (tt, two (expr_phrases e ++ cases_phrases arms) (else_phrases rest) (two (expr_phrases e) (cases_phrases arms) (expr_plain e) (cases_plain arms b.0)) (else_plain rest b.1) h.1)
+      let b : (cases_return arms ≡ false) × (else_returns rest ≡ false) = both_false (cases_return arms) (else_returns rest) none in (
+        tt,
+        two (expr_phrases e ++ cases_phrases arms) (else_phrases rest)
+            (two (expr_phrases e) (cases_phrases arms) (expr_plain e) (cases_plain arms b.0)) (else_plain rest b.1) h.1,
+      )
   stmt_plain (Either x) none h = (tt, branches_plain x none h.1)
   stmt_plain (Forall x y) none h = (tt, each_of_append IsNoReturn (stmts_phrases x) (stmts_phrases y) h.0.0 h.0.1)
   stmt_plain (Commit x) none h = (tt, h.0)
@@ -159,7 +167,8 @@ mutual
   arms_plain no_arms none h = tt
   arms_plain (more_arms t body rest) none h =
       let b : (stmts_return body ≡ false) × (arms_return rest ≡ false) = both_false (stmts_return body) (arms_return rest) none in
-      two (test_phrases t ++ stmts_phrases body) (arms_phrases rest) (two (test_phrases t) (stmts_phrases body) (test_plain t) (stmts_plain body b.0)) (arms_plain rest b.1) h
+      two (test_phrases t ++ stmts_phrases body) (arms_phrases rest)
+      (two (test_phrases t) (stmts_phrases body) (test_plain t) (stmts_plain body b.0)) (arms_plain rest b.1) h
 
   cases_plain : (x : CaseArms) → cases_return x ≡ false → Stay (cases_phrases x) → Plain (cases_phrases x)
   cases_plain no_cases none h = tt
@@ -179,7 +188,9 @@ mutual
 
   loop_plain : (x : Loop) → loop_returns x ≡ false → Stay (loop_phrases x) → Plain (loop_phrases x)
   loop_plain (a_loop d range counter limit from to by body) none h =
-      two ((desig_phrases d ++ expr_phrases from) ++ expr_phrases to) (stmts_phrases body) (two (desig_phrases d ++ expr_phrases from) (expr_phrases to) (two (desig_phrases d) (expr_phrases from) (desig_plain d) (expr_plain from)) (expr_plain to)) (stmts_plain body none) h
+      two ((desig_phrases d ++ expr_phrases from) ++ expr_phrases to) (stmts_phrases body)
+      (two (desig_phrases d ++ expr_phrases from) (expr_phrases to)
+      (two (desig_phrases d) (expr_phrases from) (desig_plain d) (expr_plain from)) (expr_plain to)) (stmts_plain body none) h
 
 -- ---- where one is found there is one
 
@@ -189,21 +200,28 @@ mutual
   pub stmts_some : (x : Stmts) → stmts_return x ≡ true → Plain (stmts_phrases x) → ⊥
   stmts_some no_stmts some h = true≢false (sym some)
   stmts_some (more_stmts line x rest) some h =
-      in_either (stmt_returns x) (stmts_return rest) some (λ e. stmt_some x e (each_of_front IsNoReturn (stmt_phrases x) (stmts_phrases rest) h)) (λ e. stmts_some rest e (each_of_back IsNoReturn (stmt_phrases x) (stmts_phrases rest) h))
+      in_either (stmt_returns x) (stmts_return rest) some
+      (λ e. stmt_some x e (each_of_front IsNoReturn (stmt_phrases x) (stmts_phrases rest) h))
+      (λ e. stmts_some rest e (each_of_back IsNoReturn (stmt_phrases x) (stmts_phrases rest) h))
 
   stmt_some : (x : Stmt) → stmt_returns x ≡ true → Plain (stmt_phrases x) → ⊥
   stmt_some (TestStmt t) some h = true≢false (sym some)
   stmt_some (Assign d e range) some h = true≢false (sym some)
   stmt_some (CopyCells d e) some h = true≢false (sym some)
   stmt_some (If arms rest) some h =
-      in_either (arms_return arms) (stmts_return rest) some (λ e. arms_some arms e (each_of_front IsNoReturn (arms_phrases arms) (stmts_phrases rest) h.1)) (λ e. stmts_some rest e (each_of_back IsNoReturn (arms_phrases arms) (stmts_phrases rest) h.1))
+      in_either (arms_return arms) (stmts_return rest) some
+      (λ e. arms_some arms e (each_of_front IsNoReturn (arms_phrases arms) (stmts_phrases rest) h.1))
+      (λ e. stmts_some rest e (each_of_back IsNoReturn (arms_phrases arms) (stmts_phrases rest) h.1))
   stmt_some (While t body) some h = stmts_some body some (each_of_back IsNoReturn (test_phrases t) (stmts_phrases body) h.1)
   stmt_some (Repeat body t) some h = stmts_some body some (each_of_front IsNoReturn (stmts_phrases body) (test_phrases t) h.1)
   stmt_some (ForTo x) some h = loop_some x some h.1
   stmt_some (SomeOf x) some h = loop_some x some h.1
   stmt_some (Case e arms rest) some h =
       let front : List Phrase = expr_phrases e ++ cases_phrases arms in
-      in_either (cases_return arms) (else_returns rest) some (λ f. cases_some arms f (each_of_back IsNoReturn (expr_phrases e) (cases_phrases arms) (each_of_front IsNoReturn front (else_phrases rest) h.1))) (λ f. else_some rest f (each_of_back IsNoReturn front (else_phrases rest) h.1))
+      in_either (cases_return arms) (else_returns rest) some
+      (λ f. cases_some arms f
+      (each_of_back IsNoReturn (expr_phrases e) (cases_phrases arms) (each_of_front IsNoReturn front (else_phrases rest) h.1)))
+      (λ f. else_some rest f (each_of_back IsNoReturn front (else_phrases rest) h.1))
   stmt_some (Either x) some h = branches_some x some h.1
   stmt_some (Forall x y) some h = true≢false (sym some)
   stmt_some (Commit x) some h = true≢false (sym some)
@@ -217,12 +235,17 @@ mutual
   arms_some no_arms some h = true≢false (sym some)
   arms_some (more_arms t body rest) some h =
       let front : List Phrase = test_phrases t ++ stmts_phrases body in
-      in_either (stmts_return body) (arms_return rest) some (λ e. stmts_some body e (each_of_back IsNoReturn (test_phrases t) (stmts_phrases body) (each_of_front IsNoReturn front (arms_phrases rest) h))) (λ e. arms_some rest e (each_of_back IsNoReturn front (arms_phrases rest) h))
+      in_either (stmts_return body) (arms_return rest) some
+      (λ e. stmts_some body e
+      (each_of_back IsNoReturn (test_phrases t) (stmts_phrases body) (each_of_front IsNoReturn front (arms_phrases rest) h)))
+      (λ e. arms_some rest e (each_of_back IsNoReturn front (arms_phrases rest) h))
 
   cases_some : (x : CaseArms) → cases_return x ≡ true → Plain (cases_phrases x) → ⊥
   cases_some no_cases some h = true≢false (sym some)
   cases_some (more_cases labels body rest) some h =
-      in_either (stmts_return body) (cases_return rest) some (λ e. stmts_some body e (each_of_front IsNoReturn (stmts_phrases body) (cases_phrases rest) h)) (λ e. cases_some rest e (each_of_back IsNoReturn (stmts_phrases body) (cases_phrases rest) h))
+      in_either (stmts_return body) (cases_return rest) some
+      (λ e. stmts_some body e (each_of_front IsNoReturn (stmts_phrases body) (cases_phrases rest) h))
+      (λ e. cases_some rest e (each_of_back IsNoReturn (stmts_phrases body) (cases_phrases rest) h))
 
   else_some : (x : Else) → else_returns x ≡ true → Plain (else_phrases x) → ⊥
   else_some no_else some h = true≢false (sym some)
@@ -231,7 +254,9 @@ mutual
   branches_some : (x : Branches) → branches_return x ≡ true → Plain (branches_phrases x) → ⊥
   branches_some no_branches some h = true≢false (sym some)
   branches_some (more_branches body rest) some h =
-      in_either (stmts_return body) (branches_return rest) some (λ e. stmts_some body e (each_of_front IsNoReturn (stmts_phrases body) (branches_phrases rest) h)) (λ e. branches_some rest e (each_of_back IsNoReturn (stmts_phrases body) (branches_phrases rest) h))
+      in_either (stmts_return body) (branches_return rest) some
+      (λ e. stmts_some body e (each_of_front IsNoReturn (stmts_phrases body) (branches_phrases rest) h))
+      (λ e. branches_some rest e (each_of_back IsNoReturn (stmts_phrases body) (branches_phrases rest) h))
 
   loop_some : (x : Loop) → loop_returns x ≡ true → Plain (loop_phrases x) → ⊥
   loop_some (a_loop d range counter limit from to by body) some h =

@@ -30,7 +30,8 @@ pub data Alike (A : Type 0) (n : ℕ) (G : Type 0) : Events A → Events A → T
 -- routines, also the body of the module, have the same result and declare as many cells
 pub record HaveSame (p q : Program) : Type 0 where
   pub procedures : (r : ℕ) → 0 < r → r < length p.routines → routine_at q r ≡ routine_at p r
-  pub calls : (r : ℕ) → 0 < r → r < length p.routines → AllByRecursion (λ x. CalleeExists p x) (stmts_phrases (body_with_lines (routine_at p r)))
+  pub calls : (r : ℕ) → 0 < r → r < length p.routines → AllByRecursion (λ x. CalleeExists p x)
+      (stmts_phrases (body_with_lines (routine_at p r)))
   pub results : (r : ℕ) → (routine_at q r).result ≡ (routine_at p r).result
   pub declared : (r : ℕ) → (routine_at q r).declared ≡ (routine_at p r).declared
 

@@ -29,7 +29,8 @@ write_comma = If (more_arms (Value index) (more_stmts 0 (WriteText (codes ",")) 
 -- the cell, or a question mark where it is unknown
 abbrev pub write_cell : (slot last : ℕ) → Stmt
 write_cell slot last =
-    If (more_arms (Value (Known (cell_of_global slot last))) (more_stmts 0 (WriteExpr (Load (cell_of_global slot last)) write_as.Int) no_stmts) no_arms)
+    If (more_arms (Value (Known (cell_of_global slot last)))
+    (more_stmts 0 (WriteExpr (Load (cell_of_global slot last)) write_as.Int) no_stmts) no_arms)
     (more_stmts 0 (WriteText (codes "?")) no_stmts)
 
 -- all cells, by a loop

@@ -37,7 +37,8 @@ an_array =
 -- at level n the program that lists prints this, has no alternative and closes so
 abbrev pub IsListed : ℕ → Program → List ℕ → End → Type 0
 IsListed n p out end =
-    (prints (ev_program n (listing_of p) []) ≡ out) × (closes (ev_program n (listing_of p) []) ≡ end) × (alternatives (ev_program n (listing_of p) []) ≡ 0)
+    (prints (ev_program n (listing_of p) []) ≡ out) × (closes (ev_program n (listing_of p) []) ≡ end) ×
+    (alternatives (ev_program n (listing_of p) []) ≡ 0)
 
 -- the store of a module with these cells
 abbrev pub store_of : List Cell → Store
@@ -47,7 +48,8 @@ abbrev pub cell : ℕ → Cell
 cell n = Number (pos n)
 
 pub record ListingsRun : Type 0 where
-  pub two_lines : IsListed 5 two_of_three (codes "{x=" ++ (decimal 1 ++ (codes " y=?}\n" ++ (codes "{x=" ++ (decimal 3 ++ codes " y=?}\n"))))) Failed
+  pub two_lines : IsListed 5 two_of_three
+      (codes "{x=" ++ (decimal 1 ++ (codes " y=?}\n" ++ (codes "{x=" ++ (decimal 3 ++ codes " y=?}\n"))))) Failed
   pub two_stores :
       listing 5 two_of_three [] ≡ (
         line_of_store two_of_three.globals (store_of (cell 0 ∷ cell 1 ∷ Unknown ∷ cell 1 ∷ cell 3 ∷ []))
@@ -59,7 +61,8 @@ pub record ListingsRun : Type 0 where
   pub no_globals : IsListed 3 (module_of 1 []) (codes "{}\n") Failed
   pub several_cells : IsListed 6 an_array (decimal 5 ++ (codes "{r= a=?," ++ (decimal 5 ++ codes ",?}\n"))) Failed
   -- below the level that it needs it prints a part
-  pub cut_off : (prints (ev_program 3 (listing_of an_array) []) ≡ decimal 5 ++ codes "{r= a=?") × (closes (ev_program 3 (listing_of an_array) []) ≡ CutOff)
+  pub cut_off : (prints (ev_program 3 (listing_of an_array) []) ≡ decimal 5 ++ codes "{r= a=?") ×
+      (closes (ev_program 3 (listing_of an_array) []) ≡ CutOff)
   -- nodes and visits
   pub few_nodes : nodes (listing_of an_array) ≡ nodes an_array + 35
   pub few_visits : visit_count (ev_program 6 (listing_of an_array) []) ≡ visit_count (ev_program 6 an_array []) + 122

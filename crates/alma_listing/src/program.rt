@@ -25,6 +25,10 @@ pub enum AllError {
 }
 
 impl From<NoMemory> for AllError {
+    ghost use Rattle.alma_listing.specs.declared.program.AllError.{AllError};
+
+    ghost from_gives = { λ _ error. error ≡ AllError.Memory };
+
     fn from(_: NoMemory) -> Self {
         AllError::Memory
     }

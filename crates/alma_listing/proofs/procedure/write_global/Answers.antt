@@ -7,7 +7,8 @@ use Rattle.alma_listing.proofs.procedure.write_global.Goals as goal
 
 pub returns-in_ok-push-2 : goal.returns-in_ok-push-2
 returns-in_ok-push-2 c =
-    cells_written c.args.global.now _ _ _ _ _ _ _ _ (omega (arith, c.if-global-gt0.true)) c.in_ok-push.ensures.items c.in_ok-push-2.ensures.items
+    cells_written c.args.global.now _ _ _ _ _ _ _ _ (omega (arith, c.if-global-gt0.true)) c.in_ok-push.ensures.items
+    c.in_ok-push-2.ensures.items
     (Views.writetext_view _) (c.in_ok-name_text.ensures ∙ ap (λ name. c.args.before.now ++ name ++ codes "=") c.deref.ensures.value)
     (Views.forto_view _ ∙ ap ForTo c.in_ok-cells_loop.ensures)
 

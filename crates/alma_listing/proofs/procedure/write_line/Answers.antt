@@ -6,7 +6,8 @@ loop-place-init c = line_begun c.args.globals.now _ _ c.in_ok-body.ensures c.in_
 
 pub loop-place-preserved : goal.loop-place-preserved
 loop-place-preserved c =
-    line_next c.args.globals.now c.loop-place.place c.index-globals-place.result _ _ _ c.loop-place-test.true c.index-globals-place.is c.space_before.ensures
+    line_next c.args.globals.now c.loop-place.place c.index-globals-place.result _ _ _ c.loop-place-test.true c.index-globals-place.is
+    c.space_before.ensures
     c.loop-place.invariant c.in_ok-write_global.ensures
 
 pub returns : goal.returns

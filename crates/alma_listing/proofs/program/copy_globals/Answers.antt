@@ -6,7 +6,8 @@ use Rattle.alma_listing.proofs.program.copy_globals.Goals as goal
 
 pub loop-global-preserved : goal.loop-global-preserved
 loop-global-preserved c =
-    next global_of global_of c.args.globals.now c.loop-global.global-index c.global-item.result _ _ _ c.loop-global-test.true c.global-item.is
+    next global_of global_of c.args.globals.now c.loop-global.global-index c.global-item.result _ _ _ c.loop-global-test.true
+    c.global-item.is
     c.loop-global.invariant
     (c.in_ok-copy_global.ensures.copy ∙ global_stays c.same_numbers.result c.same_numbers.ensures.global (global_of c.global-item.result))
     c.in_ok-push.ensures.items

@@ -28,40 +28,65 @@ abbrev in_branches : List Branch → Bool
 in_branches xs = branches_return (branches_list xs)
 
 pub has_return-loop-stmt-preserved : goal.has_return-loop-stmt-preserved
-has_return-loop-stmt-preserved t c = missed in_stmts in_stmt none_at_end.0 stmts_step c.args.body.now c.loop-stmt.stmt-index c.stmt-item.result c.loop-stmt-test.true c.stmt-item.is c.loop-stmt.invariant (c.if-is_returning.ensures)
+has_return-loop-stmt-preserved t c =
+    missed in_stmts in_stmt none_at_end.0 stmts_step c.args.body.now c.loop-stmt.stmt-index c.stmt-item.result c.loop-stmt-test.true
+    c.stmt-item.is c.loop-stmt.invariant (c.if-is_returning.ensures)
 
 pub has_return-returns-then-is_returning : goal.has_return-returns-then-is_returning
-has_return-returns-then-is_returning t c = found in_stmts in_stmt none_at_end.0 stmts_step c.args.body.now c.loop-stmt.stmt-index c.stmt-item.result c.loop-stmt-test.true c.stmt-item.is c.loop-stmt.invariant (c.if-is_returning.ensures)
+has_return-returns-then-is_returning t c =
+    found in_stmts in_stmt none_at_end.0 stmts_step c.args.body.now c.loop-stmt.stmt-index c.stmt-item.result c.loop-stmt-test.true
+    c.stmt-item.is c.loop-stmt.invariant (c.if-is_returning.ensures)
 
 pub has_return-returns : goal.has_return-returns
-has_return-returns t c = missed_all in_stmts in_stmt none_at_end.0 stmts_step c.args.body.now c.loop-stmt.stmt-index c.loop-stmt-test.false c.loop-stmt.invariant
+has_return-returns t c =
+    missed_all in_stmts in_stmt none_at_end.0 stmts_step c.args.body.now c.loop-stmt.stmt-index c.loop-stmt-test.false c.loop-stmt.invariant
 
 pub arms_return-loop-arm-preserved : goal.arms_return-loop-arm-preserved
-arms_return-loop-arm-preserved t c = missed in_arms (λ x. in_stmts x.body.items) none_at_end.1 arms_step c.args.arms.now c.loop-arm.arm-index c.arm-item.result c.loop-arm-test.true c.arm-item.is c.loop-arm.invariant (c.if-has_return.ensures ∙ ap in_stmts c.deref.ensures.value)
+arms_return-loop-arm-preserved t c =
+    missed in_arms (λ x. in_stmts x.body.items) none_at_end.1 arms_step c.args.arms.now c.loop-arm.arm-index c.arm-item.result
+    c.loop-arm-test.true c.arm-item.is c.loop-arm.invariant (c.if-has_return.ensures ∙ ap in_stmts c.deref.ensures.value)
 
 pub arms_return-returns-then-has_return : goal.arms_return-returns-then-has_return
-arms_return-returns-then-has_return t c = found in_arms (λ x. in_stmts x.body.items) none_at_end.1 arms_step c.args.arms.now c.loop-arm.arm-index c.arm-item.result c.loop-arm-test.true c.arm-item.is c.loop-arm.invariant (c.if-has_return.ensures ∙ ap in_stmts c.deref.ensures.value)
+arms_return-returns-then-has_return t c =
+    found in_arms (λ x. in_stmts x.body.items) none_at_end.1 arms_step c.args.arms.now c.loop-arm.arm-index c.arm-item.result
+    c.loop-arm-test.true c.arm-item.is c.loop-arm.invariant (c.if-has_return.ensures ∙ ap in_stmts c.deref.ensures.value)
 
 pub arms_return-returns : goal.arms_return-returns
-arms_return-returns t c = missed_all in_arms (λ x. in_stmts x.body.items) none_at_end.1 arms_step c.args.arms.now c.loop-arm.arm-index c.loop-arm-test.false c.loop-arm.invariant
+arms_return-returns t c =
+    missed_all in_arms (λ x. in_stmts x.body.items) none_at_end.1 arms_step c.args.arms.now c.loop-arm.arm-index c.loop-arm-test.false
+    c.loop-arm.invariant
 
 pub cases_return-loop-arm-preserved : goal.cases_return-loop-arm-preserved
-cases_return-loop-arm-preserved t c = missed in_cases (λ x. in_stmts x.body.items) none_at_end.2 cases_step c.args.arms.now c.loop-arm.arm-index c.arm-item.result c.loop-arm-test.true c.arm-item.is c.loop-arm.invariant (c.if-has_return.ensures ∙ ap in_stmts c.deref.ensures.value)
+cases_return-loop-arm-preserved t c =
+    missed in_cases (λ x. in_stmts x.body.items) none_at_end.2 cases_step c.args.arms.now c.loop-arm.arm-index c.arm-item.result
+    c.loop-arm-test.true c.arm-item.is c.loop-arm.invariant (c.if-has_return.ensures ∙ ap in_stmts c.deref.ensures.value)
 
 pub cases_return-returns-then-has_return : goal.cases_return-returns-then-has_return
-cases_return-returns-then-has_return t c = found in_cases (λ x. in_stmts x.body.items) none_at_end.2 cases_step c.args.arms.now c.loop-arm.arm-index c.arm-item.result c.loop-arm-test.true c.arm-item.is c.loop-arm.invariant (c.if-has_return.ensures ∙ ap in_stmts c.deref.ensures.value)
+cases_return-returns-then-has_return t c =
+    found in_cases (λ x. in_stmts x.body.items) none_at_end.2 cases_step c.args.arms.now c.loop-arm.arm-index c.arm-item.result
+    c.loop-arm-test.true c.arm-item.is c.loop-arm.invariant (c.if-has_return.ensures ∙ ap in_stmts c.deref.ensures.value)
 
 pub cases_return-returns : goal.cases_return-returns
-cases_return-returns t c = missed_all in_cases (λ x. in_stmts x.body.items) none_at_end.2 cases_step c.args.arms.now c.loop-arm.arm-index c.loop-arm-test.false c.loop-arm.invariant
+cases_return-returns t c =
+    missed_all in_cases (λ x. in_stmts x.body.items) none_at_end.2 cases_step c.args.arms.now c.loop-arm.arm-index c.loop-arm-test.false
+    c.loop-arm.invariant
 
 pub branches_return-loop-branch-preserved : goal.branches_return-loop-branch-preserved
-branches_return-loop-branch-preserved t c = missed in_branches (λ x. in_stmts x.body.items) none_at_end.3 branches_step c.args.branches.now c.loop-branch.branch-index c.branch-item.result c.loop-branch-test.true c.branch-item.is c.loop-branch.invariant (c.if-has_return.ensures ∙ ap in_stmts c.deref.ensures.value)
+branches_return-loop-branch-preserved t c =
+    missed in_branches (λ x. in_stmts x.body.items) none_at_end.3 branches_step c.args.branches.now c.loop-branch.branch-index
+    c.branch-item.result c.loop-branch-test.true c.branch-item.is c.loop-branch.invariant
+    (c.if-has_return.ensures ∙ ap in_stmts c.deref.ensures.value)
 
 pub branches_return-returns-then-has_return : goal.branches_return-returns-then-has_return
-branches_return-returns-then-has_return t c = found in_branches (λ x. in_stmts x.body.items) none_at_end.3 branches_step c.args.branches.now c.loop-branch.branch-index c.branch-item.result c.loop-branch-test.true c.branch-item.is c.loop-branch.invariant (c.if-has_return.ensures ∙ ap in_stmts c.deref.ensures.value)
+branches_return-returns-then-has_return t c =
+    found in_branches (λ x. in_stmts x.body.items) none_at_end.3 branches_step c.args.branches.now c.loop-branch.branch-index
+    c.branch-item.result c.loop-branch-test.true c.branch-item.is c.loop-branch.invariant
+    (c.if-has_return.ensures ∙ ap in_stmts c.deref.ensures.value)
 
 pub branches_return-returns : goal.branches_return-returns
-branches_return-returns t c = missed_all in_branches (λ x. in_stmts x.body.items) none_at_end.3 branches_step c.args.branches.now c.loop-branch.branch-index c.loop-branch-test.false c.loop-branch.invariant
+branches_return-returns t c =
+    missed_all in_branches (λ x. in_stmts x.body.items) none_at_end.3 branches_step c.args.branches.now c.loop-branch.branch-index
+    c.loop-branch-test.false c.loop-branch.invariant
 
 pub is_returning-returns-in-Return : goal.is_returning-returns-in-Return
 unfolding stmts_return
@@ -69,43 +94,65 @@ is_returning-returns-in-Return t c = sym (ap stmt_returns (ap stmt_of c.in-Retur
 
 pub is_returning-returns-then-arms_return : goal.is_returning-returns-then-arms_return
 unfolding stmts_return
-is_returning-returns-then-arms_return t c = then_is _ _ _ _ (c.arms_return.ensures ∙ ap in_arms c.deref.ensures.value) (c.if-arms_return.ensures ∙ ap in_arms c.deref.ensures.value) (ap stmt_returns (ap stmt_of c.in-If.is ∙ Views.if_view _ _))
+is_returning-returns-then-arms_return t c =
+    then_is _ _ _ _ (c.arms_return.ensures ∙ ap in_arms c.deref.ensures.value)
+    (c.if-arms_return.ensures ∙ ap in_arms c.deref.ensures.value) (ap stmt_returns (ap stmt_of c.in-If.is ∙ Views.if_view _ _))
 
 pub is_returning-returns-else-arms_return : goal.is_returning-returns-else-arms_return
 unfolding stmts_return
-is_returning-returns-else-arms_return t c = else_is _ _ _ _ (c.has_return.ensures ∙ ap in_stmts c.deref-else-arms_return.ensures.value) (c.if-arms_return.ensures ∙ ap in_arms c.deref.ensures.value) (ap stmt_returns (ap stmt_of c.in-If.is ∙ Views.if_view _ _))
+is_returning-returns-else-arms_return t c =
+    else_is _ _ _ _ (c.has_return.ensures ∙ ap in_stmts c.deref-else-arms_return.ensures.value)
+    (c.if-arms_return.ensures ∙ ap in_arms c.deref.ensures.value) (ap stmt_returns (ap stmt_of c.in-If.is ∙ Views.if_view _ _))
 
 pub is_returning-returns-in-While : goal.is_returning-returns-in-While
 unfolding stmts_return
-is_returning-returns-in-While t c = c.has_return-in-While.ensures ∙ ap in_stmts c.deref-in-While.ensures.value ∙ sym (ap stmt_returns (ap stmt_of c.in-While.is ∙ Views.while_view _ _))
+is_returning-returns-in-While t c =
+    c.has_return-in-While.ensures ∙ ap in_stmts c.deref-in-While.ensures.value
+    ∙ sym (ap stmt_returns (ap stmt_of c.in-While.is ∙ Views.while_view _ _))
 
 pub is_returning-returns-in-Repeat : goal.is_returning-returns-in-Repeat
 unfolding stmts_return
-is_returning-returns-in-Repeat t c = c.has_return-in-Repeat.ensures ∙ ap in_stmts c.deref-in-Repeat.ensures.value ∙ sym (ap stmt_returns (ap stmt_of c.in-Repeat.is ∙ Views.repeat_view _ _))
+is_returning-returns-in-Repeat t c =
+    c.has_return-in-Repeat.ensures ∙ ap in_stmts c.deref-in-Repeat.ensures.value
+    ∙ sym (ap stmt_returns (ap stmt_of c.in-Repeat.is ∙ Views.repeat_view _ _))
 
 pub is_returning-returns-in-ForTo : goal.is_returning-returns-in-ForTo
 unfolding stmts_return
-is_returning-returns-in-ForTo t c = c.has_return-in-ForTo.ensures ∙ ap in_stmts c.deref-in-ForTo.ensures.value ∙ sym (ap stmt_returns (ap stmt_of c.in-ForTo.is ∙ Views.forto_view _))
+is_returning-returns-in-ForTo t c =
+    c.has_return-in-ForTo.ensures ∙ ap in_stmts c.deref-in-ForTo.ensures.value
+    ∙ sym (ap stmt_returns (ap stmt_of c.in-ForTo.is ∙ Views.forto_view _))
 
 pub is_returning-returns-in-SomeOf : goal.is_returning-returns-in-SomeOf
 unfolding stmts_return
-is_returning-returns-in-SomeOf t c = c.has_return-in-SomeOf.ensures ∙ ap in_stmts c.deref-in-SomeOf.ensures.value ∙ sym (ap stmt_returns (ap stmt_of c.in-SomeOf.is ∙ Views.someof_view _))
+is_returning-returns-in-SomeOf t c =
+    c.has_return-in-SomeOf.ensures ∙ ap in_stmts c.deref-in-SomeOf.ensures.value
+    ∙ sym (ap stmt_returns (ap stmt_of c.in-SomeOf.is ∙ Views.someof_view _))
 
 pub is_returning-returns-in-None : goal.is_returning-returns-in-None
 unfolding stmts_return
-is_returning-returns-in-None t c = none_is _ _ _ (c.cases_return.ensures ∙ ap in_cases c.deref-in-None.ensures.value) (ap stmt_returns (ap stmt_of (c.in-Case.is ∙ ap (S.Case _ _) c.in-None.is) ∙ Views.case_view _ _ None))
+is_returning-returns-in-None t c =
+    none_is _ _ _ (c.cases_return.ensures ∙ ap in_cases c.deref-in-None.ensures.value)
+    (ap stmt_returns (ap stmt_of (c.in-Case.is ∙ ap (S.Case _ _) c.in-None.is) ∙ Views.case_view _ _ None))
 
 pub is_returning-returns-then-cases_return : goal.is_returning-returns-then-cases_return
 unfolding stmts_return
-is_returning-returns-then-cases_return t c = then_is _ _ _ _ (c.cases_return-in-Some.ensures ∙ ap in_cases c.deref-in-Some.ensures.value) (c.if-cases_return.ensures ∙ ap in_cases c.deref-in-Some.ensures.value) (ap stmt_returns (ap stmt_of (c.in-Case.is ∙ ap (S.Case _ _) c.in-Some.is) ∙ Views.case_view _ _ (Some c.in-Some.rest)))
+is_returning-returns-then-cases_return t c =
+    then_is _ _ _ _ (c.cases_return-in-Some.ensures ∙ ap in_cases c.deref-in-Some.ensures.value)
+    (c.if-cases_return.ensures ∙ ap in_cases c.deref-in-Some.ensures.value)
+    (ap stmt_returns (ap stmt_of (c.in-Case.is ∙ ap (S.Case _ _) c.in-Some.is) ∙ Views.case_view _ _ (Some c.in-Some.rest)))
 
 pub is_returning-returns-else-cases_return : goal.is_returning-returns-else-cases_return
 unfolding stmts_return
-is_returning-returns-else-cases_return t c = else_is _ _ _ _ (c.has_return-else-cases_return.ensures ∙ ap in_stmts c.deref-else-cases_return.ensures.value) (c.if-cases_return.ensures ∙ ap in_cases c.deref-in-Some.ensures.value) (ap stmt_returns (ap stmt_of (c.in-Case.is ∙ ap (S.Case _ _) c.in-Some.is) ∙ Views.case_view _ _ (Some c.in-Some.rest)))
+is_returning-returns-else-cases_return t c =
+    else_is _ _ _ _ (c.has_return-else-cases_return.ensures ∙ ap in_stmts c.deref-else-cases_return.ensures.value)
+    (c.if-cases_return.ensures ∙ ap in_cases c.deref-in-Some.ensures.value)
+    (ap stmt_returns (ap stmt_of (c.in-Case.is ∙ ap (S.Case _ _) c.in-Some.is) ∙ Views.case_view _ _ (Some c.in-Some.rest)))
 
 pub is_returning-returns-in-Either : goal.is_returning-returns-in-Either
 unfolding stmts_return
-is_returning-returns-in-Either t c = c.branches_return.ensures ∙ ap in_branches c.deref-in-Either.ensures.value ∙ sym (ap stmt_returns (ap stmt_of c.in-Either.is ∙ Views.either_view _))
+is_returning-returns-in-Either t c =
+    c.branches_return.ensures ∙ ap in_branches c.deref-in-Either.ensures.value
+    ∙ sym (ap stmt_returns (ap stmt_of c.in-Either.is ∙ Views.either_view _))
 
 pub is_returning-returns-in-Test : goal.is_returning-returns-in-Test
 unfolding stmts_return

@@ -14,4 +14,5 @@ abbrev pub invariant-cases_return-loop-arm : goal.invariant-cases_return-loop-ar
 invariant-cases_return-loop-arm l = cases_return (cases_list l.arms) ≡ cases_return (cases_list (drop l.arm-index l.arms))
 
 abbrev pub invariant-branches_return-loop-branch : goal.invariant-branches_return-loop-branch
-invariant-branches_return-loop-branch l = branches_return (branches_list l.branches) ≡ branches_return (branches_list (drop l.branch-index l.branches))
+invariant-branches_return-loop-branch l =
+    branches_return (branches_list l.branches) ≡ branches_return (branches_list (drop l.branch-index l.branches))
