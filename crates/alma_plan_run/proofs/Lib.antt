@@ -3,3 +3,4 @@ mod Running
 mod Sizes
 mod Storing
 pub mod Sources
+pub mod Owns
