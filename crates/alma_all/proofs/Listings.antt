@@ -55,11 +55,20 @@ fewer_visits (Fault x l) = omega arith
 fewer_visits Cut = omega arith
 
 -- what a front prints is a prefix of what the whole prints
-front_prints : {A : Type 0} (e : Events A) (printed : List ℕ) (visits : ℕ) → HasPrefix (first e) printed visits → IsPrefix printed (prints e)
+front_prints : {A : Type 0} (e : Events A) (printed : List ℕ) (visits : ℕ) → HasPrefix e printed visits → IsPrefix printed (prints e)
 front_prints e [] visits nothing = (prints e, refl)
 front_prints (Visit e) printed visits (a_visit h) = front_prints e _ _ h
 front_prints (Print b e) printed visits (a_print h) =
     let more = front_prints e _ _ h in (more.0, append_assoc b _ more.0 ∙ ap (λ z. b ++ z) more.1)
+
+-- so is what the events up to the first alternative print
+first_prints : {A : Type 0} (e : Events A) → IsPrefix (prints (first e)) (prints e)
+first_prints (Visit e) = first_prints e
+first_prints (Print b e) = let more = first_prints e in (more.0, append_assoc b (prints (first e)) more.0 ∙ ap (λ z. b ++ z) more.1)
+first_prints (Alt s w e) = (prints e, refl)
+first_prints Fail = ([], refl)
+first_prints (Fault x l) = ([], refl)
+first_prints Cut = ([], refl)
 
 prefix_of_prefix : (x y z : List ℕ) → IsPrefix x y → IsPrefix y z → IsPrefix x z
 prefix_of_prefix x y z h k = (h.0 ++ k.0, sym (append_assoc x h.0 k.0) ∙ ap (λ w. w ++ k.0) h.1 ∙ k.1)
@@ -104,7 +113,10 @@ module _ (p : Program) (input : List ℕ) (steps : ℕ) (c : PlainCode) (lists :
 
       shown : Covers (first (ev_program (suc steps) (listing_of p) input)) printed (steps / 32)
           → IsPrefix printed (listed p.globals (ev_program (suc steps) p input))
-      shown h = prefix_of_prefix printed _ _ (front_prints (ev_program (suc steps) (listing_of p) input) printed h.visits h.front) (lists (suc steps) input).prefix
+      shown h =
+          let e : Events NoYield = ev_program (suc steps) (listing_of p) input in
+          prefix_of_prefix printed (prints (first e)) _ (front_prints (first e) printed h.visits h.front)
+          (prefix_of_prefix (prints (first e)) (prints e) _ (first_prints e) (lists (suc steps) input).prefix)
 
       by : (m : Mode) → (state_after c input steps).mode ≡ m → ComesTo m line printed (listing_of p) input steps
           → IsListed p input steps (code_due program success c input steps)

@@ -1,7 +1,7 @@
 -- The number of steps that an option names.
 use Rattle.std.proofs.Common.{◌≡◌, ◌≤◌, ◌∙◌, ◌^◌, ℕ, List, [], ◌∷◌, ◌++◌, length, refl, sym, ap, subst, arith}
 use Rattle.std.proofs.lemmas.Bool.{and_parts, leb-true, le-leb, eq-eqb, eqb-true}
-use Rattle.std.specs.Prelude.{Bool, true, false, ◌&&◌, leb, eqb, cond, codes, Option, None, Some, ◌≢◌}
+use Rattle.std.specs.Prelude.{Bool, true, false, ◌&&◌, leb, eqb, cond, codes, Option, None, Some, ◌≢◌, MatchOption}
 use Rattle.alma_base.specs.Reading.{is_digit}
 use Rattle.alma_scan.specs.Bytes.{AllIn, value_of}
 use Rattle.alma_driver_words.specs.Words.{NamesSteps, greatest_steps}
@@ -12,22 +12,25 @@ pub behind_front : (front text : List ℕ) → behind front (front ++ text) ≡ 
 behind_front [] text = refl
 behind_front (x ∷ front) text = ap (λ b. cond b (behind front (front ++ text)) None) (eq-eqb x x refl) ∙ behind_front front text
 
+-- what stands behind a front
+cond_some : (b : Bool) (o : Option (List ℕ)) (rest : List ℕ) → cond b o None ≡ Some rest → (b ≡ true) × (o ≡ Some rest)
+cond_some true o rest e = (refl, e)
+cond_some false o rest e = cc e
+
+found : (front text rest : List ℕ) → behind front text ≡ Some rest → text ≡ front ++ rest
+found [] text rest e = cc e
+found (x ∷ front) [] rest e = cc e
+found (x ∷ front) (y ∷ text) rest e =
+    let parts = cond_some (eqb x y) (behind front text) rest e in
+    ap (λ k. k ∷ text) (sym (eqb-true x y parts.0)) ∙ ap (λ k. x ∷ k) (found front text rest parts.1)
+
 -- a text that does not begin with it
 pub no_front : (front text : List ℕ) → ((rest : List ℕ) → text ≢ front ++ rest) → behind front text ≡ None
-no_front front text no = by (behind front text) refl
+no_front front text other = by (behind front text) refl
   where
-    found : (front text rest : List ℕ) → behind front text ≡ Some rest → text ≡ front ++ rest
-    found [] text rest e = cc e
-    found (x ∷ front) [] rest e = cc e
-    found (x ∷ front) (y ∷ text) rest e = at (eqb x y) refl e
-      where
-        at : (b : Bool) → eqb x y ≡ b → cond b (behind front text) None ≡ Some rest → y ∷ text ≡ x ∷ front ++ rest
-        at true q k = λ i. sym (eqb-true x y q) i ∷ found front text rest k i
-        at false q k = cc k
-
     by : (o : Option (List ℕ)) → behind front text ≡ o → o ≡ None
     by None e = refl
-    by (Some rest) e = absurd (no rest (found front text rest e))
+    by (Some rest) e = absurd (other rest (found front text rest e))
 
 -- digits, by each of them
 digits_are : (text : List ℕ) → AllIn is_digit text → are_digits text ≡ true
@@ -52,7 +55,7 @@ steps_are text steps h =
 
 -- and none that they do not
 pub no_steps : (text : List ℕ) → ((steps : ℕ) → NamesSteps text steps → ⊥) → steps_named (Some text) ≡ None
-no_steps text no = by (names_steps text) refl
+no_steps text other = by (names_steps text) refl
   where
     by : (b : Bool) → names_steps text ≡ b → cond b (Some (value_of text)) None ≡ None
     by false e = refl
@@ -61,8 +64,14 @@ no_steps text no = by (names_steps text) refl
         let b = and_parts (leb 1 (length text)) _ a.1 in
         let c = and_parts (leb (length text) 19) _ b.1 in
         let d = and_parts (leb 1 (value_of text)) _ c.1 in
-        absurd (no (value_of text) (record {
+        absurd (other (value_of text) (record {
           numeral = record { digits = are_all text a.0; some = leb-true 1 (length text) b.0; short = leb-true (length text) 19 c.0; value = refl };
           least = leb-true 1 (value_of text) d.0;
           greatest = leb-true (value_of text) greatest_steps d.1;
         }))
+
+-- what reading the number answers is that of the definition
+pub steps_found : (text : List ℕ) (r : Option ℕ) → MatchOption r ((steps : ℕ) → NamesSteps text steps → ⊥) (λ steps. NamesSteps text steps)
+    → r ≡ steps_named (Some text)
+steps_found text None h = sym (no_steps text h)
+steps_found text (Some steps) h = sym (steps_are text steps h)

@@ -6,7 +6,7 @@ ghost use Rattle.alma_ir.specs.View.{program_of};
 ghost use Rattle.alma_plan.specs.Course.{Follows};
 ghost use Rattle.alma_plan.specs.Words.{texts};
 ghost use Rattle.alma_resolved.specs.Room.{HasRoom};
-ghost use Rattle.alma_all.specs.All.{program, all_sense, all_plan, asked, list_plan, with_options, with_steps};
+ghost use Rattle.alma_all.specs.All.{program as program_name, all_sense, all_plan, asked, list_plan, with_options, with_steps};
 ghost use Rattle.alma_all.specs.Ends.{all_end, file_of};
 
 use crate::end::AllEnd;
@@ -32,7 +32,7 @@ fn list<I: Source, O: Sink>(
     requires room { HasRoom (program_of program.now) }
     requires few { steps ≤ 2 ^ 62 }
     ensures { (file : List ℕ) (files : FilesSide)
-        → Follows all_sense program (list_plan (program_of program.now) steps) files files
+        → Follows all_sense program_name (list_plan (program_of program.now) steps) files files
         (I.side input.old) (I.side input.new) (O.side out.old) (O.side out.new)
         (all_end file result) }
 {
@@ -53,7 +53,7 @@ fn list_file<F: Files, I: Source, O: Sink>(
     out: &mut O,
 ) -> AllEnd
     requires few { steps ≤ 2 ^ 62 }
-    ensures { Follows all_sense program (asked file.now steps) (F.side files.old) (F.side files.new)
+    ensures { Follows all_sense program_name (asked file.now steps) (F.side files.old) (F.side files.new)
         (I.side input.old) (I.side input.new) (O.side out.old) (O.side out.new)
         (all_end file.now result) }
 {
@@ -72,7 +72,7 @@ fn list_with<F: Files, I: Source, O: Sink>(
     input: &mut I,
     out: &mut O,
 ) -> AllEnd
-    ensures { Follows all_sense program (with_options file.now (texts options.now))
+    ensures { Follows all_sense program_name (with_options file.now (texts options.now))
         (F.side files.old) (F.side files.new) (I.side input.old) (I.side input.new)
         (O.side out.old) (O.side out.new) (all_end file.now result) }
 {
@@ -97,7 +97,7 @@ pub fn perform<F: Files, I: Source, O: Sink>(
     input: &mut I,
     out: &mut O,
 ) -> AllEnd
-    ensures { Follows all_sense program (all_plan (texts words.now)) (F.side files.old)
+    ensures { Follows all_sense program_name (all_plan (texts words.now)) (F.side files.old)
         (F.side files.new) (I.side input.old) (I.side input.new) (O.side out.old)
         (O.side out.new) (all_end (file_of (texts words.now)) result) }
 {

@@ -1,3 +1,4 @@
+use Rattle.alma_plan_run.proofs.source.tell_file.Goals as goal
 
 pub returns-in-Refused : goal.returns-in-Refused
 returns-in-Refused g c = rw c.in-Refused.is c.tell_refusal.ensures
