@@ -12,12 +12,14 @@ space_before (suc n) = codes " "
 abbrev pub write_global : (before : List ℕ) → Global → Stmts → Stmts
 write_global before g rest = more_stmts 0 (WriteText (before ++ g.name ++ codes "=")) (write_cells g.slot g.cells rest)
 
--- a RETURN stands in the statements, and in no test or expression of them
+-- whether a RETURN stands in statements, outside their tests and expressions
 unfoldable mutual
+  -- in any of them
   pub stmts_return : Stmts → Bool
   stmts_return no_stmts = false
   stmts_return (more_stmts line x rest) = stmt_returns x || stmts_return rest
 
+  -- in a statement
   pub stmt_returns : Stmt → Bool
   stmt_returns (TestStmt t) = false
   stmt_returns (Assign d e range) = false
@@ -37,21 +39,26 @@ unfoldable mutual
   stmt_returns (WriteText text) = false
   stmt_returns WriteLine = false
 
+  -- in the arms of IF
   pub arms_return : Arms → Bool
   arms_return no_arms = false
   arms_return (more_arms t body rest) = stmts_return body || arms_return rest
 
+  -- in the arms of CASE
   pub cases_return : CaseArms → Bool
   cases_return no_cases = false
   cases_return (more_cases labels body rest) = stmts_return body || cases_return rest
 
+  -- in the ELSE part of CASE
   pub else_returns : Else → Bool
   else_returns no_else = false
   else_returns (else_part body) = stmts_return body
 
+  -- in the branches of EITHER
   pub branches_return : Branches → Bool
   branches_return no_branches = false
   branches_return (more_branches body rest) = stmts_return body || branches_return rest
 
+  -- in the body of a loop
   pub loop_returns : Loop → Bool
   loop_returns (a_loop d range counter limit from to by body) = stmts_return body
