@@ -8,6 +8,7 @@ use Rattle.alma_copy.specs.Numbers.{slot_behind}
 use Rattle.alma_ir.specs.Tree as ir
 use Rattle.alma_ir.specs.Tree.{Stmts, Program, Routine, routine_at}
 use Rattle.alma_ir.specs.View.{routine_of, global_of, stmts_list}
+use Rattle.alma_joined.proofs.Alone.{append_none}
 use Rattle.alma_joined.specs.Joined.{Kept, kept_in, kept_of, new_slot, own_slots, body_moves, procedure_moves, moved_procedure, joined_globals, joined_stmts, joined_lines, joined_procedures}
 use Rattle.alma_join.specs.declared.part.Parts.{Parts}
 use Rattle.alma_join.specs.Numbers.{NumbersUnit, NumbersUnits}
@@ -60,10 +61,6 @@ numbers_at all unit (q ∷ ps) (s ∷ ts) (suc i) p t lt is at h = let e : suc u
     (numbers_at all (suc unit) ps ts i p t (omega (arith, lt)) is at h.1)
 
 -- ---- statements
-
-pub append_none : (x : Stmts) → append_stmts x ir.no_stmts ≡ x
-append_none ir.no_stmts = refl
-append_none (ir.more_stmts line x rest) = ap (ir.more_stmts line x) (append_none rest)
 
 append_both : (x y z : Stmts) → append_stmts (append_stmts x y) z ≡ append_stmts x (append_stmts y z)
 append_both ir.no_stmts y z = refl

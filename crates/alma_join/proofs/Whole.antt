@@ -1,9 +1,9 @@
 -- The joined program of its parts.
-use Rattle.std.proofs.Common.{◌≡◌, ℕ, ◌+◌, ◌<◌, List, [], ◌∷◌, length, get_or, map, ap, ◌∙◌, arith, Option, None}
+use Rattle.std.proofs.Common.{◌≡◌, ◌+◌, ◌<◌, List, [], ◌∷◌, length, get_or, map, ap, ◌∙◌, arith, None}
 use Rattle.alma_ir.specs.declared.program.Program as whole
 use Rattle.alma_ir.specs.Tree.{Program, routine_at}
 use Rattle.alma_ir.specs.View.{program_of}
-use Rattle.alma_joined.specs.Joined.{JoinFault, or_next, import_fault, size_fault, no_totals, kept_in, join_fault, first_of, joined}
+use Rattle.alma_joined.specs.Joined.{or_next, import_fault, size_fault, no_totals, kept_in, join_fault, first_of, joined}
 use Rattle.alma_join.specs.declared.part.Parts.{Parts}
 use Rattle.alma_join.specs.Parts.{ArePartsOf, with_body}
 

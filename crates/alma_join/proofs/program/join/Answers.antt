@@ -1,8 +1,7 @@
-use Rattle.std.proofs.Common.{◌≡◌, ◌<◌, ◌∙◌, sym, subst, arith, length, map}
+use Rattle.std.proofs.Common.{◌<◌, ◌∙◌, sym, subst, arith, length, map}
 use Rattle.std.proofs.lemmas.List.{length-map}
 use Rattle.alma_ir.specs.Checked.{IsChecked}
 use Rattle.alma_ir.specs.View.{program_of}
-use Rattle.alma_joined.specs.Joined.{joined}
 use Rattle.alma_join.proofs.Whole.{first_is, whole_is, no_fault}
 use Rattle.alma_join.proofs.program.join.Goals as goal
 
