@@ -12,7 +12,7 @@ use alma_code::{Cell, ChoiceKind, End, Step};
 
 /// The height in a mark slot.
 #[tactic(auto, using(crate::proofs::Entries::marks))]
-fn mark(registers: &Registers, slot: u32) -> Result<usize, RunFault>
+pub fn mark(registers: &Registers, slot: u32) -> Result<usize, RunFault>
     requires { HasMark registers.now.memory.now slot }
     ensures { GivesMark registers.now.memory.now slot result }
 {

@@ -184,7 +184,7 @@ impl Registers {
 
     /// What the number slot at a place knows.
     #[tactic(auto, using(crate::proofs::Words::contents))]
-    pub(crate) fn content(&self, frame: u32, slot: u32) -> Option<i64>
+    pub fn content(&self, frame: u32, slot: u32) -> Option<i64>
         requires { HasNumberIn self.now.memory.now frame slot }
         ensures { GivesContent self.now.memory.now frame slot result }
     {
@@ -209,7 +209,7 @@ impl Registers {
 
     /// The number in a slot, which must be in a range.
     #[tactic(auto, using(crate::proofs::Words::ranges, std::proofs::lemmas::Int::ints, std::proofs::lemmas::Grind::common_steps))]
-    pub(crate) fn number_within(
+    pub fn number_within(
         &self,
         slot: u32,
         range: &Range,

@@ -44,6 +44,7 @@ impl Registers {
     }
 
     /// Puts the place of the slots of a frame from the first on into a place slot.
+    #[inline(always)]
     #[tactic(auto, using(crate::proofs::Parts::put_place_is, crate::proofs::Parts::place_is_slot))]
     pub fn put_place(&mut self, to: u32, frame: u32, first: u32) -> Result<Step, NoMemory>
         requires { HasPlace self.old.memory.now to }

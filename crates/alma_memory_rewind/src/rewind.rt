@@ -67,6 +67,7 @@ impl<T> Model for Rewind<T> {
 }
 
 // Whether a write at a place with this stamp needs no note.
+#[inline(always)]
 fn needs_no_note(marks: &[Mark], at: usize, stamp: usize) -> bool
     ensures { result ≡ is_free marks.now at stamp }
 {
@@ -88,6 +89,7 @@ fn top_of(marks: &[Mark]) -> usize
 }
 
 // Room for a note, where one is needed.
+#[inline(always)]
 fn room_for_note<T: Copy>(free: bool, trail: &mut Vec<Note<T>>) -> Result<(), NoMemory>
     ensures items { trail.new.items ≡ trail.old.items }
     ensures len { vec_len trail.new ≡ vec_len trail.old }
@@ -114,6 +116,7 @@ fn top_serial(marks: &[Mark]) -> usize
 }
 
 // Notes what stood at a place, and stamps the place.
+#[inline(always)]
 fn add_note<T: Copy>(
     stamps: &mut Vec<usize>,
     trail: &mut Vec<Note<T>>,
@@ -138,7 +141,9 @@ fn add_note<T: Copy>(
 }
 
 // Notes what stands at a place, where a note is needed.
+#[inline(always)]
 fn note_old<T: Copy>(
+    free: bool,
     marks: &[Mark],
     items: &[T],
     stamps: &mut Vec<usize>,
@@ -147,7 +152,8 @@ fn note_old<T: Copy>(
 )
     requires inside { at < length items.now }
     requires wide { at < length stamps.old.items }
-    requires room { is_free marks.now at (slice_index_or stamps.old.items at 0) ≡ false → vec_len trail.old < vec_capacity trail.old }
+    requires free { free ≡ is_free marks.now at (slice_index_or stamps.old.items at 0) }
+    requires room { free ≡ false → vec_len trail.old < vec_capacity trail.old }
     ensures keeps { (x : T) (counter : ℕ) → IsSound marks.now trail.old.items items.now stamps.old.items counter
         → Keeps marks.now trail.old.items trail.new.items items.now (set items.now at x) stamps.new.items counter }
     ensures noted { AddsNoted marks.now stamps.old.items stamps.new.items at }
@@ -155,7 +161,6 @@ fn note_old<T: Copy>(
     ensures len { vec_len trail.new ≤ vec_len trail.old + 1 }
     ensures capacity { vec_capacity trail.old ≤ vec_capacity trail.new }
 {
-    let free = needs_no_note(marks, at, stamps[at]);
     if !free {
         let old = items[at];
         add_note(stamps, trail, at, old, top_serial(marks));
@@ -335,6 +340,7 @@ impl<T: Copy> Rewind<T> {
         }
     }
 
+    #[inline(always)]
     pub fn len(&self) -> usize
         ensures { result ≡ length self.now.now }
     {
@@ -356,6 +362,7 @@ impl<T: Copy> Rewind<T> {
         top_of(self.marks.as_slice())
     }
 
+    #[inline(always)]
     pub fn get(&self, at: usize) -> T
         requires { at < length self.now.now }
         ensures { slice_get self.now.now at ≡ Some result }
@@ -403,6 +410,7 @@ impl<T: Copy> Rewind<T> {
     }
 
     /// Writes an item. It takes a note where the place is not noted yet.
+    #[inline(always)]
     pub fn write(&mut self, at: usize, value: T) -> Result<(), NoMemory>
         requires { at < length self.old.now }
         ensures now { self.new.now ≡ (if is_ok result then set self.old.now at value else self.old.now) }
@@ -417,6 +425,7 @@ impl<T: Copy> Rewind<T> {
         let free = needs_no_note(self.marks.as_slice(), at, self.stamps[at]);
         room_for_note(free, &mut self.trail)?;
         note_old(
+            free,
             self.marks.as_slice(),
             self.items.as_slice(),
             &mut self.stamps,
