@@ -115,7 +115,10 @@ fn in_range_quickly(registers: &Registers, value: u32, range: &Range) -> bool
         → Quietly result s s (number s value
         (λ v. range_check range.now fault.Range s v (λ _. quiet_step s))) }
 {
-    registers.number_within(value, range, RunFault::Range).is_ok()
+    match registers.number_within(value, range, RunFault::Range) {
+        Ok(_) => true,
+        Err(_) => false,
+    }
 }
 
 /// What an instruction of numbers does, if it ends in no fault.

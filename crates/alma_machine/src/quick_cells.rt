@@ -1,6 +1,7 @@
 // Stores, bindings and equations of known cells, and the simple choices, made at once.
 ghost use Rattle.std.specs.Prelude.{◌≡◌, ◌+◌, ◌<◌, ◌^◌, Some, length};
-ghost use Rattle.alma_code.specs.Machine.{number, place, content, store, binds_content, equation, mark, cut_to, pop, put_mark, quiet_step, act};
+ghost use Rattle.alma_code.specs.Machine.{number, place, content, store, binds_content, optional_range_check, equation, mark, cut_to, answer_of_push, state_after_push, pop, put_mark, quiet_step, act};
+ghost use Rattle.alma_code.specs.declared.cell.ChoiceKind.TheVariants as choice;
 ghost use Rattle.alma_machine.specs.Needs.{Needs};
 ghost use Rattle.alma_machine.specs.Quick.{Quickly, Quietly, KeepsLive};
 ghost use Rattle.alma_machine_acts.specs.Rows.{state_of, HasMark, HasNumber, HasNumberIn, HasOneCell};
@@ -30,6 +31,22 @@ fn store_quickly(registers: &mut Registers, to: u32, from: u32) -> bool
     registers.set(place.frame, place.slot, number).is_ok()
 }
 
+// Gives a number to an unknown cell, if it is in the range of the cell.
+#[inline(always)]
+#[tactic(auto, using(alma_machine_acts::proofs::Words::ranges, std::proofs::lemmas::Int::ints, std::proofs::lemmas::Grind::common_steps))]
+fn give_quickly(registers: &mut Registers, place: CellPlace, range: &Range, number: i64) -> bool
+    requires { HasNumberIn registers.old.memory.now place.frame place.slot }
+    ensures step { let s = state_of registers.old in
+        Quietly result s (state_of registers.new) (optional_range_check (Some range.now) s number
+        (λ _. store s place.frame place.slot number quiet_step)) }
+    ensures kept { KeepsLive (state_of registers.old) (state_of registers.new) }
+{
+    if number < range.low || range.high < number {
+        return false;
+    }
+    registers.set(place.frame, place.slot, number).is_ok()
+}
+
 // The equation of the cell at a place and a number.
 #[inline(always)]
 #[tactic(auto, using(alma_machine_acts::proofs::Words::one_slot, alma_machine_acts::proofs::Words::tests, alma_machine_acts::proofs::Words::ranges, std::proofs::lemmas::Int::ints, std::proofs::lemmas::Grind::common_steps))]
@@ -47,12 +64,7 @@ fn bind_to_quickly(registers: &mut Registers, place: CellPlace, range: &Range, n
             }
             true
         }
-        None => {
-            if number < range.low || range.high < number {
-                return false;
-            }
-            registers.set(place.frame, place.slot, number).is_ok()
-        }
+        None => give_quickly(registers, place, range, number),
     }
 }
 
@@ -70,13 +82,13 @@ fn bind_quickly(registers: &mut Registers, to: u32, value: u32, range: &Range) -
     let Ok(place) = registers.place(to) else {
         return false;
     };
-    let Ok(number) = registers.number(value) else {
-        return false;
-    };
-    bind_to_quickly(registers, place, range, number)
+    match registers.number(value) {
+        Ok(number) => bind_to_quickly(registers, place, range, number),
+        Err(_) => false,
+    }
 }
 
-// The equation of two cells that are known.
+// The equation of two cells, of which one is known.
 #[inline(always)]
 #[tactic(auto, using(alma_machine_acts::proofs::Words::tests, std::proofs::lemmas::Int::ints, std::proofs::lemmas::Grind::common_steps))]
 fn equate_quickly(
@@ -94,19 +106,22 @@ fn equate_quickly(
         quiet_step) }
     ensures kept { KeepsLive (state_of registers.old) (state_of registers.new) }
 {
-    let Some(x) = registers.content(left.frame, left.slot) else {
-        return false;
-    };
-    let Some(y) = registers.content(right.frame, right.slot) else {
-        return false;
-    };
-    if x != y {
-        registers.mode = Mode::Failing;
+    let left_known = registers.content(left.frame, left.slot);
+    let right_known = registers.content(right.frame, right.slot);
+    match (left_known, right_known) {
+        (Some(x), Some(y)) => {
+            if x != y {
+                registers.mode = Mode::Failing;
+            }
+            true
+        }
+        (Some(x), None) => give_quickly(registers, right, &second, x),
+        (None, Some(y)) => give_quickly(registers, left, &first, y),
+        (None, None) => false,
     }
-    true
 }
 
-// The equation of the cells at the places in two slots, where both are known.
+// The equation of the cells at the places in two slots, of which one is known.
 #[inline(always)]
 #[tactic(auto, using(alma_machine_acts::proofs::Words::one_slot, std::proofs::lemmas::Grind::common_steps))]
 fn unify_quickly(
@@ -192,15 +207,10 @@ fn cut_quickly(registers: &mut Registers, slot: u32) -> bool
 
 // Pushes a Branch.
 #[inline(always)]
-fn choose_quickly<V: CodeView>(
-    registers: &mut Registers,
-    view: &V,
-    resume: u32,
-    input: &[u8],
-) -> bool
+fn choose_quickly(registers: &mut Registers, resume: u32) -> bool
     requires few { registers.old.choices + 1 < 2 ^ 63 }
     ensures step { Quickly result (state_of registers.old) (state_of registers.new)
-        (act (V.code view.now) input.now (Instr.Choose resume) (state_of registers.old)) }
+        (answer_of_push (state_after_push (state_of registers.old) choice.Branch resume)) }
     ensures kept { KeepsLive (state_of registers.old) (state_of registers.new) }
 {
     choose(registers, ChoiceKind::Branch, resume).is_ok()
@@ -235,7 +245,7 @@ pub(crate) fn choice_quickly<V: CodeView>(
     match instr {
         Instr::Mark { to } => mark_quickly(registers, to),
         Instr::Cut { mark } => cut_quickly(registers, mark),
-        Instr::Choose { resume } => choose_quickly(registers, view, resume, input),
+        Instr::Choose { resume } => choose_quickly(registers, resume),
         _ => false,
     }
 }

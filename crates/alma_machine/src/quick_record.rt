@@ -19,235 +19,235 @@ use alma_object::InstrRecord;
 pub(crate) fn act_quickly<V: CodeView>(
     registers: &mut Registers,
     view: &V,
-    record: InstrRecord<'_>,
+    form: InstrRecord<'_>,
     input: &[u8],
 ) -> bool
-    requires needs { Needs (V.code view.now) registers.old.memory.now (instr_of_record record) }
+    requires needs { Needs (V.code view.now) registers.old.memory.now (instr_of_record form) }
     requires few { registers.old.choices + 1 < 2 ^ 63 }
     ensures step { Quickly result (state_of registers.old) (state_of registers.new)
-        (act (V.code view.now) input.now (instr_of_record record) (state_of registers.old)) }
+        (act (V.code view.now) input.now (instr_of_record form.entry) (state_of registers.old)) }
     ensures kept { KeepsLive (state_of registers.old) (state_of registers.new) }
 {
-    match record.opcode() {
+    match form.opcode() {
         1 => {
             let instr = Instr::Const {
-                to: record.first(),
-                value: record.value(),
+                to: form.first(),
+                value: form.value(),
             };
             number_quickly(registers, view, instr, input)
         }
         2 => {
             let instr = Instr::Move {
-                to: record.first(),
-                from: record.second(),
+                to: form.first(),
+                from: form.second(),
             };
             number_quickly(registers, view, instr, input)
         }
         3 => {
             let instr = Instr::Add {
-                to: record.first(),
-                left: record.second(),
-                right: record.third(),
+                to: form.first(),
+                left: form.second(),
+                right: form.third(),
             };
             number_quickly(registers, view, instr, input)
         }
         4 => {
             let instr = Instr::Sub {
-                to: record.first(),
-                left: record.second(),
-                right: record.third(),
+                to: form.first(),
+                left: form.second(),
+                right: form.third(),
             };
             number_quickly(registers, view, instr, input)
         }
         5 => {
             let instr = Instr::Mul {
-                to: record.first(),
-                left: record.second(),
-                right: record.third(),
+                to: form.first(),
+                left: form.second(),
+                right: form.third(),
             };
             number_quickly(registers, view, instr, input)
         }
         6 => {
             let instr = Instr::Div {
-                to: record.first(),
-                left: record.second(),
-                right: record.third(),
+                to: form.first(),
+                left: form.second(),
+                right: form.third(),
             };
             number_quickly(registers, view, instr, input)
         }
         7 => {
             let instr = Instr::Mod {
-                to: record.first(),
-                left: record.second(),
-                right: record.third(),
+                to: form.first(),
+                left: form.second(),
+                right: form.third(),
             };
             number_quickly(registers, view, instr, input)
         }
         8 => {
             let instr = Instr::Neg {
-                to: record.first(),
-                from: record.second(),
+                to: form.first(),
+                from: form.second(),
             };
             number_quickly(registers, view, instr, input)
         }
         9 => {
             let instr = Instr::Equal {
-                to: record.first(),
-                left: record.second(),
-                right: record.third(),
+                to: form.first(),
+                left: form.second(),
+                right: form.third(),
             };
             number_quickly(registers, view, instr, input)
         }
         10 => {
             let instr = Instr::Less {
-                to: record.first(),
-                left: record.second(),
-                right: record.third(),
+                to: form.first(),
+                left: form.second(),
+                right: form.third(),
             };
             number_quickly(registers, view, instr, input)
         }
         11 => {
             let instr = Instr::LessEq {
-                to: record.first(),
-                left: record.second(),
-                right: record.third(),
+                to: form.first(),
+                left: form.second(),
+                right: form.third(),
             };
             number_quickly(registers, view, instr, input)
         }
         12 => {
             let instr = Instr::Flip {
-                to: record.first(),
-                from: record.second(),
+                to: form.first(),
+                from: form.second(),
             };
             number_quickly(registers, view, instr, input)
         }
         13 => {
             let instr = Instr::InRange {
-                value: record.first(),
-                range: record.second(),
+                value: form.first(),
+                range: form.second(),
             };
             control_quickly(registers, view, instr, input)
         }
         14 => {
             let instr = Instr::Local {
-                to: record.first(),
-                first: record.second(),
+                to: form.first(),
+                first: form.second(),
             };
             place_quickly(registers, view, instr, input)
         }
         15 => {
             let instr = Instr::Global {
-                to: record.first(),
-                first: record.second(),
+                to: form.first(),
+                first: form.second(),
             };
             place_quickly(registers, view, instr, input)
         }
         16 => {
             let instr = Instr::Same {
-                to: record.first(),
-                from: record.second(),
+                to: form.first(),
+                from: form.second(),
             };
             place_quickly(registers, view, instr, input)
         }
         17 => {
             let instr = Instr::Field {
-                to: record.first(),
-                from: record.second(),
-                offset: record.third(),
+                to: form.first(),
+                from: form.second(),
+                offset: form.third(),
             };
             place_quickly(registers, view, instr, input)
         }
         18 => {
             let instr = Instr::Index {
-                to: record.first(),
-                from: record.second(),
-                index: record.third(),
-                range: record.fourth(),
+                to: form.first(),
+                from: form.second(),
+                index: form.third(),
+                range: form.fourth(),
             };
             place_quickly(registers, view, instr, input)
         }
         19 => {
             let instr = Instr::Load {
-                to: record.first(),
-                from: record.second(),
+                to: form.first(),
+                from: form.second(),
             };
             number_quickly(registers, view, instr, input)
         }
         20 => {
             let instr = Instr::Store {
-                to: record.first(),
-                from: record.second(),
+                to: form.first(),
+                from: form.second(),
             };
             cell_quickly(registers, view, instr, input)
         }
         21 => {
             let instr = Instr::Known {
-                to: record.first(),
-                of: record.second(),
+                to: form.first(),
+                of: form.second(),
             };
             number_quickly(registers, view, instr, input)
         }
         22 => {
             let instr = Instr::Bind {
-                place: record.first(),
-                value: record.second(),
-                range: record.third(),
+                place: form.first(),
+                value: form.second(),
+                range: form.third(),
             };
             cell_quickly(registers, view, instr, input)
         }
         23 => {
             let instr = Instr::Unify {
-                left: record.first(),
-                left_range: record.second(),
-                right: record.third(),
-                right_range: record.fourth(),
+                left: form.first(),
+                left_range: form.second(),
+                right: form.third(),
+                right_range: form.fourth(),
             };
             cell_quickly(registers, view, instr, input)
         }
         26 => {
             let instr = Instr::Jump {
-                to: record.first(),
+                to: form.first(),
             };
             control_quickly(registers, view, instr, input)
         }
         27 => {
             let instr = Instr::JumpZero {
-                value: record.first(),
-                to: record.second(),
+                value: form.first(),
+                to: form.second(),
             };
             control_quickly(registers, view, instr, input)
         }
         28 => {
             let instr = Instr::Check {
-                value: record.first(),
+                value: form.first(),
             };
             control_quickly(registers, view, instr, input)
         }
         29 => control_quickly(registers, view, Instr::Fail, input),
         30 => {
             let instr = Instr::Mark {
-                to: record.first(),
+                to: form.first(),
             };
             choice_quickly(registers, view, instr, input)
         }
         31 => {
             let instr = Instr::Cut {
-                mark: record.first(),
+                mark: form.first(),
             };
             choice_quickly(registers, view, instr, input)
         }
         32 => {
             let instr = Instr::Choose {
-                resume: record.first(),
+                resume: form.first(),
             };
             choice_quickly(registers, view, instr, input)
         }
         48 => {
             let instr = Instr::Step {
-                counter: record.first(),
-                limit: record.second(),
-                by: record.third(),
-                out: record.fourth(),
+                counter: form.first(),
+                limit: form.second(),
+                by: form.third(),
+                out: form.fourth(),
             };
             control_quickly(registers, view, instr, input)
         }

@@ -48,6 +48,7 @@ impl Registers {
     }
 
     /// 1 where the cell at the place in a slot is known, and else 0.
+    #[inline(always)]
     #[tactic(auto, using(crate::proofs::Words::one_slot, std::proofs::lemmas::Grind::common_steps))]
     pub fn knows(&self, of: u32) -> Result<i64, RunFault>
         requires { HasOneCell self.now.memory.now of }
