@@ -88,23 +88,6 @@ fn top_of(marks: &[Mark]) -> usize
     marks[marks.len() - 1].top
 }
 
-// Room for a note, where one is needed.
-#[inline(always)]
-fn room_for_note<T: Copy>(free: bool, trail: &mut Vec<Note<T>>) -> Result<(), NoMemory>
-    ensures items { trail.new.items ≡ trail.old.items }
-    ensures len { vec_len trail.new ≡ vec_len trail.old }
-    ensures room { OnOk result (free ≡ false → vec_len trail.new < vec_capacity trail.new) }
-    ensures capacity { vec_capacity trail.old ≤ vec_capacity trail.new }
-    ensures free { free ≡ true → IsOk result }
-    ensures same { free ≡ true → vec_capacity trail.new ≡ vec_capacity trail.old }
-    ensures succeeds { vec_len trail.old + 1 ≤ vec_capacity trail.old → IsOk result }
-{
-    if !free {
-        trail.reserve(1)?;
-    }
-    Ok(())
-}
-
 // The serial of the top copy, or 0.
 fn top_serial(marks: &[Mark]) -> usize
     ensures { result ≡ (last_mark marks.now).serial }
@@ -123,21 +106,20 @@ fn add_note<T: Copy>(
     at: usize,
     old: T,
     serial: usize,
-)
+) -> Result<(), NoMemory>
     requires wide { at < length stamps.old.items }
-    requires room { vec_len trail.old < vec_capacity trail.old }
-    ensures stamps { stamps.new.items ≡ set stamps.old.items at serial }
-    ensures trail { trail.new.items ≡ trail.old.items
-        ++ (record { at = at; stamp = slice_index_or stamps.old.items at 0; old = old }) ∷ [] }
-    ensures len { vec_len trail.new ≡ vec_len trail.old + 1 }
+    ensures stamps { OnOk result (stamps.new.items ≡ set stamps.old.items at serial) }
+    ensures trail { OnOk result (trail.new.items ≡ trail.old.items
+        ++ (record { at = at; stamp = slice_index_or stamps.old.items at 0; old = old }) ∷ []) }
+    ensures same { OnErr result ((stamps.new.items ≡ stamps.old.items) × (trail.new.items ≡ trail.old.items)) }
+    ensures len { vec_len trail.new ≤ vec_len trail.old + (if is_ok result then 1 else 0) }
     ensures capacity { vec_capacity trail.old ≤ vec_capacity trail.new }
+    ensures succeeds { vec_len trail.old + 1 ≤ vec_capacity trail.old → IsOk result }
 {
     let stamp = stamps[at];
-    match trail.push(Note { at, stamp, old }) {
-        Ok(()) => (),
-        Err(_) => unreachable!(),
-    }
+    trail.push(Note { at, stamp, old })?;
     stamps[at] = serial;
+    Ok(())
 }
 
 // Notes what stands at a place, where a note is needed.
@@ -149,22 +131,24 @@ fn note_old<T: Copy>(
     stamps: &mut Vec<usize>,
     trail: &mut Vec<Note<T>>,
     at: usize,
-)
+) -> Result<(), NoMemory>
     requires inside { at < length items.now }
     requires wide { at < length stamps.old.items }
     requires free { free ≡ is_free marks.now at (slice_index_or stamps.old.items at 0) }
-    requires room { free ≡ false → vec_len trail.old < vec_capacity trail.old }
-    ensures keeps { (x : T) (counter : ℕ) → IsSound marks.now trail.old.items items.now stamps.old.items counter
-        → Keeps marks.now trail.old.items trail.new.items items.now (set items.now at x) stamps.new.items counter }
-    ensures noted { AddsNoted marks.now stamps.old.items stamps.new.items at }
-    ensures free { is_free marks.now at (slice_index_or stamps.old.items at 0) ≡ true → (vec_len trail.new ≡ vec_len trail.old) × (vec_capacity trail.new ≡ vec_capacity trail.old) }
-    ensures len { vec_len trail.new ≤ vec_len trail.old + 1 }
+    ensures keeps { OnOk result ((x : T) (counter : ℕ) → IsSound marks.now trail.old.items items.now stamps.old.items counter
+        → Keeps marks.now trail.old.items trail.new.items items.now (set items.now at x) stamps.new.items counter) }
+    ensures noted { OnOk result (AddsNoted marks.now stamps.old.items stamps.new.items at) }
+    ensures same { OnErr result ((stamps.new.items ≡ stamps.old.items) × (trail.new.items ≡ trail.old.items)) }
+    ensures free { free ≡ true → IsOk result × (vec_len trail.new ≡ vec_len trail.old) × (vec_capacity trail.new ≡ vec_capacity trail.old) }
+    ensures len { vec_len trail.new ≤ vec_len trail.old + (if is_ok result then 1 else 0) }
     ensures capacity { vec_capacity trail.old ≤ vec_capacity trail.new }
+    ensures succeeds { vec_len trail.old + 1 ≤ vec_capacity trail.old → IsOk result }
 {
     if !free {
         let old = items[at];
-        add_note(stamps, trail, at, old, top_serial(marks));
+        add_note(stamps, trail, at, old, top_serial(marks))?;
     }
+    Ok(())
 }
 
 // Puts back what a note holds.
@@ -423,7 +407,6 @@ impl<T: Copy> Rewind<T> {
         ensures trail_room { self.old.trail_room ≤ self.new.trail_room + (if is_ok result then 1 else 0) }
     {
         let free = needs_no_note(self.marks.as_slice(), at, self.stamps[at]);
-        room_for_note(free, &mut self.trail)?;
         note_old(
             free,
             self.marks.as_slice(),
@@ -431,7 +414,7 @@ impl<T: Copy> Rewind<T> {
             &mut self.stamps,
             &mut self.trail,
             at,
-        );
+        )?;
         self.items[at] = value;
         Ok(())
     }
