@@ -88,6 +88,21 @@ fn top_of(marks: &[Mark]) -> usize
     marks[marks.len() - 1].top
 }
 
+// Room for one item more. A vector that is not full is not touched.
+#[inline(always)]
+fn room_for_one<T>(items: &mut Vec<T>) -> Result<(), NoMemory>
+    ensures items { items.new.items ≡ items.old.items }
+    ensures len { vec_len items.new ≡ vec_len items.old }
+    ensures room { OnOk result (vec_len items.new < vec_capacity items.new) }
+    ensures capacity { vec_capacity items.old ≤ vec_capacity items.new }
+    ensures succeeds { vec_len items.old < vec_capacity items.old → IsOk result }
+{
+    if items.len() == items.capacity() {
+        items.reserve(1)?;
+    }
+    Ok(())
+}
+
 // The serial of the top copy, or 0.
 fn top_serial(marks: &[Mark]) -> usize
     ensures { result ≡ (last_mark marks.now).serial }
@@ -117,7 +132,8 @@ fn add_note<T: Copy>(
     ensures succeeds { vec_len trail.old + 1 ≤ vec_capacity trail.old → IsOk result }
 {
     let stamp = stamps[at];
-    trail.push(Note { at, stamp, old })?;
+    room_for_one(trail)?;
+    trail.push_reserved(Note { at, stamp, old });
     stamps[at] = serial;
     Ok(())
 }
@@ -298,14 +314,8 @@ fn push_both<T: Copy>(items: &mut Vec<T>, stamps: &mut Vec<usize>, value: T)
     ensures items { items.new.items ≡ items.old.items ++ value ∷ [] }
     ensures stamps { stamps.new.items ≡ stamps.old.items ++ 0 ∷ [] }
 {
-    match items.push(value) {
-        Ok(()) => (),
-        Err(_) => unreachable!(),
-    }
-    match stamps.push(0) {
-        Ok(()) => (),
-        Err(_) => unreachable!(),
-    }
+    items.push_reserved(value);
+    stamps.push_reserved(0);
 }
 
 impl<T: Copy> Rewind<T> {
@@ -440,8 +450,8 @@ impl<T: Copy> Rewind<T> {
         ensures choice_room { self.new.choice_room ≡ self.old.choice_room }
         ensures trail_room { self.new.trail_room ≡ self.old.trail_room }
     {
-        self.items.reserve(1)?;
-        self.stamps.reserve(1)?;
+        room_for_one(&mut self.items)?;
+        room_for_one(&mut self.stamps)?;
         push_both(&mut self.items, &mut self.stamps, value);
         Ok(())
     }

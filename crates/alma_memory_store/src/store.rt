@@ -439,10 +439,7 @@ fn choose_all(
         Ok(()) => (),
         Err(_) => unreachable!(),
     }
-    match lives.push(live) {
-        Ok(()) => (),
-        Err(_) => unreachable!(),
-    }
+    lives.push_reserved(live);
 }
 
 // Drops the slots from `base` on, and pushes these.
