@@ -5,6 +5,5 @@ pub mod Counting
 pub mod Dashing
 pub mod Fitting
 pub mod Forms
-mod Forms
 pub mod Needing
 pub mod Stepping
