@@ -205,9 +205,7 @@ pub(crate) fn act_quickly<V: CodeView>(
             cell_quickly(registers, view, instr, input)
         }
         26 => {
-            let instr = Instr::Jump {
-                to: form.first(),
-            };
+            let instr = Instr::Jump { to: form.first() };
             control_quickly(registers, view, instr, input)
         }
         27 => {
@@ -225,15 +223,11 @@ pub(crate) fn act_quickly<V: CodeView>(
         }
         29 => control_quickly(registers, view, Instr::Fail, input),
         30 => {
-            let instr = Instr::Mark {
-                to: form.first(),
-            };
+            let instr = Instr::Mark { to: form.first() };
             choice_quickly(registers, view, instr, input)
         }
         31 => {
-            let instr = Instr::Cut {
-                mark: form.first(),
-            };
+            let instr = Instr::Cut { mark: form.first() };
             choice_quickly(registers, view, instr, input)
         }
         32 => {

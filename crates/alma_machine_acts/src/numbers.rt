@@ -225,12 +225,7 @@ impl Registers {
     /// The number in a slot, which must be in a range.
     #[inline(always)]
     #[tactic(auto, using(crate::proofs::Words::ranges, std::proofs::lemmas::Int::ints, std::proofs::lemmas::Grind::common_steps))]
-    pub fn number_within(
-        &self,
-        slot: u32,
-        range: &Range,
-        fault: RunFault,
-    ) -> Result<i64, RunFault>
+    pub fn number_within(&self, slot: u32, range: &Range, fault: RunFault) -> Result<i64, RunFault>
         requires { HasNumber self.now.memory.now slot }
         ensures number { Gives self.now.memory.now (λ s k. number s slot
             (λ v. range_check range.now fault s v (λ _. k v))) result }
