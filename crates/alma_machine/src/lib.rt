@@ -5,6 +5,7 @@ mod dispatch;
 mod machine;
 mod quick;
 mod quick_act;
+mod quick_calls;
 mod quick_cells;
 mod quick_record;
 

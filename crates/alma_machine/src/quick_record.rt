@@ -8,6 +8,7 @@ ghost use Rattle.alma_machine_acts.specs.Rows.{state_of};
 ghost use Rattle.alma_object.specs.View.{instr_of_record};
 
 use crate::quick_act::{control_quickly, number_quickly, place_quickly};
+use crate::quick_calls::call_quickly;
 use crate::quick_cells::{cell_quickly, choice_quickly};
 use alma_code::Instr;
 use alma_machine_acts::{CodeView, Registers};
@@ -236,6 +237,15 @@ pub(crate) fn act_quickly<V: CodeView>(
             };
             choice_quickly(registers, view, instr, input)
         }
+        37 => {
+            let instr = Instr::Call {
+                routine: form.first(),
+                first: form.second(),
+                to: form.third(),
+            };
+            call_quickly(registers, view, instr, input)
+        }
+        38 => call_quickly(registers, view, Instr::Return, input),
         48 => {
             let instr = Instr::Step {
                 counter: form.first(),

@@ -73,12 +73,18 @@ impl<'b> CodeView for Verified<'b> {
         self.view().text(i)
     }
 
+    // The machine's loop keeps its view in registers of the processor, as long as nothing that is called knows where it is:
+    // so a copy is looked at.
+    #[inline(always)]
     fn routine(&self, i: u32) -> Option<RoutineView<'b>> {
-        self.view().routine(i)
+        let view = *self.view();
+        view.routine(i)
     }
 
+    #[inline(always)]
     fn start(&self, i: u32) -> u32 {
-        match self.view().routine(i) {
+        let view = *self.view();
+        match view.routine(i) {
             Some(routine) => routine.code_start(),
             None => unreachable!(),
         }

@@ -112,6 +112,12 @@ choice_quickly-requires-in-31-clause-needs g c = needs_of (g.V.CodeView.code c.a
 pub choice_quickly-requires-in-32-clause-needs : goal.choice_quickly-requires-in-32-clause-needs
 choice_quickly-requires-in-32-clause-needs g c = needs_of (g.V.CodeView.code c.args.view.now) c.args.registers.now.memory.now c.args.form _ (by_one I.Choose c.args.form c.first-in-32.result (form_is c.args.form 32 (sym c.opcode.ensures ∙ c.in-32.is)) c.first-in-32.ensures) c.requires.needs
 
+pub call_quickly-requires : goal.call_quickly-requires
+call_quickly-requires g c = needs_of (g.V.CodeView.code c.args.view.now) c.args.registers.now.memory.now c.args.form _ (by_three I.Call c.args.form c.first-in-37.result c.second-in-37.result c.third-in-37.result (form_is c.args.form 37 (sym c.opcode.ensures ∙ c.in-37.is)) c.first-in-37.ensures c.second-in-37.ensures c.third-in-37.ensures) c.requires.needs
+
+pub call_quickly-requires-in-38 : goal.call_quickly-requires-in-38
+call_quickly-requires-in-38 g c = needs_of (g.V.CodeView.code c.args.view.now) c.args.registers.now.memory.now c.args.form _ (form_is c.args.form 38 (sym c.opcode.ensures ∙ c.in-38.is)) c.requires.needs
+
 pub control_quickly-requires-in-48 : goal.control_quickly-requires-in-48
 control_quickly-requires-in-48 g c = needs_of (g.V.CodeView.code c.args.view.now) c.args.registers.now.memory.now c.args.form _ (by_four I.Step c.args.form c.first-in-48.result c.second-in-48.result c.third-in-48.result c.fourth-in-48.result (form_is c.args.form 48 (sym c.opcode.ensures ∙ c.in-48.is)) c.first-in-48.ensures c.second-in-48.ensures c.third-in-48.ensures c.fourth-in-48.ensures) c.requires.needs
 
@@ -264,6 +270,16 @@ pub returns-in-32-clause-step : goal.returns-in-32-clause-step
 returns-in-32-clause-step g c =
     done_of c.choice_quickly-in-32.result (state_of c.args.registers.now) (state_of c.choice_quickly-in-32.new.registers) (g.V.CodeView.code c.args.view.now) c.args.input.now c.args.form _
     (by_one I.Choose c.args.form c.first-in-32.result (form_is c.args.form 32 (sym c.opcode.ensures ∙ c.in-32.is)) c.first-in-32.ensures) c.choice_quickly-in-32.ensures.step
+
+pub returns-in-37-clause-step : goal.returns-in-37-clause-step
+returns-in-37-clause-step g c =
+    done_of c.call_quickly.result (state_of c.args.registers.now) (state_of c.call_quickly.new.registers) (g.V.CodeView.code c.args.view.now) c.args.input.now c.args.form _
+    (by_three I.Call c.args.form c.first-in-37.result c.second-in-37.result c.third-in-37.result (form_is c.args.form 37 (sym c.opcode.ensures ∙ c.in-37.is)) c.first-in-37.ensures c.second-in-37.ensures c.third-in-37.ensures) c.call_quickly.ensures.step
+
+pub returns-in-38-clause-step : goal.returns-in-38-clause-step
+returns-in-38-clause-step g c =
+    done_of c.call_quickly-in-38.result (state_of c.args.registers.now) (state_of c.call_quickly-in-38.new.registers) (g.V.CodeView.code c.args.view.now) c.args.input.now c.args.form _
+    (form_is c.args.form 38 (sym c.opcode.ensures ∙ c.in-38.is)) c.call_quickly-in-38.ensures.step
 
 pub returns-in-48-clause-step : goal.returns-in-48-clause-step
 returns-in-48-clause-step g c =
