@@ -1,7 +1,7 @@
 use Rattle.std.proofs.Common.{◌≤◌, ◌-◌}
 use Rattle.alma_machine_acts.specs.Rows.{state_of}
 use Rattle.alma_machine.proofs.Dashing.{Dashed}
-use Rattle.alma_machine.proofs.quick.hurry.Given as goal
+use Rattle.alma_machine.proofs.quick.dash.Given as goal
 
 -- so many steps were made
 abbrev pub invariant-loop-made : goal.invariant-loop-made

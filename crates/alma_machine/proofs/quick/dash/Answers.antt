@@ -2,26 +2,23 @@ use Rattle.std.proofs.Common.{arith}
 use Rattle.alma_code.specs.Machine.{step}
 use Rattle.alma_machine_acts.specs.Rows.{state_of}
 use Rattle.alma_machine.proofs.Dashing.{dashed_none, dashed_more, dashed_left, is_made, is_left, is_counted}
-use Rattle.alma_machine.proofs.quick.hurry.Goals as goal
+use Rattle.alma_machine.proofs.quick.dash.Goals as goal
 
 pub loop-made-init : goal.loop-made-init
 loop-made-init g c = record {
   within = omega arith;
-  dashed = dashed_none (g.V.CodeView.code c.args.view.now) c.args.input.now (state_of c.args.registers.now) c.requires.keeps c.requires.going;
+  dashed = dashed_none (g.V.CodeView.code c.args.view) c.args.input.now (state_of c.args.registers.now) c.requires.keeps;
 }
 
 pub step_quickly-requires-clause-keeps : goal.step_quickly-requires-clause-keeps
 step_quickly-requires-clause-keeps g c = c.loop-made.invariant.dashed.stands
-
-pub step_quickly-requires-clause-going : goal.step_quickly-requires-clause-going
-step_quickly-requires-clause-going g c = c.loop-made.invariant.dashed.going
 
 pub step_quickly-requires-clause-few : goal.step_quickly-requires-clause-few
 step_quickly-requires-clause-few g c = omega (arith, c.loop-made.invariant.dashed.steps, c.loop-made-test.true, c.requires.few)
 
 pub loop-made-preserved : goal.loop-made-preserved
 loop-made-preserved g c =
-    let code = g.V.CodeView.code c.args.view.now in
+    let code = g.V.CodeView.code c.args.view in
     let input = c.args.input.now in
     let old = state_of c.args.registers.now in
     let now = state_of c.loop-made.registers in
@@ -30,13 +27,13 @@ loop-made-preserved g c =
     record {
       within = omega (arith, c.loop-made-test.true);
       dashed = dashed_more code input c.loop-made.made old now new c.loop-made.invariant.dashed
-          (is_made c.step_quickly.result now new (step code input now) made c.step_quickly.ensures.step) c.step_quickly.ensures.mode
+          (is_made c.step_quickly.result now new (step code input now) made c.step_quickly.ensures.step) c.step_quickly.ensures.live
           (is_counted c.step_quickly.result new.steps now.steps made c.step_quickly.ensures.counted) c.step_quickly.ensures.choices c.step_quickly.ensures.fails;
     }
 
 pub returns-then-not-step_quickly-clause-state : goal.returns-then-not-step_quickly-clause-state
 returns-then-not-step_quickly-clause-state g c =
-    let code = g.V.CodeView.code c.args.view.now in
+    let code = g.V.CodeView.code c.args.view in
     let now = state_of c.loop-made.registers in
     let new = state_of c.step_quickly.new.registers in
     let same = is_left c.step_quickly.result now new (step code c.args.input.now now) c.if-not-step_quickly.true c.step_quickly.ensures.step in
@@ -47,7 +44,7 @@ returns-then-not-step_quickly-clause-silent g c = c.loop-made.invariant.dashed.s
 
 pub returns-then-not-step_quickly-clause-counted : goal.returns-then-not-step_quickly-clause-counted
 returns-then-not-step_quickly-clause-counted g c =
-    let code = g.V.CodeView.code c.args.view.now in
+    let code = g.V.CodeView.code c.args.view in
     let now = state_of c.loop-made.registers in
     let new = state_of c.step_quickly.new.registers in
     let same = is_left c.step_quickly.result now new (step code c.args.input.now now) c.if-not-step_quickly.true c.step_quickly.ensures.step in
@@ -55,7 +52,7 @@ returns-then-not-step_quickly-clause-counted g c =
 
 pub returns-then-not-step_quickly-clause-stands : goal.returns-then-not-step_quickly-clause-stands
 returns-then-not-step_quickly-clause-stands g c =
-    let code = g.V.CodeView.code c.args.view.now in
+    let code = g.V.CodeView.code c.args.view in
     let now = state_of c.loop-made.registers in
     let new = state_of c.step_quickly.new.registers in
     let same = is_left c.step_quickly.result now new (step code c.args.input.now now) c.if-not-step_quickly.true c.step_quickly.ensures.step in
