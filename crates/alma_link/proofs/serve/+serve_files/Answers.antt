@@ -22,11 +22,23 @@ serve_files-requires g t c κs within =
     let more = rw (c.is_err.ensures.negation, c.if-is_err.false) at c.push.ensures.items in
     let longer = ap (λ (units : List Program). length units) more ∙ length-append c.args.units.now.items (c.in-Ok.unit ∷ []) in
     let names = same_count c.args.names.now (c.in-Some.name.now ∷ texts c.in-Some.rest.now) c.in-Some.ensures in
-    let rest = length-map c.in-Some.rest.now (λ word. string_bytes word) in
-    (omega (arith, names, rest), (search rules, (search rules, (search rules,
-    (rw (more, map-append program_of c.args.units.now.items (c.in-Ok.unit ∷ []))
-    (each_of_append IsChecked (map program_of c.args.units.now.items) (program_of c.in-Ok.unit ∷ []) c.requires.checked (c.in-Ok.ensures.checked, tt)),
-    (omega (arith, names, rest, longer, c.requires.some), omega (arith, names, rest, longer, c.requires.few)))))))
+    let rest = length-map c.in-Some.rest.now (λ word. string_bytes word) in (
+      omega (arith, names, rest),
+      (
+        search rules,
+        (
+          search rules,
+          (
+            search rules,
+            (
+              rw (more, map-append program_of c.args.units.now.items (c.in-Ok.unit ∷ []))
+                  (each_of_append IsChecked (map program_of c.args.units.now.items) (program_of c.in-Ok.unit ∷ []) c.requires.checked (c.in-Ok.ensures.checked, tt)),
+              (omega (arith, names, rest, longer, c.requires.some), omega (arith, names, rest, longer, c.requires.few)),
+            ),
+          ),
+        ),
+      ),
+    )
 
 pub returns-then-is_err : goal.returns-then-is_err
 returns-then-is_err g t c =

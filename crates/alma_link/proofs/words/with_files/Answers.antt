@@ -1,4 +1,4 @@
-use Rattle.std.proofs.Common.{◌≡◌, ◌+◌, ◌∙◌, ◌≤◌, length, refl, sym, arith}
+use Rattle.std.proofs.Common.{◌∙◌, refl, sym, arith}
 use Rattle.alma_plan.specs.Words.{texts}
 use Rattle.alma_link.proofs.WordLemmas.{files_within, same_count}
 use Rattle.alma_link.proofs.words.with_files.Goals as goal
