@@ -9,7 +9,7 @@ ghost use Rattle.alma_plan.specs.Plan.{tells};
 ghost use Rattle.alma_plan.specs.Words.{texts};
 ghost use Rattle.alma_plan_run.specs.Programs.{sense};
 ghost use Rattle.alma_link.specs.Ends.{join_end, link_end};
-ghost use Rattle.alma_link.specs.Link.{failed, import_text, link_plan, program, unit_at};
+ghost use Rattle.alma_link.specs.Link.{failed, link_plan, program, unit_at};
 
 use crate::end::LinkEnd;
 use crate::serve::perform;

@@ -1,16 +1,14 @@
-use Rattle.std.proofs.Common.{rules, ◌∙◌, List, [], ◌∷◌, ◌++◌, length, ap, arith}
-use Rattle.std.proofs.lemmas.List.{length-append, length-map, map-append}
+use Rattle.std.proofs.Common.{rules, [], ◌∷◌, ◌++◌, arith}
+use Rattle.std.proofs.lemmas.List.{length-map, map-append}
 use Rattle.std.specs.Prelude.{map}
 use Rattle.std.specs.String.{string_bytes}
-use Rattle.alma_ir.proofs.Each.{each_of_append}
-use Rattle.alma_ir.specs.Checked.{IsChecked}
 use Rattle.alma_ir.specs.View.{program_of}
-use Rattle.alma_ir.specs.declared.program.Program.{Program}
 use Rattle.alma_plan.proofs.Courses.{course_starved}
 use Rattle.alma_plan.specs.Words.{texts}
 use Rattle.alma_plan_run.proofs.Sources.{course_read_source, course_unread_source}
 use Rattle.alma_link.specs.Ends.{task_of}
 use Rattle.alma_link.specs.Link.{program, failed, reading}
+use Rattle.alma_link.proofs.UnitLemmas.{one_more}
 use Rattle.alma_link.proofs.WordLemmas.{same_count}
 use Rattle.alma_link.proofs.serve.+serve_files.Goals as goal
 
@@ -20,25 +18,10 @@ returns-in_default g t c = rw c.in_default.ensures (rw c.as_slice.ensures.value 
 pub serve_files-requires : goal.serve_files-requires
 serve_files-requires g t c κs within =
     let more = rw (c.is_err.ensures.negation, c.if-is_err.false) at c.push.ensures.items in
-    let longer = ap (λ (units : List Program). length units) more ∙ length-append c.args.units.now.items (c.in-Ok.unit ∷ []) in
+    let units = one_more c.args.units.now.items c.in-Ok.unit _ more c.requires.checked c.in-Ok.ensures.checked in
     let names = same_count c.args.names.now (c.in-Some.name.now ∷ texts c.in-Some.rest.now) c.in-Some.ensures in
-    let rest = length-map c.in-Some.rest.now (λ word. string_bytes word) in (
-      omega (arith, names, rest),
-      (
-        search rules,
-        (
-          search rules,
-          (
-            search rules,
-            (
-              rw (more, map-append program_of c.args.units.now.items (c.in-Ok.unit ∷ []))
-                  (each_of_append IsChecked (map program_of c.args.units.now.items) (program_of c.in-Ok.unit ∷ []) c.requires.checked (c.in-Ok.ensures.checked, tt)),
-              (omega (arith, names, rest, longer, c.requires.some), omega (arith, names, rest, longer, c.requires.few)),
-            ),
-          ),
-        ),
-      ),
-    )
+    let rest = length-map c.in-Some.rest.now (λ word. string_bytes word) in
+    (omega (arith, names, rest), (search rules, (search rules, (search rules, (units.0, (omega (arith, names, rest, units.1, c.requires.some), omega (arith, names, rest, units.1, c.requires.few)))))))
 
 pub returns-then-is_err : goal.returns-then-is_err
 returns-then-is_err g t c =
