@@ -1,5 +1,5 @@
 -- How a call goes by its plan, and that its ends are its own.
-use Rattle.std.proofs.Common.{◌≡◌, ◌∙◌, ℕ, List, [], ◌∷◌, ◌++◌, refl, sym, ap, subst, inl, inr, arith}
+use Rattle.std.proofs.Common.{◌≡◌, ℕ, List, [], ◌∷◌, ◌++◌, refl, sym, subst, inl, inr, arith}
 use Rattle.std.specs.Prelude.{Option, None, Some, Result, Ok, Err}
 use Rattle.alma_io.specs.Sides.{SinkSide, SourceSide, FilesSide}
 use Rattle.alma_ir.specs.Tree.{Program}

@@ -1,5 +1,5 @@
 -- The ends of a call, as they are due.
-use Rattle.std.specs.Prelude.{List, map, Bor, Str}
+use Rattle.std.specs.Prelude.{List}
 use Rattle.alma_ir.specs.Tree.{Program}
 use Rattle.alma_join.specs.declared.error.JoinError.{JoinError}
 use Rattle.alma_join.specs.declared.error.JoinError.TheVariants as join

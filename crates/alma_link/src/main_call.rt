@@ -9,7 +9,7 @@ ghost use Rattle.alma_plan.specs.Plan.{tells};
 ghost use Rattle.alma_plan.specs.Words.{texts};
 ghost use Rattle.alma_plan_run.specs.Programs.{sense};
 ghost use Rattle.alma_link.specs.Ends.{join_end, link_end};
-ghost use Rattle.alma_link.specs.Link.{failed, import_text, link_plan, program, unit_at};
+ghost use Rattle.alma_link.specs.Link.{failed, link_plan, program, unit_at};
 
 use crate::end::LinkEnd;
 use crate::serve::perform;
@@ -25,10 +25,7 @@ use std::alloc::Global;
 /// The name of the program.
 const PROGRAM: &[u8] = b"alma_link";
 
-/// The status of modules that cannot be joined.
-const UNJOINED: u8 = 13;
-
-// The name of a routine of a module, by their numbers, that of the module from 1.
+// The name of a routine of a module by their numbers, that of the module from 1; empty where there is none.
 fn routine_name(units: &[Program], unit: u32, routine: u32) -> &[u8]
     ensures { result.now ≡ (routine_at (unit_at (map program_of units.now) unit) routine).name }
 {
@@ -41,7 +38,7 @@ fn routine_name(units: &[Program], unit: u32, routine: u32) -> &[u8]
     }
 }
 
-// Says of a module, from 1, which fault an import of this name has there, or, without a name, the module itself.
+// Says which fault an import of this name has, by the number of its module.
 fn tell_import<'t, E: Sink>(err: &mut E, fault: &'t [u8], unit: u32, name: &'t [u8]) -> Status
     ensures { Reports (tells program 13 (fault.now ++ (decimal unit ++ (codes " " ++ name.now))))
         (E.side err.old) (E.side err.new) result.0 }
@@ -79,7 +76,12 @@ fn tell_join<E: Sink>(err: &mut E, units: &[Program], error: JoinError) -> Statu
             tell_import(err, b"Twice ", unit, routine_name(units, unit, routine))
         }
         JoinError::HeadDiffers(unit, routine) => {
-            tell_import(err, b"HeadDiffers ", unit, routine_name(units, unit, routine))
+            tell_import(
+                err,
+                b"HeadDiffers ",
+                unit,
+                routine_name(units, unit, routine),
+            )
         }
         JoinError::TooLarge(unit) => tell_too_large(err, unit),
         JoinError::Memory => refuse(err, PROGRAM, Refusal::Stopped(Stop::Memory)),

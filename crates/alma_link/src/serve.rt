@@ -62,9 +62,7 @@ fn serve_units<'w, F: Files, I: Source, O: Sink>(
         (link_end (map program_of units.now) result) }
 {
     match join(alloc, units) {
-        Ok(joined) => {
-            LinkEnd::Performed(perform_task(alloc, task, &joined, files, input, out))
-        }
+        Ok(joined) => { LinkEnd::Performed(perform_task(alloc, task, &joined, files, input, out)) }
         Err(error) => LinkEnd::Unjoined(error),
     }
 }
@@ -119,9 +117,7 @@ pub fn perform<'w, F: Files, I: Source, O: Sink>(
         (link_end (map program_of units.new.items) result) }
 {
     match request_of(words) {
-        Ok(request) => {
-            serve_files(alloc, request.task, units, request.files, files, input, out)
-        }
+        Ok(request) => { serve_files(alloc, request.task, units, request.files, files, input, out) }
         Err(word) => LinkEnd::BadWord(word),
     }
 }

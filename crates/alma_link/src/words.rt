@@ -69,7 +69,11 @@ fn compile_request(words: &[String]) -> Result<Request<'_>, usize>
     ensures few { IfOk result (λ r. length r.files.now ≤ greatest_files) }
 {
     match split_word(words) {
-        Some((object, files)) if is_file_name(object) => with_files(2, Task::Compile(object), files),
+        Some((object, files)) if is_file_name(object) => with_files(
+            2,
+            Task::Compile(object),
+            files,
+        ),
         _ => Err(2),
     }
 }
