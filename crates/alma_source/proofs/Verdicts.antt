@@ -1,7 +1,5 @@
 -- A source comes to one verdict.
 use Rattle.std.proofs.Common.{◌≡◌, ◌∙◌, ℕ, List, ap, sym}
-use Rattle.alma_base.specs.declared.place.Place.{Place}
-use Rattle.alma_source.specs.declared.fault.SourceFault.{SourceFault}
 use Rattle.alma_source.specs.Refusal.{place_of}
 use Rattle.alma_source.specs.Verdict.{Verdict, Accepted, Rejected, IsVerdict}
 use Rattle.alma_source.proofs.RefusalLemmas.{one_program, one_refusal, refused_no_program}

@@ -1,5 +1,5 @@
 -- What reading a source and a file answers.
-use Rattle.std.proofs.Common.{◌≡◌, ◌≤◌, ℕ, List, length, refl}
+use Rattle.std.proofs.Common.{◌≡◌, ◌≤◌, ℕ, List, length}
 use Rattle.std.specs.Prelude.{Result, Ok, Err}
 use Rattle.alma_base.specs.Limits.{source_limit}
 use Rattle.alma_base.specs.declared.place.Place.{Place}

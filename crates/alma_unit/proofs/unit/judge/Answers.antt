@@ -1,5 +1,4 @@
 use Rattle.std.proofs.Common.{◌≡◌}
-use Rattle.alma_base.specs.declared.place.Place.{Place}
 use Rattle.alma_ir.specs.View.{program_of}
 use Rattle.alma_source.specs.Refusal.{place_of}
 use Rattle.alma_source.proofs.RefusalLemmas.{refused_within}
