@@ -19,7 +19,8 @@ lengths_differ (x ∷ a) (y ∷ b) h = and_false _ _ (lengths_differ a b (λ e. 
     and_false true t e = e
     and_false false t e = refl
 
-module _ (a b : List Param) (i : ℕ) (x y : Param) (within : i < length a) (within' : i < length b) (is : x ≡ get_or a i x) (is' : y ≡ get_or b i y) (h : same_params a b ≡ same_params (drop i a) (drop i b)) where
+module _ (a b : List Param) (i : ℕ) (x y : Param) (within : i < length a) (within' : i < length b) (is : x ≡ get_or a i x)
+    (is' : y ≡ get_or b i y) (h : same_params a b ≡ same_params (drop i a) (drop i b)) where
   next : same_params a b ≡ same_params (x ∷ drop (i + 1) a) (y ∷ drop (i + 1) b)
   next = h ∙ λ j. same_params (rest_from a i x within is j) (rest_from b i y within' is' j)
 
@@ -37,7 +38,8 @@ module _ (a b : List Param) (i : ℕ) (x y : Param) (within : i < length a) (wit
       by true t e = refl
       by false t e = absurd (true≢false e)
 
-pub params_all : (a b : List Param) (i : ℕ) → length a ≤ i → length b ≤ i → same_params a b ≡ same_params (drop i a) (drop i b) → true ≡ same_params a b
+pub params_all : (a b : List Param) (i : ℕ) → length a ≤ i → length b ≤ i → same_params a b ≡ same_params (drop i a) (drop i b)
+    → true ≡ same_params a b
 params_all a b i past past' h = sym (h ∙ λ j. same_params (rest_none a i past j) (rest_none b i past' j))
 
 -- an element that owns no memory is read with this default

@@ -12,7 +12,8 @@ rest_from xs i x within is = rw (add-one i) (drop-cons xs i x within) ∙ ap (λ
 pub rest_none : {X : Type 0} (xs : List X) (i : ℕ) → length xs ≤ i → drop i xs ≡ []
 rest_none xs i past = drop_all i xs past
 
-pub sum_rest : {X : Type 0} (f : X → ℕ) (xs : List X) (i : ℕ) (x : X) → i < length xs → x ≡ get_or xs i x → sum_by f (drop i xs) ≡ f x + sum_by f (drop (i + 1) xs)
+pub sum_rest : {X : Type 0} (f : X → ℕ) (xs : List X) (i : ℕ) (x : X) → i < length xs → x ≡ get_or xs i x
+    → sum_by f (drop i xs) ≡ f x + sum_by f (drop (i + 1) xs)
 sum_rest f xs i x within is = ap (sum_by f) (rest_from xs i x within is) ∙ sum_by-cons f x (drop (i + 1) xs)
 
 pub sum_none : {X : Type 0} (f : X → ℕ) (xs : List X) (i : ℕ) → length xs ≤ i → sum_by f (drop i xs) ≡ 0
@@ -25,7 +26,8 @@ mapped_at f (x ∷ xs) zero d e lt = refl
 mapped_at f (x ∷ xs) (suc i) d e lt = mapped_at f xs i d e (omega (arith, lt))
 
 -- the same with a mapped element that is known
-pub element_is : {A B : Type 0} (f : A → B) (xs : List A) (i : ℕ) (x : A) (e : B) → i < length xs → x ≡ get_or xs i x → get_or (map f xs) i e ≡ f x
+pub element_is : {A B : Type 0} (f : A → B) (xs : List A) (i : ℕ) (x : A) (e : B) → i < length xs → x ≡ get_or xs i x
+    → get_or (map f xs) i e ≡ f x
 element_is f xs i x e lt is = mapped_at f xs i x e lt ∙ ap f (sym is)
 
 -- within a list no default is taken

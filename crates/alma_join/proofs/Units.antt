@@ -12,7 +12,8 @@ use Rattle.alma_join.proofs.Keeping.{each_to, kept_append, kept_split, units_fro
 use Rattle.alma_join.proofs.Numbering.{error_of_next}
 use Rattle.alma_join.proofs.Rows.{rest_from, rest_none, element_is}
 
-numbers_append : (all : List Kept) (unit at : ℕ) (ps : List Program) (ts : List (List ℕ)) (p : Program) (t : List ℕ) → at ≡ unit + length ps → NumbersUnits all unit ps ts → NumbersUnit all at p t → NumbersUnits all unit (ps ++ p ∷ []) (ts ++ t ∷ [])
+numbers_append : (all : List Kept) (unit at : ℕ) (ps : List Program) (ts : List (List ℕ)) (p : Program) (t : List ℕ)
+    → at ≡ unit + length ps → NumbersUnits all unit ps ts → NumbersUnit all at p t → NumbersUnits all unit (ps ++ p ∷ []) (ts ++ t ∷ [])
 numbers_append all unit at [] [] p t e h k = let same : at ≡ unit = omega (arith, e) in (subst (λ n. NumbersUnit all n p t) same k, tt)
 numbers_append all unit at [] (s ∷ ts) p t e h k = absurd h
 numbers_append all unit at (q ∷ ps) [] p t e h k = absurd h
@@ -46,7 +47,8 @@ module _ (units : List Program) (i : ℕ) (p : Program) (within : i < length uni
       record {
         front = kept_in 1 front;
         behind = kept_in (suc (i + 1)) behind;
-        split = ap (kept_in 1) units_are ∙ kept_split 1 front (p ∷ behind) ∙ ap (λ n. kept_in 1 front ++ (kept_of n p ++ kept_in (suc n) behind)) number;
+        split = ap (kept_in 1) units_are ∙ kept_split 1 front (p ∷ behind)
+            ∙ ap (λ n. kept_in 1 front ++ (kept_of n p ++ kept_in (suc n) behind)) number;
         others_front = each_to _ _ (kept_in 1 front) (λ k lt. omega (arith, lt, number)) (units_below 1 front);
         others_behind = each_to _ _ (kept_in (suc (i + 1)) behind) (λ k le. omega (arith, le)) (units_from (suc (i + 1)) behind);
         number = count;
@@ -59,20 +61,37 @@ pub record UnitsNumbered (units : List Program) (i next : ℕ) (tables : List (L
   pub sound : import_fault (kept_in 1 units) (i + 1) (drop i units) ≡ import_fault (kept_in 1 units) 1 units
 
 pub numbered_no_unit : (units : List Program) (tables : List (Vec ℕ Global)) → tables ≡ [] → UnitsNumbered units 0 1 (map numbers_in tables)
-numbered_no_unit units tables is = record { next_is = refl; numbers = subst (λ l. NumbersUnits (kept_in 1 units) 1 [] (map numbers_in l)) (sym is) tt; sound = refl }
+numbered_no_unit units tables is = record {
+  next_is = refl;
+  numbers = subst (λ l. NumbersUnits (kept_in 1 units) 1 [] (map numbers_in l))
+      (sym is) tt;
+  sound = refl;
+}
 
-module _ (units : List Program) (i : ℕ) (p : Program) (within : i < length units) (is : p ≡ get_or units i p) (next : ℕ) (tables : List (List ℕ)) (h : UnitsNumbered units i next tables) where
+module _ (units : List Program) (i : ℕ) (p : Program) (within : i < length units) (is : p ≡ get_or units i p) (next : ℕ)
+    (tables : List (List ℕ)) (h : UnitsNumbered units i next tables) where
   abbrev all : List Kept
   all = kept_in 1 units
 
-  fault_is : import_fault all (i + 1) (drop i units) ≡ or_next (unit_fault all (i + 1) p) (λ _. import_fault all (i + 1 + 1) (drop (i + 1) units))
-  fault_is = ap (import_fault all (i + 1)) (rest_from units i p within is) ∙ (λ j. or_next (unit_fault all (i + 1) p) (λ _. import_fault all (sym (add-one (i + 1)) j) (drop (i + 1) units)))
+  fault_is : import_fault all (i + 1) (drop i units) ≡ or_next (unit_fault all (i + 1) p)
+      (λ _. import_fault all (i + 1 + 1) (drop (i + 1) units))
+  fault_is = ap (import_fault all (i + 1)) (rest_from units i p within is)
+      ∙ (λ j. or_next (unit_fault all (i + 1) p) (λ _. import_fault all (sym (add-one (i + 1)) j) (drop (i + 1) units)))
 
-  pub units_numbered_more : (next' : ℕ) (table : List ℕ) (longer : List (List ℕ)) → longer ≡ tables ++ table ∷ [] → NumbersUnit all (i + 1) p table → unit_fault all (i + 1) p ≡ None → next' ≡ next + length (kept_of (i + 1) p)
+  pub units_numbered_more : (next' : ℕ) (table : List ℕ) (longer : List (List ℕ)) → longer ≡ tables ++ table ∷ []
+      → NumbersUnit all (i + 1) p table → unit_fault all (i + 1) p ≡ None → next' ≡ next + length (kept_of (i + 1) p)
       → UnitsNumbered units (i + 1) next' longer
   units_numbered_more next' table longer more numbers none count = record {
-    next_is = omega (arith, count, h.next_is, ap length (kept_more units i p within is), length-append (kept_in 1 (take i units)) (kept_of (i + 1) p));
-    numbers = subst (NumbersUnits all 1 (take (i + 1) units)) (sym more) (subst (λ l. NumbersUnits all 1 l (tables ++ table ∷ [])) (sym (front_more units i p within is))
+    next_is = omega (
+      arith,
+      count,
+      h.next_is,
+      ap length (kept_more units i p within is),
+      length-append (kept_in 1 (take i units))
+          (kept_of (i + 1) p),
+    );
+    numbers = subst (NumbersUnits all 1 (take (i + 1) units)) (sym more)
+        (subst (λ l. NumbersUnits all 1 l (tables ++ table ∷ [])) (sym (front_more units i p within is))
         (numbers_append all 1 (i + 1) (take i units) tables p table (omega (arith, front_length units i p within is)) h.numbers numbers));
     sound = ap (λ o. or_next o (λ _. import_fault all (i + 1 + 1) (drop (i + 1) units))) (sym none) ∙ sym fault_is ∙ h.sound;
   }
@@ -80,15 +99,18 @@ module _ (units : List Program) (i : ℕ) (p : Program) (within : i < length uni
   pub unit_fault_first : (e : JoinError) → IsErrorOf e (unit_fault all (i + 1) p) → IsErrorOf e (import_fault all 1 units)
   unit_fault_first e fault = subst (IsErrorOf e) (sym fault_is ∙ h.sound) (error_of_next e _ _ fault)
 
-pub units_numbers : (units : List Program) (i next : ℕ) (tables : List (List ℕ)) → length units ≤ i → UnitsNumbered units i next tables → NumbersUnits (kept_in 1 units) 1 units tables
+pub units_numbers : (units : List Program) (i next : ℕ) (tables : List (List ℕ)) → length units ≤ i → UnitsNumbered units i next tables
+    → NumbersUnits (kept_in 1 units) 1 units tables
 units_numbers units i next tables past h = subst (λ l. NumbersUnits (kept_in 1 units) 1 l tables) (take_all i units past) h.numbers
 
-pub units_sound : (units : List Program) (i next : ℕ) (tables : List (List ℕ)) → length units ≤ i → UnitsNumbered units i next tables → import_fault (kept_in 1 units) 1 units ≡ None
+pub units_sound : (units : List Program) (i next : ℕ) (tables : List (List ℕ)) → length units ≤ i → UnitsNumbered units i next tables
+    → import_fault (kept_in 1 units) 1 units ≡ None
 units_sound units i next tables past h = sym h.sound ∙ ap (import_fault (kept_in 1 units) (i + 1)) (rest_none units i past)
 
 -- ---- units in memory
 
-pub program_there : (units : List whole.Program) (i : ℕ) (x : whole.Program) → i < length units → x ≡ get_or units i x → program_of x ≡ get_or (map program_of units) i (program_of x)
+pub program_there : (units : List whole.Program) (i : ℕ) (x : whole.Program) → i < length units → x ≡ get_or units i x
+    → program_of x ≡ get_or (map program_of units) i (program_of x)
 program_there units i x within is = sym (element_is program_of units i x (program_of x) within is)
 
 pub within_units : (units : List whole.Program) (i : ℕ) → i < length units → i < length (map program_of units)

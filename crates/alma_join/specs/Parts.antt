@@ -27,9 +27,11 @@ pub record AddsBody (a b : Parts) (routine : Routine) (m : Moves) : Type 0 where
 -- a module is added
 pub record AddsUnit (a b : Parts) (p : Program) (numbers : List ℕ) : Type 0 where
   pub globals : map global_of b.globals.items ≡ map global_of a.globals.items ++ map (moved_global (body_numbers numbers a.slots)) p.globals
-  pub body : stmts_list b.body.items ≡ append_stmts (stmts_list a.body.items) (moved_stmts (body_numbers numbers a.slots) (routine_at p 0).body)
+  pub body : stmts_list b.body.items ≡ append_stmts (stmts_list a.body.items)
+      (moved_stmts (body_numbers numbers a.slots) (routine_at p 0).body)
   pub lines : b.lines.items ≡ a.lines.items ++ (routine_at p 0).lines
-  pub procedures : (unit : ℕ) → map routine_of b.procedures.items ≡ map routine_of a.procedures.items ++ map (moved_procedure (procedure_numbers numbers a.slots)) (kept_of unit p)
+  pub procedures : (unit : ℕ) → map routine_of b.procedures.items
+      ≡ map routine_of a.procedures.items ++ map (moved_procedure (procedure_numbers numbers a.slots)) (kept_of unit p)
   pub declared : b.declared ≡ a.declared + (routine_at p 0).declared
   pub slots : b.slots ≡ a.slots + own_slots p
 
@@ -47,5 +49,10 @@ abbrev pub with_body : Program → Parts → Program
 with_body first parts = record {
   name = first.name;
   globals = map global_of parts.globals.items;
-  routines = record (routine_at first 0) { declared = parts.declared; slots = 1 + parts.slots; body = stmts_list parts.body.items; lines = parts.lines.items } ∷ map routine_of parts.procedures.items;
+  routines = record (routine_at first 0) {
+    declared = parts.declared;
+    slots = 1 + parts.slots;
+    body = stmts_list parts.body.items;
+    lines = parts.lines.items;
+  } ∷ map routine_of parts.procedures.items;
 }

@@ -58,7 +58,8 @@ fn is_bare(routine: &Routine, holds_routine: bool) -> bool
 
 // Of each routine, whether one stands inside of it.
 fn mark_outer(alloc: Global, program: &Program) -> Result<Vec<bool>, NoMemory>
-    ensures { IfOk result (λ marks. MarksOuter (map routine_of program.now.routines.items) marks.items) }
+    ensures { IfOk result (λ marks. MarksOuter (map routine_of program.now.routines.items)
+        marks.items) }
 {
     let mut marks = Vec::from_elem(alloc, false, program.routines.len())?;
     for routine in &program.routines {

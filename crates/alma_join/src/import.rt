@@ -8,7 +8,7 @@ ghost use Rattle.alma_join.specs.Numbers.{Resolves, StandsAt, unit_fault, Number
 ghost use Rattle.alma_join.specs.declared.error.JoinError.TheVariants.{Memory};
 
 use crate::bare::mark_bare;
-use crate::directory::{Directory, Matches, following, matches_of};
+use crate::directory::{Directory, Matches, directory_of, following, matches_of};
 use crate::error::JoinError;
 use crate::head::same_head;
 use alma_base::NoMemory;
@@ -105,8 +105,8 @@ fn number_unit(
     Ok(table)
 }
 
-/// The new numbers of all units, or the first fault of an import.
-pub fn number_units(
+// The new numbers of all units, or the first fault of an import.
+fn number_units(
     alloc: Global,
     directory: &Directory<'_>,
     units: &[Program],
@@ -127,4 +127,18 @@ pub fn number_units(
         tables.push(number_unit(alloc, directory, &mut next, unit, &units[i])?)?;
     }
     Ok(tables)
+}
+
+/// The new numbers of all units, or the first fault of an import.
+pub fn number_all(alloc: Global, units: &[Program]) -> Result<Vec<Vec<u32>>, JoinError>
+    requires few { length units.now ≤ 16 }
+    ensures numbers { IfOk result (λ tables. NumbersUnits (kept_in 1 (map program_of units.now)) 1
+        (map program_of units.now) (map numbers_in tables.items)) }
+    ensures sound { IfOk result (λ tables. import_fault (kept_in 1 (map program_of units.now)) 1
+        (map program_of units.now) ≡ None) }
+    ensures fault { IfErr result (λ e. IsErrorOf e (import_fault
+        (kept_in 1 (map program_of units.now)) 1 (map program_of units.now))) }
+{
+    let directory = directory_of(alloc, units)?;
+    number_units(alloc, &directory, units)
 }

@@ -6,9 +6,9 @@ ghost use Rattle.alma_joined.specs.Joined.{AreUnits, joined, join_fault};
 ghost use Rattle.alma_join.specs.Fault.{IsJoinError};
 ghost use Rattle.alma_join.specs.Parts.{with_body};
 
-use crate::directory::{directory_of, following};
+use crate::directory::following;
 use crate::error::JoinError;
-use crate::import::number_units;
+use crate::import::number_all;
 use crate::part::{Parts, parts_of};
 use alma_base::NoMemory;
 use alma_ir::{Program, Routine};
@@ -47,8 +47,8 @@ fn program_with(alloc: Global, first: &Program, parts: Parts) -> Result<Program,
     })
 }
 
-/// The program of 1 to 16 modules that were checked apart. Memory also where a number does not fit a u32, which is not so
-/// within the limits of a program.
+/// The program of 1 to 16 modules that were checked apart. Memory also where a number does not fit a
+/// u32, which is not so within the limits of a program.
 pub fn join(alloc: Global, units: &[Program]) -> Result<Program, JoinError>
     requires units { AreUnits (map program_of units.now) }
     ensures joined { IfOk result (λ p. program_of p ≡ joined (map program_of units.now)) }
@@ -56,8 +56,7 @@ pub fn join(alloc: Global, units: &[Program]) -> Result<Program, JoinError>
     ensures checked { IfOk result (λ p. IsChecked (program_of p)) }
     ensures refused { IfErr result (λ e. IsJoinError e (map program_of units.now)) }
 {
-    let directory = directory_of(alloc, units)?;
-    let tables = number_units(alloc, &directory, units)?;
+    let tables = number_all(alloc, units)?;
     if let Some(unit) = first_too_large(units) {
         return Err(JoinError::TooLarge(unit));
     }

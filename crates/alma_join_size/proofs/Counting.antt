@@ -47,8 +47,10 @@ texts_are : (xs : List Phrase) → text_count xs ≡ sum_by text_bytes xs
 texts_are [] = refl
 texts_are (x ∷ xs) = ap (λ n. text_bytes x + n) (texts_are xs) ∙ sym (sum_by-cons text_bytes x xs)
 
-pub by_texts : (xs ys : List Stmt) → xs ≡ ys → saturate (text_count (stmts_phrases (stmts_list xs))) ≡ saturate (sum_by text_bytes (stmts_phrases (stmts_list ys)))
-by_texts xs ys e = ap (λ l. saturate (text_count (stmts_phrases (stmts_list l)))) e ∙ ap saturate (texts_are (stmts_phrases (stmts_list ys)))
+pub by_texts : (xs ys : List Stmt) → xs ≡ ys → saturate (text_count (stmts_phrases (stmts_list xs)))
+    ≡ saturate (sum_by text_bytes (stmts_phrases (stmts_list ys)))
+by_texts xs ys e = ap (λ l. saturate (text_count (stmts_phrases (stmts_list l)))) e
+    ∙ ap saturate (texts_are (stmts_phrases (stmts_list ys)))
 
 -- a length in memory
 pub counted_len : (n v m : ℕ) → n ≡ v → m ≡ v → n < 2 ^ 64 → n ≡ saturate m
@@ -65,7 +67,8 @@ pub record SizesGo (units : List Program) (i : ℕ) (totals : memory.Totals) : T
 pub sizes_none : (units : List Program) (totals : memory.Totals) → AreTotals totals joined.no_totals → SizesGo units 0 totals
 sizes_none units totals h = record { all = joined.no_totals; are = h; rest = refl }
 
-module _ (units : List whole.Program) (i : ℕ) (x : whole.Program) (totals more : memory.Totals) (within : i < length units) (is : x ≡ get_or units i x) (h : SizesGo (map program_of units) i totals)
+module _ (units : List whole.Program) (i : ℕ) (x : whole.Program) (totals more : memory.Totals) (within : i < length units)
+    (is : x ≡ get_or units i x) (h : SizesGo (map program_of units) i totals)
     (added : (all : joined.Totals) → AreTotals totals all → AreTotals more (joined.with_unit all (program_of x))) where
   abbrev plain : List Program
   plain = map program_of units
@@ -74,27 +77,37 @@ module _ (units : List whole.Program) (i : ℕ) (x : whole.Program) (totals more
   with_x = joined.with_unit h.all (program_of x)
 
   rest_is : drop i plain ≡ program_of x ∷ drop (i + 1) plain
-  rest_is = rw (add-one i) (drop-cons plain i (program_of x) (omega (arith, within, length-map units program_of))) ∙ ap (λ y. y ∷ drop (i + 1) plain) (mapped_at units i within is)
+  rest_is = rw (add-one i) (drop-cons plain i (program_of x) (omega (arith, within, length-map units program_of)))
+      ∙ ap (λ y. y ∷ drop (i + 1) plain) (mapped_at units i within is)
     where
-      mapped_at : (xs : List whole.Program) (j : ℕ) → j < length xs → x ≡ get_or xs j x → get_or (map program_of xs) j (program_of x) ≡ program_of x
+      mapped_at : (xs : List whole.Program) (j : ℕ) → j < length xs → x ≡ get_or xs j x
+          → get_or (map program_of xs) j (program_of x) ≡ program_of x
       mapped_at [] j lt e = absurd (omega (arith, lt))
       mapped_at (y ∷ ys) zero lt e = ap program_of (sym e)
       mapped_at (y ∷ ys) (suc j) lt e = mapped_at ys j (omega (arith, lt)) e
 
-  fault_is : (b : Bool) → b ≡ joined.passes with_x → joined.size_fault joined.no_totals 1 plain ≡ if_true b (λ _. Some (joined.TooLarge (i + 1))) (λ _. joined.size_fault with_x (i + 1 + 1) (drop (i + 1) plain))
+  fault_is : (b : Bool) → b ≡ joined.passes with_x → joined.size_fault joined.no_totals 1 plain
+      ≡ if_true b (λ _. Some (joined.TooLarge (i + 1))) (λ _. joined.size_fault with_x (i + 1 + 1) (drop (i + 1) plain))
   fault_is b e =
       sym h.rest ∙ ap (joined.size_fault h.all (i + 1)) rest_is
-      ∙ (λ j. if_true (sym e j) (λ _. Some (joined.TooLarge (i + 1))) (λ _. joined.size_fault with_x (sym (add-one (i + 1)) j) (drop (i + 1) plain)))
+      ∙ (λ j. if_true (sym e j) (λ _. Some (joined.TooLarge (i + 1)))
+      (λ _. joined.size_fault with_x (sym (add-one (i + 1)) j) (drop (i + 1) plain)))
 
-  pub sizes_pass : (b : Bool) → ((all : joined.Totals) → AreTotals more all → b ≡ joined.passes all) → b ≡ true → joined.size_fault joined.no_totals 1 plain ≡ Some (joined.TooLarge (i + 1))
-  sizes_pass b tells passed = fault_is b (tells with_x (added h.all h.are)) ∙ ap (λ t. if_true t (λ _. Some (joined.TooLarge (i + 1))) (λ _. joined.size_fault with_x (i + 1 + 1) (drop (i + 1) plain))) passed
+  pub sizes_pass : (b : Bool) → ((all : joined.Totals) → AreTotals more all → b ≡ joined.passes all) → b ≡ true
+      → joined.size_fault joined.no_totals 1 plain ≡ Some (joined.TooLarge (i + 1))
+  sizes_pass b tells passed = fault_is b (tells with_x (added h.all h.are))
+      ∙ ap (λ t. if_true t (λ _. Some (joined.TooLarge (i + 1))) (λ _. joined.size_fault with_x (i + 1 + 1) (drop (i + 1) plain))) passed
 
-  pub sizes_more : (b : Bool) → ((all : joined.Totals) → AreTotals more all → b ≡ joined.passes all) → b ≡ false → SizesGo plain (i + 1) more
+  pub sizes_more : (b : Bool) → ((all : joined.Totals) → AreTotals more all → b ≡ joined.passes all) → b ≡ false
+      → SizesGo plain (i + 1) more
   sizes_more b tells stays = record {
     all = with_x;
     are = added h.all h.are;
-    rest = sym (fault_is b (tells with_x (added h.all h.are)) ∙ ap (λ t. if_true t (λ _. Some (joined.TooLarge (i + 1))) (λ _. joined.size_fault with_x (i + 1 + 1) (drop (i + 1) plain))) stays);
+    rest = sym (fault_is b (tells with_x (added h.all h.are))
+        ∙ ap (λ t. if_true t (λ _. Some (joined.TooLarge (i + 1))) (λ _. joined.size_fault with_x (i + 1 + 1) (drop (i + 1) plain))) stays);
   }
 
-pub sizes_all : (units : List whole.Program) (i : ℕ) (totals : memory.Totals) → length units ≤ i → SizesGo (map program_of units) i totals → joined.size_fault joined.no_totals 1 (map program_of units) ≡ None
-sizes_all units i totals past h = sym h.rest ∙ ap (joined.size_fault h.all (i + 1)) (drop_all i (map program_of units) (omega (arith, past, length-map units program_of)))
+pub sizes_all : (units : List whole.Program) (i : ℕ) (totals : memory.Totals) → length units ≤ i → SizesGo (map program_of units) i totals
+    → joined.size_fault joined.no_totals 1 (map program_of units) ≡ None
+sizes_all units i totals past h = sym h.rest ∙ ap (joined.size_fault h.all (i + 1))
+    (drop_all i (map program_of units) (omega (arith, past, length-map units program_of)))

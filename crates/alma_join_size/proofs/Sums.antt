@@ -13,6 +13,8 @@ sum_mapped g f (x ∷ xs) = sum_by-cons g (f x) (map f xs) ∙ ap (λ n. g (f x)
 -- a bound that is below the stop is passed where it is passed without a stop
 pub passes_stopped : (limit n r : ℕ) → limit < 2 ^ 63 → r ≡ saturate n → nat_lt limit r ≡ nat_lt limit n
 passes_stopped limit n r small is = elim (cases_lt limit n) [
-  | inl lt ↦ let lt' : limit < r = omega (arith, lt, is, small) in let a : nat_lt limit r ≡ true = grind (arith, nat_tests, lt') in let b : nat_lt limit n ≡ true = grind (arith, nat_tests, lt) in a ∙ sym b
-  | inr ge ↦ let ge' : r ≤ limit = omega (arith, ge, is, small) in let a : nat_lt limit r ≡ false = grind (arith, nat_tests, ge') in let b : nat_lt limit n ≡ false = grind (arith, nat_tests, ge) in a ∙ sym b
+  | inl lt ↦ let lt' : limit < r = omega (arith, lt, is, small) in let a : nat_lt limit r
+      ≡ true = grind (arith, nat_tests, lt') in let b : nat_lt limit n ≡ true = grind (arith, nat_tests, lt) in a ∙ sym b
+  | inr ge ↦ let ge' : r ≤ limit = omega (arith, ge, is, small) in let a : nat_lt limit r
+      ≡ false = grind (arith, nat_tests, ge') in let b : nat_lt limit n ≡ false = grind (arith, nat_tests, ge) in a ∙ sym b
 ]

@@ -38,7 +38,8 @@ fn params_of(routine: &Routine) -> u64
 }
 
 fn count_params(routines: &[Routine]) -> u64
-    ensures { result ≡ saturate (sum_by (λ r. length r.params + link_slots r.level) (map routine_of routines.now)) }
+    ensures { result ≡ saturate (sum_by (λ r. length r.params + link_slots r.level)
+        (map routine_of routines.now)) }
 {
     let mut total: u64 = 0;
     for routine in routines {
@@ -68,7 +69,8 @@ fn count_global_names(globals: &[Global]) -> u64
 }
 
 fn count_texts(routines: &[Routine]) -> u64
-    ensures { result ≡ saturate (sum_by (λ r. sum_by text_bytes (stmts_phrases r.body)) (map routine_of routines.now)) }
+    ensures { result ≡ saturate (sum_by (λ r. sum_by text_bytes (stmts_phrases r.body))
+        (map routine_of routines.now)) }
 {
     let mut total: u64 = 0;
     for routine in routines {

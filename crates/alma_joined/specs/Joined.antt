@@ -26,7 +26,9 @@ is_empty (more_stmts line x rest) = false
 -- procedure inside
 abbrev pub is_bare : Program → (r : ℕ) → Routine → Bool
 is_bare p r routine =
-    nat_eq routine.level 1 && (is_empty routine.body && (nat_eq routine.slots (sum_by param_slots routine.params) && not (list_any (λ x. nat_eq x.outer r) p.routines)))
+    nat_eq routine.level 1
+    && (is_empty routine.body
+    && (nat_eq routine.slots (sum_by param_slots routine.params) && not (list_any (λ x. nat_eq x.outer r) p.routines)))
 
 -- a routine that stays: the module in which it stands, from 1, its number there, and itself
 pub record Kept : Type 0 where
@@ -38,7 +40,8 @@ pub record Kept : Type 0 where
 abbrev pub kept_from : (unit : ℕ) → Program → (r : ℕ) → List Routine → List Kept
 kept_from unit p r [] = []
 kept_from unit p r (x ∷ rest) =
-    if_true (is_bare p r x) (λ _. kept_from unit p (suc r) rest) (λ _. record { unit = unit; number = r; routine = x } ∷ kept_from unit p (suc r) rest)
+    if_true (is_bare p r x) (λ _. kept_from unit p (suc r) rest)
+    (λ _. record { unit = unit; number = r; routine = x } ∷ kept_from unit p (suc r) rest)
 
 -- the procedures of a module that stay
 abbrev pub kept_of : (unit : ℕ) → Program → List Kept
@@ -81,7 +84,8 @@ first_match (m ∷ rest) = m.0
 abbrev pub new_number : List Kept → (unit : ℕ) → Program → ℕ → ℕ
 new_number all unit p zero = 0
 new_number all unit p (suc r) =
-    if_true (is_bare p (suc r) (routine_at p (suc r))) (λ _. first_match (matches all 1 unit (routine_at p (suc r)).name)) (λ _. number_of_kept all 1 unit (suc r))
+    if_true (is_bare p (suc r) (routine_at p (suc r))) (λ _. first_match (matches all 1 unit (routine_at p (suc r)).name))
+    (λ _. number_of_kept all 1 unit (suc r))
 
 -- a slot of the module's body; the input position stays
 abbrev pub new_slot : (before : ℕ) → ℕ → ℕ
@@ -145,7 +149,8 @@ or_next None next = next tt
 abbrev pub fault_from : List Kept → (unit : ℕ) → Program → (r : ℕ) → List Routine → Option JoinFault
 fault_from all unit p r [] = None
 fault_from all unit p r (x ∷ rest) =
-    or_next (if_true (is_bare p r x) (λ _. match_fault unit r x (matches all 1 unit x.name)) (λ _. None)) (λ _. fault_from all unit p (suc r) rest)
+    or_next (if_true (is_bare p r x) (λ _. match_fault unit r x (matches all 1 unit x.name)) (λ _. None))
+    (λ _. fault_from all unit p (suc r) rest)
 
 -- and of all modules
 abbrev pub import_fault : List Kept → (unit : ℕ) → List Program → Option JoinFault
@@ -178,7 +183,10 @@ with_unit t p = record {
 -- one of them passes its bound
 abbrev pub passes : Totals → Bool
 passes t =
-    nat_lt cell_limit t.declared || (nat_lt routine_slot_limit t.slots || (nat_lt record_limit t.globals || (nat_lt record_limit t.params || (nat_lt pool_limit t.names || nat_lt pool_limit t.texts))))
+    nat_lt cell_limit t.declared
+    || (nat_lt routine_slot_limit t.slots
+    || (nat_lt record_limit t.globals
+    || (nat_lt record_limit t.params || (nat_lt pool_limit t.names || nat_lt pool_limit t.texts))))
 
 -- the first module with which they do
 abbrev pub size_fault : Totals → (unit : ℕ) → List Program → Option JoinFault

@@ -21,19 +21,22 @@ named name r = record r { name = name }
 abbrev pub uses_inc : Program
 uses_inc =
     with_globals (global_at (codes "x") 1 1 ∷ [])
-    (module_with 2 (let_be 1 (number 1) ∷ call 1 (ByPlace (var 1) ∷ []) ∷ write_var 1 ∷ []) (named (codes "inc") (procedure (param kind.Place 0 1 ∷ []) 1 []) ∷ []))
+    (module_with 2 (let_be 1 (number 1) ∷ call 1 (ByPlace (var 1) ∷ []) ∷ write_var 1 ∷ [])
+    (named (codes "inc") (procedure (param kind.Place 0 1 ∷ []) 1 []) ∷ []))
 
 -- MODULE B; PROCEDURE inc(VAR a: INTEGER); BEGIN a := a + 1 END inc; END B.
 abbrev pub has_inc : Program
 has_inc =
     module_with 1 []
-    (named (codes "inc") (procedure (param kind.Place 0 1 ∷ []) 1 (Assign (through_param 0) (operate op.Add (Load (through_param 0)) (number 1)) int ∷ [])) ∷ [])
+    (named (codes "inc") (procedure (param kind.Place 0 1 ∷ [])
+    1 (Assign (through_param 0) (operate op.Add (Load (through_param 0)) (number 1)) int ∷ [])) ∷ [])
 
 -- MODULE C; VAR y: INTEGER; PROCEDURE inc(a: INTEGER); BEGIN TRUE END inc; BEGIN y := 5; WRITE(y) END C.
 abbrev pub other_inc : Program
 other_inc =
     with_globals (global_at (codes "y") 1 1 ∷ [])
-    (module_with 2 (let_be 1 (number 5) ∷ write_var 1 ∷ []) (named (codes "inc") (procedure (param kind.Value 0 1 ∷ []) 1 (succeed ∷ [])) ∷ []))
+    (module_with 2 (let_be 1 (number 5) ∷ write_var 1 ∷ [])
+    (named (codes "inc") (procedure (param kind.Value 0 1 ∷ []) 1 (succeed ∷ [])) ∷ []))
 
 -- MODULE D; VAR z: INTEGER; BEGIN z := 7; WRITE(z) END D.
 abbrev pub no_inc : Program

@@ -91,16 +91,15 @@ fn tell_refusal_named<'t, E: Sink>(
     let colon = b":".as_slice();
     let blank = b": ".as_slice();
     let end = b"\n".as_slice();
-    report(err, 3, &[file, colon, line, colon, column, blank, name, end])
+    report(
+        err,
+        3,
+        &[file, colon, line, colon, column, blank, name, end],
+    )
 }
 
 /// Says on err for which fault a file is refused, and where: status 3, or that of a write fault where err fails.
-pub fn tell_refusal<E: Sink>(
-    err: &mut E,
-    file: &[u8],
-    fault: SourceFault,
-    place: Place,
-) -> Status
+pub fn tell_refusal<E: Sink>(err: &mut E, file: &[u8], fault: SourceFault, place: Place) -> Status
     ensures { Reports (refused file.now fault place) (E.side err.old) (E.side err.new) result.0 }
 {
     tell_refusal_named(err, file, fault.text().as_bytes(), place)

@@ -7,12 +7,12 @@ ghost use Rattle.alma_scan.specs.Scanned.{lexemes};
 ghost use Rattle.alma_scan.specs.Tokens.{Tokens};
 ghost use Rattle.alma_source.specs.Refusal.{offset_of, IsParsed, IsProgramOf, IsStopOf};
 
-use alma_source::{SourceFault, SourceStop};
 use alma_check_stmt::check;
 use alma_ir::Program;
 use alma_parse::{ParseError, parse};
 use alma_rules::CheckError;
 use alma_scan::{ScanError, Token, scan};
+use alma_source::{SourceFault, SourceStop};
 use alma_tree::Module;
 use std::alloc::Global;
 

@@ -7,9 +7,12 @@ use Rattle.alma_join.proofs.directory.matches_among.Goals.{then-export-unit, els
 pub loop-export-preserved : goal.loop-export-preserved
 loop-export-preserved c =
     elim c.if-export-unit.branch [
-      | then-export-unit w ↦ subst (λ m. IsAnswer m (others c.args.unit (plain_front c.args.exports.now (c.loop-export.export-index + 1)))) (sym w.matches-is)
-          (answer_more _ _ _ _ c.export-item.result c.loop-export-test.true c.export-item.is w.if-export-unit.true (w.with_match-matches.ensures _ c.loop-export.invariant))
-      | else-export-unit w ↦ subst (λ m. IsAnswer m (others c.args.unit (plain_front c.args.exports.now (c.loop-export.export-index + 1)))) (sym w.matches-is)
+      | then-export-unit w ↦ subst (λ m. IsAnswer m (others c.args.unit
+          (plain_front c.args.exports.now (c.loop-export.export-index + 1)))) (sym w.matches-is)
+          (answer_more _ _ _ _ c.export-item.result c.loop-export-test.true c.export-item.is w.if-export-unit.true
+          (w.with_match-matches.ensures _ c.loop-export.invariant))
+      | else-export-unit w ↦ subst (λ m. IsAnswer m (others c.args.unit
+          (plain_front c.args.exports.now (c.loop-export.export-index + 1)))) (sym w.matches-is)
           (answer_same _ _ _ _ c.export-item.result c.loop-export-test.true c.export-item.is w.if-export-unit.false c.loop-export.invariant)
     ]
 

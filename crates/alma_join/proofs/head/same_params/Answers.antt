@@ -11,12 +11,14 @@ loop-i-init c = refl
 pub returns-then-not-same_param : goal.returns-then-not-same_param
 returns-then-not-same_param c =
     let within : c.loop-i.i < length c.args.b.now = omega (arith, c.loop-i-test.true, c.if-a-b.false) in
-    params_apart _ _ c.loop-i.i _ _ c.loop-i-test.true within (param_is _ _ c.loop-i-test.true) (param_is _ _ within) c.loop-i.invariant c.if-not-same_param.ensures
+    params_apart _ _ c.loop-i.i _ _ c.loop-i-test.true within (param_is _ _ c.loop-i-test.true)
+    (param_is _ _ within) c.loop-i.invariant c.if-not-same_param.ensures
 
 pub loop-i-preserved : goal.loop-i-preserved
 loop-i-preserved c =
     let within : c.loop-i.i < length c.args.b.now = omega (arith, c.loop-i-test.true, c.if-a-b.false) in
-    params_alike _ _ c.loop-i.i _ _ c.loop-i-test.true within (param_is _ _ c.loop-i-test.true) (param_is _ _ within) c.loop-i.invariant c.if-not-same_param.ensures
+    params_alike _ _ c.loop-i.i _ _ c.loop-i-test.true within (param_is _ _ c.loop-i-test.true)
+    (param_is _ _ within) c.loop-i.invariant c.if-not-same_param.ensures
 
 pub returns : goal.returns
 returns c =

@@ -8,4 +8,6 @@ pub loop-global-init : goal.loop-global-init
 loop-global-init c = sym (append-nil _)
 
 pub loop-global-preserved : goal.loop-global-preserved
-loop-global-preserved c = globals_more (moves_of c.args.moves.now) _ _ _ _ _ c.global-item.result _ c.loop-global-test.true c.global-item.is c.loop-global.invariant c.in_ok-push.ensures.items c.in_ok-copy_global.ensures.copy
+loop-global-preserved c = globals_more
+    (moves_of c.args.moves.now) _ _ _ _ _ c.global-item.result _ c.loop-global-test.true c.global-item.is c.loop-global.invariant
+    c.in_ok-push.ensures.items c.in_ok-copy_global.ensures.copy

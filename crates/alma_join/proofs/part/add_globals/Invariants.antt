@@ -5,4 +5,5 @@ use Rattle.alma_ir.specs.View.{global_of}
 use Rattle.alma_join.proofs.part.add_globals.Given as goal
 
 abbrev pub invariant-loop-global : goal.invariant-loop-global
-invariant-loop-global l = map global_of l.globals.items ≡ map global_of l.fn.globals.items ++ map (moved_global (moves_of l.moves)) (map global_of (take l.global-index l.more))
+invariant-loop-global l = map global_of l.globals.items ≡ map global_of l.fn.globals.items ++ map (moved_global (moves_of l.moves))
+    (map global_of (take l.global-index l.more))

@@ -13,7 +13,8 @@ returns c =
     let adds = c.in_ok-add_body.ensures in
     let head = sym (routine_there c.args.program.now 0 c.index.result.now c.requires.body c.index.ensures) in
     record {
-      globals = ap (λ v. map global_of v.items) adds.globals ∙ c.in_ok-add_globals.ensures ∙ ap (λ gs. map global_of parts.globals.items ++ map (moved_global m) (map global_of gs)) c.deref.ensures.value;
+      globals = ap (λ v. map global_of v.items) adds.globals ∙ c.in_ok-add_globals.ensures
+          ∙ ap (λ gs. map global_of parts.globals.items ++ map (moved_global m) (map global_of gs)) c.deref.ensures.value;
       body = adds.body ∙ ap (λ r. append_stmts (stmts_list parts.body.items) (moved_stmts m r.body)) head;
       lines = adds.lines ∙ ap (λ r. parts.lines.items ++ r.lines) head;
       procedures = λ unit. ap (λ v. map routine_of v.items) adds.procedures ∙ c.in_ok-add_procedures.ensures unit;
