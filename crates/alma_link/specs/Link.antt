@@ -21,14 +21,15 @@ default_steps = 1000000000
 
 -- ---- faults of modules
 
--- the module of a number, from 1
+-- a module without anything, where there is none
 abbrev pub no_unit : Program
 no_unit = record { name = []; globals = []; routines = [] }
 
+-- the module of a number, from 1
 abbrev pub unit_at : List Program → (unit : ℕ) → Program
 unit_at units unit = get_or units (unit - 1) no_unit
 
--- what is said of an import, by its module and its number there: both that of the module and its name
+-- what is said of an import, by its module and its number there: its fault, the number of the module, and its name
 abbrev pub import_text : (fault : List ℕ) → List Program → (unit routine : ℕ) → List ℕ
 import_text fault units unit routine = fault ++ (decimal unit ++ (codes " " ++ (routine_at (unit_at units unit) routine).name))
 
@@ -42,27 +43,29 @@ join_text units (TooLarge unit) = codes "TooLarge " ++ decimal unit
 -- ---- the plan
 
 -- what a task does with a program
-abbrev pub performed : Task → Program → Plan Verdict Last
-performed Run p = run_plan program p default_steps
-performed (Compile object) p = store_plan program p object
+abbrev pub task_plan : Task → Program → Plan Verdict Last
+task_plan Run p = run_plan program p default_steps
+task_plan (Compile object) p = store_plan program p object
 
--- all modules are there
+-- modules without a fault are joined, and others are refused
 abbrev pub unless_fault : Option JoinFault → Task → List Program → Plan Verdict Last
-unless_fault None task units = performed task (joined units)
+unless_fault None task units = task_plan task (joined units)
 unless_fault (Some fault) task units = Ends (Tells (silent (tells program 13 (join_text units fault))))
 
-abbrev pub joining : Task → List Program → Plan Verdict Last
-joining task units = unless_fault (join_fault units) task units
+-- all modules are there
+abbrev pub join_plan : Task → List Program → Plan Verdict Last
+join_plan task units = unless_fault (join_fault units) task units
 
 -- the files of these names are read, one after another, behind the modules that were
-abbrev pub reading : Task → (got : List Program) → (names : List (List ℕ)) → Plan Verdict Last
-reading task got [] = joining task got
-reading task got (name ∷ names) = read_source name (λ p. reading task (got ++ p ∷ []) names)
+abbrev pub files_plan : Task → (got : List Program) → (names : List (List ℕ)) → Plan Verdict Last
+files_plan task got [] = join_plan task got
+files_plan task got (name ∷ names) = read_source name (λ p. files_plan task (got ++ p ∷ []) names)
 
 -- words that are a request, or not
-abbrev pub asked : Result Request ℕ → Plan Verdict Last
-asked (Ok r) = reading r.task [] r.files
-asked (Err word) = Ends (Tells (silent (bad_word program word)))
+abbrev pub request_plan : Result Request ℕ → Plan Verdict Last
+request_plan (Ok r) = files_plan r.task [] r.files
+request_plan (Err word) = Ends (Tells (silent (bad_word program word)))
 
+-- a call with these words
 abbrev pub link_plan : (words : List (List ℕ)) → Plan Verdict Last
-link_plan words = asked (request_of words)
+link_plan words = request_plan (request_of words)

@@ -9,7 +9,7 @@ ghost use Rattle.alma_plan.specs.Words.{texts};
 ghost use Rattle.alma_plan_run.specs.Ends.{program_end};
 ghost use Rattle.alma_plan_run.specs.Programs.{sense};
 ghost use Rattle.alma_link.specs.Ends.{link_end, task_of};
-ghost use Rattle.alma_link.specs.Link.{failed, joining, link_plan, performed, program, reading};
+ghost use Rattle.alma_link.specs.Link.{failed, join_plan, link_plan, task_plan, program, files_plan};
 ghost use Rattle.alma_link.specs.Words.{greatest_files};
 
 use crate::end::LinkEnd;
@@ -36,7 +36,7 @@ fn perform_task<F: Files, I: Source, O: Sink>(
 ) -> ProgramEnd
     requires checked { IsChecked (program_of joined.now) }
     ensures { Follows (sense program failed) program
-        (performed (task_of task.entry) (program_of joined.now)) (F.side files.old)
+        (task_plan (task_of task.entry) (program_of joined.now)) (F.side files.old)
         (F.side files.new) (I.side input.old) (I.side input.new) (O.side out.old) (O.side out.new)
         (program_end program failed result) }
 {
@@ -57,7 +57,7 @@ fn serve_units<'w, F: Files, I: Source, O: Sink>(
 ) -> LinkEnd<'w>
     requires units { AreUnits (map program_of units.now) }
     ensures { Follows (sense program failed) program
-        (joining (task_of task.entry) (map program_of units.now)) (F.side files.old)
+        (join_plan (task_of task.entry) (map program_of units.now)) (F.side files.old)
         (F.side files.new) (I.side input.old) (I.side input.new) (O.side out.old) (O.side out.new)
         (link_end (map program_of units.now) result) }
 {
@@ -81,7 +81,7 @@ fn serve_files<'w, F: Files, I: Source, O: Sink>(
     requires some { 0 < length units.old.items + length names.now }
     requires few { length units.old.items + length names.now ≤ greatest_files }
     ensures { Follows (sense program failed) program
-        (reading (task_of task.entry) (map program_of units.old.items) (texts names.now))
+        (files_plan (task_of task.entry) (map program_of units.old.items) (texts names.now))
         (F.side files.old) (F.side files.new) (I.side input.old) (I.side input.new)
         (O.side out.old) (O.side out.new)
         (link_end (map program_of units.new.items) result) }
