@@ -31,7 +31,7 @@ use Rattle.alma_lower_implements.proofs.ForSteps.{SlotThere, a_number, not_known
 use Rattle.alma_lower_implements.proofs.Numbers.{bit_integer, zero_bit}
 use Rattle.alma_lower_implements.proofs.Steps.{Holds, InstrAt, const_step, does, equal_step, zero_jumps, other_goes_on, fail_step}
 use Rattle.alma_lower_implements.proofs.Ways.{Leaves}
-use Rattle.alma_lower_templates.specs.Lined.{Lined, own, in_row}
+use Rattle.alma_lower_templates.specs.Lined.{Lined, own}
 use Rattle.alma_lower_templates.specs.Tables.{Tables}
 use Rattle.alma_lower_templates.specs.Slots.{bare, bare_desig, unless_bare, expr_slots, links_slots, desig_slots, test_slots, mark_slots, is_simple, call_links, handed_slots, args_slots, behind_expr, behind_value}
 use Rattle.alma_lower_templates.specs.Pieces.{op_code, cmp_code, unequal_code, neg_code}
@@ -39,6 +39,7 @@ use Rattle.alma_lower_templates.specs.Templates.{expr_code, links_code, desig_co
 use Rattle.alma_lower_templates.specs.Stands.{Stands}
 use Rattle.alma_lower_templates.proofs.Stands.{stands_front, stands_back}
 use Rattle.alma_lower_templates.proofs.Parts.{Begins, begins, has_kind, holds_after, IsValue, ValueIn, PlaceIn, Nothing, NodeRuns, NodeFor, From, leaving, from_more, node_runs, then_from, alone_from, faults_here, fails_here, ends_here, value_ends, value_goes_on}
+use Rattle.alma_lower_templates.proofs.Tested.{compared_code}
 use Rattle.alma_lower_templates.proofs.AtOnce.{AtOnce, BareFits, at_once, bare_place}
 use Rattle.alma_lower_templates.proofs.OperatorParts.{op_reads, equal_reads, cmp_reads, op_from, sign_from, compare_ends}
 use Rattle.alma_lower_templates.proofs.CellEnds.{load_ends, known_ends}
@@ -207,10 +208,6 @@ module _ (p : Program) (tables : Tables) (code : PlainCode) (input : List ℕ) (
 
   -- ---- comparisons
 
-  -- the code of two operands
-  abbrev pub operands_code : (at lo : ℕ) → (x y : Expr) → List Lined
-  operands_code at lo x y = in_row at (expr_code p tables r line at lo x) (λ next. unless_bare (bare y) (expr_code p tables r line next (behind_expr p r lo x) y))
-
   -- instructions behind both operands, which yield what is said of the comparison
   pub compared_by : (at lo : ℕ) (how : Cmp) (x y : Expr) (yields : Store → ℤ → List PlainFrame → Type 0) (instrs : (operand : ℕ) → List Instr) → HasSlots p code r lo (expr_slots p r (Compare how x y)) → ExprRuns p tables code input below r line q at lo x
       → ((next : ℕ) → AtOnce p tables code input below r line q next (behind_expr p r lo x) y)
@@ -218,7 +215,7 @@ module _ (p : Program) (tables : Tables) (code : PlainCode) (input : List ℕ) (
       → ((m operand : ℕ) (n : ℤ) (t : List PlainFrame) → Stands code m (own line (instrs operand)) → Holds t lo (cell.Int n) → ReadsFirst code input m operand t)
       → ((m operand : ℕ) (n z : ℤ) (u : Store) (t : List PlainFrame) → Begins p code input r u t → Stands code m (own line (instrs operand)) → Holds t lo (cell.Int n) → Holds t operand (cell.Int z)
       → From p code input line 8 m (m + length (own line (instrs operand))) t (leaving p code input lo r t yields) (one u (bit (compares how n z))) q)
-      → NodeFor p code input r line at lo (operands_code at lo x y ++ own line (instrs (value_at p tables r (behind_expr p r lo x) y))) (ev_expr p input below (Compare how x y)) yields q
+      → NodeFor p code input r line at lo (compared_code p tables r line at lo x y ++ own line (instrs (value_at p tables r (behind_expr p r lo x) y))) (ev_expr p input below (Compare how x y)) yields q
   unfolding ev_expr
   compared_by at lo how x y yields instrs slots runs once lines reads ends stands v now b =
       let lo2 : ℕ = behind_expr p r lo x in
@@ -289,7 +286,7 @@ module _ (p : Program) (tables : Tables) (code : PlainCode) (input : List ℕ) (
   unfolding ev_expr
   unequal_runs at lo x y slots runs once stands v now b =
       let kind = first_slot p code input r lo (Compare cmp.Unequal x y) slots in
-      let operands : List Lined = operands_code at lo x y in
+      let operands : List Lined = compared_code p tables r line at lo x y in
       let operand : ℕ = value_at p tables r (behind_expr p r lo x) y in
       let equal : List Lined = own line (I.Equal lo lo operand ∷ []) in
       let m : ℕ = at + length operands in

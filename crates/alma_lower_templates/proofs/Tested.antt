@@ -1,5 +1,5 @@
 -- A value as a test: a test of inequality has an end of its own, any other value is checked.
-use Rattle.std.proofs.Common.{◌≡◌, ℕ, ◌+◌, List, [], ◌∷◌, ◌++◌, length, refl, sym, ap, ◌∙◌, subst, arith, append_assoc}
+use Rattle.std.proofs.Common.{◌≡◌, ℕ, ◌+◌, List, [], ◌∷◌, ◌++◌, length, refl, sym, ap, ◌∙◌, subst, arith}
 use Rattle.std.proofs.lemmas.List.{length-append}
 use Rattle.alma_code.specs.declared.instr.Instr.TheVariants as I
 use Rattle.alma_ir.specs.declared.phrase.Cmp.TheVariants as cmp
@@ -11,6 +11,10 @@ use Rattle.alma_lower_templates.specs.Pieces.{cmp_code, unequal_code}
 use Rattle.alma_lower_templates.specs.Templates.{test_code, expr_code, value_at}
 
 module _ (p : Program) (tables : Tables) (r : ℕ) where
+  -- the code of both operands of a comparison
+  abbrev pub compared_code : (line at lo : ℕ) → (x y : Expr) → List Lined
+  compared_code line at lo x y = in_row at (expr_code p tables r line at lo x) (λ next. unless_bare (bare y) (expr_code p tables r line next (behind_expr p r lo x) y))
+
   -- the code of a value that is checked
   abbrev pub ChecksValue : Expr → Type 0
   ChecksValue e = (line at lo : ℕ) → test_code p tables r line at lo (Value e) ≡ unless_bare (bare e) (expr_code p tables r line at lo e) ++ own line (I.Check (value_at p tables r lo e) ∷ [])
@@ -40,9 +44,8 @@ module _ (p : Program) (tables : Tables) (r : ℕ) where
     where
       differ : (x y : Expr) → length (test_code p tables r line at lo (Value (Compare cmp.Unequal x y))) ≡ length (expr_code p tables r line at lo (Compare cmp.Unequal x y)) + 1
       differ x y =
-          let lo2 : ℕ = behind_expr p r lo x in
-          let operands : List Lined = in_row at (expr_code p tables r line at lo x) (λ next. unless_bare (bare y) (expr_code p tables r line next lo2 y)) in
-          let operand : ℕ = value_at p tables r lo2 y in
+          let operands : List Lined = compared_code line at lo x y in
+          let operand : ℕ = value_at p tables r (behind_expr p r lo x) y in
           omega (arith, length-append operands (own line (unequal_code lo operand (at + length operands))), length-append operands (own line (cmp_code cmp.Unequal lo operand)))
 
       by : Tested e → length (test_code p tables r line at lo (Value e)) ≡ length (unless_bare (bare e) (expr_code p tables r line at lo e)) + 1
