@@ -193,9 +193,9 @@ test::emit_test-returns-in-Value g t c =
     let view : test_of c.args.test.now ≡ tree.Value (expr_of c.in-Value.value) = ap test_of c.in-Value.is ∙ Views.value_view _ in
     record { puts = test_as c.emit_checked.result (around c.args.scene.now) c.args.line _ _ _ _ view c.emit_checked.ensures.puts }
 
-pub test::emit_checked-returns-in-Some : goal.test::emit_checked-returns-in-Some
-test::emit_checked-returns-in-Some g t c =
-    record { puts = test_as c.unequal_of.result (around c.args.scene.now) c.args.line _ _ _ _ (ap tree.Value c.in-Some.ensures) (put_behind c.emit_value-other.result c.unequal_of.result c.emit_value-other.ensures.puts c.emit_value-other.ensures.value c.unequal_of.ensures.done c.unequal_of.ensures.codes (λ at puts is h. unequal_put (around c.args.scene.now) c.args.line _ _ _ _ _ _ _ _ c.in_ok-to.ensures.puts c.in_ok-to.ensures.slot puts is h)) }
+pub test::emit_checked-returns-in_ok-to-in-Some : goal.test::emit_checked-returns-in_ok-to-in-Some
+test::emit_checked-returns-in_ok-to-in-Some g t c =
+    record { puts = test_as c.unequal_of.result (around c.args.scene.now) c.args.line _ _ _ _ (ap tree.Value c.in-Some.ensures) (put_behind c.emit_value-other.result c.unequal_of.result c.emit_value-other.ensures.puts c.emit_value-other.ensures.value c.unequal_of.ensures.done c.unequal_of.ensures.codes (λ at puts is h. unequal_put (around c.args.scene.now) c.args.line _ _ _ _ _ _ _ _ c.in_ok-to-in-Some.ensures.puts c.in_ok-to-in-Some.ensures.slot puts is h)) }
 
 pub test::emit_checked-returns-in-None : goal.test::emit_checked-returns-in-None
 test::emit_checked-returns-in-None g t c =
