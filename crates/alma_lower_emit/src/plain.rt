@@ -11,7 +11,7 @@ ghost use Rattle.alma_lower_parts.specs.Steps.{PutsSlot, PutsTwo};
 
 use alma_base::{NoMemory, Range};
 use alma_code::Instr;
-use alma_lower_parts::{Scene, Work, put_bind, put_chr, put_index, put_number};
+use alma_lower_parts::{Scene, Work, put_bind, put_chr, put_index, put_number, put_unequal};
 
 // A number for the slot of an argument, in a range.
 pub(crate) fn number_of(
@@ -44,6 +44,21 @@ pub(crate) fn place_of(
 {
     let from = from?;
     work.add(line, Instr::Same { to, from })
+}
+
+// The end of a test of inequality, behind its first operand.
+pub(crate) fn unequal_of(
+    work: &mut Work,
+    line: u32,
+    to: u32,
+    other: Result<u32, NoMemory>,
+) -> Result<(), NoMemory>
+    ensures done { OnOk result (IsOk other) }
+    ensures codes { IfOk other (λ other. OnOk result (Codes (front work.old) (front work.new)
+        (own line (pieces.unequal_code to other (length (front work.old).code))))) }
+{
+    let other = other?;
+    put_unequal(work, line, to, other)
 }
 
 // The call of a procedure, behind what it is handed.

@@ -10,11 +10,11 @@ use crate::call::emit_call;
 use crate::designator::emit_desig;
 use crate::expression::{emit_expr, emit_value};
 use crate::inside::emit_inside;
-use crate::plain::{bind_place, bind_value, call_of, check_of};
+use crate::plain::{bind_place, bind_value, call_of, check_of, unequal_of};
 use alma_base::{NoMemory, Range};
 use alma_code::Instr;
 use alma_ir::{Desig, Expr, Stmt, Test};
-use alma_lower_parts::{Scene, Work, begin_first, end_first, end_not, put_unify};
+use alma_lower_parts::{Scene, Work, begin_first, end_first, end_not, put_unify, unequal};
 
 /// A test.
 #[cycle(emit)]
@@ -32,10 +32,7 @@ where
         (front work.old) (front work.new) (test_of test.now)) }
 {
     match test {
-        Test::Value(value) => {
-            let number = emit_value(work, scene, line, value, inside);
-            check_of(work, line, number)
-        }
+        Test::Value(value) => emit_checked(work, scene, line, value, inside),
         Test::Bind(desig, value, range, left) => {
             emit_bind(work, scene, line, desig, value, *range, *left, inside)
         }
@@ -50,6 +47,34 @@ where
         Test::Call(call) => {
             let first = emit_call(work, scene, line, call.routine, call.up, &call.args, inside);
             call_of(work, line, call.routine, first)
+        }
+    }
+}
+
+// The value of an expression; where the test is an inequality, it fails by itself.
+#[cycle(emit)]
+fn emit_checked<S>(
+    work: &mut Work,
+    scene: &Scene<'_>,
+    line: u32,
+    value: &Expr,
+    inside: &S,
+) -> Result<(), NoMemory>
+where
+    S: for<'a, 'b, 'c, 'd> Fn(&'a mut Work, &'b Scene<'c>, &'d [Stmt]) -> Result<(), NoMemory>,
+    requires emits { EmitsStmts (S.IsAlwaysCallable inside.now) (S.post inside.now) }
+    ensures puts { OnOk result (PutsTest (around scene.now) line
+        (front work.old) (front work.new) (tree.Value (expr_of value.now))) }
+{
+    match unequal(value) {
+        Some((left, right)) => {
+            let to = emit_expr(work, scene, line, left, inside)?;
+            let other = emit_value(work, scene, line, right, inside);
+            unequal_of(work, line, to, other)
+        }
+        None => {
+            let number = emit_value(work, scene, line, value, inside);
+            check_of(work, line, number)
         }
     }
 }

@@ -5,17 +5,20 @@ use Rattle.alma_code.specs.declared.cell.SlotKind.TheVariants as slot
 use Rattle.alma_code.specs.declared.instr.Instr.{Instr}
 use Rattle.alma_code.specs.declared.instr.Instr.TheVariants as I
 use Rattle.alma_choice.specs.Emitted.{aimed}
-use Rattle.alma_ir.specs.Tree.{Stmts, Test, Tests, Expr, Desig, Value, Bind, Unify, SameCells, Seq, And, Or, Not, no_tests, more_tests}
+use Rattle.alma_ir.specs.declared.phrase.Cmp.TheVariants as cmp
+use Rattle.alma_ir.specs.Tree.{Stmts, Test, Tests, Expr, Desig, Compare, Value, Bind, Unify, SameCells, Seq, And, Or, Not, no_tests, more_tests}
 use Rattle.alma_ir.specs.Phrases.{stmts_phrases, test_phrases, tests_phrases, expr_phrases, desig_phrases}
 use Rattle.alma_ir.specs.Lines.{behind, stmts_with, test_with, tests_with, expr_with, desig_with}
 use Rattle.alma_ir.proofs.LinesBack.{behind_two, count_sum}
 use Rattle.alma_lower_work.specs.Front.{Around, Front, Adds, Codes, Changes, Holes}
-use Rattle.alma_lower_work.specs.Puts.{PutsExpr, PutsValue, PutsDesig, PutsTest, PutsAnd, PutsOperands, PutsFirst, PutsStmts, value_slot}
+use Rattle.alma_lower_work.specs.Puts.{PutsExpr, PutsValue, PutsDesig, PutsTest, PutsAnd, PutsOperands, PutsFirst, PutsStmts, value_slot, is_unequal}
 use Rattle.alma_lower_work.proofs.Joins.{nothing, then_adds, adds_as, adds_code, only_code, filled, over, address_behind}
 use Rattle.alma_lower_templates.specs.Lined.{Lined, own, in_row}
 use Rattle.alma_lower_templates.specs.Tables.{range_number}
 use Rattle.alma_lower_templates.specs.Slots.{bare, unless_bare, test_slots, expr_slots, desig_slots}
-use Rattle.alma_lower_templates.specs.Pieces.{begin_first, first_of_two}
+use Rattle.alma_lower_templates.specs.Pieces.{unequal_code, begin_first, first_of_two}
+use Rattle.alma_lower_templates.proofs.Tested.{ChecksValue, Tested, tested, as_value, as_unequal}
+use Rattle.alma_lower_parts.proofs.With.{unequal_with}
 use Rattle.alma_lower_templates.specs.Templates as T
 
 module _ (s : Around) (line : ℕ) where
@@ -28,11 +31,36 @@ module _ (s : Around) (line : ℕ) where
       sym (behind_two (expr_phrases e) (desig_phrases d) ls)
       ∙ ap (λ n. drop n ls) (omega (arith, count_sum (expr_phrases e) (desig_phrases d), count_sum (desig_phrases d) (expr_phrases e)))
 
-  pub value_test_put : (a b c : Front) (e : Expr) (value : ℕ) → PutsValue s line a b e → value ≡ value_slot s a.next (expr_with e a.lines) → Codes b c (own line (I.Check value ∷ [])) → PutsTest s line a c (Value e)
+  -- a value that is no inequality is checked
+  checks_with : (e : Expr) (ls : List ℕ) → is_unequal e ≡ false → ChecksValue s.program s.tables s.routine (expr_with e ls)
+  checks_with e ls h = by (tested s.program s.tables s.routine (expr_with e ls))
+    where
+      by : Tested s.program s.tables s.routine (expr_with e ls) → ChecksValue s.program s.tables s.routine (expr_with e ls)
+      by (as_value is) = is
+      by (as_unequal x y same) = absurd (let bad : true ≡ false = sym (ap is_unequal same) ∙ (unequal_with e ls ∙ h) in cc)
+
+  pub value_test_put : (a b c : Front) (e : Expr) (value : ℕ) → is_unequal e ≡ false → PutsValue s line a b e → value ≡ value_slot s a.next (expr_with e a.lines) → Codes b c (own line (I.Check value ∷ [])) → PutsTest s line a c (Value e)
   unfolding stmts_with stmts_phrases
-  value_test_put a b c e value h is j =
+  value_test_put a b c e value other h is j =
       let code = unless_bare (bare (expr_with e a.lines)) (T.expr_code s.program s.tables s.routine line (length a.code) a.next (expr_with e a.lines)) in
-      record { all = adds_as a c _ _ _ _ _ _ (adds_code a b c _ _ _ _ h.all j) (ap (λ n. code ++ own line (I.Check n ∷ [])) is) refl refl }
+      record { all = adds_as a c _ _ _ _ _ _ (adds_code a b c _ _ _ _ h.all j) (ap (λ n. code ++ own line (I.Check n ∷ [])) is ∙ sym (checks_with e a.lines other line (length a.code) a.next)) refl refl }
+
+  pub unequal_put : (a b c d : Front) (to other : ℕ) (x y : Expr) → PutsExpr s line a b x → to ≡ a.next → PutsValue s line b c y → other ≡ value_slot s b.next (expr_with y b.lines)
+      → Codes c d (own line (unequal_code to other (length c.code))) → PutsTest s line a d (Value (Compare cmp.Unequal x y))
+  unfolding stmts_with stmts_phrases
+  unequal_put a b c d to other x y h is j is2 k =
+      let ls = behind (expr_phrases x) a.lines in
+      let lo = a.next + length (expr_slots s.program s.routine (expr_with x a.lines)) in
+      let there : other ≡ value_slot s lo (expr_with y ls) = is2 ∙ ap (λ n. value_slot s n (expr_with y b.lines)) h.all.next_slot ∙ ap (λ n. value_slot s lo (expr_with y n)) h.all.left in
+      let operands = then_adds a b c _ _ _ _ _ _ h.all j.all in
+      let both = in_row (length a.code) (T.expr_code s.program s.tables s.routine line (length a.code) a.next (expr_with x a.lines)) (λ next. unless_bare (bare (expr_with y ls)) (T.expr_code s.program s.tables s.routine line next lo (expr_with y ls))) in
+      let here : length c.code ≡ length a.code + length both = address_behind a c _ _ _ operands in
+      let code : (to other at : ℕ) → List Lined = λ to other at. both ++ own line (unequal_code to other at) in
+      record {
+        all = adds_as a d _ _ _ _ _ _ (adds_code a c d _ _ _ _ operands k)
+            (ap (λ n. code n other (length c.code)) is ∙ ap (λ n. code a.next n (length c.code)) there ∙ ap (λ n. code a.next (value_slot s lo (expr_with y ls)) n) here)
+            refl (sym (behind_two (expr_phrases x) (expr_phrases y) a.lines));
+      }
 
   pub bind_left_put : (a b c d : Front) (x : Desig) (e : Expr) (range : Range) (place value number : ℕ) → PutsDesig s line a b x → place ≡ place_of a.next (desig_with x a.lines)
       → PutsValue s line b c e → value ≡ value_slot s b.next (expr_with e b.lines) → number ≡ range_number s.tables range → Codes c d (own line (I.Bind place value number ∷ []))

@@ -2,10 +2,12 @@
 use Rattle.std.proofs.Common.{◌≡◌, ℕ, true, false, List, ◌∷◌, Some, refl, ap, ◌∙◌}
 use Rattle.std.specs.Prelude.{◌&&◌}
 use Rattle.alma_code.specs.declared.cell.SlotKind.TheVariants as slot
+use Rattle.alma_ir.specs.declared.phrase.Cmp.TheVariants as cmp
 use Rattle.alma_ir.specs.declared.phrase.Root.TheVariants as root
 use Rattle.alma_ir.specs.Tree.{Test, Expr, Links, Args, Arg, Desig, Sels, Sel, Value, Bind, Unify, SameCells, Seq, And, Or, Not, CallTest, Const, Load, Chain, Compare, Truth, Known, Chr, CallExpr, no_links, more_links, no_args, more_args, ByValue, ByCells, ByPlace, MixValue, MixPlace, a_desig, no_sels, more_sels, Field, Index}
 use Rattle.alma_ir.specs.Phrases.{stmts_phrases, expr_phrases, desig_phrases, sel_phrases, arg_phrases}
 use Rattle.alma_ir.specs.Lines.{behind, stmts_with, test_with, expr_with, links_with, args_with, arg_with, desig_with, sels_with, sel_with}
+use Rattle.alma_lower_work.specs.Puts.{is_unequal}
 use Rattle.alma_lower_templates.specs.Slots.{bare_desig, bare, is_simple_expr, are_simple_links, is_simple_desig, are_simple_sels, is_simple_sel, is_simple, cells_behind, desig_cells, arg_kind, handed_slots}
 
 -- ---- variables that stand in their own slots
@@ -50,6 +52,24 @@ own_expr_passes (Truth t) from ls h = absurd (cc)
 own_expr_passes (Known d) from ls h = absurd (cc)
 own_expr_passes (Chr e) from ls h = absurd (cc)
 own_expr_passes (CallExpr r args up) from ls h = absurd (cc)
+
+-- ---- tests of inequality
+
+pub unequal_with : (e : Expr) (ls : List ℕ) → is_unequal (expr_with e ls) ≡ is_unequal e
+unfolding stmts_with
+unequal_with (Const n) ls = refl
+unequal_with (Load d) ls = refl
+unequal_with (Chain negated e links) ls = refl
+unequal_with (Compare cmp.Equal x y) ls = refl
+unequal_with (Compare cmp.Unequal x y) ls = refl
+unequal_with (Compare cmp.Less x y) ls = refl
+unequal_with (Compare cmp.LessEq x y) ls = refl
+unequal_with (Compare cmp.Greater x y) ls = refl
+unequal_with (Compare cmp.GreaterEq x y) ls = refl
+unequal_with (Truth t) ls = refl
+unequal_with (Known d) ls = refl
+unequal_with (Chr e) ls = refl
+unequal_with (CallExpr r args up) ls = refl
 
 -- ---- simple conditions
 

@@ -10,6 +10,7 @@ use Rattle.alma_code.specs.declared.cell.SlotKind.TheVariants as slot
 use Rattle.alma_code.specs.declared.instr.Instr.{Instr}
 use Rattle.alma_code.specs.declared.instr.Instr.TheVariants as I
 use Rattle.alma_code.specs.Plain.{PlainCode, head_at}
+use Rattle.alma_ir.specs.declared.phrase.Cmp.TheVariants as cmp
 use Rattle.alma_ir.specs.declared.phrase.ReadAs.{ReadAs}
 use Rattle.alma_ir.specs.declared.phrase.ReadAs.TheVariants as read_as
 use Rattle.alma_ir.specs.Tree.{Stmts, Stmt, Arms, CaseArms, Else, Branches, Loop, Test, Tests, Expr, Links, Args, Arg, Desig, Sels, Sel, Program, routine_at, no_stmts, more_stmts, TestStmt, Assign, CopyCells, If, While, Repeat, ForTo, SomeOf, Case, Either, Forall, Commit, Return, Read, WriteExpr, WriteText, WriteLine, no_arms, more_arms, no_cases, more_cases, no_else, else_part, no_branches, more_branches, a_loop, no_result, some_result, Value, Bind, Unify, SameCells, Seq, And, Or, Not, CallTest, no_tests, more_tests, Const, Load, Chain, Compare, Truth, Known, Chr, CallExpr, no_links, more_links, no_args, more_args, ByValue, ByCells, ByPlace, MixValue, MixPlace, a_desig, no_sels, more_sels, Field, Index}
@@ -18,13 +19,14 @@ use Rattle.alma_ir.specs.Checked.{IsChecked, ArePartsOf, IsPart, sel_cells, desi
 use Rattle.alma_ir.proofs.Each.{each_of_front, each_of_back, each_of_append}
 use Rattle.alma_lower_templates.specs.Lined.{Lined, own}
 use Rattle.alma_lower_templates.specs.Tables.{Tables, range_number, text_number}
-use Rattle.alma_lower_templates.specs.Pieces.{condition, guarded, chosen, first_of_two, truth_code, fit_code, neg_code, op_code, cmp_code, write_code, read_code, case_arm, passed_over, has_dead, behind_labels, begin_loop, for_turns, some_turns, turn_code, each_body}
+use Rattle.alma_lower_templates.specs.Pieces.{condition, guarded, chosen, first_of_two, truth_code, fit_code, neg_code, op_code, cmp_code, unequal_code, write_code, read_code, case_arm, passed_over, has_dead, behind_labels, begin_loop, for_turns, some_turns, turn_code, each_body}
 use Rattle.alma_lower_templates.specs.Slots.{bare, bare_desig, unless_bare, is_simple, mark_slots, handed_slots, call_links, root_slots, arg_kind, stmts_slots, stmt_slots, arms_slots, dead_slots, cases_slots, else_slots, branches_slots, for_slots, some_slots, test_slots, and_slots, or_slots, expr_slots, links_slots, args_slots, arg_slots, desig_slots, sels_slots, sel_slots, behind_expr, behind_dead, behind_value, behind_desig, behind_target, behind_variable, behind_test, behind_stmts, behind_stmt, behind_condition}
 use Rattle.alma_lower_templates.specs.Slots as slots_of
 use Rattle.alma_lower_templates.specs.Templates.{char_range, own_slot, value_at, part_slot, behind_root, place_at, root_code, call_link_code, arguments_from, call_code, set_code, load_code, count_at, count_code, fit_result, stmts_code, stmt_code, if_code, arms_code, for_code, some_code, dead_code, case_code, cases_code, else_code, either_code, branches_code, test_code, and_code, or_code, operands_code, jump_code, expr_code, links_code, args_code, arg_code, desig_code, sels_code, sel_code}
 use Rattle.alma_lower_templates.specs.CodeOf.{HoldsChecked}
 use Rattle.alma_lower_templates.specs.Compiled.{is_function}
 use Rattle.alma_lower_templates.proofs.Args.{same_cells}
+use Rattle.alma_lower_templates.proofs.Tested.{compared_code, Tested, tested, as_value, as_unequal}
 use Rattle.alma_lower_sound.proofs.Facts.{Facts}
 use Rattle.alma_lower_sound.proofs.Needs.{HasKind, IsInside, Needs, IsRange, Number, Place, Mark}
 use Rattle.alma_lower_sound.proofs.Pieces as pieces
@@ -167,6 +169,26 @@ module _ (p : Program) (tables : Tables) (code : PlainCode) (checked : IsChecked
   case_parts lo a b c h =
       let flat : SlotsOf lo (a ++ (b ++ c)) = subst (SlotsOf lo) (append_assoc a b c) h in
       (front lo a (b ++ c) flat, back lo a (b ++ c) flat)
+
+  -- ---- a value as a test
+
+  unequal_fits : (line at lo : ℕ) (x y : Expr) → Here at (expr_code p tables r line at lo (Compare cmp.Unequal x y)) → Here at (test_code p tables r line at lo (Value (Compare cmp.Unequal x y)))
+  unequal_fits line at lo x y f room =
+      let operand : ℕ = value_at p tables r (behind_expr p r lo x) y in
+      let operands : List Lined = compared_code p tables r line at lo x y in
+      let end : List Lined = own line (unequal_code lo operand (at + length operands)) in
+      let value : List Lined = own line (cmp_code cmp.Unequal lo operand) in
+      let long = length-append operands end in
+      let all = f (record { low = room.low; high = omega (arith, room.high, long, length-append operands value) }) in
+      let equal = each_of_back (pieces.NeedsOf code r) operands value all in
+      let out : IsInside code r (at + length operands + 3) = record { low = omega (arith, room.low); high = omega (arith, room.high, long) } in
+      each_of_append (pieces.NeedsOf code r) operands end (each_of_front (pieces.NeedsOf code r) operands value all) (equal.0, ((equal.0.0, out), (tt, tt)))
+
+  value_fits : (line at lo : ℕ) (e : Expr) → Fine (expr_phrases e) → SlotsOf lo (unless_bare (bare e) (expr_slots p r e)) → Here at (unless_bare (bare e) (expr_code p tables r line at lo e)) → Tested p tables r e → Here at (test_code p tables r line at lo (Value e))
+  value_fits line at lo e good slots f (as_value is) =
+      subst (Here at) (sym (is line at lo)) (then_own at line (unless_bare (bare e) (expr_code p tables r line at lo e)) (I.Check (value_at p tables r lo e) ∷ []) f (number lo e good slots, tt))
+  value_fits line at lo e good slots f (as_unequal x y same) =
+      subst (λ z. Here at (test_code p tables r line at lo (Value z))) (sym same) (unequal_fits line at lo x y (subst (λ z. Here at (unless_bare (bare z) (expr_code p tables r line at lo z))) same f))
 
   -- ---- READ and RETURN
 
@@ -372,7 +394,7 @@ module _ (p : Program) (tables : Tables) (code : PlainCode) (checked : IsChecked
 
     test_fits : (line at lo : ℕ) (t : Test) → Fine (test_phrases t) → SlotsOf lo (test_slots p r t) → Here at (test_code p tables r line at lo t)
     test_fits line at lo (Value e) good slots =
-        then_own at line (unless_bare (bare e) (expr_code p tables r line at lo e)) (I.Check (value_at p tables r lo e) ∷ []) (once line at lo e slots (expr_fits line at lo e good.1)) (number lo e good.1 slots, tt)
+        value_fits line at lo e good.1 slots (once line at lo e slots (expr_fits line at lo e good.1)) (tested p tables r e)
     test_fits line at lo (Bind d e range true) good slots =
         let lo2 : ℕ = behind_desig p r lo d in
         let one : List Lined = desig_code p tables r line at lo d in

@@ -1,5 +1,5 @@
 -- The code of a phrase has as many instructions that read as the phrase has READs.
-use Rattle.std.proofs.Common.{◌≡◌, ℕ, zero, suc, ◌+◌, Bool, true, false, List, [], ◌∷◌, ◌++◌, length, Option, Some, None, ℤ, pos, negsuc, refl, sym, arith}
+use Rattle.std.proofs.Common.{◌≡◌, ℕ, zero, suc, ◌+◌, Bool, true, false, List, [], ◌∷◌, ◌++◌, length, Option, Some, None, ℤ, pos, negsuc, refl, sym, ap, ◌∙◌, subst, arith}
 use Rattle.alma_base.specs.declared.number.Range.{Range}
 use Rattle.alma_code.specs.declared.instr.Instr.{Instr}
 use Rattle.alma_code.specs.declared.instr.Instr.TheVariants as I
@@ -16,9 +16,10 @@ use Rattle.alma_ir.specs.declared.phrase.WriteAs.TheVariants as write_as
 use Rattle.alma_ir.specs.Tree.{Stmts, Stmt, Arms, CaseArms, Else, Branches, Loop, ReturnExpr, Test, Tests, Expr, Links, Args, Arg, Desig, Sels, Sel, Program, routine_at, no_stmts, more_stmts, TestStmt, Assign, CopyCells, If, While, Repeat, ForTo, SomeOf, Case, Either, Forall, Commit, Return, Read, WriteExpr, WriteText, WriteLine, no_arms, more_arms, no_cases, more_cases, no_else, else_part, no_branches, more_branches, a_loop, no_result, some_result, Value, Bind, Unify, SameCells, Seq, And, Or, Not, CallTest, no_tests, more_tests, Const, Load, Chain, Compare, Truth, Known, Chr, CallExpr, no_links, more_links, no_args, more_args, ByValue, ByCells, ByPlace, MixValue, MixPlace, a_desig, no_sels, more_sels, Field, Index}
 use Rattle.alma_lower_templates.specs.Lined.{Lined, own, leaving}
 use Rattle.alma_lower_templates.specs.Tables.{Tables, range_number, is_whole}
-use Rattle.alma_lower_templates.specs.Pieces.{condition, guarded, chosen, first_of_two, refused, fit_code, neg_code, op_code, cmp_code, write_code, read_code, case_arm, passed_over, has_dead, behind_labels, labels_code, begin_loop, bounds_code, entry_code, chain_code, link_code, unless_whole, for_turns, some_turns, turn_code, each_body, forall_code}
+use Rattle.alma_lower_templates.specs.Pieces.{condition, guarded, chosen, first_of_two, refused, fit_code, neg_code, op_code, cmp_code, unequal_code, write_code, read_code, case_arm, passed_over, has_dead, behind_labels, labels_code, begin_loop, bounds_code, entry_code, chain_code, link_code, unless_whole, for_turns, some_turns, turn_code, each_body, forall_code}
 use Rattle.alma_lower_templates.specs.Slots.{shift_of, bare, bare_desig, unless_bare, is_simple, handed_slots, arg_slots, behind_expr, behind_dead, behind_value, behind_desig, behind_target, behind_variable, behind_test, behind_stmts, behind_stmt, behind_condition}
 use Rattle.alma_lower_templates.specs.Templates.{char_range, own_slot, outer_slot, link_if, set_by, load_by, value_at, part_slot, behind_root, place_at, root_code, call_link_code, arguments_from, call_code, set_code, load_code, count_at, count_code, fit_result, stmts_code, stmt_code, if_code, arms_code, for_code, some_code, dead_code, case_code, cases_code, else_code, either_code, branches_code, test_code, and_code, or_code, operands_code, jump_code, expr_code, links_code, args_code, arg_code, desig_code, sels_code, sel_code}
+use Rattle.alma_lower_templates.proofs.Tested.{compared_code, Tested, tested, as_value, as_unequal}
 use Rattle.alma_code.specs.Reads.{is_read}
 
 -- ---- READs of phrases
@@ -402,6 +403,20 @@ module _ (p : Program) (tables : Tables) (r : ℕ) where
   over_reads line next at lo (more_cases [] body rest) = omega arith
   over_reads line next at lo (more_cases (label ∷ labels) body rest) = over_reads line next at lo rest
 
+  -- a value as a test reads where the value does
+  value_same : (line at lo : ℕ) (e : Expr) → reads (test_code p tables r line at lo (Value e)) ≡ reads (unless_bare (bare e) (expr_code p tables r line at lo e))
+  value_same line at lo e = by (tested p tables r e)
+    where
+      differ : (x y : Expr) → reads (test_code p tables r line at lo (Value (Compare cmp.Unequal x y))) ≡ reads (expr_code p tables r line at lo (Compare cmp.Unequal x y))
+      differ x y =
+          let operand : ℕ = value_at p tables r (behind_expr p r lo x) y in
+          let operands : List Lined = compared_code p tables r line at lo x y in
+          omega (arith, then_own line operands (unequal_code lo operand (at + length operands)) (λ l. refl), then_own line operands (cmp_code cmp.Unequal lo operand) (λ l. refl))
+
+      by : Tested p tables r e → reads (test_code p tables r line at lo (Value e)) ≡ reads (unless_bare (bare e) (expr_code p tables r line at lo e))
+      by (as_value is) = ap reads (is line at lo) ∙ then_own line (unless_bare (bare e) (expr_code p tables r line at lo e)) (I.Check (value_at p tables r lo e) ∷ []) (λ l. refl)
+      by (as_unequal x y same) = subst (λ z. reads (test_code p tables r line at lo (Value z)) ≡ reads (unless_bare (bare z) (expr_code p tables r line at lo z))) (sym same) (differ x y)
+
   mutual
     desig_same : (line at lo : ℕ) (x : Desig) → reads (desig_code p tables r line at lo x) ≡ desig_reads x
     desig_same line at lo (a_desig root cells sels) =
@@ -495,7 +510,7 @@ module _ (p : Program) (tables : Tables) (r : ℕ) where
     jump_same line at lo none (CallTest called args up) simple = absurd (let bad : false ≡ true = simple in cc)
 
     test_same : (line at lo : ℕ) (x : Test) → reads (test_code p tables r line at lo x) ≡ test_reads x
-    test_same line at lo (Value e) = omega (arith, then_own line (unless_bare (bare e) (expr_code p tables r line at lo e)) (I.Check (value_at p tables r lo e) ∷ []) (λ l. refl), once e (expr_code p tables r line at lo e) (expr_same line at lo e), expr_same line at lo e)
+    test_same line at lo (Value e) = omega (arith, value_same line at lo e, once e (expr_code p tables r line at lo e) (expr_same line at lo e), expr_same line at lo e)
     test_same line at lo (Bind d e range true) =
         let lo2 : ℕ = behind_desig p r lo d in
         let one : List Lined = desig_code p tables r line at lo d in

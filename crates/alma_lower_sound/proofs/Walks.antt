@@ -1,17 +1,19 @@
 -- The table of lines of a code has at most two records for each node: to walk over the code of a phrase from its line and
 -- back takes at most two steps for each node in it.
-use Rattle.std.proofs.Common.{◌≡◌, ℕ, suc, ◌+◌, ◌*◌, ◌≤◌, Bool, true, false, List, [], ◌∷◌, ◌++◌, length, Option, Some, None, ℤ, pos, refl, sym, ap, subst, arith}
+use Rattle.std.proofs.Common.{◌≡◌, ℕ, suc, ◌+◌, ◌*◌, ◌≤◌, Bool, true, false, List, [], ◌∷◌, ◌++◌, length, Option, Some, None, ℤ, pos, refl, sym, ap, ◌∙◌, subst, arith}
 use Rattle.std.specs.Prelude.{nat_eq}
 use Rattle.std.proofs.lemmas.Bool.{eq-eqb, eqb-true}
 use Rattle.alma_base.specs.Choice.{if_true}
 use Rattle.alma_base.specs.declared.number.Range.{Range}
 use Rattle.alma_code.specs.declared.instr.Instr.{Instr}
 use Rattle.alma_code.specs.declared.instr.Instr.TheVariants as I
+use Rattle.alma_ir.specs.declared.phrase.Cmp.TheVariants as cmp
 use Rattle.alma_ir.specs.Tree.{Stmts, Stmt, Arms, CaseArms, Else, Branches, Loop, Test, Tests, Expr, Links, Args, Arg, Desig, Sels, Sel, Program, routine_at, no_stmts, more_stmts, TestStmt, Assign, CopyCells, If, While, Repeat, ForTo, SomeOf, Case, Either, Forall, Commit, Return, Read, WriteExpr, WriteText, WriteLine, no_arms, more_arms, no_cases, more_cases, no_else, else_part, no_branches, more_branches, a_loop, no_result, some_result, Value, Bind, Unify, SameCells, Seq, And, Or, Not, CallTest, no_tests, more_tests, Const, Load, Chain, Compare, Truth, Known, Chr, CallExpr, no_links, more_links, no_args, more_args, ByValue, ByCells, ByPlace, MixValue, MixPlace, a_desig, no_sels, more_sels, Field, Index}
 use Rattle.alma_ir.specs.Count.{stmts_nodes, stmt_nodes, arms_nodes, cases_nodes, else_nodes, branches_nodes, loop_nodes, test_nodes, tests_nodes, expr_nodes, links_nodes, args_nodes, arg_nodes, desig_nodes, sels_nodes, sel_nodes}
+use Rattle.alma_lower_templates.proofs.Tested.{compared_code, Tested, tested, as_value, as_unequal}
 use Rattle.alma_lower_templates.specs.Lined.{Lined, own, leaving, line_from, lines_from}
 use Rattle.alma_lower_templates.specs.Tables.{Tables, range_number, text_number}
-use Rattle.alma_lower_templates.specs.Pieces.{condition, guarded, chosen, first_of_two, refused, fit_code, neg_code, op_code, cmp_code, write_code, read_code, case_arm, passed_over, has_dead, behind_labels, labels_code, begin_loop, bounds_code, for_turns, some_turns, turn_code, each_body, forall_code}
+use Rattle.alma_lower_templates.specs.Pieces.{condition, guarded, chosen, first_of_two, refused, fit_code, neg_code, op_code, cmp_code, unequal_code, write_code, read_code, case_arm, passed_over, has_dead, behind_labels, labels_code, begin_loop, bounds_code, for_turns, some_turns, turn_code, each_body, forall_code}
 use Rattle.alma_lower_templates.specs.Slots.{bare, bare_desig, unless_bare, is_simple, handed_slots, arg_slots, behind_expr, behind_dead, behind_value, behind_desig, behind_target, behind_variable, behind_test, behind_stmts, behind_stmt, behind_condition}
 use Rattle.alma_lower_templates.specs.Templates.{char_range, own_slot, value_at, part_slot, behind_root, place_at, root_code, call_link_code, arguments_from, call_code, set_code, load_code, count_at, count_code, fit_result, stmts_code, stmt_code, if_code, arms_code, for_code, some_code, dead_code, case_code, cases_code, else_code, either_code, branches_code, test_code, and_code, or_code, operands_code, jump_code, expr_code, links_code, args_code, arg_code, desig_code, sels_code, sel_code}
 
@@ -91,6 +93,12 @@ module _ (line : ℕ) where
 
   pub then_own : (a : List Lined) (xs : List Instr) → round (a ++ own line xs) ≤ round a
   then_own a xs = omega (arith, both a (own line xs), own_round xs)
+
+  -- instructions of the line at its end add nothing
+  ends_alike : (from : ℕ) (a : List Lined) (xs : List Instr) → walk from (a ++ own line xs) line ≡ walk from a line
+  ends_alike from [] [] = refl
+  ends_alike from [] (x ∷ xs) = omega (arith, own_round xs)
+  ends_alike from (y ∷ a) xs = ap (λ n. hop from y.line + n) (ends_alike y.line a xs)
 
   own_then : (xs : List Instr) (a : List Lined) → round (own line xs ++ a) ≤ round a
   own_then xs a = omega (arith, both (own line xs) a, own_round xs)
@@ -230,6 +238,20 @@ module _ (p : Program) (tables : Tables) (r : ℕ) where
       located : (at : ℕ) → round line (unless_bare (bare_desig d) (desig_code p tables r line at (lo + 1) d)) ≤ m
       located at = let z = f at in omega (arith, z, unless_round line (bare_desig d) (desig_code p tables r line at (lo + 1) d))
 
+  -- a value as a test goes over the lines of the value
+  value_round : (line at lo : ℕ) (e : Expr) → round line (test_code p tables r line at lo (Value e)) ≡ round line (unless_bare (bare e) (expr_code p tables r line at lo e))
+  value_round line at lo e = by (tested p tables r e)
+    where
+      differ : (x y : Expr) → round line (test_code p tables r line at lo (Value (Compare cmp.Unequal x y))) ≡ round line (expr_code p tables r line at lo (Compare cmp.Unequal x y))
+      differ x y =
+          let operand : ℕ = value_at p tables r (behind_expr p r lo x) y in
+          let operands : List Lined = compared_code p tables r line at lo x y in
+          ends_alike line line operands (unequal_code lo operand (at + length operands)) ∙ sym (ends_alike line line operands (cmp_code cmp.Unequal lo operand))
+
+      by : Tested p tables r e → round line (test_code p tables r line at lo (Value e)) ≡ round line (unless_bare (bare e) (expr_code p tables r line at lo e))
+      by (as_value is) = ap (round line) (is line at lo) ∙ ends_alike line line (unless_bare (bare e) (expr_code p tables r line at lo e)) (I.Check (value_at p tables r lo e) ∷ [])
+      by (as_unequal x y same) = subst (λ z. round line (test_code p tables r line at lo (Value z)) ≡ round line (unless_bare (bare z) (expr_code p tables r line at lo z))) (sym same) (differ x y)
+
   mutual
     desig_round : (line at lo : ℕ) (x : Desig) → round line (desig_code p tables r line at lo x) ≤ 2 * desig_nodes x
     desig_round line at lo (a_desig root cells sels) =
@@ -323,7 +345,7 @@ module _ (p : Program) (tables : Tables) (r : ℕ) where
     jump_round line at lo none (CallTest called args up) = omega (arith, hop_none line)
 
     test_round : (line at lo : ℕ) (x : Test) → round line (test_code p tables r line at lo x) ≤ 2 * test_nodes x
-    test_round line at lo (Value e) = omega (arith, then_own line (unless_bare (bare e) (expr_code p tables r line at lo e)) (I.Check (value_at p tables r lo e) ∷ []), unless_round line (bare e) (expr_code p tables r line at lo e), expr_round line at lo e)
+    test_round line at lo (Value e) = omega (arith, value_round line at lo e, unless_round line (bare e) (expr_code p tables r line at lo e), expr_round line at lo e)
     test_round line at lo (Bind d e range true) =
         let lo2 : ℕ = behind_desig p r lo d in
         let one : List Lined = desig_code p tables r line at lo d in

@@ -8,7 +8,8 @@ use Rattle.alma_base.specs.declared.number.Range.{Range}
 use Rattle.alma_code.specs.declared.cell.SlotKind.{SlotKind}
 use Rattle.alma_code.specs.declared.cell.SlotKind.TheVariants as slot
 use Rattle.alma_code.specs.Plain.{PlainCode}
-use Rattle.alma_ir.specs.Tree.{Program, Stmt, Test, Expr, Arg, Args, Desig, Sels, Sel, routine_at, TestStmt, Assign, CopyCells, If, While, Repeat, ForTo, SomeOf, Case, Either, Forall, Commit, Return, Read, WriteExpr, WriteText, WriteLine, Bind, Unify, Value, Const, Chr, ByValue, MixValue, Index, a_loop, a_desig, no_sels, more_sels, Field, no_args, more_args, ByCells, ByPlace, MixPlace}
+use Rattle.alma_ir.specs.declared.phrase.Cmp.{Cmp}
+use Rattle.alma_ir.specs.Tree.{Program, Stmt, Test, Expr, Arg, Args, Desig, Sels, Sel, routine_at, TestStmt, Assign, CopyCells, If, While, Repeat, ForTo, SomeOf, Case, Either, Forall, Commit, Return, Read, WriteExpr, WriteText, WriteLine, Bind, Unify, Value, Const, Compare, Chr, ByValue, MixValue, Index, a_loop, a_desig, no_sels, more_sels, Field, no_args, more_args, ByCells, ByPlace, MixPlace}
 use Rattle.alma_ir.specs.declared.program.Param.{Param}
 use Rattle.alma_ir.specs.Lines.{stmt_count, behind, desig_with, sels_with, sel_with, args_with, arg_with}
 use Rattle.alma_ir.specs.Phrases.{Phrase, StmtPhrase, TestPhrase, ExprPhrase, ArgPhrase, DesigPhrase, SelPhrase, stmt_phrases, arg_phrases, sel_phrases}
@@ -228,9 +229,15 @@ module _ (p : Program) (tables : Tables) (code : PlainCode) (input : List ℕ) w
       pub fits : desig_cells d ≡ 1 → BareFits p tables code input below r line q (bare_desig d)
       pub runs : (at lo : ℕ) → HasSlots p code r lo (desig_slots p r d) → DesigRuns p tables code input below r line q at lo d
 
+    -- both operands of a comparison
+    pub record OperandsGo (a b : Expr) : Type 0 where
+      pub first : (at lo : ℕ) → HasSlots p code r lo (expr_slots p r a) → ExprRuns p tables code input below r line q at lo a
+      pub second : (at lo : ℕ) → HasSlots p code r lo (unless_bare (bare b) (expr_slots p r b)) → AtOnce p tables code input below r line q at lo b
+
     pub record ExprGoes (x : Expr) : Type 0 where
       pub fits : BareFits p tables code input below r line q (bare x)
       pub runs : (at lo : ℕ) → HasSlots p code r lo (expr_slots p r x) → ExprRuns p tables code input below r line q at lo x
+      pub operands : (how : Cmp) (a b : Expr) → x ≡ Compare how a b → OperandsGo a b
 
     pub record TestGoes (t : Test) : Type 0 where
       pub runs : (at lo : ℕ) → HasSlots p code r lo (test_slots p r t) → TestRuns p tables code input below r line q at lo t

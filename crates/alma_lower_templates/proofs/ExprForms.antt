@@ -1,11 +1,13 @@
 -- The forms of expressions, from template to run: constants, variables, sums, comparisons, KNOWN and CHR.
-use Rattle.std.proofs.Common.{◌≡◌, ℕ, ◌+◌, ◌<◌, ◌≤◌, Bool, true, List, [], ◌∷◌, ◌++◌, length, Option, Some, None, refl, sym, ap, subst, arith, ℤ}
+use Rattle.std.proofs.Common.{◌≡◌, ℕ, ◌+◌, ◌<◌, ◌≤◌, Bool, true, false, not, List, [], ◌∷◌, ◌++◌, length, Option, Some, None, refl, sym, ap, ◌∙◌, subst, arith, ℤ, pos, append_assoc}
 use Rattle.std.specs.Prelude.{slice_get}
 use Rattle.std.proofs.lemmas.List.{length-append}
 use Rattle.alma_base.specs.declared.fault.RunFault.TheVariants as fault
-use Rattle.alma_base.specs.Numbers.{is_integer, bit}
+use Rattle.alma_base.specs.Choice.{if_true}
+use Rattle.alma_base.specs.Numbers.{is_integer, is_zero, int_eq, bit}
 use Rattle.alma_code.specs.declared.cell.Cell.TheVariants as cell
 use Rattle.alma_code.specs.declared.cell.SlotKind.TheVariants as slot
+use Rattle.alma_code.specs.declared.instr.Instr.{Instr}
 use Rattle.alma_code.specs.declared.instr.Instr.TheVariants as I
 use Rattle.alma_code.specs.Lines.{line_at}
 use Rattle.alma_code.specs.Picture.{PlainFrame}
@@ -14,32 +16,35 @@ use Rattle.alma_code.specs.Machine.{act}
 use Rattle.alma_ir.specs.declared.phrase.Op.{Op}
 use Rattle.alma_ir.specs.declared.phrase.Cmp.{Cmp}
 use Rattle.alma_ir.specs.declared.phrase.Cmp.TheVariants as cmp
-use Rattle.alma_ir.specs.Tree.{Program, Expr, Links, Desig, Const, Load, Chain, Compare, Truth, Known, Chr, CallExpr, no_links, more_links}
+use Rattle.alma_ir.specs.Tree.{Program, Expr, Links, Desig, Const, Load, Chain, Compare, Truth, Known, Chr, CallExpr, no_links, more_links, Value}
 use Rattle.alma_ir.specs.Checked.{desig_cells}
 use Rattle.alma_mean.specs.Store.{Store, cell_of, top_cell}
-use Rattle.alma_mean.specs.Events.{Visit, Fail, one, join, bind}
+use Rattle.alma_mean.specs.Events.{Events, NoYield, Visit, Fail, one, join, bind}
 use Rattle.alma_mean.specs.Arithmetic.{apply_op, apply_sign, compares}
 use Rattle.alma_mean.specs.Rows.{read_cell, known_bit}
-use Rattle.alma_mean.specs.Meaning.{Level, ev_expr, ev_links, ev_desig}
+use Rattle.alma_mean.specs.Meaning.{Level, ev_expr, ev_links, ev_desig, ev_test}
 use Rattle.alma_lower_implements.proofs.Goes.{weaker}
 use Rattle.alma_lower_implements.proofs.Frames.{own_end, HasSlots, shift}
 use Rattle.alma_lower_implements.proofs.BareRow.{ReadsFirst, reads_unknown}
 use Rattle.alma_lower_implements.proofs.ExprRows.{first_kind, slots_first, AreVariables}
 use Rattle.alma_lower_implements.proofs.ForSteps.{SlotThere, a_number, not_known, slot_there, move_step}
-use Rattle.alma_lower_implements.proofs.Steps.{InstrAt, const_step, does}
+use Rattle.alma_lower_implements.proofs.Numbers.{bit_integer, zero_bit}
+use Rattle.alma_lower_implements.proofs.Steps.{Holds, InstrAt, const_step, does, equal_step, zero_jumps, other_goes_on, fail_step}
 use Rattle.alma_lower_implements.proofs.Ways.{Leaves}
 use Rattle.alma_lower_templates.specs.Lined.{Lined, own}
 use Rattle.alma_lower_templates.specs.Tables.{Tables}
 use Rattle.alma_lower_templates.specs.Slots.{bare, bare_desig, unless_bare, expr_slots, links_slots, desig_slots, test_slots, mark_slots, is_simple, call_links, handed_slots, args_slots, behind_expr, behind_value}
-use Rattle.alma_lower_templates.specs.Pieces.{op_code, cmp_code, neg_code}
+use Rattle.alma_lower_templates.specs.Pieces.{op_code, cmp_code, unequal_code, neg_code}
 use Rattle.alma_lower_templates.specs.Templates.{expr_code, links_code, desig_code, place_at, value_at, load_by}
 use Rattle.alma_lower_templates.specs.Stands.{Stands}
 use Rattle.alma_lower_templates.proofs.Stands.{stands_front, stands_back}
-use Rattle.alma_lower_templates.proofs.Parts.{Begins, begins, has_kind, holds_after, IsValue, ValueIn, PlaceIn, NodeRuns, NodeFor, From, leaving, from_more, node_runs, then_from, alone_from, faults_here, ends_here, value_ends}
+use Rattle.alma_lower_templates.proofs.Parts.{Begins, begins, has_kind, holds_after, IsValue, ValueIn, PlaceIn, Nothing, NodeRuns, NodeFor, From, leaving, from_more, node_runs, then_from, alone_from, faults_here, fails_here, ends_here, value_ends, value_goes_on}
+use Rattle.alma_lower_templates.proofs.Tested.{compared_code}
 use Rattle.alma_lower_templates.proofs.AtOnce.{AtOnce, BareFits, at_once, bare_place}
-use Rattle.alma_lower_templates.proofs.OperatorParts.{op_reads, cmp_reads, op_from, sign_from, compare_ends}
+use Rattle.alma_lower_templates.proofs.OperatorParts.{op_reads, equal_reads, cmp_reads, op_from, sign_from, compare_ends}
 use Rattle.alma_lower_templates.proofs.CellEnds.{load_ends, known_ends}
-use Rattle.alma_lower_templates.proofs.FormRuns.{ExprRuns, DesigRuns}
+use Rattle.alma_lower_templates.proofs.RangeChecks.{past_from}
+use Rattle.alma_lower_templates.proofs.FormRuns.{ExprRuns, DesigRuns, TestRuns}
 
 module _ (p : Program) (code : PlainCode) (input : List ℕ) (r : ℕ) where
   -- the first slot of an expression is for its value
@@ -203,18 +208,23 @@ module _ (p : Program) (tables : Tables) (code : PlainCode) (input : List ℕ) (
 
   -- ---- comparisons
 
-  pub compare_runs : (at lo : ℕ) (how : Cmp) (x y : Expr) → HasSlots p code r lo (expr_slots p r (Compare how x y)) → ExprRuns p tables code input below r line q at lo x
-      → ((next : ℕ) → AtOnce p tables code input below r line q next (behind_expr p r lo x) y) → ExprRuns p tables code input below r line q at lo (Compare how x y)
+  -- instructions behind both operands, which yield what is said of the comparison
+  pub compared_by : (at lo : ℕ) (how : Cmp) (x y : Expr) (yields : Store → ℤ → List PlainFrame → Type 0) (instrs : (operand : ℕ) → List Instr) → HasSlots p code r lo (expr_slots p r (Compare how x y)) → ExprRuns p tables code input below r line q at lo x
+      → ((next : ℕ) → AtOnce p tables code input below r line q next (behind_expr p r lo x) y)
+      → ((m operand : ℕ) → Stands code m (own line (instrs operand)) → line_at code m ≡ line)
+      → ((m operand : ℕ) (n : ℤ) (t : List PlainFrame) → Stands code m (own line (instrs operand)) → Holds t lo (cell.Int n) → ReadsFirst code input m operand t)
+      → ((m operand : ℕ) (n z : ℤ) (u : Store) (t : List PlainFrame) → Begins p code input r u t → Stands code m (own line (instrs operand)) → Holds t lo (cell.Int n) → Holds t operand (cell.Int z)
+      → From p code input line 8 m (m + length (own line (instrs operand))) t (leaving p code input lo r t yields) (one u (bit (compares how n z))) q)
+      → NodeFor p code input r line at lo (compared_code p tables r line at lo x y ++ own line (instrs (value_at p tables r (behind_expr p r lo x) y))) (ev_expr p input below (Compare how x y)) yields q
   unfolding ev_expr
-  compare_runs at lo how x y slots runs once stands v now b =
-      let kind = first_slot p code input r lo (Compare how x y) slots in
+  compared_by at lo how x y yields instrs slots runs once lines reads ends stands v now b =
       let lo2 : ℕ = behind_expr p r lo x in
       let lt : lo < lo2 = omega (arith, some_slots p code input r x) in
       let first : List Lined = expr_code p tables r line at lo x in
       let m : ℕ = at + length first in
       let second : List Lined = unless_bare (bare y) (expr_code p tables r line m lo2 y) in
       let operand : ℕ = value_at p tables r lo2 y in
-      let last : List Lined = own line (cmp_code how lo operand) in
+      let last : List Lined = own line (instrs operand) in
       let front = stands_front code at (first ++ second) last stands in
       let both : length (first ++ second) ≡ length first + length second = length-append first second in
       let whole : length ((first ++ second) ++ last) ≡ length (first ++ second) + length last = length-append (first ++ second) last in
@@ -223,18 +233,26 @@ module _ (p : Program) (tables : Tables) (code : PlainCode) (input : List ℕ) (
       let compares_at : Stands code m2 last = subst (λ n. Stands code n last) here (stands_back code at (first ++ second) last stands) in
       let exit : ℕ = m2 + length last in
       let end : exit ≡ at + length ((first ++ second) ++ last) = omega (arith, both, whole) in
-      let w = leaving p code input lo r now (ValueIn p code input lo) in
+      let w = leaving p code input lo r now yields in
       subst (λ e. NodeRuns p code input line at e now w (ev_expr p input below (Compare how x y) v) q) end
       (node_runs p code input line 0 at exit now w (bind (ev_expr p input below x v) (λ t n. bind (ev_expr p input below y t) (λ u z. one u (bit (compares how n z))))) q (omega arith)
-      (then_from p code input line at m exit lo lo r now (ValueIn p code input lo) (ValueIn p code input lo) (ev_expr p input below x v) (λ t n. bind (ev_expr p input below y t) (λ u z. one u (bit (compares how n z)))) q (omega arith) slots.behind
+      (then_from p code input line at m exit lo lo r now (ValueIn p code input lo) yields (ev_expr p input below x v) (λ t n. bind (ev_expr p input below y t) (λ u z. one u (bit (compares how n z)))) q (omega arith) slots.behind
       (runs (stands_front code at first second front) v now b)
       (λ u n t left value.
       let b1 = begins p code input lo r now u t left in
-      from_more p code input line 0 8 m exit t (leaving p code input lo r t (ValueIn p code input lo)) (bind (ev_expr p input below y u) (λ x2 z. one x2 (bit (compares how n z)))) q (omega arith)
-      (at_once p tables code input below r line q exit lo lo2 m u t (ValueIn p code input lo) (λ x2 z. one x2 (bit (compares how n z))) (omega (arith, lt)) slots.behind b1 y (once m)
-      (stands_back code at first second front) (cmp_line how operand m2 compares_at) (cmp_reads p code input line q lo r slots.behind kind how m2 operand n t compares_at value.holds)
+      from_more p code input line 0 8 m exit t (leaving p code input lo r t yields) (bind (ev_expr p input below y u) (λ x2 z. one x2 (bit (compares how n z)))) q (omega arith)
+      (at_once p tables code input below r line q exit lo lo2 m u t yields (λ x2 z. one x2 (bit (compares how n z))) (omega (arith, lt)) slots.behind b1 y (once m)
+      (stands_back code at first second front) (lines m2 operand compares_at) (reads m2 operand n t compares_at value.holds)
       (λ u2 z t2 left2 value2.
-      compare_ends p code input line q lo r slots.behind kind u2 t2 (begins p code input lo2 r t u2 t2 left2) how m2 operand n z compares_at (holds_after p code input lo2 r lo (cell.Int n) u u2 t t2 b1 slots.behind lt left2 value.holds) value2.holds)))))
+      ends m2 operand n z u2 t2 (begins p code input lo2 r t u2 t2 left2) compares_at (holds_after p code input lo2 r lo (cell.Int n) u u2 t t2 b1 slots.behind lt left2 value.holds) value2.holds)))))
+
+  pub compare_runs : (at lo : ℕ) (how : Cmp) (x y : Expr) → HasSlots p code r lo (expr_slots p r (Compare how x y)) → ExprRuns p tables code input below r line q at lo x
+      → ((next : ℕ) → AtOnce p tables code input below r line q next (behind_expr p r lo x) y) → ExprRuns p tables code input below r line q at lo (Compare how x y)
+  compare_runs at lo how x y slots runs once =
+      let kind = first_slot p code input r lo (Compare how x y) slots in
+      compared_by at lo how x y (ValueIn p code input lo) (λ operand. cmp_code how lo operand) slots runs once (λ m operand i. cmp_line how operand m i)
+      (λ m operand n t i h. cmp_reads p code input line q lo r slots.behind kind how m operand n t i h)
+      (λ m operand n z u t b i hx hy. compare_ends p code input line q lo r slots.behind kind u t b how m operand n z i hx hy)
     where
       cmp_line : (how : Cmp) (operand n : ℕ) → Stands code n (own line (cmp_code how lo operand)) → line_at code n ≡ line
       cmp_line cmp.Equal operand n i = i.1
@@ -243,6 +261,64 @@ module _ (p : Program) (tables : Tables) (code : PlainCode) (input : List ℕ) (
       cmp_line cmp.LessEq operand n i = i.1
       cmp_line cmp.Greater operand n i = i.1
       cmp_line cmp.GreaterEq operand n i = i.1
+
+  -- ---- a test of inequality
+
+  -- the contrary of a number stands in a slot
+  abbrev ContraryIn : (lo : ℕ) → Store → ℤ → List PlainFrame → Type 0
+  ContraryIn lo v n t = IsValue p code input lo (bit (is_zero n)) t
+
+  -- where they are equal it fails, and else it goes over the failure
+  unequal_ends : (z : Bool) (at lo : ℕ) (v : Store) (now : List PlainFrame) → InstrAt code input line at (I.JumpZero lo (at + 2)) → InstrAt code input line (at + 1) I.Fail → IsValue p code input lo (bit z) now → Begins p code input r v now
+      → From p code input line 8 at (at + 2) now (leaving p code input lo r now (Nothing p code input)) (if_true z (λ _. Fail) (λ _. one v tt)) q
+  unequal_ends true at lo v now i j h b =
+      past_from p tables code input below r line q 7 at (at + 1) (at + 2) now (leaving p code input lo r now (Nothing p code input)) Fail
+      (λ held s is. let w = other_goes_on code input line at now held s is lo (at + 2) (pos 1) i h.holds refl in record { to = w.to; silently = w.silently; is = w.is })
+      (fails_here p code input line 6 (at + 1) (at + 2) now (leaving p code input lo r now (Nothing p code input)) q
+      (λ held s is. let w = fail_step code input line (at + 1) now held s is j in (w.to, w.silently, w.is)))
+  unequal_ends false at lo v now i j h b =
+      past_from p tables code input below r line q 7 at (at + 2) (at + 2) now (leaving p code input lo r now (Nothing p code input)) (one v tt)
+      (λ held s is. let w = zero_jumps code input line at now held s is lo (at + 2) (pos 0) i h.holds refl in record { to = w.to; silently = w.silently; is = w.is })
+      (ends_here p code input line 7 (at + 2) lo r v now (Nothing p code input) tt q b tt)
+
+  pub unequal_runs : (at lo : ℕ) (x y : Expr) → HasSlots p code r lo (expr_slots p r (Compare cmp.Unequal x y)) → ExprRuns p tables code input below r line q at lo x
+      → ((next : ℕ) → AtOnce p tables code input below r line q next (behind_expr p r lo x) y) → TestRuns p tables code input below r line q at lo (Value (Compare cmp.Unequal x y))
+  unfolding ev_expr
+  unequal_runs at lo x y slots runs once stands v now b =
+      let kind = first_slot p code input r lo (Compare cmp.Unequal x y) slots in
+      let operands : List Lined = compared_code p tables r line at lo x y in
+      let operand : ℕ = value_at p tables r (behind_expr p r lo x) y in
+      let equal : List Lined = own line (I.Equal lo lo operand ∷ []) in
+      let m : ℕ = at + length operands in
+      let last : List Lined = own line (I.JumpZero lo (m + 3) ∷ I.Fail ∷ []) in
+      let there : Stands code at ((operands ++ equal) ++ last) = subst (Stands code at) (sym (append_assoc operands equal last)) stands in
+      let long : length (operands ++ equal) ≡ length operands + 1 = length-append operands equal in
+      let whole : length (operands ++ own line (unequal_code lo operand m)) ≡ length operands + 3 = length-append operands (own line (unequal_code lo operand m)) in
+      let n2 : ℕ = at + length (operands ++ equal) in
+      let over : m + 3 ≡ n2 + 2 = omega (arith, long) in
+      let back = subst (λ k. Stands code n2 (own line (I.JumpZero lo k ∷ I.Fail ∷ []))) over (stands_back code at (operands ++ equal) last there) in
+      let end : n2 + 2 ≡ at + length (operands ++ own line (unequal_code lo operand m)) = omega (arith, long, whole) in
+      let w = leaving p code input lo r now (Nothing p code input) in
+      let k : Store → ℤ → Events NoYield = λ t n. if_true (is_zero n) (λ _. Fail) (λ _. one t tt) in
+      subst (λ e. NodeRuns p code input line at e now w (ev_test p input below (Value (Compare cmp.Unequal x y)) v) q) end
+      (node_runs p code input line 0 at (n2 + 2) now w (bind (ev_expr p input below (Compare cmp.Unequal x y) v) k) q (omega arith)
+      (then_from p code input line at n2 (n2 + 2) lo lo r now (ContraryIn lo) (Nothing p code input) (ev_expr p input below (Compare cmp.Unequal x y) v) k q (omega arith) slots.behind
+      (compared_by at lo cmp.Unequal x y (ContraryIn lo) (λ o. I.Equal lo lo o ∷ []) slots runs once (λ n o i. i.1)
+      (λ n o z t i h. equal_reads p code input line q lo r slots.behind kind n o z t (record { instr = i.0; on_line = i.1 }) h)
+      (λ n o y2 z u t b2 i hx hy. contrary_ends kind n o y2 z u t b2 i hx hy) (stands_front code at (operands ++ equal) last there) v now b)
+      (λ u n t left value. unequal_ends (is_zero n) n2 lo u t (record { instr = back.0; on_line = back.1 }) (record { instr = back.2.0; on_line = back.2.1 }) value (begins p code input lo r now u t left))))
+    where
+      not_twice : (t : Bool) → not (not t) ≡ t
+      not_twice true = refl
+      not_twice false = refl
+
+      contrary_ends : slice_get (kinds_at code r) lo ≡ Some slot.Number → (n o : ℕ) (y2 z : ℤ) (u : Store) (t : List PlainFrame) → Begins p code input r u t → Stands code n (own line (I.Equal lo lo o ∷ [])) → Holds t lo (cell.Int y2) → Holds t o (cell.Int z)
+          → From p code input line 8 n (n + 1) t (leaving p code input lo r t (ContraryIn lo)) (one u (bit (compares cmp.Unequal y2 z))) q
+      contrary_ends kind n o y2 z u t b2 i hx hy =
+          let same : bit (is_zero (bit (not (int_eq y2 z)))) ≡ bit (int_eq y2 z) = ap bit (zero_bit (not (int_eq y2 z)) ∙ not_twice (int_eq y2 z)) in
+          value_goes_on p code input line 7 n (n + 1) lo r u t (bit (int_eq y2 z)) (ContraryIn lo) (one u (bit (not (int_eq y2 z)))) q slots.behind kind (bit_integer (int_eq y2 z)) b2
+          (λ held s is. equal_step code input line n t held s is lo lo o y2 z (record { instr = i.0; on_line = i.1 }) (has_kind p code input r lo u t slot.Number kind b2) hx hy)
+          (λ t2 left value. ends_here p code input line 7 (n + 1) lo r u t2 (ContraryIn lo) (bit (not (int_eq y2 z))) q (begins p code input lo r t u t2 left) (subst (λ c. IsValue p code input lo c t2) (sym same) value))
 
   -- ---- KNOWN and CHR
 

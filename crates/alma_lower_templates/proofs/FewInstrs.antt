@@ -18,6 +18,7 @@ use Rattle.alma_lower_templates.specs.Slots.{shift_of, bare, bare_desig, unless_
 use Rattle.alma_lower_templates.specs.Tables.{Tables, range_number, is_whole}
 use Rattle.alma_lower_templates.specs.Templates
 use Rattle.alma_lower_templates.proofs.FewSlots.{Short, AreShort, short_front, short_back, unless_few}
+use Rattle.alma_lower_templates.proofs.Tested.{tested_long}
 
 own_long : (line : ℕ) (xs : List Instr) → length (own line xs) ≡ length xs
 own_long line xs = length-map xs (λ i. record { line = line; instr = i })
@@ -336,7 +337,7 @@ module _ (p : Program) (tables : Tables) (r : ℕ) where
     test_few : (line at lo : ℕ) (t : Test) (ls : List ℕ) → AreShort (test_phrases t) → 4 + length (Templates.test_code p tables r line at lo (test_with t ls)) ≤ 16 * test_nodes t
     test_few line at lo (Value e) ls h =
         let y : Expr = expr_with e ls in
-        omega (arith, length-append (unless_bare (bare y) (Templates.expr_code p tables r line at lo y)) (own line (I.Check (Templates.value_at p tables r lo y) ∷ [])), unless_few (bare y) (Templates.expr_code p tables r line at lo y), expr_few line at lo e ls h.1)
+        omega (arith, tested_long p tables r line at lo y, unless_few (bare y) (Templates.expr_code p tables r line at lo y), expr_few line at lo e ls h.1)
     test_few line at lo (Bind d e range true) ls h =
         let ls2 = behind (desig_phrases d) ls in
         let y : Desig = desig_with d ls in

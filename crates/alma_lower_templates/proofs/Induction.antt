@@ -8,6 +8,8 @@ use Rattle.alma_code.specs.declared.cell.SlotKind.TheVariants as slot
 use Rattle.alma_code.specs.declared.head.Run.{Run}
 use Rattle.alma_code.specs.Layout.{kinds_of}
 use Rattle.alma_code.specs.Plain.{PlainCode, kinds_at}
+use Rattle.alma_ir.specs.declared.phrase.Cmp.{Cmp}
+use Rattle.alma_ir.specs.declared.phrase.Cmp.TheVariants as cmp
 use Rattle.alma_ir.specs.declared.phrase.Root.{Root}
 use Rattle.alma_ir.specs.declared.phrase.Root.TheVariants as root
 use Rattle.alma_ir.specs.Tree.{Stmts, Stmt, Arms, CaseArms, Else, Branches, Loop, Test, Tests, Expr, Links, Args, Arg, Desig, Sels, Sel, Program, routine_at, no_stmts, more_stmts, TestStmt, Assign, CopyCells, If, While, Repeat, ForTo, SomeOf, Case, Either, Forall, Commit, Return, Read, WriteExpr, WriteText, WriteLine, no_arms, more_arms, no_cases, more_cases, no_else, else_part, no_branches, more_branches, a_loop, no_result, some_result, Value, Bind, Unify, SameCells, Seq, And, Or, Not, CallTest, no_tests, more_tests, Const, Load, Chain, Compare, Truth, Known, Chr, CallExpr, no_links, more_links, no_args, more_args, ByValue, ByCells, ByPlace, MixValue, MixPlace, a_desig, no_sels, more_sels, Field, Index}
@@ -33,7 +35,7 @@ use Rattle.alma_lower_templates.specs.Compiled.{program_code}
 use Rattle.alma_lower_templates.specs.Templates.{part_slot, behind_root, arg_code, desig_code, place_at, stmts_code, stmt_code}
 use Rattle.alma_lower_templates.proofs.AtOnce.{BareFits}
 use Rattle.alma_lower_templates.proofs.Args.{ArgPart, ArgParts, same_cells}
-use Rattle.alma_lower_templates.proofs.Asked.{HasUnlessWhole, Asked, Fine, fine_front, fine_back, fine_first, fine_second, fine_third, fine_fourth, fine_test, fine_expr, fine_arg, fine_desig, fine_sel, fine_stmt, has_line, swapped_first, swapped_second, cells_with, args_with_fit, DesigGoes, ExprGoes, TestGoes, once, target, variable, decides, Stays, stays_front, stays_back, sel_cells_with}
+use Rattle.alma_lower_templates.proofs.Asked.{HasUnlessWhole, Asked, Fine, fine_front, fine_back, fine_first, fine_second, fine_third, fine_fourth, fine_test, fine_expr, fine_arg, fine_desig, fine_sel, fine_stmt, has_line, swapped_first, swapped_second, cells_with, args_with_fit, DesigGoes, OperandsGo, ExprGoes, TestGoes, once, target, variable, decides, Stays, stays_front, stays_back, sel_cells_with}
 use Rattle.alma_lower_templates.proofs.BarrierForms.{no_stmts_run, more_stmts_run, AndRun, no_and_run, more_and_run, and_runs, seq_runs, not_runs, commit_runs}
 use Rattle.alma_lower_templates.proofs.Calls.{RoutineRuns}
 use Rattle.alma_lower_templates.proofs.CallForms.{test_call_runs, expr_call_runs}
@@ -44,7 +46,8 @@ use Rattle.alma_lower_templates.proofs.CellRuns.{copy_runs, match_runs}
 use Rattle.alma_lower_templates.proofs.CellTests.{bind_runs, bind_value_runs, unify_runs}
 use Rattle.alma_lower_templates.proofs.ChoiceForms.{EachRuns, either_form, OperandsRun, last_operand_run, more_operands_run, one_or_runs, or_runs}
 use Rattle.alma_lower_templates.proofs.DesigForms.{SelRuns, SelsRun, field_runs, index_runs, no_sels_run, more_sels_run, desig_runs}
-use Rattle.alma_lower_templates.proofs.ExprForms.{LinksRun, const_runs, load_runs, no_links_run, more_links_run, chain_runs, compare_runs, known_runs, first_slot, some_slots}
+use Rattle.alma_lower_templates.proofs.ExprForms.{LinksRun, const_runs, load_runs, no_links_run, more_links_run, chain_runs, compare_runs, unequal_runs, known_runs, first_slot, some_slots}
+use Rattle.alma_lower_templates.proofs.Tested.{Tested, tested, as_value, as_unequal}
 use Rattle.alma_lower_templates.proofs.FormRuns.{TestRuns, ListRuns, StmtRuns, StatementRuns}
 use Rattle.alma_lower_templates.proofs.ForallRuns.{forall_runs}
 use Rattle.alma_lower_templates.proofs.GuardedForms.{Decided, ArmsRun, no_arms_run, more_arms_run, no_arms_if, if_runs}
@@ -68,6 +71,12 @@ part_above p tables r lo (Index e range cells) = omega arith
 
 same_value : (a b : Expr) → Value a ≡ Value b → a ≡ b
 same_value a b e = cc
+
+same_left : (how how2 : Cmp) (a b c d : Expr) → Compare how a c ≡ Compare how2 b d → a ≡ b
+same_left how how2 a b c d e = cc
+
+same_right : (how how2 : Cmp) (a b c d : Expr) → Compare how a c ≡ Compare how2 b d → c ≡ d
+same_right how how2 a b c d e = cc
 
 module _ (p : Program) (tables : Tables) (code : PlainCode) (all : List (List Run)) (is : code ≡ program_code p tables all) (count : length all ≡ length p.routines) (names : (r : ℕ) → r < length p.routines → kinds_of 0 (get_or all r []) ≡ routine_kinds p r) (checked : IsChecked p)
     (input : List ℕ) (lawful : length input ≤ input_limit) (flat : shift p 0 ≡ 0) (position_kind : slice_get (kinds_at code 0) 0 ≡ Some slot.Number)
@@ -150,6 +159,16 @@ module _ (p : Program) (tables : Tables) (code : PlainCode) (all : List (List Ru
     place_of : (r line at la : ℕ) (d : Desig) → GoodDesig r line d → HasSlots p code r la (desig_slots p r d) → ArgPart p tables code input below r line (suc n) at la (ByPlace d)
     place_of r line at la d g slots =
         subst (λ k. NodeFor p code input r line at la (desig_code p tables r line at la d) (ev_desig p input below d) (PlaceIn p code input (place_at p tables r la d) k) (suc n)) (sym (same_cells d)) (g.runs at la slots)
+
+    -- a value as a test
+    value_goes : (r line : ℕ) (x : Expr) → GoodExpr r line x → Tested p tables r x → (at lo : ℕ) → HasSlots p code r lo (unless_bare (bare x) (expr_slots p r x)) → TestRuns p tables code input below r line (suc n) at lo (Value x)
+    value_goes r line x g (as_value is) at lo slots = value_runs p tables code input below r line (suc n) at lo x is slots.behind (once p tables code input below r line (suc n) x g at lo slots)
+    value_goes r line x g (as_unequal a b same) at lo slots =
+        let o = g.operands cmp.Unequal a b same in
+        let both : HasSlots p code r lo (expr_slots p r a ++ unless_bare (bare b) (expr_slots p r b)) = subst (λ k. HasSlots p code r lo (unless_bare (bare k) (expr_slots p r k))) same slots in
+        subst (λ k. TestRuns p tables code input below r line (suc n) at lo (Value k)) (sym same)
+        (unequal_runs p tables code input below r line (suc n) at lo a b both (o.first at lo (slots_first p code input r lo (expr_slots p r a) (unless_bare (bare b) (expr_slots p r b)) both))
+        (λ next. o.second next (behind_expr p r lo a) (slots_behind p code input r lo (expr_slots p r a) (unless_bare (bare b) (expr_slots p r b)) both)))
 
     -- operands of OR, given those behind
     abbrev Others : (r line : ℕ) → Tests → Type 0
@@ -291,7 +310,7 @@ module _ (p : Program) (tables : Tables) (code : PlainCode) (all : List (List Ru
           (once p tables code input below r line (suc n) y (expr_go r line lt e ls (fine_sel p tables code input r (Index e range cells) (expr_phrases e) ls h)) at lo (slots_first p code input r lo (unless_bare (bare y) (expr_slots p r y)) (slot.Place cells ∷ []) slots))
 
       expr_go : (r line : ℕ) → r < length p.routines → (e : Expr) (ls : List ℕ) → FineIn r (expr_phrases e) ls → GoodExpr r line (expr_with e ls)
-      expr_go r line lt (Const m) ls h = record { fits = tt; runs = λ at lo slots. const_runs p tables code input below r line (suc n) at lo m h.asked.0.coded slots }
+      expr_go r line lt (Const m) ls h = record { fits = tt; runs = λ at lo slots. const_runs p tables code input below r line (suc n) at lo m h.asked.0.coded slots; operands = λ how x y same. absurd (cc) }
       expr_go r line lt (Load d) ls h =
           let g = desig_go r line lt d ls (fine_expr p tables code input r (Load d) (desig_phrases d) ls h) in
           let y : Desig = desig_with d ls in
@@ -300,6 +319,7 @@ module _ (p : Program) (tables : Tables) (code : PlainCode) (all : List (List Ru
             fits = g.fits one_cell;
             runs = λ at lo slots. load_runs p tables code input below r line (suc n) at lo y (g.fits one_cell)
                 (target p tables code input below r line (suc n) y g at (lo + 1) (slots_behind p code input r lo (slot.Number ∷ []) (unless_bare (bare_desig y) (desig_slots p r y)) slots)) one_cell slots;
+            operands = λ how y z same. absurd (cc);
           }
       expr_go r line lt (Chain negated e links) ls h =
           let inner = fine_expr p tables code input r (Chain negated e links) (expr_phrases e ++ links_phrases links) ls h in
@@ -313,6 +333,7 @@ module _ (p : Program) (tables : Tables) (code : PlainCode) (all : List (List Ru
                 chain_runs p tables code input below r line (suc n) at lo negated x (links_with links ls2) slots (g.runs at lo first)
                 (λ next. links_go r line lt links ls2 (fine_back p tables code input r (expr_phrases e) (links_phrases links) ls inner) next lo (behind_expr p r lo x) (omega (arith, some_slots p code input r x)) slots.behind (first_slot p code input r lo x first)
                 (slots_behind p code input r lo (expr_slots p r x) (links_slots p r (links_with links ls2)) slots));
+            operands = λ how y z same. absurd (cc);
           }
       expr_go r line lt (Compare how a b) ls h =
           let inner = fine_expr p tables code input r (Compare how a b) (expr_phrases a ++ expr_phrases b) ls h in
@@ -326,6 +347,9 @@ module _ (p : Program) (tables : Tables) (code : PlainCode) (all : List (List Ru
             runs = λ at lo slots.
                 compare_runs p tables code input below r line (suc n) at lo how x y slots (g.runs at lo (slots_first p code input r lo (expr_slots p r x) (unless_bare (bare y) (expr_slots p r y)) slots))
                 (λ next. once p tables code input below r line (suc n) y g2 next (behind_expr p r lo x) (slots_behind p code input r lo (expr_slots p r x) (unless_bare (bare y) (expr_slots p r y)) slots));
+            operands = λ how2 a2 b2 same.
+                subst (λ k. OperandsGo p tables code input below r line (suc n) k b2) (same_left how how2 x a2 y b2 same)
+                (subst (λ k. OperandsGo p tables code input below r line (suc n) x k) (same_right how how2 x a2 y b2 same) (record { first = g.runs; second = once p tables code input below r line (suc n) y g2 }));
           }
       expr_go r line lt (Truth t) ls h =
           let u : Test = test_with t ls in
@@ -334,6 +358,7 @@ module _ (p : Program) (tables : Tables) (code : PlainCode) (all : List (List Ru
             fits = tt;
             runs = λ at lo slots. truth_runs p tables code input below r line (suc n) at lo u slots
                 (λ none. decides p tables code input below r line (suc n) u g at (lo + 1) none (slots_behind p code input r lo (slot.Number ∷ []) (mark_slots (is_simple u) ++ test_slots p r u) slots));
+            operands = λ how y z same. absurd (cc);
           }
       expr_go r line lt (Known d) ls h =
           let y : Desig = desig_with d ls in
@@ -341,11 +366,12 @@ module _ (p : Program) (tables : Tables) (code : PlainCode) (all : List (List Ru
           record {
             fits = tt;
             runs = λ at lo slots. known_runs p tables code input below r line (suc n) at lo y slots (cells_with d ls ∙ h.asked.0.cells) (g.runs at (lo + 1) (slots_behind p code input r lo (slot.Number ∷ []) (desig_slots p r y) slots));
+            operands = λ how y z same. absurd (cc);
           }
       expr_go r line lt (Chr e) ls h =
           let x : Expr = expr_with e ls in
           let g = expr_go r line lt e ls (fine_expr p tables code input r (Chr e) (expr_phrases e) ls h) in
-          record { fits = tt; runs = λ at lo slots. chr_runs p tables code input below r line (suc n) at lo x slots h.asked.0.coded (g.runs at lo slots) }
+          record { fits = tt; runs = λ at lo slots. chr_runs p tables code input below r line (suc n) at lo x slots h.asked.0.coded (g.runs at lo slots); operands = λ how y z same. absurd (cc) }
       expr_go r line lt (CallExpr called args up) ls h =
           let inner = fine_expr p tables code input r (CallExpr called args up) (args_phrases args) ls h in
           let asked = h.asked.0 in
@@ -353,6 +379,7 @@ module _ (p : Program) (tables : Tables) (code : PlainCode) (all : List (List Ru
             fits = tt;
             runs = λ at lo slots. expr_call_runs p tables code all is count names checked input below n routines r line lt called up (args_with args ls) at lo asked.callee asked.leads (args_with_fit (routine_at p called).params args ls asked.fits) asked.result slots
                 (λ m first arg_slots_. args_go r line lt args ls inner m first (first + length (handed_slots (args_with args ls))) arg_slots_);
+            operands = λ how y z same. absurd (cc);
           }
 
       links_go : (r line : ℕ) → r < length p.routines → (links : Links) (ls : List ℕ) → FineIn r (links_phrases links) ls → (at to lo : ℕ) → to < lo → own_end p r ≤ to → slice_get (kinds_at code r) to ≡ Some slot.Number → HasSlots p code r lo (links_slots p r (links_with links ls))
@@ -393,7 +420,7 @@ module _ (p : Program) (tables : Tables) (code : PlainCode) (all : List (List Ru
           let x : Expr = expr_with e ls in
           let g = expr_go r line lt e ls (fine_test p tables code input r (Value e) (expr_phrases e) ls h) in
           record {
-            runs = λ at lo slots. value_runs p tables code input below r line (suc n) at lo x slots.behind (once p tables code input below r line (suc n) x g at lo slots);
+            runs = λ at lo slots. value_goes r line x g (tested p tables r x) at lo slots;
             value = λ y same. subst (GoodExpr r line) (same_value x y same) g;
           }
       test_go r line lt (Bind d e range true) ls h =

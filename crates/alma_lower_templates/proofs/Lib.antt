@@ -11,6 +11,7 @@ pub mod ForallRuns
 pub mod OperatorParts
 pub mod FormRuns
 pub mod CellEnds
+pub mod Tested
 pub mod ExprForms
 pub mod RootForms
 pub mod DesigForms

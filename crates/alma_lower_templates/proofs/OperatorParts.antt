@@ -43,7 +43,7 @@ module _ (p : Program) (code : PlainCode) (input : List ℕ) (line q lo r : ℕ)
   op_reads op.Mod at operand a now i ha held s is =
       (_, does code input line at now held s (I.Mod lo lo operand) is i ∙ number_is code input now (passed code input s) lo a (λ x. number (passed code input s) operand (λ y. if_true (is_zero y) (λ _. ends_in_fault fault.ZeroDivide (passed code input s)) (λ _. integer_result (passed code input s) (mod_down_of x y) (λ v. put_number (passed code input s) lo v)))) is.frames ha)
 
-  equal_reads : (at operand : ℕ) (a : ℤ) (now : List PlainFrame) → InstrAt code input line at (I.Equal lo lo operand) → Holds now lo (cell.Int a) → ReadsFirst code input at operand now
+  pub equal_reads : (at operand : ℕ) (a : ℤ) (now : List PlainFrame) → InstrAt code input line at (I.Equal lo lo operand) → Holds now lo (cell.Int a) → ReadsFirst code input at operand now
   unfolding act
   equal_reads at operand a now i ha held s is = (_, does code input line at now held s (I.Equal lo lo operand) is i ∙ number_is code input now (passed code input s) lo a (λ x. number (passed code input s) operand (λ y. put_number (passed code input s) lo (bit (int_eq x y)))) is.frames ha)
 

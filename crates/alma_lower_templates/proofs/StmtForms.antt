@@ -33,6 +33,7 @@ use Rattle.alma_lower_templates.specs.Stands.{Stands}
 use Rattle.alma_lower_templates.proofs.Stands.{stands_front, stands_back}
 use Rattle.alma_lower_templates.proofs.Parts.{Begins, begins, Left, left_self, IsValue, Nothing, NodeRuns, NodeFor, From, leaving, from_more, node_runs, node_from, fails_here, ends_here}
 use Rattle.alma_lower_templates.proofs.AtOnce.{AtOnce, BareFits, at_once}
+use Rattle.alma_lower_templates.proofs.Tested.{ChecksValue}
 use Rattle.alma_lower_templates.proofs.RangeChecks.{past_from, fit_from, fit_line, fit_reads, fit_long, behind_fit}
 use Rattle.alma_lower_templates.proofs.Targets.{target_after, target_from, set_from, set_reads}
 use Rattle.alma_lower_templates.proofs.PlaceSteps.{write_text_step}
@@ -170,9 +171,10 @@ module _ (p : Program) (tables : Tables) (code : PlainCode) (input : List ℕ) (
       (λ held s is. let w = check_passes code input line at now held s is from n i h.holds e in record { to = w.to; silently = w.silently; is = w.is })
       (ends_here p code input line 7 (at + 1) lo r v now (Nothing p code input) tt q b tt)
 
-  pub value_runs : (at lo : ℕ) (x : Expr) → own_end p r ≤ lo → AtOnce p tables code input below r line q at lo x → TestRuns p tables code input below r line q at lo (Value x)
+  checked_runs : (at lo : ℕ) (x : Expr) → own_end p r ≤ lo → AtOnce p tables code input below r line q at lo x
+      → NodeFor p code input r line at lo (unless_bare (bare x) (expr_code p tables r line at lo x) ++ own line (I.Check (value_at p tables r lo x) ∷ [])) (ev_test p input below (Value x)) (Nothing p code input) q
   unfolding ev_expr
-  value_runs at lo x behind once stands v now b =
+  checked_runs at lo x behind once stands v now b =
       let inner : List Lined = unless_bare (bare x) (expr_code p tables r line at lo x) in
       let from : ℕ = value_at p tables r lo x in
       let last : List Lined = own line (I.Check from ∷ []) in
@@ -186,3 +188,6 @@ module _ (p : Program) (tables : Tables) (code : PlainCode) (input : List ℕ) (
       (node_runs p code input line 0 at (m + 1) now w (bind (ev_expr p input below x v) (λ t n. if_true (is_zero n) (λ _. Fail) (λ _. one t tt))) q (omega arith)
       (at_once p tables code input below r line q (m + 1) lo lo at v now (Nothing p code input) (λ t n. if_true (is_zero n) (λ _. Fail) (λ _. one t tt)) (omega arith) behind b x once (stands_front code at inner last stands) i.on_line (check_reads m from now i)
       (λ u n t left value. checked_ends (is_zero n) m lo from u t n refl i value (begins p code input lo r now u t left))))
+
+  pub value_runs : (at lo : ℕ) (x : Expr) → ChecksValue p tables r x → own_end p r ≤ lo → AtOnce p tables code input below r line q at lo x → TestRuns p tables code input below r line q at lo (Value x)
+  value_runs at lo x is behind once = subst (λ made. NodeFor p code input r line at lo made (ev_test p input below (Value x)) (Nothing p code input) q) (sym (is line at lo)) (checked_runs at lo x behind once)

@@ -34,6 +34,10 @@ cmp_code cmp.LessEq to other = I.LessEq to to other ∷ []
 cmp_code cmp.Greater to other = I.Less to other to ∷ []
 cmp_code cmp.GreaterEq to other = I.LessEq to other to ∷ []
 
+-- the end of a test of inequality, at an address: it fails where the numbers are equal, and else goes over the failure
+abbrev pub unequal_code : (to other at : ℕ) → List Instr
+unequal_code to other at = I.Equal to to other ∷ I.JumpZero to (at + 3) ∷ I.Fail ∷ []
+
 abbrev pub neg_code : Bool → (to : ℕ) → List Instr
 neg_code true to = I.Neg to to ∷ []
 neg_code false to = []

@@ -4,6 +4,7 @@ use Rattle.std.specs.Prelude.{ℕ, zero, suc, ◌+◌, true, false, pos, List, [
 use Rattle.alma_base.specs.declared.number.Range.{Range}
 use Rattle.alma_code.specs.declared.instr.Instr.{Instr}
 use Rattle.alma_code.specs.declared.instr.Instr.TheVariants as I
+use Rattle.alma_ir.specs.declared.phrase.Cmp.TheVariants as cmp
 use Rattle.alma_ir.specs.declared.phrase.Root.{Root}
 use Rattle.alma_ir.specs.declared.phrase.Root.TheVariants as root
 use Rattle.alma_ir.specs.Tree.{Stmts, Stmt, Arms, CaseArms, Else, Branches, Loop, ReturnExpr, Test, Tests, Expr, Links, Args, Arg, Desig, Sels, Sel, Program, routine_at, no_stmts, more_stmts, TestStmt, Assign, CopyCells, If, While, Repeat, ForTo, SomeOf, Case, Either, Forall, Commit, Return, Read, WriteExpr, WriteText, WriteLine, no_arms, more_arms, no_cases, more_cases, no_else, else_part, no_branches, more_branches, a_loop, no_result, some_result, Value, Bind, Unify, SameCells, Seq, And, Or, Not, CallTest, no_tests, more_tests, Const, Load, Chain, Compare, Truth, Known, Chr, CallExpr, no_links, more_links, no_args, more_args, ByValue, ByCells, ByPlace, MixValue, MixPlace, a_desig, no_sels, more_sels, Field, Index}
@@ -12,7 +13,7 @@ use Rattle.alma_ir.specs.Lines.{body_with_lines}
 use Rattle.alma_lower_templates.specs.Lined.{Lined, own, in_row, leaving}
 use Rattle.alma_lower_templates.specs.Tables.{Tables, range_number, text_number}
 use Rattle.alma_lower_templates.specs.Slots.{shift_of, bare_desig, bare, unless_bare, is_simple, handed_slots, call_links, root_slots, arg_slots, behind_stmts, behind_stmt, behind_test, behind_condition, behind_expr, behind_dead, behind_value, behind_desig, behind_target, behind_variable, own_kinds}
-use Rattle.alma_lower_templates.specs.Pieces.{op_code, cmp_code, neg_code, write_code, read_code, fit_code, link_code, condition, guarded, chosen, first_of_two, refused, truth_code, each_body, forall_code, begin_loop, turn_code, for_turns, some_turns, behind_labels, case_arm, passed_over, has_dead, first_argument}
+use Rattle.alma_lower_templates.specs.Pieces.{op_code, cmp_code, unequal_code, neg_code, write_code, read_code, fit_code, link_code, condition, guarded, chosen, first_of_two, refused, truth_code, each_body, forall_code, begin_loop, turn_code, for_turns, some_turns, behind_labels, case_arm, passed_over, has_dead, first_argument}
 
 -- the numbers of CHAR
 abbrev pub char_range : Range
@@ -254,6 +255,9 @@ module _ (p : Program) (tables : Tables) (r : ℕ) where
         unless_bare (bare e) (expr_code line at lo e) ++ own line (fit_result (routine_at p r).result (value_at lo e) ++ (I.ReturnValue (value_at lo e) ∷ []))
 
     pub test_code : (line at lo : ℕ) → Test → List Lined
+    test_code line at lo (Value (Compare cmp.Unequal x y)) =
+        in_row at (in_row at (expr_code line at lo x) (λ next. unless_bare (bare y) (expr_code line next (behind_expr p r lo x) y)))
+        (λ next. own line (unequal_code lo (value_at (behind_expr p r lo x) y) next))
     test_code line at lo (Value e) = unless_bare (bare e) (expr_code line at lo e) ++ own line (I.Check (value_at lo e) ∷ [])
     test_code line at lo (Bind d e range true) =
         in_row at (desig_code line at lo d) (λ next. unless_bare (bare e) (expr_code line next (behind_desig p r lo d) e))

@@ -1,3 +1,4 @@
+pub mod Comparing
 pub mod Joins
 pub mod Scenes
 pub mod DesigForms

@@ -1,11 +1,12 @@
 -- What each phrase adds where it is emitted: its code and slots by the templates, with the lines that it is given.
-use Rattle.std.specs.Prelude.{◌≡◌, ℕ, zero, suc, ◌+◌, List, [], ◌∷◌, ◌++◌, length, drop, Option, Some, None}
+use Rattle.std.specs.Prelude.{◌≡◌, ℕ, zero, suc, ◌+◌, Bool, true, false, List, [], ◌∷◌, ◌++◌, length, drop, Option, Some, None}
 use Rattle.alma_base.specs.declared.number.Range.{Range}
 use Rattle.alma_code.specs.declared.cell.SlotKind.{SlotKind}
 use Rattle.alma_code.specs.declared.cell.SlotKind.TheVariants as slot
 use Rattle.alma_code.specs.declared.instr.Instr.{Instr}
 use Rattle.alma_code.specs.declared.instr.Instr.TheVariants as I
-use Rattle.alma_ir.specs.Tree.{Stmts, Stmt, Arms, CaseArms, Else, Branches, Loop, ReturnExpr, Test, Tests, Expr, Links, Args, Arg, Desig, Sels, Sel, no_args, more_args}
+use Rattle.alma_ir.specs.declared.phrase.Cmp.TheVariants as cmp
+use Rattle.alma_ir.specs.Tree.{Stmts, Stmt, Arms, CaseArms, Else, Branches, Loop, ReturnExpr, Test, Tests, Expr, Links, Args, Arg, Desig, Sels, Sel, Compare, no_args, more_args}
 use Rattle.alma_ir.specs.Phrases.{Phrase, stmts_phrases, stmt_phrases, arms_phrases, cases_phrases, else_phrases, branches_phrases, loop_phrases, return_phrases, test_phrases, tests_phrases, expr_phrases, links_phrases, args_phrases, arg_phrases, desig_phrases, sels_phrases, sel_phrases}
 use Rattle.alma_ir.specs.Lines.{behind, stmts_with, stmt_with, arms_with, cases_with, else_with, branches_with, loop_with, return_with, test_with, tests_with, expr_with, links_with, args_with, arg_with, desig_with, sels_with, sel_with}
 use Rattle.alma_lower_work.specs.declared.stand.Stand.{Stand}
@@ -54,6 +55,11 @@ set_instr (stands.Placed place) value = I.Store place value
 abbrev pub load_instr : Stand → (to : ℕ) → Instr
 load_instr (stands.Own from) to = I.Move to from
 load_instr (stands.Placed place) to = I.Load to place
+
+-- whether an expression is a test of inequality
+abbrev pub is_unequal : Expr → Bool
+is_unequal (Compare cmp.Unequal x y) = true
+is_unequal _ = false
 
 -- the first of some instructions
 abbrev pub first_of : List Instr → Instr

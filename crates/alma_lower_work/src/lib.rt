@@ -1,6 +1,7 @@
 //! The work of the emitter: code in the making, the scene of a routine, and the single instructions of values and places.
 #![tactic(auto)]
 
+mod inequality;
 mod place;
 mod scene;
 mod simple;
@@ -8,6 +9,7 @@ mod stand;
 mod value;
 mod work;
 
+pub use inequality::{put_unequal, unequal};
 pub use place::{put_links, put_root};
 pub use scene::Scene;
 pub use simple::is_simple;

@@ -19,7 +19,7 @@ use Rattle.alma_lower_work.proofs.DesigForms.{no_sels_put, sels_put, index_put, 
 use Rattle.alma_lower_parts.proofs.CallForms.{no_args_put, args_put, value_arg_put, mix_value_put, cells_arg_put, place_arg_put, mix_place_put, handed_put, call_test_put, call_value_put}
 use Rattle.alma_lower_parts.proofs.GuardForms.{simple_guard, barrier_guard}
 use Rattle.alma_lower_parts.proofs.IfForms.{truth_put}
-use Rattle.alma_lower_parts.proofs.TestForms.{value_test_put, bind_left_put, bind_right_put, unify_put, same_put, seq_put, no_and_put, more_and_put, and_put, not_put, first_put, last_put}
+use Rattle.alma_lower_parts.proofs.TestForms.{value_test_put, unequal_put, bind_left_put, bind_right_put, unify_put, same_put, seq_put, no_and_put, more_and_put, and_put, not_put, first_put, last_put}
 use Rattle.alma_lower_parts.proofs.Said.{on_ok, if_ok, then_ok, from_both, from_said, said, through, guard_is, test_as, expr_as, arg_as, sel_as, expr_is, args_is, links_is, sels_is, desig_is, operands_is, tests_is, args_at, own_target, own_stands, made_target, made_stands, own_value, own_at, made_value, made_at, no_parts, part_step, codes_is, some_elements, no_elements, drop_one, drop_last}
 use Rattle.alma_lower_parts.proofs.Rows.{more_operands, or_none, or_one, or_of}
 use Rattle.alma_lower_parts.proofs.Sizes.{test_at, arg_at, sel_at, link_at}
@@ -191,7 +191,15 @@ expression::emit_expr-returns-in-Call g t c =
 pub test::emit_test-returns-in-Value : goal.test::emit_test-returns-in-Value
 test::emit_test-returns-in-Value g t c =
     let view : test_of c.args.test.now ≡ tree.Value (expr_of c.in-Value.value) = ap test_of c.in-Value.is ∙ Views.value_view _ in
-    record { puts = test_as c.check_of.result (around c.args.scene.now) c.args.line _ _ _ _ view (put_behind c.emit_value-number.result c.check_of.result c.emit_value-number.ensures.puts c.emit_value-number.ensures.value c.check_of.ensures.done c.check_of.ensures.codes (λ at puts is h. value_test_put (around c.args.scene.now) c.args.line _ _ _ _ _ puts is h)) }
+    record { puts = test_as c.emit_checked.result (around c.args.scene.now) c.args.line _ _ _ _ view c.emit_checked.ensures.puts }
+
+pub test::emit_checked-returns-in_ok-to-in-Some : goal.test::emit_checked-returns-in_ok-to-in-Some
+test::emit_checked-returns-in_ok-to-in-Some g t c =
+    record { puts = test_as c.unequal_of.result (around c.args.scene.now) c.args.line _ _ _ _ (ap tree.Value c.in-Some.ensures) (put_behind c.emit_value-other.result c.unequal_of.result c.emit_value-other.ensures.puts c.emit_value-other.ensures.value c.unequal_of.ensures.done c.unequal_of.ensures.codes (λ at puts is h. unequal_put (around c.args.scene.now) c.args.line _ _ _ _ _ _ _ _ c.in_ok-to-in-Some.ensures.puts c.in_ok-to-in-Some.ensures.slot puts is h)) }
+
+pub test::emit_checked-returns-in-None : goal.test::emit_checked-returns-in-None
+test::emit_checked-returns-in-None g t c =
+    record { puts = put_behind c.emit_value-number.result c.check_of.result c.emit_value-number.ensures.puts c.emit_value-number.ensures.value c.check_of.ensures.done c.check_of.ensures.codes (λ at puts is h. value_test_put (around c.args.scene.now) c.args.line _ _ _ _ _ c.in-None.ensures puts is h) }
 
 pub test::emit_test-returns-in-Bind : goal.test::emit_test-returns-in-Bind
 test::emit_test-returns-in-Bind g t c =
@@ -467,10 +475,19 @@ call::emit_arg-emit_desig-from-requires-in-MixPlace g t c κs within =
     let view : arg_of c.args.arg.now ≡ tree.MixPlace (desig_of c.in-MixPlace.desig) = ap arg_of c.in-MixPlace.is ∙ Views.mixplace_view _ in
     (omega (arith, ap arg_nodes view), (search rules, c.requires.emits))
 
-pub test::emit_test-emit_value-number-requires : goal.test::emit_test-emit_value-number-requires
-test::emit_test-emit_value-number-requires g t c κs within =
+pub test::emit_test-emit_checked-requires : goal.test::emit_test-emit_checked-requires
+test::emit_test-emit_checked-requires g t c κs within =
     let view : test_of c.args.test.now ≡ tree.Value (expr_of c.in-Value.value) = ap test_of c.in-Value.is ∙ Views.value_view _ in
     (omega (arith, ap test_nodes view), (search rules, c.requires.emits))
+
+pub test::emit_checked-emit_expr-requires : goal.test::emit_checked-emit_expr-requires
+test::emit_checked-emit_expr-requires g t c κs within = (omega (arith, ap expr_nodes c.in-Some.ensures), (search rules, c.requires.emits))
+
+pub test::emit_checked-emit_value-other-requires : goal.test::emit_checked-emit_value-other-requires
+test::emit_checked-emit_value-other-requires g t c κs within = (omega (arith, ap expr_nodes c.in-Some.ensures), (search rules, c.requires.emits))
+
+pub test::emit_checked-emit_value-number-requires : goal.test::emit_checked-emit_value-number-requires
+test::emit_checked-emit_value-number-requires g t c κs within = (omega arith, (search rules, c.requires.emits))
 
 pub test::emit_test-emit_call-first-requires : goal.test::emit_test-emit_call-first-requires
 test::emit_test-emit_call-first-requires g t c κs within =

@@ -65,6 +65,9 @@ decreases-expression::emit_value g l = 16 * (expr_nodes (expr_of l.expr.now)) + 
 abbrev pub decreases-test::emit_test : goal.decreases-test::emit_test
 decreases-test::emit_test g l = 16 * (test_nodes (test_of l.test.now)) + 0
 
+abbrev pub decreases-test::emit_checked : goal.decreases-test::emit_checked
+decreases-test::emit_checked g l = 16 * (expr_nodes (expr_of l.value.now)) + 2
+
 abbrev pub decreases-test::emit_bind : goal.decreases-test::emit_bind
 decreases-test::emit_bind g l = 16 * (desig_nodes (desig_of l.desig.now) + expr_nodes (expr_of l.value.now)) + 3
 
