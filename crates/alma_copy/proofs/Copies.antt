@@ -30,20 +30,23 @@ pub held : {X F : Type 0} (P : X → Type 0) (r : Result X F) (x : X) → IfOk r
 held P r x h is = subst (λ y. IfOk y P) is h
 
 -- a turn puts the copy of its item behind
-pub next : {X Y Z : Type 0} (f : Y → Z) (g : X → Z) (xs : List X) (i : ℕ) (x : X) (ys new : List Y) (y : Y) → i < length xs → x ≡ get_or xs i x →
+pub next : {X Y Z : Type 0} (f : Y → Z) (g : X → Z) (xs : List X) (i : ℕ) (x : X) (ys new : List Y) (y : Y) → i < length xs →
+    x ≡ get_or xs i x →
     map f ys ≡ map g (take i xs) → f y ≡ g x → new ≡ ys ++ (y ∷ []) → map f new ≡ map g (take (i + 1) xs)
 next f g xs i x ys new y within is before one pushed =
     ap (map f) pushed ∙ map-append f ys (y ∷ []) ∙ (λ k. before k ++ (one k ∷ []))
     ∙ sym (ap (map g) (take_more xs i x within ∙ ap (λ z. take i xs ++ (z ∷ [])) (sym is)) ∙ map-append g (take i xs) (x ∷ []))
 
 -- the same where the copy was handed on as it was answered
-pub next_part : {X Y Z F : Type 0} (f : Y → Z) (g : X → Z) (xs : List X) (i : ℕ) (x : X) (ys new : List Y) (r : Result Y F) → i < length xs → x ≡ get_or xs i x →
+pub next_part : {X Y Z F : Type 0} (f : Y → Z) (g : X → Z) (xs : List X) (i : ℕ) (x : X) (ys new : List Y) (r : Result Y F) →
+    i < length xs → x ≡ get_or xs i x →
     map f ys ≡ map g (take i xs) → IfOk r (λ y. f y ≡ g x) → IsOkAnd r (λ y. new ≡ ys ++ (y ∷ [])) → map f new ≡ map g (take (i + 1) xs)
 next_part f g xs i x ys new (Ok y) within is before one pushed = next f g xs i x ys new y within is before one pushed
 next_part f g xs i x ys new (Err e) within is before one pushed = absurd pushed
 
 -- behind the last turn all are there
-pub ended : {X Y Z : Type 0} (f : Y → Z) (g : X → Z) (xs : List X) (i : ℕ) (ys : List Y) → length xs ≤ i → map f ys ≡ map g (take i xs) → map f ys ≡ map g xs
+pub ended : {X Y Z : Type 0} (f : Y → Z) (g : X → Z) (xs : List X) (i : ℕ) (ys : List Y) → length xs ≤ i → map f ys ≡ map g (take i xs) →
+    map f ys ≡ map g xs
 ended f g xs i ys end h = h ∙ ap (map g) (take_all i xs end)
 
 -- ---- an item and its copy, and lists of them
@@ -221,7 +224,8 @@ unfolding moved_stmts
 branches_moved m [] = refl
 branches_moved m (x ∷ xs) = ap (λ rest. tree.more_branches (branch_copy m x) rest) (branches_moved m xs)
 
-pub branches_copy : (m : Moves) (xs ys : List Branch) → map of_branch ys ≡ map (branch_copy m) xs → branches_list ys ≡ moved_branches m (branches_list xs)
+pub branches_copy : (m : Moves) (xs ys : List Branch) → map of_branch ys ≡ map (branch_copy m) xs → branches_list ys ≡ moved_branches m
+    (branches_list xs)
 branches_copy m xs ys h = branches_are ys ∙ ap branches_from h ∙ sym (branches_moved m xs)
 
 -- ---- what a part becomes
@@ -259,191 +263,239 @@ by_test m x = moved_test m (test_of x)
 -- ---- a phrase of each form: where its parts are copies, what is made of them is its copy
 
 module _ (m : Moves) where
-  pub teststmt_copy : (x : S.Stmt) (a a2 : T.Test) → x ≡ S.Test a → test_of a2 ≡ moved_test m (test_of a) → stmt_of (S.Test a2) ≡ moved_stmt m (stmt_of x)
+  pub teststmt_copy : (x : S.Stmt) (a a2 : T.Test) → x ≡ S.Test a → test_of a2 ≡ moved_test m (test_of a) →
+      stmt_of (S.Test a2) ≡ moved_stmt m (stmt_of x)
   unfolding moved_stmts
   teststmt_copy x a a2 is of_a =
       Views.teststmt_view a2 ∙ (λ i. tree.TestStmt (of_a i)) ∙ sym (ap (moved_stmt m) (ap stmt_of is ∙ Views.teststmt_view a))
 
-  pub assign_copy : (x : S.Stmt) (a a2 : D.Desig) (b b2 : E.Expr) (c : _) → x ≡ S.Assign a b c → desig_of a2 ≡ moved_desig m (desig_of a) → expr_of b2 ≡ moved_expr m (expr_of b) → stmt_of (S.Assign a2 b2 c) ≡ moved_stmt m (stmt_of x)
+  pub assign_copy : (x : S.Stmt) (a a2 : D.Desig) (b b2 : E.Expr) (c : _) → x ≡ S.Assign a b c → desig_of a2 ≡ moved_desig m
+      (desig_of a) → expr_of b2 ≡ moved_expr m (expr_of b) → stmt_of (S.Assign a2 b2 c) ≡ moved_stmt m (stmt_of x)
   unfolding moved_stmts
   assign_copy x a a2 b b2 c is of_a of_b =
       Views.assign_view a2 b2 c ∙ (λ i. tree.Assign (of_a i) (of_b i) c) ∙ sym (ap (moved_stmt m) (ap stmt_of is ∙ Views.assign_view a b c))
 
-  pub copycells_copy : (x : S.Stmt) (a a2 : D.Desig) (b b2 : D.Desig) → x ≡ S.CopyCells a b → desig_of a2 ≡ moved_desig m (desig_of a) → desig_of b2 ≡ moved_desig m (desig_of b) → stmt_of (S.CopyCells a2 b2) ≡ moved_stmt m (stmt_of x)
+  pub copycells_copy : (x : S.Stmt) (a a2 : D.Desig) (b b2 : D.Desig) → x ≡ S.CopyCells a b → desig_of a2 ≡ moved_desig m (desig_of a) →
+      desig_of b2 ≡ moved_desig m (desig_of b) → stmt_of (S.CopyCells a2 b2) ≡ moved_stmt m (stmt_of x)
   unfolding moved_stmts
   copycells_copy x a a2 b b2 is of_a of_b =
-      Views.copycells_view a2 b2 ∙ (λ i. tree.CopyCells (of_a i) (of_b i)) ∙ sym (ap (moved_stmt m) (ap stmt_of is ∙ Views.copycells_view a b))
+      Views.copycells_view a2 b2 ∙ (λ i. tree.CopyCells (of_a i) (of_b i))
+      ∙ sym (ap (moved_stmt m) (ap stmt_of is ∙ Views.copycells_view a b))
 
-  pub if_copy : (x : S.Stmt) (a a2 : Vec Arm Global) (b b2 : Vec S.Stmt Global) → x ≡ S.If a b → arms_list a2.items ≡ moved_arms m (arms_list a.items) → stmts_list b2.items ≡ moved_stmts m (stmts_list b.items) → stmt_of (S.If a2 b2) ≡ moved_stmt m (stmt_of x)
+  pub if_copy : (x : S.Stmt) (a a2 : Vec Arm Global) (b b2 : Vec S.Stmt Global) → x ≡ S.If a b → arms_list a2.items ≡ moved_arms m
+      (arms_list a.items) → stmts_list b2.items ≡ moved_stmts m (stmts_list b.items) → stmt_of (S.If a2 b2) ≡ moved_stmt m (stmt_of x)
   unfolding moved_stmts
   if_copy x a a2 b b2 is of_a of_b =
       Views.if_view a2 b2 ∙ (λ i. tree.If (of_a i) (of_b i)) ∙ sym (ap (moved_stmt m) (ap stmt_of is ∙ Views.if_view a b))
 
-  pub while_copy : (x : S.Stmt) (a a2 : T.Test) (b b2 : Vec S.Stmt Global) → x ≡ S.While a b → test_of a2 ≡ moved_test m (test_of a) → stmts_list b2.items ≡ moved_stmts m (stmts_list b.items) → stmt_of (S.While a2 b2) ≡ moved_stmt m (stmt_of x)
+  pub while_copy : (x : S.Stmt) (a a2 : T.Test) (b b2 : Vec S.Stmt Global) → x ≡ S.While a b → test_of a2 ≡ moved_test m (test_of a) →
+      stmts_list b2.items ≡ moved_stmts m (stmts_list b.items) → stmt_of (S.While a2 b2) ≡ moved_stmt m (stmt_of x)
   unfolding moved_stmts
   while_copy x a a2 b b2 is of_a of_b =
       Views.while_view a2 b2 ∙ (λ i. tree.While (of_a i) (of_b i)) ∙ sym (ap (moved_stmt m) (ap stmt_of is ∙ Views.while_view a b))
 
-  pub repeat_copy : (x : S.Stmt) (a a2 : Vec S.Stmt Global) (b b2 : T.Test) → x ≡ S.Repeat a b → stmts_list a2.items ≡ moved_stmts m (stmts_list a.items) → test_of b2 ≡ moved_test m (test_of b) → stmt_of (S.Repeat a2 b2) ≡ moved_stmt m (stmt_of x)
+  pub repeat_copy : (x : S.Stmt) (a a2 : Vec S.Stmt Global) (b b2 : T.Test) → x ≡ S.Repeat a b → stmts_list a2.items ≡ moved_stmts m
+      (stmts_list a.items) → test_of b2 ≡ moved_test m (test_of b) → stmt_of (S.Repeat a2 b2) ≡ moved_stmt m (stmt_of x)
   unfolding moved_stmts
   repeat_copy x a a2 b b2 is of_a of_b =
       Views.repeat_view a2 b2 ∙ (λ i. tree.Repeat (of_a i) (of_b i)) ∙ sym (ap (moved_stmt m) (ap stmt_of is ∙ Views.repeat_view a b))
 
-  pub forto_copy : (x : S.Stmt) (a a2 : Loop) → x ≡ S.ForTo a → loop_of a2 ≡ moved_loop m (loop_of a) → stmt_of (S.ForTo a2) ≡ moved_stmt m (stmt_of x)
+  pub forto_copy : (x : S.Stmt) (a a2 : Loop) → x ≡ S.ForTo a → loop_of a2 ≡ moved_loop m (loop_of a) → stmt_of (S.ForTo a2) ≡ moved_stmt
+      m (stmt_of x)
   unfolding moved_stmts
   forto_copy x a a2 is of_a =
       Views.forto_view a2 ∙ (λ i. tree.ForTo (of_a i)) ∙ sym (ap (moved_stmt m) (ap stmt_of is ∙ Views.forto_view a))
 
-  pub someof_copy : (x : S.Stmt) (a a2 : Loop) → x ≡ S.SomeOf a → loop_of a2 ≡ moved_loop m (loop_of a) → stmt_of (S.SomeOf a2) ≡ moved_stmt m (stmt_of x)
+  pub someof_copy : (x : S.Stmt) (a a2 : Loop) → x ≡ S.SomeOf a → loop_of a2 ≡ moved_loop m (loop_of a) →
+      stmt_of (S.SomeOf a2) ≡ moved_stmt m (stmt_of x)
   unfolding moved_stmts
   someof_copy x a a2 is of_a =
       Views.someof_view a2 ∙ (λ i. tree.SomeOf (of_a i)) ∙ sym (ap (moved_stmt m) (ap stmt_of is ∙ Views.someof_view a))
 
-  pub either_copy : (x : S.Stmt) (a a2 : Vec Branch Global) → x ≡ S.Either a → branches_list a2.items ≡ moved_branches m (branches_list a.items) → stmt_of (S.Either a2) ≡ moved_stmt m (stmt_of x)
+  pub either_copy : (x : S.Stmt) (a a2 : Vec Branch Global) → x ≡ S.Either a → branches_list a2.items ≡ moved_branches m
+      (branches_list a.items) → stmt_of (S.Either a2) ≡ moved_stmt m (stmt_of x)
   unfolding moved_stmts
   either_copy x a a2 is of_a =
       Views.either_view a2 ∙ (λ i. tree.Either (of_a i)) ∙ sym (ap (moved_stmt m) (ap stmt_of is ∙ Views.either_view a))
 
-  pub forall_copy : (x : S.Stmt) (a a2 : Vec S.Stmt Global) (b b2 : Vec S.Stmt Global) → x ≡ S.Forall a b → stmts_list a2.items ≡ moved_stmts m (stmts_list a.items) → stmts_list b2.items ≡ moved_stmts m (stmts_list b.items) → stmt_of (S.Forall a2 b2) ≡ moved_stmt m (stmt_of x)
+  pub forall_copy : (x : S.Stmt) (a a2 : Vec S.Stmt Global) (b b2 : Vec S.Stmt Global) → x ≡ S.Forall a b →
+      stmts_list a2.items ≡ moved_stmts m (stmts_list a.items) → stmts_list b2.items ≡ moved_stmts m (stmts_list b.items) →
+      stmt_of (S.Forall a2 b2) ≡ moved_stmt m (stmt_of x)
   unfolding moved_stmts
   forall_copy x a a2 b b2 is of_a of_b =
       Views.forall_view a2 b2 ∙ (λ i. tree.Forall (of_a i) (of_b i)) ∙ sym (ap (moved_stmt m) (ap stmt_of is ∙ Views.forall_view a b))
 
-  pub commit_copy : (x : S.Stmt) (a a2 : Vec S.Stmt Global) → x ≡ S.Commit a → stmts_list a2.items ≡ moved_stmts m (stmts_list a.items) → stmt_of (S.Commit a2) ≡ moved_stmt m (stmt_of x)
+  pub commit_copy : (x : S.Stmt) (a a2 : Vec S.Stmt Global) → x ≡ S.Commit a → stmts_list a2.items ≡ moved_stmts m (stmts_list a.items) →
+      stmt_of (S.Commit a2) ≡ moved_stmt m (stmt_of x)
   unfolding moved_stmts
   commit_copy x a a2 is of_a =
       Views.commit_view a2 ∙ (λ i. tree.Commit (of_a i)) ∙ sym (ap (moved_stmt m) (ap stmt_of is ∙ Views.commit_view a))
 
-  pub read_copy : (x : S.Stmt) (a a2 : D.Desig) (b : _) (c : _) → x ≡ S.Read a b c → desig_of a2 ≡ moved_desig m (desig_of a) → stmt_of (S.Read a2 b c) ≡ moved_stmt m (stmt_of x)
+  pub read_copy : (x : S.Stmt) (a a2 : D.Desig) (b : _) (c : _) → x ≡ S.Read a b c → desig_of a2 ≡ moved_desig m (desig_of a) →
+      stmt_of (S.Read a2 b c) ≡ moved_stmt m (stmt_of x)
   unfolding moved_stmts
   read_copy x a a2 b c is of_a =
       Views.read_view a2 b c ∙ (λ i. tree.Read (of_a i) b c) ∙ sym (ap (moved_stmt m) (ap stmt_of is ∙ Views.read_view a b c))
 
-  pub writeexpr_copy : (x : S.Stmt) (a a2 : E.Expr) (b : _) → x ≡ S.WriteExpr a b → expr_of a2 ≡ moved_expr m (expr_of a) → stmt_of (S.WriteExpr a2 b) ≡ moved_stmt m (stmt_of x)
+  pub writeexpr_copy : (x : S.Stmt) (a a2 : E.Expr) (b : _) → x ≡ S.WriteExpr a b → expr_of a2 ≡ moved_expr m (expr_of a) →
+      stmt_of (S.WriteExpr a2 b) ≡ moved_stmt m (stmt_of x)
   unfolding moved_stmts
   writeexpr_copy x a a2 b is of_a =
       Views.writeexpr_view a2 b ∙ (λ i. tree.WriteExpr (of_a i) b) ∙ sym (ap (moved_stmt m) (ap stmt_of is ∙ Views.writeexpr_view a b))
 
-  pub value_copy : (x : T.Test) (a a2 : E.Expr) → x ≡ T.Value a → expr_of a2 ≡ moved_expr m (expr_of a) → test_of (T.Value a2) ≡ moved_test m (test_of x)
+  pub value_copy : (x : T.Test) (a a2 : E.Expr) → x ≡ T.Value a → expr_of a2 ≡ moved_expr m (expr_of a) →
+      test_of (T.Value a2) ≡ moved_test m (test_of x)
   unfolding moved_stmts
   value_copy x a a2 is of_a =
       Views.value_view a2 ∙ (λ i. tree.Value (of_a i)) ∙ sym (ap (moved_test m) (ap test_of is ∙ Views.value_view a))
 
-  pub bind_copy : (x : T.Test) (a a2 : D.Desig) (b b2 : E.Expr) (c : _) (d : _) → x ≡ T.Bind a b c d → desig_of a2 ≡ moved_desig m (desig_of a) → expr_of b2 ≡ moved_expr m (expr_of b) → test_of (T.Bind a2 b2 c d) ≡ moved_test m (test_of x)
+  pub bind_copy : (x : T.Test) (a a2 : D.Desig) (b b2 : E.Expr) (c : _) (d : _) → x ≡ T.Bind a b c d → desig_of a2 ≡ moved_desig m
+      (desig_of a) → expr_of b2 ≡ moved_expr m (expr_of b) → test_of (T.Bind a2 b2 c d) ≡ moved_test m (test_of x)
   unfolding moved_stmts
   bind_copy x a a2 b b2 c d is of_a of_b =
       Views.bind_view a2 b2 c d ∙ (λ i. tree.Bind (of_a i) (of_b i) c d) ∙ sym (ap (moved_test m) (ap test_of is ∙ Views.bind_view a b c d))
 
-  pub unify_copy : (x : T.Test) (a a2 : D.Desig) (b : _) (c c2 : D.Desig) (d : _) → x ≡ T.Unify a b c d → desig_of a2 ≡ moved_desig m (desig_of a) → desig_of c2 ≡ moved_desig m (desig_of c) → test_of (T.Unify a2 b c2 d) ≡ moved_test m (test_of x)
+  pub unify_copy : (x : T.Test) (a a2 : D.Desig) (b : _) (c c2 : D.Desig) (d : _) → x ≡ T.Unify a b c d → desig_of a2 ≡ moved_desig m
+      (desig_of a) → desig_of c2 ≡ moved_desig m (desig_of c) → test_of (T.Unify a2 b c2 d) ≡ moved_test m (test_of x)
   unfolding moved_stmts
   unify_copy x a a2 b c c2 d is of_a of_c =
-      Views.unify_view a2 b c2 d ∙ (λ i. tree.Unify (of_a i) b (of_c i) d) ∙ sym (ap (moved_test m) (ap test_of is ∙ Views.unify_view a b c d))
+      Views.unify_view a2 b c2 d ∙ (λ i. tree.Unify (of_a i) b (of_c i) d)
+      ∙ sym (ap (moved_test m) (ap test_of is ∙ Views.unify_view a b c d))
 
-  pub samecells_copy : (x : T.Test) (a a2 : D.Desig) (b b2 : D.Desig) → x ≡ T.SameCells a b → desig_of a2 ≡ moved_desig m (desig_of a) → desig_of b2 ≡ moved_desig m (desig_of b) → test_of (T.SameCells a2 b2) ≡ moved_test m (test_of x)
+  pub samecells_copy : (x : T.Test) (a a2 : D.Desig) (b b2 : D.Desig) → x ≡ T.SameCells a b → desig_of a2 ≡ moved_desig m (desig_of a) →
+      desig_of b2 ≡ moved_desig m (desig_of b) → test_of (T.SameCells a2 b2) ≡ moved_test m (test_of x)
   unfolding moved_stmts
   samecells_copy x a a2 b b2 is of_a of_b =
-      Views.samecells_view a2 b2 ∙ (λ i. tree.SameCells (of_a i) (of_b i)) ∙ sym (ap (moved_test m) (ap test_of is ∙ Views.samecells_view a b))
+      Views.samecells_view a2 b2 ∙ (λ i. tree.SameCells (of_a i) (of_b i))
+      ∙ sym (ap (moved_test m) (ap test_of is ∙ Views.samecells_view a b))
 
-  pub seq_copy : (x : T.Test) (a a2 : Vec S.Stmt Global) → x ≡ T.Seq a → stmts_list a2.items ≡ moved_stmts m (stmts_list a.items) → test_of (T.Seq a2) ≡ moved_test m (test_of x)
+  pub seq_copy : (x : T.Test) (a a2 : Vec S.Stmt Global) → x ≡ T.Seq a → stmts_list a2.items ≡ moved_stmts m (stmts_list a.items) →
+      test_of (T.Seq a2) ≡ moved_test m (test_of x)
   unfolding moved_stmts
   seq_copy x a a2 is of_a =
       Views.seq_view a2 ∙ (λ i. tree.Seq (of_a i)) ∙ sym (ap (moved_test m) (ap test_of is ∙ Views.seq_view a))
 
-  pub and_copy : (x : T.Test) (a a2 : Vec T.Test Global) → x ≡ T.And a → tests_list a2.items ≡ moved_tests m (tests_list a.items) → test_of (T.And a2) ≡ moved_test m (test_of x)
+  pub and_copy : (x : T.Test) (a a2 : Vec T.Test Global) → x ≡ T.And a → tests_list a2.items ≡ moved_tests m (tests_list a.items) →
+      test_of (T.And a2) ≡ moved_test m (test_of x)
   unfolding moved_stmts
   and_copy x a a2 is of_a =
       Views.and_view a2 ∙ (λ i. tree.And (of_a i)) ∙ sym (ap (moved_test m) (ap test_of is ∙ Views.and_view a))
 
-  pub or_copy : (x : T.Test) (a a2 : Vec T.Test Global) → x ≡ T.Or a → tests_list a2.items ≡ moved_tests m (tests_list a.items) → test_of (T.Or a2) ≡ moved_test m (test_of x)
+  pub or_copy : (x : T.Test) (a a2 : Vec T.Test Global) → x ≡ T.Or a → tests_list a2.items ≡ moved_tests m (tests_list a.items) →
+      test_of (T.Or a2) ≡ moved_test m (test_of x)
   unfolding moved_stmts
   or_copy x a a2 is of_a =
       Views.or_view a2 ∙ (λ i. tree.Or (of_a i)) ∙ sym (ap (moved_test m) (ap test_of is ∙ Views.or_view a))
 
-  pub not_copy : (x : T.Test) (a a2 : Box T.Test Global) → x ≡ T.Not a → test_of a2.value ≡ moved_test m (test_of a.value) → test_of (T.Not a2) ≡ moved_test m (test_of x)
+  pub not_copy : (x : T.Test) (a a2 : Box T.Test Global) → x ≡ T.Not a → test_of a2.value ≡ moved_test m (test_of a.value) →
+      test_of (T.Not a2) ≡ moved_test m (test_of x)
   unfolding moved_stmts
   not_copy x a a2 is of_a =
       Views.not_view a2 ∙ (λ i. tree.Not (of_a i)) ∙ sym (ap (moved_test m) (ap test_of is ∙ Views.not_view a))
 
-  pub load_copy : (x : E.Expr) (a a2 : D.Desig) → x ≡ E.Load a → desig_of a2 ≡ moved_desig m (desig_of a) → expr_of (E.Load a2) ≡ moved_expr m (expr_of x)
+  pub load_copy : (x : E.Expr) (a a2 : D.Desig) → x ≡ E.Load a → desig_of a2 ≡ moved_desig m (desig_of a) →
+      expr_of (E.Load a2) ≡ moved_expr m (expr_of x)
   unfolding moved_stmts
   load_copy x a a2 is of_a =
       Views.load_view a2 ∙ (λ i. tree.Load (of_a i)) ∙ sym (ap (moved_expr m) (ap expr_of is ∙ Views.load_view a))
 
-  pub chain_copy : (x : E.Expr) (a : _) (b b2 : Box E.Expr Global) (c c2 : Vec Link Global) → x ≡ E.Chain a b c → expr_of b2.value ≡ moved_expr m (expr_of b.value) → links_list c2.items ≡ moved_links m (links_list c.items) → expr_of (E.Chain a b2 c2) ≡ moved_expr m (expr_of x)
+  pub chain_copy : (x : E.Expr) (a : _) (b b2 : Box E.Expr Global) (c c2 : Vec Link Global) → x ≡ E.Chain a b c →
+      expr_of b2.value ≡ moved_expr m (expr_of b.value) → links_list c2.items ≡ moved_links m (links_list c.items) →
+      expr_of (E.Chain a b2 c2) ≡ moved_expr m (expr_of x)
   unfolding moved_stmts
   chain_copy x a b b2 c c2 is of_b of_c =
       Views.chain_view a b2 c2 ∙ (λ i. tree.Chain a (of_b i) (of_c i)) ∙ sym (ap (moved_expr m) (ap expr_of is ∙ Views.chain_view a b c))
 
-  pub compare_copy : (x : E.Expr) (a : _) (b b2 : Box E.Expr Global) (c c2 : Box E.Expr Global) → x ≡ E.Compare a b c → expr_of b2.value ≡ moved_expr m (expr_of b.value) → expr_of c2.value ≡ moved_expr m (expr_of c.value) → expr_of (E.Compare a b2 c2) ≡ moved_expr m (expr_of x)
+  pub compare_copy : (x : E.Expr) (a : _) (b b2 : Box E.Expr Global) (c c2 : Box E.Expr Global) → x ≡ E.Compare a b c →
+      expr_of b2.value ≡ moved_expr m (expr_of b.value) → expr_of c2.value ≡ moved_expr m (expr_of c.value) → expr_of (E.Compare a b2 c2)
+      ≡ moved_expr m (expr_of x)
   unfolding moved_stmts
   compare_copy x a b b2 c c2 is of_b of_c =
-      Views.compare_view a b2 c2 ∙ (λ i. tree.Compare a (of_b i) (of_c i)) ∙ sym (ap (moved_expr m) (ap expr_of is ∙ Views.compare_view a b c))
+      Views.compare_view a b2 c2 ∙ (λ i. tree.Compare a (of_b i) (of_c i))
+      ∙ sym (ap (moved_expr m) (ap expr_of is ∙ Views.compare_view a b c))
 
-  pub truth_copy : (x : E.Expr) (a a2 : Box T.Test Global) → x ≡ E.Truth a → test_of a2.value ≡ moved_test m (test_of a.value) → expr_of (E.Truth a2) ≡ moved_expr m (expr_of x)
+  pub truth_copy : (x : E.Expr) (a a2 : Box T.Test Global) → x ≡ E.Truth a → test_of a2.value ≡ moved_test m (test_of a.value) →
+      expr_of (E.Truth a2) ≡ moved_expr m (expr_of x)
   unfolding moved_stmts
   truth_copy x a a2 is of_a =
       Views.truth_view a2 ∙ (λ i. tree.Truth (of_a i)) ∙ sym (ap (moved_expr m) (ap expr_of is ∙ Views.truth_view a))
 
-  pub known_copy : (x : E.Expr) (a a2 : D.Desig) → x ≡ E.Known a → desig_of a2 ≡ moved_desig m (desig_of a) → expr_of (E.Known a2) ≡ moved_expr m (expr_of x)
+  pub known_copy : (x : E.Expr) (a a2 : D.Desig) → x ≡ E.Known a → desig_of a2 ≡ moved_desig m (desig_of a) →
+      expr_of (E.Known a2) ≡ moved_expr m (expr_of x)
   unfolding moved_stmts
   known_copy x a a2 is of_a =
       Views.known_view a2 ∙ (λ i. tree.Known (of_a i)) ∙ sym (ap (moved_expr m) (ap expr_of is ∙ Views.known_view a))
 
-  pub chr_copy : (x : E.Expr) (a a2 : Box E.Expr Global) → x ≡ E.Chr a → expr_of a2.value ≡ moved_expr m (expr_of a.value) → expr_of (E.Chr a2) ≡ moved_expr m (expr_of x)
+  pub chr_copy : (x : E.Expr) (a a2 : Box E.Expr Global) → x ≡ E.Chr a → expr_of a2.value ≡ moved_expr m (expr_of a.value) →
+      expr_of (E.Chr a2) ≡ moved_expr m (expr_of x)
   unfolding moved_stmts
   chr_copy x a a2 is of_a =
       Views.chr_view a2 ∙ (λ i. tree.Chr (of_a i)) ∙ sym (ap (moved_expr m) (ap expr_of is ∙ Views.chr_view a))
 
-  pub byvalue_copy : (x : A.Arg) (a a2 : E.Expr) (b : _) → x ≡ A.Value a b → expr_of a2 ≡ moved_expr m (expr_of a) → arg_of (A.Value a2 b) ≡ moved_arg m (arg_of x)
+  pub byvalue_copy : (x : A.Arg) (a a2 : E.Expr) (b : _) → x ≡ A.Value a b → expr_of a2 ≡ moved_expr m (expr_of a) →
+      arg_of (A.Value a2 b) ≡ moved_arg m (arg_of x)
   unfolding moved_stmts
   byvalue_copy x a a2 b is of_a =
       Views.byvalue_view a2 b ∙ (λ i. tree.ByValue (of_a i) b) ∙ sym (ap (moved_arg m) (ap arg_of is ∙ Views.byvalue_view a b))
 
-  pub bycells_copy : (x : A.Arg) (a a2 : D.Desig) → x ≡ A.Cells a → desig_of a2 ≡ moved_desig m (desig_of a) → arg_of (A.Cells a2) ≡ moved_arg m (arg_of x)
+  pub bycells_copy : (x : A.Arg) (a a2 : D.Desig) → x ≡ A.Cells a → desig_of a2 ≡ moved_desig m (desig_of a) →
+      arg_of (A.Cells a2) ≡ moved_arg m (arg_of x)
   unfolding moved_stmts
   bycells_copy x a a2 is of_a =
       Views.bycells_view a2 ∙ (λ i. tree.ByCells (of_a i)) ∙ sym (ap (moved_arg m) (ap arg_of is ∙ Views.bycells_view a))
 
-  pub byplace_copy : (x : A.Arg) (a a2 : D.Desig) → x ≡ A.Place a → desig_of a2 ≡ moved_desig m (desig_of a) → arg_of (A.Place a2) ≡ moved_arg m (arg_of x)
+  pub byplace_copy : (x : A.Arg) (a a2 : D.Desig) → x ≡ A.Place a → desig_of a2 ≡ moved_desig m (desig_of a) →
+      arg_of (A.Place a2) ≡ moved_arg m (arg_of x)
   unfolding moved_stmts
   byplace_copy x a a2 is of_a =
       Views.byplace_view a2 ∙ (λ i. tree.ByPlace (of_a i)) ∙ sym (ap (moved_arg m) (ap arg_of is ∙ Views.byplace_view a))
 
-  pub mixvalue_copy : (x : A.Arg) (a a2 : E.Expr) (b : _) → x ≡ A.MixValue a b → expr_of a2 ≡ moved_expr m (expr_of a) → arg_of (A.MixValue a2 b) ≡ moved_arg m (arg_of x)
+  pub mixvalue_copy : (x : A.Arg) (a a2 : E.Expr) (b : _) → x ≡ A.MixValue a b → expr_of a2 ≡ moved_expr m (expr_of a) →
+      arg_of (A.MixValue a2 b) ≡ moved_arg m (arg_of x)
   unfolding moved_stmts
   mixvalue_copy x a a2 b is of_a =
       Views.mixvalue_view a2 b ∙ (λ i. tree.MixValue (of_a i) b) ∙ sym (ap (moved_arg m) (ap arg_of is ∙ Views.mixvalue_view a b))
 
-  pub mixplace_copy : (x : A.Arg) (a a2 : D.Desig) → x ≡ A.MixPlace a → desig_of a2 ≡ moved_desig m (desig_of a) → arg_of (A.MixPlace a2) ≡ moved_arg m (arg_of x)
+  pub mixplace_copy : (x : A.Arg) (a a2 : D.Desig) → x ≡ A.MixPlace a → desig_of a2 ≡ moved_desig m (desig_of a) →
+      arg_of (A.MixPlace a2) ≡ moved_arg m (arg_of x)
   unfolding moved_stmts
   mixplace_copy x a a2 is of_a =
       Views.mixplace_view a2 ∙ (λ i. tree.MixPlace (of_a i)) ∙ sym (ap (moved_arg m) (ap arg_of is ∙ Views.mixplace_view a))
 
-  pub index_copy : (x : L.Sel) (a a2 : E.Expr) (b : _) (c : _) → x ≡ L.Index a b c → expr_of a2 ≡ moved_expr m (expr_of a) → sel_of (L.Index a2 b c) ≡ moved_sel m (sel_of x)
+  pub index_copy : (x : L.Sel) (a a2 : E.Expr) (b : _) (c : _) → x ≡ L.Index a b c → expr_of a2 ≡ moved_expr m (expr_of a) →
+      sel_of (L.Index a2 b c) ≡ moved_sel m (sel_of x)
   unfolding moved_stmts
   index_copy x a a2 b c is of_a =
       Views.index_view a2 b c ∙ (λ i. tree.Index (of_a i) b c) ∙ sym (ap (moved_sel m) (ap sel_of is ∙ Views.index_view a b c))
 
-  pub case_none_copy : (x : S.Stmt) (a a2 : E.Expr) (b b2 : Vec CaseArm Global) → x ≡ S.Case a b None → expr_of a2 ≡ moved_expr m (expr_of a) → cases_list b2.items ≡ moved_cases m (cases_list b.items) → stmt_of (S.Case a2 b2 None) ≡ moved_stmt m (stmt_of x)
+  pub case_none_copy : (x : S.Stmt) (a a2 : E.Expr) (b b2 : Vec CaseArm Global) → x ≡ S.Case a b None → expr_of a2 ≡ moved_expr m
+      (expr_of a) → cases_list b2.items ≡ moved_cases m (cases_list b.items) → stmt_of (S.Case a2 b2 None) ≡ moved_stmt m (stmt_of x)
   unfolding moved_stmts
   case_none_copy x a a2 b b2 is of_a of_b =
-      Views.case_view a2 b2 None ∙ (λ i. tree.Case (of_a i) (of_b i) tree.no_else) ∙ sym (ap (moved_stmt m) (ap stmt_of is ∙ Views.case_view a b None))
+      Views.case_view a2 b2 None ∙ (λ i. tree.Case (of_a i) (of_b i) tree.no_else)
+      ∙ sym (ap (moved_stmt m) (ap stmt_of is ∙ Views.case_view a b None))
 
-  pub case_some_copy : (x : S.Stmt) (a a2 : E.Expr) (b b2 : Vec CaseArm Global) (d d2 : Vec S.Stmt Global) → x ≡ S.Case a b (Some d) → expr_of a2 ≡ moved_expr m (expr_of a) → cases_list b2.items ≡ moved_cases m (cases_list b.items) → stmts_list d2.items ≡ moved_stmts m (stmts_list d.items) → stmt_of (S.Case a2 b2 (Some d2)) ≡ moved_stmt m (stmt_of x)
+  pub case_some_copy : (x : S.Stmt) (a a2 : E.Expr) (b b2 : Vec CaseArm Global) (d d2 : Vec S.Stmt Global) → x ≡ S.Case a b (Some d) →
+      expr_of a2 ≡ moved_expr m (expr_of a) → cases_list b2.items ≡ moved_cases m (cases_list b.items) → stmts_list d2.items ≡ moved_stmts
+      m (stmts_list d.items) → stmt_of (S.Case a2 b2 (Some d2)) ≡ moved_stmt m (stmt_of x)
   unfolding moved_stmts
   case_some_copy x a a2 b b2 d d2 is of_a of_b of_d =
-      Views.case_view a2 b2 (Some d2) ∙ (λ i. tree.Case (of_a i) (of_b i) (tree.else_part (of_d i))) ∙ sym (ap (moved_stmt m) (ap stmt_of is ∙ Views.case_view a b (Some d)))
+      Views.case_view a2 b2 (Some d2) ∙ (λ i. tree.Case (of_a i) (of_b i) (tree.else_part (of_d i)))
+      ∙ sym (ap (moved_stmt m) (ap stmt_of is ∙ Views.case_view a b (Some d)))
 
   pub return_none_copy : (x : S.Stmt) → x ≡ S.Return None → stmt_of (S.Return None) ≡ moved_stmt m (stmt_of x)
   unfolding moved_stmts
   return_none_copy x is = Views.return_view None ∙ sym (ap (moved_stmt m) (ap stmt_of is ∙ Views.return_view None))
 
-  pub return_some_copy : (x : S.Stmt) (a a2 : E.Expr) → x ≡ S.Return (Some a) → expr_of a2 ≡ moved_expr m (expr_of a) → stmt_of (S.Return (Some a2)) ≡ moved_stmt m (stmt_of x)
+  pub return_some_copy : (x : S.Stmt) (a a2 : E.Expr) → x ≡ S.Return (Some a) → expr_of a2 ≡ moved_expr m (expr_of a) →
+      stmt_of (S.Return (Some a2)) ≡ moved_stmt m (stmt_of x)
   unfolding moved_stmts
   return_some_copy x a a2 is of_a =
-      Views.return_view (Some a2) ∙ (λ i. tree.Return (tree.some_result (of_a i))) ∙ sym (ap (moved_stmt m) (ap stmt_of is ∙ Views.return_view (Some a)))
+      Views.return_view (Some a2) ∙ (λ i. tree.Return (tree.some_result (of_a i)))
+      ∙ sym (ap (moved_stmt m) (ap stmt_of is ∙ Views.return_view (Some a)))
 
-  pub writetext_copy : (x : S.Stmt) (a a2 : Vec ℕ Global) → x ≡ S.WriteText a → a2.items ≡ a.items → stmt_of (S.WriteText a2) ≡ moved_stmt m (stmt_of x)
+  pub writetext_copy : (x : S.Stmt) (a a2 : Vec ℕ Global) → x ≡ S.WriteText a → a2.items ≡ a.items → stmt_of (S.WriteText a2) ≡ moved_stmt
+      m (stmt_of x)
   unfolding moved_stmts
   writetext_copy x a a2 is same =
       Views.writetext_view a2 ∙ ap tree.WriteText same ∙ sym (ap (moved_stmt m) (ap stmt_of is ∙ Views.writetext_view a))
@@ -452,26 +504,34 @@ module _ (m : Moves) where
   unfolding moved_stmts
   writeline_copy x is = Views.writeline_view ∙ sym (ap (moved_stmt m) (ap stmt_of is ∙ Views.writeline_view))
 
-  pub calltest_copy : (x : T.Test) (a b : Call) → x ≡ T.Call a → b.routine ≡ m.routine a.routine → args_list b.args.items ≡ moved_args m (args_list a.args.items) → b.up ≡ a.up → test_of (T.Call b) ≡ moved_test m (test_of x)
+  pub calltest_copy : (x : T.Test) (a b : Call) → x ≡ T.Call a → b.routine ≡ m.routine a.routine → args_list b.args.items ≡ moved_args m
+      (args_list a.args.items) → b.up ≡ a.up → test_of (T.Call b) ≡ moved_test m (test_of x)
   unfolding moved_stmts
   calltest_copy x a b is routine args up =
-      Views.calltest_view b ∙ (λ i. tree.CallTest (routine i) (args i) (up i)) ∙ sym (ap (moved_test m) (ap test_of is ∙ Views.calltest_view a))
+      Views.calltest_view b ∙ (λ i. tree.CallTest (routine i) (args i) (up i))
+      ∙ sym (ap (moved_test m) (ap test_of is ∙ Views.calltest_view a))
 
-  pub callexpr_copy : (x : E.Expr) (a b : Call) → x ≡ E.Call a → b.routine ≡ m.routine a.routine → args_list b.args.items ≡ moved_args m (args_list a.args.items) → b.up ≡ a.up → expr_of (E.Call b) ≡ moved_expr m (expr_of x)
+  pub callexpr_copy : (x : E.Expr) (a b : Call) → x ≡ E.Call a → b.routine ≡ m.routine a.routine → args_list b.args.items ≡ moved_args m
+      (args_list a.args.items) → b.up ≡ a.up → expr_of (E.Call b) ≡ moved_expr m (expr_of x)
   unfolding moved_stmts
   callexpr_copy x a b is routine args up =
-      Views.callexpr_view b ∙ (λ i. tree.CallExpr (routine i) (args i) (up i)) ∙ sym (ap (moved_expr m) (ap expr_of is ∙ Views.callexpr_view a))
+      Views.callexpr_view b ∙ (λ i. tree.CallExpr (routine i) (args i) (up i))
+      ∙ sym (ap (moved_expr m) (ap expr_of is ∙ Views.callexpr_view a))
 
   pub const_copy : (x : E.Expr) (n n2 : _) → x ≡ E.Const n → n2 ≡ n → expr_of (E.Const n2) ≡ moved_expr m (expr_of x)
   unfolding moved_stmts
   const_copy x n n2 is same = Views.const_view n2 ∙ ap tree.Const same ∙ sym (ap (moved_expr m) (ap expr_of is ∙ Views.const_view n))
 
-  pub loop_copy : (x : Loop) (var : tree.Desig) (range : Range) (counter limit : ℕ) (from to : tree.Expr) (by : ℤ) (body : tree.Stmts) → var ≡ moved_desig m (desig_of x.var) → range ≡ x.range → counter ≡ m.own x.counter → limit ≡ m.own x.limit → from ≡ moved_expr m (expr_of x.from) → to ≡ moved_expr m (expr_of x.to) → by ≡ x.by → body ≡ moved_stmts m (stmts_list x.body.items) → tree.a_loop var range counter limit from to by body ≡ moved_loop m (loop_of x)
+  pub loop_copy : (x : Loop) (var : tree.Desig) (range : Range) (counter limit : ℕ) (from to : tree.Expr) (by : ℤ) (body : tree.Stmts) →
+      var ≡ moved_desig m (desig_of x.var) → range ≡ x.range → counter ≡ m.own x.counter → limit ≡ m.own x.limit →
+      from ≡ moved_expr m (expr_of x.from) → to ≡ moved_expr m (expr_of x.to) → by ≡ x.by →
+      body ≡ moved_stmts m (stmts_list x.body.items) → tree.a_loop var range counter limit from to by body ≡ moved_loop m (loop_of x)
   unfolding moved_stmts
   loop_copy x var range counter limit from to by body of_var of_range of_counter of_limit of_from of_to of_by of_body =
       λ i. tree.a_loop (of_var i) (of_range i) (of_counter i) (of_limit i) (of_from i) (of_to i) (of_by i) (of_body i)
 
-  pub desig_copy : (x : D.Desig) (at : Root) (cells : ℕ) (sels : tree.Sels) → at ≡ moved_root m x.root → cells ≡ x.cells → sels ≡ moved_sels m (sels_list x.sels.items) → tree.a_desig at cells sels ≡ moved_desig m (desig_of x)
+  pub desig_copy : (x : D.Desig) (at : Root) (cells : ℕ) (sels : tree.Sels) → at ≡ moved_root m x.root → cells ≡ x.cells →
+      sels ≡ moved_sels m (sels_list x.sels.items) → tree.a_desig at cells sels ≡ moved_desig m (desig_of x)
   unfolding moved_stmts
   desig_copy x at cells sels of_at of_cells of_sels = λ i. tree.a_desig (of_at i) (of_cells i) (of_sels i)
 

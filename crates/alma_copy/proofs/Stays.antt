@@ -56,7 +56,8 @@ module _ (m : Moves) (own : (n : ℕ) → m.own n ≡ n) (global : (n : ℕ) →
     branches_stays (more_branches body rest) = λ i. more_branches (stmts_stay body i) (branches_stays rest i)
 
     loop_stays : (x : Loop) → moved_loop m x ≡ x
-    loop_stays (a_loop d range counter limit from to by body) = λ i. a_loop (desig_stays d i) range (own counter i) (own limit i) (expr_stays from i) (expr_stays to i) by (stmts_stay body i)
+    loop_stays (a_loop d range counter limit from to by body) =
+        λ i. a_loop (desig_stays d i) range (own counter i) (own limit i) (expr_stays from i) (expr_stays to i) by (stmts_stay body i)
 
     return_stays : (x : ReturnExpr) → moved_return m x ≡ x
     return_stays no_result = refl

@@ -20,10 +20,12 @@ moved_root m (root.Outer links slot) = root.Outer links slot
 moved_root m (root.OuterParam links slot) = root.OuterParam links slot
 
 unfoldable mutual
+  -- statements
   pub moved_stmts : Moves → Stmts → Stmts
   moved_stmts m no_stmts = no_stmts
   moved_stmts m (more_stmts line x rest) = more_stmts line (moved_stmt m x) (moved_stmts m rest)
 
+  -- a statement
   pub moved_stmt : Moves → Stmt → Stmt
   moved_stmt m (TestStmt t) = TestStmt (moved_test m t)
   moved_stmt m (Assign d e range) = Assign (moved_desig m d) (moved_expr m e) range
@@ -43,29 +45,36 @@ unfoldable mutual
   moved_stmt m (WriteText text) = WriteText text
   moved_stmt m WriteLine = WriteLine
 
+  -- the arms of IF
   pub moved_arms : Moves → Arms → Arms
   moved_arms m no_arms = no_arms
   moved_arms m (more_arms t body rest) = more_arms (moved_test m t) (moved_stmts m body) (moved_arms m rest)
 
+  -- the arms of CASE
   pub moved_cases : Moves → CaseArms → CaseArms
   moved_cases m no_cases = no_cases
   moved_cases m (more_cases labels body rest) = more_cases labels (moved_stmts m body) (moved_cases m rest)
 
+  -- the ELSE part of CASE
   pub moved_else : Moves → Else → Else
   moved_else m no_else = no_else
   moved_else m (else_part body) = else_part (moved_stmts m body)
 
+  -- the branches of EITHER
   pub moved_branches : Moves → Branches → Branches
   moved_branches m no_branches = no_branches
   moved_branches m (more_branches body rest) = more_branches (moved_stmts m body) (moved_branches m rest)
 
+  -- a loop, with the hidden slots of its count
   pub moved_loop : Moves → Loop → Loop
   moved_loop m (a_loop d range counter limit from to by body) = a_loop (moved_desig m d) range (m.own counter) (m.own limit) (moved_expr m from) (moved_expr m to) by (moved_stmts m body)
 
+  -- what RETURN gives
   pub moved_return : Moves → ReturnExpr → ReturnExpr
   moved_return m no_result = no_result
   moved_return m (some_result e) = some_result (moved_expr m e)
 
+  -- a test
   pub moved_test : Moves → Test → Test
   moved_test m (Value e) = Value (moved_expr m e)
   moved_test m (Bind d e range left) = Bind (moved_desig m d) (moved_expr m e) range left
@@ -77,10 +86,12 @@ unfoldable mutual
   moved_test m (Not t) = Not (moved_test m t)
   moved_test m (CallTest r args up) = CallTest (m.routine r) (moved_args m args) up
 
+  -- the operands of AND or OR
   pub moved_tests : Moves → Tests → Tests
   moved_tests m no_tests = no_tests
   moved_tests m (more_tests t rest) = more_tests (moved_test m t) (moved_tests m rest)
 
+  -- an expression
   pub moved_expr : Moves → Expr → Expr
   moved_expr m (Const v) = Const v
   moved_expr m (Load d) = Load (moved_desig m d)
@@ -91,14 +102,17 @@ unfoldable mutual
   moved_expr m (Chr e) = Chr (moved_expr m e)
   moved_expr m (CallExpr r args up) = CallExpr (m.routine r) (moved_args m args) up
 
+  -- operators with their operands
   pub moved_links : Moves → Links → Links
   moved_links m no_links = no_links
   moved_links m (more_links how e rest) = more_links how (moved_expr m e) (moved_links m rest)
 
+  -- the arguments of a call
   pub moved_args : Moves → Args → Args
   moved_args m no_args = no_args
   moved_args m (more_args a rest) = more_args (moved_arg m a) (moved_args m rest)
 
+  -- an argument
   pub moved_arg : Moves → Arg → Arg
   moved_arg m (ByValue e range) = ByValue (moved_expr m e) range
   moved_arg m (ByCells d) = ByCells (moved_desig m d)
@@ -106,13 +120,16 @@ unfoldable mutual
   moved_arg m (MixValue e range) = MixValue (moved_expr m e) range
   moved_arg m (MixPlace d) = MixPlace (moved_desig m d)
 
+  -- a variable or a part of one
   pub moved_desig : Moves → Desig → Desig
   moved_desig m (a_desig at cells sels) = a_desig (moved_root m at) cells (moved_sels m sels)
 
+  -- selectors
   pub moved_sels : Moves → Sels → Sels
   moved_sels m no_sels = no_sels
   moved_sels m (more_sels x rest) = more_sels (moved_sel m x) (moved_sels m rest)
 
+  -- a selector
   pub moved_sel : Moves → Sel → Sel
   moved_sel m (Field offset cells) = Field offset cells
   moved_sel m (Index e range cells) = Index (moved_expr m e) range cells
