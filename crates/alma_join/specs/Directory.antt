@@ -18,6 +18,7 @@ pub record PlainExport : Type 0 where
   pub number : ℕ
   pub routine : Routine
 
+-- the export that a value stands for
 abbrev pub plain_export : Export → PlainExport
 plain_export e = record { unit = e.unit; number = e.number; routine = routine_of e.routine.now }
 

@@ -12,6 +12,7 @@ use Rattle.alma_rules.specs.Parts.{append_stmts}
 abbrev pub body_numbers : List ℕ → (before : ℕ) → Moves
 body_numbers numbers before = record { own = slot_behind before; global = slot_behind before; routine = number_in numbers }
 
+-- in a procedure its own slots stay
 abbrev pub procedure_numbers : List ℕ → (before : ℕ) → Moves
 procedure_numbers numbers before = record { own = slot_behind 0; global = slot_behind before; routine = number_in numbers }
 

@@ -105,6 +105,7 @@ pub data JoinFault : Type 0 where
   HeadDiffers : (unit routine : ℕ) → JoinFault
   TooLarge : (unit : ℕ) → JoinFault
 
+-- two parameters are handed over in the same way
 abbrev pub same_kind : ArgKind → ArgKind → Bool
 same_kind kind.Value kind.Value = true
 same_kind kind.Value _ = false
@@ -115,6 +116,7 @@ same_kind kind.Mix _ = false
 same_kind kind.Cells kind.Cells = true
 same_kind kind.Cells _ = false
 
+-- two ranges have the same ends
 abbrev pub same_range : Range → Range → Bool
 same_range a b = int_eq a.low b.low && int_eq a.high b.high
 
@@ -125,12 +127,14 @@ same_params (a ∷ x) (b ∷ y) = (same_kind a.kind b.kind && (nat_eq a.cells b.
 same_params [] (b ∷ y) = false
 same_params (a ∷ x) [] = false
 
+-- both give a result of the same range, or neither gives one
 abbrev pub same_result : Option Range → Option Range → Bool
 same_result None None = true
 same_result (Some a) (Some b) = same_range a b
 same_result None (Some b) = false
 same_result (Some a) None = false
 
+-- two routines take the same parameters and give the same result
 abbrev pub same_head : Routine → Routine → Bool
 same_head a b = same_params a.params b.params && same_result a.result b.result
 
@@ -166,6 +170,7 @@ pub record Totals : Type 0 where
   pub names : ℕ
   pub texts : ℕ
 
+-- those of no module
 abbrev pub no_totals : Totals
 no_totals = record { declared = 0; slots = 0; globals = 0; params = 0; names = 0; texts = 0 }
 
@@ -203,12 +208,15 @@ join_fault units = or_next (import_fault (kept_in 1 units) 1 units) (λ _. size_
 abbrev pub body_moves : List Kept → (unit : ℕ) → Program → (before : ℕ) → Moves
 body_moves all unit p before = record { own = new_slot before; global = new_slot before; routine = new_number all unit p }
 
+-- in a procedure its own slots stay
 abbrev pub procedure_moves : List Kept → (unit : ℕ) → Program → (before : ℕ) → Moves
 procedure_moves all unit p before = record { own = λ slot. slot; global = new_slot before; routine = new_number all unit p }
 
+-- a procedure that stays, numbered anew; its head is as it was
 abbrev pub moved_procedure : Moves → Kept → Routine
 moved_procedure m k = record k.routine { body = moved_stmts m k.routine.body; outer = m.routine k.routine.outer }
 
+-- a variable at its new slot
 abbrev pub moved_global : (before : ℕ) → Global → Global
 moved_global before g = record g { slot = new_slot before g.slot }
 
@@ -217,15 +225,18 @@ abbrev pub joined_globals : (before : ℕ) → List Program → List Global
 joined_globals before [] = []
 joined_globals before (p ∷ ps) = map (moved_global before) p.globals ++ joined_globals (before + own_slots p) ps
 
+-- the statements of all bodies
 abbrev pub joined_stmts : List Kept → (unit before : ℕ) → List Program → Stmts
 joined_stmts all unit before [] = no_stmts
 joined_stmts all unit before (p ∷ ps) =
     append_stmts (moved_stmts (body_moves all unit p before) (routine_at p 0).body) (joined_stmts all (suc unit) (before + own_slots p) ps)
 
+-- the lines of those statements
 abbrev pub joined_lines : List Program → List ℕ
 joined_lines [] = []
 joined_lines (p ∷ ps) = (routine_at p 0).lines ++ joined_lines ps
 
+-- the procedures that stay
 abbrev pub joined_procedures : List Kept → (unit before : ℕ) → List Program → List Routine
 joined_procedures all unit before [] = []
 joined_procedures all unit before (p ∷ ps) =

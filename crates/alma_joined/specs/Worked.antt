@@ -8,12 +8,15 @@ use Rattle.alma_mean.specs.Events.{Succeeded}
 use Rattle.alma_mean.specs.Worked.Build.{module_with, procedure, param, number, var, let_be, write_var, call, operate, through_param, int, succeed, Gives}
 use Rattle.alma_joined.specs.Joined.{Missing, Twice, HeadDiffers, join_fault, joined}
 
+-- a program with these variables
 abbrev pub with_globals : List Global → Program → Program
 with_globals gs p = record p { globals = gs }
 
+-- a variable
 abbrev pub global_at : List ℕ → (slot cells : ℕ) → Global
 global_at name slot cells = record { name = name; slot = slot; cells = cells }
 
+-- a routine of this name
 abbrev pub named : List ℕ → Routine → Routine
 named name r = record r { name = name }
 
@@ -42,6 +45,7 @@ other_inc =
 abbrev pub no_inc : Program
 no_inc = with_globals (global_at (codes "z") 1 1 ∷ []) (module_with 2 (let_be 1 (number 7) ∷ write_var 1 ∷ []) [])
 
+-- what the modules above give
 pub record JoinsWork : Type 0 where
   pub two_modules : join_fault (uses_inc ∷ has_inc ∷ []) ≡ None
   pub two_run : Gives 3 (joined (uses_inc ∷ has_inc ∷ [])) [] (decimal 2 ++ []) Succeeded
