@@ -9,7 +9,7 @@ function __alma_at
 end
 
 function __alma_behind
-    for place in 3 4 5 6 7 8 9 10 11 12
+    for place in (seq 3 19)
         __alma_at $place $argv; and return
     end
 end
@@ -22,15 +22,20 @@ complete -c alma -n __fish_use_subcommand -a compile -d 'compile a source and st
 complete -c alma -n __fish_use_subcommand -a list -d 'print the text of an object'
 complete -c alma -n __fish_use_subcommand -a exec -d 'verify an object and run it'
 complete -c alma -n __fish_use_subcommand -a sample -d 'compile and run a source of so many lines'
+complete -c alma -n __fish_use_subcommand -a all -d 'run a source in all ways, and show its variables after each'
+complete -c alma -n __fish_use_subcommand -a link -d 'join sources, and run them or store their object'
+complete -c alma -n __fish_use_subcommand -a pool -d 'run objects in turns'
 complete -c alma -n __fish_use_subcommand -a why -d 'do what the words ask, and tell what its end means'
 complete -c alma -n __fish_use_subcommand -a replay -d 'write a page in which a run is watched'
 complete -c alma -n __fish_use_subcommand -a help -d 'print the commands, or what a fault means'
 complete -c alma -n __fish_use_subcommand -l help -d 'print the commands'
 complete -c alma -n __fish_use_subcommand -l version -d 'print which program runs'
-complete -c alma -n '__fish_seen_subcommand_from why; and __alma_at 1 ""' -a 'check run trace compile list exec'
-complete -c alma -n '__alma_at 2 check run trace compile replay' -a '(__fish_complete_suffix .al | string match -r ".*(?:\.al|/)(?:\t.*)?\$")'
-complete -c alma -n '__alma_at 2 list exec; or __alma_at 3 compile' -F
-complete -c alma -n '__alma_behind run trace exec; and not string match -q -- "--steps=*" (commandline -opc)' -a --steps= -d 'the greatest number of machine steps'
+complete -c alma -n '__fish_seen_subcommand_from why; and __alma_at 1 ""' -a 'check run trace compile list exec all link pool'
+complete -c alma -n '__alma_at 2 check run trace compile replay all' -a '(__fish_complete_suffix .al | string match -r ".*(?:\.al|/)(?:\t.*)?\$")'
+complete -c alma -n '__alma_at 2 link' -a 'run compile'
+complete -c alma -n '__alma_behind link' -a '(__fish_complete_suffix .al)'
+complete -c alma -n '__alma_at 2 list exec pool; or __alma_at 3 compile; or __alma_behind pool' -F
+complete -c alma -n '__alma_behind run trace exec all; and not string match -q -- "--steps=*" (commandline -opc)' -a --steps= -d 'the greatest number of machine steps'
 complete -c alma -n '__alma_behind trace' -a --watch= -d 'a variable whose values are shown'
 complete -c alma -n '__alma_behind run exec; and not contains -- --stats (commandline -opc)' -a --stats -d 'tell the counts of the run'
 # The faults of docs/FAULTS.md beside the script.

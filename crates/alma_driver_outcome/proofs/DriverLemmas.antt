@@ -43,8 +43,8 @@ use Rattle.alma_io.specs.Sides.{SinkSide, SourceSide, FilesSide}
 use Rattle.alma_driver_outcome.specs.Outside.{FilesStay}
 use Rattle.alma_base.specs.declared.place.Place.{Place}
 use Rattle.alma_scan.specs.Places.{line_at, column_at}
-use Rattle.alma_driver_outcome.specs.Refusal.{IsRefused, IsProgramOf, place_of}
-use Rattle.alma_driver_outcome.specs.declared.fault.SourceFault.{SourceFault}
+use Rattle.alma_source.specs.Refusal.{IsRefused, IsProgramOf, place_of}
+use Rattle.alma_source.specs.declared.fault.SourceFault.{SourceFault}
 use Rattle.alma_driver_outcome.specs.Ends.{lower_end, words_end, fetch_end, store_end, input_end}
 use Rattle.alma_driver_outcome.specs.Outcome.{Due, Stored, due_of, silent, storing, code_due, long_input, MayBeLeft, InputOutcome, unread, taken, past_input, size_of, ProgramOutcome, ran, too_much_code, CompileOutcome, made, past_size, IsSourceEnd, refused, IsStop, SourceOutcome, stopped, compiled, CheckOutcome, ListOutcome, listed, no_object, CodeOutcome, executed, unsound, ExecOutcome, opened, unopened, FileOutcome, SampleOutcome, summed, RequestOutcome, absent, past_limit, fetched, unfetched, Outcome, bad_word, asks, AskToRead}
 use Rattle.alma_driver_outcome.specs.Course.{Gains, GainsPrefix, Goes, OthersStay, Keeps, done, failed, Works, Takes, ReadsWhole, Moves, MayRead, ReadsOnly, FailsToRead, Runs, Serves, Performs}

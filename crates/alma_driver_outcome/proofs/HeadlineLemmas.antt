@@ -19,7 +19,7 @@ use Rattle.alma_driver_outcome.specs.Words.{read_by}
 use Rattle.alma_driver_outcome.specs.Showing.{Prints}
 use Rattle.alma_driver_outcome.specs.Outside.{Outside}
 use Rattle.alma_driver_outcome.specs.Ends.{status_of, text_of, ended_end, counts_text}
-use Rattle.alma_driver_outcome.specs.Refusal.{IsProgramOf, place_of}
+use Rattle.alma_source.specs.Refusal.{IsProgramOf, place_of}
 use Rattle.alma_driver_outcome.specs.Outcome.{Due, silent, size_of, code_due, InputOutcome, unread, taken, past_input, ProgramOutcome, ran, too_much_code, MayRunOut, MeansOn, whole, front, IsSourceEnd, refused, SourceOutcome, stopped, compiled, RequestOutcome, absent, past_limit, fetched, unfetched, Outcome, bad_word, asks, Lacks}
 use Rattle.alma_driver_outcome.specs.Course.{Gains}
 use Rattle.alma_driver_outcome.specs.Causes.{Causes, FetchFailed, InputFailed}
@@ -29,7 +29,7 @@ use Rattle.alma_driver_outcome.specs.declared.end.End.{End}
 use Rattle.alma_driver_outcome.specs.declared.end.End.TheVariants.{Refused, StepsOut, TooMuchCode}
 use Rattle.alma_driver_outcome.proofs.CauseLemmas.{IsWhole}
 use Rattle.alma_driver_outcome.proofs.RunLemmas.{code_means}
-use Rattle.alma_driver_outcome.proofs.RefusalLemmas.{one_refusal, one_program, refused_no_program}
+use Rattle.alma_source.proofs.RefusalLemmas.{one_refusal, one_program, refused_no_program}
 use Rattle.alma_driver_outcome.proofs.Unread.{due_alike}
 
 -- ---- a run on an input that is told

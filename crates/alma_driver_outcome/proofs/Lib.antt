@@ -1,5 +1,4 @@
 pub mod DriverLemmas
-pub mod RefusalLemmas
 pub mod RunLemmas
 pub mod CauseLemmas
 pub mod Unread

@@ -1,6 +1,6 @@
 -- The ends of a call: their statuses and their texts.
 use Rattle.std.specs.Prelude.{Bool, true, false, List, ℕ, [], ◌++◌, codes, decimal, Option, Some, None}
-use Rattle.alma_base.specs.Fault.{lex_fault_text, syntax_fault_text, check_fault_text, run_fault_text}
+use Rattle.alma_base.specs.Fault.{run_fault_text}
 use Rattle.alma_base.specs.declared.place.Place.{Place}
 use Rattle.alma_io.specs.declared.files.Fetch.{Fetch}
 use Rattle.alma_io.specs.declared.files.Fetch.TheVariants as fetch
@@ -22,8 +22,8 @@ use Rattle.alma_io.specs.declared.whole.ReadAll.{ReadAll}
 use Rattle.alma_io.specs.declared.whole.ReadAll.TheVariants as whole
 use Rattle.alma_driver_words.specs.declared.words.WordsError.{WordsError}
 use Rattle.alma_driver_words.specs.declared.words.WordsError.TheVariants as words
-use Rattle.alma_driver_outcome.specs.declared.fault.SourceFault.{SourceFault}
-use Rattle.alma_driver_outcome.specs.declared.fault.SourceFault.TheVariants.{Lex, Syntax, Check}
+use Rattle.alma_source.specs.declared.fault.SourceFault.{SourceFault}
+use Rattle.alma_source.specs.Texts.{refusal_text}
 use Rattle.alma_driver_outcome.specs.declared.end.Counts.{Counts}
 use Rattle.alma_driver_outcome.specs.declared.end.End.{End}
 use Rattle.alma_driver_outcome.specs.declared.end.End.TheVariants.{Succeeded, Failed, BadWord, Refused, Faulted, StepsOut, ReadFault, WriteFault}
@@ -60,20 +60,6 @@ fixed_text (BadObject fault) = []
 fixed_text (BadCode fault) = []
 fixed_text TooLong = codes "alma: too long\n"
 fixed_text (TooMuchCode size) = []
-
--- the name of a fault for which a source is refused
-abbrev pub source_fault_text : SourceFault → List ℕ
-source_fault_text (Lex fault) = lex_fault_text fault
-source_fault_text (Syntax fault) = syntax_fault_text fault
-source_fault_text (Check fault) = check_fault_text fault
-
--- FILE:LINE:COLUMN: FAULT
-abbrev pub refusal_line : (file line column fault : List ℕ) → List ℕ
-refusal_line file line column fault = file ++ (codes ":" ++ (line ++ (codes ":" ++ (column ++ (codes ": " ++ (fault ++ codes "\n"))))))
-
--- the line of a refusal
-abbrev pub refusal_text : (file : List ℕ) → SourceFault → Place → List ℕ
-refusal_text file fault place = refusal_line file (decimal place.line) (decimal place.column) (source_fault_text fault)
 
 -- where a run stopped in a fault, if its line is known
 abbrev pub line_text : Option ℕ → List ℕ

@@ -13,8 +13,8 @@ use Rattle.alma_driver_outcome.specs.Causes.{ReadFailed, WriteFailed}
 use Rattle.alma_driver_outcome.specs.Course.{Gains}
 use Rattle.alma_driver_outcome.specs.Ends.{counts_text, fault_text, text_of}
 use Rattle.alma_driver_outcome.specs.Outcome.{size_of, AreCounts, MayRunOut}
-use Rattle.alma_driver_outcome.specs.Refusal.{IsRefused, IsProgramOf, place_of}
-use Rattle.alma_driver_outcome.specs.declared.fault.SourceFault.{SourceFault}
+use Rattle.alma_source.specs.Refusal.{IsRefused, IsProgramOf, place_of}
+use Rattle.alma_source.specs.declared.fault.SourceFault.{SourceFault}
 use Rattle.alma_driver_outcome.specs.declared.end.Counts.{Counts}
 use Rattle.alma_driver_outcome.specs.declared.end.End.TheVariants.{Refused, StepsOut, TooMuchCode}
 

@@ -27,8 +27,8 @@ use Rattle.alma_driver_words.specs.Words.{Request, Check, Compile, Listing, Run,
 use Rattle.alma_driver_outcome.specs.Words.{read_by, limit_of, IsReadBy}
 use Rattle.alma_driver_outcome.specs.Showing.{Showing, Prints, Traces, counts_shown, text_shown}
 use Rattle.alma_driver_outcome.specs.Ends.{ended_end, mode_end, counts_in, status_of, sample_line}
-use Rattle.alma_driver_outcome.specs.Refusal.{IsRefused, IsProgramOf, place_of}
-use Rattle.alma_driver_outcome.specs.declared.fault.SourceFault.{SourceFault}
+use Rattle.alma_source.specs.Refusal.{IsRefused, IsProgramOf, place_of}
+use Rattle.alma_source.specs.declared.fault.SourceFault.{SourceFault}
 use Rattle.alma_driver_outcome.specs.declared.end.Counts.{Counts}
 use Rattle.alma_driver_outcome.specs.declared.end.End.{End}
 use Rattle.alma_driver_outcome.specs.declared.end.End.TheVariants.{Succeeded, BadWord, Refused, StepsOut, ReadFault, Memory, BadObject, BadCode, TooLong, TooMuchCode}

@@ -4,7 +4,6 @@ ghost use Rattle.alma_code.specs.Lines.{line_at};
 ghost use Rattle.alma_object.specs.View.{code_of_view};
 ghost use Rattle.alma_driver_outcome.specs.Ends.{status_of, counts_with, fixed_text, run_end, input_end, lower_end, words_end, fetch_end, store_end};
 
-use crate::fault::SourceFault;
 use alma_base::{Place, RunFault};
 use alma_code::VerifyFault;
 use alma_driver_words::WordsError;
@@ -12,6 +11,7 @@ use alma_io::{Fetch, ReadAll, StoreFault};
 use alma_lower::LowerError;
 use alma_machine::RunEnd;
 use alma_object::{ObjectFault, ObjectView};
+use alma_source::SourceFault;
 
 /// What a run counted: the steps that it made, the choice entries that it pushed, and those that it popped.
 #[derive(Clone, Copy, Debug, PartialEq, Eq)]

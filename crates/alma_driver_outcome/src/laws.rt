@@ -1,9 +1,7 @@
 //! Laws of the definitions that the contracts cite: functions without work, whose contracts are the laws.
 ghost use Rattle.std.specs.Prelude.{◌≡◌, ◌≤◌, ◌+◌, ◌*◌, Bool, List, ℕ, Option, Some, map};
 ghost use Rattle.alma_base.specs.Limits.{size_limit};
-ghost use Rattle.alma_grammar.specs.Laws.{IsProgram};
-ghost use Rattle.alma_driver_outcome.specs.declared.fault.SourceFault.{SourceFault};
-ghost use Rattle.alma_driver_outcome.specs.Refusal.{kinds, IsOfGrammar, IsParsed, IsRefused, IsProgramOf};
+ghost use Rattle.alma_source.specs.Refusal.{IsProgramOf};
 ghost use Rattle.alma_driver_outcome.specs.Outcome.{Due, Stored, size_of, ProgramOutcome, CompileOutcome, SourceOutcome, Meant, ListOutcome, ExecOutcome};
 ghost use Rattle.alma_driver_outcome.specs.Causes.{Causes};
 ghost use Rattle.alma_driver_outcome.specs.Headline.{AsksToRun, IsUndisturbed, IsInputLeft, RunEnds, ShowsResult};
@@ -21,43 +19,12 @@ ghost use Rattle.alma_driver_outcome.specs.Showing.{Prints};
 ghost use Rattle.alma_ir.specs.Tree.{Program};
 ghost use Rattle.alma_mean.specs.Events.{first, end_of, visit_count, CutOff};
 ghost use Rattle.alma_mean.specs.Meaning.{ev_program, result as meant_at};
-ghost use Rattle.alma_scan.specs.Tokens.{Lexeme, Tokens};
-ghost use Rattle.alma_tree.specs.declared.module.Module.{Module};
 
 /// What a run of a program comes to is its meaning on the input that is read: with one more unfolding than steps its result, each fault at its line;
 /// or, where the steps ran out, a front of its prints that covers one visit for each 32 steps.
 pub fn a_run_is_what_its_program_means()
     ensures means { (left : Option (List ℕ)) (p : Program) (steps : ℕ) (stats : Bool) (due : Due)
         → ProgramOutcome left p steps (Prints stats) due → Meant left p steps stats due }
-{}
-
-/// What is refused is no program. What is refused for a fault of tokens or of syntax has no tokens that are a program of the grammar.
-pub fn a_refused_source_is_no_program()
-    ensures apart { (source : List ℕ) (fault : SourceFault) (offset : ℕ) (p : Program)
-        → IsRefused source fault offset → IsProgramOf source p → ⊥ }
-    ensures grammar { (source : List ℕ) (fault : SourceFault) (offset : ℕ) (tokens : List Lexeme)
-        → IsOfGrammar fault → IsRefused source fault offset → Tokens source tokens
-        → IsProgram (kinds tokens) → ⊥ }
-{}
-
-/// What is refused for a fault of tokens or of syntax has no tree.
-pub fn a_source_outside_the_grammar_has_no_tree()
-    ensures apart { (source : List ℕ) (fault : SourceFault) (offset : ℕ) (tokens : List Lexeme)
-        (tree : Module) → IsOfGrammar fault → IsRefused source fault offset
-        → IsParsed source tokens tree → ⊥ }
-{}
-
-/// A source is one program.
-pub fn a_source_is_one_program()
-    ensures same { (source : List ℕ) (p q : Program) → IsProgramOf source p
-        → IsProgramOf source q → p ≡ q }
-{}
-
-/// A source is refused for one fault, and at one place.
-pub fn a_source_has_one_refusal()
-    ensures same { (source : List ℕ) (fault other : SourceFault) (offset place : ℕ) →
-        IsRefused source fault offset → IsRefused source other place → (fault ≡ other) ×
-        (offset ≡ place) }
 {}
 
 /// Listing bytes comes to one end and one text.

@@ -5,11 +5,9 @@ mod end;
 mod fault;
 pub mod laws;
 mod showing;
-mod stop;
 mod writing;
 
 pub use end::{Counts, End, end_of, line_of};
-pub use fault::{SourceFault, object_fault_name, object_fault_number};
+pub use fault::{object_fault_name, object_fault_number};
 pub use showing::Showing;
-pub use stop::SourceStop;
 pub use writing::{report, write_parts};

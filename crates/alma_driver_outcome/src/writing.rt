@@ -3,15 +3,17 @@ ghost use Rattle.std.specs.Prelude.{◌++◌, codes, flat_map, OnOk, OnErr, Some
 ghost use Rattle.std.specs.Io.KnownBytes.{Appends};
 ghost use Rattle.alma_io.specs.Causes.{HasCause};
 ghost use Rattle.alma_io.specs.Fronts.{AppendsFront};
-ghost use Rattle.alma_driver_outcome.specs.Ends.{counts_line, counts_text, end_text, fault_text, object_text, refusal_line, refusal_text, rule_line, rule_text, text_of};
+ghost use Rattle.alma_driver_outcome.specs.Ends.{counts_line, counts_text, end_text, fault_text, object_text, rule_line, rule_text, text_of};
 ghost use Rattle.alma_driver_outcome.specs.Course.{Reports};
+ghost use Rattle.alma_source.specs.Texts.{refusal_line, refusal_text};
 
 use crate::end::{Counts, End};
-use crate::fault::{SourceFault, object_fault_name, object_fault_number};
+use crate::fault::{object_fault_name, object_fault_number};
 use alma_base::{Place, RunFault, Status};
 use alma_code::VerifyFault;
 use alma_io::{Sink, WriteFault, write_all};
 use alma_object::ObjectFault;
+use alma_source::SourceFault;
 use itoa::Buffer;
 
 /// Writes parts one after another.

@@ -1,7 +1,6 @@
 //! The requests of the program, each served.
 #![tactic(auto)]
 
-mod check;
 mod compile;
 mod exec;
 mod input;

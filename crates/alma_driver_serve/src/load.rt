@@ -6,12 +6,13 @@ ghost use Rattle.alma_ir.specs.View.{program_of};
 ghost use Rattle.alma_driver_outcome.specs.Outcome.{IsStop, CheckOutcome, SourceOutcome};
 ghost use Rattle.alma_io.specs.Sides.{SinkSide};
 ghost use Rattle.alma_driver_outcome.specs.Course.{Goes};
-ghost use Rattle.alma_driver_outcome.specs.Refusal.{IsProgramOf};
+ghost use Rattle.alma_source.specs.Refusal.{IsProgramOf};
 
-use crate::check::check_source;
-use alma_driver_outcome::{End, SourceStop};
+use alma_driver_outcome::End;
 use alma_ir::Program;
 use alma_scan::place;
+use alma_source::SourceStop;
+use alma_unit::check_source;
 use std::alloc::Global;
 
 /// Scans, parses and checks a source: its program, or the end of the call.

@@ -8,5 +8,6 @@ mod options;
 mod setting;
 mod words;
 
+pub use number::named_steps;
 pub use options::DEFAULT_STEPS;
 pub use words::{Request, WordsError, file_word, read_words};

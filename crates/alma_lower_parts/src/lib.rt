@@ -12,7 +12,8 @@ mod pass;
 
 pub use alma_lower_work::{
     Scene, Stand, Work, is_simple, op_instr, own_stand, own_value, put_cmp, put_fit, put_function,
-    put_links, put_neg, put_result_fit, put_root, put_truth, put_unequal, read_instr, slot_of, unequal, write_instr,
+    put_links, put_neg, put_result_fit, put_root, put_truth, put_unequal, read_instr, slot_of,
+    unequal, write_instr,
 };
 pub use call::{Handed, begin_call, first_handed, put_call_link, take_handed, take_result};
 pub use case::{

@@ -6,7 +6,7 @@ use Rattle.alma_code.specs.Fits.{Fits}
 use Rattle.alma_code.specs.Machine.{State, Stepped, Going, quiet_step, step, after, prints}
 use Rattle.alma_code.specs.Plain.{PlainCode}
 use Rattle.alma_code_laws.proofs.Runs.{stays_fit}
-use Rattle.alma_machine.specs.Quick.{Quickly}
+use Rattle.alma_machine.specs.Quick.{Quickly, Quietly}
 use Rattle.alma_machine.specs.Stands.{Stands}
 use Rattle.alma_machine.specs.Runs.{last_print}
 use Rattle.alma_machine_acts.specs.Steps.{IsLive}
@@ -14,9 +14,14 @@ use Rattle.alma_machine.specs.View.{MachineView}
 use Rattle.alma_machine.proofs.Budget.{after_more, after_sum, prints_more, prints_sum, last_sum, Progress}
 
 -- a step that was made
-pub is_made : (b : Bool) (old new : State) (word : Stepped) → b ≡ true → Quickly b old new word → quiet_step new ≡ word
+pub is_made : (b : Bool) (old new : State) (word : Stepped) → b ≡ true → Quickly b old new word → (new ≡ word.state) × (word.printed ≡ [])
 is_made true old new word e h = h
 is_made false old new word e h = absurd (cc)
+
+-- what has nothing to tell printed nothing
+pub quick_of_quiet : (b : Bool) (old new : State) (word : Stepped) → Quietly b old new word → Quickly b old new word
+quick_of_quiet true old new word h = (ap (λ x. x.state) h, sym (ap (λ x. x.printed) h))
+quick_of_quiet false old new word h = h
 
 -- one that was not
 pub is_left : (b : Bool) (old new : State) (word : Stepped) → b ≡ false → Quickly b old new word → new ≡ old
@@ -28,42 +33,35 @@ pub is_counted : (b : Bool) (new old : ℕ) → b ≡ true → new ≡ old + (if
 is_counted true new old e h = h
 is_counted false new old e h = absurd (cc)
 
--- a machine that goes on is live
-pub going_is_live : (s : State) → s.mode ≡ Going → IsLive s.mode
-going_is_live s e = subst IsLive (sym e) tt
-
--- so many steps were made, with nothing to tell, and the machine goes on
+-- so many steps were made, with nothing to print, and the machine goes on
 pub record Dashed (code : PlainCode) (input : List ℕ) (m : ℕ) (old new : State) : Type 0 where
   pub state : new ≡ after code input m old
   pub silent : prints code input m old ≡ []
   pub steps : new.steps ≡ old.steps + m
   pub stands : Stands code new
-  pub going : new.mode ≡ Going
 
 -- none was made
-pub dashed_none : (code : PlainCode) (input : List ℕ) (s : State) → Stands code s → s.mode ≡ Going → Dashed code input 0 s s
-dashed_none code input s stands going = record { state = refl; silent = refl; steps = omega arith; stands = stands; going = going }
+pub dashed_none : (code : PlainCode) (input : List ℕ) (s : State) → Stands code s → Dashed code input 0 s s
+dashed_none code input s stands = record { state = refl; silent = refl; steps = omega arith; stands = stands }
 
 -- one more of them
-pub dashed_more : (code : PlainCode) (input : List ℕ) (m : ℕ) (old now new : State) → Dashed code input m old now → quiet_step new ≡ step code input now
-    → new.mode ≡ Going → new.steps ≡ now.steps + 1 → new.choices ≡ now.choices → new.fails ≡ now.fails → Dashed code input (m + 1) old new
-dashed_more code input m old now new h done going steps choices fails =
-    let is : quiet_step new ≡ step code input (after code input m old) = done ∙ ap (step code input) h.state in
-    record {
-      state = ap (λ x. x.state) is ∙ sym (after_more code input m old);
-      silent =
-          prints_more code input m old ∙ ap (λ bytes. bytes ++ (step code input (after code input m old)).printed) h.silent
-          ∙ sym (ap (λ x. x.printed) is);
-      steps = omega (arith, steps, h.steps);
-      stands = record {
-        sound = h.stands.sound;
-        fits = subst (λ s. Fits code s) (sym (ap (λ x. x.state) done)) (stays_fit code input h.stands.sound now h.stands.fits);
-        live = going_is_live new going;
-        choices = omega (arith, steps, choices, h.stands.choices);
-        fails = omega (arith, steps, fails, h.stands.fails);
-      };
-      going = going;
-    }
+pub dashed_more : (code : PlainCode) (input : List ℕ) (m : ℕ) (old now new : State) → Dashed code input m old now
+    → (new ≡ (step code input now).state) × ((step code input now).printed ≡ [])
+    → IsLive new.mode → new.steps ≡ now.steps + 1 → new.choices ≤ now.choices + 1 → new.fails ≤ now.fails + 1 → Dashed code input (m + 1) old new
+dashed_more code input m old now new h done live steps choices fails = record {
+  state = done.0 ∙ ap (λ s. (step code input s).state) h.state ∙ sym (after_more code input m old);
+  silent =
+      prints_more code input m old ∙ ap (λ bytes. bytes ++ (step code input (after code input m old)).printed) h.silent
+      ∙ sym (ap (λ s. (step code input s).printed) h.state) ∙ done.1;
+  steps = omega (arith, steps, h.steps);
+  stands = record {
+    sound = h.stands.sound;
+    fits = subst (λ s. Fits code s) (sym done.0) (stays_fit code input h.stands.sound now h.stands.fits);
+    live = live;
+    choices = omega (arith, steps, choices, h.stands.choices);
+    fails = omega (arith, steps, fails, h.stands.fails);
+  };
+}
 
 -- as many where a step was not made
 pub dashed_left : (code : PlainCode) (input : List ℕ) (m : ℕ) (old now new : State) → Dashed code input m old now → new ≡ now → Dashed code input m old new

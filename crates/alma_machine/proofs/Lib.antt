@@ -4,5 +4,6 @@ pub mod Budget
 pub mod Counting
 pub mod Dashing
 pub mod Fitting
+pub mod Forms
 pub mod Needing
 pub mod Stepping

@@ -5,9 +5,11 @@ mod dispatch;
 mod machine;
 mod quick;
 mod quick_act;
+mod quick_calls;
+mod quick_cells;
+mod quick_record;
 
 pub use alma_code::{End, Step};
 pub use alma_machine_acts::CodeView;
 pub use dispatch::act;
 pub use machine::{Machine, RunEnd};
-pub use quick_act::act_quickly;

@@ -320,7 +320,7 @@ impl<'b, 'i> Machine<'b, 'i> {
         ensures running { self.new.running ≡ true }
         ensures same { (self.new.code ≡ self.old.code) × (self.new.input ≡ self.old.input) }
     {
-        let made = dash(&mut self.registers, &self.code, self.input, most);
+        let made = dash(&mut self.registers, self.code, self.input, most);
         if made > 0 {
             self.printed.clear();
         }

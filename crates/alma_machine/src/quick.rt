@@ -5,74 +5,89 @@ ghost use Rattle.alma_code.specs.Machine.{Going, step, after, prints};
 ghost use Rattle.alma_machine.specs.Quick.{Quickly};
 ghost use Rattle.alma_machine.specs.Stands.{Stands};
 ghost use Rattle.alma_machine_acts.specs.Rows.{state_of};
+ghost use Rattle.alma_machine_acts.specs.Steps.{IsLive};
 
-use crate::quick_act::act_quickly;
+use crate::quick_cells::pop_quickly;
+use crate::quick_record::act_quickly;
 use alma_machine_acts::{CodeView, Mode, Registers};
 
-/// One step, if it is one that is made at once.
+// The next instruction, if it is one that is made at once.
 #[inline(always)]
 #[tactic(auto, using(crate::proofs::Stepping::taken))]
-fn step_quickly<V: CodeView>(registers: &mut Registers, view: &V, input: &[u8]) -> bool
+fn take_quickly<V: CodeView>(registers: &mut Registers, view: &V, input: &[u8]) -> bool
     requires keeps { Stands (V.code view.now) (state_of registers.old) }
     requires going { (state_of registers.old).mode ≡ Going }
     requires few { registers.old.steps + 1 < 2 ^ 63 }
     ensures step { Quickly result (state_of registers.old) (state_of registers.new)
         (step (V.code view.now) input.now (state_of registers.old)) }
     ensures counted { registers.new.steps ≡ registers.old.steps + (if result then 1 else 0) }
-    ensures mode { (state_of registers.new).mode ≡ Going }
-    ensures choices { registers.new.choices ≡ registers.old.choices }
-    ensures fails { registers.new.fails ≡ registers.old.fails }
+    ensures live { IsLive (state_of registers.new).mode }
+    ensures choices { registers.new.choices ≤ registers.old.choices + 1 }
+    ensures fails { registers.new.fails ≤ registers.old.fails + 1 }
 {
     let _count = view.code_count();
-    let instr = view.instr(registers.at);
-    let (at, last, steps) = (registers.at, registers.last, registers.steps);
+    let (at, last) = (registers.at, registers.last);
+    let record = view.record(at);
     registers.last = at;
     registers.at = at + 1;
-    registers.steps = steps + 1;
-    let is_done = act_quickly(registers, view, instr, input);
+    registers.steps += 1;
+    let is_done = act_quickly(registers, view, record, input);
     if !is_done {
         registers.at = at;
         registers.last = last;
-        registers.steps = steps;
+        registers.steps -= 1;
     }
     is_done
 }
 
-// As many steps as can be made at once, and no more than so many. It answers how many.
-fn hurry<V: CodeView>(registers: &mut Registers, view: &V, input: &[u8], most: u64) -> u64
+// One step, if it is one that is made at once.
+#[inline(always)]
+#[tactic(auto, using(crate::proofs::Stepping::steps))]
+fn step_quickly<V: CodeView>(registers: &mut Registers, view: &V, input: &[u8]) -> bool
     requires keeps { Stands (V.code view.now) (state_of registers.old) }
-    requires going { (state_of registers.old).mode ≡ Going }
+    requires few { registers.old.steps + 1 < 2 ^ 63 }
+    ensures step { Quickly result (state_of registers.old) (state_of registers.new)
+        (step (V.code view.now) input.now (state_of registers.old)) }
+    ensures counted { registers.new.steps ≡ registers.old.steps + (if result then 1 else 0) }
+    ensures live { IsLive (state_of registers.new).mode }
+    ensures choices { registers.new.choices ≤ registers.old.choices + 1 }
+    ensures fails { registers.new.fails ≤ registers.old.fails + 1 }
+{
+    match registers.mode {
+        Mode::Going => take_quickly(registers, view, input),
+        Mode::Failing => {
+            let is_done = pop_quickly(registers);
+            if is_done {
+                registers.steps += 1;
+            }
+            is_done
+        }
+        Mode::Ended(_) => false,
+    }
+}
+
+/// As many steps as can be made at once, and no more than so many. It answers how many.
+pub(crate) fn dash<V: CodeView + Copy>(
+    registers: &mut Registers,
+    view: V,
+    input: &[u8],
+    most: u64,
+) -> u64
+    requires keeps { Stands (V.code view) (state_of registers.old) }
     requires few { registers.old.steps + most < 2 ^ 63 }
     ensures few { result ≤ most }
     ensures state { state_of registers.new
-        ≡ after (V.code view.now) input.now result (state_of registers.old) }
-    ensures silent { prints (V.code view.now) input.now result (state_of registers.old) ≡ [] }
+        ≡ after (V.code view) input.now result (state_of registers.old) }
+    ensures silent { prints (V.code view) input.now result (state_of registers.old) ≡ [] }
     ensures counted { registers.new.steps ≡ registers.old.steps + result }
-    ensures stands { Stands (V.code view.now) (state_of registers.new) }
+    ensures stands { Stands (V.code view) (state_of registers.new) }
 {
     let mut made = 0;
     while made < most {
-        if !step_quickly(registers, view, input) {
+        if !step_quickly(registers, &view, input) {
             return made;
         }
         made += 1;
     }
     made
-}
-
-/// As many steps as can be made at once, and no more than so many. It answers how many.
-pub(crate) fn dash<V: CodeView>(registers: &mut Registers, view: &V, input: &[u8], most: u64) -> u64
-    requires keeps { Stands (V.code view.now) (state_of registers.old) }
-    requires few { registers.old.steps + most < 2 ^ 63 }
-    ensures few { result ≤ most }
-    ensures state { state_of registers.new
-        ≡ after (V.code view.now) input.now result (state_of registers.old) }
-    ensures silent { prints (V.code view.now) input.now result (state_of registers.old) ≡ [] }
-    ensures counted { registers.new.steps ≡ registers.old.steps + result }
-    ensures stands { Stands (V.code view.now) (state_of registers.new) }
-{
-    match registers.mode {
-        Mode::Going => hurry(registers, view, input, most),
-        Mode::Failing | Mode::Ended(_) => 0,
-    }
 }

@@ -18,6 +18,7 @@ use alma_code::{Cell, CodeParam, End, Head, Instr, Step};
 use alma_memory::EnterError;
 
 // The argument of a parameter in a slot.
+#[inline(always)]
 #[tactic(auto, using(crate::proofs::Given::givens))]
 fn argument(registers: &Registers, param: CodeParam, slot: u32) -> Result<Cell, RunFault>
     requires { HasArgument registers.now.memory.now param slot }
@@ -31,8 +32,9 @@ fn argument(registers: &Registers, param: CodeParam, slot: u32) -> Result<Cell, 
     }
 }
 
-// The arguments of all parameters, in the slots from the first on, or the fault of the first that is not known.
-fn arguments<H: Head>(
+/// The arguments of all parameters, in the slots from the first on, or the fault of the first that is not known.
+#[inline(always)]
+pub fn arguments<H: Head>(
     registers: &Registers,
     head: &H,
     first: u32,

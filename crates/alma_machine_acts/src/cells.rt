@@ -11,8 +11,9 @@ use alma_code::{Cell, CellPlace, End, Step};
 
 impl Registers {
     /// Puts a number into a number slot of a frame.
+    #[inline(always)]
     #[tactic(auto, using(crate::proofs::Words::store_is))]
-    pub(crate) fn set(&mut self, frame: u32, slot: u32, number: i64) -> Result<Step, NoMemory>
+    pub fn set(&mut self, frame: u32, slot: u32, number: i64) -> Result<Step, NoMemory>
         requires { HasNumberIn self.old.memory.now frame slot }
         ensures ok { IfOk result (λ answer. stepped answer [] (state_of self.new)
             ≡ store (state_of self.old) frame slot number quiet_step) }
@@ -47,6 +48,7 @@ impl Registers {
     }
 
     /// 1 where the cell at the place in a slot is known, and else 0.
+    #[inline(always)]
     #[tactic(auto, using(crate::proofs::Words::one_slot, std::proofs::lemmas::Grind::common_steps))]
     pub fn knows(&self, of: u32) -> Result<i64, RunFault>
         requires { HasOneCell self.now.memory.now of }

@@ -11,8 +11,9 @@ use alma_base::{NoMemory, RunFault};
 use alma_code::{Cell, ChoiceKind, End, Step};
 
 /// The height in a mark slot.
+#[inline(always)]
 #[tactic(auto, using(crate::proofs::Entries::marks))]
-fn mark(registers: &Registers, slot: u32) -> Result<usize, RunFault>
+pub fn mark(registers: &Registers, slot: u32) -> Result<usize, RunFault>
     requires { HasMark registers.now.memory.now slot }
     ensures { GivesMark registers.now.memory.now slot result }
 {
@@ -24,6 +25,7 @@ fn mark(registers: &Registers, slot: u32) -> Result<usize, RunFault>
 }
 
 /// Puts the height into a mark slot.
+#[inline(always)]
 #[tactic(auto, using(crate::proofs::Entries::put_marks))]
 pub fn set_mark(registers: &mut Registers, to: u32) -> Result<Step, NoMemory>
     requires { HasMark registers.old.memory.now to }
@@ -38,6 +40,7 @@ pub fn set_mark(registers: &mut Registers, to: u32) -> Result<Step, NoMemory>
 }
 
 /// Pushes an entry.
+#[inline(always)]
 pub fn choose(registers: &mut Registers, kind: ChoiceKind, resume: u32) -> Result<Step, NoMemory>
     requires kind { kind ≢ ChoiceKind.Done }
     requires few { registers.old.choices + 1 < 2 ^ 63 }

@@ -1,10 +1,11 @@
 // The readers of a code, as the tables of a code in memory or the view of an object give them.
 ghost use Rattle.std.specs.Prelude.{◌≡◌, ◌<◌, ◌^◌, length, map, slice_get, option_map, Some, IfSome};
 ghost use Rattle.alma_code.specs.Plain.{PlainCode, start_at};
+ghost use Rattle.alma_object.specs.View.{instr_of_record};
 
 use alma_base::Range;
 use alma_code::{Head, Instr};
-use alma_object::RoutineView;
+use alma_object::{InstrRecord, RoutineView};
 use alma_verify::Verified;
 
 /// A code that is read in parts.
@@ -19,6 +20,11 @@ pub trait CodeView {
     fn instr(&self, at: u32) -> Instr
         requires { at < length (code self.now).instrs }
         ensures { slice_get (code self.now).instrs at ≡ Some result };
+
+    /// The record of the instruction at an address.
+    fn record(&self, at: u32) -> InstrRecord<'_>
+        requires { at < length (code self.now).instrs }
+        ensures { slice_get (code self.now).instrs at ≡ Some (instr_of_record result) };
 
     fn range(&self, i: u32) -> Option<Range>
         ensures { result ≡ slice_get (code self.now).ranges i };
@@ -44,6 +50,7 @@ impl<'b> CodeView for Verified<'b> {
 
     type Routine = RoutineView<'b>;
 
+    #[inline(always)]
     fn code_count(&self) -> u32 {
         self.view().code_count()
     }
@@ -52,6 +59,12 @@ impl<'b> CodeView for Verified<'b> {
         self.view().instr(at)
     }
 
+    #[inline(always)]
+    fn record(&self, at: u32) -> InstrRecord<'_> {
+        self.view().record(at)
+    }
+
+    #[inline(always)]
     fn range(&self, i: u32) -> Option<Range> {
         self.view().range(i)
     }
@@ -60,12 +73,18 @@ impl<'b> CodeView for Verified<'b> {
         self.view().text(i)
     }
 
+    // The machine's loop keeps its view in registers of the processor, as long as nothing that is called knows where it is:
+    // so a copy is looked at.
+    #[inline(always)]
     fn routine(&self, i: u32) -> Option<RoutineView<'b>> {
-        self.view().routine(i)
+        let view = *self.view();
+        view.routine(i)
     }
 
+    #[inline(always)]
     fn start(&self, i: u32) -> u32 {
-        match self.view().routine(i) {
+        let view = *self.view();
+        match view.routine(i) {
             Some(routine) => routine.code_start(),
             None => unreachable!(),
         }

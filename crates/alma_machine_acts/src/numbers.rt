@@ -11,6 +11,7 @@ use alma_base::{Range, RunFault, div_down, mod_down};
 use alma_code::{Cell, CellPlace};
 
 // The sum of a counter and its step, or none where that is beyond the limit.
+#[inline(always)]
 #[tactic(auto, using(crate::proofs::Words::limits, std::proofs::lemmas::Int::ints, std::proofs::lemmas::Grind::common_steps))]
 fn next_within(counter: i64, limit: i64, by: i64) -> Option<i64>
     ensures { MatchOption result (is_beyond (counter +ℤ by) limit by ≡ true) (λ next. (next
@@ -23,6 +24,7 @@ fn next_within(counter: i64, limit: i64, by: i64) -> Option<i64>
 
 impl Registers {
     /// The number in a slot.
+    #[inline(always)]
     #[tactic(auto, using(crate::proofs::Words::numbers))]
     pub fn number(&self, slot: u32) -> Result<i64, RunFault>
         requires { HasNumber self.now.memory.now slot }
@@ -36,6 +38,7 @@ impl Registers {
     }
 
     /// The place in a slot.
+    #[inline(always)]
     #[tactic(auto, using(crate::proofs::Words::places))]
     pub fn place(&self, slot: u32) -> Result<CellPlace, RunFault>
         requires { HasCells self.now.memory.now slot }
@@ -49,6 +52,7 @@ impl Registers {
     }
 
     /// The sum of two numbers.
+    #[inline(always)]
     #[tactic(auto, using(std::proofs::lemmas::Int::ints, std::proofs::lemmas::Grind::common_steps))]
     pub fn sum(&self, left: u32, right: u32) -> Result<i64, RunFault>
         requires left { HasNumber self.now.memory.now left }
@@ -62,6 +66,7 @@ impl Registers {
     }
 
     /// The difference of two numbers.
+    #[inline(always)]
     #[tactic(auto, using(std::proofs::lemmas::Int::ints, std::proofs::lemmas::Grind::common_steps))]
     pub fn difference(&self, left: u32, right: u32) -> Result<i64, RunFault>
         requires left { HasNumber self.now.memory.now left }
@@ -75,6 +80,7 @@ impl Registers {
     }
 
     /// The product of two numbers.
+    #[inline(always)]
     #[tactic(auto, using(std::proofs::lemmas::Int::ints, std::proofs::lemmas::Grind::common_steps))]
     pub fn product(&self, left: u32, right: u32) -> Result<i64, RunFault>
         requires left { HasNumber self.now.memory.now left }
@@ -88,6 +94,7 @@ impl Registers {
     }
 
     /// The quotient of two numbers, rounded down.
+    #[inline(always)]
     #[tactic(auto, using(crate::proofs::Words::tests, std::proofs::lemmas::Int::ints, std::proofs::lemmas::Grind::common_steps))]
     pub fn quotient(&self, left: u32, right: u32) -> Result<i64, RunFault>
         requires left { HasNumber self.now.memory.now left }
@@ -105,6 +112,7 @@ impl Registers {
     }
 
     /// What the quotient of two numbers, rounded down, leaves.
+    #[inline(always)]
     #[tactic(auto, using(crate::proofs::Words::tests, std::proofs::lemmas::Int::ints, std::proofs::lemmas::Grind::common_steps))]
     pub fn rest(&self, left: u32, right: u32) -> Result<i64, RunFault>
         requires left { HasNumber self.now.memory.now left }
@@ -122,6 +130,7 @@ impl Registers {
     }
 
     /// The number with the other sign.
+    #[inline(always)]
     #[tactic(auto, using(std::proofs::lemmas::Int::ints, std::proofs::lemmas::Grind::common_steps))]
     pub fn negated(&self, from: u32) -> Result<i64, RunFault>
         requires { HasNumber self.now.memory.now from }
@@ -133,6 +142,7 @@ impl Registers {
     }
 
     /// 1 for 0, and else 0.
+    #[inline(always)]
     #[tactic(auto, using(crate::proofs::Words::tests, std::proofs::lemmas::Int::ints, std::proofs::lemmas::Grind::common_steps))]
     pub fn flipped(&self, from: u32) -> Result<i64, RunFault>
         requires { HasNumber self.now.memory.now from }
@@ -144,6 +154,7 @@ impl Registers {
     }
 
     /// 1 where two numbers are equal, and else 0.
+    #[inline(always)]
     #[tactic(auto, using(crate::proofs::Words::tests, std::proofs::lemmas::Int::ints, std::proofs::lemmas::Grind::common_steps))]
     pub fn equal(&self, left: u32, right: u32) -> Result<i64, RunFault>
         requires left { HasNumber self.now.memory.now left }
@@ -157,6 +168,7 @@ impl Registers {
     }
 
     /// 1 where the first number is below the second, and else 0.
+    #[inline(always)]
     #[tactic(auto, using(crate::proofs::Words::tests, std::proofs::lemmas::Int::ints, std::proofs::lemmas::Grind::common_steps))]
     pub fn less(&self, left: u32, right: u32) -> Result<i64, RunFault>
         requires left { HasNumber self.now.memory.now left }
@@ -170,6 +182,7 @@ impl Registers {
     }
 
     /// 1 where the first number is at most the second, and else 0.
+    #[inline(always)]
     #[tactic(auto, using(crate::proofs::Words::tests, std::proofs::lemmas::Int::ints, std::proofs::lemmas::Grind::common_steps))]
     pub fn at_most(&self, left: u32, right: u32) -> Result<i64, RunFault>
         requires left { HasNumber self.now.memory.now left }
@@ -183,8 +196,9 @@ impl Registers {
     }
 
     /// What the number slot at a place knows.
+    #[inline(always)]
     #[tactic(auto, using(crate::proofs::Words::contents))]
-    pub(crate) fn content(&self, frame: u32, slot: u32) -> Option<i64>
+    pub fn content(&self, frame: u32, slot: u32) -> Option<i64>
         requires { HasNumberIn self.now.memory.now frame slot }
         ensures { GivesContent self.now.memory.now frame slot result }
     {
@@ -196,6 +210,7 @@ impl Registers {
     }
 
     /// The number at the place in a slot.
+    #[inline(always)]
     #[tactic(auto, using(crate::proofs::Words::one_slot, std::proofs::lemmas::Grind::common_steps))]
     pub fn number_at(&self, from: u32) -> Result<i64, RunFault>
         requires { HasOneCell self.now.memory.now from }
@@ -208,13 +223,9 @@ impl Registers {
     }
 
     /// The number in a slot, which must be in a range.
+    #[inline(always)]
     #[tactic(auto, using(crate::proofs::Words::ranges, std::proofs::lemmas::Int::ints, std::proofs::lemmas::Grind::common_steps))]
-    pub(crate) fn number_within(
-        &self,
-        slot: u32,
-        range: &Range,
-        fault: RunFault,
-    ) -> Result<i64, RunFault>
+    pub fn number_within(&self, slot: u32, range: &Range, fault: RunFault) -> Result<i64, RunFault>
         requires { HasNumber self.now.memory.now slot }
         ensures number { Gives self.now.memory.now (λ s k. number s slot
             (λ v. range_check range.now fault s v (λ _. k v))) result }
@@ -228,6 +239,7 @@ impl Registers {
     }
 
     /// The next number of a counter, or none where that is beyond the limit.
+    #[inline(always)]
     #[tactic(auto, using(std::proofs::lemmas::Int::ints, std::proofs::lemmas::Grind::common_steps))]
     pub fn next(&self, counter: u32, limit: u32, by: u32) -> Result<Option<i64>, RunFault>
         requires counter { HasNumber self.now.memory.now counter }

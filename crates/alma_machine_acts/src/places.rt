@@ -19,6 +19,7 @@ pub struct Spot {
 }
 
 // How many cells stand before the part of a number of a range, each part of so many.
+#[inline(always)]
 #[tactic(auto, using(crate::proofs::Parts::part_inside))]
 fn cells_before(number: i64, range: &Range, part: u32) -> u32
     requires within { within range.now number ≡ true }
@@ -31,6 +32,7 @@ fn cells_before(number: i64, range: &Range, part: u32) -> u32
 
 impl Registers {
     /// How many cells the places of a place slot have.
+    #[inline(always)]
     #[tactic(auto, using(crate::proofs::Parts::place_there))]
     fn place_length(&self, slot: u32) -> u32
         requires { HasPlace self.now.memory.now slot }
@@ -44,6 +46,7 @@ impl Registers {
     }
 
     /// Puts the place of the slots of a frame from the first on into a place slot.
+    #[inline(always)]
     #[tactic(auto, using(crate::proofs::Parts::put_place_is, crate::proofs::Parts::place_is_slot))]
     pub fn put_place(&mut self, to: u32, frame: u32, first: u32) -> Result<Step, NoMemory>
         requires { HasPlace self.old.memory.now to }
@@ -78,6 +81,7 @@ impl Registers {
     }
 
     /// Where the place in a slot begins.
+    #[inline(always)]
     pub fn whole(&self, from: u32) -> Result<Spot, RunFault>
         requires { HasCells self.now.memory.now from }
         ensures { (to : ℕ) (s : State) → s.now ≡ self.now.memory.now
@@ -92,6 +96,7 @@ impl Registers {
     }
 
     /// Where the part of a place from one of its cells on begins.
+    #[inline(always)]
     #[tactic(auto, using(crate::proofs::Parts::fits_word))]
     pub fn field(&self, from: u32, offset: u32) -> Result<Spot, RunFault>
         requires from { HasCells self.now.memory.now from }
@@ -108,6 +113,7 @@ impl Registers {
     }
 
     /// Where the part of a place begins that the number in a slot names, where the parts are those of a range.
+    #[inline(always)]
     #[tactic(auto, using(crate::proofs::Parts::fits_word, crate::proofs::Parts::width_is))]
     pub fn part(&self, to: u32, from: u32, index: u32, range: &Range) -> Result<Spot, RunFault>
         requires to { HasPlace self.now.memory.now to }

@@ -70,8 +70,7 @@ impl Registers {
             (λ answer. KeepsOn answer (state_of self.old) (state_of self.new)) }
         ensures refused { OnErr result (state_of self.new ≡ state_of self.old) }
     {
-        let frame = self.memory.frames() - 1;
-        self.memory.write(frame, to, cell)?;
+        self.memory.put(to, cell)?;
         Ok(Step::Went)
     }
 

@@ -119,6 +119,7 @@ impl Memory {
     }
 
     /// How many frames are live.
+    #[inline(always)]
     pub fn frames(&self) -> u32
         ensures { result ≡ length self.now.now }
     {
@@ -139,6 +140,7 @@ impl Memory {
         self.store.declared()
     }
 
+    #[inline(always)]
     pub fn read(&self, frame: u32, slot: u32) -> Cell
         requires live { frame < length self.now.now }
         requires slot_of { slot < length (slice_index_or self.now.now frame no_frame).cells }
@@ -148,6 +150,7 @@ impl Memory {
     }
 
     /// What a slot of the top frame holds.
+    #[inline(always)]
     pub fn top(&self, slot: u32) -> Cell
         requires { slot < length (last_frame self.now.now).cells }
         ensures { slice_get (last_frame self.now.now).cells slot ≡ Some result }
@@ -156,6 +159,7 @@ impl Memory {
     }
 
     /// The kind of a slot of the top frame.
+    #[inline(always)]
     pub fn top_kind(&self, slot: u32) -> SlotKind
         requires { slot < length (last_frame self.now.now).kinds }
         ensures { slice_get (last_frame self.now.now).kinds slot ≡ Some result }
@@ -163,6 +167,7 @@ impl Memory {
         self.store.kind(self.store.len() - 1, slot as usize)
     }
 
+    #[inline(always)]
     pub fn write(&mut self, frame: u32, slot: u32, cell: Cell) -> Result<(), NoMemory>
         requires live { frame < length self.old.now }
         requires slot_of { slot < length (slice_index_or self.old.now frame no_frame).cells }
@@ -182,6 +187,18 @@ impl Memory {
             self.new }
     {
         self.store.write(frame as usize, slot as usize, cell)
+    }
+
+    /// Writes into a slot of the top frame.
+    #[inline(always)]
+    pub fn put(&mut self, slot: u32, cell: Cell) -> Result<(), NoMemory>
+        requires { slot < length (last_frame self.old.now).cells }
+        ensures now { self.new.now ≡ (if is_ok result then frames_with_cell self.old.now
+            (length self.old.now - 1) slot cell else
+            self.old.now) }
+        ensures held { self.new.held ≡ self.old.held }
+    {
+        self.store.write(self.store.len() - 1, slot as usize, cell)
     }
 
     /// Pushes a frame, laid out by its head and its arguments.

@@ -47,14 +47,11 @@ pub fn push_entry(
 {
     entries.reserve(1)?;
     store.choose()?;
-    match entries.push(Entry {
+    entries.push_reserved(Entry {
         kind,
         resume,
         carry: Carry::new(alloc),
-    }) {
-        Ok(()) => (),
-        Err(_) => unreachable!(),
-    }
+    });
     Ok(())
 }
 

@@ -67,6 +67,7 @@ impl<T> Model for Rewind<T> {
 }
 
 // Whether a write at a place with this stamp needs no note.
+#[inline(always)]
 fn needs_no_note(marks: &[Mark], at: usize, stamp: usize) -> bool
     ensures { result ≡ is_free marks.now at stamp }
 {
@@ -87,18 +88,17 @@ fn top_of(marks: &[Mark]) -> usize
     marks[marks.len() - 1].top
 }
 
-// Room for a note, where one is needed.
-fn room_for_note<T: Copy>(free: bool, trail: &mut Vec<Note<T>>) -> Result<(), NoMemory>
-    ensures items { trail.new.items ≡ trail.old.items }
-    ensures len { vec_len trail.new ≡ vec_len trail.old }
-    ensures room { OnOk result (free ≡ false → vec_len trail.new < vec_capacity trail.new) }
-    ensures capacity { vec_capacity trail.old ≤ vec_capacity trail.new }
-    ensures free { free ≡ true → IsOk result }
-    ensures same { free ≡ true → vec_capacity trail.new ≡ vec_capacity trail.old }
-    ensures succeeds { vec_len trail.old + 1 ≤ vec_capacity trail.old → IsOk result }
+// Room for one item more. A vector that is not full is not touched.
+#[inline(always)]
+fn room_for_one<T>(items: &mut Vec<T>) -> Result<(), NoMemory>
+    ensures items { items.new.items ≡ items.old.items }
+    ensures len { vec_len items.new ≡ vec_len items.old }
+    ensures room { OnOk result (vec_len items.new < vec_capacity items.new) }
+    ensures capacity { vec_capacity items.old ≤ vec_capacity items.new }
+    ensures succeeds { vec_len items.old < vec_capacity items.old → IsOk result }
 {
-    if !free {
-        trail.reserve(1)?;
+    if items.len() == items.capacity() {
+        items.reserve(1)?;
     }
     Ok(())
 }
@@ -114,52 +114,57 @@ fn top_serial(marks: &[Mark]) -> usize
 }
 
 // Notes what stood at a place, and stamps the place.
+#[inline(always)]
 fn add_note<T: Copy>(
     stamps: &mut Vec<usize>,
     trail: &mut Vec<Note<T>>,
     at: usize,
     old: T,
     serial: usize,
-)
+) -> Result<(), NoMemory>
     requires wide { at < length stamps.old.items }
-    requires room { vec_len trail.old < vec_capacity trail.old }
-    ensures stamps { stamps.new.items ≡ set stamps.old.items at serial }
-    ensures trail { trail.new.items ≡ trail.old.items
-        ++ (record { at = at; stamp = slice_index_or stamps.old.items at 0; old = old }) ∷ [] }
-    ensures len { vec_len trail.new ≡ vec_len trail.old + 1 }
+    ensures stamps { OnOk result (stamps.new.items ≡ set stamps.old.items at serial) }
+    ensures trail { OnOk result (trail.new.items ≡ trail.old.items
+        ++ (record { at = at; stamp = slice_index_or stamps.old.items at 0; old = old }) ∷ []) }
+    ensures same { OnErr result ((stamps.new.items ≡ stamps.old.items) × (trail.new.items ≡ trail.old.items)) }
+    ensures len { vec_len trail.new ≤ vec_len trail.old + (if is_ok result then 1 else 0) }
     ensures capacity { vec_capacity trail.old ≤ vec_capacity trail.new }
+    ensures succeeds { vec_len trail.old + 1 ≤ vec_capacity trail.old → IsOk result }
 {
     let stamp = stamps[at];
-    match trail.push(Note { at, stamp, old }) {
-        Ok(()) => (),
-        Err(_) => unreachable!(),
-    }
+    room_for_one(trail)?;
+    trail.push_reserved(Note { at, stamp, old });
     stamps[at] = serial;
+    Ok(())
 }
 
 // Notes what stands at a place, where a note is needed.
+#[inline(always)]
 fn note_old<T: Copy>(
+    free: bool,
     marks: &[Mark],
     items: &[T],
     stamps: &mut Vec<usize>,
     trail: &mut Vec<Note<T>>,
     at: usize,
-)
+) -> Result<(), NoMemory>
     requires inside { at < length items.now }
     requires wide { at < length stamps.old.items }
-    requires room { is_free marks.now at (slice_index_or stamps.old.items at 0) ≡ false → vec_len trail.old < vec_capacity trail.old }
-    ensures keeps { (x : T) (counter : ℕ) → IsSound marks.now trail.old.items items.now stamps.old.items counter
-        → Keeps marks.now trail.old.items trail.new.items items.now (set items.now at x) stamps.new.items counter }
-    ensures noted { AddsNoted marks.now stamps.old.items stamps.new.items at }
-    ensures free { is_free marks.now at (slice_index_or stamps.old.items at 0) ≡ true → (vec_len trail.new ≡ vec_len trail.old) × (vec_capacity trail.new ≡ vec_capacity trail.old) }
-    ensures len { vec_len trail.new ≤ vec_len trail.old + 1 }
+    requires free { free ≡ is_free marks.now at (slice_index_or stamps.old.items at 0) }
+    ensures keeps { OnOk result ((x : T) (counter : ℕ) → IsSound marks.now trail.old.items items.now stamps.old.items counter
+        → Keeps marks.now trail.old.items trail.new.items items.now (set items.now at x) stamps.new.items counter) }
+    ensures noted { OnOk result (AddsNoted marks.now stamps.old.items stamps.new.items at) }
+    ensures same { OnErr result ((stamps.new.items ≡ stamps.old.items) × (trail.new.items ≡ trail.old.items)) }
+    ensures free { free ≡ true → IsOk result × (vec_len trail.new ≡ vec_len trail.old) × (vec_capacity trail.new ≡ vec_capacity trail.old) }
+    ensures len { vec_len trail.new ≤ vec_len trail.old + (if is_ok result then 1 else 0) }
     ensures capacity { vec_capacity trail.old ≤ vec_capacity trail.new }
+    ensures succeeds { vec_len trail.old + 1 ≤ vec_capacity trail.old → IsOk result }
 {
-    let free = needs_no_note(marks, at, stamps[at]);
     if !free {
         let old = items[at];
-        add_note(stamps, trail, at, old, top_serial(marks));
+        add_note(stamps, trail, at, old, top_serial(marks))?;
     }
+    Ok(())
 }
 
 // Puts back what a note holds.
@@ -309,14 +314,8 @@ fn push_both<T: Copy>(items: &mut Vec<T>, stamps: &mut Vec<usize>, value: T)
     ensures items { items.new.items ≡ items.old.items ++ value ∷ [] }
     ensures stamps { stamps.new.items ≡ stamps.old.items ++ 0 ∷ [] }
 {
-    match items.push(value) {
-        Ok(()) => (),
-        Err(_) => unreachable!(),
-    }
-    match stamps.push(0) {
-        Ok(()) => (),
-        Err(_) => unreachable!(),
-    }
+    items.push_reserved(value);
+    stamps.push_reserved(0);
 }
 
 impl<T: Copy> Rewind<T> {
@@ -335,6 +334,7 @@ impl<T: Copy> Rewind<T> {
         }
     }
 
+    #[inline(always)]
     pub fn len(&self) -> usize
         ensures { result ≡ length self.now.now }
     {
@@ -356,6 +356,7 @@ impl<T: Copy> Rewind<T> {
         top_of(self.marks.as_slice())
     }
 
+    #[inline(always)]
     pub fn get(&self, at: usize) -> T
         requires { at < length self.now.now }
         ensures { slice_get self.now.now at ≡ Some result }
@@ -403,6 +404,7 @@ impl<T: Copy> Rewind<T> {
     }
 
     /// Writes an item. It takes a note where the place is not noted yet.
+    #[inline(always)]
     pub fn write(&mut self, at: usize, value: T) -> Result<(), NoMemory>
         requires { at < length self.old.now }
         ensures now { self.new.now ≡ (if is_ok result then set self.old.now at value else self.old.now) }
@@ -415,14 +417,14 @@ impl<T: Copy> Rewind<T> {
         ensures trail_room { self.old.trail_room ≤ self.new.trail_room + (if is_ok result then 1 else 0) }
     {
         let free = needs_no_note(self.marks.as_slice(), at, self.stamps[at]);
-        room_for_note(free, &mut self.trail)?;
         note_old(
+            free,
             self.marks.as_slice(),
             self.items.as_slice(),
             &mut self.stamps,
             &mut self.trail,
             at,
-        );
+        )?;
         self.items[at] = value;
         Ok(())
     }
@@ -448,8 +450,8 @@ impl<T: Copy> Rewind<T> {
         ensures choice_room { self.new.choice_room ≡ self.old.choice_room }
         ensures trail_room { self.new.trail_room ≡ self.old.trail_room }
     {
-        self.items.reserve(1)?;
-        self.stamps.reserve(1)?;
+        room_for_one(&mut self.items)?;
+        room_for_one(&mut self.stamps)?;
         push_both(&mut self.items, &mut self.stamps, value);
         Ok(())
     }

@@ -89,6 +89,7 @@ fn higher(a: usize, b: usize) -> usize
 }
 
 // Where a slot of a region stands.
+#[inline(always)]
 pub fn place_of(region: Region, slot: usize, limit: usize) -> usize
     requires { region.base + slot < limit }
     ensures { result ≡ region.base + slot }
@@ -179,6 +180,7 @@ impl Store {
     }
 
     /// How many frames are live.
+    #[inline(always)]
     pub fn len(&self) -> usize
         ensures value { result ≡ length self.now.now }
         ensures live { AreLive self.now.now }
@@ -203,6 +205,7 @@ impl Store {
     }
 
     /// The cell in a slot of a live frame.
+    #[inline(always)]
     pub fn read(&self, frame: usize, slot: usize) -> Cell
         requires live { frame < length self.now.now }
         requires slot_of { slot < length (slice_index_or self.now.now frame no_frame).cells }
@@ -214,6 +217,7 @@ impl Store {
     }
 
     /// The kind of a slot of a live frame.
+    #[inline(always)]
     pub fn kind(&self, frame: usize, slot: usize) -> SlotKind
         requires live { frame < length self.now.now }
         requires slot_of { slot < length (slice_index_or self.now.now frame no_frame).kinds }
@@ -249,6 +253,7 @@ impl Store {
         self.number(place).is_some()
     }
 
+    #[inline(always)]
     pub fn write(&mut self, frame: usize, slot: usize, cell: Cell) -> Result<(), NoMemory>
         requires live { frame < length self.old.now }
         requires slot_of { slot < length (slice_index_or self.old.now frame no_frame).cells }
@@ -434,10 +439,7 @@ fn choose_all(
         Ok(()) => (),
         Err(_) => unreachable!(),
     }
-    match lives.push(live) {
-        Ok(()) => (),
-        Err(_) => unreachable!(),
-    }
+    lives.push_reserved(live);
 }
 
 // Drops the slots from `base` on, and pushes these.

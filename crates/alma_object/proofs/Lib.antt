@@ -8,6 +8,7 @@ pub mod Forms
 pub mod Items
 pub mod LineOrder
 pub mod Places
+pub mod Records
 pub mod Rows
 pub mod Sections
 pub mod Slices

@@ -1,11 +1,15 @@
 -- What the views stand for.
-use Rattle.std.specs.Prelude.{ℕ, ◌-◌, ◌<◌, ◌≤◌, List, length, get_or}
+use Rattle.std.specs.Prelude.{ℕ, ℤ, ◌+◌, ◌-◌, ◌<◌, ◌≤◌, List, length, get_or, slice_index}
 use Rattle.alma_code.specs.declared.code.Line.{Line}
 use Rattle.alma_code.specs.Head.{PlainHead}
+use Rattle.alma_code.specs.declared.instr.Instr.{Instr}
 use Rattle.alma_code.specs.Plain.{PlainCode, PlainRoutine, PlainGlobal}
+use Rattle.alma_object.specs.declared.record.InstrRecord.{InstrRecord}
 use Rattle.alma_object.specs.declared.routine.RoutineView.{RoutineView}
 use Rattle.alma_object.specs.declared.view.ObjectView.{ObjectView}
 use Rattle.alma_object.specs.declared.view.readers.GlobalView.{GlobalView}
+use Rattle.alma_object_format.specs.Bytes.{u32_at, i64_at}
+use Rattle.alma_object_format.specs.Instrs.{instr_at}
 use Rattle.alma_object_format.specs.Reading.{params_in, runs_in, code_in}
 
 -- the head of a routine view
@@ -28,6 +32,19 @@ routine_of_view v = record { name = v.name.now; head = head_of_view v; code_end 
 
 abbrev pub global_of_view : GlobalView → PlainGlobal
 global_of_view v = record { name = v.name.now; slot = v.slot; cells = v.cells }
+
+-- the instruction of a record, its opcode, its word behind so many bytes, and the value of a Const
+abbrev pub instr_of_record : InstrRecord → Instr
+instr_of_record r = instr_at r.bytes.now r.at
+
+abbrev pub opcode_of_record : InstrRecord → ℕ
+opcode_of_record r = slice_index r.bytes.now r.at
+
+abbrev pub word_of_record : InstrRecord → ℕ → ℕ
+word_of_record r k = u32_at r.bytes.now (r.at + k)
+
+abbrev pub value_of_record : InstrRecord → ℤ
+value_of_record r = i64_at r.bytes.now (r.at + 5)
 
 -- what stands for a line that is not there
 abbrev pub no_line : Line

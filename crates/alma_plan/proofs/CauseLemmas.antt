@@ -7,9 +7,9 @@ use Rattle.alma_io.specs.Files.{Told, MayHave, MayPass}
 use Rattle.alma_io.specs.Fronts.{AppendsFront}
 use Rattle.alma_io.specs.Sides.{SourceSide, FilesSide}
 use Rattle.alma_plan.specs.Outside.{FilesStay, Outside}
-use Rattle.alma_plan.specs.Plan.{Stored, Ending, Due, Plan, Fetches, Reads, Ends, Reading, Kept, Finished, Passed, MayLack, Lacks, Comes}
+use Rattle.alma_plan.specs.Plan.{Stored, Ending, Due, Plan, Sense, plain, Fetches, Judges, Reads, Ends, Reading, Kept, Finished, Passed, MayLack, Lacks, Comes}
 use Rattle.alma_plan.specs.Course.{Gains, Takes, OthersStay, Become, MayRead, ReadsOnly, GainsPrefix, Follows, unfetched, unread, unwritten, unstored, starved, done, Reports, said, unsaid, Answers}
-use Rattle.alma_plan.specs.Causes.{WriteFailed, WritesGrew, ReadsGrew, FetchFailed, InputFailed, MayCome, IsStoredName, MayEnd, unread_end, unwritten_end, starved_end, due_end, HasOwnEnds, Causes}
+use Rattle.alma_plan.specs.Causes.{WriteFailed, WritesGrew, ReadsGrew, FetchFailed, InputFailed, MayCome, IsStoredName, MayEnd, unread_end, unwritten_end, starved_end, due_end, HasOwnEnds, HaveOneVerdict, Causes}
 
 -- all bytes are a prefix
 whole_front : (a b : Option (List ℕ)) (bytes : List ℕ) → Appends a b bytes → AppendsFront a b bytes
@@ -43,22 +43,24 @@ takes_read P Passed due i j may h = inr (due, inr may)
 
 -- ---- what is due
 
-module _ {L : Type 0} (means : L → Due → Type 0) (program : List ℕ) (told : List ℕ → Told) (left : Option (List ℕ)) where
+module _ {V L : Type 0} (sense : Sense V L) (program : List ℕ) (told : List ℕ → Told) (left : Option (List ℕ)) where
   -- a read fault is due only where a file is missing, and without a print or a store
-  due_reads : (plan : Plan L) → HasOwnEnds means plan → (r : Reading) (due : Due) → Comes means program told left plan r due → due.end.status ≡ 6
-      → MayLack told plan × (due.out ≡ []) × (due.stored ≡ None)
+  due_reads : (plan : Plan V L) → HasOwnEnds sense plan → (r : Reading) (due : Due) → Comes sense program told left plan r due → due.end.status ≡ 6
+      → MayLack sense told plan × (due.out ≡ []) × (due.stored ≡ None)
   due_reads (Fetches name limit next) own r due (inl h) e =
       ((name, inl refl, h.0), ap (λ (d : Due). d.out) h.2, ap (λ (d : Due). d.stored) h.2)
   due_reads (Fetches name limit next) own r due (inr (inl h)) e = absurd (omega (arith, e, ap (λ (d : Due). d.end.status) h.2))
   due_reads (Fetches name limit next) own r due (inr (inr h)) e =
       let found = due_reads (next h.0) (own h.0) r due h.3 e in
       ((found.0.0, inr (h.0, h.1, h.2, found.0.1), found.0.2), found.1, found.2)
+  due_reads (Judges source next) own r due h e =
+      let found = due_reads (next h.0) (own h.0) r due h.2 e in ((found.0.0, (h.0, h.1, found.0.1), found.0.2), found.1, found.2)
   due_reads (Reads last) own r due (inl h) e = absurd (omega (arith, e, ap (λ (d : Due). d.end.status) h.2))
   due_reads (Reads last) own r due (inr h) e = absurd ((own h.0 due h.4).0 e)
   due_reads (Ends last) own r due h e = absurd ((own due h.1).0 e)
 
   -- no write fault and no want of memory is due
-  due_own : (plan : Plan L) → HasOwnEnds means plan → (r : Reading) (due : Due) → Comes means program told left plan r due
+  due_own : (plan : Plan V L) → HasOwnEnds sense plan → (r : Reading) (due : Due) → Comes sense program told left plan r due
       → (due.end.status ≢ 7) × (due.end.status ≢ 8)
   due_own (Fetches name limit next) own r due (inl h) =
       let is : due.end.status ≡ 6 = ap (λ (d : Due). d.end.status) h.2 in
@@ -67,6 +69,7 @@ module _ {L : Type 0} (means : L → Due → Type 0) (program : List ℕ) (told 
       let is : due.end.status ≡ 10 = ap (λ (d : Due). d.end.status) h.2 in
       (λ e. absurd (omega (arith, e, is)), λ e. absurd (omega (arith, e, is)))
   due_own (Fetches name limit next) own r due (inr (inr h)) = due_own (next h.0) (own h.0) r due h.3
+  due_own (Judges source next) own r due h = due_own (next h.0) (own h.0) r due h.2
   due_own (Reads last) own r due (inl h) =
       let is : due.end.status ≡ 10 = ap (λ (d : Due). d.end.status) h.2 in
       (λ e. absurd (omega (arith, e, is)), λ e. absurd (omega (arith, e, is)))
@@ -74,28 +77,34 @@ module _ {L : Type 0} (means : L → Due → Type 0) (program : List ℕ) (told 
   due_own (Ends last) own r due h = ((own due h.1).1, (own due h.1).2)
 
   -- where a plan lacks a file a read fault is due
-  due_lacks : (plan : Plan L) → Lacks told plan → (r : Reading) (due : Due) → Comes means program told left plan r due → due.end.status ≡ 6
-  due_lacks (Fetches name limit next) l r due (inl h) = ap (λ (d : Due). d.end.status) h.2
-  due_lacks (Fetches name limit next) (inl missing) r due (inr (inl h)) = absurd (subst (λ (t : Told). MayPass t limit) missing h.0)
-  due_lacks (Fetches name limit next) (inl missing) r due (inr (inr h)) = absurd (subst (λ (t : Told). MayHave t h.0) missing h.1)
-  due_lacks (Fetches name limit next) (inr l) r due (inr (inl h)) =
+  due_lacks : HaveOneVerdict sense → (plan : Plan V L) → Lacks sense told plan → (r : Reading) (due : Due) → Comes sense program told left plan r due → due.end.status ≡ 6
+  due_lacks one (Fetches name limit next) l r due (inl h) = ap (λ (d : Due). d.end.status) h.2
+  due_lacks one (Fetches name limit next) (inl missing) r due (inr (inl h)) = absurd (subst (λ (t : Told). MayPass t limit) missing h.0)
+  due_lacks one (Fetches name limit next) (inl missing) r due (inr (inr h)) = absurd (subst (λ (t : Told). MayHave t h.0) missing h.1)
+  due_lacks one (Fetches name limit next) (inr l) r due (inr (inl h)) =
       let past : limit < length l.0 = subst (λ (t : Told). MayPass t limit) l.1 h.0 in
       absurd (omega (arith, past, l.2))
-  due_lacks (Fetches name limit next) (inr l) r due (inr (inr h)) =
+  due_lacks one (Fetches name limit next) (inr l) r due (inr (inr h)) =
       let same : l.0 ≡ h.0 = subst (λ (t : Told). MayHave t h.0) l.1 h.1 in
-      due_lacks (next h.0) (subst (λ (bytes : List ℕ). Lacks told (next bytes)) same l.3) r due h.3
-  due_lacks (Reads last) l r due h = absurd l
-  due_lacks (Ends last) l r due h = absurd l
+      due_lacks one (next h.0) (subst (λ (bytes : List ℕ). Lacks sense told (next bytes)) same l.3) r due h.3
+  due_lacks one (Judges source next) l r due h =
+      let same = one source l.0 h.0 l.1 h.1 in due_lacks one (next h.0) (subst (λ (v : V). Lacks sense told (next v)) same l.2) r due h.2
+  due_lacks one (Reads last) l r due h = absurd l
+  due_lacks one (Ends last) l r due h = absurd l
+
+-- plans that judge no source
+pub plain_has_one : HaveOneVerdict plain
+plain_has_one source one other is also = absurd is
 
 -- ---- the clauses
 
-module _ {L : Type 0} (means : L → Due → Type 0) (program : List ℕ) (plan : Plan L) (own : HasOwnEnds means plan) (before after : Outside) (status : ℕ) where
+module _ {V L : Type 0} (sense : Sense V L) (program : List ℕ) (plan : Plan V L) (one : HaveOneVerdict sense) (own : HasOwnEnds sense plan) (before after : Outside) (status : ℕ) where
   -- what may come, how the call may come to an end, and how it reports it
   abbrev May : Reading → Due → Type 0
-  May = MayCome means program plan before
+  May = MayCome sense program plan before
 
   abbrev CourseTo : Ending → Type 0
-  CourseTo end = Follows means program plan before.files after.files before.input after.input before.out after.out end
+  CourseTo end = Follows sense program plan before.files after.files before.input after.input before.out after.out end
 
   abbrev ReportOf : Ending → Type 0
   ReportOf end = Reports end before.err after.err status
@@ -103,7 +112,7 @@ module _ {L : Type 0} (means : L → Due → Type 0) (program : List ℕ) (plan 
   -- at a read fault a file is missing, or a fetch or a read failed; nothing was written, and the files stay
   abbrev ReadFaultIs : Type 0
   ReadFaultIs =
-      (FetchFailed plan before after ⊎ (InputFailed May before after ⊎ MayLack before.files.told plan)) × Appends before.out.written after.out.written []
+      (FetchFailed sense plan before after ⊎ (InputFailed May before after ⊎ MayLack sense before.files.told plan)) × Appends before.out.written after.out.written []
       × FilesStay before.files after.files
 
   read_fault_of : (end : Ending) → CourseTo end → ReportOf end → status ≡ 6 → ReadFaultIs
@@ -114,7 +123,7 @@ module _ {L : Type 0} (means : L → Due → Type 0) (program : List ℕ) (plan 
   read_fault_of end (unstored r due stored may is q fetches files risen takes out) (said s g) e = absurd (omega (arith, s, e, of_status end _ q))
   read_fault_of end (starved q fetches files reads out faults) (said s g) e = absurd (omega (arith, s, e, of_status end _ q))
   read_fault_of end (done r due may is fetches files takes out) (said s g) e =
-      let found = due_reads means program before.files.told before.input.left plan own r due may (of_status due.end end is ∙ sym s ∙ e) in
+      let found = due_reads sense program before.files.told before.input.left plan own r due may (of_status due.end end is ∙ sym s ∙ e) in
       (inr (inr found.0), subst (Appends before.out.written after.out.written) found.1 out.bytes_are, subst (Become before.files after.files) found.2 files)
 
   write_fault_of : (end : Ending) → CourseTo end → ReportOf end → status ≡ 7 → WriteFailed before after
@@ -125,7 +134,7 @@ module _ {L : Type 0} (means : L → Due → Type 0) (program : List ℕ) (plan 
   write_fault_of end (unstored r due stored may is q fetches files risen takes out) (said s g) e = inr (inr risen.1)
   write_fault_of end (starved q fetches files reads out faults) (said s g) e = absurd (omega (arith, s, e, of_status end _ q))
   write_fault_of end (done r due may is fetches files takes out) (said s g) e =
-      absurd ((due_own means program before.files.told before.input.left plan own r due may).0 (of_status due.end end is ∙ sym s ∙ e))
+      absurd ((due_own sense program before.files.told before.input.left plan own r due may).0 (of_status due.end end is ∙ sym s ∙ e))
 
   prefix_of : (end : Ending) → CourseTo end → GainsPrefix May before.out after.out
   prefix_of end (unfetched name asks q risen files input out) = inl out.bytes_are
@@ -168,7 +177,7 @@ module _ {L : Type 0} (means : L → Due → Type 0) (program : List ℕ) (plan 
   starved_files_of end (unstored r due stored may is q fetches files risen takes out) (said s g) e = absurd (omega (arith, s, e, of_status end _ q))
   starved_files_of end (starved q fetches files reads out faults) (said s g) e = files
   starved_files_of end (done r due may is fetches files takes out) (said s g) e =
-      absurd ((due_own means program before.files.told before.input.left plan own r due may).1 (of_status due.end end is ∙ sym s ∙ e))
+      absurd ((due_own sense program before.files.told before.input.left plan own r due may).1 (of_status due.end end is ∙ sym s ∙ e))
 
   files_stay_of : (end : Ending) → CourseTo end → ReportOf end → (status ≡ 6) ⊎ (status ≡ 8) → FilesStay before.files after.files
   files_stay_of end course report (inl e) = (read_fault_of end course report e).2
@@ -240,7 +249,7 @@ module _ {L : Type 0} (means : L → Due → Type 0) (program : List ℕ) (plan 
   input_of end (starved q fetches files reads out faults) = starved_input reads
   input_of end (done r due may is fetches files takes out) = takes_read May r due before.input after.input may takes
 
-  absence_shown_of : (end : Ending) → CourseTo end → ReportOf end → Lacks before.files.told plan → (status ≡ 6) ⊎ ((status ≡ 7) ⊎ (status ≡ 8))
+  absence_shown_of : (end : Ending) → CourseTo end → ReportOf end → Lacks sense before.files.told plan → (status ≡ 6) ⊎ ((status ≡ 7) ⊎ (status ≡ 8))
   absence_shown_of end course (unsaid s f) l = inr (inl s)
   absence_shown_of end (unfetched name asks q risen files input out) (said s g) l = inl (s ∙ of_status end _ q)
   absence_shown_of end (unread q fetches files reads lost risen out) (said s g) l = inl (s ∙ of_status end _ q)
@@ -248,10 +257,10 @@ module _ {L : Type 0} (means : L → Due → Type 0) (program : List ℕ) (plan 
   absence_shown_of end (unstored r due stored may is q fetches files risen takes out) (said s g) l = inr (inl (s ∙ of_status end _ q))
   absence_shown_of end (starved q fetches files reads out faults) (said s g) l = inr (inr (s ∙ of_status end _ q))
   absence_shown_of end (done r due may is fetches files takes out) (said s g) l =
-      inl (s ∙ sym (of_status due.end end is) ∙ due_lacks means program before.files.told before.input.left plan l r due may)
+      inl (s ∙ sym (of_status due.end end is) ∙ due_lacks sense program before.files.told before.input.left one plan l r due may)
 
   -- what a call's status says of it, where the plan has ends of its own
-  pub causes_of : Answers means program plan before after status → Causes means program plan before after status
+  pub causes_of : Answers sense program plan before after status → Causes sense program plan before after status
   causes_of x = record {
     read_fault_is = λ e. (read_fault_of x.end x.course x.reported e).0;
     nothing = λ e. (read_fault_of x.end x.course x.reported e).1;

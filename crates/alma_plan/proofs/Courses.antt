@@ -15,9 +15,9 @@ use Rattle.alma_io.specs.declared.whole.ReadAll.{ReadAll}
 use Rattle.alma_io.specs.declared.whole.ReadAll.TheVariants as reading
 use Rattle.alma_io.proofs.Known.{appends_none}
 use Rattle.alma_plan.specs.Outside.{HasRisen, FilesStay}
-use Rattle.alma_plan.specs.Plan.{Stored, Ending, Due, Plan, Fetches, Reads, Ends, Reading, Kept, Finished, Passed, Asks, Comes, MayBeLeft, silent, read_fault, no_memory, too_long}
+use Rattle.alma_plan.specs.Plan.{Stored, Ending, Due, Plan, Sense, Fetches, Judges, Reads, Ends, Reading, Kept, Finished, Passed, Asks, Comes, MayBeLeft, silent, read_fault, write_fault, no_memory, too_long}
 use Rattle.alma_plan.specs.Refusals.{stop_end, fetch_stop, read_stop}
-use Rattle.alma_plan.specs.Course.{Gains, Takes, IsBegun, Become, MayRead, ReadsOnly, GainsPrefix, Goes, cut_short, hungry, hungry_within, whole, Course, Follows, unfetched, unread, unwritten, unstored, starved, done}
+use Rattle.alma_plan.specs.Course.{Gains, Takes, IsBegun, OthersStay, Become, MayRead, ReadsOnly, GainsPrefix, Goes, cut_short, hungry, hungry_within, whole, Course, Follows, unfetched, unread, unwritten, unstored, starved, done}
 
 -- a sink that nothing was done to gained nothing
 pub gains_none : (o : SinkSide) → Gains o o []
@@ -33,24 +33,27 @@ pub course_starved : (program : List ℕ) (asks : List ℕ → Type 0) (may : Re
 course_starved program asks may f i o = starved refl refl (files_same f) (inl refl) (inl (appends_none o.written)) refl
 
 -- what may be asked for, and what may come, by what the files told before
-asks_told : {L : Type 0} (told told' : List ℕ → Told) → ((name : List ℕ) → told' name ≡ told name) → (plan : Plan L) (asked : List ℕ)
-    → Asks told' plan asked → Asks told plan asked
-asks_told told told' same (Fetches name limit next) asked (inl e) = inl e
-asks_told told told' same (Fetches name limit next) asked (inr h) =
-    inr (h.0, subst (λ (t : Told). MayHave t h.0) (same name) h.1, h.2, asks_told told told' same (next h.0) asked h.3)
-asks_told told told' same (Reads last) asked h = h
-asks_told told told' same (Ends last) asked h = h
+asks_told : {V L : Type 0} (sense : Sense V L) (told told' : List ℕ → Told) → ((name : List ℕ) → told' name ≡ told name) → (plan : Plan V L) (asked : List ℕ)
+    → Asks sense told' plan asked → Asks sense told plan asked
+asks_told sense told told' same (Fetches name limit next) asked (inl e) = inl e
+asks_told sense told told' same (Fetches name limit next) asked (inr h) =
+    inr (h.0, subst (λ (t : Told). MayHave t h.0) (same name) h.1, h.2, asks_told sense told told' same (next h.0) asked h.3)
+asks_told sense told told' same (Judges source next) asked h = (h.0, h.1, asks_told sense told told' same (next h.0) asked h.2)
+asks_told sense told told' same (Reads last) asked h = h
+asks_told sense told told' same (Ends last) asked h = h
 
-comes_told : {L : Type 0} (means : L → Due → Type 0) (program : List ℕ) (told told' : List ℕ → Told) (left : Option (List ℕ))
-    → ((name : List ℕ) → told' name ≡ told name) → (plan : Plan L) (r : Reading) (due : Due)
-    → Comes means program told' left plan r due → Comes means program told left plan r due
-comes_told means program told told' left same (Fetches name limit next) r due (inl h) = inl (sym (same name) ∙ h.0, h.1, h.2)
-comes_told means program told told' left same (Fetches name limit next) r due (inr (inl h)) =
+comes_told : {V L : Type 0} (sense : Sense V L) (program : List ℕ) (told told' : List ℕ → Told) (left : Option (List ℕ))
+    → ((name : List ℕ) → told' name ≡ told name) → (plan : Plan V L) (r : Reading) (due : Due)
+    → Comes sense program told' left plan r due → Comes sense program told left plan r due
+comes_told sense program told told' left same (Fetches name limit next) r due (inl h) = inl (sym (same name) ∙ h.0, h.1, h.2)
+comes_told sense program told told' left same (Fetches name limit next) r due (inr (inl h)) =
     inr (inl (subst (λ (t : Told). MayPass t limit) (same name) h.0, h.1, h.2))
-comes_told means program told told' left same (Fetches name limit next) r due (inr (inr h)) =
-    inr (inr (h.0, subst (λ (t : Told). MayHave t h.0) (same name) h.1, h.2, comes_told means program told told' left same (next h.0) r due h.3))
-comes_told means program told told' left same (Reads last) r due h = h
-comes_told means program told told' left same (Ends last) r due h = h
+comes_told sense program told told' left same (Fetches name limit next) r due (inr (inr h)) =
+    inr (inr (h.0, subst (λ (t : Told). MayHave t h.0) (same name) h.1, h.2, comes_told sense program told told' left same (next h.0) r due h.3))
+comes_told sense program told told' left same (Judges source next) r due h =
+    (h.0, h.1, comes_told sense program told told' left same (next h.0) r due h.2)
+comes_told sense program told told' left same (Reads last) r due h = h
+comes_told sense program told told' left same (Ends last) r due h = h
 
 -- files that stay twice stay
 stay_twice : (f g h : FilesSide) → FilesStay f g → FilesStay g h → FilesStay f h
@@ -104,22 +107,22 @@ module _ (program : List ℕ) (A B : List ℕ → Type 0) (P Q : Reading → Due
   course_map asked map f g h i j o p end stay quiet (done r due may is fetches files takes out) =
       done r due (map r due may) is (fetches ∙ quiet) (become_behind f g h due.stored stay files) takes out
 
-module _ {L : Type 0} (means : L → Due → Type 0) (program : List ℕ) where
+module _ {V L : Type 0} (sense : Sense V L) (program : List ℕ) where
   -- a file was fetched
-  pub course_fetched : (name : List ℕ) (limit : ℕ) (next : List ℕ → Plan L) (bytes : List ℕ) (f g h : FilesSide) (i j : SourceSide) (o p : SinkSide) (end : Ending)
+  pub course_fetched : (name : List ℕ) (limit : ℕ) (next : List ℕ → Plan V L) (bytes : List ℕ) (f g h : FilesSide) (i j : SourceSide) (o p : SinkSide) (end : Ending)
       → FilesStay f g → g.fetch_faults ≡ f.fetch_faults → MayHave (f.told name) bytes → length bytes ≤ limit
-      → Follows means program (next bytes) g h i j o p end → Follows means program (Fetches name limit next) f h i j o p end
+      → Follows sense program (next bytes) g h i j o p end → Follows sense program (Fetches name limit next) f h i j o p end
   course_fetched name limit next bytes f g h i j o p end stay quiet has short course =
-      course_map program (Asks g.told (next bytes)) (Asks f.told (Fetches name limit next)) (Comes means program g.told i.left (next bytes))
-      (Comes means program f.told i.left (Fetches name limit next))
-      (λ asked asks. inr (bytes, has, short, asks_told f.told g.told stay.0 (next bytes) asked asks))
-      (λ r due comes. inr (inr (bytes, has, short, comes_told means program f.told g.told i.left stay.0 (next bytes) r due comes)))
+      course_map program (Asks sense g.told (next bytes)) (Asks sense f.told (Fetches name limit next)) (Comes sense program g.told i.left (next bytes))
+      (Comes sense program f.told i.left (Fetches name limit next))
+      (λ asked asks. inr (bytes, has, short, asks_told sense f.told g.told stay.0 (next bytes) asked asks))
+      (λ r due comes. inr (inr (bytes, has, short, comes_told sense program f.told g.told i.left stay.0 (next bytes) r due comes)))
       f g h i j o p end stay quiet course
 
   -- a file was not fetched
-  pub course_unfetched : (name : List ℕ) (limit : ℕ) (next : List ℕ → Plan L) (fault : Fetch) (f g : FilesSide) (i : SourceSide) (o : SinkSide)
+  pub course_unfetched : (name : List ℕ) (limit : ℕ) (next : List ℕ → Plan V L) (fault : Fetch) (f g : FilesSide) (i : SourceSide) (o : SinkSide)
       → FilesStay f g → IsFetched (f.told name) limit f.fetch_faults g.fetch_faults (Err fault)
-      → Follows means program (Fetches name limit next) f g i i o o (stop_end program (fetch_stop fault))
+      → Follows sense program (Fetches name limit next) f g i i o o (stop_end program (fetch_stop fault))
   course_unfetched name limit next fetch.Absent f g i o stay is =
       done Kept (silent (read_fault program)) (inl (is.0, refl, refl)) refl is.1 stay refl (gains_none o)
   course_unfetched name limit next fetch.Failed f g i o stay is = unfetched name (inl refl) refl (is.0, is.1) stay refl (gains_none o)
@@ -128,6 +131,14 @@ module _ {L : Type 0} (means : L → Due → Type 0) (program : List ℕ) where
   course_unfetched name limit next fetch.Memory f g i o stay is =
       starved refl is stay (inl refl) (inl (appends_none o.written)) refl
 
+  -- a source was judged
+  pub course_judged : (source : List ℕ) (next : V → Plan V L) (verdict : V) (f h : FilesSide) (i j : SourceSide) (o p : SinkSide) (end : Ending)
+      → sense.judged source verdict → Follows sense program (next verdict) f h i j o p end → Follows sense program (Judges source next) f h i j o p end
+  course_judged source next verdict f h i j o p end is course =
+      course_map program (Asks sense f.told (next verdict)) (Asks sense f.told (Judges source next))
+      (Comes sense program f.told i.left (next verdict)) (Comes sense program f.told i.left (Judges source next))
+      (λ asked asks. (verdict, is, asks)) (λ r due comes. (verdict, is, comes)) f f h i j o p end (files_same f) refl course
+
   -- what is read to the end is what was left
   was_left : (old new : Option (List ℕ)) (bytes : List ℕ) → Consumes old new bytes → IsAtEnd new → MayBeLeft old bytes
   was_left None new bytes c e = tt
@@ -135,18 +146,18 @@ module _ {L : Type 0} (means : L → Due → Type 0) (program : List ℕ) where
   was_left (Some xs) (Some ys) bytes c e = c ∙ ap (λ z. bytes ++ z) e ∙ append-nil bytes
 
   -- a plan that reads the input has something that comes and does
-  reading_due : (told : List ℕ → Told) (left : Option (List ℕ)) (last : List ℕ → L) → ((bytes : List ℕ) → (due : Due) × means (last bytes) due)
-      → MayRead (Comes means program told left (Reads last))
+  reading_due : (told : List ℕ → Told) (left : Option (List ℕ)) (last : List ℕ → L) → ((bytes : List ℕ) → (due : Due) × sense.means (last bytes) due)
+      → MayRead (Comes sense program told left (Reads last))
   reading_due told None last some = let found = some [] in (found.0, inl (inr ([], tt, omega arith, refl, found.1)))
   reading_due told (Some bytes) last some = by (cases_lt input_limit (length bytes))
     where
-      by : (input_limit < length bytes) ⊎ (length bytes ≤ input_limit) → MayRead (Comes means program told (Some bytes) (Reads last))
+      by : (input_limit < length bytes) ⊎ (length bytes ≤ input_limit) → MayRead (Comes sense program told (Some bytes) (Reads last))
       by (inl past) = (silent (too_long program), inr (inl (past, refl, refl)))
       by (inr short) = let found = some bytes in (found.0, inl (inr (bytes, refl, short, refl, found.1)))
 
   -- nothing more is read
-  pub course_ends : (last : L) (f : FilesSide) (i : SourceSide) (o p : SinkSide) (end : Ending) → Goes program (means last) o p end
-      → Follows means program (Ends last) f f i i o p end
+  pub course_ends : (last : L) (f : FilesSide) (i : SourceSide) (o p : SinkSide) (end : Ending) → Goes program (sense.means last) o p end
+      → Follows sense program (Ends last) f f i i o p end
   course_ends last f i o p end (cut_short due may e out) = unwritten Kept due (refl, may) e refl (files_same f) refl out
   course_ends last f i o p end (hungry e out) = starved e refl (files_same f) (inl refl) (inl out.bytes_are) out.quiet
   course_ends last f i o p end (hungry_within due may e out faults) = starved e refl (files_same f) (inl refl) (inr (Kept, due, (refl, may), out)) faults
@@ -154,10 +165,10 @@ module _ {L : Type 0} (means : L → Due → Type 0) (program : List ℕ) where
       done Kept due (refl, may) is refl (subst (Become f f) (sym none) (files_same f)) refl out
 
   -- the whole input was read, and then what is due follows
-  pub course_read : (last : List ℕ → L) → ((bytes : List ℕ) → (due : Due) × means (last bytes) due)
+  pub course_read : (last : List ℕ → L) → ((bytes : List ℕ) → (due : Due) × sense.means (last bytes) due)
       → (bytes : List ℕ) (f : FilesSide) (i j : SourceSide) (o p : SinkSide) (end : Ending)
       → Consumes i.left j.left bytes → IsAtEnd j.left → length bytes ≤ input_limit → j.faults ≡ i.faults
-      → Goes program (means (last bytes)) o p end → Follows means program (Reads last) f f i j o p end
+      → Goes program (sense.means (last bytes)) o p end → Follows sense program (Reads last) f f i j o p end
   course_read last some bytes f i j o p end c at_end short same goes = by goes where
     takes : Takes Finished i j
     takes = ((bytes, c, at_end, short), same)
@@ -165,10 +176,10 @@ module _ {L : Type 0} (means : L → Due → Type 0) (program : List ℕ) where
     begun : IsBegun i j
     begun = ((bytes, c, omega (arith, short)), same)
 
-    comes : (due : Due) → means (last bytes) due → Comes means program f.told i.left (Reads last) Finished due
+    comes : (due : Due) → sense.means (last bytes) due → Comes sense program f.told i.left (Reads last) Finished due
     comes due m = inr (bytes, was_left i.left j.left bytes c at_end, short, refl, m)
 
-    by : Goes program (means (last bytes)) o p end → Follows means program (Reads last) f f i j o p end
+    by : Goes program (sense.means (last bytes)) o p end → Follows sense program (Reads last) f f i j o p end
     by (cut_short due may e out) = unwritten Finished due (comes due may) e refl (files_same f) takes out
     by (hungry e out) = starved e refl (files_same f) (inr (reading_due f.told i.left last some, begun)) (inl out.bytes_are) out.quiet
     by (hungry_within due may e out faults) =
@@ -179,15 +190,34 @@ module _ {L : Type 0} (means : L → Due → Type 0) (program : List ℕ) where
   not_read error = Err error
 
   -- the input was not read
-  pub course_unread : (last : List ℕ → L) → ((bytes : List ℕ) → (due : Due) × means (last bytes) due)
+  pub course_unread : (last : List ℕ → L) → ((bytes : List ℕ) → (due : Due) × sense.means (last bytes) due)
       → (error : ReadAll) (f : FilesSide) (i j : SourceSide) (o : SinkSide)
       → LosesAtMost i.left j.left (input_limit + 1) → HasReadCause i.faults j.faults (Err error)
       → (not_read error ≡ not_read reading.TooLong → MayHaveMore i.left input_limit)
       → (not_read error ≡ not_read reading.TooLong → LosesBytes i.left j.left (input_limit + 1))
-      → Follows means program (Reads last) f f i j o o (stop_end program (read_stop error))
+      → Follows sense program (Reads last) f f i j o o (stop_end program (read_stop error))
   course_unread last some reading.Fault f i j o loses cause more past =
       unread refl refl (files_same f) (reading_due f.told i.left last some) loses (cause.0, cause.1) (gains_none o)
   course_unread last some reading.TooLong f i j o loses cause more past =
       done Passed (silent (too_long program)) (inl (more refl, refl, refl)) refl refl (files_same f) (past refl, cause) (gains_none o)
   course_unread last some reading.Memory f i j o loses cause more past =
       starved refl refl (files_same f) (inr (reading_due f.told i.left last some, (loses, cause))) (inl (appends_none o.written)) refl
+
+  -- bytes were stored
+  pub course_stored : (last : L) (due : Due) (stored : Stored) (f g : FilesSide) (i : SourceSide) (o : SinkSide) → sense.means last due
+      → due.stored ≡ Some stored → due.out ≡ [] → g.fetch_faults ≡ f.fetch_faults → Become f g (Some stored)
+      → Follows sense program (Ends last) f g i i o o due.end
+  course_stored last due stored f g i o means is none quiet become =
+      done Kept due (refl, means) refl quiet (subst (Become f g) (sym is) become) refl (subst (Gains o o) (sym none) (gains_none o))
+
+  -- a store failed
+  pub course_unstored : (last : L) (due : Due) (stored : Stored) (f g : FilesSide) (i : SourceSide) (o : SinkSide) → sense.means last due
+      → due.stored ≡ Some stored → due.out ≡ [] → g.fetch_faults ≡ f.fetch_faults → OthersStay f g stored.name → HasRisen f.store_faults g.store_faults
+      → Follows sense program (Ends last) f g i i o o (write_fault program)
+  course_unstored last due stored f g i o means is none quiet others risen =
+      unstored Kept due stored (refl, means) is refl quiet others risen refl (subst (Gains o o) (sym none) (gains_none o))
+
+  -- memory ran out at a store: every file is as before
+  pub course_starved_store : (last : L) (f g : FilesSide) (i : SourceSide) (o : SinkSide) → g.fetch_faults ≡ f.fetch_faults → FilesStay f g
+      → Follows sense program (Ends last) f g i i o o (no_memory program)
+  course_starved_store last f g i o quiet stay = starved refl quiet stay (inl refl) (inl (appends_none o.written)) refl

@@ -3,7 +3,7 @@ use Rattle.std.specs.Prelude.{◌≡◌, ◌≢◌, ◌<◌, ◌⊎◌, List, �
 use Rattle.std.specs.Io.KnownBytes.{Appends}
 use Rattle.alma_io.specs.Causes.{Rose}
 use Rattle.alma_plan.specs.Outside.{FilesStay, Outside}
-use Rattle.alma_plan.specs.Plan.{Stored, Ending, Due, Plan, Fetches, Reads, Ends, Reading, Asks, MayLack, Lacks, Comes, read_fault, write_fault, no_memory}
+use Rattle.alma_plan.specs.Plan.{Stored, Ending, Due, Plan, Sense, Fetches, Judges, Reads, Ends, Reading, Asks, MayLack, Lacks, Comes, read_fault, write_fault, no_memory}
 use Rattle.alma_plan.specs.Course.{Gains, Takes, OthersStay, Become, MayRead, GainsPrefix, Reports}
 
 -- ---- what a call met
@@ -23,8 +23,8 @@ abbrev pub ReadsGrew : Outside → Outside → Type 0
 ReadsGrew before after = (before.files.fetch_faults < after.files.fetch_faults) ⊎ (before.input.faults < after.input.faults)
 
 -- a fetch failed in the call, and the plan may ask for a file
-abbrev pub FetchFailed : {L : Type 0} → Plan L → Outside → Outside → Type 0
-FetchFailed plan before after = Rose before.files.fetch_faults after.files.fetch_faults × ((name : List ℕ) × Asks before.files.told plan name)
+abbrev pub FetchFailed : {V L : Type 0} → Sense V L → Plan V L → Outside → Outside → Type 0
+FetchFailed sense plan before after = Rose before.files.fetch_faults after.files.fetch_faults × ((name : List ℕ) × Asks sense before.files.told plan name)
 
 -- a read of the input failed in the call, and what may come reads it
 abbrev pub InputFailed : (may : Reading → Due → Type 0) → Outside → Outside → Type 0
@@ -33,8 +33,8 @@ InputFailed may before after = Rose before.input.faults after.input.faults × Ma
 -- ---- what may come
 
 -- what may come of a plan, by what is outside before
-abbrev pub MayCome : {L : Type 0} → (means : L → Due → Type 0) → (program : List ℕ) → Plan L → Outside → Reading → Due → Type 0
-MayCome means program plan before = Comes means program before.files.told before.input.left plan
+abbrev pub MayCome : {V L : Type 0} → Sense V L → (program : List ℕ) → Plan V L → Outside → Reading → Due → Type 0
+MayCome sense program plan before = Comes sense program before.files.told before.input.left plan
 
 -- a file that is to be stored
 abbrev pub IsStoredName : (may : Reading → Due → Type 0) → List ℕ → Type 0
@@ -47,40 +47,45 @@ pub data MayEnd (program : List ℕ) (may : Reading → Due → Type 0) (end : E
   starved_end : end ≡ no_memory program → MayEnd program may end
   due_end : (reading : Reading) (due : Due) → may reading due → due.end ≡ end → MayEnd program may end
 
-module _ {L : Type 0} (means : L → Due → Type 0) where
+module _ {V L : Type 0} (sense : Sense V L) where
   -- what a last value means is an end of the program's own: no fault of the outside, and no want of memory
   abbrev pub IsOwn : L → Type 0
-  IsOwn last = (due : Due) → means last due → (due.end.status ≢ 6) × (due.end.status ≢ 7) × (due.end.status ≢ 8)
+  IsOwn last = (due : Due) → sense.means last due → (due.end.status ≢ 6) × (due.end.status ≢ 7) × (due.end.status ≢ 8)
 
   -- so do all last values of a plan
-  abbrev pub HasOwnEnds : Plan L → Type 0
+  abbrev pub HasOwnEnds : Plan V L → Type 0
   HasOwnEnds (Fetches name limit next) = (bytes : List ℕ) → HasOwnEnds (next bytes)
+  HasOwnEnds (Judges source next) = (verdict : V) → HasOwnEnds (next verdict)
   HasOwnEnds (Reads last) = (bytes : List ℕ) → IsOwn (last bytes)
   HasOwnEnds (Ends last) = IsOwn last
+
+-- a source comes to one verdict
+abbrev pub HaveOneVerdict : {V L : Type 0} → Sense V L → Type 0
+HaveOneVerdict {V} sense = (source : List ℕ) (one other : V) → sense.judged source one → sense.judged source other → one ≡ other
 
 -- ---- the call
 
 -- What each status says of a call with a plan, and what a call shows that met a fault.
-pub record Causes {L : Type 0} (means : L → Due → Type 0) (program : List ℕ) (plan : Plan L) (before after : Outside) (status : ℕ) : Type 0 where
+pub record Causes {V L : Type 0} (sense : Sense V L) (program : List ℕ) (plan : Plan V L) (before after : Outside) (status : ℕ) : Type 0 where
   -- a read fault comes only where a fetch failed and the plan may ask for a file, where a read of the input failed that what may
   -- come reads, or where a file that it may ask for is told to be missing
-  pub read_fault_is : status ≡ 6 → FetchFailed plan before after ⊎ (InputFailed (MayCome means program plan before) before after ⊎ MayLack before.files.told plan)
+  pub read_fault_is : status ≡ 6 → FetchFailed sense plan before after ⊎ (InputFailed (MayCome sense program plan before) before after ⊎ MayLack sense before.files.told plan)
   -- at a read fault nothing was written to out
   pub nothing : status ≡ 6 → Appends before.out.written after.out.written []
   -- a write fault comes only where a write or a store failed
   pub write_fault_is : status ≡ 7 → WriteFailed before after
   -- whatever the status, out gained no more than what is due
-  pub prefix : GainsPrefix (MayCome means program plan before) before.out after.out
+  pub prefix : GainsPrefix (MayCome sense program plan before) before.out after.out
   -- err gained the text of the status; or it failed within the text of the status before, and that of a write fault is answered
-  pub reported : (end : Ending) × MayEnd program (MayCome means program plan before) end × Reports end before.err after.err status
+  pub reported : (end : Ending) × MayEnd program (MayCome sense program plan before) end × Reports end before.err after.err status
   -- the files stay, but for one that is to be stored
   pub files : FilesStay before.files after.files
-      ⊎ ((name : List ℕ) × IsStoredName (MayCome means program plan before) name × OthersStay before.files after.files name)
+      ⊎ ((name : List ℕ) × IsStoredName (MayCome sense program plan before) name × OthersStay before.files after.files name)
   -- at a read fault and at want of memory all of them stay
   pub files_stay : (status ≡ 6) ⊎ (status ≡ 8) → FilesStay before.files after.files
   -- but for read faults, write faults and want of memory, status, out, err, files and the input are all that is due
   pub whole : (status ≢ 6) → (status ≢ 7) → (status ≢ 8)
-      → (reading : Reading) × (due : Due) × MayCome means program plan before reading due × (status ≡ due.end.status)
+      → (reading : Reading) × (due : Due) × MayCome sense program plan before reading due × (status ≡ due.end.status)
       × Gains before.out after.out due.out × Gains before.err after.err due.end.text
       × Become before.files after.files due.stored × Takes reading before.input after.input
   -- a failed write or store is not hidden: write fault, or want of memory
@@ -88,6 +93,6 @@ pub record Causes {L : Type 0} (means : L → Due → Type 0) (program : List �
   -- nor a failed fetch or read, where no write failed: read fault, or want of memory
   pub reads_shown : ReadsGrew before after → WriteFailed before after ⊎ ((status ≡ 6) ⊎ (status ≡ 8))
   -- the input stays but where what may come reads it
-  pub input : (after.input ≡ before.input) ⊎ MayRead (MayCome means program plan before)
+  pub input : (after.input ≡ before.input) ⊎ MayRead (MayCome sense program plan before)
   -- nor is it hidden that a file is missing
-  pub absence_shown : Lacks before.files.told plan → (status ≡ 6) ⊎ ((status ≡ 7) ⊎ (status ≡ 8))
+  pub absence_shown : Lacks sense before.files.told plan → (status ≡ 6) ⊎ ((status ≡ 7) ⊎ (status ≡ 8))

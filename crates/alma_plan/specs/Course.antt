@@ -7,7 +7,7 @@ use Rattle.alma_io.specs.Fronts.{AppendsFront}
 use Rattle.alma_io.specs.Sides.{SinkSide, SourceSide, FilesSide}
 use Rattle.alma_io.specs.Whole.{LosesAtMost, LosesBytes}
 use Rattle.alma_plan.specs.Outside.{Outside, HasRisen, FilesStay}
-use Rattle.alma_plan.specs.Plan.{Stored, Ending, Due, Plan, Reading, Kept, Finished, Passed, Asks, Comes, read_fault, write_fault, no_memory}
+use Rattle.alma_plan.specs.Plan.{Stored, Ending, Due, Plan, Sense, Reading, Kept, Finished, Passed, Asks, Comes, read_fault, write_fault, no_memory}
 
 -- ---- the outputs
 
@@ -101,9 +101,9 @@ pub data Course (program : List ℕ) (asks : List ℕ → Type 0) (may : Reading
       → Takes reading input input' → Gains out out' due.out → Course program asks may files files' input input' out out' end
 
 -- the same, where a plan says which files are asked for, and what may come
-abbrev pub Follows : {L : Type 0} → (means : L → Due → Type 0) → (program : List ℕ) → Plan L → FilesSide → FilesSide → SourceSide → SourceSide → SinkSide → SinkSide → Ending → Type 0
-Follows means program plan files files' input input' out out' end =
-    Course program (Asks files.told plan) (Comes means program files.told input.left plan) files files' input input' out out' end
+abbrev pub Follows : {V L : Type 0} → Sense V L → (program : List ℕ) → Plan V L → FilesSide → FilesSide → SourceSide → SourceSide → SinkSide → SinkSide → Ending → Type 0
+Follows sense program plan files files' input input' out out' end =
+    Course program (Asks sense files.told plan) (Comes sense program files.told input.left plan) files files' input input' out out' end
 
 -- How an end is reported: err gained its text, and its status is answered; or err failed within the text, and the status is that of a write fault.
 pub data Reports (end : Ending) (old new : SinkSide) (status : ℕ) : Type 0 where
@@ -111,7 +111,7 @@ pub data Reports (end : Ending) (old new : SinkSide) (status : ℕ) : Type 0 whe
   unsaid : status ≡ 7 → FailsWithin old new end.text → Reports end old new status
 
 -- How a call in the name of a program, with this plan, may change what is outside, and which status it may answer.
-pub record Answers {L : Type 0} (means : L → Due → Type 0) (program : List ℕ) (plan : Plan L) (before after : Outside) (status : ℕ) : Type 0 where
+pub record Answers {V L : Type 0} (sense : Sense V L) (program : List ℕ) (plan : Plan V L) (before after : Outside) (status : ℕ) : Type 0 where
   pub end : Ending
-  pub course : Follows means program plan before.files after.files before.input after.input before.out after.out end
+  pub course : Follows sense program plan before.files after.files before.input after.input before.out after.out end
   pub reported : Reports end before.err after.err status

@@ -64,13 +64,27 @@ prints out = record { end = success; out = out; stored = None }
 
 -- ---- plans
 
--- A plan: a file is fetched, of so many bytes at most, and what comes then goes by its bytes; or the whole input is read, of
--- so many bytes as an input may have, and what is due follows from a last value that goes by them; or it follows from a last
--- value at once.
-pub data Plan (L : Type 0) : Type 0 where
-  Fetches : (name : List ℕ) (limit : ℕ) (next : List ℕ → Plan L) → Plan L
-  Reads : (last : List ℕ → L) → Plan L
-  Ends : (last : L) → Plan L
+-- A plan: a file is fetched, of so many bytes at most, and what comes then goes by its bytes; or a source is judged, and it
+-- goes by the verdict; or the whole input is read, of so many bytes as an input may have, and what is due follows from a last
+-- value that goes by them; or it follows from a last value at once.
+pub data Plan (V L : Type 0) : Type 0 where
+  Fetches : (name : List ℕ) (limit : ℕ) (next : List ℕ → Plan V L) → Plan V L
+  Judges : (source : List ℕ) (next : V → Plan V L) → Plan V L
+  Reads : (last : List ℕ → L) → Plan V L
+  Ends : (last : L) → Plan V L
+
+-- what plans say: to which verdicts a source may come, and what a last value means
+pub record Sense (V L : Type 0) : Type 1 where
+  pub judged : (source : List ℕ) → V → Type 0
+  pub means : L → Due → Type 0
+
+-- a last value is what is due
+abbrev pub IsDue : (last due : Due) → Type 0
+IsDue last due = due ≡ last
+
+-- so it is of plans that judge no source
+abbrev pub plain : Sense ⊥ Due
+plain = record { judged = λ source verdict. ⊥; means = IsDue }
 
 -- what becomes of the input: it stays, it is read to its end, or it is found to be longer than an input may be
 pub data Reading : Type 0 where
@@ -83,34 +97,37 @@ abbrev pub MayBeLeft : Option (List ℕ) → List ℕ → Type 0
 MayBeLeft None bytes = Unit {0}
 MayBeLeft (Some left) bytes = left ≡ bytes
 
-module _ {L : Type 0} (told : List ℕ → Told) where
+module _ {V L : Type 0} (sense : Sense V L) (told : List ℕ → Told) where
   -- the plan may ask for this file, by what the files tell
-  abbrev pub Asks : Plan L → (name : List ℕ) → Type 0
+  abbrev pub Asks : Plan V L → (name : List ℕ) → Type 0
   Asks (Fetches name limit next) asked =
       (name ≡ asked) ⊎ ((bytes : List ℕ) × MayHave (told name) bytes × (length bytes ≤ limit) × Asks (next bytes) asked)
+  Asks (Judges source next) asked = (verdict : V) × sense.judged source verdict × Asks (next verdict) asked
   Asks (Reads last) asked = ⊥
   Asks (Ends last) asked = ⊥
 
   -- it may ask for a file that is told to be missing
-  abbrev pub MayLack : Plan L → Type 0
+  abbrev pub MayLack : Plan V L → Type 0
   MayLack plan = (name : List ℕ) × Asks plan name × (told name ≡ Missing)
 
   -- it does so: the files that it asks for before are told too
-  abbrev pub Lacks : Plan L → Type 0
+  abbrev pub Lacks : Plan V L → Type 0
   Lacks (Fetches name limit next) =
       (told name ≡ Missing) ⊎ ((bytes : List ℕ) × (told name ≡ Has bytes) × (length bytes ≤ limit) × Lacks (next bytes))
+  Lacks (Judges source next) = (verdict : V) × sense.judged source verdict × Lacks (next verdict)
   Lacks (Reads last) = ⊥
   Lacks (Ends last) = ⊥
 
-module _ {L : Type 0} (means : L → Due → Type 0) (program : List ℕ) (told : List ℕ → Told) (left : Option (List ℕ)) where
+module _ {V L : Type 0} (sense : Sense V L) (program : List ℕ) (told : List ℕ → Told) (left : Option (List ℕ)) where
   -- What a plan may come to, by what the files tell and what is left of the input, and what becomes of the input then: a file
   -- that is missing is a read fault, and one that passes its limit, or an input that does, is too long.
-  abbrev pub Comes : Plan L → Reading → Due → Type 0
+  abbrev pub Comes : Plan V L → Reading → Due → Type 0
   Comes (Fetches name limit next) reading due =
       ((told name ≡ Missing) × (reading ≡ Kept) × (due ≡ silent (read_fault program)))
       ⊎ ((MayPass (told name) limit × (reading ≡ Kept) × (due ≡ silent (too_long program)))
       ⊎ ((bytes : List ℕ) × MayHave (told name) bytes × (length bytes ≤ limit) × Comes (next bytes) reading due))
+  Comes (Judges source next) reading due = (verdict : V) × sense.judged source verdict × Comes (next verdict) reading due
   Comes (Reads last) reading due =
       (MayHaveMore left input_limit × (reading ≡ Passed) × (due ≡ silent (too_long program)))
-      ⊎ ((bytes : List ℕ) × MayBeLeft left bytes × (length bytes ≤ input_limit) × (reading ≡ Finished) × means (last bytes) due)
-  Comes (Ends last) reading due = (reading ≡ Kept) × means last due
+      ⊎ ((bytes : List ℕ) × MayBeLeft left bytes × (length bytes ≤ input_limit) × (reading ≡ Finished) × sense.means (last bytes) due)
+  Comes (Ends last) reading due = (reading ≡ Kept) × sense.means last due

@@ -7,7 +7,7 @@ mod stop;
 mod words;
 mod writing;
 
-pub use refusal::{Refusal, refuse};
+pub use refusal::{Refusal, refuse, refuse_with};
 pub use stop::Stop;
 pub use words::{is_file_name, split_word};
 pub use writing::{report, write_parts};

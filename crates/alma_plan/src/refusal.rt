@@ -91,8 +91,13 @@ fn refuse_code<E: Sink>(err: &mut E, program: &[u8], fault: VerifyFault) -> Stat
     report(err, 9, &[program, front, rule, middle, at, end])
 }
 
-// Says a line on err in the name of a program.
-fn refuse_with<'t, E: Sink>(err: &mut E, program: &'t [u8], status: u8, text: &'t [u8]) -> Status
+/// Says a line on err in the name of a program: this status, or that of a write fault where err fails.
+pub fn refuse_with<'t, E: Sink>(
+    err: &mut E,
+    program: &'t [u8],
+    status: u8,
+    text: &'t [u8],
+) -> Status
     ensures { Reports (tells program.now status text.now) (E.side err.old) (E.side err.new)
         result.0 }
 {

@@ -9,35 +9,35 @@ use Rattle.alma_code.specs.declared.step.VerifyFault.{VerifyFault}
 use Rattle.alma_object_format.specs.Walk.{object_fault}
 use Rattle.alma_object_format.specs.declared.fault.ObjectFault.{ObjectFault}
 use Rattle.alma_verify.specs.Bytes.{object_code}
-use Rattle.alma_plan.specs.Plan.{Due, Ending, silent, prints}
+use Rattle.alma_plan.specs.Plan.{Due, Ending, silent, prints, IsDue, plain}
 use Rattle.alma_plan.specs.Causes.{IsOwn, HasOwnEnds}
-use Rattle.alma_pool.specs.Due.{IsDue, pool_text, rule_refusal, refusal_by, object_refusal, or_refused, opening, played_on, played, judged_by, fetching, asked, planned, pool_plan, bad_word_behind}
+use Rattle.alma_pool.specs.Due.{pool_text, rule_refusal, refusal_by, object_refusal, or_refused, opening, played_on, played, judged_by, fetching, asked, planned, pool_plan, bad_word_behind}
 
 -- a last value is due
 pub is_due : (last : List ℕ → Due) (bytes : List ℕ) → (due : Due) × IsDue (last bytes) due
 is_due last bytes = (last bytes, refl)
 
 -- what is due has an end of the program's own
-own_due : (last : Due) → last.end.status ≢ 6 → last.end.status ≢ 7 → last.end.status ≢ 8 → IsOwn IsDue last
+own_due : (last : Due) → last.end.status ≢ 6 → last.end.status ≢ 7 → last.end.status ≢ 8 → IsOwn plain last
 own_due last six seven eight = λ due e.
     let same : last.end.status ≡ due.end.status = sym (ap (λ (d : Due). d.end.status) e) in
     (λ q. six (same ∙ q), λ q. seven (same ∙ q), λ q. eight (same ∙ q))
 
 -- so has one with a known status
-own_status : (last : Due) (status : ℕ) → last.end.status ≡ status → status ≢ 6 → status ≢ 7 → status ≢ 8 → IsOwn IsDue last
+own_status : (last : Due) (status : ℕ) → last.end.status ≡ status → status ≢ 6 → status ≢ 7 → status ≢ 8 → IsOwn plain last
 own_status last status is six seven eight =
     own_due last (λ q. six (sym is ∙ q)) (λ q. seven (sym is ∙ q)) (λ q. eight (sym is ∙ q))
 
-own_0 : (last : Due) → last.end.status ≡ 0 → IsOwn IsDue last
+own_0 : (last : Due) → last.end.status ≡ 0 → IsOwn plain last
 own_0 last is = own_status last 0 is (λ q. absurd (omega (arith, q))) (λ q. absurd (omega (arith, q))) (λ q. absurd (omega (arith, q)))
 
-own_2 : (last : Due) → last.end.status ≡ 2 → IsOwn IsDue last
+own_2 : (last : Due) → last.end.status ≡ 2 → IsOwn plain last
 own_2 last is = own_status last 2 is (λ q. absurd (omega (arith, q))) (λ q. absurd (omega (arith, q))) (λ q. absurd (omega (arith, q)))
 
-own_9 : (last : Due) → last.end.status ≡ 9 → IsOwn IsDue last
+own_9 : (last : Due) → last.end.status ≡ 9 → IsOwn plain last
 own_9 last is = own_status last 9 is (λ q. absurd (omega (arith, q))) (λ q. absurd (omega (arith, q))) (λ q. absurd (omega (arith, q)))
 
-own_13 : (last : Due) → last.end.status ≡ 13 → IsOwn IsDue last
+own_13 : (last : Due) → last.end.status ≡ 13 → IsOwn plain last
 own_13 last is = own_status last 13 is (λ q. absurd (omega (arith, q))) (λ q. absurd (omega (arith, q))) (λ q. absurd (omega (arith, q)))
 
 -- an object is refused with one status
@@ -77,30 +77,30 @@ opening_status got (bytes ∷ objects) end e =
 
 -- ---- all its ends
 
-own_on : (reads : Bool) (all : List PlainCode) (turns : List ℕ) → HasOwnEnds IsDue (played_on reads all turns)
+own_on : (reads : Bool) (all : List PlainCode) (turns : List ℕ) → HasOwnEnds plain (played_on reads all turns)
 own_on true all turns = λ bytes. own_0 (prints (pool_text 0 all bytes turns)) refl
 own_on false all turns = own_0 (prints (pool_text 0 all [] turns)) refl
 
 own_played : (opened : Result (List PlainCode) Ending) (turns : List ℕ) → ((end : Ending) → opened ≡ Err end → end.status ≡ 9)
-    → HasOwnEnds IsDue (played opened turns)
+    → HasOwnEnds plain (played opened turns)
 own_played (Ok all) turns refused = own_on (list_any code_reads all) all turns
 own_played (Err end) turns refused = own_9 (silent end) (refused end refl)
 
-own_judged : (bad : Option ℕ) (turns : List ℕ) (objects : List (List ℕ)) → HasOwnEnds IsDue (judged_by bad turns objects)
+own_judged : (bad : Option ℕ) (turns : List ℕ) (objects : List (List ℕ)) → HasOwnEnds plain (judged_by bad turns objects)
 own_judged None turns objects = own_played (opening [] objects) _ (opening_status [] objects)
 own_judged (Some turn) turns objects = own_13 _ refl
 
-own_fetching : (turns : List ℕ) (got names : List (List ℕ)) → HasOwnEnds IsDue (fetching turns got names)
+own_fetching : (turns : List ℕ) (got names : List (List ℕ)) → HasOwnEnds plain (fetching turns got names)
 own_fetching turns got [] = own_judged _ turns got
 own_fetching turns got (name ∷ names) = λ bytes. own_fetching turns (got ++ bytes ∷ []) names
 
-own_asked : (words : List (List ℕ)) → HasOwnEnds IsDue (asked words)
+own_asked : (words : List (List ℕ)) → HasOwnEnds plain (asked words)
 own_asked [] = own_2 _ refl
 own_asked (turns ∷ objects) = λ bytes. own_fetching bytes [] objects
 
-own_planned : (bad : Option ℕ) (words : List (List ℕ)) → HasOwnEnds IsDue (planned bad words)
+own_planned : (bad : Option ℕ) (words : List (List ℕ)) → HasOwnEnds plain (planned bad words)
 own_planned None words = own_asked words
 own_planned (Some word) words = own_2 _ refl
 
-pub own_plan : (words : List (List ℕ)) → HasOwnEnds IsDue (pool_plan words)
+pub own_plan : (words : List (List ℕ)) → HasOwnEnds plain (pool_plan words)
 own_plan words = own_planned (bad_word_behind 0 words) words

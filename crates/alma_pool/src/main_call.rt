@@ -3,9 +3,9 @@ ghost use Rattle.std.specs.Prelude.{◌++◌, codes, decimal};
 ghost use Rattle.alma_plan.specs.Causes.{Causes};
 ghost use Rattle.alma_plan.specs.Course.{Answers, Reports};
 ghost use Rattle.alma_plan.specs.Outside.{outside_of};
-ghost use Rattle.alma_plan.specs.Plan.{tells};
+ghost use Rattle.alma_plan.specs.Plan.{tells, plain};
 ghost use Rattle.alma_plan.specs.Words.{texts};
-ghost use Rattle.alma_pool.specs.Due.{program, IsDue, pool_plan};
+ghost use Rattle.alma_pool.specs.Due.{program, pool_plan};
 ghost use Rattle.alma_pool.specs.Ends.{pool_end};
 
 use crate::end::PoolEnd;
@@ -55,11 +55,11 @@ pub fn pool_main<F: Files, I: Source, O: Sink, E: Sink>(
     out: &mut O,
     err: &mut E,
 ) -> Status
-    ensures answer { Answers IsDue program (pool_plan (texts words.now))
+    ensures answer { Answers plain program (pool_plan (texts words.now))
         (outside_of (F.side files.old) (I.side input.old) (O.side out.old) (E.side err.old))
         (outside_of (F.side files.new) (I.side input.new) (O.side out.new) (E.side err.new))
         result.0 }
-    ensures causes { Causes IsDue program (pool_plan (texts words.now))
+    ensures causes { Causes plain program (pool_plan (texts words.now))
         (outside_of (F.side files.old) (I.side input.old) (O.side out.old) (E.side err.old))
         (outside_of (F.side files.new) (I.side input.new) (O.side out.new) (E.side err.new))
         result.0 }

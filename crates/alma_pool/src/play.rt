@@ -5,8 +5,8 @@ ghost use Rattle.alma_base.specs.Limits.{input_limit};
 ghost use Rattle.alma_code.specs.Reads.{code_reads};
 ghost use Rattle.alma_io.specs.Sides.{FilesSide};
 ghost use Rattle.alma_plan.specs.Course.{Follows, Goes};
-ghost use Rattle.alma_plan.specs.Plan.{Reads, prints};
-ghost use Rattle.alma_pool.specs.Due.{program, IsDue, bad_turn_behind, judged, opening, played, played_on, pool_text, turns_in, turns_limit};
+ghost use Rattle.alma_plan.specs.Plan.{Reads, prints, IsDue, plain};
+ghost use Rattle.alma_pool.specs.Due.{program, bad_turn_behind, judged, opening, played, played_on, pool_text, turns_in, turns_limit};
 ghost use Rattle.alma_pool.specs.Ends.{pool_end};
 ghost use Rattle.alma_pool.specs.Inner.{all_begun, all_bytes, codes_of, shown_text};
 ghost use Rattle.alma_pool.specs.Pool.{after_turns};
@@ -90,7 +90,7 @@ fn play_reading<I: Source, O: Sink>(
 ) -> PoolEnd
     requires good { bad_turn_behind (length verified.now) 0 turns.now ≡ None }
     requires short { length turns.now ≤ turns_limit }
-    ensures { (files : FilesSide) → Follows IsDue program
+    ensures { (files : FilesSide) → Follows plain program
         (Reads (λ bytes. prints (pool_text 0 (codes_of verified.now) bytes (turns_in turns.now))))
         files files (I.side input.old) (I.side input.new) (O.side out.old) (O.side out.new)
         (pool_end result) }
@@ -111,7 +111,7 @@ fn play<I: Source, O: Sink>(
 ) -> PoolEnd
     requires good { bad_turn_behind (length verified.now) 0 turns.now ≡ None }
     requires short { length turns.now ≤ turns_limit }
-    ensures { (files : FilesSide) → Follows IsDue program
+    ensures { (files : FilesSide) → Follows plain program
         (played_on (list_any code_reads (codes_of verified.now)) (codes_of verified.now)
         (turns_in turns.now)) files files (I.side input.old) (I.side input.new) (O.side out.old)
         (O.side out.new) (pool_end result) }
@@ -132,7 +132,7 @@ fn play_objects<I: Source, O: Sink>(
 ) -> PoolEnd
     requires good { bad_turn_behind (length objects.now) 0 turns.now ≡ None }
     requires short { length turns.now ≤ turns_limit }
-    ensures { (files : FilesSide) → Follows IsDue program
+    ensures { (files : FilesSide) → Follows plain program
         (played (opening [] (all_bytes objects.now)) (turns_in turns.now)) files files
         (I.side input.old) (I.side input.new) (O.side out.old) (O.side out.new)
         (pool_end result) }
@@ -152,7 +152,7 @@ pub fn judge<I: Source, O: Sink>(
     out: &mut O,
 ) -> PoolEnd
     requires { length turns.now ≤ turns_limit }
-    ensures { (files : FilesSide) → Follows IsDue program
+    ensures { (files : FilesSide) → Follows plain program
         (judged turns.now (all_bytes objects.now)) files files (I.side input.old) (I.side input.new)
         (O.side out.old) (O.side out.new) (pool_end result) }
 {

@@ -2,7 +2,8 @@
 ghost use Rattle.std.specs.Prelude.{◌≡◌, ◌≤◌, length};
 ghost use Rattle.alma_plan.specs.Course.{Follows};
 ghost use Rattle.alma_plan.specs.Words.{texts};
-ghost use Rattle.alma_pool.specs.Due.{program, IsDue, fetching, asked, pool_plan, bad_word_behind, turns_limit};
+ghost use Rattle.alma_plan.specs.Plan.{plain};
+ghost use Rattle.alma_pool.specs.Due.{program, fetching, asked, pool_plan, bad_word_behind, turns_limit};
 ghost use Rattle.alma_pool.specs.Ends.{pool_end};
 ghost use Rattle.alma_pool.specs.Inner.{all_bytes};
 
@@ -25,7 +26,7 @@ fn serve_objects<F: Files, I: Source, O: Sink>(
     out: &mut O,
 ) -> PoolEnd
     requires { length turns.now ≤ turns_limit }
-    ensures { Follows IsDue program (fetching turns.now (all_bytes got.old.items) (texts names.now))
+    ensures { Follows plain program (fetching turns.now (all_bytes got.old.items) (texts names.now))
         (F.side files.old) (F.side files.new) (I.side input.old) (I.side input.new)
         (O.side out.old) (O.side out.new) (pool_end result) }
 {
@@ -68,7 +69,7 @@ fn serve<F: Files, I: Source, O: Sink>(
     input: &mut I,
     out: &mut O,
 ) -> PoolEnd
-    ensures { Follows IsDue program (asked (texts words.now)) (F.side files.old)
+    ensures { Follows plain program (asked (texts words.now)) (F.side files.old)
         (F.side files.new) (I.side input.old) (I.side input.new) (O.side out.old)
         (O.side out.new) (pool_end result) }
 {
@@ -92,7 +93,7 @@ pub fn perform<F: Files, I: Source, O: Sink>(
     input: &mut I,
     out: &mut O,
 ) -> PoolEnd
-    ensures { Follows IsDue program (pool_plan (texts words.now)) (F.side files.old)
+    ensures { Follows plain program (pool_plan (texts words.now)) (F.side files.old)
         (F.side files.new) (I.side input.old) (I.side input.new) (O.side out.old)
         (O.side out.new) (pool_end result) }
 {

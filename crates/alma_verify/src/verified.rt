@@ -38,6 +38,7 @@ impl<'b> Verified<'b> {
     }
 
     /// The view. Its code is sound.
+    #[inline(always)]
     pub fn view(&self) -> &ObjectView<'b>
         ensures view { result.now ≡ self.now.view }
         ensures sound { IsSound (code_of_view result.now) }

@@ -6,8 +6,9 @@ ghost use Rattle.alma_code.specs.Reads.{is_read as is_read_of, code_reads};
 ghost use Rattle.alma_object_format.specs.Object.{IsObject};
 ghost use Rattle.alma_object_format.specs.Reading.{name_in, text_in, routine_in, global_in};
 ghost use Rattle.alma_object_format.specs.Walk.{object_fault};
-ghost use Rattle.alma_object.specs.View.{code_of_view, routine_of_view, global_of_view, IsSplit};
+ghost use Rattle.alma_object.specs.View.{code_of_view, instr_of_record, routine_of_view, global_of_view, IsSplit};
 
+use crate::record::InstrRecord;
 use crate::routine::RoutineView;
 use crate::view::ObjectView;
 use alma_base::Range;
@@ -100,6 +101,17 @@ impl<'b> ObjectView<'b> {
         instr_at(self.bytes, self.instrs_at + 17 * at as usize)
     }
 
+    /// The record of the instruction at an address.
+    #[inline(always)]
+    #[tactic(auto, using(crate::proofs::Items::item_steps))]
+    pub fn record(&self, at: u32) -> InstrRecord<'b>
+        requires { at < length (code_of_view self.now).instrs }
+        ensures { slice_get (code_of_view self.now).instrs at ≡ Some (instr_of_record result) }
+    {
+        InstrRecord::new(self.bytes, self.instrs_at + 17 * at as usize)
+    }
+
+    #[inline(always)]
     #[tactic(auto, using(crate::proofs::Items::item_steps))]
     pub fn range(&self, i: u32) -> Option<Range>
         ensures { result ≡ slice_get (code_of_view self.now).ranges i }

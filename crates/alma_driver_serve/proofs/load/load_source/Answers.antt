@@ -1,5 +1,5 @@
 use Rattle.alma_driver_outcome.proofs.DriverLemmas.{stop_refused}
-use Rattle.alma_driver_outcome.proofs.RefusalLemmas.{refused_within}
+use Rattle.alma_source.proofs.RefusalLemmas.{refused_within}
 use Rattle.alma_driver_serve.proofs.load.load_source.Goals as goal
 
 pub place-requires-clause-inside : goal.place-requires-clause-inside

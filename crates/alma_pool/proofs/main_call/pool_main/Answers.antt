@@ -1,6 +1,7 @@
 use Rattle.alma_plan.specs.Words.{texts}
-use Rattle.alma_plan.proofs.CauseLemmas.{causes_of}
-use Rattle.alma_pool.specs.Due.{program, IsDue, pool_plan}
+use Rattle.alma_plan.proofs.CauseLemmas.{causes_of, plain_has_one}
+use Rattle.alma_plan.specs.Plan.{plain}
+use Rattle.alma_pool.specs.Due.{program, pool_plan}
 use Rattle.alma_pool.specs.Ends.{pool_end}
 use Rattle.alma_pool.proofs.Plans.{own_plan}
 use Rattle.alma_pool.proofs.main_call.pool_main.Goals as goal
@@ -10,5 +11,5 @@ returns-clause-answer g c = record { end = pool_end c.perform-end.result; course
 
 pub returns-clause-causes : goal.returns-clause-causes
 returns-clause-causes g c =
-    causes_of IsDue program (pool_plan (texts c.args.words.now)) (own_plan (texts c.args.words.now)) _ _ _
+    causes_of plain program (pool_plan (texts c.args.words.now)) plain_has_one (own_plan (texts c.args.words.now)) _ _ _
     (record { end = pool_end c.perform-end.result; course = c.perform-end.ensures; reported = c.tell.ensures })

@@ -1,9 +1,9 @@
 use Rattle.std.proofs.Common.{◌≡◌, ◌∙◌, List, ℕ, refl, sym, ap, subst, length}
 use Rattle.std.specs.Prelude.{All}
 use Rattle.alma_plan.specs.Course.{Goes, hungry}
-use Rattle.alma_plan.specs.Plan.{prints}
+use Rattle.alma_plan.specs.Plan.{prints, IsDue}
 use Rattle.alma_plan.proofs.Courses.{gains_none}
-use Rattle.alma_pool.specs.Due.{program, IsDue, bad_turn_behind, turns_in}
+use Rattle.alma_pool.specs.Due.{program, bad_turn_behind, turns_in}
 use Rattle.alma_pool.specs.Ends.{pool_end}
 use Rattle.alma_pool.specs.Inner.{codes_of}
 use Rattle.alma_pool.specs.Pool.{Played, PoolView, after_turns}

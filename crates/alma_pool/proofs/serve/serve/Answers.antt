@@ -1,9 +1,9 @@
 use Rattle.std.proofs.Common.{[], refl}
 use Rattle.alma_plan.proofs.Courses.{course_ends, course_fetched, course_unfetched, gains_none}
 use Rattle.alma_plan.specs.Course.{whole}
-use Rattle.alma_plan.specs.Plan.{silent, bad_word}
+use Rattle.alma_plan.specs.Plan.{silent, bad_word, plain}
 use Rattle.alma_plan.specs.Words.{texts}
-use Rattle.alma_pool.specs.Due.{program, IsDue, fetching, turns_limit}
+use Rattle.alma_pool.specs.Due.{program, fetching, turns_limit}
 use Rattle.alma_pool.proofs.serve.serve.Goals as goal
 
 pub serve_objects-requires : goal.serve_objects-requires
@@ -11,16 +11,16 @@ serve_objects-requires g c = rw c.deref.ensures.value c.in-Ok.ensures.answer.1
 
 pub returns-in_default : goal.returns-in_default
 returns-in_default g c =
-    rw c.in_default.ensures (course_ends IsDue program (silent (bad_word program 1)) _ _ _ _ _
+    rw c.in_default.ensures (course_ends plain program (silent (bad_word program 1)) _ _ _ _ _
     (whole (silent (bad_word program 1)) refl refl refl (gains_none _)))
 
 pub returns-in-Ok : goal.returns-in-Ok
 returns-in-Ok g c =
     let got = c.in-Ok.ensures.answer in
-    rw c.in-Some.ensures (course_fetched IsDue program c.in-Some.turns.now turns_limit (λ bytes. fetching bytes [] (texts c.in-Some.objects.now)) c.in-Ok.bytes.items
+    rw c.in-Some.ensures (course_fetched plain program c.in-Some.turns.now turns_limit (λ bytes. fetching bytes [] (texts c.in-Some.objects.now)) c.in-Ok.bytes.items
     _ _ _ _ _ _ _ _ (c.in-Ok.ensures.same, c.in-Ok.ensures.store_count) got.2 got.0 got.1 (rw (c.deref.ensures.value, c.new-got.ensures.items) at c.serve_objects.ensures))
 
 pub returns-in-Err : goal.returns-in-Err
 returns-in-Err g c =
-    rw (c.in-Some.ensures, c.from.ensures) (course_unfetched IsDue program c.in-Some.turns.now turns_limit (λ bytes. fetching bytes [] (texts c.in-Some.objects.now))
+    rw (c.in-Some.ensures, c.from.ensures) (course_unfetched plain program c.in-Some.turns.now turns_limit (λ bytes. fetching bytes [] (texts c.in-Some.objects.now))
     c.in-Err.fault _ _ _ _ (c.in-Err.ensures.same, c.in-Err.ensures.store_count) c.in-Err.ensures.answer)

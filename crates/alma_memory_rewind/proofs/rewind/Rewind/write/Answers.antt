@@ -1,16 +1,14 @@
-use Rattle.std.proofs.Common.{◌≡◌, ◌<◌, ◌≤◌, ◌+◌, ◌-◌, ◌++◌, ◌∷◌, [], ℕ, List, length, get_or, take, drop, set, sym, ap, refl, ◌∙◌, true, false, arith}
-use Rattle.alma_memory_rewind.specs.declared.rewind.Mark.{Mark}
-use Rattle.alma_memory_rewind.specs.Rewound.{Rewound, needed, top_copy}
-use Rattle.alma_memory_rewind.specs.Trail.{held_of, last_mark, is_free, free_from, trail_for}
-use Rattle.alma_memory_rewind.proofs.Trails.{needed-top, rises-pop}
+use Rattle.std.proofs.Common.{◌≡◌, ◌<◌, ◌-◌, length, get_or, sym, ap, refl, ◌∙◌, true, false, arith}
+use Rattle.alma_memory_rewind.specs.Rewound.{Rewound}
+use Rattle.alma_memory_rewind.specs.Trail.{held_of, is_free, free_from}
 use Rattle.std.specs.Prelude.{vec_len, vec_capacity}
 use Rattle.std.proofs.lemmas.Bool.{false≢true}
 use Rattle.std.proofs.lemmas.List.{get_or_read}
 use Rattle.alma_memory_rewind.proofs.Changes.{flag, flag-within}
 use Rattle.alma_memory_rewind.proofs.rewind.Rewind.write.Goals as goal
 
-pub returns-in_err-room_for_note-clause-free : goal.returns-in_err-room_for_note-clause-free
-returns-in_err-room_for_note-clause-free g c = λ h.
+pub returns-in_err-note_old-clause-free : goal.returns-in_err-note_old-clause-free
+returns-in_err-note_old-clause-free g c = λ h.
     let vn : free_from c.self.inside.marks.items 0 c.self.inside.stamps.items ≡ c.args.self.now.noted = ap (λ (p : Rewound g.row.T.Denot). p.noted) c.self.view_is in
     let here : get_or (free_from c.self.inside.marks.items 0 c.self.inside.stamps.items) c.args.at false ≡ true = rw vn h in
     let l : c.args.at < length c.self.inside.stamps.items = flag-within c.self.inside.marks.items c.self.inside.stamps.items c.args.at here in
@@ -19,13 +17,13 @@ returns-in_err-room_for_note-clause-free g c = λ h.
     let one : is_free c.as_slice.result.now c.args.at c.index.result.now ≡ is_free c.self.inside.marks.items c.args.at c.index.result.now = ap (λ ms. is_free ms c.args.at c.index.result.now) c.as_slice.ensures.value in
     let two : is_free c.self.inside.marks.items c.args.at c.index.result.now ≡ is_free c.self.inside.marks.items c.args.at (get_or c.self.inside.stamps.items c.args.at 0) = ap (is_free c.self.inside.marks.items c.args.at) st in
     let fr : c.needs_no_note-free.result ≡ true = c.needs_no_note-free.ensures ∙ (one ∙ (two ∙ is)) in
-    absurd (false≢true (c.in_err-room_for_note.ensures.free fr))
+    absurd (false≢true (c.in_err-note_old.ensures.free fr).0)
 
 pub invariant_of-self-2 : goal.invariant_of-self-2
 invariant_of-self-2 g c =
-    let s = c.note_old.ensures.keeps c.args.value c.self.inside.counter in
+    let s = c.in_ok-note_old.ensures.keeps c.args.value c.self.inside.counter in
     let t = rw (c.as_slice-2.ensures.value, c.as_slice-3.ensures.value) at s in
-    (t (rw c.room_for_note.ensures.items c.self.invariant)).sound
+    (t (c.self.invariant)).sound
 
 pub returns-clause-free : goal.returns-clause-free
 returns-clause-free g c = λ h.
@@ -37,17 +35,14 @@ returns-clause-free g c = λ h.
     let one : is_free c.as_slice.result.now c.args.at c.index.result.now ≡ is_free c.self.inside.marks.items c.args.at c.index.result.now = ap (λ ms. is_free ms c.args.at c.index.result.now) c.as_slice.ensures.value in
     let two : is_free c.self.inside.marks.items c.args.at c.index.result.now ≡ is_free c.self.inside.marks.items c.args.at (get_or c.self.inside.stamps.items c.args.at 0) = ap (is_free c.self.inside.marks.items c.args.at) st in
     let fr : c.needs_no_note-free.result ≡ true = c.needs_no_note-free.ensures ∙ (one ∙ (two ∙ is)) in
-    let again : is_free c.as_slice-2.result.now c.args.at (get_or c.self.inside.stamps.items c.args.at 0) ≡ true = ap (λ ms. is_free ms c.args.at (get_or c.self.inside.stamps.items c.args.at 0)) c.as_slice-2.ensures.value ∙ is in
-    let kept = c.note_old.ensures.free again in
-    let same : vec_capacity c.room_for_note.new.trail ≡ vec_capacity c.self.inside.trail = c.room_for_note.ensures.same fr in
-    let len : vec_len c.room_for_note.new.trail ≡ vec_len c.self.inside.trail = c.room_for_note.ensures.len in
+    let kept = c.in_ok-note_old.ensures.free fr in
     let room : vec_capacity c.self.inside.trail - vec_len c.self.inside.trail ≡ c.args.self.now.trail_room = ap (λ (p : Rewound g.row.T.Denot). p.trail_room) c.self.view_is in
-    (refl, omega (arith, kept.0, kept.1, same, len, room))
+    (refl, omega (arith, kept.1, kept.2, room))
 
 pub returns-clause-held : goal.returns-clause-held
 returns-clause-held g c =
-    let s = c.note_old.ensures.keeps c.args.value c.self.inside.counter in
+    let s = c.in_ok-note_old.ensures.keeps c.args.value c.self.inside.counter in
     let t = rw (c.as_slice-2.ensures.value, c.as_slice-3.ensures.value) at s in
-    let k = (t (rw c.room_for_note.ensures.items c.self.invariant)).held in
+    let k = (t (c.self.invariant)).held in
     let vh : held_of c.self.inside.trail.items c.self.inside.items.items c.self.inside.marks.items ≡ c.args.self.now.held = ap (λ (p : Rewound g.row.T.Denot). p.held) c.self.view_is in
-    k ∙ (ap (λ ns. held_of ns c.self.inside.items.items c.self.inside.marks.items) c.room_for_note.ensures.items ∙ vh)
+    k ∙ vh

@@ -1,0 +1,5 @@
+mod WordLemmas
+mod WordCourses
+mod Returns
+mod Plans
+mod Listings

@@ -1,0 +1,28 @@
+-- What comes of words that cannot stand.
+use Rattle.std.proofs.Common.{◌≡◌, ℕ, List, [], ◌∷◌, length, map, refl, sym, arith}
+use Rattle.std.specs.Prelude.{Bool, true, false, String, eqb}
+use Rattle.std.proofs.lemmas.Bool.{eqb-true}
+use Rattle.std.specs.String.{string_bytes}
+use Rattle.std.specs.declared.alloc.Global.{Global}
+use Rattle.alma_io.specs.Sides.{SinkSide, SourceSide, FilesSide}
+use Rattle.alma_plan.proofs.Courses.{course_ends, gains_none}
+use Rattle.alma_plan.specs.Course.{Follows, whole}
+use Rattle.alma_plan.specs.Plan.{bad_word, silent}
+use Rattle.alma_plan.specs.Words.{texts}
+use Rattle.alma_plan_run.specs.Programs.{Tells}
+use Rattle.alma_all.specs.All.{program, all_sense, bad}
+
+pub course_bad : (word : ℕ) (files : FilesSide) (input : SourceSide) (out : SinkSide)
+    → Follows all_sense program (bad word) files files input input out out (bad_word program word)
+course_bad word files input out =
+    course_ends all_sense program (Tells (silent (bad_word program word))) files input out out _
+    (whole (silent (bad_word program word)) refl refl refl (gains_none out))
+
+-- no words, and some
+pub no_word : (words : List (String Global)) → true ≡ eqb (length words) 0 → texts words ≡ []
+no_word [] e = refl
+no_word (word ∷ words) e = absurd (omega (arith, eqb-true (length (word ∷ words)) 0 (sym e)))
+
+pub some_word : (words : List (String Global)) → false ≡ eqb (length words) 0 → (first : List ℕ) × (rest : List (List ℕ)) × (texts words ≡ first ∷ rest)
+some_word [] e = cc e
+some_word (word ∷ words) e = (string_bytes word, texts words, refl)

@@ -1,0 +1,92 @@
+-- What a call of the program comes to: its plan.
+use Rattle.std.specs.Prelude.{ℕ, ◌*◌, List, [], ◌∷◌, length, Bool, true, false, ◌&&◌, leb, eqb, cond, codes, Option, None, Some}
+use Rattle.std.specs.List.{list_any}
+use Rattle.alma_base.specs.Reading.{is_digit}
+use Rattle.alma_ir.specs.Phrases.{Phrase, StmtPhrase, stmts_phrases}
+use Rattle.alma_ir.specs.Tree.{Program, Return, routine_at}
+use Rattle.alma_scan.specs.Bytes.{value_of}
+use Rattle.alma_driver_words.specs.Words.{default_steps, greatest_steps}
+use Rattle.alma_listing.specs.Lister.{listing_of}
+use Rattle.alma_source.specs.Verdict.{Verdict}
+use Rattle.alma_plan.specs.Plan.{Ending, Plan, Sense, Ends, bad_word, silent, success, tells}
+use Rattle.alma_plan.specs.Words.{is_file_name}
+use Rattle.alma_plan_run.specs.Programs.{Last, Tells, read_source, run_plan, sense}
+
+-- the name of the program
+abbrev pub program : List ℕ
+program = codes "alma_all"
+
+-- where all alternatives are listed, the program that lists them fails: that is success
+abbrev pub all_sense : Sense Verdict Last
+all_sense = sense program success
+
+-- ---- the words
+
+-- the text behind a front that it begins with
+abbrev pub behind : (front text : List ℕ) → Option (List ℕ)
+behind [] text = Some text
+behind (x ∷ front) [] = None
+behind (x ∷ front) (y ∷ text) = cond (eqb x y) (behind front text) None
+
+-- all are digits
+abbrev pub are_digits : List ℕ → Bool
+are_digits [] = true
+are_digits (c ∷ text) = is_digit c && are_digits text
+
+-- one to nineteen digits name a number of steps from 1 on
+abbrev pub names_steps : List ℕ → Bool
+names_steps text = are_digits text && (leb 1 (length text) && (leb (length text) 19 && (leb 1 (value_of text) && leb (value_of text) greatest_steps)))
+
+abbrev pub steps_named : Option (List ℕ) → Option ℕ
+steps_named None = None
+steps_named (Some text) = cond (names_steps text) (Some (value_of text)) None
+
+-- the number of steps that an option names
+abbrev pub steps_in : (word : List ℕ) → Option ℕ
+steps_in word = steps_named (behind (codes "--steps=") word)
+
+-- ---- the plan
+
+-- the phrase is a RETURN
+abbrev pub is_return : Phrase → Bool
+is_return (StmtPhrase (Return e)) = true
+is_return _ = false
+
+-- a RETURN stands in the body of the module
+abbrev pub body_returns : Program → Bool
+body_returns p = list_any is_return (stmts_phrases (routine_at p 0).body)
+
+-- the alternatives of a program are listed by another, in so many steps; one whose body returns is refused
+abbrev pub unless_returns : (returns : Bool) → Program → (steps : ℕ) → Plan Verdict Last
+unless_returns true p steps = Ends (Tells (silent (tells program 13 (codes "ModuleReturn"))))
+unless_returns false p steps = run_plan program (listing_of p) steps
+
+abbrev pub list_plan : Program → (steps : ℕ) → Plan Verdict Last
+list_plan p steps = unless_returns (body_returns p) p steps
+
+-- those of the program of a file
+abbrev pub asked : (file : List ℕ) → (steps : ℕ) → Plan Verdict Last
+asked file steps = read_source file (λ p. list_plan p steps)
+
+-- a word that cannot stand where it is, or one more than there are
+abbrev pub bad : (word : ℕ) → Plan Verdict Last
+bad word = Ends (Tells (silent (bad_word program word)))
+
+-- a file, the number of steps that the second word names, and the words behind
+abbrev pub with_steps : (file : List ℕ) → Option ℕ → (more : List (List ℕ)) → Plan Verdict Last
+with_steps file None more = bad 2
+with_steps file (Some steps) [] = asked file steps
+with_steps file (Some steps) (word ∷ more) = bad 3
+
+-- a file, and the words behind it
+abbrev pub with_options : (file : List ℕ) → (options : List (List ℕ)) → Plan Verdict Last
+with_options file [] = asked file default_steps
+with_options file (option ∷ more) = with_steps file (steps_in option) more
+
+abbrev pub with_file : (is_file : Bool) → (file : List ℕ) → (options : List (List ℕ)) → Plan Verdict Last
+with_file false file options = bad 1
+with_file true file options = with_options file options
+
+abbrev pub all_plan : (words : List (List ℕ)) → Plan Verdict Last
+all_plan [] = bad 1
+all_plan (file ∷ options) = with_file (is_file_name file) file options

@@ -1,0 +1,18 @@
+-- The ends of a call, as they are due.
+use Rattle.std.specs.Prelude.{List, ℕ, [], ◌∷◌, codes}
+use Rattle.alma_plan.specs.Plan.{Ending, bad_word, success, tells}
+use Rattle.alma_plan_run.specs.Ends.{file_end, program_end}
+use Rattle.alma_all.specs.declared.end.AllEnd.{AllEnd}
+use Rattle.alma_all.specs.declared.end.AllEnd.TheVariants.{BadWord, NoProgram, ModuleReturn, Run}
+use Rattle.alma_all.specs.All.{program}
+
+abbrev pub all_end : (file : List ℕ) → AllEnd → Ending
+all_end file (BadWord word) = bad_word program word
+all_end file (NoProgram stop) = file_end program file stop
+all_end file ModuleReturn = tells program 13 (codes "ModuleReturn")
+all_end file (Run end) = program_end program success end
+
+-- the first word, which names the file; none where there is none
+abbrev pub file_of : (words : List (List ℕ)) → List ℕ
+file_of [] = []
+file_of (file ∷ options) = file

@@ -1,0 +1,3 @@
+pub mod All
+pub mod Ends
+pub mod Shown

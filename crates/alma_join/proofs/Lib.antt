@@ -1,0 +1,12 @@
+pub mod Copies
+pub mod Exports
+pub mod Going
+pub mod Heads
+pub mod Keeping
+pub mod Marks
+pub mod Numbering
+pub mod PartsGo
+pub mod Rows
+pub mod Sharing
+pub mod Units
+pub mod Whole

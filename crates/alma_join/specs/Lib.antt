@@ -1,0 +1,5 @@
+pub mod Bare
+pub mod Directory
+pub mod Fault
+pub mod Numbers
+pub mod Parts

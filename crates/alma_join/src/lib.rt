@@ -1,0 +1,13 @@
+//! Modules that were checked apart, joined to one program.
+#![tactic(auto)]
+
+mod bare;
+mod directory;
+mod error;
+mod head;
+mod import;
+mod part;
+mod program;
+
+pub use error::JoinError;
+pub use program::join;

@@ -1,0 +1,15 @@
+// The laws of joined programs, each as the contract of a function that does nothing.
+ghost use Rattle.alma_joined.specs.Joined.{AloneIsItself};
+ghost use Rattle.alma_joined.specs.Worked.{JoinsWork};
+
+/// What small modules give that are joined.
+#[tactic(auto, using(crate::proofs::Worked::joins_work))]
+pub fn joins_work()
+    ensures { JoinsWork }
+{}
+
+/// A program with no import, joined alone, is itself.
+#[tactic(auto, using(crate::proofs::Alone::alone_is_itself))]
+pub fn alone_is_itself()
+    ensures { AloneIsItself }
+{}

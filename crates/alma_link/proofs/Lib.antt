@@ -1,0 +1,4 @@
+mod WordLemmas
+mod UnitLemmas
+mod Plans
+mod TextLemmas

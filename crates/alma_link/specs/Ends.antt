@@ -1,0 +1,39 @@
+-- The ends of a call, as they are due.
+use Rattle.std.specs.Prelude.{List}
+use Rattle.alma_ir.specs.Tree.{Program}
+use Rattle.alma_join.specs.declared.error.JoinError.{JoinError}
+use Rattle.alma_join.specs.declared.error.JoinError.TheVariants as join
+use Rattle.alma_joined.specs.Joined as fault
+use Rattle.alma_plan.specs.Plan.{Ending, bad_word, no_memory, tells}
+use Rattle.alma_plan.specs.Words.{texts}
+use Rattle.alma_plan_run.specs.Ends.{file_end, program_end}
+use Rattle.alma_link.specs.declared.end.LinkEnd.{LinkEnd}
+use Rattle.alma_link.specs.declared.end.LinkEnd.TheVariants.{BadWord, Unread, Unjoined, Performed}
+use Rattle.alma_link.specs.declared.words.Task as word_task
+use Rattle.alma_link.specs.declared.words.Task.TheVariants as word
+use Rattle.alma_link.specs.declared.words.Request as words
+use Rattle.alma_link.specs.Link.{program, failed, join_text}
+use Rattle.alma_link.specs.Words.{Task, Run, Compile, Request, request}
+
+-- the task and the request that words name
+abbrev pub task_of : word_task.Task → Task
+task_of word.Run = Run
+task_of (word.Compile object) = Compile object.now
+
+abbrev pub request_in : words.Request → Request
+request_in r = request (task_of r.task) (texts r.files.now)
+
+-- why modules are not joined
+abbrev pub join_end : List Program → JoinError → Ending
+join_end units (join.Missing unit routine) = tells program 13 (join_text units (fault.Missing unit routine))
+join_end units (join.Twice unit routine) = tells program 13 (join_text units (fault.Twice unit routine))
+join_end units (join.HeadDiffers unit routine) = tells program 13 (join_text units (fault.HeadDiffers unit routine))
+join_end units (join.TooLarge unit) = tells program 13 (join_text units (fault.TooLarge unit))
+join_end units join.Memory = no_memory program
+
+-- how a call ends that read these modules
+abbrev pub link_end : List Program → LinkEnd → Ending
+link_end units (BadWord word) = bad_word program word
+link_end units (Unread file stop) = file_end program file.now stop
+link_end units (Unjoined error) = join_end units error
+link_end units (Performed end) = program_end program failed end

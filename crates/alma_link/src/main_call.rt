@@ -1,0 +1,132 @@
+// The top call: from the words to the status.
+ghost use Rattle.std.specs.Prelude.{◌≡◌, ◌++◌, codes, decimal, map};
+ghost use Rattle.alma_ir.specs.Tree.{routine_at};
+ghost use Rattle.alma_ir.specs.View.{program_of};
+ghost use Rattle.alma_plan.specs.Causes.{Causes};
+ghost use Rattle.alma_plan.specs.Course.{Answers, Reports};
+ghost use Rattle.alma_plan.specs.Outside.{outside_of};
+ghost use Rattle.alma_plan.specs.Plan.{tells};
+ghost use Rattle.alma_plan.specs.Words.{texts};
+ghost use Rattle.alma_plan_run.specs.Programs.{sense};
+ghost use Rattle.alma_link.specs.Ends.{join_end, link_end};
+ghost use Rattle.alma_link.specs.Link.{failed, link_plan, program, unit_at};
+
+use crate::end::LinkEnd;
+use crate::serve::perform;
+use alma_base::Status;
+use alma_io::{Files, Sink, Source};
+use alma_ir::Program;
+use alma_join::JoinError;
+use alma_plan::{Refusal, Stop, refuse, report};
+use alma_plan_run::{tell_file, tell_program};
+use itoa::Buffer;
+use std::alloc::Global;
+
+/// The name of the program.
+const PROGRAM: &[u8] = b"alma_link";
+
+// The name of a routine of a module by their numbers, that of the module from 1; empty where there is none.
+fn routine_name(units: &[Program], unit: u32, routine: u32) -> &[u8]
+    ensures { result.now ≡ (routine_at (unit_at (map program_of units.now) unit) routine).name }
+{
+    match units.get((unit as usize).saturating_sub(1)) {
+        Some(unit) => match unit.routines.get(routine as usize) {
+            Some(routine) => &routine.name,
+            None => b"",
+        },
+        None => b"",
+    }
+}
+
+// Says which fault an import of this name has, by the number of its module.
+fn tell_import<'t, E: Sink>(err: &mut E, fault: &'t [u8], unit: u32, name: &'t [u8]) -> Status
+    ensures { Reports (tells program 13 (fault.now ++ (decimal unit ++ (codes " " ++ name.now))))
+        (E.side err.old) (E.side err.new) result.0 }
+{
+    let mut digits = Buffer::new();
+    let front = b"alma_link: ".as_slice();
+    let number = digits.format(unit).as_bytes();
+    let blank = b" ".as_slice();
+    let end = b"\n".as_slice();
+    report(err, 13, &[front, fault, number, blank, name, end])
+}
+
+// Says with which module a bound is first passed.
+fn tell_too_large<E: Sink>(err: &mut E, unit: u32) -> Status
+    ensures { Reports (tells program 13 (codes "TooLarge " ++ decimal unit)) (E.side err.old)
+        (E.side err.new) result.0 }
+{
+    let mut digits = Buffer::new();
+    let front = b"alma_link: TooLarge ".as_slice();
+    let number = digits.format(unit).as_bytes();
+    let end = b"\n".as_slice();
+    report(err, 13, &[front, number, end])
+}
+
+// Says why the modules are not joined.
+fn tell_join<E: Sink>(err: &mut E, units: &[Program], error: JoinError) -> Status
+    ensures { Reports (join_end (map program_of units.now) error) (E.side err.old) (E.side err.new)
+        result.0 }
+{
+    match error {
+        JoinError::Missing(unit, routine) => {
+            tell_import(err, b"Missing ", unit, routine_name(units, unit, routine))
+        }
+        JoinError::Twice(unit, routine) => {
+            tell_import(err, b"Twice ", unit, routine_name(units, unit, routine))
+        }
+        JoinError::HeadDiffers(unit, routine) => {
+            tell_import(
+                err,
+                b"HeadDiffers ",
+                unit,
+                routine_name(units, unit, routine),
+            )
+        }
+        JoinError::TooLarge(unit) => tell_too_large(err, unit),
+        JoinError::Memory => refuse(err, PROGRAM, Refusal::Stopped(Stop::Memory)),
+    }
+}
+
+// Says on err how the call ends, which read these modules: the status of that, or that of a write fault where err fails.
+fn tell<E: Sink>(err: &mut E, units: &[Program], end: LinkEnd<'_>) -> Status
+    ensures { Reports (link_end (map program_of units.now) end.entry) (E.side err.old)
+        (E.side err.new) result.0 }
+{
+    match end {
+        LinkEnd::BadWord(word) => refuse(err, PROGRAM, Refusal::BadWord(word)),
+        LinkEnd::Unread(file, stop) => tell_file(err, PROGRAM, file.as_bytes(), stop),
+        LinkEnd::Unjoined(error) => tell_join(err, units, error),
+        LinkEnd::Performed(end) => tell_program(err, PROGRAM, 1, end),
+    }
+}
+
+/// All that the program does: it reads the modules that the words name, each to its end and checked before the next is
+/// fetched, joins them to one program, and runs that for at most 1,000,000,000 steps, or stores its object. `words` are those
+/// behind the program's name.
+///
+/// The status is 0 where the run succeeded or the object is stored, 1 where the run failed, 2 for a bad word, 3 for a module
+/// that is refused, 4 for a fault of the run, 5 where all steps were made, 6 for a read fault, 7 for a write fault, 8 for want
+/// of memory, 10 for a file of more than 1,048,576 bytes or an input of more than 16,777,216, 11 for too much code, and 13 for
+/// modules that cannot be joined. The input is read only where the joined program reads.
+pub fn link<F: Files, I: Source, O: Sink, E: Sink>(
+    alloc: Global,
+    words: &[String],
+    files: &mut F,
+    input: &mut I,
+    out: &mut O,
+    err: &mut E,
+) -> Status
+    ensures answer { Answers (sense program failed) program (link_plan (texts words.now))
+        (outside_of (F.side files.old) (I.side input.old) (O.side out.old) (E.side err.old))
+        (outside_of (F.side files.new) (I.side input.new) (O.side out.new) (E.side err.new))
+        result.0 }
+    ensures causes { Causes (sense program failed) program (link_plan (texts words.now))
+        (outside_of (F.side files.old) (I.side input.old) (O.side out.old) (E.side err.old))
+        (outside_of (F.side files.new) (I.side input.new) (O.side out.new) (E.side err.new))
+        result.0 }
+{
+    let mut units = Vec::new(alloc);
+    let end = perform(alloc, words, &mut units, files, input, out);
+    tell(err, &units, end)
+}

@@ -1,0 +1,1 @@
+MODULE A; VAR x: INTEGER; PROCEDURE inc(VAR a: INTEGER); END inc; BEGIN x := 1; inc(x); WRITE(x) END A.

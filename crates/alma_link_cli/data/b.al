@@ -1,0 +1,1 @@
+MODULE B; PROCEDURE inc(VAR a: INTEGER); BEGIN a := a + 1 END inc; END B.

@@ -1,0 +1,260 @@
+// Instructions that are made at once, by the opcode of their record. Where a step would be another, or end the run, or memory
+// is wanted, nothing happens, and it is left to `act`.
+ghost use Rattle.std.specs.Prelude.{◌+◌, ◌<◌, ◌^◌};
+ghost use Rattle.alma_code.specs.Machine.{act};
+ghost use Rattle.alma_machine.specs.Needs.{Needs};
+ghost use Rattle.alma_machine.specs.Quick.{Quickly, KeepsLive};
+ghost use Rattle.alma_machine_acts.specs.Rows.{state_of};
+ghost use Rattle.alma_object.specs.View.{instr_of_record};
+
+use crate::quick_act::{control_quickly, number_quickly, place_quickly};
+use crate::quick_calls::call_quickly;
+use crate::quick_cells::{cell_quickly, choice_quickly};
+use alma_code::Instr;
+use alma_machine_acts::{CodeView, Registers};
+use alma_object::InstrRecord;
+
+/// What the instruction of a record does, with the address already at the next one, if it is one that is made at once.
+/// Of the record only the opcode is read, and the words that the form uses.
+#[inline(always)]
+pub(crate) fn act_quickly<V: CodeView>(
+    registers: &mut Registers,
+    view: &V,
+    form: InstrRecord<'_>,
+    input: &[u8],
+) -> bool
+    requires needs { Needs (V.code view.now) registers.old.memory.now (instr_of_record form) }
+    requires few { registers.old.choices + 1 < 2 ^ 63 }
+    ensures step { Quickly result (state_of registers.old) (state_of registers.new)
+        (act (V.code view.now) input.now (instr_of_record form.entry) (state_of registers.old)) }
+    ensures kept { KeepsLive (state_of registers.old) (state_of registers.new) }
+{
+    match form.opcode() {
+        1 => {
+            let instr = Instr::Const {
+                to: form.first(),
+                value: form.value(),
+            };
+            number_quickly(registers, view, instr, input)
+        }
+        2 => {
+            let instr = Instr::Move {
+                to: form.first(),
+                from: form.second(),
+            };
+            number_quickly(registers, view, instr, input)
+        }
+        3 => {
+            let instr = Instr::Add {
+                to: form.first(),
+                left: form.second(),
+                right: form.third(),
+            };
+            number_quickly(registers, view, instr, input)
+        }
+        4 => {
+            let instr = Instr::Sub {
+                to: form.first(),
+                left: form.second(),
+                right: form.third(),
+            };
+            number_quickly(registers, view, instr, input)
+        }
+        5 => {
+            let instr = Instr::Mul {
+                to: form.first(),
+                left: form.second(),
+                right: form.third(),
+            };
+            number_quickly(registers, view, instr, input)
+        }
+        6 => {
+            let instr = Instr::Div {
+                to: form.first(),
+                left: form.second(),
+                right: form.third(),
+            };
+            number_quickly(registers, view, instr, input)
+        }
+        7 => {
+            let instr = Instr::Mod {
+                to: form.first(),
+                left: form.second(),
+                right: form.third(),
+            };
+            number_quickly(registers, view, instr, input)
+        }
+        8 => {
+            let instr = Instr::Neg {
+                to: form.first(),
+                from: form.second(),
+            };
+            number_quickly(registers, view, instr, input)
+        }
+        9 => {
+            let instr = Instr::Equal {
+                to: form.first(),
+                left: form.second(),
+                right: form.third(),
+            };
+            number_quickly(registers, view, instr, input)
+        }
+        10 => {
+            let instr = Instr::Less {
+                to: form.first(),
+                left: form.second(),
+                right: form.third(),
+            };
+            number_quickly(registers, view, instr, input)
+        }
+        11 => {
+            let instr = Instr::LessEq {
+                to: form.first(),
+                left: form.second(),
+                right: form.third(),
+            };
+            number_quickly(registers, view, instr, input)
+        }
+        12 => {
+            let instr = Instr::Flip {
+                to: form.first(),
+                from: form.second(),
+            };
+            number_quickly(registers, view, instr, input)
+        }
+        13 => {
+            let instr = Instr::InRange {
+                value: form.first(),
+                range: form.second(),
+            };
+            control_quickly(registers, view, instr, input)
+        }
+        14 => {
+            let instr = Instr::Local {
+                to: form.first(),
+                first: form.second(),
+            };
+            place_quickly(registers, view, instr, input)
+        }
+        15 => {
+            let instr = Instr::Global {
+                to: form.first(),
+                first: form.second(),
+            };
+            place_quickly(registers, view, instr, input)
+        }
+        16 => {
+            let instr = Instr::Same {
+                to: form.first(),
+                from: form.second(),
+            };
+            place_quickly(registers, view, instr, input)
+        }
+        17 => {
+            let instr = Instr::Field {
+                to: form.first(),
+                from: form.second(),
+                offset: form.third(),
+            };
+            place_quickly(registers, view, instr, input)
+        }
+        18 => {
+            let instr = Instr::Index {
+                to: form.first(),
+                from: form.second(),
+                index: form.third(),
+                range: form.fourth(),
+            };
+            place_quickly(registers, view, instr, input)
+        }
+        19 => {
+            let instr = Instr::Load {
+                to: form.first(),
+                from: form.second(),
+            };
+            number_quickly(registers, view, instr, input)
+        }
+        20 => {
+            let instr = Instr::Store {
+                to: form.first(),
+                from: form.second(),
+            };
+            cell_quickly(registers, view, instr, input)
+        }
+        21 => {
+            let instr = Instr::Known {
+                to: form.first(),
+                of: form.second(),
+            };
+            number_quickly(registers, view, instr, input)
+        }
+        22 => {
+            let instr = Instr::Bind {
+                place: form.first(),
+                value: form.second(),
+                range: form.third(),
+            };
+            cell_quickly(registers, view, instr, input)
+        }
+        23 => {
+            let instr = Instr::Unify {
+                left: form.first(),
+                left_range: form.second(),
+                right: form.third(),
+                right_range: form.fourth(),
+            };
+            cell_quickly(registers, view, instr, input)
+        }
+        26 => {
+            let instr = Instr::Jump { to: form.first() };
+            control_quickly(registers, view, instr, input)
+        }
+        27 => {
+            let instr = Instr::JumpZero {
+                value: form.first(),
+                to: form.second(),
+            };
+            control_quickly(registers, view, instr, input)
+        }
+        28 => {
+            let instr = Instr::Check {
+                value: form.first(),
+            };
+            control_quickly(registers, view, instr, input)
+        }
+        29 => control_quickly(registers, view, Instr::Fail, input),
+        30 => {
+            let instr = Instr::Mark { to: form.first() };
+            choice_quickly(registers, view, instr, input)
+        }
+        31 => {
+            let instr = Instr::Cut { mark: form.first() };
+            choice_quickly(registers, view, instr, input)
+        }
+        32 => {
+            let instr = Instr::Choose {
+                resume: form.first(),
+            };
+            choice_quickly(registers, view, instr, input)
+        }
+        37 => {
+            let instr = Instr::Call {
+                routine: form.first(),
+                first: form.second(),
+                to: form.third(),
+            };
+            call_quickly(registers, view, instr, input)
+        }
+        38 => call_quickly(registers, view, Instr::Return, input),
+        48 => {
+            let instr = Instr::Step {
+                counter: form.first(),
+                limit: form.second(),
+                by: form.third(),
+                out: form.fourth(),
+            };
+            control_quickly(registers, view, instr, input)
+        }
+        _ => false,
+    }
+}

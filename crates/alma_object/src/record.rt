@@ -1,0 +1,12 @@
+// The record of an instruction.
+ghost use Rattle.std.specs.Prelude.{◌+◌, ◌≤◌, length};
+
+mod words;
+
+/// The record of an instruction: its opcode and four words. Only what is asked for is read.
+#[derive(Clone, Copy)]
+pub struct InstrRecord<'b> {
+    bytes: &'b [u8],
+    at: usize,
+    ghost whole: { at + 17 ≤ length bytes.now },
+}

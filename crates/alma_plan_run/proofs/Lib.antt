@@ -1,0 +1,6 @@
+mod TextLemmas
+mod Running
+mod Sizes
+mod Storing
+pub mod Sources
+pub mod Owns

@@ -1,0 +1,44 @@
+//! Laws of sources: functions without work, whose contracts are the laws.
+ghost use Rattle.std.specs.Prelude.{◌≡◌, List, ℕ};
+ghost use Rattle.alma_grammar.specs.Laws.{IsProgram};
+ghost use Rattle.alma_ir.specs.Tree.{Program};
+ghost use Rattle.alma_scan.specs.Tokens.{Lexeme, Tokens};
+ghost use Rattle.alma_source.specs.Refusal.{kinds, IsOfGrammar, IsParsed, IsRefused, IsProgramOf};
+ghost use Rattle.alma_source.specs.declared.fault.SourceFault.{SourceFault};
+ghost use Rattle.alma_source.specs.Verdict.{Verdict, IsVerdict};
+ghost use Rattle.alma_tree.specs.declared.module.Module.{Module};
+
+/// What is refused is no program. What is refused for a fault of tokens or of syntax has no tokens that are a program of the grammar.
+pub fn a_refused_source_is_no_program()
+    ensures apart { (source : List ℕ) (fault : SourceFault) (offset : ℕ) (p : Program)
+        → IsRefused source fault offset → IsProgramOf source p → ⊥ }
+    ensures grammar { (source : List ℕ) (fault : SourceFault) (offset : ℕ) (tokens : List Lexeme)
+        → IsOfGrammar fault → IsRefused source fault offset → Tokens source tokens
+        → IsProgram (kinds tokens) → ⊥ }
+{}
+
+/// What is refused for a fault of tokens or of syntax has no tree.
+pub fn a_source_outside_the_grammar_has_no_tree()
+    ensures apart { (source : List ℕ) (fault : SourceFault) (offset : ℕ) (tokens : List Lexeme)
+        (tree : Module) → IsOfGrammar fault → IsRefused source fault offset
+        → IsParsed source tokens tree → ⊥ }
+{}
+
+/// A source is one program.
+pub fn a_source_is_one_program()
+    ensures same { (source : List ℕ) (p q : Program) → IsProgramOf source p
+        → IsProgramOf source q → p ≡ q }
+{}
+
+/// A source is refused for one fault, and at one place.
+pub fn a_source_has_one_refusal()
+    ensures same { (source : List ℕ) (fault other : SourceFault) (offset place : ℕ) →
+        IsRefused source fault offset → IsRefused source other place → (fault ≡ other) ×
+        (offset ≡ place) }
+{}
+
+/// A source comes to one verdict.
+pub fn a_source_has_one_verdict()
+    ensures same { (source : List ℕ) (one other : Verdict) → IsVerdict source one
+        → IsVerdict source other → one ≡ other }
+{}

@@ -1,0 +1,3 @@
+alma link run coins.al till.al
+alma link compile till.obj coins.al till.al
+alma exec till.obj

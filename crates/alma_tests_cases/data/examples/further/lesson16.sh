@@ -1,0 +1,1 @@
+alma all four.al
