@@ -1,0 +1,5 @@
+//! A memory of the machine that goes back step by step, and takes no memory for that.
+#![tactic(auto)]
+
+mod frame;
+mod frames;
