@@ -1,2 +1,4 @@
 pub mod Lives
 pub mod Rooms
+pub mod Trails
+pub mod Winding

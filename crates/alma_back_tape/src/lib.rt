@@ -2,6 +2,7 @@
 #![tactic(auto)]
 
 mod change;
+mod forward;
 mod frame;
 mod frames;
 mod journal;
