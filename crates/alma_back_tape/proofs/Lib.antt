@@ -1,4 +1,5 @@
 pub mod Lives
+pub mod Loops
 pub mod Rooms
 pub mod Trails
 pub mod Winding
