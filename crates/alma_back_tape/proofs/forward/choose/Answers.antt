@@ -18,6 +18,6 @@ returns-clause-tape c =
     record {
       good = (pushed j.changes.items c.push_reserved-2.new.self.items (reel_of j) (reel_of j') e c.choice_room.ensures.rests.tape.good c.push_reserved-2.ensures.items
       (same_reel refl refl c.push_reserved.ensures.items refl refl refl) (omega (arith, c.len-mark.ensures, j.trail.ok))).moves.good;
-      rooms = pushed_rooms j j' e c.choice_room.ensures.rests.tape.rooms c.in_ok-choice_room.ensures.room refl refl refl (omega arith) refl
+      rooms = pushed_rooms j j' e c.choice_room.ensures.rests.tape.rooms c.in_ok-choice_room.ensures.room refl refl refl (omega (arith, c.in_ok-choice_room.ensures.room)) refl
           c.push_reserved.ensures.items c.push_reserved-2.ensures.items c.push_reserved.ensures.capacity c.push_reserved-2.ensures.capacity;
     }

@@ -24,7 +24,7 @@ pub undo_note-flipped-requires-clause-after : goal.undo_note-flipped-requires-cl
 undo_note-flipped-requires-clause-after c =
     (top_undoes (reverse c.args.journal.now.changes.items) (reel_of c.args.journal.now) c.pop.new.self.items c.in-Some.note c.requires.tape.good c.in-Some.ensures.items).2
 
-after : goal.After-push_reserved-2 → Journal
+abbrev after : goal.After-push_reserved-2 → Journal
 after c =
     record c.args.journal.now {
       frames = c.undo_note-flipped.new.frames; trail = c.pop.new.self; redo = c.push_reserved.new.self; changes = c.push_reserved-2.new.self;
