@@ -1,6 +1,6 @@
 -- What the loops over the notes and over the entries keep.
-use Rattle.std.proofs.Common.{◌≡◌, ◌≤◌, ◌<◌, ◌∙◌, ℕ, List, [], ◌∷◌, ◌++◌, length, take, drop, reverse, ◌-◌, refl, sym, ap, subst, arith}
-use Rattle.std.proofs.lemmas.List.{length-take-le, take_all}
+use Rattle.std.proofs.Common.{◌≡◌, ◌≤◌, ◌<◌, ◌∙◌, ℕ, List, [], ◌∷◌, ◌++◌, length, take, drop, get_or, reverse, ◌-◌, refl, sym, ap, subst, arith}
+use Rattle.std.proofs.lemmas.List.{length-take-le, take_all, get_or_read}
 use Rattle.alma_code.specs.Picture.{stack_after_pop}
 use Rattle.alma_back_tape.specs.declared.change.Note.{Note}
 use Rattle.alma_back_tape.specs.declared.change.Entry.{Entry}
@@ -89,3 +89,9 @@ cuts_held height old now few cuts =
     let all : now.entries.items ≡ take height old.entries.items = sym (take_all height now.entries.items few) ∙ cuts.below in
     ap (λ ns. held_of ns now.frames now.entries.items) cuts.trail ∙ ap (λ fs. held_of old.trail.items fs now.entries.items) cuts.frames
     ∙ cut-held height old.trail.items old.frames old.entries.items now.entries.items all
+
+-- the entry that is read at the top is the last one
+pub top_is : (es : List Entry) (n : ℕ) (x : Entry) → n ≡ length es → 1 ≤ length es → x ≡ get_or es (n - 1) x → x ≡ last_or es no_entry
+top_is es n x whole some read =
+    let lt : n - 1 < length es = omega (arith, whole, some) in
+    get_or_read es (n - 1) x lt read no_entry ∙ ap (λ k. get_or es (k - 1) no_entry) whole
