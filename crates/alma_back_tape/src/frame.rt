@@ -1,0 +1,102 @@
+// One live frame.
+ghost use Rattle.std.specs.Prelude.{◌≡◌, ◌<◌, length, slice_get, slice_index_or, Some, IfOk};
+ghost use Rattle.alma_code.specs.Picture.{frame_with};
+ghost use Rattle.alma_code.specs.declared.cell.Cell.TheVariants as cell;
+
+use alma_base::NoMemory;
+use alma_code::{Cell, SlotKind};
+use std::alloc::Global;
+use std::marker::Model;
+
+// What a frame holds.
+#[derive(Drop)]
+struct Parts {
+    routine: u32,
+    back: u32,
+    declared: u32,
+    kinds: Vec<SlotKind>,
+    cells: Vec<Cell>,
+}
+
+/// A frame that moves between the live frames and the notes at no cost.
+#[derive(Drop)]
+pub struct Frame {
+    parts: Box<Parts>,
+}
+
+impl Model for Frame {
+    ghost use Rattle.alma_code.specs.Picture.{PlainFrame};
+
+    ghost Value = { PlainFrame };
+
+    ghost view = { λ f. record {
+      routine = f.parts.value.routine;
+      back = f.parts.value.back;
+      declared = f.parts.value.declared;
+      kinds = f.parts.value.kinds.items;
+      cells = f.parts.value.cells.items;
+    } };
+}
+
+impl Frame {
+    pub fn new(
+        alloc: Global,
+        routine: u32,
+        back: u32,
+        declared: u32,
+        kinds: Vec<SlotKind>,
+        cells: Vec<Cell>,
+    ) -> Result<Frame, NoMemory>
+        ensures { IfOk result (λ frame. frame ≡ record {
+          routine = routine;
+          back = back;
+          declared = declared;
+          kinds = kinds.items;
+          cells = cells.items;
+        }) }
+    {
+        let parts = Parts {
+            routine,
+            back,
+            declared,
+            kinds,
+            cells,
+        };
+        let parts = Box::new(alloc, parts)?;
+        Ok(Frame { parts })
+    }
+
+    pub fn back(&self) -> u32
+        ensures { result ≡ self.now.back }
+    {
+        self.parts.back
+    }
+
+    pub fn declared(&self) -> u32
+        ensures { result ≡ self.now.declared }
+    {
+        self.parts.declared
+    }
+
+    pub fn cell(&self, slot: u32) -> Cell
+        requires { slot < length self.now.cells }
+        ensures { result ≡ slice_index_or self.now.cells slot cell.Unknown }
+    {
+        self.parts.cells[slot as usize]
+    }
+
+    /// The kind of a slot.
+    pub fn kind(&self, slot: u32) -> SlotKind
+        requires { slot < length self.now.kinds }
+        ensures { slice_get self.now.kinds slot ≡ Some result }
+    {
+        self.parts.kinds[slot as usize]
+    }
+
+    pub fn write(&mut self, slot: u32, cell: Cell)
+        requires { slot < length self.old.cells }
+        ensures { self.new ≡ frame_with self.old slot cell }
+    {
+        self.parts.cells[slot as usize] = cell;
+    }
+}

@@ -1,0 +1,7 @@
+//! A memory of the machine that goes back step by step, and takes no memory for that.
+#![tactic(auto)]
+
+mod change;
+mod frame;
+mod frames;
+mod journal;
