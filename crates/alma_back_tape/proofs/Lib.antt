@@ -1,2 +1,6 @@
+pub mod Contents
 pub mod Lives
+pub mod Looked
+pub mod Marks
+pub mod Pasts
 pub mod Rooms

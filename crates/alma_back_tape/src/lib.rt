@@ -2,6 +2,8 @@
 #![tactic(auto)]
 
 mod change;
+mod earlier;
 mod frame;
 mod frames;
 mod journal;
+mod layout;
