@@ -4,3 +4,5 @@ pub mod Looked
 pub mod Marks
 pub mod Pasts
 pub mod Rooms
+pub mod Trails
+pub mod Winding

@@ -1,7 +1,7 @@
 // Live frames and choice entries, and all that takes their changes back.
 ghost use Rattle.std.specs.Prelude.{◌≡◌, ◌<◌, ◌≤◌, ◌+◌, ◌*◌, [], ◌∷◌, ◌++◌, length, IfOk, OnOk, IsOk, vec_len, vec_capacity};
 ghost use Rattle.alma_back_tape.specs.declared.change.Change.TheVariants.{Noted};
-ghost use Rattle.alma_back_tape.specs.Inner.Past.{HasRooms, Reserves, reel_of};
+ghost use Rattle.alma_back_tape.specs.Inner.Past.{HasRooms, IsTape, Reserves, Rests, reel_of};
 
 use crate::change::{Change, Entry, Gain, Note};
 use crate::frames::Frames;
@@ -47,6 +47,9 @@ fn changes_due(journal: &Journal, notes: usize, choices: usize) -> Result<usize,
     sum(due, choices)
 }
 
+// How many places are taken at once where one is wanted.
+const BATCH: usize = 64;
+
 /// Room for so many more notes.
 pub fn reserve_notes(journal: &mut Journal, notes: usize) -> Result<(), NoMemory>
     requires { HasRooms 0 journal.old }
@@ -85,6 +88,36 @@ pub fn reserve_choices(journal: &mut Journal, choices: usize) -> Result<(), NoMe
     journal.changes.reserve(changes)?;
     journal.choice_room = choices;
     Ok(())
+}
+
+/// Room for one more note.
+pub fn note_room(journal: &mut Journal) -> Result<(), NoMemory>
+    requires { IsTape journal.old }
+    ensures rests { Rests journal.old journal.new }
+    ensures succeeds { 1 ≤ journal.old.trail_room → IsOk result }
+    ensures choice_room { journal.old.choice_room ≤ journal.new.choice_room }
+    ensures trail_room { journal.old.trail_room ≤ journal.new.trail_room }
+    ensures room { OnOk result (1 ≤ journal.new.trail_room) }
+{
+    if journal.trail_room > 0 {
+        return Ok(());
+    }
+    reserve_notes(journal, BATCH)
+}
+
+/// Room for one more entry.
+pub fn choice_room(journal: &mut Journal) -> Result<(), NoMemory>
+    requires { IsTape journal.old }
+    ensures rests { Rests journal.old journal.new }
+    ensures succeeds { 1 ≤ journal.old.choice_room → IsOk result }
+    ensures trail_room { journal.old.trail_room ≤ journal.new.trail_room }
+    ensures choice_room { journal.old.choice_room ≤ journal.new.choice_room }
+    ensures room { OnOk result (1 ≤ journal.new.choice_room) }
+{
+    if journal.choice_room > 0 {
+        return Ok(());
+    }
+    reserve_choices(journal, BATCH)
 }
 
 /// Adds a note, where there is room for it.

@@ -3,6 +3,7 @@
 
 mod change;
 mod earlier;
+mod forward;
 mod frame;
 mod frames;
 mod journal;

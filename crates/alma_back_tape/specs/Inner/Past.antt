@@ -124,3 +124,9 @@ pub record Reserves (old new : Journal) : Type 0 where
   pub rooms : HasRooms 0 new
   pub choice_room : old.choice_room ≤ new.choice_room
   pub trail_room : old.trail_room ≤ new.trail_room
+
+-- the same scenes, whatever the rooms
+pub record Rests (old new : Journal) : Type 0 where
+  pub tape : IsTape new
+  pub reel : reel_of new ≡ reel_of old
+  pub past : scenes new ≡ scenes old

@@ -43,6 +43,17 @@ flip (Wrote place old) frames = Wrote place (cell_at frames place.frame place.sl
 flip Entered frames = Left (last_frame frames)
 flip (Left frame) frames = Entered
 
+-- what a pop leaves of an entry of a kind: a Forall stays as a Done
+abbrev pub stays_as : ChoiceKind → Entry → List Entry
+stays_as Forall entry = record entry { kind = Done } ∷ []
+stays_as Branch entry = []
+stays_as Body entry = []
+stays_as Done entry = []
+
+-- what a pop leaves of an entry
+abbrev pub stays : Entry → List Entry
+stays entry = stays_as entry.kind entry
+
 -- ---- the whole
 
 -- the live frames, the notes of their changes, the choice entries, what was taken from both by failures and cuts, and what carries gained
