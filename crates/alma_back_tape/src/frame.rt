@@ -81,11 +81,11 @@ impl Frame {
         self.parts.declared
     }
 
-    pub fn cell(&self, slot: u32) -> Cell
+    pub fn cell(&self, slot: usize) -> Cell
         requires { slot < length self.now.cells }
         ensures { result ≡ slice_index_or self.now.cells slot cell.Unknown }
     {
-        self.parts.cells[slot as usize]
+        self.parts.cells[slot]
     }
 
     /// The kind of a slot.
@@ -139,7 +139,7 @@ impl Frame {
         ensures { result ≡ number_in self.now slot }
     {
         if self.is_number(slot) {
-            Some(self.cell(slot))
+            Some(self.cell(slot as usize))
         } else {
             None
         }

@@ -10,7 +10,7 @@ ghost use Rattle.alma_code.specs.declared.cell.Cell.TheVariants as cell;
 use crate::frame::Frame;
 use alma_base::{FRAME_LIMIT, NoMemory};
 use alma_code::Cell;
-use alma_memory_store::SlotPlace;
+use alma_memory_store::{LiveFrames, SlotPlace};
 use std::alloc::Global;
 use std::marker::Model;
 
@@ -80,7 +80,7 @@ impl Frames {
             (slice_index_or self.now place.frame no_frame).cells }
         ensures { result ≡ cell_at self.now place.frame place.slot cell.Unknown }
     {
-        self.at(place.frame).cell(place.slot)
+        self.at(place.frame).cell(place.slot as usize)
     }
 
     pub fn write(&mut self, place: SlotPlace, cell: Cell)
@@ -134,5 +134,17 @@ impl Frames {
         } else {
             None
         }
+    }
+}
+
+impl LiveFrames for Frames {
+    ghost live = { λ frames. frames };
+
+    fn len(&self) -> usize {
+        self.list.len()
+    }
+
+    fn read(&self, frame: usize, slot: usize) -> Cell {
+        self.list[frame].cell(slot)
     }
 }

@@ -1,5 +1,5 @@
 // The frames that a start and a call enter.
-ghost use Rattle.std.specs.Prelude.{◌≡◌, ◌^◌, ◌<◌, ◌≤◌, IfOk};
+ghost use Rattle.std.specs.Prelude.{◌≡◌, ◌≤◌, IfOk};
 ghost use Rattle.alma_code.specs.Layout.{FitsParams, IsHead, frame_of_call, start_frame};
 ghost use Rattle.alma_code.specs.Carries.{IsLive};
 ghost use Rattle.alma_memory_store.specs.Frames.{AreWhole, IsWhole};
@@ -8,23 +8,8 @@ use crate::frame::Frame;
 use crate::frames::Frames;
 use alma_base::NoMemory;
 use alma_code::{Cell, Head};
-use alma_memory_store::{LiveFrames, SlotPlace, put_call, put_start};
+use alma_memory_store::{put_call, put_start};
 use std::alloc::Global;
-
-impl LiveFrames for Frames {
-    ghost live = { λ frames. frames };
-
-    fn len(&self) -> usize {
-        Frames::len(self) as usize
-    }
-
-    fn read(&self, frame: usize, slot: usize) -> Cell {
-        self.cell(SlotPlace {
-            frame: frame as u32,
-            slot: slot as u32,
-        })
-    }
-}
 
 /// The frame of a start, of routine 0.
 pub fn start_from<H: Head>(alloc: Global, head: &H) -> Result<Frame, NoMemory>
