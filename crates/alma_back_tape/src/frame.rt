@@ -1,6 +1,9 @@
 // One live frame.
 ghost use Rattle.std.specs.Prelude.{◌≡◌, ◌<◌, length, slice_get, slice_index_or, Some, IfOk};
 ghost use Rattle.alma_code.specs.Picture.{frame_with};
+ghost use Rattle.alma_code.specs.Kinds.{is_number};
+ghost use Rattle.alma_memory_store.specs.Frames.{IsWhole};
+ghost use Rattle.alma_memory_store.specs.Numbers.{number_in};
 ghost use Rattle.alma_code.specs.declared.cell.Cell.TheVariants as cell;
 
 use alma_base::NoMemory;
@@ -78,11 +81,11 @@ impl Frame {
         self.parts.declared
     }
 
-    pub fn cell(&self, slot: u32) -> Cell
+    pub fn cell(&self, slot: usize) -> Cell
         requires { slot < length self.now.cells }
         ensures { result ≡ slice_index_or self.now.cells slot cell.Unknown }
     {
-        self.parts.cells[slot as usize]
+        self.parts.cells[slot]
     }
 
     /// The kind of a slot.
@@ -98,5 +101,47 @@ impl Frame {
         ensures { self.new ≡ frame_with self.old slot cell }
     {
         self.parts.cells[slot as usize] = cell;
+    }
+
+    /// A copy of the frame.
+    pub fn copied(&self, alloc: Global) -> Result<Frame, NoMemory>
+        ensures { IfOk result (λ frame. frame ≡ self.now) }
+    {
+        let kinds = Vec::from_slice(alloc, self.parts.kinds.as_slice())?;
+        let cells = Vec::from_slice(alloc, self.parts.cells.as_slice())?;
+        Frame::new(
+            alloc,
+            self.parts.routine,
+            self.parts.back,
+            self.parts.declared,
+            kinds,
+            cells,
+        )
+    }
+
+    /// How many slots the frame has.
+    pub fn slots(&self) -> u32
+        requires { IsWhole self.now }
+        ensures { result ≡ length self.now.cells }
+    {
+        self.parts.cells.len() as u32
+    }
+
+    pub fn is_number(&self, slot: u32) -> bool
+        ensures { result ≡ is_number (slice_get self.now.kinds slot) }
+    {
+        matches!(self.parts.kinds.get(slot as usize), Some(SlotKind::Number))
+    }
+
+    /// The cell of a number slot.
+    pub fn number(&self, slot: u32) -> Option<Cell>
+        requires { IsWhole self.now }
+        ensures { result ≡ number_in self.now slot }
+    {
+        if self.is_number(slot) {
+            Some(self.cell(slot as usize))
+        } else {
+            None
+        }
     }
 }

@@ -2,12 +2,15 @@
 ghost use Rattle.std.specs.Prelude.{◌≡◌, ℕ, ◌+◌, ◌<◌, ◌≤◌, [], ◌∷◌, ◌++◌, length, slice_index_or, IfOk};
 ghost use Rattle.alma_base.specs.Limits.{cell_limit, frame_limit};
 ghost use Rattle.alma_code.specs.Picture.{no_frame, frames_with_cell, cell_at, last_frame, without_last, live_cells};
+ghost use Rattle.alma_code.specs.Carries.{number_at};
+ghost use Rattle.alma_memory_store.specs.Frames.{AreWhole};
+ghost use Rattle.alma_memory_store.specs.Numbers.{number_of};
 ghost use Rattle.alma_code.specs.declared.cell.Cell.TheVariants as cell;
 
 use crate::frame::Frame;
 use alma_base::{FRAME_LIMIT, NoMemory};
 use alma_code::Cell;
-use alma_memory_store::SlotPlace;
+use alma_memory_store::{LiveFrames, SlotPlace};
 use std::alloc::Global;
 use std::marker::Model;
 
@@ -77,7 +80,7 @@ impl Frames {
             (slice_index_or self.now place.frame no_frame).cells }
         ensures { result ≡ cell_at self.now place.frame place.slot cell.Unknown }
     {
-        self.at(place.frame).cell(place.slot)
+        self.at(place.frame).cell(place.slot as usize)
     }
 
     pub fn write(&mut self, place: SlotPlace, cell: Cell)
@@ -112,5 +115,36 @@ impl Frames {
         };
         self.declared -= frame.declared();
         frame
+    }
+
+    /// Whether the place is a number slot of a live frame.
+    pub fn has_number(&self, place: SlotPlace) -> bool
+        ensures { result ≡ number_at self.now place.frame place.slot }
+    {
+        place.frame < self.len() && self.at(place.frame).is_number(place.slot)
+    }
+
+    /// The cell of a live number slot.
+    pub fn number(&self, place: SlotPlace) -> Option<Cell>
+        requires { AreWhole self.now }
+        ensures { result ≡ number_of self.now place.frame place.slot }
+    {
+        if place.frame < self.len() {
+            self.at(place.frame).number(place.slot)
+        } else {
+            None
+        }
+    }
+}
+
+impl LiveFrames for Frames {
+    ghost live = { λ frames. frames };
+
+    fn len(&self) -> usize {
+        self.list.len()
+    }
+
+    fn read(&self, frame: usize, slot: usize) -> Cell {
+        self.list[frame].cell(slot)
     }
 }

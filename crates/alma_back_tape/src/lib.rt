@@ -3,7 +3,9 @@
 
 mod backward;
 mod change;
+mod earlier;
 mod forward;
 mod frame;
 mod frames;
 mod journal;
+mod layout;
