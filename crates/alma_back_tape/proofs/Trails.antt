@@ -1,5 +1,5 @@
 -- Lemmas on the trail: notes that are added and undone leave each whole copy as it was.
-use Rattle.std.specs.Prelude.{Some, None, slice_get, ◌⊎◌}
+use Rattle.std.specs.Prelude.{Some, None, slice_get}
 use Rattle.std.proofs.Common.{◌≡◌, ℕ, ◌≤◌, ◌<◌, ◌+◌, ◌-◌, List, [], ◌∷◌, ◌++◌, length, take, drop, map, get_or, suc, zero, refl, sym, ap, ◌∙◌, arith}
 use Rattle.std.proofs.lemmas.List.{drop_more, map-append, get_or_at, take_at, drop_all, take-map, length-take-le, length_push, length-set, get_or-set_same, drop-append-le, take-append-drop, append-nil, take-append-le}
 use Rattle.alma_code.specs.declared.cell.Cell.{Cell}
@@ -224,10 +224,15 @@ kind-there trail fs [] b e l h = absurd (omega arith)
 kind-there trail fs (d ∷ es) zero e l h = ap (λ (x : Entry). Some x.kind) (sym h)
 kind-there trail fs (d ∷ es) (suc b) e l h = kind-there trail fs es b e (omega arith) h
 
--- there is no entry at 0 nor above the top
-pub kind-none : (trail : List Note) (fs : List PlainFrame) (es : List Entry) (h : ℕ) → h ≡ 0 ⊎ length es < h → kind_at (held_of trail fs es) h ≡ None
+-- there is no entry at 0
+pub kind-none : (trail : List Note) (fs : List PlainFrame) (es : List Entry) (h : ℕ) → h ≡ 0 → kind_at (held_of trail fs es) h ≡ None
 kind-none trail fs es zero l = refl
-kind-none trail fs es (suc b) l = kind-past trail fs es b (omega arith)
+kind-none trail fs es (suc b) l = absurd (omega arith)
+
+-- nor above the top
+pub kind-above : (trail : List Note) (fs : List PlainFrame) (es : List Entry) (h : ℕ) → length es < h → kind_at (held_of trail fs es) h ≡ None
+kind-above trail fs es zero l = absurd (omega arith)
+kind-above trail fs es (suc b) l = kind-past trail fs es b (omega arith)
 
 -- the kind of an entry that is there
 pub kind-some : (trail : List Note) (fs : List PlainFrame) (es : List Entry) (h : ℕ) (e : Entry) → 1 ≤ h → h ≤ length es → e ≡ get_or es (h - 1) e →
@@ -236,5 +241,3 @@ kind-some trail fs es zero e l m p = absurd (omega arith)
 kind-some trail fs es (suc b) e l m p =
     let z : suc b - 1 ≡ b = omega arith in
     kind-there trail fs es b e (omega arith) (p ∙ ap (λ k. get_or es k e) z)
-
--- ---- a note within the trail

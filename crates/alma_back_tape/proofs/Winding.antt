@@ -81,12 +81,11 @@ moved cs cs' r r' c quiet changes wound can back good =
       past = ap (λ ds. past ds r') more ∙ past_step c (reverse cs) r' quiet ∙ ap (past (reverse cs)) back;
     }
 
--- the same reel and changes
-pub stayed : (cs cs' : List Change) (r r' : Reel) → cs' ≡ cs → r' ≡ r → IsGood (reverse cs) r → Moves cs cs' r r'
-stayed cs cs' r r' p q good = record {
-  good = subst (λ (ds : List Change). IsGood (reverse ds) r') (sym p) (subst (λ (s : Reel). IsGood (reverse cs) s) (sym q) good);
-  past = ap (λ ds. past (reverse ds) r') p ∙ ap (past (reverse cs)) q;
-}
+-- a step that begins
+pub begun : (cs cs' : List Change) (r : Reel) → cs' ≡ cs ++ Began ∷ [] → IsGood (reverse cs) r → IsGood (reverse cs') r
+begun cs cs' r changes good =
+    let more : reverse cs' ≡ Began ∷ reverse cs = ap reverse changes ∙ reverse-append cs (Began ∷ []) in
+    subst (λ (ds : List Change). IsGood ds r) (sym more) (good_wound (reverse cs) r good, tt, good)
 
 -- ---- notes that are added
 

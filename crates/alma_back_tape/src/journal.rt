@@ -1,11 +1,17 @@
 // Live frames and choice entries, and all that takes their changes back.
-ghost use Rattle.std.specs.Prelude.{◌≡◌, ◌<◌, ◌≤◌, ◌+◌, ◌*◌, [], ◌∷◌, ◌++◌, length, IfOk, OnOk, IsOk, vec_len, vec_capacity};
+ghost use Rattle.std.specs.Prelude.{◌≡◌, ◌<◌, ◌≤◌, ◌+◌, ◌*◌, [], ◌∷◌, ◌++◌, length, is_ok, IfOk, OnOk, IsOk, if◌then◌else◌};
+ghost use Rattle.alma_base.specs.Limits.{cell_limit};
+ghost use Rattle.alma_code.specs.Picture.{kind_at as kind_there};
+ghost use Rattle.alma_memory_store.specs.Frames.{IsWhole};
 ghost use Rattle.alma_back_tape.specs.declared.change.Change.TheVariants.{Noted};
-ghost use Rattle.alma_back_tape.specs.Inner.Past.{HasRooms, IsTape, Reserves, Rests, reel_of};
+ghost use Rattle.alma_back_tape.specs.Inner.Past.{HasRooms, IsTape, Reserves, Rests, picture_of, reel_of, scenes};
+ghost use Rattle.alma_back_tape.specs.Inner.Reel.{scene_of};
 
 use crate::change::{Change, Entry, Gain, Note};
+use crate::frame::Frame;
 use crate::frames::Frames;
 use alma_base::NoMemory;
+use alma_code::ChoiceKind;
 use std::alloc::Global;
 
 #[derive(Drop)]
@@ -135,4 +141,57 @@ pub fn add_note(journal: &mut Journal, note: Note)
     journal.trail.push_reserved(note);
     journal.changes.push_reserved(Change::Noted);
     journal.trail_room -= 1;
+}
+
+/// One frame, no entry, and no step to go back to.
+pub fn start(alloc: Global, frame: Frame) -> Result<Journal, NoMemory>
+    requires few { frame.declared ≤ cell_limit }
+    requires whole { IsWhole frame }
+    ensures tape { IfOk result IsTape }
+    ensures now { IfOk result (λ journal. journal.frames ≡ frame ∷ []) }
+    ensures held { IfOk result (λ journal. (picture_of journal).held ≡ []) }
+    ensures past { IfOk result (λ journal. scenes journal ≡ []) }
+{
+    let frames = Frames::start(alloc, frame)?;
+    Ok(Journal {
+        alloc,
+        frames,
+        trail: Vec::new(alloc),
+        entries: Vec::new(alloc),
+        redo: Vec::new(alloc),
+        dropped: Vec::new(alloc),
+        kept: Vec::new(alloc),
+        changes: Vec::new(alloc),
+        choice_room: 0,
+        trail_room: 0,
+    })
+}
+
+/// A step begins here.
+pub fn begin(journal: &mut Journal) -> Result<(), NoMemory>
+    requires { IsTape journal.old }
+    ensures tape { IsTape journal.new }
+    ensures reel { reel_of journal.new ≡ reel_of journal.old }
+    ensures past { scenes journal.new ≡ (if is_ok result
+        then scene_of (reel_of journal.old) ∷ scenes journal.old else scenes journal.old) }
+    ensures choice_room { journal.new.choice_room ≡ journal.old.choice_room }
+    ensures trail_room { journal.new.trail_room ≡ journal.old.trail_room }
+{
+    let due = changes_due(journal, journal.trail_room, journal.choice_room)?;
+    journal.changes.reserve(sum(due, 1)?)?;
+    journal.changes.push_reserved(Change::Began);
+    Ok(())
+}
+
+/// The kind of the entry at a height, counted from 1 at the bottom. None where there is none.
+pub fn kind_at(journal: &Journal, height: usize) -> Option<ChoiceKind>
+    ensures { result ≡ kind_there (picture_of journal.now).held height }
+{
+    if height == 0 {
+        return None;
+    }
+    if height > journal.entries.len() {
+        return None;
+    }
+    Some(journal.entries[height - 1].kind)
 }

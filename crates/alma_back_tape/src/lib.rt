@@ -9,3 +9,6 @@ mod frame;
 mod frames;
 mod journal;
 mod layout;
+mod tape;
+
+pub use tape::Tape;
