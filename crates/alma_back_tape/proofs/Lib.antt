@@ -1,6 +1,7 @@
 pub mod Contents
 pub mod Lives
 pub mod Looked
+pub mod Loops
 pub mod Marks
 pub mod Pasts
 pub mod Rooms

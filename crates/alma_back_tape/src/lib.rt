@@ -1,6 +1,7 @@
 //! A memory of the machine that goes back step by step, and takes no memory for that.
 #![tactic(auto)]
 
+mod backward;
 mod change;
 mod earlier;
 mod forward;
