@@ -167,8 +167,7 @@ impl<'a> Earlier<'a> {
 
     // How many slots a frame of now has.
     fn slots(&self, frame: u32) -> u32
-        requires live { frame < length self.now.now }
-        requires now { AreWhole self.now.now }
+        requires { frame < length self.now.now }
         ensures { result ≡ length (slice_index_or self.now.now frame no_frame).cells }
     {
         self.frames.at(frame).slots()

@@ -1,5 +1,5 @@
 // One live frame.
-ghost use Rattle.std.specs.Prelude.{◌≡◌, ◌<◌, length, slice_get, slice_index_or, Some, IfOk};
+ghost use Rattle.std.specs.Prelude.{◌≡◌, ◌<◌, ◌^◌, length, slice_get, slice_index_or, Some, IfOk};
 ghost use Rattle.alma_code.specs.Picture.{frame_with};
 ghost use Rattle.alma_code.specs.Kinds.{is_number};
 ghost use Rattle.alma_memory_store.specs.Frames.{IsWhole};
@@ -28,6 +28,7 @@ pub struct Frame {
 }
 
 impl Model for Frame {
+    ghost use Rattle.std.specs.Prelude.{◌<◌, ◌^◌, length};
     ghost use Rattle.alma_code.specs.Picture.{PlainFrame};
 
     ghost Value = { PlainFrame };
@@ -39,6 +40,8 @@ impl Model for Frame {
       kinds = f.parts.value.kinds.items;
       cells = f.parts.value.cells.items;
     } };
+
+    ghost invariant = { λ f. length f.parts.value.cells.items < 2 ^ 32 };
 }
 
 impl Frame {
@@ -50,6 +53,7 @@ impl Frame {
         kinds: Vec<SlotKind>,
         cells: Vec<Cell>,
     ) -> Result<Frame, NoMemory>
+        requires { length cells.items < 2 ^ 32 }
         ensures { IfOk result (λ frame. frame ≡ record {
           routine = routine;
           back = back;
@@ -121,7 +125,6 @@ impl Frame {
 
     /// How many slots the frame has.
     pub fn slots(&self) -> u32
-        requires { IsWhole self.now }
         ensures { result ≡ length self.now.cells }
     {
         self.parts.cells.len() as u32
