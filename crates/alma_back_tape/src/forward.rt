@@ -2,6 +2,8 @@
 ghost use Rattle.std.specs.Prelude.{◌≡◌, ◌<◌, ◌≤◌, ◌+◌, ◌-◌, [], ◌∷◌, ◌++◌, length, take, drop, slice_index_or, is_ok, IfOk, IsOk, IsSome, IsNone, IfSome, if◌then◌else◌, ◌↔◌};
 ghost use Rattle.alma_base.specs.Limits.{cell_limit, frame_limit};
 ghost use Rattle.alma_code.specs.Picture.{no_frame, frames_with_cell, last_frame, without_last, live_cells, stack_after_pop, top_of};
+ghost use Rattle.alma_code.specs.Carries.{IsLive};
+ghost use Rattle.alma_code.specs.Layout.{FitsParams, IsHead, frame_of_call};
 ghost use Rattle.alma_code.specs.declared.cell.ChoiceKind.TheVariants as choice;
 ghost use Rattle.alma_memory_store.specs.Frames.{AreLive, IsWhole};
 ghost use Rattle.alma_back_tape.specs.Inner.Reel.{flip, front, last_or, no_entry, no_note, stays, undo, unwind};
@@ -11,8 +13,9 @@ use crate::change::{Change, Entry, Note};
 use crate::frame::Frame;
 use crate::frames::Frames;
 use crate::journal::{Journal, add_note, choice_room, note_room};
+use crate::layout::frame_from;
 use alma_base::NoMemory;
-use alma_code::{Cell, ChoiceKind};
+use alma_code::{Cell, ChoiceKind, Head};
 use alma_memory::Resumed;
 use alma_memory_store::{Carry, SlotPlace};
 
@@ -61,8 +64,8 @@ pub fn write(journal: &mut Journal, place: SlotPlace, cell: Cell) -> Result<(), 
     Ok(())
 }
 
-/// Pushes a frame.
-pub fn enter(journal: &mut Journal, frame: Frame) -> Result<(), NoMemory>
+// Pushes a frame.
+fn enter(journal: &mut Journal, frame: Frame) -> Result<(), NoMemory>
     requires tape { IsTape journal.old }
     requires depth { length journal.old.frames < frame_limit }
     requires cells { live_cells journal.old.frames + frame.declared ≤ cell_limit }
@@ -77,6 +80,32 @@ pub fn enter(journal: &mut Journal, frame: Frame) -> Result<(), NoMemory>
     journal.frames.push(frame);
     add_note(journal, Note::Entered);
     Ok(())
+}
+
+/// Pushes the frame of a call, laid out by its head and its arguments.
+pub fn call<H: Head>(
+    journal: &mut Journal,
+    head: &H,
+    routine: u32,
+    ret: u32,
+    args: &[Cell],
+) -> Result<(), NoMemory>
+    requires tape { IsTape journal.old }
+    requires head { IsHead (H.head head.now) }
+    requires args { FitsParams (IsLive journal.old.frames)
+        (λ routine. IsLive journal.old.frames) (H.head head.now).params args.now }
+    requires depth { length journal.old.frames < frame_limit }
+    requires cells { live_cells journal.old.frames + (H.head head.now).declared ≤ cell_limit }
+    ensures tape { IsTape journal.new }
+    ensures now { journal.new.frames ≡ (if is_ok result
+        then journal.old.frames ++ frame_of_call journal.old.frames (H.head head.now) routine ret
+        args.now ∷ []
+        else journal.old.frames) }
+    ensures held { (picture_of journal.new).held ≡ (picture_of journal.old).held }
+    ensures past { scenes journal.new ≡ scenes journal.old }
+{
+    let frame = frame_from(journal.alloc, &journal.frames, head, routine, ret, args)?;
+    enter(journal, frame)
 }
 
 /// Drops the top frame, and answers the address that it returns to.
@@ -131,14 +160,16 @@ pub fn choose(journal: &mut Journal, kind: ChoiceKind, resume: u32) -> Result<()
     Ok(())
 }
 
-// Drops the top entry.
-fn drop_top(journal: &mut Journal)
+/// Drops the top entry.
+pub fn drop_top(journal: &mut Journal)
     requires tape { IsTape journal.old }
     requires some { 1 ≤ length journal.old.entries.items }
     ensures tape { IsTape journal.new }
     ensures now { journal.new.frames ≡ journal.old.frames }
     ensures entries { journal.new.entries.items ≡ front journal.old.entries.items }
     ensures trail { journal.new.trail.items ≡ journal.old.trail.items }
+    ensures trail_room { journal.new.trail_room ≡ journal.old.trail_room }
+    ensures choice_room { journal.new.choice_room ≡ journal.old.choice_room }
     ensures past { scenes journal.new ≡ scenes journal.old }
 {
     let Some(entry) = journal.entries.pop() else {

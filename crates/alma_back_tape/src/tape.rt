@@ -4,10 +4,11 @@ ghost use Rattle.alma_base.specs.Limits.{cell_limit};
 ghost use Rattle.alma_code.specs.Layout.{IsHead, start_frame};
 
 use crate::backward::back;
-use crate::forward::{choose, cut, fail, leave, write};
+use crate::forward::{call, choose, cut, fail, leave, write};
 use crate::journal::{Journal, begin, kind_at, reserve_choices, reserve_notes, start};
+use crate::laying::{finish, overlay};
 use crate::layout::start_from;
-use alma_base::NoMemory;
+use alma_base::{CELL_LIMIT, FRAME_LIMIT, NoMemory};
 use alma_code::{Cell, ChoiceKind, Head, SlotKind};
 use alma_memory::{EnterError, MachineMemory, Resumed};
 use alma_memory_store::SlotPlace;
@@ -129,7 +130,16 @@ impl MachineMemory for Tape {
         ret: u32,
         args: &[Cell],
     ) -> Result<(), EnterError> {
-        unreachable!()
+        if self.journal.frames.len() >= FRAME_LIMIT {
+            return Err(EnterError::DepthFull);
+        }
+        if head.declared() > CELL_LIMIT - self.journal.frames.declared() {
+            return Err(EnterError::CellsFull);
+        }
+        match call(&mut self.journal, head, routine, ret, args) {
+            Ok(()) => Ok(()),
+            Err(NoMemory) => Err(EnterError::Memory),
+        }
     }
 
     fn leave(&mut self) -> Result<u32, NoMemory> {
@@ -149,7 +159,7 @@ impl MachineMemory for Tape {
     }
 
     fn overlay(&mut self, height: usize) -> Result<(), NoMemory> {
-        unreachable!()
+        overlay(&mut self.journal, height)
     }
 
     fn keep(&mut self, height: usize) -> Result<(), NoMemory> {
@@ -158,6 +168,6 @@ impl MachineMemory for Tape {
     }
 
     fn finish(&mut self) -> Result<(), NoMemory> {
-        unreachable!()
+        finish(&mut self.journal)
     }
 }
