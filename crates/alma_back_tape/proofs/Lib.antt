@@ -1,4 +1,5 @@
 pub mod Contents
+pub mod Laid
 pub mod Lives
 pub mod Looked
 pub mod Loops
