@@ -1,11 +1,13 @@
 -- Cells that are laid over the frames one after another.
-use Rattle.std.proofs.Common.{◌≡◌, ◌≤◌, ◌<◌, ◌+◌, ◌∙◌, ℕ, List, [], ◌∷◌, ◌++◌, length, drop, get_or, refl, sym, ap, arith}
-use Rattle.std.proofs.lemmas.List.{drop_more, drop_all}
+use Rattle.std.proofs.Common.{◌≡◌, ◌≤◌, ◌<◌, ◌+◌, ◌∙◌, ℕ, List, [], ◌∷◌, ◌++◌, length, drop, take, ◌-◌, get_or, sym, ap, arith}
+use Rattle.std.proofs.lemmas.List.{drop_more, drop_all, length-map}
 use Rattle.alma_code.specs.declared.cell.Cell.{Cell}
 use Rattle.alma_code.specs.Carries.{frames_with_change, frames_with_carry}
 use Rattle.alma_memory_store.specs.declared.carry.SlotPlace.{SlotPlace}
 use Rattle.alma_memory_store.specs.Carries.{change_of, carry_of_entries}
 use Rattle.alma_memory.proofs.Lays.{lays-more, lays-none}
+use Rattle.alma_back_tape.proofs.Trails.{cut-held}
+use Rattle.alma_back_tape.specs.Inner.Reel.{front, held_of, entry_of}
 use Rattle.alma_back_tape.specs.declared.journal.Journal.{Journal}
 use Rattle.alma_back_tape.specs.Inner.Past.{IsTape, picture_of, scenes}
 
@@ -37,3 +39,13 @@ lays_more cells i x old now next l lt is tape frames held past choice room =
 pub lays_all : (cells : List (SlotPlace × Cell)) (i : ℕ) (old now : Journal) → Lays cells i old now → length cells ≤ i
     → now.frames ≡ frames_with_carry old.frames (carry_of_entries cells)
 lays_all cells i old now l few = lays-none (carry_of_entries cells) (drop i cells) old.frames now.frames l.laid (drop_all i cells few)
+
+-- the stack without its top entry
+pub fewer_held : (old now next : Journal) → (picture_of now).held ≡ (picture_of old).held → next.frames ≡ now.frames → next.trail.items ≡ now.trail.items
+    → next.entries.items ≡ front now.entries.items → (picture_of next).held ≡ take (length (picture_of old).held - 1) (picture_of old).held
+fewer_held old now next held frames trail entries =
+    let es = now.entries.items in
+    let wide : length es ≡ length (picture_of now).held = sym (length-map es (entry_of now.trail.items now.frames)) in
+    ap (λ ns. held_of ns next.frames next.entries.items) trail ∙ ap (λ fs. held_of now.trail.items fs next.entries.items) frames
+    ∙ cut-held (length es - 1) now.trail.items now.frames es next.entries.items entries ∙ ap (λ n. take (n - 1) (picture_of now).held) wide
+    ∙ ap (λ h. take (length h - 1) h) held
