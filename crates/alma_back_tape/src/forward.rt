@@ -131,14 +131,16 @@ pub fn choose(journal: &mut Journal, kind: ChoiceKind, resume: u32) -> Result<()
     Ok(())
 }
 
-// Drops the top entry.
-fn drop_top(journal: &mut Journal)
+/// Drops the top entry.
+pub fn drop_top(journal: &mut Journal)
     requires tape { IsTape journal.old }
     requires some { 1 ≤ length journal.old.entries.items }
     ensures tape { IsTape journal.new }
     ensures now { journal.new.frames ≡ journal.old.frames }
     ensures entries { journal.new.entries.items ≡ front journal.old.entries.items }
     ensures trail { journal.new.trail.items ≡ journal.old.trail.items }
+    ensures trail_room { journal.new.trail_room ≡ journal.old.trail_room }
+    ensures choice_room { journal.new.choice_room ≡ journal.old.choice_room }
     ensures past { scenes journal.new ≡ scenes journal.old }
 {
     let Some(entry) = journal.entries.pop() else {

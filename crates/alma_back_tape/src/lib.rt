@@ -8,4 +8,6 @@ mod forward;
 mod frame;
 mod frames;
 mod journal;
+mod keeping;
+mod laying;
 mod layout;
