@@ -1,4 +1,5 @@
 pub mod Contents
+pub mod Gaining
 pub mod Laid
 pub mod Lives
 pub mod Looked

@@ -7,11 +7,7 @@ use Rattle.alma_back_tape.specs.Inner.Past.{Fits, Rises, Undoes}
 use Rattle.alma_back_tape.specs.Inner.Reel.{undo, unwind}
 use Rattle.alma_back_tape.specs.declared.change.Note.{Note}
 use Rattle.alma_back_tape.specs.declared.change.Entry.{Entry}
-
--- the frames of now may be live
-pub live-now : (ns : List Note) (fs : List PlainFrame) → Fits ns fs → AreLive fs
-live-now [] fs h = h
-live-now (n ∷ ns) fs h = live-now ns fs h.0
+use Rattle.alma_back_tape.proofs.Trails.{rises-le}
 
 -- the notes above a mark fit
 pub fits-drop : (k : ℕ) (ns : List Note) (fs : List PlainFrame) → Fits ns fs → Fits (drop k ns) fs
@@ -43,13 +39,8 @@ note-at left ns n fs before h l m e p =
     let live = fits-unwound (drop (left - 1) ns) fs (fits-drop (left - 1) ns fs h) in
     (rw same at.0, rw (← whole) live, sym whole)
 
--- the marks lie between low and top
-marks-le : (low top : ℕ) (es : List Entry) → Rises low es top → low ≤ top
-marks-le low top [] h = h
-marks-le low top (e ∷ es) h = let r : e.mark ≤ top = marks-le e.mark top es h.1 in omega (arith, h.0)
-
 -- a mark is within the trail
 pub mark-at : (low top : ℕ) (es : List Entry) (i : ℕ) (d : Entry) → Rises low es top → i < length es → (get_or es i d).mark ≤ top
 mark-at low top [] i d r l = absurd (omega arith)
-mark-at low top (e ∷ es) zero d r l = marks-le e.mark top es r.1
+mark-at low top (e ∷ es) zero d r l = rises-le e.mark top es r.1
 mark-at low top (e ∷ es) (suc i) d r l = mark-at e.mark top es i d r.1 (omega arith)

@@ -2,5 +2,6 @@
 pub mod Counted
 pub mod Earlier
 pub mod Gained
+pub mod Keeping
 pub mod Past
 pub mod Reel

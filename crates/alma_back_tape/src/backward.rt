@@ -7,6 +7,7 @@ ghost use Rattle.alma_back_tape.specs.declared.change.Change.TheVariants.{Droppe
 use crate::change::{Change, Entry};
 use crate::forward::undo_note;
 use crate::journal::Journal;
+use crate::keeping::lose;
 use alma_code::ChoiceKind;
 
 // Takes a note back.
@@ -86,9 +87,10 @@ fn back_kept(journal: &mut Journal)
     ensures past { scenes journal.new ≡ scenes_open Kept journal.old }
     ensures changes { journal.new.changes.items ≡ journal.old.changes.items }
 {
-    let _ = journal;
-    // TODO: by the helper of the carry.
-    unreachable!()
+    let Some(gain) = journal.kept.pop() else {
+        unreachable!()
+    };
+    lose(&mut journal.entries, gain);
 }
 
 // Takes a change back that was the last one, and tells whether a step began with it.

@@ -32,7 +32,8 @@ pub struct Journal {
     pub trail_room: usize,
 }
 
-fn sum(left: usize, right: usize) -> Result<usize, NoMemory>
+/// The sum, where it is a number of memory.
+pub fn sum(left: usize, right: usize) -> Result<usize, NoMemory>
     ensures { IfOk result (λ sum. sum ≡ left + right) }
 {
     match left.checked_add(right) {
@@ -41,8 +42,8 @@ fn sum(left: usize, right: usize) -> Result<usize, NoMemory>
     }
 }
 
-// How many changes there may be, where there is room for so many more notes and entries.
-fn changes_due(journal: &Journal, notes: usize, choices: usize) -> Result<usize, NoMemory>
+/// How many changes there may be, where there is room for so many more notes and entries.
+pub fn changes_due(journal: &Journal, notes: usize, choices: usize) -> Result<usize, NoMemory>
     ensures { IfOk result (λ due. due ≡ length journal.now.trail.items
         + length journal.now.dropped.items + 2 * length journal.now.entries.items
         + 2 * notes + 3 * choices) }

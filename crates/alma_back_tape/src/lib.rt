@@ -8,6 +8,7 @@ mod forward;
 mod frame;
 mod frames;
 mod journal;
+mod keeping;
 mod laying;
 mod layout;
 mod tape;

@@ -6,6 +6,7 @@ ghost use Rattle.alma_code.specs.Layout.{IsHead, start_frame};
 use crate::backward::back;
 use crate::forward::{call, choose, cut, fail, leave, write};
 use crate::journal::{Journal, begin, kind_at, reserve_choices, reserve_notes, start};
+use crate::keeping::keep;
 use crate::laying::{finish, overlay};
 use crate::layout::start_from;
 use alma_base::{CELL_LIMIT, FRAME_LIMIT, NoMemory};
@@ -163,8 +164,7 @@ impl MachineMemory for Tape {
     }
 
     fn keep(&mut self, height: usize) -> Result<(), NoMemory> {
-        // TODO: this one in the clone carry; enter, overlay and finish in the clone tape.
-        unreachable!()
+        keep(&mut self.journal, height)
     }
 
     fn finish(&mut self) -> Result<(), NoMemory> {
