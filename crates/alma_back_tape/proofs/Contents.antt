@@ -1,14 +1,13 @@
 -- Lemmas on the contents of number slots: what writes do to them, and when they differ.
-use Rattle.std.proofs.Common.{◌≡◌, ℕ, ◌≤◌, ◌<◌, ◌-◌, Bool, true, false, not, ◌&&◌, List, [], ◌∷◌, ◌++◌, length, take, set, get_or, suc, zero, refl, sym, ap, ◌∙◌, arith}
+use Rattle.std.proofs.Common.{◌≡◌, ℕ, ◌≤◌, ◌<◌, ◌-◌, Bool, true, false, List, [], ◌∷◌, ◌++◌, length, take, set, get_or, suc, zero, refl, sym, ap, ◌∙◌, arith}
 use Rattle.std.specs.Prelude.{Option, Some, None, slice_get, if◌then◌else◌}
 use Rattle.std.proofs.lemmas.List.{get_or-set_same, get_or-set_other, get_or-take}
 use Rattle.std.proofs.Math.ListN.{get_or-append}
-use Rattle.alma_base.specs.Carry.{Change, Carry, is_same_place, carried_at}
+use Rattle.alma_base.specs.Carry.{Carry, is_same_place, carried_at}
 use Rattle.alma_code.specs.declared.cell.Cell.{Cell}
 use Rattle.alma_code.specs.declared.cell.Cell.TheVariants.{Unknown}
 use Rattle.alma_code.specs.Kinds.{is_number}
-use Rattle.alma_code.specs.Picture.{PlainFrame, no_frame, frame_with, frames_with_cell, cell_at}
-use Rattle.alma_code.specs.Carries.{number_at, same_cell, diff_at}
+use Rattle.alma_code.specs.Picture.{PlainFrame, no_frame, frame_with, frames_with_cell}
 use Rattle.alma_memory_store.specs.Frames.{IsWhole, AreWhole}
 use Rattle.alma_memory_store.specs.Numbers.{number_in, number_of}
 use Rattle.alma_back_tape.specs.Inner.Earlier.{frames_with_old_cells, over}

@@ -15,8 +15,8 @@ use Rattle.alma_back_tape.specs.declared.change.Change.{Change as Made}
 use Rattle.alma_back_tape.specs.declared.change.Change.TheVariants.{Kept}
 use Rattle.alma_back_tape.specs.Inner.Gained.{Gained}
 use Rattle.alma_back_tape.specs.Inner.Keeping.{entry_with_changes, entries_with_changes, gained}
-use Rattle.alma_back_tape.specs.Inner.Reel.{Reel, before, entry_of, held_of, unwind, front, last_or, no_entry, no_gain, entries_without, without_gain}
-use Rattle.alma_back_tape.specs.Inner.Past.{IsGood, IsWound, Rises, all_finishes, finishes}
+use Rattle.alma_back_tape.specs.Inner.Reel.{Reel, entry_of, held_of, unwind, front, last_or, no_entry, no_gain, entries_without, without_gain}
+use Rattle.alma_back_tape.specs.Inner.Past.{IsGood, Rises, all_finishes, finishes}
 use Rattle.alma_back_tape.proofs.Rooms.{same_reel}
 use Rattle.alma_back_tape.proofs.Winding.{Moves, moved, good_wound, front-push, last-push}
 
@@ -70,10 +70,12 @@ kept_one cs cs' r r' at places good changes lt rising same =
     let here : g.at < length s.entries = omega (arith, wide, lt) in
     let few : length g.had ≤ length g.places = omega (arith, had_length places e.carry) in
     let moves : Moves cs cs' r s = moved cs cs' r s Kept tt changes
-        (record { fits = old.fits; rises = rises_set 0 (length r.trail) r.entries at f no_entry refl old.rises })
-        (omega (arith, length_push r.kept g), subst (λ (x : Gained). x.at < length s.entries) (sym last) here,
-        subst (λ (x : Gained). length x.had ≤ length x.places) (sym last) few)
-        (same_reel refl refl (ap (λ x. entries_without x s.entries) last ∙ entries_lost at places r.entries lt rising) refl refl (front-push r.kept g)) good in
+    (record { fits = old.fits; rises = rises_set 0 (length r.trail) r.entries at f no_entry refl old.rises }) (
+      omega (arith, length_push r.kept g),
+      subst (λ (x : Gained). x.at < length s.entries) (sym last) here,
+      subst (λ (x : Gained). length x.had ≤ length x.places) (sym last) few,
+    )
+    (same_reel refl refl (ap (λ x. entries_without x s.entries) last ∙ entries_lost at places r.entries lt rising) refl refl (front-push r.kept g)) good in
     subst (λ (q : Reel). Moves cs cs' r q) (sym same) moves
 
 -- the entry below gains what differs from the copy of the top one, which is dropped

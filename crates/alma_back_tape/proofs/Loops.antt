@@ -1,5 +1,5 @@
 -- What the loops over the notes and over the entries keep.
-use Rattle.std.proofs.Common.{◌≡◌, ◌≤◌, ◌<◌, ◌∙◌, ℕ, List, [], ◌∷◌, ◌++◌, length, take, drop, get_or, reverse, ◌-◌, refl, sym, ap, subst, arith}
+use Rattle.std.proofs.Common.{◌≡◌, ◌≤◌, ◌<◌, ◌∙◌, ℕ, List, [], ◌∷◌, ◌++◌, length, take, drop, get_or, reverse, ◌-◌, sym, ap, subst, arith}
 use Rattle.std.proofs.lemmas.List.{length-take-le, take_all, get_or_read}
 use Rattle.alma_code.specs.Picture.{stack_after_pop}
 use Rattle.alma_back_tape.specs.declared.change.Note.{Note}

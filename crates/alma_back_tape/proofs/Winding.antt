@@ -1,11 +1,11 @@
 -- Changes, and what they leave to be taken back.
-use Rattle.std.proofs.Common.{◌≡◌, ◌≤◌, ◌<◌, ◌+◌, ◌-◌, ◌∙◌, ℕ, List, [], ◌∷◌, ◌++◌, length, take, drop, get_or, map, reverse, refl, sym, ap, subst, arith}
+use Rattle.std.proofs.Common.{◌≡◌, ◌≤◌, ◌<◌, ◌+◌, ◌-◌, ◌∙◌, ℕ, List, [], ◌∷◌, ◌++◌, length, take, drop, get_or, reverse, refl, sym, ap, subst, arith}
 use Rattle.std.proofs.lemmas.List.{length_push, get_or_at, take_at, reverse-append, map-append, drop_all, get_or-set_same, take_more, take_all}
 use Rattle.alma_base.specs.Limits.{cell_limit, frame_limit}
 use Rattle.alma_code.specs.declared.cell.Cell.{Cell}
 use Rattle.alma_code.specs.declared.cell.Cell.TheVariants.{Unknown}
 use Rattle.alma_code.specs.declared.cell.ChoiceKind.TheVariants as choice
-use Rattle.alma_code.specs.Picture.{PlainFrame, PlainEntry, no_frame, frames_with_cell, cell_at, without_last, last_frame, live_cells, frame_with}
+use Rattle.alma_code.specs.Picture.{PlainFrame, no_frame, frames_with_cell, cell_at, without_last, last_frame, live_cells, frame_with}
 use Rattle.alma_memory_store.specs.declared.carry.SlotPlace.{SlotPlace}
 use Rattle.alma_memory_store.specs.Frames.{AreLive, IsWhole}
 use Rattle.alma_back_tape.specs.declared.change.Note.{Note}
@@ -13,10 +13,10 @@ use Rattle.alma_back_tape.specs.declared.change.Note.TheVariants.{Wrote, Entered
 use Rattle.alma_back_tape.specs.declared.change.Entry.{Entry}
 use Rattle.alma_back_tape.specs.declared.change.Change.{Change}
 use Rattle.alma_back_tape.specs.declared.change.Change.TheVariants.{Began, Noted, Pushed, Undone, Dropped, Finished, Kept}
-use Rattle.alma_back_tape.specs.Inner.Reel.{Reel, scene_of, front, last_or, no_note, no_entry, no_gain, before, past, flip, undo, unwind, held_of, entry_of}
+use Rattle.alma_back_tape.specs.Inner.Reel.{Reel, scene_of, front, last_or, no_note, no_entry, before, past, flip, undo, unwind, held_of, entry_of}
 use Rattle.alma_back_tape.specs.Inner.Past.{IsWound, CanBack, IsGood, Fits, Rises, Undoes}
 use Rattle.alma_back_tape.proofs.Lives.{undo-written, live-after-write, without-push, last-and-rest, live-push, whole-push, whole-take}
-use Rattle.alma_back_tape.proofs.Rooms.{reel, same_reel}
+use Rattle.alma_back_tape.proofs.Rooms.{same_reel}
 use Rattle.alma_back_tape.proofs.Trails.{fits-push, fits-pop, fits-now, rises-more, rises-push, rises-pop, held-push, undoes-written}
 
 -- ---- the last of a list
@@ -106,7 +106,7 @@ noted cs cs' r r' n fs good changes same undone undoes live =
     let back : before Noted s ≡ r = same_reel (ap (λ m. undo m fs) (last-push r.trail n no_note) ∙ undone) (front-push r.trail n) refl refl refl refl in
     let moves : Moves cs cs' r s = moved cs cs' r s Noted tt changes (record { fits = fits; rises = rises }) (omega (arith, longer)) back good in
     let held : (scene_of s).held ≡ (scene_of r).held =
-        held-push 0 (length r.trail) r.trail n fs r.entries old.rises (omega arith) ∙ ap (λ gs. held_of r.trail gs r.entries) undone in
+    held-push 0 (length r.trail) r.trail n fs r.entries old.rises (omega arith) ∙ ap (λ gs. held_of r.trail gs r.entries) undone in
     subst (λ (q : Reel). Notes cs cs' r q) (sym same) (record { moves = moves; held = held })
 
 -- a write whose note is added
@@ -169,13 +169,13 @@ pushed cs cs' r r' e good changes same mark =
     let old = good_wound (reverse cs) r good in
     let s : Reel = record r { entries = r.entries ++ e ∷ [] } in
     let rises : Rises 0 s.entries (length r.trail) =
-        rises-push 0 (length r.trail) r.entries e (subst (λ (n : ℕ). Rises 0 r.entries n) (sym mark) old.rises) (omega (arith, mark)) in
+    rises-push 0 (length r.trail) r.entries e (subst (λ (n : ℕ). Rises 0 r.entries n) (sym mark) old.rises) (omega (arith, mark)) in
     let none : unwind (drop e.mark r.trail) r.frames ≡ r.frames = ap (λ ns. unwind ns r.frames) (drop_all e.mark r.trail (omega (arith, mark))) in
     let moves : Moves cs cs' r s = moved cs cs' r s Pushed tt changes (record { fits = old.fits; rises = rises }) (omega (arith, length_push r.entries e))
-        (same_reel refl refl (front-push r.entries e) refl refl refl) good in
+    (same_reel refl refl (front-push r.entries e) refl refl refl) good in
     let held : (scene_of s).held ≡ (scene_of r).held ++ record { kind = e.kind; resume = e.resume; frames = r.frames; carry = e.carry } ∷ [] =
-        map-append (entry_of r.trail r.frames) r.entries (e ∷ [])
-        ∙ ap (λ fs. held_of r.trail r.frames r.entries ++ record { kind = e.kind; resume = e.resume; frames = fs; carry = e.carry } ∷ []) none in
+    map-append (entry_of r.trail r.frames) r.entries (e ∷ [])
+    ∙ ap (λ fs. held_of r.trail r.frames r.entries ++ record { kind = e.kind; resume = e.resume; frames = fs; carry = e.carry } ∷ []) none in
     subst (λ (q : Reel). Pushes cs cs' r q e) (sym same) (record { moves = moves; held = held })
 
 -- an entry that is dropped
@@ -187,7 +187,7 @@ dropped_one cs cs' r r' es e good changes entries same =
     let both = rises-pop 0 (length r.trail) es e (subst (λ (xs : List Entry). Rises 0 xs (length r.trail)) entries old.rises) in
     let rises : Rises 0 es (length r.trail) = rises-more 0 e.mark (length r.trail) es both.0 both.1 in
     let moves : Moves cs cs' r s = moved cs cs' r s Dropped tt changes (record { fits = old.fits; rises = rises }) (omega (arith, length_push r.dropped e))
-        (same_reel refl refl (ap (λ x. es ++ x ∷ []) (last-push r.dropped e no_entry) ∙ sym entries) refl (front-push r.dropped e) refl) good in
+    (same_reel refl refl (ap (λ x. es ++ x ∷ []) (last-push r.dropped e no_entry) ∙ sym entries) refl (front-push r.dropped e) refl) good in
     subst (λ (q : Reel). Moves cs cs' r q) (sym same) moves
 
 -- a Forall that is turned into a Done
@@ -202,9 +202,9 @@ finished_one cs cs' r r' es e good changes entries forall same =
     let last : last_or s.entries no_entry ≡ d = last-push es d no_entry in
     let again : record d { kind = choice.Forall } ≡ e = ap (λ k. record e { kind = k }) (sym forall) in
     let moves : Moves cs cs' r s = moved cs cs' r s Finished tt changes (record { fits = old.fits; rises = rises })
-        (omega (arith, length_push es d), ap (λ (x : Entry). x.kind) last)
-        (same_reel refl refl (ap (λ xs. xs ++ record (last_or s.entries no_entry) { kind = choice.Forall } ∷ []) (front-push es d)
-        ∙ ap (λ (x : Entry). es ++ record x { kind = choice.Forall } ∷ []) last ∙ ap (λ x. es ++ x ∷ []) again ∙ sym entries) refl refl refl) good in
+    (omega (arith, length_push es d), ap (λ (x : Entry). x.kind) last)
+    (same_reel refl refl (ap (λ xs. xs ++ record (last_or s.entries no_entry) { kind = choice.Forall } ∷ []) (front-push es d)
+    ∙ ap (λ (x : Entry). es ++ record x { kind = choice.Forall } ∷ []) last ∙ ap (λ x. es ++ x ∷ []) again ∙ sym entries) refl refl refl) good in
     subst (λ (q : Reel). Moves cs cs' r q) (sym same) moves
 
 -- ---- notes that are undone
@@ -250,8 +250,8 @@ undone_one cs cs' r r' ns n fs m good changes trail frames flipped same rises =
     let can : Undoes m fs = subst (λ (gs : List PlainFrame). Undoes m gs) (sym frames) (subst (λ (k : Note). Undoes k (undo n r.frames)) (sym flipped) (flip_can n r.frames parts.1)) in
     let twice : flip m fs ≡ n = ap (flip m) frames ∙ ap (λ k. flip k (undo n r.frames)) flipped ∙ flip_twice n r.frames parts.1 in
     let moves : Moves cs cs' r s = moved cs cs' r s Undone tt changes (record { fits = fits; rises = rises })
-        (omega (arith, length_push r.redo m), subst (λ (k : Note). Undoes k fs) (sym last) can, subst AreLive (sym (ap (λ k. undo k fs) last ∙ whole)) live)
-        (same_reel (ap (λ k. undo k fs) last ∙ whole) (ap (λ k. ns ++ flip k fs ∷ []) last ∙ ap (λ k. ns ++ k ∷ []) twice ∙ sym trail) refl (front-push r.redo m) refl refl) good in
+    (omega (arith, length_push r.redo m), subst (λ (k : Note). Undoes k fs) (sym last) can, subst AreLive (sym (ap (λ k. undo k fs) last ∙ whole)) live)
+    (same_reel (ap (λ k. undo k fs) last ∙ whole) (ap (λ k. ns ++ flip k fs ∷ []) last ∙ ap (λ k. ns ++ k ∷ []) twice ∙ sym trail) refl (front-push r.redo m) refl refl) good in
     subst (λ (q : Reel). Moves cs cs' r q) (sym same) moves
 
 -- a note that is on top can be undone

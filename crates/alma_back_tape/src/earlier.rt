@@ -11,12 +11,12 @@ ghost use Rattle.alma_memory_store.specs.Past.{SameGain, change_between};
 ghost use Rattle.alma_back_tape.specs.Inner.Earlier.{over, diffs_at, diffs_between};
 ghost use Rattle.alma_back_tape.specs.Inner.Reel.{undo, unwind};
 
-use alma_base::NoMemory;
-use alma_code::Cell;
-use alma_memory_store::{Carry, SlotPlace};
 use crate::change::Note;
 use crate::frame::Frame;
 use crate::frames::Frames;
+use alma_base::NoMemory;
+use alma_code::Cell;
+use alma_memory_store::{Carry, SlotPlace};
 use std::alloc::Global;
 use std::marker::Model;
 

@@ -187,7 +187,7 @@ fn finish_top(journal: &mut Journal)
     ensures tape { IsTape journal.new }
     ensures now { journal.new.frames ≡ journal.old.frames }
     ensures entries { journal.new.entries.items ≡ front journal.old.entries.items
-        ++ record (last_or journal.old.entries.items no_entry) { kind = choice.Done; } ∷ [] }
+        ++ record (last_or journal.old.entries.items no_entry) { kind = choice.Done } ∷ [] }
     ensures trail { journal.new.trail.items ≡ journal.old.trail.items }
     ensures past { scenes journal.new ≡ scenes journal.old }
 {

@@ -80,11 +80,7 @@ fn change_room(journal: &mut Journal) -> Result<(), NoMemory>
 }
 
 // The carry of an entry gains cells for places.
-fn gain_at(
-    journal: &mut Journal,
-    at: usize,
-    places: Vec<(SlotPlace, Cell)>,
-) -> Result<(), NoMemory>
+fn gain_at(journal: &mut Journal, at: usize, places: Vec<(SlotPlace, Cell)>) -> Result<(), NoMemory>
     requires tape { IsTape journal.old }
     requires at { at < length journal.old.entries.items }
     ensures tape { IsTape journal.new }
@@ -118,7 +114,12 @@ pub fn keep(journal: &mut Journal, height: usize) -> Result<(), NoMemory>
     ensures past { scenes journal.new ≡ scenes journal.old }
 {
     let mark = journal.entries[journal.entries.len() - 1].mark;
-    let found = changes_since(journal.alloc, &journal.frames, journal.trail.as_slice(), mark)?;
+    let found = changes_since(
+        journal.alloc,
+        &journal.frames,
+        journal.trail.as_slice(),
+        mark,
+    )?;
     gain_at(journal, height - 1, found)?;
     drop_top(journal);
     Ok(())

@@ -1,13 +1,10 @@
 -- The frames from before some notes, as what of the frames of now is other in them.
-use Rattle.std.specs.Prelude.{◌≡◌, ◌+◌, ℕ, zero, suc, List, [], ◌∷◌, ◌++◌, take, length, get_or, slice_get, Option, Some, None, if◌then◌else◌}
-use Rattle.alma_base.specs.Carry.{Change, Carry, with_changes}
+use Rattle.std.specs.Prelude.{◌+◌, ℕ, zero, suc, List, [], ◌∷◌, ◌++◌, take, length, get_or, Option, Some, None}
+use Rattle.alma_base.specs.Carry.{Change, Carry}
 use Rattle.alma_code.specs.declared.cell.Cell.{Cell}
-use Rattle.alma_code.specs.declared.cell.Cell.TheVariants.{Unknown}
 use Rattle.alma_code.specs.Picture.{PlainFrame, no_frame, frames_with_cell}
-use Rattle.alma_code.specs.Carries.{same_cell, diff_at, slot_diffs}
-use Rattle.alma_code.specs.Kinds.{is_number}
+use Rattle.alma_code.specs.Carries.{diff_at, slot_diffs}
 use Rattle.alma_back_tape.specs.declared.earlier.Earlier.TheInside.{Inside}
-use Rattle.alma_memory_store.specs.Carries.{IsRising}
 
 -- frames of now, and frames from before
 pub record PlainEarlier : Type 0 where

@@ -1,5 +1,5 @@
 -- What is true of a memory that goes back.
-use Rattle.std.specs.Prelude.{◌≡◌, ◌≤◌, ◌<◌, ◌+◌, ◌*◌, ℕ, List, [], ◌∷◌, ◌++◌, length, get_or, reverse, vec_capacity}
+use Rattle.std.specs.Prelude.{◌≡◌, ◌≤◌, ◌<◌, ◌+◌, ◌*◌, ℕ, List, [], ◌∷◌, length, get_or, reverse, vec_capacity}
 use Rattle.alma_code.specs.Picture.{PlainFrame, no_frame}
 use Rattle.alma_code.specs.declared.cell.ChoiceKind.{ChoiceKind}
 use Rattle.alma_code.specs.declared.cell.ChoiceKind.TheVariants.{Branch, Forall, Body, Done}
@@ -76,7 +76,7 @@ pub record HasRooms (more : ℕ) (j : Journal) : Type 0 where
   pub entries : length j.entries.items + length j.dropped.items + j.choice_room ≤ vec_capacity j.entries
   pub dropped : length j.entries.items + length j.dropped.items + j.choice_room ≤ vec_capacity j.dropped
   pub changes :
-    length j.changes.items + more + due_changes (length j.trail.items) j.entries.items j.dropped.items + 2 * j.trail_room + 3 * j.choice_room ≤ vec_capacity j.changes
+      length j.changes.items + more + due_changes (length j.trail.items) j.entries.items j.dropped.items + 2 * j.trail_room + 3 * j.choice_room ≤ vec_capacity j.changes
 
 -- ---- a journal
 

@@ -1,11 +1,9 @@
 -- What a memory that goes back holds, and what each of its changes takes back.
-use Rattle.std.specs.Prelude.{◌≡◌, ◌≤◌, ◌<◌, ◌+◌, ◌-◌, ℕ, List, [], ◌∷◌, ◌++◌, map, length, take, drop, set, get_or, Option}
-use Rattle.alma_code.specs.declared.cell.Cell.{Cell}
+use Rattle.std.specs.Prelude.{◌-◌, List, [], ◌∷◌, ◌++◌, map, length, take, drop, set, get_or}
 use Rattle.alma_code.specs.declared.cell.Cell.TheVariants as cell
 use Rattle.alma_code.specs.declared.cell.ChoiceKind.{ChoiceKind}
 use Rattle.alma_code.specs.declared.cell.ChoiceKind.TheVariants.{Branch, Forall, Body, Done}
-use Rattle.alma_code.specs.Picture.{PlainFrame, PlainEntry, no_frame, frames_with_cell, without_last, cell_at, last_frame}
-use Rattle.alma_memory_store.specs.declared.carry.SlotPlace.{SlotPlace}
+use Rattle.alma_code.specs.Picture.{PlainFrame, PlainEntry, frames_with_cell, without_last, cell_at, last_frame}
 use Rattle.alma_memory_store.specs.Carries.{all_put_back}
 use Rattle.alma_memory.specs.Machine.{Scene}
 use Rattle.alma_back_tape.specs.Inner.Gained.{Gained}

@@ -1,9 +1,9 @@
-use Rattle.std.proofs.Common.{◌≡◌, ◌∙◌, ◌∷◌, ◌++◌, [], ap, refl, sym, length, arith}
+use Rattle.std.proofs.Common.{◌∙◌, ◌∷◌, ◌++◌, [], ap, refl, sym, arith}
 use Rattle.alma_back_tape.specs.declared.change.Change.TheVariants as change
 use Rattle.alma_back_tape.specs.declared.change.Entry.{Entry}
 use Rattle.alma_back_tape.specs.declared.journal.Journal.{Journal}
-use Rattle.alma_back_tape.specs.Inner.Reel.{flip, no_entry, no_note, undo}
-use Rattle.alma_back_tape.specs.Inner.Past.{finishes, reel_of}
+use Rattle.alma_back_tape.specs.Inner.Reel.{no_entry}
+use Rattle.alma_back_tape.specs.Inner.Past.{reel_of}
 use Rattle.alma_back_tape.proofs.Rooms.{all_finishes_is, same_reel}
 use Rattle.alma_code.specs.declared.cell.ChoiceKind.TheVariants as choice
 use Rattle.alma_back_tape.specs.Inner.Reel.{front}
@@ -27,8 +27,8 @@ returns-clause-tape c =
     let rooms = c.requires.rooms in
     record {
       good = (arrived change.Finished j.changes.items j.changes.items (reel_of j) (reel_of j') tt c.requires.good refl
-      (same_reel refl refl (c.push_reserved.ensures.items ∙ ap (λ xs. xs ++ f ∷ []) (sym first)
-      ∙ ap (λ (x : Entry). front j.entries.items ++ record x { kind = choice.Forall } ∷ []) (sym last)) refl refl refl)).good;
+          (same_reel refl refl (c.push_reserved.ensures.items ∙ ap (λ xs. xs ++ f ∷ []) (sym first)
+          ∙ ap (λ (x : Entry). front j.entries.items ++ record x { kind = choice.Forall } ∷ []) (sym last)) refl refl refl)).good;
       rooms = record {
         trail = rooms.trail;
         redo = rooms.redo;

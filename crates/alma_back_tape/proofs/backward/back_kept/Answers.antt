@@ -1,4 +1,4 @@
-use Rattle.std.proofs.Common.{◌∙◌, ap, get_or, refl, sym, length, arith}
+use Rattle.std.proofs.Common.{◌∙◌, ap, get_or, refl, sym, arith}
 use Rattle.alma_back_tape.specs.declared.change.Change.TheVariants as change
 use Rattle.alma_back_tape.specs.declared.journal.Journal.{Journal}
 use Rattle.alma_back_tape.specs.Inner.Reel.{entries_without, no_entry, no_gain, without_gain}
@@ -19,8 +19,8 @@ returns-clause-tape c =
     let finishes = ap all_finishes c.lose.ensures.items ∙ finishes_set es g.at (without_gain g (get_or es g.at no_entry)) no_entry refl in
     record {
       good = (arrived change.Kept j.changes.items j.changes.items (reel_of j) (reel_of j') tt c.requires.good refl
-      (same_reel refl refl (c.lose.ensures.items ∙ ap (λ x. entries_without x es) (sym last)) refl refl
-      (sym (front_is j.kept.items c.pop.new.self.items g c.in-Some.ensures.items)))).good;
+          (same_reel refl refl (c.lose.ensures.items ∙ ap (λ x. entries_without x es) (sym last)) refl refl
+          (sym (front_is j.kept.items c.pop.new.self.items g c.in-Some.ensures.items)))).good;
       rooms = record {
         trail = rooms.trail;
         redo = rooms.redo;

@@ -1,10 +1,6 @@
-use Rattle.std.proofs.Common.{◌≡◌, ◌∙◌, ◌∷◌, ◌++◌, [], ap, refl, sym, length, arith}
+use Rattle.std.proofs.Common.{◌∷◌}
 use Rattle.alma_back_tape.specs.declared.change.Change.TheVariants as change
-use Rattle.alma_back_tape.specs.declared.change.Entry.{Entry}
-use Rattle.alma_back_tape.specs.declared.journal.Journal.{Journal}
-use Rattle.alma_back_tape.specs.Inner.Reel.{flip, no_entry, no_note, undo}
-use Rattle.alma_back_tape.specs.Inner.Past.{finishes, reel_of}
-use Rattle.alma_back_tape.proofs.Rooms.{all_finishes_is, same_reel}
+use Rattle.alma_back_tape.specs.Inner.Past.{reel_of}
 use Rattle.std.proofs.Common.{reverse}
 use Rattle.alma_back_tape.proofs.Winding.{top_undoes}
 use Rattle.alma_back_tape.proofs.backward.back_noted.Goals as goal

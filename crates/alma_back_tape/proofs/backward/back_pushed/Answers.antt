@@ -1,9 +1,7 @@
-use Rattle.std.proofs.Common.{◌≡◌, ◌∙◌, ◌∷◌, ◌++◌, [], ap, refl, sym, length, arith}
+use Rattle.std.proofs.Common.{refl, sym, arith}
 use Rattle.alma_back_tape.specs.declared.change.Change.TheVariants as change
-use Rattle.alma_back_tape.specs.declared.change.Entry.{Entry}
 use Rattle.alma_back_tape.specs.declared.journal.Journal.{Journal}
-use Rattle.alma_back_tape.specs.Inner.Reel.{flip, no_entry, no_note, undo}
-use Rattle.alma_back_tape.specs.Inner.Past.{finishes, reel_of}
+use Rattle.alma_back_tape.specs.Inner.Past.{reel_of}
 use Rattle.alma_back_tape.proofs.Rooms.{all_finishes_is, same_reel}
 use Rattle.alma_back_tape.proofs.Winding.{arrived, front_is, long_is}
 use Rattle.alma_back_tape.proofs.backward.back_pushed.Goals as goal
@@ -19,7 +17,7 @@ returns-clause-tape c =
     let rooms = c.requires.rooms in
     record {
       good = (arrived change.Pushed j.changes.items j.changes.items (reel_of j) (reel_of j') tt c.requires.good refl
-      (same_reel refl refl (sym (front_is j.entries.items es.items e c.in-Some.ensures.items)) refl refl refl)).good;
+          (same_reel refl refl (sym (front_is j.entries.items es.items e c.in-Some.ensures.items)) refl refl refl)).good;
       rooms = record {
         trail = rooms.trail;
         redo = rooms.redo;

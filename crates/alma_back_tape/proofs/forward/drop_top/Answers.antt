@@ -1,11 +1,6 @@
-use Rattle.std.proofs.Common.{◌≡◌, ◌≤◌, ◌<◌, ◌∙◌, ◌++◌, ◌∷◌, [], ℕ, List, ap, refl, sym, subst, length, reverse, arith}
-use Rattle.alma_code.specs.Picture.{PlainFrame, no_frame}
-use Rattle.alma_back_tape.specs.declared.change.Note.TheVariants.{Wrote, Entered, Left}
-use Rattle.alma_back_tape.specs.declared.change.Entry.{Entry}
+use Rattle.std.proofs.Common.{ap, refl, length, arith}
 use Rattle.alma_back_tape.specs.declared.journal.Journal.{Journal}
-use Rattle.alma_back_tape.specs.Inner.Reel.{Reel, scene_of}
-use Rattle.alma_back_tape.specs.Inner.Past.{IsTape, reel_of}
-
+use Rattle.alma_back_tape.specs.Inner.Past.{reel_of}
 use Rattle.alma_back_tape.proofs.Winding.{dropped_one, long_is}
 use Rattle.alma_back_tape.proofs.Rooms.{all_finishes_is, same_reel}
 use Rattle.alma_back_tape.proofs.forward.drop_top.Goals as goal
@@ -26,7 +21,7 @@ returns-clause-tape c =
     let rooms = c.requires.tape.rooms in
     record {
       good = (dropped_one j.changes.items cs.items (reel_of j) (reel_of j') es.items e c.requires.tape.good c.push_reserved-2.ensures.items c.in-Some.ensures.items
-      (same_reel refl refl refl refl c.push_reserved.ensures.items refl)).good;
+          (same_reel refl refl refl refl c.push_reserved.ensures.items refl)).good;
       rooms = record {
         trail = rooms.trail;
         redo = rooms.redo;

@@ -1,11 +1,7 @@
-use Rattle.std.proofs.Common.{◌≡◌, ◌≤◌, ◌<◌, ◌∙◌, ◌++◌, ◌∷◌, [], ℕ, List, ap, refl, sym, subst, length, reverse, arith}
-use Rattle.alma_code.specs.Picture.{PlainFrame, no_frame}
-use Rattle.alma_back_tape.specs.declared.change.Note.TheVariants.{Wrote, Entered, Left}
-use Rattle.alma_back_tape.specs.declared.change.Entry.{Entry}
-use Rattle.alma_back_tape.specs.declared.journal.Journal.{Journal}
+use Rattle.std.proofs.Common.{◌≡◌, ◌≤◌, ◌<◌, ◌∙◌, List, ap, sym, subst, length}
+use Rattle.alma_code.specs.Picture.{PlainFrame}
 use Rattle.alma_back_tape.specs.Inner.Reel.{Reel, scene_of}
-use Rattle.alma_back_tape.specs.Inner.Past.{IsTape, reel_of}
-
+use Rattle.alma_back_tape.specs.Inner.Past.{reel_of}
 use Rattle.std.proofs.Common.{◌+◌}
 use Rattle.alma_base.specs.Limits.{cell_limit, frame_limit}
 use Rattle.alma_code.specs.Picture.{live_cells}

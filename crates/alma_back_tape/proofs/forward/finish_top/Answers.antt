@@ -1,14 +1,10 @@
-use Rattle.std.proofs.Common.{◌≡◌, ◌≤◌, ◌<◌, ◌∙◌, ◌++◌, ◌∷◌, [], ℕ, List, ap, refl, sym, subst, length, reverse, arith}
-use Rattle.alma_code.specs.Picture.{PlainFrame, no_frame}
-use Rattle.alma_back_tape.specs.declared.change.Note.TheVariants.{Wrote, Entered, Left}
+use Rattle.std.proofs.Common.{◌≡◌, ◌∙◌, ap, refl, sym, arith}
 use Rattle.alma_back_tape.specs.declared.change.Entry.{Entry}
 use Rattle.alma_back_tape.specs.declared.journal.Journal.{Journal}
-use Rattle.alma_back_tape.specs.Inner.Reel.{Reel, scene_of}
-use Rattle.alma_back_tape.specs.Inner.Past.{IsTape, reel_of}
-
+use Rattle.alma_back_tape.specs.Inner.Past.{reel_of}
 use Rattle.alma_code.specs.declared.cell.ChoiceKind.TheVariants as choice
 use Rattle.alma_back_tape.specs.Inner.Past.{finishes}
-use Rattle.alma_back_tape.specs.Inner.Reel.{last_or, no_entry}
+use Rattle.alma_back_tape.specs.Inner.Reel.{no_entry}
 use Rattle.alma_back_tape.proofs.Winding.{finished_one, last_is, long_is}
 use Rattle.alma_back_tape.proofs.Rooms.{all_finishes_is, same_reel}
 use Rattle.alma_back_tape.proofs.forward.finish_top.Goals as goal
@@ -32,7 +28,7 @@ returns-clause-tape c =
     let rooms = c.requires.tape.rooms in
     record {
       good = (finished_one j.changes.items cs.items (reel_of j) (reel_of j') rest.items e c.requires.tape.good c.push_reserved-2.ensures.items c.in-Some.ensures.items
-      forall (same_reel refl refl c.push_reserved.ensures.items refl refl refl)).good;
+          forall (same_reel refl refl c.push_reserved.ensures.items refl refl refl)).good;
       rooms = record {
         trail = rooms.trail;
         redo = rooms.redo;

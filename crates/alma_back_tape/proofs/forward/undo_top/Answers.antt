@@ -1,11 +1,6 @@
-use Rattle.std.proofs.Common.{◌≡◌, ◌≤◌, ◌<◌, ◌∙◌, ◌++◌, ◌∷◌, [], ℕ, List, ap, refl, sym, subst, length, reverse, arith}
-use Rattle.alma_code.specs.Picture.{PlainFrame, no_frame}
-use Rattle.alma_back_tape.specs.declared.change.Note.TheVariants.{Wrote, Entered, Left}
-use Rattle.alma_back_tape.specs.declared.change.Entry.{Entry}
+use Rattle.std.proofs.Common.{List, refl, subst, length, reverse, arith}
 use Rattle.alma_back_tape.specs.declared.journal.Journal.{Journal}
-use Rattle.alma_back_tape.specs.Inner.Reel.{Reel, scene_of}
-use Rattle.alma_back_tape.specs.Inner.Past.{IsTape, reel_of}
-
+use Rattle.alma_back_tape.specs.Inner.Past.{reel_of}
 use Rattle.alma_back_tape.specs.Inner.Past.{Rises}
 use Rattle.alma_back_tape.specs.declared.change.Note.{Note}
 use Rattle.alma_back_tape.proofs.Winding.{Moves, undone_one, top_undoes, front_is, long_is}
@@ -27,7 +22,10 @@ undo_note-flipped-requires-clause-after c =
 abbrev after : goal.After-push_reserved-2 → Journal
 after c =
     record c.args.journal.now {
-      frames = c.undo_note-flipped.new.frames; trail = c.pop.new.self; redo = c.push_reserved.new.self; changes = c.push_reserved-2.new.self;
+      frames = c.undo_note-flipped.new.frames;
+      trail = c.pop.new.self;
+      redo = c.push_reserved.new.self;
+      changes = c.push_reserved-2.new.self;
     }
 
 moves : (c : goal.After-push_reserved-2) → Moves c.args.journal.now.changes.items c.push_reserved-2.new.self.items (reel_of c.args.journal.now) (reel_of (after c))

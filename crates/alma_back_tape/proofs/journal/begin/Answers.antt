@@ -1,4 +1,4 @@
-use Rattle.std.proofs.Common.{◌≡◌, ◌∙◌, ◌++◌, ◌∷◌, [], ap, length, arith}
+use Rattle.std.proofs.Common.{◌∙◌, ◌++◌, ◌∷◌, [], ap, arith}
 use Rattle.alma_back_tape.specs.declared.change.Change.TheVariants.{Began}
 use Rattle.alma_back_tape.specs.Inner.Past.{reel_of}
 use Rattle.alma_back_tape.proofs.Rooms.{all_finishes_le}
@@ -16,7 +16,16 @@ returns-clause-tape c =
         redo = c.requires.rooms.redo;
         entries = c.requires.rooms.entries;
         dropped = c.requires.rooms.dropped;
-        changes = omega (arith, cs.ok, c.push_reserved.ensures.len, c.push_reserved.ensures.capacity, c.in_ok-reserve.ensures.ok, c.in_ok-due.ensures, c.in_ok-sum.ensures,
-        all_finishes_le j.entries.items, all_finishes_le j.dropped.items);
+        changes = omega (
+          arith,
+          cs.ok,
+          c.push_reserved.ensures.len,
+          c.push_reserved.ensures.capacity,
+          c.in_ok-reserve.ensures.ok,
+          c.in_ok-due.ensures,
+          c.in_ok-sum.ensures,
+          all_finishes_le j.entries.items,
+          all_finishes_le j.dropped.items,
+        );
       };
     }

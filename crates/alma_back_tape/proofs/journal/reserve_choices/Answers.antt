@@ -24,8 +24,19 @@ returns-clause-reserves c =
         redo = c.requires.redo;
         entries = omega (arith, entries.ok, pushed, out, c.in_ok-reserve.ensures.ok, c.in_ok-beside_entries.ensures, c.len.ensures, j.dropped.ok);
         dropped = omega (arith, dropped.ok, pushed, out, c.in_ok-reserve-2.ensures.ok, c.in_ok-beside_dropped.ensures, c.len-2.ensures, j.entries.ok);
-        changes = omega (arith, changes.ok, pushed, out, some, others, done, c.in_ok-reserve-3.ensures.ok, c.in_ok-changes.ensures, all_finishes_le j.entries.items,
-        all_finishes_le j.dropped.items);
+        changes = omega (
+          arith,
+          changes.ok,
+          pushed,
+          out,
+          some,
+          others,
+          done,
+          c.in_ok-reserve-3.ensures.ok,
+          c.in_ok-changes.ensures,
+          all_finishes_le j.entries.items,
+          all_finishes_le j.dropped.items,
+        );
       };
       choice_room = omega (arith, c.if-choices-journal.false);
       trail_room = omega arith;

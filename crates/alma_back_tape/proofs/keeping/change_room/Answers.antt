@@ -13,6 +13,14 @@ returns-clause-room c =
       redo = rooms.redo;
       entries = rooms.entries;
       dropped = rooms.dropped;
-      changes = omega (arith, changes.ok, done, c.in_ok-reserve.ensures.ok, c.in_ok-due.ensures, c.in_ok-sum.ensures, all_finishes_le j.entries.items,
-      all_finishes_le j.dropped.items);
+      changes = omega (
+        arith,
+        changes.ok,
+        done,
+        c.in_ok-reserve.ensures.ok,
+        c.in_ok-due.ensures,
+        c.in_ok-sum.ensures,
+        all_finishes_le j.entries.items,
+        all_finishes_le j.dropped.items,
+      );
     }
