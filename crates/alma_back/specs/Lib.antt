@@ -1,0 +1,5 @@
+pub mod Standing
+pub mod Laws
+pub mod Script
+pub mod Session
+pub mod Due
