@@ -3,3 +3,5 @@ pub mod Laws
 pub mod Script
 pub mod Session
 pub mod Due
+pub mod Ends
+pub mod Inner

@@ -74,14 +74,16 @@ abbrev pub all_read : (left : List ℕ) → (got : List Line) → Result (List L
 all_read [] got = Ok got
 all_read (byte ∷ left) got = Err (length got + 1)
 
+-- one line more, and what comes of the rest
+abbrev pub one_more : Option Line → (rest : List Line → Result (List Line) ℕ) → (got : List Line) → Result (List Line) ℕ
+one_more (Some line) rest got = rest (got ++ line ∷ [])
+one_more None rest got = Err (length got + 1)
+
 -- the lines of texts, behind those that were
-abbrev pub lines_behind : (got : List Line) → (ended : List (List ℕ)) → (left : List ℕ) → Result (List Line) ℕ
-lines_behind got [] left = all_read left got
-lines_behind got (text ∷ ended) left = by (line_in text) where
-  by : Option Line → Result (List Line) ℕ
-  by (Some line) = lines_behind (got ++ line ∷ []) ended left
-  by None = Err (length got + 1)
+abbrev pub lines_behind : (ended : List (List ℕ)) → (left : List ℕ) → (got : List Line) → Result (List Line) ℕ
+lines_behind [] left got = all_read left got
+lines_behind (text ∷ ended) left got = one_more (line_in text) (lines_behind ended left) got
 
 -- the lines of a script, or the number of the first bad one
 abbrev pub lines_in : (script : List ℕ) → Result (List Line) ℕ
-lines_in script = lines_behind [] (texts_in script).ended (texts_in script).left
+lines_in script = lines_behind (texts_in script).ended (texts_in script).left []

@@ -1,13 +1,14 @@
 -- What the lines of a script show of a run.
-use Rattle.std.specs.Prelude.{◌+◌, ◌-◌, ℕ, List, [], ◌∷◌, ◌++◌, codes, decimal, length}
+use Rattle.std.specs.Prelude.{◌-◌, ℕ, zero, suc, List, [], ◌∷◌, ◌++◌, codes, decimal, length}
 use Rattle.alma_code.specs.Plain.{PlainCode}
 use Rattle.alma_code.specs.TraceText.{value_of_name}
-use Rattle.alma_back.specs.Standing.{Standing, begun, state_of, output_of}
+use Rattle.alma_back.specs.Standing.{Standing, begun, stepped, state_of, output_of}
 use Rattle.alma_back.specs.Script.{Line, Forward, Backward, Value, Output}
 
--- the run so many steps on: an ended one counts no step
+-- the run so many steps on, or at its end
 abbrev pub ahead : Standing → (more : ℕ) → Standing
-ahead s more = record s { steps = (state_of (record s { steps = s.steps + more })).steps }
+ahead s zero = s
+ahead s (suc more) = ahead (stepped s) more
 
 -- the run so many steps back, or at its start
 abbrev pub behind : Standing → (less : ℕ) → Standing
