@@ -1,5 +1,5 @@
 -- Numbers of steps, and names.
-use Rattle.std.proofs.Common.{◌≡◌, ◌≢◌, ◌≤◌, ◌+◌, ◌∙◌, ◌↔◌, ℕ, List, [], ◌∷◌, ◌++◌, length, refl, sym, ap, subst, arith, zero-add}
+use Rattle.std.proofs.Common.{◌≡◌, ◌≢◌, ◌≤◌, ◌+◌, ◌∙◌, ◌↔◌, ℕ, List, [], ◌∷◌, ◌++◌, length, refl, sym, ap, subst, arith, zero-add, true≢false}
 use Rattle.std.proofs.lemmas.Bool.{and_parts, leb-true, le-leb, ne_eqb}
 use Rattle.std.proofs.lemmas.List.{append-nil, length-append}
 use Rattle.std.specs.Prelude.{Bool, true, false, not, ◌&&◌, ◌||◌, leb, cond, is_none, bytes_eq, if◌then◌else◌, Option, None, Some, IsTrue, MatchOption, nat_le, nat_eq}
@@ -159,8 +159,8 @@ pub name_found : (text : List ℕ) → IsName text → Some text ≡ name_in tex
 name_found text n = ap (λ b. cond b (Some text) None) (sym ((names text).1 n))
 
 pub name_none : (text : List ℕ) → (b : Bool) → b ≡ false → IsTrue b ↔ IsName text → None ≡ name_in text
-name_none text b no is = by (is_name text) refl
+name_none text b false_is is = by (is_name text) refl
   where
     by : (n : Bool) → is_name text ≡ n → None ≡ name_in text
     by false e = ap (λ x. cond x (Some text) None) (sym e)
-    by true e = absurd (cc (is.1 (named text e), no))
+    by true e = absurd (true≢false (sym (is.1 (named text e)) ∙ false_is))

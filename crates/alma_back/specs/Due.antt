@@ -3,13 +3,9 @@ use Rattle.std.specs.Prelude.{ℕ, Bool, true, false, List, [], ◌∷◌, ◌++
 use Rattle.alma_base.specs.Limits.{object_limit}
 use Rattle.alma_code.specs.Plain.{PlainCode}
 use Rattle.alma_code.specs.Reads.{code_reads}
-use Rattle.alma_code.specs.Rules.{code_fault}
-use Rattle.alma_code.specs.declared.step.VerifyFault.{VerifyFault}
-use Rattle.alma_object_format.specs.Walk.{object_fault}
-use Rattle.alma_object_format.specs.declared.fault.ObjectFault.{ObjectFault}
 use Rattle.alma_verify.specs.Bytes.{object_code}
 use Rattle.alma_plan.specs.Plan.{Due, Ending, Plan, Fetches, Reads, Ends, silent, prints, tells, bad_word}
-use Rattle.alma_plan.specs.Refusals.{object_fault_text, rule_fault_text}
+use Rattle.alma_plan.specs.Objects.{object_refusal}
 use Rattle.alma_plan.specs.Words.{is_file_name}
 use Rattle.alma_back.specs.Script.{Line, lines_in}
 use Rattle.alma_back.specs.Session.{session}
@@ -21,20 +17,6 @@ program = codes "alma_back"
 -- the greatest number of bytes of a script
 abbrev pub script_limit : ℕ
 script_limit = 1048576
-
--- ---- the object
-
--- the end that bytes bring about which are no object, or whose code is not sound
-abbrev pub rule_refusal : Option VerifyFault → Option Ending
-rule_refusal None = None
-rule_refusal (Some fault) = Some (tells program 9 (rule_fault_text fault))
-
-abbrev pub refusal_by : Option ObjectFault → Option VerifyFault → Option Ending
-refusal_by None rule = rule_refusal rule
-refusal_by (Some fault) rule = Some (tells program 9 (object_fault_text fault))
-
-abbrev pub object_refusal : List ℕ → Option Ending
-object_refusal bytes = refusal_by (object_fault bytes) (code_fault (object_code bytes))
 
 -- ---- the plan
 
@@ -51,7 +33,7 @@ walked None code lines = walked_on (code_reads code) code lines
 -- both files are there: the first bad line of the script comes before any fault of the object
 abbrev pub judged_by : Result (List Line) ℕ → (object : List ℕ) → Plan ⊥ Due
 judged_by (Err line) object = Ends (silent (tells program 13 (codes "bad line " ++ decimal line)))
-judged_by (Ok lines) object = walked (object_refusal object) (object_code object) lines
+judged_by (Ok lines) object = walked (object_refusal program object) (object_code object) lines
 
 abbrev pub judged : (object script : List ℕ) → Plan ⊥ Due
 judged object script = judged_by (lines_in script) object

@@ -4,7 +4,11 @@
 mod back;
 mod end;
 pub mod laws;
+mod main_call;
 mod script;
+mod serve;
 mod show;
+mod walk;
 
 pub use back::Back;
+pub use main_call::back_main;

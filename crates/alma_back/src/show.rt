@@ -32,10 +32,12 @@ fn go_forward(back: &mut Back<'_, '_>, most: u64) -> Result<(), NoMemory>
 fn go_back(back: &mut Back<'_, '_>, most: u64)
     ensures { back.new ≡ behind back.old most }
 {
-    for _ in 0..most {
+    let mut left = most;
+    while left > 0 {
         if !back.back() {
             return;
         }
+        left -= 1;
     }
 }
 
@@ -43,7 +45,7 @@ fn go_back(back: &mut Back<'_, '_>, most: u64)
 fn go(back: &mut Back<'_, '_>, line: Line<'_>) -> Result<(), NoMemory>
     requires short { IsShort line }
     requires few { back.old.steps + greatest_steps < 2 ^ 39 }
-    ensures stands { OnOk result (back.new ≡ after_line back.old (line_of line)) }
+    ensures stands { OnOk result (back.new ≡ after_line back.old (line_of line.entry)) }
     ensures few { OnOk result (back.new.steps ≤ back.old.steps + greatest_steps) }
 {
     match line {
@@ -68,7 +70,7 @@ fn put_value(text: &mut Vec<u8>, back: &Back<'_, '_>, name: &[u8]) -> Result<(),
 
 // Puts down what a line shows, where it leads.
 fn put_line(text: &mut Vec<u8>, back: &Back<'_, '_>, line: Line<'_>) -> Result<(), NoMemory>
-    ensures { OnOk result (text.new.items ≡ line_text back.now (line_of line)) }
+    ensures { OnOk result (text.new.items ≡ line_text back.now (line_of line.entry)) }
 {
     match line {
         Line::Forward(_) | Line::Backward(_) => put_number(text, b"at", back.steps()),
@@ -86,12 +88,12 @@ fn show_line<O: Sink>(
 ) -> Result<(), Stop>
     requires short { IsShort line }
     requires few { back.old.steps + greatest_steps < 2 ^ 39 }
-    ensures stands { OnOk result (back.new ≡ after_line back.old (line_of line)) }
+    ensures stands { OnOk result (back.new ≡ after_line back.old (line_of line.entry)) }
     ensures few { OnOk result (back.new.steps ≤ back.old.steps + greatest_steps) }
     ensures ok { OnOk result (Appends (O.side out.old).written (O.side out.new).written
-        (line_text (after_line back.old (line_of line)) (line_of line))) }
+        (line_text (after_line back.old (line_of line.entry)) (line_of line.entry))) }
     ensures front { OnErr result (AppendsFront (O.side out.old).written (O.side out.new).written
-        (line_text (after_line back.old (line_of line)) (line_of line))) }
+        (line_text (after_line back.old (line_of line.entry)) (line_of line.entry))) }
     ensures cause { StopsAt (O.side out.old).faults (O.side out.new).faults result }
 {
     go(back, line)?;
