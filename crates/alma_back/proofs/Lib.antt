@@ -1,3 +1,5 @@
 pub mod Texts
 pub mod Counts
 pub mod Walks
+pub mod Shown
+pub mod Judging
