@@ -37,7 +37,8 @@ number-here : (g : PlainFrame) (s : ℕ) (c : Cell) → IsWhole g → number_in 
 number-here g s c w = choose (is_number (slice_get g.kinds s)) refl
   where
     choose : (b : Bool) → b ≡ is_number (slice_get g.kinds s) →
-        (if b then Some (get_or (set g.cells s c) s Unknown) else None) ≡ over (if b then Some (get_or g.cells s Unknown) else None) (Some c)
+        (if b then Some (get_or (set g.cells s c) s Unknown) else None) ≡ over (if b then Some (get_or g.cells s Unknown) else None)
+        (Some c)
     choose true e =
         let slot : s < length g.kinds = number-slot g.kinds s (sym e) in
         let lt : s < length g.cells = omega (arith, slot, w.kinds) in
@@ -45,13 +46,15 @@ number-here g s c w = choose (is_number (slice_get g.kinds s)) refl
     choose false e = refl
 
 -- a write to a place changes its number slot
-number-same : (fs : List PlainFrame) (f s : ℕ) (c : Cell) → AreWhole fs → number_of (frames_with_cell fs f s c) f s ≡ over (number_of fs f s) (Some c)
+number-same : (fs : List PlainFrame) (f s : ℕ) (c : Cell) → AreWhole fs
+    → number_of (frames_with_cell fs f s c) f s ≡ over (number_of fs f s) (Some c)
 number-same [] f s c w = refl
 number-same (x ∷ fs) zero s c w = number-here x s c w.0
 number-same (x ∷ fs) (suc f) s c w = number-same fs f s c w.1
 
 -- a write to another slot
-number-other : (fs : List PlainFrame) (f s g t : ℕ) (c : Cell) → (f ≡ g → s ≡ t → ⊥) → number_of (frames_with_cell fs g t c) f s ≡ number_of fs f s
+number-other : (fs : List PlainFrame) (f s g t : ℕ) (c : Cell) → (f ≡ g → s ≡ t → ⊥)
+    → number_of (frames_with_cell fs g t c) f s ≡ number_of fs f s
 number-other [] f s g t c h = refl
 number-other (x ∷ fs) zero s zero t c h =
     ap (λ d. if is_number (slice_get x.kinds s) then Some d else None) (get_or-set_other x.cells t s c Unknown (h refl))
@@ -91,7 +94,8 @@ pub number-shared : (n : ℕ) (now above : List PlainFrame) (cs : Carry Cell) (f
 number-shared n now above cs f s l lt =
     let len = shared-length n now cs l in
     let in_shared : f < length (take n (frames_with_old_cells now cs)) = omega (arith, len, lt) in
-    ap (λ g. number_in g s) (get_or-append (take n (frames_with_old_cells now cs)) above no_frame f in_shared ∙ get_or-take n (frames_with_old_cells now cs) f no_frame lt)
+    ap (λ g. number_in g s) (get_or-append (take n (frames_with_old_cells now cs)) above no_frame f in_shared ∙ get_or-take n
+    (frames_with_old_cells now cs) f no_frame lt)
 
 -- a number slot of a frame above the shared ones
 pub number-above : (n : ℕ) (now above : List PlainFrame) (cs : Carry Cell) (f s : ℕ) → n ≤ length now → n ≤ f →

@@ -21,14 +21,17 @@ pub record Lays (cells : List (SlotPlace × Cell)) (i : ℕ) (old now : Journal)
   pub choice_room : old.choice_room ≤ now.choice_room
 
 -- one more is laid
-pub lays_more : (cells : List (SlotPlace × Cell)) (i : ℕ) (x : SlotPlace × Cell) (old now next : Journal) → Lays cells i old now → i < length cells → get_or cells i x ≡ x
-    → IsTape next → next.frames ≡ frames_with_change now.frames (change_of x.0 x.1) → (picture_of next).held ≡ (picture_of now).held → scenes next ≡ scenes now
+pub lays_more : (cells : List (SlotPlace × Cell)) (i : ℕ) (x : SlotPlace × Cell) (old now next : Journal) → Lays cells i old now
+    → i < length cells → get_or cells i x ≡ x
+    → IsTape next → next.frames ≡ frames_with_change now.frames (change_of x.0 x.1) → (picture_of next).held ≡ (picture_of now).held
+    → scenes next ≡ scenes now
     → now.choice_room ≤ next.choice_room → now.trail_room ≤ next.trail_room + 1 → Lays cells (i + 1) old next
 lays_more cells i x old now next l lt is tape frames held past choice room =
     let split : drop i cells ≡ (x.0, x.1) ∷ drop (i + 1) cells = drop_more cells i x lt ∙ ap (λ y. y ∷ drop (i + 1) cells) is in
     record {
       tape = tape;
-      laid = lays-more (carry_of_entries cells) (drop i cells) (drop (i + 1) cells) x.0 x.1 old.frames now.frames next.frames l.laid split frames;
+      laid = lays-more (carry_of_entries cells) (drop i cells) (drop (i + 1) cells) x.0 x.1 old.frames now.frames next.frames l.laid
+          split frames;
       held = held ∙ l.held;
       past = past ∙ l.past;
       room = omega (arith, l.room, room);
@@ -41,7 +44,8 @@ pub lays_all : (cells : List (SlotPlace × Cell)) (i : ℕ) (old now : Journal) 
 lays_all cells i old now l few = lays-none (carry_of_entries cells) (drop i cells) old.frames now.frames l.laid (drop_all i cells few)
 
 -- the stack without its top entry
-pub fewer_held : (old now next : Journal) → (picture_of now).held ≡ (picture_of old).held → next.frames ≡ now.frames → next.trail.items ≡ now.trail.items
+pub fewer_held : (old now next : Journal) → (picture_of now).held ≡ (picture_of old).held → next.frames ≡ now.frames
+    → next.trail.items ≡ now.trail.items
     → next.entries.items ≡ front now.entries.items → (picture_of next).held ≡ take (length (picture_of old).held - 1) (picture_of old).held
 fewer_held old now next held frames trail entries =
     let es = now.entries.items in

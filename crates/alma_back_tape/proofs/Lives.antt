@@ -9,7 +9,8 @@ use Rattle.alma_code.specs.Picture.{PlainFrame, no_frame, frame_with, frames_wit
 use Rattle.alma_memory_store.specs.Frames.{IsWhole, AreWhole, AreLive}
 
 -- the declared cells after a frame is replaced by one that declares as many
-pub live-set : (fs : List PlainFrame) (f : ℕ) (g : PlainFrame) → g.declared ≡ (get_or fs f no_frame).declared → live_cells (set fs f g) ≡ live_cells fs
+pub live-set : (fs : List PlainFrame) (f : ℕ) (g : PlainFrame) → g.declared ≡ (get_or fs f no_frame).declared
+    → live_cells (set fs f g) ≡ live_cells fs
 live-set fs f g e = ap sum (map-set_same (λ h. h.declared) fs f g no_frame e)
 
 -- a write declares no cells
@@ -18,7 +19,8 @@ live-written fs fs' f s c p = ap live_cells p ∙ live-set fs f (frame_with (get
 
 -- a push declares the cells of its frame
 pub live-push : (fs : List PlainFrame) (g : PlainFrame) → live_cells (fs ++ g ∷ []) ≡ live_cells fs + g.declared
-live-push fs g = sum-map (λ h. h.declared) (fs ++ g ∷ []) ∙ (sum_by_push (λ h. h.declared) fs g ∙ ap (λ n. n + g.declared) (sym (sum-map (λ h. h.declared) fs)))
+live-push fs g = sum-map (λ h. h.declared) (fs ++ g ∷ []) ∙ (sum_by_push (λ h. h.declared) fs g ∙ ap (λ n. n + g.declared)
+    (sym (sum-map (λ h. h.declared) fs)))
 
 -- a pop gives back what was pushed
 pub without-push : (fs : List PlainFrame) (g : PlainFrame) → without_last (fs ++ g ∷ []) ≡ fs
@@ -34,7 +36,8 @@ last-and-rest fs l =
     sym (take_more fs (length fs - 1) no_frame lt) ∙ take_all (length fs - 1 + 1) fs up
 
 -- a pop takes away the cells that its frame declares
-pub live-pop : (fs fs' : List PlainFrame) (g : PlainFrame) → fs' ≡ without_last fs → g ≡ last_frame fs → 1 ≤ length fs → live_cells fs' + g.declared ≡ live_cells fs
+pub live-pop : (fs fs' : List PlainFrame) (g : PlainFrame) → fs' ≡ without_last fs → g ≡ last_frame fs → 1 ≤ length fs
+    → live_cells fs' + g.declared ≡ live_cells fs
 live-pop fs fs' g p o l =
     let whole : without_last fs ++ g ∷ [] ≡ fs = rw o (last-and-rest fs l) in
     rw p (sym (live-push (without_last fs) g) ∙ ap live_cells whole)

@@ -28,14 +28,17 @@ pub record Cuts (height : ℕ) (old now : Journal) : Type 0 where
   pub past : scenes now ≡ scenes old
 
 -- one more note is undone
-pub unwound_more : (mark : ℕ) (old now next : Journal) → mark < length now.trail.items → next.frames ≡ undo (last_or now.trail.items no_note) now.frames
-    → next.trail.items ≡ front now.trail.items → next.entries.items ≡ now.entries.items → scenes next ≡ scenes now → IsTape next → Unwound mark old now → Unwound mark old next
+pub unwound_more : (mark : ℕ) (old now next : Journal) → mark < length now.trail.items
+    → next.frames ≡ undo (last_or now.trail.items no_note) now.frames
+    → next.trail.items ≡ front now.trail.items → next.entries.items ≡ now.entries.items → scenes next ≡ scenes now → IsTape next
+    → Unwound mark old now → Unwound mark old next
 unwound_more mark old now next more frames trail entries past tape u =
     let ns = front now.trail.items in
     let n = last_or now.trail.items no_note in
     let whole : ns ++ n ∷ [] ≡ now.trail.items = front-last now.trail.items no_note (omega arith) in
     let wound = good_wound (reverse now.changes.items) (reel_of now) u.tape.good in
-    let all : Unwinds mark old.trail.items old.frames now.trail.items now.frames = record { fits = wound.fits; above = u.above; same = u.same; below = u.below } in
+    let all : Unwinds mark old.trail.items old.frames now.trail.items now.frames =
+    record { fits = wound.fits; above = u.above; same = u.same; below = u.below } in
     let one = unwinds-more mark old.trail.items old.frames now.trail.items now.frames ns n next.frames (sym whole) frames more all in
     record {
       tape = tape;
@@ -62,13 +65,15 @@ top_rises j mark tape some is =
     let e = last_or j.entries.items no_entry in
     let whole : es ++ e ∷ [] ≡ j.entries.items = front-last j.entries.items no_entry some in
     let wound = good_wound (reverse j.changes.items) (reel_of j) tape.good in
-    let parts = rises-pop 0 (length j.trail.items) es e (subst (λ (xs : List Entry). Rises 0 xs (length j.trail.items)) (sym whole) wound.rises) in
+    let parts = rises-pop 0 (length j.trail.items) es e (subst (λ (xs : List Entry). Rises 0 xs (length j.trail.items)) (sym whole)
+    wound.rises) in
     (subst (λ (xs : List Entry). Rises 0 xs mark) whole (rises-push 0 mark es e parts.0 (omega (arith, is))), omega (arith, is, parts.1))
 
 -- a failure gives the stack after a pop
 pub fails : (j j1 j2 : Journal) (mark : ℕ) → IsTape j → 1 ≤ length j.entries.items → mark ≡ (last_or j.entries.items no_entry).mark
     → j1.frames ≡ unwind (drop mark j.trail.items) j.frames → j1.trail.items ≡ take mark j.trail.items → j1.entries.items ≡ j.entries.items
-    → j2.frames ≡ j1.frames → j2.trail.items ≡ j1.trail.items → j2.entries.items ≡ front j1.entries.items ++ stays (last_or j1.entries.items no_entry)
+    → j2.frames ≡ j1.frames → j2.trail.items ≡ j1.trail.items
+    → j2.entries.items ≡ front j1.entries.items ++ stays (last_or j1.entries.items no_entry)
     → held_of j2.trail.items j2.frames j2.entries.items ≡ stack_after_pop (held_of j.trail.items j.frames j.entries.items)
 fails j j1 j2 mark tape some is frames trail entries frames' trail' entries' =
     let es = front j.entries.items in
@@ -77,10 +82,12 @@ fails j j1 j2 mark tape some is frames trail entries frames' trail' entries' =
     let wound = good_wound (reverse j.changes.items) (reel_of j) tape.good in
     let pop = pops es e j.trail.items j.frames (subst (λ (xs : List Entry). Rises 0 xs (length j.trail.items)) (sym whole) wound.rises) in
     let a : j2.trail.items ≡ take e.mark j.trail.items = trail' ∙ trail ∙ ap (λ m. take m j.trail.items) is in
-    let b : j2.frames ≡ unwind (drop e.mark j.trail.items) j.frames = frames' ∙ frames ∙ ap (λ m. unwind (drop m j.trail.items) j.frames) is in
+    let b : j2.frames ≡ unwind (drop e.mark j.trail.items) j.frames =
+    frames' ∙ frames ∙ ap (λ m. unwind (drop m j.trail.items) j.frames) is in
     let d : j2.entries.items ≡ es ++ stays e = entries' ∙ ap (λ xs. front xs ++ stays (last_or xs no_entry)) entries in
     ap (λ ns. held_of ns j2.frames j2.entries.items) a ∙ ap (λ fs. held_of (take e.mark j.trail.items) fs j2.entries.items) b
-    ∙ ap (held_of (take e.mark j.trail.items) (unwind (drop e.mark j.trail.items) j.frames)) d ∙ pop.held ∙ ap (λ xs. stack_after_pop (held_of j.trail.items j.frames xs)) whole
+    ∙ ap (held_of (take e.mark j.trail.items) (unwind (drop e.mark j.trail.items) j.frames)) d ∙ pop.held
+    ∙ ap (λ xs. stack_after_pop (held_of j.trail.items j.frames xs)) whole
 
 -- where all entries above the height are dropped
 pub cuts_held : (height : ℕ) (old now : Journal) → length now.entries.items ≤ height → Cuts height old now

@@ -29,7 +29,8 @@ fits-at k ns n fs h l e =
     (f.1, ap (λ ms. unwind ms fs) split)
 
 -- a note below those that are undone
-pub note-at : (left : ℕ) (ns : List Note) (n : Note) (fs before : List PlainFrame) → Fits ns fs → 1 ≤ left → left ≤ length ns → n ≡ get_or ns (left - 1) n →
+pub note-at : (left : ℕ) (ns : List Note) (n : Note) (fs before : List PlainFrame) → Fits ns fs → 1 ≤ left → left ≤ length ns
+    → n ≡ get_or ns (left - 1) n →
     before ≡ unwind (drop left ns) fs → Undoes n before × AreLive (undo n before) × (undo n before ≡ unwind (drop (left - 1) ns) fs)
 note-at left ns n fs before h l m e p =
     let up : left - 1 + 1 ≡ left = omega arith in

@@ -31,16 +31,19 @@ take-take-le (suc m) (suc n) (x ∷ xs) l = ap (λ ys. x ∷ ys) (take-take-le m
 -- old cells leave as many frames
 pub length-frames_with_old_cells : (fs : List PlainFrame) (cs : Carry Cell) → length (frames_with_old_cells fs cs) ≡ length fs
 length-frames_with_old_cells fs [] = refl
-length-frames_with_old_cells fs (x ∷ cs) = length-set (frames_with_old_cells fs cs) x.frame (frame_with (get_or (frames_with_old_cells fs cs) x.frame no_frame) x.slot x.cell) ∙ length-frames_with_old_cells fs cs
+length-frames_with_old_cells fs (x ∷ cs) = length-set (frames_with_old_cells fs cs) x.frame
+    (frame_with (get_or (frames_with_old_cells fs cs) x.frame no_frame) x.slot x.cell) ∙ length-frames_with_old_cells fs cs
 
 -- of two writes to one slot the second counts
-written-again : (fs : List PlainFrame) (f s : ℕ) (c d : Cell) → frames_with_cell (frames_with_cell fs f s c) f s d ≡ frames_with_cell fs f s d
+written-again : (fs : List PlainFrame) (f s : ℕ) (c d : Cell)
+    → frames_with_cell (frames_with_cell fs f s c) f s d ≡ frames_with_cell fs f s d
 written-again [] f s c d = refl
 written-again (x ∷ fs) zero s c d = ap (λ cs. record x { cells = cs } ∷ fs) (set-set x.cells s c d)
 written-again (x ∷ fs) (suc f) s c d = ap (λ gs. x ∷ gs) (written-again fs f s c d)
 
 -- writes to two slots can be swapped
-written-apart : (fs : List PlainFrame) (f s g t : ℕ) (c d : Cell) → (f ≡ g → s ≡ t → ⊥) → frames_with_cell (frames_with_cell fs f s c) g t d ≡ frames_with_cell (frames_with_cell fs g t d) f s c
+written-apart : (fs : List PlainFrame) (f s g t : ℕ) (c d : Cell) → (f ≡ g → s ≡ t → ⊥)
+    → frames_with_cell (frames_with_cell fs f s c) g t d ≡ frames_with_cell (frames_with_cell fs g t d) f s c
 written-apart [] f s g t c d h = refl
 written-apart (x ∷ fs) zero s zero t c d h = ap (λ cs. record x { cells = cs } ∷ fs) (set-apart c d x.cells s t (h refl))
 written-apart (x ∷ fs) zero s (suc g) t c d h = refl
@@ -48,10 +51,12 @@ written-apart (x ∷ fs) (suc f) s zero t c d h = refl
 written-apart (x ∷ fs) (suc f) s (suc g) t c d h = ap (λ gs. x ∷ gs) (written-apart fs f s g t c d (λ e. h (ap suc e)))
 
 -- a change of the carry is one more write
-pub frames_with_old_cells-with : (fs : List PlainFrame) (x : Change Cell) (cs : Carry Cell) → frames_with_old_cells fs (with_change x cs) ≡ frames_with_cell (frames_with_old_cells fs cs) x.frame x.slot x.cell
+pub frames_with_old_cells-with : (fs : List PlainFrame) (x : Change Cell) (cs : Carry Cell)
+    → frames_with_old_cells fs (with_change x cs) ≡ frames_with_cell (frames_with_old_cells fs cs) x.frame x.slot x.cell
 frames_with_old_cells-with fs x [] = refl
 frames_with_old_cells-with fs x (y ∷ cs) =
-    let P : Carry Cell → Type 0 = (λ zs. frames_with_old_cells fs zs ≡ frames_with_cell (frames_with_old_cells fs (y ∷ cs)) x.frame x.slot x.cell) in
+    let P : Carry Cell → Type 0 =
+    (λ zs. frames_with_old_cells fs zs ≡ frames_with_cell (frames_with_old_cells fs (y ∷ cs)) x.frame x.slot x.cell) in
     let q = is_same_place x.frame x.slot y.frame y.slot in
     if-keeps P (is_before x.frame x.slot y.frame y.slot) (λ _. x ∷ y ∷ cs) (λ _. if_true q (λ _. x ∷ cs) (λ _. y ∷ with_change x cs))
     (λ _. refl)
@@ -65,20 +70,23 @@ frames_with_old_cells-with fs x (y ∷ cs) =
     (λ e d. let no : true ≡ false = sym (rw (← e, ← d) (same-itself x.frame x.slot)) ∙ ns in absurd (cc))))
 
 -- a write to one of the first frames
-pub take-written : (n : ℕ) (fs : List PlainFrame) (f s : ℕ) (c : Cell) → take n (frames_with_cell fs f s c) ≡ frames_with_cell (take n fs) f s c
+pub take-written : (n : ℕ) (fs : List PlainFrame) (f s : ℕ) (c : Cell)
+    → take n (frames_with_cell fs f s c) ≡ frames_with_cell (take n fs) f s c
 take-written zero fs f s c = refl
 take-written (suc n) [] f s c = refl
 take-written (suc n) (x ∷ fs) zero s c = refl
 take-written (suc n) (x ∷ fs) (suc f) s c = ap (λ gs. x ∷ gs) (take-written n fs f s c)
 
 -- a write to a frame of the first list
-written-left : (xs ys : List PlainFrame) (f s : ℕ) (c : Cell) → f < length xs → frames_with_cell (xs ++ ys) f s c ≡ frames_with_cell xs f s c ++ ys
+written-left : (xs ys : List PlainFrame) (f s : ℕ) (c : Cell) → f < length xs
+    → frames_with_cell (xs ++ ys) f s c ≡ frames_with_cell xs f s c ++ ys
 written-left [] ys f s c l = absurd (omega arith)
 written-left (x ∷ xs) ys zero s c l = refl
 written-left (x ∷ xs) ys (suc f) s c l = ap (λ gs. x ∷ gs) (written-left xs ys f s c (omega arith))
 
 -- a write to a frame of the second list
-written-right : (xs ys : List PlainFrame) (f s i : ℕ) (c : Cell) → length xs + i ≡ f → frames_with_cell (xs ++ ys) f s c ≡ xs ++ frames_with_cell ys i s c
+written-right : (xs ys : List PlainFrame) (f s i : ℕ) (c : Cell) → length xs + i ≡ f
+    → frames_with_cell (xs ++ ys) f s c ≡ xs ++ frames_with_cell ys i s c
 written-right [] ys f s i c e = let z : f ≡ i = omega (arith, e) in ap (λ g. frames_with_cell ys g s c) z
 written-right (x ∷ xs) ys zero s i c e = absurd (omega arith)
 written-right (x ∷ xs) ys (suc f) s i c e = ap (λ gs. x ∷ gs) (written-right xs ys f s i c (omega arith))
@@ -90,8 +98,10 @@ pub shared-length : (n : ℕ) (now : List PlainFrame) (cs : Carry Cell) → n �
 shared-length n now cs l = length-take-le n (frames_with_old_cells now cs) (rw (length-frames_with_old_cells now cs) l)
 
 -- a write to a shared frame
-pub wrote-shared : (n : ℕ) (now above : List PlainFrame) (cs cs' : Carry Cell) (x : Change Cell) → n ≤ length now → x.frame < n → cs' ≡ with_change x cs →
-    take n (frames_with_old_cells now cs') ++ above ≡ frames_with_cell (take n (frames_with_old_cells now cs) ++ above) x.frame x.slot x.cell
+pub wrote-shared : (n : ℕ) (now above : List PlainFrame) (cs cs' : Carry Cell) (x : Change Cell) → n ≤ length now → x.frame < n
+    → cs' ≡ with_change x cs →
+    take n (frames_with_old_cells now cs') ++ above ≡ frames_with_cell (take n (frames_with_old_cells now cs) ++ above) x.frame x.slot
+    x.cell
 wrote-shared n now above cs cs' x l lt e =
     let len = shared-length n now cs l in
     ap (λ gs. take n gs ++ above) (ap (frames_with_old_cells now) e ∙ frames_with_old_cells-with now x cs)
@@ -99,12 +109,14 @@ wrote-shared n now above cs cs' x l lt e =
     ∙ sym (written-left (take n (frames_with_old_cells now cs)) above x.frame x.slot x.cell (omega (arith, len, lt))))
 
 -- a write to a frame above the shared ones
-pub wrote-above : (n : ℕ) (now above above' : List PlainFrame) (cs : Carry Cell) (f s : ℕ) (c : Cell) → n ≤ length now → n ≤ f → above' ≡ frames_with_cell above (f - n) s c →
+pub wrote-above : (n : ℕ) (now above above' : List PlainFrame) (cs : Carry Cell) (f s : ℕ) (c : Cell) → n ≤ length now → n ≤ f
+    → above' ≡ frames_with_cell above (f - n) s c →
     take n (frames_with_old_cells now cs) ++ above' ≡ frames_with_cell (take n (frames_with_old_cells now cs) ++ above) f s c
 wrote-above n now above above' cs f s c l le e =
     let len = shared-length n now cs l in
     let at : length (take n (frames_with_old_cells now cs)) + (f - n) ≡ f = omega (arith, len, le) in
-    ap (λ gs. take n (frames_with_old_cells now cs) ++ gs) e ∙ sym (written-right (take n (frames_with_old_cells now cs)) above f s (f - n) c at)
+    ap (λ gs. take n (frames_with_old_cells now cs) ++ gs) e
+    ∙ sym (written-right (take n (frames_with_old_cells now cs)) above f s (f - n) c at)
 
 -- a frame above the shared ones
 pub at-above : (n : ℕ) (now above : List PlainFrame) (cs : Carry Cell) (f : ℕ) → n ≤ length now → n ≤ f →
@@ -124,7 +136,8 @@ entered-shared n now above above' cs l e e' =
     let len = shared-length n now cs l in
     let less : n - 1 ≤ n = omega arith in
     ap (λ gs. take (n - 1) (frames_with_old_cells now cs) ++ gs) e' ∙ (sym (none (take (n - 1) (frames_with_old_cells now cs)))
-    ∙ (sym (take-take-le (n - 1) n (frames_with_old_cells now cs) less) ∙ (ap (λ k. take (k - 1) (take n (frames_with_old_cells now cs))) (sym len)
+    ∙ (sym (take-take-le (n - 1) n (frames_with_old_cells now cs) less) ∙
+    (ap (λ k. take (k - 1) (take n (frames_with_old_cells now cs))) (sym len)
     ∙ ap without_last (none (take n (frames_with_old_cells now cs)) ∙ ap (λ gs. take n (frames_with_old_cells now cs) ++ gs) (sym e)))))
 
 -- a frame of before that is not shared is there

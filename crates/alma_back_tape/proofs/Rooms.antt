@@ -37,8 +37,10 @@ pub all_finishes_is : (es ds : List Entry) (e : Entry) → es ≡ ds ++ e ∷ []
 all_finishes_is es ds e p = ap (λ (xs : List Entry). all_finishes xs) p ∙ all_finishes_push ds e
 
 -- the rooms after an entry is pushed
-pub pushed_rooms : (j j' : Journal) (e : Entry) → HasRooms 0 j → 1 ≤ j.choice_room → j'.trail ≡ j.trail → j'.redo ≡ j.redo → j'.dropped ≡ j.dropped
-    → j'.choice_room + 1 ≡ j.choice_room → j'.trail_room ≡ j.trail_room → j'.entries.items ≡ j.entries.items ++ e ∷ [] → j'.changes.items ≡ j.changes.items ++ Pushed ∷ []
+pub pushed_rooms : (j j' : Journal) (e : Entry) → HasRooms 0 j → 1 ≤ j.choice_room → j'.trail ≡ j.trail → j'.redo ≡ j.redo
+    → j'.dropped ≡ j.dropped
+    → j'.choice_room + 1 ≡ j.choice_room → j'.trail_room ≡ j.trail_room → j'.entries.items ≡ j.entries.items ++ e ∷ []
+    → j'.changes.items ≡ j.changes.items ++ Pushed ∷ []
     → vec_capacity j'.entries ≡ vec_capacity j.entries → vec_capacity j'.changes ≡ vec_capacity j.changes → HasRooms 0 j'
 pushed_rooms j j' e rooms some trail redo dropped choice room entries changes wide long =
     let more = ap length entries ∙ length_push j.entries.items e in
@@ -57,5 +59,6 @@ pushed_rooms j j' e rooms some trail redo dropped choice room entries changes wi
 pub same_reel : {f f' : List PlainFrame} {t t' : List Note} {e e' : List Entry} {r r' : List Note} {d d' : List Entry} {k k' : List Gained}
     → f ≡ f' → t ≡ t' → e ≡ e' → r ≡ r' → d ≡ d' → k ≡ k' → reel f t e r d k ≡ reel f' t' e' r' d' k'
 same_reel {f} {f'} {t} {t'} {e} {e'} {r} {r'} {d} {d'} {k} {k'} a b c x y z =
-    ap (λ q. reel q t e r d k) a ∙ ap (λ q. reel f' q e r d k) b ∙ ap (λ q. reel f' t' q r d k) c ∙ ap (λ q. reel f' t' e' q d k) x ∙ ap (λ q. reel f' t' e' r' q k) y
+    ap (λ q. reel q t e r d k) a ∙ ap (λ q. reel f' q e r d k) b ∙ ap (λ q. reel f' t' q r d k) c ∙ ap (λ q. reel f' t' e' q d k) x
+    ∙ ap (λ q. reel f' t' e' r' q k) y
     ∙ ap (reel f' t' e' r' d') z

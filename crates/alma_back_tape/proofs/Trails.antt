@@ -93,7 +93,8 @@ held-unwound m low trail fs (e ∷ es) r k =
     cc
 
 -- a note that is added leaves each copy as it was
-pub held-push : (low top : ℕ) (trail : List Note) (n : Note) (fs : List PlainFrame) (es : List Entry) → Rises low es top → top ≤ length trail →
+pub held-push : (low top : ℕ) (trail : List Note) (n : Note) (fs : List PlainFrame) (es : List Entry) → Rises low es top
+    → top ≤ length trail →
     held_of (trail ++ n ∷ []) fs es ≡ held_of trail (undo n fs) es
 held-push low top trail n fs [] r k = refl
 held-push low top trail n fs (e ∷ es) r k =
@@ -132,11 +133,13 @@ top-push es e =
 pub stack_after_pop-push : (es : List PlainEntry) (e : PlainEntry) → stack_after_pop (es ++ e ∷ []) ≡ es ++ entry_after_pop e
 stack_after_pop-push es e =
     let n : length (es ++ e ∷ []) - 1 ≡ length es = rw (length_push es e) (omega arith) in
-    let below : take (length (es ++ e ∷ []) - 1) (es ++ e ∷ []) ≡ es = ap (λ k. take k (es ++ e ∷ [])) n ∙ take_at es (e ∷ []) (length es) refl in
+    let below : take (length (es ++ e ∷ []) - 1) (es ++ e ∷ []) ≡ es =
+    ap (λ k. take k (es ++ e ∷ [])) n ∙ take_at es (e ∷ []) (length es) refl in
     ap (λ xs. xs ++ entry_after_pop (top_of (es ++ e ∷ []))) below ∙ ap (λ x. es ++ entry_after_pop x) (top-push es e)
 
 -- the top of the stack is the last entry with its copy
-pub top-held : (es : List Entry) (e : Entry) (trail : List Note) (fs : List PlainFrame) → top_of (held_of trail fs (es ++ e ∷ [])) ≡ entry_of trail fs e
+pub top-held : (es : List Entry) (e : Entry) (trail : List Note) (fs : List PlainFrame)
+    → top_of (held_of trail fs (es ++ e ∷ [])) ≡ entry_of trail fs e
 top-held es e trail fs = ap top_of (map-append (entry_of trail fs) es (e ∷ [])) ∙ top-push (held_of trail fs es) (entry_of trail fs e)
 
 -- at its own mark an entry sees the frames themselves
@@ -174,11 +177,13 @@ pub pops : (es : List Entry) (e : Entry) (trail : List Note) (fs : List PlainFra
     Pops es e trail (take e.mark trail) fs (unwind (drop e.mark trail) fs)
 pops es e trail fs r =
     let p : Rises 0 es e.mark × (e.mark ≤ length trail) = rises-pop 0 (length trail) es e r in
-    let split : held_of trail fs (es ++ e ∷ []) ≡ held_of trail fs es ++ entry_of trail fs e ∷ [] = map-append (entry_of trail fs) es (e ∷ []) in
+    let split : held_of trail fs (es ++ e ∷ []) ≡ held_of trail fs es ++ entry_of trail fs e ∷ [] =
+    map-append (entry_of trail fs) es (e ∷ []) in
     record {
       now = sym (ap (λ (x : PlainEntry). x.frames) (top-held es e trail fs));
       held = map-append (entry_of (take e.mark trail) (unwind (drop e.mark trail) fs)) es (stays e)
-          ∙ (ap (λ xs. xs ++ held_of (take e.mark trail) (unwind (drop e.mark trail) fs) (stays e)) (held-unwound e.mark 0 trail fs es p.0 p.1)
+          ∙ (ap (λ xs. xs ++ held_of (take e.mark trail) (unwind (drop e.mark trail) fs) (stays e))
+          (held-unwound e.mark 0 trail fs es p.0 p.1)
           ∙ (ap (λ xs. held_of trail fs es ++ xs) (stays-held e.kind e trail fs p.1)
           ∙ sym (ap stack_after_pop split ∙ stack_after_pop-push (held_of trail fs es) (entry_of trail fs e))));
       rises = stays-rises e.kind es e (length (take e.mark trail)) p.0 (sym (length-take-le e.mark trail p.1));
@@ -212,7 +217,8 @@ unwinds-more mark trail fs rest gs ns n hs p q l u =
 -- ---- the kind at a height
 
 -- past the top there is no kind
-kind-past : (trail : List Note) (fs : List PlainFrame) (es : List Entry) (b : ℕ) → length es ≤ b → slice_get (map (λ (x : PlainEntry). x.kind) (held_of trail fs es)) b ≡ None
+kind-past : (trail : List Note) (fs : List PlainFrame) (es : List Entry) (b : ℕ) → length es ≤ b
+    → slice_get (map (λ (x : PlainEntry). x.kind) (held_of trail fs es)) b ≡ None
 kind-past trail fs [] b l = refl
 kind-past trail fs (e ∷ es) zero l = absurd (omega arith)
 kind-past trail fs (e ∷ es) (suc b) l = kind-past trail fs es b (omega arith)
@@ -230,12 +236,14 @@ kind-none trail fs es zero l = refl
 kind-none trail fs es (suc b) l = absurd (omega arith)
 
 -- nor above the top
-pub kind-above : (trail : List Note) (fs : List PlainFrame) (es : List Entry) (h : ℕ) → length es < h → kind_at (held_of trail fs es) h ≡ None
+pub kind-above : (trail : List Note) (fs : List PlainFrame) (es : List Entry) (h : ℕ) → length es < h
+    → kind_at (held_of trail fs es) h ≡ None
 kind-above trail fs es zero l = absurd (omega arith)
 kind-above trail fs es (suc b) l = kind-past trail fs es b (omega arith)
 
 -- the kind of an entry that is there
-pub kind-some : (trail : List Note) (fs : List PlainFrame) (es : List Entry) (h : ℕ) (e : Entry) → 1 ≤ h → h ≤ length es → e ≡ get_or es (h - 1) e →
+pub kind-some : (trail : List Note) (fs : List PlainFrame) (es : List Entry) (h : ℕ) (e : Entry) → 1 ≤ h → h ≤ length es
+    → e ≡ get_or es (h - 1) e →
     kind_at (held_of trail fs es) h ≡ Some e.kind
 kind-some trail fs es zero e l m p = absurd (omega arith)
 kind-some trail fs es (suc b) e l m p =

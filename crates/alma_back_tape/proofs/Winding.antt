@@ -101,17 +101,23 @@ noted cs cs' r r' n fs good changes same undone undoes live =
     let old = good_wound (reverse cs) r good in
     let s : Reel = record r { frames = fs; trail = r.trail ++ n ∷ [] } in
     let longer : length s.trail ≡ length r.trail + 1 = length_push r.trail n in
-    let fits : Fits s.trail fs = fits-push r.trail n fs (subst (λ (gs : List PlainFrame). Fits r.trail gs) (sym undone) old.fits) undoes live in
-    let rises : Rises 0 r.entries (length s.trail) = rises-more 0 (length r.trail) (length s.trail) r.entries old.rises (omega (arith, longer)) in
-    let back : before Noted s ≡ r = same_reel (ap (λ m. undo m fs) (last-push r.trail n no_note) ∙ undone) (front-push r.trail n) refl refl refl refl in
-    let moves : Moves cs cs' r s = moved cs cs' r s Noted tt changes (record { fits = fits; rises = rises }) (omega (arith, longer)) back good in
+    let fits : Fits s.trail fs =
+    fits-push r.trail n fs (subst (λ (gs : List PlainFrame). Fits r.trail gs) (sym undone) old.fits) undoes live in
+    let rises : Rises 0 r.entries (length s.trail) =
+    rises-more 0 (length r.trail) (length s.trail) r.entries old.rises (omega (arith, longer)) in
+    let back : before Noted s ≡ r =
+    same_reel (ap (λ m. undo m fs) (last-push r.trail n no_note) ∙ undone) (front-push r.trail n) refl refl refl refl in
+    let moves : Moves cs cs' r s =
+    moved cs cs' r s Noted tt changes (record { fits = fits; rises = rises }) (omega (arith, longer)) back good in
     let held : (scene_of s).held ≡ (scene_of r).held =
     held-push 0 (length r.trail) r.trail n fs r.entries old.rises (omega arith) ∙ ap (λ gs. held_of r.trail gs r.entries) undone in
     subst (λ (q : Reel). Notes cs cs' r q) (sym same) (record { moves = moves; held = held })
 
 -- a write whose note is added
-pub wrote : (cs cs' : List Change) (r r' : Reel) (p : SlotPlace) (c old : Cell) (fs : List PlainFrame) → IsGood (reverse cs) r → cs' ≡ cs ++ Noted ∷ []
-    → r' ≡ record r { frames = fs; trail = r.trail ++ Wrote p old ∷ [] } → fs ≡ frames_with_cell r.frames p.frame p.slot c → old ≡ cell_at r.frames p.frame p.slot Unknown
+pub wrote : (cs cs' : List Change) (r r' : Reel) (p : SlotPlace) (c old : Cell) (fs : List PlainFrame) → IsGood (reverse cs) r
+    → cs' ≡ cs ++ Noted ∷ []
+    → r' ≡ record r { frames = fs; trail = r.trail ++ Wrote p old ∷ [] } → fs ≡ frames_with_cell r.frames p.frame p.slot c
+    → old ≡ cell_at r.frames p.frame p.slot Unknown
     → p.frame < length r.frames → p.slot < length (get_or r.frames p.frame no_frame).cells → Notes cs cs' r r'
 wrote cs cs' r r' p c old fs good changes same frames was live slot =
     let wound = good_wound (reverse cs) r good in
@@ -121,7 +127,8 @@ wrote cs cs' r r' p c old fs good changes same frames was live slot =
     (subst AreLive (sym frames) (live-after-write r.frames p.frame p.slot c (fits-now r.trail r.frames wound.fits)))
 
 -- frames that are live with one more
-live_more : (fs : List PlainFrame) (g : PlainFrame) → AreLive fs → length fs < frame_limit → live_cells fs + g.declared ≤ cell_limit → IsWhole g → AreLive (fs ++ g ∷ [])
+live_more : (fs : List PlainFrame) (g : PlainFrame) → AreLive fs → length fs < frame_limit → live_cells fs + g.declared ≤ cell_limit
+    → IsWhole g → AreLive (fs ++ g ∷ [])
 live_more fs g live l m w = record {
   some = rw (length_push fs g) (omega arith);
   few = rw (length_push fs g) (omega arith);
@@ -145,11 +152,18 @@ live_less fs now l =
     let whole : without_last fs ++ g ∷ [] ≡ fs = last-and-rest fs (omega arith) in
     let wide : length (without_last fs) + 1 ≡ length fs = sym (length_push (without_last fs) g) ∙ ap length whole in
     let sums : live_cells (without_last fs) + g.declared ≡ live_cells fs = sym (live-push (without_last fs) g) ∙ ap live_cells whole in
-    record { some = omega arith; few = omega (arith, now.few); declared = omega (arith, now.declared); whole = whole-take (length fs - 1) fs now.whole }
+    record {
+      some = omega arith;
+      few = omega (arith, now.few);
+      declared = omega (arith, now.declared);
+      whole = whole-take (length fs - 1)
+          fs now.whole;
+    }
 
 -- a frame that is left
 pub was_left : (cs cs' : List Change) (r r' : Reel) (g : PlainFrame) (fs : List PlainFrame) → IsGood (reverse cs) r → cs' ≡ cs ++ Noted ∷ []
-    → r' ≡ record r { frames = fs; trail = r.trail ++ Left g ∷ [] } → fs ≡ without_last r.frames → g ≡ last_frame r.frames → 2 ≤ length r.frames → Notes cs cs' r r'
+    → r' ≡ record r { frames = fs; trail = r.trail ++ Left g ∷ [] } → fs ≡ without_last r.frames → g ≡ last_frame r.frames
+    → 2 ≤ length r.frames → Notes cs cs' r r'
 was_left cs cs' r r' g fs good changes same frames last below =
     let wound = good_wound (reverse cs) r good in
     noted cs cs' r r' (Left g) fs good changes same
@@ -163,35 +177,43 @@ pub record Pushes (cs cs' : List Change) (r r' : Reel) (e : Entry) : Type 0 wher
   pub moves : Moves cs cs' r r'
   pub held : (scene_of r').held ≡ (scene_of r).held ++ record { kind = e.kind; resume = e.resume; frames = r.frames; carry = e.carry } ∷ []
 
-pub pushed : (cs cs' : List Change) (r r' : Reel) (e : Entry) → IsGood (reverse cs) r → cs' ≡ cs ++ Pushed ∷ [] → r' ≡ record r { entries = r.entries ++ e ∷ [] }
+pub pushed : (cs cs' : List Change) (r r' : Reel) (e : Entry) → IsGood (reverse cs) r → cs' ≡ cs ++ Pushed ∷ []
+    → r' ≡ record r { entries = r.entries ++ e ∷ [] }
     → e.mark ≡ length r.trail → Pushes cs cs' r r' e
 pushed cs cs' r r' e good changes same mark =
     let old = good_wound (reverse cs) r good in
     let s : Reel = record r { entries = r.entries ++ e ∷ [] } in
     let rises : Rises 0 s.entries (length r.trail) =
     rises-push 0 (length r.trail) r.entries e (subst (λ (n : ℕ). Rises 0 r.entries n) (sym mark) old.rises) (omega (arith, mark)) in
-    let none : unwind (drop e.mark r.trail) r.frames ≡ r.frames = ap (λ ns. unwind ns r.frames) (drop_all e.mark r.trail (omega (arith, mark))) in
-    let moves : Moves cs cs' r s = moved cs cs' r s Pushed tt changes (record { fits = old.fits; rises = rises }) (omega (arith, length_push r.entries e))
+    let none : unwind (drop e.mark r.trail) r.frames ≡ r.frames =
+    ap (λ ns. unwind ns r.frames) (drop_all e.mark r.trail (omega (arith, mark))) in
+    let moves : Moves cs cs' r s =
+    moved cs cs' r s Pushed tt changes (record { fits = old.fits; rises = rises }) (omega (arith, length_push r.entries e))
     (same_reel refl refl (front-push r.entries e) refl refl refl) good in
-    let held : (scene_of s).held ≡ (scene_of r).held ++ record { kind = e.kind; resume = e.resume; frames = r.frames; carry = e.carry } ∷ [] =
+    let held : (scene_of s).held ≡ (scene_of r).held ++ record { kind = e.kind; resume = e.resume; frames = r.frames; carry = e.carry } ∷
+    [] =
     map-append (entry_of r.trail r.frames) r.entries (e ∷ [])
-    ∙ ap (λ fs. held_of r.trail r.frames r.entries ++ record { kind = e.kind; resume = e.resume; frames = fs; carry = e.carry } ∷ []) none in
+    ∙ ap (λ fs. held_of r.trail r.frames r.entries ++ record { kind = e.kind; resume = e.resume; frames = fs; carry = e.carry } ∷ [])
+    none in
     subst (λ (q : Reel). Pushes cs cs' r q e) (sym same) (record { moves = moves; held = held })
 
 -- an entry that is dropped
-pub dropped_one : (cs cs' : List Change) (r r' : Reel) (es : List Entry) (e : Entry) → IsGood (reverse cs) r → cs' ≡ cs ++ Dropped ∷ [] → r.entries ≡ es ++ e ∷ []
+pub dropped_one : (cs cs' : List Change) (r r' : Reel) (es : List Entry) (e : Entry) → IsGood (reverse cs) r → cs' ≡ cs ++ Dropped ∷ []
+    → r.entries ≡ es ++ e ∷ []
     → r' ≡ record r { entries = es; dropped = r.dropped ++ e ∷ [] } → Moves cs cs' r r'
 dropped_one cs cs' r r' es e good changes entries same =
     let old = good_wound (reverse cs) r good in
     let s : Reel = record r { entries = es; dropped = r.dropped ++ e ∷ [] } in
     let both = rises-pop 0 (length r.trail) es e (subst (λ (xs : List Entry). Rises 0 xs (length r.trail)) entries old.rises) in
     let rises : Rises 0 es (length r.trail) = rises-more 0 e.mark (length r.trail) es both.0 both.1 in
-    let moves : Moves cs cs' r s = moved cs cs' r s Dropped tt changes (record { fits = old.fits; rises = rises }) (omega (arith, length_push r.dropped e))
+    let moves : Moves cs cs' r s =
+    moved cs cs' r s Dropped tt changes (record { fits = old.fits; rises = rises }) (omega (arith, length_push r.dropped e))
     (same_reel refl refl (ap (λ x. es ++ x ∷ []) (last-push r.dropped e no_entry) ∙ sym entries) refl (front-push r.dropped e) refl) good in
     subst (λ (q : Reel). Moves cs cs' r q) (sym same) moves
 
 -- a Forall that is turned into a Done
-pub finished_one : (cs cs' : List Change) (r r' : Reel) (es : List Entry) (e : Entry) → IsGood (reverse cs) r → cs' ≡ cs ++ Finished ∷ [] → r.entries ≡ es ++ e ∷ []
+pub finished_one : (cs cs' : List Change) (r r' : Reel) (es : List Entry) (e : Entry) → IsGood (reverse cs) r → cs' ≡ cs ++ Finished ∷ []
+    → r.entries ≡ es ++ e ∷ []
     → e.kind ≡ choice.Forall → r' ≡ record r { entries = es ++ record e { kind = choice.Done } ∷ [] } → Moves cs cs' r r'
 finished_one cs cs' r r' es e good changes entries forall same =
     let old = good_wound (reverse cs) r good in
@@ -204,7 +226,8 @@ finished_one cs cs' r r' es e good changes entries forall same =
     let moves : Moves cs cs' r s = moved cs cs' r s Finished tt changes (record { fits = old.fits; rises = rises })
     (omega (arith, length_push es d), ap (λ (x : Entry). x.kind) last)
     (same_reel refl refl (ap (λ xs. xs ++ record (last_or s.entries no_entry) { kind = choice.Forall } ∷ []) (front-push es d)
-    ∙ ap (λ (x : Entry). es ++ record x { kind = choice.Forall } ∷ []) last ∙ ap (λ x. es ++ x ∷ []) again ∙ sym entries) refl refl refl) good in
+    ∙ ap (λ (x : Entry). es ++ record x { kind = choice.Forall } ∷ []) last ∙ ap (λ x. es ++ x ∷ []) again
+    ∙ sym entries) refl refl refl) good in
     subst (λ (q : Reel). Moves cs cs' r q) (sym same) moves
 
 -- ---- notes that are undone
@@ -236,8 +259,10 @@ flip_twice Entered fs u = refl
 flip_twice (Left g) fs u = ap Left (last-push fs g no_frame)
 
 -- a note that is undone
-pub undone_one : (cs cs' : List Change) (r r' : Reel) (ns : List Note) (n : Note) (fs : List PlainFrame) (m : Note) → IsGood (reverse cs) r → cs' ≡ cs ++ Undone ∷ []
-    → r.trail ≡ ns ++ n ∷ [] → fs ≡ undo n r.frames → m ≡ flip n r.frames → r' ≡ record r { frames = fs; trail = ns; redo = r.redo ++ m ∷ [] }
+pub undone_one : (cs cs' : List Change) (r r' : Reel) (ns : List Note) (n : Note) (fs : List PlainFrame) (m : Note)
+    → IsGood (reverse cs) r → cs' ≡ cs ++ Undone ∷ []
+    → r.trail ≡ ns ++ n ∷ [] → fs ≡ undo n r.frames → m ≡ flip n r.frames
+    → r' ≡ record r { frames = fs; trail = ns; redo = r.redo ++ m ∷ [] }
     → Rises 0 r.entries (length ns) → Moves cs cs' r r'
 undone_one cs cs' r r' ns n fs m good changes trail frames flipped same rises =
     let old = good_wound (reverse cs) r good in
@@ -246,12 +271,19 @@ undone_one cs cs' r r' ns n fs m good changes trail frames flipped same rises =
     let s : Reel = record r { frames = fs; trail = ns; redo = r.redo ++ m ∷ [] } in
     let fits : Fits ns fs = subst (λ (gs : List PlainFrame). Fits ns gs) (sym frames) parts.0 in
     let last : last_or s.redo no_note ≡ m = last-push r.redo m no_note in
-    let whole : undo m fs ≡ r.frames = ap (undo m) frames ∙ ap (λ k. undo k (undo n r.frames)) flipped ∙ flip_undoes n r.frames live parts.1 in
-    let can : Undoes m fs = subst (λ (gs : List PlainFrame). Undoes m gs) (sym frames) (subst (λ (k : Note). Undoes k (undo n r.frames)) (sym flipped) (flip_can n r.frames parts.1)) in
+    let whole : undo m fs ≡ r.frames =
+    ap (undo m) frames ∙ ap (λ k. undo k (undo n r.frames)) flipped ∙ flip_undoes n r.frames live parts.1 in
+    let can : Undoes m fs = subst (λ (gs : List PlainFrame). Undoes m gs) (sym frames)
+    (subst (λ (k : Note). Undoes k (undo n r.frames)) (sym flipped) (flip_can n r.frames parts.1)) in
     let twice : flip m fs ≡ n = ap (flip m) frames ∙ ap (λ k. flip k (undo n r.frames)) flipped ∙ flip_twice n r.frames parts.1 in
-    let moves : Moves cs cs' r s = moved cs cs' r s Undone tt changes (record { fits = fits; rises = rises })
-    (omega (arith, length_push r.redo m), subst (λ (k : Note). Undoes k fs) (sym last) can, subst AreLive (sym (ap (λ k. undo k fs) last ∙ whole)) live)
-    (same_reel (ap (λ k. undo k fs) last ∙ whole) (ap (λ k. ns ++ flip k fs ∷ []) last ∙ ap (λ k. ns ++ k ∷ []) twice ∙ sym trail) refl (front-push r.redo m) refl refl) good in
+    let moves : Moves cs cs' r s = moved cs cs' r s Undone tt changes (record { fits = fits; rises = rises }) (
+      omega (arith, length_push r.redo m),
+      subst (λ (k : Note). Undoes k fs) (sym last) can,
+      subst AreLive
+          (sym (ap (λ k. undo k fs) last ∙ whole)) live,
+    )
+    (same_reel (ap (λ k. undo k fs) last ∙ whole) (ap (λ k. ns ++ flip k fs ∷ []) last ∙ ap (λ k. ns ++ k ∷ []) twice ∙ sym trail) refl
+    (front-push r.redo m) refl refl) good in
     subst (λ (q : Reel). Moves cs cs' r q) (sym same) moves
 
 -- a note that is on top can be undone
@@ -269,7 +301,8 @@ pub record Arrives (c : Change) (cs cs' : List Change) (r r' : Reel) : Type 0 wh
   pub good : IsGood (reverse cs') r'
   pub past : past (reverse cs') r' ≡ past (c ∷ reverse cs) r
 
-pub arrived : (c : Change) (cs cs' : List Change) (r r' : Reel) → IsQuiet c → IsGood (c ∷ reverse cs) r → cs' ≡ cs → r' ≡ before c r → Arrives c cs cs' r r'
+pub arrived : (c : Change) (cs cs' : List Change) (r r' : Reel) → IsQuiet c → IsGood (c ∷ reverse cs) r → cs' ≡ cs → r' ≡ before c r
+    → Arrives c cs cs' r r'
 arrived c cs cs' r r' quiet good changes same = record {
   good = subst (λ (ds : List Change). IsGood (reverse ds) r') (sym changes) (subst (λ (q : Reel). IsGood (reverse cs) q) (sym same) good.2);
   past = ap (λ ds. past (reverse ds) r') changes ∙ ap (past (reverse cs)) same ∙ sym (past_step c (reverse cs) r quiet);
@@ -289,5 +322,8 @@ long_is xs ys y e = ap length e ∙ length_push ys y
 pub redo_undoes : (cs : List Change) (r : Reel) (ns : List Note) (n : Note) → IsGood (Undone ∷ cs) r → r.redo ≡ ns ++ n ∷ []
     → Undoes n r.frames × AreLive r.frames × AreLive (undo n r.frames)
 redo_undoes cs r ns n good redo =
-    let last = last_is r.redo ns n no_note redo in
-    (subst (λ (m : Note). Undoes m r.frames) last good.1.1, fits-now r.trail r.frames good.0.fits, subst (λ (m : Note). AreLive (undo m r.frames)) last good.1.2)
+    let last = last_is r.redo ns n no_note redo in (
+      subst (λ (m : Note). Undoes m r.frames) last good.1.1,
+      fits-now r.trail r.frames good.0.fits,
+      subst (λ (m : Note). AreLive (undo m r.frames)) last good.1.2,
+    )

@@ -14,6 +14,7 @@ use alma_base::NoMemory;
 use alma_code::ChoiceKind;
 use std::alloc::Global;
 
+/// What a `Tape` is made of. Each list but the frames grows and shrinks at its end alone.
 #[derive(Drop)]
 pub struct Journal {
     pub alloc: Global,

@@ -45,7 +45,8 @@ CanBack Undone r = (1 ≤ length r.redo) × Undoes (last_or r.redo no_note) r.fr
 CanBack Dropped r = 1 ≤ length r.dropped
 CanBack Finished r = (1 ≤ length r.entries) × ((last_or r.entries no_entry).kind ≡ Done)
 CanBack Kept r =
-    (1 ≤ length r.kept) × ((last_or r.kept no_gain).at < length r.entries) × (length (last_or r.kept no_gain).had ≤ length (last_or r.kept no_gain).places)
+    (1 ≤ length r.kept) × ((last_or r.kept no_gain).at < length r.entries) ×
+    (length (last_or r.kept no_gain).had ≤ length (last_or r.kept no_gain).places)
 
 -- all changes can be taken back, one after another, the last one first
 abbrev pub IsGood : List Change → Reel → Type 0
@@ -76,7 +77,8 @@ pub record HasRooms (more : ℕ) (j : Journal) : Type 0 where
   pub entries : length j.entries.items + length j.dropped.items + j.choice_room ≤ vec_capacity j.entries
   pub dropped : length j.entries.items + length j.dropped.items + j.choice_room ≤ vec_capacity j.dropped
   pub changes :
-      length j.changes.items + more + due_changes (length j.trail.items) j.entries.items j.dropped.items + 2 * j.trail_room + 3 * j.choice_room ≤ vec_capacity j.changes
+      length j.changes.items + more + due_changes (length j.trail.items) j.entries.items j.dropped.items + 2 * j.trail_room + 3 *
+      j.choice_room ≤ vec_capacity j.changes
 
 -- ---- a journal
 

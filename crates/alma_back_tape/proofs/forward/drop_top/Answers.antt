@@ -20,13 +20,25 @@ returns-clause-tape c =
     let others = all_finishes_is ds.items j.dropped.items e c.push_reserved.ensures.items in
     let rooms = c.requires.tape.rooms in
     record {
-      good = (dropped_one j.changes.items cs.items (reel_of j) (reel_of j') es.items e c.requires.tape.good c.push_reserved-2.ensures.items c.in-Some.ensures.items
+      good = (dropped_one j.changes.items cs.items (reel_of j) (reel_of j') es.items e c.requires.tape.good
+          c.push_reserved-2.ensures.items c.in-Some.ensures.items
           (same_reel refl refl refl refl c.push_reserved.ensures.items refl)).good;
       rooms = record {
         trail = rooms.trail;
         redo = rooms.redo;
         entries = omega (arith, rooms.entries, less, more, c.in-Some.ensures.capacity);
         dropped = omega (arith, rooms.dropped, less, more, c.push_reserved.ensures.capacity);
-        changes = omega (arith, rooms.changes, less, more, some, others, cs.ok, j.changes.ok, c.push_reserved-2.ensures.len, c.push_reserved-2.ensures.capacity);
+        changes = omega (
+          arith,
+          rooms.changes,
+          less,
+          more,
+          some,
+          others,
+          cs.ok,
+          j.changes.ok,
+          c.push_reserved-2.ensures.len,
+          c.push_reserved-2.ensures.capacity,
+        );
       };
     }

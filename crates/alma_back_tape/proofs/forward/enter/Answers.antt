@@ -8,7 +8,8 @@ use Rattle.alma_code.specs.Picture.{live_cells}
 use Rattle.alma_back_tape.proofs.Winding.{Notes, entered}
 use Rattle.alma_back_tape.proofs.forward.enter.Goals as goal
 
-notes : (c : goal.After-add_note) → Notes c.note_room.new.journal.changes.items c.add_note.new.journal.changes.items (reel_of c.note_room.new.journal) (reel_of c.add_note.new.journal)
+notes : (c : goal.After-add_note) → Notes c.note_room.new.journal.changes.items c.add_note.new.journal.changes.items
+    (reel_of c.note_room.new.journal) (reel_of c.add_note.new.journal)
 notes c =
     let j = c.note_room.new.journal in
     let same : j.frames ≡ c.args.journal.now.frames = ap (λ (r : Reel). r.frames) c.note_room.ensures.rests.reel in

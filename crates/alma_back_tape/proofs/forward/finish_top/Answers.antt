@@ -27,13 +27,26 @@ returns-clause-tape c =
     let one : finishes e.kind ≡ 1 = ap finishes forall in
     let rooms = c.requires.tape.rooms in
     record {
-      good = (finished_one j.changes.items cs.items (reel_of j) (reel_of j') rest.items e c.requires.tape.good c.push_reserved-2.ensures.items c.in-Some.ensures.items
+      good = (finished_one j.changes.items cs.items (reel_of j) (reel_of j') rest.items e c.requires.tape.good
+          c.push_reserved-2.ensures.items c.in-Some.ensures.items
           forall (same_reel refl refl c.push_reserved.ensures.items refl refl refl)).good;
       rooms = record {
         trail = rooms.trail;
         redo = rooms.redo;
         entries = omega (arith, rooms.entries, less, more, c.in-Some.ensures.capacity, c.push_reserved.ensures.capacity);
         dropped = omega (arith, rooms.dropped, less, more);
-        changes = omega (arith, rooms.changes, less, more, some, others, one, cs.ok, j.changes.ok, c.push_reserved-2.ensures.len, c.push_reserved-2.ensures.capacity);
+        changes = omega (
+          arith,
+          rooms.changes,
+          less,
+          more,
+          some,
+          others,
+          one,
+          cs.ok,
+          j.changes.ok,
+          c.push_reserved-2.ensures.len,
+          c.push_reserved-2.ensures.capacity,
+        );
       };
     }

@@ -10,7 +10,8 @@ returns-clause-tape c =
     let j = c.args.journal.now in
     let cs = c.push_reserved.new.self in
     record {
-      good = begun j.changes.items cs.items (reel_of j) (c.push_reserved.ensures.items ∙ ap (λ xs. xs ++ Began ∷ []) c.in_ok-reserve.ensures.items) c.requires.good;
+      good = begun j.changes.items cs.items (reel_of j) (c.push_reserved.ensures.items ∙ ap (λ xs. xs ++ Began ∷ [])
+          c.in_ok-reserve.ensures.items) c.requires.good;
       rooms = record {
         trail = c.requires.rooms.trail;
         redo = c.requires.rooms.redo;

@@ -22,8 +22,26 @@ returns-clause-reserves c =
       rooms = record {
         trail = c.requires.trail;
         redo = c.requires.redo;
-        entries = omega (arith, entries.ok, pushed, out, c.in_ok-reserve.ensures.ok, c.in_ok-beside_entries.ensures, c.len.ensures, j.dropped.ok);
-        dropped = omega (arith, dropped.ok, pushed, out, c.in_ok-reserve-2.ensures.ok, c.in_ok-beside_dropped.ensures, c.len-2.ensures, j.entries.ok);
+        entries = omega (
+          arith,
+          entries.ok,
+          pushed,
+          out,
+          c.in_ok-reserve.ensures.ok,
+          c.in_ok-beside_entries.ensures,
+          c.len.ensures,
+          j.dropped.ok,
+        );
+        dropped = omega (
+          arith,
+          dropped.ok,
+          pushed,
+          out,
+          c.in_ok-reserve-2.ensures.ok,
+          c.in_ok-beside_dropped.ensures,
+          c.len-2.ensures,
+          j.entries.ok,
+        );
         changes = omega (
           arith,
           changes.ok,

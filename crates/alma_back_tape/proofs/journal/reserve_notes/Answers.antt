@@ -16,10 +16,29 @@ returns-clause-reserves c =
       changes = c.in_ok-reserve-3.ensures.items;
       rooms = record {
         trail = omega (arith, trail.ok, notes, undone, c.in_ok-reserve.ensures.ok, c.in_ok-beside_trail.ensures, c.len.ensures, j.redo.ok);
-        redo = omega (arith, redo.ok, notes, undone, c.in_ok-reserve-2.ensures.ok, c.in_ok-beside_redo.ensures, c.len-2.ensures, j.trail.ok);
+        redo = omega (
+          arith,
+          redo.ok,
+          notes,
+          undone,
+          c.in_ok-reserve-2.ensures.ok,
+          c.in_ok-beside_redo.ensures,
+          c.len-2.ensures,
+          j.trail.ok,
+        );
         entries = c.requires.entries;
         dropped = c.requires.dropped;
-        changes = omega (arith, changes.ok, notes, done, c.in_ok-reserve-3.ensures.ok, c.in_ok-changes.ensures, all_finishes_le j.entries.items, all_finishes_le j.dropped.items);
+        changes = omega (
+          arith,
+          changes.ok,
+          notes,
+          done,
+          c.in_ok-reserve-3.ensures.ok,
+          c.in_ok-changes.ensures,
+          all_finishes_le
+              j.entries.items,
+          all_finishes_le j.dropped.items,
+        );
       };
       choice_room = omega arith;
       trail_room = omega (arith, c.if-notes-journal.false);

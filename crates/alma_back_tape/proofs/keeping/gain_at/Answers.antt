@@ -24,7 +24,8 @@ returns-clause-tape c =
     let finishes = ap all_finishes c.in_ok-gain.ensures.items
     ∙ finishes_set j.entries.items at (entry_with_changes (get_or j.entries.items at no_entry) (carry_of_entries places)) no_entry refl in
     record {
-      good = (kept_one j.changes.items j'.changes.items (reel_of j) (reel_of j') at places rests.tape.good c.push_reserved-2.ensures.items lt c.in_ok-gain.ensures.rising
+      good = (kept_one j.changes.items j'.changes.items (reel_of j) (reel_of j') at places rests.tape.good
+          c.push_reserved-2.ensures.items lt c.in_ok-gain.ensures.rising
           (same_reel refl refl c.in_ok-gain.ensures.items refl refl kept)).good;
       rooms = record {
         trail = rooms.trail;
@@ -57,5 +58,6 @@ returns-clause-past c =
     let kept : j'.kept.items ≡ j.kept.items ++ gained at places j.entries.items ∷ [] =
     c.push_reserved.ensures.items ∙ ap (λ x. c.reserve.new.self.items ++ x ∷ []) c.in_ok-gain.ensures.gain
     ∙ ap (λ xs. xs ++ gained at places j.entries.items ∷ []) c.in_ok-reserve.ensures.items in
-    (kept_one j.changes.items j'.changes.items (reel_of j) (reel_of j') at places rests.tape.good c.push_reserved-2.ensures.items lt c.in_ok-gain.ensures.rising
+    (kept_one j.changes.items j'.changes.items (reel_of j) (reel_of j') at places rests.tape.good c.push_reserved-2.ensures.items lt
+    c.in_ok-gain.ensures.rising
     (same_reel refl refl c.in_ok-gain.ensures.items refl refl kept)).past ∙ rests.past

@@ -30,11 +30,13 @@ returns-clause-held c =
     let es = j.entries.items in
     let h = c.args.height in
     let found = carry_of_entries c.in_ok-found.found.items in
-    let rest : j'.entries.items ≡ front (entries_with_changes (h - 1) found es) = c.drop_top.ensures.entries ∙ ap front c.in_ok-gain_at.ensures.entries in
+    let rest : j'.entries.items ≡ front (entries_with_changes (h - 1) found es) =
+    c.drop_top.ensures.entries ∙ ap front c.in_ok-gain_at.ensures.entries in
     let top : c.index.result.now ≡ get_or es (length es - 1) c.index.result.now =
     c.index.ensures ∙ ap (λ n. get_or es (n - 1) c.index.result.now) (c.len.ensures ∙ j.entries.ok.0) in
     let gains : SameGain found (diffs (unwind (drop c.index.result.now.mark j.trail.items) j.frames) j.frames) =
     rw (← c.as_slice.ensures.value) c.in_ok-found.ensures in
     ap (λ ns. held_of ns j'.frames j'.entries.items) (c.drop_top.ensures.trail ∙ c.gain_at.ensures.trail)
     ∙ ap (λ fs. held_of j.trail.items fs j'.entries.items) (c.drop_top.ensures.now ∙ c.gain_at.ensures.now)
-    ∙ kept_held h j.trail.items j.frames es j'.entries.items found c.index.result.now rest c.in_ok-gain_at.ensures.rising gains top c.requires.low c.requires.below
+    ∙ kept_held h j.trail.items j.frames es j'.entries.items found c.index.result.now rest c.in_ok-gain_at.ensures.rising gains top
+    c.requires.low c.requires.below

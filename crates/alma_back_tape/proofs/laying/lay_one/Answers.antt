@@ -15,4 +15,5 @@ pub write-requires-clause-slot_of : goal.write-requires-clause-slot_of
 write-requires-clause-slot_of c =
     let j = c.args.journal.now in
     let h : number_at j.frames c.args.place.frame c.args.place.slot ≡ true = sym c.if-has_number.ensures in
-    number-cell j.frames c.args.place.frame c.args.place.slot (fits-now j.trail.items j.frames (good_wound (reverse j.changes.items) (reel_of j) c.requires.tape.good).fits).whole h
+    number-cell j.frames c.args.place.frame c.args.place.slot (fits-now j.trail.items j.frames
+    (good_wound (reverse j.changes.items) (reel_of j) c.requires.tape.good).fits).whole h

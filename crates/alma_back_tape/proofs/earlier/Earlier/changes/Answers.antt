@@ -16,7 +16,9 @@ returns c =
     let few : c.min-count.result ≡ min (length above) (length now - shared) =
     c.min-count.ensures ∙ (ap (λ k. min k (c.len-2.result - shared)) (c.len.ensures ∙ c.self.inside.above.ok.0)
     ∙ ap (λ k. min (length above) (k - shared)) (c.len-2.ensures ∙ ap (λ (q : PlainEarlier). length q.now) c.self.view_is)) in
-    let found : carry_of_entries c.push_frames.new.found.items ≡ diffs_at before now cells ++ diffs_between before now shared c.min-count.result =
+    let found : carry_of_entries c.push_frames.new.found.items ≡ diffs_at before now cells ++ diffs_between before now shared
+    c.min-count.result =
     c.in_ok-push_frames.ensures ∙ ap (λ xs. xs ++ diffs_between before now shared c.min-count.result)
     (c.in_ok-push_places.ensures ∙ ap (λ xs. carry_of_entries xs ++ diffs_at before now cells) c.new-found.ensures.items) in
-    looked-gain shared c.min-count.result now above cells before (carry_of_entries c.push_frames.new.found.items) le few is c.requires.now.whole found
+    looked-gain shared c.min-count.result now above cells before (carry_of_entries c.push_frames.new.found.items) le few is
+    c.requires.now.whole found

@@ -10,5 +10,6 @@ pub returns-then-is_empty-clause-before : goal.returns-then-is_empty-clause-befo
 returns-then-is_empty-clause-before c =
     let n : length c.self.inside.above.items ≡ 0 = grind (arith, nat_tests) in
     let none : c.self.inside.above.items ≡ [] = nil_from_length c.self.inside.above.items n in
-    entered-shared c.self.inside.shared c.self.inside.frames.now c.self.inside.above.items c.self.inside.above.items c.self.inside.cells c.self.invariant none none
+    entered-shared c.self.inside.shared c.self.inside.frames.now c.self.inside.above.items c.self.inside.above.items c.self.inside.cells
+    c.self.invariant none none
     ∙ ap (λ (p : PlainEarlier). without_last p.before) c.self.view_is

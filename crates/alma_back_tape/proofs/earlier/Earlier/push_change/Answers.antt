@@ -17,7 +17,9 @@ returns-in_ok-push c =
     let now = c.args.self.now.now in
     let here : Some c.in-Some.cell ≡ change_between (number_of before p.frame p.slot) (number_of now p.frame p.slot) =
     c.in-Some.ensures ∙ (ap (λ o. change_between o c.number-2.result) c.number.ensures
-    ∙ ap (change_between (number_of before p.frame p.slot)) (c.number-2.ensures ∙ ap (λ (q : PlainEarlier). number_of q.now p.frame p.slot) c.self.view_is)) in
+    ∙ ap (change_between (number_of before p.frame p.slot)) (c.number-2.ensures ∙
+    ap (λ (q : PlainEarlier). number_of q.now p.frame p.slot) c.self.view_is)) in
     ap carry_of_entries c.in_ok-push.ensures.items
     ∙ (map-append (λ (e : SlotPlace × Cell). change_of e.0 e.1) c.args.found.now.items ((p, c.in-Some.cell) ∷ [])
-    ∙ ap (λ xs. carry_of_entries c.args.found.now.items ++ xs) (ap (change_at p.frame p.slot) here ∙ sym (diff-changed before now p.frame p.slot)))
+    ∙ ap (λ xs. carry_of_entries c.args.found.now.items ++ xs) (ap (change_at p.frame p.slot) here ∙
+    sym (diff-changed before now p.frame p.slot)))

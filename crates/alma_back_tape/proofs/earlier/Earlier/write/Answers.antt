@@ -7,7 +7,8 @@ use Rattle.alma_back_tape.proofs.earlier.Earlier.write.Goals as goal
 
 pub returns-then-place-self-clause-before : goal.returns-then-place-self-clause-before
 returns-then-place-self-clause-before c =
-    wrote-shared c.self.inside.shared c.self.inside.frames.now c.self.inside.above.items c.self.inside.cells c.set.new.self (change_of c.args.place c.args.cell)
+    wrote-shared c.self.inside.shared c.self.inside.frames.now c.self.inside.above.items c.self.inside.cells c.set.new.self
+    (change_of c.args.place c.args.cell)
     c.self.invariant c.if-place-self.true c.in_ok-set.ensures.carry
     ∙ ap (λ (p : PlainEarlier). frames_with_cell p.before c.args.place.frame c.args.place.slot c.args.cell) c.self.view_is
 
@@ -17,7 +18,8 @@ write-requires c =
     let slot = rw (← c.self.view_is) at c.requires.slot_of in
     let read = above-read c.self.inside.shared c.self.inside.frames.now c.self.inside.above.items c.self.inside.cells c.args.place.frame
     c.index_mut-frame.result.now c.self.invariant c.if-place-self.false live c.index_mut-frame.ensures.value in
-    let at = at-above c.self.inside.shared c.self.inside.frames.now c.self.inside.above.items c.self.inside.cells c.args.place.frame c.self.invariant c.if-place-self.false in
+    let at = at-above c.self.inside.shared c.self.inside.frames.now c.self.inside.above.items c.self.inside.cells c.args.place.frame
+    c.self.invariant c.if-place-self.false in
     rw (read ∙ sym at) slot
 
 pub returns-clause-before : goal.returns-clause-before
