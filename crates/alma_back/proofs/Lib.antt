@@ -3,3 +3,4 @@ pub mod Counts
 pub mod Walks
 pub mod Shown
 pub mod Judging
+pub mod Keeping

@@ -5,3 +5,4 @@ pub mod Session
 pub mod Due
 pub mod Ends
 pub mod Inner
+pub mod Kept
