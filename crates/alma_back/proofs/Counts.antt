@@ -1,8 +1,8 @@
 -- Numbers of steps, and names.
-use Rattle.std.proofs.Common.{◌≡◌, ◌≢◌, ◌≤◌, ◌+◌, ◌∙◌, ◌↔◌, ℕ, List, [], ◌∷◌, ◌++◌, length, refl, sym, ap, subst, arith, zero-add, true≢false}
+use Rattle.std.proofs.Common.{◌≡◌, ◌≤◌, ◌∙◌, ◌↔◌, ℕ, List, [], ◌∷◌, ◌++◌, length, refl, sym, ap, subst, arith, zero-add, true≢false}
 use Rattle.std.proofs.lemmas.Bool.{and_parts, leb-true, le-leb, ne_eqb}
 use Rattle.std.proofs.lemmas.List.{append-nil, length-append}
-use Rattle.std.specs.Prelude.{Bool, true, false, not, ◌&&◌, ◌||◌, leb, cond, is_none, bytes_eq, if◌then◌else◌, Option, None, Some, IsTrue, MatchOption, nat_le, nat_eq}
+use Rattle.std.specs.Prelude.{Bool, true, false, not, ◌&&◌, leb, cond, is_none, bytes_eq, if◌then◌else◌, Option, None, Some, IsTrue, nat_eq}
 use Rattle.std.specs.List.{list_all}
 use Rattle.alma_base.specs.Bytes.{is_letter, is_word_byte}
 use Rattle.alma_base.specs.Reading.{is_digit}
@@ -12,7 +12,7 @@ use Rattle.alma_scan.specs.Bytes.{AllIn, value_of}
 use Rattle.alma_scan.specs.Comments as gaps
 use Rattle.alma_scan.specs.Spellings.{Spelling, Spells, IsWord, look_up, symbols, reserved_words}
 use Rattle.alma_scan.specs.Spellings as spelled
-use Rattle.alma_scan.specs.Tokens.{Lexeme, HasToken, IsToken}
+use Rattle.alma_scan.specs.Tokens.{HasToken}
 use Rattle.alma_driver_words.specs.Words.{IsNumeral, IsName}
 use Rattle.alma_back.specs.Script.{is_count, count_in, is_word, is_name, name_in, greatest_steps}
 

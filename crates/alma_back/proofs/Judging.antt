@@ -10,8 +10,8 @@ use Rattle.alma_verify.specs.Bytes.{object_code}
 use Rattle.alma_plan.specs.Causes.{HasOwnEnds}
 use Rattle.alma_plan.specs.Course.{Follows, Goes, cut_short, hungry_within, whole}
 use Rattle.alma_plan.specs.Objects.{object_refusal}
-use Rattle.alma_plan.specs.Plan.{Plan, Due, Ending, Fetches, IsDue, line_of, silent, prints, success, tells, plain}
-use Rattle.alma_plan.specs.Refusals.{refusal_end, stop_end}
+use Rattle.alma_plan.specs.Plan.{Plan, Due, Ending, IsDue, line_of, silent, prints, plain}
+use Rattle.alma_plan.specs.Refusals.{refusal_end}
 use Rattle.alma_plan.specs.Words.{is_file_name}
 use Rattle.alma_plan.specs.declared.refusal.Refusal.{Refusal}
 use Rattle.alma_plan.specs.declared.refusal.Refusal.TheVariants.{Stopped, BadWord}
@@ -21,7 +21,7 @@ use Rattle.alma_plan.proofs.Courses.{course_ends, course_starved, gains_none}
 use Rattle.alma_plan.proofs.PlainEnds.{own_status, refusal_status}
 use Rattle.alma_back.specs.declared.end.BackEnd.{BackEnd}
 use Rattle.alma_back.specs.declared.end.BackEnd.TheVariants.{Walked, BadLine, Refused}
-use Rattle.alma_back.specs.Due.{program, script_limit, walked_on, walked, judged_by, judged, asked, bad, with_script, back_plan}
+use Rattle.alma_back.specs.Due.{program, walked_on, walked, judged_by, judged, asked, bad, with_script, back_plan}
 use Rattle.alma_back.specs.Ends.{back_end}
 use Rattle.alma_back.specs.Inner.{IsUnread, StopsAt}
 use Rattle.alma_back.specs.Script.{Line, lines_in}

@@ -1,7 +1,7 @@
 -- What lines show, one after another.
 use Rattle.std.proofs.Common.{◌≡◌, ◌<◌, ◌≤◌, ◌+◌, ◌-◌, ◌∙◌, ℕ, zero, suc, List, [], ◌∷◌, ◌++◌, length, get_or, drop, refl, sym, ap, subst, arith, append_assoc}
 use Rattle.std.proofs.lemmas.List.{append-nil, drop_more, drop_all}
-use Rattle.std.specs.Prelude.{Bool, true, false, Option, Result, Ok, Err}
+use Rattle.std.specs.Prelude.{true, false}
 use Rattle.std.specs.Io.KnownBytes.{Appends}
 use Rattle.alma_io.specs.Fronts.{AppendsFront}
 use Rattle.alma_io.specs.Sides.{SinkSide}
@@ -10,7 +10,7 @@ use Rattle.alma_plan.proofs.PartLemmas.{front_after}
 use Rattle.alma_back.specs.declared.script.Line as read
 use Rattle.alma_back.specs.Inner.{line_of, lines_of}
 use Rattle.alma_back.specs.Session.{ahead, after_line, line_text, shown}
-use Rattle.alma_back.specs.Standing.{Standing, runs, stepped}
+use Rattle.alma_back.specs.Standing.{Standing, runs}
 use Rattle.alma_back.proofs.Walks.{step_of, no_step}
 
 -- ---- steps on

@@ -1,11 +1,11 @@
 -- Scripts, text after text.
-use Rattle.std.proofs.Common.{◌≡◌, ◌<◌, ◌≤◌, ◌+◌, ◌-◌, ◌∙◌, ℕ, List, [], ◌∷◌, ◌++◌, length, get_or, take, drop, map, refl, sym, ap, subst, arith}
+use Rattle.std.proofs.Common.{◌≡◌, ◌<◌, ◌≤◌, ◌+◌, ◌-◌, ◌∙◌, ℕ, List, [], ◌∷◌, ◌++◌, length, get_or, take, drop, refl, sym, ap, arith}
 use Rattle.std.proofs.lemmas.Bool.{eq-eqb, ne_eqb}
 use Rattle.std.proofs.lemmas.List.{take_more, drop_more, drop_all, take_all, take_rest, map-append, length-map}
-use Rattle.std.specs.Prelude.{Bool, eqb, cond, Option, None, Some, Result, Ok, Err, option_map}
+use Rattle.std.specs.Prelude.{Bool, eqb, cond, None, Some, Result, Ok, Err}
 use Rattle.alma_back.specs.declared.script.Line as read
 use Rattle.alma_back.specs.Inner.{line_of, lines_of, none_ended, one_ended}
-use Rattle.alma_back.specs.Script.{Line, Texts, with_byte, texts_in, all_read, one_more, lines_behind, lines_in, line_in}
+use Rattle.alma_back.specs.Script.{Line, Texts, with_byte, texts_in, all_read, one_more, lines_behind, line_in}
 
 -- ---- the texts of a script
 

@@ -1,5 +1,5 @@
 -- Walks.
-use Rattle.std.proofs.Common.{◌≡◌, ◌<◌, ◌+◌, ◌-◌, ◌∙◌, ℕ, zero, suc, List, [], ◌∷◌, ◌++◌, refl, sym, ap, subst, arith, zero-add}
+use Rattle.std.proofs.Common.{◌≡◌, ◌<◌, ◌+◌, ◌-◌, ◌∙◌, ℕ, zero, suc, List, [], ◌∷◌, refl, sym, ap, subst, arith, zero-add}
 use Rattle.std.specs.Prelude.{Bool, true, false, cond, replicate}
 use Rattle.alma_code.specs.Plain.{PlainCode}
 use Rattle.alma_back.specs.Laws.{BackUndoesStep, WalksAreRuns}

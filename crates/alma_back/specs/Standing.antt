@@ -1,5 +1,5 @@
 -- What contracts see of a run that is walked both ways.
-use Rattle.std.specs.Prelude.{◌+◌, ◌-◌, ◌≡◌, ℕ, Bool, true, false, cond, List, [], ◌∷◌, length}
+use Rattle.std.specs.Prelude.{◌+◌, ◌-◌, ℕ, Bool, true, false, cond, List, [], ◌∷◌}
 use Rattle.alma_code.specs.Machine.{Mode, Going, Failing, Ended, Stuck, State, after, prints, start}
 use Rattle.alma_code.specs.Plain.{PlainCode}
 

@@ -1,4 +1,4 @@
-use Rattle.std.proofs.Common.{◌∙◌, sym, ap, arith}
+use Rattle.std.proofs.Common.{◌-◌, ◌∙◌, sym, ap, arith}
 use Rattle.alma_back.specs.Standing.{Standing}
 use Rattle.alma_back.proofs.Shown.{ahead_step, ahead_ended}
 use Rattle.alma_back.proofs.show.go_forward.Goals as goal
@@ -13,4 +13,4 @@ loop-made-preserved c = record {
 
 pub returns-else-is_running-clause-steps : goal.returns-else-is_running-clause-steps
 returns-else-is_running-clause-steps c =
-    sym (ahead_ended c.loop-made.back _ (sym c.is_running.ensures ∙ c.if-is_running.false)) ∙ c.loop-made.invariant.left
+    sym (ahead_ended c.loop-made.back (c.args.most - c.loop-made.made) (sym c.is_running.ensures ∙ c.if-is_running.false)) ∙ c.loop-made.invariant.left

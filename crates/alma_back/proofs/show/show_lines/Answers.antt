@@ -9,7 +9,7 @@ use Rattle.alma_back.proofs.show.show_lines.Goals as goal
 pub returns-in_err-show_line-clause-front : goal.returns-in_err-show_line-clause-front
 returns-in_err-show_line-clause-front g c =
     let p = err_from_is_err_and c.from_residual.result c.from_residual.ensures.1 in
-    rw p.1 (shown_front _ _ _ _ _ _ _ c.loop-line.invariant.shown
+    rw p.1 (shown_front _ _ (g.O.Sink.side c.show_line.new.out) _ _ _ _ c.loop-line.invariant.shown
     (shown_next c.loop-line.back c.args.lines.now c.loop-line.line-index _ _ c.loop-line-test.true refl) c.in_err-show_line.ensures.front)
 
 pub loop-line-preserved : goal.loop-line-preserved

@@ -1,4 +1,4 @@
-use Rattle.std.proofs.Common.{◌+◌, ◌∙◌, ◌++◌, ◌∷◌, [], ℕ, List, ap}
+use Rattle.std.proofs.Common.{◌∙◌, ◌++◌, ◌∷◌, [], List, ap, arith}
 use Rattle.alma_verify.specs.Verified.{code_of_verified}
 use Rattle.alma_back.specs.declared.back.Old.{Old}
 use Rattle.alma_back.specs.Standing.{runs}
@@ -13,4 +13,4 @@ invariant_of-self-2 c =
     c.in_ok-step.ensures.step c.in_ok-step.ensures.counted c.in_ok-step.ensures.choices c.in_ok-step.ensures.fails c.in_ok-step.ensures.past _ _
     (c.push_reserved.ensures.items ∙ ap (λ (x : List Old). x ++ c.old_of-old.result ∷ []) c.in_ok-reserve.ensures.items
     ∙ ap (λ (o : Old). b.olds.items ++ o ∷ []) c.old_of-old.ensures)
-    (ap (λ (n : ℕ). b.printed + n) c.len.ensures))
+    (omega (arith, c.len.ensures, c.step_on.new.text.ok)))
