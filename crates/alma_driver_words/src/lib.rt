@@ -8,6 +8,7 @@ mod options;
 mod setting;
 mod words;
 
-pub use number::named_steps;
+pub use number::{named_steps, numeral};
 pub use options::DEFAULT_STEPS;
+pub use setting::is_name;
 pub use words::{Request, WordsError, file_word, read_words};

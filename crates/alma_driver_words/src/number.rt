@@ -14,8 +14,8 @@ const GREATEST_LINES: u64 = 5_000;
 /// The greatest number of digits by which words may name it.
 const LINES_DIGITS: usize = 4;
 
-// The number that digits are, so many at most, where it is no greater than this.
-fn numeral(digits: &[u8], most: usize, greatest: u64) -> Option<u64>
+/// The number that digits are, so many at most, where it is no greater than this.
+pub fn numeral(digits: &[u8], most: usize, greatest: u64) -> Option<u64>
     requires { 9 ≤ greatest }
     ensures { MatchOption result ((number : ℕ) → IsNumeral most digits.now number → number
         ≤ greatest → ⊥) (λ number. IsNumeral most digits.now number × (number ≤ greatest)) }

@@ -18,11 +18,11 @@ pub enum Setting<'w> {
     Watch(&'w str),
 }
 
-// Whether a word is one name of the language.
-fn is_name(word: &str) -> bool
+/// Whether a text is one name of the language, and no reserved word.
+pub fn is_name(word: &[u8]) -> bool
     ensures { IsTrue result ↔ plain.IsName word.now }
 {
-    let mut scanner = Scanner::new(word.as_bytes());
+    let mut scanner = Scanner::new(word);
     match scanner.next() {
         Ok(Some(token)) => matches!(token.kind, Kind::Name) && token.text.len() == word.len(),
         Ok(None) => false,
@@ -47,7 +47,7 @@ fn watch_option(word: &str) -> Option<&str>
         (λ name. plain.IsSetting word.now (plain.Watch name.now)) }
 {
     match word.strip_prefix("--watch=") {
-        Some(name) => if is_name(name) { Some(name) } else { None },
+        Some(name) => if is_name(name.as_bytes()) { Some(name) } else { None },
         None => None,
     }
 }

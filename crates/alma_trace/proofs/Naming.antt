@@ -25,7 +25,7 @@ by_test frames true here else = refl
 by_test frames false here else = refl
 
 -- the value at the place of a name is the value of the name
-value_by_name : (frames : List PlainFrame) (globals : List PlainGlobal) (name : List ℕ)
+pub value_by_name : (frames : List PlainFrame) (globals : List PlainGlobal) (name : List ℕ)
     → value_at frames (place_of_name globals name) ≡ value_of_name frames globals name
 value_by_name frames [] name = refl
 value_by_name frames (g ∷ rest) name =

@@ -63,7 +63,7 @@ within_choice slots true here rest h k = h
 within_choice slots false here rest h k = k
 
 -- the place of a name is within the frame of the module
-place_within : (code : PlainCode) (globals : List PlainGlobal) (name : List ℕ) → list_all (is_global code) globals ≡ true
+pub place_within : (code : PlainCode) (globals : List PlainGlobal) (name : List ℕ) → list_all (is_global code) globals ≡ true
     → MatchOption (place_of_name globals name) (Unit {0}) (λ place. 0 < place.1 → place.0 + place.1 ≤ length (kinds_at code 0))
 place_within code [] name h = tt
 place_within code (g ∷ rest) name h =
@@ -72,7 +72,7 @@ place_within code (g ∷ rest) name h =
     (cells_room code g.slot g.cells parts.0) (place_within code rest name parts.1)
 
 -- the globals of a sound code are its
-globals_sound : (code : PlainCode) → IsSound code → list_all (is_global code) code.globals ≡ true
+pub globals_sound : (code : PlainCode) → IsSound code → list_all (is_global code) code.globals ≡ true
 globals_sound code sound =
     let all = list_all (is_global code) code.globals in
     let main = (and_parts (nat_lt (start_at code 0) (end_at code 0)) (is_main code 0) (sound.heads 0 sound.table.some).0).1 in

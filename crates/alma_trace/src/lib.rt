@@ -9,6 +9,6 @@ mod tracer;
 mod watch;
 
 pub use line::{put_number, put_three, put_two};
-pub use resolve::watches;
+pub use resolve::{push_named, watches};
 pub use tracer::trace;
 pub use watch::{Watch, put_watched};

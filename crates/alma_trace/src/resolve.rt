@@ -1,11 +1,15 @@
 // Names resolved to watches.
-ghost use Rattle.std.specs.Prelude.{◌≡◌, map, All, IfOk};
-ghost use Rattle.alma_code.specs.TraceText.{same_name};
+ghost use Rattle.std.specs.Prelude.{◌≡◌, ◌<◌, ◌++◌, length, map, All, IfOk, OnOk};
+ghost use Rattle.alma_code.specs.Plain.{kinds_at};
+ghost use Rattle.alma_code.specs.Rules.{IsSound};
+ghost use Rattle.alma_code.specs.TraceText.{same_name, value_of_name};
 ghost use Rattle.alma_object.specs.View.{code_of_view};
+ghost use Rattle.alma_trace.specs.Places.{main_slots};
 ghost use Rattle.alma_trace.specs.Resolved.{IsResolved, place_of_name};
 
-use crate::watch::Watch;
+use crate::watch::{Watch, push_value};
 use alma_base::NoMemory;
+use alma_memory::MachineMemory;
 use alma_object::ObjectView;
 use std::alloc::Global;
 
@@ -52,4 +56,21 @@ pub fn watches<'w>(
         })?;
     }
     Ok(watches)
+}
+
+/// Appends the value of the first global of the object with a name, as it is watched, and - where there is none.
+pub fn push_named<M: MachineMemory>(
+    line: &mut Vec<u8>,
+    memory: &M,
+    view: &ObjectView<'_>,
+    name: &[u8],
+) -> Result<(), NoMemory>
+    requires sound { IsSound (code_of_view view.now) }
+    requires live { 0 < length (M.picture memory.now).now }
+    requires slots { main_slots (M.picture memory.now).now
+        ≡ length (kinds_at (code_of_view view.now) 0) }
+    ensures { OnOk result (line.new.items ≡ line.old.items
+        ++ value_of_name (M.picture memory.now).now (code_of_view view.now).globals name.now) }
+{
+    push_value(line, memory, place_of(view, name))
 }

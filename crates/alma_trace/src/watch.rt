@@ -7,7 +7,7 @@ ghost use Rattle.alma_trace.specs.Places.{value_at, watch_word, watch_words, com
 use crate::line::{push_number, push_word};
 use alma_base::NoMemory;
 use alma_code::Cell;
-use alma_memory::Memory;
+use alma_memory::{MachineMemory, Memory};
 use itoa::Buffer;
 
 /// A watched name, and the slot and the number of cells of the global that it names.
@@ -42,12 +42,17 @@ fn push_comma(line: &mut Vec<u8>, index: u32) -> Result<(), NoMemory>
 }
 
 // Appends the cells of a place of frame 0.
-fn push_cells(line: &mut Vec<u8>, memory: &Memory, slot: u32, cells: u32) -> Result<(), NoMemory>
-    requires live { 0 < length memory.now.now }
-    requires within { 0 < cells → slot + cells ≤ main_slots memory.now.now }
-    requires few { main_slots memory.now.now < 2 ^ 32 }
+fn push_cells<M: MachineMemory>(
+    line: &mut Vec<u8>,
+    memory: &M,
+    slot: u32,
+    cells: u32,
+) -> Result<(), NoMemory>
+    requires live { 0 < length (M.picture memory.now).now }
+    requires within { 0 < cells → slot + cells ≤ main_slots (M.picture memory.now).now }
+    requires few { main_slots (M.picture memory.now).now < 2 ^ 32 }
     ensures { OnOk result
-        (line.new.items ≡ line.old.items ++ cells_text memory.now.now slot cells) }
+        (line.new.items ≡ line.old.items ++ cells_text (M.picture memory.now).now slot cells) }
 {
     for k in 0..cells {
         push_comma(line, k)?;
@@ -56,13 +61,17 @@ fn push_cells(line: &mut Vec<u8>, memory: &Memory, slot: u32, cells: u32) -> Res
     Ok(())
 }
 
-// Appends the value of a watched place.
-fn push_value(line: &mut Vec<u8>, memory: &Memory, at: Option<(u32, u32)>) -> Result<(), NoMemory>
-    requires live { 0 < length memory.now.now }
+/// Appends the value of a watched place.
+pub fn push_value<M: MachineMemory>(
+    line: &mut Vec<u8>,
+    memory: &M,
+    at: Option<(u32, u32)>,
+) -> Result<(), NoMemory>
+    requires live { 0 < length (M.picture memory.now).now }
     requires within { MatchOption at (Unit {0})
-        (λ place. 0 < place.1 → place.0 + place.1 ≤ main_slots memory.now.now) }
-    requires few { main_slots memory.now.now < 2 ^ 32 }
-    ensures { OnOk result (line.new.items ≡ line.old.items ++ value_at memory.now.now at) }
+        (λ place. 0 < place.1 → place.0 + place.1 ≤ main_slots (M.picture memory.now).now) }
+    requires few { main_slots (M.picture memory.now).now < 2 ^ 32 }
+    ensures { OnOk result (line.new.items ≡ line.old.items ++ value_at (M.picture memory.now).now at) }
 {
     match at {
         Some((slot, cells)) => push_cells(line, memory, slot, cells),

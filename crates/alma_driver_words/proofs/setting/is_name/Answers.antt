@@ -1,11 +1,11 @@
-use Rattle.std.proofs.Common.{sym, ap, ◌∙◌, true≢false}
-use Rattle.alma_driver_words.proofs.NameLemmas.{whole, name_token, other_token, name_no_end, name_no_fault}
+use Rattle.std.proofs.Common.{sym, ◌∙◌, true≢false}
+use Rattle.alma_driver_words.proofs.NameLemmas.{name_token, other_token, name_no_end, name_no_fault}
 use Rattle.alma_driver_words.proofs.setting.is_name.Goals as goal
 use Rattle.alma_driver_words.proofs.setting.is_name.Goals.{in-Name, in_default}
 
 pub returns-then-matches : goal.returns-then-matches
 returns-then-matches c =
-    let start = c.new-scanner.ensures ∙ ap whole c.as_bytes.ensures.value in
+    let start = c.new-scanner.ensures in
     let token = rw c.in-Ok-Some.field-0-is at c.in-Ok-Some.ensures.token in
     elim c.match-matches.branch [
       | in-Name w ↦ name_token c.args.word.now c.new-scanner.result _ _ start token w.in-Name.is
@@ -14,7 +14,7 @@ returns-then-matches c =
 
 pub returns-else-matches : goal.returns-else-matches
 returns-else-matches c =
-    let start = c.new-scanner.ensures ∙ ap whole c.as_bytes.ensures.value in
+    let start = c.new-scanner.ensures in
     let token = rw c.in-Ok-Some.field-0-is at c.in-Ok-Some.ensures.token in (
       λ e. absurd (true≢false (sym e ∙ c.if-matches.false)),
       λ n. elim c.match-matches.branch [
@@ -25,7 +25,7 @@ returns-else-matches c =
 
 pub returns-in-Ok-None : goal.returns-in-Ok-None
 returns-in-Ok-None c =
-    let start = c.new-scanner.ensures ∙ ap whole c.as_bytes.ensures.value in (
+    let start = c.new-scanner.ensures in (
       λ e. absurd (true≢false (sym e)),
       λ n. absurd (name_no_end c.args.word.now c.new-scanner.result start n
           (rw c.in-Ok-None.field-0-is at c.in-Ok-None.ensures.end)),
@@ -33,7 +33,7 @@ returns-in-Ok-None c =
 
 pub returns-in-Err : goal.returns-in-Err
 returns-in-Err c =
-    let start = c.new-scanner.ensures ∙ ap whole c.as_bytes.ensures.value in (
+    let start = c.new-scanner.ensures in (
       λ e. absurd (true≢false (sym e)),
       λ n. absurd (name_no_fault c.args.word.now c.new-scanner.result c.in-Err.field-0.fault c.in-Err.field-0.at
           start n c.in-Err.ensures.fault),

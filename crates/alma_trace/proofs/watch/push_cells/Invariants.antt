@@ -4,4 +4,4 @@ use Rattle.alma_trace.proofs.watch.push_cells.Given as goal
 
 -- so many cells are there
 abbrev pub invariant-loop-k : goal.invariant-loop-k
-invariant-loop-k l = l.line.items ≡ l.initial.line.items ++ cells_text l.memory.now l.slot l.k
+invariant-loop-k g l = l.line.items ≡ l.initial.line.items ++ cells_text (g.M.MachineMemory.picture l.memory).now l.slot l.k

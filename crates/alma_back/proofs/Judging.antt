@@ -1,0 +1,130 @@
+-- How a call goes by its plan.
+use Rattle.std.proofs.Common.{◌≡◌, ◌∙◌, ℕ, List, [], ◌∷◌, ◌++◌, refl, sym, ap, subst, inl, inr, arith}
+use Rattle.std.specs.Prelude.{Bool, true, false, cond, Option, None, Some, Result, Ok, Err, OnOk, OnErr, codes, decimal}
+use Rattle.std.specs.Io.KnownBytes.{Appends}
+use Rattle.alma_code.specs.Plain.{PlainCode}
+use Rattle.alma_code.specs.Reads.{code_reads}
+use Rattle.alma_io.specs.Fronts.{AppendsFront}
+use Rattle.alma_io.specs.Sides.{SinkSide, SourceSide, FilesSide}
+use Rattle.alma_verify.specs.Bytes.{object_code}
+use Rattle.alma_plan.specs.Causes.{HasOwnEnds}
+use Rattle.alma_plan.specs.Course.{Follows, Goes, cut_short, hungry_within, whole}
+use Rattle.alma_plan.specs.Objects.{object_refusal}
+use Rattle.alma_plan.specs.Plan.{Plan, Due, Ending, IsDue, line_of, silent, prints, plain}
+use Rattle.alma_plan.specs.Refusals.{refusal_end}
+use Rattle.alma_plan.specs.Words.{is_file_name}
+use Rattle.alma_plan.specs.declared.refusal.Refusal.{Refusal}
+use Rattle.alma_plan.specs.declared.refusal.Refusal.TheVariants.{Stopped, BadWord}
+use Rattle.alma_plan.specs.declared.stop.Stop.{Stop}
+use Rattle.alma_plan.specs.declared.stop.Stop.TheVariants.{Read, Write, Memory, TooLong}
+use Rattle.alma_plan.proofs.Courses.{course_ends, course_starved, gains_none}
+use Rattle.alma_plan.proofs.PlainEnds.{own_status, refusal_status}
+use Rattle.alma_back.specs.declared.end.BackEnd.{BackEnd}
+use Rattle.alma_back.specs.declared.end.BackEnd.TheVariants.{Walked, BadLine, Refused}
+use Rattle.alma_back.specs.Due.{program, walked_on, walked, judged_by, judged, asked, bad, with_script, back_plan}
+use Rattle.alma_back.specs.Ends.{back_end}
+use Rattle.alma_back.specs.Inner.{IsUnread, StopsAt}
+use Rattle.alma_back.specs.Script.{Line, lines_in}
+use Rattle.alma_back.specs.Session.{session}
+
+-- the parts of the text of a bad line
+pub line_parts : (front number end : List ℕ) (line : ℕ) → front ≡ codes "alma_back: bad line " → number ≡ decimal line → end ≡ codes "\n"
+    → front ++ (number ++ (end ++ [])) ≡ line_of program (codes "bad line " ++ decimal line)
+line_parts front number end line f n e =
+    ap (λ x. x ++ (number ++ (end ++ []))) f ∙ ap (λ x. codes "alma_back: bad line " ++ (x ++ (end ++ []))) n
+    ∙ ap (λ x. codes "alma_back: bad line " ++ (decimal line ++ (x ++ []))) e
+
+-- ---- how a walk ends
+
+-- the end of a walk by what stopped it
+abbrev pub walk_end : Result (Unit {0}) Stop → BackEnd
+walk_end (Ok done) = Walked
+walk_end (Err stop) = Refused (Stopped stop)
+
+pub goes_walk : (bytes : List ℕ) (out out' : SinkSide) (r : Result (Unit {0}) Stop) → OnOk r (Appends out.written out'.written bytes)
+    → OnErr r (AppendsFront out.written out'.written bytes) → StopsAt out.faults out'.faults r → Goes program (IsDue (prints bytes)) out out' (back_end (walk_end r))
+goes_walk bytes out out' (Ok done) ok front stops = whole (prints bytes) refl refl refl (record { bytes_are = ok; quiet = stops })
+goes_walk bytes out out' (Err Write) ok front stops = cut_short (prints bytes) refl refl (record { front = front; risen = stops })
+goes_walk bytes out out' (Err Memory) ok front stops = hungry_within (prints bytes) refl refl front stops
+goes_walk bytes out out' (Err Read) ok front stops = absurd stops
+goes_walk bytes out out' (Err TooLong) ok front stops = absurd stops
+
+-- an end without a print
+silent_end : (end : Ending) (files : FilesSide) (input : SourceSide) (out : SinkSide) → Goes program (IsDue (silent end)) out out end
+silent_end end files input out = whole (silent end) refl refl refl (gains_none out)
+
+module _ (object : List ℕ) (files : FilesSide) (input : SourceSide) (out : SinkSide) where
+  -- the object is refused
+  pub walked_refused : (lines : List Line) (refusal : Refusal) → object_refusal program object ≡ Some (refusal_end program refusal)
+      → Follows plain program (walked (object_refusal program object) (object_code object) lines) files files input input out out (refusal_end program refusal)
+  walked_refused lines refusal e =
+      subst (λ (o : Option Ending). Follows plain program (walked o (object_code object) lines) files files input input out out (refusal_end program refusal)) (sym e)
+      (course_ends plain program (silent (refusal_end program refusal)) files input out out (refusal_end program refusal)
+      (silent_end (refusal_end program refusal) files input out))
+
+  -- the script was not read
+  pub judged_unread : (script : List ℕ) (end : BackEnd) → IsUnread script end → Follows plain program (judged object script) files files input input out out (back_end end)
+  judged_unread script Walked h = absurd h
+  judged_unread script (BadLine line) h =
+      subst (λ (r : Result (List Line) ℕ). Follows plain program (judged_by r object) files files input input out out (back_end (BadLine line))) (sym h)
+      (course_ends plain program (silent (back_end (BadLine line))) files input out out (back_end (BadLine line)) (silent_end (back_end (BadLine line)) files input out))
+  judged_unread script (Refused refusal) h =
+      subst (λ (r : Refusal). Follows plain program (judged object script) files files input input out out (refusal_end program r)) (sym h)
+      (course_starved program _ _ files input out)
+
+  module _ (input' : SourceSide) (out' : SinkSide) (end : Ending) where
+    -- the object is opened
+    pub walked_opened_to : (code : PlainCode) (lines : List Line) → object_refusal program object ≡ None → code ≡ object_code object
+        → Follows plain program (walked_on (code_reads code) code lines) files files input input' out out' end
+        → Follows plain program (walked (object_refusal program object) (object_code object) lines) files files input input' out out' end
+    walked_opened_to code lines sound is follows =
+        subst (λ (o : Option Ending). Follows plain program (walked o (object_code object) lines) files files input input' out out' end) (sym sound)
+        (subst (λ (k : PlainCode). Follows plain program (walked_on (code_reads k) k lines) files files input input' out out' end) is follows)
+
+    -- the script was read
+    pub judged_read_to : (script : List ℕ) (lines : List Line) → lines_in script ≡ Ok lines
+        → Follows plain program (walked (object_refusal program object) (object_code object) lines) files files input input' out out' end
+        → Follows plain program (judged object script) files files input input' out out' end
+    judged_read_to script lines is follows =
+        subst (λ (r : Result (List Line) ℕ). Follows plain program (judged_by r object) files files input input' out out' end) (sym is) follows
+
+-- a word cannot stand where it is
+pub bad_followed : (word : ℕ) (files : FilesSide) (input : SourceSide) (out : SinkSide)
+    → Follows plain program (bad word) files files input input out out (back_end (Refused (BadWord word)))
+bad_followed word files input out =
+    let end = back_end (Refused (BadWord word)) in
+    course_ends plain program (silent end) files input out out end (silent_end end files input out)
+
+-- ---- its ends
+
+own_bad : (word : ℕ) → HasOwnEnds plain (bad word)
+own_bad word = own_status _ 2 refl (inl (omega arith))
+
+own_on : (reads : Bool) (code : PlainCode) (lines : List Line) → HasOwnEnds plain (walked_on reads code lines)
+own_on true code lines = λ bytes. own_status (prints (session code bytes lines)) 0 refl (inl (omega arith))
+own_on false code lines = own_status (prints (session code [] lines)) 0 refl (inl (omega arith))
+
+own_walked : (refusal : Option Ending) (code : PlainCode) (lines : List Line) → ((end : Ending) → refusal ≡ Some end → end.status ≡ 9)
+    → HasOwnEnds plain (walked refusal code lines)
+own_walked None code lines refused = own_on (code_reads code) code lines
+own_walked (Some end) code lines refused = own_status (silent end) 9 (refused end refl) (inr (omega arith))
+
+own_judged : (r : Result (List Line) ℕ) (object : List ℕ) → HasOwnEnds plain (judged_by r object)
+own_judged (Err line) object = own_status _ 13 refl (inr (omega arith))
+own_judged (Ok lines) object = own_walked (object_refusal program object) (object_code object) lines (refusal_status program object)
+
+own_cond : (b : Bool) (p q : Plan ⊥ Due) → HasOwnEnds plain p → HasOwnEnds plain q → HasOwnEnds plain (cond b p q)
+own_cond true p q h k = h
+own_cond false p q h k = k
+
+own_asked : (object script : List ℕ) → HasOwnEnds plain (asked object script)
+own_asked object script = λ bytes lines. own_judged (lines_in lines) bytes
+
+own_script : (object : List ℕ) (words : List (List ℕ)) → HasOwnEnds plain (with_script object words)
+own_script object [] = own_bad 2
+own_script object (script ∷ []) = own_cond (is_file_name script) (asked object script) (bad 2) (own_asked object script) (own_bad 2)
+own_script object (script ∷ word ∷ words) = own_cond (is_file_name script) (bad 3) (bad 2) (own_bad 3) (own_bad 2)
+
+pub own_plan : (words : List (List ℕ)) → HasOwnEnds plain (back_plan words)
+own_plan [] = own_bad 1
+own_plan (object ∷ words) = own_cond (is_file_name object) (with_script object words) (bad 1) (own_script object words) (own_bad 1)

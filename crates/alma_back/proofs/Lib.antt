@@ -1,0 +1,6 @@
+pub mod Texts
+pub mod Counts
+pub mod Walks
+pub mod Shown
+pub mod Judging
+pub mod Keeping

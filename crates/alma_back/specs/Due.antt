@@ -1,0 +1,57 @@
+-- What a call of the program comes to: its plan.
+use Rattle.std.specs.Prelude.{ℕ, Bool, true, false, List, [], ◌∷◌, ◌++◌, codes, decimal, cond, Option, None, Some, Result, Ok, Err}
+use Rattle.alma_base.specs.Limits.{object_limit}
+use Rattle.alma_code.specs.Plain.{PlainCode}
+use Rattle.alma_code.specs.Reads.{code_reads}
+use Rattle.alma_verify.specs.Bytes.{object_code}
+use Rattle.alma_plan.specs.Plan.{Due, Ending, Plan, Fetches, Reads, Ends, silent, prints, tells, bad_word}
+use Rattle.alma_plan.specs.Objects.{object_refusal}
+use Rattle.alma_plan.specs.Words.{is_file_name}
+use Rattle.alma_back.specs.Script.{Line, lines_in}
+use Rattle.alma_back.specs.Session.{session}
+
+-- the name of the program
+abbrev pub program : List ℕ
+program = codes "alma_back"
+
+-- the greatest number of bytes of a script
+abbrev pub script_limit : ℕ
+script_limit = 1048576
+
+-- ---- the plan
+
+-- a code that is walked by lines, where the input is read if the code reads it
+abbrev pub walked_on : (reads : Bool) → PlainCode → List Line → Plan ⊥ Due
+walked_on true code lines = Reads (λ input. prints (session code input lines))
+walked_on false code lines = Ends (prints (session code [] lines))
+
+-- the code of an object, unless that is refused
+abbrev pub walked : Option Ending → PlainCode → List Line → Plan ⊥ Due
+walked (Some end) code lines = Ends (silent end)
+walked None code lines = walked_on (code_reads code) code lines
+
+-- both files are there: the first bad line of the script comes before any fault of the object
+abbrev pub judged_by : Result (List Line) ℕ → (object : List ℕ) → Plan ⊥ Due
+judged_by (Err line) object = Ends (silent (tells program 13 (codes "bad line " ++ decimal line)))
+judged_by (Ok lines) object = walked (object_refusal program object) (object_code object) lines
+
+abbrev pub judged : (object script : List ℕ) → Plan ⊥ Due
+judged object script = judged_by (lines_in script) object
+
+-- the files of these names are fetched
+abbrev pub asked : (object script : List ℕ) → Plan ⊥ Due
+asked object script = Fetches object object_limit (λ bytes. Fetches script script_limit (λ lines. judged bytes lines))
+
+-- a word that cannot stand where it is, or one more than there are
+abbrev pub bad : (word : ℕ) → Plan ⊥ Due
+bad word = Ends (silent (bad_word program word))
+
+-- the words behind an object's name: the name of a script, and no more
+abbrev pub with_script : (object : List ℕ) → (words : List (List ℕ)) → Plan ⊥ Due
+with_script object [] = bad 2
+with_script object (script ∷ []) = cond (is_file_name script) (asked object script) (bad 2)
+with_script object (script ∷ word ∷ words) = cond (is_file_name script) (bad 3) (bad 2)
+
+abbrev pub back_plan : (words : List (List ℕ)) → Plan ⊥ Due
+back_plan [] = bad 1
+back_plan (object ∷ words) = cond (is_file_name object) (with_script object words) (bad 1)

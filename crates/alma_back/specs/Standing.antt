@@ -1,0 +1,57 @@
+-- What contracts see of a run that is walked both ways.
+use Rattle.std.specs.Prelude.{◌+◌, ◌-◌, ℕ, Bool, true, false, cond, List, [], ◌∷◌}
+use Rattle.alma_code.specs.Machine.{Mode, Going, Failing, Ended, Stuck, State, after, prints, start}
+use Rattle.alma_code.specs.Plain.{PlainCode}
+
+-- its code and input, and how many steps were made that were not taken back
+pub record Standing : Type 0 where
+  pub code : PlainCode
+  pub input : List ℕ
+  pub steps : ℕ
+
+-- a run before its first step
+abbrev pub begun : PlainCode → (input : List ℕ) → Standing
+begun code input = record { code = code; input = input; steps = 0 }
+
+-- the state of the copying code machine there
+abbrev pub state_of : Standing → State
+state_of s = after s.code s.input s.steps (start s.code)
+
+-- what it has printed by then
+abbrev pub output_of : Standing → List ℕ
+output_of s = prints s.code s.input s.steps (start s.code)
+
+-- a machine in this mode has not ended
+abbrev pub goes : Mode → Bool
+goes Going = true
+goes Failing = true
+goes (Ended end) = false
+goes Stuck = false
+
+-- the run has not ended
+abbrev pub runs : Standing → Bool
+runs s = goes (state_of s).mode
+
+-- ---- walks
+
+-- a move: a step, or one back
+pub data Move : Type 0 where
+  Step : Move
+  Back : Move
+
+-- after a step, which an ended run does not make
+abbrev pub stepped : Standing → Standing
+stepped s = cond (runs s) (record s { steps = s.steps + 1 }) s
+
+-- after one step back, which a run at its start does not make
+abbrev pub stepped_back : Standing → Standing
+stepped_back s = record s { steps = s.steps - 1 }
+
+abbrev pub moved : Standing → Move → Standing
+moved s Step = stepped s
+moved s Back = stepped_back s
+
+-- after a list of moves
+abbrev pub walked : Standing → List Move → Standing
+walked s [] = s
+walked s (move ∷ moves) = walked (moved s move) moves

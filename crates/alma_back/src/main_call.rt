@@ -1,0 +1,68 @@
+// The top call: from the words to the status.
+ghost use Rattle.std.specs.Prelude.{◌++◌, codes, decimal};
+ghost use Rattle.alma_plan.specs.Causes.{Causes};
+ghost use Rattle.alma_plan.specs.Course.{Answers, Reports};
+ghost use Rattle.alma_plan.specs.Outside.{outside_of};
+ghost use Rattle.alma_plan.specs.Plan.{tells, plain};
+ghost use Rattle.alma_plan.specs.Words.{texts};
+ghost use Rattle.alma_back.specs.Due.{program, back_plan};
+ghost use Rattle.alma_back.specs.Ends.{back_end};
+
+use crate::end::BackEnd;
+use crate::serve::perform;
+use alma_base::Status;
+use alma_io::{Files, Sink, Source};
+use alma_plan::{refuse, report};
+use itoa::Buffer;
+use std::alloc::Global;
+
+// Says that a line of the script is none.
+fn refuse_line<E: Sink>(err: &mut E, line: usize) -> Status
+    ensures { Reports (tells program 13 (codes "bad line " ++ decimal line)) (E.side err.old)
+        (E.side err.new) result.0 }
+{
+    let mut digits = Buffer::new();
+    let front = b"alma_back: bad line ".as_slice();
+    let number = digits.format(line).as_bytes();
+    let end = b"\n".as_slice();
+    report(err, 13, &[front, number, end])
+}
+
+// Says on err how the call ends: the status of that, or that of a write fault where err fails.
+fn tell<E: Sink>(err: &mut E, end: BackEnd) -> Status
+    ensures { Reports (back_end end) (E.side err.old) (E.side err.new) result.0 }
+{
+    match end {
+        BackEnd::Walked => Status(0),
+        BackEnd::BadLine(line) => refuse_line(err, line),
+        BackEnd::Refused(refusal) => refuse(err, b"alma_back", refusal),
+    }
+}
+
+/// All that the program does: it fetches the object and the script that the words name, walks the run of the object by the lines
+/// of the script, step by step forward and back, and prints what each line shows. `words` are those behind the program's name.
+///
+/// The status is 0 where all lines were done, 2 for a bad word, 6 for a read fault, 7 for a write fault, 8 for want of memory, 9
+/// for bytes that are no object and for code that is not sound, 10 for a script of more than 1,048,576 bytes, an object of more
+/// than 268,435,456 or an input of more than 16,777,216, and 13 for a line of the script that is none. The input is read only
+/// where the code reads.
+pub fn back_main<F: Files, I: Source, O: Sink, E: Sink>(
+    alloc: Global,
+    words: &[String],
+    files: &mut F,
+    input: &mut I,
+    out: &mut O,
+    err: &mut E,
+) -> Status
+    ensures answer { Answers plain program (back_plan (texts words.now))
+        (outside_of (F.side files.old) (I.side input.old) (O.side out.old) (E.side err.old))
+        (outside_of (F.side files.new) (I.side input.new) (O.side out.new) (E.side err.new))
+        result.0 }
+    ensures causes { Causes plain program (back_plan (texts words.now))
+        (outside_of (F.side files.old) (I.side input.old) (O.side out.old) (E.side err.old))
+        (outside_of (F.side files.new) (I.side input.new) (O.side out.new) (E.side err.new))
+        result.0 }
+{
+    let end = perform(alloc, words, files, input, out);
+    tell(err, end)
+}

@@ -1,0 +1,130 @@
+// A walk, when both files are there.
+ghost use Rattle.std.specs.Prelude.{◌≡◌, ◌≤◌, ◌<◌, ◌*◌, ◌^◌, [], All, length};
+ghost use Rattle.alma_base.specs.Limits.{input_limit};
+ghost use Rattle.alma_code.specs.Reads.{code_reads};
+ghost use Rattle.alma_io.specs.Sides.{FilesSide};
+ghost use Rattle.alma_verify.specs.Bytes.{object_code};
+ghost use Rattle.alma_verify.specs.Verified.{code_of_verified};
+ghost use Rattle.alma_plan.specs.Course.{Follows, Goes};
+ghost use Rattle.alma_plan.specs.Objects.{object_refusal};
+ghost use Rattle.alma_plan.specs.Plan.{Reads, prints, IsDue, plain};
+ghost use Rattle.alma_back.specs.Due.{program, judged, walked, walked_on, script_limit};
+ghost use Rattle.alma_back.specs.Ends.{back_end};
+ghost use Rattle.alma_back.specs.Inner.{lines_of, IsShort};
+ghost use Rattle.alma_back.specs.Script.{greatest_steps};
+ghost use Rattle.alma_back.specs.Session.{session};
+
+use crate::back::Back;
+use crate::end::BackEnd;
+use crate::script::{Line, read_lines};
+use crate::show::show_lines;
+use alma_base::{INPUT_LIMIT, NoMemory};
+use alma_io::{Sink, Source, read_all};
+use alma_plan::{Refusal, Stop, open_code};
+use alma_verify::Verified;
+use std::alloc::Global;
+
+// Walks a code on an input, and writes what the lines show.
+fn walk_on<O: Sink>(
+    alloc: Global,
+    code: Verified<'_>,
+    lines: &[Line<'_>],
+    input: &[u8],
+    out: &mut O,
+) -> BackEnd
+    requires short { All IsShort lines.now }
+    requires few { length lines.now * greatest_steps < 2 ^ 39 }
+    requires lawful { length input.now ≤ input_limit }
+    ensures { Goes program
+        (IsDue (prints (session (code_of_verified code.entry) input.now (lines_of lines.now))))
+        (O.side out.old) (O.side out.new) (back_end result) }
+{
+    match Back::new(alloc, code, input) {
+        Ok(mut back) => match show_lines(alloc, &mut back, lines, out) {
+            Ok(()) => BackEnd::Walked,
+            Err(stop) => BackEnd::Refused(Refusal::Stopped(stop)),
+        },
+        Err(NoMemory) => BackEnd::Refused(Refusal::Stopped(Stop::Memory)),
+    }
+}
+
+// Reads the whole input, and walks a code on it.
+fn walk_reading<I: Source, O: Sink>(
+    alloc: Global,
+    code: Verified<'_>,
+    lines: &[Line<'_>],
+    input: &mut I,
+    out: &mut O,
+) -> BackEnd
+    requires short { All IsShort lines.now }
+    requires few { length lines.now * greatest_steps < 2 ^ 39 }
+    ensures { (files : FilesSide) → Follows plain program
+        (Reads (λ bytes. prints (session (code_of_verified code.entry) bytes (lines_of lines.now))))
+        files files (I.side input.old) (I.side input.new) (O.side out.old) (O.side out.new)
+        (back_end result) }
+{
+    match read_all(alloc, input, INPUT_LIMIT) {
+        Ok(bytes) => walk_on(alloc, code, lines, &bytes, out),
+        Err(error) => BackEnd::Refused(Refusal::Stopped(Stop::from(error))),
+    }
+}
+
+// Walks a code. The input is read where the code reads.
+fn walk<I: Source, O: Sink>(
+    alloc: Global,
+    code: Verified<'_>,
+    lines: &[Line<'_>],
+    input: &mut I,
+    out: &mut O,
+) -> BackEnd
+    requires short { All IsShort lines.now }
+    requires few { length lines.now * greatest_steps < 2 ^ 39 }
+    ensures { (files : FilesSide) → Follows plain program
+        (walked_on (code_reads (code_of_verified code.entry)) (code_of_verified code.entry)
+        (lines_of lines.now)) files files (I.side input.old) (I.side input.new) (O.side out.old)
+        (O.side out.new) (back_end result) }
+{
+    if code.view().has_read() {
+        return walk_reading(alloc, code, lines, input, out);
+    }
+    walk_on(alloc, code, lines, b"", out)
+}
+
+// Opens the object, and walks its code.
+fn walk_object<I: Source, O: Sink>(
+    alloc: Global,
+    object: &[u8],
+    lines: &[Line<'_>],
+    input: &mut I,
+    out: &mut O,
+) -> BackEnd
+    requires short { All IsShort lines.now }
+    requires few { length lines.now * greatest_steps < 2 ^ 39 }
+    ensures { (files : FilesSide) → Follows plain program
+        (walked (object_refusal program object.now) (object_code object.now) (lines_of lines.now))
+        files files (I.side input.old) (I.side input.new) (O.side out.old) (O.side out.new)
+        (back_end result) }
+{
+    match open_code(object) {
+        Ok(code) => walk(alloc, code, lines, input, out),
+        Err(refusal) => BackEnd::Refused(refusal),
+    }
+}
+
+/// Both files are there: the script is walked, unless one of its lines is bad, or the object is refused.
+pub fn judge<I: Source, O: Sink>(
+    alloc: Global,
+    object: &[u8],
+    script: &[u8],
+    input: &mut I,
+    out: &mut O,
+) -> BackEnd
+    requires { length script.now ≤ script_limit }
+    ensures { (files : FilesSide) → Follows plain program (judged object.now script.now) files files
+        (I.side input.old) (I.side input.new) (O.side out.old) (O.side out.new) (back_end result) }
+{
+    match read_lines(alloc, script) {
+        Ok(lines) => walk_object(alloc, object, &lines, input, out),
+        Err(end) => end,
+    }
+}
