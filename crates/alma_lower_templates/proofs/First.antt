@@ -69,6 +69,23 @@ stays_is x y from e = by (bare x) refl e
     by (Some n) is h = by_next n (is_ready y) is refl h
     by None is h = absurd (cc)
 
+-- what is so of no slot and of that of the first operand
+pub as_stays : (P : Option ℕ → Type 0) (x y : Expr) → P None → P (bare x) → P (stays x y)
+as_stays P x y none there = by (bare x) there
+  where
+    by_next : (z : Bool) (n : ℕ) → P (Some n) → P (if_ready z n)
+    by_next true n h = h
+    by_next false n h = none
+
+    by : (o : Option ℕ) → P o → P (stays_by o y)
+    by (Some n) h = by_next (is_ready y) n h
+    by None h = none
+
+pub as_stays_in : (P : Option ℕ → Type 0) (negated : Bool) (x : Expr) (links : Links) → P None → P (bare x) → P (stays_in negated x links)
+as_stays_in P true x links none there = none
+as_stays_in P false x no_links none there = none
+as_stays_in P false x (more_links how y rest) none there = as_stays P x y none there
+
 -- ---- how it is read
 
 module _ (code : PlainCode) (input : List ℕ) where
