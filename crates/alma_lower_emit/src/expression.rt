@@ -17,8 +17,8 @@ use alma_base::NoMemory;
 use alma_code::{Instr, SlotKind};
 use alma_ir::{Cmp, Desig, Expr, Link, Stmt, Test};
 use alma_lower_parts::{
-    FirstOperand, Scene, Work, emit_const, end_truth, next_operand, op_instr, own_first,
-    own_value, put_at, put_cmp, put_neg, slot_of, stay_at,
+    FirstOperand, Scene, Work, emit_const, end_truth, next_operand, op_instr, own_first, own_value,
+    put_at, put_cmp, put_neg, slot_of, stay_at,
 };
 
 /// An expression, and the slot of its number.
@@ -99,7 +99,10 @@ where
     let next = next_operand(negated, links);
     let first = emit_first(work, scene, line, first, next, inside)?;
     put_neg(work, line, negated, first.to)?;
-    slot_of(emit_links(work, scene, line, first, links, inside), first.to)
+    slot_of(
+        emit_links(work, scene, line, first, links, inside),
+        first.to,
+    )
 }
 
 /// A first operand, which has no code where it stays before the next one.

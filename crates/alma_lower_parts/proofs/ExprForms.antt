@@ -139,7 +139,7 @@ module _ (s : Around) (line : ℕ) where
       let lo = a.next + length (expr_slots s.program s.routine x) in
       let ls = behind (expr_phrases e) a.lines in
       let code : Option ℕ → (from to : ℕ) → List Lined = λ o from to.
-          in_row (length a.code) (unless_bare o (T.expr_code s.program s.tables s.routine line (length a.code) a.next x) ++ own line (neg_code negated to)) (λ next. T.links_code s.program s.tables s.routine line next from to lo (links_with links ls)) in
+      in_row (length a.code) (unless_bare o (T.expr_code s.program s.tables s.routine line (length a.code) a.next x) ++ own line (neg_code negated to)) (λ next. T.links_code s.program s.tables s.routine line next from to lo (links_with links ls)) in
       record {
         all = adds_as a d _ _ _ _ _ _ all
             (ap (code (stays_in negated e links) from) is ∙ ap (λ n. code (stays_in negated e links) n a.next) is2
@@ -156,8 +156,8 @@ module _ (s : Around) (line : ℕ) where
       let there : other ≡ value_slot s lo (expr_with y ls) = is3 ∙ ap (λ n. value_slot s n (expr_with y b.lines)) h.all.next_slot ∙ ap (λ n. value_slot s lo (expr_with y n)) h.all.left in
       let all = adds_code a c d _ _ _ _ (then_adds a b c _ _ _ _ _ _ h.all j.all) k in
       let code : Option ℕ → (from to other : ℕ) → List Lined = λ o from to other.
-          in_row (length a.code) (unless_bare o (T.expr_code s.program s.tables s.routine line (length a.code) a.next (expr_with x a.lines))) (λ next. unless_bare (bare (expr_with y ls)) (T.expr_code s.program s.tables s.routine line next lo (expr_with y ls)))
-          ++ own line (cmp_code how to from other) in
+      in_row (length a.code) (unless_bare o (T.expr_code s.program s.tables s.routine line (length a.code) a.next (expr_with x a.lines))) (λ next. unless_bare (bare (expr_with y ls)) (T.expr_code s.program s.tables s.routine line next lo (expr_with y ls)))
+      ++ own line (cmp_code how to from other) in
       record {
         all = adds_as a d _ _ _ _ _ _ all
             (ap (λ n. code (stays x y) from n other) is ∙ ap (λ n. code (stays x y) n a.next other) is2 ∙ ap (code (stays x y) (T.slot_or s.program s.tables s.routine (stays x y) a.next) a.next) there

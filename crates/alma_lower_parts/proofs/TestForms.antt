@@ -54,7 +54,7 @@ module _ (s : Around) (line : ℕ) where
       let there : other ≡ value_slot s lo (expr_with y ls) = is3 ∙ ap (λ n. value_slot s n (expr_with y b.lines)) h.all.next_slot ∙ ap (λ n. value_slot s lo (expr_with y n)) h.all.left in
       let operands = then_adds a b c _ _ _ _ _ _ h.all j.all in
       let both : Option ℕ → List Lined = λ o.
-          in_row (length a.code) (unless_bare o (T.expr_code s.program s.tables s.routine line (length a.code) a.next (expr_with x a.lines))) (λ next. unless_bare (bare (expr_with y ls)) (T.expr_code s.program s.tables s.routine line next lo (expr_with y ls))) in
+      in_row (length a.code) (unless_bare o (T.expr_code s.program s.tables s.routine line (length a.code) a.next (expr_with x a.lines))) (λ next. unless_bare (bare (expr_with y ls)) (T.expr_code s.program s.tables s.routine line next lo (expr_with y ls))) in
       let here : length c.code ≡ length a.code + length (both (stays x y)) = address_behind a c _ _ _ operands in
       let code : Option ℕ → (from to other at : ℕ) → List Lined = λ o from to other at. both o ++ own line (unequal_code to from other at) in
       let stay : ℕ = T.slot_or s.program s.tables s.routine (stays x y) a.next in
