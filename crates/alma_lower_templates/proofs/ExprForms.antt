@@ -300,9 +300,9 @@ module _ (p : Program) (tables : Tables) (code : PlainCode) (input : List ℕ) (
 
   -- instructions behind both operands, which yield what is said of the comparison
   module _ (at lo : ℕ) (how : Cmp) (x y : Expr) (yields : Store → ℤ → List PlainFrame → Type 0) (instrs : (first operand : ℕ) → List Instr) (slots : HasSlots p code r lo (expr_slots p r (Compare how x y))) (next : NextRuns (behind_expr p r lo x) y)
-    (lines : (m first operand : ℕ) → Stands code m (own line (instrs first operand)) → line_at code m ≡ line)
-    (reads : (m first operand : ℕ) (t : List PlainFrame) → Stands code m (own line (instrs first operand)) → ReadsBoth code input m first operand t)
-    (ends : (m first operand : ℕ) (n z : ℤ) (u : Store) (t : List PlainFrame) → Begins p code input r u t → Stands code m (own line (instrs first operand)) → Holds t first (cell.Int n) → Holds t operand (cell.Int z)
+      (lines : (m first operand : ℕ) → Stands code m (own line (instrs first operand)) → line_at code m ≡ line)
+      (reads : (m first operand : ℕ) (t : List PlainFrame) → Stands code m (own line (instrs first operand)) → ReadsBoth code input m first operand t)
+      (ends : (m first operand : ℕ) (n z : ℤ) (u : Store) (t : List PlainFrame) → Begins p code input r u t → Stands code m (own line (instrs first operand)) → Holds t first (cell.Int n) → Holds t operand (cell.Int z)
       → From p code input line 8 m (m + length (own line (instrs first operand))) t (leaving p code input lo r t yields) (one u (bit (compares how n z))) q) where
     abbrev Compared : Option ℕ → Type 0
     Compared o = NodeFor p code input r line at lo (operands_code p tables r o line at lo x y ++ own line (instrs (slot_or p tables r o lo) (value_at p tables r (behind_expr p r lo x) y))) (ev_expr p input below (Compare how x y)) yields q

@@ -312,8 +312,8 @@ module _ (p : Program) (tables : Tables) (r : ℕ) where
     expr_code line at lo (Chain negated e links) =
         in_row at (unless_bare (stays_in negated e links) (expr_code line at lo e) ++ own line (neg_code negated lo))
         (λ next. links_code line next (slot_or (stays_in negated e links) lo) lo (behind_expr p r lo e) links)
-    -- an unknown first operand that stays is told by the instruction that takes both: a next operand that is ready tells nothing
-    -- before it
+    -- a first operand that stays is read by the instruction that takes both. Where it is unknown that one faults: before it stands a
+    -- constant at most, and where the next operand is unknown too the fault is the same
     expr_code line at lo (Compare how x y) =
         in_row at (unless_bare (stays x y) (expr_code line at lo x)) (λ next. unless_bare (bare y) (expr_code line next (behind_expr p r lo x) y))
         ++ own line (cmp_code how lo (slot_or (stays x y) lo) (value_at (behind_expr p r lo x) y))
