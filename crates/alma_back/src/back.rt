@@ -102,7 +102,11 @@ fn step_back(registers: &mut Registers<Tape>, old: Old)
     registers.memory.back();
     registers.at = old.at;
     registers.last = old.last;
-    registers.mode = if old.failing { Mode::Failing } else { Mode::Going };
+    registers.mode = if old.failing {
+        Mode::Failing
+    } else {
+        Mode::Going
+    };
     registers.steps -= 1;
     registers.choices = old.choices;
     registers.fails = old.fails;

@@ -74,9 +74,17 @@ fn read_line(text: &[u8]) -> Option<Line<'_>>
 {
     match text {
         [] => None,
-        [letter] => if *letter == b'o' { Some(Line::Output) } else { None },
+        [letter] => if *letter == b'o' {
+            Some(Line::Output)
+        } else {
+            None
+        },
         [letter, blank, rest @ ..] => {
-            if *blank == b' ' { line_with(*letter, rest) } else { None }
+            if *blank == b' ' {
+                line_with(*letter, rest)
+            } else {
+                None
+            }
         }
     }
 }

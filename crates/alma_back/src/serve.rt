@@ -34,7 +34,11 @@ fn file_words(words: &[String]) -> Result<(&str, &str), usize>
     if !is_file_name(script) {
         return Err(2);
     }
-    if more.is_empty() { Ok((object, script)) } else { Err(3) }
+    if more.is_empty() {
+        Ok((object, script))
+    } else {
+        Err(3)
+    }
 }
 
 // Fetches the script of a name, and walks an object by it.

@@ -47,7 +47,11 @@ fn watch_option(word: &str) -> Option<&str>
         (λ name. plain.IsSetting word.now (plain.Watch name.now)) }
 {
     match word.strip_prefix("--watch=") {
-        Some(name) => if is_name(name.as_bytes()) { Some(name) } else { None },
+        Some(name) => if is_name(name.as_bytes()) {
+            Some(name)
+        } else {
+            None
+        },
         None => None,
     }
 }
