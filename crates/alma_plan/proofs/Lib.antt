@@ -2,3 +2,4 @@ pub mod PartLemmas
 pub mod RefusalLemmas
 pub mod Courses
 pub mod CauseLemmas
+pub mod PlainEnds

@@ -2,11 +2,13 @@
 #![tactic(auto)]
 
 mod object;
+mod open;
 mod refusal;
 mod stop;
 mod words;
 mod writing;
 
+pub use open::open_code;
 pub use refusal::{Refusal, refuse, refuse_with};
 pub use stop::Stop;
 pub use words::{is_file_name, split_word};

@@ -12,7 +12,8 @@ use Rattle.alma_plan.specs.Plan.{Ending, line_of, silent, tells, plain}
 use Rattle.alma_plan.specs.Refusals.{refusal_end}
 use Rattle.alma_plan.specs.declared.refusal.Refusal.{Refusal}
 use Rattle.alma_plan.proofs.Courses.{course_ends, course_starved, gains_none}
-use Rattle.alma_pool.specs.Due.{program, or_refused, object_refusal, opening, played, judged_by, judged, bad_turn_behind, turns_in}
+use Rattle.alma_plan.specs.Objects.{object_refusal}
+use Rattle.alma_pool.specs.Due.{program, or_refused, opening, played, judged_by, judged, bad_turn_behind, turns_in}
 use Rattle.alma_pool.specs.Inner.{codes_of, IsRefused}
 
 -- the parts of the text of a bad turn
@@ -32,7 +33,7 @@ opening_count got [] all e =
     let same : got ≡ all = cc e in
     omega (arith, ap (λ (xs : List PlainCode). length xs) same)
 opening_count got (bytes ∷ objects) all e =
-    let rest = opened_ok (object_refusal bytes) (opening (got ++ object_code bytes ∷ []) objects) all e in
+    let rest = opened_ok (object_refusal program bytes) (opening (got ++ object_code bytes ∷ []) objects) all e in
     omega (arith, opening_count (got ++ object_code bytes ∷ []) objects all rest, length-append got (object_code bytes ∷ []))
 
 pub opened_count : (objects : List (List ℕ)) (verified : List Verified) → opening [] objects ≡ Ok (codes_of verified) → length verified ≡ length objects

@@ -6,39 +6,32 @@ use Rattle.std.specs.List.{list_any}
 use Rattle.std.specs.Global.{Vec}
 use Rattle.alma_code.specs.Plain.{PlainCode}
 use Rattle.alma_code.specs.Reads.{code_reads}
-use Rattle.alma_code.specs.Rules.{code_fault}
-use Rattle.alma_object_format.specs.Walk.{object_fault}
 use Rattle.alma_verify.specs.Bytes.{object_code}
 use Rattle.alma_verify.specs.Verified.{code_of_verified}
 use Rattle.alma_verify.specs.declared.verified.Verified.{Verified}
 use Rattle.alma_plan.specs.Plan.{Ending}
-use Rattle.alma_pool.specs.Due.{rule_refusal, refusal_by, object_refusal, or_refused, opening}
+use Rattle.alma_plan.specs.Objects.{object_refusal}
+use Rattle.alma_pool.specs.Due.{program, or_refused, opening}
 use Rattle.alma_pool.specs.Inner.{all_bytes, codes_of}
 
 -- what is left of a list from one of its items on
 pub drop_here : {X : Type 0} (xs : List X) (i : ℕ) (x d : X) → i < length xs → x ≡ get_or xs i d → drop i xs ≡ x ∷ drop (i + 1) xs
 drop_here xs i x d within is = drop_more xs i d within ∙ ap (λ y. y ∷ drop (i + 1) xs) (sym is)
 
--- an object without a fault of the format is refused by its code alone
-pub refused_by_code : (bytes : List ℕ) (code : PlainCode) → object_fault bytes ≡ None → code ≡ object_code bytes
-    → rule_refusal (code_fault code) ≡ object_refusal bytes
-refused_by_code bytes code none same =
-    ap (λ k. rule_refusal (code_fault k)) same ∙ ap (λ f. refusal_by f (code_fault (object_code bytes))) (sym none)
-
 module _ (objects : List (Vec ℕ)) (i : ℕ) (object d : Vec ℕ) (got : List PlainCode) (within : i < length objects) (is : object ≡ get_or objects i d)
     (before : opening [] (all_bytes objects) ≡ opening got (all_bytes (drop i objects))) where
   -- what comes of the objects, from one of them on
   opening_here : opening [] (all_bytes objects)
-      ≡ or_refused (object_refusal object.items) (opening (got ++ object_code object.items ∷ []) (all_bytes (drop (i + 1) objects)))
+      ≡ or_refused (object_refusal program object.items) (opening (got ++ object_code object.items ∷ []) (all_bytes (drop (i + 1) objects)))
   opening_here = before ∙ ap (λ xs. opening got (all_bytes xs)) (drop_here objects i object d within is)
 
   -- it is refused
-  pub opening_stops : (end : Ending) → object_refusal object.items ≡ Some end → opening [] (all_bytes objects) ≡ Err end
+  pub opening_stops : (end : Ending) → object_refusal program object.items ≡ Some end → opening [] (all_bytes objects) ≡ Err end
   opening_stops end refused =
       opening_here ∙ ap (λ o. or_refused o (opening (got ++ object_code object.items ∷ []) (all_bytes (drop (i + 1) objects)))) refused
 
   -- it is not
-  pub opening_more : (code : PlainCode) → object_refusal object.items ≡ None → code ≡ object_code object.items
+  pub opening_more : (code : PlainCode) → object_refusal program object.items ≡ None → code ≡ object_code object.items
       → opening [] (all_bytes objects) ≡ opening (got ++ code ∷ []) (all_bytes (drop (i + 1) objects))
   opening_more code clean same =
       opening_here ∙ ap (λ o. or_refused o (opening (got ++ object_code object.items ∷ []) (all_bytes (drop (i + 1) objects)))) clean

@@ -7,13 +7,9 @@ use Rattle.alma_code.specs.declared.step.End.{End}
 use Rattle.alma_code.specs.declared.step.End.TheVariants as ended
 use Rattle.alma_code.specs.Plain.{PlainCode}
 use Rattle.alma_code.specs.Reads.{code_reads}
-use Rattle.alma_code.specs.Rules.{code_fault}
-use Rattle.alma_code.specs.declared.step.VerifyFault.{VerifyFault}
-use Rattle.alma_object_format.specs.Walk.{object_fault}
-use Rattle.alma_object_format.specs.declared.fault.ObjectFault.{ObjectFault}
 use Rattle.alma_verify.specs.Bytes.{object_code}
 use Rattle.alma_plan.specs.Plan.{Due, Ending, Plan, Fetches, Reads, Ends, silent, prints, tells, bad_word}
-use Rattle.alma_plan.specs.Refusals.{object_fault_text, rule_fault_text}
+use Rattle.alma_plan.specs.Objects.{object_refusal}
 use Rattle.alma_plan.specs.Words.{is_file_name}
 use Rattle.alma_pool.specs.Pool.{Lone, lone, turns_of}
 
@@ -82,18 +78,6 @@ pool_text before (code ∷ more) input turns =
 
 -- ---- the objects
 
--- the end that bytes bring about which are no object, or whose code is not sound
-abbrev pub rule_refusal : Option VerifyFault → Option Ending
-rule_refusal None = None
-rule_refusal (Some fault) = Some (tells program 9 (rule_fault_text fault))
-
-abbrev pub refusal_by : Option ObjectFault → Option VerifyFault → Option Ending
-refusal_by None rule = rule_refusal rule
-refusal_by (Some fault) rule = Some (tells program 9 (object_fault_text fault))
-
-abbrev pub object_refusal : List ℕ → Option Ending
-object_refusal bytes = refusal_by (object_fault bytes) (code_fault (object_code bytes))
-
 -- the codes of objects, behind those that were, or the end that the first brings about which is refused
 abbrev pub or_refused : Option Ending → Result (List PlainCode) Ending → Result (List PlainCode) Ending
 or_refused None rest = rest
@@ -101,7 +85,7 @@ or_refused (Some end) rest = Err end
 
 abbrev pub opening : (got : List PlainCode) → (objects : List (List ℕ)) → Result (List PlainCode) Ending
 opening got [] = Ok got
-opening got (bytes ∷ objects) = or_refused (object_refusal bytes) (opening (got ++ object_code bytes ∷ []) objects)
+opening got (bytes ∷ objects) = or_refused (object_refusal program bytes) (opening (got ++ object_code bytes ∷ []) objects)
 
 -- ---- the plan
 

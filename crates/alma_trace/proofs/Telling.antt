@@ -15,7 +15,7 @@ use Rattle.alma_code.specs.TraceText.{unless_done}
 use Rattle.alma_machine.proofs.Budget.{Progress, made_is, out_front}
 use Rattle.alma_machine.specs.declared.machine.RunEnd.{RunEnd}
 use Rattle.alma_machine.specs.declared.machine.RunEnd.TheVariants as run
-use Rattle.alma_machine.specs.Runs.{OnWriteFault, made}
+use Rattle.alma_machine.specs.Runs.{OnWriteFault, OnMemory, made}
 use Rattle.alma_machine.specs.Steps.{IsLive, ModeAfter, stepped}
 use Rattle.alma_machine.specs.View.{MachineView, goes_on}
 use Rattle.alma_io.specs.Fronts.{AppendsFront}
@@ -188,6 +188,15 @@ on_write_fault run.Succeeded P p = tt
 on_write_fault run.Failed P p = tt
 on_write_fault (run.Fault fault) P p = tt
 on_write_fault run.StepsOut P p = tt
+
+-- and where memory was wanted
+pub on_memory : (end : RunEnd) (P : Type 0) → P → OnMemory end P
+on_memory run.Memory P p = p
+on_memory run.WriteFault P p = tt
+on_memory run.Succeeded P p = tt
+on_memory run.Failed P p = tt
+on_memory (run.Fault fault) P p = tt
+on_memory run.StepsOut P p = tt
 
 -- a live machine can make a step
 pub live_can_go : (mode : Mode) → IsLive mode → true ≡ can_go mode

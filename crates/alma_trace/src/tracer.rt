@@ -1,9 +1,9 @@
 // The tracer.
-ghost use Rattle.std.specs.Prelude.{◌≡◌, ◌+◌, ◌^◌, ◌<◌, ◌≤◌, true, flat_map, OnOk, OnErr, IfErr, IsTrue};
+ghost use Rattle.std.specs.Prelude.{◌≡◌, ◌⊎◌, ◌+◌, ◌^◌, ◌<◌, ◌≤◌, true, false, flat_map, OnOk, OnErr, IfErr, IsTrue};
 ghost use Rattle.std.specs.Io.KnownBytes.{Appends};
 ghost use Rattle.alma_code.specs.ListText.{text_line};
 ghost use Rattle.alma_code.specs.Machine.{after};
-ghost use Rattle.alma_machine.specs.Runs.{run_end_of, is_steps_out, all_written, made, OnWhole, OnStepsOut, OnWriteFault};
+ghost use Rattle.alma_machine.specs.Runs.{run_end_of, is_steps_out, all_written, made, OnWhole, OnStepsOut, OnWriteFault, OnMemory};
 ghost use Rattle.alma_machine.specs.View.{goes_on};
 ghost use Rattle.alma_io.specs.Causes.{HasCause};
 ghost use Rattle.alma_io.specs.Fronts.{AppendsFront};
@@ -94,6 +94,9 @@ pub fn trace<K: Sink>(
         (traced_within machine.old.code machine.old.input watches.now (made machine.old machine.new)
         budget machine.old.state)) }
     ensures stopped { OnWriteFault result (machine.new.running ≡ can_go machine.new.state.mode) }
+    // Memory was wanted for a step, and the machine runs no more; or for a line, and it is as its last step left it.
+    ensures starved { OnMemory result ((machine.new.running ≡ false)
+        ⊎ (machine.new.running ≡ can_go machine.new.state.mode)) }
     ensures cause { HasCause (K.side out.old).faults (K.side out.new).faults (all_written result) }
     ensures same { (machine.new.code ≡ machine.old.code)
         × (machine.new.input ≡ machine.old.input) }

@@ -2,7 +2,7 @@ use Rattle.alma_plan.specs.Plan.{prints, plain}
 use Rattle.alma_plan.proofs.Courses.{course_read, course_unread}
 use Rattle.alma_pool.specs.Due.{program, pool_text, turns_in}
 use Rattle.alma_pool.specs.Inner.{codes_of}
-use Rattle.alma_pool.proofs.Plans.{is_due}
+use Rattle.alma_plan.proofs.PlainEnds.{is_due}
 use Rattle.alma_pool.proofs.play.play_reading.Goals as goal
 
 pub play_on-requires-clause-lawful : goal.play_on-requires-clause-lawful

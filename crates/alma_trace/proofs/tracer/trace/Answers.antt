@@ -1,4 +1,4 @@
-use Rattle.std.proofs.Common.{◌≡◌, ◌+◌, ◌++◌, List, ℕ, ap, sym, ◌∙◌, subst, arith, flat_map}
+use Rattle.std.proofs.Common.{◌≡◌, ◌⊎◌, inr, false, ◌+◌, ◌++◌, List, ℕ, ap, sym, ◌∙◌, subst, arith, flat_map}
 use Rattle.std.specs.Io.KnownBytes.{Appends}
 use Rattle.alma_code.specs.ListText.{text_line}
 use Rattle.alma_code.specs.Machine.{State, after}
@@ -9,7 +9,7 @@ use Rattle.alma_trace.specs.Cuts.{can_go}
 use Rattle.alma_machine.proofs.Budget.{progress_more, made_is, on_whole, finished, goes_unless, live_is_out, out_more, out_front}
 use Rattle.alma_io.specs.Fronts.{AppendsFront}
 use Rattle.alma_trace.specs.Traced.{step_text, steps_end, traced, traced_within}
-use Rattle.alma_trace.proofs.Telling.{text_of, end_within, end_whole, front_more, text_more, text_whole, text_out, within_now, within_then, on_cut, on_write_fault, live_can_go, goes_can_go, front_behind}
+use Rattle.alma_trace.proofs.Telling.{text_of, end_within, end_whole, front_more, text_more, text_whole, text_out, within_now, within_then, on_cut, on_write_fault, on_memory, live_can_go, goes_can_go, front_behind}
 use Rattle.alma_trace.proofs.tracer.trace.Goals as goal
 
 pub returns-in-Err-clause-made : goal.returns-in-Err-clause-made
@@ -136,3 +136,15 @@ returns-in-Err-tell_steps_end-clause-stopped g c =
     let now = c.loop-made.machine in
     on_write_fault c.in-Err-tell_steps_end.cut (now.running ≡ can_go now.state.mode)
     (c.loop-made.invariant.running ∙ live_can_go now.state.mode (c.keeps_standing.ensures c.loop-made.invariant.running).live)
+
+pub returns-in-Err-clause-starved : goal.returns-in-Err-clause-starved
+returns-in-Err-clause-starved g c =
+    let now = c.step.new.self in
+    on_memory c.in-Err.cut ((now.running ≡ false) ⊎ (now.running ≡ can_go now.state.mode))
+    (inr (c.in-Ok.ensures.running ∙ goes_can_go c.in-Ok.step now.state.mode c.in-Ok.ensures.mode))
+
+pub returns-in-Err-tell_steps_end-clause-starved : goal.returns-in-Err-tell_steps_end-clause-starved
+returns-in-Err-tell_steps_end-clause-starved g c =
+    let now = c.loop-made.machine in
+    on_memory c.in-Err-tell_steps_end.cut ((now.running ≡ false) ⊎ (now.running ≡ can_go now.state.mode))
+    (inr (c.loop-made.invariant.running ∙ live_can_go now.state.mode (c.keeps_standing.ensures c.loop-made.invariant.running).live))
