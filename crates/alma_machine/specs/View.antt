@@ -1,9 +1,16 @@
 -- What contracts see of a machine.
-use Rattle.std.specs.Prelude.{ℕ, Bool, true, false, List, Result, Ok, Err}
+use Rattle.std.specs.Prelude.{ℕ, Bool, true, false, List, [], Result, Ok, Err}
 use Rattle.alma_code.specs.declared.step.Step.{Step}
 use Rattle.alma_code.specs.declared.step.Step.TheVariants as answer
 use Rattle.alma_code.specs.Plain.{PlainCode}
 use Rattle.alma_code.specs.Machine.{State}
+use Rattle.alma_memory.specs.Picture.{Picture}
+use Rattle.alma_machine_acts.specs.Rows.{state_of}
+use Rattle.alma_machine_acts.specs.declared.registers.Registers.{Registers}
+
+-- the state of a run over a Memory: the frames and entries are those of its picture
+abbrev pub run_state : Registers Picture → State
+run_state r = state_of (λ (m : Picture). record { now = m.now; held = m.held; choice_room = m.choice_room; trail_room = m.trail_room; past = [] }) r
 
 -- its code and input, the state of the copying code machine, whether it is running, and what the last step printed
 pub record MachineView : Type 0 where

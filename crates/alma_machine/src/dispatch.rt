@@ -15,15 +15,19 @@ use alma_machine_acts::copies::copy_cells;
 use alma_machine_acts::input::{read_char, read_number};
 use alma_machine_acts::output::{numbered, print_character, print_number, print_text, print_truth};
 use alma_machine_acts::{CodeView, Registers};
+use alma_memory::MachineMemory;
 
 /// The slot that an instruction of numbers writes, and the number that goes there.
 #[tactic(auto, unfolding(alma_code::specs::Machine::act, crate::specs::Needs::Computes))]
 #[inline(always)]
-pub(crate) fn computed(registers: &Registers, instr: Instr) -> (u32, Result<i64, RunFault>)
-    requires { Computes registers.now.memory.now instr }
-    ensures slot { HasNumber registers.now.memory.now result.0 }
+pub(crate) fn computed<M: MachineMemory>(
+    registers: &Registers<M>,
+    instr: Instr,
+) -> (u32, Result<i64, RunFault>)
+    requires { Computes (M.picture registers.now.memory).now instr }
+    ensures slot { HasNumber (M.picture registers.now.memory).now result.0 }
     ensures number { (code : PlainCode) (input : List ℕ) (s : State) → s.now
-        ≡ registers.now.memory.now
+        ≡ (M.picture registers.now.memory).now
         → act code input instr s ≡ put_or_fault s result.0 result.1 }
 {
     match instr {
@@ -47,24 +51,28 @@ pub(crate) fn computed(registers: &Registers, instr: Instr) -> (u32, Result<i64,
 
 /// What an instruction does, with the address already at the next one. Where memory is wanted, nothing has happened.
 #[tactic(auto, unfolding(alma_code::specs::Machine::act, crate::specs::Needs::Needs), using(crate::proofs::Acting::actings))]
-pub fn act<V: CodeView>(
-    registers: &mut Registers,
+pub fn act<M: MachineMemory, V: CodeView>(
+    registers: &mut Registers<M>,
     view: &V,
     instr: Instr,
     input: &[u8],
     bytes: &mut Vec<u8>,
 ) -> Result<Step, NoMemory>
-    requires needs { Needs (V.code view.now) registers.old.memory.now instr }
+    requires needs { Needs (V.code view.now) (M.picture registers.old.memory).now instr }
     requires few { registers.old.choices + 1 < 2 ^ 63 }
     requires lawful { length input.now ≤ input_limit }
     requires empty { bytes.old.items ≡ [] }
-    ensures ok { IfOk result (λ answer. stepped answer bytes.new.items (state_of registers.new)
-        ≡ act (V.code view.now) input.now instr (state_of registers.old)) }
+    ensures ok { IfOk result
+        (λ answer. stepped answer bytes.new.items (state_of M.picture registers.new)
+        ≡ act (V.code view.now) input.now instr (state_of M.picture registers.old)) }
     ensures kept { IfOk result
-        (λ answer. KeepsOn answer (state_of registers.old) (state_of registers.new)) }
+        (λ answer. KeepsOn answer (state_of M.picture registers.old)
+        (state_of M.picture registers.new)) }
     ensures quiet { IfOk result (λ answer. PrintsOnly answer bytes.new.items) }
-    ensures refused { OnErr result ((state_of registers.new ≡ state_of registers.old) × (bytes.new.items
+    ensures refused { OnErr result
+        ((state_of M.picture registers.new ≡ state_of M.picture registers.old) × (bytes.new.items
         ≡ [])) }
+    ensures past { (M.picture registers.new.memory).past ≡ (M.picture registers.old.memory).past }
 {
     match instr {
         Instr::WriteInt { value } => print_number(registers, value, bytes),
@@ -98,22 +106,25 @@ pub fn act<V: CodeView>(
 
 // Jumps, tests and counted loops, and else the next room.
 #[tactic(auto, unfolding(alma_code::specs::Machine::act, crate::specs::Needs::Needs), using(crate::proofs::Acting::actings))]
-fn act_control<V: CodeView>(
-    registers: &mut Registers,
+fn act_control<M: MachineMemory, V: CodeView>(
+    registers: &mut Registers<M>,
     view: &V,
     instr: Instr,
     input: &[u8],
 ) -> Result<Step, NoMemory>
-    requires needs { Needs (V.code view.now) registers.old.memory.now instr }
+    requires needs { Needs (V.code view.now) (M.picture registers.old.memory).now instr }
     requires later { is_first_form instr ≡ false }
     requires few { registers.old.choices + 1 < 2 ^ 63 }
     requires lawful { length input.now ≤ input_limit }
-    ensures ok { IfOk result (λ answer. stepped answer [] (state_of registers.new)
-        ≡ act (V.code view.now) input.now instr (state_of registers.old)) }
+    ensures ok { IfOk result (λ answer. stepped answer [] (state_of M.picture registers.new)
+        ≡ act (V.code view.now) input.now instr (state_of M.picture registers.old)) }
     ensures kept { IfOk result
-        (λ answer. KeepsOn answer (state_of registers.old) (state_of registers.new)) }
+        (λ answer. KeepsOn answer (state_of M.picture registers.old)
+        (state_of M.picture registers.new)) }
     ensures quiet { IfOk result (λ answer. PrintsOnly answer []) }
-    ensures refused { OnErr result (state_of registers.new ≡ state_of registers.old) }
+    ensures refused { OnErr result
+        (state_of M.picture registers.new ≡ state_of M.picture registers.old) }
+    ensures past { (M.picture registers.new.memory).past ≡ (M.picture registers.old.memory).past }
 {
     match instr {
         Instr::InRange { value, range } => match view.range(range) {
@@ -137,23 +148,26 @@ fn act_control<V: CodeView>(
 
 // Places, and else the next room.
 #[tactic(auto, unfolding(alma_code::specs::Machine::act, crate::specs::Needs::Needs), using(crate::proofs::Acting::actings))]
-fn act_places<V: CodeView>(
-    registers: &mut Registers,
+fn act_places<M: MachineMemory, V: CodeView>(
+    registers: &mut Registers<M>,
     view: &V,
     instr: Instr,
     input: &[u8],
 ) -> Result<Step, NoMemory>
-    requires needs { Needs (V.code view.now) registers.old.memory.now instr }
+    requires needs { Needs (V.code view.now) (M.picture registers.old.memory).now instr }
     requires later { is_first_form instr ≡ false }
     requires no_control { is_control_form instr ≡ false }
     requires few { registers.old.choices + 1 < 2 ^ 63 }
     requires lawful { length input.now ≤ input_limit }
-    ensures ok { IfOk result (λ answer. stepped answer [] (state_of registers.new)
-        ≡ act (V.code view.now) input.now instr (state_of registers.old)) }
+    ensures ok { IfOk result (λ answer. stepped answer [] (state_of M.picture registers.new)
+        ≡ act (V.code view.now) input.now instr (state_of M.picture registers.old)) }
     ensures kept { IfOk result
-        (λ answer. KeepsOn answer (state_of registers.old) (state_of registers.new)) }
+        (λ answer. KeepsOn answer (state_of M.picture registers.old)
+        (state_of M.picture registers.new)) }
     ensures quiet { IfOk result (λ answer. PrintsOnly answer []) }
-    ensures refused { OnErr result (state_of registers.new ≡ state_of registers.old) }
+    ensures refused { OnErr result
+        (state_of M.picture registers.new ≡ state_of M.picture registers.old) }
+    ensures past { (M.picture registers.new.memory).past ≡ (M.picture registers.old.memory).past }
 {
     match instr {
         Instr::Local { to, first } => {
@@ -187,24 +201,27 @@ fn act_places<V: CodeView>(
 
 // Cells at places: stores, bindings, equations and copies, and else the next room.
 #[tactic(auto, unfolding(alma_code::specs::Machine::act, crate::specs::Needs::Needs), using(crate::proofs::Acting::actings))]
-fn act_cells<V: CodeView>(
-    registers: &mut Registers,
+fn act_cells<M: MachineMemory, V: CodeView>(
+    registers: &mut Registers<M>,
     view: &V,
     instr: Instr,
     input: &[u8],
 ) -> Result<Step, NoMemory>
-    requires needs { Needs (V.code view.now) registers.old.memory.now instr }
+    requires needs { Needs (V.code view.now) (M.picture registers.old.memory).now instr }
     requires later { is_first_form instr ≡ false }
     requires no_control { is_control_form instr ≡ false }
     requires no_place { is_place_form instr ≡ false }
     requires few { registers.old.choices + 1 < 2 ^ 63 }
     requires lawful { length input.now ≤ input_limit }
-    ensures ok { IfOk result (λ answer. stepped answer [] (state_of registers.new)
-        ≡ act (V.code view.now) input.now instr (state_of registers.old)) }
+    ensures ok { IfOk result (λ answer. stepped answer [] (state_of M.picture registers.new)
+        ≡ act (V.code view.now) input.now instr (state_of M.picture registers.old)) }
     ensures kept { IfOk result
-        (λ answer. KeepsOn answer (state_of registers.old) (state_of registers.new)) }
+        (λ answer. KeepsOn answer (state_of M.picture registers.old)
+        (state_of M.picture registers.new)) }
     ensures quiet { IfOk result (λ answer. PrintsOnly answer []) }
-    ensures refused { OnErr result (state_of registers.new ≡ state_of registers.old) }
+    ensures refused { OnErr result
+        (state_of M.picture registers.new ≡ state_of M.picture registers.old) }
+    ensures past { (M.picture registers.new.memory).past ≡ (M.picture registers.old.memory).past }
 {
     match instr {
         Instr::Store { to, from } => registers.store(to, from),
@@ -233,25 +250,28 @@ fn act_cells<V: CodeView>(
 
 // Choice entries, and else the next room.
 #[tactic(auto, unfolding(alma_code::specs::Machine::act, crate::specs::Needs::Needs), using(crate::proofs::Acting::actings))]
-fn act_choices<V: CodeView>(
-    registers: &mut Registers,
+fn act_choices<M: MachineMemory, V: CodeView>(
+    registers: &mut Registers<M>,
     view: &V,
     instr: Instr,
     input: &[u8],
 ) -> Result<Step, NoMemory>
-    requires needs { Needs (V.code view.now) registers.old.memory.now instr }
+    requires needs { Needs (V.code view.now) (M.picture registers.old.memory).now instr }
     requires later { is_first_form instr ≡ false }
     requires no_control { is_control_form instr ≡ false }
     requires no_place { is_place_form instr ≡ false }
     requires no_cell { is_cell_form instr ≡ false }
     requires few { registers.old.choices + 1 < 2 ^ 63 }
     requires lawful { length input.now ≤ input_limit }
-    ensures ok { IfOk result (λ answer. stepped answer [] (state_of registers.new)
-        ≡ act (V.code view.now) input.now instr (state_of registers.old)) }
+    ensures ok { IfOk result (λ answer. stepped answer [] (state_of M.picture registers.new)
+        ≡ act (V.code view.now) input.now instr (state_of M.picture registers.old)) }
     ensures kept { IfOk result
-        (λ answer. KeepsOn answer (state_of registers.old) (state_of registers.new)) }
+        (λ answer. KeepsOn answer (state_of M.picture registers.old)
+        (state_of M.picture registers.new)) }
     ensures quiet { IfOk result (λ answer. PrintsOnly answer []) }
-    ensures refused { OnErr result (state_of registers.new ≡ state_of registers.old) }
+    ensures refused { OnErr result
+        (state_of M.picture registers.new ≡ state_of M.picture registers.old) }
+    ensures past { (M.picture registers.new.memory).past ≡ (M.picture registers.old.memory).past }
 {
     match instr {
         Instr::Mark { to } => set_mark(registers, to),
@@ -267,13 +287,13 @@ fn act_choices<V: CodeView>(
 
 // Calls and returns, and else the next room.
 #[tactic(auto, unfolding(alma_code::specs::Machine::act, crate::specs::Needs::Needs), using(crate::proofs::Acting::actings))]
-fn act_calls<V: CodeView>(
-    registers: &mut Registers,
+fn act_calls<M: MachineMemory, V: CodeView>(
+    registers: &mut Registers<M>,
     view: &V,
     instr: Instr,
     input: &[u8],
 ) -> Result<Step, NoMemory>
-    requires needs { Needs (V.code view.now) registers.old.memory.now instr }
+    requires needs { Needs (V.code view.now) (M.picture registers.old.memory).now instr }
     requires later { is_first_form instr ≡ false }
     requires no_control { is_control_form instr ≡ false }
     requires no_place { is_place_form instr ≡ false }
@@ -281,12 +301,15 @@ fn act_calls<V: CodeView>(
     requires no_choice { is_choice_form instr ≡ false }
     requires few { registers.old.choices + 1 < 2 ^ 63 }
     requires lawful { length input.now ≤ input_limit }
-    ensures ok { IfOk result (λ answer. stepped answer [] (state_of registers.new)
-        ≡ act (V.code view.now) input.now instr (state_of registers.old)) }
+    ensures ok { IfOk result (λ answer. stepped answer [] (state_of M.picture registers.new)
+        ≡ act (V.code view.now) input.now instr (state_of M.picture registers.old)) }
     ensures kept { IfOk result
-        (λ answer. KeepsOn answer (state_of registers.old) (state_of registers.new)) }
+        (λ answer. KeepsOn answer (state_of M.picture registers.old)
+        (state_of M.picture registers.new)) }
     ensures quiet { IfOk result (λ answer. PrintsOnly answer []) }
-    ensures refused { OnErr result (state_of registers.new ≡ state_of registers.old) }
+    ensures refused { OnErr result
+        (state_of M.picture registers.new ≡ state_of M.picture registers.old) }
+    ensures past { (M.picture registers.new.memory).past ≡ (M.picture registers.old.memory).past }
 {
     match instr {
         Instr::Call { routine, first, .. } => match view.routine(routine) {
@@ -301,13 +324,13 @@ fn act_calls<V: CodeView>(
 
 // Reads of the input, and else the next room.
 #[tactic(auto, unfolding(alma_code::specs::Machine::act, crate::specs::Needs::Needs), using(crate::proofs::Acting::actings))]
-fn act_input<V: CodeView>(
-    registers: &mut Registers,
+fn act_input<M: MachineMemory, V: CodeView>(
+    registers: &mut Registers<M>,
     view: &V,
     instr: Instr,
     input: &[u8],
 ) -> Result<Step, NoMemory>
-    requires needs { Needs (V.code view.now) registers.old.memory.now instr }
+    requires needs { Needs (V.code view.now) (M.picture registers.old.memory).now instr }
     requires later { is_first_form instr ≡ false }
     requires no_control { is_control_form instr ≡ false }
     requires no_place { is_place_form instr ≡ false }
@@ -316,12 +339,15 @@ fn act_input<V: CodeView>(
     requires no_call { is_call_form instr ≡ false }
     requires few { registers.old.choices + 1 < 2 ^ 63 }
     requires lawful { length input.now ≤ input_limit }
-    ensures ok { IfOk result (λ answer. stepped answer [] (state_of registers.new)
-        ≡ act (V.code view.now) input.now instr (state_of registers.old)) }
+    ensures ok { IfOk result (λ answer. stepped answer [] (state_of M.picture registers.new)
+        ≡ act (V.code view.now) input.now instr (state_of M.picture registers.old)) }
     ensures kept { IfOk result
-        (λ answer. KeepsOn answer (state_of registers.old) (state_of registers.new)) }
+        (λ answer. KeepsOn answer (state_of M.picture registers.old)
+        (state_of M.picture registers.new)) }
     ensures quiet { IfOk result (λ answer. PrintsOnly answer []) }
-    ensures refused { OnErr result (state_of registers.new ≡ state_of registers.old) }
+    ensures refused { OnErr result
+        (state_of M.picture registers.new ≡ state_of M.picture registers.old) }
+    ensures past { (M.picture registers.new.memory).past ≡ (M.picture registers.old.memory).past }
 {
     match instr {
         Instr::ReadInt { place, range } => match view.range(range) {
@@ -338,13 +364,13 @@ fn act_input<V: CodeView>(
 
 // Links, and else the next room.
 #[tactic(auto, unfolding(alma_code::specs::Machine::act, crate::specs::Needs::Needs), using(crate::proofs::Acting::actings))]
-fn act_links<V: CodeView>(
-    registers: &mut Registers,
+fn act_links<M: MachineMemory, V: CodeView>(
+    registers: &mut Registers<M>,
     view: &V,
     instr: Instr,
     input: &[u8],
 ) -> Result<Step, NoMemory>
-    requires needs { Needs (V.code view.now) registers.old.memory.now instr }
+    requires needs { Needs (V.code view.now) (M.picture registers.old.memory).now instr }
     requires later { is_first_form instr ≡ false }
     requires no_control { is_control_form instr ≡ false }
     requires no_place { is_place_form instr ≡ false }
@@ -354,12 +380,15 @@ fn act_links<V: CodeView>(
     requires no_read { is_read_form instr ≡ false }
     requires few { registers.old.choices + 1 < 2 ^ 63 }
     requires lawful { length input.now ≤ input_limit }
-    ensures ok { IfOk result (λ answer. stepped answer [] (state_of registers.new)
-        ≡ act (V.code view.now) input.now instr (state_of registers.old)) }
+    ensures ok { IfOk result (λ answer. stepped answer [] (state_of M.picture registers.new)
+        ≡ act (V.code view.now) input.now instr (state_of M.picture registers.old)) }
     ensures kept { IfOk result
-        (λ answer. KeepsOn answer (state_of registers.old) (state_of registers.new)) }
+        (λ answer. KeepsOn answer (state_of M.picture registers.old)
+        (state_of M.picture registers.new)) }
     ensures quiet { IfOk result (λ answer. PrintsOnly answer []) }
-    ensures refused { OnErr result (state_of registers.new ≡ state_of registers.old) }
+    ensures refused { OnErr result
+        (state_of M.picture registers.new ≡ state_of M.picture registers.old) }
+    ensures past { (M.picture registers.new.memory).past ≡ (M.picture registers.old.memory).past }
 {
     match instr {
         Instr::Own { to } => {

@@ -23,7 +23,7 @@ use alma_code::{End, Step};
 use alma_io::{Sink, WriteFault, write_all};
 use alma_machine_acts::choices::pop;
 use alma_machine_acts::{CodeView, Mode, Registers};
-use alma_memory::Memory;
+use alma_memory::{MachineMemory, Memory};
 use alma_object::{ObjectView, RoutineView};
 use alma_verify::Verified;
 use std::alloc::Global;
@@ -55,26 +55,30 @@ impl From<End> for RunEnd {
 
 // The next instruction of the code. Where memory is wanted, nothing has happened.
 #[tactic(auto, using(crate::proofs::Stepping::taken))]
-fn take<V: CodeView>(
+fn take<M: MachineMemory, V: CodeView>(
     view: &V,
     input: &[u8],
-    registers: &mut Registers,
+    registers: &mut Registers<M>,
     printed: &mut Vec<u8>,
 ) -> Result<Step, NoMemory>
-    requires keeps { Stands (V.code view.now) (state_of registers.old) }
-    requires going { (state_of registers.old).mode ≡ Going }
+    requires keeps { Stands (V.code view.now) (state_of M.picture registers.old) }
+    requires going { (state_of M.picture registers.old).mode ≡ Going }
     requires few { registers.old.steps + 1 < 2 ^ 63 }
     requires lawful { length input.now ≤ input_limit }
     requires empty { printed.old.items ≡ [] }
-    ensures step { IfOk result (λ answer. stepped answer printed.new.items (state_of registers.new)
-        ≡ step (V.code view.now) input.now (state_of registers.old)) }
+    ensures step { IfOk result
+        (λ answer. stepped answer printed.new.items (state_of M.picture registers.new)
+        ≡ step (V.code view.now) input.now (state_of M.picture registers.old)) }
     ensures quiet { IfOk result (λ answer. PrintsOnly answer printed.new.items) }
     ensures counted { OnOk result (registers.new.steps ≡ registers.old.steps + 1) }
-    ensures mode { IfOk result (λ answer. ModeAfter answer (state_of registers.new).mode) }
+    ensures mode { IfOk result
+        (λ answer. ModeAfter answer (state_of M.picture registers.new).mode) }
     ensures choices { OnOk result (registers.new.choices ≤ registers.old.choices + 1) }
     ensures fails { OnOk result (registers.new.fails ≤ registers.old.fails + 1) }
-    ensures refused { OnErr result ((state_of registers.new ≡ state_of registers.old)
+    ensures refused { OnErr result
+        ((state_of M.picture registers.new ≡ state_of M.picture registers.old)
         × (printed.new.items ≡ [])) }
+    ensures past { (M.picture registers.new.memory).past ≡ (M.picture registers.old.memory).past }
 {
     let _count = view.code_count();
     let instr = view.instr(registers.at);
@@ -91,26 +95,30 @@ fn take<V: CodeView>(
     step
 }
 
-// One step. Where memory is wanted, nothing has happened.
+/// One step of a machine over any memory; `printed` is what it printed. Where memory is wanted, nothing has happened.
 #[tactic(auto, using(crate::proofs::Stepping::steps))]
-pub(crate) fn advance<V: CodeView>(
+pub fn advance<M: MachineMemory, V: CodeView>(
     view: &V,
     input: &[u8],
-    registers: &mut Registers,
+    registers: &mut Registers<M>,
     printed: &mut Vec<u8>,
 ) -> Result<Step, NoMemory>
-    requires keeps { Stands (V.code view.now) (state_of registers.old) }
+    requires keeps { Stands (V.code view.now) (state_of M.picture registers.old) }
     requires few { registers.old.steps + 1 < 2 ^ 63 }
     requires lawful { length input.now ≤ input_limit }
-    ensures step { IfOk result (λ answer. stepped answer printed.new.items (state_of registers.new)
-        ≡ step (V.code view.now) input.now (state_of registers.old)) }
+    ensures step { IfOk result
+        (λ answer. stepped answer printed.new.items (state_of M.picture registers.new)
+        ≡ step (V.code view.now) input.now (state_of M.picture registers.old)) }
     ensures quiet { IfOk result (λ answer. PrintsOnly answer printed.new.items) }
     ensures counted { OnOk result (registers.new.steps ≡ registers.old.steps + 1) }
-    ensures mode { IfOk result (λ answer. ModeAfter answer (state_of registers.new).mode) }
+    ensures mode { IfOk result
+        (λ answer. ModeAfter answer (state_of M.picture registers.new).mode) }
     ensures choices { OnOk result (registers.new.choices ≤ registers.old.choices + 1) }
     ensures fails { OnOk result (registers.new.fails ≤ registers.old.fails + 1) }
-    ensures refused { OnErr result ((state_of registers.new ≡ state_of registers.old)
+    ensures refused { OnErr result
+        ((state_of M.picture registers.new ≡ state_of M.picture registers.old)
         × (printed.new.items ≡ [])) }
+    ensures past { (M.picture registers.new.memory).past ≡ (M.picture registers.old.memory).past }
 {
     printed.clear();
     match registers.mode {
@@ -126,7 +134,8 @@ pub(crate) fn advance<V: CodeView>(
 // Writes what a step printed; the sink is called only where it printed.
 fn write_printed<K: Sink>(step: Step, printed: &[u8], out: &mut K) -> Result<(), WriteFault>
     requires quiet { PrintsOnly step printed.now }
-    ensures ok { OnOk result (Appends (K.side out.old).written (K.side out.new).written printed.now) }
+    ensures ok { OnOk result
+        (Appends (K.side out.old).written (K.side out.new).written printed.now) }
     ensures front { OnErr result
         (AppendsFront (K.side out.old).written (K.side out.new).written printed.now) }
     ensures cause { HasCause (K.side out.old).faults (K.side out.new).faults result }
@@ -152,7 +161,7 @@ fn goes_on(step: &Result<Step, NoMemory>) -> bool
 pub struct Machine<'b, 'i> {
     code: Verified<'b>,
     input: &'i [u8],
-    registers: Registers,
+    registers: Registers<Memory>,
     running: bool,
     printed: Vec<u8>,
 }
@@ -164,20 +173,20 @@ impl<'b, 'i> Model for Machine<'b, 'i> {
     ghost Value = { MachineView };
 
     ghost use Rattle.alma_base.specs.Limits.{input_limit};
-    ghost use Rattle.alma_machine_acts.specs.Rows.{state_of};
+    ghost use Rattle.alma_machine.specs.View.{run_state};
     ghost use Rattle.alma_machine.specs.Stands.{Stands};
     ghost use Rattle.alma_verify.specs.Verified.{code_of_verified};
 
     ghost view = { λ m. record {
       code = code_of_verified m.code;
       input = m.input.now;
-      state = state_of m.registers;
+      state = run_state m.registers;
       running = m.running;
       printed = m.printed.items;
     } };
 
     ghost invariant = { λ m. (length m.input.now ≤ input_limit)
-        × (m.running ≡ true → Stands (code_of_verified m.code) (state_of m.registers)) };
+        × (m.running ≡ true → Stands (code_of_verified m.code) (run_state m.registers)) };
 }
 
 // The head of the module body.
@@ -388,7 +397,8 @@ impl<'b, 'i> Machine<'b, 'i> {
         ensures state { OnWhole result (self.new.state
             ≡ after self.old.code self.old.input budget self.old.state) }
         ensures out { OnWhole result
-            (Appends (K.side out.old).written (K.side out.new).written (prints self.old.code self.old.input
+            (Appends (K.side out.old).written (K.side out.new).written
+            (prints self.old.code self.old.input
             budget self.old.state)) }
 
         // In each case: what it does in the steps that were made.
@@ -397,14 +407,16 @@ impl<'b, 'i> Machine<'b, 'i> {
             ≡ after self.old.code self.old.input (made self.old self.new) self.old.state }
         ensures steps_out { OnStepsOut result (made self.old self.new ≡ budget) }
         ensures memory { OnMemory result
-            (Appends (K.side out.old).written (K.side out.new).written (prints self.old.code self.old.input
+            (Appends (K.side out.old).written (K.side out.new).written
+            (prints self.old.code self.old.input
             (made self.old self.new) self.old.state)) }
         ensures write_fault { OnWriteFault result
             (AppendsFront (K.side out.old).written (K.side out.new).written (prints self.old.code
             self.old.input (made self.old self.new) self.old.state)) }
         ensures printed { ShowsLast result self.new.printed (last_print self.old.code self.old.input
             (made self.old self.new) self.old.state self.old.printed) }
-        ensures cause { HasCause (K.side out.old).faults (K.side out.new).faults (all_written result) }
+        ensures cause { HasCause (K.side out.old).faults (K.side out.new).faults
+            (all_written result) }
         ensures running { self.new.running ≡ is_steps_out result }
         ensures same { (self.new.code ≡ self.old.code) × (self.new.input ≡ self.old.input) }
     {

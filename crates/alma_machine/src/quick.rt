@@ -4,24 +4,25 @@ ghost use Rattle.std.specs.Prelude.{◌≡◌, ◌+◌, ◌^◌, ◌<◌, ◌≤
 ghost use Rattle.alma_code.specs.Machine.{Going, step, after, prints};
 ghost use Rattle.alma_machine.specs.Quick.{Quickly};
 ghost use Rattle.alma_machine.specs.Stands.{Stands};
-ghost use Rattle.alma_machine_acts.specs.Rows.{state_of};
+ghost use Rattle.alma_machine.specs.View.{run_state};
 ghost use Rattle.alma_machine_acts.specs.Steps.{IsLive};
 
 use crate::quick_cells::pop_quickly;
 use crate::quick_record::act_quickly;
 use alma_machine_acts::{CodeView, Mode, Registers};
+use alma_memory::Memory;
 
 // The next instruction, if it is one that is made at once.
 #[inline(always)]
 #[tactic(auto, using(crate::proofs::Stepping::taken))]
-fn take_quickly<V: CodeView>(registers: &mut Registers, view: &V, input: &[u8]) -> bool
-    requires keeps { Stands (V.code view.now) (state_of registers.old) }
-    requires going { (state_of registers.old).mode ≡ Going }
+fn take_quickly<V: CodeView>(registers: &mut Registers<Memory>, view: &V, input: &[u8]) -> bool
+    requires keeps { Stands (V.code view.now) (run_state registers.old) }
+    requires going { (run_state registers.old).mode ≡ Going }
     requires few { registers.old.steps + 1 < 2 ^ 63 }
-    ensures step { Quickly result (state_of registers.old) (state_of registers.new)
-        (step (V.code view.now) input.now (state_of registers.old)) }
+    ensures step { Quickly result (run_state registers.old) (run_state registers.new)
+        (step (V.code view.now) input.now (run_state registers.old)) }
     ensures counted { registers.new.steps ≡ registers.old.steps + (if result then 1 else 0) }
-    ensures live { IsLive (state_of registers.new).mode }
+    ensures live { IsLive (run_state registers.new).mode }
     ensures choices { registers.new.choices ≤ registers.old.choices + 1 }
     ensures fails { registers.new.fails ≤ registers.old.fails + 1 }
 {
@@ -43,13 +44,13 @@ fn take_quickly<V: CodeView>(registers: &mut Registers, view: &V, input: &[u8]) 
 // One step, if it is one that is made at once.
 #[inline(always)]
 #[tactic(auto, using(crate::proofs::Stepping::steps))]
-fn step_quickly<V: CodeView>(registers: &mut Registers, view: &V, input: &[u8]) -> bool
-    requires keeps { Stands (V.code view.now) (state_of registers.old) }
+fn step_quickly<V: CodeView>(registers: &mut Registers<Memory>, view: &V, input: &[u8]) -> bool
+    requires keeps { Stands (V.code view.now) (run_state registers.old) }
     requires few { registers.old.steps + 1 < 2 ^ 63 }
-    ensures step { Quickly result (state_of registers.old) (state_of registers.new)
-        (step (V.code view.now) input.now (state_of registers.old)) }
+    ensures step { Quickly result (run_state registers.old) (run_state registers.new)
+        (step (V.code view.now) input.now (run_state registers.old)) }
     ensures counted { registers.new.steps ≡ registers.old.steps + (if result then 1 else 0) }
-    ensures live { IsLive (state_of registers.new).mode }
+    ensures live { IsLive (run_state registers.new).mode }
     ensures choices { registers.new.choices ≤ registers.old.choices + 1 }
     ensures fails { registers.new.fails ≤ registers.old.fails + 1 }
 {
@@ -68,19 +69,19 @@ fn step_quickly<V: CodeView>(registers: &mut Registers, view: &V, input: &[u8]) 
 
 /// As many steps as can be made at once, and no more than so many. It answers how many.
 pub(crate) fn dash<V: CodeView + Copy>(
-    registers: &mut Registers,
+    registers: &mut Registers<Memory>,
     view: V,
     input: &[u8],
     most: u64,
 ) -> u64
-    requires keeps { Stands (V.code view) (state_of registers.old) }
+    requires keeps { Stands (V.code view) (run_state registers.old) }
     requires few { registers.old.steps + most < 2 ^ 63 }
     ensures few { result ≤ most }
-    ensures state { state_of registers.new
-        ≡ after (V.code view) input.now result (state_of registers.old) }
-    ensures silent { prints (V.code view) input.now result (state_of registers.old) ≡ [] }
+    ensures state { run_state registers.new
+        ≡ after (V.code view) input.now result (run_state registers.old) }
+    ensures silent { prints (V.code view) input.now result (run_state registers.old) ≡ [] }
     ensures counted { registers.new.steps ≡ registers.old.steps + result }
-    ensures stands { Stands (V.code view) (state_of registers.new) }
+    ensures stands { Stands (V.code view) (run_state registers.new) }
 {
     let mut made = 0;
     while made < most {

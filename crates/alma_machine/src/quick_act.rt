@@ -7,21 +7,23 @@ ghost use Rattle.alma_base.specs.declared.fault.RunFault.TheVariants as fault;
 ghost use Rattle.alma_code.specs.Machine.{State, number, put_number, goes_to, fails_now, range_check, quiet_step, act};
 ghost use Rattle.alma_machine.specs.Needs.{Needs, Computes};
 ghost use Rattle.alma_machine.specs.Quick.{Quietly, KeepsLive};
-ghost use Rattle.alma_machine_acts.specs.Rows.{state_of, HasNumber, HasPlace, counted, put_or_fault, point_or_fault};
+ghost use Rattle.alma_machine.specs.View.{run_state};
+ghost use Rattle.alma_machine_acts.specs.Rows.{HasNumber, HasPlace, counted, put_or_fault, point_or_fault};
 
 use crate::dispatch::computed;
 use alma_base::{Range, RunFault};
 use alma_code::{Cell, Instr};
 use alma_machine_acts::{CodeView, Mode, Registers, Spot};
+use alma_memory::Memory;
 
 // Puts a number into a slot, unless it is a fault.
 #[inline(always)]
 #[tactic(auto, using(alma_machine_acts::proofs::Words::puts))]
-fn lay_number(registers: &mut Registers, to: u32, number: Result<i64, RunFault>) -> bool
+fn lay_number(registers: &mut Registers<Memory>, to: u32, number: Result<i64, RunFault>) -> bool
     requires { HasNumber registers.old.memory.now to }
-    ensures step { Quietly result (state_of registers.old) (state_of registers.new)
-        (put_or_fault (state_of registers.old) to number) }
-    ensures kept { KeepsLive (state_of registers.old) (state_of registers.new) }
+    ensures step { Quietly result (run_state registers.old) (run_state registers.new)
+        (put_or_fault (run_state registers.old) to number) }
+    ensures kept { KeepsLive (run_state registers.old) (run_state registers.new) }
 {
     match number {
         Ok(number) => registers.write(to, Cell::Int(number)).is_ok(),
@@ -31,11 +33,11 @@ fn lay_number(registers: &mut Registers, to: u32, number: Result<i64, RunFault>)
 
 // Puts the place that begins at a spot into a place slot, unless it is a fault.
 #[inline(always)]
-fn lay_place(registers: &mut Registers, to: u32, spot: Result<Spot, RunFault>) -> bool
+fn lay_place(registers: &mut Registers<Memory>, to: u32, spot: Result<Spot, RunFault>) -> bool
     requires { HasPlace registers.old.memory.now to }
-    ensures step { Quietly result (state_of registers.old) (state_of registers.new)
-        (point_or_fault (state_of registers.old) to spot) }
-    ensures kept { KeepsLive (state_of registers.old) (state_of registers.new) }
+    ensures step { Quietly result (run_state registers.old) (run_state registers.new)
+        (point_or_fault (run_state registers.old) to spot) }
+    ensures kept { KeepsLive (run_state registers.old) (run_state registers.new) }
 {
     match spot {
         Ok(spot) => registers.put_place(to, spot.frame, spot.slot).is_ok(),
@@ -45,14 +47,20 @@ fn lay_place(registers: &mut Registers, to: u32, spot: Result<Spot, RunFault>) -
 
 // Counts a counter on, or goes to an address.
 #[inline(always)]
-fn count_quickly(registers: &mut Registers, counter: u32, limit: u32, by: u32, out: u32) -> bool
+fn count_quickly(
+    registers: &mut Registers<Memory>,
+    counter: u32,
+    limit: u32,
+    by: u32,
+    out: u32,
+) -> bool
     requires counter { HasNumber registers.old.memory.now counter }
     requires limit { HasNumber registers.old.memory.now limit }
     requires by { HasNumber registers.old.memory.now by }
-    ensures step { let s = state_of registers.old in
-        Quietly result s (state_of registers.new)
+    ensures step { let s = run_state registers.old in
+        Quietly result s (run_state registers.new)
         (counted s counter limit by (goes_to out s) (put_number s counter)) }
-    ensures kept { KeepsLive (state_of registers.old) (state_of registers.new) }
+    ensures kept { KeepsLive (run_state registers.old) (run_state registers.new) }
 {
     match registers.next(counter, limit, by) {
         Ok(Some(next)) => lay_number(registers, counter, Ok(next)),
@@ -67,12 +75,12 @@ fn count_quickly(registers: &mut Registers, counter: u32, limit: u32, by: u32, o
 // Goes to an address where the number in a slot is 0.
 #[inline(always)]
 #[tactic(auto, using(alma_machine_acts::proofs::Words::tests, std::proofs::lemmas::Int::ints, std::proofs::lemmas::Grind::common_steps))]
-fn jump_quickly(registers: &mut Registers, value: u32, to: u32) -> bool
+fn jump_quickly(registers: &mut Registers<Memory>, value: u32, to: u32) -> bool
     requires { HasNumber registers.old.memory.now value }
-    ensures step { let s = state_of registers.old in
-        Quietly result s (state_of registers.new) (number s value (λ v. if_true (is_zero v)
+    ensures step { let s = run_state registers.old in
+        Quietly result s (run_state registers.new) (number s value (λ v. if_true (is_zero v)
         (λ _. goes_to to s) (λ _. quiet_step s))) }
-    ensures kept { KeepsLive (state_of registers.old) (state_of registers.new) }
+    ensures kept { KeepsLive (run_state registers.old) (run_state registers.new) }
 {
     match registers.number(value) {
         Ok(number) => {
@@ -88,12 +96,12 @@ fn jump_quickly(registers: &mut Registers, value: u32, to: u32) -> bool
 // Fails where the number in a slot is 0.
 #[inline(always)]
 #[tactic(auto, using(alma_machine_acts::proofs::Words::tests, std::proofs::lemmas::Int::ints, std::proofs::lemmas::Grind::common_steps))]
-fn check_quickly(registers: &mut Registers, value: u32) -> bool
+fn check_quickly(registers: &mut Registers<Memory>, value: u32) -> bool
     requires { HasNumber registers.old.memory.now value }
-    ensures step { let s = state_of registers.old in
-        Quietly result s (state_of registers.new) (number s value (λ v. if_true (is_zero v)
+    ensures step { let s = run_state registers.old in
+        Quietly result s (run_state registers.new) (number s value (λ v. if_true (is_zero v)
         (λ _. fails_now s) (λ _. quiet_step s))) }
-    ensures kept { KeepsLive (state_of registers.old) (state_of registers.new) }
+    ensures kept { KeepsLive (run_state registers.old) (run_state registers.new) }
 {
     match registers.number(value) {
         Ok(number) => {
@@ -109,7 +117,7 @@ fn check_quickly(registers: &mut Registers, value: u32) -> bool
 // Whether the number in a slot is known, and in a range.
 #[inline(always)]
 #[tactic(auto, using(std::proofs::lemmas::Int::ints, std::proofs::lemmas::Grind::common_steps))]
-fn in_range_quickly(registers: &Registers, value: u32, range: &Range) -> bool
+fn in_range_quickly(registers: &Registers<Memory>, value: u32, range: &Range) -> bool
     requires { HasNumber registers.now.memory.now value }
     ensures { (s : State) → s.now ≡ registers.now.memory.now
         → Quietly result s s (number s value
@@ -125,15 +133,15 @@ fn in_range_quickly(registers: &Registers, value: u32, range: &Range) -> bool
 #[inline(always)]
 #[tactic(auto, unfolding(alma_code::specs::Machine::act), using(crate::proofs::Acting::actings))]
 pub(crate) fn number_quickly<V: CodeView>(
-    registers: &mut Registers,
+    registers: &mut Registers<Memory>,
     view: &V,
     instr: Instr,
     input: &[u8],
 ) -> bool
     requires { Computes registers.old.memory.now instr }
-    ensures step { Quietly result (state_of registers.old) (state_of registers.new)
-        (act (V.code view.now) input.now instr (state_of registers.old)) }
-    ensures kept { KeepsLive (state_of registers.old) (state_of registers.new) }
+    ensures step { Quietly result (run_state registers.old) (run_state registers.new)
+        (act (V.code view.now) input.now instr (run_state registers.old)) }
+    ensures kept { KeepsLive (run_state registers.old) (run_state registers.new) }
 {
     let (to, number) = computed(registers, instr);
     lay_number(registers, to, number)
@@ -143,15 +151,15 @@ pub(crate) fn number_quickly<V: CodeView>(
 #[inline(always)]
 #[tactic(auto, unfolding(alma_code::specs::Machine::act, crate::specs::Needs::Needs), using(crate::proofs::Acting::actings))]
 pub(crate) fn control_quickly<V: CodeView>(
-    registers: &mut Registers,
+    registers: &mut Registers<Memory>,
     view: &V,
     instr: Instr,
     input: &[u8],
 ) -> bool
     requires { Needs (V.code view.now) registers.old.memory.now instr }
-    ensures step { Quietly result (state_of registers.old) (state_of registers.new)
-        (act (V.code view.now) input.now instr (state_of registers.old)) }
-    ensures kept { KeepsLive (state_of registers.old) (state_of registers.new) }
+    ensures step { Quietly result (run_state registers.old) (run_state registers.new)
+        (act (V.code view.now) input.now instr (run_state registers.old)) }
+    ensures kept { KeepsLive (run_state registers.old) (run_state registers.new) }
 {
     match instr {
         Instr::Jump { to } => {
@@ -182,15 +190,15 @@ pub(crate) fn control_quickly<V: CodeView>(
 #[inline(always)]
 #[tactic(auto, unfolding(alma_code::specs::Machine::act, crate::specs::Needs::Needs), using(crate::proofs::Acting::actings))]
 pub(crate) fn place_quickly<V: CodeView>(
-    registers: &mut Registers,
+    registers: &mut Registers<Memory>,
     view: &V,
     instr: Instr,
     input: &[u8],
 ) -> bool
     requires { Needs (V.code view.now) registers.old.memory.now instr }
-    ensures step { Quietly result (state_of registers.old) (state_of registers.new)
-        (act (V.code view.now) input.now instr (state_of registers.old)) }
-    ensures kept { KeepsLive (state_of registers.old) (state_of registers.new) }
+    ensures step { Quietly result (run_state registers.old) (run_state registers.new)
+        (act (V.code view.now) input.now instr (run_state registers.old)) }
+    ensures kept { KeepsLive (run_state registers.old) (run_state registers.new) }
 {
     match instr {
         Instr::Local { to, first } => {

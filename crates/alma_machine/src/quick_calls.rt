@@ -7,18 +7,19 @@ ghost use Rattle.alma_code.specs.Layout.{IsHead, FitsParams};
 ghost use Rattle.alma_code.specs.Machine.{arguments, enters_routine, ends_run, answers_return, state_after_leave, act};
 ghost use Rattle.alma_machine.specs.Needs.{Needs};
 ghost use Rattle.alma_machine.specs.Quick.{Quickly, KeepsLive};
+ghost use Rattle.alma_machine.specs.View.{run_state};
 ghost use Rattle.alma_machine_acts.specs.Calls.{HasArguments};
-ghost use Rattle.alma_machine_acts.specs.Rows.{state_of};
 
 use alma_code::{Cell, Head, Instr};
 use alma_machine_acts::calls::arguments;
 use alma_machine_acts::{CodeView, Registers};
+use alma_memory::Memory;
 
 // Enters a routine with its arguments, where there is room for its frame.
 #[inline(always)]
 #[tactic(auto, using(alma_machine_acts::proofs::Given::enters))]
 fn enter_quickly<H: Head>(
-    registers: &mut Registers,
+    registers: &mut Registers<Memory>,
     head: &H,
     routine: u32,
     start: u32,
@@ -27,9 +28,9 @@ fn enter_quickly<H: Head>(
     requires head { IsHead (H.head head.now) }
     requires args { FitsParams (IsLive registers.old.memory.now)
         (λ routine. IsLive registers.old.memory.now) (H.head head.now).params args.now }
-    ensures step { Quickly result (state_of registers.old) (state_of registers.new)
-        (enters_routine (state_of registers.old) routine start (H.head head.now) args.now) }
-    ensures kept { KeepsLive (state_of registers.old) (state_of registers.new) }
+    ensures step { Quickly result (run_state registers.old) (run_state registers.new)
+        (enters_routine (run_state registers.old) routine start (H.head head.now) args.now) }
+    ensures kept { KeepsLive (run_state registers.old) (run_state registers.new) }
 {
     match registers.memory.enter(head, routine, registers.at, args) {
         Ok(()) => {
@@ -43,7 +44,7 @@ fn enter_quickly<H: Head>(
 // Calls a routine, with the arguments in the slots from the first on, where all are known.
 #[inline(always)]
 fn call_with<H: Head>(
-    registers: &mut Registers,
+    registers: &mut Registers<Memory>,
     head: &H,
     routine: u32,
     start: u32,
@@ -51,10 +52,10 @@ fn call_with<H: Head>(
 ) -> bool
     requires head { IsHead (H.head head.now) }
     requires args { HasArguments registers.old.memory.now (H.head head.now).params first }
-    ensures step { let s = state_of registers.old in Quickly result s (state_of registers.new)
+    ensures step { let s = run_state registers.old in Quickly result s (run_state registers.new)
         (arguments (H.head head.now).params s first
         (λ args. enters_routine s routine start (H.head head.now) args)) }
-    ensures kept { KeepsLive (state_of registers.old) (state_of registers.new) }
+    ensures kept { KeepsLive (run_state registers.old) (run_state registers.new) }
 {
     let mut args = Vec::new(registers.alloc);
     match arguments(registers, head, first, &mut args) {
@@ -66,12 +67,12 @@ fn call_with<H: Head>(
 // Returns without a number, unless one frame is live.
 #[inline(always)]
 #[tactic(auto, using(alma_machine_acts::proofs::Given::returns))]
-fn leave_quickly(registers: &mut Registers) -> bool
+fn leave_quickly(registers: &mut Registers<Memory>) -> bool
     requires { 1 ≤ length registers.old.memory.now }
-    ensures step { let s = state_of registers.old in Quickly result s (state_of registers.new)
+    ensures step { let s = run_state registers.old in Quickly result s (run_state registers.new)
         (if_true (nat_eq (length s.now) 1) (λ _. ends_run end.Succeeded s)
         (λ _. answers_return (state_after_leave s))) }
-    ensures kept { KeepsLive (state_of registers.old) (state_of registers.new) }
+    ensures kept { KeepsLive (run_state registers.old) (run_state registers.new) }
 {
     if registers.memory.frames() == 1 {
         return false;
@@ -89,15 +90,15 @@ fn leave_quickly(registers: &mut Registers) -> bool
 #[inline(always)]
 #[tactic(auto, unfolding(alma_code::specs::Machine::act, crate::specs::Needs::Needs), using(crate::proofs::Acting::actings))]
 pub(crate) fn call_quickly<V: CodeView>(
-    registers: &mut Registers,
+    registers: &mut Registers<Memory>,
     view: &V,
     instr: Instr,
     input: &[u8],
 ) -> bool
     requires { Needs (V.code view.now) registers.old.memory.now instr }
-    ensures step { Quickly result (state_of registers.old) (state_of registers.new)
-        (act (V.code view.now) input.now instr (state_of registers.old)) }
-    ensures kept { KeepsLive (state_of registers.old) (state_of registers.new) }
+    ensures step { Quickly result (run_state registers.old) (run_state registers.new)
+        (act (V.code view.now) input.now instr (run_state registers.old)) }
+    ensures kept { KeepsLive (run_state registers.old) (run_state registers.new) }
 {
     match instr {
         Instr::Call { routine, first, .. } => match view.routine(routine) {

@@ -4,23 +4,25 @@ ghost use Rattle.alma_code.specs.Machine.{number, place, content, store, binds_c
 ghost use Rattle.alma_code.specs.declared.cell.ChoiceKind.TheVariants as choice;
 ghost use Rattle.alma_machine.specs.Needs.{Needs};
 ghost use Rattle.alma_machine.specs.Quick.{Quickly, Quietly, KeepsLive};
-ghost use Rattle.alma_machine_acts.specs.Rows.{state_of, HasMark, HasNumber, HasNumberIn, HasOneCell};
+ghost use Rattle.alma_machine.specs.View.{run_state};
+ghost use Rattle.alma_machine_acts.specs.Rows.{HasMark, HasNumber, HasNumberIn, HasOneCell};
 
 use alma_base::Range;
 use alma_code::{CellPlace, ChoiceKind, Instr};
 use alma_machine_acts::choices::{choose, mark, set_mark};
 use alma_machine_acts::{CodeView, Mode, Registers};
+use alma_memory::Memory;
 
 // Puts the number in a slot into the cell at a place.
 #[inline(always)]
 #[tactic(auto, using(alma_machine_acts::proofs::Words::one_slot, std::proofs::lemmas::Grind::common_steps))]
-fn store_quickly(registers: &mut Registers, to: u32, from: u32) -> bool
+fn store_quickly(registers: &mut Registers<Memory>, to: u32, from: u32) -> bool
     requires to { HasOneCell registers.old.memory.now to }
     requires from { HasNumber registers.old.memory.now from }
-    ensures step { let s = state_of registers.old in
-        Quietly result s (state_of registers.new) (place s to
+    ensures step { let s = run_state registers.old in
+        Quietly result s (run_state registers.new) (place s to
         (λ p. number s from (λ v. store s p.frame p.slot v quiet_step))) }
-    ensures kept { KeepsLive (state_of registers.old) (state_of registers.new) }
+    ensures kept { KeepsLive (run_state registers.old) (run_state registers.new) }
 {
     let Ok(place) = registers.place(to) else {
         return false;
@@ -34,12 +36,17 @@ fn store_quickly(registers: &mut Registers, to: u32, from: u32) -> bool
 // Gives a number to an unknown cell, if it is in the range of the cell.
 #[inline(always)]
 #[tactic(auto, using(alma_machine_acts::proofs::Words::ranges, std::proofs::lemmas::Int::ints, std::proofs::lemmas::Grind::common_steps))]
-fn give_quickly(registers: &mut Registers, place: CellPlace, range: &Range, number: i64) -> bool
+fn give_quickly(
+    registers: &mut Registers<Memory>,
+    place: CellPlace,
+    range: &Range,
+    number: i64,
+) -> bool
     requires { HasNumberIn registers.old.memory.now place.frame place.slot }
-    ensures step { let s = state_of registers.old in
-        Quietly result s (state_of registers.new) (optional_range_check (Some range.now) s number
+    ensures step { let s = run_state registers.old in
+        Quietly result s (run_state registers.new) (optional_range_check (Some range.now) s number
         (λ _. store s place.frame place.slot number quiet_step)) }
-    ensures kept { KeepsLive (state_of registers.old) (state_of registers.new) }
+    ensures kept { KeepsLive (run_state registers.old) (run_state registers.new) }
 {
     if number < range.low || range.high < number {
         return false;
@@ -50,12 +57,17 @@ fn give_quickly(registers: &mut Registers, place: CellPlace, range: &Range, numb
 // The equation of the cell at a place and a number.
 #[inline(always)]
 #[tactic(auto, using(alma_machine_acts::proofs::Words::one_slot, alma_machine_acts::proofs::Words::tests, alma_machine_acts::proofs::Words::ranges, std::proofs::lemmas::Int::ints, std::proofs::lemmas::Grind::common_steps))]
-fn bind_to_quickly(registers: &mut Registers, place: CellPlace, range: &Range, number: i64) -> bool
+fn bind_to_quickly(
+    registers: &mut Registers<Memory>,
+    place: CellPlace,
+    range: &Range,
+    number: i64,
+) -> bool
     requires { HasNumberIn registers.old.memory.now place.frame place.slot }
-    ensures step { let s = state_of registers.old in
-        Quietly result s (state_of registers.new)
+    ensures step { let s = run_state registers.old in
+        Quietly result s (run_state registers.new)
         (content s place.frame place.slot (λ u. binds_content s place range.now number u)) }
-    ensures kept { KeepsLive (state_of registers.old) (state_of registers.new) }
+    ensures kept { KeepsLive (run_state registers.old) (run_state registers.new) }
 {
     match registers.content(place.frame, place.slot) {
         Some(known) => {
@@ -71,13 +83,13 @@ fn bind_to_quickly(registers: &mut Registers, place: CellPlace, range: &Range, n
 // The equation of the cell at the place in a slot and the number in another.
 #[inline(always)]
 #[tactic(auto, using(alma_machine_acts::proofs::Words::one_slot, std::proofs::lemmas::Grind::common_steps))]
-fn bind_quickly(registers: &mut Registers, to: u32, value: u32, range: &Range) -> bool
+fn bind_quickly(registers: &mut Registers<Memory>, to: u32, value: u32, range: &Range) -> bool
     requires to { HasOneCell registers.old.memory.now to }
     requires value { HasNumber registers.old.memory.now value }
-    ensures step { let s = state_of registers.old in
-        Quietly result s (state_of registers.new) (place s to (λ p. number s value
+    ensures step { let s = run_state registers.old in
+        Quietly result s (run_state registers.new) (place s to (λ p. number s value
         (λ v. content s p.frame p.slot (λ u. binds_content s p range.now v u)))) }
-    ensures kept { KeepsLive (state_of registers.old) (state_of registers.new) }
+    ensures kept { KeepsLive (run_state registers.old) (run_state registers.new) }
 {
     let Ok(place) = registers.place(to) else {
         return false;
@@ -92,7 +104,7 @@ fn bind_quickly(registers: &mut Registers, to: u32, value: u32, range: &Range) -
 #[inline(always)]
 #[tactic(auto, using(alma_machine_acts::proofs::Words::tests, std::proofs::lemmas::Int::ints, std::proofs::lemmas::Grind::common_steps))]
 fn equate_quickly(
-    registers: &mut Registers,
+    registers: &mut Registers<Memory>,
     left: CellPlace,
     first: Range,
     right: CellPlace,
@@ -100,11 +112,11 @@ fn equate_quickly(
 ) -> bool
     requires left { HasNumberIn registers.old.memory.now left.frame left.slot }
     requires right { HasNumberIn registers.old.memory.now right.frame right.slot }
-    ensures step { let s = state_of registers.old in
-        Quietly result s (state_of registers.new)
+    ensures step { let s = run_state registers.old in
+        Quietly result s (run_state registers.new)
         (equation s left.frame left.slot (Some first) right.frame right.slot (Some second)
         quiet_step) }
-    ensures kept { KeepsLive (state_of registers.old) (state_of registers.new) }
+    ensures kept { KeepsLive (run_state registers.old) (run_state registers.new) }
 {
     let left_known = registers.content(left.frame, left.slot);
     let right_known = registers.content(right.frame, right.slot);
@@ -125,7 +137,7 @@ fn equate_quickly(
 #[inline(always)]
 #[tactic(auto, using(alma_machine_acts::proofs::Words::one_slot, std::proofs::lemmas::Grind::common_steps))]
 fn unify_quickly(
-    registers: &mut Registers,
+    registers: &mut Registers<Memory>,
     left: u32,
     first: Range,
     right: u32,
@@ -133,11 +145,11 @@ fn unify_quickly(
 ) -> bool
     requires left { HasOneCell registers.old.memory.now left }
     requires right { HasOneCell registers.old.memory.now right }
-    ensures step { let s = state_of registers.old in
-        Quietly result s (state_of registers.new) (place s left (λ p. place s right
+    ensures step { let s = run_state registers.old in
+        Quietly result s (run_state registers.new) (place s left (λ p. place s right
         (λ q. equation s p.frame p.slot (Some first) q.frame q.slot (Some second)
         quiet_step))) }
-    ensures kept { KeepsLive (state_of registers.old) (state_of registers.new) }
+    ensures kept { KeepsLive (run_state registers.old) (run_state registers.new) }
 {
     let Ok(one) = registers.place(left) else {
         return false;
@@ -152,15 +164,15 @@ fn unify_quickly(
 #[inline(always)]
 #[tactic(auto, unfolding(alma_code::specs::Machine::act, crate::specs::Needs::Needs), using(crate::proofs::Acting::actings))]
 pub(crate) fn cell_quickly<V: CodeView>(
-    registers: &mut Registers,
+    registers: &mut Registers<Memory>,
     view: &V,
     instr: Instr,
     input: &[u8],
 ) -> bool
     requires { Needs (V.code view.now) registers.old.memory.now instr }
-    ensures step { Quietly result (state_of registers.old) (state_of registers.new)
-        (act (V.code view.now) input.now instr (state_of registers.old)) }
-    ensures kept { KeepsLive (state_of registers.old) (state_of registers.new) }
+    ensures step { Quietly result (run_state registers.old) (run_state registers.new)
+        (act (V.code view.now) input.now instr (run_state registers.old)) }
+    ensures kept { KeepsLive (run_state registers.old) (run_state registers.new) }
 {
     match instr {
         Instr::Store { to, from } => store_quickly(registers, to, from),
@@ -188,11 +200,11 @@ pub(crate) fn cell_quickly<V: CodeView>(
 // Drops the entries above the height in a slot.
 #[inline(always)]
 #[tactic(auto, using(alma_machine_acts::proofs::Entries::cuts))]
-fn cut_quickly(registers: &mut Registers, slot: u32) -> bool
+fn cut_quickly(registers: &mut Registers<Memory>, slot: u32) -> bool
     requires { HasMark registers.old.memory.now slot }
-    ensures step { let s = state_of registers.old in
-        Quickly result s (state_of registers.new) (mark s slot (λ h. cut_to s h)) }
-    ensures kept { KeepsLive (state_of registers.old) (state_of registers.new) }
+    ensures step { let s = run_state registers.old in
+        Quickly result s (run_state registers.new) (mark s slot (λ h. cut_to s h)) }
+    ensures kept { KeepsLive (run_state registers.old) (run_state registers.new) }
 {
     match mark(registers, slot) {
         Ok(height) => {
@@ -207,22 +219,22 @@ fn cut_quickly(registers: &mut Registers, slot: u32) -> bool
 
 // Pushes a Branch.
 #[inline(always)]
-fn choose_quickly(registers: &mut Registers, resume: u32) -> bool
+fn choose_quickly(registers: &mut Registers<Memory>, resume: u32) -> bool
     requires few { registers.old.choices + 1 < 2 ^ 63 }
-    ensures step { Quickly result (state_of registers.old) (state_of registers.new)
-        (answer_of_push (state_after_push (state_of registers.old) choice.Branch resume)) }
-    ensures kept { KeepsLive (state_of registers.old) (state_of registers.new) }
+    ensures step { Quickly result (run_state registers.old) (run_state registers.new)
+        (answer_of_push (state_after_push (run_state registers.old) choice.Branch resume)) }
+    ensures kept { KeepsLive (run_state registers.old) (run_state registers.new) }
 {
     choose(registers, ChoiceKind::Branch, resume).is_ok()
 }
 
 // Puts the height into a mark slot.
 #[inline(always)]
-fn mark_quickly(registers: &mut Registers, to: u32) -> bool
+fn mark_quickly(registers: &mut Registers<Memory>, to: u32) -> bool
     requires { HasMark registers.old.memory.now to }
-    ensures step { let s = state_of registers.old in
-        Quickly result s (state_of registers.new) (put_mark s to (length s.held)) }
-    ensures kept { KeepsLive (state_of registers.old) (state_of registers.new) }
+    ensures step { let s = run_state registers.old in
+        Quickly result s (run_state registers.new) (put_mark s to (length s.held)) }
+    ensures kept { KeepsLive (run_state registers.old) (run_state registers.new) }
 {
     set_mark(registers, to).is_ok()
 }
@@ -231,16 +243,16 @@ fn mark_quickly(registers: &mut Registers, to: u32) -> bool
 #[inline(always)]
 #[tactic(auto, unfolding(alma_code::specs::Machine::act, crate::specs::Needs::Needs))]
 pub(crate) fn choice_quickly<V: CodeView>(
-    registers: &mut Registers,
+    registers: &mut Registers<Memory>,
     view: &V,
     instr: Instr,
     input: &[u8],
 ) -> bool
     requires needs { Needs (V.code view.now) registers.old.memory.now instr }
     requires few { registers.old.choices + 1 < 2 ^ 63 }
-    ensures step { Quickly result (state_of registers.old) (state_of registers.new)
-        (act (V.code view.now) input.now instr (state_of registers.old)) }
-    ensures kept { KeepsLive (state_of registers.old) (state_of registers.new) }
+    ensures step { Quickly result (run_state registers.old) (run_state registers.new)
+        (act (V.code view.now) input.now instr (run_state registers.old)) }
+    ensures kept { KeepsLive (run_state registers.old) (run_state registers.new) }
 {
     match instr {
         Instr::Mark { to } => mark_quickly(registers, to),
@@ -253,11 +265,11 @@ pub(crate) fn choice_quickly<V: CodeView>(
 /// Goes back to the top entry, where there is one.
 #[inline(always)]
 #[tactic(auto, using(alma_machine_acts::proofs::Entries::pops))]
-pub(crate) fn pop_quickly(registers: &mut Registers) -> bool
+pub(crate) fn pop_quickly(registers: &mut Registers<Memory>) -> bool
     requires few { registers.old.fails + 1 < 2 ^ 63 }
-    ensures step { Quickly result (state_of registers.old) (state_of registers.new)
-        (pop (state_of registers.old)) }
-    ensures kept { KeepsLive (state_of registers.old) (state_of registers.new) }
+    ensures step { Quickly result (run_state registers.old) (run_state registers.new)
+        (pop (run_state registers.old)) }
+    ensures kept { KeepsLive (run_state registers.old) (run_state registers.new) }
 {
     match registers.memory.fail() {
         Some(resumed) => {

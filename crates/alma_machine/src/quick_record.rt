@@ -4,7 +4,7 @@ ghost use Rattle.std.specs.Prelude.{◌+◌, ◌<◌, ◌^◌};
 ghost use Rattle.alma_code.specs.Machine.{act};
 ghost use Rattle.alma_machine.specs.Needs.{Needs};
 ghost use Rattle.alma_machine.specs.Quick.{Quickly, KeepsLive};
-ghost use Rattle.alma_machine_acts.specs.Rows.{state_of};
+ghost use Rattle.alma_machine.specs.View.{run_state};
 ghost use Rattle.alma_object.specs.View.{instr_of_record};
 
 use crate::quick_act::{control_quickly, number_quickly, place_quickly};
@@ -12,22 +12,23 @@ use crate::quick_calls::call_quickly;
 use crate::quick_cells::{cell_quickly, choice_quickly};
 use alma_code::Instr;
 use alma_machine_acts::{CodeView, Registers};
+use alma_memory::Memory;
 use alma_object::InstrRecord;
 
 /// What the instruction of a record does, with the address already at the next one, if it is one that is made at once.
 /// Of the record only the opcode is read, and the words that the form uses.
 #[inline(always)]
 pub(crate) fn act_quickly<V: CodeView>(
-    registers: &mut Registers,
+    registers: &mut Registers<Memory>,
     view: &V,
     form: InstrRecord<'_>,
     input: &[u8],
 ) -> bool
     requires needs { Needs (V.code view.now) registers.old.memory.now (instr_of_record form) }
     requires few { registers.old.choices + 1 < 2 ^ 63 }
-    ensures step { Quickly result (state_of registers.old) (state_of registers.new)
-        (act (V.code view.now) input.now (instr_of_record form.entry) (state_of registers.old)) }
-    ensures kept { KeepsLive (state_of registers.old) (state_of registers.new) }
+    ensures step { Quickly result (run_state registers.old) (run_state registers.new)
+        (act (V.code view.now) input.now (instr_of_record form.entry) (run_state registers.old)) }
+    ensures kept { KeepsLive (run_state registers.old) (run_state registers.new) }
 {
     match form.opcode() {
         1 => {

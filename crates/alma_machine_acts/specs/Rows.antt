@@ -13,6 +13,7 @@ use Rattle.alma_code.specs.Kinds.{is_place, is_link}
 use Rattle.alma_code.specs.Machine.{Mode, Going, Failing, Ended, State, Stepped, number, place, content, link, mark, slot_in, as_place, put_number, put_place, put_link, ends_in_fault}
 use Rattle.alma_code.specs.Picture.{PlainFrame, no_frame, last_frame}
 use Rattle.alma_code.specs.Rules.{place_length}
+use Rattle.alma_memory.specs.Machine.{MachinePicture}
 use Rattle.alma_machine_acts.specs.declared.places.Spot.{Spot}
 use Rattle.alma_machine_acts.specs.declared.registers.Mode as rust
 use Rattle.alma_machine_acts.specs.declared.registers.Mode.TheVariants as mode
@@ -28,13 +29,13 @@ mode_of mode.Failing = Failing
 mode_of (mode.Ended end) = Ended end
 
 -- the state of the copying code machine: the frames and entries are those of the memory's picture
-abbrev pub state_of : Registers → State
-state_of r = record {
+abbrev pub state_of : {M : Type 0} → (picture : M → MachinePicture) → Registers M → State
+state_of picture r = record {
   at = r.at;
   last = r.last;
   mode = mode_of r.mode;
-  now = r.memory.now;
-  held = r.memory.held;
+  now = (picture r.memory).now;
+  held = (picture r.memory).held;
   steps = r.steps;
   choices = r.choices;
   fails = r.fails;

@@ -15,14 +15,18 @@ use crate::codes::CodeView;
 use crate::registers::Registers;
 use alma_base::{NoMemory, RunFault};
 use alma_code::{Cell, CodeParam, End, Head, Instr, Step};
-use alma_memory::EnterError;
+use alma_memory::{EnterError, MachineMemory};
 
 // The argument of a parameter in a slot.
 #[inline(always)]
 #[tactic(auto, using(crate::proofs::Given::givens))]
-fn argument(registers: &Registers, param: CodeParam, slot: u32) -> Result<Cell, RunFault>
-    requires { HasArgument registers.now.memory.now param slot }
-    ensures { GivesArgument registers.now.memory.now param slot result }
+fn argument<M: MachineMemory>(
+    registers: &Registers<M>,
+    param: CodeParam,
+    slot: u32,
+) -> Result<Cell, RunFault>
+    requires { HasArgument (M.picture registers.now.memory).now param slot }
+    ensures { GivesArgument (M.picture registers.now.memory).now param slot result }
 {
     let cell = registers.memory.top(slot);
     match cell {
@@ -34,16 +38,18 @@ fn argument(registers: &Registers, param: CodeParam, slot: u32) -> Result<Cell, 
 
 /// The arguments of all parameters, in the slots from the first on, or the fault of the first that is not known.
 #[inline(always)]
-pub fn arguments<H: Head>(
-    registers: &Registers,
+pub fn arguments<M: MachineMemory, H: Head>(
+    registers: &Registers<M>,
     head: &H,
     first: u32,
     args: &mut Vec<Cell>,
 ) -> Result<Option<RunFault>, NoMemory>
-    requires has { HasArguments registers.now.memory.now (H.head head.now).params first }
+    requires has { HasArguments (M.picture registers.now.memory).now
+        (H.head head.now).params first }
     requires empty { args.old.items ≡ [] }
     ensures { IfOk result
-        (λ fault. GivesArguments registers.now.memory.now (H.head head.now).params first fault
+        (λ fault. GivesArguments (M.picture registers.now.memory).now
+        (H.head head.now).params first fault
         args.new.items) }
 {
     for i in 0..head.param_count() {
@@ -57,21 +63,25 @@ pub fn arguments<H: Head>(
 
 // Enters a routine with its arguments, or ends the run where there is no room for its frame.
 #[tactic(auto, using(crate::proofs::Given::enters))]
-fn enter<H: Head>(
-    registers: &mut Registers,
+fn enter<M: MachineMemory, H: Head>(
+    registers: &mut Registers<M>,
     head: &H,
     routine: u32,
     start: u32,
     args: &[Cell],
 ) -> Result<Step, NoMemory>
     requires head { IsHead (H.head head.now) }
-    requires args { FitsParams (IsLive registers.old.memory.now)
-        (λ routine. IsLive registers.old.memory.now) (H.head head.now).params args.now }
-    ensures ok { IfOk result (λ answer. stepped answer [] (state_of registers.new)
-        ≡ enters_routine (state_of registers.old) routine start (H.head head.now) args.now) }
+    requires args { FitsParams (IsLive (M.picture registers.old.memory).now)
+        (λ routine. IsLive (M.picture registers.old.memory).now) (H.head head.now).params args.now }
+    ensures ok { IfOk result (λ answer. stepped answer [] (state_of M.picture registers.new)
+        ≡ enters_routine (state_of M.picture registers.old) routine start
+        (H.head head.now) args.now) }
     ensures kept { IfOk result
-        (λ answer. KeepsOn answer (state_of registers.old) (state_of registers.new)) }
-    ensures refused { OnErr result (state_of registers.new ≡ state_of registers.old) }
+        (λ answer. KeepsOn answer (state_of M.picture registers.old)
+        (state_of M.picture registers.new)) }
+    ensures refused { OnErr result
+        (state_of M.picture registers.new ≡ state_of M.picture registers.old) }
+    ensures past { (M.picture registers.new.memory).past ≡ (M.picture registers.old.memory).past }
 {
     match registers.memory.enter(head, routine, registers.at, args) {
         Ok(()) => {
@@ -85,22 +95,26 @@ fn enter<H: Head>(
 }
 
 /// Calls a routine, with the arguments in the slots from the first on.
-pub fn call<H: Head>(
-    registers: &mut Registers,
+pub fn call<M: MachineMemory, H: Head>(
+    registers: &mut Registers<M>,
     head: &H,
     routine: u32,
     start: u32,
     first: u32,
 ) -> Result<Step, NoMemory>
     requires head { IsHead (H.head head.now) }
-    requires args { HasArguments registers.old.memory.now (H.head head.now).params first }
-    ensures ok { let s = state_of registers.old in IfOk result
-        (λ answer. stepped answer [] (state_of registers.new)
+    requires args { HasArguments (M.picture registers.old.memory).now
+        (H.head head.now).params first }
+    ensures ok { let s = state_of M.picture registers.old in IfOk result
+        (λ answer. stepped answer [] (state_of M.picture registers.new)
         ≡ arguments (H.head head.now).params s first
         (λ args. enters_routine s routine start (H.head head.now) args)) }
     ensures kept { IfOk result
-        (λ answer. KeepsOn answer (state_of registers.old) (state_of registers.new)) }
-    ensures refused { OnErr result (state_of registers.new ≡ state_of registers.old) }
+        (λ answer. KeepsOn answer (state_of M.picture registers.old)
+        (state_of M.picture registers.new)) }
+    ensures refused { OnErr result
+        (state_of M.picture registers.new ≡ state_of M.picture registers.old) }
+    ensures past { (M.picture registers.new.memory).past ≡ (M.picture registers.old.memory).past }
 {
     let mut args = Vec::new(registers.alloc);
     match arguments(registers, head, first, &mut args)? {
@@ -111,15 +125,18 @@ pub fn call<H: Head>(
 
 /// Returns without a number, or ends the run where one frame is live.
 #[tactic(auto, using(crate::proofs::Given::returns))]
-pub fn leave(registers: &mut Registers) -> Result<Step, NoMemory>
-    requires { 1 ≤ length registers.old.memory.now }
-    ensures ok { let s = state_of registers.old in IfOk result
-        (λ answer. stepped answer [] (state_of registers.new)
+pub fn leave<M: MachineMemory>(registers: &mut Registers<M>) -> Result<Step, NoMemory>
+    requires { 1 ≤ length (M.picture registers.old.memory).now }
+    ensures ok { let s = state_of M.picture registers.old in IfOk result
+        (λ answer. stepped answer [] (state_of M.picture registers.new)
         ≡ if_true (nat_eq (length s.now) 1) (λ _. ends_run end.Succeeded s)
         (λ _. answers_return (state_after_leave s))) }
     ensures kept { IfOk result
-        (λ answer. KeepsOn answer (state_of registers.old) (state_of registers.new)) }
-    ensures refused { OnErr result (state_of registers.new ≡ state_of registers.old) }
+        (λ answer. KeepsOn answer (state_of M.picture registers.old)
+        (state_of M.picture registers.new)) }
+    ensures refused { OnErr result
+        (state_of M.picture registers.new ≡ state_of M.picture registers.old) }
+    ensures past { (M.picture registers.new.memory).past ≡ (M.picture registers.old.memory).past }
 {
     if registers.memory.frames() == 1 {
         return Ok(registers.end(End::Succeeded));
@@ -129,20 +146,23 @@ pub fn leave(registers: &mut Registers) -> Result<Step, NoMemory>
 }
 
 /// Returns a number to the slot that the Call before the return address names.
-pub fn leave_with<V: CodeView>(
-    registers: &mut Registers,
+pub fn leave_with<M: MachineMemory, V: CodeView>(
+    registers: &mut Registers<M>,
     view: &V,
     value: u32,
 ) -> Result<Step, NoMemory>
-    requires slot { HasNumber registers.old.memory.now value }
-    requires back { CallsBack (V.code view.now) registers.old.memory.now }
-    ensures ok { let s = state_of registers.old in IfOk result
-        (λ answer. stepped answer [] (state_of registers.new)
+    requires slot { HasNumber (M.picture registers.old.memory).now value }
+    requires back { CallsBack (V.code view.now) (M.picture registers.old.memory).now }
+    ensures ok { let s = state_of M.picture registers.old in IfOk result
+        (λ answer. stepped answer [] (state_of M.picture registers.new)
         ≡ number s value (λ v. result_to (slice_get (V.code view.now).instrs ((last_frame
         s.now).back - 1)) (state_after_leave s) v)) }
     ensures kept { IfOk result
-        (λ answer. KeepsOn answer (state_of registers.old) (state_of registers.new)) }
-    ensures refused { OnErr result (state_of registers.new ≡ state_of registers.old) }
+        (λ answer. KeepsOn answer (state_of M.picture registers.old)
+        (state_of M.picture registers.new)) }
+    ensures refused { OnErr result
+        (state_of M.picture registers.new ≡ state_of M.picture registers.old) }
+    ensures past { (M.picture registers.new.memory).past ≡ (M.picture registers.old.memory).past }
 {
     let number = registers.number(value);
     give_back(registers, view, number)
@@ -150,19 +170,22 @@ pub fn leave_with<V: CodeView>(
 
 // Leaves the top frame and puts a number into the slot of the caller, or ends the run in its fault.
 #[tactic(auto, using(crate::proofs::Back::backs))]
-fn give_back<V: CodeView>(
-    registers: &mut Registers,
+fn give_back<M: MachineMemory, V: CodeView>(
+    registers: &mut Registers<M>,
     view: &V,
     number: Result<i64, RunFault>,
 ) -> Result<Step, NoMemory>
-    requires { CallsBack (V.code view.now) registers.old.memory.now }
-    ensures ok { let s = state_of registers.old in IfOk result
-        (λ answer. stepped answer [] (state_of registers.new)
+    requires { CallsBack (V.code view.now) (M.picture registers.old.memory).now }
+    ensures ok { let s = state_of M.picture registers.old in IfOk result
+        (λ answer. stepped answer [] (state_of M.picture registers.new)
         ≡ back_or_fault (slice_get (V.code view.now).instrs ((last_frame s.now).back - 1)) s
         number) }
     ensures kept { IfOk result
-        (λ answer. KeepsOn answer (state_of registers.old) (state_of registers.new)) }
-    ensures refused { OnErr result (state_of registers.new ≡ state_of registers.old) }
+        (λ answer. KeepsOn answer (state_of M.picture registers.old)
+        (state_of M.picture registers.new)) }
+    ensures refused { OnErr result
+        (state_of M.picture registers.new ≡ state_of M.picture registers.old) }
+    ensures past { (M.picture registers.new.memory).past ≡ (M.picture registers.old.memory).past }
 {
     let number = match number {
         Ok(number) => number,

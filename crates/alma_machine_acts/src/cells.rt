@@ -8,18 +8,20 @@ ghost use Rattle.alma_machine_acts.specs.Steps.{stepped};
 use crate::registers::{Mode, Registers};
 use alma_base::{NoMemory, Range, RunFault};
 use alma_code::{Cell, CellPlace, End, Step};
+use alma_memory::MachineMemory;
 
-impl Registers {
+impl<M: MachineMemory> Registers<M> {
     /// Puts a number into a number slot of a frame.
     #[inline(always)]
     #[tactic(auto, using(crate::proofs::Words::store_is))]
     pub fn set(&mut self, frame: u32, slot: u32, number: i64) -> Result<Step, NoMemory>
-        requires { HasNumberIn self.old.memory.now frame slot }
-        ensures ok { IfOk result (λ answer. stepped answer [] (state_of self.new)
-            ≡ store (state_of self.old) frame slot number quiet_step) }
+        requires { HasNumberIn (M.picture self.old.memory).now frame slot }
+        ensures ok { IfOk result (λ answer. stepped answer [] (state_of M.picture self.new)
+            ≡ store (state_of M.picture self.old) frame slot number quiet_step) }
         ensures kept { IfOk result
-            (λ answer. KeepsOn answer (state_of self.old) (state_of self.new)) }
-        ensures refused { OnErr result (state_of self.new ≡ state_of self.old) }
+            (λ answer. KeepsOn answer (state_of M.picture self.old) (state_of M.picture self.new)) }
+        ensures refused { OnErr result (state_of M.picture self.new ≡ state_of M.picture self.old) }
+        ensures past { (M.picture self.new.memory).past ≡ (M.picture self.old.memory).past }
     {
         self.memory.write(frame, slot, Cell::Int(number))?;
         Ok(Step::Went)
@@ -28,14 +30,15 @@ impl Registers {
     /// Puts the number in a slot into the cell at a place.
     #[tactic(auto, using(crate::proofs::Words::one_slot, std::proofs::lemmas::Grind::common_steps))]
     pub fn store(&mut self, to: u32, from: u32) -> Result<Step, NoMemory>
-        requires to { HasOneCell self.old.memory.now to }
-        requires from { HasNumber self.old.memory.now from }
-        ensures ok { let s = state_of self.old in
-            IfOk result (λ answer. stepped answer [] (state_of self.new) ≡ place s to
+        requires to { HasOneCell (M.picture self.old.memory).now to }
+        requires from { HasNumber (M.picture self.old.memory).now from }
+        ensures ok { let s = state_of M.picture self.old in
+            IfOk result (λ answer. stepped answer [] (state_of M.picture self.new) ≡ place s to
             (λ p. number s from (λ v. store s p.frame p.slot v quiet_step))) }
         ensures kept { IfOk result
-            (λ answer. KeepsOn answer (state_of self.old) (state_of self.new)) }
-        ensures refused { OnErr result (state_of self.new ≡ state_of self.old) }
+            (λ answer. KeepsOn answer (state_of M.picture self.old) (state_of M.picture self.new)) }
+        ensures refused { OnErr result (state_of M.picture self.new ≡ state_of M.picture self.old) }
+        ensures past { (M.picture self.new.memory).past ≡ (M.picture self.old.memory).past }
     {
         let place = match self.place(to) {
             Ok(place) => place,
@@ -51,8 +54,9 @@ impl Registers {
     #[inline(always)]
     #[tactic(auto, using(crate::proofs::Words::one_slot, std::proofs::lemmas::Grind::common_steps))]
     pub fn knows(&self, of: u32) -> Result<i64, RunFault>
-        requires { HasOneCell self.now.memory.now of }
-        ensures { Gives self.now.memory.now (λ s k. place s of (λ p. content s p.frame p.slot
+        requires { HasOneCell (M.picture self.now.memory).now of }
+        ensures { Gives (M.picture self.now.memory).now
+            (λ s k. place s of (λ p. content s p.frame p.slot
             (λ c. k (bit (is_known c))))) result }
     {
         let place = self.place(of)?;
@@ -71,13 +75,14 @@ impl Registers {
         range: &Range,
         number: i64,
     ) -> Result<Step, NoMemory>
-        requires { HasNumberIn self.old.memory.now place.frame place.slot }
-        ensures ok { let s = state_of self.old in
-            IfOk result (λ answer. stepped answer [] (state_of self.new)
+        requires { HasNumberIn (M.picture self.old.memory).now place.frame place.slot }
+        ensures ok { let s = state_of M.picture self.old in
+            IfOk result (λ answer. stepped answer [] (state_of M.picture self.new)
             ≡ content s place.frame place.slot (λ u. binds_content s place range.now number u)) }
         ensures kept { IfOk result
-            (λ answer. KeepsOn answer (state_of self.old) (state_of self.new)) }
-        ensures refused { OnErr result (state_of self.new ≡ state_of self.old) }
+            (λ answer. KeepsOn answer (state_of M.picture self.old) (state_of M.picture self.new)) }
+        ensures refused { OnErr result (state_of M.picture self.new ≡ state_of M.picture self.old) }
+        ensures past { (M.picture self.new.memory).past ≡ (M.picture self.old.memory).past }
     {
         match self.content(place.frame, place.slot) {
             Some(with_known_content) => {
@@ -98,15 +103,16 @@ impl Registers {
     /// The equation of the cell at the place in a slot and the number in another.
     #[tactic(auto, using(crate::proofs::Words::one_slot, std::proofs::lemmas::Grind::common_steps))]
     pub fn bind(&mut self, to: u32, value: u32, range: &Range) -> Result<Step, NoMemory>
-        requires to { HasOneCell self.old.memory.now to }
-        requires value { HasNumber self.old.memory.now value }
-        ensures ok { let s = state_of self.old in
-            IfOk result (λ answer. stepped answer [] (state_of self.new)
+        requires to { HasOneCell (M.picture self.old.memory).now to }
+        requires value { HasNumber (M.picture self.old.memory).now value }
+        ensures ok { let s = state_of M.picture self.old in
+            IfOk result (λ answer. stepped answer [] (state_of M.picture self.new)
             ≡ place s to (λ p. number s value (λ v. content s p.frame p.slot
             (λ u. binds_content s p range.now v u)))) }
         ensures kept { IfOk result
-            (λ answer. KeepsOn answer (state_of self.old) (state_of self.new)) }
-        ensures refused { OnErr result (state_of self.new ≡ state_of self.old) }
+            (λ answer. KeepsOn answer (state_of M.picture self.old) (state_of M.picture self.new)) }
+        ensures refused { OnErr result (state_of M.picture self.new ≡ state_of M.picture self.old) }
+        ensures past { (M.picture self.new.memory).past ≡ (M.picture self.old.memory).past }
     {
         let place = match self.place(to) {
             Ok(place) => place,

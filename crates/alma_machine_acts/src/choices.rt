@@ -9,13 +9,14 @@ ghost use Rattle.alma_machine_acts.specs.Steps.{stepped};
 use crate::registers::{Mode, Registers};
 use alma_base::{NoMemory, RunFault};
 use alma_code::{Cell, ChoiceKind, End, Step};
+use alma_memory::MachineMemory;
 
 /// The height in a mark slot.
 #[inline(always)]
 #[tactic(auto, using(crate::proofs::Entries::marks))]
-pub fn mark(registers: &Registers, slot: u32) -> Result<usize, RunFault>
-    requires { HasMark registers.now.memory.now slot }
-    ensures { GivesMark registers.now.memory.now slot result }
+pub fn mark<M: MachineMemory>(registers: &Registers<M>, slot: u32) -> Result<usize, RunFault>
+    requires { HasMark (M.picture registers.now.memory).now slot }
+    ensures { GivesMark (M.picture registers.now.memory).now slot result }
 {
     match registers.memory.top(slot) {
         Cell::Mark(height) => Ok(height),
@@ -27,13 +28,17 @@ pub fn mark(registers: &Registers, slot: u32) -> Result<usize, RunFault>
 /// Puts the height into a mark slot.
 #[inline(always)]
 #[tactic(auto, using(crate::proofs::Entries::put_marks))]
-pub fn set_mark(registers: &mut Registers, to: u32) -> Result<Step, NoMemory>
-    requires { HasMark registers.old.memory.now to }
-    ensures ok { let s = state_of registers.old in IfOk result
-        (λ answer. stepped answer [] (state_of registers.new) ≡ put_mark s to (length s.held)) }
+pub fn set_mark<M: MachineMemory>(registers: &mut Registers<M>, to: u32) -> Result<Step, NoMemory>
+    requires { HasMark (M.picture registers.old.memory).now to }
+    ensures ok { let s = state_of M.picture registers.old in IfOk result
+        (λ answer. stepped answer [] (state_of M.picture registers.new)
+        ≡ put_mark s to (length s.held)) }
     ensures kept { IfOk result
-        (λ answer. KeepsOn answer (state_of registers.old) (state_of registers.new)) }
-    ensures refused { OnErr result (state_of registers.new ≡ state_of registers.old) }
+        (λ answer. KeepsOn answer (state_of M.picture registers.old)
+        (state_of M.picture registers.new)) }
+    ensures refused { OnErr result
+        (state_of M.picture registers.new ≡ state_of M.picture registers.old) }
+    ensures past { (M.picture registers.new.memory).past ≡ (M.picture registers.old.memory).past }
 {
     let height = registers.memory.height();
     registers.write(to, Cell::Mark(height))
@@ -41,15 +46,22 @@ pub fn set_mark(registers: &mut Registers, to: u32) -> Result<Step, NoMemory>
 
 /// Pushes an entry.
 #[inline(always)]
-pub fn choose(registers: &mut Registers, kind: ChoiceKind, resume: u32) -> Result<Step, NoMemory>
+pub fn choose<M: MachineMemory>(
+    registers: &mut Registers<M>,
+    kind: ChoiceKind,
+    resume: u32,
+) -> Result<Step, NoMemory>
     requires kind { kind ≢ ChoiceKind.Done }
     requires few { registers.old.choices + 1 < 2 ^ 63 }
-    ensures ok { IfOk result (λ answer. stepped answer [] (state_of registers.new)
-        ≡ answer_of_push (state_after_push (state_of registers.old) kind resume)) }
-    ensures succeeds { 1 ≤ registers.old.memory.choice_room → IsOk result }
+    ensures ok { IfOk result (λ answer. stepped answer [] (state_of M.picture registers.new)
+        ≡ answer_of_push (state_after_push (state_of M.picture registers.old) kind resume)) }
+    ensures succeeds { 1 ≤ (M.picture registers.old.memory).choice_room → IsOk result }
     ensures kept { IfOk result
-        (λ answer. KeepsOn answer (state_of registers.old) (state_of registers.new)) }
-    ensures refused { OnErr result (state_of registers.new ≡ state_of registers.old) }
+        (λ answer. KeepsOn answer (state_of M.picture registers.old)
+        (state_of M.picture registers.new)) }
+    ensures refused { OnErr result
+        (state_of M.picture registers.new ≡ state_of M.picture registers.old) }
+    ensures past { (M.picture registers.new.memory).past ≡ (M.picture registers.old.memory).past }
 {
     registers.memory.choose(kind, resume)?;
     registers.choices += 1;
@@ -58,11 +70,14 @@ pub fn choose(registers: &mut Registers, kind: ChoiceKind, resume: u32) -> Resul
 
 /// Drops the entries above the height in a slot.
 #[tactic(auto, using(crate::proofs::Entries::cuts))]
-pub fn cut(registers: &mut Registers, slot: u32) -> Step
-    requires { HasMark registers.old.memory.now slot }
-    ensures step { let s = state_of registers.old in stepped result [] (state_of registers.new)
+pub fn cut<M: MachineMemory>(registers: &mut Registers<M>, slot: u32) -> Step
+    requires { HasMark (M.picture registers.old.memory).now slot }
+    ensures step { let s = state_of M.picture registers.old in stepped result []
+        (state_of M.picture registers.new)
         ≡ mark s slot (λ h. cut_to s h) }
-    ensures kept { KeepsOn result (state_of registers.old) (state_of registers.new) }
+    ensures kept { KeepsOn result (state_of M.picture registers.old)
+        (state_of M.picture registers.new) }
+    ensures past { (M.picture registers.new.memory).past ≡ (M.picture registers.old.memory).past }
 {
     match mark(registers, slot) {
         Ok(height) => {
@@ -79,10 +94,13 @@ pub fn cut(registers: &mut Registers, slot: u32) -> Step
 
 /// Goes back to the top entry, or ends the run where there is none.
 #[tactic(auto, using(crate::proofs::Entries::pops))]
-pub fn pop(registers: &mut Registers) -> Step
+pub fn pop<M: MachineMemory>(registers: &mut Registers<M>) -> Step
     requires few { registers.old.fails + 1 < 2 ^ 63 }
-    ensures step { stepped result [] (state_of registers.new) ≡ pop (state_of registers.old) }
-    ensures kept { KeepsOn result (state_of registers.old) (state_of registers.new) }
+    ensures step { stepped result [] (state_of M.picture registers.new)
+        ≡ pop (state_of M.picture registers.old) }
+    ensures kept { KeepsOn result (state_of M.picture registers.old)
+        (state_of M.picture registers.new) }
+    ensures past { (M.picture registers.new.memory).past ≡ (M.picture registers.old.memory).past }
 {
     let height = registers.memory.height();
     match registers.memory.fail() {
@@ -98,17 +116,24 @@ pub fn pop(registers: &mut Registers) -> Step
 
 /// Pushes a Forall, and puts the height after it into a mark slot.
 #[tactic(auto, using(crate::proofs::Entries::foralls))]
-pub fn forall(registers: &mut Registers, slot: u32, resume: u32) -> Result<Step, NoMemory>
-    requires mark { HasMark registers.old.memory.now slot }
+pub fn forall<M: MachineMemory>(
+    registers: &mut Registers<M>,
+    slot: u32,
+    resume: u32,
+) -> Result<Step, NoMemory>
+    requires mark { HasMark (M.picture registers.old.memory).now slot }
     requires few { registers.old.choices + 1 < 2 ^ 63 }
-    ensures ok { let s = state_of registers.old in IfOk result
-        (λ answer. stepped answer [] (state_of registers.new)
+    ensures ok { let s = state_of M.picture registers.old in IfOk result
+        (λ answer. stepped answer [] (state_of M.picture registers.new)
         ≡ to_mark (kind_of s slot) s
         (λ _. answer_of_push (with_slot (state_after_push s choice.Forall resume) slot (cell.Mark
         (length s.held + 1))))) }
     ensures kept { IfOk result
-        (λ answer. KeepsOn answer (state_of registers.old) (state_of registers.new)) }
-    ensures refused { OnErr result (state_of registers.new ≡ state_of registers.old) }
+        (λ answer. KeepsOn answer (state_of M.picture registers.old)
+        (state_of M.picture registers.new)) }
+    ensures refused { OnErr result
+        (state_of M.picture registers.new ≡ state_of M.picture registers.old) }
+    ensures past { (M.picture registers.new.memory).past ≡ (M.picture registers.old.memory).past }
 {
     registers.memory.reserve(1, 1)?;
     let frame = registers.memory.frames() - 1;
@@ -126,8 +151,8 @@ pub fn forall(registers: &mut Registers, slot: u32, resume: u32) -> Result<Step,
 }
 
 // Whether a Forall is at a height.
-fn has_forall(registers: &Registers, height: usize) -> bool
-    ensures { result ≡ is_forall_at registers.now.memory.held height }
+fn has_forall<M: MachineMemory>(registers: &Registers<M>, height: usize) -> bool
+    ensures { result ≡ is_forall_at (M.picture registers.now.memory).held height }
 {
     match registers.memory.kind_at(height) {
         Some(ChoiceKind::Forall) => true,
@@ -137,11 +162,15 @@ fn has_forall(registers: &Registers, height: usize) -> bool
 
 // Lays the carry of the Forall at a height over the frames, where there is one.
 #[tactic(auto, using(crate::proofs::Entries::overlays))]
-fn lay_over(registers: &mut Registers, height: usize) -> Result<(), NoMemory>
-    ensures ok { IfOk result (λ _. state_of registers.new ≡ overlay (state_of registers.old) height) }
-    ensures room { OnOk result (1 ≤ registers.new.memory.choice_room) }
+fn lay_over<M: MachineMemory>(registers: &mut Registers<M>, height: usize) -> Result<(), NoMemory>
+    ensures ok { IfOk result
+        (λ _. state_of M.picture registers.new
+        ≡ overlay (state_of M.picture registers.old) height) }
+    ensures room { OnOk result (1 ≤ (M.picture registers.new.memory).choice_room) }
     ensures choices { registers.new.choices ≡ registers.old.choices }
-    ensures refused { OnErr result (state_of registers.new ≡ state_of registers.old) }
+    ensures refused { OnErr result
+        (state_of M.picture registers.new ≡ state_of M.picture registers.old) }
+    ensures past { (M.picture registers.new.memory).past ≡ (M.picture registers.old.memory).past }
 {
     registers.memory.reserve(1, 0)?;
     if has_forall(registers, height) {
@@ -151,15 +180,22 @@ fn lay_over(registers: &mut Registers, height: usize) -> Result<(), NoMemory>
 }
 
 /// Lays the carry of a Forall over the frames, and pushes a Body.
-pub fn begin_body(registers: &mut Registers, slot: u32, resume: u32) -> Result<Step, NoMemory>
-    requires mark { HasMark registers.old.memory.now slot }
+pub fn begin_body<M: MachineMemory>(
+    registers: &mut Registers<M>,
+    slot: u32,
+    resume: u32,
+) -> Result<Step, NoMemory>
+    requires mark { HasMark (M.picture registers.old.memory).now slot }
     requires few { registers.old.choices + 1 < 2 ^ 63 }
-    ensures ok { let s = state_of registers.old in IfOk result
-        (λ answer. stepped answer [] (state_of registers.new)
+    ensures ok { let s = state_of M.picture registers.old in IfOk result
+        (λ answer. stepped answer [] (state_of M.picture registers.new)
         ≡ mark s slot (λ h. answer_of_push (state_after_push (overlay s h) choice.Body resume))) }
     ensures kept { IfOk result
-        (λ answer. KeepsOn answer (state_of registers.old) (state_of registers.new)) }
-    ensures refused { OnErr result (state_of registers.new ≡ state_of registers.old) }
+        (λ answer. KeepsOn answer (state_of M.picture registers.old)
+        (state_of M.picture registers.new)) }
+    ensures refused { OnErr result
+        (state_of M.picture registers.new ≡ state_of M.picture registers.old) }
+    ensures past { (M.picture registers.new.memory).past ≡ (M.picture registers.old.memory).past }
 {
     match mark(registers, slot) {
         Ok(height) => {
@@ -175,12 +211,15 @@ pub fn begin_body(registers: &mut Registers, slot: u32, resume: u32) -> Result<S
 
 // Keeps the Body on top in the Forall at a height below it, where they are there.
 #[tactic(auto, using(crate::proofs::Entries::keeps))]
-fn keep_at(registers: &mut Registers, height: usize) -> Result<Step, NoMemory>
-    ensures ok { IfOk result (λ answer. stepped answer [] (state_of registers.new)
-        ≡ keep (state_of registers.old) height) }
+fn keep_at<M: MachineMemory>(registers: &mut Registers<M>, height: usize) -> Result<Step, NoMemory>
+    ensures ok { IfOk result (λ answer. stepped answer [] (state_of M.picture registers.new)
+        ≡ keep (state_of M.picture registers.old) height) }
     ensures kept { IfOk result
-        (λ answer. KeepsOn answer (state_of registers.old) (state_of registers.new)) }
-    ensures refused { OnErr result (state_of registers.new ≡ state_of registers.old) }
+        (λ answer. KeepsOn answer (state_of M.picture registers.old)
+        (state_of M.picture registers.new)) }
+    ensures refused { OnErr result
+        (state_of M.picture registers.new ≡ state_of M.picture registers.old) }
+    ensures past { (M.picture registers.new.memory).past ≡ (M.picture registers.old.memory).past }
 {
     let top = registers.memory.height();
     if registers.memory.kind_at(height) == Some(ChoiceKind::Forall)
@@ -194,13 +233,17 @@ fn keep_at(registers: &mut Registers, height: usize) -> Result<Step, NoMemory>
 }
 
 /// Keeps the Body on top in the Forall whose height is in a slot.
-pub fn keep(registers: &mut Registers, slot: u32) -> Result<Step, NoMemory>
-    requires { HasMark registers.old.memory.now slot }
-    ensures ok { let s = state_of registers.old in IfOk result
-        (λ answer. stepped answer [] (state_of registers.new) ≡ mark s slot (λ h. keep s h)) }
+pub fn keep<M: MachineMemory>(registers: &mut Registers<M>, slot: u32) -> Result<Step, NoMemory>
+    requires { HasMark (M.picture registers.old.memory).now slot }
+    ensures ok { let s = state_of M.picture registers.old in IfOk result
+        (λ answer. stepped answer [] (state_of M.picture registers.new)
+        ≡ mark s slot (λ h. keep s h)) }
     ensures kept { IfOk result
-        (λ answer. KeepsOn answer (state_of registers.old) (state_of registers.new)) }
-    ensures refused { OnErr result (state_of registers.new ≡ state_of registers.old) }
+        (λ answer. KeepsOn answer (state_of M.picture registers.old)
+        (state_of M.picture registers.new)) }
+    ensures refused { OnErr result
+        (state_of M.picture registers.new ≡ state_of M.picture registers.old) }
+    ensures past { (M.picture registers.new.memory).past ≡ (M.picture registers.old.memory).past }
 {
     match mark(registers, slot) {
         Ok(height) => keep_at(registers, height),
@@ -210,12 +253,15 @@ pub fn keep(registers: &mut Registers, slot: u32) -> Result<Step, NoMemory>
 
 /// Drops the Done on top and lays its carry over the frames, where there is one.
 #[tactic(auto, using(crate::proofs::Entries::finishes))]
-pub fn finish(registers: &mut Registers) -> Result<Step, NoMemory>
-    ensures ok { IfOk result (λ answer. stepped answer [] (state_of registers.new)
-        ≡ finish (state_of registers.old)) }
+pub fn finish<M: MachineMemory>(registers: &mut Registers<M>) -> Result<Step, NoMemory>
+    ensures ok { IfOk result (λ answer. stepped answer [] (state_of M.picture registers.new)
+        ≡ finish (state_of M.picture registers.old)) }
     ensures kept { IfOk result
-        (λ answer. KeepsOn answer (state_of registers.old) (state_of registers.new)) }
-    ensures refused { OnErr result (state_of registers.new ≡ state_of registers.old) }
+        (λ answer. KeepsOn answer (state_of M.picture registers.old)
+        (state_of M.picture registers.new)) }
+    ensures refused { OnErr result
+        (state_of M.picture registers.new ≡ state_of M.picture registers.old) }
+    ensures past { (M.picture registers.new.memory).past ≡ (M.picture registers.old.memory).past }
 {
     if registers.memory.kind_at(registers.memory.height()) == Some(ChoiceKind::Done) {
         registers.memory.finish()?;

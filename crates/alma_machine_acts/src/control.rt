@@ -10,16 +10,19 @@ ghost use Rattle.alma_machine_acts.specs.Steps.{stepped};
 use crate::registers::{Mode, Registers};
 use alma_base::{NoMemory, Range, RunFault};
 use alma_code::{End, Step};
+use alma_memory::MachineMemory;
 
-impl Registers {
+impl<M: MachineMemory> Registers<M> {
     /// Goes to an address where the number in a slot is 0.
     #[tactic(auto, using(crate::proofs::Words::tests, std::proofs::lemmas::Int::ints, std::proofs::lemmas::Grind::common_steps))]
     pub fn jump_zero(&mut self, value: u32, to: u32) -> Step
-        requires { HasNumber self.old.memory.now value }
-        ensures step { let s = state_of self.old in
-            stepped result [] (state_of self.new) ≡ number s value (λ v. if_true (is_zero v)
+        requires { HasNumber (M.picture self.old.memory).now value }
+        ensures step { let s = state_of M.picture self.old in
+            stepped result [] (state_of M.picture self.new) ≡ number s value
+            (λ v. if_true (is_zero v)
             (λ _. goes_to to s) (λ _. quiet_step s)) }
-        ensures kept { KeepsOn result (state_of self.old) (state_of self.new) }
+        ensures kept { KeepsOn result (state_of M.picture self.old) (state_of M.picture self.new) }
+        ensures past { (M.picture self.new.memory).past ≡ (M.picture self.old.memory).past }
     {
         match self.number(value) {
             Ok(number) => {
@@ -35,11 +38,13 @@ impl Registers {
     /// Fails where the number in a slot is 0.
     #[tactic(auto, using(crate::proofs::Words::tests, std::proofs::lemmas::Int::ints, std::proofs::lemmas::Grind::common_steps))]
     pub fn check(&mut self, value: u32) -> Step
-        requires { HasNumber self.old.memory.now value }
-        ensures step { let s = state_of self.old in
-            stepped result [] (state_of self.new) ≡ number s value (λ v. if_true (is_zero v)
+        requires { HasNumber (M.picture self.old.memory).now value }
+        ensures step { let s = state_of M.picture self.old in
+            stepped result [] (state_of M.picture self.new) ≡ number s value
+            (λ v. if_true (is_zero v)
             (λ _. fails_now s) (λ _. quiet_step s)) }
-        ensures kept { KeepsOn result (state_of self.old) (state_of self.new) }
+        ensures kept { KeepsOn result (state_of M.picture self.old) (state_of M.picture self.new) }
+        ensures past { (M.picture self.new.memory).past ≡ (M.picture self.old.memory).past }
     {
         match self.number(value) {
             Ok(number) => {
@@ -55,11 +60,12 @@ impl Registers {
     /// Ends the run where the number in a slot is not in a range.
     #[tactic(auto, using(std::proofs::lemmas::Int::ints, std::proofs::lemmas::Grind::common_steps))]
     pub fn in_range(&mut self, value: u32, range: &Range) -> Step
-        requires { HasNumber self.old.memory.now value }
-        ensures step { let s = state_of self.old in
-            stepped result [] (state_of self.new) ≡ number s value
+        requires { HasNumber (M.picture self.old.memory).now value }
+        ensures step { let s = state_of M.picture self.old in
+            stepped result [] (state_of M.picture self.new) ≡ number s value
             (λ v. range_check range.now fault.Range s v (λ _. quiet_step s)) }
-        ensures kept { KeepsOn result (state_of self.old) (state_of self.new) }
+        ensures kept { KeepsOn result (state_of M.picture self.old) (state_of M.picture self.new) }
+        ensures past { (M.picture self.new.memory).past ≡ (M.picture self.old.memory).past }
     {
         match self.number_within(value, range, RunFault::Range) {
             Ok(_) => Step::Went,
@@ -70,15 +76,16 @@ impl Registers {
     /// Counts a counter on, or goes to an address where the next number is beyond the limit.
     #[tactic(auto, using(std::proofs::lemmas::Int::ints, std::proofs::lemmas::Grind::common_steps))]
     pub fn count(&mut self, counter: u32, limit: u32, by: u32, out: u32) -> Result<Step, NoMemory>
-        requires counter { HasNumber self.old.memory.now counter }
-        requires limit { HasNumber self.old.memory.now limit }
-        requires by { HasNumber self.old.memory.now by }
-        ensures ok { let s = state_of self.old in
-            IfOk result (λ answer. stepped answer [] (state_of self.new)
+        requires counter { HasNumber (M.picture self.old.memory).now counter }
+        requires limit { HasNumber (M.picture self.old.memory).now limit }
+        requires by { HasNumber (M.picture self.old.memory).now by }
+        ensures ok { let s = state_of M.picture self.old in
+            IfOk result (λ answer. stepped answer [] (state_of M.picture self.new)
             ≡ counted s counter limit by (goes_to out s) (put_number s counter)) }
         ensures kept { IfOk result
-            (λ answer. KeepsOn answer (state_of self.old) (state_of self.new)) }
-        ensures refused { OnErr result (state_of self.new ≡ state_of self.old) }
+            (λ answer. KeepsOn answer (state_of M.picture self.old) (state_of M.picture self.new)) }
+        ensures refused { OnErr result (state_of M.picture self.new ≡ state_of M.picture self.old) }
+        ensures past { (M.picture self.new.memory).past ≡ (M.picture self.old.memory).past }
     {
         match self.next(counter, limit, by) {
             Ok(Some(next)) => self.put(counter, Ok(next)),

@@ -10,12 +10,17 @@ use crate::places::Spot;
 use crate::registers::Registers;
 use alma_base::NoMemory;
 use alma_code::{Cell, End, Step};
+use alma_memory::MachineMemory;
 
 // So many cells of a frame, from one on.
-fn cells(registers: &Registers, from: Spot, count: u32) -> Result<Vec<Cell>, NoMemory>
-    requires { AreNumbers registers.now.memory.now from.frame from.slot count }
+fn cells<M: MachineMemory>(
+    registers: &Registers<M>,
+    from: Spot,
+    count: u32,
+) -> Result<Vec<Cell>, NoMemory>
+    requires { AreNumbers (M.picture registers.now.memory).now from.frame from.slot count }
     ensures { IfOk result (λ cells. cells.items
-        ≡ cells_from registers.now.memory.now from.frame from.slot count) }
+        ≡ cells_from (M.picture registers.now.memory).now from.frame from.slot count) }
 {
     let mut cells = Vec::new(registers.alloc);
     for k in 0..count {
@@ -25,13 +30,16 @@ fn cells(registers: &Registers, from: Spot, count: u32) -> Result<Vec<Cell>, NoM
 }
 
 // The cells of a frame from one on get these, where there is room to note that.
-fn lay(registers: &mut Registers, to: Spot, cells: &[Cell]) -> Step
-    requires to { AreNumbers registers.old.memory.now to.frame to.slot (length cells.now) }
+fn lay<M: MachineMemory>(registers: &mut Registers<M>, to: Spot, cells: &[Cell]) -> Step
+    requires to { AreNumbers (M.picture registers.old.memory).now to.frame to.slot
+        (length cells.now) }
     requires contents { All IsContent cells.now }
-    requires room { length cells.now ≤ registers.old.memory.trail_room }
-    ensures step { stepped result [] (state_of registers.new)
-        ≡ laid cells.now (state_of registers.old) to.frame to.slot }
-    ensures kept { KeepsOn result (state_of registers.old) (state_of registers.new) }
+    requires room { length cells.now ≤ (M.picture registers.old.memory).trail_room }
+    ensures step { stepped result [] (state_of M.picture registers.new)
+        ≡ laid cells.now (state_of M.picture registers.old) to.frame to.slot }
+    ensures kept { KeepsOn result (state_of M.picture registers.old)
+        (state_of M.picture registers.new) }
+    ensures past { (M.picture registers.new.memory).past ≡ (M.picture registers.old.memory).past }
 {
     for k in 0..cells.len() {
         let written = registers
@@ -47,15 +55,22 @@ fn lay(registers: &mut Registers, to: Spot, cells: &[Cell]) -> Step
 
 // So many cells are copied, all at once.
 #[tactic(auto, using(crate::proofs::Copying::copies))]
-fn copy(registers: &mut Registers, to: Spot, from: Spot, count: u32) -> Result<Step, NoMemory>
-    requires to { AreNumbers registers.old.memory.now to.frame to.slot count }
-    requires from { AreNumbers registers.old.memory.now from.frame from.slot count }
-    ensures ok { let s = state_of registers.old in IfOk result (λ answer.
-        stepped answer [] (state_of registers.new)
+fn copy<M: MachineMemory>(
+    registers: &mut Registers<M>,
+    to: Spot,
+    from: Spot,
+    count: u32,
+) -> Result<Step, NoMemory>
+    requires to { AreNumbers (M.picture registers.old.memory).now to.frame to.slot count }
+    requires from { AreNumbers (M.picture registers.old.memory).now from.frame from.slot count }
+    ensures ok { let s = state_of M.picture registers.old in IfOk result (λ answer.
+        stepped answer [] (state_of M.picture registers.new)
         ≡ copies_cells count s.now s to.frame to.slot from.frame from.slot) }
-    ensures kept { IfOk result (λ answer. KeepsOn answer (state_of registers.old)
-        (state_of registers.new)) }
-    ensures refused { OnErr result (state_of registers.new ≡ state_of registers.old) }
+    ensures kept { IfOk result (λ answer. KeepsOn answer (state_of M.picture registers.old)
+        (state_of M.picture registers.new)) }
+    ensures refused { OnErr result
+        (state_of M.picture registers.new ≡ state_of M.picture registers.old) }
+    ensures past { (M.picture registers.new.memory).past ≡ (M.picture registers.old.memory).past }
 {
     let cells = cells(registers, from, count)?;
     registers.memory.reserve(0, count as usize)?;
@@ -64,16 +79,23 @@ fn copy(registers: &mut Registers, to: Spot, from: Spot, count: u32) -> Result<S
 
 /// Copies the cells at the place in a slot to those at the place in another, all at once.
 #[tactic(auto, using(crate::proofs::Meetings::numbers_of))]
-pub fn copy_cells(registers: &mut Registers, to: u32, from: u32) -> Result<Step, NoMemory>
-    requires to { HasCells registers.old.memory.now to }
-    requires from { HasCells registers.old.memory.now from }
-    requires alike { width registers.old.memory.now to ≡ width registers.old.memory.now from }
-    ensures ok { let s = state_of registers.old in IfOk result (λ answer.
-        stepped answer [] (state_of registers.new) ≡ place s to (λ p. place s from
+pub fn copy_cells<M: MachineMemory>(
+    registers: &mut Registers<M>,
+    to: u32,
+    from: u32,
+) -> Result<Step, NoMemory>
+    requires to { HasCells (M.picture registers.old.memory).now to }
+    requires from { HasCells (M.picture registers.old.memory).now from }
+    requires alike { width (M.picture registers.old.memory).now to
+        ≡ width (M.picture registers.old.memory).now from }
+    ensures ok { let s = state_of M.picture registers.old in IfOk result (λ answer.
+        stepped answer [] (state_of M.picture registers.new) ≡ place s to (λ p. place s from
         (λ q. copies_cells p.len s.now s p.frame p.slot q.frame q.slot))) }
-    ensures kept { IfOk result (λ answer. KeepsOn answer (state_of registers.old)
-        (state_of registers.new)) }
-    ensures refused { OnErr result (state_of registers.new ≡ state_of registers.old) }
+    ensures kept { IfOk result (λ answer. KeepsOn answer (state_of M.picture registers.old)
+        (state_of M.picture registers.new)) }
+    ensures refused { OnErr result
+        (state_of M.picture registers.new ≡ state_of M.picture registers.old) }
+    ensures past { (M.picture registers.new.memory).past ≡ (M.picture registers.old.memory).past }
 {
     let to = match registers.place(to) {
         Ok(place) => place,

@@ -12,6 +12,7 @@ use crate::places::Spot;
 use crate::registers::Registers;
 use alma_base::{NoMemory, Range, RunFault};
 use alma_code::{Cell, CellPlace, End, Step};
+use alma_memory::MachineMemory;
 
 /// How an equation ends.
 #[derive(Clone, Copy)]
@@ -20,18 +21,22 @@ pub(crate) enum Met {
     Ends(Step),
 }
 
-impl Registers {
+impl<M: MachineMemory> Registers<M> {
     // A number slot gets a number that is known, where it is in the range.
     #[tactic(auto, using(crate::proofs::Words::store_is, crate::proofs::Words::ranges, crate::proofs::Stays::number_stays, std::proofs::lemmas::Int::ints, std::proofs::lemmas::Grind::common_steps))]
     fn give(&mut self, to: Spot, range: Option<Range>, known: Option<i64>) -> Result<Met, NoMemory>
-        requires { HasNumberIn self.old.memory.now to.frame to.slot }
-        ensures ok { let s = state_of self.old in IfOk result (λ met. Meets met
-            (λ k. given s to.frame to.slot range known k) (state_of self.new)) }
-        ensures kept { IfOk result (λ met. MeetsOn met (state_of self.old) (state_of self.new)) }
-        ensures refused { OnErr result (state_of self.new ≡ state_of self.old) }
-        ensures stays { KeepsNumbers self.old.memory.now self.new.memory.now }
-        ensures succeeds { 1 ≤ self.old.memory.trail_room → IsOk result }
-        ensures room { self.old.memory.trail_room ≤ self.new.memory.trail_room + 1 }
+        requires { HasNumberIn (M.picture self.old.memory).now to.frame to.slot }
+        ensures ok { let s = state_of M.picture self.old in IfOk result (λ met. Meets met
+            (λ k. given s to.frame to.slot range known k) (state_of M.picture self.new)) }
+        ensures kept { IfOk result
+            (λ met. MeetsOn met (state_of M.picture self.old) (state_of M.picture self.new)) }
+        ensures refused { OnErr result (state_of M.picture self.new ≡ state_of M.picture self.old) }
+        ensures stays { KeepsNumbers (M.picture self.old.memory).now
+            (M.picture self.new.memory).now }
+        ensures succeeds { 1 ≤ (M.picture self.old.memory).trail_room → IsOk result }
+        ensures room { (M.picture self.old.memory).trail_room
+            ≤ (M.picture self.new.memory).trail_room + 1 }
+        ensures past { (M.picture self.new.memory).past ≡ (M.picture self.old.memory).past }
     {
         let Some(number) = known else {
             return Ok(Met::Ends(self.end(End::Fault(RunFault::Unknown))));
@@ -56,17 +61,21 @@ impl Registers {
         right_range: Option<Range>,
         right_known: Option<i64>,
     ) -> Result<Met, NoMemory>
-        requires left { HasNumberIn self.old.memory.now left.frame left.slot }
-        requires right { HasNumberIn self.old.memory.now right.frame right.slot }
-        ensures ok { let s = state_of self.old in
+        requires left { HasNumberIn (M.picture self.old.memory).now left.frame left.slot }
+        requires right { HasNumberIn (M.picture self.old.memory).now right.frame right.slot }
+        ensures ok { let s = state_of M.picture self.old in
             IfOk result (λ met. Meets met
             (λ k. equation_of_contents s left.frame left.slot left_range left_known right.frame
-            right.slot right_range right_known k) (state_of self.new)) }
-        ensures kept { IfOk result (λ met. MeetsOn met (state_of self.old) (state_of self.new)) }
-        ensures refused { OnErr result (state_of self.new ≡ state_of self.old) }
-        ensures stays { KeepsNumbers self.old.memory.now self.new.memory.now }
-        ensures succeeds { 1 ≤ self.old.memory.trail_room → IsOk result }
-        ensures room { self.old.memory.trail_room ≤ self.new.memory.trail_room + 1 }
+            right.slot right_range right_known k) (state_of M.picture self.new)) }
+        ensures kept { IfOk result
+            (λ met. MeetsOn met (state_of M.picture self.old) (state_of M.picture self.new)) }
+        ensures refused { OnErr result (state_of M.picture self.new ≡ state_of M.picture self.old) }
+        ensures stays { KeepsNumbers (M.picture self.old.memory).now
+            (M.picture self.new.memory).now }
+        ensures succeeds { 1 ≤ (M.picture self.old.memory).trail_room → IsOk result }
+        ensures room { (M.picture self.old.memory).trail_room
+            ≤ (M.picture self.new.memory).trail_room + 1 }
+        ensures past { (M.picture self.new.memory).past ≡ (M.picture self.old.memory).past }
     {
         match (left_known, right_known) {
             (Some(x), Some(y)) => {
@@ -89,17 +98,21 @@ impl Registers {
         right: Spot,
         right_range: Option<Range>,
     ) -> Result<Met, NoMemory>
-        requires left { HasNumberIn self.old.memory.now left.frame left.slot }
-        requires right { HasNumberIn self.old.memory.now right.frame right.slot }
-        ensures ok { let s = state_of self.old in
+        requires left { HasNumberIn (M.picture self.old.memory).now left.frame left.slot }
+        requires right { HasNumberIn (M.picture self.old.memory).now right.frame right.slot }
+        ensures ok { let s = state_of M.picture self.old in
             IfOk result (λ met. Meets met
             (λ k. equation s left.frame left.slot left_range right.frame right.slot right_range
-            k) (state_of self.new)) }
-        ensures kept { IfOk result (λ met. MeetsOn met (state_of self.old) (state_of self.new)) }
-        ensures refused { OnErr result (state_of self.new ≡ state_of self.old) }
-        ensures stays { KeepsNumbers self.old.memory.now self.new.memory.now }
-        ensures succeeds { 1 ≤ self.old.memory.trail_room → IsOk result }
-        ensures room { self.old.memory.trail_room ≤ self.new.memory.trail_room + 1 }
+            k) (state_of M.picture self.new)) }
+        ensures kept { IfOk result
+            (λ met. MeetsOn met (state_of M.picture self.old) (state_of M.picture self.new)) }
+        ensures refused { OnErr result (state_of M.picture self.new ≡ state_of M.picture self.old) }
+        ensures stays { KeepsNumbers (M.picture self.old.memory).now
+            (M.picture self.new.memory).now }
+        ensures succeeds { 1 ≤ (M.picture self.old.memory).trail_room → IsOk result }
+        ensures room { (M.picture self.old.memory).trail_room
+            ≤ (M.picture self.new.memory).trail_room + 1 }
+        ensures past { (M.picture self.new.memory).past ≡ (M.picture self.old.memory).past }
     {
         let left_known = self.content(left.frame, left.slot);
         let right_known = self.content(right.frame, right.slot);
@@ -122,16 +135,17 @@ impl Registers {
         right: u32,
         right_range: Range,
     ) -> Result<Step, NoMemory>
-        requires left { HasOneCell self.old.memory.now left }
-        requires right { HasOneCell self.old.memory.now right }
-        ensures ok { let s = state_of self.old in IfOk result
-            (λ answer. stepped answer [] (state_of self.new)
+        requires left { HasOneCell (M.picture self.old.memory).now left }
+        requires right { HasOneCell (M.picture self.old.memory).now right }
+        ensures ok { let s = state_of M.picture self.old in IfOk result
+            (λ answer. stepped answer [] (state_of M.picture self.new)
             ≡ place s left (λ p. place s right
             (λ q. equation s p.frame p.slot (Some left_range) q.frame q.slot (Some right_range)
             quiet_step))) }
         ensures kept { IfOk result
-            (λ answer. KeepsOn answer (state_of self.old) (state_of self.new)) }
-        ensures refused { OnErr result (state_of self.new ≡ state_of self.old) }
+            (λ answer. KeepsOn answer (state_of M.picture self.old) (state_of M.picture self.new)) }
+        ensures refused { OnErr result (state_of M.picture self.new ≡ state_of M.picture self.old) }
+        ensures past { (M.picture self.new.memory).past ≡ (M.picture self.old.memory).past }
     {
         let left = match self.place(left) {
             Ok(place) => place,
@@ -158,12 +172,14 @@ impl Registers {
     // The equations of so many cells, one after another.
     #[tactic(auto, using(crate::proofs::Meetings::cell_of))]
     fn equate_all(&mut self, count: u32, left: Spot, right: Spot) -> Step
-        requires left { AreNumbers self.old.memory.now left.frame left.slot count }
-        requires right { AreNumbers self.old.memory.now right.frame right.slot count }
-        requires room { count ≤ self.old.memory.trail_room }
-        ensures step { stepped result [] (state_of self.new)
-            ≡ equations count (state_of self.old) left.frame left.slot right.frame right.slot }
-        ensures kept { KeepsOn result (state_of self.old) (state_of self.new) }
+        requires left { AreNumbers (M.picture self.old.memory).now left.frame left.slot count }
+        requires right { AreNumbers (M.picture self.old.memory).now right.frame right.slot count }
+        requires room { count ≤ (M.picture self.old.memory).trail_room }
+        ensures step { stepped result [] (state_of M.picture self.new)
+            ≡ equations count
+            (state_of M.picture self.old) left.frame left.slot right.frame right.slot }
+        ensures kept { KeepsOn result (state_of M.picture self.old) (state_of M.picture self.new) }
+        ensures past { (M.picture self.new.memory).past ≡ (M.picture self.old.memory).past }
     {
         for k in 0..count {
             let first = Spot {
@@ -186,16 +202,18 @@ impl Registers {
     /// The equations of all cells at the places in two slots.
     #[tactic(auto, using(crate::proofs::Meetings::numbers_of))]
     pub fn same_cells(&mut self, left: u32, right: u32) -> Result<Step, NoMemory>
-        requires left { HasCells self.old.memory.now left }
-        requires right { HasCells self.old.memory.now right }
-        requires alike { width self.old.memory.now left ≡ width self.old.memory.now right }
-        ensures ok { let s = state_of self.old in IfOk result
-            (λ answer. stepped answer [] (state_of self.new)
+        requires left { HasCells (M.picture self.old.memory).now left }
+        requires right { HasCells (M.picture self.old.memory).now right }
+        requires alike { width (M.picture self.old.memory).now left
+            ≡ width (M.picture self.old.memory).now right }
+        ensures ok { let s = state_of M.picture self.old in IfOk result
+            (λ answer. stepped answer [] (state_of M.picture self.new)
             ≡ place s left (λ p. place s right
             (λ q. equations p.len s p.frame p.slot q.frame q.slot))) }
         ensures kept { IfOk result
-            (λ answer. KeepsOn answer (state_of self.old) (state_of self.new)) }
-        ensures refused { OnErr result (state_of self.new ≡ state_of self.old) }
+            (λ answer. KeepsOn answer (state_of M.picture self.old) (state_of M.picture self.new)) }
+        ensures refused { OnErr result (state_of M.picture self.new ≡ state_of M.picture self.old) }
+        ensures past { (M.picture self.new.memory).past ≡ (M.picture self.old.memory).past }
     {
         let left = match self.place(left) {
             Ok(place) => place,

@@ -10,6 +10,7 @@ ghost use Rattle.alma_machine_acts.specs.Steps.{stepped};
 use crate::registers::Registers;
 use alma_base::{NoMemory, Range, ReadInt, RunFault, read_int};
 use alma_code::{Cell, CellPlace, End, Step};
+use alma_memory::MachineMemory;
 
 // What READ finds in an input from a place on.
 #[tactic(auto, using(crate::proofs::Reading::finds))]
@@ -40,9 +41,10 @@ fn find_char(input: &[u8], from: usize) -> ReadInt
 
 // The input position.
 #[tactic(auto, using(crate::proofs::Reading::positions))]
-fn position(registers: &Registers) -> usize
-    requires { HasPosition registers.now.memory.now }
-    ensures { (s : State) (k : ℕ → Stepped) → s.now ≡ registers.now.memory.now → position s k
+fn position<M: MachineMemory>(registers: &Registers<M>) -> usize
+    requires { HasPosition (M.picture registers.now.memory).now }
+    ensures { (s : State) (k : ℕ → Stepped) → s.now ≡ (M.picture registers.now.memory).now
+        → position s k
         ≡ k result }
 {
     match registers.memory.read(0, 0) {
@@ -53,20 +55,23 @@ fn position(registers: &Registers) -> usize
 
 // Puts what was found into the cell at a place, and moves the input position behind it.
 #[tactic(auto, using(crate::proofs::Reading::takes, crate::proofs::Words::ranges, std::proofs::lemmas::Int::ints, std::proofs::lemmas::Grind::common_steps))]
-fn take(
-    registers: &mut Registers,
+fn take<M: MachineMemory>(
+    registers: &mut Registers<M>,
     read: ReadInt,
     place: CellPlace,
     range: &Range,
 ) -> Result<Step, NoMemory>
     requires below { IsBelow read }
-    requires position { HasNumberIn registers.old.memory.now 0 0 }
-    requires place { HasNumberIn registers.old.memory.now place.frame place.slot }
-    ensures ok { IfOk result (λ answer. stepped answer [] (state_of registers.new)
-        ≡ takes_read (state_of registers.old) range.now place read) }
+    requires position { HasNumberIn (M.picture registers.old.memory).now 0 0 }
+    requires place { HasNumberIn (M.picture registers.old.memory).now place.frame place.slot }
+    ensures ok { IfOk result (λ answer. stepped answer [] (state_of M.picture registers.new)
+        ≡ takes_read (state_of M.picture registers.old) range.now place read) }
     ensures kept { IfOk result
-        (λ answer. KeepsOn answer (state_of registers.old) (state_of registers.new)) }
-    ensures refused { OnErr result (state_of registers.new ≡ state_of registers.old) }
+        (λ answer. KeepsOn answer (state_of M.picture registers.old)
+        (state_of M.picture registers.new)) }
+    ensures refused { OnErr result
+        (state_of M.picture registers.new ≡ state_of M.picture registers.old) }
+    ensures past { (M.picture registers.new.memory).past ≡ (M.picture registers.old.memory).past }
 {
     match read {
         ReadInt::NoNumber => Ok(registers.fail()),
@@ -93,22 +98,25 @@ fn take(
 
 /// Reads a number into the cell at the place in a slot.
 #[tactic(auto, using(crate::proofs::Words::one_slot, crate::proofs::Reading::position_slot, std::proofs::lemmas::Grind::common_steps))]
-pub fn read_number(
-    registers: &mut Registers,
+pub fn read_number<M: MachineMemory>(
+    registers: &mut Registers<M>,
     input: &[u8],
     to: u32,
     range: &Range,
 ) -> Result<Step, NoMemory>
     requires lawful { length input.now ≤ input_limit }
-    requires position { HasPosition registers.old.memory.now }
-    requires to { HasOneCell registers.old.memory.now to }
-    ensures ok { let s = state_of registers.old in IfOk result
-        (λ answer. stepped answer [] (state_of registers.new)
+    requires position { HasPosition (M.picture registers.old.memory).now }
+    requires to { HasOneCell (M.picture registers.old.memory).now to }
+    ensures ok { let s = state_of M.picture registers.old in IfOk result
+        (λ answer. stepped answer [] (state_of M.picture registers.new)
         ≡ place s to (λ p. position s
         (λ n. takes_read s range.now p (number_from input.now n)))) }
     ensures kept { IfOk result
-        (λ answer. KeepsOn answer (state_of registers.old) (state_of registers.new)) }
-    ensures refused { OnErr result (state_of registers.new ≡ state_of registers.old) }
+        (λ answer. KeepsOn answer (state_of M.picture registers.old)
+        (state_of M.picture registers.new)) }
+    ensures refused { OnErr result
+        (state_of M.picture registers.new ≡ state_of M.picture registers.old) }
+    ensures past { (M.picture registers.new.memory).past ≡ (M.picture registers.old.memory).past }
 {
     match registers.place(to) {
         Ok(place) => {
@@ -121,22 +129,25 @@ pub fn read_number(
 
 /// Reads a byte into the cell at the place in a slot.
 #[tactic(auto, using(crate::proofs::Words::one_slot, crate::proofs::Reading::position_slot))]
-pub fn read_char(
-    registers: &mut Registers,
+pub fn read_char<M: MachineMemory>(
+    registers: &mut Registers<M>,
     input: &[u8],
     to: u32,
     range: &Range,
 ) -> Result<Step, NoMemory>
     requires lawful { length input.now ≤ input_limit }
-    requires position { HasPosition registers.old.memory.now }
-    requires to { HasOneCell registers.old.memory.now to }
-    ensures ok { let s = state_of registers.old in IfOk result
-        (λ answer. stepped answer [] (state_of registers.new)
+    requires position { HasPosition (M.picture registers.old.memory).now }
+    requires to { HasOneCell (M.picture registers.old.memory).now to }
+    ensures ok { let s = state_of M.picture registers.old in IfOk result
+        (λ answer. stepped answer [] (state_of M.picture registers.new)
         ≡ place s to (λ p. position s
         (λ n. byte_or_failure s range.now p n (slice_get input.now n)))) }
     ensures kept { IfOk result
-        (λ answer. KeepsOn answer (state_of registers.old) (state_of registers.new)) }
-    ensures refused { OnErr result (state_of registers.new ≡ state_of registers.old) }
+        (λ answer. KeepsOn answer (state_of M.picture registers.old)
+        (state_of M.picture registers.new)) }
+    ensures refused { OnErr result
+        (state_of M.picture registers.new ≡ state_of M.picture registers.old) }
+    ensures past { (M.picture registers.new.memory).past ≡ (M.picture registers.old.memory).past }
 {
     match registers.place(to) {
         Ok(place) => {

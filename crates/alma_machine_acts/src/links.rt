@@ -8,13 +8,14 @@ use crate::places::Spot;
 use crate::registers::Registers;
 use alma_base::{NoMemory, RunFault};
 use alma_code::{Cell, CellPlace, End, Step};
+use alma_memory::MachineMemory;
 
-impl Registers {
+impl<M: MachineMemory> Registers<M> {
     /// The place or the link in a slot of a frame.
     #[tactic(auto, using(crate::proofs::Held::helds))]
     fn held(&self, frame: u32, slot: u32) -> Result<CellPlace, RunFault>
-        requires { HasPlaceIn self.now.memory.now frame slot }
-        ensures { GivesHeld self.now.memory.now frame slot result }
+        requires { HasPlaceIn (M.picture self.now.memory).now frame slot }
+        ensures { GivesHeld (M.picture self.now.memory).now frame slot result }
     {
         match self.memory.read(frame, slot) {
             Cell::Place(place) => Ok(place),
@@ -26,8 +27,8 @@ impl Registers {
     /// The frame that the link in a slot names.
     #[tactic(auto, using(crate::proofs::Held::links))]
     pub(crate) fn link(&self, slot: u32) -> Result<u32, RunFault>
-        requires { HasLink self.now.memory.now slot }
-        ensures { GivesLink self.now.memory.now slot result }
+        requires { HasLink (M.picture self.now.memory).now slot }
+        ensures { GivesLink (M.picture self.now.memory).now slot result }
     {
         match self.memory.top(slot) {
             Cell::Place(place) => Ok(place.frame),
@@ -39,12 +40,13 @@ impl Registers {
     /// Puts a link to a frame into a slot, or ends the run in its fault.
     #[tactic(auto, using(crate::proofs::Held::put_links))]
     pub fn put_link(&mut self, to: u32, frame: Result<u32, RunFault>) -> Result<Step, NoMemory>
-        requires { HasLinkTo self.old.memory.now to }
-        ensures ok { IfOk result (λ answer. stepped answer [] (state_of self.new)
-            ≡ link_or_fault (state_of self.old) to frame) }
+        requires { HasLinkTo (M.picture self.old.memory).now to }
+        ensures ok { IfOk result (λ answer. stepped answer [] (state_of M.picture self.new)
+            ≡ link_or_fault (state_of M.picture self.old) to frame) }
         ensures kept { IfOk result
-            (λ answer. KeepsOn answer (state_of self.old) (state_of self.new)) }
-        ensures refused { OnErr result (state_of self.new ≡ state_of self.old) }
+            (λ answer. KeepsOn answer (state_of M.picture self.old) (state_of M.picture self.new)) }
+        ensures refused { OnErr result (state_of M.picture self.new ≡ state_of M.picture self.old) }
+        ensures past { (M.picture self.new.memory).past ≡ (M.picture self.old.memory).past }
     {
         match frame {
             Ok(frame) => {
@@ -61,9 +63,9 @@ impl Registers {
 
     /// The frame that the link in a slot of a frame names to which a link leads.
     pub fn chained(&self, of: u32, slot: u32) -> Result<u32, RunFault>
-        requires of { HasLink self.now.memory.now of }
-        requires leads { LeadsTo self.now.memory.now of slot }
-        ensures { (to : ℕ) (s : State) → s.now ≡ self.now.memory.now
+        requires of { HasLink (M.picture self.now.memory).now of }
+        requires leads { LeadsTo (M.picture self.now.memory).now of slot }
+        ensures { (to : ℕ) (s : State) → s.now ≡ (M.picture self.now.memory).now
             → link s of (λ f. as_place (slot_in s f slot) s (λ p. put_link s to p.frame))
             ≡ link_or_fault s to result }
     {
@@ -74,8 +76,8 @@ impl Registers {
 
     /// Where the cells of the frame begin to which a link leads.
     pub fn outer(&self, of: u32, first: u32) -> Result<Spot, RunFault>
-        requires of { HasLink self.now.memory.now of }
-        ensures { (to : ℕ) (s : State) → s.now ≡ self.now.memory.now
+        requires of { HasLink (M.picture self.now.memory).now of }
+        ensures { (to : ℕ) (s : State) → s.now ≡ (M.picture self.now.memory).now
             → link s of (λ f. put_place s to f (λ _. first)) ≡ point_or_fault s to result }
     {
         let frame = self.link(of)?;
@@ -84,9 +86,9 @@ impl Registers {
 
     /// Where the place in a slot of a frame begins to which a link leads.
     pub fn outer_whole(&self, of: u32, slot: u32) -> Result<Spot, RunFault>
-        requires of { HasLink self.now.memory.now of }
-        requires leads { LeadsTo self.now.memory.now of slot }
-        ensures { (to : ℕ) (s : State) → s.now ≡ self.now.memory.now
+        requires of { HasLink (M.picture self.now.memory).now of }
+        requires leads { LeadsTo (M.picture self.now.memory).now of slot }
+        ensures { (to : ℕ) (s : State) → s.now ≡ (M.picture self.now.memory).now
             → link s of (λ f. as_place (slot_in s f slot) s (λ p. put_place s to p.frame
             (λ _. p.slot))) ≡ point_or_fault s to result }
     {

@@ -9,6 +9,7 @@ ghost use Rattle.alma_machine_acts.specs.Rows.{HasNumber, HasCells, HasOneCell, 
 use crate::registers::Registers;
 use alma_base::{Range, RunFault, div_down, mod_down};
 use alma_code::{Cell, CellPlace};
+use alma_memory::MachineMemory;
 
 // The sum of a counter and its step, or none where that is beyond the limit.
 #[inline(always)]
@@ -22,13 +23,13 @@ fn next_within(counter: i64, limit: i64, by: i64) -> Option<i64>
     if is_beyond { None } else { Some(next) }
 }
 
-impl Registers {
+impl<M: MachineMemory> Registers<M> {
     /// The number in a slot.
     #[inline(always)]
     #[tactic(auto, using(crate::proofs::Words::numbers))]
     pub fn number(&self, slot: u32) -> Result<i64, RunFault>
-        requires { HasNumber self.now.memory.now slot }
-        ensures { Gives self.now.memory.now (λ s k. number s slot k) result }
+        requires { HasNumber (M.picture self.now.memory).now slot }
+        ensures { Gives (M.picture self.now.memory).now (λ s k. number s slot k) result }
     {
         match self.memory.top(slot) {
             Cell::Int(number) => Ok(number),
@@ -41,8 +42,8 @@ impl Registers {
     #[inline(always)]
     #[tactic(auto, using(crate::proofs::Words::places))]
     pub fn place(&self, slot: u32) -> Result<CellPlace, RunFault>
-        requires { HasCells self.now.memory.now slot }
-        ensures { GivesPlace self.now.memory.now slot result }
+        requires { HasCells (M.picture self.now.memory).now slot }
+        ensures { GivesPlace (M.picture self.now.memory).now slot result }
     {
         match self.memory.top(slot) {
             Cell::Place(place) => Ok(place),
@@ -55,9 +56,9 @@ impl Registers {
     #[inline(always)]
     #[tactic(auto, using(std::proofs::lemmas::Int::ints, std::proofs::lemmas::Grind::common_steps))]
     pub fn sum(&self, left: u32, right: u32) -> Result<i64, RunFault>
-        requires left { HasNumber self.now.memory.now left }
-        requires right { HasNumber self.now.memory.now right }
-        ensures { Gives self.now.memory.now (λ s k. number s left (λ x. number s right
+        requires left { HasNumber (M.picture self.now.memory).now left }
+        requires right { HasNumber (M.picture self.now.memory).now right }
+        ensures { Gives (M.picture self.now.memory).now (λ s k. number s left (λ x. number s right
             (λ y. integer_result s (x +ℤ y) k))) result }
     {
         let x = self.number(left)?;
@@ -69,9 +70,9 @@ impl Registers {
     #[inline(always)]
     #[tactic(auto, using(std::proofs::lemmas::Int::ints, std::proofs::lemmas::Grind::common_steps))]
     pub fn difference(&self, left: u32, right: u32) -> Result<i64, RunFault>
-        requires left { HasNumber self.now.memory.now left }
-        requires right { HasNumber self.now.memory.now right }
-        ensures { Gives self.now.memory.now (λ s k. number s left (λ x. number s right
+        requires left { HasNumber (M.picture self.now.memory).now left }
+        requires right { HasNumber (M.picture self.now.memory).now right }
+        ensures { Gives (M.picture self.now.memory).now (λ s k. number s left (λ x. number s right
             (λ y. integer_result s (x -ℤ y) k))) result }
     {
         let x = self.number(left)?;
@@ -83,9 +84,9 @@ impl Registers {
     #[inline(always)]
     #[tactic(auto, using(std::proofs::lemmas::Int::ints, std::proofs::lemmas::Grind::common_steps))]
     pub fn product(&self, left: u32, right: u32) -> Result<i64, RunFault>
-        requires left { HasNumber self.now.memory.now left }
-        requires right { HasNumber self.now.memory.now right }
-        ensures { Gives self.now.memory.now (λ s k. number s left (λ x. number s right
+        requires left { HasNumber (M.picture self.now.memory).now left }
+        requires right { HasNumber (M.picture self.now.memory).now right }
+        ensures { Gives (M.picture self.now.memory).now (λ s k. number s left (λ x. number s right
             (λ y. integer_result s (x *ℤ y) k))) result }
     {
         let x = self.number(left)?;
@@ -97,9 +98,9 @@ impl Registers {
     #[inline(always)]
     #[tactic(auto, using(crate::proofs::Words::tests, std::proofs::lemmas::Int::ints, std::proofs::lemmas::Grind::common_steps))]
     pub fn quotient(&self, left: u32, right: u32) -> Result<i64, RunFault>
-        requires left { HasNumber self.now.memory.now left }
-        requires right { HasNumber self.now.memory.now right }
-        ensures { Gives self.now.memory.now (λ s k. number s left (λ x. number s right
+        requires left { HasNumber (M.picture self.now.memory).now left }
+        requires right { HasNumber (M.picture self.now.memory).now right }
+        ensures { Gives (M.picture self.now.memory).now (λ s k. number s left (λ x. number s right
             (λ y. if_true (is_zero y) (λ _. ends_in_fault fault.ZeroDivide s)
             (λ _. integer_result s (div_down_of x y) k)))) result }
     {
@@ -115,9 +116,9 @@ impl Registers {
     #[inline(always)]
     #[tactic(auto, using(crate::proofs::Words::tests, std::proofs::lemmas::Int::ints, std::proofs::lemmas::Grind::common_steps))]
     pub fn rest(&self, left: u32, right: u32) -> Result<i64, RunFault>
-        requires left { HasNumber self.now.memory.now left }
-        requires right { HasNumber self.now.memory.now right }
-        ensures { Gives self.now.memory.now (λ s k. number s left (λ x. number s right
+        requires left { HasNumber (M.picture self.now.memory).now left }
+        requires right { HasNumber (M.picture self.now.memory).now right }
+        ensures { Gives (M.picture self.now.memory).now (λ s k. number s left (λ x. number s right
             (λ y. if_true (is_zero y) (λ _. ends_in_fault fault.ZeroDivide s)
             (λ _. integer_result s (mod_down_of x y) k)))) result }
     {
@@ -133,8 +134,8 @@ impl Registers {
     #[inline(always)]
     #[tactic(auto, using(std::proofs::lemmas::Int::ints, std::proofs::lemmas::Grind::common_steps))]
     pub fn negated(&self, from: u32) -> Result<i64, RunFault>
-        requires { HasNumber self.now.memory.now from }
-        ensures { Gives self.now.memory.now (λ s k. number s from
+        requires { HasNumber (M.picture self.now.memory).now from }
+        ensures { Gives (M.picture self.now.memory).now (λ s k. number s from
             (λ x. integer_result s (neg_ℤ x) k)) result }
     {
         let x = self.number(from)?;
@@ -145,8 +146,8 @@ impl Registers {
     #[inline(always)]
     #[tactic(auto, using(crate::proofs::Words::tests, std::proofs::lemmas::Int::ints, std::proofs::lemmas::Grind::common_steps))]
     pub fn flipped(&self, from: u32) -> Result<i64, RunFault>
-        requires { HasNumber self.now.memory.now from }
-        ensures { Gives self.now.memory.now (λ s k. number s from
+        requires { HasNumber (M.picture self.now.memory).now from }
+        ensures { Gives (M.picture self.now.memory).now (λ s k. number s from
             (λ x. k (bit (is_zero x)))) result }
     {
         let x = self.number(from)?;
@@ -157,9 +158,9 @@ impl Registers {
     #[inline(always)]
     #[tactic(auto, using(crate::proofs::Words::tests, std::proofs::lemmas::Int::ints, std::proofs::lemmas::Grind::common_steps))]
     pub fn equal(&self, left: u32, right: u32) -> Result<i64, RunFault>
-        requires left { HasNumber self.now.memory.now left }
-        requires right { HasNumber self.now.memory.now right }
-        ensures { Gives self.now.memory.now (λ s k. number s left (λ x. number s right
+        requires left { HasNumber (M.picture self.now.memory).now left }
+        requires right { HasNumber (M.picture self.now.memory).now right }
+        ensures { Gives (M.picture self.now.memory).now (λ s k. number s left (λ x. number s right
             (λ y. k (bit (int_eq x y))))) result }
     {
         let x = self.number(left)?;
@@ -171,9 +172,9 @@ impl Registers {
     #[inline(always)]
     #[tactic(auto, using(crate::proofs::Words::tests, std::proofs::lemmas::Int::ints, std::proofs::lemmas::Grind::common_steps))]
     pub fn less(&self, left: u32, right: u32) -> Result<i64, RunFault>
-        requires left { HasNumber self.now.memory.now left }
-        requires right { HasNumber self.now.memory.now right }
-        ensures { Gives self.now.memory.now (λ s k. number s left (λ x. number s right
+        requires left { HasNumber (M.picture self.now.memory).now left }
+        requires right { HasNumber (M.picture self.now.memory).now right }
+        ensures { Gives (M.picture self.now.memory).now (λ s k. number s left (λ x. number s right
             (λ y. k (bit (int_lt x y))))) result }
     {
         let x = self.number(left)?;
@@ -185,9 +186,9 @@ impl Registers {
     #[inline(always)]
     #[tactic(auto, using(crate::proofs::Words::tests, std::proofs::lemmas::Int::ints, std::proofs::lemmas::Grind::common_steps))]
     pub fn at_most(&self, left: u32, right: u32) -> Result<i64, RunFault>
-        requires left { HasNumber self.now.memory.now left }
-        requires right { HasNumber self.now.memory.now right }
-        ensures { Gives self.now.memory.now (λ s k. number s left (λ x. number s right
+        requires left { HasNumber (M.picture self.now.memory).now left }
+        requires right { HasNumber (M.picture self.now.memory).now right }
+        ensures { Gives (M.picture self.now.memory).now (λ s k. number s left (λ x. number s right
             (λ y. k (bit (int_le x y))))) result }
     {
         let x = self.number(left)?;
@@ -199,8 +200,8 @@ impl Registers {
     #[inline(always)]
     #[tactic(auto, using(crate::proofs::Words::contents))]
     pub fn content(&self, frame: u32, slot: u32) -> Option<i64>
-        requires { HasNumberIn self.now.memory.now frame slot }
-        ensures { GivesContent self.now.memory.now frame slot result }
+        requires { HasNumberIn (M.picture self.now.memory).now frame slot }
+        ensures { GivesContent (M.picture self.now.memory).now frame slot result }
     {
         match self.memory.read(frame, slot) {
             Cell::Int(number) => Some(number),
@@ -213,8 +214,9 @@ impl Registers {
     #[inline(always)]
     #[tactic(auto, using(crate::proofs::Words::one_slot, std::proofs::lemmas::Grind::common_steps))]
     pub fn number_at(&self, from: u32) -> Result<i64, RunFault>
-        requires { HasOneCell self.now.memory.now from }
-        ensures { Gives self.now.memory.now (λ s k. place s from (λ p. content s p.frame p.slot
+        requires { HasOneCell (M.picture self.now.memory).now from }
+        ensures { Gives (M.picture self.now.memory).now
+            (λ s k. place s from (λ p. content s p.frame p.slot
             (λ c. with_known_content s c k))) result }
     {
         let place = self.place(from)?;
@@ -226,8 +228,8 @@ impl Registers {
     #[inline(always)]
     #[tactic(auto, using(crate::proofs::Words::ranges, std::proofs::lemmas::Int::ints, std::proofs::lemmas::Grind::common_steps))]
     pub fn number_within(&self, slot: u32, range: &Range, fault: RunFault) -> Result<i64, RunFault>
-        requires { HasNumber self.now.memory.now slot }
-        ensures number { Gives self.now.memory.now (λ s k. number s slot
+        requires { HasNumber (M.picture self.now.memory).now slot }
+        ensures number { Gives (M.picture self.now.memory).now (λ s k. number s slot
             (λ v. range_check range.now fault s v (λ _. k v))) result }
         ensures within { IfOk result (λ v. within range.now v ≡ true) }
     {
@@ -242,10 +244,10 @@ impl Registers {
     #[inline(always)]
     #[tactic(auto, using(std::proofs::lemmas::Int::ints, std::proofs::lemmas::Grind::common_steps))]
     pub fn next(&self, counter: u32, limit: u32, by: u32) -> Result<Option<i64>, RunFault>
-        requires counter { HasNumber self.now.memory.now counter }
-        requires limit { HasNumber self.now.memory.now limit }
-        requires by { HasNumber self.now.memory.now by }
-        ensures { GivesNext self.now.memory.now counter limit by result }
+        requires counter { HasNumber (M.picture self.now.memory).now counter }
+        requires limit { HasNumber (M.picture self.now.memory).now limit }
+        requires by { HasNumber (M.picture self.now.memory).now by }
+        ensures { GivesNext (M.picture self.now.memory).now counter limit by result }
     {
         let counter = self.number(counter)?;
         let limit = self.number(limit)?;

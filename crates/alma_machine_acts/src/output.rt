@@ -11,6 +11,7 @@ ghost use Rattle.alma_machine_acts.specs.Steps.{stepped, PrintsOnly};
 use crate::registers::Registers;
 use alma_base::{NoMemory, RunFault, Value, write_value};
 use alma_code::{End, Step};
+use alma_memory::MachineMemory;
 
 /// The fault of a number.
 pub fn numbered(number: u32) -> RunFault
@@ -36,21 +37,24 @@ pub fn print_text(text: &[u8], bytes: &mut Vec<u8>) -> Result<Step, NoMemory>
 
 /// Prints the number in a slot.
 #[tactic(auto, using(std::proofs::lemmas::Int::ints, std::proofs::lemmas::Grind::common_steps))]
-pub fn print_number(
-    registers: &mut Registers,
+pub fn print_number<M: MachineMemory>(
+    registers: &mut Registers<M>,
     value: u32,
     bytes: &mut Vec<u8>,
 ) -> Result<Step, NoMemory>
-    requires slot { HasNumber registers.old.memory.now value }
+    requires slot { HasNumber (M.picture registers.old.memory).now value }
     requires empty { bytes.old.items ≡ [] }
-    ensures ok { let s = state_of registers.old in
-        IfOk result (λ answer. stepped answer bytes.new.items (state_of registers.new)
+    ensures ok { let s = state_of M.picture registers.old in
+        IfOk result (λ answer. stepped answer bytes.new.items (state_of M.picture registers.new)
         ≡ number s value (λ v. prints_bytes (value_text (kind.Int v)) s)) }
     ensures kept { IfOk result
-        (λ answer. KeepsOn answer (state_of registers.old) (state_of registers.new)) }
+        (λ answer. KeepsOn answer (state_of M.picture registers.old)
+        (state_of M.picture registers.new)) }
     ensures quiet { IfOk result (λ answer. PrintsOnly answer bytes.new.items) }
-    ensures refused { OnErr result ((state_of registers.new ≡ state_of registers.old) × (bytes.new.items
+    ensures refused { OnErr result
+        ((state_of M.picture registers.new ≡ state_of M.picture registers.old) × (bytes.new.items
         ≡ [])) }
+    ensures past { (M.picture registers.new.memory).past ≡ (M.picture registers.old.memory).past }
 {
     match registers.number(value) {
         Ok(number) => {
@@ -63,21 +67,24 @@ pub fn print_number(
 
 /// Prints the truth in a slot.
 #[tactic(auto, using(crate::proofs::Words::tests, std::proofs::lemmas::Int::ints, std::proofs::lemmas::Grind::common_steps))]
-pub fn print_truth(
-    registers: &mut Registers,
+pub fn print_truth<M: MachineMemory>(
+    registers: &mut Registers<M>,
     value: u32,
     bytes: &mut Vec<u8>,
 ) -> Result<Step, NoMemory>
-    requires slot { HasNumber registers.old.memory.now value }
+    requires slot { HasNumber (M.picture registers.old.memory).now value }
     requires empty { bytes.old.items ≡ [] }
-    ensures ok { let s = state_of registers.old in
-        IfOk result (λ answer. stepped answer bytes.new.items (state_of registers.new)
+    ensures ok { let s = state_of M.picture registers.old in
+        IfOk result (λ answer. stepped answer bytes.new.items (state_of M.picture registers.new)
         ≡ number s value (λ v. prints_bytes (value_text (kind.Bool (not (is_zero v)))) s)) }
     ensures kept { IfOk result
-        (λ answer. KeepsOn answer (state_of registers.old) (state_of registers.new)) }
+        (λ answer. KeepsOn answer (state_of M.picture registers.old)
+        (state_of M.picture registers.new)) }
     ensures quiet { IfOk result (λ answer. PrintsOnly answer bytes.new.items) }
-    ensures refused { OnErr result ((state_of registers.new ≡ state_of registers.old) × (bytes.new.items
+    ensures refused { OnErr result
+        ((state_of M.picture registers.new ≡ state_of M.picture registers.old) × (bytes.new.items
         ≡ [])) }
+    ensures past { (M.picture registers.new.memory).past ≡ (M.picture registers.old.memory).past }
 {
     match registers.number(value) {
         Ok(number) => {
@@ -90,22 +97,25 @@ pub fn print_truth(
 
 /// Prints the character whose number is the number in a slot modulo 256.
 #[tactic(auto, using(std::proofs::lemmas::Int::ints, std::proofs::lemmas::Grind::common_steps))]
-pub fn print_character(
-    registers: &mut Registers,
+pub fn print_character<M: MachineMemory>(
+    registers: &mut Registers<M>,
     value: u32,
     bytes: &mut Vec<u8>,
 ) -> Result<Step, NoMemory>
-    requires slot { HasNumber registers.old.memory.now value }
+    requires slot { HasNumber (M.picture registers.old.memory).now value }
     requires empty { bytes.old.items ≡ [] }
-    ensures ok { let s = state_of registers.old in
-        IfOk result (λ answer. stepped answer bytes.new.items (state_of registers.new)
+    ensures ok { let s = state_of M.picture registers.old in
+        IfOk result (λ answer. stepped answer bytes.new.items (state_of M.picture registers.new)
         ≡ number s value (λ v. prints_bytes (value_text (kind.Char (nat_abs (int_rem_euclid v (pos
         256))))) s)) }
     ensures kept { IfOk result
-        (λ answer. KeepsOn answer (state_of registers.old) (state_of registers.new)) }
+        (λ answer. KeepsOn answer (state_of M.picture registers.old)
+        (state_of M.picture registers.new)) }
     ensures quiet { IfOk result (λ answer. PrintsOnly answer bytes.new.items) }
-    ensures refused { OnErr result ((state_of registers.new ≡ state_of registers.old) × (bytes.new.items
+    ensures refused { OnErr result
+        ((state_of M.picture registers.new ≡ state_of M.picture registers.old) × (bytes.new.items
         ≡ [])) }
+    ensures past { (M.picture registers.new.memory).past ≡ (M.picture registers.old.memory).past }
 {
     match registers.number(value) {
         Ok(number) => {

@@ -10,6 +10,7 @@ ghost use Rattle.alma_machine_acts.specs.Steps.{stepped};
 use crate::registers::Registers;
 use alma_base::{NoMemory, Range, RunFault};
 use alma_code::{Cell, CellPlace, End, SlotKind, Step};
+use alma_memory::MachineMemory;
 
 /// Where a place begins.
 #[derive(Clone, Copy)]
@@ -30,13 +31,13 @@ fn cells_before(number: i64, range: &Range, part: u32) -> u32
     (number.abs_diff(range.low) * part as u64) as u32
 }
 
-impl Registers {
+impl<M: MachineMemory> Registers<M> {
     /// How many cells the places of a place slot have.
     #[inline(always)]
     #[tactic(auto, using(crate::proofs::Parts::place_there))]
     fn place_length(&self, slot: u32) -> u32
-        requires { HasPlace self.now.memory.now slot }
-        ensures { slice_get (last_frame self.now.memory.now).kinds slot
+        requires { HasPlace (M.picture self.now.memory).now slot }
+        ensures { slice_get (last_frame (M.picture self.now.memory).now).kinds slot
             ≡ Some (SlotKind.Place result) }
     {
         match self.memory.top_kind(slot) {
@@ -49,12 +50,13 @@ impl Registers {
     #[inline(always)]
     #[tactic(auto, using(crate::proofs::Parts::put_place_is, crate::proofs::Parts::place_is_slot))]
     pub fn put_place(&mut self, to: u32, frame: u32, first: u32) -> Result<Step, NoMemory>
-        requires { HasPlace self.old.memory.now to }
-        ensures ok { IfOk result (λ answer. stepped answer [] (state_of self.new)
-            ≡ put_place (state_of self.old) to frame (λ _. first)) }
+        requires { HasPlace (M.picture self.old.memory).now to }
+        ensures ok { IfOk result (λ answer. stepped answer [] (state_of M.picture self.new)
+            ≡ put_place (state_of M.picture self.old) to frame (λ _. first)) }
         ensures kept { IfOk result
-            (λ answer. KeepsOn answer (state_of self.old) (state_of self.new)) }
-        ensures refused { OnErr result (state_of self.new ≡ state_of self.old) }
+            (λ answer. KeepsOn answer (state_of M.picture self.old) (state_of M.picture self.new)) }
+        ensures refused { OnErr result (state_of M.picture self.new ≡ state_of M.picture self.old) }
+        ensures past { (M.picture self.new.memory).past ≡ (M.picture self.old.memory).past }
     {
         let len = self.place_length(to);
         let place = CellPlace {
@@ -67,12 +69,13 @@ impl Registers {
 
     /// Puts the place that begins at a spot into a place slot, or ends the run in its fault.
     pub fn point(&mut self, to: u32, spot: Result<Spot, RunFault>) -> Result<Step, NoMemory>
-        requires { HasPlace self.old.memory.now to }
-        ensures ok { IfOk result (λ answer. stepped answer [] (state_of self.new)
-            ≡ point_or_fault (state_of self.old) to spot) }
+        requires { HasPlace (M.picture self.old.memory).now to }
+        ensures ok { IfOk result (λ answer. stepped answer [] (state_of M.picture self.new)
+            ≡ point_or_fault (state_of M.picture self.old) to spot) }
         ensures kept { IfOk result
-            (λ answer. KeepsOn answer (state_of self.old) (state_of self.new)) }
-        ensures refused { OnErr result (state_of self.new ≡ state_of self.old) }
+            (λ answer. KeepsOn answer (state_of M.picture self.old) (state_of M.picture self.new)) }
+        ensures refused { OnErr result (state_of M.picture self.new ≡ state_of M.picture self.old) }
+        ensures past { (M.picture self.new.memory).past ≡ (M.picture self.old.memory).past }
     {
         match spot {
             Ok(spot) => self.put_place(to, spot.frame, spot.slot),
@@ -83,8 +86,8 @@ impl Registers {
     /// Where the place in a slot begins.
     #[inline(always)]
     pub fn whole(&self, from: u32) -> Result<Spot, RunFault>
-        requires { HasCells self.now.memory.now from }
-        ensures { (to : ℕ) (s : State) → s.now ≡ self.now.memory.now
+        requires { HasCells (M.picture self.now.memory).now from }
+        ensures { (to : ℕ) (s : State) → s.now ≡ (M.picture self.now.memory).now
             → place s from (λ p. put_place s to p.frame (λ _. p.slot))
             ≡ point_or_fault s to result }
     {
@@ -99,9 +102,9 @@ impl Registers {
     #[inline(always)]
     #[tactic(auto, using(crate::proofs::Parts::fits_word))]
     pub fn field(&self, from: u32, offset: u32) -> Result<Spot, RunFault>
-        requires from { HasCells self.now.memory.now from }
-        requires inside { offset ≤ width self.now.memory.now from }
-        ensures { (to : ℕ) (s : State) → s.now ≡ self.now.memory.now
+        requires from { HasCells (M.picture self.now.memory).now from }
+        requires inside { offset ≤ width (M.picture self.now.memory).now from }
+        ensures { (to : ℕ) (s : State) → s.now ≡ (M.picture self.now.memory).now
             → place s from (λ p. put_place s to p.frame (λ _. p.slot + offset))
             ≡ point_or_fault s to result }
     {
@@ -116,12 +119,12 @@ impl Registers {
     #[inline(always)]
     #[tactic(auto, using(crate::proofs::Parts::fits_word, crate::proofs::Parts::width_is))]
     pub fn part(&self, to: u32, from: u32, index: u32, range: &Range) -> Result<Spot, RunFault>
-        requires to { HasPlace self.now.memory.now to }
-        requires from { HasCells self.now.memory.now from }
-        requires index { HasNumber self.now.memory.now index }
-        requires room { range_size range.now * width self.now.memory.now to ≤ width
-            self.now.memory.now from }
-        ensures { (s : State) → s.now ≡ self.now.memory.now
+        requires to { HasPlace (M.picture self.now.memory).now to }
+        requires from { HasCells (M.picture self.now.memory).now from }
+        requires index { HasNumber (M.picture self.now.memory).now index }
+        requires room { range_size range.now * width (M.picture self.now.memory).now to ≤ width
+            (M.picture self.now.memory).now from }
+        ensures { (s : State) → s.now ≡ (M.picture self.now.memory).now
             → place s from (λ p. number s index (λ v. range_check range.now fault.Index s v
             (λ _. put_place s to p.frame (λ l. p.slot + nat_abs (v -ℤ range.now.low) * l))))
             ≡ point_or_fault s to result }

@@ -6,7 +6,7 @@ ghost use Rattle.alma_machine_acts.specs.Steps.{stepped};
 
 use alma_base::{NoMemory, RunFault};
 use alma_code::{Cell, End, Step};
-use alma_memory::Memory;
+use alma_memory::MachineMemory;
 use std::alloc::Global;
 
 /// Whether the next step is an instruction or a pop, or the run has ended.
@@ -19,23 +19,24 @@ pub enum Mode {
 
 /// The state of a run: the next address, that of the last instruction taken, the mode, the memory and the counts.
 #[derive(Drop)]
-pub struct Registers {
+pub struct Registers<M: MachineMemory> {
     pub alloc: Global,
     pub at: u32,
     pub last: u32,
     pub mode: Mode,
-    pub memory: Memory,
+    pub memory: M,
     pub steps: u64,
     pub choices: u64,
     pub fails: u64,
 }
 
-impl Registers {
+impl<M: MachineMemory> Registers<M> {
     /// Ends the run.
     pub fn end(&mut self, end: End) -> Step
-        ensures step { stepped result [] (state_of self.new) ≡ ends_run end (state_of self.old) }
+        ensures step { stepped result [] (state_of M.picture self.new)
+            ≡ ends_run end (state_of M.picture self.old) }
         ensures memory { self.new.memory ≡ self.old.memory }
-        ensures kept { KeepsOn result (state_of self.old) (state_of self.new) }
+        ensures kept { KeepsOn result (state_of M.picture self.old) (state_of M.picture self.new) }
     {
         self.mode = Mode::Ended(end);
         Step::Done(end)
@@ -43,8 +44,10 @@ impl Registers {
 
     /// Goes to an address.
     pub fn jump(&mut self, to: u32) -> Step
-        ensures step { stepped result [] (state_of self.new) ≡ goes_to to (state_of self.old) }
-        ensures kept { KeepsOn result (state_of self.old) (state_of self.new) }
+        ensures step { stepped result [] (state_of M.picture self.new)
+            ≡ goes_to to (state_of M.picture self.old) }
+        ensures memory { self.new.memory ≡ self.old.memory }
+        ensures kept { KeepsOn result (state_of M.picture self.old) (state_of M.picture self.new) }
     {
         self.at = to;
         Step::Went
@@ -52,9 +55,10 @@ impl Registers {
 
     /// Fails.
     pub fn fail(&mut self) -> Step
-        ensures step { stepped result [] (state_of self.new) ≡ fails_now (state_of self.old) }
+        ensures step { stepped result [] (state_of M.picture self.new)
+            ≡ fails_now (state_of M.picture self.old) }
         ensures memory { self.new.memory ≡ self.old.memory }
-        ensures kept { KeepsOn result (state_of self.old) (state_of self.new) }
+        ensures kept { KeepsOn result (state_of M.picture self.old) (state_of M.picture self.new) }
     {
         self.mode = Mode::Failing;
         Step::Went
@@ -63,12 +67,13 @@ impl Registers {
     /// Puts a cell into a slot of the top frame.
     #[inline(always)]
     pub fn write(&mut self, to: u32, cell: Cell) -> Result<Step, NoMemory>
-        requires { HasSlot self.old.memory.now to }
-        ensures ok { IfOk result (λ answer. stepped answer [] (state_of self.new)
-            ≡ quiet_step (with_slot (state_of self.old) to cell)) }
+        requires { HasSlot (M.picture self.old.memory).now to }
+        ensures ok { IfOk result (λ answer. stepped answer [] (state_of M.picture self.new)
+            ≡ quiet_step (with_slot (state_of M.picture self.old) to cell)) }
         ensures kept { IfOk result
-            (λ answer. KeepsOn answer (state_of self.old) (state_of self.new)) }
-        ensures refused { OnErr result (state_of self.new ≡ state_of self.old) }
+            (λ answer. KeepsOn answer (state_of M.picture self.old) (state_of M.picture self.new)) }
+        ensures refused { OnErr result (state_of M.picture self.new ≡ state_of M.picture self.old) }
+        ensures past { (M.picture self.new.memory).past ≡ (M.picture self.old.memory).past }
     {
         self.memory.put(to, cell)?;
         Ok(Step::Went)
@@ -77,12 +82,13 @@ impl Registers {
     /// Puts a number into a slot, or ends the run in its fault.
     #[tactic(auto, using(crate::proofs::Words::puts))]
     pub fn put(&mut self, to: u32, number: Result<i64, RunFault>) -> Result<Step, NoMemory>
-        requires { HasNumber self.old.memory.now to }
-        ensures ok { IfOk result (λ answer. stepped answer [] (state_of self.new)
-            ≡ put_or_fault (state_of self.old) to number) }
+        requires { HasNumber (M.picture self.old.memory).now to }
+        ensures ok { IfOk result (λ answer. stepped answer [] (state_of M.picture self.new)
+            ≡ put_or_fault (state_of M.picture self.old) to number) }
         ensures kept { IfOk result
-            (λ answer. KeepsOn answer (state_of self.old) (state_of self.new)) }
-        ensures refused { OnErr result (state_of self.new ≡ state_of self.old) }
+            (λ answer. KeepsOn answer (state_of M.picture self.old) (state_of M.picture self.new)) }
+        ensures refused { OnErr result (state_of M.picture self.new ≡ state_of M.picture self.old) }
+        ensures past { (M.picture self.new.memory).past ≡ (M.picture self.old.memory).past }
     {
         match number {
             Ok(number) => self.write(to, Cell::Int(number)),

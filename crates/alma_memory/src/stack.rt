@@ -194,7 +194,8 @@ fn gain(
     ensures capacity { vec_capacity entries.new ≡ vec_capacity entries.old }
 {
     let entry = &mut entries[at];
-    entry.carry.set_all(alloc, changes)
+    let _ = entry.carry.set_all(alloc, changes)?;
+    Ok(())
 }
 
 /// Drops the top entry; what differs from its copy enters the carry of the entry at the height.

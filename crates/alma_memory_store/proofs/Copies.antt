@@ -1,15 +1,15 @@
 -- Lemmas on the copies of a store.
-use Rattle.std.proofs.Common.{◌≡◌, ◌⊎◌, inl, inr, ℕ, suc, zero, ◌≤◌, ◌<◌, lit≤, ◌+◌, ◌-◌, List, [], ◌∷◌, ◌++◌, length, map, take, drop, get_or, set, refl, sym, ap, ◌∙◌, arith, min, subst, length-append}
-use Rattle.std.proofs.lemmas.List.{take-take, length_push, length-take, length-take-le, take_all, take_more, take-map, length-map, take_more_set, take-append-le, map-append}
+use Rattle.std.proofs.Common.{◌≡◌, ℕ, suc, zero, ◌≤◌, ◌<◌, lit≤, ◌+◌, ◌-◌, List, [], ◌∷◌, ◌++◌, length, take, drop, get_or, set, refl, sym, ap, ◌∙◌, arith, length-append}
+use Rattle.std.proofs.lemmas.List.{take-take, length_push, length-take, length-take-le, take_all, take-map, length-map, take_more_set, take-append-le, map-append}
 use Rattle.std.proofs.Math.Seq.{drop-append_seam}
 use Rattle.alma_base.specs.Limits.{cell_limit, frame_limit}
 use Rattle.alma_code.specs.Picture.{PlainFrame, without_last}
-use Rattle.alma_memory_rewind.specs.Rewound.{top_copy, needed}
+use Rattle.alma_memory_rewind.specs.Rewound.{top_copy}
 use Rattle.alma_memory_store.specs.declared.store.Region.{Region}
 use Rattle.alma_memory_store.specs.declared.store.Slot.{Slot}
-use Rattle.alma_memory_store.specs.Regions.{frame_of, frame_with_slots, frames_of, no_region, AreLaid, end_of, declared_in, AreTotaled}
+use Rattle.alma_memory_store.specs.Regions.{frame_of, frame_with_slots, frames_of, AreLaid, end_of, declared_in, AreTotaled}
 use Rattle.alma_memory_store.specs.Stored.{copies_of, IsState, AreStates}
-use Rattle.alma_memory_store.proofs.Frames.{laid-le, laid-more, laid-end, laid-push, laid-take, frames-take, frames-agree}
+use Rattle.alma_memory_store.proofs.Frames.{laid-more, laid-end, laid-push, laid-take, frames-take, frames-agree}
 use Rattle.alma_memory_store.proofs.Totals.{declared-push, declared-take, totaled-take, totaled-push}
 
 -- ---- stacks of copies

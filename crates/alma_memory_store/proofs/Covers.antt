@@ -1,27 +1,25 @@
 -- Each slot that differs stands where something was written, or in a frame whose region was replaced.
-use Rattle.std.proofs.Common.{◌≡◌, ◌⊎◌, inl, inr, ℕ, ◌≤◌, ◌<◌, ◌+◌, ◌-◌, ◌/◌, Bool, true, false, List, [], ◌∷◌, length, take, drop, get_or, suc, zero, refl, sym, ap, subst, ◌∙◌, arith}
+use Rattle.std.proofs.Common.{◌≡◌, ◌⊎◌, inl, inr, ℕ, ◌≤◌, ◌<◌, ◌+◌, ◌-◌, ◌/◌, Bool, true, false, List, [], ◌∷◌, length, take, get_or, suc, zero, refl, sym, ap, subst, ◌∙◌, arith}
 use Rattle.std.specs.Prelude.{Option, Some, None, IsSome, slice_get, if◌then◌else◌}
 use Rattle.std.specs.BTreeMap.{get}
 use Rattle.std.specs.Map.{lookup}
 use Rattle.std.specs.BTreeMap.{is_at}
 use Rattle.std.specs.Ordering.{nat_cmp}
 use Rattle.std.proofs.lemmas.Bool.{cases_lt, false≢true}
-use Rattle.std.proofs.lemmas.List.{length-take-le, length-take, get_or-take, take-take}
-use Rattle.std.proofs.lemmas.Option.{get_or_from_slice_get}
+use Rattle.std.proofs.lemmas.List.{length-take-le, get_or-take}
 use Rattle.alma_code.specs.declared.cell.Cell.{Cell}
 use Rattle.alma_code.specs.Kinds.{is_number}
 use Rattle.alma_code.specs.Picture.{PlainFrame, no_frame}
 use Rattle.alma_code.specs.Carries.{number_at, differs}
-use Rattle.alma_memory_rewind.specs.Rewound.{top_copy, needed, first_or, IsOlds}
+use Rattle.alma_memory_rewind.specs.Rewound.{top_copy, needed, first_or}
 use Rattle.alma_memory_store.specs.declared.past.Past.TheInside.{Inside}
 use Rattle.alma_memory_store.specs.declared.store.Region.{Region}
 use Rattle.alma_memory_store.specs.declared.store.Slot.{Slot}
-use Rattle.alma_memory_store.specs.Numbers.{number_in, number_of}
-use Rattle.alma_memory_store.specs.Past.{PlainPast, IsPast, IsAt, IsKept, IsReplaced}
-use Rattle.alma_memory_store.specs.Regions.{frame_of, frames_of, no_region, AreLaid, slot_number}
-use Rattle.alma_memory_store.specs.Stored.{IsState}
-use Rattle.alma_memory_store.proofs.Frames.{laid-at, laid-le}
-use Rattle.alma_memory_store.proofs.Finds.{number-live, number-past, number-above, live-length, region-at}
+use Rattle.alma_memory_store.specs.Numbers.{number_of}
+use Rattle.alma_memory_store.specs.Past.{IsPast, IsAt, IsKept, IsReplaced}
+use Rattle.alma_memory_store.specs.Regions.{frames_of, no_region, AreLaid, slot_number}
+use Rattle.alma_memory_store.proofs.Frames.{laid-at}
+use Rattle.alma_memory_store.proofs.Finds.{number-live, number-past, live-length, region-at}
 use Rattle.alma_memory_store.proofs.Stores.{number-frame}
 use Rattle.alma_memory_store.proofs.Gains.{parts, not-same, key-split}
 

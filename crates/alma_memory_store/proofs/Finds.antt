@@ -1,20 +1,18 @@
 -- Where a slot of a live frame stands.
-use Rattle.std.proofs.Common.{Result, Ok, Err, ◌≡◌, ◌≢◌, ℕ, suc, zero, ◌≤◌, ◌<◌, ◌+◌, ◌-◌, Bool, true, false, if◌then◌else◌, List, [], ◌∷◌, ◌++◌, length, map, take, drop, get_or, set, refl, sym, ap, ◌∙◌, arith}
-use Rattle.std.specs.Prelude.{Option, Some, None, slice_get, is_ok}
+use Rattle.std.proofs.Common.{Result, Ok, Err, ◌≡◌, ℕ, suc, zero, ◌≤◌, ◌<◌, ◌+◌, ◌-◌, Bool, true, false, if◌then◌else◌, List, [], ◌∷◌, length, map, take, drop, get_or, set, refl, sym, ap, ◌∙◌, arith}
+use Rattle.std.specs.Prelude.{Some, None, slice_get, is_ok}
 use Rattle.std.specs.Result.{IsErrAnd}
 use Rattle.std.proofs.lemmas.List.{length-take-le, length-map, get_or-map, get_or-take, get_or-drop, get_or_past}
 use Rattle.std.proofs.lemmas.Option.{get_or_from_slice_get}
-use Rattle.std.proofs.lemmas.Bool.{false≢true}
 use Rattle.alma_code.specs.declared.cell.Cell.TheVariants.{Unknown}
-use Rattle.alma_code.specs.declared.cell.Cell.{Cell}
 use Rattle.alma_code.specs.Picture.{PlainFrame, no_frame, frames_with_cell, last_frame, cell_at}
 use Rattle.alma_memory_store.specs.declared.store.Region.{Region}
 use Rattle.alma_memory_store.specs.declared.store.Slot.{Slot}
-use Rattle.alma_memory_store.specs.Frames.{IsWhole, AreWhole}
+use Rattle.alma_memory_store.specs.Frames.{AreWhole}
 use Rattle.alma_memory_store.specs.Numbers.{number_in, number_of}
-use Rattle.alma_memory_store.specs.Regions.{frame_of, frame_with_slots, frames_of, part_of, no_region, no_slot, AreLaid, end_of, AreTotaled, declared_in, slot_number}
-use Rattle.alma_memory_store.specs.Stored.{copies_of, IsState, AreStates}
-use Rattle.alma_memory_store.proofs.Frames.{laid-at, laid-end, end-last, frames-write, length-part, length-cells, whole-frames}
+use Rattle.alma_memory_store.specs.Regions.{frame_of, frame_with_slots, frames_of, part_of, no_region, no_slot, end_of, AreTotaled, declared_in, slot_number}
+use Rattle.alma_memory_store.specs.Stored.{IsState}
+use Rattle.alma_memory_store.proofs.Frames.{laid-at, end-last, frames-write, length-part, length-cells, whole-frames}
 use Rattle.alma_memory_store.proofs.Totals.{total-last}
 use Rattle.alma_memory_store.proofs.Stores.{whole-at}
 

@@ -1,13 +1,13 @@
 -- Lemmas on frames that are regions of one list of slots.
-use Rattle.std.proofs.Common.{◌≡◌, ◌⊎◌, inl, inr, ℕ, suc, zero, ◌≤◌, ◌<◌, ◌+◌, ◌-◌, List, [], ◌∷◌, ◌++◌, length, map, take, drop, get_or, set, refl, sym, ap, ◌∙◌, arith}
-use Rattle.std.proofs.lemmas.List.{take-set-le, take-take, length_push, length-take-le, take_all, drop-append-le, take-append-le, map-append, take-map, length-drop, length-map, map-set, get_or-take, get_or-drop, length-set}
+use Rattle.std.proofs.Common.{◌≡◌, ℕ, suc, zero, ◌≤◌, ◌<◌, ◌+◌, ◌-◌, List, [], ◌∷◌, ◌++◌, length, map, take, drop, get_or, set, refl, sym, ap, ◌∙◌, arith}
+use Rattle.std.proofs.lemmas.List.{take-set-le, take-take, length-take-le, length-drop, length-map, map-set, get_or-take, get_or-drop}
 use Rattle.std.proofs.Math.Seq.{map-set_same}
 use Rattle.alma_code.specs.declared.cell.Cell.{Cell}
 use Rattle.alma_code.specs.declared.cell.SlotKind.{SlotKind}
-use Rattle.alma_code.specs.Picture.{PlainFrame, no_frame, frame_with, frames_with_cell}
+use Rattle.alma_code.specs.Picture.{frame_with, frames_with_cell}
 use Rattle.alma_memory_store.specs.declared.store.Region.{Region}
 use Rattle.alma_memory_store.specs.declared.store.Slot.{Slot}
-use Rattle.alma_memory_store.specs.Frames.{IsWhole, AreWhole}
+use Rattle.alma_memory_store.specs.Frames.{AreWhole}
 use Rattle.alma_memory_store.specs.Regions.{frame_of, frame_with_slots, frames_of, part_of, no_region, no_slot, AreLaid, end_of, slots_of}
 
 -- ---- parts of a list

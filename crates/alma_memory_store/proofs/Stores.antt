@@ -1,12 +1,10 @@
 -- Lemmas on lists of frames: declared cells, whole frames, and number slots.
-use Rattle.std.proofs.Common.{◌≡◌, ℕ, ◌≤◌, ◌<◌, ◌+◌, ◌-◌, List, [], ◌∷◌, ◌++◌, length, sum, set, get_or, take, suc, zero, true, refl, sym, ap, ◌∙◌, arith}
+use Rattle.std.proofs.Common.{◌≡◌, ℕ, ◌<◌, ◌+◌, List, [], ◌∷◌, ◌++◌, length, get_or, suc, zero, true, refl, sym, ap, ◌∙◌, arith}
 use Rattle.std.specs.Prelude.{slice_get}
-use Rattle.std.proofs.lemmas.List.{length-set}
 use Rattle.std.proofs.lemmas.List.Sums.{sum-map, sum_by_push}
-use Rattle.alma_code.specs.declared.cell.Cell.{Cell}
 use Rattle.alma_code.specs.declared.cell.SlotKind.{SlotKind}
 use Rattle.alma_code.specs.Kinds.{is_number}
-use Rattle.alma_code.specs.Picture.{PlainFrame, no_frame, frame_with, live_cells}
+use Rattle.alma_code.specs.Picture.{PlainFrame, no_frame, live_cells}
 use Rattle.alma_code.specs.Carries.{number_at}
 use Rattle.alma_memory_store.specs.Frames.{IsWhole, AreWhole}
 

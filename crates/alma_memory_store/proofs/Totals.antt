@@ -1,13 +1,13 @@
 -- The declared cells of regions.
-use Rattle.std.proofs.Common.{◌≡◌, ◌⊎◌, inl, inr, ℕ, suc, zero, ◌≤◌, ◌<◌, ◌+◌, ◌-◌, List, [], ◌∷◌, ◌++◌, length, map, sum, take, drop, get_or, refl, sym, ap, ◌∙◌, arith}
-use Rattle.std.proofs.lemmas.List.{length_push, length-take-le, length-take, take_all, take-take, take-append-le, take-append-drop, get_or-take, get_or_push, get_or_append_left}
+use Rattle.std.proofs.Common.{◌≡◌, ◌⊎◌, inl, inr, ℕ, ◌≤◌, ◌<◌, ◌+◌, ◌-◌, List, [], ◌∷◌, ◌++◌, length, map, sum, take, drop, get_or, refl, sym, ap, ◌∙◌, arith}
+use Rattle.std.proofs.lemmas.List.{length_push, length-take, take_all, take-take, take-append-le, take-append-drop, get_or-take, get_or_push, get_or_append_left}
 use Rattle.std.proofs.lemmas.List.Sums.{sum-map, sum_by_push, sum_by-append}
 use Rattle.std.proofs.lemmas.Bool.{cases_eq}
 use Rattle.std.specs.List.{sum_by}
 use Rattle.alma_code.specs.Picture.{PlainFrame, live_cells}
 use Rattle.alma_memory_store.specs.declared.store.Region.{Region}
 use Rattle.alma_memory_store.specs.declared.store.Slot.{Slot}
-use Rattle.alma_memory_store.specs.Regions.{frame_of, frames_of, no_region, declared_in, AreTotaled}
+use Rattle.alma_memory_store.specs.Regions.{frames_of, no_region, declared_in, AreTotaled}
 
 pub declared-push : (rs : List Region) (r : Region) → declared_in (rs ++ r ∷ []) ≡ declared_in rs + r.declared
 declared-push rs r =

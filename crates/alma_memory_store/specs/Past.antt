@@ -1,5 +1,5 @@
 -- The frames of now and those of the top copy, and lists of changes between them.
-use Rattle.std.specs.Prelude.{◌≡◌, ◌⊎◌, ◌+◌, ◌<◌, ◌||◌, ℕ, Bool, true, false, List, [], ◌∷◌, take, length, get_or, Option, Some, None, IsSome, if◌then◌else◌}
+use Rattle.std.specs.Prelude.{◌≡◌, ◌⊎◌, ◌+◌, ◌<◌, ◌||◌, ℕ, Bool, true, false, List, [], ◌∷◌, length, get_or, Option, Some, None, IsSome, if◌then◌else◌}
 use Rattle.std.specs.BTreeMap.{get, is_at}
 use Rattle.std.specs.Map.{lookup}
 use Rattle.std.specs.Ordering.{nat_cmp}
@@ -13,7 +13,7 @@ use Rattle.alma_memory_store.specs.declared.past.Past.TheInside.{Inside}
 use Rattle.alma_memory_store.specs.declared.store.Region.{Region}
 use Rattle.alma_memory_store.specs.declared.store.Slot.{Slot}
 use Rattle.alma_memory_store.specs.Carries.{IsRising}
-use Rattle.alma_memory_store.specs.Regions.{frames_of, no_region}
+use Rattle.alma_memory_store.specs.Regions.{no_region}
 use Rattle.alma_memory_store.specs.Stored.{IsState}
 
 -- the frames of now and their regions, the frames of the top copy, and the slots and regions of the copy where

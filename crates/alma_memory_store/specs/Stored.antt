@@ -1,10 +1,10 @@
 -- What a Store stands for, and what is true of its fields.
-use Rattle.std.specs.Prelude.{◌≡◌, ℕ, ◌≤◌, ◌+◌, Bool, true, false, List, [], ◌∷◌, map, take, drop, length, get_or}
+use Rattle.std.specs.Prelude.{◌≡◌, ℕ, ◌≤◌, Bool, true, false, List, [], ◌∷◌, map, take, drop, length, get_or}
 use Rattle.alma_base.specs.Limits.{cell_limit, frame_limit}
 use Rattle.alma_code.specs.Picture.{PlainFrame}
 use Rattle.alma_memory_store.specs.declared.store.Region.{Region}
 use Rattle.alma_memory_store.specs.declared.store.Slot.{Slot}
-use Rattle.alma_memory_store.specs.Regions.{frames_of, AreLaid, AreTotaled, declared_in, no_region}
+use Rattle.alma_memory_store.specs.Regions.{frames_of, AreLaid, AreTotaled, declared_in}
 
 -- the live frames, the whole copies from the bottom, for each slot of each live frame whether a write to it
 -- needs no note, and the free places

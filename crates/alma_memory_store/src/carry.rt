@@ -83,8 +83,8 @@ impl Carry {
         }
     }
 
-    // Gives each of the first slots back what the carry had for it, the last of them first.
-    fn put_all_back(&mut self, changes: &[(SlotPlace, Cell)], mut had: Vec<Option<Cell>>)
+    /// Gives each of the first slots back what the carry had for it, the last of them first.
+    pub fn put_all_back(&mut self, changes: &[(SlotPlace, Cell)], mut had: Vec<Option<Cell>>)
         requires { vec_len had ≤ length changes.now }
         ensures { self.new ≡ all_put_back changes.now had.items self.old }
     {
@@ -122,19 +122,36 @@ impl Carry {
         Ok(())
     }
 
-    /// Sets the cells one after another, or none of them.
-    pub fn set_all(&mut self, alloc: Global, changes: &[(SlotPlace, Cell)]) -> Result<(), NoMemory>
+    /// Sets the cells one after another, or none of them, and answers what the carry had for each before.
+    pub fn set_all(
+        &mut self,
+        alloc: Global,
+        changes: &[(SlotPlace, Cell)],
+    ) -> Result<Vec<Option<Cell>>, NoMemory>
         ensures carry { self.new ≡ (if is_ok result then with_changes
             (carry_of_entries changes.now) self.old else self.old) }
+        ensures had { IfOk result (λ had. had.items
+            ≡ cells_before_setting changes.now self.old) }
         ensures rising { OnOk result (IsRising self.old) }
     {
         let mut had = Vec::with_capacity(alloc, changes.len())?;
         match self.set_each(changes, &mut had) {
-            Ok(()) => Ok(()),
+            Ok(()) => Ok(had),
             Err(error) => {
                 self.put_all_back(changes, had);
                 Err(error)
             }
         }
+    }
+
+    /// The cells with their places, in order.
+    pub fn listed(&self, alloc: Global) -> Result<Vec<(SlotPlace, Cell)>, NoMemory>
+        ensures { IfOk result (λ found. carry_of_entries found.items ≡ self.now) }
+    {
+        let mut found = Vec::with_capacity(alloc, self.cells.len())?;
+        for (place, cell) in &self.cells {
+            found.push((*place, *cell))?;
+        }
+        Ok(found)
     }
 }

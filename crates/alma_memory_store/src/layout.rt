@@ -5,7 +5,7 @@ ghost use Rattle.alma_code.specs.Picture.{no_frame};
 ghost use Rattle.alma_code.specs.Carries.{IsLive};
 ghost use Rattle.alma_memory_store.specs.Frames.{AreWhole};
 
-use crate::store::Store;
+use crate::live_frames::LiveFrames;
 use alma_base::NoMemory;
 use alma_code::{Cell, CellPlace, CodeParam, Head, ParamKind, SlotKind};
 use std::alloc::Global;
@@ -59,26 +59,26 @@ fn push_blanks(cells: &mut Vec<Cell>, kinds: &[SlotKind]) -> Result<(), NoMemory
     Ok(())
 }
 
-fn push_arg(
+fn push_arg<F: LiveFrames>(
     cells: &mut Vec<Cell>,
-    store: &Store,
+    frames: &F,
     param: CodeParam,
     arg: Cell,
 ) -> Result<(), NoMemory>
-    requires fits { FitsParam (IsLive store.now.now) (λ routine. IsLive store.now.now) param.kind
+    requires fits { FitsParam (IsLive (F.live frames.now)) (λ routine. IsLive (F.live frames.now)) param.kind
         param.cells arg }
-    requires whole { AreWhole store.now.now }
+    requires whole { AreWhole (F.live frames.now) }
     requires room { param.kind ≡ ParamKind.Mix → length cells.old.items + 1 < 2 ^ 32 }
-    ensures { IfOk result (λ _. cells.new.items ≡ cells.old.items ++ arg_cells store.now.now
-        (length store.now.now) (length cells.old.items) param.kind arg) }
+    ensures { IfOk result (λ _. cells.new.items ≡ cells.old.items ++ arg_cells (F.live frames.now)
+        (length (F.live frames.now)) (length cells.old.items) param.kind arg) }
 {
     match param.kind {
         ParamKind::Value | ParamKind::Place | ParamKind::Link => {
             cells.push(arg)?;
             Ok(())
         }
-        ParamKind::Mix => push_mix(cells, store.len() as u32, arg),
-        ParamKind::Cells => push_copies(cells, store, param.cells, arg),
+        ParamKind::Mix => push_mix(cells, frames.len() as u32, arg),
+        ParamKind::Cells => push_copies(cells, frames, param.cells, arg),
     }
 }
 
@@ -108,53 +108,62 @@ fn push_mix(cells: &mut Vec<Cell>, me: u32, arg: Cell) -> Result<(), NoMemory>
 }
 
 // The cells at a place.
-fn push_place(cells: &mut Vec<Cell>, store: &Store, place: CellPlace) -> Result<(), NoMemory>
-    requires live { place.frame < length store.now.now }
+fn push_place<F: LiveFrames>(
+    cells: &mut Vec<Cell>,
+    frames: &F,
+    place: CellPlace,
+) -> Result<(), NoMemory>
+    requires live { place.frame < length (F.live frames.now) }
     requires end { place.slot + place.len
-        ≤ length (slice_index_or store.now.now place.frame no_frame).cells }
+        ≤ length (slice_index_or (F.live frames.now) place.frame no_frame).cells }
     ensures { IfOk result (λ _. cells.new.items ≡ cells.old.items
-        ++ cells_at store.now.now place) }
+        ++ cells_at (F.live frames.now) place) }
 {
     let from = place.slot as usize;
     for k in 0..place.len {
-        let cell = store.read(place.frame as usize, from + k as usize);
+        let cell = frames.read(place.frame as usize, from + k as usize);
         cells.push(cell)?;
     }
     Ok(())
 }
 
-fn push_copies(cells: &mut Vec<Cell>, store: &Store, count: u32, arg: Cell) -> Result<(), NoMemory>
-    requires fits { FitsPlace (IsLive store.now.now) count arg }
-    requires whole { AreWhole store.now.now }
+fn push_copies<F: LiveFrames>(
+    cells: &mut Vec<Cell>,
+    frames: &F,
+    count: u32,
+    arg: Cell,
+) -> Result<(), NoMemory>
+    requires fits { FitsPlace (IsLive (F.live frames.now)) count arg }
+    requires whole { AreWhole (F.live frames.now) }
     ensures { IfOk result (λ _. cells.new.items ≡ cells.old.items
-        ++ cells_behind_argument store.now.now arg) }
+        ++ cells_behind_argument (F.live frames.now) arg) }
 {
     match arg {
-        Cell::Place(place) if place.len > 0 => push_place(cells, store, place),
+        Cell::Place(place) if place.len > 0 => push_place(cells, frames, place),
         Cell::Place(_) | Cell::Int(_) | Cell::Unknown | Cell::Unset | Cell::Mark(_) => Ok(()),
     }
 }
 
 // The cells of a call, in place of what stood there.
-fn put_cells<H: Head>(
+fn put_cells<F: LiveFrames, H: Head>(
     cells: &mut Vec<Cell>,
-    store: &Store,
+    frames: &F,
     head: &H,
     kinds: &[SlotKind],
     args: &[Cell],
 ) -> Result<(), NoMemory>
     requires head { IsHead (H.head head.now) }
-    requires whole { AreWhole store.now.now }
+    requires whole { AreWhole (F.live frames.now) }
     requires kinds { kinds.now ≡ kinds_of 0 (H.head head.now).runs }
-    requires args { FitsParams (IsLive store.now.now) (λ routine. IsLive store.now.now)
+    requires args { FitsParams (IsLive (F.live frames.now)) (λ routine. IsLive (F.live frames.now))
         (H.head head.now).params args.now }
-    ensures { OnOk result (cells.new.items ≡ cells_of_call store.now.now
+    ensures { OnOk result (cells.new.items ≡ cells_of_call (F.live frames.now)
         (H.head head.now) args.now) }
 {
     cells.clear();
     cells.reserve(head.slots() as usize)?;
     for i in 0..head.param_count() {
-        push_arg(cells, store, head.param(i), args[i as usize])?;
+        push_arg(cells, frames, head.param(i), args[i as usize])?;
     }
     push_blanks(cells, kinds)?;
     Ok(())
@@ -181,23 +190,23 @@ pub fn put_start<H: Head>(
 }
 
 /// The kinds and cells of the frame that a call enters, in place of what stood there.
-pub fn put_call<H: Head>(
+pub fn put_call<F: LiveFrames, H: Head>(
     kinds: &mut Vec<SlotKind>,
     cells: &mut Vec<Cell>,
-    store: &Store,
+    frames: &F,
     head: &H,
     args: &[Cell],
 ) -> Result<(), NoMemory>
     requires head { IsHead (H.head head.now) }
-    requires whole { AreWhole store.now.now }
-    requires args { FitsParams (IsLive store.now.now) (λ routine. IsLive store.now.now)
+    requires whole { AreWhole (F.live frames.now) }
+    requires args { FitsParams (IsLive (F.live frames.now)) (λ routine. IsLive (F.live frames.now))
         (H.head head.now).params args.now }
     ensures kinds { OnOk result (kinds.new.items ≡ kinds_of 0 (H.head head.now).runs) }
-    ensures cells { OnOk result (cells.new.items ≡ cells_of_call store.now.now
+    ensures cells { OnOk result (cells.new.items ≡ cells_of_call (F.live frames.now)
         (H.head head.now) args.now) }
     ensures same { OnOk result (length kinds.new.items ≡ length cells.new.items) }
     ensures few { OnOk result (length cells.new.items < 2 ^ 32) }
 {
     put_kinds(kinds, head)?;
-    put_cells(cells, store, head, kinds.as_slice(), args)
+    put_cells(cells, frames, head, kinds.as_slice(), args)
 }

@@ -3,9 +3,11 @@
 
 mod carry;
 mod layout;
+mod live_frames;
 mod past;
 mod store;
 
 pub use carry::{Carry, SlotPlace};
 pub use layout::{put_call, put_start};
+pub use live_frames::LiveFrames;
 pub use store::{Region, Slot, Store};

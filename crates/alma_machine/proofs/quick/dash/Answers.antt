@@ -1,13 +1,13 @@
 use Rattle.std.proofs.Common.{arith}
 use Rattle.alma_code.specs.Machine.{step}
-use Rattle.alma_machine_acts.specs.Rows.{state_of}
+use Rattle.alma_machine.specs.View.{run_state}
 use Rattle.alma_machine.proofs.Dashing.{dashed_none, dashed_more, dashed_left, is_made, is_left, is_counted}
 use Rattle.alma_machine.proofs.quick.dash.Goals as goal
 
 pub loop-made-init : goal.loop-made-init
 loop-made-init g c = record {
   within = omega arith;
-  dashed = dashed_none (g.V.CodeView.code c.args.view) c.args.input.now (state_of c.args.registers.now) c.requires.keeps;
+  dashed = dashed_none (g.V.CodeView.code c.args.view) c.args.input.now (run_state c.args.registers.now) c.requires.keeps;
 }
 
 pub step_quickly-requires-clause-keeps : goal.step_quickly-requires-clause-keeps
@@ -20,9 +20,9 @@ pub loop-made-preserved : goal.loop-made-preserved
 loop-made-preserved g c =
     let code = g.V.CodeView.code c.args.view in
     let input = c.args.input.now in
-    let old = state_of c.args.registers.now in
-    let now = state_of c.loop-made.registers in
-    let new = state_of c.step_quickly.new.registers in
+    let old = run_state c.args.registers.now in
+    let now = run_state c.loop-made.registers in
+    let new = run_state c.step_quickly.new.registers in
     let made = c.if-not-step_quickly.false in
     record {
       within = omega (arith, c.loop-made-test.true);
@@ -34,10 +34,10 @@ loop-made-preserved g c =
 pub returns-then-not-step_quickly-clause-state : goal.returns-then-not-step_quickly-clause-state
 returns-then-not-step_quickly-clause-state g c =
     let code = g.V.CodeView.code c.args.view in
-    let now = state_of c.loop-made.registers in
-    let new = state_of c.step_quickly.new.registers in
+    let now = run_state c.loop-made.registers in
+    let new = run_state c.step_quickly.new.registers in
     let same = is_left c.step_quickly.result now new (step code c.args.input.now now) c.if-not-step_quickly.true c.step_quickly.ensures.step in
-    (dashed_left code c.args.input.now c.loop-made.made (state_of c.args.registers.now) now new c.loop-made.invariant.dashed same).state
+    (dashed_left code c.args.input.now c.loop-made.made (run_state c.args.registers.now) now new c.loop-made.invariant.dashed same).state
 
 pub returns-then-not-step_quickly-clause-silent : goal.returns-then-not-step_quickly-clause-silent
 returns-then-not-step_quickly-clause-silent g c = c.loop-made.invariant.dashed.silent
@@ -45,18 +45,18 @@ returns-then-not-step_quickly-clause-silent g c = c.loop-made.invariant.dashed.s
 pub returns-then-not-step_quickly-clause-counted : goal.returns-then-not-step_quickly-clause-counted
 returns-then-not-step_quickly-clause-counted g c =
     let code = g.V.CodeView.code c.args.view in
-    let now = state_of c.loop-made.registers in
-    let new = state_of c.step_quickly.new.registers in
+    let now = run_state c.loop-made.registers in
+    let new = run_state c.step_quickly.new.registers in
     let same = is_left c.step_quickly.result now new (step code c.args.input.now now) c.if-not-step_quickly.true c.step_quickly.ensures.step in
-    (dashed_left code c.args.input.now c.loop-made.made (state_of c.args.registers.now) now new c.loop-made.invariant.dashed same).steps
+    (dashed_left code c.args.input.now c.loop-made.made (run_state c.args.registers.now) now new c.loop-made.invariant.dashed same).steps
 
 pub returns-then-not-step_quickly-clause-stands : goal.returns-then-not-step_quickly-clause-stands
 returns-then-not-step_quickly-clause-stands g c =
     let code = g.V.CodeView.code c.args.view in
-    let now = state_of c.loop-made.registers in
-    let new = state_of c.step_quickly.new.registers in
+    let now = run_state c.loop-made.registers in
+    let new = run_state c.step_quickly.new.registers in
     let same = is_left c.step_quickly.result now new (step code c.args.input.now now) c.if-not-step_quickly.true c.step_quickly.ensures.step in
-    (dashed_left code c.args.input.now c.loop-made.made (state_of c.args.registers.now) now new c.loop-made.invariant.dashed same).stands
+    (dashed_left code c.args.input.now c.loop-made.made (run_state c.args.registers.now) now new c.loop-made.invariant.dashed same).stands
 
 pub returns-clause-few : goal.returns-clause-few
 returns-clause-few g c = c.loop-made.invariant.within

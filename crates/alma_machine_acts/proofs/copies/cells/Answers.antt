@@ -4,8 +4,8 @@ use Rattle.alma_machine_acts.proofs.Copying.{read_more}
 use Rattle.alma_machine_acts.proofs.copies.cells.Goals as goal
 
 pub loop-k-preserved : goal.loop-k-preserved
-loop-k-preserved c =
-    let now = c.args.registers.now.memory.now in
+loop-k-preserved g c =
+    let now = (g.M.MachineMemory.picture c.args.registers.now.memory).now in
     let f = c.args.from.frame in
     let i = c.args.from.slot in
     let k = c.loop-k.k in

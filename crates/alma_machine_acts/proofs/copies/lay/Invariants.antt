@@ -1,10 +1,11 @@
-use Rattle.std.proofs.Common.{◌≤◌, ◌+◌, length}
+use Rattle.std.proofs.Common.{◌≡◌, ◌≤◌, ◌+◌, length}
 use Rattle.alma_machine_acts.specs.Rows.{state_of}
 use Rattle.alma_machine_acts.proofs.Copying.{Laid}
 use Rattle.alma_machine_acts.proofs.copies.lay.Given as goal
 
 abbrev pub invariant-loop-k : goal.invariant-loop-k
-invariant-loop-k l = record {
-  laid : Laid l.cells (state_of l.fn.registers) (state_of l.registers) l.to.frame l.to.slot l.k;
-  room : length l.cells ≤ l.registers.memory.trail_room + l.k;
+invariant-loop-k g l = record {
+  laid : Laid l.cells (state_of g.M.MachineMemory.picture l.fn.registers) (state_of g.M.MachineMemory.picture l.registers) l.to.frame l.to.slot l.k;
+  room : length l.cells ≤ (g.M.MachineMemory.picture l.registers.memory).trail_room + l.k;
+  past : (g.M.MachineMemory.picture l.registers.memory).past ≡ (g.M.MachineMemory.picture l.fn.registers.memory).past;
 }

@@ -1,4 +1,4 @@
-use Rattle.std.proofs.Common.{◌≡◌, List, length, map, drop, ◌++◌, arith, ◌∙◌, sym, ap, []}
+use Rattle.std.proofs.Common.{◌≡◌, List, length, map, drop, ◌++◌, arith, ◌∙◌, ap, []}
 use Rattle.std.proofs.lemmas.List.{length-set}
 use Rattle.std.specs.Prelude.{pos}
 use Rattle.alma_code.specs.Layout.{blank_of}

@@ -1,11 +1,5 @@
-use Rattle.std.proofs.Common.{◌≡◌, ◌<◌, ◌≤◌, ◌+◌, ◌-◌, ◌/◌, ◌++◌, ◌∷◌, [], ℕ, List, length, get_or, take, drop, set, sym, ap, refl, subst, ◌∙◌, true, false, max, arith, append_assoc}
-use Rattle.alma_code.specs.Picture.{PlainFrame, no_frame, without_last, last_frame, frames_with_cell, live_cells}
-use Rattle.alma_memory_rewind.specs.Rewound.{needed, top_copy, first_or}
-use Rattle.alma_memory_store.specs.declared.store.Region.{Region}
-use Rattle.alma_memory_store.specs.declared.store.Slot.{Slot}
-use Rattle.alma_memory_store.specs.Regions.{AreLaid, end_of, frames_of, frame_of, frame_with_slots, no_region, no_slot, slots_of, slot_number, declared_in}
-use Rattle.alma_memory_store.specs.Stored.{Stored, IsState, AreStates, copies_of, flags_of, IsNoted}
-use Rattle.alma_memory_store.specs.Past.{IsAt}
+use Rattle.std.proofs.Common.{◌≡◌, ◌<◌, ◌≤◌, ◌+◌, ◌-◌, ◌/◌, ℕ, length, get_or, take, arith}
+use Rattle.alma_memory_store.specs.Regions.{no_region}
 use Rattle.std.proofs.lemmas.List.{length-take-le}
 use Rattle.alma_memory_store.proofs.Covers.{above-middle, below-middle, half}
 use Rattle.alma_memory_store.proofs.Finds.{region-at}

@@ -1,4 +1,4 @@
-use Rattle.std.proofs.Common.{◌≡◌, ◌<◌, ◌≤◌, ◌-◌, ℕ, take}
+use Rattle.std.proofs.Common.{◌<◌, ◌≤◌, ◌-◌, ℕ, take}
 use Rattle.alma_memory_store.specs.Past.{IsAt}
 use Rattle.alma_memory_store.proofs.past.find.Given as goal
 

@@ -1,4 +1,4 @@
-use Rattle.std.proofs.Common.{◌≡◌, ◌++◌, ℕ, take, ◌≤◌, length, get_or, true, false}
+use Rattle.std.proofs.Common.{◌≡◌, ◌++◌, ℕ, take, get_or, true, false}
 use Rattle.alma_memory_store.specs.Regions.{slots_of}
 use Rattle.alma_memory_store.proofs.store.lay.Given as goal
 

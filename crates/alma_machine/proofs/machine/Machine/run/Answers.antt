@@ -3,9 +3,8 @@ use Rattle.std.specs.Prelude.{is_err}
 use Rattle.std.specs.Io.KnownBytes.{Appends}
 use Rattle.alma_io.specs.Fronts.{AppendsFront}
 use Rattle.alma_code.specs.Machine.{State, after, prints}
-use Rattle.alma_machine_acts.specs.Rows.{state_of}
 use Rattle.alma_machine.specs.Runs.{run_end_of, made}
-use Rattle.alma_machine.specs.View.{MachineView}
+use Rattle.alma_machine.specs.View.{run_state, MachineView}
 use Rattle.alma_machine.proofs.Dashing.{progress_dash, prints_dash}
 use Rattle.alma_machine.proofs.Budget.{progress_more, progress_stopped, shows, shows_last, end_is_whole, prints_then, made_is, on_whole, finished, goes_unless, out_more, out_front, on_ok, on_err}
 use Rattle.alma_verify.specs.Verified.{code_of_verified}
@@ -63,7 +62,7 @@ returns-then-is_err-clause-made g c =
     let m = c.loop-made.made + d.result in
     let now = progress_dash old c.loop-made.self d.new.self c.loop-made.made d.result before d.ensures.state d.ensures.shown d.ensures.counted d.ensures.same in
     let inside = c.self.inside in
-    let stopped : MachineView = record { code = code_of_verified inside.code; input = inside.input.now; state = state_of inside.registers; running = false; printed = inside.printed.items } in
+    let stopped : MachineView = record { code = code_of_verified inside.code; input = inside.input.now; state = run_state inside.registers; running = false; printed = inside.printed.items } in
     let p = progress_more old d.new.self c.step.new.self m c.in-Ok.step now c.in-Ok.ensures.step c.in-Ok.ensures.counted c.in-Ok.ensures.same in
     let q = progress_stopped old c.step.new.self stopped (m + 1) (ap (λ x. x.state) c.self.view_is) (ap (λ x. x.code) c.self.view_is) (ap (λ x. x.input) c.self.view_is) (ap (λ x. x.printed) c.self.view_is) p in
     q.state ∙ ap (λ k. after old.code old.input k old.state) (sym (made_is old stopped (m + 1) q))
@@ -76,7 +75,7 @@ returns-then-is_err-clause-write_fault g c =
     let m = c.loop-made.made + d.result in
     let now = progress_dash old c.loop-made.self d.new.self c.loop-made.made d.result before d.ensures.state d.ensures.shown d.ensures.counted d.ensures.same in
     let inside = c.self.inside in
-    let stopped : MachineView = record { code = code_of_verified inside.code; input = inside.input.now; state = state_of inside.registers; running = false; printed = inside.printed.items } in
+    let stopped : MachineView = record { code = code_of_verified inside.code; input = inside.input.now; state = run_state inside.registers; running = false; printed = inside.printed.items } in
     let p = progress_more old d.new.self c.step.new.self m c.in-Ok.step now c.in-Ok.ensures.step c.in-Ok.ensures.counted c.in-Ok.ensures.same in
     let q = progress_stopped old c.step.new.self stopped (m + 1) (ap (λ x. x.state) c.self.view_is) (ap (λ x. x.code) c.self.view_is) (ap (λ x. x.input) c.self.view_is) (ap (λ x. x.printed) c.self.view_is) p in
     let failed : is_err c.write_printed.result ≡ true = search rules in
@@ -167,7 +166,7 @@ returns-then-is_err-clause-printed g c =
     let m = c.loop-made.made + d.result in
     let now = progress_dash old c.loop-made.self d.new.self c.loop-made.made d.result before d.ensures.state d.ensures.shown d.ensures.counted d.ensures.same in
     let inside = c.self.inside in
-    let stopped : MachineView = record { code = code_of_verified inside.code; input = inside.input.now; state = state_of inside.registers; running = false; printed = inside.printed.items } in
+    let stopped : MachineView = record { code = code_of_verified inside.code; input = inside.input.now; state = run_state inside.registers; running = false; printed = inside.printed.items } in
     let p = progress_more old d.new.self c.step.new.self m c.in-Ok.step now c.in-Ok.ensures.step c.in-Ok.ensures.counted c.in-Ok.ensures.same in
     let q = progress_stopped old c.step.new.self stopped (m + 1) (ap (λ x. x.state) c.self.view_is) (ap (λ x. x.code) c.self.view_is) (ap (λ x. x.input) c.self.view_is) (ap (λ x. x.printed) c.self.view_is) p in
     shows old stopped (m + 1) q

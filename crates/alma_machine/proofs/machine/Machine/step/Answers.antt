@@ -1,6 +1,6 @@
 use Rattle.std.proofs.Common.{rules, ◌≡◌, ◌∙◌, sym, subst, true, IfOk}
 use Rattle.alma_code.specs.Machine.{step}
-use Rattle.alma_machine_acts.specs.Rows.{state_of}
+use Rattle.alma_machine.specs.View.{run_state}
 use Rattle.alma_machine_acts.specs.Steps.{stepped}
 use Rattle.alma_machine.proofs.Stepping.{stands_after}
 use Rattle.alma_verify.specs.Verified.{code_of_verified}
@@ -9,8 +9,8 @@ use Rattle.alma_machine.proofs.machine.Machine.step.Goals as goal
 pub invariant_of-self : goal.invariant_of-self
 invariant_of-self c =
     let code = code_of_verified c.self.inside.code in
-    let old = state_of c.self.inside.registers in
-    let new = state_of c.advance-step.new.registers in
+    let old = run_state c.self.inside.registers in
+    let new = run_state c.advance-step.new.registers in
     let running : c.self.inside.running ≡ true = search rules in (
       c.self.invariant.0,
       λ on. stands_after c.advance-step.result code c.self.inside.input.now old new c.advance-step.new.printed.items (c.self.invariant.1 running)
@@ -20,5 +20,5 @@ invariant_of-self c =
 pub returns-clause-step : goal.returns-clause-step
 returns-clause-step c =
     let bytes = c.advance-step.new.printed.items in
-    let new = state_of c.advance-step.new.registers in
+    let new = run_state c.advance-step.new.registers in
     subst (λ m. IfOk c.advance-step.result (λ answer. stepped answer bytes new ≡ step m.code m.input m.state)) c.self.view_is c.advance-step.ensures.step

@@ -1,4 +1,4 @@
 use Rattle.alma_machine_acts.proofs.registers.Registers.chained.Goals as goal
 
 pub held-requires : goal.held-requires
-held-requires c = c.in_ok-frame.ensures.0 c.args.slot c.requires.leads
+held-requires g c = c.in_ok-frame.ensures.0 c.args.slot c.requires.leads

@@ -8,32 +8,33 @@ use Rattle.alma_machine_acts.proofs.Meetings.{equated_more, equations_end}
 use Rattle.alma_machine_acts.proofs.registers.Registers.equate_all.Goals as goal
 
 pub returns-in-Ok-Ends-clause-step : goal.returns-in-Ok-Ends-clause-step
-returns-in-Ok-Ends-clause-step c =
-    let t = state_of c.loop-k.self in
-    let u = state_of c.equate.new.self in
+returns-in-Ok-Ends-clause-step g c =
+    let t = state_of g.M.MachineMemory.picture c.loop-k.self in
+    let u = state_of g.M.MachineMemory.picture c.equate.new.self in
     let f = c.args.left.frame in
     let i = c.args.left.slot in
-    let g = c.args.right.frame in
+    let b = c.args.right.frame in
     let j = c.args.right.slot in
     let k = c.loop-k.k in
-    let ends : Meets (Ends c.in-Ok-Ends.step) (λ q. equation t f (i + k) None g (j + k) None q) u =
-    subst (λ met. Meets met (λ q. equation t f (i + k) None g (j + k) None q) u) c.in-Ok-Ends.field-0-is c.in-Ok-Ends.ensures.ok in
-    sym (c.loop-k.invariant.equation_of_contents.rest ∙ equations_end c.args.count k t u c.in-Ok-Ends.step f i g j c.loop-k-test.true ends)
+    let ends : Meets (Ends c.in-Ok-Ends.step) (λ q. equation t f (i + k) None b (j + k) None q) u =
+    subst (λ met. Meets met (λ q. equation t f (i + k) None b (j + k) None q) u) c.in-Ok-Ends.field-0-is c.in-Ok-Ends.ensures.ok in
+    sym (c.loop-k.invariant.equation_of_contents.rest ∙ equations_end c.args.count k t u c.in-Ok-Ends.step f i b j c.loop-k-test.true ends)
 
 pub loop-k-preserved : goal.loop-k-preserved
-loop-k-preserved c =
-    let s = state_of c.args.self.now in
-    let t = state_of c.loop-k.self in
-    let u = state_of c.equate.new.self in
+loop-k-preserved g c =
+    let s = state_of g.M.MachineMemory.picture c.args.self.now in
+    let t = state_of g.M.MachineMemory.picture c.loop-k.self in
+    let u = state_of g.M.MachineMemory.picture c.equate.new.self in
     let f = c.args.left.frame in
     let i = c.args.left.slot in
-    let g = c.args.right.frame in
+    let b = c.args.right.frame in
     let j = c.args.right.slot in
     let k = c.loop-k.k in
-    let holds : Meets Holds (λ q. equation t f (i + k) None g (j + k) None q) u =
-    subst (λ met. Meets met (λ q. equation t f (i + k) None g (j + k) None q) u) c.in-Ok-Holds.field-0-is c.in-Ok-Holds.ensures.ok in
+    let holds : Meets Holds (λ q. equation t f (i + k) None b (j + k) None q) u =
+    subst (λ met. Meets met (λ q. equation t f (i + k) None b (j + k) None q) u) c.in-Ok-Holds.field-0-is c.in-Ok-Holds.ensures.ok in
     let kept : MeetsOn Holds t u = subst (λ met. MeetsOn met t u) c.in-Ok-Holds.field-0-is c.in-Ok-Holds.ensures.kept in
     record {
-      equation_of_contents = equated_more c.args.count k s t u f i g j c.loop-k-test.true c.loop-k.invariant.equation_of_contents holds c.in-Ok-Holds.ensures.stays kept;
+      equation_of_contents = equated_more c.args.count k s t u f i b j c.loop-k-test.true c.loop-k.invariant.equation_of_contents holds c.in-Ok-Holds.ensures.stays kept;
       room = omega (arith, c.loop-k.invariant.room, c.in-Ok-Holds.ensures.room);
+      past = c.in-Ok-Holds.ensures.past ∙ c.loop-k.invariant.past;
     }

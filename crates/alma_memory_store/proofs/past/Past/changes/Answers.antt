@@ -1,11 +1,8 @@
-use Rattle.std.proofs.Common.{◌≡◌, ◌⊎◌, inl, inr, ℕ, List, [], true, ap, sym, subst, ◌∙◌}
-use Rattle.alma_base.specs.Carry.{Change}
-use Rattle.alma_code.specs.declared.cell.Cell.{Cell}
+use Rattle.std.proofs.Common.{◌≡◌, ◌⊎◌, ℕ, [], true, ap, subst}
 use Rattle.alma_code.specs.Carries.{differs}
 use Rattle.alma_memory_store.specs.Carries.{carry_of_entries}
 use Rattle.alma_memory_store.specs.Frames.{AreWhole}
-use Rattle.alma_memory_store.specs.Past.{PlainPast, Gains, IsKept, IsNone, IsReplaced, AllChanged, has_place}
-use Rattle.alma_memory_store.specs.Regions.{frames_of}
+use Rattle.alma_memory_store.specs.Past.{PlainPast, IsKept, IsReplaced}
 use Rattle.alma_memory_store.proofs.Frames.{whole-frames}
 use Rattle.alma_memory_store.proofs.Gains.{found-gain, gained-all}
 use Rattle.alma_memory_store.proofs.Covers.{covers}

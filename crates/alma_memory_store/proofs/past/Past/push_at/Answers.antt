@@ -1,7 +1,6 @@
-use Rattle.std.proofs.Common.{◌≡◌, ◌<◌, ◌≤◌, ◌+◌, ◌-◌, ℕ, List, length, get_or, take, ap, sym, refl, subst, ◌∙◌, arith, rules}
+use Rattle.std.proofs.Common.{◌≡◌, get_or, take, ap, sym, subst, ◌∙◌, arith}
 use Rattle.alma_memory_store.specs.declared.store.Region.{Region}
-use Rattle.alma_memory_store.specs.Carries.{carry_of_entries}
-use Rattle.alma_memory_store.specs.Past.{PlainPast, Gains, IsAt, IsNone}
+use Rattle.alma_memory_store.specs.Past.{PlainPast, IsAt}
 use Rattle.alma_memory_store.specs.Regions.{no_region}
 use Rattle.alma_memory_store.proofs.Finds.{region-at}
 use Rattle.alma_memory_store.proofs.Gains.{gains-diff, gains-none, if-ok}

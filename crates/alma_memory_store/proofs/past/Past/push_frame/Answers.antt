@@ -1,12 +1,10 @@
-use Rattle.std.proofs.Common.{◌≡◌, ◌<◌, ◌≤◌, ◌+◌, ◌-◌, ℕ, List, length, get_or, take, ap, sym, refl, subst, ◌∙◌, arith, rules}
+use Rattle.std.proofs.Common.{◌≡◌, ◌<◌, length, get_or, take, ap, sym, subst, ◌∙◌, arith}
 use Rattle.alma_code.specs.Picture.{PlainFrame, no_frame}
-use Rattle.alma_memory_store.specs.declared.store.Region.{Region}
-use Rattle.alma_memory_store.specs.Carries.{carry_of_entries}
 use Rattle.alma_memory_store.specs.Frames.{AreWhole}
-use Rattle.alma_memory_store.specs.Past.{PlainPast, Gains, IsNone}
-use Rattle.alma_memory_store.specs.Regions.{frames_of, frame_of, no_region}
-use Rattle.alma_memory_store.proofs.Frames.{whole-frames, length-cells, laid-at}
-use Rattle.alma_memory_store.proofs.Finds.{region-at, live-length, frame-at, region-end}
+use Rattle.alma_memory_store.specs.Past.{PlainPast}
+use Rattle.alma_memory_store.specs.Regions.{frames_of, frame_of}
+use Rattle.alma_memory_store.proofs.Frames.{whole-frames, length-cells}
+use Rattle.alma_memory_store.proofs.Finds.{live-length, frame-at, region-end}
 use Rattle.alma_memory_store.proofs.Gains.{gains-frame, gains-none, if-ok, parts}
 use Rattle.alma_memory_store.proofs.Stores.{number-frame}
 use Rattle.alma_memory_store.proofs.past.Past.push_frame.Goals as goal

@@ -1,7 +1,7 @@
 use Rattle.std.proofs.Common.{◌≡◌, ℕ, List, ap, sym, subst, ◌∙◌, rules}
 use Rattle.alma_memory_store.specs.declared.store.Region.{Region}
 use Rattle.alma_memory_store.specs.Carries.{carry_of_entries}
-use Rattle.alma_memory_store.specs.Past.{PlainPast, Gains, IsReplaced, IsNone}
+use Rattle.alma_memory_store.specs.Past.{PlainPast, Gains, IsReplaced}
 use Rattle.alma_memory_store.proofs.Gains.{gains-start, gains-step, gains-end}
 use Rattle.alma_memory_store.proofs.Covers.{replaced-split, replaced-none}
 use Rattle.alma_memory_store.proofs.past.Past.push_replaced.Goals as goal

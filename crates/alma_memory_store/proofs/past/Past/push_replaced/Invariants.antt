@@ -1,4 +1,3 @@
-use Rattle.std.proofs.Common.{◌≡◌, ◌++◌}
 use Rattle.alma_memory_store.specs.Carries.{carry_of_entries}
 use Rattle.alma_memory_store.specs.Past.{Gains, IsReplaced}
 use Rattle.alma_memory_store.proofs.past.Past.push_replaced.Given as goal

@@ -1,7 +1,7 @@
 use Rattle.std.proofs.Common.{◌≡◌, ℕ, List, ap, sym, subst, ◌∙◌, rules}
 use Rattle.alma_memory_store.specs.declared.store.Slot.{Slot}
 use Rattle.alma_memory_store.specs.Carries.{carry_of_entries}
-use Rattle.alma_memory_store.specs.Past.{PlainPast, Gains, IsAt, IsKept, IsNone}
+use Rattle.alma_memory_store.specs.Past.{PlainPast, Gains, IsAt, IsKept}
 use Rattle.alma_memory_store.proofs.Gains.{gains-start, gains-step, gains-end}
 use Rattle.alma_memory_store.proofs.Covers.{kept-split, kept-none}
 use Rattle.alma_memory_store.proofs.past.Past.push_written.Goals as goal

@@ -1,16 +1,15 @@
-use Rattle.std.proofs.Common.{◌≡◌, ◌<◌, ◌≤◌, ◌+◌, ◌-◌, ◌++◌, ◌∷◌, [], ℕ, List, length, get_or, take, drop, set, sym, ap, refl, subst, ◌∙◌, true, false, max, arith}
-use Rattle.alma_code.specs.Picture.{PlainFrame, no_frame, without_last, last_frame, frames_with_cell, live_cells}
-use Rattle.alma_memory_rewind.specs.Rewound.{needed, top_copy}
+use Rattle.std.proofs.Common.{◌≡◌, ◌≤◌, ◌+◌, ◌++◌, ◌∷◌, [], List, length, get_or, take, sym, ap, refl, subst, ◌∙◌, false, arith}
+use Rattle.alma_code.specs.Picture.{live_cells}
 use Rattle.alma_memory_store.specs.declared.store.Region.{Region}
 use Rattle.alma_memory_store.specs.declared.store.Slot.{Slot}
-use Rattle.alma_memory_store.specs.Regions.{AreLaid, end_of, frames_of, frame_of, frame_with_slots, no_region, no_slot, slots_of, slot_number, declared_in}
-use Rattle.alma_memory_store.specs.Stored.{Stored, IsState, AreStates, copies_of, flags_of, IsNoted}
-use Rattle.alma_base.specs.Limits.{cell_limit, frame_limit}
+use Rattle.alma_memory_store.specs.Regions.{end_of, frames_of, frame_with_slots, slots_of, declared_in}
+use Rattle.alma_memory_store.specs.Stored.{Stored, IsState, AreStates, flags_of}
+use Rattle.alma_base.specs.Limits.{cell_limit}
 use Rattle.alma_memory_store.proofs.Frames.{laid-end, slots-length, kinds-back, cells-back}
 use Rattle.alma_memory_store.proofs.Totals.{declared-frames}
 use Rattle.alma_memory_store.proofs.Finds.{if-err, live-length}
-use Rattle.alma_memory_store.proofs.Flags.{enter-kept, flags-kept, low-kept}
-use Rattle.alma_memory_store.proofs.Copies.{Enters, enters, stays-state, stays-frames}
+use Rattle.alma_memory_store.proofs.Flags.{enter-kept, low-kept}
+use Rattle.alma_memory_store.proofs.Copies.{enters, stays-state, stays-frames}
 use Rattle.alma_memory_store.proofs.store.Store.enter.Goals as goal
 
 pub lay-requires-clause-base : goal.lay-requires-clause-base

@@ -1,4 +1,4 @@
-use Rattle.std.proofs.Common.{take, ap, subst}
+use Rattle.std.proofs.Common.{take, subst}
 use Rattle.alma_memory_store.specs.Frames.{AreWhole}
 use Rattle.alma_memory_store.specs.Stored.{Stored}
 use Rattle.alma_memory_store.proofs.Frames.{whole-frames}

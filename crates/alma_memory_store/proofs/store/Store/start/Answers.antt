@@ -1,10 +1,7 @@
-use Rattle.std.proofs.Common.{◌≡◌, ◌<◌, ◌≤◌, ◌+◌, ◌-◌, ◌/◌, ◌++◌, ◌∷◌, [], ℕ, List, length, get_or, take, drop, set, sym, ap, refl, subst, ◌∙◌, true, false, max, arith, append_assoc}
-use Rattle.alma_code.specs.Picture.{PlainFrame, no_frame, without_last, last_frame, frames_with_cell, live_cells}
-use Rattle.alma_memory_rewind.specs.Rewound.{needed, top_copy, first_or}
+use Rattle.std.proofs.Common.{◌≡◌, ◌++◌, ◌∷◌, [], List, length, sym, ap, refl, ◌∙◌}
 use Rattle.alma_memory_store.specs.declared.store.Region.{Region}
 use Rattle.alma_memory_store.specs.declared.store.Slot.{Slot}
-use Rattle.alma_memory_store.specs.Regions.{AreLaid, end_of, frames_of, frame_of, frame_with_slots, no_region, no_slot, slots_of, slot_number, declared_in}
-use Rattle.alma_memory_store.specs.Stored.{Stored, IsState, AreStates, copies_of, flags_of, IsNoted}
+use Rattle.alma_memory_store.specs.Regions.{frame_with_slots, slots_of}
 use Rattle.alma_memory_store.proofs.Frames.{slots-length, kinds-back, cells-back}
 use Rattle.alma_memory_store.proofs.Copies.{starts}
 use Rattle.alma_memory_store.proofs.store.Store.start.Goals as goal

@@ -1,10 +1,8 @@
-use Rattle.std.proofs.Common.{◌≡◌, ◌<◌, ◌≤◌, ◌+◌, ◌-◌, ◌++◌, ◌∷◌, [], ℕ, List, length, get_or, take, drop, set, sym, ap, refl, subst, ◌∙◌, true, false, max, arith}
-use Rattle.alma_code.specs.Picture.{PlainFrame, no_frame, without_last, last_frame, frames_with_cell, live_cells}
-use Rattle.alma_memory_rewind.specs.Rewound.{needed, top_copy}
-use Rattle.alma_memory_store.specs.declared.store.Region.{Region}
+use Rattle.std.proofs.Common.{◌≡◌, ◌<◌, ◌+◌, [], length, get_or, take, sym, ap, ◌∙◌, true, false, arith}
+use Rattle.alma_code.specs.Picture.{frames_with_cell}
 use Rattle.alma_memory_store.specs.declared.store.Slot.{Slot}
-use Rattle.alma_memory_store.specs.Regions.{AreLaid, end_of, frames_of, frame_of, frame_with_slots, no_region, no_slot, slots_of, slot_number, declared_in}
-use Rattle.alma_memory_store.specs.Stored.{Stored, IsState, AreStates, copies_of, flags_of, IsNoted}
+use Rattle.alma_memory_store.specs.Regions.{frames_of, no_region, no_slot}
+use Rattle.alma_memory_store.specs.Stored.{Stored, flags_of}
 use Rattle.std.proofs.lemmas.List.{length-take-le}
 use Rattle.std.proofs.lemmas.Option.{get_or_from_slice_get}
 use Rattle.alma_memory_store.proofs.Finds.{finds, write-result, live-length, region-at}

@@ -1,0 +1,11 @@
+pub mod Contents
+pub mod Gaining
+pub mod Laid
+pub mod Lives
+pub mod Looked
+pub mod Loops
+pub mod Marks
+pub mod Pasts
+pub mod Rooms
+pub mod Trails
+pub mod Winding
