@@ -19,11 +19,11 @@ _alma() {
   if [ "$word" = = ] || [ "${COMP_WORDS[COMP_CWORD - 1]}" = = ]; then return; fi
   if [ "$command" = why ] && [ "$place" -gt 1 ]; then command=${COMP_WORDS[2]} place=$((place - 1)); fi
   case $place,$command in
-  1,*) mapfile -t COMPREPLY < <(compgen -W "check run trace compile list exec sample all link pool why replay help --help --version" -- "$word") ;;
+  1,*) mapfile -t COMPREPLY < <(compgen -W "check run trace compile list exec sample all link pool back why replay help --help --version" -- "$word") ;;
   2,check | 2,run | 2,trace | 2,compile | 2,replay | 2,all) mapfile -t COMPREPLY < <(compgen -o plusdirs -f -X '!*.al' -- "$word") ;;
   2,link) mapfile -t COMPREPLY < <(compgen -W 'run compile' -- "$word") ;;
   *,link) mapfile -t COMPREPLY < <(compgen -o plusdirs -f -X '!*.al' -- "$word") ;;
-  2,list | 2,exec | 3,compile | *,pool) mapfile -t COMPREPLY < <(compgen -f -- "$word") ;;
+  2,list | 2,exec | 3,compile | *,pool | 2,back | 3,back) mapfile -t COMPREPLY < <(compgen -f -- "$word") ;;
   2,help) mapfile -t COMPREPLY < <(compgen -W "$(_alma_faults)" -- "$word") ;;
   *,run | *,exec) mapfile -t COMPREPLY < <(compgen -W "$(_alma_options --steps= --stats)" -- "$word") ;;
   *,all) mapfile -t COMPREPLY < <(compgen -W "$(_alma_options --steps=)" -- "$word") ;;

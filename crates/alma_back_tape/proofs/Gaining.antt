@@ -21,7 +21,8 @@ use Rattle.alma_back_tape.proofs.Rooms.{same_reel}
 use Rattle.alma_back_tape.proofs.Winding.{Moves, moved, good_wound, front-push, last-push}
 
 -- a mark that stays leaves the marks rising
-pub rises_set : (low top : ℕ) (es : List Entry) (i : ℕ) (e d : Entry) → e.mark ≡ (get_or es i d).mark → Rises low es top → Rises low (set es i e) top
+pub rises_set : (low top : ℕ) (es : List Entry) (i : ℕ) (e d : Entry) → e.mark ≡ (get_or es i d).mark → Rises low es top
+    → Rises low (set es i e) top
 rises_set low top [] i e d q r = r
 rises_set low top (x ∷ es) zero e d q r = (rw q r.0, rw q r.1)
 rises_set low top (x ∷ es) (suc i) e d q r = (r.0, rises_set x.mark top es i e d q r.1)
@@ -42,7 +43,8 @@ pub lost : (places : List (SlotPlace × Cell)) (cs : Carry Cell) → IsRising cs
     all_put_back places (cells_before_setting places cs) (with_changes (carry_of_entries places) cs) ≡ cs
 lost places cs rising =
     let whole : places ≡ places ++ [] = rw append-nil refl in
-    ap (λ xs. all_put_back xs (cells_before_setting places cs) (with_changes (carry_of_entries places) cs)) whole ∙ all-back places [] cs rising
+    ap (λ xs. all_put_back xs (cells_before_setting places cs) (with_changes (carry_of_entries places) cs)) whole
+    ∙ all-back places [] cs rising
 
 -- the entries before one of them gained
 pub entries_lost : (at : ℕ) (places : List (SlotPlace × Cell)) (es : List Entry) → at < length es → IsRising (get_or es at no_entry).carry →
@@ -56,9 +58,13 @@ entries_lost at places es lt rising =
     ∙ (ap (λ x. set es at (without_gain (gained at places es) x)) same ∙ (ap (set es at) back ∙ set-get_or es at no_entry))
 
 -- a carry that gains
-pub kept_one : (cs cs' : List Made) (r r' : Reel) (at : ℕ) (places : List (SlotPlace × Cell)) → IsGood (reverse cs) r → cs' ≡ cs ++ Kept ∷ []
+pub kept_one : (cs cs' : List Made) (r r' : Reel) (at : ℕ) (places : List (SlotPlace × Cell)) → IsGood (reverse cs) r
+    → cs' ≡ cs ++ Kept ∷ []
     → at < length r.entries → IsRising (get_or r.entries at no_entry).carry
-    → r' ≡ record r { entries = entries_with_changes at (carry_of_entries places) r.entries; kept = r.kept ++ gained at places r.entries ∷ [] } → Moves cs cs' r r'
+    → r' ≡ record r {
+      entries = entries_with_changes at (carry_of_entries places) r.entries;
+      kept = r.kept ++ gained at places r.entries ∷ [];
+    } → Moves cs cs' r r'
 kept_one cs cs' r r' at places good changes lt rising same =
     let old = good_wound (reverse cs) r good in
     let e : Entry = get_or r.entries at no_entry in
@@ -75,7 +81,8 @@ kept_one cs cs' r r' at places good changes lt rising same =
       subst (λ (x : Gained). x.at < length s.entries) (sym last) here,
       subst (λ (x : Gained). length x.had ≤ length x.places) (sym last) few,
     )
-    (same_reel refl refl (ap (λ x. entries_without x s.entries) last ∙ entries_lost at places r.entries lt rising) refl refl (front-push r.kept g)) good in
+    (same_reel refl refl (ap (λ x. entries_without x s.entries) last ∙ entries_lost at places r.entries lt rising) refl refl
+    (front-push r.kept g)) good in
     subst (λ (q : Reel). Moves cs cs' r q) (sym same) moves
 
 -- the entry below gains what differs from the copy of the top one, which is dropped
@@ -93,14 +100,19 @@ kept_held h trail fs es es' found top p r g t a b =
     let j : length es - 1 < length es = omega arith in
     let old : entry_at held h ≡ entry_of trail fs base = get_or-map (entry_of trail fs) es (h - 1) no_entry no_plain i in
     let topmost : top_of held ≡ entry_of trail fs top =
-    ap (λ n. get_or held (n - 1) no_plain) wide ∙ (get_or-map (entry_of trail fs) es (length es - 1) top no_plain j ∙ ap (entry_of trail fs) (sym t)) in
+    ap (λ n. get_or held (n - 1) no_plain) wide ∙ (get_or-map (entry_of trail fs) es (length es - 1) top no_plain j
+    ∙ ap (entry_of trail fs) (sym t)) in
     let same : with_changes found base.carry ≡ with_changes (diffs (top_of held).frames fs) base.carry =
     g base.carry r ∙ ap (λ (x : PlainEntry). with_changes (diffs x.frames fs) base.carry) (sym topmost) in
-    let new : entry_of trail fs gains ≡ with_carry (entry_at held h) (with_changes (diffs (top_of held).frames fs) (entry_at held h).carry) =
+    let new : entry_of trail fs gains ≡
+    with_carry (entry_at held h) (with_changes (diffs (top_of held).frames fs) (entry_at held h).carry) =
     ap (λ cs. with_carry (entry_of trail fs base) cs) same
     ∙ ap (λ (x : PlainEntry). with_carry x (with_changes (diffs (top_of held).frames fs) x.carry)) (sym old) in
-    let put : held_of trail fs (set es (h - 1) gains) ≡ set held (h - 1) (entry_of trail fs gains) = map-set (entry_of trail fs) es (h - 1) gains in
-    let short : front (set es (h - 1) gains) ≡ take (length es - 1) (set es (h - 1) gains) = ap (λ n. take (n - 1) (set es (h - 1) gains)) (length-set es (h - 1) gains) in
+    let put : held_of trail fs (set es (h - 1) gains) ≡ set held (h - 1) (entry_of trail fs gains) =
+    map-set (entry_of trail fs) es (h - 1) gains in
+    let short : front (set es (h - 1) gains) ≡ take (length es - 1) (set es (h - 1) gains) =
+    ap (λ n. take (n - 1) (set es (h - 1) gains)) (length-set es (h - 1) gains) in
     ap (held_of trail fs) (p ∙ short) ∙ (sym (take-map (entry_of trail fs) (length es - 1) (set es (h - 1) gains))
     ∙ (ap (take (length es - 1)) put ∙ (ap (λ x. take (length es - 1) (set held (h - 1) x)) new
-    ∙ ap (λ n. take (n - 1) (set held (h - 1) (with_carry (entry_at held h) (with_changes (diffs (top_of held).frames fs) (entry_at held h).carry)))) (sym wide))))
+    ∙ ap (λ n. take (n - 1) (set held (h - 1)
+    (with_carry (entry_at held h) (with_changes (diffs (top_of held).frames fs) (entry_at held h).carry)))) (sym wide))))

@@ -46,7 +46,8 @@ none-carried : (f s : ℕ) (cs : Carry Cell) → has_place f s cs ≡ false → 
 none-carried f s [] h = refl
 none-carried f s (x ∷ cs) h = choose (is_same_place x.frame x.slot f s) (none-carried f s cs) h
   where
-    choose : (b : Bool) → (has_place f s cs ≡ false → carried_at f s cs ≡ None) → b || has_place f s cs ≡ false → if_true b (λ _. Some x.cell) (λ _. carried_at f s cs) ≡ None
+    choose : (b : Bool) → (has_place f s cs ≡ false → carried_at f s cs ≡ None) → b || has_place f s cs ≡ false →
+        if_true b (λ _. Some x.cell) (λ _. carried_at f s cs) ≡ None
     choose true ih e = absurd (cc)
     choose false ih e = ih e
 
@@ -57,13 +58,15 @@ module _ (before now : List PlainFrame) where
   all-between : (low n : ℕ) → AllChanged before now (diffs_between before now low n)
   all-between low zero = tt
   all-between low (suc n) =
-      all-append before now (diffs_between before now low n) (slot_diffs before now (low + n) (length (get_or now (low + n) no_frame).cells))
+      all-append before now (diffs_between before now low n)
+      (slot_diffs before now (low + n) (length (get_or now (low + n) no_frame).cells))
       (all-between low n) (all-slots before now (low + n) (length (get_or now (low + n) no_frame).cells))
 
   -- the changes at some places
   all-at : (cs : Carry Cell) → AllChanged before now (diffs_at before now cs)
   all-at [] = tt
-  all-at (x ∷ cs) = all-append before now (diff_at before now x.frame x.slot) (diffs_at before now cs) (all-diff before now x.frame x.slot) (all-at cs)
+  all-at (x ∷ cs) = all-append before now (diff_at before now x.frame x.slot) (diffs_at before now cs)
+      (all-diff before now x.frame x.slot) (all-at cs)
 
   -- a place that differs is among the changes of some frames
   has-between : (low n f s : ℕ) → differs before now f s ≡ true → low ≤ f → f < low + n → s < length (get_or now f no_frame).cells →
@@ -72,21 +75,25 @@ module _ (before now : List PlainFrame) where
   has-between low (suc n) f s d le l w =
       let l' : f < suc (low + n) = omega arith in
       elim (below-suc f (low + n) l') [
-        | inl lt ↦ has-left f s (diffs_between before now low n) (slot_diffs before now (low + n) (length (get_or now (low + n) no_frame).cells))
+        | inl lt ↦ has-left f s (diffs_between before now low n)
+            (slot_diffs before now (low + n) (length (get_or now (low + n) no_frame).cells))
             (has-between low n f s d le lt w)
-        | inr e ↦ has-right f s (diffs_between before now low n) (slot_diffs before now (low + n) (length (get_or now (low + n) no_frame).cells))
+        | inr e ↦ has-right f s (diffs_between before now low n)
+            (slot_diffs before now (low + n) (length (get_or now (low + n) no_frame).cells))
             (ap (λ g. has_place f s (slot_diffs before now g (length (get_or now g no_frame).cells))) (sym e)
             ∙ has-slots before now f s (length (get_or now f no_frame).cells) d w)
       ]
 
   -- a place that differs and is named is among the changes at the places
-  has-at : (f s : ℕ) (cs : Carry Cell) → has_place f s cs ≡ true → differs before now f s ≡ true → has_place f s (diffs_at before now cs) ≡ true
+  has-at : (f s : ℕ) (cs : Carry Cell) → has_place f s cs ≡ true → differs before now f s ≡ true →
+      has_place f s (diffs_at before now cs) ≡ true
   has-at f s [] h d = absurd (cc)
   has-at f s (x ∷ cs) h d =
       elim (or-cases (is_same_place x.frame x.slot f s) (has_place f s cs) h) [
         | inl a ↦ (let one = same-place-is x.frame x.slot f s a in
             has-left f s (diff_at before now x.frame x.slot) (diffs_at before now cs)
-            (ap (λ g. has_place f s (diff_at before now g x.slot)) one.0 ∙ (ap (λ t. has_place f s (diff_at before now f t)) one.1 ∙ has-diff before now f s d)))
+            (ap (λ g. has_place f s (diff_at before now g x.slot)) one.0 ∙
+            (ap (λ t. has_place f s (diff_at before now f t)) one.1 ∙ has-diff before now f s d)))
         | inr b ↦ has-right f s (diff_at before now x.frame x.slot) (diffs_at before now cs) (has-at f s cs b d)
       ]
 
@@ -99,7 +106,8 @@ shared-named n now above cs before f s l lt p w d e =
     ∙ (ap (over (number_of now f s)) (none-carried f s cs e) ∙ over-none (number_of now f s)))))
 
 -- each place that differs is looked at
-covered : (n count : ℕ) (now above : List PlainFrame) (cs : Carry Cell) (before : List PlainFrame) (f s : ℕ) → n ≤ length now → count ≡ min (length above) (length now - n) →
+covered : (n count : ℕ) (now above : List PlainFrame) (cs : Carry Cell) (before : List PlainFrame) (f s : ℕ) → n ≤ length now
+    → count ≡ min (length above) (length now - n) →
     before ≡ take n (frames_with_old_cells now cs) ++ above → AreWhole now → differs before now f s ≡ true →
     has_place f s (diffs_at before now cs ++ diffs_between before now n count) ≡ true
 covered n count now above cs before f s l q p w d =
@@ -124,10 +132,12 @@ covered n count now above cs before f s l q p w d =
         omega (arith, len, sum, b, a, wide, q)
 
 -- what is found there gives a carry all changes
-pub looked-gain : (n count : ℕ) (now above : List PlainFrame) (cs : Carry Cell) (before : List PlainFrame) (found : List (Change Cell)) → n ≤ length now →
+pub looked-gain : (n count : ℕ) (now above : List PlainFrame) (cs : Carry Cell) (before : List PlainFrame) (found : List (Change Cell))
+    → n ≤ length now →
     count ≡ min (length above) (length now - n) → before ≡ take n (frames_with_old_cells now cs) ++ above → AreWhole now →
     found ≡ diffs_at before now cs ++ diffs_between before now n count → SameGain found (diffs before now)
 looked-gain n count now above cs before found l q p w e =
     found-gain before now found w
-    (rw e (all-append before now (diffs_at before now cs) (diffs_between before now n count) (all-at before now cs) (all-between before now n count)))
+    (rw e (all-append before now (diffs_at before now cs) (diffs_between before now n count)
+    (all-at before now cs) (all-between before now n count)))
     (λ f s d. rw e (covered n count now above cs before f s l q p w d))

@@ -4,7 +4,9 @@ ghost use Rattle.alma_ir.specs.View.{desig_of, expr_of, test_of, links_list};
 ghost use Rattle.alma_ir.specs.Lines.{expr_with};
 ghost use Rattle.alma_ir.specs.Tree as tree;
 ghost use Rattle.alma_lower_work.specs.Front.{around, front};
-ghost use Rattle.alma_lower_work.specs.Puts.{PutsExpr, PutsValue, PutsLinks, value_slot};
+ghost use Rattle.alma_lower_work.specs.Puts.{PutsExpr, PutsFirstOperand, PutsValue, PutsLinks};
+ghost use Rattle.alma_lower_work.specs.Puts.{stays_before, value_slot};
+ghost use Rattle.alma_lower_templates.specs.Templates as T;
 ghost use Rattle.alma_lower_emit.specs.Inside.{EmitsStmts};
 
 use crate::call::emit_call_value;
@@ -15,7 +17,8 @@ use alma_base::NoMemory;
 use alma_code::{Instr, SlotKind};
 use alma_ir::{Cmp, Desig, Expr, Link, Stmt, Test};
 use alma_lower_parts::{
-    Scene, Work, emit_const, end_truth, op_instr, own_value, put_cmp, put_neg, slot_of,
+    FirstOperand, Scene, Work, emit_const, end_truth, next_operand, op_instr, own_first, own_value,
+    put_at, put_cmp, put_neg, slot_of, stay_at,
 };
 
 /// An expression, and the slot of its number.
@@ -93,9 +96,39 @@ where
         (front work.old) (front work.new)
         (tree.Chain negated (expr_of first.now) (links_list links.now))) }
 {
-    let to = emit_expr(work, scene, line, first, inside)?;
-    put_neg(work, line, negated, to)?;
-    slot_of(emit_links(work, scene, line, to, links, inside), to)
+    let next = next_operand(negated, links);
+    let first = emit_first(work, scene, line, first, next, inside)?;
+    put_neg(work, line, negated, first.to)?;
+    slot_of(
+        emit_links(work, scene, line, first, links, inside),
+        first.to,
+    )
+}
+
+/// A first operand, which has no code where it stays before the next one.
+#[cycle(emit)]
+pub fn emit_first<S>(
+    work: &mut Work,
+    scene: &Scene<'_>,
+    line: u32,
+    expr: &Expr,
+    next: Option<&Expr>,
+    inside: &S,
+) -> Result<FirstOperand, NoMemory>
+where
+    S: for<'a, 'b, 'c, 'd> Fn(&'a mut Work, &'b Scene<'c>, &'d [Stmt]) -> Result<(), NoMemory>,
+    requires emits { EmitsStmts (S.IsAlwaysCallable inside.now) (S.post inside.now) }
+    ensures to { IfOk result (λ first. first.to ≡ (front work.old).next) }
+    ensures from { IfOk result (λ first. first.from ≡ T.slot_or (around scene.now).program
+        (around scene.now).tables (around scene.now).routine
+        (stays_before (expr_of expr.now) next.entry) (front work.old).next) }
+    ensures puts { OnOk result (PutsFirstOperand (around scene.now) line (front work.old)
+        (front work.new) (stays_before (expr_of expr.now) next.entry) (expr_of expr.now)) }
+{
+    match own_first(scene, expr, next)? {
+        Some(from) => stay_at(work, from),
+        None => put_at(emit_expr(work, scene, line, expr, inside)),
+    }
 }
 
 // Operators and their operands, from left to right.
@@ -104,19 +137,21 @@ fn emit_links<S>(
     work: &mut Work,
     scene: &Scene<'_>,
     line: u32,
-    to: u32,
+    first: FirstOperand,
     links: &[Link],
     inside: &S,
 ) -> Result<(), NoMemory>
 where
     S: for<'a, 'b, 'c, 'd> Fn(&'a mut Work, &'b Scene<'c>, &'d [Stmt]) -> Result<(), NoMemory>,
     requires emits { EmitsStmts (S.IsAlwaysCallable inside.now) (S.post inside.now) }
-    ensures puts { OnOk result (PutsLinks (around scene.now) line to
+    ensures puts { OnOk result (PutsLinks (around scene.now) line first.from first.to
         (front work.old) (front work.new) (links_list links.now)) }
 {
+    let mut left = first.from;
     for link in links {
         let operand = emit_value(work, scene, line, &link.operand, inside)?;
-        work.add(line, op_instr(link.op, to, operand))?;
+        work.add(line, op_instr(link.op, first.to, left, operand))?;
+        left = first.to;
     }
     Ok(())
 }
@@ -140,9 +175,9 @@ where
         (front work.old) (front work.new)
         (tree.Compare cmp (expr_of left.now) (expr_of right.now))) }
 {
-    let to = emit_expr(work, scene, line, left, inside)?;
+    let first = emit_first(work, scene, line, left, Some(right), inside)?;
     let other = emit_value(work, scene, line, right, inside)?;
-    slot_of(put_cmp(work, line, cmp, to, other), to)
+    slot_of(put_cmp(work, line, cmp, first, other), first.to)
 }
 
 // A test as a number.

@@ -11,7 +11,9 @@ ghost use Rattle.alma_lower_parts.specs.Steps.{PutsSlot, PutsTwo};
 
 use alma_base::{NoMemory, Range};
 use alma_code::Instr;
-use alma_lower_parts::{Scene, Work, put_bind, put_chr, put_index, put_number, put_unequal};
+use alma_lower_parts::{
+    FirstOperand, Scene, Work, put_bind, put_chr, put_index, put_number, put_unequal,
+};
 
 // A number for the slot of an argument, in a range.
 pub(crate) fn number_of(
@@ -50,15 +52,15 @@ pub(crate) fn place_of(
 pub(crate) fn unequal_of(
     work: &mut Work,
     line: u32,
-    to: u32,
+    first: FirstOperand,
     other: Result<u32, NoMemory>,
 ) -> Result<(), NoMemory>
     ensures done { OnOk result (IsOk other) }
-    ensures codes { IfOk other (λ other. OnOk result (Codes (front work.old) (front work.new)
-        (own line (pieces.unequal_code to other (length (front work.old).code))))) }
+    ensures codes { IfOk other (λ other. OnOk result (Codes (front work.old) (front work.new) (own
+        line (pieces.unequal_code first.to first.from other (length (front work.old).code))))) }
 {
     let other = other?;
-    put_unequal(work, line, to, other)
+    put_unequal(work, line, first, other)
 }
 
 // The call of a procedure, behind what it is handed.

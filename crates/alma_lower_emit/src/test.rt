@@ -8,7 +8,7 @@ ghost use Rattle.alma_lower_emit.specs.Inside.{EmitsStmts};
 
 use crate::call::emit_call;
 use crate::designator::emit_desig;
-use crate::expression::{emit_expr, emit_value};
+use crate::expression::{emit_expr, emit_first, emit_value};
 use crate::inside::emit_inside;
 use crate::plain::{bind_place, bind_value, call_of, check_of, unequal_of};
 use alma_base::{NoMemory, Range};
@@ -68,9 +68,9 @@ where
 {
     match unequal(value) {
         Some((left, right)) => {
-            let to = emit_expr(work, scene, line, left, inside)?;
+            let first = emit_first(work, scene, line, left, Some(right), inside)?;
             let other = emit_value(work, scene, line, right, inside);
-            unequal_of(work, line, to, other)
+            unequal_of(work, line, first, other)
         }
         None => {
             let number = emit_value(work, scene, line, value, inside);

@@ -11,13 +11,14 @@ use Rattle.alma_ir.specs.Lines.{behind, stmts_with, expr_with, links_with, desig
 use Rattle.alma_ir.proofs.LinesBack.{behind_two}
 use Rattle.alma_lower_work.specs.declared.stand.Stand.{Stand}
 use Rattle.alma_lower_work.specs.Front.{Around, Front, Codes, Takes}
-use Rattle.alma_lower_work.specs.Puts.{PutsExpr, PutsValue, PutsLinks, PutsDesig, PutsTarget, stand_by, stand_of, value_slot, load_instr}
+use Rattle.alma_lower_work.specs.Puts.{PutsExpr, PutsFirstOperand, PutsValue, PutsLinks, PutsDesig, PutsTarget, stand_by, stand_of, value_slot, load_instr}
 use Rattle.alma_lower_work.proofs.Joins.{nothing, then_adds, adds_as, adds_code, only_code, slot_adds}
-use Rattle.alma_lower_parts.proofs.With.{own_desig, own_expr, own_desig_passes, own_expr_passes}
-use Rattle.alma_lower_templates.specs.Lined.{own, in_row}
+use Rattle.alma_lower_parts.proofs.With.{own_desig, own_expr, own_desig_passes, own_expr_passes, stays_with, stays_in_with}
+use Rattle.alma_lower_templates.specs.Lined.{Lined, own, in_row}
 use Rattle.alma_lower_templates.specs.Tables.{range_number}
-use Rattle.alma_lower_templates.specs.Slots.{bare_desig, bare, unless_bare, expr_slots, desig_slots}
+use Rattle.alma_lower_templates.specs.Slots.{bare_desig, bare, stays, stays_in, unless_bare, expr_slots, desig_slots}
 use Rattle.alma_lower_templates.specs.Pieces.{op_code, cmp_code, neg_code}
+use Rattle.alma_lower_templates.proofs.AtOnce.{bare_value}
 use Rattle.alma_lower_templates.specs.Templates as T
 
 module _ (s : Around) (line : ℕ) where
@@ -48,6 +49,25 @@ module _ (s : Around) (line : ℕ) where
 
   pub made_value_slot : (lo : ℕ) (ls : List ℕ) (e : Expr) → bare e ≡ None → value_slot s lo (expr_with e ls) ≡ lo
   made_value_slot lo ls e h = ap (λ o. T.slot_or s.program s.tables s.routine o lo) (own_expr e ls ∙ h)
+
+  -- ---- first operands
+
+  -- a variable of the routine takes the slot for the value alone
+  alone : (e : Expr) (from : ℕ) (ls : List ℕ) → bare e ≡ Some from → slot.Number ∷ [] ≡ expr_slots s.program s.routine (expr_with e ls)
+  alone e from ls h = let z = bare_value (expr_with e ls) from (own_expr e ls ∙ h) in sym (ap (expr_slots s.program s.routine) z.1)
+
+  pub stay_put : (a b : Front) (e : Expr) (o : Option ℕ) (from : ℕ) → o ≡ Some from → bare e ≡ Some from → Takes a b slot.Number → PutsFirstOperand s line a b o e
+  stay_put a b e o from is h j = record {
+    all = adds_as a b _ _ _ _ _ _ (slot_adds a b b _ _ _ _ j (nothing b))
+        (sym (ap (λ o. unless_bare o (T.expr_code s.program s.tables s.routine line (length a.code) a.next (expr_with e a.lines))) is))
+        (alone e from a.lines h)
+        (sym (own_expr_passes e from a.lines h));
+  }
+
+  pub made_first_put : (a b : Front) (e : Expr) (o : Option ℕ) → o ≡ None → PutsExpr s line a b e → PutsFirstOperand s line a b o e
+  made_first_put a b e o is h = record {
+    all = adds_as a b _ _ _ _ _ _ h.all (sym (ap (λ o. unless_bare o (T.expr_code s.program s.tables s.routine line (length a.code) a.next (expr_with e a.lines))) is)) refl refl;
+  }
 
   -- ---- variables
 
@@ -94,44 +114,56 @@ module _ (s : Around) (line : ℕ) where
 
   -- ---- operators
 
-  pub no_links_put : (a : Front) (to : ℕ) → PutsLinks s line to a a no_links
+  pub no_links_put : (a : Front) (first to : ℕ) → PutsLinks s line first to a a no_links
   unfolding stmts_with stmts_phrases
-  no_links_put a to = record { all = adds_as a a _ _ _ _ _ _ (nothing a) refl refl refl }
+  no_links_put a first to = record { all = adds_as a a _ _ _ _ _ _ (nothing a) refl refl refl }
 
-  pub links_put : (a b c d : Front) (to operand : ℕ) (op : Op) (e : Expr) (rest : Links) → PutsValue s line a b e → operand ≡ value_slot s a.next (expr_with e a.lines)
-      → Codes b c (own line (op_code op to operand ∷ [])) → PutsLinks s line to c d rest → PutsLinks s line to a d (more_links op e rest)
+  pub links_put : (a b c d : Front) (first to operand : ℕ) (op : Op) (e : Expr) (rest : Links) → PutsValue s line a b e → operand ≡ value_slot s a.next (expr_with e a.lines)
+      → Codes b c (own line (op_code op to first operand ∷ [])) → PutsLinks s line to to c d rest → PutsLinks s line first to a d (more_links op e rest)
   unfolding stmts_with stmts_phrases
-  links_put a b c d to operand op e rest h is j k =
+  links_put a b c d first to operand op e rest h is j k =
       let all = then_adds a c d _ _ _ _ _ _ (adds_code a b c _ _ _ _ h.all j) k.all in
       let value = unless_bare (bare (expr_with e a.lines)) (T.expr_code s.program s.tables s.routine line (length a.code) a.next (expr_with e a.lines)) in
       record {
         all = adds_as a d _ _ _ _ _ _ all
-            (ap (λ n. in_row (length a.code) (value ++ own line (op_code op to n ∷ [])) (λ next. T.links_code s.program s.tables s.routine line next to (a.next + length (unless_bare (bare (expr_with e a.lines)) (expr_slots s.program s.routine (expr_with e a.lines)))) (links_with rest (behind (expr_phrases e) a.lines)))) is)
+            (ap (λ n. in_row (length a.code) (value ++ own line (op_code op to first n ∷ [])) (λ next. T.links_code s.program s.tables s.routine line next to to (a.next + length (unless_bare (bare (expr_with e a.lines)) (expr_slots s.program s.routine (expr_with e a.lines)))) (links_with rest (behind (expr_phrases e) a.lines)))) is)
             refl (sym (behind_two (expr_phrases e) (links_phrases rest) a.lines));
       }
 
-  pub chain_put : (a b c d : Front) (to : ℕ) (negated : Bool) (e : Expr) (links : Links) → PutsExpr s line a b e → to ≡ a.next → Codes b c (own line (neg_code negated to))
-      → PutsLinks s line to c d links → PutsExpr s line a d (Chain negated e links)
+  pub chain_put : (a b c d : Front) (from to : ℕ) (negated : Bool) (e : Expr) (links : Links) → PutsFirstOperand s line a b (stays_in negated e links) e → to ≡ a.next
+      → from ≡ T.slot_or s.program s.tables s.routine (stays_in negated e links) a.next → Codes b c (own line (neg_code negated to)) → PutsLinks s line from to c d links → PutsExpr s line a d (Chain negated e links)
   unfolding stmts_with stmts_phrases
-  chain_put a b c d to negated e links h is j k =
+  chain_put a b c d from to negated e links h is is2 j k =
       let all = then_adds a c d _ _ _ _ _ _ (adds_code a b c _ _ _ _ h.all j) k.all in
-      let first = T.expr_code s.program s.tables s.routine line (length a.code) a.next (expr_with e a.lines) in
+      let x = expr_with e a.lines in
+      let lo = a.next + length (expr_slots s.program s.routine x) in
+      let ls = behind (expr_phrases e) a.lines in
+      let code : Option ℕ → (from to : ℕ) → List Lined = λ o from to.
+      in_row (length a.code) (unless_bare o (T.expr_code s.program s.tables s.routine line (length a.code) a.next x) ++ own line (neg_code negated to)) (λ next. T.links_code s.program s.tables s.routine line next from to lo (links_with links ls)) in
       record {
         all = adds_as a d _ _ _ _ _ _ all
-            (ap (λ n. in_row (length a.code) (first ++ own line (neg_code negated n)) (λ next. T.links_code s.program s.tables s.routine line next n (a.next + length (expr_slots s.program s.routine (expr_with e a.lines))) (links_with links (behind (expr_phrases e) a.lines)))) is)
+            (ap (code (stays_in negated e links) from) is ∙ ap (λ n. code (stays_in negated e links) n a.next) is2
+            ∙ ap (λ o. code o (T.slot_or s.program s.tables s.routine o a.next) a.next) (sym (stays_in_with negated e links a.lines ls)))
             refl (sym (behind_two (expr_phrases e) (links_phrases links) a.lines));
       }
 
-  pub compare_put : (a b c d : Front) (to other : ℕ) (how : Cmp) (x y : Expr) → PutsExpr s line a b x → to ≡ a.next → PutsValue s line b c y → other ≡ value_slot s b.next (expr_with y b.lines)
-      → Codes c d (own line (cmp_code how to other)) → PutsExpr s line a d (Compare how x y)
+  pub compare_put : (a b c d : Front) (from to other : ℕ) (how : Cmp) (x y : Expr) → PutsFirstOperand s line a b (stays x y) x → to ≡ a.next → from ≡ T.slot_or s.program s.tables s.routine (stays x y) a.next
+      → PutsValue s line b c y → other ≡ value_slot s b.next (expr_with y b.lines) → Codes c d (own line (cmp_code how to from other)) → PutsExpr s line a d (Compare how x y)
   unfolding stmts_with stmts_phrases
-  compare_put a b c d to other how x y h is j is2 k =
+  compare_put a b c d from to other how x y h is is2 j is3 k =
       let ls = behind (expr_phrases x) a.lines in
       let lo = a.next + length (expr_slots s.program s.routine (expr_with x a.lines)) in
-      let there : other ≡ value_slot s lo (expr_with y ls) = is2 ∙ ap (λ n. value_slot s n (expr_with y b.lines)) h.all.next_slot ∙ ap (λ n. value_slot s lo (expr_with y n)) h.all.left in
+      let there : other ≡ value_slot s lo (expr_with y ls) = is3 ∙ ap (λ n. value_slot s n (expr_with y b.lines)) h.all.next_slot ∙ ap (λ n. value_slot s lo (expr_with y n)) h.all.left in
       let all = adds_code a c d _ _ _ _ (then_adds a b c _ _ _ _ _ _ h.all j.all) k in
-      let both = in_row (length a.code) (T.expr_code s.program s.tables s.routine line (length a.code) a.next (expr_with x a.lines)) (λ next. unless_bare (bare (expr_with y ls)) (T.expr_code s.program s.tables s.routine line next lo (expr_with y ls))) in
-      record { all = adds_as a d _ _ _ _ _ _ all (ap (λ n. both ++ own line (cmp_code how n other)) is ∙ ap (λ n. both ++ own line (cmp_code how a.next n)) there) refl (sym (behind_two (expr_phrases x) (expr_phrases y) a.lines)) }
+      let code : Option ℕ → (from to other : ℕ) → List Lined = λ o from to other.
+      in_row (length a.code) (unless_bare o (T.expr_code s.program s.tables s.routine line (length a.code) a.next (expr_with x a.lines))) (λ next. unless_bare (bare (expr_with y ls)) (T.expr_code s.program s.tables s.routine line next lo (expr_with y ls)))
+      ++ own line (cmp_code how to from other) in
+      record {
+        all = adds_as a d _ _ _ _ _ _ all
+            (ap (λ n. code (stays x y) from n other) is ∙ ap (λ n. code (stays x y) n a.next other) is2 ∙ ap (code (stays x y) (T.slot_or s.program s.tables s.routine (stays x y) a.next) a.next) there
+            ∙ ap (λ o. code o (T.slot_or s.program s.tables s.routine o a.next) a.next (value_slot s lo (expr_with y ls))) (sym (stays_with x y a.lines ls)))
+            refl (sym (behind_two (expr_phrases x) (expr_phrases y) a.lines));
+      }
 
   pub known_put : (a b c d : Front) (x : Desig) (to place : ℕ) → Takes a b slot.Number → to ≡ a.next → PutsDesig s line b c x → place ≡ T.place_at s.program s.tables s.routine b.next (desig_with x b.lines)
       → Codes c d (own line (I.Known to place ∷ [])) → PutsExpr s line a d (Known x)

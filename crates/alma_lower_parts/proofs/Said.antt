@@ -6,15 +6,20 @@ use Rattle.std.proofs.lemmas.Bool.Decides.{nat_tests}
 use Rattle.std.specs.Prelude.{Bool, ⊤, Result, Ok, Err, IsOk, OnOk, IfOk}
 use Rattle.std.proofs.Math.ListN.{drop_of_length-le}
 use Rattle.std.specs.Prelude.{Option, Some, None, option_map}
+use Rattle.std.specs.Borrow.{Bor}
+use Rattle.alma_code.specs.declared.cell.SlotKind.TheVariants as kinds
 use Rattle.alma_code.specs.declared.instr.Instr.{Instr}
+use Rattle.alma_ir.specs.declared.phrase.Expr as E
+use Rattle.alma_ir.specs.View.{expr_of}
+use Rattle.alma_lower_templates.proofs.First.{stays_is}
 use Rattle.alma_choice.specs.Emitted.{aimed}
 use Rattle.alma_ir.specs.Tree.{Stmts, Stmt, Arms, CaseArms, Else, Branches, Test, Tests, Expr, Links, Args, Arg, Desig, Sels, Sel, no_sels, more_sels}
 use Rattle.alma_ir.specs.Lines.{behind, stmts_with, expr_with, desig_with, sels_with, sel_with}
 use Rattle.alma_ir.specs.Phrases.{sel_phrases}
 use Rattle.alma_lower_work.specs.declared.stand.Stand.TheVariants as stands
-use Rattle.alma_lower_work.specs.Front.{Around, Front, Codes}
-use Rattle.alma_lower_work.specs.Puts.{PutsStmts, PutsStmt, PutsArms, PutsCases, PutsDeadBodies, PutsElse, PutsBranches, PutsTest, PutsGuard, PutsAnd, PutsOperands, PutsExpr, PutsValue, PutsLinks, PutsArgs, PutsArg, PutsDesig, PutsTarget, PutsSels, PutsSel, value_slot, stand_of}
-use Rattle.alma_lower_parts.proofs.ExprForms.{own_value_put, own_value_slot, made_value_put, made_value_slot, own_target_put, made_target_put, own_stand_of, made_stand_of}
+use Rattle.alma_lower_work.specs.Front.{Around, Front, Codes, Takes}
+use Rattle.alma_lower_work.specs.Puts.{stays_before, PutsFirstOperand, PutsStmts, PutsStmt, PutsArms, PutsCases, PutsDeadBodies, PutsElse, PutsBranches, PutsTest, PutsGuard, PutsAnd, PutsOperands, PutsExpr, PutsValue, PutsLinks, PutsArgs, PutsArg, PutsDesig, PutsTarget, PutsSels, PutsSel, value_slot, stand_of}
+use Rattle.alma_lower_parts.proofs.ExprForms.{stay_put, made_first_put, own_value_put, own_value_slot, made_value_put, made_value_slot, own_target_put, made_target_put, own_stand_of, made_stand_of}
 use Rattle.alma_lower_work.proofs.DesigForms.{parts_on}
 use Rattle.alma_lower_parts.specs.Cases.{PutsAllArms, PutsArmOf}
 use Rattle.alma_lower_templates.specs.Lined.{own}
@@ -108,8 +113,8 @@ module _ (s : Around) (line : ℕ) where
   pub args_is : (to : ℕ) (a b : Front) (x y : Args) → x ≡ y → PutsArgs s line to a b x → PutsArgs s line to a b y
   args_is to a b x y e h = subst (λ z. PutsArgs s line to a b z) e h
 
-  pub links_is : (to : ℕ) (a b : Front) (x y : Links) → x ≡ y → PutsLinks s line to a b x → PutsLinks s line to a b y
-  links_is to a b x y e h = subst (λ z. PutsLinks s line to a b z) e h
+  pub links_is : (first to : ℕ) (a b : Front) (x y : Links) → x ≡ y → PutsLinks s line first to a b x → PutsLinks s line first to a b y
+  links_is first to a b x y e h = subst (λ z. PutsLinks s line first to a b z) e h
 
   pub sels_is : (from : ℕ) (a b : Front) (x y : Sels) → x ≡ y → PutsSels s line from a b x → PutsSels s line from a b y
   sels_is from a b x y e h = subst (λ z. PutsSels s line from a b z) e h
@@ -194,6 +199,37 @@ module _ (s : Around) (line : ℕ) where
 
   pub made_at : (lo : ℕ) (ls : List ℕ) (e : Expr) (slot : ℕ) → None ≡ option_map (T.own_slot s.program s.tables s.routine) (bare e) → slot ≡ lo → slot ≡ value_slot s lo (expr_with e ls)
   made_at lo ls e slot h is = is ∙ sym (made_value_slot s line lo ls e (no_bare (T.own_slot s.program s.tables s.routine) (bare e) h))
+
+  -- ---- first operands
+
+  -- one that stays, said of the slot of the routine and of that of the code
+  pub stays_at : (lo : ℕ) (o : Option ℕ) (slot : ℕ) → Some slot ≡ option_map (T.own_slot s.program s.tables s.routine) o → slot ≡ T.slot_or s.program s.tables s.routine o lo
+  stays_at lo (Some from) slot h = cc
+  stays_at lo None slot h = absurd (cc)
+
+  pub stays_there : (a b : Front) (e : Expr) (next : Option (Bor E.Expr)) (slot : ℕ) → Some slot ≡ option_map (T.own_slot s.program s.tables s.routine) (stays_before e next) → Takes a b kinds.Number → PutsFirstOperand s line a b (stays_before e next) e
+  stays_there a b e next slot h j = by (stays_before e next) refl h
+    where
+      of_bare : (next : Option (Bor E.Expr)) (from : ℕ) → stays_before e next ≡ Some from → bare e ≡ Some from
+      of_bare (Some y) from is = (stays_is e (expr_of y.now) from is).first
+      of_bare None from is = absurd (cc)
+
+      by : (o : Option ℕ) → stays_before e next ≡ o → Some slot ≡ option_map (T.own_slot s.program s.tables s.routine) o → PutsFirstOperand s line a b (stays_before e next) e
+      by (Some from) is h = stay_put s line a b e (stays_before e next) from is (of_bare next from is) j
+      by None is h = absurd (cc)
+
+  pub put_there : (a b : Front) (e : Expr) (o : Option ℕ) → None ≡ option_map (T.own_slot s.program s.tables s.routine) o → PutsExpr s line a b e → PutsFirstOperand s line a b o e
+  put_there a b e o h j = made_first_put s line a b e o (no_bare (T.own_slot s.program s.tables s.routine) o h) j
+
+  pub put_slot : (lo : ℕ) (o : Option ℕ) (slot : ℕ) → None ≡ option_map (T.own_slot s.program s.tables s.routine) o → slot ≡ lo → slot ≡ T.slot_or s.program s.tables s.routine o lo
+  put_slot lo o slot h is = is ∙ sym (ap (λ o. T.slot_or s.program s.tables s.routine o lo) (no_bare (T.own_slot s.program s.tables s.routine) o h))
+
+  -- the same operand, said of the operators behind it
+  pub first_is : (a b : Front) (e : Expr) (o o2 : Option ℕ) → o ≡ o2 → PutsFirstOperand s line a b o e → PutsFirstOperand s line a b o2 e
+  first_is a b e o o2 h j = subst (λ z. PutsFirstOperand s line a b z e) h j
+
+  pub first_at : (lo slot : ℕ) (o o2 : Option ℕ) → o ≡ o2 → slot ≡ T.slot_or s.program s.tables s.routine o lo → slot ≡ T.slot_or s.program s.tables s.routine o2 lo
+  first_at lo slot o o2 h is = is ∙ ap (λ z. T.slot_or s.program s.tables s.routine z lo) h
 
   -- ---- selectors
 

@@ -1,5 +1,5 @@
 -- What each form of test adds.
-use Rattle.std.proofs.Common.{◌≡◌, ℕ, ◌+◌, true, false, List, [], ◌∷◌, ◌++◌, length, drop, refl, sym, ap, ◌∙◌, subst, arith, length-append}
+use Rattle.std.proofs.Common.{◌≡◌, ℕ, ◌+◌, true, false, List, [], ◌∷◌, ◌++◌, length, drop, Option, refl, sym, ap, ◌∙◌, subst, arith, length-append}
 use Rattle.alma_base.specs.declared.number.Range.{Range}
 use Rattle.alma_code.specs.declared.cell.SlotKind.TheVariants as slot
 use Rattle.alma_code.specs.declared.instr.Instr.{Instr}
@@ -11,14 +11,14 @@ use Rattle.alma_ir.specs.Phrases.{stmts_phrases, test_phrases, tests_phrases, ex
 use Rattle.alma_ir.specs.Lines.{behind, stmts_with, test_with, tests_with, expr_with, desig_with}
 use Rattle.alma_ir.proofs.LinesBack.{behind_two, count_sum}
 use Rattle.alma_lower_work.specs.Front.{Around, Front, Adds, Codes, Changes, Holes}
-use Rattle.alma_lower_work.specs.Puts.{PutsExpr, PutsValue, PutsDesig, PutsTest, PutsAnd, PutsOperands, PutsFirst, PutsStmts, value_slot, is_unequal}
+use Rattle.alma_lower_work.specs.Puts.{PutsExpr, PutsFirstOperand, PutsValue, PutsDesig, PutsTest, PutsAnd, PutsOperands, PutsFirst, PutsStmts, value_slot, is_unequal}
 use Rattle.alma_lower_work.proofs.Joins.{nothing, then_adds, adds_as, adds_code, only_code, filled, over, address_behind}
 use Rattle.alma_lower_templates.specs.Lined.{Lined, own, in_row}
 use Rattle.alma_lower_templates.specs.Tables.{range_number}
-use Rattle.alma_lower_templates.specs.Slots.{bare, unless_bare, test_slots, expr_slots, desig_slots}
+use Rattle.alma_lower_templates.specs.Slots.{bare, stays, unless_bare, test_slots, expr_slots, desig_slots}
 use Rattle.alma_lower_templates.specs.Pieces.{unequal_code, begin_first, first_of_two}
 use Rattle.alma_lower_templates.proofs.Tested.{ChecksValue, Tested, tested, as_value, as_unequal}
-use Rattle.alma_lower_parts.proofs.With.{unequal_with}
+use Rattle.alma_lower_parts.proofs.With.{unequal_with, stays_with}
 use Rattle.alma_lower_templates.specs.Templates as T
 
 module _ (s : Around) (line : ℕ) where
@@ -45,20 +45,24 @@ module _ (s : Around) (line : ℕ) where
       let code = unless_bare (bare (expr_with e a.lines)) (T.expr_code s.program s.tables s.routine line (length a.code) a.next (expr_with e a.lines)) in
       record { all = adds_as a c _ _ _ _ _ _ (adds_code a b c _ _ _ _ h.all j) (ap (λ n. code ++ own line (I.Check n ∷ [])) is ∙ sym (checks_with e a.lines other line (length a.code) a.next)) refl refl }
 
-  pub unequal_put : (a b c d : Front) (to other : ℕ) (x y : Expr) → PutsExpr s line a b x → to ≡ a.next → PutsValue s line b c y → other ≡ value_slot s b.next (expr_with y b.lines)
-      → Codes c d (own line (unequal_code to other (length c.code))) → PutsTest s line a d (Value (Compare cmp.Unequal x y))
+  pub unequal_put : (a b c d : Front) (from to other : ℕ) (x y : Expr) → PutsFirstOperand s line a b (stays x y) x → to ≡ a.next → from ≡ T.slot_or s.program s.tables s.routine (stays x y) a.next
+      → PutsValue s line b c y → other ≡ value_slot s b.next (expr_with y b.lines) → Codes c d (own line (unequal_code to from other (length c.code))) → PutsTest s line a d (Value (Compare cmp.Unequal x y))
   unfolding stmts_with stmts_phrases
-  unequal_put a b c d to other x y h is j is2 k =
+  unequal_put a b c d from to other x y h is is2 j is3 k =
       let ls = behind (expr_phrases x) a.lines in
       let lo = a.next + length (expr_slots s.program s.routine (expr_with x a.lines)) in
-      let there : other ≡ value_slot s lo (expr_with y ls) = is2 ∙ ap (λ n. value_slot s n (expr_with y b.lines)) h.all.next_slot ∙ ap (λ n. value_slot s lo (expr_with y n)) h.all.left in
+      let there : other ≡ value_slot s lo (expr_with y ls) = is3 ∙ ap (λ n. value_slot s n (expr_with y b.lines)) h.all.next_slot ∙ ap (λ n. value_slot s lo (expr_with y n)) h.all.left in
       let operands = then_adds a b c _ _ _ _ _ _ h.all j.all in
-      let both = in_row (length a.code) (T.expr_code s.program s.tables s.routine line (length a.code) a.next (expr_with x a.lines)) (λ next. unless_bare (bare (expr_with y ls)) (T.expr_code s.program s.tables s.routine line next lo (expr_with y ls))) in
-      let here : length c.code ≡ length a.code + length both = address_behind a c _ _ _ operands in
-      let code : (to other at : ℕ) → List Lined = λ to other at. both ++ own line (unequal_code to other at) in
+      let both : Option ℕ → List Lined = λ o.
+      in_row (length a.code) (unless_bare o (T.expr_code s.program s.tables s.routine line (length a.code) a.next (expr_with x a.lines))) (λ next. unless_bare (bare (expr_with y ls)) (T.expr_code s.program s.tables s.routine line next lo (expr_with y ls))) in
+      let here : length c.code ≡ length a.code + length (both (stays x y)) = address_behind a c _ _ _ operands in
+      let code : Option ℕ → (from to other at : ℕ) → List Lined = λ o from to other at. both o ++ own line (unequal_code to from other at) in
+      let stay : ℕ = T.slot_or s.program s.tables s.routine (stays x y) a.next in
       record {
         all = adds_as a d _ _ _ _ _ _ (adds_code a c d _ _ _ _ operands k)
-            (ap (λ n. code n other (length c.code)) is ∙ ap (λ n. code a.next n (length c.code)) there ∙ ap (λ n. code a.next (value_slot s lo (expr_with y ls)) n) here)
+            (ap (λ n. code (stays x y) from n other (length c.code)) is ∙ ap (λ n. code (stays x y) n a.next other (length c.code)) is2 ∙ ap (λ n. code (stays x y) stay a.next n (length c.code)) there
+            ∙ ap (code (stays x y) stay a.next (value_slot s lo (expr_with y ls))) here
+            ∙ ap (λ o. code o (T.slot_or s.program s.tables s.routine o a.next) a.next (value_slot s lo (expr_with y ls)) (length a.code + length (both o))) (sym (stays_with x y a.lines ls)))
             refl (sym (behind_two (expr_phrases x) (expr_phrases y) a.lines));
       }
 

@@ -1,5 +1,5 @@
 -- Phrases with lines have the form of the phrases without.
-use Rattle.std.proofs.Common.{◌≡◌, ℕ, true, false, List, ◌∷◌, Some, refl, ap, ◌∙◌}
+use Rattle.std.proofs.Common.{◌≡◌, ℕ, Bool, true, false, List, ◌∷◌, Option, Some, None, refl, ap, ◌∙◌}
 use Rattle.std.specs.Prelude.{◌&&◌}
 use Rattle.alma_code.specs.declared.cell.SlotKind.TheVariants as slot
 use Rattle.alma_ir.specs.declared.phrase.Cmp.TheVariants as cmp
@@ -8,7 +8,7 @@ use Rattle.alma_ir.specs.Tree.{Test, Expr, Links, Args, Arg, Desig, Sels, Sel, V
 use Rattle.alma_ir.specs.Phrases.{stmts_phrases, expr_phrases, desig_phrases, sel_phrases, arg_phrases}
 use Rattle.alma_ir.specs.Lines.{behind, stmts_with, test_with, expr_with, links_with, args_with, arg_with, desig_with, sels_with, sel_with}
 use Rattle.alma_lower_work.specs.Puts.{is_unequal}
-use Rattle.alma_lower_templates.specs.Slots.{bare_desig, bare, is_simple_expr, are_simple_links, is_simple_desig, are_simple_sels, is_simple_sel, is_simple, cells_behind, desig_cells, arg_kind, handed_slots}
+use Rattle.alma_lower_templates.specs.Slots.{bare_desig, bare, is_given, is_ready, if_ready, stays_by, stays, stays_in, is_simple_expr, are_simple_links, is_simple_desig, are_simple_sels, is_simple_sel, is_simple, cells_behind, desig_cells, arg_kind, handed_slots}
 
 -- ---- variables that stand in their own slots
 
@@ -31,6 +31,34 @@ own_expr (Truth t) ls = refl
 own_expr (Known d) ls = refl
 own_expr (Chr e) ls = refl
 own_expr (CallExpr r args up) ls = refl
+
+-- ---- first operands
+
+ready_with : (e : Expr) (ls : List ℕ) → is_ready (expr_with e ls) ≡ is_ready e
+unfolding stmts_with
+ready_with (Const n) ls = refl
+ready_with (Load d) ls = ap is_given (own_desig d ls)
+ready_with (Chain negated e links) ls = refl
+ready_with (Compare how x y) ls = refl
+ready_with (Truth t) ls = refl
+ready_with (Known d) ls = refl
+ready_with (Chr e) ls = refl
+ready_with (CallExpr r args up) ls = refl
+
+pub stays_with : (x y : Expr) (ls ls2 : List ℕ) → stays (expr_with x ls) (expr_with y ls2) ≡ stays x y
+stays_with x y ls ls2 = ap (λ o. stays_by o (expr_with y ls2)) (own_expr x ls) ∙ by (bare x)
+  where
+    by : (o : Option ℕ) → stays_by o (expr_with y ls2) ≡ stays_by o y
+    by (Some from) = ap (λ z. if_ready z from) (ready_with y ls2)
+    by None = refl
+
+pub stays_in_with : (negated : Bool) (x : Expr) (links : Links) (ls ls2 : List ℕ) → stays_in negated (expr_with x ls) (links_with links ls2) ≡ stays_in negated x links
+unfolding stmts_with
+stays_in_with true x links ls ls2 = refl
+stays_in_with false x no_links ls ls2 = refl
+stays_in_with false x (more_links how y rest) ls ls2 = stays_with x y ls ls2
+
+-- ---- variables without code
 
 -- such a variable has no line inside
 pub own_desig_passes : (d : Desig) (from : ℕ) (ls : List ℕ) → bare_desig d ≡ Some from → behind (desig_phrases d) ls ≡ ls

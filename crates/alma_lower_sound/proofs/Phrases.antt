@@ -20,12 +20,13 @@ use Rattle.alma_ir.proofs.Each.{each_of_front, each_of_back, each_of_append}
 use Rattle.alma_lower_templates.specs.Lined.{Lined, own}
 use Rattle.alma_lower_templates.specs.Tables.{Tables, range_number, text_number}
 use Rattle.alma_lower_templates.specs.Pieces.{condition, guarded, chosen, first_of_two, truth_code, fit_code, neg_code, op_code, cmp_code, unequal_code, write_code, read_code, case_arm, passed_over, has_dead, behind_labels, begin_loop, for_turns, some_turns, turn_code, each_body}
-use Rattle.alma_lower_templates.specs.Slots.{bare, bare_desig, unless_bare, is_simple, mark_slots, handed_slots, call_links, root_slots, arg_kind, stmts_slots, stmt_slots, arms_slots, dead_slots, cases_slots, else_slots, branches_slots, for_slots, some_slots, test_slots, and_slots, or_slots, expr_slots, links_slots, args_slots, arg_slots, desig_slots, sels_slots, sel_slots, behind_expr, behind_dead, behind_value, behind_desig, behind_target, behind_variable, behind_test, behind_stmts, behind_stmt, behind_condition}
+use Rattle.alma_lower_templates.specs.Slots.{bare, bare_desig, stays, stays_in, unless_bare, is_simple, mark_slots, handed_slots, call_links, root_slots, arg_kind, stmts_slots, stmt_slots, arms_slots, dead_slots, cases_slots, else_slots, branches_slots, for_slots, some_slots, test_slots, and_slots, or_slots, expr_slots, links_slots, args_slots, arg_slots, desig_slots, sels_slots, sel_slots, behind_expr, behind_dead, behind_value, behind_desig, behind_target, behind_variable, behind_test, behind_stmts, behind_stmt, behind_condition}
 use Rattle.alma_lower_templates.specs.Slots as slots_of
-use Rattle.alma_lower_templates.specs.Templates.{char_range, own_slot, value_at, part_slot, behind_root, place_at, root_code, call_link_code, arguments_from, call_code, set_code, load_code, count_at, count_code, fit_result, stmts_code, stmt_code, if_code, arms_code, for_code, some_code, dead_code, case_code, cases_code, else_code, either_code, branches_code, test_code, and_code, or_code, operands_code, jump_code, expr_code, links_code, args_code, arg_code, desig_code, sels_code, sel_code}
+use Rattle.alma_lower_templates.specs.Templates.{char_range, own_slot, slot_or, value_at, part_slot, behind_root, place_at, root_code, call_link_code, arguments_from, call_code, set_code, load_code, count_at, count_code, fit_result, stmts_code, stmt_code, if_code, arms_code, for_code, some_code, dead_code, case_code, cases_code, else_code, either_code, branches_code, test_code, and_code, or_code, operands_code, jump_code, expr_code, links_code, args_code, arg_code, desig_code, sels_code, sel_code}
 use Rattle.alma_lower_templates.specs.CodeOf.{HoldsChecked}
 use Rattle.alma_lower_templates.specs.Compiled.{is_function}
 use Rattle.alma_lower_templates.proofs.Args.{same_cells}
+use Rattle.alma_lower_templates.proofs.First.{as_stays, as_stays_in}
 use Rattle.alma_lower_templates.proofs.Tested.{compared_code, Tested, tested, as_value, as_unequal}
 use Rattle.alma_lower_sound.proofs.Facts.{Facts}
 use Rattle.alma_lower_sound.proofs.Needs.{HasKind, IsInside, Needs, IsRange, Number, Place, Mark}
@@ -176,8 +177,9 @@ module _ (p : Program) (tables : Tables) (code : PlainCode) (checked : IsChecked
   unequal_fits line at lo x y f room =
       let operand : ℕ = value_at p tables r (behind_expr p r lo x) y in
       let operands : List Lined = compared_code p tables r line at lo x y in
-      let end : List Lined = own line (unequal_code lo operand (at + length operands)) in
-      let value : List Lined = own line (cmp_code cmp.Unequal lo operand) in
+      let first : ℕ = slot_or p tables r (stays x y) lo in
+      let end : List Lined = own line (unequal_code lo first operand (at + length operands)) in
+      let value : List Lined = own line (cmp_code cmp.Unequal lo first operand) in
       let long = length-append operands end in
       let all = f (record { low = room.low; high = omega (arith, room.high, long, length-append operands value) }) in
       let equal = each_of_back (pieces.NeedsOf code r) operands value all in
@@ -289,20 +291,29 @@ module _ (p : Program) (tables : Tables) (code : PlainCode) (checked : IsChecked
     expr_fits line at lo (Chain negated e links) good slots =
         let mine = front lo (expr_slots p r e) (links_slots p r links) slots in
         let n = values.expr_number p tables code checked w r lt lo e mine in
-        let one : List Lined = expr_code p tables r line at lo e ++ own line (neg_code negated lo) in
-        row at one (links_code p tables r line (at + length one) lo (behind_expr p r lo e) links)
-        (then_own at line (expr_code p tables r line at lo e) (neg_code negated lo) (expr_fits line at lo e (fine_front (expr_phrases e) (links_phrases links) good.1) mine) (values.neg_needs p tables code checked w r lt negated lo n))
-        (links_fit line (at + length one) lo (behind_expr p r lo e) links (fine_back (expr_phrases e) (links_phrases links) good.1) n (back lo (expr_slots p r e) (links_slots p r links) slots))
+        let o : Option ℕ = stays_in negated e links in
+        let inner : List Lined = unless_bare o (expr_code p tables r line at lo e) in
+        let one : List Lined = inner ++ own line (neg_code negated lo) in
+        let first : ℕ = slot_or p tables r o lo in
+        let good_e = fine_front (expr_phrases e) (links_phrases links) good.1 in
+        let there = as_stays_in (values.BareIs p tables code checked w r lt) negated e links tt (values.bare_value p tables code checked w r lt e good_e) in
+        row at one (links_code p tables r line (at + length one) first lo (behind_expr p r lo e) links)
+        (then_own at line inner (neg_code negated lo) (pieces.unless code r 0 at o (expr_code p tables r line at lo e) (λ none. expr_fits line at lo e good_e mine)) (values.neg_needs p tables code checked w r lt negated lo n))
+        (links_fit line (at + length one) first lo (behind_expr p r lo e) links (fine_back (expr_phrases e) (links_phrases links) good.1) (values.first_number p tables code checked w r lt o lo there n) n (back lo (expr_slots p r e) (links_slots p r links) slots))
     expr_fits line at lo (Compare how x y) good slots =
         let lo2 : ℕ = behind_expr p r lo x in
-        let one : List Lined = expr_code p tables r line at lo x in
+        let one : List Lined = unless_bare (stays x y) (expr_code p tables r line at lo x) in
         let two : List Lined = unless_bare (bare y) (expr_code p tables r line (at + length one) lo2 y) in
+        let first : ℕ = slot_or p tables r (stays x y) lo in
         let mine = front lo (expr_slots p r x) (unless_bare (bare y) (expr_slots p r y)) slots in
         let others = back lo (expr_slots p r x) (unless_bare (bare y) (expr_slots p r y)) slots in
         let good_y = fine_back (expr_phrases x) (expr_phrases y) good.1 in
-        then_own at line (one ++ two) (cmp_code how lo (value_at p tables r lo2 y))
-        (row at one two (expr_fits line at lo x (fine_front (expr_phrases x) (expr_phrases y) good.1) mine) (once line (at + length one) lo2 y others (expr_fits line (at + length one) lo2 y good_y)))
-        (values.cmp_needs p tables code checked w r lt how lo (value_at p tables r lo2 y) (values.expr_number p tables code checked w r lt lo x mine) (number lo2 y good_y others))
+        let good_x = fine_front (expr_phrases x) (expr_phrases y) good.1 in
+        let n = values.expr_number p tables code checked w r lt lo x mine in
+        let there = as_stays (values.BareIs p tables code checked w r lt) x y tt (values.bare_value p tables code checked w r lt x good_x) in
+        then_own at line (one ++ two) (cmp_code how lo first (value_at p tables r lo2 y))
+        (row at one two (pieces.unless code r 0 at (stays x y) (expr_code p tables r line at lo x) (λ none. expr_fits line at lo x good_x mine)) (once line (at + length one) lo2 y others (expr_fits line (at + length one) lo2 y good_y)))
+        (values.cmp_needs p tables code checked w r lt how lo first (value_at p tables r lo2 y) n (values.first_number p tables code checked w r lt (stays x y) lo there n) (number lo2 y good_y others))
     expr_fits line at lo (Truth t) good slots =
         let inner = back lo (slot.Number ∷ []) (mark_slots (is_simple t) ++ test_slots p r t) slots in
         let one : List Lined = guarded_code line at (lo + 1) 2 t (λ next. []) in
@@ -334,16 +345,16 @@ module _ (p : Program) (tables : Tables) (code : PlainCode) (checked : IsChecked
         (args_fit line (at + length one) to lo2 args good.1 (front to (handed_slots args) (args_slots p r args) behind_links) (back to (handed_slots args) (args_slots p r args) behind_links)))
         (m, (values.expr_call_needs p tables code checked w r lt called up (lo + 2) lo args (args_slots p r args) good.0.0 good.0.1 n inner, (m, tt)))
 
-    links_fit : (line at to lo : ℕ) (links : Links) → Fine (links_phrases links) → Number code r to → SlotsOf lo (links_slots p r links) → Here at (links_code p tables r line at to lo links)
-    links_fit line at to lo no_links good n slots = λ room. tt
-    links_fit line at to lo (more_links how e rest) good n slots =
+    links_fit : (line at first to lo : ℕ) (links : Links) → Fine (links_phrases links) → Number code r first → Number code r to → SlotsOf lo (links_slots p r links) → Here at (links_code p tables r line at first to lo links)
+    links_fit line at first to lo no_links good f n slots = λ room. tt
+    links_fit line at first to lo (more_links how e rest) good f n slots =
         let before : List Lined = unless_bare (bare e) (expr_code p tables r line at lo e) in
-        let one : List Lined = before ++ own line (op_code how to (value_at p tables r lo e) ∷ []) in
+        let one : List Lined = before ++ own line (op_code how to first (value_at p tables r lo e) ∷ []) in
         let mine = front lo (unless_bare (bare e) (expr_slots p r e)) (links_slots p r rest) slots in
         let good_e = fine_front (expr_phrases e) (links_phrases rest) good in
-        row at one (links_code p tables r line (at + length one) to (behind_value p r lo e) rest)
-        (then_own at line before (op_code how to (value_at p tables r lo e) ∷ []) (once line at lo e mine (expr_fits line at lo e good_e)) (values.op_needs p tables code checked w r lt how to (value_at p tables r lo e) n (number lo e good_e mine), tt))
-        (links_fit line (at + length one) to (behind_value p r lo e) rest (fine_back (expr_phrases e) (links_phrases rest) good) n (back lo (unless_bare (bare e) (expr_slots p r e)) (links_slots p r rest) slots))
+        row at one (links_code p tables r line (at + length one) to to (behind_value p r lo e) rest)
+        (then_own at line before (op_code how to first (value_at p tables r lo e) ∷ []) (once line at lo e mine (expr_fits line at lo e good_e)) (values.op_needs p tables code checked w r lt how to first (value_at p tables r lo e) n f (number lo e good_e mine), tt))
+        (links_fit line (at + length one) to to (behind_value p r lo e) rest (fine_back (expr_phrases e) (links_phrases rest) good) n n (back lo (unless_bare (bare e) (expr_slots p r e)) (links_slots p r rest) slots))
 
     -- ---- arguments
 

@@ -17,8 +17,9 @@ use Rattle.alma_ir.specs.Tree.{Stmts, Stmt, Arms, CaseArms, Else, Branches, Loop
 use Rattle.alma_lower_templates.specs.Lined.{Lined, own, leaving}
 use Rattle.alma_lower_templates.specs.Tables.{Tables, range_number, is_whole}
 use Rattle.alma_lower_templates.specs.Pieces.{condition, guarded, chosen, first_of_two, refused, fit_code, neg_code, op_code, cmp_code, unequal_code, write_code, read_code, case_arm, passed_over, has_dead, behind_labels, labels_code, begin_loop, bounds_code, entry_code, chain_code, link_code, unless_whole, for_turns, some_turns, turn_code, each_body, forall_code}
-use Rattle.alma_lower_templates.specs.Slots.{shift_of, bare, bare_desig, unless_bare, is_simple, handed_slots, arg_slots, behind_expr, behind_dead, behind_value, behind_desig, behind_target, behind_variable, behind_test, behind_stmts, behind_stmt, behind_condition}
-use Rattle.alma_lower_templates.specs.Templates.{char_range, own_slot, outer_slot, link_if, set_by, load_by, value_at, part_slot, behind_root, place_at, root_code, call_link_code, arguments_from, call_code, set_code, load_code, count_at, count_code, fit_result, stmts_code, stmt_code, if_code, arms_code, for_code, some_code, dead_code, case_code, cases_code, else_code, either_code, branches_code, test_code, and_code, or_code, operands_code, jump_code, expr_code, links_code, args_code, arg_code, desig_code, sels_code, sel_code}
+use Rattle.alma_lower_templates.specs.Slots.{shift_of, bare, bare_desig, stays, stays_in, unless_bare, is_simple, handed_slots, arg_slots, behind_expr, behind_dead, behind_value, behind_desig, behind_target, behind_variable, behind_test, behind_stmts, behind_stmt, behind_condition}
+use Rattle.alma_lower_templates.specs.Templates.{char_range, own_slot, slot_or, outer_slot, link_if, set_by, load_by, value_at, part_slot, behind_root, place_at, root_code, call_link_code, arguments_from, call_code, set_code, load_code, count_at, count_code, fit_result, stmts_code, stmt_code, if_code, arms_code, for_code, some_code, dead_code, case_code, cases_code, else_code, either_code, branches_code, test_code, and_code, or_code, operands_code, jump_code, expr_code, links_code, args_code, arg_code, desig_code, sels_code, sel_code}
+use Rattle.alma_lower_templates.proofs.First.{as_stays, as_stays_in}
 use Rattle.alma_lower_templates.proofs.Tested.{compared_code, Tested, tested, as_value, as_unequal}
 use Rattle.alma_code.specs.Reads.{is_read}
 
@@ -164,20 +165,20 @@ own_both line (x ∷ xs) ys = omega (arith, own_both line xs ys)
 quiet_two : (xs ys : List Instr) → Quiet xs → Quiet ys → Quiet (xs ++ ys)
 quiet_two xs ys h k line = omega (arith, own_both line xs ys, h line, k line)
 
-op_quiet : (how : Op) (to other : ℕ) → Quiet (op_code how to other ∷ [])
-op_quiet op.Add to other line = refl
-op_quiet op.Sub to other line = refl
-op_quiet op.Mul to other line = refl
-op_quiet op.Div to other line = refl
-op_quiet op.Mod to other line = refl
+op_quiet : (how : Op) (to first other : ℕ) → Quiet (op_code how to first other ∷ [])
+op_quiet op.Add to first other line = refl
+op_quiet op.Sub to first other line = refl
+op_quiet op.Mul to first other line = refl
+op_quiet op.Div to first other line = refl
+op_quiet op.Mod to first other line = refl
 
-cmp_quiet : (how : Cmp) (to other : ℕ) → Quiet (cmp_code how to other)
-cmp_quiet cmp.Equal to other line = refl
-cmp_quiet cmp.Unequal to other line = refl
-cmp_quiet cmp.Less to other line = refl
-cmp_quiet cmp.LessEq to other line = refl
-cmp_quiet cmp.Greater to other line = refl
-cmp_quiet cmp.GreaterEq to other line = refl
+cmp_quiet : (how : Cmp) (to first other : ℕ) → Quiet (cmp_code how to first other)
+cmp_quiet cmp.Equal to first other line = refl
+cmp_quiet cmp.Unequal to first other line = refl
+cmp_quiet cmp.Less to first other line = refl
+cmp_quiet cmp.LessEq to first other line = refl
+cmp_quiet cmp.Greater to first other line = refl
+cmp_quiet cmp.GreaterEq to first other line = refl
 
 neg_quiet : (negated : Bool) (to : ℕ) → Quiet (neg_code negated to)
 neg_quiet true to line = refl
@@ -411,7 +412,8 @@ module _ (p : Program) (tables : Tables) (r : ℕ) where
       differ x y =
           let operand : ℕ = value_at p tables r (behind_expr p r lo x) y in
           let operands : List Lined = compared_code p tables r line at lo x y in
-          omega (arith, then_own line operands (unequal_code lo operand (at + length operands)) (λ l. refl), then_own line operands (cmp_code cmp.Unequal lo operand) (λ l. refl))
+          let first : ℕ = slot_or p tables r (stays x y) lo in
+          omega (arith, then_own line operands (unequal_code lo first operand (at + length operands)) (λ l. refl), then_own line operands (cmp_code cmp.Unequal lo first operand) (λ l. refl))
 
       by : Tested p tables r e → reads (test_code p tables r line at lo (Value e)) ≡ reads (unless_bare (bare e) (expr_code p tables r line at lo e))
       by (as_value is) = ap reads (is line at lo) ∙ then_own line (unless_bare (bare e) (expr_code p tables r line at lo e)) (I.Check (value_at p tables r lo e) ∷ []) (λ l. refl)
@@ -441,15 +443,32 @@ module _ (p : Program) (tables : Tables) (r : ℕ) where
     expr_same line at lo (Load d) =
         omega (arith, then_own line (unless_bare (bare_desig d) (desig_code p tables r line at (lo + 1) d)) (load_code p tables r lo d ∷ []) (load_quiet lo d), located d (desig_code p tables r line at (lo + 1) d) (desig_same line at (lo + 1) d), desig_same line at (lo + 1) d)
     expr_same line at lo (Chain negated e links) =
-        let one : List Lined = expr_code p tables r line at lo e ++ own line (neg_code negated lo) in
+        let o : Option ℕ = stays_in negated e links in
+        let inner : List Lined = unless_bare o (expr_code p tables r line at lo e) in
+        let one : List Lined = inner ++ own line (neg_code negated lo) in
         let lo2 : ℕ = behind_expr p r lo e in
-        omega (arith, both one (links_code p tables r line (at + length one) lo lo2 links), then_own line (expr_code p tables r line at lo e) (neg_code negated lo) (neg_quiet negated lo), expr_same line at lo e, links_same line (at + length one) lo lo2 links)
+        let first : ℕ = slot_or p tables r o lo in
+        omega (
+          arith,
+          both one (links_code p tables r line (at + length one) first lo lo2 links),
+          then_own line inner (neg_code negated lo) (neg_quiet negated lo),
+          unless_reads o (expr_reads e) (expr_code p tables r line at lo e) (as_stays_in (λ o. BareQuiet o (expr_reads e)) negated e links tt (expr_bare e)) (expr_same line at lo e),
+          links_same line (at + length one) first lo lo2 links,
+        )
     expr_same line at lo (Compare how x y) =
         let lo2 : ℕ = behind_expr p r lo x in
-        let one : List Lined = expr_code p tables r line at lo x in
+        let one : List Lined = unless_bare (stays x y) (expr_code p tables r line at lo x) in
         let inner : List Lined = expr_code p tables r line (at + length one) lo2 y in
         let two : List Lined = unless_bare (bare y) inner in
-        omega (arith, then_own line (one ++ two) (cmp_code how lo (value_at p tables r lo2 y)) (cmp_quiet how lo (value_at p tables r lo2 y)), both one two, once y inner (expr_same line (at + length one) lo2 y), expr_same line at lo x, expr_same line (at + length one) lo2 y)
+        let first : ℕ = slot_or p tables r (stays x y) lo in
+        omega (
+          arith,
+          then_own line (one ++ two) (cmp_code how lo first (value_at p tables r lo2 y)) (cmp_quiet how lo first (value_at p tables r lo2 y)),
+          both one two,
+          unless_reads (stays x y) (expr_reads x) (expr_code p tables r line at lo x) (as_stays (λ o. BareQuiet o (expr_reads x)) x y tt (expr_bare x)) (expr_same line at lo x),
+          once y inner (expr_same line (at + length one) lo2 y),
+          expr_same line (at + length one) lo2 y,
+        )
     expr_same line at lo (Truth t) =
         let one : List Lined = guarded_code line at (lo + 1) 2 t (λ next. []) in
         let end : ℕ = at + length one in
@@ -465,19 +484,19 @@ module _ (p : Program) (tables : Tables) (r : ℕ) where
         let two : List Lined = args_code p tables r line next to lo2 args in
         omega (arith, then_own line (own line link ++ two) (I.Mark (lo + 1) ∷ call_code p tables r called args up (lo + 2) lo ∷ I.Cut (lo + 1) ∷ []) (λ l. refl), own_then line link two (call_link_quiet called up (lo + 2)), args_same line next to lo2 args)
 
-    links_same : (line at to lo : ℕ) (x : Links) → reads (links_code p tables r line at to lo x) ≡ links_reads x
-    links_same line at to lo no_links = omega arith
-    links_same line at to lo (more_links how e rest) =
+    links_same : (line at first to lo : ℕ) (x : Links) → reads (links_code p tables r line at first to lo x) ≡ links_reads x
+    links_same line at first to lo no_links = omega arith
+    links_same line at first to lo (more_links how e rest) =
         let inner : List Lined = expr_code p tables r line at lo e in
-        let one : List Lined = unless_bare (bare e) inner ++ own line (op_code how to (value_at p tables r lo e) ∷ []) in
+        let one : List Lined = unless_bare (bare e) inner ++ own line (op_code how to first (value_at p tables r lo e) ∷ []) in
         let lo2 : ℕ = behind_value p r lo e in
         omega (
           arith,
-          both one (links_code p tables r line (at + length one) to lo2 rest),
-          then_own line (unless_bare (bare e) inner) (op_code how to (value_at p tables r lo e) ∷ []) (op_quiet how to (value_at p tables r lo e)),
+          both one (links_code p tables r line (at + length one) to to lo2 rest),
+          then_own line (unless_bare (bare e) inner) (op_code how to first (value_at p tables r lo e) ∷ []) (op_quiet how to first (value_at p tables r lo e)),
           once e inner (expr_same line at lo e),
           expr_same line at lo e,
-          links_same line (at + length one) to lo2 rest,
+          links_same line (at + length one) to to lo2 rest,
         )
 
     args_same : (line at to lo : ℕ) (x : Args) → reads (args_code p tables r line at to lo x) ≡ args_reads x

@@ -91,7 +91,7 @@ module _ (p : Program) (tables : Tables) (code : PlainCode) (checked : IsChecked
   unfolding stmts_phrases
   bare_variable (a_desig x cells sels) h e = bare_root (a_desig x cells sels) h.0 e
 
-  bare_value : (e : Expr) → Good (expr_phrases e) → BareIs (bare e)
+  pub bare_value : (e : Expr) → Good (expr_phrases e) → BareIs (bare e)
   unfolding stmts_phrases
   bare_value (Const n) h = tt
   bare_value (Load d) h = bare_variable d h.1 h.0
@@ -112,6 +112,11 @@ module _ (p : Program) (tables : Tables) (code : PlainCode) (checked : IsChecked
       by : (o : Option ℕ) → BareIs o → SlotsOf lo (unless_bare o (expr_slots p r e)) → Number code r (slot_or p tables r o lo)
       by (Some from) b h = b
       by None b h = expr_number lo e h
+
+  -- a first operand, which stays or not
+  pub first_number : (o : Option ℕ) (lo : ℕ) → BareIs o → Number code r lo → Number code r (slot_or p tables r o lo)
+  first_number (Some from) lo b n = b
+  first_number None lo b n = n
 
   -- the slots of a part that has code only where it has slots
   pub none_slots : (o : Option ℕ) (lo : ℕ) (kinds : List SlotKind) → o ≡ None → SlotsOf lo (unless_bare o kinds) → SlotsOf lo kinds
@@ -171,20 +176,20 @@ module _ (p : Program) (tables : Tables) (code : PlainCode) (checked : IsChecked
 
   -- ---- operators
 
-  pub op_needs : (how : Op) (to operand : ℕ) → Number code r to → Number code r operand → Needs code r (op_code how to operand)
-  op_needs op.Add to operand a b = (a, a, b)
-  op_needs op.Sub to operand a b = (a, a, b)
-  op_needs op.Mul to operand a b = (a, a, b)
-  op_needs op.Div to operand a b = (a, a, b)
-  op_needs op.Mod to operand a b = (a, a, b)
+  pub op_needs : (how : Op) (to first operand : ℕ) → Number code r to → Number code r first → Number code r operand → Needs code r (op_code how to first operand)
+  op_needs op.Add to first operand a f b = (a, f, b)
+  op_needs op.Sub to first operand a f b = (a, f, b)
+  op_needs op.Mul to first operand a f b = (a, f, b)
+  op_needs op.Div to first operand a f b = (a, f, b)
+  op_needs op.Mod to first operand a f b = (a, f, b)
 
-  pub cmp_needs : (how : Cmp) (to operand : ℕ) → Number code r to → Number code r operand → AllNeeds (cmp_code how to operand)
-  cmp_needs cmp.Equal to operand a b = ((a, a, b), tt)
-  cmp_needs cmp.Unequal to operand a b = ((a, a, b), ((a, a), tt))
-  cmp_needs cmp.Less to operand a b = ((a, a, b), tt)
-  cmp_needs cmp.LessEq to operand a b = ((a, a, b), tt)
-  cmp_needs cmp.Greater to operand a b = ((a, b, a), tt)
-  cmp_needs cmp.GreaterEq to operand a b = ((a, b, a), tt)
+  pub cmp_needs : (how : Cmp) (to first operand : ℕ) → Number code r to → Number code r first → Number code r operand → AllNeeds (cmp_code how to first operand)
+  cmp_needs cmp.Equal to first operand a f b = ((a, f, b), tt)
+  cmp_needs cmp.Unequal to first operand a f b = ((a, f, b), ((a, a), tt))
+  cmp_needs cmp.Less to first operand a f b = ((a, f, b), tt)
+  cmp_needs cmp.LessEq to first operand a f b = ((a, f, b), tt)
+  cmp_needs cmp.Greater to first operand a f b = ((a, b, f), tt)
+  cmp_needs cmp.GreaterEq to first operand a f b = ((a, b, f), tt)
 
   pub neg_needs : (negated : Bool) (to : ℕ) → Number code r to → AllNeeds (neg_code negated to)
   neg_needs true to a = ((a, a), tt)

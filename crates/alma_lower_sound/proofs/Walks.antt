@@ -14,8 +14,8 @@ use Rattle.alma_lower_templates.proofs.Tested.{compared_code, Tested, tested, as
 use Rattle.alma_lower_templates.specs.Lined.{Lined, own, leaving, line_from, lines_from}
 use Rattle.alma_lower_templates.specs.Tables.{Tables, range_number, text_number}
 use Rattle.alma_lower_templates.specs.Pieces.{condition, guarded, chosen, first_of_two, refused, fit_code, neg_code, op_code, cmp_code, unequal_code, write_code, read_code, case_arm, passed_over, has_dead, behind_labels, labels_code, begin_loop, bounds_code, for_turns, some_turns, turn_code, each_body, forall_code}
-use Rattle.alma_lower_templates.specs.Slots.{bare, bare_desig, unless_bare, is_simple, handed_slots, arg_slots, behind_expr, behind_dead, behind_value, behind_desig, behind_target, behind_variable, behind_test, behind_stmts, behind_stmt, behind_condition}
-use Rattle.alma_lower_templates.specs.Templates.{char_range, own_slot, value_at, part_slot, behind_root, place_at, root_code, call_link_code, arguments_from, call_code, set_code, load_code, count_at, count_code, fit_result, stmts_code, stmt_code, if_code, arms_code, for_code, some_code, dead_code, case_code, cases_code, else_code, either_code, branches_code, test_code, and_code, or_code, operands_code, jump_code, expr_code, links_code, args_code, arg_code, desig_code, sels_code, sel_code}
+use Rattle.alma_lower_templates.specs.Slots.{bare, bare_desig, stays, stays_in, unless_bare, is_simple, handed_slots, arg_slots, behind_expr, behind_dead, behind_value, behind_desig, behind_target, behind_variable, behind_test, behind_stmts, behind_stmt, behind_condition}
+use Rattle.alma_lower_templates.specs.Templates.{char_range, own_slot, slot_or, value_at, part_slot, behind_root, place_at, root_code, call_link_code, arguments_from, call_code, set_code, load_code, count_at, count_code, fit_result, stmts_code, stmt_code, if_code, arms_code, for_code, some_code, dead_code, case_code, cases_code, else_code, either_code, branches_code, test_code, and_code, or_code, operands_code, jump_code, expr_code, links_code, args_code, arg_code, desig_code, sels_code, sel_code}
 
 -- ---- walks
 
@@ -246,7 +246,8 @@ module _ (p : Program) (tables : Tables) (r : ℕ) where
       differ x y =
           let operand : ℕ = value_at p tables r (behind_expr p r lo x) y in
           let operands : List Lined = compared_code p tables r line at lo x y in
-          ends_alike line line operands (unequal_code lo operand (at + length operands)) ∙ sym (ends_alike line line operands (cmp_code cmp.Unequal lo operand))
+          let first : ℕ = slot_or p tables r (stays x y) lo in
+          ends_alike line line operands (unequal_code lo first operand (at + length operands)) ∙ sym (ends_alike line line operands (cmp_code cmp.Unequal lo first operand))
 
       by : Tested p tables r e → round line (test_code p tables r line at lo (Value e)) ≡ round line (unless_bare (bare e) (expr_code p tables r line at lo e))
       by (as_value is) = ap (round line) (is line at lo) ∙ ends_alike line line (unless_bare (bare e) (expr_code p tables r line at lo e)) (I.Check (value_at p tables r lo e) ∷ [])
@@ -276,15 +277,33 @@ module _ (p : Program) (tables : Tables) (r : ℕ) where
     expr_round line at lo (Load d) =
         omega (arith, then_own line (unless_bare (bare_desig d) (desig_code p tables r line at (lo + 1) d)) (load_code p tables r lo d ∷ []), unless_round line (bare_desig d) (desig_code p tables r line at (lo + 1) d), desig_round line at (lo + 1) d)
     expr_round line at lo (Chain negated e links) =
-        let one : List Lined = expr_code p tables r line at lo e ++ own line (neg_code negated lo) in
+        let o : Option ℕ = stays_in negated e links in
+        let inner : List Lined = unless_bare o (expr_code p tables r line at lo e) in
+        let one : List Lined = inner ++ own line (neg_code negated lo) in
         let lo2 : ℕ = behind_expr p r lo e in
-        omega (arith, both line one (links_code p tables r line (at + length one) lo lo2 links), then_own line (expr_code p tables r line at lo e) (neg_code negated lo), expr_round line at lo e, links_round line (at + length one) lo lo2 links)
+        let first : ℕ = slot_or p tables r o lo in
+        omega (
+          arith,
+          both line one (links_code p tables r line (at + length one) first lo lo2 links),
+          then_own line inner (neg_code negated lo),
+          unless_round line o (expr_code p tables r line at lo e),
+          expr_round line at lo e,
+          links_round line (at + length one) first lo lo2 links,
+        )
     expr_round line at lo (Compare how x y) =
         let lo2 : ℕ = behind_expr p r lo x in
-        let one : List Lined = expr_code p tables r line at lo x in
+        let one : List Lined = unless_bare (stays x y) (expr_code p tables r line at lo x) in
         let inner : List Lined = expr_code p tables r line (at + length one) lo2 y in
         let two : List Lined = unless_bare (bare y) inner in
-        omega (arith, then_own line (one ++ two) (cmp_code how lo (value_at p tables r lo2 y)), both line one two, unless_round line (bare y) inner, expr_round line at lo x, expr_round line (at + length one) lo2 y)
+        omega (
+          arith,
+          then_own line (one ++ two) (cmp_code how lo (slot_or p tables r (stays x y) lo) (value_at p tables r lo2 y)),
+          both line one two,
+          unless_round line (stays x y) (expr_code p tables r line at lo x),
+          unless_round line (bare y) inner,
+          expr_round line at lo x,
+          expr_round line (at + length one) lo2 y,
+        )
     expr_round line at lo (Truth t) =
         let one : List Lined = guarded_code line at (lo + 1) 2 t (λ next. []) in
         let end : ℕ = at + length one in
@@ -300,19 +319,19 @@ module _ (p : Program) (tables : Tables) (r : ℕ) where
         let two : List Lined = args_code p tables r line next to lo2 args in
         omega (arith, then_own line (own line link ++ two) (I.Mark (lo + 1) ∷ call_code p tables r called args up (lo + 2) lo ∷ I.Cut (lo + 1) ∷ []), own_then line link two, args_round line next to lo2 args)
 
-    links_round : (line at to lo : ℕ) (x : Links) → round line (links_code p tables r line at to lo x) ≤ 2 * links_nodes x
-    links_round line at to lo no_links = omega (arith, hop_none line)
-    links_round line at to lo (more_links how e rest) =
+    links_round : (line at first to lo : ℕ) (x : Links) → round line (links_code p tables r line at first to lo x) ≤ 2 * links_nodes x
+    links_round line at first to lo no_links = omega (arith, hop_none line)
+    links_round line at first to lo (more_links how e rest) =
         let inner : List Lined = expr_code p tables r line at lo e in
-        let one : List Lined = unless_bare (bare e) inner ++ own line (op_code how to (value_at p tables r lo e) ∷ []) in
+        let one : List Lined = unless_bare (bare e) inner ++ own line (op_code how to first (value_at p tables r lo e) ∷ []) in
         let lo2 : ℕ = behind_value p r lo e in
         omega (
           arith,
-          both line one (links_code p tables r line (at + length one) to lo2 rest),
-          then_own line (unless_bare (bare e) inner) (op_code how to (value_at p tables r lo e) ∷ []),
+          both line one (links_code p tables r line (at + length one) to to lo2 rest),
+          then_own line (unless_bare (bare e) inner) (op_code how to first (value_at p tables r lo e) ∷ []),
           unless_round line (bare e) inner,
           expr_round line at lo e,
-          links_round line (at + length one) to lo2 rest,
+          links_round line (at + length one) to to lo2 rest,
         )
 
     args_round : (line at to lo : ℕ) (x : Args) → round line (args_code p tables r line at to lo x) ≤ 2 * args_nodes x

@@ -23,6 +23,8 @@ use Rattle.alma_lower_templates.specs.Tables.{Tables, range_number, text_number,
 use Rattle.alma_lower_templates.specs.Slots.{bare, bare_desig, unless_bare, is_simple, is_simple_expr, mark_slots, expr_slots, desig_slots, test_slots}
 use Rattle.alma_lower_templates.specs.Templates.{char_range}
 use Rattle.alma_lower_templates.proofs.AtOnce.{BareFits, AtOnce}
+use Rattle.alma_lower_templates.proofs.First.{ConstantFits}
+use Rattle.alma_lower_templates.proofs.ExprForms.{NextRuns}
 use Rattle.alma_lower_templates.proofs.FormRuns.{ExprRuns, DesigRuns, TestRuns}
 use Rattle.alma_lower_templates.proofs.GuardedForms.{Decided, decided}
 use Rattle.alma_mean.specs.Meaning.{ev_test}
@@ -231,11 +233,13 @@ module _ (p : Program) (tables : Tables) (code : PlainCode) (input : List ℕ) w
 
     -- both operands of a comparison
     pub record OperandsGo (a b : Expr) : Type 0 where
+      pub fits : BareFits p tables code input below r line q (bare a)
       pub first : (at lo : ℕ) → HasSlots p code r lo (expr_slots p r a) → ExprRuns p tables code input below r line q at lo a
-      pub second : (at lo : ℕ) → HasSlots p code r lo (unless_bare (bare b) (expr_slots p r b)) → AtOnce p tables code input below r line q at lo b
+      pub second : (lo : ℕ) → HasSlots p code r lo (unless_bare (bare b) (expr_slots p r b)) → NextRuns p tables code input below r line q lo b
 
     pub record ExprGoes (x : Expr) : Type 0 where
       pub fits : BareFits p tables code input below r line q (bare x)
+      pub constants : ConstantFits p tables code input below r line q x
       pub runs : (at lo : ℕ) → HasSlots p code r lo (expr_slots p r x) → ExprRuns p tables code input below r line q at lo x
       pub operands : (how : Cmp) (a b : Expr) → x ≡ Compare how a b → OperandsGo a b
 
@@ -245,6 +249,10 @@ module _ (p : Program) (tables : Tables) (code : PlainCode) (input : List ℕ) w
 
     pub once : (x : Expr) → ExprGoes x → (at lo : ℕ) → HasSlots p code r lo (unless_bare (bare x) (expr_slots p r x)) → AtOnce p tables code input below r line q at lo x
     once x h at lo slots = record { fits = h.fits; runs = λ none. h.runs at lo (subst (λ o. HasSlots p code r lo (unless_bare o (expr_slots p r x))) none slots) }
+
+    -- behind a first operand
+    pub behind_first : (x : Expr) → ExprGoes x → (lo : ℕ) → HasSlots p code r lo (unless_bare (bare x) (expr_slots p r x)) → NextRuns p tables code input below r line q lo x
+    behind_first x h lo slots = record { once = λ at. once x h at lo slots; constants = h.constants; slots = slots }
 
     pub target : (d : Desig) → DesigGoes d → (at lo : ℕ) → HasSlots p code r lo (unless_bare (bare_desig d) (desig_slots p r d)) → bare_desig d ≡ None → DesigRuns p tables code input below r line q at lo d
     target d h at lo slots none = h.runs at lo (subst (λ o. HasSlots p code r lo (unless_bare o (desig_slots p r d))) none slots)

@@ -1,5 +1,5 @@
 -- The forms of expressions, from template to run: constants, variables, sums, comparisons, KNOWN and CHR.
-use Rattle.std.proofs.Common.{◌≡◌, ℕ, ◌+◌, ◌<◌, ◌≤◌, Bool, true, false, not, List, [], ◌∷◌, ◌++◌, length, Option, Some, None, refl, sym, ap, ◌∙◌, subst, arith, ℤ, pos, append_assoc}
+use Rattle.std.proofs.Common.{◌≡◌, ℕ, ◌+◌, ◌<◌, ◌≤◌, Bool, true, false, not, List, [], ◌∷◌, ◌++◌, ◌⊎◌, inl, length, Option, Some, None, refl, sym, ap, ◌∙◌, subst, arith, ℤ, pos, append_assoc}
 use Rattle.std.specs.Prelude.{slice_get}
 use Rattle.std.proofs.lemmas.List.{length-append}
 use Rattle.alma_base.specs.declared.fault.RunFault.TheVariants as fault
@@ -31,16 +31,17 @@ use Rattle.alma_lower_implements.proofs.ForSteps.{SlotThere, a_number, not_known
 use Rattle.alma_lower_implements.proofs.Numbers.{bit_integer, zero_bit}
 use Rattle.alma_lower_implements.proofs.Steps.{Holds, InstrAt, const_step, does, equal_step, zero_jumps, other_goes_on, fail_step}
 use Rattle.alma_lower_implements.proofs.Ways.{Leaves}
-use Rattle.alma_lower_templates.specs.Lined.{Lined, own}
+use Rattle.alma_lower_templates.specs.Lined.{Lined, own, in_row}
 use Rattle.alma_lower_templates.specs.Tables.{Tables}
-use Rattle.alma_lower_templates.specs.Slots.{bare, bare_desig, unless_bare, expr_slots, links_slots, desig_slots, test_slots, mark_slots, is_simple, call_links, handed_slots, args_slots, behind_expr, behind_value}
+use Rattle.alma_lower_templates.specs.Slots.{bare, bare_desig, stays, stays_in, unless_bare, expr_slots, links_slots, desig_slots, test_slots, mark_slots, is_simple, call_links, handed_slots, args_slots, behind_expr, behind_value}
 use Rattle.alma_lower_templates.specs.Pieces.{op_code, cmp_code, unequal_code, neg_code}
-use Rattle.alma_lower_templates.specs.Templates.{expr_code, links_code, desig_code, place_at, value_at, load_by}
+use Rattle.alma_lower_templates.specs.Templates.{expr_code, links_code, desig_code, place_at, slot_or, value_at, load_by}
 use Rattle.alma_lower_templates.specs.Stands.{Stands}
 use Rattle.alma_lower_templates.proofs.Stands.{stands_front, stands_back}
-use Rattle.alma_lower_templates.proofs.Parts.{Begins, begins, has_kind, holds_after, IsValue, ValueIn, PlaceIn, Nothing, NodeRuns, NodeFor, From, leaving, from_more, node_runs, then_from, alone_from, faults_here, fails_here, ends_here, value_ends, value_goes_on}
-use Rattle.alma_lower_templates.proofs.Tested.{compared_code}
+use Rattle.alma_lower_templates.proofs.Parts.{Begins, begins, has_kind, holds_after, value_after, IsValue, ValueIn, PlaceIn, Nothing, NodeRuns, NodeFor, From, leaving, from_more, node_runs, then_from, alone_from, faults_here, fails_here, ends_here, value_ends, value_goes_on}
+use Rattle.alma_lower_templates.proofs.Tested.{operands_code, compared_code}
 use Rattle.alma_lower_templates.proofs.AtOnce.{AtOnce, BareFits, at_once, bare_place}
+use Rattle.alma_lower_templates.proofs.First.{ReadsBoth, second_reads, ConstantFits, stays_is, both_from}
 use Rattle.alma_lower_templates.proofs.OperatorParts.{op_reads, equal_reads, cmp_reads, op_from, sign_from, compare_ends}
 use Rattle.alma_lower_templates.proofs.CellEnds.{load_ends, known_ends}
 use Rattle.alma_lower_templates.proofs.RangeChecks.{past_from}
@@ -142,8 +143,8 @@ module _ (p : Program) (tables : Tables) (code : PlainCode) (input : List ℕ) (
   -- the operators behind a value that stands in the slot `to`
   abbrev pub LinksRun : (at to lo : ℕ) → Links → Type 0
   LinksRun at to lo links =
-      Stands code at (links_code p tables r line at to lo links) → (v : Store) (now : List PlainFrame) (n : ℤ) → Begins p code input r v now → IsValue p code input to n now
-      → From p code input line 0 at (at + length (links_code p tables r line at to lo links)) now (leaving p code input to r now (ValueIn p code input to)) (ev_links p input below links n v) q
+      Stands code at (links_code p tables r line at to to lo links) → (v : Store) (now : List PlainFrame) (n : ℤ) → Begins p code input r v now → IsValue p code input to n now
+      → From p code input line 0 at (at + length (links_code p tables r line at to to lo links)) now (leaving p code input to r now (ValueIn p code input to)) (ev_links p input below links n v) q
 
   pub no_links_run : (at to lo : ℕ) → LinksRun at to lo no_links
   unfolding ev_expr
@@ -151,44 +152,107 @@ module _ (p : Program) (tables : Tables) (code : PlainCode) (input : List ℕ) (
       let zero : at ≡ at + 0 = omega arith in
       subst (λ m. From p code input line 0 at m now (leaving p code input to r now (ValueIn p code input to)) (one v n) q) zero (ends_here p code input line 0 at to r v now (ValueIn p code input to) n q b value)
 
+  -- an operator, and those behind it
+  operator_then : (m next to lo first operand : ℕ) (how : Op) (rest : Links) → next ≡ m + 1 → own_end p r ≤ to → slice_get (kinds_at code r) to ≡ Some slot.Number → InstrAt code input line m (op_code how to first operand)
+      → Stands code next (links_code p tables r line next to to lo rest) → LinksRun next to lo rest → (u : Store) (t : List PlainFrame) (n y : ℤ) → Begins p code input r u t → IsValue p code input first n t → IsValue p code input operand y t
+      → From p code input line 8 m (next + length (links_code p tables r line next to to lo rest)) t (leaving p code input to r t (ValueIn p code input to)) (bind (apply_op u how n y) (λ x z. ev_links p input below rest z x)) q
+  operator_then m next to lo first operand how rest here behind kind i stands others u t n y b value operand_value =
+      let exit : ℕ = next + length (links_code p tables r line next to to lo rest) in
+      op_from p code input line q to r behind kind u t b m exit (ValueIn p code input to) (λ x z. ev_links p input below rest z x) how first operand n y i value.holds operand_value
+      (λ z t2 left2 value2.
+      subst (λ a. From p code input line 7 a exit t2 (leaving p code input to r t2 (ValueIn p code input to)) (ev_links p input below rest z u) q) here
+      (from_more p code input line 0 7 next exit t2 (leaving p code input to r t2 (ValueIn p code input to)) (ev_links p input below rest z u) q (omega arith)
+      (others stands u t2 z (begins p code input to r t u t2 left2) value2)))
+
   pub more_links_run : (at to lo : ℕ) (how : Op) (x : Expr) (rest : Links) → to < lo → own_end p r ≤ to → slice_get (kinds_at code r) to ≡ Some slot.Number
       → AtOnce p tables code input below r line q at lo x → ((next : ℕ) → LinksRun next to (behind_value p r lo x) rest) → LinksRun at to lo (more_links how x rest)
   unfolding ev_expr
   more_links_run at to lo how x rest lt behind kind once others stands v now n b value =
       let inner : List Lined = unless_bare (bare x) (expr_code p tables r line at lo x) in
       let operand : ℕ = value_at p tables r lo x in
-      let last : List Lined = own line (op_code how to operand ∷ []) in
+      let last : List Lined = own line (op_code how to to operand ∷ []) in
       let m : ℕ = at + length inner in
       let next : ℕ = at + length (inner ++ last) in
-      let after : List Lined = links_code p tables r line next to (behind_value p r lo x) rest in
+      let after : List Lined = links_code p tables r line next to to (behind_value p r lo x) rest in
       let front = stands_front code at (inner ++ last) after stands in
       let back = stands_back code at inner last front in
-      let i : InstrAt code input line m (op_code how to operand) = record { instr = back.0; on_line = back.1 } in
+      let i : InstrAt code input line m (op_code how to to operand) = record { instr = back.0; on_line = back.1 } in
       let both : length (inner ++ last) ≡ length inner + 1 = length-append inner last in
       let whole : length ((inner ++ last) ++ after) ≡ length (inner ++ last) + length after = length-append (inner ++ last) after in
       let here : next ≡ m + 1 = omega (arith, both) in
       let end : next + length after ≡ at + length ((inner ++ last) ++ after) = omega (arith, whole) in
       subst (λ e. From p code input line 0 at e now (leaving p code input to r now (ValueIn p code input to)) (ev_links p input below (more_links how x rest) n v) q) end
       (at_once p tables code input below r line q (next + length after) to lo at v now (ValueIn p code input to) (λ t y. bind (apply_op t how n y) (λ u z. ev_links p input below rest z u)) (omega (arith, lt)) behind b x once
-      (stands_front code at inner last front) i.on_line (op_reads p code input line q to r behind kind how m operand n now i value.holds)
+      (stands_front code at inner last front) i.on_line ((op_reads p code input line q to r behind kind how m to operand now i).other n value.holds)
       (λ u y t left operand_value.
-      op_from p code input line q to r behind kind u t (begins p code input lo r now u t left) m (next + length after) (ValueIn p code input to) (λ x2 z. ev_links p input below rest z x2) how operand n y i
-      (holds_after p code input lo r to (cell.Int n) v u now t b behind lt left value.holds) operand_value
-      (λ z t2 left2 value2.
-      subst (λ a. From p code input line 7 a (next + length after) t2 (leaving p code input to r t2 (ValueIn p code input to)) (ev_links p input below rest z u) q) here
-      (from_more p code input line 0 7 next (next + length after) t2 (leaving p code input to r t2 (ValueIn p code input to)) (ev_links p input below rest z u) q (omega arith)
-      (others next (stands_back code at (inner ++ last) after stands) u t2 z (begins p code input to r t u t2 left2) value2)))))
+      operator_then m next to (behind_value p r lo x) to operand how rest here behind kind i (stands_back code at (inner ++ last) after stands) (others next) u t n y (begins p code input lo r now u t left)
+      (value_after p code input lo r to n v u now t b behind lt left value) operand_value))
 
-  pub chain_runs : (at lo : ℕ) (negated : Bool) (x : Expr) (links : Links) → HasSlots p code r lo (expr_slots p r (Chain negated x links)) → ExprRuns p tables code input below r line q at lo x
-      → ((next : ℕ) → LinksRun next lo (behind_expr p r lo x) links) → ExprRuns p tables code input below r line q at lo (Chain negated x links)
+  -- what is needed of an operand behind a first one
+  pub record NextRuns (la : ℕ) (y : Expr) : Type 0 where
+    pub once : (at : ℕ) → AtOnce p tables code input below r line q at la y
+    pub constants : ConstantFits p tables code input below r line q y
+    pub slots : HasSlots p code r la (unless_bare (bare y) (expr_slots p r y))
+
+  -- and of the operators behind it
+  abbrev pub OthersRun : (to la : ℕ) → Links → Type 0
+  OthersRun to la no_links = Unit {0}
+  OthersRun to la (more_links how y rest) = NextRuns la y × ((next : ℕ) → LinksRun next to (behind_value p r la y) rest)
+
+  next_kind : (la : ℕ) (y : Expr) → HasSlots p code r la (unless_bare (bare y) (expr_slots p r y)) → bare y ≡ None → slice_get (kinds_at code r) la ≡ Some slot.Number
+  next_kind la y slots none = first_slot p code input r la y (subst (λ o. HasSlots p code r la (unless_bare o (expr_slots p r y))) none slots)
+
+  -- a first operand that stays, its operator and the next operand
+  stays_run : (at lo la : ℕ) (how : Op) (x y : Expr) (rest : Links) (from : ℕ) → stays x y ≡ Some from → lo < la → own_end p r ≤ lo → slice_get (kinds_at code r) lo ≡ Some slot.Number → BareFits p tables code input below r line q (bare x) → OthersRun lo la (more_links how y rest)
+      → Stands code at (links_code p tables r line at (shift p r + from) lo la (more_links how y rest)) → (v : Store) (now : List PlainFrame) → Begins p code input r v now
+      → From p code input line 0 at (at + length (links_code p tables r line at (shift p r + from) lo la (more_links how y rest))) now (leaving p code input lo r now (ValueIn p code input lo))
+      (bind (ev_expr p input below x v) (λ t n. bind (apply_sign false t n) (λ u z. ev_links p input below (more_links how y rest) z u))) q
   unfolding ev_expr
-  chain_runs at lo negated x links slots runs others stands v now b =
+  stays_run at lo la how x y rest from e lt behind kind fits others stands v now b =
+      let s = stays_is x y from e in
+      let first : ℕ = shift p r + from in
+      let inner : List Lined = unless_bare (bare y) (expr_code p tables r line at la y) in
+      let operand : ℕ = value_at p tables r la y in
+      let last : List Lined = own line (op_code how lo first operand ∷ []) in
+      let m : ℕ = at + length inner in
+      let next : ℕ = at + length (inner ++ last) in
+      let after : List Lined = links_code p tables r line next lo lo (behind_value p r la y) rest in
+      let front = stands_front code at (inner ++ last) after stands in
+      let back = stands_back code at inner last front in
+      let i : InstrAt code input line m (op_code how lo first operand) = record { instr = back.0; on_line = back.1 } in
+      let both : length (inner ++ last) ≡ length inner + 1 = length-append inner last in
+      let whole : length ((inner ++ last) ++ after) ≡ length (inner ++ last) + length after = length-append (inner ++ last) after in
+      let here : next ≡ m + 1 = omega (arith, both) in
+      let end : next + length after ≡ at + length ((inner ++ last) ++ after) = omega (arith, whole) in
+      let exit : ℕ = next + length after in
+      let w = leaving p code input lo r now (ValueIn p code input lo) in
+      subst (λ a. From p code input line 0 at a now w (bind (ev_expr p input below x v) (λ t n. bind (apply_sign false t n) (λ u z. ev_links p input below (more_links how y rest) z u))) q) end
+      (both_from p tables code input below r line q exit lo la from v now (ValueIn p code input lo) (λ t n z. bind (apply_op t how n z) (λ u x2. ev_links p input below rest x2 u)) (omega (arith, lt)) behind b (subst (BareFits p tables code input below r line q) s.first fits)
+      at x y s (others.0.once at).fits others.0.constants (next_kind la y others.0.slots) (stands_front code at inner last front)
+      (record {
+        on_line = i.on_line;
+        reads = λ t. inl (op_reads p code input line q lo r behind kind how m first operand t i);
+        goes = λ n z t left value value2. operator_then m next lo (behind_value p r la y) first operand how rest here behind kind i (stands_back code at (inner ++ last) after stands) (others.1 next) v t n z (begins p code input lo r now v t left) value value2;
+      })
+      (λ t n. bind (apply_sign false t n) (λ u z. ev_links p input below (more_links how y rest) z u))
+      (λ n goes. alone_from p code input line 8 at exit now w (ev_links p input below (more_links how y rest) n v) q goes))
+
+  -- a chain whose first operand stays or not
+  abbrev chain_code : Option ℕ → (at lo : ℕ) → Bool → Expr → Links → List Lined
+  chain_code o at lo negated x links =
+      in_row at (unless_bare o (expr_code p tables r line at lo x) ++ own line (neg_code negated lo)) (λ next. links_code p tables r line next (slot_or p tables r o lo) lo (behind_expr p r lo x) links)
+
+  -- where it does not
+  chain_of : (at lo : ℕ) (negated : Bool) (x : Expr) (links : Links) → HasSlots p code r lo (expr_slots p r (Chain negated x links)) → ExprRuns p tables code input below r line q at lo x
+      → ((next : ℕ) → LinksRun next lo (behind_expr p r lo x) links) → NodeFor p code input r line at lo (chain_code None at lo negated x links) (ev_expr p input below (Chain negated x links)) (ValueIn p code input lo) q
+  unfolding ev_expr
+  chain_of at lo negated x links slots runs others stands v now b =
       let kind = first_slot p code input r lo (Chain negated x links) slots in
       let inner : List Lined = expr_code p tables r line at lo x in
       let sign : List Lined = own line (neg_code negated lo) in
       let m : ℕ = at + length inner in
       let next : ℕ = at + length (inner ++ sign) in
-      let after : List Lined = links_code p tables r line next lo (behind_expr p r lo x) links in
+      let after : List Lined = links_code p tables r line next lo lo (behind_expr p r lo x) links in
       let front = stands_front code at (inner ++ sign) after stands in
       let both : length (inner ++ sign) ≡ length inner + length sign = length-append inner sign in
       let whole : length ((inner ++ sign) ++ after) ≡ length (inner ++ sign) + length after = length-append (inner ++ sign) after in
@@ -206,61 +270,127 @@ module _ (p : Program) (tables : Tables) (code : PlainCode) (input : List ℕ) (
       (from_more p code input line 0 7 next exit t2 (leaving p code input lo r t2 (ValueIn p code input lo)) (ev_links p input below links z u) q (omega arith)
       (others next (stands_back code at (inner ++ sign) after stands) u t2 z (begins p code input lo r t u t2 left2) value2))))))
 
+  -- where it does
+  stays_of : (at lo : ℕ) (negated : Bool) (x : Expr) (links : Links) (from : ℕ) → stays_in negated x links ≡ Some from → HasSlots p code r lo (expr_slots p r (Chain negated x links)) → BareFits p tables code input below r line q (bare x)
+      → OthersRun lo (behind_expr p r lo x) links → NodeFor p code input r line at lo (chain_code (Some from) at lo negated x links) (ev_expr p input below (Chain negated x links)) (ValueIn p code input lo) q
+  unfolding ev_expr
+  stays_of at lo true x links from e slots fits others stands v now b = absurd (cc)
+  stays_of at lo false x no_links from e slots fits others stands v now b = absurd (cc)
+  stays_of at lo false x (more_links how y rest) from e slots fits others stands v now b =
+      let lo2 : ℕ = behind_expr p r lo x in
+      let kind = first_slot p code input r lo (Chain false x (more_links how y rest)) slots in
+      let zero : at + 0 ≡ at = omega arith in
+      let there : Stands code at (links_code p tables r line at (shift p r + from) lo lo2 (more_links how y rest)) = subst (λ m. Stands code at (links_code p tables r line m (shift p r + from) lo lo2 (more_links how y rest))) zero stands in
+      let w = leaving p code input lo r now (ValueIn p code input lo) in
+      let k : Store → ℤ → Events ℤ = λ t n. bind (apply_sign false t n) (λ u z. ev_links p input below (more_links how y rest) z u) in
+      subst (λ m. NodeRuns p code input line at (at + length (links_code p tables r line m (shift p r + from) lo lo2 (more_links how y rest))) now w (ev_expr p input below (Chain false x (more_links how y rest)) v) q) (sym zero)
+      (node_runs p code input line 0 at (at + length (links_code p tables r line at (shift p r + from) lo lo2 (more_links how y rest))) now w (bind (ev_expr p input below x v) k) q (omega arith)
+      (stays_run at lo lo2 how x y rest from e (omega (arith, some_slots p code input r x)) slots.behind kind fits others there v now b))
+
+  chain_by : (at lo : ℕ) (negated : Bool) (x : Expr) (links : Links) (o : Option ℕ) → stays_in negated x links ≡ o → HasSlots p code r lo (expr_slots p r (Chain negated x links)) → ExprRuns p tables code input below r line q at lo x → BareFits p tables code input below r line q (bare x)
+      → ((next : ℕ) → LinksRun next lo (behind_expr p r lo x) links) → OthersRun lo (behind_expr p r lo x) links → NodeFor p code input r line at lo (chain_code o at lo negated x links) (ev_expr p input below (Chain negated x links)) (ValueIn p code input lo) q
+  chain_by at lo negated x links None e slots runs fits all others = chain_of at lo negated x links slots runs all
+  chain_by at lo negated x links (Some from) e slots runs fits all others = stays_of at lo negated x links from e slots fits others
+
+  pub chain_runs : (at lo : ℕ) (negated : Bool) (x : Expr) (links : Links) → HasSlots p code r lo (expr_slots p r (Chain negated x links)) → ExprRuns p tables code input below r line q at lo x → BareFits p tables code input below r line q (bare x)
+      → ((next : ℕ) → LinksRun next lo (behind_expr p r lo x) links) → OthersRun lo (behind_expr p r lo x) links → ExprRuns p tables code input below r line q at lo (Chain negated x links)
+  chain_runs at lo negated x links slots runs fits all others = chain_by at lo negated x links (stays_in negated x links) refl slots runs fits all others
+
   -- ---- comparisons
 
   -- instructions behind both operands, which yield what is said of the comparison
-  pub compared_by : (at lo : ℕ) (how : Cmp) (x y : Expr) (yields : Store → ℤ → List PlainFrame → Type 0) (instrs : (operand : ℕ) → List Instr) → HasSlots p code r lo (expr_slots p r (Compare how x y)) → ExprRuns p tables code input below r line q at lo x
-      → ((next : ℕ) → AtOnce p tables code input below r line q next (behind_expr p r lo x) y)
-      → ((m operand : ℕ) → Stands code m (own line (instrs operand)) → line_at code m ≡ line)
-      → ((m operand : ℕ) (n : ℤ) (t : List PlainFrame) → Stands code m (own line (instrs operand)) → Holds t lo (cell.Int n) → ReadsFirst code input m operand t)
-      → ((m operand : ℕ) (n z : ℤ) (u : Store) (t : List PlainFrame) → Begins p code input r u t → Stands code m (own line (instrs operand)) → Holds t lo (cell.Int n) → Holds t operand (cell.Int z)
-      → From p code input line 8 m (m + length (own line (instrs operand))) t (leaving p code input lo r t yields) (one u (bit (compares how n z))) q)
-      → NodeFor p code input r line at lo (compared_code p tables r line at lo x y ++ own line (instrs (value_at p tables r (behind_expr p r lo x) y))) (ev_expr p input below (Compare how x y)) yields q
-  unfolding ev_expr
-  compared_by at lo how x y yields instrs slots runs once lines reads ends stands v now b =
-      let lo2 : ℕ = behind_expr p r lo x in
-      let lt : lo < lo2 = omega (arith, some_slots p code input r x) in
-      let first : List Lined = expr_code p tables r line at lo x in
-      let m : ℕ = at + length first in
-      let second : List Lined = unless_bare (bare y) (expr_code p tables r line m lo2 y) in
-      let operand : ℕ = value_at p tables r lo2 y in
-      let last : List Lined = own line (instrs operand) in
-      let front = stands_front code at (first ++ second) last stands in
-      let both : length (first ++ second) ≡ length first + length second = length-append first second in
-      let whole : length ((first ++ second) ++ last) ≡ length (first ++ second) + length last = length-append (first ++ second) last in
-      let m2 : ℕ = m + length second in
-      let here : at + length (first ++ second) ≡ m2 = omega (arith, both) in
-      let compares_at : Stands code m2 last = subst (λ n. Stands code n last) here (stands_back code at (first ++ second) last stands) in
-      let exit : ℕ = m2 + length last in
-      let end : exit ≡ at + length ((first ++ second) ++ last) = omega (arith, both, whole) in
-      let w = leaving p code input lo r now yields in
-      subst (λ e. NodeRuns p code input line at e now w (ev_expr p input below (Compare how x y) v) q) end
-      (node_runs p code input line 0 at exit now w (bind (ev_expr p input below x v) (λ t n. bind (ev_expr p input below y t) (λ u z. one u (bit (compares how n z))))) q (omega arith)
-      (then_from p code input line at m exit lo lo r now (ValueIn p code input lo) yields (ev_expr p input below x v) (λ t n. bind (ev_expr p input below y t) (λ u z. one u (bit (compares how n z)))) q (omega arith) slots.behind
-      (runs (stands_front code at first second front) v now b)
-      (λ u n t left value.
-      let b1 = begins p code input lo r now u t left in
-      from_more p code input line 0 8 m exit t (leaving p code input lo r t yields) (bind (ev_expr p input below y u) (λ x2 z. one x2 (bit (compares how n z)))) q (omega arith)
-      (at_once p tables code input below r line q exit lo lo2 m u t yields (λ x2 z. one x2 (bit (compares how n z))) (omega (arith, lt)) slots.behind b1 y (once m)
-      (stands_back code at first second front) (lines m2 operand compares_at) (reads m2 operand n t compares_at value.holds)
-      (λ u2 z t2 left2 value2.
-      ends m2 operand n z u2 t2 (begins p code input lo2 r t u2 t2 left2) compares_at (holds_after p code input lo2 r lo (cell.Int n) u u2 t t2 b1 slots.behind lt left2 value.holds) value2.holds)))))
+  module _ (at lo : ℕ) (how : Cmp) (x y : Expr) (yields : Store → ℤ → List PlainFrame → Type 0) (instrs : (first operand : ℕ) → List Instr) (slots : HasSlots p code r lo (expr_slots p r (Compare how x y))) (next : NextRuns (behind_expr p r lo x) y)
+      (lines : (m first operand : ℕ) → Stands code m (own line (instrs first operand)) → line_at code m ≡ line)
+      (reads : (m first operand : ℕ) (t : List PlainFrame) → Stands code m (own line (instrs first operand)) → ReadsBoth code input m first operand t)
+      (ends : (m first operand : ℕ) (n z : ℤ) (u : Store) (t : List PlainFrame) → Begins p code input r u t → Stands code m (own line (instrs first operand)) → Holds t first (cell.Int n) → Holds t operand (cell.Int z)
+      → From p code input line 8 m (m + length (own line (instrs first operand))) t (leaving p code input lo r t yields) (one u (bit (compares how n z))) q) where
+    abbrev Compared : Option ℕ → Type 0
+    Compared o = NodeFor p code input r line at lo (operands_code p tables r o line at lo x y ++ own line (instrs (slot_or p tables r o lo) (value_at p tables r (behind_expr p r lo x) y))) (ev_expr p input below (Compare how x y)) yields q
 
-  pub compare_runs : (at lo : ℕ) (how : Cmp) (x y : Expr) → HasSlots p code r lo (expr_slots p r (Compare how x y)) → ExprRuns p tables code input below r line q at lo x
-      → ((next : ℕ) → AtOnce p tables code input below r line q next (behind_expr p r lo x) y) → ExprRuns p tables code input below r line q at lo (Compare how x y)
-  compare_runs at lo how x y slots runs once =
+    compared_of : ExprRuns p tables code input below r line q at lo x → Compared None
+    unfolding ev_expr
+    compared_of runs stands v now b =
+        let lo2 : ℕ = behind_expr p r lo x in
+        let lt : lo < lo2 = omega (arith, some_slots p code input r x) in
+        let first : List Lined = expr_code p tables r line at lo x in
+        let m : ℕ = at + length first in
+        let second : List Lined = unless_bare (bare y) (expr_code p tables r line m lo2 y) in
+        let operand : ℕ = value_at p tables r lo2 y in
+        let last : List Lined = own line (instrs lo operand) in
+        let front = stands_front code at (first ++ second) last stands in
+        let both : length (first ++ second) ≡ length first + length second = length-append first second in
+        let whole : length ((first ++ second) ++ last) ≡ length (first ++ second) + length last = length-append (first ++ second) last in
+        let m2 : ℕ = m + length second in
+        let here : at + length (first ++ second) ≡ m2 = omega (arith, both) in
+        let compares_at : Stands code m2 last = subst (λ n. Stands code n last) here (stands_back code at (first ++ second) last stands) in
+        let exit : ℕ = m2 + length last in
+        let end : exit ≡ at + length ((first ++ second) ++ last) = omega (arith, both, whole) in
+        let w = leaving p code input lo r now yields in
+        subst (λ e. NodeRuns p code input line at e now w (ev_expr p input below (Compare how x y) v) q) end
+        (node_runs p code input line 0 at exit now w (bind (ev_expr p input below x v) (λ t n. bind (ev_expr p input below y t) (λ u z. one u (bit (compares how n z))))) q (omega arith)
+        (then_from p code input line at m exit lo lo r now (ValueIn p code input lo) yields (ev_expr p input below x v) (λ t n. bind (ev_expr p input below y t) (λ u z. one u (bit (compares how n z)))) q (omega arith) slots.behind
+        (runs (stands_front code at first second front) v now b)
+        (λ u n t left value.
+        let b1 = begins p code input lo r now u t left in
+        from_more p code input line 0 8 m exit t (leaving p code input lo r t yields) (bind (ev_expr p input below y u) (λ x2 z. one x2 (bit (compares how n z)))) q (omega arith)
+        (at_once p tables code input below r line q exit lo lo2 m u t yields (λ x2 z. one x2 (bit (compares how n z))) (omega (arith, lt)) slots.behind b1 y (next.once m)
+        (stands_back code at first second front) (lines m2 lo operand compares_at) (second_reads code input m2 lo operand t n (reads m2 lo operand t compares_at) value.holds)
+        (λ u2 z t2 left2 value2.
+        ends m2 lo operand n z u2 t2 (begins p code input lo2 r t u2 t2 left2) compares_at (holds_after p code input lo2 r lo (cell.Int n) u u2 t t2 b1 slots.behind lt left2 value.holds) value2.holds)))))
+
+    -- where the first operand stays
+    compared_stays : (from : ℕ) → stays x y ≡ Some from → BareFits p tables code input below r line q (bare x) → Compared (Some from)
+    unfolding ev_expr
+    compared_stays from e fits stands v now b =
+        let s = stays_is x y from e in
+        let lo2 : ℕ = behind_expr p r lo x in
+        let first : ℕ = shift p r + from in
+        let operand : ℕ = value_at p tables r lo2 y in
+        let last : List Lined = own line (instrs first operand) in
+        let zero : at + 0 ≡ at = omega arith in
+        let second : List Lined = unless_bare (bare y) (expr_code p tables r line at lo2 y) in
+        let there : Stands code at (second ++ last) = subst (λ m. Stands code at (unless_bare (bare y) (expr_code p tables r line m lo2 y) ++ last)) zero stands in
+        let m : ℕ = at + length second in
+        let compares_at : Stands code m last = stands_back code at second last there in
+        let exit : ℕ = m + length last in
+        let whole : length (second ++ last) ≡ length second + length last = length-append second last in
+        let end : exit ≡ at + length (second ++ last) = omega (arith, whole) in
+        let w = leaving p code input lo r now yields in
+        let k : Store → ℤ → Events ℤ = λ t n. bind (ev_expr p input below y t) (λ u z. one u (bit (compares how n z))) in
+        subst (λ n. NodeRuns p code input line at (at + length (unless_bare (bare y) (expr_code p tables r line n lo2 y) ++ last)) now w (ev_expr p input below (Compare how x y) v) q) (sym zero)
+        (subst (λ n. NodeRuns p code input line at n now w (ev_expr p input below (Compare how x y) v) q) end
+        (node_runs p code input line 0 at exit now w (bind (ev_expr p input below x v) k) q (omega arith)
+        (both_from p tables code input below r line q exit lo lo2 from v now yields (λ u n z. one u (bit (compares how n z))) (omega arith) slots.behind b (subst (BareFits p tables code input below r line q) s.first fits)
+        at x y s (next.once at).fits next.constants (next_kind lo2 y next.slots) (stands_front code at second last there)
+        (record {
+          on_line = lines m first operand compares_at;
+          reads = λ t. reads m first operand t compares_at;
+          goes = λ n z t left value value2. ends m first operand n z v t (begins p code input lo r now v t left) compares_at value.holds value2.holds;
+        })
+        k (λ n goes. goes))))
+
+    compared_on : (o : Option ℕ) → stays x y ≡ o → ExprRuns p tables code input below r line q at lo x → BareFits p tables code input below r line q (bare x) → Compared o
+    compared_on None e runs fits = compared_of runs
+    compared_on (Some from) e runs fits = compared_stays from e fits
+
+    pub compared_by : ExprRuns p tables code input below r line q at lo x → BareFits p tables code input below r line q (bare x) → Compared (stays x y)
+    compared_by runs fits = compared_on (stays x y) refl runs fits
+
+  pub compare_runs : (at lo : ℕ) (how : Cmp) (x y : Expr) → HasSlots p code r lo (expr_slots p r (Compare how x y)) → ExprRuns p tables code input below r line q at lo x → BareFits p tables code input below r line q (bare x)
+      → NextRuns (behind_expr p r lo x) y → ExprRuns p tables code input below r line q at lo (Compare how x y)
+  compare_runs at lo how x y slots runs fits next =
       let kind = first_slot p code input r lo (Compare how x y) slots in
-      compared_by at lo how x y (ValueIn p code input lo) (λ operand. cmp_code how lo operand) slots runs once (λ m operand i. cmp_line how operand m i)
-      (λ m operand n t i h. cmp_reads p code input line q lo r slots.behind kind how m operand n t i h)
-      (λ m operand n z u t b i hx hy. compare_ends p code input line q lo r slots.behind kind u t b how m operand n z i hx hy)
+      compared_by at lo how x y (ValueIn p code input lo) (λ first operand. cmp_code how lo first operand) slots next (λ m first operand i. cmp_line how first operand m i)
+      (λ m first operand t i. cmp_reads p code input line q lo r slots.behind kind how m first operand t i)
+      (λ m first operand n z u t b i hx hy. compare_ends p code input line q lo r slots.behind kind u t b how m first operand n z i hx hy) runs fits
     where
-      cmp_line : (how : Cmp) (operand n : ℕ) → Stands code n (own line (cmp_code how lo operand)) → line_at code n ≡ line
-      cmp_line cmp.Equal operand n i = i.1
-      cmp_line cmp.Unequal operand n i = i.1
-      cmp_line cmp.Less operand n i = i.1
-      cmp_line cmp.LessEq operand n i = i.1
-      cmp_line cmp.Greater operand n i = i.1
-      cmp_line cmp.GreaterEq operand n i = i.1
+      cmp_line : (how : Cmp) (first operand n : ℕ) → Stands code n (own line (cmp_code how lo first operand)) → line_at code n ≡ line
+      cmp_line cmp.Equal first operand n i = i.1
+      cmp_line cmp.Unequal first operand n i = i.1
+      cmp_line cmp.Less first operand n i = i.1
+      cmp_line cmp.LessEq first operand n i = i.1
+      cmp_line cmp.Greater first operand n i = i.1
+      cmp_line cmp.GreaterEq first operand n i = i.1
 
   -- ---- a test of inequality
 
@@ -281,43 +411,44 @@ module _ (p : Program) (tables : Tables) (code : PlainCode) (input : List ℕ) (
       (λ held s is. let w = zero_jumps code input line at now held s is lo (at + 2) (pos 0) i h.holds refl in record { to = w.to; silently = w.silently; is = w.is })
       (ends_here p code input line 7 (at + 2) lo r v now (Nothing p code input) tt q b tt)
 
-  pub unequal_runs : (at lo : ℕ) (x y : Expr) → HasSlots p code r lo (expr_slots p r (Compare cmp.Unequal x y)) → ExprRuns p tables code input below r line q at lo x
-      → ((next : ℕ) → AtOnce p tables code input below r line q next (behind_expr p r lo x) y) → TestRuns p tables code input below r line q at lo (Value (Compare cmp.Unequal x y))
+  pub unequal_runs : (at lo : ℕ) (x y : Expr) → HasSlots p code r lo (expr_slots p r (Compare cmp.Unequal x y)) → ExprRuns p tables code input below r line q at lo x → BareFits p tables code input below r line q (bare x)
+      → NextRuns (behind_expr p r lo x) y → TestRuns p tables code input below r line q at lo (Value (Compare cmp.Unequal x y))
   unfolding ev_expr
-  unequal_runs at lo x y slots runs once stands v now b =
+  unequal_runs at lo x y slots runs fits next stands v now b =
       let kind = first_slot p code input r lo (Compare cmp.Unequal x y) slots in
       let operands : List Lined = compared_code p tables r line at lo x y in
       let operand : ℕ = value_at p tables r (behind_expr p r lo x) y in
-      let equal : List Lined = own line (I.Equal lo lo operand ∷ []) in
+      let first : ℕ = slot_or p tables r (stays x y) lo in
+      let equal : List Lined = own line (I.Equal lo first operand ∷ []) in
       let m : ℕ = at + length operands in
       let last : List Lined = own line (I.JumpZero lo (m + 3) ∷ I.Fail ∷ []) in
       let there : Stands code at ((operands ++ equal) ++ last) = subst (Stands code at) (sym (append_assoc operands equal last)) stands in
       let long : length (operands ++ equal) ≡ length operands + 1 = length-append operands equal in
-      let whole : length (operands ++ own line (unequal_code lo operand m)) ≡ length operands + 3 = length-append operands (own line (unequal_code lo operand m)) in
+      let whole : length (operands ++ own line (unequal_code lo first operand m)) ≡ length operands + 3 = length-append operands (own line (unequal_code lo first operand m)) in
       let n2 : ℕ = at + length (operands ++ equal) in
       let over : m + 3 ≡ n2 + 2 = omega (arith, long) in
       let back = subst (λ k. Stands code n2 (own line (I.JumpZero lo k ∷ I.Fail ∷ []))) over (stands_back code at (operands ++ equal) last there) in
-      let end : n2 + 2 ≡ at + length (operands ++ own line (unequal_code lo operand m)) = omega (arith, long, whole) in
+      let end : n2 + 2 ≡ at + length (operands ++ own line (unequal_code lo first operand m)) = omega (arith, long, whole) in
       let w = leaving p code input lo r now (Nothing p code input) in
       let k : Store → ℤ → Events NoYield = λ t n. if_true (is_zero n) (λ _. Fail) (λ _. one t tt) in
       subst (λ e. NodeRuns p code input line at e now w (ev_test p input below (Value (Compare cmp.Unequal x y)) v) q) end
       (node_runs p code input line 0 at (n2 + 2) now w (bind (ev_expr p input below (Compare cmp.Unequal x y) v) k) q (omega arith)
       (then_from p code input line at n2 (n2 + 2) lo lo r now (ContraryIn lo) (Nothing p code input) (ev_expr p input below (Compare cmp.Unequal x y) v) k q (omega arith) slots.behind
-      (compared_by at lo cmp.Unequal x y (ContraryIn lo) (λ o. I.Equal lo lo o ∷ []) slots runs once (λ n o i. i.1)
-      (λ n o z t i h. equal_reads p code input line q lo r slots.behind kind n o z t (record { instr = i.0; on_line = i.1 }) h)
-      (λ n o y2 z u t b2 i hx hy. contrary_ends kind n o y2 z u t b2 i hx hy) (stands_front code at (operands ++ equal) last there) v now b)
+      (compared_by at lo cmp.Unequal x y (ContraryIn lo) (λ a o. I.Equal lo a o ∷ []) slots next (λ n a o i. i.1)
+      (λ n a o t i. inl (equal_reads p code input line q lo r slots.behind kind n a o t (record { instr = i.0; on_line = i.1 })))
+      (λ n a o y2 z u t b2 i hx hy. contrary_ends kind n a o y2 z u t b2 i hx hy) runs fits (stands_front code at (operands ++ equal) last there) v now b)
       (λ u n t left value. unequal_ends (is_zero n) n2 lo u t (record { instr = back.0; on_line = back.1 }) (record { instr = back.2.0; on_line = back.2.1 }) value (begins p code input lo r now u t left))))
     where
       not_twice : (t : Bool) → not (not t) ≡ t
       not_twice true = refl
       not_twice false = refl
 
-      contrary_ends : slice_get (kinds_at code r) lo ≡ Some slot.Number → (n o : ℕ) (y2 z : ℤ) (u : Store) (t : List PlainFrame) → Begins p code input r u t → Stands code n (own line (I.Equal lo lo o ∷ [])) → Holds t lo (cell.Int y2) → Holds t o (cell.Int z)
+      contrary_ends : slice_get (kinds_at code r) lo ≡ Some slot.Number → (n a o : ℕ) (y2 z : ℤ) (u : Store) (t : List PlainFrame) → Begins p code input r u t → Stands code n (own line (I.Equal lo a o ∷ [])) → Holds t a (cell.Int y2) → Holds t o (cell.Int z)
           → From p code input line 8 n (n + 1) t (leaving p code input lo r t (ContraryIn lo)) (one u (bit (compares cmp.Unequal y2 z))) q
-      contrary_ends kind n o y2 z u t b2 i hx hy =
+      contrary_ends kind n a o y2 z u t b2 i hx hy =
           let same : bit (is_zero (bit (not (int_eq y2 z)))) ≡ bit (int_eq y2 z) = ap bit (zero_bit (not (int_eq y2 z)) ∙ not_twice (int_eq y2 z)) in
           value_goes_on p code input line 7 n (n + 1) lo r u t (bit (int_eq y2 z)) (ContraryIn lo) (one u (bit (not (int_eq y2 z)))) q slots.behind kind (bit_integer (int_eq y2 z)) b2
-          (λ held s is. equal_step code input line n t held s is lo lo o y2 z (record { instr = i.0; on_line = i.1 }) (has_kind p code input r lo u t slot.Number kind b2) hx hy)
+          (λ held s is. equal_step code input line n t held s is lo a o y2 z (record { instr = i.0; on_line = i.1 }) (has_kind p code input r lo u t slot.Number kind b2) hx hy)
           (λ t2 left value. ends_here p code input line 7 (n + 1) lo r u t2 (ContraryIn lo) (bit (not (int_eq y2 z))) q (begins p code input lo r t u t2 left) (subst (λ c. IsValue p code input lo c t2) (sym same) value))
 
   -- ---- KNOWN and CHR

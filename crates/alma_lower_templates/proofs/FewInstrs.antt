@@ -14,7 +14,7 @@ use Rattle.alma_ir.specs.Lines.{behind, stmts_with, stmt_with, arms_with, cases_
 use Rattle.alma_ir.specs.Phrases.{DesigPhrase, stmts_phrases, stmt_phrases, arms_phrases, cases_phrases, else_phrases, branches_phrases, loop_phrases, test_phrases, tests_phrases, expr_phrases, links_phrases, args_phrases, arg_phrases, desig_phrases, sels_phrases, sel_phrases}
 use Rattle.alma_lower_templates.specs.Lined.{Lined, own, in_row}
 use Rattle.alma_lower_templates.specs.Pieces.{cmp_code, op_code, neg_code, fit_code, unless_whole, link_code, chain_code, condition, guarded, read_code, write_code, truth_code, first_of_two, chosen, passed_over, has_dead, case_arm, behind_labels, labels_code, label_code, begin_loop, for_turns, some_turns, turn_code}
-use Rattle.alma_lower_templates.specs.Slots.{shift_of, bare, bare_desig, unless_bare, is_simple, handed_slots, arg_slots, behind_stmts, behind_stmt, behind_test, behind_condition, behind_expr, behind_dead, behind_value, behind_desig, behind_target, behind_variable}
+use Rattle.alma_lower_templates.specs.Slots.{shift_of, bare, bare_desig, stays, stays_in, unless_bare, is_simple, handed_slots, arg_slots, behind_stmts, behind_stmt, behind_test, behind_condition, behind_expr, behind_dead, behind_value, behind_desig, behind_target, behind_variable}
 use Rattle.alma_lower_templates.specs.Tables.{Tables, range_number, is_whole}
 use Rattle.alma_lower_templates.specs.Templates
 use Rattle.alma_lower_templates.proofs.FewSlots.{Short, AreShort, short_front, short_back, unless_few}
@@ -27,13 +27,13 @@ whole_few : (z : Bool) (xs : List Instr) → length (unless_whole z xs) ≤ leng
 whole_few true xs = omega arith
 whole_few false xs = omega arith
 
-cmp_few : (line : ℕ) (how : Cmp) (to other : ℕ) → length (own line (cmp_code how to other)) ≤ 2
-cmp_few line cmp.Equal to other = omega arith
-cmp_few line cmp.Unequal to other = omega arith
-cmp_few line cmp.Less to other = omega arith
-cmp_few line cmp.LessEq to other = omega arith
-cmp_few line cmp.Greater to other = omega arith
-cmp_few line cmp.GreaterEq to other = omega arith
+cmp_few : (line : ℕ) (how : Cmp) (to first other : ℕ) → length (own line (cmp_code how to first other)) ≤ 2
+cmp_few line cmp.Equal to first other = omega arith
+cmp_few line cmp.Unequal to first other = omega arith
+cmp_few line cmp.Less to first other = omega arith
+cmp_few line cmp.LessEq to first other = omega arith
+cmp_few line cmp.Greater to first other = omega arith
+cmp_few line cmp.GreaterEq to first other = omega arith
 
 neg_few : (line : ℕ) (negated : Bool) (to : ℕ) → length (own line (neg_code negated to)) ≤ 1
 neg_few line true to = omega arith
@@ -225,31 +225,37 @@ module _ (p : Program) (tables : Tables) (r : ℕ) where
         let ls2 = behind (expr_phrases e) ls in
         let y : Expr = expr_with e ls in
         let x : List Lined = Templates.expr_code p tables r line at lo y in
+        let o : Option ℕ = stays_in negated y (links_with links ls2) in
+        let one : List Lined = unless_bare o x in
         let neg : List Lined = own line (neg_code negated lo) in
-        let next : ℕ = at + length (x ++ neg) in
+        let next : ℕ = at + length (one ++ neg) in
         let lo2 : ℕ = behind_expr p r lo y in
+        let first : ℕ = Templates.slot_or p tables r o lo in
         omega (
           arith,
-          length-append (x ++ neg) (Templates.links_code p tables r line next lo lo2 (links_with links ls2)),
-          length-append x neg,
+          length-append (one ++ neg) (Templates.links_code p tables r line next first lo lo2 (links_with links ls2)),
+          length-append one neg,
           neg_few line negated lo,
+          unless_few o x,
           expr_few line at lo e ls (short_front (expr_phrases e) (links_phrases links) h.1),
-          operators_few line next lo lo2 links ls2 (short_back (expr_phrases e) (links_phrases links) h.1),
+          operators_few line next first lo lo2 links ls2 (short_back (expr_phrases e) (links_phrases links) h.1),
         )
     expr_few line at lo (Compare how a b) ls h =
         let ls2 = behind (expr_phrases a) ls in
         let y : Expr = expr_with a ls in
         let z : Expr = expr_with b ls2 in
-        let one : List Lined = Templates.expr_code p tables r line at lo y in
+        let one : List Lined = unless_bare (stays y z) (Templates.expr_code p tables r line at lo y) in
         let next : ℕ = at + length one in
         let lo2 : ℕ = behind_expr p r lo y in
         let two : List Lined = unless_bare (bare z) (Templates.expr_code p tables r line next lo2 z) in
+        let first : ℕ = Templates.slot_or p tables r (stays y z) lo in
         let other : ℕ = Templates.value_at p tables r lo2 z in
         omega (
           arith,
-          length-append (one ++ two) (own line (cmp_code how lo other)),
+          length-append (one ++ two) (own line (cmp_code how lo first other)),
           length-append one two,
-          cmp_few line how lo other,
+          cmp_few line how lo first other,
+          unless_few (stays y z) (Templates.expr_code p tables r line at lo y),
           unless_few (bare z) (Templates.expr_code p tables r line next lo2 z),
           expr_few line at lo a ls (short_front (expr_phrases a) (expr_phrases b) h.1),
           expr_few line next lo2 b ls2 (short_back (expr_phrases a) (expr_phrases b) h.1),
@@ -285,22 +291,22 @@ module _ (p : Program) (tables : Tables) (r : ℕ) where
           h.0,
         )
 
-    operators_few : (line at to lo : ℕ) (links : Links) (ls : List ℕ) → AreShort (links_phrases links) → length (Templates.links_code p tables r line at to lo (links_with links ls)) ≤ 16 * links_nodes links
-    operators_few line at to lo no_links ls h = omega arith
-    operators_few line at to lo (more_links how e rest) ls h =
+    operators_few : (line at first to lo : ℕ) (links : Links) (ls : List ℕ) → AreShort (links_phrases links) → length (Templates.links_code p tables r line at first to lo (links_with links ls)) ≤ 16 * links_nodes links
+    operators_few line at first to lo no_links ls h = omega arith
+    operators_few line at first to lo (more_links how e rest) ls h =
         let ls2 = behind (expr_phrases e) ls in
         let y : Expr = expr_with e ls in
         let x : List Lined = unless_bare (bare y) (Templates.expr_code p tables r line at lo y) in
-        let end : List Lined = own line (op_code how to (Templates.value_at p tables r lo y) ∷ []) in
+        let end : List Lined = own line (op_code how to first (Templates.value_at p tables r lo y) ∷ []) in
         let next : ℕ = at + length (x ++ end) in
         let lo2 : ℕ = behind_value p r lo y in
         omega (
           arith,
-          length-append (x ++ end) (Templates.links_code p tables r line next to lo2 (links_with rest ls2)),
+          length-append (x ++ end) (Templates.links_code p tables r line next to to lo2 (links_with rest ls2)),
           length-append x end,
           unless_few (bare y) (Templates.expr_code p tables r line at lo y),
           expr_few line at lo e ls (short_front (expr_phrases e) (links_phrases rest) h),
-          operators_few line next to lo2 rest ls2 (short_back (expr_phrases e) (links_phrases rest) h),
+          operators_few line next to to lo2 rest ls2 (short_back (expr_phrases e) (links_phrases rest) h),
         )
 
     args_few : (line at to lo : ℕ) (args : Args) (ls : List ℕ) → AreShort (args_phrases args) → length (Templates.args_code p tables r line at to lo (args_with args ls)) ≤ 16 * args_nodes args

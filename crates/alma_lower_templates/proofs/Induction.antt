@@ -1,8 +1,9 @@
 -- How each phrase of a routine runs, by induction over the phrases: one call of its form for each.
-use Rattle.std.proofs.Common.{◌≡◌, ℕ, zero, suc, ◌+◌, ◌-◌, ◌<◌, ◌≤◌, Bool, true, false, List, [], ◌∷◌, ◌++◌, length, get_or, drop, Some, None, Option, inl, inr, refl, sym, ap, ◌∙◌, subst, arith, append_assoc}
+use Rattle.std.proofs.Common.{◌≡◌, ℕ, zero, suc, ◌+◌, ◌-◌, ◌<◌, ◌≤◌, Bool, true, false, List, [], ◌∷◌, ◌++◌, length, get_or, drop, Some, None, Option, inl, inr, refl, sym, ap, ◌∙◌, subst, arith, append_assoc, ℤ}
 use Rattle.std.specs.Prelude.{slice_get, IsNone, IsSome}
 use Rattle.std.proofs.lemmas.List.{length-append}
 use Rattle.alma_base.specs.declared.number.Range.{Range}
+use Rattle.alma_base.specs.Numbers.{is_integer}
 use Rattle.alma_code.specs.declared.cell.SlotKind.{SlotKind}
 use Rattle.alma_code.specs.declared.cell.SlotKind.TheVariants as slot
 use Rattle.alma_code.specs.declared.head.Run.{Run}
@@ -35,7 +36,7 @@ use Rattle.alma_lower_templates.specs.Compiled.{program_code}
 use Rattle.alma_lower_templates.specs.Templates.{part_slot, behind_root, arg_code, desig_code, place_at, stmts_code, stmt_code}
 use Rattle.alma_lower_templates.proofs.AtOnce.{BareFits}
 use Rattle.alma_lower_templates.proofs.Args.{ArgPart, ArgParts, same_cells}
-use Rattle.alma_lower_templates.proofs.Asked.{HasUnlessWhole, Asked, Fine, fine_front, fine_back, fine_first, fine_second, fine_third, fine_fourth, fine_test, fine_expr, fine_arg, fine_desig, fine_sel, fine_stmt, has_line, swapped_first, swapped_second, cells_with, args_with_fit, DesigGoes, OperandsGo, ExprGoes, TestGoes, once, target, variable, decides, Stays, stays_front, stays_back, sel_cells_with}
+use Rattle.alma_lower_templates.proofs.Asked.{HasUnlessWhole, Asked, Fine, fine_front, fine_back, fine_first, fine_second, fine_third, fine_fourth, fine_test, fine_expr, fine_arg, fine_desig, fine_sel, fine_stmt, has_line, swapped_first, swapped_second, cells_with, args_with_fit, DesigGoes, OperandsGo, ExprGoes, TestGoes, once, behind_first, target, variable, decides, Stays, stays_front, stays_back, sel_cells_with}
 use Rattle.alma_lower_templates.proofs.BarrierForms.{no_stmts_run, more_stmts_run, AndRun, no_and_run, more_and_run, and_runs, seq_runs, not_runs, commit_runs}
 use Rattle.alma_lower_templates.proofs.Calls.{RoutineRuns}
 use Rattle.alma_lower_templates.proofs.CallForms.{test_call_runs, expr_call_runs}
@@ -46,7 +47,7 @@ use Rattle.alma_lower_templates.proofs.CellRuns.{copy_runs, match_runs}
 use Rattle.alma_lower_templates.proofs.CellTests.{bind_runs, bind_value_runs, unify_runs}
 use Rattle.alma_lower_templates.proofs.ChoiceForms.{EachRuns, either_form, OperandsRun, last_operand_run, more_operands_run, one_or_runs, or_runs}
 use Rattle.alma_lower_templates.proofs.DesigForms.{SelRuns, SelsRun, field_runs, index_runs, no_sels_run, more_sels_run, desig_runs}
-use Rattle.alma_lower_templates.proofs.ExprForms.{LinksRun, const_runs, load_runs, no_links_run, more_links_run, chain_runs, compare_runs, unequal_runs, known_runs, first_slot, some_slots}
+use Rattle.alma_lower_templates.proofs.ExprForms.{LinksRun, OthersRun, const_runs, load_runs, no_links_run, more_links_run, chain_runs, compare_runs, unequal_runs, known_runs, first_slot, some_slots}
 use Rattle.alma_lower_templates.proofs.Tested.{Tested, tested, as_value, as_unequal}
 use Rattle.alma_lower_templates.proofs.FormRuns.{TestRuns, ListRuns, StmtRuns, StatementRuns}
 use Rattle.alma_lower_templates.proofs.ForallRuns.{forall_runs}
@@ -71,6 +72,9 @@ part_above p tables r lo (Index e range cells) = omega arith
 
 same_value : (a b : Expr) → Value a ≡ Value b → a ≡ b
 same_value a b e = cc
+
+same_number : (a b : ℤ) → Const a ≡ Const b → a ≡ b
+same_number a b e = cc
 
 same_left : (how how2 : Cmp) (a b c d : Expr) → Compare how a c ≡ Compare how2 b d → a ≡ b
 same_left how how2 a b c d e = cc
@@ -167,8 +171,8 @@ module _ (p : Program) (tables : Tables) (code : PlainCode) (all : List (List Ru
         let o = g.operands cmp.Unequal a b same in
         let both : HasSlots p code r lo (expr_slots p r a ++ unless_bare (bare b) (expr_slots p r b)) = subst (λ k. HasSlots p code r lo (unless_bare (bare k) (expr_slots p r k))) same slots in
         subst (λ k. TestRuns p tables code input below r line (suc n) at lo (Value k)) (sym same)
-        (unequal_runs p tables code input below r line (suc n) at lo a b both (o.first at lo (slots_first p code input r lo (expr_slots p r a) (unless_bare (bare b) (expr_slots p r b)) both))
-        (λ next. o.second next (behind_expr p r lo a) (slots_behind p code input r lo (expr_slots p r a) (unless_bare (bare b) (expr_slots p r b)) both)))
+        (unequal_runs p tables code input below r line (suc n) at lo a b both (o.first at lo (slots_first p code input r lo (expr_slots p r a) (unless_bare (bare b) (expr_slots p r b)) both)) o.fits
+        (o.second (behind_expr p r lo a) (slots_behind p code input r lo (expr_slots p r a) (unless_bare (bare b) (expr_slots p r b)) both)))
 
     -- operands of OR, given those behind
     abbrev Others : (r line : ℕ) → Tests → Type 0
@@ -310,13 +314,14 @@ module _ (p : Program) (tables : Tables) (code : PlainCode) (all : List (List Ru
           (once p tables code input below r line (suc n) y (expr_go r line lt e ls (fine_sel p tables code input r (Index e range cells) (expr_phrases e) ls h)) at lo (slots_first p code input r lo (unless_bare (bare y) (expr_slots p r y)) (slot.Place cells ∷ []) slots))
 
       expr_go : (r line : ℕ) → r < length p.routines → (e : Expr) (ls : List ℕ) → FineIn r (expr_phrases e) ls → GoodExpr r line (expr_with e ls)
-      expr_go r line lt (Const m) ls h = record { fits = tt; runs = λ at lo slots. const_runs p tables code input below r line (suc n) at lo m h.asked.0.coded slots; operands = λ how x y same. absurd (cc) }
+      expr_go r line lt (Const m) ls h = record { fits = tt; constants = λ n same. subst (λ k. is_integer k ≡ true) (same_number m n same) h.asked.0.coded; runs = λ at lo slots. const_runs p tables code input below r line (suc n) at lo m h.asked.0.coded slots; operands = λ how x y same. absurd (cc) }
       expr_go r line lt (Load d) ls h =
           let g = desig_go r line lt d ls (fine_expr p tables code input r (Load d) (desig_phrases d) ls h) in
           let y : Desig = desig_with d ls in
           let one_cell : desig_cells y ≡ 1 = cells_with d ls ∙ h.asked.0.cells in
           record {
             fits = g.fits one_cell;
+            constants = λ n same. absurd (cc);
             runs = λ at lo slots. load_runs p tables code input below r line (suc n) at lo y (g.fits one_cell)
                 (target p tables code input below r line (suc n) y g at (lo + 1) (slots_behind p code input r lo (slot.Number ∷ []) (unless_bare (bare_desig y) (desig_slots p r y)) slots)) one_cell slots;
             operands = λ how y z same. absurd (cc);
@@ -328,10 +333,13 @@ module _ (p : Program) (tables : Tables) (code : PlainCode) (all : List (List Ru
           let g = expr_go r line lt e ls (fine_front p tables code input r (expr_phrases e) (links_phrases links) ls inner) in
           record {
             fits = tt;
+            constants = λ n same. absurd (cc);
             runs = λ at lo slots.
                 let first = slots_first p code input r lo (expr_slots p r x) (links_slots p r (links_with links ls2)) slots in
-                chain_runs p tables code input below r line (suc n) at lo negated x (links_with links ls2) slots (g.runs at lo first)
+                chain_runs p tables code input below r line (suc n) at lo negated x (links_with links ls2) slots (g.runs at lo first) g.fits
                 (λ next. links_go r line lt links ls2 (fine_back p tables code input r (expr_phrases e) (links_phrases links) ls inner) next lo (behind_expr p r lo x) (omega (arith, some_slots p code input r x)) slots.behind (first_slot p code input r lo x first)
+                (slots_behind p code input r lo (expr_slots p r x) (links_slots p r (links_with links ls2)) slots))
+                (others_go r line lt links ls2 (fine_back p tables code input r (expr_phrases e) (links_phrases links) ls inner) lo (behind_expr p r lo x) (omega (arith, some_slots p code input r x)) slots.behind (first_slot p code input r lo x first)
                 (slots_behind p code input r lo (expr_slots p r x) (links_slots p r (links_with links ls2)) slots));
             operands = λ how y z same. absurd (cc);
           }
@@ -344,18 +352,20 @@ module _ (p : Program) (tables : Tables) (code : PlainCode) (all : List (List Ru
           let g2 = expr_go r line lt b ls2 (fine_back p tables code input r (expr_phrases a) (expr_phrases b) ls inner) in
           record {
             fits = tt;
+            constants = λ n same. absurd (cc);
             runs = λ at lo slots.
-                compare_runs p tables code input below r line (suc n) at lo how x y slots (g.runs at lo (slots_first p code input r lo (expr_slots p r x) (unless_bare (bare y) (expr_slots p r y)) slots))
-                (λ next. once p tables code input below r line (suc n) y g2 next (behind_expr p r lo x) (slots_behind p code input r lo (expr_slots p r x) (unless_bare (bare y) (expr_slots p r y)) slots));
+                compare_runs p tables code input below r line (suc n) at lo how x y slots (g.runs at lo (slots_first p code input r lo (expr_slots p r x) (unless_bare (bare y) (expr_slots p r y)) slots)) g.fits
+                (behind_first p tables code input below r line (suc n) y g2 (behind_expr p r lo x) (slots_behind p code input r lo (expr_slots p r x) (unless_bare (bare y) (expr_slots p r y)) slots));
             operands = λ how2 a2 b2 same.
                 subst (λ k. OperandsGo p tables code input below r line (suc n) k b2) (same_left how how2 x a2 y b2 same)
-                (subst (λ k. OperandsGo p tables code input below r line (suc n) x k) (same_right how how2 x a2 y b2 same) (record { first = g.runs; second = once p tables code input below r line (suc n) y g2 }));
+                (subst (λ k. OperandsGo p tables code input below r line (suc n) x k) (same_right how how2 x a2 y b2 same) (record { fits = g.fits; first = g.runs; second = behind_first p tables code input below r line (suc n) y g2 }));
           }
       expr_go r line lt (Truth t) ls h =
           let u : Test = test_with t ls in
           let g = test_go r line lt t ls (fine_expr p tables code input r (Truth t) (test_phrases t) ls h) in
           record {
             fits = tt;
+            constants = λ n same. absurd (cc);
             runs = λ at lo slots. truth_runs p tables code input below r line (suc n) at lo u slots
                 (λ none. decides p tables code input below r line (suc n) u g at (lo + 1) none (slots_behind p code input r lo (slot.Number ∷ []) (mark_slots (is_simple u) ++ test_slots p r u) slots));
             operands = λ how y z same. absurd (cc);
@@ -365,18 +375,20 @@ module _ (p : Program) (tables : Tables) (code : PlainCode) (all : List (List Ru
           let g = desig_go r line lt d ls (fine_expr p tables code input r (Known d) (desig_phrases d) ls h) in
           record {
             fits = tt;
+            constants = λ n same. absurd (cc);
             runs = λ at lo slots. known_runs p tables code input below r line (suc n) at lo y slots (cells_with d ls ∙ h.asked.0.cells) (g.runs at (lo + 1) (slots_behind p code input r lo (slot.Number ∷ []) (desig_slots p r y) slots));
             operands = λ how y z same. absurd (cc);
           }
       expr_go r line lt (Chr e) ls h =
           let x : Expr = expr_with e ls in
           let g = expr_go r line lt e ls (fine_expr p tables code input r (Chr e) (expr_phrases e) ls h) in
-          record { fits = tt; runs = λ at lo slots. chr_runs p tables code input below r line (suc n) at lo x slots h.asked.0.coded (g.runs at lo slots); operands = λ how y z same. absurd (cc) }
+          record { fits = tt; constants = λ n same. absurd (cc); runs = λ at lo slots. chr_runs p tables code input below r line (suc n) at lo x slots h.asked.0.coded (g.runs at lo slots); operands = λ how y z same. absurd (cc) }
       expr_go r line lt (CallExpr called args up) ls h =
           let inner = fine_expr p tables code input r (CallExpr called args up) (args_phrases args) ls h in
           let asked = h.asked.0 in
           record {
             fits = tt;
+            constants = λ n same. absurd (cc);
             runs = λ at lo slots. expr_call_runs p tables code all is count names checked input below n routines r line lt called up (args_with args ls) at lo asked.callee asked.leads (args_with_fit (routine_at p called).params args ls asked.fits) asked.result slots
                 (λ m first arg_slots_. args_go r line lt args ls inner m first (first + length (handed_slots (args_with args ls))) arg_slots_);
             operands = λ how y z same. absurd (cc);
@@ -393,6 +405,19 @@ module _ (p : Program) (tables : Tables) (code : PlainCode) (all : List (List Ru
           (once p tables code input below r line (suc n) x g at lo (slots_first p code input r lo (unless_bare (bare x) (expr_slots p r x)) (links_slots p r (links_with rest ls2)) slots))
           (λ next. links_go r line lt rest ls2 (fine_back p tables code input r (expr_phrases e) (links_phrases rest) ls h) next to (behind_value p r lo x) (omega (arith, small)) own_to kind
           (slots_behind p code input r lo (unless_bare (bare x) (expr_slots p r x)) (links_slots p r (links_with rest ls2)) slots))
+
+      -- behind a first operand that stays
+      others_go : (r line : ℕ) → r < length p.routines → (links : Links) (ls : List ℕ) → FineIn r (links_phrases links) ls → (to lo : ℕ) → to < lo → own_end p r ≤ to → slice_get (kinds_at code r) to ≡ Some slot.Number → HasSlots p code r lo (links_slots p r (links_with links ls))
+          → OthersRun p tables code input below r line (suc n) to lo (links_with links ls)
+      others_go r line lt no_links ls h to lo small own_to kind slots = tt
+      others_go r line lt (more_links how e rest) ls h to lo small own_to kind slots =
+          let x : Expr = expr_with e ls in
+          let ls2 = behind (expr_phrases e) ls in
+          let g = expr_go r line lt e ls (fine_front p tables code input r (expr_phrases e) (links_phrases rest) ls h) in (
+            behind_first p tables code input below r line (suc n) x g lo (slots_first p code input r lo (unless_bare (bare x) (expr_slots p r x)) (links_slots p r (links_with rest ls2)) slots),
+            λ next. links_go r line lt rest ls2 (fine_back p tables code input r (expr_phrases e) (links_phrases rest) ls h) next to (behind_value p r lo x) (omega (arith, small)) own_to kind
+                (slots_behind p code input r lo (unless_bare (bare x) (expr_slots p r x)) (links_slots p r (links_with rest ls2)) slots),
+          )
 
       args_go : (r line : ℕ) → r < length p.routines → (args : Args) (ls : List ℕ) → FineIn r (args_phrases args) ls → (at to la : ℕ) → HasSlots p code r la (args_slots p r (args_with args ls)) → ArgParts p tables code input below r line (suc n) at to la (args_with args ls)
       args_go r line lt no_args ls h at to la slots = tt

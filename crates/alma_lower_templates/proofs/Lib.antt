@@ -3,6 +3,7 @@ pub mod EitherRuns
 pub mod Parts
 pub mod PlaceSteps
 pub mod AtOnce
+pub mod First
 pub mod NewFrame
 pub mod Handing
 pub mod Args

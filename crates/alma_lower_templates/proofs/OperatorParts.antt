@@ -1,6 +1,6 @@
 -- Operators, signs and comparisons inside of an expression: the value stands in the first slot of the expression, and an
 -- operand in any slot.
-use Rattle.std.proofs.Common.{◌≡◌, ℕ, ◌+◌, ◌≤◌, Bool, true, false, not, List, length, Some, refl, ap, ◌∙◌, subst, arith, ℤ, ◌+ℤ◌, ◌-ℤ◌, ◌*ℤ◌, neg_ℤ}
+use Rattle.std.proofs.Common.{◌≡◌, ℕ, ◌+◌, ◌≤◌, Bool, true, false, not, List, inl, inr, length, Some, refl, ap, ◌∙◌, subst, arith, ℤ, ◌+ℤ◌, ◌-ℤ◌, ◌*ℤ◌, neg_ℤ}
 use Rattle.std.specs.Prelude.{slice_get, int_lt, int_le}
 use Rattle.alma_base.specs.declared.fault.RunFault.TheVariants as fault
 use Rattle.alma_base.specs.Choice.{if_true}
@@ -24,39 +24,66 @@ use Rattle.alma_mean.specs.Arithmetic.{apply_op, apply_sign, check_integer, faul
 use Rattle.alma_lower_implements.proofs.Frames.{own_end, IsAt}
 use Rattle.alma_lower_implements.proofs.Steps.{Holds, HasKind, InstrAt, passed, does, number_is, here_too, flip_step, equal_step, less_step, less_eq_step, fits_step, overflow_step, neg_does, add_does, sub_does, mul_does, div_does, mod_does, faults_now}
 use Rattle.alma_lower_implements.proofs.Numbers.{bit_integer, zero_bit, rest_integer, nonzero}
-use Rattle.alma_lower_implements.proofs.BareRow.{ReadsFirst}
 use Rattle.alma_lower_templates.specs.Lined.{own}
 use Rattle.alma_lower_templates.specs.Pieces.{op_code, cmp_code, neg_code}
 use Rattle.alma_lower_templates.specs.Stands.{Stands}
 use Rattle.alma_lower_templates.proofs.Parts.{Begins, begins, Left, left_self, has_kind, IsValue, ValueIn, From, leaving, from_more, alone_from, faults_here, value_ends, value_goes_on}
+use Rattle.alma_lower_templates.proofs.First.{ReadsPair, ReadsBoth}
 
 module _ (p : Program) (code : PlainCode) (input : List ℕ) (line q lo r : ℕ) (behind : own_end p r ≤ lo) (kind : slice_get (kinds_at code r) lo ≡ Some slot.Number) where
-  -- ---- a second operand is read once the first is known
+  -- ---- both operands are read, one after the other
 
-  pub op_reads : (how : Op) (at operand : ℕ) (a : ℤ) (now : List PlainFrame) → InstrAt code input line at (op_code how lo operand) → Holds now lo (cell.Int a) → ReadsFirst code input at operand now
+  pub op_reads : (how : Op) (at first operand : ℕ) (now : List PlainFrame) → InstrAt code input line at (op_code how lo first operand) → ReadsPair code input at first operand now
   unfolding act
-  op_reads op.Add at operand a now i ha held s is = (_, does code input line at now held s (I.Add lo lo operand) is i ∙ number_is code input now (passed code input s) lo a (λ x. number (passed code input s) operand (λ y. integer_result (passed code input s) (x +ℤ y) (λ v. put_number (passed code input s) lo v))) is.frames ha)
-  op_reads op.Sub at operand a now i ha held s is = (_, does code input line at now held s (I.Sub lo lo operand) is i ∙ number_is code input now (passed code input s) lo a (λ x. number (passed code input s) operand (λ y. integer_result (passed code input s) (x -ℤ y) (λ v. put_number (passed code input s) lo v))) is.frames ha)
-  op_reads op.Mul at operand a now i ha held s is = (_, does code input line at now held s (I.Mul lo lo operand) is i ∙ number_is code input now (passed code input s) lo a (λ x. number (passed code input s) operand (λ y. integer_result (passed code input s) (x *ℤ y) (λ v. put_number (passed code input s) lo v))) is.frames ha)
-  op_reads op.Div at operand a now i ha held s is =
-      (_, does code input line at now held s (I.Div lo lo operand) is i ∙ number_is code input now (passed code input s) lo a (λ x. number (passed code input s) operand (λ y. if_true (is_zero y) (λ _. ends_in_fault fault.ZeroDivide (passed code input s)) (λ _. integer_result (passed code input s) (div_down_of x y) (λ v. put_number (passed code input s) lo v)))) is.frames ha)
-  op_reads op.Mod at operand a now i ha held s is =
-      (_, does code input line at now held s (I.Mod lo lo operand) is i ∙ number_is code input now (passed code input s) lo a (λ x. number (passed code input s) operand (λ y. if_true (is_zero y) (λ _. ends_in_fault fault.ZeroDivide (passed code input s)) (λ _. integer_result (passed code input s) (mod_down_of x y) (λ v. put_number (passed code input s) lo v)))) is.frames ha)
+  op_reads op.Add at first operand now i = record {
+    one = λ held s is. (_, does code input line at now held s (I.Add lo first operand) is i);
+    other = λ a ha held s is. (_, does code input line at now held s (I.Add lo first operand) is i ∙ number_is code input now (passed code input s) first a (λ x. number (passed code input s) operand (λ y. integer_result (passed code input s) (x +ℤ y) (λ v. put_number (passed code input s) lo v))) is.frames ha);
+  }
+  op_reads op.Sub at first operand now i = record {
+    one = λ held s is. (_, does code input line at now held s (I.Sub lo first operand) is i);
+    other = λ a ha held s is. (_, does code input line at now held s (I.Sub lo first operand) is i ∙ number_is code input now (passed code input s) first a (λ x. number (passed code input s) operand (λ y. integer_result (passed code input s) (x -ℤ y) (λ v. put_number (passed code input s) lo v))) is.frames ha);
+  }
+  op_reads op.Mul at first operand now i = record {
+    one = λ held s is. (_, does code input line at now held s (I.Mul lo first operand) is i);
+    other = λ a ha held s is. (_, does code input line at now held s (I.Mul lo first operand) is i ∙ number_is code input now (passed code input s) first a (λ x. number (passed code input s) operand (λ y. integer_result (passed code input s) (x *ℤ y) (λ v. put_number (passed code input s) lo v))) is.frames ha);
+  }
+  op_reads op.Div at first operand now i = record {
+    one = λ held s is. (_, does code input line at now held s (I.Div lo first operand) is i);
+    other = λ a ha held s is. (_, does code input line at now held s (I.Div lo first operand) is i ∙ number_is code input now (passed code input s) first a (λ x. number (passed code input s) operand (λ y. if_true (is_zero y) (λ _. ends_in_fault fault.ZeroDivide (passed code input s)) (λ _. integer_result (passed code input s) (div_down_of x y) (λ v. put_number (passed code input s) lo v)))) is.frames ha);
+  }
+  op_reads op.Mod at first operand now i = record {
+    one = λ held s is. (_, does code input line at now held s (I.Mod lo first operand) is i);
+    other = λ a ha held s is. (_, does code input line at now held s (I.Mod lo first operand) is i ∙ number_is code input now (passed code input s) first a (λ x. number (passed code input s) operand (λ y. if_true (is_zero y) (λ _. ends_in_fault fault.ZeroDivide (passed code input s)) (λ _. integer_result (passed code input s) (mod_down_of x y) (λ v. put_number (passed code input s) lo v)))) is.frames ha);
+  }
 
-  pub equal_reads : (at operand : ℕ) (a : ℤ) (now : List PlainFrame) → InstrAt code input line at (I.Equal lo lo operand) → Holds now lo (cell.Int a) → ReadsFirst code input at operand now
+  pub equal_reads : (at one other : ℕ) (now : List PlainFrame) → InstrAt code input line at (I.Equal lo one other) → ReadsPair code input at one other now
   unfolding act
-  equal_reads at operand a now i ha held s is = (_, does code input line at now held s (I.Equal lo lo operand) is i ∙ number_is code input now (passed code input s) lo a (λ x. number (passed code input s) operand (λ y. put_number (passed code input s) lo (bit (int_eq x y)))) is.frames ha)
+  equal_reads at one other now i = record {
+    one = λ held s is. (_, does code input line at now held s (I.Equal lo one other) is i);
+    other = λ a ha held s is. (_, does code input line at now held s (I.Equal lo one other) is i ∙ number_is code input now (passed code input s) one a (λ x. number (passed code input s) other (λ y. put_number (passed code input s) lo (bit (int_eq x y)))) is.frames ha);
+  }
 
-  pub cmp_reads : (how : Cmp) (at operand : ℕ) (a : ℤ) (now : List PlainFrame) → Stands code at (own line (cmp_code how lo operand)) → Holds now lo (cell.Int a) → ReadsFirst code input at operand now
+  less_reads : (at one other : ℕ) (now : List PlainFrame) → InstrAt code input line at (I.Less lo one other) → ReadsPair code input at one other now
   unfolding act
-  cmp_reads cmp.Equal at operand a now i ha held s is = equal_reads at operand a now (record { instr = i.0; on_line = i.1 }) ha held s is
-  cmp_reads cmp.Unequal at operand a now i ha held s is = equal_reads at operand a now (record { instr = i.0; on_line = i.1 }) ha held s is
-  cmp_reads cmp.Less at operand a now i ha held s is =
-      (_, does code input line at now held s (I.Less lo lo operand) is (record { instr = i.0; on_line = i.1 }) ∙ number_is code input now (passed code input s) lo a (λ x. number (passed code input s) operand (λ y. put_number (passed code input s) lo (bit (int_lt x y)))) is.frames ha)
-  cmp_reads cmp.LessEq at operand a now i ha held s is =
-      (_, does code input line at now held s (I.LessEq lo lo operand) is (record { instr = i.0; on_line = i.1 }) ∙ number_is code input now (passed code input s) lo a (λ x. number (passed code input s) operand (λ y. put_number (passed code input s) lo (bit (int_le x y)))) is.frames ha)
-  cmp_reads cmp.Greater at operand a now i ha held s is = (_, does code input line at now held s (I.Less lo operand lo) is (record { instr = i.0; on_line = i.1 }))
-  cmp_reads cmp.GreaterEq at operand a now i ha held s is = (_, does code input line at now held s (I.LessEq lo operand lo) is (record { instr = i.0; on_line = i.1 }))
+  less_reads at one other now i = record {
+    one = λ held s is. (_, does code input line at now held s (I.Less lo one other) is i);
+    other = λ a ha held s is. (_, does code input line at now held s (I.Less lo one other) is i ∙ number_is code input now (passed code input s) one a (λ x. number (passed code input s) other (λ y. put_number (passed code input s) lo (bit (int_lt x y)))) is.frames ha);
+  }
+
+  less_eq_reads : (at one other : ℕ) (now : List PlainFrame) → InstrAt code input line at (I.LessEq lo one other) → ReadsPair code input at one other now
+  unfolding act
+  less_eq_reads at one other now i = record {
+    one = λ held s is. (_, does code input line at now held s (I.LessEq lo one other) is i);
+    other = λ a ha held s is. (_, does code input line at now held s (I.LessEq lo one other) is i ∙ number_is code input now (passed code input s) one a (λ x. number (passed code input s) other (λ y. put_number (passed code input s) lo (bit (int_le x y)))) is.frames ha);
+  }
+
+  pub cmp_reads : (how : Cmp) (at first operand : ℕ) (now : List PlainFrame) → Stands code at (own line (cmp_code how lo first operand)) → ReadsBoth code input at first operand now
+  cmp_reads cmp.Equal at first operand now i = inl (equal_reads at first operand now (record { instr = i.0; on_line = i.1 }))
+  cmp_reads cmp.Unequal at first operand now i = inl (equal_reads at first operand now (record { instr = i.0; on_line = i.1 }))
+  cmp_reads cmp.Less at first operand now i = inl (less_reads at first operand now (record { instr = i.0; on_line = i.1 }))
+  cmp_reads cmp.LessEq at first operand now i = inl (less_eq_reads at first operand now (record { instr = i.0; on_line = i.1 }))
+  cmp_reads cmp.Greater at first operand now i = inr (less_reads at operand first now (record { instr = i.0; on_line = i.1 }))
+  cmp_reads cmp.GreaterEq at first operand now i = inr (less_eq_reads at operand first now (record { instr = i.0; on_line = i.1 }))
 
   module _ (v : Store) (now : List PlainFrame) (b : Begins p code input r v now) where
     kind_now : HasKind now lo slot.Number
@@ -95,15 +122,15 @@ module _ (p : Program) (code : PlainCode) (input : List ℕ) (line q lo r : ℕ)
               (λ held s is. faults_now code input line s fault.ZeroDivide (here_too code input line at now held s is there)
               (does held s is ∙ ap (λ t. if_true t (λ _. ends_in_fault fault.ZeroDivide (passed code input s)) (λ _. integer_result (passed code input s) z (λ x. put_number (passed code input s) lo x))) zero_there))
 
-      pub op_from : (how : Op) (operand : ℕ) (x y : ℤ) → InstrAt code input line at (op_code how lo operand) → Holds now lo (cell.Int x) → IsValue p code input operand y now → ((z : ℤ) → GoesOnWith z) → Applied (apply_op v how x y)
-      op_from op.Add operand x y i hx hy later = checked_from (x +ℤ y) i.on_line (λ held s is. add_does code input line at now held s is lo lo operand x y i hx hy.holds) (later (x +ℤ y))
-      op_from op.Sub operand x y i hx hy later = checked_from (x -ℤ y) i.on_line (λ held s is. sub_does code input line at now held s is lo lo operand x y i hx hy.holds) (later (x -ℤ y))
-      op_from op.Mul operand x y i hx hy later = checked_from (x *ℤ y) i.on_line (λ held s is. mul_does code input line at now held s is lo lo operand x y i hx hy.holds) (later (x *ℤ y))
-      op_from op.Div operand x y i hx hy later =
-          divided_from y (div_down_of x y) (check_integer v (div_down_of x y)) i.on_line (λ held s is. div_does code input line at now held s is lo lo operand x y i hx hy.holds)
+      pub op_from : (how : Op) (first operand : ℕ) (x y : ℤ) → InstrAt code input line at (op_code how lo first operand) → Holds now first (cell.Int x) → IsValue p code input operand y now → ((z : ℤ) → GoesOnWith z) → Applied (apply_op v how x y)
+      op_from op.Add first operand x y i hx hy later = checked_from (x +ℤ y) i.on_line (λ held s is. add_does code input line at now held s is lo first operand x y i hx hy.holds) (later (x +ℤ y))
+      op_from op.Sub first operand x y i hx hy later = checked_from (x -ℤ y) i.on_line (λ held s is. sub_does code input line at now held s is lo first operand x y i hx hy.holds) (later (x -ℤ y))
+      op_from op.Mul first operand x y i hx hy later = checked_from (x *ℤ y) i.on_line (λ held s is. mul_does code input line at now held s is lo first operand x y i hx hy.holds) (later (x *ℤ y))
+      op_from op.Div first operand x y i hx hy later =
+          divided_from y (div_down_of x y) (check_integer v (div_down_of x y)) i.on_line (λ held s is. div_does code input line at now held s is lo first operand x y i hx hy.holds)
           (λ other does. checked_from (div_down_of x y) i.on_line does (later (div_down_of x y)))
-      op_from op.Mod operand x y i hx hy later =
-          divided_from y (mod_down_of x y) (one v (mod_down_of x y)) i.on_line (λ held s is. mod_does code input line at now held s is lo lo operand x y i hx hy.holds)
+      op_from op.Mod first operand x y i hx hy later =
+          divided_from y (mod_down_of x y) (one v (mod_down_of x y)) i.on_line (λ held s is. mod_does code input line at now held s is lo first operand x y i hx hy.holds)
           (λ other does.
           let fits = rest_integer y (mod_down_of x y) hy.integer (rounds_down x y (nonzero y other)) in
           alone_from p code input line 8 at exit now (leaving p code input lo r now yields) (k v (mod_down_of x y)) q
@@ -125,16 +152,16 @@ module _ (p : Program) (code : PlainCode) (input : List ℕ) (line q lo r : ℕ)
 
     -- ---- comparisons
 
-    pub compare_ends : (how : Cmp) (at operand : ℕ) (x y : ℤ) → Stands code at (own line (cmp_code how lo operand)) → Holds now lo (cell.Int x) → Holds now operand (cell.Int y)
-        → From p code input line 8 at (at + length (own line (cmp_code how lo operand))) now (leaving p code input lo r now (ValueIn p code input lo)) (one v (bit (compares how x y))) q
-    compare_ends cmp.Equal at operand x y i hx hy = value_ends p code input line 7 at lo r v now (bit (int_eq x y)) q behind kind (bit_integer (int_eq x y)) b (λ held s is. equal_step code input line at now held s is lo lo operand x y (record { instr = i.0; on_line = i.1 }) kind_now hx hy)
-    compare_ends cmp.Less at operand x y i hx hy = value_ends p code input line 7 at lo r v now (bit (int_lt x y)) q behind kind (bit_integer (int_lt x y)) b (λ held s is. less_step code input line at now held s is lo lo operand x y (record { instr = i.0; on_line = i.1 }) kind_now hx hy)
-    compare_ends cmp.LessEq at operand x y i hx hy = value_ends p code input line 7 at lo r v now (bit (int_le x y)) q behind kind (bit_integer (int_le x y)) b (λ held s is. less_eq_step code input line at now held s is lo lo operand x y (record { instr = i.0; on_line = i.1 }) kind_now hx hy)
-    compare_ends cmp.Greater at operand x y i hx hy = value_ends p code input line 7 at lo r v now (bit (int_lt y x)) q behind kind (bit_integer (int_lt y x)) b (λ held s is. less_step code input line at now held s is lo operand lo y x (record { instr = i.0; on_line = i.1 }) kind_now hy hx)
-    compare_ends cmp.GreaterEq at operand x y i hx hy = value_ends p code input line 7 at lo r v now (bit (int_le y x)) q behind kind (bit_integer (int_le y x)) b (λ held s is. less_eq_step code input line at now held s is lo operand lo y x (record { instr = i.0; on_line = i.1 }) kind_now hy hx)
-    compare_ends cmp.Unequal at operand x y i hx hy =
+    pub compare_ends : (how : Cmp) (at first operand : ℕ) (x y : ℤ) → Stands code at (own line (cmp_code how lo first operand)) → Holds now first (cell.Int x) → Holds now operand (cell.Int y)
+        → From p code input line 8 at (at + length (own line (cmp_code how lo first operand))) now (leaving p code input lo r now (ValueIn p code input lo)) (one v (bit (compares how x y))) q
+    compare_ends cmp.Equal at first operand x y i hx hy = value_ends p code input line 7 at lo r v now (bit (int_eq x y)) q behind kind (bit_integer (int_eq x y)) b (λ held s is. equal_step code input line at now held s is lo first operand x y (record { instr = i.0; on_line = i.1 }) kind_now hx hy)
+    compare_ends cmp.Less at first operand x y i hx hy = value_ends p code input line 7 at lo r v now (bit (int_lt x y)) q behind kind (bit_integer (int_lt x y)) b (λ held s is. less_step code input line at now held s is lo first operand x y (record { instr = i.0; on_line = i.1 }) kind_now hx hy)
+    compare_ends cmp.LessEq at first operand x y i hx hy = value_ends p code input line 7 at lo r v now (bit (int_le x y)) q behind kind (bit_integer (int_le x y)) b (λ held s is. less_eq_step code input line at now held s is lo first operand x y (record { instr = i.0; on_line = i.1 }) kind_now hx hy)
+    compare_ends cmp.Greater at first operand x y i hx hy = value_ends p code input line 7 at lo r v now (bit (int_lt y x)) q behind kind (bit_integer (int_lt y x)) b (λ held s is. less_step code input line at now held s is lo operand first y x (record { instr = i.0; on_line = i.1 }) kind_now hy hx)
+    compare_ends cmp.GreaterEq at first operand x y i hx hy = value_ends p code input line 7 at lo r v now (bit (int_le y x)) q behind kind (bit_integer (int_le y x)) b (λ held s is. less_eq_step code input line at now held s is lo operand first y x (record { instr = i.0; on_line = i.1 }) kind_now hy hx)
+    compare_ends cmp.Unequal at first operand x y i hx hy =
         let two : at + 1 + 1 ≡ at + 2 = omega arith in
-        value_goes_on p code input line 7 at (at + 2) lo r v now (bit (int_eq x y)) (ValueIn p code input lo) (one v (bit (not (int_eq x y)))) q behind kind (bit_integer (int_eq x y)) b (λ held s is. equal_step code input line at now held s is lo lo operand x y (record { instr = i.0; on_line = i.1 }) kind_now hx hy)
+        value_goes_on p code input line 7 at (at + 2) lo r v now (bit (int_eq x y)) (ValueIn p code input lo) (one v (bit (not (int_eq x y)))) q behind kind (bit_integer (int_eq x y)) b (λ held s is. equal_step code input line at now held s is lo first operand x y (record { instr = i.0; on_line = i.1 }) kind_now hx hy)
         (λ t left value.
         let b1 = begins p code input lo r now v t left in
         let said : bit (is_zero (bit (int_eq x y))) ≡ bit (not (int_eq x y)) = ap bit (zero_bit (int_eq x y)) in

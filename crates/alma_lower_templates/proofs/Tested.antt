@@ -1,19 +1,22 @@
 -- A value as a test: a test of inequality has an end of its own, any other value is checked.
-use Rattle.std.proofs.Common.{◌≡◌, ℕ, ◌+◌, List, [], ◌∷◌, ◌++◌, length, refl, sym, ap, ◌∙◌, subst, arith}
+use Rattle.std.proofs.Common.{◌≡◌, ℕ, ◌+◌, List, [], ◌∷◌, ◌++◌, length, Option, refl, sym, ap, ◌∙◌, subst, arith}
 use Rattle.std.proofs.lemmas.List.{length-append}
 use Rattle.alma_code.specs.declared.instr.Instr.TheVariants as I
 use Rattle.alma_ir.specs.declared.phrase.Cmp.TheVariants as cmp
 use Rattle.alma_ir.specs.Tree.{Program, Expr, Value, Const, Load, Chain, Compare, Truth, Known, Chr, CallExpr}
 use Rattle.alma_lower_templates.specs.Lined.{Lined, own, in_row}
 use Rattle.alma_lower_templates.specs.Tables.{Tables}
-use Rattle.alma_lower_templates.specs.Slots.{bare, unless_bare, behind_expr}
+use Rattle.alma_lower_templates.specs.Slots.{bare, stays, unless_bare, behind_expr}
 use Rattle.alma_lower_templates.specs.Pieces.{cmp_code, unequal_code}
-use Rattle.alma_lower_templates.specs.Templates.{test_code, expr_code, value_at}
+use Rattle.alma_lower_templates.specs.Templates.{test_code, expr_code, slot_or, value_at}
 
 module _ (p : Program) (tables : Tables) (r : ℕ) where
-  -- the code of both operands of a comparison
+  -- the code of both operands of a comparison, where the first stays or not
+  abbrev pub operands_code : Option ℕ → (line at lo : ℕ) → (x y : Expr) → List Lined
+  operands_code o line at lo x y = in_row at (unless_bare o (expr_code p tables r line at lo x)) (λ next. unless_bare (bare y) (expr_code p tables r line next (behind_expr p r lo x) y))
+
   abbrev pub compared_code : (line at lo : ℕ) → (x y : Expr) → List Lined
-  compared_code line at lo x y = in_row at (expr_code p tables r line at lo x) (λ next. unless_bare (bare y) (expr_code p tables r line next (behind_expr p r lo x) y))
+  compared_code line at lo x y = operands_code (stays x y) line at lo x y
 
   -- the code of a value that is checked
   abbrev pub ChecksValue : Expr → Type 0
@@ -45,8 +48,9 @@ module _ (p : Program) (tables : Tables) (r : ℕ) where
       differ : (x y : Expr) → length (test_code p tables r line at lo (Value (Compare cmp.Unequal x y))) ≡ length (expr_code p tables r line at lo (Compare cmp.Unequal x y)) + 1
       differ x y =
           let operands : List Lined = compared_code line at lo x y in
+          let first : ℕ = slot_or p tables r (stays x y) lo in
           let operand : ℕ = value_at p tables r (behind_expr p r lo x) y in
-          omega (arith, length-append operands (own line (unequal_code lo operand (at + length operands))), length-append operands (own line (cmp_code cmp.Unequal lo operand)))
+          omega (arith, length-append operands (own line (unequal_code lo first operand (at + length operands))), length-append operands (own line (cmp_code cmp.Unequal lo first operand)))
 
       by : Tested e → length (test_code p tables r line at lo (Value e)) ≡ length (unless_bare (bare e) (expr_code p tables r line at lo e)) + 1
       by (as_value is) = ap length (is line at lo) ∙ length-append (unless_bare (bare e) (expr_code p tables r line at lo e)) (own line (I.Check (value_at p tables r lo e) ∷ []))

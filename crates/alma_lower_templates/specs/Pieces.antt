@@ -18,25 +18,25 @@ use Rattle.alma_lower_templates.specs.Tables.{Tables, range_number, is_whole}
 
 -- ---- numbers
 
-abbrev pub op_code : Op → (to operand : ℕ) → Instr
-op_code op.Add to operand = I.Add to to operand
-op_code op.Sub to operand = I.Sub to to operand
-op_code op.Mul to operand = I.Mul to to operand
-op_code op.Div to operand = I.Div to to operand
-op_code op.Mod to operand = I.Mod to to operand
+abbrev pub op_code : Op → (to first operand : ℕ) → Instr
+op_code op.Add to first operand = I.Add to first operand
+op_code op.Sub to first operand = I.Sub to first operand
+op_code op.Mul to first operand = I.Mul to first operand
+op_code op.Div to first operand = I.Div to first operand
+op_code op.Mod to first operand = I.Mod to first operand
 
--- the first value stands in `to`, the second in `other`
-abbrev pub cmp_code : Cmp → (to other : ℕ) → List Instr
-cmp_code cmp.Equal to other = I.Equal to to other ∷ []
-cmp_code cmp.Unequal to other = I.Equal to to other ∷ I.Flip to to ∷ []
-cmp_code cmp.Less to other = I.Less to to other ∷ []
-cmp_code cmp.LessEq to other = I.LessEq to to other ∷ []
-cmp_code cmp.Greater to other = I.Less to other to ∷ []
-cmp_code cmp.GreaterEq to other = I.LessEq to other to ∷ []
+-- what is said of the first value and the other goes into the slot `to`
+abbrev pub cmp_code : Cmp → (to first other : ℕ) → List Instr
+cmp_code cmp.Equal to first other = I.Equal to first other ∷ []
+cmp_code cmp.Unequal to first other = I.Equal to first other ∷ I.Flip to to ∷ []
+cmp_code cmp.Less to first other = I.Less to first other ∷ []
+cmp_code cmp.LessEq to first other = I.LessEq to first other ∷ []
+cmp_code cmp.Greater to first other = I.Less to other first ∷ []
+cmp_code cmp.GreaterEq to first other = I.LessEq to other first ∷ []
 
 -- the end of a test of inequality, at an address: it fails where the numbers are equal, and else goes over the failure
-abbrev pub unequal_code : (to other at : ℕ) → List Instr
-unequal_code to other at = I.Equal to to other ∷ I.JumpZero to (at + 3) ∷ I.Fail ∷ []
+abbrev pub unequal_code : (to first other at : ℕ) → List Instr
+unequal_code to first other at = I.Equal to first other ∷ I.JumpZero to (at + 3) ∷ I.Fail ∷ []
 
 abbrev pub neg_code : Bool → (to : ℕ) → List Instr
 neg_code true to = I.Neg to to ∷ []

@@ -34,6 +34,34 @@ abbrev pub bare : Expr → Option ℕ
 bare (Load d) = bare_desig d
 bare _ = None
 
+-- whether a value is a variable of the routine or a constant: what puts it in place can neither fault nor change a variable
+abbrev pub is_given : Option ℕ → Bool
+is_given (Some from) = true
+is_given None = false
+
+abbrev pub is_ready : Expr → Bool
+is_ready (Const n) = true
+is_ready (Load d) = is_given (bare_desig d)
+is_ready _ = false
+
+abbrev pub if_ready : Bool → ℕ → Option ℕ
+if_ready true from = Some from
+if_ready false from = None
+
+abbrev pub stays_by : Option ℕ → (next : Expr) → Option ℕ
+stays_by (Some from) next = if_ready (is_ready next) from
+stays_by None next = None
+
+-- the slot in which a first operand stays: that of a variable of the routine, where the next operand is ready
+abbrev pub stays : (first next : Expr) → Option ℕ
+stays first next = stays_by (bare first) next
+
+-- and that of a first operand without a sign, behind which operators stand
+abbrev pub stays_in : (negated : Bool) → (first : Expr) → Links → Option ℕ
+stays_in true first links = None
+stays_in false first no_links = None
+stays_in false first (more_links how next rest) = stays first next
+
 -- nothing where there is such a slot
 abbrev pub unless_bare : {A : Type 0} → Option ℕ → List A → List A
 unless_bare (Some from) all = []

@@ -12,7 +12,7 @@ use Rattle.alma_ir.specs.Checked.{outer_at}
 use Rattle.alma_ir.specs.Lines.{body_with_lines}
 use Rattle.alma_lower_templates.specs.Lined.{Lined, own, in_row, leaving}
 use Rattle.alma_lower_templates.specs.Tables.{Tables, range_number, text_number}
-use Rattle.alma_lower_templates.specs.Slots.{shift_of, bare_desig, bare, unless_bare, is_simple, handed_slots, call_links, root_slots, arg_slots, behind_stmts, behind_stmt, behind_test, behind_condition, behind_expr, behind_dead, behind_value, behind_desig, behind_target, behind_variable, own_kinds}
+use Rattle.alma_lower_templates.specs.Slots.{shift_of, bare_desig, bare, stays, stays_in, unless_bare, is_simple, handed_slots, call_links, root_slots, arg_slots, behind_stmts, behind_stmt, behind_test, behind_condition, behind_expr, behind_dead, behind_value, behind_desig, behind_target, behind_variable, own_kinds}
 use Rattle.alma_lower_templates.specs.Pieces.{op_code, cmp_code, unequal_code, neg_code, write_code, read_code, fit_code, link_code, condition, guarded, chosen, first_of_two, refused, truth_code, each_body, forall_code, begin_loop, turn_code, for_turns, some_turns, behind_labels, case_arm, passed_over, has_dead, first_argument}
 
 -- the numbers of CHAR
@@ -256,8 +256,8 @@ module _ (p : Program) (tables : Tables) (r : ℕ) where
 
     pub test_code : (line at lo : ℕ) → Test → List Lined
     test_code line at lo (Value (Compare cmp.Unequal x y)) =
-        in_row at (in_row at (expr_code line at lo x) (λ next. unless_bare (bare y) (expr_code line next (behind_expr p r lo x) y)))
-        (λ next. own line (unequal_code lo (value_at (behind_expr p r lo x) y) next))
+        in_row at (in_row at (unless_bare (stays x y) (expr_code line at lo x)) (λ next. unless_bare (bare y) (expr_code line next (behind_expr p r lo x) y)))
+        (λ next. own line (unequal_code lo (slot_or (stays x y) lo) (value_at (behind_expr p r lo x) y) next))
     test_code line at lo (Value e) = unless_bare (bare e) (expr_code line at lo e) ++ own line (I.Check (value_at lo e) ∷ [])
     test_code line at lo (Bind d e range true) =
         in_row at (desig_code line at lo d) (λ next. unless_bare (bare e) (expr_code line next (behind_desig p r lo d) e))
@@ -310,10 +310,13 @@ module _ (p : Program) (tables : Tables) (r : ℕ) where
     expr_code line at lo (Load d) =
         unless_bare (bare_desig d) (desig_code line at (lo + 1) d) ++ own line (load_code lo d ∷ [])
     expr_code line at lo (Chain negated e links) =
-        in_row at (expr_code line at lo e ++ own line (neg_code negated lo)) (λ next. links_code line next lo (behind_expr p r lo e) links)
+        in_row at (unless_bare (stays_in negated e links) (expr_code line at lo e) ++ own line (neg_code negated lo))
+        (λ next. links_code line next (slot_or (stays_in negated e links) lo) lo (behind_expr p r lo e) links)
+    -- a first operand that stays is read by the instruction that takes both. Where it is unknown that one faults: before it stands a
+    -- constant at most, and where the next operand is unknown too the fault is the same
     expr_code line at lo (Compare how x y) =
-        in_row at (expr_code line at lo x) (λ next. unless_bare (bare y) (expr_code line next (behind_expr p r lo x) y))
-        ++ own line (cmp_code how lo (value_at (behind_expr p r lo x) y))
+        in_row at (unless_bare (stays x y) (expr_code line at lo x)) (λ next. unless_bare (bare y) (expr_code line next (behind_expr p r lo x) y))
+        ++ own line (cmp_code how lo (slot_or (stays x y) lo) (value_at (behind_expr p r lo x) y))
     expr_code line at lo (Truth t) =
         in_row at (guarded at 2 (λ none. condition (is_simple t) line at (lo + 1) none (λ at lo none. jump_code line at lo none t) (λ at lo. test_code line at lo t)) (λ next. [])) (λ next. truth_code line lo next)
     expr_code line at lo (Known d) = desig_code line at (lo + 1) d ++ own line (I.Known lo (place_at (lo + 1) d) ∷ [])
@@ -323,12 +326,12 @@ module _ (p : Program) (tables : Tables) (r : ℕ) where
         in_row at (own line (call_link_code called up (lo + 2))) (λ next. args_code line next first (first + length (handed_slots args)) args)
         ++ own line (I.Mark (lo + 1) ∷ call_code called args up (lo + 2) lo ∷ I.Cut (lo + 1) ∷ [])
 
-    -- each operator goes over the slot `to` as soon as its operand is there
-    pub links_code : (line at to lo : ℕ) → Links → List Lined
-    links_code line at to lo no_links = []
-    links_code line at to lo (more_links how e rest) =
-        in_row at (unless_bare (bare e) (expr_code line at lo e) ++ own line (op_code how to (value_at lo e) ∷ []))
-        (λ next. links_code line next to (behind_value p r lo e) rest)
+    -- each operator puts its value into the slot `to` as soon as its operand is there; the first takes the slot `first`
+    pub links_code : (line at first to lo : ℕ) → Links → List Lined
+    links_code line at first to lo no_links = []
+    links_code line at first to lo (more_links how e rest) =
+        in_row at (unless_bare (bare e) (expr_code line at lo e) ++ own line (op_code how to first (value_at lo e) ∷ []))
+        (λ next. links_code line next to to (behind_value p r lo e) rest)
 
     -- the arguments go into the slots from `to` on
     pub args_code : (line at to lo : ℕ) → Args → List Lined

@@ -1,5 +1,5 @@
 -- Which expressions are tests of inequality.
-use Rattle.std.proofs.Common.{◌≡◌, ◌⊎◌, inl, inr, Bool, false, sym, ap, ◌∙◌}
+use Rattle.std.proofs.Common.{◌≡◌, ◌⊎◌, inl, inr, false, ap, ◌∙◌}
 use Rattle.alma_ir.specs.declared.phrase.Cmp.{Cmp}
 use Rattle.alma_ir.specs.declared.phrase.Cmp.TheVariants as cmp
 use Rattle.alma_ir.specs.declared.phrase.Expr as E

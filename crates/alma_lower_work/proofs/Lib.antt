@@ -4,3 +4,4 @@ pub mod Scenes
 pub mod DesigForms
 pub mod Small
 pub mod Bare
+pub mod Ready

@@ -1,19 +1,21 @@
 -- What each phrase adds where it is emitted: its code and slots by the templates, with the lines that it is given.
-use Rattle.std.specs.Prelude.{◌≡◌, ℕ, zero, suc, ◌+◌, Bool, true, false, List, [], ◌∷◌, ◌++◌, length, drop, Option, Some, None}
+use Rattle.std.specs.Borrow.{Bor}
+use Rattle.std.specs.Prelude.{ℕ, zero, suc, ◌+◌, Bool, true, false, List, [], ◌∷◌, ◌++◌, length, drop, Option, Some, None}
 use Rattle.alma_base.specs.declared.number.Range.{Range}
-use Rattle.alma_code.specs.declared.cell.SlotKind.{SlotKind}
 use Rattle.alma_code.specs.declared.cell.SlotKind.TheVariants as slot
 use Rattle.alma_code.specs.declared.instr.Instr.{Instr}
 use Rattle.alma_code.specs.declared.instr.Instr.TheVariants as I
 use Rattle.alma_ir.specs.declared.phrase.Cmp.TheVariants as cmp
-use Rattle.alma_ir.specs.Tree.{Stmts, Stmt, Arms, CaseArms, Else, Branches, Loop, ReturnExpr, Test, Tests, Expr, Links, Args, Arg, Desig, Sels, Sel, Compare, no_args, more_args}
-use Rattle.alma_ir.specs.Phrases.{Phrase, stmts_phrases, stmt_phrases, arms_phrases, cases_phrases, else_phrases, branches_phrases, loop_phrases, return_phrases, test_phrases, tests_phrases, expr_phrases, links_phrases, args_phrases, arg_phrases, desig_phrases, sels_phrases, sel_phrases}
-use Rattle.alma_ir.specs.Lines.{behind, stmts_with, stmt_with, arms_with, cases_with, else_with, branches_with, loop_with, return_with, test_with, tests_with, expr_with, links_with, args_with, arg_with, desig_with, sels_with, sel_with}
+use Rattle.alma_ir.specs.declared.phrase.Expr as E
+use Rattle.alma_ir.specs.Tree.{Stmts, Stmt, Arms, CaseArms, Else, Branches, Test, Tests, Expr, Links, Args, Arg, Desig, Sels, Sel, Compare, no_args, more_args}
+use Rattle.alma_ir.specs.Phrases.{Phrase, stmts_phrases, stmt_phrases, arms_phrases, cases_phrases, else_phrases, branches_phrases, test_phrases, tests_phrases, expr_phrases, links_phrases, args_phrases, arg_phrases, desig_phrases, sels_phrases, sel_phrases}
+use Rattle.alma_ir.specs.Lines.{behind, stmts_with, stmt_with, arms_with, cases_with, else_with, branches_with, test_with, tests_with, expr_with, links_with, args_with, arg_with, desig_with, sels_with, sel_with}
+use Rattle.alma_ir.specs.View.{expr_of}
 use Rattle.alma_lower_work.specs.declared.stand.Stand.{Stand}
 use Rattle.alma_lower_work.specs.declared.stand.Stand.TheVariants as stands
 use Rattle.alma_lower_work.specs.Front.{Around, Front, Adds, Holes}
 use Rattle.alma_lower_templates.specs.Lined.{Lined, own, in_row}
-use Rattle.alma_lower_templates.specs.Slots.{shift_of, bare_desig, bare, unless_bare, is_simple, mark_slots, handed_slots, call_links, stmts_slots, stmt_slots, arms_slots, dead_slots, cases_slots, else_slots, behind_condition, branches_slots, for_slots, some_slots, return_slots, test_slots, and_slots, or_slots, expr_slots, links_slots, args_slots, arg_slots, desig_slots, sels_slots, sel_slots}
+use Rattle.alma_lower_templates.specs.Slots.{shift_of, bare_desig, bare, stays, unless_bare, is_simple, mark_slots, handed_slots, call_links, stmts_slots, stmt_slots, arms_slots, dead_slots, cases_slots, else_slots, behind_condition, branches_slots, test_slots, and_slots, or_slots, expr_slots, links_slots, args_slots, arg_slots, desig_slots, sels_slots, sel_slots}
 use Rattle.alma_lower_templates.specs.Pieces.{condition, guarded, first_of_two, chosen, labels_code, behind_labels, case_arm, passed_over, has_dead, first_argument}
 use Rattle.alma_lower_templates.specs.Templates as T
 
@@ -56,6 +58,11 @@ abbrev pub load_instr : Stand → (to : ℕ) → Instr
 load_instr (stands.Own from) to = I.Move to from
 load_instr (stands.Placed place) to = I.Load to place
 
+-- the slot of the routine in which a first operand stays, with the next one if there is one
+abbrev pub stays_before : (first : Expr) → (next : Option (Bor E.Expr)) → Option ℕ
+stays_before first (Some next) = stays first (expr_of next.now)
+stays_before first None = None
+
 -- whether an expression is a test of inequality
 abbrev pub is_unequal : Expr → Bool
 is_unequal (Compare cmp.Unequal x y) = true
@@ -81,13 +88,17 @@ inside x = drop 1 (stmt_phrases x)
 pub record PutsExpr (s : Around) (line : ℕ) (a b : Front) (e : Expr) : Type 0 where
   pub all : Adds a b (λ at lo ls. T.expr_code s.program s.tables s.routine line at lo (expr_with e ls)) (λ ls. expr_slots s.program s.routine (expr_with e ls)) (behind (expr_phrases e))
 
+-- a first operand, which has no code where it stays; the first of its slots is for the value of the phrase round it
+pub record PutsFirstOperand (s : Around) (line : ℕ) (a b : Front) (stays : Option ℕ) (e : Expr) : Type 0 where
+  pub all : Adds a b (λ at lo ls. unless_bare stays (T.expr_code s.program s.tables s.routine line at lo (expr_with e ls))) (λ ls. expr_slots s.program s.routine (expr_with e ls)) (behind (expr_phrases e))
+
 -- a value that is used at once
 pub record PutsValue (s : Around) (line : ℕ) (a b : Front) (e : Expr) : Type 0 where
   pub all : Adds a b (λ at lo ls. unless_bare (bare (expr_with e ls)) (T.expr_code s.program s.tables s.routine line at lo (expr_with e ls))) (λ ls. unless_bare (bare (expr_with e ls)) (expr_slots s.program s.routine (expr_with e ls))) (behind (expr_phrases e))
 
--- operators and operands, over the number in a slot
-pub record PutsLinks (s : Around) (line to : ℕ) (a b : Front) (links : Links) : Type 0 where
-  pub all : Adds a b (λ at lo ls. T.links_code s.program s.tables s.routine line at to lo (links_with links ls)) (λ ls. links_slots s.program s.routine (links_with links ls)) (behind (links_phrases links))
+-- operators and operands, of which the first takes the number in the slot `first`
+pub record PutsLinks (s : Around) (line first to : ℕ) (a b : Front) (links : Links) : Type 0 where
+  pub all : Adds a b (λ at lo ls. T.links_code s.program s.tables s.routine line at first to lo (links_with links ls)) (λ ls. links_slots s.program s.routine (links_with links ls)) (behind (links_phrases links))
 
 -- a place
 pub record PutsDesig (s : Around) (line : ℕ) (a b : Front) (d : Desig) : Type 0 where

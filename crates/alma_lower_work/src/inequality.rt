@@ -8,6 +8,7 @@ ghost use Rattle.alma_lower_templates.specs.Pieces as pieces;
 ghost use Rattle.alma_lower_work.specs.Front.{front, Codes};
 ghost use Rattle.alma_lower_work.specs.Puts.{is_unequal};
 
+use crate::first_operand::FirstOperand;
 use crate::work::Work;
 use alma_base::NoMemory;
 use alma_code::Instr;
@@ -34,14 +35,20 @@ pub fn unequal(expr: &Expr) -> Option<(&Expr, &Expr)>
 }
 
 /// The end of such a test, behind both numbers: it fails where they are equal, and else goes over the failure.
-pub fn put_unequal(work: &mut Work, line: u32, to: u32, other: u32) -> Result<(), NoMemory>
-    ensures { OnOk result (Codes (front work.old) (front work.new)
-        (own line (pieces.unequal_code to other (length (front work.old).code)))) }
+pub fn put_unequal(
+    work: &mut Work,
+    line: u32,
+    first: FirstOperand,
+    other: u32,
+) -> Result<(), NoMemory>
+    ensures { OnOk result (Codes (front work.old) (front work.new) (own line
+        (pieces.unequal_code first.to first.from other (length (front work.old).code)))) }
 {
+    let FirstOperand { from, to } = first;
     let behind = work.behind(3)?;
     let compare = Instr::Equal {
         to,
-        left: to,
+        left: from,
         right: other,
     };
     let equal = work.add(line, compare);

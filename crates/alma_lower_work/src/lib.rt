@@ -1,6 +1,7 @@
 //! The work of the emitter: code in the making, the scene of a routine, and the single instructions of values and places.
 #![tactic(auto)]
 
+mod first_operand;
 mod inequality;
 mod place;
 mod scene;
@@ -9,6 +10,7 @@ mod stand;
 mod value;
 mod work;
 
+pub use first_operand::{FirstOperand, next_operand, own_first, put_at, stay_at};
 pub use inequality::{put_unequal, unequal};
 pub use place::{put_links, put_root};
 pub use scene::Scene;

@@ -8,17 +8,17 @@ ghost use Rattle.alma_lower_templates.specs.Templates as T;
 ghost use Rattle.alma_lower_work.specs.Front.{around, front, result_of, Codes};
 ghost use Rattle.alma_lower_work.specs.Puts.{first_of};
 
+use crate::first_operand::FirstOperand;
 use crate::scene::Scene;
 use crate::work::Work;
 use alma_base::{NoMemory, Range};
 use alma_code::Instr;
 use alma_ir::{Cmp, Op, ReadAs, WriteAs};
 
-/// The instruction of an operator, over the number in a slot.
-pub fn op_instr(op: Op, to: u32, right: u32) -> Instr
-    ensures { result ≡ pieces.op_code op to right }
+/// The instruction of an operator on the numbers in two slots.
+pub fn op_instr(op: Op, to: u32, left: u32, right: u32) -> Instr
+    ensures { result ≡ pieces.op_code op to left right }
 {
-    let left = to;
     match op {
         Op::Add => Instr::Add { to, left, right },
         Op::Sub => Instr::Sub { to, left, right },
@@ -50,11 +50,18 @@ pub fn read_instr(how: ReadAs, place: u32, range: u32) -> Instr
 }
 
 /// A comparison of the numbers in two slots.
-pub fn put_cmp(work: &mut Work, line: u32, cmp: Cmp, to: u32, other: u32) -> Result<(), NoMemory>
+pub fn put_cmp(
+    work: &mut Work,
+    line: u32,
+    cmp: Cmp,
+    first: FirstOperand,
+    other: u32,
+) -> Result<(), NoMemory>
     ensures { OnOk result (Codes (front work.old) (front work.new)
-        (own line (pieces.cmp_code cmp to other))) }
+        (own line (pieces.cmp_code cmp first.to first.from other))) }
 {
-    work.put(line, cmp_instr(cmp, to, other))?;
+    let FirstOperand { from, to } = first;
+    work.put(line, cmp_instr(cmp, to, from, other))?;
     if let Cmp::Unequal = cmp {
         return work.add(line, Instr::Flip { to, from: to });
     }
@@ -62,10 +69,9 @@ pub fn put_cmp(work: &mut Work, line: u32, cmp: Cmp, to: u32, other: u32) -> Res
 }
 
 // The instruction of a comparison, which for Unequal gives the contrary.
-fn cmp_instr(cmp: Cmp, to: u32, other: u32) -> Instr
-    ensures { result ≡ first_of (pieces.cmp_code cmp to other) }
+fn cmp_instr(cmp: Cmp, to: u32, left: u32, right: u32) -> Instr
+    ensures { result ≡ first_of (pieces.cmp_code cmp to left right) }
 {
-    let (left, right) = (to, other);
     match cmp {
         Cmp::Equal | Cmp::Unequal => Instr::Equal { to, left, right },
         Cmp::Less => Instr::Less { to, left, right },

@@ -3,7 +3,7 @@ use Rattle.std.proofs.Common.{◌≡◌, ℕ, zero, suc, ◌+◌, ◌≤◌, Lis
 use Rattle.std.specs.Prelude.{Bool, true, false, if◌then◌else◌}
 use Rattle.std.proofs.lemmas.List.{append-nil}
 use Rattle.alma_code.specs.Fits.{Fits}
-use Rattle.alma_code.specs.Machine.{State, Stepped, Going, quiet_step, step, after, prints}
+use Rattle.alma_code.specs.Machine.{State, Stepped, step, after, prints}
 use Rattle.alma_code.specs.Plain.{PlainCode}
 use Rattle.alma_code_laws.proofs.Runs.{stays_fit}
 use Rattle.alma_machine.specs.Quick.{Quickly, Quietly}

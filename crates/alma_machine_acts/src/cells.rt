@@ -51,7 +51,7 @@ impl<M: MachineMemory> Registers<M> {
     }
 
     /// 1 where the cell at the place in a slot is known, and else 0.
-    #[inline(always)]
+    #[inline]
     #[tactic(auto, using(crate::proofs::Words::one_slot, std::proofs::lemmas::Grind::common_steps))]
     pub fn knows(&self, of: u32) -> Result<i64, RunFault>
         requires { HasOneCell (M.picture self.now.memory).now of }

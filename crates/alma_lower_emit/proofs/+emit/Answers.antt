@@ -20,7 +20,7 @@ use Rattle.alma_lower_parts.proofs.CallForms.{no_args_put, args_put, value_arg_p
 use Rattle.alma_lower_parts.proofs.GuardForms.{simple_guard, barrier_guard}
 use Rattle.alma_lower_parts.proofs.IfForms.{truth_put}
 use Rattle.alma_lower_parts.proofs.TestForms.{value_test_put, unequal_put, bind_left_put, bind_right_put, unify_put, same_put, seq_put, no_and_put, more_and_put, and_put, not_put, first_put, last_put}
-use Rattle.alma_lower_parts.proofs.Said.{on_ok, if_ok, then_ok, from_both, from_said, said, through, guard_is, test_as, expr_as, arg_as, sel_as, expr_is, args_is, links_is, sels_is, desig_is, operands_is, tests_is, args_at, own_target, own_stands, made_target, made_stands, own_value, own_at, made_value, made_at, no_parts, part_step, codes_is, some_elements, no_elements, drop_one, drop_last}
+use Rattle.alma_lower_parts.proofs.Said.{on_ok, if_ok, then_ok, from_both, from_said, said, through, guard_is, test_as, expr_as, arg_as, sel_as, expr_is, args_is, links_is, sels_is, desig_is, operands_is, tests_is, args_at, stays_at, stays_there, put_there, put_slot, first_is, first_at, own_target, own_stands, made_target, made_stands, own_value, own_at, made_value, made_at, no_parts, part_step, codes_is, some_elements, no_elements, drop_one, drop_last}
 use Rattle.alma_lower_parts.proofs.Rows.{more_operands, or_none, or_one, or_of}
 use Rattle.alma_lower_parts.proofs.Sizes.{test_at, arg_at, sel_at, link_at}
 use Rattle.alma_lower_emit.proofs.Behind.{put_behind, value_behind, slot_behind, jump_behind}
@@ -104,15 +104,32 @@ expression::emit_load-returns g t c =
 pub expression::emit_chain-returns : goal.expression::emit_chain-returns
 expression::emit_chain-returns g t c =
     record {
-      slot = if_ok c.slot_of.result (λ given is. is ∙ c.in_ok-to.ensures.slot) c.slot_of.ensures.slot;
-      puts = on_ok c.slot_of.result (λ ok. chain_put (around c.args.scene.now) c.args.line _ _ _ _ _ _ _ _ c.in_ok-to.ensures.puts c.in_ok-to.ensures.slot c.in_ok-put_neg.ensures (said c.emit_links.result ok c.emit_links.ensures.puts)) c.slot_of.ensures.done;
+      slot = if_ok c.slot_of.result (λ given is. is ∙ c.in_ok-first.ensures.to) c.slot_of.ensures.slot;
+      puts = on_ok c.slot_of.result (λ ok. chain_put (around c.args.scene.now) c.args.line _ _ _ _ _ _ _ _ _ (first_is (around c.args.scene.now) c.args.line _ _ _ _ _ (c.next_operand-next.ensures _) c.in_ok-first.ensures.puts) c.in_ok-first.ensures.to
+          (first_at (around c.args.scene.now) c.args.line _ _ _ _ (c.next_operand-next.ensures _) c.in_ok-first.ensures.from) c.in_ok-put_neg.ensures (said c.emit_links.result ok c.emit_links.ensures.puts)) c.slot_of.ensures.done;
+    }
+
+pub expression::emit_first-returns-in-Some : goal.expression::emit_first-returns-in-Some
+expression::emit_first-returns-in-Some g t c =
+    record {
+      to = c.stay_at.ensures.to;
+      from = if_ok c.stay_at.result (λ first h. h ∙ stays_at (around c.args.scene.now) c.args.line _ _ _ (sym c.in-Some.is ∙ c.in_ok-from.ensures)) c.stay_at.ensures.from;
+      puts = on_ok c.stay_at.result (stays_there (around c.args.scene.now) c.args.line _ _ _ _ _ (sym c.in-Some.is ∙ c.in_ok-from.ensures)) c.stay_at.ensures.takes;
+    }
+
+pub expression::emit_first-returns-in-None : goal.expression::emit_first-returns-in-None
+expression::emit_first-returns-in-None g t c =
+    record {
+      to = through c.emit_expr.result c.put_at.result c.emit_expr.ensures.slot c.put_at.ensures.done c.put_at.ensures.to (λ slot first is h. h ∙ is);
+      from = through c.emit_expr.result c.put_at.result c.emit_expr.ensures.slot c.put_at.ensures.done c.put_at.ensures.from (λ slot first is h. h ∙ put_slot (around c.args.scene.now) c.args.line _ _ _ (sym c.in-None.is ∙ c.in_ok-from.ensures) is);
+      puts = on_ok c.put_at.result (λ ok. put_there (around c.args.scene.now) c.args.line _ _ _ _ (sym c.in-None.is ∙ c.in_ok-from.ensures) (said c.emit_expr.result ok c.emit_expr.ensures.puts)) c.put_at.ensures.done;
     }
 
 pub expression::emit_compare-returns : goal.expression::emit_compare-returns
 expression::emit_compare-returns g t c =
     record {
-      slot = if_ok c.slot_of.result (λ given is. is ∙ c.in_ok-to.ensures.slot) c.slot_of.ensures.slot;
-      puts = on_ok c.slot_of.result (λ ok. compare_put (around c.args.scene.now) c.args.line _ _ _ _ _ _ _ _ _ c.in_ok-to.ensures.puts c.in_ok-to.ensures.slot c.in_ok-other.ensures.puts c.in_ok-other.ensures.value (said c.put_cmp.result ok c.put_cmp.ensures)) c.slot_of.ensures.done;
+      slot = if_ok c.slot_of.result (λ given is. is ∙ c.in_ok-first.ensures.to) c.slot_of.ensures.slot;
+      puts = on_ok c.slot_of.result (λ ok. compare_put (around c.args.scene.now) c.args.line _ _ _ _ _ _ _ _ _ _ c.in_ok-first.ensures.puts c.in_ok-first.ensures.to c.in_ok-first.ensures.from c.in_ok-other.ensures.puts c.in_ok-other.ensures.value (said c.put_cmp.result ok c.put_cmp.ensures)) c.slot_of.ensures.done;
     }
 
 pub expression::emit_truth-returns : goal.expression::emit_truth-returns
@@ -193,9 +210,9 @@ test::emit_test-returns-in-Value g t c =
     let view : test_of c.args.test.now ≡ tree.Value (expr_of c.in-Value.value) = ap test_of c.in-Value.is ∙ Views.value_view _ in
     record { puts = test_as c.emit_checked.result (around c.args.scene.now) c.args.line _ _ _ _ view c.emit_checked.ensures.puts }
 
-pub test::emit_checked-returns-in_ok-to-in-Some : goal.test::emit_checked-returns-in_ok-to-in-Some
-test::emit_checked-returns-in_ok-to-in-Some g t c =
-    record { puts = test_as c.unequal_of.result (around c.args.scene.now) c.args.line _ _ _ _ (ap tree.Value c.in-Some.ensures) (put_behind c.emit_value-other.result c.unequal_of.result c.emit_value-other.ensures.puts c.emit_value-other.ensures.value c.unequal_of.ensures.done c.unequal_of.ensures.codes (λ at puts is h. unequal_put (around c.args.scene.now) c.args.line _ _ _ _ _ _ _ _ c.in_ok-to-in-Some.ensures.puts c.in_ok-to-in-Some.ensures.slot puts is h)) }
+pub test::emit_checked-returns-in_ok-first-in-Some : goal.test::emit_checked-returns-in_ok-first-in-Some
+test::emit_checked-returns-in_ok-first-in-Some g t c =
+    record { puts = test_as c.unequal_of.result (around c.args.scene.now) c.args.line _ _ _ _ (ap tree.Value c.in-Some.ensures) (put_behind c.emit_value-other.result c.unequal_of.result c.emit_value-other.ensures.puts c.emit_value-other.ensures.value c.unequal_of.ensures.done c.unequal_of.ensures.codes (λ at puts is h. unequal_put (around c.args.scene.now) c.args.line _ _ _ _ _ _ _ _ _ c.in_ok-first-in-Some.ensures.puts c.in_ok-first-in-Some.ensures.to c.in_ok-first-in-Some.ensures.from puts is h)) }
 
 pub test::emit_checked-returns-in-None : goal.test::emit_checked-returns-in-None
 test::emit_checked-returns-in-None g t c =
@@ -293,10 +310,10 @@ pub expression::emit_links-loop-link-preserved : goal.expression::emit_links-loo
 expression::emit_links-loop-link-preserved g t c =
     let l = c.loop-link in
     let one : links_list (drop l.link-index c.args.links.now) ≡ tree.more_links c.link-item.result.op (expr_of c.link-item.result.operand) (links_list (drop (l.link-index + 1) c.args.links.now)) = ap links_list (drop_one c.args.links.now l.link-index c.link-item.result c.loop-link-test.true c.link-item.is) in
-    λ e h. l.invariant e (links_is (around c.args.scene.now) c.args.line c.args.to _ _ _ _ (sym one) (links_put (around c.args.scene.now) c.args.line _ _ _ _ _ _ _ _ _ c.in_ok-operand.ensures.puts c.in_ok-operand.ensures.value (codes_is _ _ c.args.line _ _ c.op_instr.ensures c.in_ok-add.ensures) h))
+    λ e h. l.invariant e (links_is (around c.args.scene.now) c.args.line _ c.args.first.to _ _ _ _ (sym one) (links_put (around c.args.scene.now) c.args.line _ _ _ _ _ _ _ _ _ _ c.in_ok-operand.ensures.puts c.in_ok-operand.ensures.value (codes_is _ _ c.args.line _ _ c.op_instr.ensures c.in_ok-add.ensures) h))
 
 pub expression::emit_links-returns : goal.expression::emit_links-returns
-expression::emit_links-returns g t c = record { puts = c.loop-link.invariant _ (links_is (around c.args.scene.now) c.args.line c.args.to _ _ _ _ (ap links_list (sym (drop_of_length-le c.args.links.now (omega (arith, c.loop-link-test.false))))) (no_links_put (around c.args.scene.now) c.args.line _ _)) }
+expression::emit_links-returns g t c = record { puts = c.loop-link.invariant _ (links_is (around c.args.scene.now) c.args.line _ c.args.first.to _ _ _ _ (ap links_list (sym (drop_of_length-le c.args.links.now (omega (arith, c.loop-link-test.false))))) (no_links_put (around c.args.scene.now) c.args.line _ _ _)) }
 
 pub test::emit_and-loop-test-init : goal.test::emit_and-loop-test-init
 test::emit_and-loop-test-init g t c = λ e h. h
@@ -480,8 +497,8 @@ test::emit_test-emit_checked-requires g t c κs within =
     let view : test_of c.args.test.now ≡ tree.Value (expr_of c.in-Value.value) = ap test_of c.in-Value.is ∙ Views.value_view _ in
     (omega (arith, ap test_nodes view), (search rules, c.requires.emits))
 
-pub test::emit_checked-emit_expr-requires : goal.test::emit_checked-emit_expr-requires
-test::emit_checked-emit_expr-requires g t c κs within = (omega (arith, ap expr_nodes c.in-Some.ensures), (search rules, c.requires.emits))
+pub test::emit_checked-emit_first-requires : goal.test::emit_checked-emit_first-requires
+test::emit_checked-emit_first-requires g t c κs within = (omega (arith, ap expr_nodes c.in-Some.ensures), (search rules, c.requires.emits))
 
 pub test::emit_checked-emit_value-other-requires : goal.test::emit_checked-emit_value-other-requires
 test::emit_checked-emit_value-other-requires g t c κs within = (omega (arith, ap expr_nodes c.in-Some.ensures), (search rules, c.requires.emits))
@@ -530,14 +547,14 @@ designator::emit_target-emit_desig-requires g t c κs within = (omega arith, (se
 pub expression::emit_load-emit_target-requires : goal.expression::emit_load-emit_target-requires
 expression::emit_load-emit_target-requires g t c κs within = (omega arith, (search rules, c.requires.emits))
 
-pub expression::emit_chain-emit_expr-requires : goal.expression::emit_chain-emit_expr-requires
-expression::emit_chain-emit_expr-requires g t c κs within = (omega arith, (search rules, c.requires.emits))
+pub expression::emit_chain-emit_first-requires : goal.expression::emit_chain-emit_first-requires
+expression::emit_chain-emit_first-requires g t c κs within = (omega arith, (search rules, c.requires.emits))
 
 pub expression::emit_chain-emit_links-requires : goal.expression::emit_chain-emit_links-requires
 expression::emit_chain-emit_links-requires g t c κs within = (omega arith, (search rules, c.requires.emits))
 
-pub expression::emit_compare-emit_expr-requires : goal.expression::emit_compare-emit_expr-requires
-expression::emit_compare-emit_expr-requires g t c κs within = (omega arith, (search rules, c.requires.emits))
+pub expression::emit_compare-emit_first-requires : goal.expression::emit_compare-emit_first-requires
+expression::emit_compare-emit_first-requires g t c κs within = (omega arith, (search rules, c.requires.emits))
 
 pub expression::emit_compare-emit_value-requires : goal.expression::emit_compare-emit_value-requires
 expression::emit_compare-emit_value-requires g t c κs within = (omega arith, (search rules, c.requires.emits))
@@ -547,6 +564,9 @@ expression::emit_truth-emit_guard-requires g t c κs within = (omega arith, (sea
 
 pub expression::emit_known-emit_desig-requires : goal.expression::emit_known-emit_desig-requires
 expression::emit_known-emit_desig-requires g t c κs within = (omega arith, (search rules, c.requires.emits))
+
+pub expression::emit_first-emit_expr-requires : goal.expression::emit_first-emit_expr-requires
+expression::emit_first-emit_expr-requires g t c κs within = (omega arith, (search rules, c.requires.emits))
 
 pub expression::emit_value-emit_expr-requires : goal.expression::emit_value-emit_expr-requires
 expression::emit_value-emit_expr-requires g t c κs within = (omega arith, (search rules, c.requires.emits))

@@ -47,6 +47,9 @@ decreases-expression::emit_load g l = 16 * (desig_nodes (desig_of l.desig.now)) 
 abbrev pub decreases-expression::emit_chain : goal.decreases-expression::emit_chain
 decreases-expression::emit_chain g l = 16 * (expr_nodes (expr_of l.first.now) + links_nodes (links_list l.links.now)) + 3
 
+abbrev pub decreases-expression::emit_first : goal.decreases-expression::emit_first
+decreases-expression::emit_first g l = 16 * (expr_nodes (expr_of l.expr.now)) + 1
+
 abbrev pub decreases-expression::emit_links : goal.decreases-expression::emit_links
 decreases-expression::emit_links g l = 16 * (links_nodes (links_list l.links.now)) + 2
 
@@ -113,7 +116,7 @@ invariant-designator::emit_sels-loop-sel g l = record {
 
 abbrev pub invariant-expression::emit_links-loop-link : goal.invariant-expression::emit_links-loop-link
 invariant-expression::emit_links-loop-link g l =
-    (c : Front) → PutsLinks (around l.scene) l.line l.to (front l.work) c (links_list (drop l.link-index l.links)) → PutsLinks (around l.scene) l.line l.to (front l.fn.work) c (links_list l.links)
+    (c : Front) → PutsLinks (around l.scene) l.line l.left l.first.to (front l.work) c (links_list (drop l.link-index l.links)) → PutsLinks (around l.scene) l.line l.first.from l.first.to (front l.fn.work) c (links_list l.links)
 
 abbrev pub invariant-test::emit_and-loop-test : goal.invariant-test::emit_and-loop-test
 invariant-test::emit_and-loop-test g l =

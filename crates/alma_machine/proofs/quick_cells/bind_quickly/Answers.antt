@@ -1,4 +1,4 @@
-use Rattle.std.proofs.Common.{◌≡◌, ℤ, refl, ◌∙◌, rules}
+use Rattle.std.proofs.Common.{ℤ, refl, ◌∙◌, rules}
 use Rattle.alma_code.specs.declared.cell.CellPlace.{CellPlace}
 use Rattle.alma_code.specs.Machine.{Stepped, number, content, binds_content}
 use Rattle.alma_machine.specs.View.{run_state}

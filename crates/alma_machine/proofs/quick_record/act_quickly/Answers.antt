@@ -1,7 +1,6 @@
 use Rattle.std.proofs.Common.{sym, ◌∙◌, rules, to_z, of_z, w64}
 use Rattle.std.proofs.lemmas.Int.{to_z-of_z}
 use Rattle.alma_code.specs.declared.instr.Instr.TheVariants as I
-use Rattle.alma_code.specs.Machine.{act}
 use Rattle.alma_machine.specs.Needs.{Needs}
 use Rattle.alma_machine.specs.View.{run_state}
 use Rattle.alma_machine.proofs.Forms.{const_is, by_one, by_two, by_three, by_four, needs_of, done_of, quietly_of}
