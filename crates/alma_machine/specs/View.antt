@@ -10,7 +10,8 @@ use Rattle.alma_machine_acts.specs.declared.registers.Registers.{Registers}
 
 -- the state of a run over a Memory: the frames and entries are those of its picture
 abbrev pub run_state : Registers Picture → State
-run_state r = state_of (λ (m : Picture). record { now = m.now; held = m.held; choice_room = m.choice_room; trail_room = m.trail_room; past = [] }) r
+run_state r =
+    state_of (λ (m : Picture). record { now = m.now; held = m.held; choice_room = m.choice_room; trail_room = m.trail_room; past = [] }) r
 
 -- its code and input, the state of the copying code machine, whether it is running, and what the last step printed
 pub record MachineView : Type 0 where

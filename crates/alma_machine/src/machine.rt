@@ -398,8 +398,7 @@ impl<'b, 'i> Machine<'b, 'i> {
             ≡ after self.old.code self.old.input budget self.old.state) }
         ensures out { OnWhole result
             (Appends (K.side out.old).written (K.side out.new).written
-            (prints self.old.code self.old.input
-            budget self.old.state)) }
+            (prints self.old.code self.old.input budget self.old.state)) }
 
         // In each case: what it does in the steps that were made.
         ensures few { self.new.state.steps ≤ self.old.state.steps + budget }
@@ -408,8 +407,7 @@ impl<'b, 'i> Machine<'b, 'i> {
         ensures steps_out { OnStepsOut result (made self.old self.new ≡ budget) }
         ensures memory { OnMemory result
             (Appends (K.side out.old).written (K.side out.new).written
-            (prints self.old.code self.old.input
-            (made self.old self.new) self.old.state)) }
+            (prints self.old.code self.old.input (made self.old self.new) self.old.state)) }
         ensures write_fault { OnWriteFault result
             (AppendsFront (K.side out.old).written (K.side out.new).written (prints self.old.code
             self.old.input (made self.old self.new) self.old.state)) }

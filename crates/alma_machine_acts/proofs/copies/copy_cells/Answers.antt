@@ -9,7 +9,8 @@ returns-clause-ok g c =
     let s = state_of g.M.MachineMemory.picture c.args.registers.now in
     let to = c.in-Ok.place in
     let from = c.in-Ok-place.place in
-    ok_is c.copy.result [] (state_of g.M.MachineMemory.picture c.copy.new.registers) (copies_cells to.len s.now s to.frame to.slot from.frame from.slot)
+    ok_is c.copy.result [] (state_of g.M.MachineMemory.picture c.copy.new.registers)
+    (copies_cells to.len s.now s to.frame to.slot from.frame from.slot)
     (place s c.args.to (λ p. place s c.args.from (λ q. copies_cells p.len s.now s p.frame p.slot q.frame q.slot))) c.copy.ensures.ok
     (sym (c.in-Ok.ensures.1 s (λ p. place s c.args.from (λ q. copies_cells p.len s.now s p.frame p.slot q.frame q.slot)) refl
     ∙ c.in-Ok-place.ensures.1 s (λ q. copies_cells to.len s.now s to.frame to.slot q.frame q.slot) refl))

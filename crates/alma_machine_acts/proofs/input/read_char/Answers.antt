@@ -9,7 +9,8 @@ pub returns-in-Ok-clause-ok : goal.returns-in-Ok-clause-ok
 returns-in-Ok-clause-ok g c =
     let s = state_of g.M.MachineMemory.picture c.args.registers.now in
     let range = c.args.range.now in
-    ok_is c.take.result [] (state_of g.M.MachineMemory.picture c.take.new.registers) (takes_read s range c.in-Ok.place c.find_char.result) _ c.take.ensures.ok
+    ok_is c.take.result [] (state_of g.M.MachineMemory.picture c.take.new.registers)
+    (takes_read s range c.in-Ok.place c.find_char.result) _ c.take.ensures.ok
     (sym (c.in-Ok.ensures.1 s (λ p. position s (λ n. byte_or_failure s range p n (slice_get c.args.input.now n))) refl
     ∙ c.position-from.ensures s (λ n. byte_or_failure s range c.in-Ok.place n (slice_get c.args.input.now n)) refl
     ∙ c.find_char.ensures.found s range c.in-Ok.place))
