@@ -32,7 +32,8 @@ count_is : (text : List ℕ) (count : ℕ) → IsNumeral 7 text count → count 
 count_is text count h small some =
     let value : value_of text ≡ count = h.value in
     let all : is_count text ≡ true =
-    ap (λ b. b && (leb 1 (length text) && (leb (length text) 7 && (leb 1 (value_of text) && leb (value_of text) greatest_steps)))) (all_pass is_digit text h.digits)
+    ap (λ b. b && (leb 1 (length text) && (leb (length text) 7 && (leb 1 (value_of text) && leb (value_of text) greatest_steps))))
+    (all_pass is_digit text h.digits)
     ∙ ap (λ b. b && (leb (length text) 7 && (leb 1 (value_of text) && leb (value_of text) greatest_steps))) (le-leb 1 (length text) h.some)
     ∙ ap (λ b. b && (leb 1 (value_of text) && leb (value_of text) greatest_steps)) (le-leb (length text) 7 h.short)
     ∙ ap (λ b. b && leb (value_of text) greatest_steps) (le-leb 1 (value_of text) (subst (λ n. 1 ≤ n) (sym value) some))
@@ -52,7 +53,12 @@ counts text e =
     let c = and_parts (leb (length text) 7) _ b.1 in
     let d = and_parts (leb 1 (value_of text)) _ c.1 in
     record {
-      numeral = record { digits = pass_all is_digit text a.0; some = leb-true 1 (length text) b.0; short = leb-true (length text) 7 c.0; value = refl };
+      numeral = record {
+        digits = pass_all is_digit text a.0;
+        some = leb-true 1 (length text) b.0;
+        short = leb-true (length text) 7 c.0;
+        value = refl;
+      };
       small = leb-true (value_of text) greatest_steps d.1;
       some = leb-true 1 (value_of text) d.0;
     }
@@ -66,7 +72,8 @@ no_count text other = by (is_count text) refl
     by true e = absurd (other (counts text e))
 
 -- what reading a numeral answers
-pub count_found : (text : List ℕ) (count : ℕ) → IsNumeral 7 text count × (count ≤ greatest_steps) → (count ≡ 0 → ⊥) → Some count ≡ count_in text
+pub count_found : (text : List ℕ) (count : ℕ) → IsNumeral 7 text count × (count ≤ greatest_steps) → (count ≡ 0 → ⊥)
+    → Some count ≡ count_in text
 count_found text count h some = sym (count_is text count h.0 h.1 (omega (arith, some)))
 
 pub count_zero : (text : List ℕ) (count : ℕ) → IsNumeral 7 text count × (count ≤ greatest_steps) → count ≡ 0 → None ≡ count_in text
@@ -108,7 +115,9 @@ word_is (b ∷ bytes) h = ap (λ x. x && list_all is_word_byte bytes) h.0 ∙ al
 
 is_word_of : (text : List ℕ) → is_word text ≡ true → IsWord text
 is_word_of [] h = cc h
-is_word_of (b ∷ bytes) h = let parts = and_parts (is_letter b) (list_all is_word_byte bytes) h in (parts.0, pass_all is_word_byte bytes parts.1)
+is_word_of (b ∷ bytes) h =
+    let parts = and_parts (is_letter b) (list_all is_word_byte bytes) h in
+    (parts.0, pass_all is_word_byte bytes parts.1)
 
 -- a spelling of a name
 spelled_name : (text : List ℕ) → Spells kinds.Name text → is_name text ≡ true

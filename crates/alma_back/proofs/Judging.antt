@@ -42,7 +42,8 @@ walk_end (Ok done) = Walked
 walk_end (Err stop) = Refused (Stopped stop)
 
 pub goes_walk : (bytes : List ℕ) (out out' : SinkSide) (r : Result (Unit {0}) Stop) → OnOk r (Appends out.written out'.written bytes)
-    → OnErr r (AppendsFront out.written out'.written bytes) → StopsAt out.faults out'.faults r → Goes program (IsDue (prints bytes)) out out' (back_end (walk_end r))
+    → OnErr r (AppendsFront out.written out'.written bytes) → StopsAt out.faults out'.faults r
+    → Goes program (IsDue (prints bytes)) out out' (back_end (walk_end r))
 goes_walk bytes out out' (Ok done) ok front stops = whole (prints bytes) refl refl refl (record { bytes_are = ok; quiet = stops })
 goes_walk bytes out out' (Err Write) ok front stops = cut_short (prints bytes) refl refl (record { front = front; risen = stops })
 goes_walk bytes out out' (Err Memory) ok front stops = hungry_within (prints bytes) refl refl front stops
@@ -56,18 +57,23 @@ silent_end end files input out = whole (silent end) refl refl refl (gains_none o
 module _ (object : List ℕ) (files : FilesSide) (input : SourceSide) (out : SinkSide) where
   -- the object is refused
   pub walked_refused : (lines : List Line) (refusal : Refusal) → object_refusal program object ≡ Some (refusal_end program refusal)
-      → Follows plain program (walked (object_refusal program object) (object_code object) lines) files files input input out out (refusal_end program refusal)
+      → Follows plain program (walked (object_refusal program object) (object_code object) lines) files files input input out out
+      (refusal_end program refusal)
   walked_refused lines refusal e =
-      subst (λ (o : Option Ending). Follows plain program (walked o (object_code object) lines) files files input input out out (refusal_end program refusal)) (sym e)
+      subst (λ (o : Option Ending). Follows plain program (walked o (object_code object) lines) files files input input out out
+      (refusal_end program refusal)) (sym e)
       (course_ends plain program (silent (refusal_end program refusal)) files input out out (refusal_end program refusal)
       (silent_end (refusal_end program refusal) files input out))
 
   -- the script was not read
-  pub judged_unread : (script : List ℕ) (end : BackEnd) → IsUnread script end → Follows plain program (judged object script) files files input input out out (back_end end)
+  pub judged_unread : (script : List ℕ) (end : BackEnd) → IsUnread script end
+      → Follows plain program (judged object script) files files input input out out (back_end end)
   judged_unread script Walked h = absurd h
   judged_unread script (BadLine line) h =
-      subst (λ (r : Result (List Line) ℕ). Follows plain program (judged_by r object) files files input input out out (back_end (BadLine line))) (sym h)
-      (course_ends plain program (silent (back_end (BadLine line))) files input out out (back_end (BadLine line)) (silent_end (back_end (BadLine line)) files input out))
+      subst (λ (r : Result (List Line) ℕ). Follows plain program (judged_by r object) files files input input out out
+      (back_end (BadLine line))) (sym h)
+      (course_ends plain program (silent (back_end (BadLine line))) files input out out (back_end (BadLine line))
+      (silent_end (back_end (BadLine line)) files input out))
   judged_unread script (Refused refusal) h =
       subst (λ (r : Refusal). Follows plain program (judged object script) files files input input out out (refusal_end program r)) (sym h)
       (course_starved program _ _ files input out)
@@ -78,15 +84,18 @@ module _ (object : List ℕ) (files : FilesSide) (input : SourceSide) (out : Sin
         → Follows plain program (walked_on (code_reads code) code lines) files files input input' out out' end
         → Follows plain program (walked (object_refusal program object) (object_code object) lines) files files input input' out out' end
     walked_opened_to code lines sound is follows =
-        subst (λ (o : Option Ending). Follows plain program (walked o (object_code object) lines) files files input input' out out' end) (sym sound)
-        (subst (λ (k : PlainCode). Follows plain program (walked_on (code_reads k) k lines) files files input input' out out' end) is follows)
+        subst (λ (o : Option Ending). Follows plain program (walked o (object_code object) lines) files files input input' out out' end)
+        (sym sound)
+        (subst (λ (k : PlainCode). Follows plain program (walked_on (code_reads k) k lines) files files input input' out out' end) is
+        follows)
 
     -- the script was read
     pub judged_read_to : (script : List ℕ) (lines : List Line) → lines_in script ≡ Ok lines
         → Follows plain program (walked (object_refusal program object) (object_code object) lines) files files input input' out out' end
         → Follows plain program (judged object script) files files input input' out out' end
     judged_read_to script lines is follows =
-        subst (λ (r : Result (List Line) ℕ). Follows plain program (judged_by r object) files files input input' out out' end) (sym is) follows
+        subst (λ (r : Result (List Line) ℕ). Follows plain program (judged_by r object) files files input input' out out' end)
+        (sym is) follows
 
 -- a word cannot stand where it is
 pub bad_followed : (word : ℕ) (files : FilesSide) (input : SourceSide) (out : SinkSide)

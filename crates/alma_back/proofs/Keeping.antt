@@ -131,7 +131,8 @@ module _ (code : PlainCode) (input : List ℕ) where
       keeps_suc = record {
         sound = h.sound;
         state = state_is;
-        past = past ∙ ap (λ (s : State). scene_of s ∷ r.memory.past) h.state ∙ ap (λ (p : List Scene). scene_of (state_at code input n) ∷ p) h.past;
+        past = past ∙ ap (λ (s : State). scene_of s ∷ r.memory.past) h.state
+            ∙ ap (λ (p : List Scene). scene_of (state_at code input n) ∷ p) h.past;
         olds_are = ap (λ (x : List Old). x ++ old_of (state_in r) printed ∷ []) h.olds_are
             ∙ ap (λ (s : State). olds_before code input n ++ old_of s printed ∷ []) h.state
             ∙ ap (λ (p : ℕ). olds_before code input n ++ old_of (state_at code input n) p ∷ []) h.printed_is;
@@ -141,11 +142,18 @@ module _ (code : PlainCode) (input : List ℕ) where
         live = λ k within. live_to k (n - k) within refl;
       }
 
-      pub keeps_step : (olds' : List Old) (printed' : ℕ) → olds' ≡ olds ++ old_of (state_in r) printed ∷ [] → printed' ≡ printed + length bytes
+      pub keeps_step : (olds' : List Old) (printed' : ℕ) → olds' ≡ olds ++ old_of (state_in r) printed ∷ []
+          → printed' ≡ printed + length bytes
           → Keeps code input (length olds') r' olds' printed'
       keeps_step olds' printed' olds_are printed_is =
           let count : suc n ≡ length olds' =
-          omega (arith, ap (λ (x : List Old). length x) olds_are, length_push olds (old_of (state_in r) printed), ap (λ (x : List Old). length x) h.olds_are, olds_count n) in
+          omega (
+            arith,
+            ap (λ (x : List Old). length x) olds_are,
+            length_push olds (old_of (state_in r) printed),
+            ap (λ (x : List Old). length x) h.olds_are,
+            olds_count n,
+          ) in
           subst (λ (k : ℕ). Keeps code input k r' olds' printed') count
           (subst (λ (x : List Old). Keeps code input (suc n) r' x printed') (sym olds_are)
           (subst (λ (p : ℕ). Keeps code input (suc n) r' (olds ++ old_of (state_in r) printed ∷ []) p) (sym printed_is) keeps_suc))
@@ -161,13 +169,16 @@ module _ (code : PlainCode) (input : List ℕ) where
   IsBefore r r' old =
       state_in r' ≡ state_of_parts old.at old.last (mode_by old.failing) r'.memory.now r'.memory.held (r.steps - 1) old.choices old.fails
 
-  before_is : (m : ℕ) (r r' : Registers MachinePicture) (old : Old) → r.steps ≡ suc m → (state_at code input m).steps ≡ m → IsLive (state_at code input m).mode
-      → old ≡ old_of (state_at code input m) (printed_at code input m) → scene_of (state_in r') ≡ scene_of (state_at code input m) → IsBefore r r' old
+  before_is : (m : ℕ) (r r' : Registers MachinePicture) (old : Old) → r.steps ≡ suc m → (state_at code input m).steps ≡ m
+      → IsLive (state_at code input m).mode
+      → old ≡ old_of (state_at code input m) (printed_at code input m) → scene_of (state_in r') ≡ scene_of (state_at code input m)
+      → IsBefore r r' old
       → state_in r' ≡ state_at code input m
   before_is m r r' old steps count live old_is scene is =
       let s = state_at code input m in
       let less : r.steps - 1 ≡ s.steps = omega (arith, steps, count) in
-      is ∙ ap (λ (o : Old). state_of_parts o.at o.last (mode_by o.failing) r'.memory.now r'.memory.held (r.steps - 1) o.choices o.fails) old_is
+      is ∙ ap (λ (o : Old). state_of_parts o.at o.last (mode_by o.failing) r'.memory.now r'.memory.held (r.steps - 1) o.choices o.fails)
+      old_is
       ∙ ap (λ (x : Mode). state_of_parts s.at s.last x r'.memory.now r'.memory.held (r.steps - 1) s.choices s.fails) (mode_is s.mode live)
       ∙ ap (λ (x : Scene). state_of_parts s.at s.last s.mode x.now x.held (r.steps - 1) s.choices s.fails) scene
       ∙ ap (λ (k : ℕ). state_of_parts s.at s.last s.mode s.now s.held k s.choices s.fails) less
@@ -178,7 +189,8 @@ module _ (code : PlainCode) (input : List ℕ) where
   keeps_back zero r olds printed h r' rest old e scene is =
       absurd (omega (arith, ap (λ (x : List Old). length x) (sym e ∙ h.olds_are), length_push rest old))
   keeps_back (suc m) r olds printed h r' rest old e scene is =
-      let both = same_from_push rest (olds_before code input m) old (old_of (state_at code input m) (printed_at code input m)) (sym e ∙ h.olds_are) in
+      let both = same_from_push rest (olds_before code input m) old (old_of (state_at code input m) (printed_at code input m))
+      (sym e ∙ h.olds_are) in
       let pair = scene (scene_of (state_at code input m)) (scenes_before code input m) h.past in
       let same : scene_of (state_in r') ≡ scene_of (state_at code input m) = cc pair in
       let past : r'.memory.past ≡ scenes_before code input m = cc pair in

@@ -16,7 +16,8 @@ use Rattle.alma_back.proofs.Walks.{step_of, no_step}
 -- ---- steps on
 
 -- one of the steps was made
-pub ahead_step : (s t : Standing) (most made : ℕ) → made < most → runs s ≡ true → t ≡ record s { steps = s.steps + 1 } → ahead t (most - (made + 1)) ≡ ahead s (most - made)
+pub ahead_step : (s t : Standing) (most made : ℕ) → made < most → runs s ≡ true → t ≡ record s { steps = s.steps + 1 }
+    → ahead t (most - (made + 1)) ≡ ahead s (most - made)
 ahead_step s t most made within on is =
     let e : suc (most - (made + 1)) ≡ most - made = omega (arith, within) in
     ap (λ (x : Standing). ahead x (most - (made + 1))) (is ∙ sym (step_of s on)) ∙ ap (ahead s) e
@@ -41,7 +42,8 @@ shown_none side all = record { done = []; all_is = refl; out = appends_none side
 
 -- the next line
 pub shown_next : (s : Standing) (lines : List read.Line) (i : ℕ) (line d : read.Line) → i < length lines → line ≡ get_or lines i d
-    → shown s (lines_of (drop i lines)) ≡ line_text (after_line s (line_of line)) (line_of line) ++ shown (after_line s (line_of line)) (lines_of (drop (i + 1) lines))
+    → shown s (lines_of (drop i lines)) ≡ line_text (after_line s (line_of line)) (line_of line) ++ shown (after_line s (line_of line))
+    (lines_of (drop (i + 1) lines))
 shown_next s lines i line d within is =
     ap (λ xs. shown s (lines_of xs)) (drop_more lines i d within ∙ ap (λ x. x ∷ drop (i + 1) lines) (sym is))
 

@@ -49,10 +49,12 @@ module _ (text : List ℕ) (at byte : ℕ) (within : at < length text) (is : byt
       → texts_in text ≡ one_ended (take at text) (texts_in (take (length text - (at + 1)) (drop (at + 1) text)))
   texts_split feed before =
       before ∙ ap (onto (take at text)) (here ∙ ap (by_byte byte (texts_in (drop (at + 1) text))) (eq-eqb byte 10 feed))
-      ∙ onto_one (take at text) (texts_in (drop (at + 1) text)) ∙ ap (λ r. one_ended (take at text) (texts_in r)) (sym (take_rest text (at + 1)))
+      ∙ onto_one (take at text) (texts_in (drop (at + 1) text))
+      ∙ ap (λ r. one_ended (take at text) (texts_in r)) (sym (take_rest text (at + 1)))
 
 -- no line feed came
-pub texts_none : (text : List ℕ) (at : ℕ) → length text ≤ at → texts_in text ≡ onto (take at text) (texts_in (drop at text)) → texts_in text ≡ none_ended text
+pub texts_none : (text : List ℕ) (at : ℕ) → length text ≤ at → texts_in text ≡ onto (take at text) (texts_in (drop at text))
+    → texts_in text ≡ none_ended text
 texts_none text at all before =
     before ∙ ap (λ rest. onto (take at text) (texts_in rest)) (drop_all at text all)
     ∙ ap (λ line. onto line (none_ended [])) (take_all at text all) ∙ onto_none text
@@ -78,7 +80,8 @@ pub lines_cut : (rest : List ℕ) (got : List read.Line) (r : Result (List Line)
 lines_cut rest got r some cut is =
     is ∙ ap (behind (lines_of got)) cut ∙ left_bad rest (lines_of got) some ∙ ap (λ n. Err (n + 1)) (length-map got line_of)
 
-module _ (rest text more : List ℕ) (got : List read.Line) (r : Result (List Line) ℕ) (split : texts_in rest ≡ one_ended text (texts_in more))
+module _ (rest text more : List ℕ) (got : List read.Line) (r : Result (List Line) ℕ)
+    (split : texts_in rest ≡ one_ended text (texts_in more))
     (is : r ≡ behind (lines_of got) (texts_in rest)) where
   one : r ≡ one_more (line_in text) (lines_behind (texts_in more).ended (texts_in more).left) (lines_of got)
   one = is ∙ ap (behind (lines_of got)) split

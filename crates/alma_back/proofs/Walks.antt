@@ -34,11 +34,14 @@ module _ (code : PlainCode) (input : List ℕ) where
   goes_on steps here on = λ k within. by k (steps - k) within refl
     where
       by : (k d : ℕ) → k < steps + 1 → steps - k ≡ d → runs (standing code input k) ≡ true
-      by k zero within e = let same : steps ≡ k = omega (arith, within, e) in subst (λ (n : ℕ). runs (standing code input n) ≡ true) same here
+      by k zero within e =
+          let same : steps ≡ k = omega (arith, within, e) in
+          subst (λ (n : ℕ). runs (standing code input n) ≡ true) same here
       by k (suc d) within e = on k (omega (arith, e))
 
   -- so many steps alone
-  alone : (done more : ℕ) → GoesTo (done + more) → walked (standing code input done) (replicate more Step) ≡ standing code input (done + more)
+  alone : (done more : ℕ) → GoesTo (done + more)
+      → walked (standing code input done) (replicate more Step) ≡ standing code input (done + more)
   alone done zero on = let e : done ≡ done + zero = omega arith in ap (standing code input) e
   alone done (suc more) on =
       let e : done + 1 + more ≡ done + suc more = omega arith in
@@ -56,12 +59,17 @@ module _ (code : PlainCode) (input : List ℕ) where
   led steps on (Step ∷ moves) =
       by (runs (standing code input steps)) refl (λ e. led (steps + 1) (goes_on steps e on) moves) (led steps on moves)
     where
-      by : (b : Bool) → runs (standing code input steps) ≡ b → (runs (standing code input steps) ≡ true → Led (steps + 1) moves) → Led steps moves → Led steps (Step ∷ moves)
+      by : (b : Bool) → runs (standing code input steps) ≡ b → (runs (standing code input steps) ≡ true → Led (steps + 1) moves)
+          → Led steps moves → Led steps (Step ∷ moves)
       by true e next stay =
           let l = next e in
           record { to = l.to; is = ap (λ (s : Standing). walked s moves) (step_of (standing code input steps) e) ∙ l.is; goes = l.goes }
       by false e next stay =
-          record { to = stay.to; is = ap (λ (s : Standing). walked s moves) (no_step (standing code input steps) e) ∙ stay.is; goes = stay.goes }
+          record {
+            to = stay.to;
+            is = ap (λ (s : Standing). walked s moves) (no_step (standing code input steps) e) ∙ stay.is;
+            goes = stay.goes;
+          }
   led steps on (Back ∷ moves) =
       let l = led (steps - 1) (goes_back steps on) moves in
       record { to = l.to; is = l.is; goes = l.goes }

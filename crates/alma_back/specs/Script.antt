@@ -21,7 +21,8 @@ greatest_steps = 1000000
 
 -- one to seven digits, whose value is from 1 to 1,000,000
 abbrev pub is_count : List ℕ → Bool
-is_count text = list_all is_digit text && (leb 1 (length text) && (leb (length text) 7 && (leb 1 (value_of text) && leb (value_of text) greatest_steps)))
+is_count text = list_all is_digit text &&
+    (leb 1 (length text) && (leb (length text) 7 && (leb 1 (value_of text) && leb (value_of text) greatest_steps)))
 
 abbrev pub count_in : List ℕ → Option ℕ
 count_in text = cond (is_count text) (Some (value_of text)) None

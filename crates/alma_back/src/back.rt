@@ -164,7 +164,8 @@ impl<'b, 'i> Model for Back<'b, 'i> {
     } };
 
     ghost invariant = { λ b. (length b.input.now ≤ input_limit)
-        × Keeps (code_of_verified b.code) b.input.now (length b.olds.items) b.registers b.olds.items b.printed };
+        × Keeps (code_of_verified b.code) b.input.now (length b.olds.items) b.registers
+        b.olds.items b.printed };
 }
 
 impl<'b, 'i> Back<'b, 'i> {

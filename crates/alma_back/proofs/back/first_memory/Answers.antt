@@ -19,4 +19,8 @@ new-requires-clause-some c =
 pub new-requires-clause-few : goal.new-requires-clause-few
 new-requires-clause-few c =
     let code = code_of_verified c.args.code.now in
-    omega (arith, ap (λ (h : PlainHead). h.declared) c.main_head-head.ensures, few_declared code c.keeps_sound.ensures 0 c.keeps_sound.ensures.table.some)
+    omega (
+      arith,
+      ap (λ (h : PlainHead). h.declared) c.main_head-head.ensures,
+      few_declared code c.keeps_sound.ensures 0 c.keeps_sound.ensures.table.some,
+    )

@@ -7,10 +7,13 @@ use Rattle.alma_back.proofs.serve.serve.Goals as goal
 pub returns-in-Ok : goal.returns-in-Ok
 returns-in-Ok g c =
     let got = c.in-Ok.ensures.answer in
-    course_fetched plain program c.args.object.now object_limit (λ bytes. Fetches c.args.script.now script_limit (λ lines. judged bytes lines)) c.in-Ok.bytes.items
-    _ _ _ _ _ _ _ _ (c.in-Ok.ensures.same, c.in-Ok.ensures.store_count) got.2 got.0 got.1 (rw c.deref.ensures.value at c.serve_script.ensures)
+    course_fetched plain program c.args.object.now object_limit
+    (λ bytes. Fetches c.args.script.now script_limit (λ lines. judged bytes lines)) c.in-Ok.bytes.items
+    _ _ _ _ _ _ _ _ (c.in-Ok.ensures.same, c.in-Ok.ensures.store_count) got.2 got.0 got.1
+    (rw c.deref.ensures.value at c.serve_script.ensures)
 
 pub returns-in-Err : goal.returns-in-Err
 returns-in-Err g c =
-    rw c.from.ensures (course_unfetched plain program c.args.object.now object_limit (λ bytes. Fetches c.args.script.now script_limit (λ lines. judged bytes lines))
+    rw c.from.ensures (course_unfetched plain program c.args.object.now object_limit
+    (λ bytes. Fetches c.args.script.now script_limit (λ lines. judged bytes lines))
     c.in-Err.fault _ _ _ _ (c.in-Err.ensures.same, c.in-Err.ensures.store_count) c.in-Err.ensures.answer)

@@ -10,7 +10,8 @@ pub returns-in-Ok : goal.returns-in-Ok
 returns-in-Ok g c =
     let got = c.in-Ok.ensures.answer in
     course_fetched plain program c.args.script.now script_limit (judged c.args.object.now) c.in-Ok.bytes.items
-    _ _ _ _ _ _ _ _ (c.in-Ok.ensures.same, c.in-Ok.ensures.store_count) got.2 got.0 got.1 (rw c.deref.ensures.value at (c.judge.ensures (g.F.Files.side c.fetch.new.self)))
+    _ _ _ _ _ _ _ _ (c.in-Ok.ensures.same, c.in-Ok.ensures.store_count) got.2 got.0 got.1
+    (rw c.deref.ensures.value at (c.judge.ensures (g.F.Files.side c.fetch.new.self)))
 
 pub returns-in-Err : goal.returns-in-Err
 returns-in-Err g c =

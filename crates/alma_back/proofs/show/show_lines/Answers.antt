@@ -14,7 +14,8 @@ returns-in_err-show_line-clause-front g c =
 
 pub loop-line-preserved : goal.loop-line-preserved
 loop-line-preserved g c = record {
-  shown = subst (λ (s : Standing). HasShown (g.O.Sink.side c.args.out.now) (g.O.Sink.side c.show_line.new.out) (shown c.args.back.now (lines_of c.args.lines.now))
+  shown = subst (λ (s : Standing). HasShown (g.O.Sink.side c.args.out.now) (g.O.Sink.side c.show_line.new.out)
+      (shown c.args.back.now (lines_of c.args.lines.now))
       (shown s (lines_of (drop (c.loop-line.line-index + 1) c.args.lines.now)))) (sym c.in_ok-show_line.ensures.stands)
       (shown_more _ _ _ _ _ _ _ c.loop-line.invariant.shown
       (shown_next c.loop-line.back c.args.lines.now c.loop-line.line-index _ _ c.loop-line-test.true refl)

@@ -7,6 +7,7 @@ use Rattle.alma_back.proofs.show.show_lines.Given as goal
 
 abbrev pub invariant-loop-line : goal.invariant-loop-line
 invariant-loop-line g l = record {
-  shown : HasShown (g.O.Sink.side l.fn.out) (g.O.Sink.side l.out) (shown l.initial.back (lines_of l.lines)) (shown l.back (lines_of (drop l.line-index l.lines)));
+  shown : HasShown (g.O.Sink.side l.fn.out) (g.O.Sink.side l.out) (shown l.initial.back (lines_of l.lines))
+      (shown l.back (lines_of (drop l.line-index l.lines)));
   few : l.back.steps ≤ l.line-index * greatest_steps;
 }

@@ -19,4 +19,5 @@ pub returns : goal.returns
 returns g c = λ files.
     let reads : code_reads (code_of_verified c.args.code) ≡ false =
     ap (λ v. code_reads (code_of_view v)) (sym c.view.ensures.view) ∙ sym c.has_read.ensures ∙ c.if-has_read.false in
-    rw reads (course_ends plain program (prints (session (code_of_verified c.args.code) [] (lines_of c.args.lines.now))) files _ _ _ _ c.walk_on.ensures)
+    rw reads (course_ends plain program
+    (prints (session (code_of_verified c.args.code) [] (lines_of c.args.lines.now))) files _ _ _ _ c.walk_on.ensures)

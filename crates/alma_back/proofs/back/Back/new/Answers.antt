@@ -24,6 +24,7 @@ invariant_of-result c =
     } in (
       c.requires,
       subst (λ (olds : List Old). Keeps code c.args.input.now (length olds) registers olds 0) (sym c.new.ensures.items)
-          (keeps_start code c.args.input.now registers c.keeps_sound.ensures (first_is code _ _ c.in_ok-memory.ensures.now c.in_ok-memory.ensures.held)
+          (keeps_start code c.args.input.now registers c.keeps_sound.ensures
+          (first_is code _ _ c.in_ok-memory.ensures.now c.in_ok-memory.ensures.held)
           c.in_ok-memory.ensures.past),
     )
