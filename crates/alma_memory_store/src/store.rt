@@ -119,8 +119,10 @@ fn write_cell(slots: &mut Rewind<Slot>, at: usize, cell: Cell) -> Result<(), NoM
     ensures trail_room { slots.old.trail_room ≤ slots.new.trail_room
         + (if is_ok result then 1 else 0) }
 {
+    slots.note(at)?;
     let kind = slots.get(at).kind;
-    slots.write(at, Slot { kind, cell })
+    slots.put(at, Slot { kind, cell });
+    Ok(())
 }
 
 impl Store {
