@@ -155,7 +155,7 @@ impl Memory {
         requires { slot < length (last_frame self.now.now).cells }
         ensures { slice_get (last_frame self.now.now).cells slot ≡ Some result }
     {
-        self.store.read(self.store.len() - 1, slot as usize)
+        self.store.top_cell(slot as usize)
     }
 
     /// The kind of a slot of the top frame.
@@ -164,7 +164,7 @@ impl Memory {
         requires { slot < length (last_frame self.now.now).kinds }
         ensures { slice_get (last_frame self.now.now).kinds slot ≡ Some result }
     {
-        self.store.kind(self.store.len() - 1, slot as usize)
+        self.store.top_kind(slot as usize)
     }
 
     #[inline(always)]
@@ -198,7 +198,7 @@ impl Memory {
             self.old.now) }
         ensures held { self.new.held ≡ self.old.held }
     {
-        self.store.write(self.store.len() - 1, slot as usize, cell)
+        self.store.write_top(slot as usize, cell)
     }
 
     /// Pushes a frame, laid out by its head and its arguments.

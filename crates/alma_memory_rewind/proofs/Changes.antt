@@ -1,6 +1,6 @@
 -- What each call keeps.
-use Rattle.std.proofs.Common.{◌≡◌, ◌⊎◌, inl, inr, ℕ, suc, zero, ◌≤◌, ◌<◌, ◌+◌, ◌-◌, Bool, true, false, ◌||◌, nat_lt, nat_le, List, [], ◌∷◌, ◌++◌, length, map, take, drop, get_or, set, refl, sym, ap, ◌∙◌, arith, min}
-use Rattle.std.proofs.lemmas.List.{set-set, set-get_or, length-set, length_push, map-append, take-append-le, length-take-le, length-take, take-take, take-set-le, take-append-drop, drop-append-le, take-map, drop_all, take_all, get_or-set_same, get_or-set_other, get_or_past, get_or_push, get_or_append_left, take_at, get_or-take}
+use Rattle.std.proofs.Common.{◌≡◌, ◌⊎◌, inl, inr, ℕ, suc, zero, ◌≤◌, ◌<◌, ◌+◌, ◌-◌, Bool, true, false, ◌||◌, nat_lt, nat_le, List, [], ◌∷◌, ◌++◌, length, take, drop, get_or, set, refl, sym, ap, subst, ◌∙◌, arith, min}
+use Rattle.std.proofs.lemmas.List.{set-set, set-get_or, length-set, length_push, map-append, take-append-le, length-take-le, length-take, take-take, take-set-le, drop-append-le, take-map, drop_all, get_or-set_same, get_or-set_other, get_or_past, get_or_push, get_or_append_left, get_or-take}
 use Rattle.std.proofs.lemmas.Bool.{cases_eq, cases_lt, false≢true}
 use Rattle.std.proofs.lemmas.Bool.Decides.{nat_tests}
 use Rattle.alma_memory_rewind.specs.declared.rewind.Note.{Note}
@@ -8,7 +8,7 @@ use Rattle.alma_memory_rewind.specs.declared.rewind.Mark.{Mark}
 use Rattle.alma_memory_rewind.specs.Rewound.{top_copy, needed}
 use Rattle.alma_memory_rewind.specs.Trail.{before, copy_of, held_of, at_of, stamp_of, last_mark, no_mark, is_free, free_from, trail_for}
 use Rattle.alma_memory_rewind.specs.Sound.{Rises, IsSound, Keeps, HasNote, AreStamps, IsStamp, AreOld, AddsNoted}
-use Rattle.alma_memory_rewind.proofs.Trails.{rises-le, rises-last, rises-more, rises-push, rises-pop, rises-take, held-agree, held-free, held-push, held-unwound, length-before, length-copy, top-copy, before-append, free-before, before-agree}
+use Rattle.alma_memory_rewind.proofs.Trails.{rises-le, rises-last, rises-more, rises-push, rises-take, held-agree, held-free, held-push, held-unwound, length-before, length-copy, top-copy, before-append, free-before, before-agree}
 use Rattle.alma_memory_rewind.proofs.Stamps.{stamps-push, stamps-pop, stamps-take, stamps-zero, old-push, old-pop, old-take, old-zero}
 
 -- ---- places that need no note
@@ -178,6 +178,15 @@ note-keeps {T} ms trail xs stamps counter k old x f l o s = write-noted ms trail
   where
     n : Note T
     n = record { at = k; stamp = get_or stamps k 0; old = old }
+
+-- a note alone
+pub note-stays : {T : Type 0} (ms : List Mark) (trail : List (Note T)) (xs : List T) (stamps : List ℕ) (counter k : ℕ) (old : T) → is_free ms k (get_or stamps k 0) ≡ false →
+    k < length stamps → old ≡ get_or xs k old → IsSound ms trail xs stamps counter →
+    Keeps ms trail (trail ++ (record { at = k; stamp = get_or stamps k 0; old = old }) ∷ []) xs xs (set stamps k (last_mark ms).serial) counter
+note-stays {T} ms trail xs stamps counter k old f l o s =
+    let n : Note T = record { at = k; stamp = get_or stamps k 0; old = old } in
+    let e : set xs k old ≡ xs = ap (set xs k) o ∙ set-get_or xs k old in
+    subst (λ v. Keeps ms trail (trail ++ n ∷ []) xs v (set stamps k (last_mark ms).serial) counter) e (note-keeps ms trail xs stamps counter k old old f l o s)
 
 -- the top serial is free
 pub free-new : (ms : List Mark) (at : ℕ) → is_free ms at (last_mark ms).serial ≡ true

@@ -1,15 +1,14 @@
 -- What the first note of each place holds is what stood there before the notes.
-use Rattle.std.proofs.Common.{Result, Ok, Err, ◌≡◌, ◌⊎◌, inl, inr, ℕ, suc, zero, ◌≤◌, ◌<◌, ◌+◌, Bool, true, false, cond, List, [], ◌∷◌, length, map, take, drop, get_or, set, refl, sym, ap, ◌∙◌, arith}
+use Rattle.std.proofs.Common.{Result, Ok, Err, ◌≡◌, ℕ, suc, zero, ◌≤◌, ◌<◌, Bool, true, false, List, [], ◌∷◌, length, take, drop, set, refl, sym, ap, ◌∙◌, arith}
 use Rattle.std.specs.Prelude.{IfOk, Option, Some, None, slice_get, nat_eq, if◌then◌else◌}
 use Rattle.std.proofs.lemmas.Bool.{eqb-true, false≢true}
 use Rattle.std.proofs.lemmas.Bool.Decides.{nat_tests}
-use Rattle.std.proofs.lemmas.List.{length-set}
 use Rattle.alma_memory_rewind.specs.declared.rewind.Note.{Note}
 use Rattle.alma_memory_rewind.specs.declared.rewind.Mark.{Mark}
 use Rattle.alma_memory_rewind.specs.Rewound.{top_copy, needed, first_or, IsOlds}
 use Rattle.alma_memory_rewind.specs.Trail.{before, copy_of, held_of, last_mark, first_of}
 use Rattle.alma_memory_rewind.specs.Sound.{Rises}
-use Rattle.alma_memory_rewind.proofs.Trails.{length-before, length-copy, top-copy, needed-top, rises-last}
+use Rattle.alma_memory_rewind.proofs.Trails.{length-before, length-copy, top-copy, rises-last}
 
 get-same : {T : Type 0} (xs : List T) (k : ℕ) (x : T) → k < length xs → slice_get (set xs k x) k ≡ Some x
 get-same [] k x l = absurd (omega (arith, l))

@@ -1,11 +1,11 @@
 -- A note that no copy needs may be dropped.
-use Rattle.std.proofs.Common.{◌≡◌, ◌⊎◌, inl, inr, ℕ, suc, zero, ◌≤◌, ◌<◌, ◌+◌, ◌-◌, Bool, true, false, nat_le, ◌||◌, List, [], ◌∷◌, ◌++◌, length, map, take, drop, get_or, set, refl, sym, ap, subst, ◌∙◌, arith, length-append, append_assoc}
-use Rattle.std.proofs.lemmas.List.{map-append, length-map, drop-append-le, get_or_append_left, get_or-append_right, take_more_set, drop-set-lt, length-set, length-take-le, take-append-drop, length-drop}
+use Rattle.std.proofs.Common.{◌≡◌, ◌⊎◌, inl, inr, ℕ, suc, zero, ◌≤◌, ◌<◌, ◌+◌, ◌-◌, true, nat_le, List, [], ◌∷◌, ◌++◌, length, map, take, drop, get_or, set, refl, sym, ap, subst, ◌∙◌, arith, length-append, append_assoc}
+use Rattle.std.proofs.lemmas.List.{map-append, length-map, drop-append-le, get_or_append_left, take_more_set, drop-set-lt, length-take-le, take-append-drop, length-drop}
 use Rattle.std.proofs.lemmas.Bool.{cases_eq, cases_lt}
 use Rattle.alma_memory_rewind.specs.declared.rewind.Note.{Note}
 use Rattle.alma_memory_rewind.specs.declared.rewind.Mark.{Mark}
 use Rattle.alma_memory_rewind.specs.Trail.{before, copy_of, held_of, at_of, stamp_of, last_mark, no_mark, is_free}
-use Rattle.alma_memory_rewind.specs.Sound.{Rises, IsSound, Keeps, HasNote, AreStamps, IsStamp, AreOld, Sweeps}
+use Rattle.alma_memory_rewind.specs.Sound.{Rises, IsSound, Keeps, HasNote, AreStamps, IsStamp, Sweeps}
 use Rattle.alma_memory_rewind.proofs.Trails.{rises-le, rises-last, rises-more, at-drop}
 use Rattle.alma_memory_rewind.proofs.Changes.{note-dropped, note-above, or-cases, le-from_true}
 

@@ -1,6 +1,6 @@
 -- Lemmas on the way back: what leaves each copy as it was.
 use Rattle.std.proofs.Common.{◌≡◌, ◌⊎◌, inl, inr, ℕ, suc, zero, ◌≤◌, ◌<◌, ◌+◌, ◌-◌, List, [], ◌∷◌, ◌++◌, length, map, take, drop, get_or, set, refl, sym, ap, ◌∙◌, arith}
-use Rattle.std.proofs.lemmas.List.{set-set, set_comm, length-set, drop-append-le, get_or-drop, length-drop, map-append, take-append-le, take-append-drop, length-take-le, take-take, take-set-le, drop-map, get_or-map, take-map, length-map}
+use Rattle.std.proofs.lemmas.List.{set-set, set_comm, length-set, drop-append-le, get_or-drop, length-drop, take-append-drop, length-take-le, take-take, drop-map, get_or-map, length-map}
 use Rattle.std.proofs.lemmas.Bool.{cases_eq}
 use Rattle.alma_memory_rewind.specs.declared.rewind.Note.{Note}
 use Rattle.alma_memory_rewind.specs.declared.rewind.Mark.{Mark}

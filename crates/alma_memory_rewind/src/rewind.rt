@@ -151,8 +151,8 @@ fn note_old<T: Copy>(
     requires inside { at < length items.now }
     requires wide { at < length stamps.old.items }
     requires free { free ≡ is_free marks.now at (slice_index_or stamps.old.items at 0) }
-    ensures keeps { OnOk result ((x : T) (counter : ℕ) → IsSound marks.now trail.old.items items.now stamps.old.items counter
-        → Keeps marks.now trail.old.items trail.new.items items.now (set items.now at x) stamps.new.items counter) }
+    ensures keeps { OnOk result ((counter : ℕ) → IsSound marks.now trail.old.items items.now stamps.old.items counter
+        → Keeps marks.now trail.old.items trail.new.items items.now items.now stamps.new.items counter) }
     ensures noted { OnOk result (AddsNoted marks.now stamps.old.items stamps.new.items at) }
     ensures same { OnErr result ((stamps.new.items ≡ stamps.old.items) × (trail.new.items ≡ trail.old.items)) }
     ensures free { free ≡ true → IsOk result × (vec_len trail.new ≡ vec_len trail.old) × (vec_capacity trail.new ≡ vec_capacity trail.old) }
@@ -403,11 +403,11 @@ impl<T: Copy> Rewind<T> {
         Ok(())
     }
 
-    /// Writes an item. It takes a note where the place is not noted yet.
+    /// Notes what stands at a place, where it is not noted yet.
     #[inline(always)]
-    pub fn write(&mut self, at: usize, value: T) -> Result<(), NoMemory>
+    pub fn note(&mut self, at: usize) -> Result<(), NoMemory>
         requires { at < length self.old.now }
-        ensures now { self.new.now ≡ (if is_ok result then set self.old.now at value else self.old.now) }
+        ensures now { self.new.now ≡ self.old.now }
         ensures held { self.new.held ≡ self.old.held }
         ensures succeeds { 1 ≤ self.old.trail_room → IsOk result }
         ensures free { slice_index_or self.old.noted at false ≡ true → IsOk result × (self.new.trail_room ≡ self.old.trail_room) }
@@ -425,7 +425,37 @@ impl<T: Copy> Rewind<T> {
             &mut self.trail,
             at,
         )?;
+        Ok(())
+    }
+
+    /// Writes an item at a place that is noted.
+    #[inline(always)]
+    pub fn put(&mut self, at: usize, value: T)
+        requires { slice_index_or self.old.noted at false ≡ true }
+        ensures now { self.new.now ≡ set self.old.now at value }
+        ensures held { self.new.held ≡ self.old.held }
+        ensures noted { self.new.noted ≡ self.old.noted }
+        ensures choice_room { self.new.choice_room ≡ self.old.choice_room }
+        ensures trail_room { self.new.trail_room ≡ self.old.trail_room }
+    {
         self.items[at] = value;
+    }
+
+    /// Writes an item. It takes a note where the place is not noted yet.
+    #[inline(always)]
+    pub fn write(&mut self, at: usize, value: T) -> Result<(), NoMemory>
+        requires { at < length self.old.now }
+        ensures now { self.new.now ≡ (if is_ok result then set self.old.now at value else self.old.now) }
+        ensures held { self.new.held ≡ self.old.held }
+        ensures succeeds { 1 ≤ self.old.trail_room → IsOk result }
+        ensures free { slice_index_or self.old.noted at false ≡ true → IsOk result × (self.new.trail_room ≡ self.old.trail_room) }
+        ensures noted { OnOk result (slice_index_or self.new.noted at false ≡ true) }
+        ensures kept { (p : ℕ) → slice_index_or self.old.noted p false ≡ true → slice_index_or self.new.noted p false ≡ true }
+        ensures choice_room { self.new.choice_room ≡ self.old.choice_room }
+        ensures trail_room { self.old.trail_room ≤ self.new.trail_room + (if is_ok result then 1 else 0) }
+    {
+        self.note(at)?;
+        self.put(at, value);
         Ok(())
     }
 

@@ -9,7 +9,7 @@ ghost use Rattle.alma_memory_store.specs.Carries.{carry_of_entries};
 ghost use Rattle.alma_memory_store.specs.Frames.{AreLive, AreWhole};
 ghost use Rattle.alma_memory_store.specs.Numbers.{number_of};
 ghost use Rattle.alma_memory_store.specs.Past.{SameGain};
-ghost use Rattle.alma_memory_store.specs.Regions.{AreLaid, end_of, slot_number, slots_of};
+ghost use Rattle.alma_memory_store.specs.Regions.{AreLaid, end_of, no_slot, slot_number, slots_of};
 ghost use Rattle.alma_memory_store.specs.Stored.{IsNoted};
 
 use crate::carry::SlotPlace;
@@ -44,11 +44,13 @@ pub struct Store {
     slots: Rewind<Slot>,
     regions: Rewind<Region>,
     live: usize,
+    // The last live region.
+    top: Region,
     lives: Vec<usize>,
 }
 
 impl Model for Store {
-    ghost use Rattle.std.specs.Prelude.{◌-◌, take, min};
+    ghost use Rattle.std.specs.Prelude.{◌≡◌, ◌-◌, take, min, slice_get, Some};
     ghost use Rattle.std.specs.Vec.{vec_len, vec_capacity};
     ghost use Rattle.alma_memory_store.specs.Stored.{Stored};
 
@@ -67,7 +69,8 @@ impl Model for Store {
     } };
 
     ghost invariant = { λ s. IsState s.slots.now s.regions.now s.live
-        × AreStates s.slots.held s.regions.held s.lives.items };
+        × AreStates s.slots.held s.regions.held s.lives.items
+        × (slice_get s.regions.now (s.live - 1) ≡ Some s.top) };
 }
 
 // Where the last live region ends.
@@ -97,6 +100,31 @@ pub fn place_of(region: Region, slot: usize, limit: usize) -> usize
     region.base + slot
 }
 
+// Writes the cell of a slot, and leaves its kind.
+#[inline(always)]
+fn write_cell(slots: &mut Rewind<Slot>, at: usize, cell: Cell) -> Result<(), NoMemory>
+    requires { at < length slots.old.now }
+    ensures now { slots.new.now ≡ (if is_ok result then set slots.old.now at (record {
+      kind = (slice_index_or slots.old.now at no_slot).kind;
+      cell = cell;
+    }) else slots.old.now) }
+    ensures held { slots.new.held ≡ slots.old.held }
+    ensures succeeds { 1 ≤ slots.old.trail_room → IsOk result }
+    ensures free { slice_index_or slots.old.noted at false ≡ true
+        → IsOk result × (slots.new.trail_room ≡ slots.old.trail_room) }
+    ensures noted { OnOk result (slice_index_or slots.new.noted at false ≡ true) }
+    ensures kept { (p : ℕ) → slice_index_or slots.old.noted p false ≡ true
+        → slice_index_or slots.new.noted p false ≡ true }
+    ensures choice_room { slots.new.choice_room ≡ slots.old.choice_room }
+    ensures trail_room { slots.old.trail_room ≤ slots.new.trail_room
+        + (if is_ok result then 1 else 0) }
+{
+    slots.note(at)?;
+    let kind = slots.get(at).kind;
+    slots.put(at, Slot { kind, cell });
+    Ok(())
+}
+
 impl Store {
     /// One frame of routine 0, and no copy.
     pub fn start(
@@ -120,19 +148,21 @@ impl Store {
         let mut slots = Rewind::new(alloc);
         let mut regions = Rewind::new(alloc);
         lay(&mut slots, 0, kinds, cells)?;
-        regions.push(Region {
+        let top = Region {
             routine: 0,
             back: 0,
             declared,
             total: declared,
             base: 0,
             slots: cells.len() as u32,
-        })?;
+        };
+        regions.push(top)?;
         let lives = Vec::new(alloc);
         Ok(Store {
             slots,
             regions,
             live: 1,
+            top,
             lives,
         })
     }
@@ -193,7 +223,7 @@ impl Store {
     pub fn routine(&self) -> u32
         ensures { result ≡ (last_frame self.now.now).routine }
     {
-        self.regions.get(self.live - 1).routine
+        self.top.routine
     }
 
     /// How many cells the live frames declare together.
@@ -201,7 +231,7 @@ impl Store {
         ensures value { result ≡ live_cells self.now.now }
         ensures limit { result ≤ cell_limit }
     {
-        self.regions.get(self.live - 1).total
+        self.top.total
     }
 
     /// The cell in a slot of a live frame.
@@ -225,6 +255,26 @@ impl Store {
     {
         let region = self.regions.get(frame);
         let at = place_of(region, slot, self.slots.len());
+        self.slots.get(at).kind
+    }
+
+    /// The cell in a slot of the top frame.
+    #[inline(always)]
+    pub fn top_cell(&self, slot: usize) -> Cell
+        requires { slot < length (last_frame self.now.now).cells }
+        ensures { result ≡ slice_index_or (last_frame self.now.now).cells slot cell.Unknown }
+    {
+        let at = place_of(self.top, slot, self.slots.len());
+        self.slots.get(at).cell
+    }
+
+    /// The kind of a slot of the top frame.
+    #[inline(always)]
+    pub fn top_kind(&self, slot: usize) -> SlotKind
+        requires { slot < length (last_frame self.now.now).kinds }
+        ensures { slice_get (last_frame self.now.now).kinds slot ≡ Some result }
+    {
+        let at = place_of(self.top, slot, self.slots.len());
         self.slots.get(at).kind
     }
 
@@ -271,8 +321,20 @@ impl Store {
     {
         let region = self.regions.get(frame);
         let at = place_of(region, slot, self.slots.len());
-        let kind = self.slots.get(at).kind;
-        self.slots.write(at, Slot { kind, cell })
+        write_cell(&mut self.slots, at, cell)
+    }
+
+    /// Writes into a slot of the top frame.
+    #[inline(always)]
+    pub fn write_top(&mut self, slot: usize, cell: Cell) -> Result<(), NoMemory>
+        requires { slot < length (last_frame self.old.now).cells }
+        ensures now { self.new.now ≡ (if is_ok result
+            then frames_with_cell self.old.now (length self.old.now - 1) slot cell
+            else self.old.now) }
+        ensures held { self.new.held ≡ self.old.held }
+    {
+        let at = place_of(self.top, slot, self.slots.len());
+        write_cell(&mut self.slots, at, cell)
     }
 
     /// Pushes a frame with these slots. Its region stands above the live frames and above all that a copy needs.
@@ -314,6 +376,7 @@ impl Store {
         };
         put(&mut self.regions, self.live, region)?;
         self.live += 1;
+        self.top = region;
         Ok(())
     }
 
@@ -326,9 +389,10 @@ impl Store {
         ensures choice_room { self.new.choice_room ≡ self.old.choice_room }
         ensures trail_room { self.new.trail_room ≡ self.old.trail_room }
     {
-        let region = self.regions.get(self.live - 1);
+        let back = self.top.back;
         self.live -= 1;
-        region.back
+        self.top = self.regions.get(self.live - 1);
+        back
     }
 
     /// Makes a whole copy of the frames.
@@ -370,6 +434,7 @@ impl Store {
         self.slots.back();
         self.regions.back();
         self.live = live;
+        self.top = self.regions.get(live - 1);
     }
 
     /// The number slots that are live in the top copy and now and differ, with their cells of now. It looks only at what was

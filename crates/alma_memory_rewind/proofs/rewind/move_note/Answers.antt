@@ -1,7 +1,5 @@
-use Rattle.std.proofs.Common.{◌≡◌, ◌<◌, ◌≤◌, ◌+◌, ◌-◌, ◌++◌, ◌∷◌, [], ℕ, List, length, get_or, take, drop, set, sym, ap, refl, subst, ◌∙◌, true, false, arith}
+use Rattle.std.proofs.Common.{◌≡◌, ◌+◌, ◌∷◌, drop, sym, ap, ◌∙◌, arith}
 use Rattle.std.proofs.lemmas.List.{drop_more}
-use Rattle.alma_memory_rewind.specs.Trail.{last_mark, is_free}
-use Rattle.alma_memory_rewind.specs.Sound.{Sweeps, SweepsOn}
 use Rattle.alma_memory_rewind.proofs.Sweeps.{sweeps-keep, sweeps-drop}
 use Rattle.alma_memory_rewind.proofs.rewind.move_note.Goals as goal
 

@@ -1,14 +1,14 @@
-use Rattle.std.proofs.Common.{◌≡◌, ◌<◌, length, get_or, sym, ◌∙◌, true, false}
+use Rattle.std.proofs.Common.{◌≡◌, ◌<◌, length, get_or, refl, sym, ◌∙◌, true, false}
 use Rattle.alma_memory_rewind.specs.Trail.{is_free, last_mark}
-use Rattle.alma_memory_rewind.proofs.Changes.{note-keeps, write-free, adds-set, adds-free, free-new}
+use Rattle.alma_memory_rewind.proofs.Changes.{note-stays, adds-set, adds-free, free-new}
 use Rattle.alma_memory_rewind.proofs.rewind.note_old.Goals as goal
 
 pub returns-in_ok-add_note-clause-keeps : goal.returns-in_ok-add_note-clause-keeps
-returns-in_ok-add_note-clause-keeps g c = λ x counter s.
+returns-in_ok-add_note-clause-keeps g c = λ counter s.
     let l : c.args.at < length c.args.stamps.now.items = c.requires.wide in
     let f : is_free c.args.marks.now c.args.at (get_or c.args.stamps.now.items c.args.at 0) ≡ false = sym c.requires.free ∙ c.if-not-free.true in
     rw (c.in_ok-add_note.ensures.trail, c.in_ok-add_note.ensures.stamps, c.top_serial.ensures)
-    (note-keeps c.args.marks.now c.args.trail.now.items c.args.items.now c.args.stamps.now.items counter c.args.at c.index-items-at.result x f l c.index-items-at.is s)
+    (note-stays c.args.marks.now c.args.trail.now.items c.args.items.now c.args.stamps.now.items counter c.args.at c.index-items-at.result f l c.index-items-at.is s)
 
 pub returns-in_ok-add_note-clause-noted : goal.returns-in_ok-add_note-clause-noted
 returns-in_ok-add_note-clause-noted g c =
@@ -18,10 +18,8 @@ returns-in_ok-add_note-clause-noted g c =
     (free-new c.args.marks.now c.args.at))
 
 pub returns-else-not-free-clause-keeps : goal.returns-else-not-free-clause-keeps
-returns-else-not-free-clause-keeps g c = λ x counter s.
-    let l : c.args.at < length c.args.stamps.now.items = c.requires.wide in
-    let f : is_free c.args.marks.now c.args.at (get_or c.args.stamps.now.items c.args.at 0) ≡ true = sym c.requires.free ∙ c.if-not-free.false in
-    write-free c.args.marks.now c.args.trail.now.items c.args.items.now c.args.stamps.now.items counter c.args.at x f s
+returns-else-not-free-clause-keeps g c = λ counter s.
+    record { held = refl; sound = s }
 
 pub returns-else-not-free-clause-noted : goal.returns-else-not-free-clause-noted
 returns-else-not-free-clause-noted g c =

@@ -1,4 +1,4 @@
-use Rattle.std.proofs.Common.{◌≡◌, ◌≤◌, ◌++◌, length, take, drop, vec_len, vec_capacity}
+use Rattle.std.proofs.Common.{◌≡◌, ◌≤◌, ◌++◌, length, take, drop, vec_capacity}
 use Rattle.alma_memory_rewind.specs.Sound.{Sweeps}
 use Rattle.alma_memory_rewind.proofs.rewind.sweep.Given as goal
 

@@ -1,4 +1,4 @@
-use Rattle.std.proofs.Common.{◌≡◌, ◌∙◌, arith}
+use Rattle.std.proofs.Common.{◌∙◌, arith}
 use Rattle.alma_memory_rewind.proofs.Changes.{unwinds-more}
 use Rattle.alma_memory_rewind.proofs.Stamps.{stamp-before}
 use Rattle.alma_memory_rewind.proofs.rewind.unwind_to.Goals as goal

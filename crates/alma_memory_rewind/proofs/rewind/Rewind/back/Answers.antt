@@ -1,9 +1,8 @@
-use Rattle.std.proofs.Common.{◌≡◌, ◌<◌, ◌≤◌, ◌+◌, ◌-◌, ℕ, List, length, get_or, take, drop, sym, ap, refl, ◌∙◌, arith}
+use Rattle.std.proofs.Common.{◌≡◌, ◌<◌, ◌-◌, length, get_or, take, sym, ap, ◌∙◌, arith}
 use Rattle.std.proofs.lemmas.List.{get_or_read, length-map}
-use Rattle.alma_memory_rewind.specs.declared.rewind.Mark.{Mark}
 use Rattle.alma_memory_rewind.specs.Rewound.{Rewound, needed, top_copy}
-use Rattle.alma_memory_rewind.specs.Trail.{before, copy_of, held_of, last_mark, no_mark}
-use Rattle.alma_memory_rewind.proofs.Changes.{Backs, backs, mark-le}
+use Rattle.alma_memory_rewind.specs.Trail.{copy_of, held_of, last_mark, no_mark}
+use Rattle.alma_memory_rewind.proofs.Changes.{backs, mark-le}
 use Rattle.alma_memory_rewind.proofs.rewind.Rewind.back.Goals as goal
 
 pub unwind_to-requires-clause-mark : goal.unwind_to-requires-clause-mark

@@ -1,9 +1,7 @@
-use Rattle.std.proofs.Common.{◌≡◌, ◌<◌, ◌≤◌, ◌+◌, ◌-◌, ◌++◌, ◌∷◌, [], ℕ, List, length, get_or, take, drop, set, sym, ap, refl, ◌∙◌, true, false, arith}
-use Rattle.alma_memory_rewind.specs.declared.rewind.Mark.{Mark}
-use Rattle.alma_memory_rewind.specs.Rewound.{Rewound, needed, top_copy}
-use Rattle.alma_memory_rewind.specs.Trail.{held_of, last_mark, is_free, free_from, trail_for}
+use Rattle.std.proofs.Common.{◌≡◌, take, ap, ◌∙◌}
+use Rattle.alma_memory_rewind.specs.Rewound.{Rewound}
+use Rattle.alma_memory_rewind.specs.Trail.{held_of, trail_for}
 use Rattle.alma_memory_rewind.specs.Sound.{Sweeps}
-use Rattle.alma_memory_rewind.proofs.Trails.{needed-top, rises-pop}
 use Rattle.alma_memory_rewind.proofs.Changes.{cuts}
 use Rattle.alma_memory_rewind.proofs.rewind.Rewind.cut.Goals as goal
 

@@ -1,9 +1,7 @@
-use Rattle.std.proofs.Common.{◌≡◌, ◌<◌, ◌≤◌, ◌+◌, ◌-◌, ◌++◌, ◌∷◌, [], ℕ, List, length, get_or, take, drop, set, sym, ap, refl, ◌∙◌, true, false, arith}
-use Rattle.std.proofs.lemmas.Grind.{common_steps}
-use Rattle.alma_memory_rewind.specs.declared.rewind.Mark.{Mark}
-use Rattle.alma_memory_rewind.specs.Rewound.{Rewound, needed, top_copy}
-use Rattle.alma_memory_rewind.specs.Trail.{held_of, last_mark, is_free, free_from, trail_for}
-use Rattle.alma_memory_rewind.proofs.Trails.{needed-top, rises-pop}
+use Rattle.std.proofs.Common.{◌≡◌, ◌≤◌, length, sym, ap, ◌∙◌, arith}
+use Rattle.alma_memory_rewind.specs.Rewound.{Rewound, needed}
+use Rattle.alma_memory_rewind.specs.Trail.{held_of, last_mark}
+use Rattle.alma_memory_rewind.proofs.Trails.{needed-top}
 use Rattle.alma_memory_rewind.proofs.Changes.{top-le}
 use Rattle.alma_memory_rewind.proofs.rewind.Rewind.needed.Goals as goal
 

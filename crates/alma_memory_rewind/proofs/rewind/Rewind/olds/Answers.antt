@@ -1,10 +1,10 @@
-use Rattle.std.proofs.Common.{◌≡◌, ◌<◌, ◌≤◌, ◌+◌, ◌-◌, ℕ, List, length, get_or, take, drop, sym, ap, refl, subst, ◌∙◌, arith}
+use Rattle.std.proofs.Common.{◌≡◌, ◌<◌, ◌≤◌, ◌-◌, length, get_or, drop, sym, ap, subst, ◌∙◌, arith}
 use Rattle.std.specs.BTreeMap.{get}
 use Rattle.std.specs.Ordering.{nat_cmp}
 use Rattle.std.proofs.lemmas.List.{get_or_read, length-map}
 use Rattle.alma_memory_rewind.specs.declared.rewind.Mark.{Mark}
 use Rattle.alma_memory_rewind.specs.Rewound.{Rewound, IsOlds}
-use Rattle.alma_memory_rewind.specs.Trail.{copy_of, held_of, first_of, last_mark, no_mark}
+use Rattle.alma_memory_rewind.specs.Trail.{copy_of, first_of, last_mark, no_mark}
 use Rattle.alma_memory_rewind.proofs.Changes.{mark-le}
 use Rattle.alma_memory_rewind.proofs.Olds.{olds-are, if-ok}
 use Rattle.alma_memory_rewind.proofs.rewind.Rewind.olds.Goals as goal

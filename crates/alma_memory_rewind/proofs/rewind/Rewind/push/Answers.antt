@@ -1,8 +1,6 @@
-use Rattle.std.proofs.Common.{◌≡◌, ◌<◌, ◌≤◌, ◌+◌, ◌-◌, ◌++◌, ◌∷◌, [], ℕ, List, length, get_or, take, drop, set, sym, ap, refl, ◌∙◌, true, false, arith}
-use Rattle.alma_memory_rewind.specs.declared.rewind.Mark.{Mark}
-use Rattle.alma_memory_rewind.specs.Rewound.{Rewound, needed, top_copy}
-use Rattle.alma_memory_rewind.specs.Trail.{held_of, last_mark, is_free, free_from, trail_for}
-use Rattle.alma_memory_rewind.proofs.Trails.{needed-top, rises-pop}
+use Rattle.std.proofs.Common.{◌≡◌, ◌≤◌, ◌+◌, ◌++◌, ◌∷◌, [], length, ap, ◌∙◌, true, arith}
+use Rattle.alma_memory_rewind.specs.Rewound.{Rewound}
+use Rattle.alma_memory_rewind.specs.Trail.{held_of, last_mark, is_free, free_from}
 use Rattle.alma_memory_rewind.proofs.Changes.{push-keeps, free-push, free-above, top-le}
 use Rattle.alma_memory_rewind.proofs.rewind.Rewind.push.Goals as goal
 

@@ -55,6 +55,37 @@ back-requires-2 c =
     let wide = states-length cs rs ls c.self.invariant.1 in
     omega (arith, wide.1, some)
 
+pub overflow_sub-live : goal.overflow_sub-live
+overflow_sub-live c =
+    let cs = c.self.inside.slots.held in
+    let rs = c.self.inside.regions.held in
+    let ls = c.self.inside.lives.items in
+    let vh : copies_of cs rs ls ≡ c.args.self.now.held = ap (λ (p : Stored). p.held) c.self.view_is in
+    let many : length ls ≡ length c.args.self.now.held = sym (copies-length cs rs ls c.self.invariant.1) ∙ ap length vh in
+    let some : 1 ≤ length ls = omega (arith, many, c.requires) in
+    let len : c.len.result ≡ length ls = c.len.ensures ∙ c.self.inside.lives.ok.0 in
+    let lt : c.len.result - 1 < length ls = omega (arith, len, some) in
+    let last : c.index-live.result.now ≡ get_or ls (length ls - 1) 0 = get_or_read ls (c.len.result - 1) c.index-live.result.now lt c.index-live.ensures 0 ∙ ap (λ k. get_or ls (k - 1) 0) len in
+    let wide = states-length cs rs ls c.self.invariant.1 in
+    let top = top-at cs rs ls c.index-live.result.now c.self.invariant.1 some last in
+    omega (arith, top.state.some)
+
+pub get-self-inside-requires : goal.get-self-inside-requires
+get-self-inside-requires c =
+    let cs = c.self.inside.slots.held in
+    let rs = c.self.inside.regions.held in
+    let ls = c.self.inside.lives.items in
+    let vh : copies_of cs rs ls ≡ c.args.self.now.held = ap (λ (p : Stored). p.held) c.self.view_is in
+    let many : length ls ≡ length c.args.self.now.held = sym (copies-length cs rs ls c.self.invariant.1) ∙ ap length vh in
+    let some : 1 ≤ length ls = omega (arith, many, c.requires) in
+    let len : c.len.result ≡ length ls = c.len.ensures ∙ c.self.inside.lives.ok.0 in
+    let lt : c.len.result - 1 < length ls = omega (arith, len, some) in
+    let last : c.index-live.result.now ≡ get_or ls (length ls - 1) 0 = get_or_read ls (c.len.result - 1) c.index-live.result.now lt c.index-live.ensures 0 ∙ ap (λ k. get_or ls (k - 1) 0) len in
+    let wide = states-length cs rs ls c.self.invariant.1 in
+    let top = top-at cs rs ls c.index-live.result.now c.self.invariant.1 some last in
+    let b = backs-to (top_copy cs) c.back.new.self.now (top_copy rs) c.back-2.new.self.now c.index-live.result.now c.back.ensures.now c.back-2.ensures.now top.state in
+    omega (arith, b.state.some, b.state.live)
+
 pub invariant_of-self : goal.invariant_of-self
 invariant_of-self c =
     let cs = c.self.inside.slots.held in
@@ -69,7 +100,7 @@ invariant_of-self c =
     let wide = states-length cs rs ls c.self.invariant.1 in
     let top = top-at cs rs ls c.index-live.result.now c.self.invariant.1 some last in
     let b = backs-to (top_copy cs) c.back.new.self.now (top_copy rs) c.back-2.new.self.now c.index-live.result.now c.back.ensures.now c.back-2.ensures.now top.state in
-    (b.state, rw (c.back.ensures.held, c.back-2.ensures.held) c.self.invariant.1)
+    (b.state, rw (c.back.ensures.held, c.back-2.ensures.held) c.self.invariant.1, c.get-self-inside.ensures)
 
 pub returns-clause-now : goal.returns-clause-now
 returns-clause-now c =

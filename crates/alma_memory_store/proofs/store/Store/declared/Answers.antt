@@ -12,12 +12,12 @@ returns-clause-value c =
     let regions = c.self.inside.regions.now in
     let n = c.self.inside.live in
     let vn : frames_of slots (take n regions) ≡ c.args.self.now.now = ap (λ (p : Stored). p.now) c.self.view_is in
-    last-total regions n c.get.result c.self.invariant.0.live c.self.invariant.0.some c.get.ensures c.self.invariant.0.totals
+    last-total regions n c.self.inside.top c.self.invariant.0.live c.self.invariant.0.some c.self.invariant.2 c.self.invariant.0.totals
     ∙ (sym (declared-frames slots (take n regions)) ∙ ap live_cells vn)
 
 pub returns-clause-limit : goal.returns-clause-limit
 returns-clause-limit c =
     let regions = c.self.inside.regions.now in
     let n = c.self.inside.live in
-    let is = last-total regions n c.get.result c.self.invariant.0.live c.self.invariant.0.some c.get.ensures c.self.invariant.0.totals in
+    let is = last-total regions n c.self.inside.top c.self.invariant.0.live c.self.invariant.0.some c.self.invariant.2 c.self.invariant.0.totals in
     omega (arith, is, c.self.invariant.0.limit)

@@ -1,4 +1,4 @@
-use Rattle.std.proofs.Common.{◌≡◌, ◌≤◌, ◌+◌, ◌++◌, ◌∷◌, [], List, length, get_or, take, sym, ap, refl, subst, ◌∙◌, false, arith}
+use Rattle.std.proofs.Common.{◌≡◌, ◌≤◌, ◌+◌, ◌-◌, ◌++◌, ◌∷◌, [], List, length, get_or, take, sym, ap, refl, subst, ◌∙◌, false, arith}
 use Rattle.alma_code.specs.Picture.{live_cells}
 use Rattle.alma_memory_store.specs.declared.store.Region.{Region}
 use Rattle.alma_memory_store.specs.declared.store.Slot.{Slot}
@@ -7,7 +7,8 @@ use Rattle.alma_memory_store.specs.Stored.{Stored, IsState, AreStates, flags_of}
 use Rattle.alma_base.specs.Limits.{cell_limit}
 use Rattle.alma_memory_store.proofs.Frames.{laid-end, slots-length, kinds-back, cells-back}
 use Rattle.alma_memory_store.proofs.Totals.{declared-frames}
-use Rattle.alma_memory_store.proofs.Finds.{if-err, live-length}
+use Rattle.std.specs.Prelude.{slice_get, Some}
+use Rattle.alma_memory_store.proofs.Finds.{if-err, live-length, put-last}
 use Rattle.alma_memory_store.proofs.Flags.{enter-kept, low-kept}
 use Rattle.alma_memory_store.proofs.Copies.{enters, stays-state, stays-frames}
 use Rattle.alma_memory_store.proofs.store.Store.enter.Goals as goal
@@ -34,7 +35,7 @@ invariant_of-self c =
     let state : IsState c.lay.new.slots.now regions n = stays-state slots c.lay.new.slots.now regions n c.higher-base.result up c.lay.ensures.wide c.self.invariant.0 in
     let frames : frames_of c.lay.new.slots.now (take n regions) ≡ c.args.self.now.now = stays-frames slots c.lay.new.slots.now regions n c.higher-base.result up c.lay.ensures.agrees c.self.invariant.0 ∙ vn in
     let states : AreStates c.lay.new.slots.held c.self.inside.regions.held c.self.inside.lives.items = subst (λ v. AreStates v c.self.inside.regions.held c.self.inside.lives.items) (sym c.lay.ensures.held) c.self.invariant.1 in
-    (state, states)
+    (state, states, c.self.invariant.2)
 
 pub returns-in_err-lay-clause-now : goal.returns-in_err-lay-clause-now
 returns-in_err-lay-clause-now c =
@@ -74,7 +75,7 @@ invariant_of-self-in_err-put c =
     let frames : frames_of c.lay.new.slots.now (take n regions) ≡ c.args.self.now.now = stays-frames slots c.lay.new.slots.now regions n c.higher-base.result up c.lay.ensures.agrees c.self.invariant.0 ∙ vn in
     let states : AreStates c.lay.new.slots.held c.self.inside.regions.held c.self.inside.lives.items = subst (λ v. AreStates v c.self.inside.regions.held c.self.inside.lives.items) (sym c.lay.ensures.held) c.self.invariant.1 in
     let same : c.put.new.regions.now ≡ regions = c.in_err-put.ensures.same in
-    (subst (λ v. IsState c.lay.new.slots.now v n) (sym same) state, subst (λ v. AreStates c.lay.new.slots.held v c.self.inside.lives.items) (sym c.put.ensures.held) states)
+    (subst (λ v. IsState c.lay.new.slots.now v n) (sym same) state, subst (λ v. AreStates c.lay.new.slots.held v c.self.inside.lives.items) (sym c.put.ensures.held) states, subst (λ v. slice_get v (n - 1) ≡ Some c.self.inside.top) (sym same) c.self.invariant.2)
 
 pub returns-in_err-put-clause-now : goal.returns-in_err-put-clause-now
 returns-in_err-put-clause-now c =
@@ -126,6 +127,7 @@ invariant_of-self-2 c =
     (sym (slots-length c.args.kinds.now c.args.cells.now c.requires.same)) c.in_ok-put.ensures.wide put in (
       e.state,
       subst (λ v. AreStates v c.put.new.regions.held c.self.inside.lives.items) (sym c.lay.ensures.held) (subst (λ v. AreStates c.self.inside.slots.held v c.self.inside.lives.items) (sym c.put.ensures.held) c.self.invariant.1),
+      put-last c.put.new.regions.now regions n r c.self.invariant.0.live put,
     )
 
 pub returns-clause-now : goal.returns-clause-now

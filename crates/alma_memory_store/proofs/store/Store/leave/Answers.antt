@@ -13,7 +13,7 @@ invariant_of-self c =
     let n = c.self.inside.live in
     let vn : frames_of slots (take n regions) ≡ c.args.self.now.now = ap (λ (p : Stored). p.now) c.self.view_is in
     let wide : length c.args.self.now.now ≡ n = sym (ap length vn) ∙ live-length slots regions n c.self.invariant.0.live in
-    (leaves-state slots regions n (omega (arith, wide, c.requires)) c.self.invariant.0, c.self.invariant.1)
+    (leaves-state slots regions n (omega (arith, wide, c.requires)) c.self.invariant.0, c.self.invariant.1, c.get-self-inside.ensures)
 
 pub returns-clause-now : goal.returns-clause-now
 returns-clause-now c =
@@ -29,4 +29,4 @@ returns-clause-back c =
     let regions = c.self.inside.regions.now in
     let n = c.self.inside.live in
     let vn : frames_of slots (take n regions) ≡ c.args.self.now.now = ap (λ (p : Stored). p.now) c.self.view_is in
-    sym (last-back slots regions n c.get-region.result c.self.invariant.0.live c.self.invariant.0.some c.get-region.ensures) ∙ ap (λ fs. (last_frame fs).back) vn
+    sym (last-back slots regions n c.self.inside.top c.self.invariant.0.live c.self.invariant.0.some c.self.invariant.2) ∙ ap (λ fs. (last_frame fs).back) vn

@@ -4,6 +4,7 @@ use Rattle.alma_memory_store.specs.declared.store.Slot.{Slot}
 use Rattle.alma_memory_store.specs.Regions.{frame_with_slots, slots_of}
 use Rattle.alma_memory_store.proofs.Frames.{slots-length, kinds-back, cells-back}
 use Rattle.alma_memory_store.proofs.Copies.{starts}
+use Rattle.std.specs.Prelude.{slice_get}
 use Rattle.alma_memory_store.proofs.store.Store.start.Goals as goal
 
 pub invariant_of-result : goal.invariant_of-result
@@ -12,7 +13,7 @@ invariant_of-result c =
     let r : Region = record { routine = 0; back = 0; declared = c.args.declared; total = c.args.declared; base = 0; slots = length c.args.cells.now } in
     let regions : c.push.new.self.now ≡ r ∷ [] = c.in_ok-push.ensures.now ∙ ap (λ v. v ++ r ∷ []) c.new-regions.ensures.now in
     let e = starts c.lay.new.slots.now more c.push.new.self.now r c.in_ok-lay.ensures.all regions refl c.requires.limit refl (sym (slots-length c.args.kinds.now c.args.cells.now c.requires.same)) in
-    (e.state, rw (c.lay.ensures.held ∙ c.new-slots.ensures.held, c.push.ensures.held ∙ c.new-regions.ensures.held, c.new-lives.ensures.items) tt)
+    (e.state, rw (c.lay.ensures.held ∙ c.new-slots.ensures.held, c.push.ensures.held ∙ c.new-regions.ensures.held, c.new-lives.ensures.items) tt, ap (λ v. slice_get v 0) regions)
 
 pub returns-clause-now : goal.returns-clause-now
 returns-clause-now c =

@@ -5,7 +5,7 @@ use Rattle.std.specs.Prelude.{vec_len, vec_capacity}
 use Rattle.std.proofs.lemmas.Bool.{false≢true}
 use Rattle.std.proofs.lemmas.List.{get_or_read}
 use Rattle.alma_memory_rewind.proofs.Changes.{flag, flag-within}
-use Rattle.alma_memory_rewind.proofs.rewind.Rewind.write.Goals as goal
+use Rattle.alma_memory_rewind.proofs.rewind.Rewind.note.Goals as goal
 
 pub returns-in_err-note_old-clause-free : goal.returns-in_err-note_old-clause-free
 returns-in_err-note_old-clause-free g c = λ h.
@@ -21,7 +21,7 @@ returns-in_err-note_old-clause-free g c = λ h.
 
 pub invariant_of-self-2 : goal.invariant_of-self-2
 invariant_of-self-2 g c =
-    let s = c.in_ok-note_old.ensures.keeps c.args.value c.self.inside.counter in
+    let s = c.in_ok-note_old.ensures.keeps c.self.inside.counter in
     let t = rw (c.as_slice-2.ensures.value, c.as_slice-3.ensures.value) at s in
     (t (c.self.invariant)).sound
 
@@ -41,7 +41,7 @@ returns-clause-free g c = λ h.
 
 pub returns-clause-held : goal.returns-clause-held
 returns-clause-held g c =
-    let s = c.in_ok-note_old.ensures.keeps c.args.value c.self.inside.counter in
+    let s = c.in_ok-note_old.ensures.keeps c.self.inside.counter in
     let t = rw (c.as_slice-2.ensures.value, c.as_slice-3.ensures.value) at s in
     let k = (t (c.self.invariant)).held in
     let vh : held_of c.self.inside.trail.items c.self.inside.items.items c.self.inside.marks.items ≡ c.args.self.now.held = ap (λ (p : Rewound g.row.T.Denot). p.held) c.self.view_is in
