@@ -263,6 +263,7 @@ impl<'b, 'i> Machine<'b, 'i> {
             last: 0,
             mode: Mode::Going,
             memory,
+            args: Vec::new(alloc),
             steps: 0,
             choices: 0,
             fails: 0,

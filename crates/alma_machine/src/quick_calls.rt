@@ -10,12 +10,12 @@ ghost use Rattle.alma_machine.specs.Quick.{Quickly, KeepsLive};
 ghost use Rattle.alma_machine.specs.View.{run_state};
 ghost use Rattle.alma_machine_acts.specs.Calls.{HasArguments};
 
-use alma_code::{Cell, Head, Instr};
+use alma_code::{Head, Instr};
 use alma_machine_acts::calls::arguments;
 use alma_machine_acts::{CodeView, Registers};
 use alma_memory::Memory;
 
-// Enters a routine with its arguments, where there is room for its frame.
+// Enters a routine with the arguments that were read, where there is room for its frame.
 #[inline(always)]
 #[tactic(auto, using(alma_machine_acts::proofs::Given::enters))]
 fn enter_quickly<H: Head>(
@@ -23,16 +23,17 @@ fn enter_quickly<H: Head>(
     head: &H,
     routine: u32,
     start: u32,
-    args: &[Cell],
 ) -> bool
     requires head { IsHead (H.head head.now) }
     requires args { FitsParams (IsLive registers.old.memory.now)
-        (λ routine. IsLive registers.old.memory.now) (H.head head.now).params args.now }
+        (λ routine. IsLive registers.old.memory.now) (H.head head.now).params
+        registers.old.args.items }
     ensures step { Quickly result (run_state registers.old) (run_state registers.new)
-        (enters_routine (run_state registers.old) routine start (H.head head.now) args.now) }
+        (enters_routine (run_state registers.old) routine start (H.head head.now)
+        registers.old.args.items) }
     ensures kept { KeepsLive (run_state registers.old) (run_state registers.new) }
 {
-    match registers.memory.enter(head, routine, registers.at, args) {
+    match registers.memory.enter(head, routine, registers.at, &registers.args) {
         Ok(()) => {
             registers.at = start;
             true
@@ -57,9 +58,8 @@ fn call_with<H: Head>(
         (λ args. enters_routine s routine start (H.head head.now) args)) }
     ensures kept { KeepsLive (run_state registers.old) (run_state registers.new) }
 {
-    let mut args = Vec::new(registers.alloc);
-    match arguments(registers, head, first, &mut args) {
-        Ok(None) => enter_quickly(registers, head, routine, start, &args),
+    match arguments(&registers.memory, head, first, &mut registers.args) {
+        Ok(None) => enter_quickly(registers, head, routine, start),
         Ok(Some(_)) | Err(_) => false,
     }
 }

@@ -20,15 +20,11 @@ use alma_memory::{EnterError, MachineMemory};
 // The argument of a parameter in a slot.
 #[inline(always)]
 #[tactic(auto, using(crate::proofs::Given::givens))]
-fn argument<M: MachineMemory>(
-    registers: &Registers<M>,
-    param: CodeParam,
-    slot: u32,
-) -> Result<Cell, RunFault>
-    requires { HasArgument (M.picture registers.now.memory).now param slot }
-    ensures { GivesArgument (M.picture registers.now.memory).now param slot result }
+fn argument<M: MachineMemory>(memory: &M, param: CodeParam, slot: u32) -> Result<Cell, RunFault>
+    requires { HasArgument (M.picture memory.now).now param slot }
+    ensures { GivesArgument (M.picture memory.now).now param slot result }
 {
-    let cell = registers.memory.top(slot);
+    let cell = memory.top(slot);
     match cell {
         Cell::Unknown | Cell::Unset => Err(RunFault::Unknown),
         Cell::Int(_) | Cell::Place(_) => Ok(cell),
@@ -36,24 +32,23 @@ fn argument<M: MachineMemory>(
     }
 }
 
-/// The arguments of all parameters, in the slots from the first on, or the fault of the first that is not known.
+/// The arguments of all parameters, in the slots from the first on, in place of those of an earlier call; or the fault of
+/// the first that is not known.
 #[inline(always)]
 pub fn arguments<M: MachineMemory, H: Head>(
-    registers: &Registers<M>,
+    memory: &M,
     head: &H,
     first: u32,
     args: &mut Vec<Cell>,
 ) -> Result<Option<RunFault>, NoMemory>
-    requires has { HasArguments (M.picture registers.now.memory).now
-        (H.head head.now).params first }
-    requires empty { args.old.items ≡ [] }
+    requires { HasArguments (M.picture memory.now).now (H.head head.now).params first }
     ensures { IfOk result
-        (λ fault. GivesArguments (M.picture registers.now.memory).now
-        (H.head head.now).params first fault
+        (λ fault. GivesArguments (M.picture memory.now).now (H.head head.now).params first fault
         args.new.items) }
 {
+    args.clear();
     for i in 0..head.param_count() {
-        match argument(registers, head.param(i), first + i) {
+        match argument(memory, head.param(i), first + i) {
             Ok(cell) => args.push(cell)?,
             Err(fault) => return Ok(Some(fault)),
         }
@@ -61,21 +56,21 @@ pub fn arguments<M: MachineMemory, H: Head>(
     Ok(None)
 }
 
-// Enters a routine with its arguments, or ends the run where there is no room for its frame.
+// Enters a routine with the arguments that were read, or ends the run where there is no room for its frame.
 #[tactic(auto, using(crate::proofs::Given::enters))]
 fn enter<M: MachineMemory, H: Head>(
     registers: &mut Registers<M>,
     head: &H,
     routine: u32,
     start: u32,
-    args: &[Cell],
 ) -> Result<Step, NoMemory>
     requires head { IsHead (H.head head.now) }
     requires args { FitsParams (IsLive (M.picture registers.old.memory).now)
-        (λ routine. IsLive (M.picture registers.old.memory).now) (H.head head.now).params args.now }
+        (λ routine. IsLive (M.picture registers.old.memory).now) (H.head head.now).params
+        registers.old.args.items }
     ensures ok { IfOk result (λ answer. stepped answer [] (state_of M.picture registers.new)
         ≡ enters_routine (state_of M.picture registers.old) routine start
-        (H.head head.now) args.now) }
+        (H.head head.now) registers.old.args.items) }
     ensures kept { IfOk result
         (λ answer. KeepsOn answer (state_of M.picture registers.old)
         (state_of M.picture registers.new)) }
@@ -83,7 +78,7 @@ fn enter<M: MachineMemory, H: Head>(
         (state_of M.picture registers.new ≡ state_of M.picture registers.old) }
     ensures past { (M.picture registers.new.memory).past ≡ (M.picture registers.old.memory).past }
 {
-    match registers.memory.enter(head, routine, registers.at, args) {
+    match registers.memory.enter(head, routine, registers.at, &registers.args) {
         Ok(()) => {
             registers.at = start;
             Ok(Step::Called(routine, registers.memory.frames()))
@@ -116,10 +111,9 @@ pub fn call<M: MachineMemory, H: Head>(
         (state_of M.picture registers.new ≡ state_of M.picture registers.old) }
     ensures past { (M.picture registers.new.memory).past ≡ (M.picture registers.old.memory).past }
 {
-    let mut args = Vec::new(registers.alloc);
-    match arguments(registers, head, first, &mut args)? {
+    match arguments(&registers.memory, head, first, &mut registers.args)? {
         Some(fault) => Ok(registers.end(End::Fault(fault))),
-        None => enter(registers, head, routine, start, &args),
+        None => enter(registers, head, routine, start),
     }
 }
 

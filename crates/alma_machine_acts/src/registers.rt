@@ -17,7 +17,8 @@ pub enum Mode {
     Ended(End),
 }
 
-/// The state of a run: the next address, that of the last instruction taken, the mode, the memory and the counts.
+/// The state of a run: the next address, that of the last instruction taken, the mode, the memory and the counts; and the
+/// arguments of the last call, so that no call asks for room that an earlier one had.
 #[derive(Drop)]
 pub struct Registers<M: MachineMemory> {
     pub alloc: Global,
@@ -25,6 +26,7 @@ pub struct Registers<M: MachineMemory> {
     pub last: u32,
     pub mode: Mode,
     pub memory: M,
+    pub args: Vec<Cell>,
     pub steps: u64,
     pub choices: u64,
     pub fails: u64,

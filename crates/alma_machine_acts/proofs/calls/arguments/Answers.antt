@@ -6,18 +6,18 @@ pub returns-in-Err : goal.returns-in-Err
 returns-in-Err g c =
     let ps = (g.H.Head.head c.args.head.now).params in
     let lt : c.loop-i.i < length ps = omega (arith, c.loop-i-test.true, c.param_count-i-end.ensures) in
-    fails_at (g.M.MachineMemory.picture c.args.registers.now.memory).now ps c.args.first c.loop-i.i c.param.result c.loop-i.args.items c.loop-i.args.items c.in-Err.fault lt c.param.ensures c.loop-i.invariant c.in-Err.ensures
+    fails_at (g.M.MachineMemory.picture c.args.memory.now).now ps c.args.first c.loop-i.i c.param.result c.loop-i.args.items c.loop-i.args.items c.in-Err.fault lt c.param.ensures c.loop-i.invariant c.in-Err.ensures
 
 pub loop-i-preserved : goal.loop-i-preserved
 loop-i-preserved g c =
     let ps = (g.H.Head.head c.args.head.now).params in
-    let now = (g.M.MachineMemory.picture c.args.registers.now.memory).now in
+    let now = (g.M.MachineMemory.picture c.args.memory.now).now in
     subst (λ xs. ReadSo now ps c.args.first (c.loop-i.i + 1) xs) (sym c.in_ok-push-in-Ok.ensures.items)
     (reads_more now ps c.args.first c.loop-i.i c.param.result c.in-Ok.cell c.loop-i.args.items c.param.ensures c.loop-i.invariant c.in-Ok.ensures)
 
 pub returns : goal.returns
 returns g c =
     let ps = (g.H.Head.head c.args.head.now).params in
-    let now = (g.M.MachineMemory.picture c.args.registers.now.memory).now in
+    let now = (g.M.MachineMemory.picture c.args.memory.now).now in
     let all : c.loop-i.i ≡ length ps = omega (arith, c.loop-i-test.false, c.loop-i.auto.i-end, c.param_count-i-end.ensures) in
     all_done now ps c.args.first c.loop-i.args.items (subst (λ n. ReadSo now ps c.args.first n c.loop-i.args.items) all c.loop-i.invariant)
