@@ -181,6 +181,7 @@ impl<'b, 'i> Back<'b, 'i> {
             last: 0,
             mode: Mode::Going,
             memory,
+            args: Vec::new(alloc),
             steps: 0,
             choices: 0,
             fails: 0,
