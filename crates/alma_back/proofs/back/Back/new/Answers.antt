@@ -18,12 +18,13 @@ invariant_of-result c =
       last = 0;
       mode = Mode.Going;
       memory = c.in_ok-memory.memory;
+      args = c.new.result;
       steps = 0;
       choices = 0;
       fails = 0;
     } in (
       c.requires,
-      subst (λ (olds : List Old). Keeps code c.args.input.now (length olds) registers olds 0) (sym c.new.ensures.items)
+      subst (λ (olds : List Old). Keeps code c.args.input.now (length olds) registers olds 0) (sym c.new-2.ensures.items)
           (keeps_start code c.args.input.now registers c.keeps_sound.ensures
           (first_is code _ _ c.in_ok-memory.ensures.now c.in_ok-memory.ensures.held)
           c.in_ok-memory.ensures.past),
