@@ -77,8 +77,9 @@ third_is r n =
     sym (get_or-map (called c) forms n I.Fail) ∙ repeated 53 n c
 
 -- a Call's slot is the third word of its record
-pub call_slot : (r : InstrRecord) (o : Option Instr) (routine first to : ℕ) → o ≡ Some (instr_of_record r) → o ≡ Some (I.Call routine first to)
-    → word_of_record r 9 ≡ to
+pub call_slot : (r : InstrRecord) (o : Option Instr) (routine first to : ℕ) → o ≡ Some (instr_of_record r)
+    → o ≡ Some (I.Call routine first to) → word_of_record r 9 ≡ to
 call_slot r o routine first to here is =
     let c = word_of_record r 9 in
-    sym (third_is r (opcode_of_record r)) ∙ ap (called c) (sym (form_is r (opcode_of_record r) refl)) ∙ ap (called_in c) (sym here ∙ is)
+    let n = opcode_of_record r in
+    sym (third_is r n) ∙ ap (called c) (sym (form_is r n refl)) ∙ ap (called_in c) (sym here ∙ is)
