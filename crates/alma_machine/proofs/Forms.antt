@@ -1,6 +1,7 @@
 -- The instruction of a record, by the words that its form uses.
-use Rattle.std.proofs.Common.{◌≡◌, ℕ, ℤ, List, ap, sym, ◌∙◌, subst}
-use Rattle.std.specs.Prelude.{Bool}
+use Rattle.std.proofs.Common.{◌≡◌, ℕ, zero, suc, ℤ, List, ◌∷◌, get_or, replicate, refl, ap, sym, ◌∙◌, subst, Some}
+use Rattle.std.specs.Prelude.{Bool, Option, None}
+use Rattle.std.proofs.Math.ListN.{get_or-map}
 use Rattle.alma_code.specs.declared.instr.Instr.{Instr}
 use Rattle.alma_code.specs.declared.instr.Instr.TheVariants as I
 use Rattle.alma_code.specs.Machine.{State, act}
@@ -10,7 +11,9 @@ use Rattle.alma_machine.specs.Needs.{Needs}
 use Rattle.alma_machine.specs.Quick.{Quickly, Quietly}
 use Rattle.alma_machine.proofs.Dashing.{quick_of_quiet}
 use Rattle.alma_object.specs.declared.record.InstrRecord.{InstrRecord}
-use Rattle.alma_object.specs.View.{instr_of_record, word_of_record, value_of_record}
+use Rattle.alma_object.specs.View.{instr_of_record, opcode_of_record, word_of_record, value_of_record}
+use Rattle.alma_object.proofs.Records.{form_of, form_is}
+use Rattle.alma_object_format.specs.Instrs.{instrs_with}
 
 -- a form with a value
 pub const_is : (r : InstrRecord) (a : ℕ) (v : ℤ) → instr_of_record r ≡ I.Const (word_of_record r 1) (value_of_record r)
@@ -47,3 +50,35 @@ done_of b old new code input r i is h = subst (λ j. Quickly b old new (act code
 pub quietly_of : (b : Bool) (old new : State) (code : PlainCode) (input : List ℕ) (r : InstrRecord) (i : Instr) → instr_of_record r ≡ i
     → Quietly b old new (act code input i old) → Quickly b old new (act code input (instr_of_record r) old)
 quietly_of b old new code input r i is h = done_of b old new code input r i is (quick_of_quiet b old new (act code input i old) h)
+
+-- ---- the slot that a Call names for its number
+
+-- the slot that a Call names, and else another
+abbrev called : ℕ → Instr → ℕ
+called other (I.Call routine first to) = to
+called other _ = other
+
+-- the same of an instruction that is there
+abbrev called_in : ℕ → Option Instr → ℕ
+called_in other (Some i) = called other i
+called_in other None = other
+
+-- each item of one that is repeated
+repeated : (n k c : ℕ) → get_or (replicate n c) k c ≡ c
+repeated zero k c = refl
+repeated (suc n) zero c = refl
+repeated (suc n) (suc k) c = repeated n k c
+
+-- each form with a third word names that one, or names none
+third_is : (r : InstrRecord) (n : ℕ) → called (word_of_record r 9) (form_of r n) ≡ word_of_record r 9
+third_is r n =
+    let c = word_of_record r 9 in
+    let forms = I.Fail ∷ instrs_with (word_of_record r 1) (word_of_record r 5) c (word_of_record r 13) (value_of_record r) in
+    sym (get_or-map (called c) forms n I.Fail) ∙ repeated 53 n c
+
+-- a Call's slot is the third word of its record
+pub call_slot : (r : InstrRecord) (o : Option Instr) (routine first to : ℕ) → o ≡ Some (instr_of_record r) → o ≡ Some (I.Call routine first to)
+    → word_of_record r 9 ≡ to
+call_slot r o routine first to here is =
+    let c = word_of_record r 9 in
+    sym (third_is r (opcode_of_record r)) ∙ ap (called c) (sym (form_is r (opcode_of_record r) refl)) ∙ ap (called_in c) (sym here ∙ is)

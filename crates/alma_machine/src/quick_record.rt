@@ -247,6 +247,12 @@ pub(crate) fn act_quickly<V: CodeView>(
             call_quickly(registers, view, instr, input)
         }
         38 => call_quickly(registers, view, Instr::Return, input),
+        39 => {
+            let instr = Instr::ReturnValue {
+                value: form.first(),
+            };
+            call_quickly(registers, view, instr, input)
+        }
         48 => {
             let instr = Instr::Step {
                 counter: form.first(),

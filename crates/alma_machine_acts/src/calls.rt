@@ -78,7 +78,10 @@ fn enter<M: MachineMemory, H: Head>(
         (state_of M.picture registers.new ≡ state_of M.picture registers.old) }
     ensures past { (M.picture registers.new.memory).past ≡ (M.picture registers.old.memory).past }
 {
-    match registers.memory.enter(head, routine, registers.at, &registers.args) {
+    match registers
+        .memory
+        .enter(head, routine, registers.at, &registers.args)
+    {
         Ok(()) => {
             registers.at = start;
             Ok(Step::Called(routine, registers.memory.frames()))

@@ -180,13 +180,16 @@ note-keeps {T} ms trail xs stamps counter k old x f l o s = write-noted ms trail
     n = record { at = k; stamp = get_or stamps k 0; old = old }
 
 -- a note alone
-pub note-stays : {T : Type 0} (ms : List Mark) (trail : List (Note T)) (xs : List T) (stamps : List ℕ) (counter k : ℕ) (old : T) → is_free ms k (get_or stamps k 0) ≡ false →
+pub note-stays : {T : Type 0} (ms : List Mark) (trail : List (Note T)) (xs : List T) (stamps : List ℕ) (counter k : ℕ) (old : T) →
+    is_free ms k (get_or stamps k 0) ≡ false →
     k < length stamps → old ≡ get_or xs k old → IsSound ms trail xs stamps counter →
-    Keeps ms trail (trail ++ (record { at = k; stamp = get_or stamps k 0; old = old }) ∷ []) xs xs (set stamps k (last_mark ms).serial) counter
+    Keeps ms trail (trail ++ (record { at = k; stamp = get_or stamps k 0; old = old }) ∷ []) xs xs
+    (set stamps k (last_mark ms).serial) counter
 note-stays {T} ms trail xs stamps counter k old f l o s =
     let n : Note T = record { at = k; stamp = get_or stamps k 0; old = old } in
     let e : set xs k old ≡ xs = ap (set xs k) o ∙ set-get_or xs k old in
-    subst (λ v. Keeps ms trail (trail ++ n ∷ []) xs v (set stamps k (last_mark ms).serial) counter) e (note-keeps ms trail xs stamps counter k old old f l o s)
+    subst (λ v. Keeps ms trail (trail ++ n ∷ []) xs v (set stamps k (last_mark ms).serial) counter) e
+    (note-keeps ms trail xs stamps counter k old old f l o s)
 
 -- the top serial is free
 pub free-new : (ms : List Mark) (at : ℕ) → is_free ms at (last_mark ms).serial ≡ true

@@ -97,14 +97,16 @@ finds cells regions n f slot r now s v l k e =
 
 -- a slot of the top frame
 pub finds-top : (cells : List Slot) (regions : List Region) (n slot : ℕ) (r : Region) (now : List PlainFrame) → IsState cells regions n →
-    frames_of cells (take n regions) ≡ now → slot < length (last_frame now).cells → slice_get regions (n - 1) ≡ Some r → Finds cells regions n (length now - 1) slot r now
+    frames_of cells (take n regions) ≡ now → slot < length (last_frame now).cells → slice_get regions (n - 1) ≡ Some r →
+    Finds cells regions n (length now - 1) slot r now
 finds-top cells regions n slot r now s v k e =
     let wide : length now ≡ n = sym (ap length v) ∙ live-length cells regions n s.live in
     let top : slice_get regions (length now - 1) ≡ Some r = ap (λ j. slice_get regions (j - 1)) wide ∙ e in
     finds cells regions n (length now - 1) slot r now s v (omega (arith, wide, s.some)) k top
 
 -- the region behind the live ones
-put-at : (new regions : List Region) (n : ℕ) (r : Region) → n ≤ length regions → take (suc n) new ≡ take n regions ++ r ∷ [] → slice_get new n ≡ Some r
+put-at : (new regions : List Region) (n : ℕ) (r : Region) → n ≤ length regions → take (suc n) new ≡ take n regions ++ r ∷ [] →
+    slice_get new n ≡ Some r
 put-at [] regions zero r l e = let f : 0 ≡ 1 = ap length e in absurd (omega (arith, f))
 put-at [] [] (suc n) r l e = absurd (omega (arith, l))
 put-at [] (d ∷ regions) (suc n) r l e = let f : 0 ≡ suc (length (take n regions ++ r ∷ [])) = ap length e in absurd (omega (arith, f))
@@ -112,7 +114,8 @@ put-at (x ∷ new) regions zero r l e = ap (λ (rs : List Region). slice_get rs 
 put-at (x ∷ new) [] (suc n) r l e = absurd (omega (arith, l))
 put-at (x ∷ new) (d ∷ regions) (suc n) r l e = put-at new regions n r (omega (arith, l)) (ap (drop 1) e)
 
-pub put-last : (new regions : List Region) (n : ℕ) (r : Region) → n ≤ length regions → take (n + 1) new ≡ take n regions ++ r ∷ [] → slice_get new (n + 1 - 1) ≡ Some r
+pub put-last : (new regions : List Region) (n : ℕ) (r : Region) → n ≤ length regions → take (n + 1) new ≡ take n regions ++ r ∷ [] →
+    slice_get new (n + 1 - 1) ≡ Some r
 put-last new regions n r l e =
     let z : n + 1 - 1 ≡ n = omega arith in
     let y : suc n ≡ n + 1 = omega arith in

@@ -117,6 +117,9 @@ call_quickly-requires g c = needs_of (g.V.CodeView.code c.args.view.now) c.args.
 pub call_quickly-requires-in-38 : goal.call_quickly-requires-in-38
 call_quickly-requires-in-38 g c = needs_of (g.V.CodeView.code c.args.view.now) c.args.registers.now.memory.now c.args.form _ (form_is c.args.form 38 (sym c.opcode.ensures ∙ c.in-38.is)) c.requires.needs
 
+pub call_quickly-requires-in-39 : goal.call_quickly-requires-in-39
+call_quickly-requires-in-39 g c = needs_of (g.V.CodeView.code c.args.view.now) c.args.registers.now.memory.now c.args.form _ (by_one I.ReturnValue c.args.form c.first-in-39.result (form_is c.args.form 39 (sym c.opcode.ensures ∙ c.in-39.is)) c.first-in-39.ensures) c.requires.needs
+
 pub control_quickly-requires-in-48 : goal.control_quickly-requires-in-48
 control_quickly-requires-in-48 g c = needs_of (g.V.CodeView.code c.args.view.now) c.args.registers.now.memory.now c.args.form _ (by_four I.Step c.args.form c.first-in-48.result c.second-in-48.result c.third-in-48.result c.fourth-in-48.result (form_is c.args.form 48 (sym c.opcode.ensures ∙ c.in-48.is)) c.first-in-48.ensures c.second-in-48.ensures c.third-in-48.ensures c.fourth-in-48.ensures) c.requires.needs
 
@@ -279,6 +282,11 @@ pub returns-in-38-clause-step : goal.returns-in-38-clause-step
 returns-in-38-clause-step g c =
     done_of c.call_quickly-in-38.result (run_state c.args.registers.now) (run_state c.call_quickly-in-38.new.registers) (g.V.CodeView.code c.args.view.now) c.args.input.now c.args.form _
     (form_is c.args.form 38 (sym c.opcode.ensures ∙ c.in-38.is)) c.call_quickly-in-38.ensures.step
+
+pub returns-in-39-clause-step : goal.returns-in-39-clause-step
+returns-in-39-clause-step g c =
+    done_of c.call_quickly-in-39.result (run_state c.args.registers.now) (run_state c.call_quickly-in-39.new.registers) (g.V.CodeView.code c.args.view.now) c.args.input.now c.args.form _
+    (by_one I.ReturnValue c.args.form c.first-in-39.result (form_is c.args.form 39 (sym c.opcode.ensures ∙ c.in-39.is)) c.first-in-39.ensures) c.call_quickly-in-39.ensures.step
 
 pub returns-in-48-clause-step : goal.returns-in-48-clause-step
 returns-in-48-clause-step g c =

@@ -8,7 +8,8 @@ returns-in_ok-add_note-clause-keeps g c = λ counter s.
     let l : c.args.at < length c.args.stamps.now.items = c.requires.wide in
     let f : is_free c.args.marks.now c.args.at (get_or c.args.stamps.now.items c.args.at 0) ≡ false = sym c.requires.free ∙ c.if-not-free.true in
     rw (c.in_ok-add_note.ensures.trail, c.in_ok-add_note.ensures.stamps, c.top_serial.ensures)
-    (note-stays c.args.marks.now c.args.trail.now.items c.args.items.now c.args.stamps.now.items counter c.args.at c.index-items-at.result f l c.index-items-at.is s)
+    (note-stays c.args.marks.now c.args.trail.now.items c.args.items.now c.args.stamps.now.items counter c.args.at
+    c.index-items-at.result f l c.index-items-at.is s)
 
 pub returns-in_ok-add_note-clause-noted : goal.returns-in_ok-add_note-clause-noted
 returns-in_ok-add_note-clause-noted g c =

@@ -6,26 +6,37 @@ use Rattle.alma_memory_rewind.proofs.rewind.Rewind.put.Goals as goal
 
 pub index_mut-requires : goal.index_mut-requires
 index_mut-requires g c =
-    let vn : free_from c.self.inside.marks.items 0 c.self.inside.stamps.items ≡ c.args.self.now.noted = ap (λ (p : Rewound g.row.T.Denot). p.noted) c.self.view_is in
+    let vn : free_from c.self.inside.marks.items 0 c.self.inside.stamps.items ≡ c.args.self.now.noted =
+    ap (λ (p : Rewound g.row.T.Denot). p.noted) c.self.view_is in
     let here : get_or (free_from c.self.inside.marks.items 0 c.self.inside.stamps.items) c.args.at false ≡ true = rw vn c.requires in
-    let l : c.args.at < length c.self.inside.stamps.items = flag-within c.self.inside.marks.items c.self.inside.stamps.items c.args.at here in
+    let l : c.args.at < length c.self.inside.stamps.items =
+    flag-within c.self.inside.marks.items c.self.inside.stamps.items c.args.at here in
     omega (arith, l, c.self.invariant.wide)
 
 pub invariant_of-self : goal.invariant_of-self
 invariant_of-self g c =
-    let vn : free_from c.self.inside.marks.items 0 c.self.inside.stamps.items ≡ c.args.self.now.noted = ap (λ (p : Rewound g.row.T.Denot). p.noted) c.self.view_is in
+    let vn : free_from c.self.inside.marks.items 0 c.self.inside.stamps.items ≡ c.args.self.now.noted =
+    ap (λ (p : Rewound g.row.T.Denot). p.noted) c.self.view_is in
     let here : get_or (free_from c.self.inside.marks.items 0 c.self.inside.stamps.items) c.args.at false ≡ true = rw vn c.requires in
-    let l : c.args.at < length c.self.inside.stamps.items = flag-within c.self.inside.marks.items c.self.inside.stamps.items c.args.at here in
-    let is : is_free c.self.inside.marks.items c.args.at (get_or c.self.inside.stamps.items c.args.at 0) ≡ true = sym (flag c.self.inside.marks.items c.self.inside.stamps.items c.args.at l) ∙ here in
-    let k = write-free c.self.inside.marks.items c.self.inside.trail.items c.self.inside.items.items c.self.inside.stamps.items c.self.inside.counter c.args.at c.args.value is c.self.invariant in
+    let l : c.args.at < length c.self.inside.stamps.items =
+    flag-within c.self.inside.marks.items c.self.inside.stamps.items c.args.at here in
+    let is : is_free c.self.inside.marks.items c.args.at (get_or c.self.inside.stamps.items c.args.at 0) ≡ true =
+    sym (flag c.self.inside.marks.items c.self.inside.stamps.items c.args.at l) ∙ here in
+    let k = write-free c.self.inside.marks.items c.self.inside.trail.items c.self.inside.items.items c.self.inside.stamps.items
+    c.self.inside.counter c.args.at c.args.value is c.self.invariant in
     k.sound
 
 pub returns-clause-held : goal.returns-clause-held
 returns-clause-held g c =
-    let vn : free_from c.self.inside.marks.items 0 c.self.inside.stamps.items ≡ c.args.self.now.noted = ap (λ (p : Rewound g.row.T.Denot). p.noted) c.self.view_is in
+    let vn : free_from c.self.inside.marks.items 0 c.self.inside.stamps.items ≡ c.args.self.now.noted =
+    ap (λ (p : Rewound g.row.T.Denot). p.noted) c.self.view_is in
     let here : get_or (free_from c.self.inside.marks.items 0 c.self.inside.stamps.items) c.args.at false ≡ true = rw vn c.requires in
-    let l : c.args.at < length c.self.inside.stamps.items = flag-within c.self.inside.marks.items c.self.inside.stamps.items c.args.at here in
-    let is : is_free c.self.inside.marks.items c.args.at (get_or c.self.inside.stamps.items c.args.at 0) ≡ true = sym (flag c.self.inside.marks.items c.self.inside.stamps.items c.args.at l) ∙ here in
-    let k = write-free c.self.inside.marks.items c.self.inside.trail.items c.self.inside.items.items c.self.inside.stamps.items c.self.inside.counter c.args.at c.args.value is c.self.invariant in
-    let vh : held_of c.self.inside.trail.items c.self.inside.items.items c.self.inside.marks.items ≡ c.args.self.now.held = ap (λ (p : Rewound g.row.T.Denot). p.held) c.self.view_is in
+    let l : c.args.at < length c.self.inside.stamps.items =
+    flag-within c.self.inside.marks.items c.self.inside.stamps.items c.args.at here in
+    let is : is_free c.self.inside.marks.items c.args.at (get_or c.self.inside.stamps.items c.args.at 0) ≡ true =
+    sym (flag c.self.inside.marks.items c.self.inside.stamps.items c.args.at l) ∙ here in
+    let k = write-free c.self.inside.marks.items c.self.inside.trail.items c.self.inside.items.items c.self.inside.stamps.items
+    c.self.inside.counter c.args.at c.args.value is c.self.invariant in
+    let vh : held_of c.self.inside.trail.items c.self.inside.items.items c.self.inside.marks.items ≡ c.args.self.now.held =
+    ap (λ (p : Rewound g.row.T.Denot). p.held) c.self.view_is in
     k.held ∙ vh

@@ -52,7 +52,12 @@ invariant_of-self-2 c =
     let lh : c.choose_all.new.lives.items ≡ c.self.inside.lives.items ++ n ∷ [] = c.choose_all.ensures.lives ∙ ap (λ xs. xs ++ n ∷ []) c.reserve-3.ensures.items in
     let same : c.choose_all.new.slots.now ≡ slots = c.choose_all.ensures.now.0 ∙ c.reserve.ensures.now in
     let same' : c.choose_all.new.regions.now ≡ regions = c.choose_all.ensures.now.1 ∙ c.reserve-2.ensures.now in
-    rw (same, same', sh, rh, lh) (c.self.invariant.0, states-push c.self.inside.slots.held c.self.inside.regions.held c.self.inside.lives.items (take c.higher-top.result slots) (take c.higher-high.result regions) n c.self.invariant.1 h.state, c.self.invariant.2)
+    rw (same, same', sh, rh, lh) (
+      c.self.invariant.0,
+      states-push c.self.inside.slots.held c.self.inside.regions.held c.self.inside.lives.items (take c.higher-top.result slots)
+          (take c.higher-high.result regions) n c.self.invariant.1 h.state,
+      c.self.invariant.2,
+    )
 
 pub returns-clause-held : goal.returns-clause-held
 returns-clause-held c =

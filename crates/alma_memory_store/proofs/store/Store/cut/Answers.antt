@@ -5,7 +5,11 @@ use Rattle.alma_memory_store.proofs.store.Store.cut.Goals as goal
 
 pub invariant_of-self : goal.invariant_of-self
 invariant_of-self c =
-    rw (c.cut.ensures.now, c.cut-2.ensures.now, c.cut.ensures.held, c.cut-2.ensures.held, c.truncate.ensures.items) (c.self.invariant.0, states-take c.args.height c.self.inside.slots.held c.self.inside.regions.held c.self.inside.lives.items c.self.invariant.1, c.self.invariant.2)
+    rw (c.cut.ensures.now, c.cut-2.ensures.now, c.cut.ensures.held, c.cut-2.ensures.held, c.truncate.ensures.items) (
+      c.self.invariant.0,
+      states-take c.args.height c.self.inside.slots.held c.self.inside.regions.held c.self.inside.lives.items c.self.invariant.1,
+      c.self.invariant.2,
+    )
 
 pub returns-clause-held : goal.returns-clause-held
 returns-clause-held c =

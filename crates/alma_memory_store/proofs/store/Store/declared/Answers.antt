@@ -19,5 +19,6 @@ pub returns-clause-limit : goal.returns-clause-limit
 returns-clause-limit c =
     let regions = c.self.inside.regions.now in
     let n = c.self.inside.live in
-    let is = last-total regions n c.self.inside.top c.self.invariant.0.live c.self.invariant.0.some c.self.invariant.2 c.self.invariant.0.totals in
+    let is = last-total regions n c.self.inside.top c.self.invariant.0.live c.self.invariant.0.some c.self.invariant.2
+    c.self.invariant.0.totals in
     omega (arith, is, c.self.invariant.0.limit)

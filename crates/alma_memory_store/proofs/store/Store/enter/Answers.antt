@@ -74,8 +74,11 @@ invariant_of-self-in_err-put c =
     let state : IsState c.lay.new.slots.now regions n = stays-state slots c.lay.new.slots.now regions n c.higher-base.result up c.lay.ensures.wide c.self.invariant.0 in
     let frames : frames_of c.lay.new.slots.now (take n regions) ≡ c.args.self.now.now = stays-frames slots c.lay.new.slots.now regions n c.higher-base.result up c.lay.ensures.agrees c.self.invariant.0 ∙ vn in
     let states : AreStates c.lay.new.slots.held c.self.inside.regions.held c.self.inside.lives.items = subst (λ v. AreStates v c.self.inside.regions.held c.self.inside.lives.items) (sym c.lay.ensures.held) c.self.invariant.1 in
-    let same : c.put.new.regions.now ≡ regions = c.in_err-put.ensures.same in
-    (subst (λ v. IsState c.lay.new.slots.now v n) (sym same) state, subst (λ v. AreStates c.lay.new.slots.held v c.self.inside.lives.items) (sym c.put.ensures.held) states, subst (λ v. slice_get v (n - 1) ≡ Some c.self.inside.top) (sym same) c.self.invariant.2)
+    let same : c.put.new.regions.now ≡ regions = c.in_err-put.ensures.same in (
+      subst (λ v. IsState c.lay.new.slots.now v n) (sym same) state,
+      subst (λ v. AreStates c.lay.new.slots.held v c.self.inside.lives.items) (sym c.put.ensures.held) states,
+      subst (λ v. slice_get v (n - 1) ≡ Some c.self.inside.top) (sym same) c.self.invariant.2,
+    )
 
 pub returns-in_err-put-clause-now : goal.returns-in_err-put-clause-now
 returns-in_err-put-clause-now c =

@@ -29,4 +29,5 @@ returns-clause-back c =
     let regions = c.self.inside.regions.now in
     let n = c.self.inside.live in
     let vn : frames_of slots (take n regions) ≡ c.args.self.now.now = ap (λ (p : Stored). p.now) c.self.view_is in
-    sym (last-back slots regions n c.self.inside.top c.self.invariant.0.live c.self.invariant.0.some c.self.invariant.2) ∙ ap (λ fs. (last_frame fs).back) vn
+    sym (last-back slots regions n c.self.inside.top c.self.invariant.0.live c.self.invariant.0.some c.self.invariant.2)
+    ∙ ap (λ fs. (last_frame fs).back) vn

@@ -12,8 +12,11 @@ invariant_of-result c =
     let more : List Slot = slots_of c.args.kinds.now c.args.cells.now in
     let r : Region = record { routine = 0; back = 0; declared = c.args.declared; total = c.args.declared; base = 0; slots = length c.args.cells.now } in
     let regions : c.push.new.self.now ≡ r ∷ [] = c.in_ok-push.ensures.now ∙ ap (λ v. v ++ r ∷ []) c.new-regions.ensures.now in
-    let e = starts c.lay.new.slots.now more c.push.new.self.now r c.in_ok-lay.ensures.all regions refl c.requires.limit refl (sym (slots-length c.args.kinds.now c.args.cells.now c.requires.same)) in
-    (e.state, rw (c.lay.ensures.held ∙ c.new-slots.ensures.held, c.push.ensures.held ∙ c.new-regions.ensures.held, c.new-lives.ensures.items) tt, ap (λ v. slice_get v 0) regions)
+    let e = starts c.lay.new.slots.now more c.push.new.self.now r c.in_ok-lay.ensures.all regions refl c.requires.limit refl (sym (slots-length c.args.kinds.now c.args.cells.now c.requires.same)) in (
+      e.state,
+      rw (c.lay.ensures.held ∙ c.new-slots.ensures.held, c.push.ensures.held ∙ c.new-regions.ensures.held, c.new-lives.ensures.items) tt,
+      ap (λ v. slice_get v 0) regions,
+    )
 
 pub returns-clause-now : goal.returns-clause-now
 returns-clause-now c =

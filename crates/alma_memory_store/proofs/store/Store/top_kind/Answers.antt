@@ -35,6 +35,8 @@ returns c =
     let vn : frames_of slots (take n regions) ≡ c.args.self.now.now = ap (λ (p : Stored). p.now) c.self.view_is in
     let own = kind-cell slots (take n regions) c.args.self.now.now (length c.args.self.now.now - 1) c.args.slot vn c.requires in
     let f = finds-top slots regions n c.args.slot c.self.inside.top c.args.self.now.now c.self.invariant.0 vn own c.self.invariant.2 in
-    let got : get_or slots c.place_of-at.result no_slot ≡ c.get.result = get_or_from_slice_get slots c.place_of-at.result c.get.result no_slot c.get.ensures in
-    let here : get_or slots (c.self.inside.top.base + c.args.slot) no_slot ≡ c.get.result = ap (λ k. get_or slots k no_slot) (sym c.place_of-at.ensures) ∙ got in
+    let got : get_or slots c.place_of-at.result no_slot ≡ c.get.result =
+    get_or_from_slice_get slots c.place_of-at.result c.get.result no_slot c.get.ensures in
+    let here : get_or slots (c.self.inside.top.base + c.args.slot) no_slot ≡ c.get.result =
+    ap (λ k. get_or slots k no_slot) (sym c.place_of-at.ensures) ∙ got in
     f.kind ∙ ap (λ (x : Slot). Some x.kind) here

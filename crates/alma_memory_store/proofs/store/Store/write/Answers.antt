@@ -36,7 +36,8 @@ returns-clause-now c =
     let at = c.place_of-at.ensures in
     let e = c.write_cell.ensures.now in
     let x : Slot = record { kind = (get_or slots (c.get-region.result.base + c.args.slot) no_slot).kind; cell = c.args.cell } in
-    write-result slots c.write_cell.new.slots.now (take n regions) c.args.self.now.now (frames_with_cell c.args.self.now.now c.args.frame c.args.slot c.args.cell) (c.get-region.result.base + c.args.slot) x _ vn
+    write-result slots c.write_cell.new.slots.now (take n regions) c.args.self.now.now
+    (frames_with_cell c.args.self.now.now c.args.frame c.args.slot c.args.cell) (c.get-region.result.base + c.args.slot) x _ vn
     (f.write x refl) (rw at at e)
 
 pub returns-clause-free : goal.returns-clause-free
@@ -69,10 +70,12 @@ returns-clause-noted c =
     let lt : c.args.frame < n = omega (arith, wide, c.requires.live) in
     let there : c.args.frame < length (take n regions) = rw (length-take-le n regions c.self.invariant.0.live) lt in
     let at : get_or (take n regions) c.args.frame no_region ≡ c.get-region.result = region-at regions n c.args.frame c.get-region.result lt c.get-region.ensures in
-    on-ok c.write_cell.result _ _ (λ h. flag-there c.write_cell.new.slots.noted (take n regions) c.args.frame c.args.slot c.get-region.result there at f.own
+    on-ok c.write_cell.result _ _
+    (λ h. flag-there c.write_cell.new.slots.noted (take n regions) c.args.frame c.args.slot c.get-region.result there at f.own
     ∙ (ap (λ k. get_or c.write_cell.new.slots.noted k false) (sym c.place_of-at.ensures) ∙ h)) c.write_cell.ensures.noted
 
 pub returns-clause-kept : goal.returns-clause-kept
 returns-clause-kept c = λ f s h.
     let vf : flags_of c.self.inside.slots.noted (take c.self.inside.live c.self.inside.regions.now) ≡ c.args.self.now.noted = ap (λ (p : Stored). p.noted) c.self.view_is in
-    flags-kept c.self.inside.slots.noted c.write_cell.new.slots.noted (take c.self.inside.live c.self.inside.regions.now) c.write_cell.ensures.kept f s (ap (λ fs. get_or (get_or fs f []) s false) vf ∙ h)
+    flags-kept c.self.inside.slots.noted c.write_cell.new.slots.noted
+    (take c.self.inside.live c.self.inside.regions.now) c.write_cell.ensures.kept f s (ap (λ fs. get_or (get_or fs f []) s false) vf ∙ h)

@@ -12,7 +12,8 @@ place_of-at-requires c =
     let regions = c.self.inside.regions.now in
     let n = c.self.inside.live in
     let vn : frames_of slots (take n regions) ≡ c.args.self.now.now = ap (λ (p : Stored). p.now) c.self.view_is in
-    let f = finds-top slots regions n c.args.slot c.self.inside.top c.args.self.now.now c.self.invariant.0 vn c.requires c.self.invariant.2 in
+    let f = finds-top slots regions n c.args.slot c.self.inside.top c.args.self.now.now c.self.invariant.0 vn c.requires
+    c.self.invariant.2 in
     omega (arith, f.inside, c.len.ensures)
 
 pub write_cell-requires : goal.write_cell-requires
@@ -21,7 +22,8 @@ write_cell-requires c =
     let regions = c.self.inside.regions.now in
     let n = c.self.inside.live in
     let vn : frames_of slots (take n regions) ≡ c.args.self.now.now = ap (λ (p : Stored). p.now) c.self.view_is in
-    let f = finds-top slots regions n c.args.slot c.self.inside.top c.args.self.now.now c.self.invariant.0 vn c.requires c.self.invariant.2 in
+    let f = finds-top slots regions n c.args.slot c.self.inside.top c.args.self.now.now c.self.invariant.0 vn c.requires
+    c.self.invariant.2 in
     omega (arith, f.inside, c.place_of-at.ensures)
 
 pub returns-clause-now : goal.returns-clause-now
@@ -30,9 +32,12 @@ returns-clause-now c =
     let regions = c.self.inside.regions.now in
     let n = c.self.inside.live in
     let vn : frames_of slots (take n regions) ≡ c.args.self.now.now = ap (λ (p : Stored). p.now) c.self.view_is in
-    let f = finds-top slots regions n c.args.slot c.self.inside.top c.args.self.now.now c.self.invariant.0 vn c.requires c.self.invariant.2 in
+    let f = finds-top slots regions n c.args.slot c.self.inside.top c.args.self.now.now c.self.invariant.0 vn c.requires
+    c.self.invariant.2 in
     let at = c.place_of-at.ensures in
     let e = c.write_cell.ensures.now in
     let x : Slot = record { kind = (get_or slots (c.self.inside.top.base + c.args.slot) no_slot).kind; cell = c.args.cell } in
-    write-result slots c.write_cell.new.slots.now (take n regions) c.args.self.now.now (frames_with_cell c.args.self.now.now (length c.args.self.now.now - 1) c.args.slot c.args.cell) (c.self.inside.top.base + c.args.slot) x _ vn
+    write-result slots c.write_cell.new.slots.now (take n regions) c.args.self.now.now
+    (frames_with_cell c.args.self.now.now (length c.args.self.now.now - 1) c.args.slot c.args.cell)
+    (c.self.inside.top.base + c.args.slot) x _ vn
     (f.write x refl) (rw at at e)
