@@ -1,5 +1,6 @@
 -- What a run of a listing program lists.
-use Rattle.std.proofs.Common.{◌≡◌, ◌≤◌, ◌<◌, ◌+◌, ◌*◌, ◌/◌, ◌∙◌, ℕ, suc, List, [], ◌++◌, length, refl, sym, ap, subst, inl, inr, arith, append_assoc}
+use Rattle.std.proofs.Common.{◌≡◌, ◌≤◌, ◌<◌, ◌+◌, ◌*◌, ◌/◌, ◌∙◌, ℕ, suc, List, [], ◌++◌, length, refl, sym, ap, subst, inl, inr, arith}
+use Rattle.std.proofs.Common.{append_assoc}
 use Rattle.std.proofs.lemmas.Bool.{cases_lt}
 use Rattle.std.specs.Prelude.{◌⊎◌, false}
 use Rattle.alma_base.specs.Limits.{input_limit}
@@ -9,7 +10,8 @@ use Rattle.alma_code.specs.Machine.{Mode, Going, Failing, Ended, Stuck, State, s
 use Rattle.alma_code.specs.Plain.{PlainCode}
 use Rattle.alma_ir.specs.Checked.{IsChecked, HaveNoReturn}
 use Rattle.alma_ir.specs.Tree.{Program, routine_at}
-use Rattle.alma_lower_implements.specs.Implements.{HasPrefix, nothing, a_visit, a_print, Covers, ComesTo, Implements, HasEnded, IsEnough, state_after, printed_by, line_in, meant_end}
+use Rattle.alma_lower_implements.specs.Implements.{HasPrefix, nothing, a_visit, a_print, Covers, ComesTo, Implements, HasEnded, IsEnough}
+use Rattle.alma_lower_implements.specs.Implements.{state_after, printed_by, line_in, meant_end}
 use Rattle.alma_lower_implements.proofs.Enough.{is_enough}
 use Rattle.alma_machine.proofs.Budget.{ended_after}
 use Rattle.alma_mean.specs.Events.{End, Events, NoYield, Visit, Print, Alt, Fail, Fault, Cut, CutOff, first, end_of, prints, visit_count}
@@ -80,54 +82,56 @@ in_end Going h = absurd h
 in_end Failing h = absurd h
 in_end Stuck h = absurd h
 
-module _ (p : Program) (input : List ℕ) (steps : ℕ) (c : PlainCode) (lists : Lists (listing_of p) p) (short : length input ≤ input_limit) where
-  -- a machine that has not ended was given too few steps
-  may_run_out : IsEnough c (listing_of p) → (HasEnded (state_after c input steps).mode → ⊥) → MayRunOut p input steps
-  may_run_out enough out level uncut = by (cases_lt steps (32 * (most_visits high p input + 1)))
-    where
-      high : ℕ
-      high = level + 128 * (global_cells p + 1)
+module _ (p : Program) (input : List ℕ) (steps : ℕ) (c : PlainCode) (lists : Lists (listing_of p) p) (short : length input ≤ input_limit)
+  where
+    -- a machine that has not ended was given too few steps
+    may_run_out : IsEnough c (listing_of p) → (HasEnded (state_after c input steps).mode → ⊥) → MayRunOut p input steps
+    may_run_out enough out level uncut = by (cases_lt steps (32 * (most_visits high p input + 1)))
+      where
+        high : ℕ
+        high = level + 128 * (global_cells p + 1)
 
-      by : (steps < 32 * (most_visits high p input + 1)) ⊎ (32 * (most_visits high p input + 1) ≤ steps) → steps < 32 * (most_visits high p input + 1)
-      by (inl few) = few
-      by (inr many) =
-          let q : Events NoYield = ev_program high (listing_of p) input in
-          let whole : ends_in_cut q ≡ false = (lists level input).reached uncut in
-          let plenty = 32 * (visit_count (first q) + 1) in
-          let there = enough input short high (no_cut q whole) in
-          let e = in_end (state_after c input plenty).mode there in
-          let le : plenty ≤ steps = omega (arith, many, fewer_visits q, (lists high input).visits whole) in
-          absurd (out (subst (λ (s : State). HasEnded s.mode) (sym (ended_after c input plenty steps (start c) e.0 le e.1)) there))
+        by : (steps < 32 * (most_visits high p input + 1)) ⊎ (32 * (most_visits high p input + 1) ≤ steps)
+            → steps < 32 * (most_visits high p input + 1)
+        by (inl few) = few
+        by (inr many) =
+            let q : Events NoYield = ev_program high (listing_of p) input in
+            let whole : ends_in_cut q ≡ false = (lists level input).reached uncut in
+            let plenty = 32 * (visit_count (first q) + 1) in
+            let there = enough input short high (no_cut q whole) in
+            let e = in_end (state_after c input plenty).mode there in
+            let le : plenty ≤ steps = omega (arith, many, fewer_visits q, (lists high input).visits whole) in
+            absurd (out (subst (λ (s : State). HasEnded s.mode) (sym (ended_after c input plenty steps (start c) e.0 le e.1)) there))
 
-  run_is_listed : Implements c (listing_of p) → IsListed p input steps (code_due program success c input steps)
-  run_is_listed implements = by (state_after c input steps).mode refl (implements input short steps)
-    where
-      printed : List ℕ
-      printed = printed_by c input steps
+    run_is_listed : Implements c (listing_of p) → IsListed p input steps (code_due program success c input steps)
+    run_is_listed implements = by (state_after c input steps).mode refl (implements input short steps)
+      where
+        printed : List ℕ
+        printed = printed_by c input steps
 
-      line : ℕ
-      line = line_in c (state_after c input steps)
+        line : ℕ
+        line = line_in c (state_after c input steps)
 
-      cut : (m : Mode) → (state_after c input steps).mode ≡ m → (HasEnded m → ⊥) → MayRunOut p input steps
-      cut m same out = may_run_out (is_enough c (listing_of p) implements) (λ h. out (subst HasEnded same h))
+        cut : (m : Mode) → (state_after c input steps).mode ≡ m → (HasEnded m → ⊥) → MayRunOut p input steps
+        cut m same out = may_run_out (is_enough c (listing_of p) implements) (λ h. out (subst HasEnded same h))
 
-      shown : Covers (first (ev_program (suc steps) (listing_of p) input)) printed (steps / 32)
-          → IsPrefix printed (listed p.globals (ev_program (suc steps) p input))
-      shown h =
-          let e : Events NoYield = ev_program (suc steps) (listing_of p) input in
-          prefix_of_prefix printed (prints (first e)) _ (front_prints (first e) printed h.visits h.front)
-          (prefix_of_prefix (prints (first e)) (prints e) _ (first_prints e) (lists (suc steps) input).prefix)
+        shown : Covers (first (ev_program (suc steps) (listing_of p) input)) printed (steps / 32)
+            → IsPrefix printed (listed p.globals (ev_program (suc steps) p input))
+        shown h =
+            let e : Events NoYield = ev_program (suc steps) (listing_of p) input in
+            prefix_of_prefix printed (prints (first e)) _ (front_prints (first e) printed h.visits h.front)
+            (prefix_of_prefix (prints (first e)) (prints e) _ (first_prints e) (lists (suc steps) input).prefix)
 
-      by : (m : Mode) → (state_after c input steps).mode ≡ m → ComesTo m line printed (listing_of p) input steps
-          → IsListed p input steps (code_due program success c input steps)
-      by (Ended e) same h =
-          let uncut : end_of (first (ev_program (suc steps) (listing_of p) input)) ≡ CutOff → ⊥ =
-          λ k. never_cut e line (sym (ap (λ (r : List ℕ × End). r.1) h) ∙ k) in
-          whole (meant_end e line) (sym (listers_give_listings (listing_of p) p lists (suc steps) input uncut) ∙ h)
-          (ap (λ m. mode_end program success m line) same ∙ told_alike e line) (never_cut e line)
-      by Going same h = front (ap (λ m. mode_end program success m line) same) (shown h) h (cut Going same (λ x. x))
-      by Failing same h = front (ap (λ m. mode_end program success m line) same) (shown h) h (cut Failing same (λ x. x))
-      by Stuck same h = front (ap (λ m. mode_end program success m line) same) (shown h) h (cut Stuck same (λ x. x))
+        by : (m : Mode) → (state_after c input steps).mode ≡ m → ComesTo m line printed (listing_of p) input steps
+            → IsListed p input steps (code_due program success c input steps)
+        by (Ended e) same h =
+            let uncut : end_of (first (ev_program (suc steps) (listing_of p) input)) ≡ CutOff → ⊥ =
+            λ k. never_cut e line (sym (ap (λ (r : List ℕ × End). r.1) h) ∙ k) in
+            whole (meant_end e line) (sym (listers_give_listings (listing_of p) p lists (suc steps) input uncut) ∙ h)
+            (ap (λ m. mode_end program success m line) same ∙ told_alike e line) (never_cut e line)
+        by Going same h = front (ap (λ m. mode_end program success m line) same) (shown h) h (cut Going same (λ x. x))
+        by Failing same h = front (ap (λ m. mode_end program success m line) same) (shown h) h (cut Failing same (λ x. x))
+        by Stuck same h = front (ap (λ m. mode_end program success m line) same) (shown h) h (cut Stuck same (λ x. x))
 
 pub lists_every_alternative : ListsEveryAlternative
 lists_every_alternative p input steps due checked stays short means =

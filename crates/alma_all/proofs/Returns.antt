@@ -4,7 +4,8 @@ use Rattle.std.specs.Prelude.{Bool, true, false, ◌||◌, codes}
 use Rattle.std.specs.List.{list_any, AllByRecursion}
 use Rattle.alma_ir.specs.Checked.{HaveNoReturn, IsNoReturn}
 use Rattle.alma_ir.specs.Phrases.{Phrase, StmtPhrase, TestPhrase, ExprPhrase, ArgPhrase, DesigPhrase, SelPhrase, stmts_phrases}
-use Rattle.alma_ir.specs.Tree.{Program, Stmt, TestStmt, Assign, CopyCells, If, While, Repeat, ForTo, SomeOf, Case, Either, Forall, Commit, Return, Read, WriteExpr, WriteText, WriteLine, routine_at}
+use Rattle.alma_ir.specs.Tree.{Program, Stmt, TestStmt, Assign, CopyCells, If, While, Repeat, ForTo, SomeOf, Case, Either, Forall, Commit}
+use Rattle.alma_ir.specs.Tree.{Return, Read, WriteExpr, WriteText, WriteLine, routine_at}
 use Rattle.alma_io.specs.Sides.{SinkSide, SourceSide, FilesSide}
 use Rattle.alma_listing.specs.Lister.{listing_of}
 use Rattle.alma_plan.proofs.Courses.{course_ends, gains_none}
@@ -90,16 +91,20 @@ returns_there p some = by (body_returns p) refl
 
 -- a program whose body stays is listed by another
 pub course_listed : (p q : Program) (steps : ℕ) (files : FilesSide) (input input' : SourceSide) (out out' : SinkSide) (end : Ending)
-    → HaveNoReturn (routine_at p 0).body → q ≡ listing_of p → Follows all_sense program (run_plan program q steps) files files input input' out out' end
+    → HaveNoReturn (routine_at p 0).body → q ≡ listing_of p
+    → Follows all_sense program (run_plan program q steps) files files input input' out out' end
     → Follows all_sense program (list_plan p steps) files files input input' out out' end
 course_listed p q steps files input input' out out' end stays is course =
-    subst (λ (returns : Bool). Follows all_sense program (unless_returns returns p steps) files files input input' out out' end) (sym (body_stays p stays))
+    subst (λ (returns : Bool). Follows all_sense program (unless_returns returns p steps) files files input input' out out' end)
+    (sym (body_stays p stays))
     (subst (λ (x : Program). Follows all_sense program (run_plan program x steps) files files input input' out out' end) is course)
 
 -- and one whose body returns is refused
-pub course_returns : (p : Program) (steps : ℕ) (files : FilesSide) (input : SourceSide) (out : SinkSide) → (HaveNoReturn (routine_at p 0).body → ⊥)
+pub course_returns : (p : Program) (steps : ℕ) (files : FilesSide) (input : SourceSide) (out : SinkSide)
+    → (HaveNoReturn (routine_at p 0).body → ⊥)
     → Follows all_sense program (list_plan p steps) files files input input out out (tells program 13 (codes "ModuleReturn"))
 course_returns p steps files input out some =
-    subst (λ (returns : Bool). Follows all_sense program (unless_returns returns p steps) files files input input out out (tells program 13 (codes "ModuleReturn"))) (sym (returns_there p some))
+    subst (λ (returns : Bool). Follows all_sense program (unless_returns returns p steps) files files input input out out
+    (tells program 13 (codes "ModuleReturn"))) (sym (returns_there p some))
     (course_ends all_sense program (Tells (silent (tells program 13 (codes "ModuleReturn")))) files input out out _
     (whole (silent (tells program 13 (codes "ModuleReturn"))) refl refl refl (gains_none out)))

@@ -23,6 +23,7 @@ pub no_word : (words : List (String Global)) → true ≡ eqb (length words) 0 �
 no_word [] e = refl
 no_word (word ∷ words) e = absurd (omega (arith, eqb-true (length (word ∷ words)) 0 (sym e)))
 
-pub some_word : (words : List (String Global)) → false ≡ eqb (length words) 0 → (first : List ℕ) × (rest : List (List ℕ)) × (texts words ≡ first ∷ rest)
+pub some_word : (words : List (String Global)) → false ≡ eqb (length words) 0 → (first : List ℕ) × (rest : List (List ℕ))
+    × (texts words ≡ first ∷ rest)
 some_word [] e = cc e
 some_word (word ∷ words) e = (string_bytes word, texts words, refl)

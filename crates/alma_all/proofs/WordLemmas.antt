@@ -46,8 +46,10 @@ pub steps_are : (text : List ℕ) (steps : ℕ) → NamesSteps text steps → st
 steps_are text steps h =
     let value : value_of text ≡ steps = h.numeral.value in
     let all : names_steps text ≡ true =
-    ap (λ b. b && (leb 1 (length text) && (leb (length text) 19 && (leb 1 (value_of text) && leb (value_of text) greatest_steps)))) (digits_are text h.numeral.digits)
-    ∙ ap (λ b. b && (leb (length text) 19 && (leb 1 (value_of text) && leb (value_of text) greatest_steps))) (le-leb 1 (length text) h.numeral.some)
+    ap (λ b. b && (leb 1 (length text) && (leb (length text) 19 && (leb 1 (value_of text) && leb (value_of text) greatest_steps))))
+    (digits_are text h.numeral.digits)
+    ∙ ap (λ b. b && (leb (length text) 19 && (leb 1 (value_of text) && leb (value_of text) greatest_steps)))
+    (le-leb 1 (length text) h.numeral.some)
     ∙ ap (λ b. b && (leb 1 (value_of text) && leb (value_of text) greatest_steps)) (le-leb (length text) 19 h.numeral.short)
     ∙ ap (λ b. b && leb (value_of text) greatest_steps) (le-leb 1 (value_of text) (subst (λ n. 1 ≤ n) (sym value) h.least))
     ∙ le-leb (value_of text) greatest_steps (subst (λ n. n ≤ greatest_steps) (sym value) h.greatest) in
@@ -65,7 +67,13 @@ no_steps text other = by (names_steps text) refl
         let c = and_parts (leb (length text) 19) _ b.1 in
         let d = and_parts (leb 1 (value_of text)) _ c.1 in
         absurd (other (value_of text) (record {
-          numeral = record { digits = are_all text a.0; some = leb-true 1 (length text) b.0; short = leb-true (length text) 19 c.0; value = refl };
+          numeral = record {
+            digits = are_all text a.0;
+            some = leb-true 1 (length text) b.0;
+            short = leb-true (length text) 19 c.0;
+            value =
+                refl;
+          };
           least = leb-true 1 (value_of text) d.0;
           greatest = leb-true (value_of text) greatest_steps d.1;
         }))

@@ -35,7 +35,8 @@ are_digits (c ∷ text) = is_digit c && are_digits text
 
 -- one to nineteen digits name a number of steps from 1 on
 abbrev pub names_steps : List ℕ → Bool
-names_steps text = are_digits text && (leb 1 (length text) && (leb (length text) 19 && (leb 1 (value_of text) && leb (value_of text) greatest_steps)))
+names_steps text = are_digits text && (leb 1 (length text)
+    && (leb (length text) 19 && (leb 1 (value_of text) && leb (value_of text) greatest_steps)))
 
 abbrev pub steps_named : Option (List ℕ) → Option ℕ
 steps_named None = None

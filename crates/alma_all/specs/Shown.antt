@@ -34,10 +34,12 @@ MayRunOut p input steps =
 -- what is due lists the alternatives of a program on an input, in so many steps
 pub data IsListed (p : Program) (input : List ℕ) (steps : ℕ) (due : Due) : Type 0 where
   -- all of them, and the end behind them
-  whole : (end : End) → listing (suc steps) p input ≡ (due.out, end) → due.end ≡ listing_end end → (end ≡ CutOff → ⊥) → IsListed p input steps due
+  whole : (end : End) → listing (suc steps) p input ≡ (due.out, end) → due.end ≡ listing_end end → (end ≡ CutOff → ⊥)
+      → IsListed p input steps due
   -- the steps ran out: a front of them, which covers one visit of the listing program for each 32 steps
   front : due.end ≡ tells program 5 (codes "steps out") → IsPrefix due.out (listed p.globals (ev_program (suc steps) p input))
-      → Covers (first (ev_program (suc steps) (listing_of p) input)) due.out (steps / 32) → MayRunOut p input steps → IsListed p input steps due
+      → Covers (first (ev_program (suc steps) (listing_of p) input)) due.out (steps / 32) → MayRunOut p input steps
+      → IsListed p input steps due
 
 -- what a run of the listing program comes to lists every alternative of the program
 abbrev pub ListsEveryAlternative : Type 0

@@ -1,5 +1,6 @@
 -- What a run keeps to go back by, step by step.
-use Rattle.std.proofs.Common.{◌≡◌, ◌<◌, ◌≤◌, ◌+◌, ◌-◌, ◌∙◌, ℕ, zero, suc, List, [], ◌∷◌, ◌++◌, length, refl, sym, ap, subst, arith, length-append}
+use Rattle.std.proofs.Common.{◌≡◌, ◌<◌, ◌≤◌, ◌+◌, ◌-◌, ◌∙◌, ℕ, zero, suc, List, [], ◌∷◌, ◌++◌, length, refl, sym, ap, subst, arith}
+use Rattle.std.proofs.Common.{length-append}
 use Rattle.std.proofs.lemmas.List.{same_from_push, length_push}
 use Rattle.std.specs.Prelude.{true}
 use Rattle.alma_code.specs.declared.step.Step.{Step}
@@ -15,7 +16,8 @@ use Rattle.alma_machine.proofs.Budget.{after_more, prints_more}
 use Rattle.alma_machine_acts.specs.Steps.{IsLive, stepped}
 use Rattle.alma_machine_acts.specs.declared.registers.Registers.{Registers}
 use Rattle.alma_back.specs.declared.back.Old.{Old}
-use Rattle.alma_back.specs.Kept.{state_in, scene_of, is_failing, mode_by, old_of, state_at, printed_at, olds_before, scenes_before, IsCounted, Keeps}
+use Rattle.alma_back.specs.Kept.{state_in, scene_of, is_failing, mode_by, old_of, state_at, printed_at, olds_before, scenes_before}
+use Rattle.alma_back.specs.Kept.{IsCounted, Keeps}
 use Rattle.alma_back.specs.Standing.{goes}
 
 -- a run that has not ended is live

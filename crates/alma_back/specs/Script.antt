@@ -1,5 +1,6 @@
 -- What a script is.
-use Rattle.std.specs.Prelude.{◌+◌, ℕ, Bool, false, ◌&&◌, eqb, leb, cond, is_none, List, [], ◌∷◌, ◌++◌, length, Option, None, Some, option_map, Result, Ok, Err}
+use Rattle.std.specs.Prelude.{◌+◌, ℕ, Bool, false, ◌&&◌, eqb, leb, cond, is_none, List, [], ◌∷◌, ◌++◌, length, Option, None, Some}
+use Rattle.std.specs.Prelude.{option_map, Result, Ok, Err}
 use Rattle.std.specs.List.{list_all}
 use Rattle.alma_base.specs.Bytes.{is_letter, is_word_byte}
 use Rattle.alma_base.specs.Reading.{is_digit}

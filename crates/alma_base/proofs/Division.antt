@@ -1,5 +1,6 @@
 -- Quotients and remainders of numbers of unlike signs, rounded down.
-use Rattle.std.proofs.Common.{◌≡◌, ◌≢◌, ℕ, Bool, true, false, Option, None, Some, MatchOption, zero, suc, ◌+◌, ◌-◌, ◌*◌, ◌/◌, ◌%◌, ◌^◌, ◌<◌, ℤ, pos, negsuc, ◌+ℤ◌, ◌-ℤ◌, ◌*ℤ◌, neg_ℤ, nat_abs, ◌<ℤ◌, w64, FitsSigned, refl, ap, sym, ◌∙◌, arith}
+use Rattle.std.proofs.Common.{◌≡◌, ◌≢◌, ℕ, Bool, true, false, Option, None, Some, MatchOption, zero, suc, ◌+◌, ◌-◌, ◌*◌, ◌/◌, ◌%◌, ◌^◌, ◌<◌}
+use Rattle.std.proofs.Common.{ℤ, pos, negsuc, ◌+ℤ◌, ◌-ℤ◌, ◌*ℤ◌, neg_ℤ, nat_abs, ◌<ℤ◌, w64, FitsSigned, refl, ap, sym, ◌∙◌, arith}
 use Rattle.std.proofs.lemmas.Int.{ints}
 use Rattle.std.proofs.Math.Nat.{add-div_right, zero-div, zero-mod, div-add-mod, div-le_self, mod-le, mod-lt, mul-suc, div-eq_of_lt}
 use Rattle.std.proofs.lemmas.Bool.Decides.{nat_tests}
@@ -69,7 +70,8 @@ quotient_below_fits (negsuc m) (pos k) fits negative positive =
     let shifted : negsuc 0 -ℤ negsuc m ≡ pos m = omega (arith, ints) in
     rw shifted (record { sfits = omega (arith, fits.sfits, div-le_self m k) })
 
-pub quotient_below_less_fits : (a b : ℤ) → FitsSigned w64 a → a <ℤ pos 0 → pos 0 <ℤ b → FitsSigned w64 (negsuc 0 -ℤ int_div (negsuc 0 -ℤ a) b)
+pub quotient_below_less_fits : (a b : ℤ) → FitsSigned w64 a → a <ℤ pos 0 → pos 0 <ℤ b
+    → FitsSigned w64 (negsuc 0 -ℤ int_div (negsuc 0 -ℤ a) b)
 quotient_below_less_fits (pos a) b fits negative positive = absurd (omega (arith, ints))
 quotient_below_less_fits (negsuc m) (negsuc b) fits negative positive = absurd (omega (arith, ints))
 quotient_below_less_fits (negsuc m) (pos k) fits negative positive =
@@ -137,7 +139,8 @@ rest_below_fits (negsuc m) b fits negative =
     let shifted : negsuc 0 -ℤ negsuc m ≡ pos m = omega (arith, ints) in
     rw shifted (record { sfits = omega (arith, fits.sfits, mod-le m (nat_abs b)) })
 
-pub remainder_below_fits : (a b : ℤ) → FitsSigned w64 b → a <ℤ pos 0 → pos 0 <ℤ b → FitsSigned w64 ((b -ℤ pos 1) -ℤ int_rem (negsuc 0 -ℤ a) b)
+pub remainder_below_fits : (a b : ℤ) → FitsSigned w64 b → a <ℤ pos 0 → pos 0 <ℤ b
+    → FitsSigned w64 ((b -ℤ pos 1) -ℤ int_rem (negsuc 0 -ℤ a) b)
 remainder_below_fits (pos a) b fits negative positive = absurd (omega (arith, ints))
 remainder_below_fits (negsuc m) (negsuc b) fits negative positive = absurd (omega (arith, ints))
 remainder_below_fits (negsuc m) (pos zero) fits negative positive = absurd (omega (arith, ints))
@@ -166,8 +169,10 @@ alike_quotient (pos a) (pos b) nonzero below above = refl
 alike_quotient (pos zero) (negsuc b) nonzero below above =
     let nothing : (0 + b) / suc b ≡ 0 = div-eq_of_lt (omega arith) in
     rw (nothing, zero-div (suc b)) refl
-alike_quotient (pos (suc a)) (negsuc b) nonzero below above = absurd (let bad : pos 0 <ℤ negsuc b = above (omega (arith, ints)) in omega (arith, ints))
-alike_quotient (negsuc a) (pos b) nonzero below above = absurd (let bad : pos b <ℤ pos 0 = below (omega (arith, ints)) in omega (arith, ints))
+alike_quotient (pos (suc a)) (negsuc b) nonzero below above =
+    absurd (let bad : pos 0 <ℤ negsuc b = above (omega (arith, ints)) in omega (arith, ints))
+alike_quotient (negsuc a) (pos b) nonzero below above =
+    absurd (let bad : pos b <ℤ pos 0 = below (omega (arith, ints)) in omega (arith, ints))
 alike_quotient (negsuc a) (negsuc b) nonzero below above = refl
 
 -- and the remainder is
@@ -180,7 +185,8 @@ alike_rest (pos a) (pos (suc b)) nonzero below above =
 alike_rest (pos zero) (negsuc b) nonzero below above =
     let nothing : (0 + b) / suc b ≡ 0 = div-eq_of_lt (omega arith) in
     rw (nothing, zero-mod (suc b)) (omega (arith, ints))
-alike_rest (pos (suc a)) (negsuc b) nonzero below above = absurd (let bad : pos 0 <ℤ negsuc b = above (omega (arith, ints)) in omega (arith, ints))
+alike_rest (pos (suc a)) (negsuc b) nonzero below above =
+    absurd (let bad : pos 0 <ℤ negsuc b = above (omega (arith, ints)) in omega (arith, ints))
 alike_rest (negsuc a) (pos b) nonzero below above = absurd (let bad : pos b <ℤ pos 0 = below (omega (arith, ints)) in omega (arith, ints))
 alike_rest (negsuc a) (negsuc b) nonzero below above =
     let q = suc a / suc b in

@@ -1,5 +1,6 @@
 -- READ finds blanks, a sign or none, and digits.
-use Rattle.std.proofs.Common.{◌≡◌, ◌+◌, ◌-◌, ◌*◌, ℕ, suc, Bool, true, false, nat_eq, List, [], ◌∷◌, ◌++◌, length, drop, refl, ap, sym, ◌∙◌, subst, arith}
+use Rattle.std.proofs.Common.{◌≡◌, ◌+◌, ◌-◌, ◌*◌, ℕ, suc, Bool, true, false, nat_eq, List, [], ◌∷◌, ◌++◌, length, drop, refl, ap, sym, ◌∙◌}
+use Rattle.std.proofs.Common.{subst, arith}
 use Rattle.std.proofs.lemmas.Bool.Decides.{nat_tests}
 use Rattle.std.proofs.lemmas.List.Elements.{All-nil, All-cons, All-head, All-tail}
 use Rattle.std.specs.List.{AllPass}
@@ -58,7 +59,8 @@ digit_is c h = grind (arith, nat_tests)
 
 -- digits behind a first one make their decimal value
 more_digits : (negative : Bool) (value place : ℕ) (digits rest : List ℕ) → AllPass is_digit digits → BeginsWithout is_digit rest
-    → digits_on true negative value place (digits ++ rest) ≡ ended true negative (digits_value_after 10 value digits) (place + length digits)
+    → digits_on true negative value place (digits ++ rest) ≡ ended true negative (digits_value_after 10 value digits)
+    (place + length digits)
 more_digits negative value place [] [] each stops =
     let same : place + 0 ≡ place = omega arith in
     rw same refl
@@ -80,7 +82,8 @@ no_digits negative place (c ∷ rest) stops = digits_end false negative 0 place 
 
 -- digits make their decimal value
 some_digits : (negative : Bool) (place c : ℕ) (digits rest : List ℕ) → AllPass is_digit (c ∷ digits) → BeginsWithout is_digit rest
-    → digits_on false negative 0 place (c ∷ (digits ++ rest)) ≡ ended true negative (digits_value 10 (c ∷ digits)) (place + suc (length digits))
+    → digits_on false negative 0 place (c ∷ (digits ++ rest)) ≡ ended true negative (digits_value 10 (c ∷ digits))
+    (place + suc (length digits))
 some_digits negative place c digits rest each stops =
     let digit : is_digit c ≡ true = All-head (λ x. is_digit x ≡ true) c digits each in
     digit_is_read false negative 0 place c (digits ++ rest) digit
@@ -166,7 +169,8 @@ parts_found input from blanks sign (c ∷ digits) rest whole blank all_blanks un
     }
 
 -- digits behind blanks and a sign that is known
-behind_sign : (input : List ℕ) (from : ℕ) (blanks : List ℕ) (sign : Sign) (text : List ℕ) → drop from input ≡ blanks ++ (sign_text sign ++ text)
+behind_sign : (input : List ℕ) (from : ℕ) (blanks : List ℕ) (sign : Sign) (text : List ℕ)
+    → drop from input ≡ blanks ++ (sign_text sign ++ text)
     → AllPass is_blank blanks → BeginsWithout is_blank (sign_text sign ++ text) → (sign ≡ Unsigned → BeginsWithout is_sign text)
     → IsFound input from (number_from input from)
 behind_sign input from blanks sign text whole blank all_blanks unsigned =
@@ -188,19 +192,23 @@ is_no_sign : (c : ℕ) → nat_eq c 45 ≡ false → nat_eq c 43 ≡ false → i
 is_no_sign c h k = grind (arith, nat_tests)
 
 -- which sign stands behind the blanks
-which_sign : (input : List ℕ) (from : ℕ) (blanks : List ℕ) (c : ℕ) (text : List ℕ) (minus plus : Bool) → nat_eq c 45 ≡ minus → nat_eq c 43 ≡ plus
+which_sign : (input : List ℕ) (from : ℕ) (blanks : List ℕ) (c : ℕ) (text : List ℕ) (minus plus : Bool) → nat_eq c 45 ≡ minus
+    → nat_eq c 43 ≡ plus
     → drop from input ≡ blanks ++ (c ∷ text) → AllPass is_blank blanks → is_blank c ≡ false → IsFound input from (number_from input from)
 which_sign input from blanks c text true plus m p whole blank stops =
-    behind_sign input from blanks Minus text (whole ∙ ap (λ z. blanks ++ (z ∷ text)) (is_minus c m)) blank refl (λ (e : Minus ≡ Unsigned). cc)
+    behind_sign input from blanks Minus text (whole ∙ ap (λ z. blanks ++ (z ∷ text)) (is_minus c m)) blank refl
+    (λ (e : Minus ≡ Unsigned). cc)
 which_sign input from blanks c text false true m p whole blank stops =
     behind_sign input from blanks Plus text (whole ∙ ap (λ z. blanks ++ (z ∷ text)) (is_plus c p)) blank refl (λ (e : Plus ≡ Unsigned). cc)
 which_sign input from blanks c text false false m p whole blank stops =
     behind_sign input from blanks Unsigned (c ∷ text) whole blank stops (λ _. is_no_sign c m p)
 
-behind_blanks : (input : List ℕ) (from : ℕ) (blanks text : List ℕ) → drop from input ≡ blanks ++ text → AllPass is_blank blanks → BeginsWithout is_blank text
+behind_blanks : (input : List ℕ) (from : ℕ) (blanks text : List ℕ) → drop from input ≡ blanks ++ text → AllPass is_blank blanks
+    → BeginsWithout is_blank text
     → IsFound input from (number_from input from)
 behind_blanks input from blanks [] whole blank stops = behind_sign input from blanks Unsigned [] whole blank tt (λ _. tt)
-behind_blanks input from blanks (c ∷ text) whole blank stops = which_sign input from blanks c text (nat_eq c 45) (nat_eq c 43) refl refl whole blank stops
+behind_blanks input from blanks (c ∷ text) whole blank stops =
+    which_sign input from blanks c text (nat_eq c 45) (nat_eq c 43) refl refl whole blank stops
 
 pub read_finds : ReadFinds
 read_finds input from =

@@ -54,7 +54,8 @@ pub record IsFound (input : List ℕ) (from : ℕ) (found : ReadInt) : Type 0 wh
   pub none : digits ≡ [] → found ≡ NoNumber
   -- the number is the decimal value of the digits with its sign, and the place is the one behind the last digit
   pub number : digits ≢ [] → is_integer (signed_value (is_negative sign) (digits_value 10 digits)) ≡ true
-      → found ≡ Number (signed_value (is_negative sign) (digits_value 10 digits)) (from + length blanks + length (sign_text sign) + length digits)
+      → found ≡ Number (signed_value (is_negative sign) (digits_value 10 digits))
+      (from + length blanks + length (sign_text sign) + length digits)
   -- that value is too large exactly where it is no INTEGER
   pub large : digits ≢ [] → is_integer (signed_value (is_negative sign) (digits_value 10 digits)) ≡ false → found ≡ TooLarge
 

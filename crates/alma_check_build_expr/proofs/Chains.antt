@@ -15,11 +15,13 @@ use Rattle.alma_check_build_expr.proofs.Steps.{operands_push}
 
 -- ---- a chain by its first operator
 
-pub chain_bare : (join : ir.Tests → ir.Test) (t : parts.Typing) (xs : parts.Operands) → None ≡ first_of xs → parts.chain_of join None (t, xs) ≡ t.meaning
+pub chain_bare : (join : ir.Tests → ir.Test) (t : parts.Typing) (xs : parts.Operands) → None ≡ first_of xs
+    → parts.chain_of join None (t, xs) ≡ t.meaning
 chain_bare join t [] h = refl
 chain_bare join t (x ∷ xs) h = absurd (cc)
 
-pub chain_plus : (join : ir.Tests → ir.Test) (t : parts.Typing) (xs : parts.Operands) → None ≡ first_of xs → parts.chain_of join (Some signs.Plus) (t, xs) ≡ parts.no_place t.meaning
+pub chain_plus : (join : ir.Tests → ir.Test) (t : parts.Typing) (xs : parts.Operands) → None ≡ first_of xs
+    → parts.chain_of join (Some signs.Plus) (t, xs) ≡ parts.no_place t.meaning
 chain_plus join t [] h = refl
 chain_plus join t (x ∷ xs) h = absurd (cc)
 
@@ -28,7 +30,8 @@ pub chain_minus : (join : ir.Tests → ir.Test) (t : parts.Typing) (xs : parts.O
 chain_minus join t [] h = refl
 chain_minus join t (x ∷ xs) h = absurd (cc)
 
-pub chain_arithmetic : (join : ir.Tests → ir.Test) (sign : Option Sign) (t : parts.Typing) (xs : parts.Operands) (op : Op) → Some (parts.arithmetic op) ≡ first_of xs
+pub chain_arithmetic : (join : ir.Tests → ir.Test) (sign : Option Sign) (t : parts.Typing) (xs : parts.Operands) (op : Op)
+    → Some (parts.arithmetic op) ≡ first_of xs
     → parts.chain_of join sign (t, xs) ≡ parts.plain (ir.Chain (parts.is_minus sign) (parts.value_of t.meaning) (parts.links_of xs))
 chain_arithmetic join sign t [] op h = absurd (cc)
 chain_arithmetic join None t ((parts.arithmetic o, x) ∷ xs) op h = refl
@@ -36,7 +39,8 @@ chain_arithmetic join (Some signs.Plus) t ((parts.arithmetic o, x) ∷ xs) op h 
 chain_arithmetic join (Some signs.Minus) t ((parts.arithmetic o, x) ∷ xs) op h = refl
 chain_arithmetic join sign t ((parts.logical, x) ∷ xs) op h = absurd (cc)
 
-pub chain_logical : (join : ir.Tests → ir.Test) (sign : Option Sign) (t : parts.Typing) (xs : parts.Operands) → Some parts.logical ≡ first_of xs
+pub chain_logical : (join : ir.Tests → ir.Test) (sign : Option Sign) (t : parts.Typing) (xs : parts.Operands)
+    → Some parts.logical ≡ first_of xs
     → parts.chain_of join sign (t, xs) ≡ parts.a_test (join (ir.more_tests (parts.test_of t.meaning) (parts.tests_of xs)))
 chain_logical join sign t [] h = absurd (cc)
 chain_logical join sign t ((parts.arithmetic o, x) ∷ xs) h = absurd (cc)
@@ -97,8 +101,10 @@ links_kept ls xs b is op =
     append_none (ir.more_links o e ys) = ap (ir.more_links o e) (append_none ys)
 
 -- one more test
-pub tests_push : (ts : List T.Test) (f : ir.Test) (xs : List Behind) (b : Behind) (t : T.Test) → tests_list ts ≡ ir.more_tests f (parts.tests_of (operands_view xs))
-    → test_of t ≡ parts.test_of (meaning_view b.operand.meaning) → tests_list (ts ++ t ∷ []) ≡ ir.more_tests f (parts.tests_of (operands_view (xs ++ b ∷ [])))
+pub tests_push : (ts : List T.Test) (f : ir.Test) (xs : List Behind) (b : Behind) (t : T.Test)
+    → tests_list ts ≡ ir.more_tests f (parts.tests_of (operands_view xs))
+    → test_of t ≡ parts.test_of (meaning_view b.operand.meaning)
+    → tests_list (ts ++ t ∷ []) ≡ ir.more_tests f (parts.tests_of (operands_view (xs ++ b ∷ [])))
 tests_push ts f xs b t is e =
     tests_append ts (t ∷ []) ∙ rw (is, e) (ap (ir.more_tests f) (sym (ap parts.tests_of (operands_push xs b)
     ∙ tests_of_append (operands_view xs) ((operator_view b.operator, typing_of b.operand) ∷ []))))

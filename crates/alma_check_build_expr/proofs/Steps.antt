@@ -20,16 +20,19 @@ sels_push [] x = refl
 sels_push (y ∷ ys) x = ap (ir.more_sels (sel_of y)) (sels_push ys x)
 
 -- a call
-pub call_test_is : (n : ℕ) (v : Vec A.Arg Global) (up : ℕ) → test_of (T.Call (K.roll-Call (record { routine = n; args = v; up = up }))) ≡ ir.CallTest n (args_list v.items) up
+pub call_test_is : (n : ℕ) (v : Vec A.Arg Global) (up : ℕ)
+    → test_of (T.Call (K.roll-Call (record { routine = n; args = v; up = up }))) ≡ ir.CallTest n (args_list v.items) up
 call_test_is n v up = calltest_view (K.roll-Call (record { routine = n; args = v; up = up }))
 
-pub call_value_is : (n : ℕ) (v : Vec A.Arg Global) (up : ℕ) → expr_of (E.Call (K.roll-Call (record { routine = n; args = v; up = up }))) ≡ ir.CallExpr n (args_list v.items) up
+pub call_value_is : (n : ℕ) (v : Vec A.Arg Global) (up : ℕ)
+    → expr_of (E.Call (K.roll-Call (record { routine = n; args = v; up = up }))) ≡ ir.CallExpr n (args_list v.items) up
 call_value_is n v up = callexpr_view (K.roll-Call (record { routine = n; args = v; up = up }))
 
 pub no_arguments : (v : Vec A.Arg Global) → v.items ≡ [] → args_list v.items ≡ ir.no_args
 no_arguments v h = ap args_list h
 
-pub call_without : (c : parts.Callee) (args : ir.Args) → None ≡ c.heading.result → parts.called (c, args) ≡ parts.boolean_typing (parts.a_test (ir.CallTest c.number args c.up))
+pub call_without : (c : parts.Callee) (args : ir.Args) → None ≡ c.heading.result
+    → parts.called (c, args) ≡ parts.boolean_typing (parts.a_test (ir.CallTest c.number args c.up))
 call_without c args h = rw (sym h) refl
 
 pub call_giving : (c : parts.Callee) (args : ir.Args) (shape : ℕ) → Some shape ≡ c.heading.result
@@ -37,7 +40,8 @@ pub call_giving : (c : parts.Callee) (args : ir.Args) (shape : ℕ) → Some sha
 call_giving c args shape h = rw (sym h) refl
 
 -- one more operand
-pub operands_push : (xs : List Behind) (b : Behind) → operands_view (xs ++ b ∷ []) ≡ operands_view xs ++ (operator_view b.operator, typing_of b.operand) ∷ []
+pub operands_push : (xs : List Behind) (b : Behind)
+    → operands_view (xs ++ b ∷ []) ≡ operands_view xs ++ (operator_view b.operator, typing_of b.operand) ∷ []
 operands_push [] b = refl
 operands_push (x ∷ xs) b = ap (λ ys. (operator_view x.operator, typing_of x.operand) ∷ ys) (operands_push xs b)
 

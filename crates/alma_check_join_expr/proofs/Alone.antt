@@ -25,20 +25,25 @@ unrelated n s = refl
 
 pub expr_related : (e : de.Expr) (b : Box dc.Compared Global) → (de.out-Expr e).right ≡ Some b → only_primary (view.view_expr e) ≡ None
 expr_related e b h =
-    ap only_primary (rows.expr_is e) ∙ ap (λ r. only_primary (tree.expr (de.out-Expr e).node (view.view_simple (de.out-Expr e).left) (view.compared_of r))) h
+    ap only_primary (rows.expr_is e) ∙ ap (λ r. only_primary
+    (tree.expr (de.out-Expr e).node (view.view_simple (de.out-Expr e).left) (view.compared_of r))) h
     ∙ related (de.out-Expr e).node _ _ _
 
-pub expr_unrelated : (e : de.Expr) → (de.out-Expr e).right ≡ None → only_primary (view.view_expr e) ≡ simple_alone (view.view_simple (de.out-Expr e).left)
+pub expr_unrelated : (e : de.Expr) → (de.out-Expr e).right ≡ None
+    → only_primary (view.view_expr e) ≡ simple_alone (view.view_simple (de.out-Expr e).left)
 expr_unrelated e h =
-    ap only_primary (rows.expr_is e) ∙ ap (λ r. only_primary (tree.expr (de.out-Expr e).node (view.view_simple (de.out-Expr e).left) (view.compared_of r))) h
+    ap only_primary (rows.expr_is e) ∙ ap (λ r. only_primary
+    (tree.expr (de.out-Expr e).node (view.view_simple (de.out-Expr e).left) (view.compared_of r))) h
     ∙ unrelated (de.out-Expr e).node _
 
 -- ---- sums
-one_sum : (m : ℕ) (sign : _) (t : tree.Term) (rest : tree.TermTail) → one_term sign rest ≡ true → simple_alone (tree.simple m sign t rest) ≡ term_alone t
+one_sum : (m : ℕ) (sign : _) (t : tree.Term) (rest : tree.TermTail) → one_term sign rest ≡ true
+    → simple_alone (tree.simple m sign t rest) ≡ term_alone t
 unfolding simple_alone
 one_sum m sign t rest h = rw h refl
 
-more_sum : (m : ℕ) (sign : _) (t : tree.Term) (rest : tree.TermTail) → one_term sign rest ≡ false → simple_alone (tree.simple m sign t rest) ≡ None
+more_sum : (m : ℕ) (sign : _) (t : tree.Term) (rest : tree.TermTail) → one_term sign rest ≡ false
+    → simple_alone (tree.simple m sign t rest) ≡ None
 unfolding simple_alone
 more_sum m sign t rest h = rw h refl
 
@@ -76,10 +81,12 @@ term_one : (t : dm.Term) (f : dr.Factor) → one_factor (view.factors_of (dm.out
     → term_alone (view.view_term t) ≡ factor_alone (view.view_factor f)
 term_one t f h is = ap term_alone (rows.term_is t) ∙ one_product _ _ _ h ∙ ap (λ x. factor_alone (view.view_factor x)) is
 
-pub term_plain : (t : dm.Term) (n : ℕ) (p : dp.Primary) → one_factor (view.factors_of (dm.out-Term t).more.items) ≡ true → (dm.out-Term t).first ≡ dr.Plain n p
+pub term_plain : (t : dm.Term) (n : ℕ) (p : dp.Primary) → one_factor (view.factors_of (dm.out-Term t).more.items) ≡ true
+    → (dm.out-Term t).first ≡ dr.Plain n p
     → term_alone (view.view_term t) ≡ Some (view.view_primary p)
 term_plain t n p h is = term_one t (dr.Plain n p) h is ∙ plain_alone n p
 
-pub term_not : (t : dm.Term) (n : ℕ) (p : dp.Primary) → one_factor (view.factors_of (dm.out-Term t).more.items) ≡ true → (dm.out-Term t).first ≡ dr.Not n p
+pub term_not : (t : dm.Term) (n : ℕ) (p : dp.Primary) → one_factor (view.factors_of (dm.out-Term t).more.items) ≡ true
+    → (dm.out-Term t).first ≡ dr.Not n p
     → term_alone (view.view_term t) ≡ None
 term_not t n p h is = term_one t (dr.Not n p) h is ∙ not_alone n p

@@ -21,7 +21,8 @@ unfolding only_primary factor_alone term_alone simple_alone
 signed f n m g t ts (tree.compared o y) = refl
 signed f n m g t ts tree.no_relation = refl
 
-negated : {A : Type 0} (f : tree.Primary → Option A) (n m k i : ℕ) (p : tree.Primary) (fs : tree.FactorTail) (ts : tree.TermTail) (r : tree.Compared)
+negated : {A : Type 0} (f : tree.Primary → Option A) (n m k i : ℕ) (p : tree.Primary) (fs : tree.FactorTail) (ts : tree.TermTail)
+    (r : tree.Compared)
     → read f (tree.expr n (tree.simple m None (tree.term k (tree.not_factor i p) fs) ts) r) ≡ None
 unfolding only_primary factor_alone term_alone simple_alone
 negated f n m k i p fs ts (tree.compared o y) = refl
@@ -29,7 +30,8 @@ negated f n m k i p fs (tree.more_term o u us) tree.no_relation = refl
 negated f n m k i p (tree.more_factor o g gs) tree.no_term tree.no_relation = refl
 negated f n m k i p tree.no_factor tree.no_term tree.no_relation = refl
 
-lacking : {A : Type 0} (f : tree.Primary → Option A) (p : tree.Primary) → f p ≡ None → (n m k i : ℕ) (fs : tree.FactorTail) (ts : tree.TermTail) (r : tree.Compared)
+lacking : {A : Type 0} (f : tree.Primary → Option A) (p : tree.Primary) → f p ≡ None
+    → (n m k i : ℕ) (fs : tree.FactorTail) (ts : tree.TermTail) (r : tree.Compared)
     → read f (tree.expr n (tree.simple m None (tree.term k (tree.factor i p) fs) ts) r) ≡ None
 unfolding only_primary factor_alone term_alone simple_alone
 lacking f p h n m k i fs ts (tree.compared o y) = refl
@@ -41,43 +43,75 @@ pub exactly_by : (e : tree.Expr) → rules.exactly e ≡ option_and_then named_b
 unfolding only_primary named_by factor_alone term_alone simple_alone
 exactly_by (tree.expr n (tree.simple m (Some g) t ts) r) = sym (signed named_by n m g t ts r)
 exactly_by (tree.expr n (tree.simple m None (tree.term k (tree.not_factor i p) fs) ts) r) = sym (negated named_by n m k i p fs ts r)
-exactly_by (tree.expr n (tree.simple m None (tree.term k (tree.factor i (tree.number j t)) fs) ts) r) = sym (lacking named_by (tree.number j t) refl n m k i fs ts r)
-exactly_by (tree.expr n (tree.simple m None (tree.term k (tree.factor i (tree.literal j t)) fs) ts) r) = sym (lacking named_by (tree.literal j t) refl n m k i fs ts r)
-exactly_by (tree.expr n (tree.simple m None (tree.term k (tree.factor i (tree.named j d tree.no_args)) tree.no_factor) tree.no_term) tree.no_relation) = refl
-exactly_by (tree.expr n (tree.simple m None (tree.term k (tree.factor i (tree.named j d tree.no_args)) tree.no_factor) tree.no_term) (tree.compared o y)) = refl
-exactly_by (tree.expr n (tree.simple m None (tree.term k (tree.factor i (tree.named j d tree.no_args)) tree.no_factor) (tree.more_term z u us)) tree.no_relation) = refl
-exactly_by (tree.expr n (tree.simple m None (tree.term k (tree.factor i (tree.named j d tree.no_args)) tree.no_factor) (tree.more_term z u us)) (tree.compared o y)) = refl
-exactly_by (tree.expr n (tree.simple m None (tree.term k (tree.factor i (tree.named j d tree.no_args)) (tree.more_factor q g gs)) tree.no_term) tree.no_relation) = refl
-exactly_by (tree.expr n (tree.simple m None (tree.term k (tree.factor i (tree.named j d tree.no_args)) (tree.more_factor q g gs)) tree.no_term) (tree.compared o y)) = refl
-exactly_by (tree.expr n (tree.simple m None (tree.term k (tree.factor i (tree.named j d tree.no_args)) (tree.more_factor q g gs)) (tree.more_term z u us)) tree.no_relation) = refl
-exactly_by (tree.expr n (tree.simple m None (tree.term k (tree.factor i (tree.named j d tree.no_args)) (tree.more_factor q g gs)) (tree.more_term z u us)) (tree.compared o y)) = refl
-exactly_by (tree.expr n (tree.simple m None (tree.term k (tree.factor i (tree.named j d tree.empty_args)) fs) ts) r) = sym (lacking named_by (tree.named j d tree.empty_args) refl n m k i fs ts r)
-exactly_by (tree.expr n (tree.simple m None (tree.term k (tree.factor i (tree.named j d (tree.args x))) fs) ts) r) = sym (lacking named_by (tree.named j d (tree.args x)) refl n m k i fs ts r)
-exactly_by (tree.expr n (tree.simple m None (tree.term k (tree.factor i (tree.paren j b)) fs) ts) r) = sym (lacking named_by (tree.paren j b) refl n m k i fs ts r)
-exactly_by (tree.expr n (tree.simple m None (tree.term k (tree.factor i (tree.known j d)) fs) ts) r) = sym (lacking named_by (tree.known j d) refl n m k i fs ts r)
-exactly_by (tree.expr n (tree.simple m None (tree.term k (tree.factor i (tree.ord j v)) fs) ts) r) = sym (lacking named_by (tree.ord j v) refl n m k i fs ts r)
-exactly_by (tree.expr n (tree.simple m None (tree.term k (tree.factor i (tree.chr j v)) fs) ts) r) = sym (lacking named_by (tree.chr j v) refl n m k i fs ts r)
+exactly_by (tree.expr n (tree.simple m None (tree.term k (tree.factor i (tree.number j t)) fs) ts) r) =
+    sym (lacking named_by (tree.number j t) refl n m k i fs ts r)
+exactly_by (tree.expr n (tree.simple m None (tree.term k (tree.factor i (tree.literal j t)) fs) ts) r) =
+    sym (lacking named_by (tree.literal j t) refl n m k i fs ts r)
+exactly_by (tree.expr n (tree.simple m None (tree.term k (tree.factor i (tree.named j d tree.no_args)) tree.no_factor) tree.no_term)
+    tree.no_relation) = refl
+exactly_by (tree.expr n (tree.simple m None (tree.term k (tree.factor i (tree.named j d tree.no_args)) tree.no_factor) tree.no_term)
+    (tree.compared o y)) = refl
+exactly_by (tree.expr n (tree.simple m None (tree.term k (tree.factor i (tree.named j d tree.no_args)) tree.no_factor)
+    (tree.more_term z u us)) tree.no_relation) = refl
+exactly_by (tree.expr n (tree.simple m None (tree.term k (tree.factor i (tree.named j d tree.no_args)) tree.no_factor)
+    (tree.more_term z u us)) (tree.compared o y)) = refl
+exactly_by (tree.expr n (tree.simple m None (tree.term k (tree.factor i (tree.named j d tree.no_args)) (tree.more_factor q g gs))
+    tree.no_term) tree.no_relation) = refl
+exactly_by (tree.expr n (tree.simple m None (tree.term k (tree.factor i (tree.named j d tree.no_args)) (tree.more_factor q g gs))
+    tree.no_term) (tree.compared o y)) = refl
+exactly_by (tree.expr n (tree.simple m None (tree.term k (tree.factor i (tree.named j d tree.no_args)) (tree.more_factor q g gs))
+    (tree.more_term z u us)) tree.no_relation) = refl
+exactly_by (tree.expr n (tree.simple m None (tree.term k (tree.factor i (tree.named j d tree.no_args)) (tree.more_factor q g gs))
+    (tree.more_term z u us)) (tree.compared o y)) = refl
+exactly_by (tree.expr n (tree.simple m None (tree.term k (tree.factor i (tree.named j d tree.empty_args)) fs) ts) r) =
+    sym (lacking named_by (tree.named j d tree.empty_args) refl n m k i fs ts r)
+exactly_by (tree.expr n (tree.simple m None (tree.term k (tree.factor i (tree.named j d (tree.args x))) fs) ts) r) =
+    sym (lacking named_by (tree.named j d (tree.args x)) refl n m k i fs ts r)
+exactly_by (tree.expr n (tree.simple m None (tree.term k (tree.factor i (tree.paren j b)) fs) ts) r) =
+    sym (lacking named_by (tree.paren j b) refl n m k i fs ts r)
+exactly_by (tree.expr n (tree.simple m None (tree.term k (tree.factor i (tree.known j d)) fs) ts) r) =
+    sym (lacking named_by (tree.known j d) refl n m k i fs ts r)
+exactly_by (tree.expr n (tree.simple m None (tree.term k (tree.factor i (tree.ord j v)) fs) ts) r) =
+    sym (lacking named_by (tree.ord j v) refl n m k i fs ts r)
+exactly_by (tree.expr n (tree.simple m None (tree.term k (tree.factor i (tree.chr j v)) fs) ts) r) =
+    sym (lacking named_by (tree.chr j v) refl n m k i fs ts r)
 
 pub item_by : (e : tree.Expr) → nodes.item_literal e ≡ option_and_then literal_of (only_primary e)
 unfolding only_primary literal_of factor_alone term_alone simple_alone
 item_by (tree.expr n (tree.simple m (Some g) t ts) r) = sym (signed literal_of n m g t ts r)
 item_by (tree.expr n (tree.simple m None (tree.term k (tree.not_factor i p) fs) ts) r) = sym (negated literal_of n m k i p fs ts r)
-item_by (tree.expr n (tree.simple m None (tree.term k (tree.factor i (tree.number j t)) fs) ts) r) = sym (lacking literal_of (tree.number j t) refl n m k i fs ts r)
-item_by (tree.expr n (tree.simple m None (tree.term k (tree.factor i (tree.literal j t)) tree.no_factor) tree.no_term) tree.no_relation) = refl
-item_by (tree.expr n (tree.simple m None (tree.term k (tree.factor i (tree.literal j t)) tree.no_factor) tree.no_term) (tree.compared o y)) = refl
-item_by (tree.expr n (tree.simple m None (tree.term k (tree.factor i (tree.literal j t)) tree.no_factor) (tree.more_term z u us)) tree.no_relation) = refl
-item_by (tree.expr n (tree.simple m None (tree.term k (tree.factor i (tree.literal j t)) tree.no_factor) (tree.more_term z u us)) (tree.compared o y)) = refl
-item_by (tree.expr n (tree.simple m None (tree.term k (tree.factor i (tree.literal j t)) (tree.more_factor q g gs)) tree.no_term) tree.no_relation) = refl
-item_by (tree.expr n (tree.simple m None (tree.term k (tree.factor i (tree.literal j t)) (tree.more_factor q g gs)) tree.no_term) (tree.compared o y)) = refl
-item_by (tree.expr n (tree.simple m None (tree.term k (tree.factor i (tree.literal j t)) (tree.more_factor q g gs)) (tree.more_term z u us)) tree.no_relation) = refl
-item_by (tree.expr n (tree.simple m None (tree.term k (tree.factor i (tree.literal j t)) (tree.more_factor q g gs)) (tree.more_term z u us)) (tree.compared o y)) = refl
-item_by (tree.expr n (tree.simple m None (tree.term k (tree.factor i (tree.named j d tree.no_args)) fs) ts) r) = sym (lacking literal_of (tree.named j d tree.no_args) refl n m k i fs ts r)
-item_by (tree.expr n (tree.simple m None (tree.term k (tree.factor i (tree.named j d tree.empty_args)) fs) ts) r) = sym (lacking literal_of (tree.named j d tree.empty_args) refl n m k i fs ts r)
-item_by (tree.expr n (tree.simple m None (tree.term k (tree.factor i (tree.named j d (tree.args x))) fs) ts) r) = sym (lacking literal_of (tree.named j d (tree.args x)) refl n m k i fs ts r)
-item_by (tree.expr n (tree.simple m None (tree.term k (tree.factor i (tree.paren j b)) fs) ts) r) = sym (lacking literal_of (tree.paren j b) refl n m k i fs ts r)
-item_by (tree.expr n (tree.simple m None (tree.term k (tree.factor i (tree.known j d)) fs) ts) r) = sym (lacking literal_of (tree.known j d) refl n m k i fs ts r)
-item_by (tree.expr n (tree.simple m None (tree.term k (tree.factor i (tree.ord j v)) fs) ts) r) = sym (lacking literal_of (tree.ord j v) refl n m k i fs ts r)
-item_by (tree.expr n (tree.simple m None (tree.term k (tree.factor i (tree.chr j v)) fs) ts) r) = sym (lacking literal_of (tree.chr j v) refl n m k i fs ts r)
+item_by (tree.expr n (tree.simple m None (tree.term k (tree.factor i (tree.number j t)) fs) ts) r) =
+    sym (lacking literal_of (tree.number j t) refl n m k i fs ts r)
+item_by (tree.expr n (tree.simple m None (tree.term k (tree.factor i (tree.literal j t)) tree.no_factor) tree.no_term) tree.no_relation) =
+    refl
+item_by (tree.expr n (tree.simple m None (tree.term k (tree.factor i (tree.literal j t)) tree.no_factor) tree.no_term) (tree.compared o y))
+    = refl
+item_by (tree.expr n (tree.simple m None (tree.term k (tree.factor i (tree.literal j t)) tree.no_factor) (tree.more_term z u us))
+    tree.no_relation) = refl
+item_by (tree.expr n (tree.simple m None (tree.term k (tree.factor i (tree.literal j t)) tree.no_factor) (tree.more_term z u us))
+    (tree.compared o y)) = refl
+item_by (tree.expr n (tree.simple m None (tree.term k (tree.factor i (tree.literal j t)) (tree.more_factor q g gs)) tree.no_term)
+    tree.no_relation) = refl
+item_by (tree.expr n (tree.simple m None (tree.term k (tree.factor i (tree.literal j t)) (tree.more_factor q g gs)) tree.no_term)
+    (tree.compared o y)) = refl
+item_by (tree.expr n (tree.simple m None (tree.term k (tree.factor i (tree.literal j t)) (tree.more_factor q g gs)) (tree.more_term z u us))
+    tree.no_relation) = refl
+item_by (tree.expr n (tree.simple m None (tree.term k (tree.factor i (tree.literal j t)) (tree.more_factor q g gs)) (tree.more_term z u us))
+    (tree.compared o y)) = refl
+item_by (tree.expr n (tree.simple m None (tree.term k (tree.factor i (tree.named j d tree.no_args)) fs) ts) r) =
+    sym (lacking literal_of (tree.named j d tree.no_args) refl n m k i fs ts r)
+item_by (tree.expr n (tree.simple m None (tree.term k (tree.factor i (tree.named j d tree.empty_args)) fs) ts) r) =
+    sym (lacking literal_of (tree.named j d tree.empty_args) refl n m k i fs ts r)
+item_by (tree.expr n (tree.simple m None (tree.term k (tree.factor i (tree.named j d (tree.args x))) fs) ts) r) =
+    sym (lacking literal_of (tree.named j d (tree.args x)) refl n m k i fs ts r)
+item_by (tree.expr n (tree.simple m None (tree.term k (tree.factor i (tree.paren j b)) fs) ts) r) =
+    sym (lacking literal_of (tree.paren j b) refl n m k i fs ts r)
+item_by (tree.expr n (tree.simple m None (tree.term k (tree.factor i (tree.known j d)) fs) ts) r) =
+    sym (lacking literal_of (tree.known j d) refl n m k i fs ts r)
+item_by (tree.expr n (tree.simple m None (tree.term k (tree.factor i (tree.ord j v)) fs) ts) r) =
+    sym (lacking literal_of (tree.ord j v) refl n m k i fs ts r)
+item_by (tree.expr n (tree.simple m None (tree.term k (tree.factor i (tree.chr j v)) fs) ts) r) =
+    sym (lacking literal_of (tree.chr j v) refl n m k i fs ts r)
 
 -- a name that is called is no designator alone
 pub called_not : (n : ℕ) (d : tree.Desig) (a : dg.Args) → None ≡ named_by (tree.named n d (view.args_of (Some a)))

@@ -7,6 +7,8 @@ use Rattle.alma_rules.specs.ExprRules as rules
 use Rattle.alma_rules.specs.Scene.{Scene}
 use Rattle.alma_rules.proofs.Onwards.{judged}
 
-pub indexed_fine : (s : Scene) (n k m : ℕ) (v : Option parts.Denoted) (j : Judged parts.Typing) (w : Option parts.Typing) → at_node k (rules.index_rules s v) j ≡ of_value m w
+pub indexed_fine : (s : Scene) (n k m : ℕ) (v : Option parts.Denoted) (j : Judged parts.Typing) (w : Option parts.Typing)
+    → at_node k (rules.index_rules s v) j ≡ of_value m w
     → nodes.indexed s (of_value n v) k j ≡ of_value m (parts.select_index s v w)
-indexed_fine s n k m v j w h = ap (λ (i : Judged parts.Typing). judged {A = parts.Denoted} i.faults i.next (parts.select_index s v i.value)) h
+indexed_fine s n k m v j w h = ap (λ (i : Judged parts.Typing). judged {A = parts.Denoted} i.faults i.next (parts.select_index s v i.value))
+    h

@@ -22,7 +22,8 @@ front : {A : Type 0} (old ys : List A) → take (length old) (old ++ ys) ≡ old
 front [] ys = refl
 front (o ∷ os) ys = ap (λ k. o ∷ k) (front os ys)
 
-pub label_grown : (k kept : Option (Vec Span Global)) (v : Option Span) (old xs new : List parts.Span) → items_in k ≡ pushed (items_in kept) v
+pub label_grown : (k kept : Option (Vec Span Global)) (v : Option Span) (old xs new : List parts.Span)
+    → items_in k ≡ pushed (items_in kept) v
     → new ≡ xs ++ option_to_list (option_map span_view v) → Grown old (spans_in kept) xs → Grown old (spans_in k) new
 label_grown None None v old xs new is h g = ap (take (length old)) h ∙ front_stays old xs _ g
 label_grown None (Some ls) None old xs new is h g = ap (take (length old)) (h ∙ nothing_behind xs ∙ g) ∙ front old (spans_view ls.items)
@@ -31,5 +32,6 @@ label_grown (Some ys) None v old xs new is h g = absurd (cc)
 label_grown (Some ys) (Some ls) None old xs new is h g = absurd (cc)
 label_grown (Some ys) (Some ls) (Some x) old xs new is h g =
     let e : ys.items ≡ ls.items ++ x ∷ [] = cc in
-    h ∙ ap (λ l. l ++ span_view x ∷ []) g ∙ append_more old (spans_view ls.items) (span_view x ∷ []) ∙ ap (λ l. old ++ l) (sym (spans_push ls.items x))
+    h ∙ ap (λ l. l ++ span_view x ∷ []) g ∙ append_more old (spans_view ls.items) (span_view x ∷ [])
+    ∙ ap (λ l. old ++ l) (sym (spans_push ls.items x))
     ∙ ap (λ l. old ++ spans_view l) (sym e)

@@ -19,14 +19,17 @@ same_value None = refl
 same_value (Some v) = refl
 
 module _ (hs : List (Option Heading)) (n : ℕ) (rules : RuleFound → List CheckFault) (x : RuleFound) (old new : ℕ) where
-  pub start_passed : (r : Result Start Stop) (e : Stop) → IsErrAnd r (λ y. y ≡ e) → Stops (broken_at n (rules x)) e → Starts hs n rules x old new r
+  pub start_passed : (r : Result Start Stop) (e : Stop) → IsErrAnd r (λ y. y ≡ e) → Stops (broken_at n (rules x)) e
+      → Starts hs n rules x old new r
   start_passed (Ok v) e h f = absurd h
   start_passed (Err y) e h f = rw h f
 
-pub head_passed : (s : Start) (low : Option parts.Typing) (j : Judged parts.Typing) (m : ℕ) (r : Result Head Stop) (e : Stop) → IsErrAnd r (λ x. x ≡ e) → Stops j.faults e → HeadOf s low j m r
+pub head_passed : (s : Start) (low : Option parts.Typing) (j : Judged parts.Typing) (m : ℕ) (r : Result Head Stop) (e : Stop)
+    → IsErrAnd r (λ x. x ≡ e) → Stops j.faults e → HeadOf s low j m r
 head_passed s low j m (Ok v) e h f = absurd h
 head_passed s low j m (Err x) e h f = rw h f
 
-pub turned_passed : (b : Bounds) (j : Judged ℤ) (m : ℕ) (r : Result Turns Stop) (e : Stop) → IsErrAnd r (λ x. x ≡ e) → Stops j.faults e → Turned b j m r
+pub turned_passed : (b : Bounds) (j : Judged ℤ) (m : ℕ) (r : Result Turns Stop) (e : Stop) → IsErrAnd r (λ x. x ≡ e) → Stops j.faults e
+    → Turned b j m r
 turned_passed b j m (Ok v) e h f = absurd h
 turned_passed b j m (Err x) e h f = rw h f

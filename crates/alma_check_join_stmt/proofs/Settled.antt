@@ -14,11 +14,13 @@ mapped (x ∷ xs) = ap (λ (l : List parts.Span). span_view x ∷ l) (mapped xs)
 spans_take : (n : ℕ) (xs : List Span) → spans_view (take n xs) ≡ take n (spans_view xs)
 spans_take n xs = mapped (take n xs) ∙ sym (take-map span_view n xs) ∙ ap (take n) (sym (mapped xs))
 
-pub settled_bad : (before : ℕ) (b : Bool) (xs ys : List Span) → not b ≡ true → ys ≡ take before xs → spans_view ys ≡ trail_for_entries before b (spans_view xs)
+pub settled_bad : (before : ℕ) (b : Bool) (xs ys : List Span) → not b ≡ true → ys ≡ take before xs
+    → spans_view ys ≡ trail_for_entries before b (spans_view xs)
 settled_bad before true xs ys n h = absurd (cc)
 settled_bad before false xs ys n h = ap spans_view h ∙ spans_take before xs
 
-pub settled_fine : (before : ℕ) (b : Bool) (xs ys : List Span) → not b ≡ false → ys ≡ xs → spans_view ys ≡ trail_for_entries before b (spans_view xs)
+pub settled_fine : (before : ℕ) (b : Bool) (xs ys : List Span) → not b ≡ false → ys ≡ xs
+    → spans_view ys ≡ trail_for_entries before b (spans_view xs)
 settled_fine before true xs ys n h = ap spans_view h
 settled_fine before false xs ys n h = absurd (cc)
 

@@ -36,7 +36,8 @@ Starts hs n rules x old new (Err e) = Stops (broken_at n (rules x)) e
 
 -- what a loop starts with, its first bound, and the second, which is judged
 abbrev pub HeadOf : Start → Option parts.Typing → Judged parts.Typing → ℕ → Result Head Stop → Type 0
-HeadOf s low j m (Ok h) = (h.counter ≡ s.counter) × (h.found ≡ s.found) × (typing_in h.bounds.low ≡ low) × (j ≡ of_value m (typing_in h.bounds.high))
+HeadOf s low j m (Ok h) = (h.counter ≡ s.counter) × (h.found ≡ s.found) × (typing_in h.bounds.low ≡ low)
+    × (j ≡ of_value m (typing_in h.bounds.high))
 HeadOf s low j m (Err e) = Stops j.faults e
 
 -- the variable of a loop, by what its name stands for
@@ -53,7 +54,8 @@ pub record IsHead (e : Env) (p : Place) (name : tree.Name) (first second : tree.
 -- the rules that are broken in the head of a loop: of its name, its first bound and its second
 abbrev pub head_faults : Scene → ℕ → tree.Name → (first second : tree.Expr) → List Broken
 head_faults s n name first second =
-    (nodes.loop_variable s n name).faults ++ ((judge_expr s (n + 2) first).faults ++ (judge_expr s (judge_expr s (n + 2) first).next second).faults)
+    (nodes.loop_variable s n name).faults ++ ((judge_expr s (n + 2) first).faults
+    ++ (judge_expr s (judge_expr s (n + 2) first).next second).faults)
 
 -- the head of a loop is judged
 abbrev pub Headed : Env → Place → tree.Name → (first second : tree.Expr) → (n next : ℕ) → Result Head Stop → Type 0

@@ -12,11 +12,13 @@ use Rattle.alma_rules.proofs.Onwards.{onward_begin}
 use Rattle.alma_rules.proofs.Rows as rows
 
 -- no part yet
-pub begun : {A B : Type 0} (join : A → B → B) (nil : A) (xs : Option A) (j : Judged B) → ((b : B) → join nil b ≡ b) → xs ≡ Some nil → j ≡ onward join xs j
+pub begun : {A B : Type 0} (join : A → B → B) (nil : A) (xs : Option A) (j : Judged B) → ((b : B) → join nil b ≡ b) → xs ≡ Some nil
+    → j ≡ onward join xs j
 begun join nil xs j same h = rw h (sym (onward_begin join nil j same))
 
 -- what is said of a list that begins
-pub from_nothing : {A B C : Type 0} (join : A → B → C) (nil : A) (xs : Option A) (j : Judged B) (k : Judged C) → xs ≡ Some nil → onward join xs j ≡ k → onward join (Some nil) j ≡ k
+pub from_nothing : {A B C : Type 0} (join : A → B → C) (nil : A) (xs : Option A) (j : Judged B) (k : Judged C) → xs ≡ Some nil
+    → onward join xs j ≡ k → onward join (Some nil) j ≡ k
 from_nothing join nil xs j k h is = ap (λ (v : Option _). onward join v j) (sym h) ∙ is
 
 -- another way to say what is judged, where it stops

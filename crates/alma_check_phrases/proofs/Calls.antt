@@ -39,16 +39,20 @@ module _ (s : Scene) where
   argument n f e = nodes.judged_argument s f (view.view_expr e) (judge_expr s n (view.view_expr e))
 
   -- the first argument, with which the list begins
-  pub arguments_begin : (n : ℕ) (formals : List FormalOf) (t : dx.Exprs) (f : Option FormalOf) (xs : Option ir.Args) → f ≡ slice_get formals 0 → xs ≡ Some ir.no_args
+  pub arguments_begin : (n : ℕ) (formals : List FormalOf) (t : dx.Exprs) (f : Option FormalOf) (xs : Option ir.Args)
+      → f ≡ slice_get formals 0 → xs ≡ Some ir.no_args
       → judge_arguments s n formals (view.view_exprs t)
-      ≡ onward_args xs (with nodes.cons_arg (and_then (argument n f (dx.out-Exprs t).first.value) (λ m. judge_argument_tail s m (drop 1 formals) (view.exprs_of (dx.out-Exprs t).more.items))))
+      ≡ onward_args xs (with nodes.cons_arg (and_then (argument n f (dx.out-Exprs t).first.value)
+      (λ m. judge_argument_tail s m (drop 1 formals) (view.exprs_of (dx.out-Exprs t).more.items))))
   arguments_begin n formals t f xs is h =
       arguments_at s n formals t ∙ rw (sym is) (begun append_args ir.no_args xs _ (λ b. refl) h)
 
   -- one more argument
-  pub arguments_turn : (n i : ℕ) (formals : List FormalOf) (all : List de.Expr) (e : de.Expr) (f : Option FormalOf) → i < length all → e ≡ get_or all i e → f ≡ slice_get formals (i + 1)
+  pub arguments_turn : (n i : ℕ) (formals : List FormalOf) (all : List de.Expr) (e : de.Expr) (f : Option FormalOf) → i < length all
+      → e ≡ get_or all i e → f ≡ slice_get formals (i + 1)
       → judge_argument_tail s n (drop (i + 1) formals) (view.exprs_of (drop i all))
-      ≡ with nodes.cons_arg (and_then (argument n f e) (λ m. judge_argument_tail s m (drop (i + 1 + 1) formals) (view.exprs_of (drop (i + 1) all))))
+      ≡ with nodes.cons_arg (and_then (argument n f e)
+      (λ m. judge_argument_tail s m (drop (i + 1 + 1) formals) (view.exprs_of (drop (i + 1) all))))
   arguments_turn n i formals all e f h is place =
       arguments_next s n i (drop (i + 1) formals) all e h is
       ∙ rw (dropped_first (i + 1) formals ∙ sym place, dropped_again (i + 1) formals) refl

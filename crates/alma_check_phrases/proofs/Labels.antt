@@ -1,5 +1,6 @@
 -- The labels that are noted as an arm of CASE is judged.
-use Rattle.std.proofs.Common.{◌≡◌, ℕ, ◌+◌, ◌<◌, List, [], ◌∷◌, ◌++◌, Option, None, Some, Vec, Global, length, get_or, drop, take, suc, refl, sym, subst, ap, ◌∙◌}
+use Rattle.std.proofs.Common.{◌≡◌, ℕ, ◌+◌, ◌<◌, List, [], ◌∷◌, ◌++◌, Option, None, Some, Vec, Global, length, get_or, drop, take, suc, refl}
+use Rattle.std.proofs.Common.{sym, subst, ap, ◌∙◌}
 use Rattle.std.specs.Prelude.{is_some, unwrap_or, option_to_list, Bool, true, false, Result, Ok, Err, IsOk, OnOk}
 use Rattle.alma_rules.specs.Numbered as tree
 use Rattle.alma_rules.specs.Scene.{Scene}
@@ -20,7 +21,8 @@ use Rattle.alma_rules.specs.View as view
 use Rattle.alma_check_join_stmt.specs.Noted.{Grown, trail_for_entries}
 
 -- of the labels noted, those of an arm stay where none of them is Bad
-pub settled : (old mid new : List parts.Span) (before : ℕ) (labels : Option (Vec Span Global)) → before ≡ length old → Grown old (spans_in labels) mid
+pub settled : (old mid new : List parts.Span) (before : ℕ) (labels : Option (Vec Span Global)) → before ≡ length old
+    → Grown old (spans_in labels) mid
     → new ≡ trail_for_entries before (is_some labels) mid → new ≡ old ++ unwrap_or (spans_in labels) []
 settled old mid new before None h g is = is ∙ ap (λ k. take k mid) h ∙ g ∙ sym (nothing_behind old)
 settled old mid new before (Some ls) h g is = is ∙ g
@@ -31,26 +33,34 @@ spans_count (x ∷ xs) = ap (λ n. suc n) (spans_count xs)
 
 module _ (s : Scene) where
   -- the first label of an arm, with which the list begins, where the labels noted behind it are these
-  pub labels_begin : (n : ℕ) (case : Option parts.Typing) (earlier new : List parts.Span) (l : tree.Label) (ls : tree.LabelTail) (xs : Option (List parts.Span)) → xs ≡ Some []
+  pub labels_begin : (n : ℕ) (case : Option parts.Typing) (earlier new : List parts.Span) (l : tree.Label) (ls : tree.LabelTail)
+      (xs : Option (List parts.Span)) → xs ≡ Some []
       → new ≡ earlier ++ option_to_list (walk.judge_label s n case earlier l).value
-      → labels_judged s n case earlier l ls ≡ onward_spans xs (with nodes.cons_span (and_then (walk.judge_label s n case earlier l) (λ m. walk.judge_labels s m case new ls)))
+      → labels_judged s n case earlier l ls ≡ onward_spans xs
+      (with nodes.cons_span (and_then (walk.judge_label s n case earlier l) (λ m. walk.judge_labels s m case new ls)))
   labels_begin n case earlier new l ls xs h e =
       cases.label_first s n case earlier new l ls e
-      ∙ begun (λ (a b : List parts.Span). a ++ b) [] xs (with nodes.cons_span (and_then (walk.judge_label s n case earlier l) (λ m. walk.judge_labels s m case new ls))) (λ b. refl) h
+      ∙ begun (λ (a b : List parts.Span). a ++ b) [] xs
+      (with nodes.cons_span (and_then (walk.judge_label s n case earlier l) (λ m. walk.judge_labels s m case new ls))) (λ b. refl) h
 
   -- one more label
-  pub labels_turn : (n i : ℕ) (case : Option parts.Typing) (earlier new : List parts.Span) (all : List dl.Label) (y : dl.Label) → i < length all → y ≡ get_or all i y
+  pub labels_turn : (n i : ℕ) (case : Option parts.Typing) (earlier new : List parts.Span) (all : List dl.Label) (y : dl.Label)
+      → i < length all → y ≡ get_or all i y
       → new ≡ earlier ++ option_to_list (walk.judge_label s n case earlier (view.view_label y)).value
       → walk.judge_labels s n case earlier (view.labels_of (drop i all))
-      ≡ with nodes.cons_span (and_then (walk.judge_label s n case earlier (view.view_label y)) (λ m. walk.judge_labels s m case new (view.labels_of (drop (i + 1) all))))
+      ≡ with nodes.cons_span (and_then (walk.judge_label s n case earlier (view.view_label y))
+      (λ m. walk.judge_labels s m case new (view.labels_of (drop (i + 1) all))))
   labels_turn n i case earlier new all y h is e =
-      cases.labels_next s n i case earlier all y h is ∙ cases.label_first s n case earlier new (view.view_label y) (view.labels_of (drop (i + 1) all)) e
+      cases.labels_next s n i case earlier all y h is
+      ∙ cases.label_first s n case earlier new (view.view_label y) (view.labels_of (drop (i + 1) all)) e
 
   -- one more arm
-  pub arms_turn : (n i : ℕ) (case : Option parts.Typing) (earlier new : List parts.Span) (all : List da.Arm) (y : da.Arm) → i < length all → y ≡ get_or all i y
+  pub arms_turn : (n i : ℕ) (case : Option parts.Typing) (earlier new : List parts.Span) (all : List da.Arm) (y : da.Arm) → i < length all
+      → y ≡ get_or all i y
       → new ≡ earlier ++ (walk.judge_arm s n case earlier (view.view_arm y)).spans
       → walk.judge_arm_tail s n case earlier (view.arms_of (drop i all))
-      ≡ with nodes.joined_cases (and_then (walk.judge_arm s n case earlier (view.view_arm y)).arm (λ m. walk.judge_arm_tail s m case new (view.arms_of (drop (i + 1) all))))
+      ≡ with nodes.joined_cases (and_then (walk.judge_arm s n case earlier (view.view_arm y)).arm
+      (λ m. walk.judge_arm_tail s m case new (view.arms_of (drop (i + 1) all))))
   arms_turn n i case earlier new all y h is e = cases.arms_next s n i case earlier all y h is ∙ rw (sym e) refl
 
 pub grown_begin : (old : List parts.Span) (xs : Option (List parts.Span)) → xs ≡ Some [] → Grown old xs old

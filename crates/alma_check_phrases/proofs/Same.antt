@@ -20,25 +20,31 @@ module _ (e : Env) (p : Place) where
   pub denoted_same : (f : Found) → parts.denoted (scene_of e p) f ≡ parts.denoted (scene_of e somewhere) f
   denoted_same f = refl
 
-  pub field_same : (name : List ℕ) (d : parts.Denoted) → parts.select_field (scene_of e p) name d ≡ parts.select_field (scene_of e somewhere) name d
+  pub field_same : (name : List ℕ) (d : parts.Denoted)
+      → parts.select_field (scene_of e p) name d ≡ parts.select_field (scene_of e somewhere) name d
   field_same name d = refl
 
-  pub indexed_same : (d : Judged parts.Denoted) (k : ℕ) (j : Judged parts.Typing) → nodes.indexed (scene_of e p) d k j ≡ nodes.indexed (scene_of e somewhere) d k j
+  pub indexed_same : (d : Judged parts.Denoted) (k : ℕ) (j : Judged parts.Typing)
+      → nodes.indexed (scene_of e p) d k j ≡ nodes.indexed (scene_of e somewhere) d k j
   indexed_same d k j = refl
 
-  pub argument_same : (f : Option FormalOf) (t : parts.Typing) → parts.argument_of (scene_of e p) f t ≡ parts.argument_of (scene_of e somewhere) f t
+  pub argument_same : (f : Option FormalOf) (t : parts.Typing)
+      → parts.argument_of (scene_of e p) f t ≡ parts.argument_of (scene_of e somewhere) f t
   argument_same f t = refl
 
-  pub argument_rules_same : (f : Option FormalOf) (k : rules.Argument) (v : Option parts.Typing) → rules.argument_rules (scene_of e p) f k v ≡ rules.argument_rules (scene_of e somewhere) f k v
+  pub argument_rules_same : (f : Option FormalOf) (k : rules.Argument) (v : Option parts.Typing)
+      → rules.argument_rules (scene_of e p) f k v ≡ rules.argument_rules (scene_of e somewhere) f k v
   argument_rules_same f k v = refl
 
   pub assigned_same : (x : parts.Located × parts.Typing) → parts.assigned (scene_of e p) x ≡ parts.assigned (scene_of e somewhere) x
   assigned_same x = refl
 
-  pub loop_same : (n k : ℕ) (v : Judged parts.Located) (a b : Judged parts.Typing) → nodes.loop_at (scene_of e p) n k v a b ≡ nodes.loop_at (scene_of e somewhere) n k v a b
+  pub loop_same : (n k : ℕ) (v : Judged parts.Located) (a b : Judged parts.Typing)
+      → nodes.loop_at (scene_of e p) n k v a b ≡ nodes.loop_at (scene_of e somewhere) n k v a b
   loop_same n k v a b = refl
 
-  pub label_same : (case : Option parts.Typing) (earlier : List parts.Span) (k : ℕ) (a b : Judged parts.Typing) → nodes.label_at (scene_of e p) case earlier k a b ≡ nodes.label_at (scene_of e somewhere) case earlier k a b
+  pub label_same : (case : Option parts.Typing) (earlier : List parts.Span) (k : ℕ) (a b : Judged parts.Typing)
+      → nodes.label_at (scene_of e p) case earlier k a b ≡ nodes.label_at (scene_of e somewhere) case earlier k a b
   label_same case earlier k a b = refl
 
   pub case_same : (k : ℕ) (a : Judged parts.Typing) → nodes.case_at (scene_of e p) k a ≡ nodes.case_at (scene_of e somewhere) k a

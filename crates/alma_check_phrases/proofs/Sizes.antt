@@ -22,8 +22,14 @@ expr_left e = omega (arith, views.size_roll-Expr (de.out-Expr e), ap de.size-Exp
 pub compared_right : (c : dc.Compared) → di.size-Simple (dc.out-Compared c).right < dc.size-Compared c
 compared_right c = omega (arith, views.size_roll-Compared (dc.out-Compared c), ap dc.size-Compared (views.roll-out-Compared c))
 
-pub expr_right : (e : de.Expr) (c : Box dc.Compared Global) → (de.out-Expr e).right ≡ Some c → di.size-Simple (dc.out-Compared c.value).right < de.size-Expr e
-expr_right e c h = omega (arith, compared_right c.value, rw h at (views.size_roll-Expr (de.out-Expr e)), ap de.size-Expr (rw h at (views.roll-out-Expr e)))
+pub expr_right : (e : de.Expr) (c : Box dc.Compared Global) → (de.out-Expr e).right ≡ Some c
+    → di.size-Simple (dc.out-Compared c.value).right < de.size-Expr e
+expr_right e c h = omega (
+  arith,
+  compared_right c.value,
+  rw h at (views.size_roll-Expr (de.out-Expr e)),
+  ap de.size-Expr (rw h at (views.roll-out-Expr e)),
+)
 
 pub simple_first : (s : di.Simple) → dm.size-Term (di.out-Simple s).first.value < di.size-Simple s
 simple_first s = omega (arith, views.size_roll-Simple (di.out-Simple s), ap di.size-Simple (views.roll-out-Simple s))

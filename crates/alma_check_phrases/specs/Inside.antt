@@ -20,5 +20,6 @@ JudgesAt env place slot body next r = Answers (judge_stmts (scene_of env place) 
 pub record JudgesStmts (callable : Type 0)
     (post : Global → Bor Env → Place → MutBor ℕ → Bor Stmts → Result (Option (Vec Stmt Global)) Stop → MutBor ℕ → Type 0) : Type 0 where
   pub may_call : callable
-  pub each_call : (alloc : Global) (env : Bor Env) (place : Place) (slot : MutBor ℕ) (body : Bor Stmts) (r : Result (Option (Vec Stmt Global)) Stop)
+  pub each_call : (alloc : Global) (env : Bor Env) (place : Place) (slot : MutBor ℕ) (body : Bor Stmts)
+      (r : Result (Option (Vec Stmt Global)) Stop)
       (left : MutBor ℕ) → post alloc env place slot body r left → JudgesAt env.now place slot.now body.now left.now r

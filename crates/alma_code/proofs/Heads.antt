@@ -1,5 +1,6 @@
 -- The first slots of a head, as a list of kinds.
-use Rattle.std.proofs.Common.{◌≡◌, ℕ, zero, suc, ◌+◌, List, [], ◌∷◌, ◌++◌, length, take, drop, replicate, refl, sym, ap, ◌∙◌, arith, append_assoc}
+use Rattle.std.proofs.Common.{◌≡◌, ℕ, zero, suc, ◌+◌, List, [], ◌∷◌, ◌++◌, length, take, drop, replicate, refl, sym, ap, ◌∙◌, arith}
+use Rattle.std.proofs.Common.{append_assoc}
 use Rattle.std.specs.Prelude.{true, Option, Some, None, slice_get}
 use Rattle.std.proofs.lemmas.Bool.{and_parts, eqb-true}
 use Rattle.std.proofs.Math.Seq.{take-append_seam}
@@ -65,7 +66,8 @@ numbers-drop (suc n) ks i e =
     ∙ ap (λ rest. slot.Number ∷ rest) (numbers-drop n ks (suc i) both.1 ∙ ap (λ j. replicate n slot.Number ++ drop j ks) z)
 
 -- the slots of a parameter stand where they must
-param-drop : (ks : List SlotKind) (kind : ParamKind) (n i : ℕ) → holds_param ks kind n i ≡ true → drop i ks ≡ param_kinds kind n ++ drop (i + param_slots kind n) ks
+param-drop : (ks : List SlotKind) (kind : ParamKind) (n i : ℕ) → holds_param ks kind n i ≡ true
+    → drop i ks ≡ param_kinds kind n ++ drop (i + param_slots kind n) ks
 param-drop ks param.Value n i e =
     let z : suc i ≡ i + 1 = omega arith in
     take-one slot.Number ks i (number_is (slice_get ks i) e) ∙ ap (λ j. slot.Number ∷ drop j ks) z
@@ -76,19 +78,24 @@ param-drop ks param.Mix n i e =
     let both = and_parts (is_place_of 1 (slice_get ks i)) (is_number (slice_get ks (suc i))) e in
     let z : suc (suc i) ≡ i + 2 = omega arith in
     take-one (slot.Place 1) ks i (place_of_is 1 (slice_get ks i) both.0)
-    ∙ ap (λ rest. slot.Place 1 ∷ rest) (take-one slot.Number ks (suc i) (number_is (slice_get ks (suc i)) both.1) ∙ ap (λ j. slot.Number ∷ drop j ks) z)
+    ∙ ap (λ rest. slot.Place 1 ∷ rest) (take-one slot.Number ks (suc i) (number_is (slice_get ks (suc i)) both.1)
+    ∙ ap (λ j. slot.Number ∷ drop j ks) z)
 param-drop ks param.Cells n i e = numbers-drop n ks i e
 param-drop ks param.Link n i e =
     let z : suc i ≡ i + 1 = omega arith in
     take-one (slot.Link n) ks i (link_of_is n (slice_get ks i) e) ∙ ap (λ j. slot.Link n ∷ drop j ks) z
 
 -- the slots that hold parameters
-params-drop : (ks : List SlotKind) (ps : List CodeParam) (i : ℕ) → hold_params ks ps i ≡ true → (j : ℕ) × (drop i ks ≡ params_kinds ps ++ drop j ks)
+params-drop : (ks : List SlotKind) (ps : List CodeParam) (i : ℕ) → hold_params ks ps i ≡ true → (j : ℕ)
+    × (drop i ks ≡ params_kinds ps ++ drop j ks)
 params-drop ks [] i e = (i, refl)
 params-drop ks (p ∷ ps) i e =
     let both = and_parts (holds_param ks p.kind p.cells i) (hold_params ks ps (i + param_slots p.kind p.cells)) e in
-    let rest = params-drop ks ps (i + param_slots p.kind p.cells) both.1 in
-    (rest.0, param-drop ks p.kind p.cells i both.0 ∙ ap (λ xs. param_kinds p.kind p.cells ++ xs) rest.1 ∙ sym (append_assoc (param_kinds p.kind p.cells) (params_kinds ps) (drop rest.0 ks)))
+    let rest = params-drop ks ps (i + param_slots p.kind p.cells) both.1 in (
+      rest.0,
+      param-drop ks p.kind p.cells i both.0 ∙ ap (λ xs. param_kinds p.kind p.cells ++ xs) rest.1
+          ∙ sym (append_assoc (param_kinds p.kind p.cells) (params_kinds ps) (drop rest.0 ks)),
+    )
 
 -- the first slots of a head are those of its parameters
 pub first-kinds : (h : PlainHead) → IsHead h → take (length (params_kinds h.params)) (kinds_of 0 h.runs) ≡ params_kinds h.params

@@ -17,7 +17,8 @@ offset_le low v high a b =
     omega (arith, ints)
 
 -- a part at an index of a range is inside what has room for all of them
-pub offset_within : (low v high : ℤ) (l k n : ℕ) → (int_le low v && int_le v high) ≡ true → (nat_abs (high -ℤ low) + 1) * l ≤ n → k < l → nat_abs (v -ℤ low) * l + k < n
+pub offset_within : (low v high : ℤ) (l k n : ℕ) → (int_le low v && int_le v high) ≡ true → (nat_abs (high -ℤ low) + 1) * l ≤ n → k < l
+    → nat_abs (v -ℤ low) * l + k < n
 offset_within low v high l k n e room lt =
     let x = and_parts (int_le low v) (int_le v high) e in
     let a : low ≤ℤ v = le_z_yes (T_from_true (int_le low v) x.0) in

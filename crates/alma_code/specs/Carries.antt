@@ -1,5 +1,6 @@
 -- How the carry of a FORALL is laid over the frames, and what it gains from a body.
-use Rattle.std.specs.Prelude.{◌≡◌, ℕ, zero, suc, ◌+◌, ◌-◌, ◌≤◌, ◌<◌, Bool, true, false, not, ◌&&◌, nat_eq, if◌then◌else◌, List, [], ◌∷◌, ◌++◌, take, get_or, set, length, slice_get}
+use Rattle.std.specs.Prelude.{◌≡◌, ℕ, zero, suc, ◌+◌, ◌-◌, ◌≤◌, ◌<◌, Bool, true, false, not, ◌&&◌, nat_eq, if◌then◌else◌, List, [], ◌∷◌}
+use Rattle.std.specs.Prelude.{◌++◌, take, get_or, set, length, slice_get}
 use Rattle.alma_base.specs.Carry.{Change, Carry, with_changes}
 use Rattle.alma_base.specs.Numbers.{int_eq}
 use Rattle.alma_code.specs.declared.cell.Cell.{Cell}

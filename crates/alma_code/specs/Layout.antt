@@ -1,5 +1,6 @@
 -- How the slots of a new frame are laid out, and which arguments fit its parameters.
-use Rattle.std.specs.Prelude.{◌≡◌, ℕ, zero, suc, ◌+◌, ◌-◌, ◌<◌, Bool, true, ◌&&◌, pos, List, [], ◌∷◌, ◌++◌, map, take, drop, get_or, set, length, replicate, slice_get}
+use Rattle.std.specs.Prelude.{◌≡◌, ℕ, zero, suc, ◌+◌, ◌-◌, ◌<◌, Bool, true, ◌&&◌, pos, List, [], ◌∷◌, ◌++◌, map, take, drop, get_or, set}
+use Rattle.std.specs.Prelude.{length, replicate, slice_get}
 use Rattle.alma_code.specs.declared.cell.Cell.{Cell}
 use Rattle.alma_code.specs.declared.cell.Cell.TheVariants as cell
 use Rattle.alma_code.specs.declared.cell.CellPlace.{CellPlace}
@@ -70,7 +71,14 @@ blank_cells h = map blank_of (kinds_of 0 h.runs)
 -- frame 0 of a start: of routine 0, with the input position 0 in slot 0, whose kind is not looked
 -- at here: in a sound code it is a number slot
 abbrev pub start_frame : PlainHead → PlainFrame
-start_frame h = record { routine = 0; back = 0; declared = h.declared; kinds = kinds_of 0 h.runs; cells = set (blank_cells h) 0 (cell.Int (pos 0)) }
+start_frame h = record {
+  routine = 0;
+  back = 0;
+  declared = h.declared;
+  kinds = kinds_of 0 h.runs;
+  cells =
+      set (blank_cells h) 0 (cell.Int (pos 0));
+}
 
 -- ---- arguments
 

@@ -79,7 +79,8 @@ global_words g = codes "global" ∷ g.name ∷ decimal g.slot ∷ decimal g.cell
 -- a routine with its number
 abbrev pub routine_words : ℕ → PlainRoutine → List (List ℕ)
 routine_words r routine =
-    codes "routine" ∷ decimal r ∷ routine.name ∷ codes "slots" ∷ decimal routine.head.slots ∷ codes "declared" ∷ decimal routine.head.declared
+    codes "routine" ∷ decimal r ∷ routine.name ∷ codes "slots" ∷ decimal routine.head.slots ∷ codes "declared"
+    ∷ decimal routine.head.declared
     ∷ codes "params" ∷ decimal (length routine.head.params) ∷ codes "result" ∷ bit_text routine.head.has_result ∷ []
 
 -- instructions, the first at an address
@@ -91,7 +92,8 @@ instr_lines at (i ∷ rest) = (decimal at ∷ form_words i) ∷ instr_lines (suc
 abbrev pub routine_lines : PlainCode → (r at : ℕ) → List PlainRoutine → List (List (List ℕ))
 routine_lines code r at [] = []
 routine_lines code r at (routine ∷ rest) =
-    routine_words r routine ∷ (instr_lines at (take (routine.code_end - at) (drop at code.instrs)) ++ routine_lines code (suc r) routine.code_end rest)
+    routine_words r routine ∷ (instr_lines at (take (routine.code_end - at) (drop at code.instrs))
+    ++ routine_lines code (suc r) routine.code_end rest)
 
 -- a record of the lines: its address and the line
 abbrev pub line_words : Line → List (List ℕ)
@@ -100,7 +102,8 @@ line_words x = codes "line" ∷ decimal x.at ∷ decimal x.line ∷ []
 -- the lines of the text, as words
 abbrev pub list_lines : PlainCode → List (List (List ℕ))
 list_lines code =
-    (codes "object" ∷ decimal code.version ∷ []) ∷ (map global_words code.globals ++ (routine_lines code 0 0 code.routines ++ map line_words code.lines))
+    (codes "object" ∷ decimal code.version ∷ [])
+    ∷ (map global_words code.globals ++ (routine_lines code 0 0 code.routines ++ map line_words code.lines))
 
 -- the whole text
 abbrev pub list_text : PlainCode → List ℕ

@@ -1,7 +1,8 @@
 -- The copying code machine: what each instruction does, where each choice entry holds a whole copy
 -- of the live frames. A read looks at what the slot holds, a write at the kind of the slot, and a
 -- place is looked at when one of its cells is used.
-use Rattle.std.specs.Prelude.{ℕ, zero, suc, ◌+◌, ◌-◌, ◌*◌, Bool, true, false, not, ◌&&◌, nat_eq, nat_lt, nat_le, ℤ, pos, ◌+ℤ◌, ◌-ℤ◌, ◌*ℤ◌, neg_ℤ, int_lt, int_le, nat_abs, List, [], ◌∷◌, ◌++◌, length, get_or, take, Option, Some, None, slice_get}
+use Rattle.std.specs.Prelude.{ℕ, zero, suc, ◌+◌, ◌-◌, ◌*◌, Bool, true, false, not, ◌&&◌, nat_eq, nat_lt, nat_le, ℤ, pos, ◌+ℤ◌, ◌-ℤ◌, ◌*ℤ◌}
+use Rattle.std.specs.Prelude.{neg_ℤ, int_lt, int_le, nat_abs, List, [], ◌∷◌, ◌++◌, length, get_or, take, Option, Some, None, slice_get}
 use Rattle.std.specs.Int.{int_rem_euclid}
 use Rattle.alma_base.specs.Limits.{cell_limit, frame_limit}
 use Rattle.alma_base.specs.declared.fault.RunFault.{RunFault}
@@ -31,7 +32,8 @@ use Rattle.alma_code.specs.declared.step.Step.TheVariants as answer
 use Rattle.alma_code.specs.declared.step.End.{End}
 use Rattle.alma_code.specs.declared.step.End.TheVariants as end
 use Rattle.alma_code.specs.Head.{PlainHead}
-use Rattle.alma_code.specs.Picture.{PlainFrame, PlainEntry, no_frame, frames_with_cell, cell_at, last_frame, without_last, live_cells, top_of, entry_at, kind_at, stack_after_pop}
+use Rattle.alma_code.specs.Picture.{PlainFrame, PlainEntry, no_frame, frames_with_cell, cell_at, last_frame, without_last, live_cells}
+use Rattle.alma_code.specs.Picture.{top_of, entry_at, kind_at, stack_after_pop}
 use Rattle.alma_code.specs.Layout.{start_frame, frame_of_call}
 use Rattle.alma_code.specs.Carries.{number_at, frames_with_carry, held_after_keep}
 use Rattle.alma_code.specs.Plain.{PlainCode, PlainRoutine, head_at, start_at}
@@ -207,7 +209,8 @@ put_number s n v = to_number (kind_of s n) s (λ _. quiet_step (with_slot s n (c
 -- slot n := the place in a frame, of as many cells as the slot's places have; the first cell may
 -- depend on that length
 abbrev pub put_place : State → ℕ → ℕ → (ℕ → ℕ) → Stepped
-put_place s n frame first = to_place (kind_of s n) s (λ l. quiet_step (with_slot s n (cell.Place (record { frame = frame; slot = first l; len = l }))))
+put_place s n frame first = to_place (kind_of s n) s
+    (λ l. quiet_step (with_slot s n (cell.Place (record { frame = frame; slot = first l; len = l }))))
 
 -- slot n := the mark
 abbrev pub put_mark : State → ℕ → ℕ → Stepped
@@ -278,7 +281,8 @@ binds_content s p r v None = range_check r fault.Range s v (λ _. store s p.fram
 -- ---- equations
 
 -- the equation of two cells by their contents: an unknown one gets the other's number
-abbrev pub equation_of_contents : State → (f i : ℕ) → Option Range → Option ℤ → (g j : ℕ) → Option Range → Option ℤ → (State → Stepped) → Stepped
+abbrev pub equation_of_contents : State → (f i : ℕ) → Option Range → Option ℤ → (g j : ℕ) → Option Range → Option ℤ → (State → Stepped)
+    → Stepped
 equation_of_contents s f i r None g j t None k = ends_in_fault fault.Unknown s
 equation_of_contents s f i r None g j t (Some v) k = optional_range_check r s v (λ _. store s f i v k)
 equation_of_contents s f i r (Some u) g j t None k = optional_range_check t s u (λ _. store s g j u k)
@@ -361,7 +365,14 @@ abbrev pub pop_or_end : State → List PlainEntry → Stepped
 pop_or_end s [] = ends_run end.Failed s
 pop_or_end s (e ∷ rest) =
     answers_with (answer.Popped (length s.held))
-    (record s { mode = Going; at = (top_of s.held).resume; now = (top_of s.held).frames; held = stack_after_pop s.held; fails = s.fails + 1 })
+    (record s {
+      mode = Going;
+      at = (top_of s.held).resume;
+      now = (top_of s.held).frames;
+      held = stack_after_pop s.held;
+      fails = s.fails
+          + 1;
+    })
 
 -- what a failing machine does: it takes the top copy; a Forall that becomes a Done is a pop too
 abbrev pub pop : State → Stepped
@@ -404,7 +415,8 @@ abbrev pub enters_routine : State → ℕ → ℕ → PlainHead → List Cell �
 enters_routine s r start h args =
     if_true (nat_lt (length s.now) frame_limit)
     (λ _. if_true (nat_le (live_cells s.now + h.declared) cell_limit)
-    (λ _. answers_with (answer.Called r (length s.now + 1)) (record s { at = start; now = s.now ++ frame_of_call s.now h r s.at args ∷ [] }))
+    (λ _. answers_with (answer.Called r (length s.now + 1))
+    (record s { at = start; now = s.now ++ frame_of_call s.now h r s.at args ∷ [] }))
     (λ _. ends_in_fault fault.CellsFull s))
     (λ _. ends_in_fault fault.DepthFull s)
 
@@ -487,9 +499,11 @@ module _ (code : PlainCode) (input : List ℕ) where
   act (I.Sub a b c) s = number s b (λ x. number s c (λ y. integer_result s (x -ℤ y) (λ v. put_number s a v)))
   act (I.Mul a b c) s = number s b (λ x. number s c (λ y. integer_result s (x *ℤ y) (λ v. put_number s a v)))
   act (I.Div a b c) s =
-      number s b (λ x. number s c (λ y. if_true (is_zero y) (λ _. ends_in_fault fault.ZeroDivide s) (λ _. integer_result s (div_down_of x y) (λ v. put_number s a v))))
+      number s b (λ x. number s c (λ y. if_true (is_zero y) (λ _. ends_in_fault fault.ZeroDivide s)
+      (λ _. integer_result s (div_down_of x y) (λ v. put_number s a v))))
   act (I.Mod a b c) s =
-      number s b (λ x. number s c (λ y. if_true (is_zero y) (λ _. ends_in_fault fault.ZeroDivide s) (λ _. integer_result s (mod_down_of x y) (λ v. put_number s a v))))
+      number s b (λ x. number s c (λ y. if_true (is_zero y) (λ _. ends_in_fault fault.ZeroDivide s)
+      (λ _. integer_result s (mod_down_of x y) (λ v. put_number s a v))))
   act (I.Neg a b) s = number s b (λ x. integer_result s (neg_ℤ x) (λ v. put_number s a v))
   act (I.Equal a b c) s = number s b (λ x. number s c (λ y. put_number s a (bit (int_eq x y))))
   act (I.Less a b c) s = number s b (λ x. number s c (λ y. put_number s a (bit (int_lt x y))))
@@ -503,14 +517,16 @@ module _ (code : PlainCode) (input : List ℕ) where
   act (I.Same a b) s = place s b (λ p. put_place s a p.frame (λ _. p.slot))
   act (I.Field a b c) s = place s b (λ p. put_place s a p.frame (λ _. p.slot + c))
   act (I.Index a b c d) s =
-      place s b (λ p. number s c (λ v. range_at s d (λ t. range_check t fault.Index s v (λ _. put_place s a p.frame (λ l. p.slot + nat_abs (v -ℤ t.low) * l)))))
+      place s b (λ p. number s c (λ v. range_at s d
+      (λ t. range_check t fault.Index s v (λ _. put_place s a p.frame (λ l. p.slot + nat_abs (v -ℤ t.low) * l)))))
   act (I.Load a b) s = place s b (λ p. content s p.frame p.slot (λ c. with_known_content s c (λ v. put_number s a v)))
   act (I.Store a b) s = place s a (λ p. number s b (λ v. store s p.frame p.slot v quiet_step))
   act (I.Known a b) s = place s b (λ p. content s p.frame p.slot (λ c. put_number s a (bit (is_known c))))
   act (I.Bind a b c) s =
       place s a (λ p. number s b (λ v. range_at s c (λ t. content s p.frame p.slot (λ u. binds_content s p t v u))))
   act (I.Unify a b c d) s =
-      place s a (λ p. range_at s b (λ r. place s c (λ q. range_at s d (λ t. equation s p.frame p.slot (Some r) q.frame q.slot (Some t) quiet_step))))
+      place s a (λ p. range_at s b (λ r. place s c
+      (λ q. range_at s d (λ t. equation s p.frame p.slot (Some r) q.frame q.slot (Some t) quiet_step))))
   act (I.CopyCells a b) s = place s a (λ p. place s b (λ q. copies_cells p.len s.now s p.frame p.slot q.frame q.slot))
   act (I.SameCells a b) s = place s a (λ p. place s b (λ q. equations p.len s p.frame p.slot q.frame q.slot))
   act (I.Jump a) s = goes_to a s
@@ -585,4 +601,14 @@ module _ (code : PlainCode) (input : List ℕ) where
 
 -- the state in which a run begins
 abbrev pub start : PlainCode → State
-start code = record { at = 0; last = 0; mode = Going; now = start_frame (head_at code 0) ∷ []; held = []; steps = 0; choices = 0; fails = 0 }
+start code = record {
+  at = 0;
+  last = 0;
+  mode = Going;
+  now = start_frame (head_at code 0) ∷ [];
+  held = [];
+  steps = 0;
+  choices = 0;
+  fails =
+      0;
+}

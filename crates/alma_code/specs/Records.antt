@@ -1,6 +1,7 @@
 -- What the format of objects asks of the tables of a code, beside their order: no count is too
 -- large, and each record is as it must be.
-use Rattle.std.specs.Prelude.{◌≡◌, ◌⊎◌, ◌+◌, ◌≤◌, ℕ, Bool, true, false, not, ◌&&◌, ◌||◌, nat_eq, nat_le, int_le, List, [], ◌∷◌, sum_by, length}
+use Rattle.std.specs.Prelude.{◌≡◌, ◌⊎◌, ◌+◌, ◌≤◌, ℕ, Bool, true, false, not, ◌&&◌, ◌||◌, nat_eq, nat_le, int_le, List, [], ◌∷◌, sum_by}
+use Rattle.std.specs.Prelude.{length}
 use Rattle.std.specs.List.{list_all}
 use Rattle.alma_base.specs.Limits.{instr_limit, slot_limit, record_limit, pool_limit}
 use Rattle.alma_base.specs.Reading.{is_digit}

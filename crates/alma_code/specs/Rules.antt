@@ -1,7 +1,8 @@
 -- The twelve rules of a sound code, each a test of one head or of one instruction, and the first
 -- that is broken. Rules 1 to 3 are of a head, rules 4 to 12 of an instruction; "the routine" is the
 -- routine r in whose code it stands.
-use Rattle.std.specs.Prelude.{◌≡◌, ℕ, zero, suc, ◌+◌, ◌-◌, ◌*◌, ◌<◌, ◌≤◌, Bool, true, false, not, ◌&&◌, ◌||◌, nat_eq, nat_lt, nat_le, List, [], ◌∷◌, length, get_or, Option, Some, None, slice_get}
+use Rattle.std.specs.Prelude.{◌≡◌, ℕ, zero, suc, ◌+◌, ◌-◌, ◌*◌, ◌<◌, ◌≤◌, Bool, true, false, not, ◌&&◌, ◌||◌, nat_eq, nat_lt, nat_le, List}
+use Rattle.std.specs.Prelude.{[], ◌∷◌, length, get_or, Option, Some, None, slice_get}
 use Rattle.std.specs.List.{list_all}
 use Rattle.alma_base.specs.Limits.{cell_limit, slot_limit}
 use Rattle.alma_base.specs.Numbers.{range_size}
@@ -328,4 +329,5 @@ module _ (code : PlainCode) where
 pub record IsSound (code : PlainCode) : Type 0 where
   pub table : IsTable code
   pub heads : (r : ℕ) → r < length code.routines → (rule_1 code r ≡ true) × (rule_2 code r ≡ true) × (rule_3 code r ≡ true)
-  pub instrs : (r at : ℕ) → r < length code.routines → start_at code r ≤ at → at < end_at code r → instr_fault code r at (get_or code.instrs at I.Fail) ≡ None
+  pub instrs : (r at : ℕ) → r < length code.routines → start_at code r ≤ at → at < end_at code r
+      → instr_fault code r at (get_or code.instrs at I.Fail) ≡ None

@@ -27,7 +27,12 @@ use Rattle.alma_code.specs.Head.{PlainHead}
 use Rattle.alma_code.specs.Picture.{PlainFrame, PlainEntry, cell_at, live_cells, kind_at}
 use Rattle.alma_code.specs.Carries.{number_at, held_after_keep}
 use Rattle.alma_code.specs.Plain.{PlainRoutine}
-use Rattle.alma_code.specs.Machine.{State, Stepped, quiet_step, slot_of, kind_of, as_number, as_place, as_mark, number, place, mark, link, with_cell, to_number, to_place, to_mark, to_link, put_number, put_place, put_mark, put_link, integer_result, as_content, content, store, with_known_content, as_range, range_check, optional_range_check, binds_content, equation_of_contents, equation, equations, copies_cells, is_kind, is_forall_at, cut_to, keep, finish, numbers_at, as_argument, arguments, enters_routine, as_routine, result_to, as_position, position, take_input, takes_read, byte_or_failure, as_text, as_fault}
+use Rattle.alma_code.specs.Machine.{State, Stepped, quiet_step, slot_of, kind_of, as_number, as_place, as_mark, number, place, mark, link}
+use Rattle.alma_code.specs.Machine.{with_cell, to_number, to_place, to_mark, to_link, put_number, put_place, put_mark, put_link}
+use Rattle.alma_code.specs.Machine.{integer_result, as_content, content, store, with_known_content, as_range, range_check}
+use Rattle.alma_code.specs.Machine.{optional_range_check, binds_content, equation_of_contents, equation, equations, copies_cells, is_kind}
+use Rattle.alma_code.specs.Machine.{is_forall_at, cut_to, keep, finish, numbers_at, as_argument, arguments, enters_routine, as_routine}
+use Rattle.alma_code.specs.Machine.{result_to, as_position, position, take_input, takes_read, byte_or_failure, as_text, as_fault}
 
 -- neither a push nor a pop
 abbrev pub is_quiet : Step → Bool
@@ -114,7 +119,8 @@ module _ (old : List PlainEntry) (before : List PlainFrame) where
   link_slot (Some slot.Mark) s k e h = stays e refl
   link_slot None s k e h = stays e refl
 
-  pub content_in : (b : Bool) (c : Cell) (s : State) (k : Option ℤ → Stepped) → s.held ≡ old → ((u : Option ℤ) → D (k u)) → D (as_content b c s k)
+  pub content_in : (b : Bool) (c : Cell) (s : State) (k : Option ℤ → Stepped) → s.held ≡ old → ((u : Option ℤ) → D (k u))
+      → D (as_content b c s k)
   content_in true (cell.Int v) s k e h = h (Some v)
   content_in true cell.Unknown s k e h = h None
   content_in true cell.Unset s k e h = stays e refl
@@ -159,10 +165,12 @@ module _ (old : List PlainEntry) (before : List PlainFrame) where
   pub integer_does : (s : State) (v : ℤ) (k : ℤ → Stepped) → s.held ≡ old → D (k v) → D (integer_result s v k)
   integer_does s v k e h = if_true_does (is_integer v) _ _ h (stays e refl)
 
-  pub check_does : (r : Range) (f : RunFault) (s : State) (v : ℤ) (k : Unit {0} → Stepped) → s.held ≡ old → D (k tt) → D (range_check r f s v k)
+  pub check_does : (r : Range) (f : RunFault) (s : State) (v : ℤ) (k : Unit {0} → Stepped) → s.held ≡ old → D (k tt)
+      → D (range_check r f s v k)
   check_does r f s v k e h = if_true_does (within r v) k _ h (stays e refl)
 
-  pub optional_check_does : (o : Option Range) (s : State) (v : ℤ) (k : Unit {0} → Stepped) → s.held ≡ old → D (k tt) → D (optional_range_check o s v k)
+  pub optional_check_does : (o : Option Range) (s : State) (v : ℤ) (k : Unit {0} → Stepped) → s.held ≡ old → D (k tt)
+      → D (optional_range_check o s v k)
   optional_check_does (Some r) s v k e h = check_does r fault.Range s v k e h
   optional_check_does None s v k e h = h
 
@@ -171,18 +179,22 @@ module _ (old : List PlainEntry) (before : List PlainFrame) where
   pub content_does : (s : State) (f n : ℕ) (k : Option ℤ → Stepped) → s.held ≡ old → ((u : Option ℤ) → D (k u)) → D (content s f n k)
   content_does s f n k e h = content_in (number_at s.now f n) (cell_at s.now f n cell.Unset) s k e h
 
-  pub store_does : (s : State) (f n : ℕ) (v : ℤ) (k : State → Stepped) → s.held ≡ old → D (k (with_cell s f n (cell.Int v))) → D (store s f n v k)
+  pub store_does : (s : State) (f n : ℕ) (v : ℤ) (k : State → Stepped) → s.held ≡ old → D (k (with_cell s f n (cell.Int v)))
+      → D (store s f n v k)
   store_does s f n v k e h = if_true_does (number_at s.now f n) _ _ h (stays e refl)
 
   pub binds_does : (s : State) (p : CellPlace) (r : Range) (v : ℤ) (o : Option ℤ) → s.held ≡ old → D (binds_content s p r v o)
   binds_does s p r v (Some u) e = if_true_does (int_eq u v) _ _ (stays e refl) (stays e refl)
   binds_does s p r v None e = check_does r fault.Range s v _ e (store_does s p.frame p.slot v quiet_step e (stays e refl))
 
-  pub contents_do : (s : State) (f i : ℕ) (r : Option Range) (u : Option ℤ) (g j : ℕ) (t : Option Range) (v : Option ℤ) (k : State → Stepped)
+  pub contents_do : (s : State) (f i : ℕ) (r : Option Range) (u : Option ℤ) (g j : ℕ) (t : Option Range) (v : Option ℤ)
+      (k : State → Stepped)
       → s.held ≡ old → ((x : State) → x.held ≡ old → D (k x)) → D (equation_of_contents s f i r u g j t v k)
   contents_do s f i r None g j t None k e h = stays e refl
-  contents_do s f i r None g j t (Some v) k e h = optional_check_does r s v _ e (store_does s f i v k e (h (with_cell s f i (cell.Int v)) e))
-  contents_do s f i r (Some u) g j t None k e h = optional_check_does t s u _ e (store_does s g j u k e (h (with_cell s g j (cell.Int u)) e))
+  contents_do s f i r None g j t (Some v) k e h =
+      optional_check_does r s v _ e (store_does s f i v k e (h (with_cell s f i (cell.Int v)) e))
+  contents_do s f i r (Some u) g j t None k e h =
+      optional_check_does t s u _ e (store_does s g j u k e (h (with_cell s g j (cell.Int u)) e))
   contents_do s f i r (Some u) g j t (Some v) k e h = if_true_does (int_eq u v) _ _ (h s e) (stays e refl)
 
   pub equation_does : (s : State) (f i : ℕ) (r : Option Range) (g j : ℕ) (t : Option Range) (k : State → Stepped)
@@ -196,7 +208,8 @@ module _ (old : List PlainEntry) (before : List PlainFrame) where
   pub copies_do : (n : ℕ) (from : List PlainFrame) (s : State) (f i g j : ℕ) → s.held ≡ old → D (copies_cells n from s f i g j)
   copies_do zero from s f i g j e = stays e refl
   copies_do (suc n) from s f i g j e =
-      if_true_does (number_at s.now f i && number_at from g j) _ _ (copies_do n from (with_cell s f i (cell_at from g j cell.Unknown)) f (suc i) g (suc j) e) (stays e refl)
+      if_true_does (number_at s.now f i && number_at from g j) _ _
+      (copies_do n from (with_cell s f i (cell_at from g j cell.Unknown)) f (suc i) g (suc j) e) (stays e refl)
 
   -- ---- choice entries
 
@@ -210,11 +223,13 @@ module _ (old : List PlainEntry) (before : List PlainFrame) where
 
   pub finish_does : (s : State) → s.held ≡ old → D (finish s)
   finish_does s e =
-      if_true_does (is_kind choice.Done (kind_at s.held (length s.held))) _ _ (falls (length s.held - 1) (ap (take (length s.held - 1)) e) refl) (stays e refl)
+      if_true_does (is_kind choice.Done (kind_at s.held (length s.held))) _ _
+      (falls (length s.held - 1) (ap (take (length s.held - 1)) e) refl) (stays e refl)
 
   -- ---- calls
 
-  pub argument_does : (kind : ParamKind) (n : ℕ) (o : Option Cell) (s : State) (k : Cell → Stepped) → s.held ≡ old → ((c : Cell) → D (k c)) → D (as_argument kind n o s k)
+  pub argument_does : (kind : ParamKind) (n : ℕ) (o : Option Cell) (s : State) (k : Cell → Stepped) → s.held ≡ old → ((c : Cell) → D (k c))
+      → D (as_argument kind n o s k)
   argument_does kind n None s k e h = stays e refl
   argument_does kind n (Some cell.Unknown) s k e h = stays e refl
   argument_does kind n (Some cell.Unset) s k e h = stays e refl
@@ -229,9 +244,11 @@ module _ (old : List PlainEntry) (before : List PlainFrame) where
   argument_does param.Place n (Some (cell.Place p)) s k e h = if_true_does (nat_eq p.len n) _ _ (h (cell.Place p)) (stays e refl)
   argument_does param.Cells n (Some (cell.Place p)) s k e h =
       if_true_does (nat_eq p.len n && numbers_at n s.now p.frame p.slot) _ _ (h (cell.Place p)) (stays e refl)
-  argument_does param.Link n (Some (cell.Place p)) s k e h = if_true_does (nat_eq p.slot 0 && nat_eq p.len 0) _ _ (h (cell.Place p)) (stays e refl)
+  argument_does param.Link n (Some (cell.Place p)) s k e h =
+      if_true_does (nat_eq p.slot 0 && nat_eq p.len 0) _ _ (h (cell.Place p)) (stays e refl)
 
-  pub arguments_do : (ps : List CodeParam) (s : State) (n : ℕ) (k : List Cell → Stepped) → s.held ≡ old → ((cs : List Cell) → D (k cs)) → D (arguments ps s n k)
+  pub arguments_do : (ps : List CodeParam) (s : State) (n : ℕ) (k : List Cell → Stepped) → s.held ≡ old → ((cs : List Cell) → D (k cs))
+      → D (arguments ps s n k)
   arguments_do [] s n k e h = h []
   arguments_do (p ∷ ps) s n k e h = argument_does p.kind p.cells (slot_of s n) s _ e (λ c. arguments_do ps s (suc n) _ e (λ cs. h (c ∷ cs)))
 
@@ -240,7 +257,8 @@ module _ (old : List PlainEntry) (before : List PlainFrame) where
       if_true_does (nat_lt (length s.now) frame_limit) _ _
       (if_true_does (nat_le (live_cells s.now + h.declared) cell_limit) _ _ (stays e refl) (stays e refl)) (stays e refl)
 
-  pub routine_does : (o : Option PlainRoutine) (s : State) (k : PlainHead → Stepped) → s.held ≡ old → ((h : PlainHead) → D (k h)) → D (as_routine o s k)
+  pub routine_does : (o : Option PlainRoutine) (s : State) (k : PlainHead → Stepped) → s.held ≡ old → ((h : PlainHead) → D (k h))
+      → D (as_routine o s k)
   routine_does (Some r) s k e h = h r.head
   routine_does None s k e h = stays e refl
 
@@ -315,7 +333,8 @@ module _ (old : List PlainEntry) (before : List PlainFrame) where
 
   pub input_does : (s : State) (r : Range) (p : CellPlace) (v : ℤ) (behind : ℕ) → s.held ≡ old → D (take_input s r p v behind)
   input_does s r p v behind e =
-      check_does r fault.Range s v _ e (store_does s 0 0 (pos behind) (λ t. store t p.frame p.slot v quiet_step) e (store_does (with_cell s 0 0 (cell.Int (pos behind))) p.frame p.slot v quiet_step e (stays e refl)))
+      check_does r fault.Range s v _ e (store_does s 0 0 (pos behind) (λ t. store t p.frame p.slot v quiet_step) e
+      (store_does (with_cell s 0 0 (cell.Int (pos behind))) p.frame p.slot v quiet_step e (stays e refl)))
 
   pub read_does : (s : State) (r : Range) (p : CellPlace) (x : ReadInt) → s.held ≡ old → D (takes_read s r p x)
   read_does s r p NoNumber e = stays e refl

@@ -1,5 +1,6 @@
 -- Runs of a sound code.
-use Rattle.std.proofs.Common.{◌≡◌, ℕ, zero, suc, ◌+◌, ◌-◌, ◌<◌, ◌≤◌, inl, inr, List, [], ◌∷◌, length, get_or, set, map, take, refl, sym, ap, ◌∙◌, subst, arith, Some, get_or-set_same}
+use Rattle.std.proofs.Common.{◌≡◌, ℕ, zero, suc, ◌+◌, ◌-◌, ◌<◌, ◌≤◌, inl, inr, List, [], ◌∷◌, length, get_or, set, map, take, refl, sym, ap}
+use Rattle.std.proofs.Common.{◌∙◌, subst, arith, Some, get_or-set_same}
 use Rattle.std.specs.Prelude.{pos, slice_get, nat_lt, nat_le}
 use Rattle.std.proofs.lemmas.Bool.{cases_lt, and_parts, and_from, le-leb, lt-ltb, ltb-true, leb-true}
 use Rattle.std.proofs.lemmas.Option.{slice_get-get_or, slice_get_within, get_or_from_slice_get}
@@ -11,12 +12,14 @@ use Rattle.alma_code.specs.declared.cell.SlotKind.TheVariants as slot
 use Rattle.alma_code.specs.declared.cell.ChoiceKind.{ChoiceKind}
 use Rattle.alma_code.specs.declared.cell.ChoiceKind.TheVariants as choice
 use Rattle.alma_code.specs.declared.instr.Instr.TheVariants as I
-use Rattle.alma_code.specs.Picture.{PlainFrame, PlainEntry, no_frame, no_entry, last_frame, top_of, stack_after_pop, entry_after_pop, entry_of_kind_after_pop}
+use Rattle.alma_code.specs.Picture.{PlainFrame, PlainEntry, no_frame, no_entry, last_frame, top_of, stack_after_pop, entry_after_pop}
+use Rattle.alma_code.specs.Picture.{entry_of_kind_after_pop}
 use Rattle.alma_code.specs.Layout.{blank_of, blank_cells}
 use Rattle.alma_code.specs.Plain.{PlainCode, head_at, kinds_at, start_at, end_at}
 use Rattle.alma_code.specs.Layout.{hold_params}
 use Rattle.alma_code.specs.Rules.{IsSound, is_main, kind_in, has_position}
-use Rattle.alma_code.specs.Machine.{Mode, Going, Failing, Ended, Stuck, State, step_in, fetch_and_act, with_step_counted, step, after, start, pop_or_end}
+use Rattle.alma_code.specs.Machine.{Mode, Going, Failing, Ended, Stuck, State, step_in, fetch_and_act, with_step_counted, step, after}
+use Rattle.alma_code.specs.Machine.{start, pop_or_end}
 use Rattle.alma_code.specs.Fits.{routines_of, FitsSlot, FitsFrame, FitsFrames, FitsEntry, FitsHeld, FitsMode, Fits, IsPosition}
 use Rattle.alma_code.specs.Laws.{NeverStuck, StaysFit}
 use Rattle.alma_code.proofs.Tables.{end_inside}
@@ -52,14 +55,16 @@ module _ (code : PlainCode) (sound : IsSound code) where
       elim (cases_lt k n) [
         | inl lt ↦
             let below : k < length rest = omega arith in
-            subst (λ x. FitsEntry code x) (sym (get_or-append rest left no_entry k below ∙ get_or-take n held k no_entry lt)) (h k (omega arith))
+            subst (λ x. FitsEntry code x) (sym (get_or-append rest left no_entry k below ∙ get_or-take n held k no_entry lt))
+            (h k (omega arith))
         | inr le ↦
             let fits = left_fits (top_of held).kind (top_of held) (h n (omega arith)) (k - n) (omega arith) in
             subst (λ x. FitsEntry code x) (sym (get_or-append_right rest left n k no_entry len le)) fits
       ]
 
   -- a pop, where the entries are these
-  pop_good : (held : List PlainEntry) (s : State) → s.held ≡ held → FitsFrames code s.now → FitsHeld code s.held → Good code (pop_or_end s held)
+  pop_good : (held : List PlainEntry) (s : State) → s.held ≡ held → FitsFrames code s.now → FitsHeld code s.held
+      → Good code (pop_or_end s held)
   pop_good [] s e f h = record { frames = f; held = h; mode = tt }
   pop_good (x ∷ xs) s e f h =
       let some : 1 ≤ length s.held = omega (arith, ap length e) in
@@ -68,7 +73,8 @@ module _ (code : PlainCode) (sound : IsSound code) where
 
   module _ (input : List ℕ) where
     -- a step, in each mode
-    step_in_good : (m : Mode) (s : State) → s.mode ≡ m → FitsFrames code s.now → FitsHeld code s.held → FitsMode code m s → Good code (step_in code input m s)
+    step_in_good : (m : Mode) (s : State) → s.mode ≡ m → FitsFrames code s.now → FitsHeld code s.held → FitsMode code m s
+        → Good code (step_in code input m s)
     step_in_good Going s going f h at =
         let r = (last_frame s.now).routine in
         let fits = f.each (length s.now - 1) (omega (arith, f.some)) in
@@ -108,30 +114,41 @@ module _ (code : PlainCode) (sound : IsSound code) where
   start_good : Fits code (start code)
   start_good =
       let kinds = kinds_at code 0 in
-      let blank : PlainFrame = record { routine = 0; back = 0; declared = (head_at code 0).declared; kinds = kinds; cells = blank_cells (head_at code 0) } in
+      let blank : PlainFrame = record {
+        routine = 0;
+        back = 0;
+        declared = (head_at code 0).declared;
+        kinds = kinds;
+        cells =
+            blank_cells (head_at code 0);
+      } in
       let lt : 0 < length kinds = slice_get_within kinds 0 slot.Number first_number in
       let wide : length (map blank_of kinds) ≡ length kinds = length-map kinds blank_of in
       let before : FitsFrame code (0 ∷ []) 0 blank = record {
         routine = sound.table.some;
         kinds = refl;
         full = wide;
-        cells = λ i li. subst (λ x. FitsSlot code (0 ∷ []) 0 (get_or kinds i slot.Mark) x) (sym (get_or-map blank_of kinds i slot.Mark)) (blank_fits (get_or kinds i slot.Mark));
+        cells = λ i li. subst (λ x. FitsSlot code (0 ∷ []) 0 (get_or kinds i slot.Mark) x) (sym (get_or-map blank_of kinds i slot.Mark))
+            (blank_fits (get_or kinds i slot.Mark));
         main = λ e. refl;
         called = λ le. absurd (omega arith);
       } in
       let number : get_or kinds 0 slot.Mark ≡ slot.Number = get_or_from_slice_get kinds 0 slot.Number slot.Mark first_number in
-      let fits = frame-written code (0 ∷ []) 0 0 blank (cell.Int (pos 0)) before lt (subst (λ k. FitsSlot code (0 ∷ []) 0 k (cell.Int (pos 0))) (sym number) tt) in
+      let fits = frame-written code (0 ∷ []) 0 0 blank (cell.Int (pos 0)) before lt
+      (subst (λ k. FitsSlot code (0 ∷ []) 0 k (cell.Int (pos 0))) (sym number) tt) in
       let rule = (sound.heads 0 sound.table.some).0 in
-      let room = ltb-true (start_at code 0) (end_at code 0) (and_parts (nat_lt (start_at code 0) (end_at code 0)) (is_main code 0) rule).0 in
+      let room = ltb-true (start_at code 0) (end_at code 0)
+      (and_parts (nat_lt (start_at code 0) (end_at code 0)) (is_main code 0) rule).0 in
       let at0 : get_or (set (blank_cells (head_at code 0)) 0 (cell.Int (pos 0))) 0 cell.Unset ≡ cell.Int (pos 0) =
       get_or-set_same (blank_cells (head_at code 0)) 0 (cell.Int (pos 0)) cell.Unset (omega arith) in
       record {
         frames = record {
           some = omega arith;
-          each = λ f. elim f as (λ f. f < length ((start code).now) → FitsFrame code (routines_of (start code).now) f (get_or (start code).now f no_frame)) [
-            | zero ↦ λ _. fits
-            | suc k ↦ λ lf. absurd (omega arith)
-          ];
+          each = λ f. elim f as (λ f. f < length ((start code).now)
+              → FitsFrame code (routines_of (start code).now) f (get_or (start code).now f no_frame)) [
+                | zero ↦ λ _. fits
+                | suc k ↦ λ lf. absurd (omega arith)
+              ];
           position = subst IsPosition (sym at0) tt;
         };
         held = λ k lk. absurd (omega arith);

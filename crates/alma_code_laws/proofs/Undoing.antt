@@ -1,5 +1,6 @@
 -- What stands below in the stack of choice entries keeps its frames, and a pop gives them back.
-use Rattle.std.proofs.Common.{◌≡◌, ℕ, zero, suc, ◌+◌, ◌-◌, ◌<◌, ◌≤◌, inl, inr, List, [], ◌∷◌, ◌++◌, length, get_or, take, set, min, refl, sym, ap, ◌∙◌, subst, arith, Option, Some, None}
+use Rattle.std.proofs.Common.{◌≡◌, ℕ, zero, suc, ◌+◌, ◌-◌, ◌<◌, ◌≤◌, inl, inr, List, [], ◌∷◌, ◌++◌, length, get_or, take, set, min, refl}
+use Rattle.std.proofs.Common.{sym, ap, ◌∙◌, subst, arith, Option, Some, None}
 use Rattle.std.specs.Prelude.{Bool, true, false, slice_get, if◌then◌else◌}
 use Rattle.std.proofs.Math.ListN.{get_or-append}
 use Rattle.std.proofs.Math.Seq.{get_or-append_seam, get_or-append_right}
@@ -11,10 +12,12 @@ use Rattle.alma_code.specs.declared.cell.ChoiceKind.TheVariants as choice
 use Rattle.alma_code.specs.declared.instr.Instr.{Instr}
 use Rattle.alma_code.specs.declared.step.Step.{Step}
 use Rattle.alma_code.specs.declared.step.Step.TheVariants as answer
-use Rattle.alma_code.specs.Picture.{PlainFrame, PlainEntry, no_entry, top_of, entry_at, entry_after_pop, entry_of_kind_after_pop, stack_after_pop}
+use Rattle.alma_code.specs.Picture.{PlainFrame, PlainEntry, no_entry, top_of, entry_at, entry_after_pop, entry_of_kind_after_pop}
+use Rattle.alma_code.specs.Picture.{stack_after_pop}
 use Rattle.alma_code.specs.Carries.{diffs, with_carry, held_after_keep}
 use Rattle.alma_code.specs.Plain.{PlainCode}
-use Rattle.alma_code.specs.Machine.{Mode, Going, Failing, Ended, Stuck, State, Stepped, is_kind, step, step_in, fetch_and_act, with_step_counted, pop_or_end, after}
+use Rattle.alma_code.specs.Machine.{Mode, Going, Failing, Ended, Stuck, State, Stepped, is_kind, step, step_in, fetch_and_act}
+use Rattle.alma_code.specs.Machine.{with_step_counted, pop_or_end, after}
 use Rattle.alma_code_laws.specs.Undo.{Stands, frames_at_choice, GivesBack}
 use Rattle.alma_code_laws.proofs.Does.{Does, stays, falls, keeps, pushes, is_quiet, entry_of, copy_of}
 use Rattle.alma_code_laws.proofs.UndoneActs.{act_does}
@@ -58,23 +61,27 @@ same_set : (old : List PlainEntry) (j i : ℕ) (x : PlainEntry) → x.frames ≡
 same_set old j i x e lt = elim (cases_eq i j) [
   | inl is ↦
       let low : j < length old = omega (arith, is) in
-      let there : get_or (set old j x) i no_entry ≡ x = subst (λ k. get_or (set old j x) k no_entry ≡ x) (sym is) (get_or-set_same old j x no_entry low) in
+      let there : get_or (set old j x) i no_entry ≡ x =
+      subst (λ k. get_or (set old j x) k no_entry ≡ x) (sym is) (get_or-set_same old j x no_entry low) in
       ap (λ y. y.frames) there ∙ (e ∙ ap (λ k. (get_or old k no_entry).frames) (sym is))
   | inr ne ↦ ap (λ y. y.frames) (get_or-set_other old j i x no_entry ne)
 ]
 
-same_keeps : (h g : ℕ) (now : List PlainFrame) (old new : List PlainEntry) → new ≡ held_after_keep old g now → h ≤ length new → Same h old new
+same_keeps : (h g : ℕ) (now : List PlainFrame) (old new : List PlainEntry) → new ≡ held_after_keep old g now → h ≤ length new
+    → Same h old new
 unfolding Same
 same_keeps h g now old new e le = λ i lt.
     let x : PlainEntry = with_carry (entry_at old g) (with_changes (diffs (top_of old).frames now) (entry_at old g).carry) in
-    let len : length new ≡ min (length old - 1) (length (set old (g - 1) x)) = ap length e ∙ length-take (length old - 1) (set old (g - 1) x) in
+    let len : length new ≡ min (length old - 1) (length (set old (g - 1) x)) = ap length e
+    ∙ length-take (length old - 1) (set old (g - 1) x) in
     let below : i < length old - 1 = omega (arith, len) in
     ap (λ y. (get_or y i no_entry).frames) e
     ∙ (ap (λ y. y.frames) (get_or-take (length old - 1) (set old (g - 1) x) i no_entry below)
     ∙ same_set old (g - 1) i x refl (omega (arith, below)))
 
 -- what a pop leaves of an entry has its frames
-left_by_pop : (k : ChoiceKind) (x : PlainEntry) → 0 < length (entry_of_kind_after_pop k x) → (get_or (entry_of_kind_after_pop k x) 0 no_entry).frames ≡ x.frames
+left_by_pop : (k : ChoiceKind) (x : PlainEntry) → 0 < length (entry_of_kind_after_pop k x)
+    → (get_or (entry_of_kind_after_pop k x) 0 no_entry).frames ≡ x.frames
 left_by_pop choice.Forall x lt = refl
 left_by_pop choice.Branch x lt = absurd (omega (arith, lt))
 left_by_pop choice.Body x lt = absurd (omega (arith, lt))
@@ -98,7 +105,8 @@ unfolding Same
 same_pops h old new e le low = λ i lt.
     let xs : List PlainEntry = take (length old - 1) old in
     let len : length xs ≡ min (length old - 1) (length old) = length-take (length old - 1) old in
-    let whole : length new ≡ length xs + length (entry_after_pop (top_of old)) = ap length e ∙ length-append xs (entry_after_pop (top_of old)) in
+    let whole : length new ≡ length xs + length (entry_after_pop (top_of old)) = ap length e
+    ∙ length-append xs (entry_after_pop (top_of old)) in
     let one : length (entry_after_pop (top_of old)) ≤ 1 = most_one (top_of old).kind (top_of old) in
     elim (cases_lt i (length old - 1)) [
       | inl lower ↦
@@ -109,7 +117,8 @@ same_pops h old new e le low = λ i lt.
           let is : i ≡ length old - 1 = omega arith in
           let at : length xs ≡ i = omega (arith, len) in
           let there : get_or (xs ++ entry_after_pop (top_of old)) i no_entry ≡ get_or (entry_after_pop (top_of old)) 0 no_entry =
-          subst (λ k. get_or (xs ++ entry_after_pop (top_of old)) k no_entry ≡ get_or (entry_after_pop (top_of old)) 0 no_entry) at (get_behind xs (entry_after_pop (top_of old))) in
+          subst (λ k. get_or (xs ++ entry_after_pop (top_of old)) k no_entry ≡ get_or (entry_after_pop (top_of old)) 0 no_entry)
+          at (get_behind xs (entry_after_pop (top_of old))) in
           ap (λ y. (get_or y i no_entry).frames) e
           ∙ (ap (λ y. y.frames) there
           ∙ (left_by_pop (top_of old).kind (top_of old) (omega (arith, whole, len))
@@ -117,33 +126,41 @@ same_pops h old new e le low = λ i lt.
     ]
 
 -- what a step does keeps the frames of the entries that stand before and behind it
-does_same : (h : ℕ) (old : List PlainEntry) (before : List PlainFrame) (r : Stepped) → Does old before r → h ≤ length old → h ≤ length r.state.held → Same h old r.state.held
+does_same : (h : ℕ) (old : List PlainEntry) (before : List PlainFrame) (r : Stepped) → Does old before r → h ≤ length old
+    → h ≤ length r.state.held → Same h old r.state.held
 does_same h old before r (stays e q) a b = same_refl h old r.state.held e
 does_same h old before r (falls n e q) a b = same_falls h n old r.state.held e b
 does_same h old before r (keeps g now e q) a b = same_keeps h g now old r.state.held e b
-does_same h old before r (pushes kind resume e q) a b = same_grows h old r.state.held (entry_of kind resume (copy_of kind before r.state.now)) e a
+does_same h old before r (pushes kind resume e q) a b =
+    same_grows h old r.state.held (entry_of kind resume (copy_of kind before r.state.now)) e a
 
 -- so does a pop
-pop_same : (h : ℕ) (held : List PlainEntry) (s : State) → s.held ≡ held → h ≤ length s.held → h ≤ length (pop_or_end s held).state.held → Same h s.held (pop_or_end s held).state.held
+pop_same : (h : ℕ) (held : List PlainEntry) (s : State) → s.held ≡ held → h ≤ length s.held → h ≤ length (pop_or_end s held).state.held
+    → Same h s.held (pop_or_end s held).state.held
 pop_same h [] s e a b = same_refl h s.held s.held refl
 pop_same h (x ∷ rest) s e a b = same_pops h s.held (stack_after_pop s.held) refl b a
 
 -- and a step
-step_same : (code : PlainCode) (input : List ℕ) (m : Mode) (h : ℕ) (s : State) → h ≤ length s.held → h ≤ length (step_in code input m s).state.held → Same h s.held (step_in code input m s).state.held
+step_same : (code : PlainCode) (input : List ℕ) (m : Mode) (h : ℕ) (s : State) → h ≤ length s.held
+    → h ≤ length (step_in code input m s).state.held → Same h s.held (step_in code input m s).state.held
 step_same code input Going h s a b =
-    does_same h s.held s.now (fetch_and_act code input (slice_get code.instrs s.at) s) (fetch_does code input (slice_get code.instrs s.at) s) a b
+    does_same h s.held s.now (fetch_and_act code input (slice_get code.instrs s.at) s)
+    (fetch_does code input (slice_get code.instrs s.at) s) a b
 step_same code input Failing h s a b = pop_same h s.held (with_step_counted code input s) refl a b
 step_same code input (Ended e) h s a b = same_refl h s.held s.held refl
 step_same code input Stuck h s a b = same_refl h s.held s.held refl
 
 -- ---- many steps
 
-stands_same : (code : PlainCode) (input : List ℕ) (h n : ℕ) (s : State) → Stands code input h n s → Same h s.held (after code input n s).held
+stands_same : (code : PlainCode) (input : List ℕ) (h n : ℕ) (s : State) → Stands code input h n s
+    → Same h s.held (after code input n s).held
 stands_same code input h zero s stand = same_refl h s.held s.held refl
 stands_same code input h (suc n) s stand =
-    let first : Same h s.held (step code input s).state.held = step_same code input s.mode h s (stand 0 (omega arith)) (stand 1 (omega arith)) in
+    let first : Same h s.held (step code input s).state.held =
+    step_same code input s.mode h s (stand 0 (omega arith)) (stand 1 (omega arith)) in
     let rest : Stands code input h n (step code input s).state = λ k le. stand (suc k) (omega (arith, le)) in
-    same_then h s.held (step code input s).state.held (after code input (suc n) s).held first (stands_same code input h n (step code input s).state rest)
+    same_then h s.held (step code input s).state.held (after code input (suc n) s).held first
+    (stands_same code input h n (step code input s).state rest)
 
 -- ---- the push and the pop
 
@@ -201,7 +218,8 @@ pop_pushes [] s h is = no_push (pop_or_end s []).answer h refl is
 pop_pushes (x ∷ rest) s h is = false≢true (ap is_push is)
 
 -- a step that pushes
-step_copies : (code : PlainCode) (input : List ℕ) (m : Mode) (s : State) (h : ℕ) → (step_in code input m s).answer ≡ answer.Chose h → Copied s (step_in code input m s).state h
+step_copies : (code : PlainCode) (input : List ℕ) (m : Mode) (s : State) (h : ℕ) → (step_in code input m s).answer ≡ answer.Chose h
+    → Copied s (step_in code input m s).state h
 step_copies code input Going s h is =
     push_copies s (fetch_and_act code input (slice_get code.instrs s.at) s) h (fetch_does code input (slice_get code.instrs s.at) s) is
 step_copies code input Failing s h is = absurd (pop_pushes s.held (with_step_counted code input s) h is)
@@ -213,7 +231,8 @@ record Takes (s t : State) (h : ℕ) : Type 0 where
   height : h ≡ length s.held
   frames : t.now ≡ (top_of s.held).frames
 
-pop_takes : (held : List PlainEntry) (s : State) (h : ℕ) → s.held ≡ held → (pop_or_end s held).answer ≡ answer.Popped h → Takes s (pop_or_end s held).state h
+pop_takes : (held : List PlainEntry) (s : State) (h : ℕ) → s.held ≡ held → (pop_or_end s held).answer ≡ answer.Popped h
+    → Takes s (pop_or_end s held).state h
 pop_takes [] s h e is = absurd (no_pop (pop_or_end s []).answer h refl is)
 pop_takes (x ∷ rest) s h e is = record { height = ap height_of (sym is); frames = refl }
 
@@ -225,11 +244,14 @@ never_pops s r h (keeps g now e q) is = no_pop r.answer h q is
 never_pops s r h (pushes kind resume e q) is = false≢true (ap is_push (sym is ∙ q))
 
 -- a step that pops
-step_takes : (code : PlainCode) (input : List ℕ) (m : Mode) (s : State) (h : ℕ) → (step_in code input m s).answer ≡ answer.Popped h → Takes s (step_in code input m s).state h
+step_takes : (code : PlainCode) (input : List ℕ) (m : Mode) (s : State) (h : ℕ) → (step_in code input m s).answer ≡ answer.Popped h
+    → Takes s (step_in code input m s).state h
 step_takes code input Going s h is =
-    absurd (never_pops s (fetch_and_act code input (slice_get code.instrs s.at) s) h (fetch_does code input (slice_get code.instrs s.at) s) is)
+    absurd (never_pops s (fetch_and_act code input (slice_get code.instrs s.at) s) h (fetch_does code input (slice_get code.instrs s.at) s)
+    is)
 step_takes code input Failing s h is =
-    let t : Takes (with_step_counted code input s) (step_in code input Failing s).state h = pop_takes s.held (with_step_counted code input s) h refl is in
+    let t : Takes (with_step_counted code input s) (step_in code input Failing s).state h =
+    pop_takes s.held (with_step_counted code input s) h refl is in
     record { height = t.height; frames = t.frames }
 step_takes code input (Ended e) s h is = absurd (no_pop (answer.Done e) h refl is)
 step_takes code input Stuck s h is = absurd (no_pop answer.Went h refl is)

@@ -4,7 +4,8 @@ use Rattle.std.specs.Prelude.{Bool, true, false, ◌↔◌}
 use Rattle.alma_code.specs.declared.instr.Instr.TheVariants as I
 use Rattle.alma_code.specs.declared.step.VerifyFault.{VerifyFault}
 use Rattle.alma_code.specs.Plain.{PlainCode, start_at, end_at}
-use Rattle.alma_code.specs.Rules.{unless, or_else, rule_1, rule_2, rule_3, instr_fault, instrs_fault, routine_fault, routines_fault, code_fault, IsTable, IsSound}
+use Rattle.alma_code.specs.Rules.{unless, or_else, rule_1, rule_2, rule_3, instr_fault, instrs_fault, routine_fault, routines_fault}
+use Rattle.alma_code.specs.Rules.{code_fault, IsTable, IsSound}
 
 -- where neither of two is there, the first that is there is none
 or_else_none : (a b : Option VerifyFault) → or_else a b ≡ None → (a ≡ None) × (b ≡ None)
@@ -18,28 +19,34 @@ unless_none false rule at rest e = absurd (cc)
 
 module _ (code : PlainCode) where
   -- where n instructions have no fault, each has none
-  instr_sound : (r at n k : ℕ) → instrs_fault code r at n ≡ None → k < n → instr_fault code r (at + k) (get_or code.instrs (at + k) I.Fail) ≡ None
+  instr_sound : (r at n k : ℕ) → instrs_fault code r at n ≡ None → k < n
+      → instr_fault code r (at + k) (get_or code.instrs (at + k) I.Fail) ≡ None
   unfolding instrs_fault
   instr_sound r at zero k e lt = absurd (omega arith)
   instr_sound r at (suc n) zero e lt =
       let z : at ≡ at + 0 = omega arith in
-      subst (λ q. instr_fault code r q (get_or code.instrs q I.Fail) ≡ None) z (or_else_none (instr_fault code r at (get_or code.instrs at I.Fail)) (instrs_fault code r (suc at) n) e).0
+      subst (λ q. instr_fault code r q (get_or code.instrs q I.Fail) ≡ None) z
+      (or_else_none (instr_fault code r at (get_or code.instrs at I.Fail)) (instrs_fault code r (suc at) n) e).0
   instr_sound r at (suc n) (suc k) e lt =
       let z : suc at + k ≡ at + suc k = omega arith in
       subst (λ q. instr_fault code r q (get_or code.instrs q I.Fail) ≡ None) z
-      (instr_sound r (suc at) n k (or_else_none (instr_fault code r at (get_or code.instrs at I.Fail)) (instrs_fault code r (suc at) n) e).1 (omega arith))
+      (instr_sound r (suc at) n k (or_else_none (instr_fault code r at (get_or code.instrs at I.Fail)) (instrs_fault code r (suc at) n) e).1
+      (omega arith))
 
   -- where n routines have no fault, each has none
   routine_sound : (r n k : ℕ) → routines_fault code r n ≡ None → k < n → routine_fault code (r + k) ≡ None
   unfolding routines_fault
   routine_sound r zero k e lt = absurd (omega arith)
-  routine_sound r (suc n) zero e lt = let z : r ≡ r + 0 = omega arith in subst (λ q. routine_fault code q ≡ None) z (or_else_none (routine_fault code r) (routines_fault code (suc r) n) e).0
+  routine_sound r (suc n) zero e lt = let z : r ≡ r + 0 = omega arith in
+      subst (λ q. routine_fault code q ≡ None) z (or_else_none (routine_fault code r) (routines_fault code (suc r) n) e).0
   routine_sound r (suc n) (suc k) e lt =
       let z : suc r + k ≡ r + suc k = omega arith in
-      subst (λ q. routine_fault code q ≡ None) z (routine_sound (suc r) n k (or_else_none (routine_fault code r) (routines_fault code (suc r) n) e).1 (omega arith))
+      subst (λ q. routine_fault code q ≡ None) z
+      (routine_sound (suc r) n k (or_else_none (routine_fault code r) (routines_fault code (suc r) n) e).1 (omega arith))
 
   -- a routine without a fault keeps the rules of its head, and its instructions have none
-  parts : (r : ℕ) → routine_fault code r ≡ None → ((rule_1 code r ≡ true) × (rule_2 code r ≡ true) × (rule_3 code r ≡ true)) × (instrs_fault code r (start_at code r) (end_at code r - start_at code r) ≡ None)
+  parts : (r : ℕ) → routine_fault code r ≡ None → ((rule_1 code r ≡ true) × (rule_2 code r ≡ true) × (rule_3 code r ≡ true))
+      × (instrs_fault code r (start_at code r) (end_at code r - start_at code r) ≡ None)
   unfolding routine_fault
   parts r e =
       let a = unless_none (rule_1 code r) 1 r _ e in
@@ -51,25 +58,30 @@ module _ (code : PlainCode) where
   pub sound_from : IsTable code → code_fault code ≡ None → IsSound code
   sound_from table e =
       let each : (r : ℕ) → r < length code.routines → routine_fault code r ≡ None =
-      λ r lt. let z : 0 + r ≡ r = omega arith in subst (λ q. routine_fault code q ≡ None) z (routine_sound 0 (length code.routines) r e lt) in
+      λ r lt. let z : 0 + r ≡ r = omega arith in
+      subst (λ q. routine_fault code q ≡ None) z (routine_sound 0 (length code.routines) r e lt) in
       record {
         table = table;
         heads = λ r lt. (parts r (each r lt)).0;
         instrs = λ r at lt low high.
             let z : start_at code r + (at - start_at code r) ≡ at = omega arith in
             subst (λ q. instr_fault code r q (get_or code.instrs q I.Fail) ≡ None) z
-            (instr_sound r (start_at code r) (end_at code r - start_at code r) (at - start_at code r) (parts r (each r lt)).1 (omega arith));
+            (instr_sound r (start_at code r) (end_at code r - start_at code r) (at - start_at code r) (parts r (each r lt)).1
+            (omega arith));
       }
 
   -- where each of n instructions has no fault, all have none
-  instrs_free : (r at n : ℕ) → ((k : ℕ) → k < n → instr_fault code r (at + k) (get_or code.instrs (at + k) I.Fail) ≡ None) → instrs_fault code r at n ≡ None
+  instrs_free : (r at n : ℕ) → ((k : ℕ) → k < n → instr_fault code r (at + k) (get_or code.instrs (at + k) I.Fail) ≡ None)
+      → instrs_fault code r at n ≡ None
   unfolding instrs_fault
   instrs_free r at zero h = refl
   instrs_free r at (suc n) h =
       let z : at + 0 ≡ at = omega arith in
-      let first : instr_fault code r at (get_or code.instrs at I.Fail) ≡ None = subst (λ q. instr_fault code r q (get_or code.instrs q I.Fail) ≡ None) z (h 0 (omega arith)) in
+      let first : instr_fault code r at (get_or code.instrs at I.Fail) ≡ None =
+      subst (λ q. instr_fault code r q (get_or code.instrs q I.Fail) ≡ None) z (h 0 (omega arith)) in
       ap (λ f. or_else f (instrs_fault code r (suc at) n)) first
-      ∙ instrs_free r (suc at) n (λ k lt. let y : at + suc k ≡ suc at + k = omega arith in subst (λ q. instr_fault code r q (get_or code.instrs q I.Fail) ≡ None) y (h (suc k) (omega arith)))
+      ∙ instrs_free r (suc at) n (λ k lt. let y : at + suc k ≡ suc at + k = omega arith in
+      subst (λ q. instr_fault code r q (get_or code.instrs q I.Fail) ≡ None) y (h (suc k) (omega arith)))
 
   -- where each of n routines has no fault, all have none
   routines_free : (r n : ℕ) → ((k : ℕ) → k < n → routine_fault code (r + k) ≡ None) → routines_fault code r n ≡ None
@@ -79,10 +91,12 @@ module _ (code : PlainCode) where
       let z : r + 0 ≡ r = omega arith in
       let first : routine_fault code r ≡ None = subst (λ q. routine_fault code q ≡ None) z (h 0 (omega arith)) in
       ap (λ f. or_else f (routines_fault code (suc r) n)) first
-      ∙ routines_free (suc r) n (λ k lt. let y : r + suc k ≡ suc r + k = omega arith in subst (λ q. routine_fault code q ≡ None) y (h (suc k) (omega arith)))
+      ∙ routines_free (suc r) n (λ k lt. let y : r + suc k ≡ suc r + k = omega arith in
+      subst (λ q. routine_fault code q ≡ None) y (h (suc k) (omega arith)))
 
   -- a routine that keeps the rules of its head, and whose instructions have no fault, has none
-  whole : (r : ℕ) → (rule_1 code r ≡ true) × (rule_2 code r ≡ true) × (rule_3 code r ≡ true) → instrs_fault code r (start_at code r) (end_at code r - start_at code r) ≡ None → routine_fault code r ≡ None
+  whole : (r : ℕ) → (rule_1 code r ≡ true) × (rule_2 code r ≡ true) × (rule_3 code r ≡ true)
+      → instrs_fault code r (start_at code r) (end_at code r - start_at code r) ≡ None → routine_fault code r ≡ None
   unfolding routine_fault
   whole r h e =
       let rest = instrs_fault code r (start_at code r) (end_at code r - start_at code r) in
@@ -98,7 +112,8 @@ module _ (code : PlainCode) where
       let z : r ≡ 0 + r = omega arith in
       subst (λ q. routine_fault code q ≡ None) z
       (whole r (sound.heads r lt)
-      (instrs_free r (start_at code r) (end_at code r - start_at code r) (λ k lk. sound.instrs r (start_at code r + k) lt (omega arith) (omega arith)))))
+      (instrs_free r (start_at code r) (end_at code r - start_at code r)
+      (λ k lk. sound.instrs r (start_at code r + k) lt (omega arith) (omega arith)))))
 
 -- a code whose tables are in order is sound exactly where no rule is broken
 pub sound_where_no_fault : (code : PlainCode) → IsTable code → (IsSound code ↔ (code_fault code ≡ None))

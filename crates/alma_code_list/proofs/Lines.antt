@@ -25,12 +25,14 @@ line_made v old first second text word words e f g =
     chain old first text word (pieces ++ 10 ∷ []) e (chain first second text pieces (10 ∷ []) f g)
     ∙ ap (λ (z : List ℕ). old ++ z) (sym (append_assoc word pieces (10 ∷ [])) ∙ sym (line_of v word words))
 
-pub line_put : (old first second text word : List ℕ) (numbers : List ℕ) → first ≡ old ++ word → second ≡ first ++ flat_map behind_space numbers
+pub line_put : (old first second text word : List ℕ) (numbers : List ℕ) → first ≡ old ++ word
+    → second ≡ first ++ flat_map behind_space numbers
     → text ≡ second ++ 10 ∷ [] → text ≡ old ++ text_line (word ∷ map decimal numbers)
 line_put old first second text word numbers e f g = line_made decimal old first second text word numbers e f g
 
 -- the line of an instruction behind its address
-pub instr_put : (old first second text name : List ℕ) (address : ℕ) (numbers : List ℕ) → first ≡ old ++ decimal address → second ≡ first ++ 32 ∷ []
+pub instr_put : (old first second text name : List ℕ) (address : ℕ) (numbers : List ℕ) → first ≡ old ++ decimal address
+    → second ≡ first ++ 32 ∷ []
     → text ≡ second ++ text_line (name ∷ map decimal numbers) → text ≡ old ++ text_line (decimal address ∷ name ∷ map decimal numbers)
 instr_put old first second text name address numbers e f g =
     chain old first text (decimal address) (32 ∷ text_line (name ∷ map decimal numbers)) e

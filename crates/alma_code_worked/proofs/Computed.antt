@@ -13,8 +13,15 @@ use Rattle.alma_code.specs.Machine.{step, start, act}
 use Rattle.alma_code.specs.Layout.{RunsRise}
 use Rattle.alma_code.specs.Plain.{head_at, start_at, end_at}
 use Rattle.alma_code.specs.Records.{KeepsCounts, KeepsRecords}
-use Rattle.alma_code.specs.Rules.{IsTable, last_end, code_fault, instr_fault, instrs_fault, routine_fault, routines_fault, rule_5, rule_6, rule_7, rule_10, rule_11, rule_12}
-use Rattle.alma_code_worked.specs.Codes.{Ends, Prints, Breaks, state_after, change_of, param_of, numbers_to, places_to, marks_to, routine_to, code_with, main_with, plain_main, least, branch_undone, choices_cut, sum_carried, carry_grows, left_unknown, right_unknown, both_unknown, out_of_range, cells_equated, mix_called, frame_again, function_called, frame_too_large, input_again, read_one, loop_counts, values_print, operation, index_outside, part_named, global_written, array_copied, copy_overlaps, equation_overlaps, equation_stops, jump_if_zero, bound_to, byte_read, small_read, nothing_held, kept_below, unset_argument, loop_by}
+use Rattle.alma_code.specs.Rules.{IsTable, last_end, code_fault, instr_fault, instrs_fault, routine_fault, routines_fault, rule_5, rule_6}
+use Rattle.alma_code.specs.Rules.{rule_7, rule_10, rule_11, rule_12}
+use Rattle.alma_code_worked.specs.Codes.{Ends, Prints, Breaks, state_after, change_of, param_of, numbers_to, places_to, marks_to}
+use Rattle.alma_code_worked.specs.Codes.{routine_to, code_with, main_with, plain_main, least, branch_undone, choices_cut, sum_carried}
+use Rattle.alma_code_worked.specs.Codes.{carry_grows, left_unknown, right_unknown, both_unknown, out_of_range, cells_equated, mix_called}
+use Rattle.alma_code_worked.specs.Codes.{frame_again, function_called, frame_too_large, input_again, read_one, loop_counts, values_print}
+use Rattle.alma_code_worked.specs.Codes.{operation, index_outside, part_named, global_written, array_copied, copy_overlaps}
+use Rattle.alma_code_worked.specs.Codes.{equation_overlaps, equation_stops, jump_if_zero, bound_to, byte_read, small_read, nothing_held}
+use Rattle.alma_code_worked.specs.Codes.{kept_below, unset_argument, loop_by}
 use Rattle.alma_code.specs.Words.{words}
 
 pub least_code_table : IsTable least
@@ -22,7 +29,8 @@ least_code_table = record {
   some = lit≤ tt;
   rise = λ r. elim r as (λ r. r < 1 → start_at least r ≤ end_at least r) [ zero ↦ λ _. lit≤ tt | suc k ↦ λ lt. absurd (omega arith) ];
   last = refl;
-  runs = λ r. elim r as (λ r. r < 1 → RunsRise 0 (head_at least r).runs (last_end 0 (head_at least r).runs)) [ zero ↦ λ _. (lit< tt, refl) | suc k ↦ λ lt. absurd (omega arith) ];
+  runs = λ r. elim r as (λ r. r < 1 → RunsRise 0 (head_at least r).runs (last_end 0 (head_at least r).runs))
+      [ zero ↦ λ _. (lit< tt, refl) | suc k ↦ λ lt. absurd (omega arith) ];
 }
 
 pub least_code_counts : KeepsCounts least
@@ -114,7 +122,8 @@ pub forall_carries_a_sum_prints : Prints sum_carried [] 19 (decimal 3 ∷ [])
 unfolding act
 forall_carries_a_sum_prints = refl
 
-pub forall_carries_a_sum_cells : take 3 (last_frame (state_after sum_carried [] 19).now).cells ≡ cell.Int (pos 0) ∷ cell.Int (pos 3) ∷ cell.Unknown ∷ []
+pub forall_carries_a_sum_cells : take 3 (last_frame (state_after sum_carried [] 19).now).cells ≡ cell.Int (pos 0) ∷ cell.Int (pos 3)
+    ∷ cell.Unknown ∷ []
 unfolding act
 forall_carries_a_sum_cells = refl
 
@@ -322,7 +331,8 @@ pub arithmetic_faults_unknown : Ends (plain_main (I.Check 1 ∷ I.Return ∷ [])
 unfolding act
 arithmetic_faults_unknown = refl
 
-pub routines_are_refused_empty_code : Breaks (code_with (routine_to 1 (numbers_to 1 ∷ []) [] false 1 ∷ routine_to 1 (numbers_to 1 ∷ []) [] false 1 ∷ []) (I.Return ∷ [])) 1 1
+pub routines_are_refused_empty_code : Breaks
+    (code_with (routine_to 1 (numbers_to 1 ∷ []) [] false 1 ∷ routine_to 1 (numbers_to 1 ∷ []) [] false 1 ∷ []) (I.Return ∷ [])) 1 1
 unfolding words instr_fault instrs_fault routine_fault routines_fault rule_5 rule_6 rule_7 rule_10 rule_11 rule_12
 routines_are_refused_empty_code = refl
 
@@ -338,7 +348,9 @@ pub routines_are_refused_position : Breaks (main_with 1 (marks_to 1 ∷ []) (I.R
 unfolding words instr_fault instrs_fault routine_fault routines_fault rule_5 rule_6 rule_7 rule_10 rule_11 rule_12
 routines_are_refused_position = refl
 
-pub routines_are_refused_param_slots : Breaks (code_with (routine_to 1 (numbers_to 1 ∷ []) [] false 1 ∷ routine_to 1 (numbers_to 1 ∷ []) (param_of param.Mix 1 ∷ []) false 2 ∷ []) (I.Return ∷ I.Return ∷ [])) 3 1
+pub routines_are_refused_param_slots : Breaks
+    (code_with (routine_to 1 (numbers_to 1 ∷ []) [] false 1 ∷ routine_to 1 (numbers_to 1 ∷ []) (param_of param.Mix 1 ∷ []) false 2 ∷ [])
+    (I.Return ∷ I.Return ∷ [])) 3 1
 unfolding words instr_fault instrs_fault routine_fault routines_fault rule_5 rule_6 rule_7 rule_10 rule_11 rule_12
 routines_are_refused_param_slots = refl
 
@@ -382,7 +394,9 @@ pub words_are_refused_call_of_main : Breaks (plain_main (I.Call 0 0 0 ∷ I.Retu
 unfolding words instr_fault instrs_fault routine_fault routines_fault rule_5 rule_6 rule_7 rule_10 rule_11 rule_12
 words_are_refused_call_of_main = refl
 
-pub words_are_refused_call_last : Breaks (code_with (routine_to 1 (numbers_to 1 ∷ []) [] false 1 ∷ routine_to 1 (numbers_to 1 ∷ []) [] false 2 ∷ []) (I.Call 1 0 0 ∷ I.Return ∷ [])) 10 0
+pub words_are_refused_call_last : Breaks
+    (code_with (routine_to 1 (numbers_to 1 ∷ []) [] false 1 ∷ routine_to 1 (numbers_to 1 ∷ []) [] false 2 ∷ [])
+    (I.Call 1 0 0 ∷ I.Return ∷ [])) 10 0
 unfolding words instr_fault instrs_fault routine_fault routines_fault rule_5 rule_6 rule_7 rule_10 rule_11 rule_12
 words_are_refused_call_last = refl
 

@@ -1,7 +1,8 @@
 -- What small codes with links and lines do, and which are refused, by computation.
 use Rattle.std.proofs.Common.{refl}
 use Rattle.alma_code.specs.Words.{words}
-use Rattle.alma_code.specs.Rules.{instr_fault, instrs_fault, routine_fault, routines_fault, rule_5, rule_6, rule_7, rule_10, rule_11, rule_12}
+use Rattle.alma_code.specs.Rules.{instr_fault, instrs_fault, routine_fault, routines_fault, rule_5, rule_6, rule_7, rule_10, rule_11}
+use Rattle.alma_code.specs.Rules.{rule_12}
 use Rattle.alma_code.specs.Machine.{act}
 use Rattle.alma_code.specs.ListText.{form_words}
 use Rattle.alma_code_worked.specs.Links.{LinksRun, LinksRefused, LinesTell, TextsTell}

@@ -64,7 +64,11 @@ change_of frame slot v = record { frame = frame; slot = slot; cell = cell.Int v 
 -- a routine that ends at an address
 abbrev pub routine_to : (slots : ℕ) → List Run → List CodeParam → (has_result : Bool) → (code_end : ℕ) → PlainRoutine
 routine_to slots runs params has_result code_end =
-    record { name = codes "A"; head = record { slots = slots; declared = 0; params = params; runs = runs; has_result = has_result }; code_end = code_end }
+    record {
+      name = codes "A";
+      head = record { slots = slots; declared = 0; params = params; runs = runs; has_result = has_result };
+      code_end = code_end;
+    }
 
 -- a code of these routines, with the ranges INTEGER and 1 to 2, and a text
 abbrev pub code_with : List PlainRoutine → List Instr → PlainCode
@@ -186,7 +190,8 @@ frame_too_large =
 -- EITHER READ(x); x = 6 ORELSE READ(x) END; WRITE(x)
 abbrev pub input_again : PlainCode
 input_again =
-    plain_main (I.Local 4 1 ∷ I.Choose 6 ∷ I.ReadInt 4 0 ∷ I.Const 2 (pos 6) ∷ I.Bind 4 2 0 ∷ I.Jump 7 ∷ I.ReadInt 4 0 ∷ I.WriteInt 1 ∷ I.Return ∷ [])
+    plain_main (I.Local 4 1 ∷ I.Choose 6 ∷ I.ReadInt 4 0 ∷ I.Const 2 (pos 6) ∷ I.Bind 4 2 0 ∷ I.Jump 7 ∷ I.ReadInt 4 0 ∷ I.WriteInt 1
+    ∷ I.Return ∷ [])
 
 -- FOR x := 1 TO 3 DO WRITE(x) END
 abbrev pub loop_counts : PlainCode
@@ -203,7 +208,8 @@ operation i x y = plain_main (I.Const 1 x ∷ I.Const 2 y ∷ i ∷ I.WriteInt 3
 
 -- an index that is not in the range 1 to 2
 abbrev pub index_outside : PlainCode
-index_outside = main_with 6 (numbers_to 4 ∷ places_to 2 5 ∷ places_to 1 6 ∷ []) (I.Local 4 1 ∷ I.Const 3 (pos 3) ∷ I.Index 5 4 3 1 ∷ I.Return ∷ [])
+index_outside = main_with 6 (numbers_to 4 ∷ places_to 2 5 ∷ places_to 1 6 ∷ [])
+    (I.Local 4 1 ∷ I.Const 3 (pos 3) ∷ I.Index 5 4 3 1 ∷ I.Return ∷ [])
 
 -- READ(x); WRITE(x)
 abbrev pub read_one : PlainCode
@@ -229,13 +235,15 @@ abbrev pub array_copied : PlainCode
 array_copied =
     code_with (routine_to 4 (numbers_to 3 ∷ places_to 2 4 ∷ []) [] false 6
     ∷ routine_to 2 (numbers_to 2 ∷ []) (param_of param.Cells 2 ∷ []) false 9 ∷ [])
-    (I.Const 1 (pos 5) ∷ I.Const 2 (pos 6) ∷ I.Local 3 1 ∷ I.Call 1 3 0 ∷ I.WriteInt 1 ∷ I.Return ∷ I.Const 0 (pos 9) ∷ I.WriteInt 1 ∷ I.Return ∷ [])
+    (I.Const 1 (pos 5) ∷ I.Const 2 (pos 6) ∷ I.Local 3 1 ∷ I.Call 1 3 0 ∷ I.WriteInt 1 ∷ I.Return ∷ I.Const 0 (pos 9) ∷ I.WriteInt 1
+    ∷ I.Return ∷ [])
 
 -- the cells 2 and 3 := the cells 1 and 2, which are 1 and 2
 abbrev pub copy_overlaps : PlainCode
 copy_overlaps =
     main_with 6 (numbers_to 4 ∷ places_to 2 6 ∷ [])
-    (I.Const 1 (pos 1) ∷ I.Const 2 (pos 2) ∷ I.Local 4 1 ∷ I.Local 5 2 ∷ I.CopyCells 5 4 ∷ I.WriteInt 1 ∷ I.WriteInt 2 ∷ I.WriteInt 3 ∷ I.Return ∷ [])
+    (I.Const 1 (pos 1) ∷ I.Const 2 (pos 2) ∷ I.Local 4 1 ∷ I.Local 5 2 ∷ I.CopyCells 5 4 ∷ I.WriteInt 1 ∷ I.WriteInt 2 ∷ I.WriteInt 3
+    ∷ I.Return ∷ [])
 
 -- the cells 1 and 2 = the cells 2 and 3, of which the first is 1 and the others are unknown
 abbrev pub equation_overlaps : PlainCode
@@ -245,7 +253,8 @@ equation_overlaps =
 
 -- the cells 1 and 2 = the cells 3 and 4, of which the first is 7 and the others are unknown
 abbrev pub equation_stops : PlainCode
-equation_stops = main_with 7 (numbers_to 5 ∷ places_to 2 7 ∷ []) (I.Const 1 (pos 7) ∷ I.Local 5 1 ∷ I.Local 6 3 ∷ I.SameCells 5 6 ∷ I.Return ∷ [])
+equation_stops = main_with 7 (numbers_to 5 ∷ places_to 2 7 ∷ [])
+    (I.Const 1 (pos 7) ∷ I.Local 5 1 ∷ I.Local 6 3 ∷ I.SameCells 5 6 ∷ I.Return ∷ [])
 
 -- a jump over a fault where the number is 0
 abbrev pub jump_if_zero : ℤ → PlainCode
@@ -269,7 +278,8 @@ nothing_held = plain_main (I.Mark 6 ∷ I.Finish ∷ I.Keep 6 ∷ I.Cut 6 ∷ I.
 
 -- two Foralls, and a Body of the second that is kept in the first
 abbrev pub kept_below : PlainCode
-kept_below = main_with 5 (numbers_to 3 ∷ marks_to 5 ∷ []) (I.Forall 3 5 ∷ I.Forall 4 5 ∷ I.Overlay 4 5 ∷ I.Const 1 (pos 7) ∷ I.Keep 3 ∷ I.Return ∷ [])
+kept_below = main_with 5 (numbers_to 3 ∷ marks_to 5 ∷ [])
+    (I.Forall 3 5 ∷ I.Forall 4 5 ∷ I.Overlay 4 5 ∷ I.Const 1 (pos 7) ∷ I.Keep 3 ∷ I.Return ∷ [])
 
 -- a call of a routine that has too many declared cells, with a place that was not set
 abbrev pub unset_argument : PlainCode
@@ -277,11 +287,19 @@ unset_argument =
     code_with (routine_to 2 (numbers_to 1 ∷ places_to 1 2 ∷ []) [] false 2
     ∷ record {
       name = codes "P";
-      head = record { slots = 1048577; declared = 1048577; params = param_of param.Place 1 ∷ []; runs = places_to 1 1 ∷ numbers_to 1048577 ∷ []; has_result = false };
+      head = record {
+        slots = 1048577;
+        declared = 1048577;
+        params = param_of param.Place 1 ∷ [];
+        runs = places_to 1 1 ∷ numbers_to 1048577
+            ∷ [];
+        has_result = false;
+      };
       code_end = 3;
     } ∷ [])
     (I.Call 1 1 0 ∷ I.Return ∷ I.Return ∷ [])
 
 -- a loop from a number to another by steps
 abbrev pub loop_by : (first last by : ℤ) → PlainCode
-loop_by first last by = plain_main (I.Const 1 first ∷ I.Const 2 last ∷ I.Const 3 by ∷ I.WriteInt 1 ∷ I.Step 1 2 3 6 ∷ I.Jump 3 ∷ I.Return ∷ [])
+loop_by first last by = plain_main (I.Const 1 first ∷ I.Const 2 last ∷ I.Const 3 by ∷ I.WriteInt 1 ∷ I.Step 1 2 3 6 ∷ I.Jump 3 ∷ I.Return
+    ∷ [])

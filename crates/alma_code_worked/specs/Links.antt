@@ -17,7 +17,8 @@ use Rattle.alma_code.specs.Rules.{code_fault}
 use Rattle.alma_code.specs.Lines.{line_of}
 use Rattle.alma_code.specs.ListText.{list_lines}
 use Rattle.alma_code.specs.TraceText.{trace_lines}
-use Rattle.alma_code_worked.specs.Codes.{Ends, Prints, Breaks, state_after, param_of, numbers_to, places_to, routine_to, code_with, plain_main, least, branch_undone}
+use Rattle.alma_code_worked.specs.Codes.{Ends, Prints, Breaks, state_after, param_of, numbers_to, places_to, routine_to, code_with}
+use Rattle.alma_code_worked.specs.Codes.{plain_main, least, branch_undone}
 
 -- link slots up to an end
 abbrev pub links_to : (routine end : ℕ) → Run
@@ -105,7 +106,8 @@ pub record LinksRun : Type 0 where
   pub unset_link : Ends (begins_with (I.Outer 2 3 1)) [] 2 (end.Fault fault.Unknown)
   pub unset_argument : Ends (begins_with (I.Call 2 1 0)) [] 2 (end.Fault fault.Unknown)
   pub unset_slot :
-      Ends (second (code_with (calls_1 ∷ routine_to 3 (links_to 1 2 ∷ places_to 1 3 ∷ []) [] false 5 ∷ []) (I.Call 1 0 0 ∷ I.Return ∷ I.Own 0 ∷ I.Chain 1 0 1 ∷ I.Return ∷ []))) [] 3 (end.Fault fault.Unknown)
+      Ends (second (code_with (calls_1 ∷ routine_to 3 (links_to 1 2 ∷ places_to 1 3 ∷ []) [] false 5 ∷ [])
+      (I.Call 1 0 0 ∷ I.Return ∷ I.Own 0 ∷ I.Chain 1 0 1 ∷ I.Return ∷ []))) [] 3 (end.Fault fault.Unknown)
 
 -- which rule a code with links breaks first, and where
 pub record LinksRefused : Type 0 where
@@ -114,7 +116,9 @@ pub record LinksRefused : Type 0 where
   pub link_to_main : Breaks (main_links 0) 2 0
   pub link_to_none : Breaks (main_links 1) 2 0
   -- rule 3: the link of another routine in front
-  pub other_param : Breaks (code_with (calls_1 ∷ routine_to 1 (links_to 1 1 ∷ []) (param_of param.Link 2 ∷ []) false 3 ∷ routine_to 1 (numbers_to 1 ∷ []) [] false 4 ∷ []) (I.WriteLine ∷ I.Return ∷ I.Return ∷ I.Return ∷ [])) 3 1
+  pub other_param : Breaks (code_with
+      (calls_1 ∷ routine_to 1 (links_to 1 1 ∷ []) (param_of param.Link 2 ∷ []) false 3 ∷ routine_to 1 (numbers_to 1 ∷ []) [] false 4 ∷ [])
+      (I.WriteLine ∷ I.Return ∷ I.Return ∷ I.Return ∷ [])) 3 1
   -- rule 4: a number slot, a place slot and a link slot in the wrong place
   pub own_of_number : Breaks (begins_with (I.Own 0)) 4 2
   pub chain_of_place : Breaks (begins_with (I.Chain 1 2 0)) 4 2
@@ -149,17 +153,20 @@ pub record TextsTell : Type 0 where
   pub list :
       list_lines least ≡
       (codes "object" ∷ decimal 1 ∷ []) ∷
-      (codes "routine" ∷ decimal 0 ∷ codes "A" ∷ codes "slots" ∷ decimal 1 ∷ codes "declared" ∷ decimal 0 ∷ codes "params" ∷ decimal 0 ∷ codes "result" ∷ codes "0" ∷ []) ∷
+      (codes "routine" ∷ decimal 0 ∷ codes "A" ∷ codes "slots" ∷ decimal 1 ∷ codes "declared" ∷ decimal 0 ∷ codes "params" ∷ decimal 0
+      ∷ codes "result" ∷ codes "0" ∷ []) ∷
       (decimal 0 ∷ codes "Return" ∷ []) ∷ []
   pub list_of_lines :
       list_lines (record least { version = 2; lines = at_line 0 3 ∷ [] }) ≡
       (codes "object" ∷ decimal 2 ∷ []) ∷
-      (codes "routine" ∷ decimal 0 ∷ codes "A" ∷ codes "slots" ∷ decimal 1 ∷ codes "declared" ∷ decimal 0 ∷ codes "params" ∷ decimal 0 ∷ codes "result" ∷ codes "0" ∷ []) ∷
+      (codes "routine" ∷ decimal 0 ∷ codes "A" ∷ codes "slots" ∷ decimal 1 ∷ codes "declared" ∷ decimal 0 ∷ codes "params" ∷ decimal 0
+      ∷ codes "result" ∷ codes "0" ∷ []) ∷
       (decimal 0 ∷ codes "Return" ∷ []) ∷
       (codes "line" ∷ decimal 0 ∷ decimal 3 ∷ []) ∷ []
   -- x is the global in slot 1, and y is none
   pub trace :
-      trace_lines (record branch_undone { globals = record { name = codes "x"; slot = 1; cells = 1 } ∷ [] }) [] (codes "x" ∷ codes "y" ∷ []) 6 (start branch_undone) ≡
+      trace_lines (record branch_undone { globals = record { name = codes "x"; slot = 1; cells = 1 } ∷ [] }) [] (codes "x" ∷ codes "y" ∷ [])
+      6 (start branch_undone) ≡
       (codes "choice" ∷ decimal 1 ∷ codes "x=?" ∷ codes "y=-" ∷ []) ∷
       (codes "print" ∷ decimal 2 ∷ []) ∷
       (codes "fail" ∷ decimal 1 ∷ codes "x=?" ∷ codes "y=-" ∷ []) ∷

@@ -19,9 +19,12 @@ use Rattle.alma_ir.specs.declared.phrase.Op.{Op}
 use Rattle.alma_ir.specs.declared.phrase.Root.{Root}
 use Rattle.alma_base.specs.declared.number.Range.{Range}
 use Rattle.alma_ir.specs.Tree as tree
-use Rattle.alma_ir.specs.View.{stmts_list, stmt_of, arms_list, cases_list, branches_list, loop_of, tests_list, test_of, expr_of, links_list, args_list, arg_of, desig_of, sels_list, sel_of}
+use Rattle.alma_ir.specs.View.{stmts_list, stmt_of, arms_list, cases_list, branches_list, loop_of, tests_list, test_of, expr_of, links_list}
+use Rattle.alma_ir.specs.View.{args_list, arg_of, desig_of, sels_list, sel_of}
 use Rattle.alma_ir.proofs.Views
-use Rattle.alma_copy.specs.Moved.{Moves, moved_root, moved_stmts, moved_stmt, moved_arms, moved_cases, moved_branches, moved_loop, moved_test, moved_tests, moved_expr, moved_links, moved_args, moved_arg, moved_desig, moved_sels, moved_sel}
+use Rattle.alma_copy.specs.Moved.{Moves, moved_root, moved_stmts, moved_stmt, moved_arms, moved_cases, moved_branches, moved_loop}
+use Rattle.alma_copy.specs.Moved.{moved_test, moved_tests, moved_expr, moved_links, moved_args, moved_arg, moved_desig, moved_sels}
+use Rattle.alma_copy.specs.Moved.{moved_sel}
 
 -- ---- parts and loops
 

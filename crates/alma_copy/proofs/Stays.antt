@@ -2,8 +2,16 @@
 use Rattle.std.proofs.Common.{◌≡◌, ℕ, refl, ap}
 use Rattle.alma_ir.specs.declared.phrase.Root.{Root}
 use Rattle.alma_ir.specs.declared.phrase.Root.TheVariants as root
-use Rattle.alma_ir.specs.Tree.{Stmts, Stmt, Arms, CaseArms, Else, Branches, Loop, ReturnExpr, Test, Tests, Expr, Links, Args, Arg, Desig, Sels, Sel, no_stmts, more_stmts, TestStmt, Assign, CopyCells, If, While, Repeat, ForTo, SomeOf, Case, Either, Forall, Commit, Return, Read, WriteExpr, WriteText, WriteLine, no_arms, more_arms, no_cases, more_cases, no_else, else_part, no_branches, more_branches, a_loop, no_result, some_result, Value, Bind, Unify, SameCells, Seq, And, Or, Not, CallTest, no_tests, more_tests, Const, Load, Chain, Compare, Truth, Known, Chr, CallExpr, no_links, more_links, no_args, more_args, ByValue, ByCells, ByPlace, MixValue, MixPlace, a_desig, no_sels, more_sels, Field, Index}
-use Rattle.alma_copy.specs.Moved.{Moves, moved_root, moved_stmts, moved_stmt, moved_arms, moved_cases, moved_else, moved_branches, moved_loop, moved_return, moved_test, moved_tests, moved_expr, moved_links, moved_args, moved_arg, moved_desig, moved_sels, moved_sel}
+use Rattle.alma_ir.specs.Tree.{Stmts, Stmt, Arms, CaseArms, Else, Branches, Loop, ReturnExpr, Test, Tests, Expr, Links, Args, Arg, Desig}
+use Rattle.alma_ir.specs.Tree.{Sels, Sel, no_stmts, more_stmts, TestStmt, Assign, CopyCells, If, While, Repeat, ForTo, SomeOf, Case, Either}
+use Rattle.alma_ir.specs.Tree.{Forall, Commit, Return, Read, WriteExpr, WriteText, WriteLine, no_arms, more_arms, no_cases, more_cases}
+use Rattle.alma_ir.specs.Tree.{no_else, else_part, no_branches, more_branches, a_loop, no_result, some_result, Value, Bind, Unify}
+use Rattle.alma_ir.specs.Tree.{SameCells, Seq, And, Or, Not, CallTest, no_tests, more_tests, Const, Load, Chain, Compare, Truth, Known, Chr}
+use Rattle.alma_ir.specs.Tree.{CallExpr, no_links, more_links, no_args, more_args, ByValue, ByCells, ByPlace, MixValue, MixPlace, a_desig}
+use Rattle.alma_ir.specs.Tree.{no_sels, more_sels, Field, Index}
+use Rattle.alma_copy.specs.Moved.{Moves, moved_root, moved_stmts, moved_stmt, moved_arms, moved_cases, moved_else, moved_branches}
+use Rattle.alma_copy.specs.Moved.{moved_loop, moved_return, moved_test, moved_tests, moved_expr, moved_links, moved_args, moved_arg}
+use Rattle.alma_copy.specs.Moved.{moved_desig, moved_sels, moved_sel}
 
 module _ (m : Moves) (own : (n : ℕ) → m.own n ≡ n) (global : (n : ℕ) → m.global n ≡ n) (routine : (n : ℕ) → m.routine n ≡ n) where
   root_stays : (r : Root) → moved_root m r ≡ r

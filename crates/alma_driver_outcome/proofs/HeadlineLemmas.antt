@@ -20,10 +20,14 @@ use Rattle.alma_driver_outcome.specs.Showing.{Prints}
 use Rattle.alma_driver_outcome.specs.Outside.{Outside}
 use Rattle.alma_driver_outcome.specs.Ends.{status_of, text_of, ended_end, counts_text}
 use Rattle.alma_source.specs.Refusal.{IsProgramOf, place_of}
-use Rattle.alma_driver_outcome.specs.Outcome.{Due, silent, size_of, code_due, InputOutcome, unread, taken, past_input, ProgramOutcome, ran, too_much_code, MayRunOut, MeansOn, whole, front, IsSourceEnd, refused, SourceOutcome, stopped, compiled, RequestOutcome, absent, past_limit, fetched, unfetched, Outcome, bad_word, asks, Lacks}
+use Rattle.alma_driver_outcome.specs.Outcome.{Due, silent, size_of, code_due, InputOutcome, unread, taken, past_input, ProgramOutcome, ran}
+use Rattle.alma_driver_outcome.specs.Outcome.{too_much_code, MayRunOut, MeansOn, whole, front, IsSourceEnd, refused, SourceOutcome, stopped}
+use Rattle.alma_driver_outcome.specs.Outcome.{compiled, RequestOutcome, absent, past_limit, fetched, unfetched, Outcome, bad_word, asks}
+use Rattle.alma_driver_outcome.specs.Outcome.{Lacks}
 use Rattle.alma_driver_outcome.specs.Course.{Gains}
 use Rattle.alma_driver_outcome.specs.Causes.{Causes, FetchFailed, InputFailed}
-use Rattle.alma_driver_outcome.specs.Headline.{AsksToRun, IsUndisturbed, Shows, ShowsResult, RunEnds, refuses, too_large, ended, ran_out, meant_status, meant_text}
+use Rattle.alma_driver_outcome.specs.Headline.{AsksToRun, IsUndisturbed, Shows, ShowsResult, RunEnds, refuses, too_large, ended, ran_out}
+use Rattle.alma_driver_outcome.specs.Headline.{meant_status, meant_text}
 use Rattle.alma_driver_outcome.specs.declared.end.Counts.{Counts}
 use Rattle.alma_driver_outcome.specs.declared.end.End.{End}
 use Rattle.alma_driver_outcome.specs.declared.end.End.TheVariants.{Refused, StepsOut, TooMuchCode}
@@ -39,17 +43,21 @@ data ToldMeans (input : List ℕ) (p : Program) (steps : ℕ) (stats : Bool) (du
   small : size_of p ≤ size_limit → MeansOn p input steps stats due → ToldMeans input p steps stats due
   large : size_limit < size_of p → due ≡ silent (TooMuchCode (size_of p)) → ToldMeans input p steps stats due
 
-run_means : (input : List ℕ) (p : Program) (code : PlainCode) (steps : ℕ) (stats : Bool) (due : Due) → length input ≤ input_limit → Implements code p
+run_means : (input : List ℕ) (p : Program) (code : PlainCode) (steps : ℕ) (stats : Bool) (due : Due) → length input ≤ input_limit
+    → Implements code p
     → InputOutcome (Some input) code steps (Prints stats) due → MeansOn p input steps stats due
 run_means input p code steps stats due short implements (unread quiet e) =
-    subst (MeansOn p input steps stats) (sym (e ∙ due_alike code [] input steps stats quiet)) (code_means p code input steps stats implements short)
+    subst (MeansOn p input steps stats) (sym (e ∙ due_alike code [] input steps stats quiet))
+    (code_means p code input steps stats implements short)
 run_means input p code steps stats due short implements (taken other q l s e) =
-    subst (MeansOn p input steps stats) (sym (e ∙ ap (λ (i : List ℕ). code_due code i steps (Prints stats)) (sym l))) (code_means p code input steps stats implements short)
+    subst (MeansOn p input steps stats) (sym (e ∙ ap (λ (i : List ℕ). code_due code i steps (Prints stats)) (sym l)))
+    (code_means p code input steps stats implements short)
 run_means input p code steps stats due short implements (past_input q more e) = absurd (omega (arith, short, more))
 
 told_means : (input : List ℕ) (p : Program) (steps : ℕ) (stats : Bool) (due : Due) → length input ≤ input_limit
     → ProgramOutcome (Some input) p steps (Prints stats) due → ToldMeans input p steps stats due
-told_means input p steps stats due short (ran code size sound implements reads names o) = small size (run_means input p code steps stats due short implements o)
+told_means input p steps stats due short (ran code size sound implements reads names o) =
+    small size (run_means input p code steps stats due short implements o)
 told_means input p steps stats due short (too_much_code size e) = large size e
 
 -- ---- what a call shows
@@ -65,11 +73,15 @@ record IsShownAs (words : List (List ℕ)) (before after : Outside) (status : �
   status_is : status ≡ status_of end
   shows : Shows before after printed (text_of (file_of words) end)
 
-by_parts : (words : List (List ℕ)) (before after : Outside) (status : ℕ) (due : Due) (end : End) (printed : List ℕ) → due.end ≡ end → due.out ≡ printed
+by_parts : (words : List (List ℕ)) (before after : Outside) (status : ℕ) (due : Due) (end : End) (printed : List ℕ) → due.end ≡ end
+    → due.out ≡ printed
     → IsShown words before after status due → IsShownAs words before after status end printed
 by_parts words before after status due end printed ends prints h = record {
   status_is = h.status_is ∙ ap status_of ends;
-  shows = (subst (Gains before.out after.out) prints h.out, subst (λ (x : End). Gains before.err after.err (text_of (file_of words) x)) ends h.err);
+  shows = (
+    subst (Gains before.out after.out) prints h.out,
+    subst (λ (x : End). Gains before.err after.err (text_of (file_of words) x)) ends h.err,
+  );
 }
 
 -- an end of the machine is an end of the meaning, with its status and its text
@@ -90,7 +102,8 @@ never_cut code_end.Failed line q = cc q
 never_cut (code_end.Fault fault) line q = cc q
 
 -- a program that was run
-ends_meant : (words : List (List ℕ)) (source input : List ℕ) (steps : ℕ) (stats : Bool) (before after : Outside) (status : ℕ) (p : Program) (due : Due)
+ends_meant : (words : List (List ℕ)) (source input : List ℕ) (steps : ℕ) (stats : Bool) (before after : Outside) (status : ℕ) (p : Program)
+    (due : Due)
     → IsProgramOf source p → size_of p ≤ size_limit → IsShown words before after status due → MeansOn p input steps stats due
     → RunEnds words source input steps stats before after status
 ends_meant words source input steps stats before after status p due is size h (whole printed e line counts told r ends prints) =
@@ -105,27 +118,43 @@ ends_meant words source input steps stats before after status p due is size h (w
     ended p is size (subst (λ (m : List ℕ × events.End). ShowsResult stats m before after status) (sym r) all)
 ends_meant words source input steps stats before after status p due is size h (front printed counts told covers few ends prints) =
     let shown = by_parts words before after status due (StepsOut counts) printed ends prints h in
-    ran_out p is size (record { status_is = shown.status_is; printed = printed; covers = covers; few = few; counts = counts; counted = told; shows = shown.shows })
+    ran_out p is size (record {
+      status_is = shown.status_is;
+      printed = printed;
+      covers = covers;
+      few = few;
+      counts = counts;
+      counted = told;
+      shows =
+          shown.shows;
+    })
 
 -- a program that was run, or is too large
-ends_told : (words : List (List ℕ)) (source input : List ℕ) (steps : ℕ) (stats : Bool) (before after : Outside) (status : ℕ) (p : Program) (due : Due)
+ends_told : (words : List (List ℕ)) (source input : List ℕ) (steps : ℕ) (stats : Bool) (before after : Outside) (status : ℕ) (p : Program)
+    (due : Due)
     → IsProgramOf source p → IsShown words before after status due → ToldMeans input p steps stats due
     → RunEnds words source input steps stats before after status
-ends_told words source input steps stats before after status p due is h (small size m) = ends_meant words source input steps stats before after status p due is size h m
+ends_told words source input steps stats before after status p due is h (small size m) =
+    ends_meant words source input steps stats before after status p due is size h m
 ends_told words source input steps stats before after status p due is h (large size e) =
-    let shown = by_parts words before after status due (TooMuchCode (size_of p)) [] (ap (λ (d : Due). d.end) e) (ap (λ (d : Due). d.out) e) h in
+    let shown = by_parts words before after status due (TooMuchCode (size_of p)) [] (ap (λ (d : Due). d.end) e) (ap (λ (d : Due). d.out) e)
+    h in
     too_large p is size shown.status_is shown.shows
 
 -- a source that is refused
-ends_refused : (words : List (List ℕ)) (source input : List ℕ) (steps : ℕ) (stats : Bool) (before after : Outside) (status : ℕ) (due : Due) (end : End)
-    → due ≡ silent end → IsShown words before after status due → IsSourceEnd source end → RunEnds words source input steps stats before after status
+ends_refused : (words : List (List ℕ)) (source input : List ℕ) (steps : ℕ) (stats : Bool) (before after : Outside) (status : ℕ) (due : Due)
+    (end : End)
+    → due ≡ silent end → IsShown words before after status due → IsSourceEnd source end
+    → RunEnds words source input steps stats before after status
 ends_refused words source input steps stats before after status due end d h (refused fault offset r e) =
-    let shown = by_parts words before after status due (Refused fault (place_of source offset)) [] (ap (λ (x : Due). x.end) d ∙ e) (ap (λ (x : Due). x.out) d) h in
+    let shown = by_parts words before after status due (Refused fault (place_of source offset)) [] (ap (λ (x : Due). x.end) d ∙ e)
+    (ap (λ (x : Due). x.out) d) h in
     refuses fault offset r (λ other place q. one_refusal source fault other offset place r q) shown.status_is shown.shows
 
 -- what a source comes to
 ends_of : (words : List (List ℕ)) (source input : List ℕ) (steps : ℕ) (stats : Bool) (before after : Outside) (status : ℕ) (due : Due)
-    → length input ≤ input_limit → IsShown words before after status due → SourceOutcome source (λ p. ProgramOutcome (Some input) p steps (Prints stats)) due
+    → length input ≤ input_limit → IsShown words before after status due
+    → SourceOutcome source (λ p. ProgramOutcome (Some input) p steps (Prints stats)) due
     → RunEnds words source input steps stats before after status
 ends_of words source input steps stats before after status due short h (stopped end r e) =
     ends_refused words source input steps stats before after status due end e h r
@@ -135,8 +164,10 @@ ends_of words source input steps stats before after status due short h (compiled
 -- ---- what the words ask
 
 -- the outcome of a request to run a source that is told and short
-source_run : (told : List ℕ → Told) (name source : List ℕ) (steps : ℕ) (stats : Bool) (left : Option (List ℕ)) (due : Due) → told name ≡ Has source
-    → length source ≤ source_limit → RequestOutcome told left (Run name steps stats) due → SourceOutcome source (λ p. ProgramOutcome left p steps (Prints stats)) due
+source_run : (told : List ℕ → Told) (name source : List ℕ) (steps : ℕ) (stats : Bool) (left : Option (List ℕ)) (due : Due)
+    → told name ≡ Has source
+    → length source ≤ source_limit → RequestOutcome told left (Run name steps stats) due
+    → SourceOutcome source (λ p. ProgramOutcome left p steps (Prints stats)) due
 source_run told name source steps stats left due has short (absent n is gone e) =
     let same : name ≡ n = cc is in
     cc (sym has ∙ ap told same ∙ gone)
@@ -151,8 +182,10 @@ source_run told name source steps stats left due has short (fetched n bytes is m
 source_run told name source steps stats left due has short (unfetched is o) = cc is
 
 -- the outcome of words that ask for it
-pub words_run : (words : List (List ℕ)) (before : Outside) (source input : List ℕ) (steps : ℕ) (stats : Bool) (due : Due) → AsksToRun words before source input steps stats
-    → Outcome words before.files.told before.input.left due → SourceOutcome source (λ p. ProgramOutcome (Some input) p steps (Prints stats)) due
+pub words_run : (words : List (List ℕ)) (before : Outside) (source input : List ℕ) (steps : ℕ) (stats : Bool) (due : Due)
+    → AsksToRun words before source input steps stats
+    → Outcome words before.files.told before.input.left due
+    → SourceOutcome source (λ p. ProgramOutcome (Some input) p steps (Prints stats)) due
 words_run words before source input steps stats due a (bad_word k bad e) = absurd (bad.none (Run a.name steps stats) a.asks)
 words_run words before source input steps stats due a (asks r h o) =
     let same : r ≡ Run a.name steps stats = one_request words r (Run a.name steps stats) h a.asks in
@@ -162,7 +195,8 @@ words_run words before source input steps stats due a (asks r h o) =
     (source_run before.files.told a.name source steps stats before.input.left due a.told a.source_short run)
 
 -- its file is not missing
-not_lacking : (words : List (List ℕ)) (before : Outside) (source input : List ℕ) (steps : ℕ) (stats : Bool) → AsksToRun words before source input steps stats
+not_lacking : (words : List (List ℕ)) (before : Outside) (source input : List ℕ) (steps : ℕ) (stats : Bool)
+    → AsksToRun words before source input steps stats
     → Lacks words before.files.told → ⊥
 not_lacking words before source input steps stats a l =
     let same : l.0 ≡ Run a.name steps stats = one_request words l.0 (Run a.name steps stats) l.2 a.asks in
@@ -178,11 +212,13 @@ nothing_unread : (words : List (List ℕ)) (source input : List ℕ) (steps : �
     → FetchFailed words before after ⊎ (InputFailed words before after ⊎ Lacks words before.files.told) → ⊥
 nothing_unread words source input steps stats before after status a u (inl failed) = u.no_read_failed (inl failed.0)
 nothing_unread words source input steps stats before after status a u (inr (inl failed)) = u.no_read_failed (inr failed.0)
-nothing_unread words source input steps stats before after status a u (inr (inr lacks)) = not_lacking words before source input steps stats a lacks
+nothing_unread words source input steps stats before after status a u (inr (inr lacks)) =
+    not_lacking words before source input steps stats a lacks
 
 -- what a run shows where all that is due came
 ends_whole : (words : List (List ℕ)) (source input : List ℕ) (steps : ℕ) (stats : Bool) (before after : Outside) (status : ℕ)
-    → AsksToRun words before source input steps stats → IsWhole words before after status → RunEnds words source input steps stats before after status
+    → AsksToRun words before source input steps stats → IsWhole words before after status
+    → RunEnds words source input steps stats before after status
 ends_whole words source input steps stats before after status a w =
     ends_of words source input steps stats before after status w.0 a.input_short (record { status_is = w.2; out = w.3; err = w.4 })
     (words_run words before source input steps stats w.0 a w.1)
@@ -192,7 +228,8 @@ pub whole_run : (words : List (List ℕ)) (source input : List ℕ) (steps : ℕ
     → AsksToRun words before source input steps stats → Causes words before after status → IsUndisturbed before after status
     → IsWhole words before after status
 whole_run words source input steps stats before after status a c u =
-    c.whole (λ e. nothing_unread words source input steps stats before after status a u (c.read_fault e)) (λ e. u.no_write_failed (c.write_fault e)) u.memory
+    c.whole (λ e. nothing_unread words source input steps stats before after status a u (c.read_fault e))
+    (λ e. u.no_write_failed (c.write_fault e)) u.memory
 
 -- what a run shows where nothing failed
 pub run_ends : (words : List (List ℕ)) (source input : List ℕ) (steps : ℕ) (stats : Bool) (before after : Outside) (status : ℕ)
@@ -204,7 +241,8 @@ run_ends words source input steps stats before after status a c u =
 -- ---- enough steps
 
 -- levels that are not cut off have one result
-same_result : (p : Program) (input : List ℕ) (m n : ℕ) → (end_of (first (ev_program m p input)) ≡ CutOff → ⊥) → (end_of (first (ev_program n p input)) ≡ CutOff → ⊥)
+same_result : (p : Program) (input : List ℕ) (m n : ℕ) → (end_of (first (ev_program m p input)) ≡ CutOff → ⊥)
+    → (end_of (first (ev_program n p input)) ≡ CutOff → ⊥)
     → result m p input ≡ result n p input
 same_result p input m n whole_m whole_n = by (cases_lt m n)
   where
@@ -217,14 +255,17 @@ same_result p input m n whole_m whole_n = by (cases_lt m n)
         sym (ap (λ (k : ℕ). result k p input) sum) ∙ result_stays p input n (m - n) whole_n
 
 -- a result is shown for each level that is not cut off
-shows_level : (p : Program) (input : List ℕ) (steps level : ℕ) (stats : Bool) (before after : Outside) (status : ℕ) → (end_of (first (ev_program level p input)) ≡ CutOff → ⊥)
+shows_level : (p : Program) (input : List ℕ) (steps level : ℕ) (stats : Bool) (before after : Outside) (status : ℕ)
+    → (end_of (first (ev_program level p input)) ≡ CutOff → ⊥)
     → ShowsResult stats (result (suc steps) p input) before after status → ShowsResult stats (result level p input) before after status
 shows_level p input steps level stats before after status uncut h =
     subst (λ (m : List ℕ × events.End). ShowsResult stats m before after status) (same_result p input (suc steps) level h.uncut uncut) h
 
 -- where the steps are enough the result is shown
-pub enough_steps : (words : List (List ℕ)) (source input : List ℕ) (steps : ℕ) (stats : Bool) (before after : Outside) (status : ℕ) (p : Program) (level : ℕ)
-    → AsksToRun words before source input steps stats → Causes words before after status → IsUndisturbed before after status → IsProgramOf source p
+pub enough_steps : (words : List (List ℕ)) (source input : List ℕ) (steps : ℕ) (stats : Bool) (before after : Outside) (status : ℕ)
+    (p : Program) (level : ℕ)
+    → AsksToRun words before source input steps stats → Causes words before after status → IsUndisturbed before after status
+    → IsProgramOf source p
     → size_of p ≤ size_limit → (end_of (first (ev_program level p input)) ≡ CutOff → ⊥)
     → 32 * (visit_count (first (ev_program level p input)) + 1) ≤ steps → ShowsResult stats (result level p input) before after status
 enough_steps words source input steps stats before after status p level a c u is size uncut many =

@@ -17,7 +17,8 @@ use Rattle.alma_driver_outcome.specs.Ends.{mode_end, counts_in}
 use Rattle.alma_driver_outcome.specs.Outside.{Outside}
 use Rattle.alma_driver_outcome.specs.Showing.{Prints}
 use Rattle.alma_source.specs.Refusal.{IsProgramOf}
-use Rattle.alma_driver_outcome.specs.Outcome.{Due, size_of, InputOutcome, unread, taken, past_input, ProgramOutcome, ran, too_much_code, IsSourceEnd, refused, SourceOutcome, stopped, compiled}
+use Rattle.alma_driver_outcome.specs.Outcome.{Due, size_of, InputOutcome, unread, taken, past_input, ProgramOutcome, ran, too_much_code}
+use Rattle.alma_driver_outcome.specs.Outcome.{IsSourceEnd, refused, SourceOutcome, stopped, compiled}
 use Rattle.alma_driver_outcome.specs.Course.{Takes, IsReadWhole}
 use Rattle.alma_source.proofs.RefusalLemmas.{one_program, refused_no_program}
 use Rattle.alma_driver_outcome.specs.Causes.{Causes}
@@ -44,33 +45,44 @@ all_read input bytes (Some xs) (Some ys) told c d = ap Some d
 input_left : (words : List (List ℕ)) (source input : List ℕ) (steps : ℕ) (stats : Bool) (before after : Outside) (status : ℕ) (p : Program)
     → AsksToRun words before source input steps stats → IsWhole words before after status → IsProgramOf source p → size_of p ≤ size_limit
     → IsInputLeft (program_reads p) before.input after.input
-input_left words source input steps stats before after status p a w is small = by_source (words_run words before source input steps stats w.0 a w.1)
+input_left words source input steps stats before after status p a w is small =
+    by_source (words_run words before source input steps stats w.0 a w.1)
   where
     by_end : (end : End) → IsSourceEnd source end → IsInputLeft (program_reads p) before.input after.input
     by_end end (refused fault offset r e) = absurd (refused_no_program source fault offset p r is)
 
-    by_input : (code : PlainCode) → InputOutcome (Some input) code steps (Prints stats) w.0 → IsInputLeft (code_reads code) before.input after.input
+    by_input : (code : PlainCode) → InputOutcome (Some input) code steps (Prints stats) w.0
+        → IsInputLeft (code_reads code) before.input after.input
     by_input code (unread quiet e) =
         subst (λ (r : Bool). IsInputLeft r before.input after.input) (sym quiet)
         (subst (λ (r : Bool). Takes r before.input after.input) (ap (λ (d : Due). d.reads) e ∙ quiet) w.6)
     by_input code (taken other q l short e) =
         let s = state_after code other steps in
-        let all : IsReadWhole before.input after.input = w.7 (ap (λ (d : Due). d.reads) e ∙ q) (λ long. never_long s.mode (line_in code s) (counts_in stats s) (sym (ap (λ (d : Due). d.end) e) ∙ long)) in
-        subst (λ (r : Bool). IsInputLeft r before.input after.input) (sym q) (all_read input all.0 before.input.left after.input.left a.left all.1 all.2)
+        let all : IsReadWhole before.input after.input =
+        w.7 (ap (λ (d : Due). d.reads) e ∙ q) (λ long. never_long s.mode (line_in code s) (counts_in stats s)
+        (sym (ap (λ (d : Due). d.end) e) ∙ long)) in
+        subst (λ (r : Bool). IsInputLeft r before.input after.input) (sym q)
+        (all_read input all.0 before.input.left after.input.left a.left all.1 all.2)
     by_input code (past_input q more e) = absurd (omega (arith, a.input_short, more))
 
-    by_program : (q : Program) → IsProgramOf source q → ProgramOutcome (Some input) q steps (Prints stats) w.0 → IsInputLeft (program_reads q) before.input after.input
-    by_program q isq (ran code size sound implements reads names o) = subst (λ (r : Bool). IsInputLeft r before.input after.input) reads (by_input code o)
+    by_program : (q : Program) → IsProgramOf source q → ProgramOutcome (Some input) q steps (Prints stats) w.0
+        → IsInputLeft (program_reads q) before.input after.input
+    by_program q isq (ran code size sound implements reads names o) =
+        subst (λ (r : Bool). IsInputLeft r before.input after.input) reads (by_input code o)
     by_program q isq (too_much_code size e) = absurd (omega (arith, size, small, ap size_of (one_program source q p isq is)))
 
-    by_source : SourceOutcome source (λ q. ProgramOutcome (Some input) q steps (Prints stats)) w.0 → IsInputLeft (program_reads p) before.input after.input
+    by_source : SourceOutcome source (λ q. ProgramOutcome (Some input) q steps (Prints stats)) w.0
+        → IsInputLeft (program_reads p) before.input after.input
     by_source (stopped end h e) = by_end end h
     by_source (compiled q isq o) =
         subst (λ (r : Program). IsInputLeft (program_reads r) before.input after.input) (one_program source q p isq is) (by_program q isq o)
 
 -- and where nothing failed
-pub input_read : (words : List (List ℕ)) (source input : List ℕ) (steps : ℕ) (stats : Bool) (before after : Outside) (status : ℕ) (p : Program)
-    → AsksToRun words before source input steps stats → Causes words before after status → IsUndisturbed before after status → IsProgramOf source p
+pub input_read : (words : List (List ℕ)) (source input : List ℕ) (steps : ℕ) (stats : Bool) (before after : Outside) (status : ℕ)
+    (p : Program)
+    → AsksToRun words before source input steps stats → Causes words before after status → IsUndisturbed before after status
+    → IsProgramOf source p
     → size_of p ≤ size_limit → IsInputLeft (program_reads p) before.input after.input
 input_read words source input steps stats before after status p a c u is small =
-    input_left words source input steps stats before after status p a (whole_run words source input steps stats before after status a c u) is small
+    input_left words source input steps stats before after status p a (whole_run words source input steps stats before after status a c u)
+    is small

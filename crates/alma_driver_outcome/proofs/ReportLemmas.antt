@@ -1,5 +1,6 @@
 -- Parts that are written one after another.
-use Rattle.std.proofs.Common.{◌≡◌, ◌<◌, ◌+◌, ℕ, zero, suc, List, [], ◌++◌, refl, length, take, drop, get_or, ap, sym, ◌∙◌, add-one, append_assoc, drop-cons}
+use Rattle.std.proofs.Common.{◌≡◌, ◌<◌, ◌+◌, ℕ, zero, suc, List, [], ◌++◌, refl, length, take, drop, get_or, ap, sym, ◌∙◌, add-one}
+use Rattle.std.proofs.Common.{append_assoc, drop-cons}
 use Rattle.std.proofs.lemmas.List.{take-append-drop}
 use Rattle.std.proofs.lemmas.List.Concat.{flat_map-append}
 use Rattle.std.specs.Prelude.{Option, None, Some, Result, Ok, Err, OnOk, OnErr, flat_map, codes, decimal}
@@ -7,7 +8,8 @@ use Rattle.alma_base.specs.Fault.{run_fault_text}
 use Rattle.alma_base.specs.declared.fault.RunFault.{RunFault}
 use Rattle.alma_code.specs.Lines.{known_line}
 use Rattle.alma_object_format.specs.declared.fault.ObjectFault.{ObjectFault}
-use Rattle.alma_driver_outcome.specs.Ends.{line_text, fault_text, object_fault_name, object_fault_number, number_text, object_text, rule_line, counts_line}
+use Rattle.alma_driver_outcome.specs.Ends.{line_text, fault_text, object_fault_name, object_fault_number, number_text, object_text}
+use Rattle.alma_driver_outcome.specs.Ends.{rule_line, counts_line}
 use Rattle.std.specs.Borrow.{Bor}
 use Rattle.std.specs.Io.KnownBytes.{Appends}
 use Rattle.alma_io.specs.Fronts.{AppendsFront}
@@ -15,7 +17,8 @@ use Rattle.alma_io.proofs.Known.{appends_trans}
 
 -- all parts, by those before one of them, that one, and those behind it
 pub parts_at : (parts : List (Bor (List ℕ))) (i : ℕ) (d : Bor (List ℕ)) → i < length parts
-    → flat_map (λ (part : Bor (List ℕ)). part.now) parts ≡ flat_map (λ (part : Bor (List ℕ)). part.now) (take i parts) ++ ((get_or parts i d).now ++ flat_map (λ (part : Bor (List ℕ)). part.now) (drop (i + 1) parts))
+    → flat_map (λ (part : Bor (List ℕ)). part.now) parts ≡ flat_map (λ (part : Bor (List ℕ)). part.now) (take i parts)
+    ++ ((get_or parts i d).now ++ flat_map (λ (part : Bor (List ℕ)). part.now) (drop (i + 1) parts))
 parts_at parts i d h =
     let f = λ (part : Bor (List ℕ)). part.now in
     ap (flat_map f) (sym (take-append-drop i parts)) ∙ flat_map-append f (take i parts) (drop i parts)
@@ -33,18 +36,23 @@ front_after front bytes rest whole a b c e h x = (
 )
 
 -- the parts of the text of a fault whose line is not known
-pub unknown_parts : (fault : RunFault) (line : ℕ) (front name end : List ℕ) → line ≡ 0 → front ≡ codes "alma: fault " → name ≡ run_fault_text fault → end ≡ codes "\n"
+pub unknown_parts : (fault : RunFault) (line : ℕ) (front name end : List ℕ) → line ≡ 0 → front ≡ codes "alma: fault "
+    → name ≡ run_fault_text fault → end ≡ codes "\n"
     → front ++ (name ++ (end ++ [])) ≡ fault_text fault line
 unknown_parts fault line front name end z f n e =
-    ap (λ x. x ++ (name ++ (end ++ []))) f ∙ ap (λ x. codes "alma: fault " ++ (x ++ (end ++ []))) n ∙ ap (λ x. codes "alma: fault " ++ (run_fault_text fault ++ (x ++ []))) e
+    ap (λ x. x ++ (name ++ (end ++ []))) f ∙ ap (λ x. codes "alma: fault " ++ (x ++ (end ++ []))) n
+    ∙ ap (λ x. codes "alma: fault " ++ (run_fault_text fault ++ (x ++ []))) e
     ∙ ap (λ k. codes "alma: fault " ++ (run_fault_text fault ++ (line_text (known_line k) ++ codes "\n"))) (sym z)
 
 -- and of one whose line is
-pub known_parts : (fault : RunFault) (line : ℕ) (front name middle number end : List ℕ) → (line ≡ 0 → ⊥) → front ≡ codes "alma: fault " → name ≡ run_fault_text fault
-    → middle ≡ codes " line " → number ≡ decimal line → end ≡ codes "\n" → front ++ (name ++ (middle ++ (number ++ (end ++ [])))) ≡ fault_text fault line
+pub known_parts : (fault : RunFault) (line : ℕ) (front name middle number end : List ℕ) → (line ≡ 0 → ⊥) → front ≡ codes "alma: fault "
+    → name ≡ run_fault_text fault
+    → middle ≡ codes " line " → number ≡ decimal line → end ≡ codes "\n"
+    → front ++ (name ++ (middle ++ (number ++ (end ++ [])))) ≡ fault_text fault line
 known_parts fault zero front name middle number end some f n m d e = absurd (some refl)
 known_parts fault (suc k) front name middle number end some f n m d e =
-    ap (λ x. x ++ (name ++ (middle ++ (number ++ (end ++ []))))) f ∙ ap (λ x. codes "alma: fault " ++ (x ++ (middle ++ (number ++ (end ++ []))))) n
+    ap (λ x. x ++ (name ++ (middle ++ (number ++ (end ++ []))))) f
+    ∙ ap (λ x. codes "alma: fault " ++ (x ++ (middle ++ (number ++ (end ++ []))))) n
     ∙ ap (λ x. codes "alma: fault " ++ (run_fault_text fault ++ (x ++ (number ++ (end ++ []))))) m
     ∙ ap (λ x. codes "alma: fault " ++ (run_fault_text fault ++ (codes " line " ++ (x ++ (end ++ []))))) d
     ∙ ap (λ x. codes "alma: fault " ++ (run_fault_text fault ++ (codes " line " ++ (decimal (suc k) ++ (x ++ []))))) e
@@ -54,11 +62,13 @@ known_parts fault (suc k) front name middle number end some f n m d e =
 pub rule_parts : (front rule middle at end : List ℕ) → front ≡ codes "alma: object Rule " → middle ≡ codes " " → end ≡ codes "\n"
     → front ++ (rule ++ (middle ++ (at ++ (end ++ [])))) ≡ rule_line rule at
 rule_parts front rule middle at end f m e =
-    ap (λ x. x ++ (rule ++ (middle ++ (at ++ (end ++ []))))) f ∙ ap (λ x. codes "alma: object Rule " ++ (rule ++ (x ++ (at ++ (end ++ []))))) m
+    ap (λ x. x ++ (rule ++ (middle ++ (at ++ (end ++ []))))) f
+    ∙ ap (λ x. codes "alma: object Rule " ++ (rule ++ (x ++ (at ++ (end ++ []))))) m
     ∙ ap (λ x. codes "alma: object Rule " ++ (rule ++ (codes " " ++ (at ++ (x ++ []))))) e
 
 -- the parts of the text of an object's fault without a number
-pub numberless_parts : (fault : ObjectFault) (front name end : List ℕ) → object_fault_number fault ≡ None → front ≡ codes "alma: object " → name ≡ object_fault_name fault
+pub numberless_parts : (fault : ObjectFault) (front name end : List ℕ) → object_fault_number fault ≡ None → front ≡ codes "alma: object "
+    → name ≡ object_fault_name fault
     → end ≡ codes "\n" → front ++ (name ++ (end ++ [])) ≡ object_text fault
 numberless_parts fault front name end none f n e =
     ap (λ x. x ++ (name ++ (end ++ []))) f ∙ ap (λ x. codes "alma: object " ++ (x ++ (end ++ []))) n
@@ -66,11 +76,13 @@ numberless_parts fault front name end none f n e =
     ∙ ap (λ k. codes "alma: object " ++ (object_fault_name fault ++ (number_text k ++ codes "\n"))) (sym none)
 
 -- and of one with a number
-pub numbered_parts : (fault : ObjectFault) (number : ℕ) (front name middle digits end : List ℕ) → object_fault_number fault ≡ Some number → front ≡ codes "alma: object "
+pub numbered_parts : (fault : ObjectFault) (number : ℕ) (front name middle digits end : List ℕ) → object_fault_number fault ≡ Some number
+    → front ≡ codes "alma: object "
     → name ≡ object_fault_name fault → middle ≡ codes " " → digits ≡ decimal number → end ≡ codes "\n"
     → front ++ (name ++ (middle ++ (digits ++ (end ++ [])))) ≡ object_text fault
 numbered_parts fault number front name middle digits end some f n m d e =
-    ap (λ x. x ++ (name ++ (middle ++ (digits ++ (end ++ []))))) f ∙ ap (λ x. codes "alma: object " ++ (x ++ (middle ++ (digits ++ (end ++ []))))) n
+    ap (λ x. x ++ (name ++ (middle ++ (digits ++ (end ++ []))))) f
+    ∙ ap (λ x. codes "alma: object " ++ (x ++ (middle ++ (digits ++ (end ++ []))))) n
     ∙ ap (λ x. codes "alma: object " ++ (object_fault_name fault ++ (x ++ (digits ++ (end ++ []))))) m
     ∙ ap (λ x. codes "alma: object " ++ (object_fault_name fault ++ (codes " " ++ (x ++ (end ++ []))))) d
     ∙ ap (λ x. codes "alma: object " ++ (object_fault_name fault ++ (codes " " ++ (decimal number ++ (x ++ []))))) e
@@ -78,7 +90,8 @@ numbered_parts fault number front name middle digits end some f n m d e =
     ∙ ap (λ k. codes "alma: object " ++ (object_fault_name fault ++ (number_text k ++ codes "\n"))) (sym some)
 
 -- the parts of the line of counts
-pub counts_parts : (first steps second choices third fails end : List ℕ) → first ≡ codes "steps " → second ≡ codes " choices " → third ≡ codes " fails " → end ≡ codes "\n"
+pub counts_parts : (first steps second choices third fails end : List ℕ) → first ≡ codes "steps " → second ≡ codes " choices "
+    → third ≡ codes " fails " → end ≡ codes "\n"
     → first ++ (steps ++ (second ++ (choices ++ (third ++ (fails ++ (end ++ [])))))) ≡ counts_line steps choices fails
 counts_parts first steps second choices third fails end f s t e =
     ap (λ x. x ++ (steps ++ (second ++ (choices ++ (third ++ (fails ++ (end ++ []))))))) f
@@ -87,13 +100,15 @@ counts_parts first steps second choices third fails end f s t e =
     ∙ ap (λ x. codes "steps " ++ (steps ++ (codes " choices " ++ (choices ++ (codes " fails " ++ (fails ++ (x ++ []))))))) e
 
 -- bytes that are out, and then all of more
-pub ok_then : {T E : Type 0} (r : Result T E) (a b c : Option (List ℕ)) (bytes more : List ℕ) → Appends a b bytes → OnOk r (Appends b c more)
+pub ok_then : {T E : Type 0} (r : Result T E) (a b c : Option (List ℕ)) (bytes more : List ℕ) → Appends a b bytes
+    → OnOk r (Appends b c more)
     → OnOk r (Appends a c (bytes ++ more))
 ok_then (Ok v) a b c bytes more h k = appends_trans a b c bytes more h k
 ok_then (Err e) a b c bytes more h k = tt
 
 -- bytes that are out, and then a prefix of more
-pub front_then : {T E : Type 0} (r : Result T E) (a b c : Option (List ℕ)) (bytes more : List ℕ) → Appends a b bytes → OnErr r (AppendsFront b c more)
+pub front_then : {T E : Type 0} (r : Result T E) (a b c : Option (List ℕ)) (bytes more : List ℕ) → Appends a b bytes
+    → OnErr r (AppendsFront b c more)
     → OnErr r (AppendsFront a c (bytes ++ more))
 front_then (Ok v) a b c bytes more h k = tt
 front_then (Err e) a b c bytes more h x =

@@ -1,5 +1,6 @@
 -- What a run of compiled code comes to, step by step and by the meaning.
-use Rattle.std.proofs.Common.{◌≡◌, ◌≤◌, ◌<◌, ◌+◌, ◌*◌, ℕ, zero, suc, List, [], ◌++◌, inl, inr, ap, sym, subst, refl, ◌∙◌, arith, append_assoc}
+use Rattle.std.proofs.Common.{◌≡◌, ◌≤◌, ◌<◌, ◌+◌, ◌*◌, ℕ, zero, suc, List, [], ◌++◌, inl, inr, ap, sym, subst, refl, ◌∙◌, arith}
+use Rattle.std.proofs.Common.{append_assoc}
 use Rattle.std.specs.Prelude.{◌⊎◌, Bool, Option, None, Some, true, false, length}
 use Rattle.std.specs.Io.KnownBytes.{Appends}
 use Rattle.std.proofs.lemmas.Bool.{cases_lt}
@@ -25,20 +26,26 @@ use Rattle.alma_machine.proofs.Budget.{ended_after}
 use Rattle.alma_io.specs.Sides.{SinkSide}
 use Rattle.alma_driver_outcome.specs.declared.end.Counts.{Counts}
 use Rattle.alma_driver_outcome.specs.Ends.{mode_end, run_end, counts_in}
-use Rattle.alma_driver_outcome.specs.Outcome.{Due, code_end, code_due, size_of, InputOutcome, unread, taken, past_input, AreCounts, MayRunOut, MeansOn, whole, front, ProgramOutcome, ran, too_much_code, IsTaken, Meant, meant_on, too_long, too_large}
+use Rattle.alma_driver_outcome.specs.Outcome.{Due, code_end, code_due, size_of, InputOutcome, unread, taken, past_input, AreCounts}
+use Rattle.alma_driver_outcome.specs.Outcome.{MayRunOut, MeansOn, whole, front, ProgramOutcome, ran, too_much_code, IsTaken, Meant}
+use Rattle.alma_driver_outcome.specs.Outcome.{meant_on, too_long, too_large}
 use Rattle.alma_driver_outcome.specs.Showing.{Showing, Prints}
 use Rattle.alma_driver_outcome.specs.Course.{Goes}
 
 -- ---- a run of the machine
 
 -- what is printed in fewer steps is a front of what is printed in more
-prints_front : (code : PlainCode) (input : List ℕ) (m n : ℕ) (s : State) → m ≤ n → (rest : List ℕ) × (prints code input n s ≡ prints code input m s ++ rest)
+prints_front : (code : PlainCode) (input : List ℕ) (m n : ℕ) (s : State) → m ≤ n → (rest : List ℕ)
+    × (prints code input n s ≡ prints code input m s ++ rest)
 prints_front code input zero n s le = (prints code input n s, refl)
 prints_front code input (suc m) zero s le = absurd (omega (arith, le))
 prints_front code input (suc m) (suc n) s le =
     let next = (step code input s).state in
-    let more = prints_front code input m n next (omega (arith, le)) in
-    (more.0, ap (λ z. (step code input s).printed ++ z) more.1 ∙ sym (append_assoc (step code input s).printed (prints code input m next) more.0))
+    let more = prints_front code input m n next (omega (arith, le)) in (
+      more.0,
+      ap (λ z. (step code input s).printed ++ z) more.1
+          ∙ sym (append_assoc (step code input s).printed (prints code input m next) more.0),
+    )
 
 -- a front of what is printed in fewer steps is a front of what is printed in more
 front_of_more : (a b : Option (List ℕ)) (code : PlainCode) (input : List ℕ) (m n : ℕ) (s : State) → m ≤ n
@@ -62,7 +69,8 @@ mode_is (Ended ended.Failed) line counts = refl
 mode_is (Ended (ended.Fault fault)) line counts = refl
 
 -- the end of a run that was not cut short is due
-pub end_is : (code : PlainCode) (input : List ℕ) (new : State) (steps : ℕ) (stats : Bool) (answer : RunEnd) → answer ≡ run_end_of (state_after code input steps).mode
+pub end_is : (code : PlainCode) (input : List ℕ) (new : State) (steps : ℕ) (stats : Bool) (answer : RunEnd)
+    → answer ≡ run_end_of (state_after code input steps).mode
     → new ≡ state_after code input steps
     → code_end code stats (state_after code input steps) ≡ run_end answer (line_in code new) (counts_in stats new)
 end_is code input new steps stats answer is same =
@@ -90,24 +98,55 @@ IsDue code input steps showing due = due ≡ code_due code input steps showing
 
 -- a run from the start goes as its code is due
 goes_fresh : (code : PlainCode) (input : List ℕ) (new : MachineView) (steps : ℕ) (stats : Bool) (answer : RunEnd) (a b : SinkSide)
-    → HasRun (fresh code input) new steps answer a b → Goes (IsDue code input steps (Prints stats)) a b (run_end answer (line_in code new.state) (counts_in stats new.state))
-goes_fresh code input new steps stats run.Succeeded a b h =
-    (code_due code input steps (Prints stats), end_is code input new.state steps stats run.Succeeded h.answered h.state, refl, (h.out, h.cause.ok))
-goes_fresh code input new steps stats run.Failed a b h =
-    (code_due code input steps (Prints stats), end_is code input new.state steps stats run.Failed h.answered h.state, refl, (h.out, h.cause.ok))
-goes_fresh code input new steps stats (run.Fault fault) a b h =
-    (code_due code input steps (Prints stats), end_is code input new.state steps stats (run.Fault fault) h.answered h.state, refl, (h.out, h.cause.ok))
-goes_fresh code input new steps stats run.StepsOut a b h =
-    (code_due code input steps (Prints stats), end_is code input new.state steps stats run.StepsOut h.answered h.state, refl, (h.out, h.cause.ok))
+    → HasRun (fresh code input) new steps answer a b
+    → Goes (IsDue code input steps (Prints stats)) a b (run_end answer (line_in code new.state) (counts_in stats new.state))
+goes_fresh code input new steps stats run.Succeeded a b h = (
+  code_due code input steps (Prints stats),
+  end_is code input new.state steps stats run.Succeeded h.answered h.state,
+  refl,
+  (h.out, h.cause.ok),
+)
+goes_fresh code input new steps stats run.Failed a b h = (
+  code_due code input steps (Prints stats),
+  end_is code input new.state steps stats run.Failed h.answered h.state,
+  refl,
+  (h.out, h.cause.ok),
+)
+goes_fresh code input new steps stats (run.Fault fault) a b h = (
+  code_due code input steps (Prints stats),
+  end_is code input new.state steps stats (run.Fault fault) h.answered h.state,
+  refl,
+  (h.out, h.cause.ok),
+)
+goes_fresh code input new steps stats run.StepsOut a b h = (
+  code_due code input steps (Prints stats),
+  end_is code input new.state steps stats run.StepsOut h.answered h.state,
+  refl,
+  (h.out, h.cause.ok),
+)
 goes_fresh code input new steps stats run.WriteFault a b h =
-    let le : made (fresh code input) new ≤ steps = omega (arith, h.few) in
-    (code_due code input steps (Prints stats), refl, (front_of_more a.written b.written code input (made (fresh code input) new) steps (start code) le h.write_fault, (h.cause.later, h.cause.err)))
+    let le : made (fresh code input) new ≤ steps = omega (arith, h.few) in (
+      code_due code input steps (Prints stats),
+      refl,
+      (
+        front_of_more a.written b.written code input (made (fresh code input) new) steps (start code) le h.write_fault,
+        (h.cause.later, h.cause.err),
+      ),
+    )
 goes_fresh code input new steps stats run.Memory a b h =
-    let le : made (fresh code input) new ≤ steps = omega (arith, h.few) in
-    (inr (code_due code input steps (Prints stats), refl, whole_is_front a.written b.written code input (made (fresh code input) new) steps (start code) le h.memory), h.cause.ok)
+    let le : made (fresh code input) new ≤ steps = omega (arith, h.few) in (
+      inr (
+        code_due code input steps (Prints stats),
+        refl,
+        whole_is_front a.written b.written code input (made (fresh code input) new) steps (start code) le h.memory,
+      ),
+      h.cause.ok,
+    )
 
-pub goes_run : (code : PlainCode) (input : List ℕ) (old new : MachineView) (steps : ℕ) (stats : Bool) (answer : RunEnd) (a b : SinkSide) → old ≡ fresh code input
-    → HasRun old new steps answer a b → Goes (IsDue code input steps (Prints stats)) a b (run_end answer (line_in code new.state) (counts_in stats new.state))
+pub goes_run : (code : PlainCode) (input : List ℕ) (old new : MachineView) (steps : ℕ) (stats : Bool) (answer : RunEnd) (a b : SinkSide)
+    → old ≡ fresh code input
+    → HasRun old new steps answer a b → Goes (IsDue code input steps (Prints stats)) a b
+    (run_end answer (line_in code new.state) (counts_in stats new.state))
 goes_run code input old new steps stats answer a b e h =
     goes_fresh code input new steps stats answer a b (subst (λ (o : MachineView). HasRun o new steps answer a b) e h)
 
@@ -133,9 +172,11 @@ in_end Stuck h = absurd h
 -- a machine that has not ended in so many steps was given too few for each visit of the meaning
 may_run_out : (code : PlainCode) (p : Program) (input : List ℕ) (steps : ℕ) → length input ≤ input_limit → IsEnough code p
     → (HasEnded (state_after code input steps).mode → ⊥) → MayRunOut p input steps
-may_run_out code p input steps short enough out level uncut = by (cases_lt steps (32 * (visit_count (first (ev_program level p input)) + 1)))
+may_run_out code p input steps short enough out level uncut =
+    by (cases_lt steps (32 * (visit_count (first (ev_program level p input)) + 1)))
   where
-    by : (steps < 32 * (visit_count (first (ev_program level p input)) + 1)) ⊎ (32 * (visit_count (first (ev_program level p input)) + 1) ≤ steps)
+    by : (steps < 32 * (visit_count (first (ev_program level p input)) + 1))
+        ⊎ (32 * (visit_count (first (ev_program level p input)) + 1) ≤ steps)
         → steps < 32 * (visit_count (first (ev_program level p input)) + 1)
     by (inl few) = few
     by (inr many) =
@@ -150,7 +191,8 @@ counts_are false s = refl
 counts_are true s = (record { steps = s.steps; choices = s.choices; fails = s.fails }, refl)
 
 -- what is due from code that implements a program is what the program means
-pub code_means : (p : Program) (code : PlainCode) (input : List ℕ) (steps : ℕ) (stats : Bool) → Implements code p → length input ≤ input_limit
+pub code_means : (p : Program) (code : PlainCode) (input : List ℕ) (steps : ℕ) (stats : Bool) → Implements code p
+    → length input ≤ input_limit
     → MeansOn p input steps stats (code_due code input steps (Prints stats))
 code_means p code input steps stats implements short = by (state_after code input steps).mode refl (implements input short steps)
   where
@@ -162,24 +204,31 @@ code_means p code input steps stats implements short = by (state_after code inpu
         → MeansOn p input steps stats (code_due code input steps (Prints stats))
     by (Ended e) same h =
         let s = state_after code input steps in
-        whole (printed_by code input steps) e (line_in code s) (counts_in stats s) (counts_are stats s) h (ap (λ k. mode_end k (line_in code s) (counts_in stats s)) same) refl
+        whole (printed_by code input steps) e (line_in code s) (counts_in stats s) (counts_are stats s) h
+        (ap (λ k. mode_end k (line_in code s) (counts_in stats s)) same) refl
     by Going same h =
         let s = state_after code input steps in
-        front (printed_by code input steps) (counts_in stats s) (counts_are stats s) h (cut Going same (λ x. x)) (ap (λ k. mode_end k (line_in code s) (counts_in stats s)) same) refl
+        front (printed_by code input steps) (counts_in stats s) (counts_are stats s) h (cut Going same (λ x. x))
+        (ap (λ k. mode_end k (line_in code s) (counts_in stats s)) same) refl
     by Failing same h =
         let s = state_after code input steps in
-        front (printed_by code input steps) (counts_in stats s) (counts_are stats s) h (cut Failing same (λ x. x)) (ap (λ k. mode_end k (line_in code s) (counts_in stats s)) same) refl
+        front (printed_by code input steps) (counts_in stats s) (counts_are stats s) h (cut Failing same (λ x. x))
+        (ap (λ k. mode_end k (line_in code s) (counts_in stats s)) same) refl
     by Stuck same h =
         let s = state_after code input steps in
-        front (printed_by code input steps) (counts_in stats s) (counts_are stats s) h (cut Stuck same (λ x. x)) (ap (λ k. mode_end k (line_in code s) (counts_in stats s)) same) refl
+        front (printed_by code input steps) (counts_in stats s) (counts_are stats s) h (cut Stuck same (λ x. x))
+        (ap (λ k. mode_end k (line_in code s) (counts_in stats s)) same) refl
 
 -- a run on this input is what the program means on it
-means_due : (left : Option (List ℕ)) (p : Program) (code : PlainCode) (input : List ℕ) (steps : ℕ) (stats : Bool) (due : Due) → size_of p ≤ size_limit
-    → Implements code p → length input ≤ input_limit → IsTaken left (code_reads code) input → due ≡ code_due code input steps (Prints stats) → Meant left p steps stats due
+means_due : (left : Option (List ℕ)) (p : Program) (code : PlainCode) (input : List ℕ) (steps : ℕ) (stats : Bool) (due : Due)
+    → size_of p ≤ size_limit
+    → Implements code p → length input ≤ input_limit → IsTaken left (code_reads code) input → due ≡ code_due code input steps (Prints stats)
+    → Meant left p steps stats due
 means_due left p code input steps stats due size implements short is e =
     subst (Meant left p steps stats) (sym e) (meant_on input size is (code_means p code input steps stats implements short))
 
-input_means : (left : Option (List ℕ)) (p : Program) (code : PlainCode) (steps : ℕ) (stats : Bool) (due : Due) → size_of p ≤ size_limit → Implements code p
+input_means : (left : Option (List ℕ)) (p : Program) (code : PlainCode) (steps : ℕ) (stats : Bool) (due : Due) → size_of p ≤ size_limit
+    → Implements code p
     → InputOutcome left code steps (Prints stats) due → Meant left p steps stats due
 input_means left p code steps stats due size implements (unread q e) =
     means_due left p code [] steps stats due size implements (omega arith) (subst (λ (r : Bool). IsTaken left r []) (sym q) refl) e
@@ -188,6 +237,8 @@ input_means left p code steps stats due size implements (taken input q l short e
 input_means left p code steps stats due size implements (past_input q more e) = too_long size more e
 
 -- what a run of a program comes to is what the program means
-pub outcome_means : (left : Option (List ℕ)) (p : Program) (steps : ℕ) (stats : Bool) (due : Due) → ProgramOutcome left p steps (Prints stats) due → Meant left p steps stats due
-outcome_means left p steps stats due (ran code size sound implements reads names o) = input_means left p code steps stats due size implements o
+pub outcome_means : (left : Option (List ℕ)) (p : Program) (steps : ℕ) (stats : Bool) (due : Due)
+    → ProgramOutcome left p steps (Prints stats) due → Meant left p steps stats due
+outcome_means left p steps stats due (ran code size sound implements reads names o) =
+    input_means left p code steps stats due size implements o
 outcome_means left p steps stats due (too_much_code size e) = too_large size e

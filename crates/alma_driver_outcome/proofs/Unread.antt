@@ -6,7 +6,8 @@ use Rattle.alma_code.specs.declared.instr.Instr.{Instr}
 use Rattle.alma_code.specs.declared.instr.Instr.TheVariants as I
 use Rattle.alma_code.specs.Plain.{PlainCode}
 use Rattle.alma_code.specs.Reads.{is_read, code_reads}
-use Rattle.alma_code.specs.Machine.{Mode, Going, Failing, Ended, Stuck, State, Stepped, start, act, fetch_and_act, step_in, step, after, prints}
+use Rattle.alma_code.specs.Machine.{Mode, Going, Failing, Ended, Stuck, State, Stepped, start, act, fetch_and_act, step_in, step, after}
+use Rattle.alma_code.specs.Machine.{prints}
 use Rattle.alma_driver_outcome.specs.Outcome.{Due, code_due}
 use Rattle.alma_driver_outcome.specs.Ends.{mode_end, counts_in}
 use Rattle.alma_driver_outcome.specs.Showing.{Prints}
@@ -83,7 +84,8 @@ module _ (code : PlainCode) (input other : List ℕ) where
   act_alike (I.OuterSame a b c) s q = refl
 
   -- what is taken at an address
-  fetched_alike : (o : Option Instr) (s : State) → ((i : Instr) → o ≡ Some i → is_read i ≡ false) → fetch_and_act code input o s ≡ fetch_and_act code other o s
+  fetched_alike : (o : Option Instr) (s : State) → ((i : Instr) → o ≡ Some i → is_read i ≡ false)
+      → fetch_and_act code input o s ≡ fetch_and_act code other o s
   fetched_alike None s q = refl
   fetched_alike (Some i) s q = act_alike i _ (q i refl)
 
@@ -109,10 +111,17 @@ module _ (code : PlainCode) (input other : List ℕ) where
 
   -- a due by a state and prints
   abbrev due_at : (steps : ℕ) (stats : Bool) → State → List ℕ → Due
-  due_at steps stats s out = record { end = mode_end s.mode (line_in code s) (counts_in stats s); out = out; stored = None; reads = code_reads code }
+  due_at steps stats s out = record {
+    end = mode_end s.mode (line_in code s) (counts_in stats s);
+    out = out;
+    stored = None;
+    reads =
+        code_reads code;
+  }
 
   -- what a run comes to
-  pub due_alike : (steps : ℕ) (stats : Bool) → code_reads code ≡ false → code_due code input steps (Prints stats) ≡ code_due code other steps (Prints stats)
+  pub due_alike : (steps : ℕ) (stats : Bool) → code_reads code ≡ false
+      → code_due code input steps (Prints stats) ≡ code_due code other steps (Prints stats)
   due_alike steps stats q =
       ap (λ (s : State). due_at steps stats s (prints code input steps (start code))) (after_alike steps (start code) q)
       ∙ ap (λ (out : List ℕ). due_at steps stats (after code other steps (start code)) out) (prints_alike steps (start code) q)

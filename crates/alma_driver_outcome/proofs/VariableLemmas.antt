@@ -13,10 +13,12 @@ use Rattle.alma_lower.specs.Names.{KeepsNames, variable_of}
 use Rattle.alma_driver_outcome.specs.Variables.{value_of_variable, variable_word}
 
 -- a name has one value among the variables, and as code names them
-one_value : (frames : List PlainFrame) (gs : List Global) (name : List ℕ) → value_of_name frames (map variable_of gs) name ≡ value_of_variable frames gs name
+one_value : (frames : List PlainFrame) (gs : List Global) (name : List ℕ)
+    → value_of_name frames (map variable_of gs) name ≡ value_of_variable frames gs name
 one_value frames [] name = refl
 one_value frames (g ∷ rest) name =
-    ap (λ (later : List ℕ). if_true (same_name g.name name) (λ _. cells_text frames g.slot g.cells) (λ _. later)) (one_value frames rest name)
+    ap (λ (later : List ℕ). if_true (same_name g.name name) (λ _. cells_text frames g.slot g.cells) (λ _. later))
+    (one_value frames rest name)
 
 -- what is shown of a watched name is the value of the variable
 pub variables_shown : (code : PlainCode) (p : Program) (names : List (List ℕ)) (s : State) → KeepsNames code p
@@ -38,5 +40,6 @@ name_at (x ∷ xs) (y ∷ ys) e (suc r) =
     let rest : map (λ (x : PlainRoutine). x.name) xs ≡ map (λ (y : Routine). y.name) ys = cc e in
     name_at xs ys rest r
 
-pub routines_shown : (code : PlainCode) (p : Program) (r : ℕ) → KeepsNames code p → (plain.routine_at code r).name ≡ (tree.routine_at p r).name
+pub routines_shown : (code : PlainCode) (p : Program) (r : ℕ) → KeepsNames code p
+    → (plain.routine_at code r).name ≡ (tree.routine_at p r).name
 routines_shown code p r keeps = name_at code.routines p.routines keeps.routines r

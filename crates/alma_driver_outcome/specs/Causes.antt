@@ -12,12 +12,14 @@ use Rattle.alma_driver_outcome.specs.Course.{Gains, GainsPrefix, HasStored, Othe
 -- a write or a store failed in the call
 abbrev pub WriteFailed : Outside → Outside → Type 0
 WriteFailed before after =
-    Rose before.out.faults after.out.faults ⊎ (Rose before.err.faults after.err.faults ⊎ Rose before.files.store_faults after.files.store_faults)
+    Rose before.out.faults after.out.faults ⊎ (Rose before.err.faults after.err.faults
+    ⊎ Rose before.files.store_faults after.files.store_faults)
 
 -- a count of failed writes or stores is greater now
 abbrev pub WritesGrew : Outside → Outside → Type 0
 WritesGrew before after =
-    (before.out.faults < after.out.faults) ⊎ ((before.err.faults < after.err.faults) ⊎ (before.files.store_faults < after.files.store_faults))
+    (before.out.faults < after.out.faults) ⊎ ((before.err.faults < after.err.faults)
+    ⊎ (before.files.store_faults < after.files.store_faults))
 
 -- a fetch or a read of the input failed in the call
 abbrev pub ReadFailed : Outside → Outside → Type 0

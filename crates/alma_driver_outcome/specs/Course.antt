@@ -25,7 +25,8 @@ FailsWithin old new bytes = AppendsFront old.written new.written bytes × HasRis
 
 -- the sink gained a prefix of the bytes of an outcome; none is known where memory ran out before there was one
 abbrev pub GainsPrefix : (Due → Type 0) → SinkSide → SinkSide → Type 0
-GainsPrefix outcome old new = Appends old.written new.written [] ⊎ ((due : Due) × outcome due × AppendsFront old.written new.written due.out)
+GainsPrefix outcome old new = Appends old.written new.written []
+    ⊎ ((due : Due) × outcome due × AppendsFront old.written new.written due.out)
 
 -- How a call may come to this end, by what becomes of out: a write failed within the bytes of an outcome, memory ran
 -- out within them, or it is the end of an outcome, and all its bytes were written.
@@ -64,7 +65,8 @@ ReadsOnly outcome input input' = (input' ≡ input) ⊎ (MayRead outcome × Take
 -- an outcome reads the input, and that failed; nothing was written
 abbrev pub FailsToRead : (Due → Type 0) → SourceSide → SourceSide → SinkSide → SinkSide → End → Type 0
 FailsToRead outcome input input' out out' end =
-    (end ≡ ReadFault) × MayRead outcome × LosesAtMost input.left input'.left (input_limit + 1) × HasRisen input.faults input'.faults × Gains out out' []
+    (end ≡ ReadFault) × MayRead outcome × LosesAtMost input.left input'.left (input_limit + 1) × HasRisen input.faults input'.faults
+    × Gains out out' []
 
 -- How a call may come to this end, by what becomes of the input and of out: the input failed; or it did not, and it was
 -- read where what is due says so, and, where memory ran out, only where an outcome reads it.
@@ -81,7 +83,8 @@ OthersStay old new name = (other : List ℕ) → other ≢ name → new.told oth
 -- The file has these bytes, if it is told; all others stay, and no store failed.
 abbrev pub HasStored : FilesSide → FilesSide → Stored → Type 0
 HasStored old new stored =
-    OthersStay old new stored.name × NowHas (old.told stored.name) (new.told stored.name) stored.bytes × (new.store_faults ≡ old.store_faults)
+    OthersStay old new stored.name × NowHas (old.told stored.name) (new.told stored.name) stored.bytes
+    × (new.store_faults ≡ old.store_faults)
 
 -- a store of the file failed; all others stay, and of this one nothing is said
 abbrev pub FailsToStore : FilesSide → FilesSide → Stored → Type 0
@@ -95,12 +98,14 @@ Keeps outcome due = outcome due × (due.stored ≡ None)
 pub data Stores (outcome : Due → Type 0) (files files' : FilesSide) (out out' : SinkSide) (end : End) : Type 0 where
   done : (due : Due) (stored : Stored) → outcome due → due.stored ≡ Some stored → Gains out out' due.out → HasStored files files' stored
       → due.end ≡ end → Stores outcome files files' out out' end
-  failed : (due : Due) (stored : Stored) → outcome due → due.stored ≡ Some stored → Gains out out' due.out → FailsToStore files files' stored
+  failed : (due : Due) (stored : Stored) → outcome due → due.stored ≡ Some stored → Gains out out' due.out
+      → FailsToStore files files' stored
       → end ≡ WriteFault → Stores outcome files files' out out' end
 
 -- How a call may come to this end, by what becomes of out and of the files: where nothing is stored they stay.
 abbrev pub Works : (Due → Type 0) → FilesSide → FilesSide → SinkSide → SinkSide → End → Type 0
-Works outcome files files' out out' end = (FilesStay files files' × Goes (Keeps outcome) out out' end) ⊎ Stores outcome files files' out out' end
+Works outcome files files' out out' end = (FilesStay files files' × Goes (Keeps outcome) out out' end)
+    ⊎ Stores outcome files files' out out' end
 
 -- ---- the call
 
@@ -120,7 +125,8 @@ Serves outcome files files' input input' out out' end =
     ⊎ (ReadsOnly outcome input input' × Works (Moves outcome input input') files files' out out' end)
 
 -- How a call may come to this end: the fetch of a file that is to be read failed, and the input stays; or no fetch did.
-abbrev pub Performs : (to_read : List ℕ → Type 0) → (Due → Type 0) → FilesSide → FilesSide → SourceSide → SourceSide → SinkSide → SinkSide → End → Type 0
+abbrev pub Performs : (to_read : List ℕ → Type 0) → (Due → Type 0) → FilesSide → FilesSide → SourceSide → SourceSide → SinkSide → SinkSide
+    → End → Type 0
 Performs to_read outcome files files' input input' out out' end =
     (FailsToFetch to_read files files' out out' end × (input' ≡ input))
     ⊎ ((files'.fetch_faults ≡ files.fetch_faults) × Serves outcome files files' input input' out out' end)
@@ -135,5 +141,6 @@ Reports file end old new status =
 -- How a call with these words may change what is outside, and which status it may answer.
 pub record Answers (words : List (List ℕ)) (before after : Outside) (status : ℕ) : Type 0 where
   pub end : End
-  pub performed : Performs (AskToRead words) (Outcome words before.files.told before.input.left) before.files after.files before.input after.input before.out after.out end
+  pub performed : Performs (AskToRead words) (Outcome words before.files.told before.input.left) before.files after.files before.input
+      after.input before.out after.out end
   pub reported : Reports (file_of words) end before.err after.err status

@@ -26,7 +26,8 @@ use Rattle.alma_source.specs.declared.fault.SourceFault.{SourceFault}
 use Rattle.alma_source.specs.Texts.{refusal_text}
 use Rattle.alma_driver_outcome.specs.declared.end.Counts.{Counts}
 use Rattle.alma_driver_outcome.specs.declared.end.End.{End}
-use Rattle.alma_driver_outcome.specs.declared.end.End.TheVariants.{Succeeded, Failed, BadWord, Refused, Faulted, StepsOut, ReadFault, WriteFault}
+use Rattle.alma_driver_outcome.specs.declared.end.End.TheVariants.{Succeeded, Failed, BadWord, Refused, Faulted, StepsOut, ReadFault}
+use Rattle.alma_driver_outcome.specs.declared.end.End.TheVariants.{WriteFault}
 use Rattle.alma_driver_outcome.specs.declared.end.End.TheVariants.{Memory, BadObject, BadCode, TooLong, TooMuchCode}
 
 -- the status of an end
@@ -196,7 +197,8 @@ store_end store.Memory = Memory
 -- the line that sums up the run of a sample: its lines, the bytes of its source and of its output, and the status of its end
 abbrev pub summary_line : (lines bytes printed status : List ℕ) → List ℕ
 summary_line lines bytes printed status =
-    codes "lines " ++ (lines ++ (codes " bytes " ++ (bytes ++ (codes " printed " ++ (printed ++ (codes " status " ++ (status ++ codes "\n")))))))
+    codes "lines " ++ (lines ++ (codes " bytes "
+    ++ (bytes ++ (codes " printed " ++ (printed ++ (codes " status " ++ (status ++ codes "\n")))))))
 
 -- the same by numbers
 abbrev pub sample_line : (lines bytes printed status : ℕ) → List ℕ

@@ -65,7 +65,8 @@ pub record ShowsResult (stats : Bool) (meant : List ℕ × End) (before after : 
   pub shows : Shows before after meant.0 (counts_text counts ++ meant_text meant.1)
 
 -- the steps ran out: out gained a front of the prints of the meaning, which covers one visit for each 32 steps
-pub record ShowsFront (words : List (List ℕ)) (stats : Bool) (p : Program) (input : List ℕ) (steps : ℕ) (before after : Outside) (status : ℕ) : Type 0 where
+pub record ShowsFront (words : List (List ℕ)) (stats : Bool) (p : Program) (input : List ℕ) (steps : ℕ) (before after : Outside)
+    (status : ℕ) : Type 0 where
   pub status_is : status ≡ 5
   pub printed : List ℕ
   pub covers : Covers (first (ev_program (suc steps) p input)) printed (steps / 32)
@@ -75,17 +76,19 @@ pub record ShowsFront (words : List (List ℕ)) (stats : Bool) (p : Program) (in
   pub shows : Shows before after printed (text_of (file_of words) (StepsOut counts))
 
 -- What a call that asks to run a source shows.
-pub data RunEnds (words : List (List ℕ)) (source input : List ℕ) (steps : ℕ) (stats : Bool) (before after : Outside) (status : ℕ) : Type 0 where
-  -- the source has this fault at this place, and no other: it is refused for that
-  refuses : (fault : SourceFault) (offset : ℕ) → IsRefused source fault offset
-      → ((other : SourceFault) (place : ℕ) → IsRefused source other place → (fault ≡ other) × (offset ≡ place))
-      → status ≡ 3 → Shows before after [] (text_of (file_of words) (Refused fault (place_of source offset)))
-      → RunEnds words source input steps stats before after status
-  -- the source is a program whose size is past its limit: it is refused with that number
-  too_large : (p : Program) → IsProgramOf source p → size_limit < size_of p → status ≡ 11
-      → Shows before after [] (text_of (file_of words) (TooMuchCode (size_of p))) → RunEnds words source input steps stats before after status
-  -- the source is a program: its result, or a front of its prints
-  ended : (p : Program) → IsProgramOf source p → size_of p ≤ size_limit → ShowsResult stats (result (suc steps) p input) before after status
-      → RunEnds words source input steps stats before after status
-  ran_out : (p : Program) → IsProgramOf source p → size_of p ≤ size_limit → ShowsFront words stats p input steps before after status
-      → RunEnds words source input steps stats before after status
+pub data RunEnds (words : List (List ℕ)) (source input : List ℕ) (steps : ℕ) (stats : Bool) (before after : Outside) (status : ℕ) : Type 0
+  where
+    -- the source has this fault at this place, and no other: it is refused for that
+    refuses : (fault : SourceFault) (offset : ℕ) → IsRefused source fault offset
+        → ((other : SourceFault) (place : ℕ) → IsRefused source other place → (fault ≡ other) × (offset ≡ place))
+        → status ≡ 3 → Shows before after [] (text_of (file_of words) (Refused fault (place_of source offset)))
+        → RunEnds words source input steps stats before after status
+    -- the source is a program whose size is past its limit: it is refused with that number
+    too_large : (p : Program) → IsProgramOf source p → size_limit < size_of p → status ≡ 11
+        → Shows before after [] (text_of (file_of words) (TooMuchCode (size_of p)))
+        → RunEnds words source input steps stats before after status
+    -- the source is a program: its result, or a front of its prints
+    ended : (p : Program) → IsProgramOf source p → size_of p ≤ size_limit → ShowsResult stats (result (suc steps) p input) before after status
+        → RunEnds words source input steps stats before after status
+    ran_out : (p : Program) → IsProgramOf source p → size_of p ≤ size_limit → ShowsFront words stats p input steps before after status
+        → RunEnds words source input steps stats before after status

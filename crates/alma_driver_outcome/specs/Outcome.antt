@@ -31,7 +31,8 @@ use Rattle.alma_source.specs.Refusal.{IsRefused, IsProgramOf, place_of}
 use Rattle.alma_source.specs.declared.fault.SourceFault.{SourceFault}
 use Rattle.alma_driver_outcome.specs.declared.end.Counts.{Counts}
 use Rattle.alma_driver_outcome.specs.declared.end.End.{End}
-use Rattle.alma_driver_outcome.specs.declared.end.End.TheVariants.{Succeeded, BadWord, Refused, StepsOut, ReadFault, Memory, BadObject, BadCode, TooLong, TooMuchCode}
+use Rattle.alma_driver_outcome.specs.declared.end.End.TheVariants.{Succeeded, BadWord, Refused, StepsOut, ReadFault, Memory, BadObject}
+use Rattle.alma_driver_outcome.specs.declared.end.End.TheVariants.{BadCode, TooLong, TooMuchCode}
 
 -- the size of a program, by which its code is limited
 abbrev pub size_of : Program → ℕ
@@ -89,7 +90,8 @@ long_input = record { end = TooLong; out = []; stored = None; reads = true }
 -- first step, and may be too long; where it does not, it runs on an empty one.
 pub data InputOutcome (left : Option (List ℕ)) (code : PlainCode) (steps : ℕ) (showing : Showing) (due : Due) : Type 0 where
   unread : code_reads code ≡ false → due ≡ code_due code [] steps showing → InputOutcome left code steps showing due
-  taken : (input : List ℕ) → code_reads code ≡ true → MayBeLeft left input → length input ≤ input_limit → due ≡ code_due code input steps showing
+  taken : (input : List ℕ) → code_reads code ≡ true → MayBeLeft left input → length input ≤ input_limit
+      → due ≡ code_due code input steps showing
       → InputOutcome left code steps showing due
   past_input : code_reads code ≡ true → MayHaveMore left input_limit → due ≡ long_input → InputOutcome left code steps showing due
 
@@ -98,7 +100,8 @@ pub data InputOutcome (left : Option (List ℕ)) (code : PlainCode) (steps : ℕ
 -- What a run of a program for so many steps comes to: what a sound code that implements it, reads exactly where it does, and keeps its
 -- names, comes to in so many steps, or the refusal of its size.
 pub data ProgramOutcome (left : Option (List ℕ)) (p : Program) (steps : ℕ) (showing : Showing) (due : Due) : Type 0 where
-  ran : (code : PlainCode) → size_of p ≤ size_limit → IsSound code → Implements code p → code_reads code ≡ program_reads p → KeepsNames code p
+  ran : (code : PlainCode) → size_of p ≤ size_limit → IsSound code → Implements code p → code_reads code ≡ program_reads p
+      → KeepsNames code p
       → InputOutcome left code steps showing due
       → ProgramOutcome left p steps showing due
   too_much_code : size_limit < size_of p → due ≡ silent (TooMuchCode (size_of p)) → ProgramOutcome left p steps showing due
@@ -106,7 +109,8 @@ pub data ProgramOutcome (left : Option (List ℕ)) (p : Program) (steps : ℕ) (
 -- What compiling a program under a name comes to: the object of a sound code that implements it, reads exactly where it does, keeps
 -- its names, and has numbers that fit their fields, so that it is read back as that code, is stored there; or the refusal of its size.
 pub data CompileOutcome (p : Program) (object : List ℕ) (due : Due) : Type 0 where
-  made : (code : PlainCode) (bytes : List ℕ) → size_of p ≤ size_limit → IsSound code → Implements code p → code_reads code ≡ program_reads p → KeepsNames code p
+  made : (code : PlainCode) (bytes : List ℕ) → size_of p ≤ size_limit → IsSound code → Implements code p → code_reads code ≡ program_reads p
+      → KeepsNames code p
       → IsObject code bytes → FitsFields code → due ≡ storing object bytes → CompileOutcome p object due
   past_size : size_limit < size_of p → due ≡ silent (TooMuchCode (size_of p)) → CompileOutcome p object due
 
@@ -115,7 +119,8 @@ pub data CompileOutcome (p : Program) (object : List ℕ) (due : Due) : Type 0 w
 -- So many steps may not be enough for the meaning of the program: at 32 steps for each visit, and 32 more, they would be.
 abbrev pub MayRunOut : Program → (input : List ℕ) → (steps : ℕ) → Type 0
 MayRunOut p input steps =
-    (level : ℕ) → (end_of (first (ev_program level p input)) ≡ CutOff → ⊥) → steps < 32 * (visit_count (first (ev_program level p input)) + 1)
+    (level : ℕ) → (end_of (first (ev_program level p input)) ≡ CutOff → ⊥)
+    → steps < 32 * (visit_count (first (ev_program level p input)) + 1)
 
 -- counts are told where they are asked for
 abbrev pub AreCounts : (stats : Bool) → Option Counts → Type 0
@@ -128,7 +133,8 @@ pub data MeansOn (p : Program) (input : List ℕ) (steps : ℕ) (stats : Bool) (
   whole : (printed : List ℕ) (end : code.End) (line : ℕ) (counts : Option Counts) → AreCounts stats counts
       → result (suc steps) p input ≡ (printed, meant_end end line) → due.end ≡ ended_end end line counts → due.out ≡ printed
       → MeansOn p input steps stats due
-  front : (printed : List ℕ) (counts : Option Counts) → AreCounts stats counts → Covers (first (ev_program (suc steps) p input)) printed (steps / 32)
+  front : (printed : List ℕ) (counts : Option Counts) → AreCounts stats counts
+      → Covers (first (ev_program (suc steps) p input)) printed (steps / 32)
       → MayRunOut p input steps → due.end ≡ StepsOut counts → due.out ≡ printed → MeansOn p input steps stats due
 
 -- the input on which a run goes, by whether it is read
@@ -139,7 +145,8 @@ IsTaken left true input = MayBeLeft left input × (length input ≤ input_limit)
 -- What it says by what is left of the input: the program runs on that, or, where it is not read, on an empty input; or the
 -- input is too long; or the refusal of its size.
 pub data Meant (left : Option (List ℕ)) (p : Program) (steps : ℕ) (stats : Bool) (due : Due) : Type 0 where
-  meant_on : (input : List ℕ) → size_of p ≤ size_limit → IsTaken left due.reads input → MeansOn p input steps stats due → Meant left p steps stats due
+  meant_on : (input : List ℕ) → size_of p ≤ size_limit → IsTaken left due.reads input → MeansOn p input steps stats due
+      → Meant left p steps stats due
   too_long : size_of p ≤ size_limit → MayHaveMore left input_limit → due ≡ long_input → Meant left p steps stats due
   too_large : size_limit < size_of p → due ≡ silent (TooMuchCode (size_of p)) → Meant left p steps stats due
 
@@ -147,7 +154,8 @@ pub data Meant (left : Option (List ℕ)) (p : Program) (steps : ℕ) (stats : B
 
 -- the end of a source that is no program: its refusal
 pub data IsSourceEnd (source : List ℕ) (end : End) : Type 0 where
-  refused : (fault : SourceFault) (offset : ℕ) → IsRefused source fault offset → end ≡ Refused fault (place_of source offset) → IsSourceEnd source end
+  refused : (fault : SourceFault) (offset : ℕ) → IsRefused source fault offset → end ≡ Refused fault (place_of source offset)
+      → IsSourceEnd source end
 
 -- what a source comes to: that end, or what its program comes to
 pub data SourceOutcome (source : List ℕ) (program_outcome : Program → Due → Type 0) (due : Due) : Type 0 where
@@ -172,7 +180,8 @@ pub data CodeOutcome (left : Option (List ℕ)) (code : PlainCode) (steps : ℕ)
 -- what running the code of an object comes to; or the first fault of the format of bytes that are none
 pub data ExecOutcome (left : Option (List ℕ)) (bytes : List ℕ) (steps : ℕ) (stats : Bool) (due : Due) : Type 0 where
   opened : object_fault bytes ≡ None → CodeOutcome left (object_code bytes) steps stats due → ExecOutcome left bytes steps stats due
-  unopened : (fault : ObjectFault) → object_fault bytes ≡ Some fault → due ≡ silent (BadObject fault) → ExecOutcome left bytes steps stats due
+  unopened : (fault : ObjectFault) → object_fault bytes ≡ Some fault → due ≡ silent (BadObject fault)
+      → ExecOutcome left bytes steps stats due
 
 -- ---- requests
 
@@ -200,8 +209,10 @@ FileOutcome left (Sample lines) none due = SampleOutcome lines due
 
 -- What a request comes to, by what the files tell: its file is missing, or too long, or has these bytes; or it reads none.
 pub data RequestOutcome (told : List ℕ → Told) (left : Option (List ℕ)) (request : Request) (due : Due) : Type 0 where
-  absent : (name : List ℕ) → read_by request ≡ Some name → told name ≡ Missing → due ≡ silent ReadFault → RequestOutcome told left request due
-  past_limit : (name : List ℕ) → read_by request ≡ Some name → MayPass (told name) (limit_of request) → due ≡ silent TooLong → RequestOutcome told left request due
+  absent : (name : List ℕ) → read_by request ≡ Some name → told name ≡ Missing → due ≡ silent ReadFault
+      → RequestOutcome told left request due
+  past_limit : (name : List ℕ) → read_by request ≡ Some name → MayPass (told name) (limit_of request) → due ≡ silent TooLong
+      → RequestOutcome told left request due
   fetched : (name bytes : List ℕ) → read_by request ≡ Some name → MayHave (told name) bytes → length bytes ≤ limit_of request
       → FileOutcome left request bytes due → RequestOutcome told left request due
   unfetched : read_by request ≡ None → FileOutcome left request [] due → RequestOutcome told left request due

@@ -19,15 +19,19 @@ pub form_length : (form : ℕ) (cell value : List ℕ) → length cell ≤ 2 →
 form_length zero cell value a b =
     let last : length (codes ";\n") ≤ 2 = omega arith in
     let one : length (value ++ codes ";\n") ≤ 4 = piece value (codes ";\n") 2 b last in
-    let two : length (cell ++ (codes "] := " ++ (value ++ codes ";\n"))) ≤ 11 = piece cell (codes "] := " ++ (value ++ codes ";\n")) 9 a (omega (arith, one)) in
+    let two : length (cell ++ (codes "] := " ++ (value ++ codes ";\n"))) ≤ 11 =
+    piece cell (codes "] := " ++ (value ++ codes ";\n")) 9 a (omega (arith, one)) in
     omega (arith, two)
 form_length (suc zero) cell value a b =
     let one : length (value ++ codes " END;\n") ≤ 8 = piece value (codes " END;\n") 6 b (omega arith) in
-    let two : length (cell ++ (codes "] := " ++ (value ++ codes " END;\n"))) ≤ 15 = piece cell (codes "] := " ++ (value ++ codes " END;\n")) 13 a (omega (arith, one)) in
+    let two : length (cell ++ (codes "] := " ++ (value ++ codes " END;\n"))) ≤ 15 =
+    piece cell (codes "] := " ++ (value ++ codes " END;\n")) 13 a (omega (arith, one)) in
     let three : length (value ++ (codes " ORELSE v[" ++ (cell ++ (codes "] := " ++ (value ++ codes " END;\n"))))) ≤ 27 =
     piece value (codes " ORELSE v[" ++ (cell ++ (codes "] := " ++ (value ++ codes " END;\n")))) 25 b (omega (arith, two)) in
-    let four : length (cell ++ (codes "] = " ++ (value ++ (codes " ORELSE v[" ++ (cell ++ (codes "] := " ++ (value ++ codes " END;\n"))))))) ≤ 33 =
-    piece cell (codes "] = " ++ (value ++ (codes " ORELSE v[" ++ (cell ++ (codes "] := " ++ (value ++ codes " END;\n")))))) 31 a (omega (arith, three)) in
+    let four : length (cell ++ (codes "] = " ++ (value ++ (codes " ORELSE v[" ++ (cell ++ (codes "] := " ++ (value ++ codes " END;\n")))))))
+    ≤ 33 =
+    piece cell (codes "] = " ++ (value ++ (codes " ORELSE v[" ++ (cell ++ (codes "] := " ++ (value ++ codes " END;\n")))))) 31 a
+    (omega (arith, three)) in
     omega (arith, four)
 form_length (suc (suc zero)) cell value a b =
     let one : length (cell ++ codes "] := n END;\n") ≤ 14 = piece cell (codes "] := n END;\n") 12 a (omega arith) in
@@ -56,7 +60,8 @@ pub lines_length : (count number : ℕ) → length (lines_from count number) ≤
 lines_length zero number = omega arith
 lines_length (suc count) number =
     let both : length (line_of number ++ lines_from count (next_number number)) ≤ 64 + count * 64 =
-    joined (line_of number) (lines_from count (next_number number)) 64 (count * 64) (line_length number) (lines_length count (next_number number)) in
+    joined (line_of number) (lines_from count (next_number number)) 64 (count * 64) (line_length number)
+    (lines_length count (next_number number)) in
     omega (arith, both)
 
 -- so is what stands round them

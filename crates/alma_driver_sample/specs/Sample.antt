@@ -13,7 +13,8 @@ assign_line cell value = codes "v[" ++ (cell ++ (codes "] := " ++ (value ++ code
 -- a choice between a test and an assignment
 abbrev pub either_line : (cell value : List ℕ) → List ℕ
 either_line cell value =
-    codes "EITHER v[" ++ (cell ++ (codes "] = " ++ (value ++ (codes " ORELSE v[" ++ (cell ++ (codes "] := " ++ (value ++ codes " END;\n")))))))
+    codes "EITHER v[" ++ (cell
+    ++ (codes "] = " ++ (value ++ (codes " ORELSE v[" ++ (cell ++ (codes "] := " ++ (value ++ codes " END;\n")))))))
 
 -- an assignment for every alternative
 abbrev pub forall_line : (cell value : List ℕ) → List ℕ

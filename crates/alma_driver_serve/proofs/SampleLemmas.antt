@@ -55,37 +55,49 @@ sampled source printed i j m n end own h =
     record { run = x.due; outcome = x.outcome; prints = ap length x.out; ends = ap status_of x.end_is }
 
 -- the same by what stands for its parts
-pub sampled_by : (source printed told left written : List ℕ) (f m : ℕ) (j : SourceSide) (n : ℕ) (end : End) (status : ℕ) → left ≡ [] → written ≡ [] → told ≡ printed
+pub sampled_by : (source printed told left written : List ℕ) (f m : ℕ) (j : SourceSide) (n : ℕ) (end : End) (status : ℕ) → left ≡ []
+    → written ≡ [] → told ≡ printed
     → status ≡ status_of end → IsOwn end
-    → Runs (SourceOutcome source (λ p. ProgramOutcome (Some left) p default_steps (Prints false))) (source_side (Some left) f) j (sink_side (Some written) m) (sink_side (Some printed) n) end
+    → Runs (SourceOutcome source (λ p. ProgramOutcome (Some left) p default_steps (Prints false))) (source_side (Some left) f) j
+    (sink_side (Some written) m) (sink_side (Some printed) n) end
     → IsSampled source (length told) status
 sampled_by source printed told left written f m j n end status none empty all ends own h =
-    let fresh : Runs (SourceOutcome source (λ p. ProgramOutcome (Some []) p default_steps (Prints false))) (source_side (Some []) f) j (sink_side (Some written) m) (sink_side (Some printed) n) end =
-    subst (λ (l : List ℕ). Runs (SourceOutcome source (λ p. ProgramOutcome (Some l) p default_steps (Prints false))) (source_side (Some l) f) j (sink_side (Some written) m) (sink_side (Some printed) n) end) none h in
+    let fresh : Runs (SourceOutcome source (λ p. ProgramOutcome (Some []) p default_steps (Prints false))) (source_side (Some []) f) j
+    (sink_side (Some written) m) (sink_side (Some printed) n) end =
+    subst (λ (l : List ℕ). Runs (SourceOutcome source (λ p. ProgramOutcome (Some l) p default_steps (Prints false)))
+    (source_side (Some l) f) j (sink_side (Some written) m) (sink_side (Some printed) n) end) none h in
     let run : Runs (IsAside source) (source_side (Some []) f) j (sink_side (Some []) m) (sink_side (Some printed) n) end =
-    subst (λ (w : List ℕ). Runs (IsAside source) (source_side (Some []) f) j (sink_side (Some w) m) (sink_side (Some printed) n) end) empty fresh in
+    subst (λ (w : List ℕ). Runs (IsAside source) (source_side (Some []) f) j (sink_side (Some w) m) (sink_side (Some printed) n) end) empty
+    fresh in
     subst (IsSampled source (length told)) (sym ends)
-    (subst (λ (t : List ℕ). IsSampled source (length t) (status_of end)) (sym all) (sampled source printed (source_side (Some []) f) j m n end own run))
+    (subst (λ (t : List ℕ). IsSampled source (length t) (status_of end)) (sym all)
+    (sampled source printed (source_side (Some []) f) j m n end own run))
 
 -- what is due where this is the line of the run
 abbrev pub IsSummary : (lines bytes printed status : ℕ) → Due → Type 0
 IsSummary lines bytes printed status due = due ≡ due_of (Succeeded None) (sample_line lines bytes printed status)
 
 -- a sample that was run and summed up
-pub goes_summed : (lines : ℕ) (source : List ℕ) (printed status : ℕ) (a b : SinkSide) (end : End) → source ≡ sample_text lines → IsSampled source printed status
+pub goes_summed : (lines : ℕ) (source : List ℕ) (printed status : ℕ) (a b : SinkSide) (end : End) → source ≡ sample_text lines
+    → IsSampled source printed status
     → Goes (IsSummary lines (length source) printed status) a b end → Goes (SampleOutcome lines) a b end
 goes_summed lines source printed status a b end same run g =
     let is : IsSampled (sample_text lines) printed status = subst (λ (s : List ℕ). IsSampled s printed status) same run in
     goes_map (IsSummary lines (length source) printed status) (SampleOutcome lines)
-    (λ due e. summed printed status is (e ∙ ap (λ (s : List ℕ). due_of (Succeeded None) (sample_line lines (length s) printed status)) same)) a b end g
+    (λ due e. summed printed status is (e ∙ ap (λ (s : List ℕ). due_of (Succeeded None) (sample_line lines (length s) printed status))
+    same)) a b end g
 
 -- the parts of that line
-pub summary_parts : (first lines second bytes third printed fourth status end : List ℕ) → first ≡ codes "lines " → second ≡ codes " bytes " → third ≡ codes " printed "
+pub summary_parts : (first lines second bytes third printed fourth status end : List ℕ) → first ≡ codes "lines " → second ≡ codes " bytes "
+    → third ≡ codes " printed "
     → fourth ≡ codes " status " → end ≡ codes "\n"
-    → first ++ (lines ++ (second ++ (bytes ++ (third ++ (printed ++ (fourth ++ (status ++ (end ++ [])))))))) ≡ summary_line lines bytes printed status
+    → first ++ (lines ++ (second ++ (bytes ++ (third ++ (printed ++ (fourth ++ (status ++ (end ++ [])))))))) ≡ summary_line lines bytes
+    printed status
 summary_parts first lines second bytes third printed fourth status end f s t u e =
     ap (λ x. x ++ (lines ++ (second ++ (bytes ++ (third ++ (printed ++ (fourth ++ (status ++ (end ++ []))))))))) f
     ∙ ap (λ x. codes "lines " ++ (lines ++ (x ++ (bytes ++ (third ++ (printed ++ (fourth ++ (status ++ (end ++ []))))))))) s
     ∙ ap (λ x. codes "lines " ++ (lines ++ (codes " bytes " ++ (bytes ++ (x ++ (printed ++ (fourth ++ (status ++ (end ++ []))))))))) t
-    ∙ ap (λ x. codes "lines " ++ (lines ++ (codes " bytes " ++ (bytes ++ (codes " printed " ++ (printed ++ (x ++ (status ++ (end ++ []))))))))) u
-    ∙ ap (λ x. codes "lines " ++ (lines ++ (codes " bytes " ++ (bytes ++ (codes " printed " ++ (printed ++ (codes " status " ++ (status ++ (x ++ []))))))))) e
+    ∙ ap (λ x. codes "lines " ++ (lines
+    ++ (codes " bytes " ++ (bytes ++ (codes " printed " ++ (printed ++ (x ++ (status ++ (end ++ []))))))))) u
+    ∙ ap (λ x. codes "lines " ++ (lines
+    ++ (codes " bytes " ++ (bytes ++ (codes " printed " ++ (printed ++ (codes " status " ++ (status ++ (x ++ []))))))))) e

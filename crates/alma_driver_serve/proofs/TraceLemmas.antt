@@ -1,5 +1,6 @@
 -- What a run that is traced comes to.
-use Rattle.std.proofs.Common.{◌≡◌, ◌≤◌, ◌+◌, ◌∙◌, ℕ, zero, suc, List, [], ◌++◌, map, flat_map, refl, inr, ap, sym, subst, arith, append_assoc, append-nil, nat_eq, All}
+use Rattle.std.proofs.Common.{◌≡◌, ◌≤◌, ◌+◌, ◌∙◌, ℕ, zero, suc, List, [], ◌++◌, map, flat_map, refl, inr, ap, sym, subst, arith}
+use Rattle.std.proofs.Common.{append_assoc, append-nil, nat_eq, All}
 use Rattle.std.specs.Prelude.{Bool, true, false, Option, None}
 use Rattle.std.proofs.lemmas.Bool.{eqb-true}
 use Rattle.std.proofs.lemmas.List.Concat.{flat_map-append}
@@ -71,7 +72,8 @@ within_front code input watches m n s le = by (nat_eq m n) refl
         → (rest : List ℕ) × (traced code input watches n s ≡ traced_within code input watches m n s ++ rest)
     by true e =
         let same : m ≡ n = eqb-true m n e in
-        let end : steps_end ≡ if_true (nat_eq m n) (λ _. steps_end) (λ _. []) = sym (ap (λ (b : Bool). if_true b (λ _. steps_end) (λ _. [])) e) in (
+        let end : steps_end ≡ if_true (nat_eq m n) (λ _. steps_end) (λ _. []) =
+        sym (ap (λ (b : Bool). if_true b (λ _. steps_end) (λ _. [])) e) in (
           [],
           ap (λ (k : ℕ). traced code input watches k s) (sym same)
               ∙ ap (λ (z : List (List (List ℕ))). flat_map text_line (run_lines code input watches z m s)) end
@@ -82,7 +84,8 @@ within_front code input watches m n s le = by (nat_eq m n) refl
         let front = lines_front code input watches steps_end m n s le in (
           flat_map text_line front.0,
           ap (flat_map text_line) front.1 ∙ flat_map-append text_line (run_lines code input watches [] m s) front.0
-              ∙ ap (λ (z : List (List (List ℕ))). flat_map text_line (run_lines code input watches z m s) ++ flat_map text_line front.0) none,
+              ∙ ap (λ (z : List (List (List ℕ))). flat_map text_line (run_lines code input watches z m s) ++ flat_map text_line front.0)
+              none,
         )
 
 -- a front of what begins more is a front of more
@@ -114,32 +117,66 @@ out_traced : (code : PlainCode) (input : List ℕ) (watches : List Watch) (steps
 out_traced code input watches steps a b named h = subst (Appends a b) (traces_are_the_trace_text code input watches steps named) h
 
 -- and so is a front of it
-front_traced : (code : PlainCode) (input : List ℕ) (watches : List Watch) (m steps : ℕ) (a b : Option (List ℕ)) → All (IsResolved code) watches → m ≤ steps
-    → AppendsFront a b (traced_within code input watches m steps (start code)) → AppendsFront a b (trace_text code input (names_of watches) steps)
+front_traced : (code : PlainCode) (input : List ℕ) (watches : List Watch) (m steps : ℕ) (a b : Option (List ℕ))
+    → All (IsResolved code) watches → m ≤ steps
+    → AppendsFront a b (traced_within code input watches m steps (start code))
+    → AppendsFront a b (trace_text code input (names_of watches) steps)
 front_traced code input watches m steps a b named le h =
     let more = within_front code input watches m steps (start code) le in
     subst (AppendsFront a b) (traces_are_the_trace_text code input watches steps named)
-    (front_further a b (traced_within code input watches m steps (start code)) (traced code input watches steps (start code)) more.0 more.1 h)
+    (front_further a b (traced_within code input watches m steps (start code)) (traced code input watches steps (start code)) more.0 more.1
+    h)
 
 -- a traced run from the start goes as its code is due
-goes_traced : (code : PlainCode) (input : List ℕ) (new : MachineView) (watches : List Watch) (steps : ℕ) (answer : RunEnd) (a b : SinkSide) → All (IsResolved code) watches
-    → HasTraced (fresh code input) new watches steps answer a b → Goes (IsTraceDue code input watches steps) a b (run_end answer (line_in code new.state) None)
-goes_traced code input new watches steps run.Succeeded a b named h =
-    (due_traced code input watches steps, end_is code input new.state steps false run.Succeeded h.answered h.state, refl, (out_traced code input watches steps a.written b.written named h.out, h.cause.ok))
-goes_traced code input new watches steps run.Failed a b named h =
-    (due_traced code input watches steps, end_is code input new.state steps false run.Failed h.answered h.state, refl, (out_traced code input watches steps a.written b.written named h.out, h.cause.ok))
-goes_traced code input new watches steps (run.Fault fault) a b named h =
-    (due_traced code input watches steps, end_is code input new.state steps false (run.Fault fault) h.answered h.state, refl, (out_traced code input watches steps a.written b.written named h.out, h.cause.ok))
-goes_traced code input new watches steps run.StepsOut a b named h =
-    (due_traced code input watches steps, end_is code input new.state steps false run.StepsOut h.answered h.state, refl, (out_traced code input watches steps a.written b.written named h.out, h.cause.ok))
+goes_traced : (code : PlainCode) (input : List ℕ) (new : MachineView) (watches : List Watch) (steps : ℕ) (answer : RunEnd) (a b : SinkSide)
+    → All (IsResolved code) watches
+    → HasTraced (fresh code input) new watches steps answer a b
+    → Goes (IsTraceDue code input watches steps) a b (run_end answer (line_in code new.state) None)
+goes_traced code input new watches steps run.Succeeded a b named h = (
+  due_traced code input watches steps,
+  end_is code input new.state steps false run.Succeeded h.answered h.state,
+  refl,
+  (out_traced code input watches steps a.written b.written named h.out, h.cause.ok),
+)
+goes_traced code input new watches steps run.Failed a b named h = (
+  due_traced code input watches steps,
+  end_is code input new.state steps false run.Failed h.answered h.state,
+  refl,
+  (out_traced code input watches steps a.written b.written named h.out, h.cause.ok),
+)
+goes_traced code input new watches steps (run.Fault fault) a b named h = (
+  due_traced code input watches steps,
+  end_is code input new.state steps false (run.Fault fault) h.answered h.state,
+  refl,
+  (out_traced code input watches steps a.written b.written named h.out, h.cause.ok),
+)
+goes_traced code input new watches steps run.StepsOut a b named h = (
+  due_traced code input watches steps,
+  end_is code input new.state steps false run.StepsOut h.answered h.state,
+  refl,
+  (out_traced code input watches steps a.written b.written named h.out, h.cause.ok),
+)
 goes_traced code input new watches steps run.WriteFault a b named h =
-    let le : made (fresh code input) new ≤ steps = omega (arith, h.few) in
-    (due_traced code input watches steps, refl, (front_traced code input watches (made (fresh code input) new) steps a.written b.written named le h.front, (h.cause.later, h.cause.err)))
+    let le : made (fresh code input) new ≤ steps = omega (arith, h.few) in (
+      due_traced code input watches steps,
+      refl,
+      (
+        front_traced code input watches (made (fresh code input) new) steps a.written b.written named le h.front,
+        (h.cause.later, h.cause.err),
+      ),
+    )
 goes_traced code input new watches steps run.Memory a b named h =
-    let le : made (fresh code input) new ≤ steps = omega (arith, h.few) in
-    (inr (due_traced code input watches steps, refl, front_traced code input watches (made (fresh code input) new) steps a.written b.written named le h.front), h.cause.ok)
+    let le : made (fresh code input) new ≤ steps = omega (arith, h.few) in (
+      inr (
+        due_traced code input watches steps,
+        refl,
+        front_traced code input watches (made (fresh code input) new) steps a.written b.written named le h.front,
+      ),
+      h.cause.ok,
+    )
 
-pub goes_trace : (code : PlainCode) (input : List ℕ) (old new : MachineView) (watches : List Watch) (steps : ℕ) (answer : RunEnd) (a b : SinkSide) → old ≡ fresh code input
+pub goes_trace : (code : PlainCode) (input : List ℕ) (old new : MachineView) (watches : List Watch) (steps : ℕ) (answer : RunEnd)
+    (a b : SinkSide) → old ≡ fresh code input
     → All (IsResolved code) watches → HasTraced old new watches steps answer a b
     → Goes (IsDue code input steps (Traces (names_of watches))) a b (run_end answer (line_in code new.state) None)
 goes_trace code input old new watches steps answer a b e named h =

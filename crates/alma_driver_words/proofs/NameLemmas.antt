@@ -1,5 +1,6 @@
 -- Words that are one name of the language.
-use Rattle.std.proofs.Common.{◌≡◌, ◌+◌, ◌-◌, ◌∙◌, ℕ, List, [], ◌∷◌, length, take, refl, sym, ap, subst, arith, length-append, ◌↔◌, ◌≢◌, IsTrue, nat_eq, true}
+use Rattle.std.proofs.Common.{◌≡◌, ◌+◌, ◌-◌, ◌∙◌, ℕ, List, [], ◌∷◌, length, take, refl, sym, ap, subst, arith, length-append, ◌↔◌, ◌≢◌}
+use Rattle.std.proofs.Common.{IsTrue, nat_eq, true}
 use Rattle.std.proofs.lemmas.Bool.{eq-eqb, eqb-true}
 use Rattle.std.proofs.lemmas.List.{take_all}
 use Rattle.std.specs.Prelude.{slice_range}
@@ -48,7 +49,8 @@ size_same : (a b : ℕ) → a ≡ b → nat_eq a b ≡ true
 size_same a b e = eq-eqb a b e
 
 -- a token of kind Name is all of its source where this is one name, and only there
-pub name_token : (text : List ℕ) (s : Unread) (token : Lexeme) (rest : List ℕ) → s ≡ whole text → HasToken s.size s.bytes token rest → token.kind ≡ kinds.Name
+pub name_token : (text : List ℕ) (s : Unread) (token : Lexeme) (rest : List ℕ) → s ≡ whole text → HasToken s.size s.bytes token rest
+    → token.kind ≡ kinds.Name
     → IsTrue (nat_eq (length token.text) (length text)) ↔ IsName text
 name_token text s token rest e h name =
     let at = subst (λ (u : Unread). HasToken u.size u.bytes token rest) e h in (
@@ -62,7 +64,8 @@ name_token text s token rest e h name =
           subst (λ (t : Lexeme). Tokens text (t ∷ [])) (only.1 ∙ ap (λ (k : Kind). token_of k text 0) name) only.0
 
 -- no token of another kind stands where one name does
-pub other_token : (text : List ℕ) (s : Unread) (token : Lexeme) (rest : List ℕ) → s ≡ whole text → HasToken s.size s.bytes token rest → token.kind ≢ kinds.Name
+pub other_token : (text : List ℕ) (s : Unread) (token : Lexeme) (rest : List ℕ) → s ≡ whole text → HasToken s.size s.bytes token rest
+    → token.kind ≢ kinds.Name
     → IsName text → ⊥
 other_token text s token rest e h other n =
     let at = subst (λ (u : Unread). HasToken u.size u.bytes token rest) e h in
@@ -74,6 +77,8 @@ name_no_end text s e n gap =
     token_or_end (length text) text (token_of kinds.Name text 0) n.0 n.1 (subst (λ (u : Unread). gaps.Gap u.bytes []) e gap)
 
 -- nor does a fault stand there
-pub name_no_fault : (text : List ℕ) (s : Unread) (fault : LexFault) (at : ℕ) → s ≡ whole text → IsName text → HasFault s.size s.bytes [] fault at → ⊥
+pub name_no_fault : (text : List ℕ) (s : Unread) (fault : LexFault) (at : ℕ) → s ≡ whole text → IsName text
+    → HasFault s.size s.bytes [] fault at → ⊥
 name_no_fault text s fault at e n h =
-    token_or_fault (length text) text (token_of kinds.Name text 0) n.0 fault at n.1 (subst (λ (u : Unread). HasFault u.size u.bytes [] fault at) e h)
+    token_or_fault (length text) text (token_of kinds.Name text 0) n.0 fault at n.1
+    (subst (λ (u : Unread). HasFault u.size u.bytes [] fault at) e h)

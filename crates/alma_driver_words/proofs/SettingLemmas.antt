@@ -1,5 +1,6 @@
 -- What options come to, and which words are options.
-use Rattle.std.proofs.Common.{◌≡◌, ◌<◌, ◌≤◌, ◌+◌, ◌∙◌, ℕ, zero, suc, List, [], ◌∷◌, ◌++◌, length, take, map, get_or, refl, sym, ap, subst, arith, append-nil, length-append, Option, Some, None}
+use Rattle.std.proofs.Common.{◌≡◌, ◌<◌, ◌≤◌, ◌+◌, ◌∙◌, ℕ, zero, suc, List, [], ◌∷◌, ◌++◌, length, take, map, get_or, refl, sym, ap, subst}
+use Rattle.std.proofs.Common.{arith, append-nil, length-append, Option, Some, None}
 use Rattle.std.specs.Str.{bytes_eq}
 use Rattle.std.proofs.lemmas.Slice.Eq.{bytes_eq-Decides}
 use Rattle.std.proofs.lemmas.List.{length-map, map-append, take_more}
@@ -10,7 +11,8 @@ use Rattle.std.specs.Borrow.{Bor}
 use Rattle.alma_scan.specs.Bytes.{value_of}
 use Rattle.alma_driver_words.specs.declared.options.Allowance.{Allowance}
 use Rattle.alma_driver_words.specs.declared.options.Options as read
-use Rattle.alma_driver_words.specs.Words.{Setting, Steps, Stats, Watch, IsSetting, AreSettings, Allows, Options, texts, steps_named, stats_count, names_watched, steps_of, default_steps, greatest_steps, is_some}
+use Rattle.alma_driver_words.specs.Words.{Setting, Steps, Stats, Watch, IsSetting, AreSettings, Allows, Options, texts, steps_named}
+use Rattle.alma_driver_words.specs.Words.{stats_count, names_watched, steps_of, default_steps, greatest_steps, is_some}
 use Rattle.alma_driver_words.specs.Inner.Settings.{list_of, count_of, Gathers, Takes, AreOptions, AreGathered, IsBadOption}
 
 -- ---- one option
@@ -37,16 +39,19 @@ one_setting word (Steps steps) (Steps others) h k =
     let same : h.0 ≡ k.0 = cc (h.1, k.1) in
     ap Steps (sym h.2.numeral.value ∙ ap value_of same ∙ k.2.numeral.value)
 one_setting word (Steps steps) Stats h k = let e : 101 ≡ 97 = one_tag word (Steps steps) Stats h k in absurd (omega (arith, e))
-one_setting word (Steps steps) (Watch name) h k = let e : 101 ≡ 116 = one_tag word (Steps steps) (Watch name) h k in absurd (omega (arith, e))
+one_setting word (Steps steps) (Watch name) h k = let e : 101 ≡ 116 = one_tag word (Steps steps) (Watch name) h k in
+    absurd (omega (arith, e))
 one_setting word Stats (Steps steps) h k = let e : 97 ≡ 101 = one_tag word Stats (Steps steps) h k in absurd (omega (arith, e))
 one_setting word Stats Stats h k = refl
 one_setting word Stats (Watch name) h k = let e : 97 ≡ 116 = one_tag word Stats (Watch name) h k in absurd (omega (arith, e))
-one_setting word (Watch name) (Steps steps) h k = let e : 116 ≡ 101 = one_tag word (Watch name) (Steps steps) h k in absurd (omega (arith, e))
+one_setting word (Watch name) (Steps steps) h k = let e : 116 ≡ 101 = one_tag word (Watch name) (Steps steps) h k in
+    absurd (omega (arith, e))
 one_setting word (Watch name) Stats h k = let e : 116 ≡ 97 = one_tag word (Watch name) Stats h k in absurd (omega (arith, e))
 one_setting word (Watch name) (Watch other) h k = let same : name ≡ other = cc (h.0, k.0) in ap Watch same
 
 -- what is none of the three is no option
-pub no_setting : (word : List ℕ) → ((steps : ℕ) → IsSetting word (Steps steps) → ⊥) → ((name : List ℕ) → IsSetting word (Watch name) → ⊥) → (r : Bool)
+pub no_setting : (word : List ℕ) → ((steps : ℕ) → IsSetting word (Steps steps) → ⊥) → ((name : List ℕ) → IsSetting word (Watch name) → ⊥)
+    → (r : Bool)
     → r ≡ bytes_eq word (codes "--stats") → r ≡ false → (setting : Setting) → IsSetting word setting → ⊥
 no_setting word h k r e f (Steps steps) s = h steps s
 no_setting word h k r e f Stats s = cc ((bytes_eq-Decides word (codes "--stats")).1 s, e, f)
@@ -62,10 +67,12 @@ are_once [] (setting ∷ settings) second h k = absurd h
 are_once (word ∷ words) [] second h k = absurd h
 are_once (word ∷ words) (setting ∷ settings) [] h k = absurd k
 are_once (word ∷ words) (setting ∷ settings) (other ∷ others) h k =
-    ap (λ (s : Setting). s ∷ settings) (one_setting word setting other h.0 k.0) ∙ ap (λ (s : List Setting). other ∷ s) (are_once words settings others h.1 k.1)
+    ap (λ (s : Setting). s ∷ settings) (one_setting word setting other h.0 k.0)
+    ∙ ap (λ (s : List Setting). other ∷ s) (are_once words settings others h.1 k.1)
 
 -- one word more is one option more
-are_more : (words : List (List ℕ)) (settings : List Setting) (word : List ℕ) (setting : Setting) → AreSettings words settings → IsSetting word setting
+are_more : (words : List (List ℕ)) (settings : List Setting) (word : List ℕ) (setting : Setting) → AreSettings words settings
+    → IsSetting word setting
     → AreSettings (words ++ word ∷ []) (settings ++ setting ∷ [])
 are_more [] [] word setting h k = (k, tt)
 are_more [] (first ∷ settings) word setting h k = absurd h
@@ -85,7 +92,13 @@ are_split [] more settings h = record { front = []; back = settings; whole = ref
 are_split (word ∷ words) more [] h = absurd h
 are_split (word ∷ words) more (setting ∷ settings) h =
     let s = are_split words more settings h.1 in
-    record { front = setting ∷ s.front; back = s.back; whole = ap (λ (z : List Setting). setting ∷ z) s.whole; before = (h.0, s.before); behind = s.behind }
+    record {
+      front = setting ∷ s.front;
+      back = s.back;
+      whole = ap (λ (z : List Setting). setting ∷ z) s.whole;
+      before = (h.0, s.before);
+      behind = s.behind;
+    }
 
 steps_append : (front back : List Setting) → steps_named (front ++ back) ≡ steps_named front ++ steps_named back
 steps_append [] back = refl
@@ -117,7 +130,8 @@ allows_front stats watches front back h =
     }
 
 -- words in front of options are options
-pub options_front : (stats watches : ℕ) (words more : List (List ℕ)) → AreOptions stats watches (words ++ more) → AreOptions stats watches words
+pub options_front : (stats watches : ℕ) (words more : List (List ℕ)) → AreOptions stats watches (words ++ more)
+    → AreOptions stats watches words
 options_front stats watches words more h =
     let s = are_split words more h.settings h.are in
     record {
@@ -128,12 +142,15 @@ options_front stats watches words more h =
 
 -- ---- one option more
 
-pub steps_more : (old new : read.Options) (steps : ℕ) → old.steps ≡ None → new.steps ≡ Some steps → new.stats ≡ old.stats → new.watch.items ≡ old.watch.items
+pub steps_more : (old new : read.Options) (steps : ℕ) → old.steps ≡ None → new.steps ≡ Some steps → new.stats ≡ old.stats
+    → new.watch.items ≡ old.watch.items
     → (settings : List Setting) → Gathers old settings → Gathers new (settings ++ Steps steps ∷ [])
 steps_more old new steps free now stats watch settings g = record {
-  steps = steps_append settings (Steps steps ∷ []) ∙ ap (λ (z : List ℕ). z ++ steps ∷ []) (g.steps ∙ ap list_of free) ∙ sym (ap list_of now);
+  steps = steps_append settings (Steps steps ∷ []) ∙ ap (λ (z : List ℕ). z ++ steps ∷ []) (g.steps ∙ ap list_of free)
+      ∙ sym (ap list_of now);
   stats = omega (arith, stats_append settings (Steps steps ∷ []), g.stats, ap count_of stats);
-  watch = names_append settings (Steps steps ∷ []) ∙ append-nil (names_watched settings) ∙ g.watch ∙ sym (ap (map (λ name. name.now)) watch);
+  watch = names_append settings (Steps steps ∷ []) ∙ append-nil (names_watched settings) ∙ g.watch
+      ∙ sym (ap (map (λ name. name.now)) watch);
 }
 
 pub stats_more : (old new : read.Options) → old.stats ≡ false → new.stats ≡ true → new.steps ≡ old.steps → new.watch.items ≡ old.watch.items
@@ -144,7 +161,8 @@ stats_more old new free now steps watch settings g = record {
   watch = names_append settings (Stats ∷ []) ∙ append-nil (names_watched settings) ∙ g.watch ∙ sym (ap (map (λ name. name.now)) watch);
 }
 
-pub watch_more : (old new : read.Options) (name : Bor (List ℕ)) → new.watch.items ≡ old.watch.items ++ name ∷ [] → new.steps ≡ old.steps → new.stats ≡ old.stats
+pub watch_more : (old new : read.Options) (name : Bor (List ℕ)) → new.watch.items ≡ old.watch.items ++ name ∷ [] → new.steps ≡ old.steps
+    → new.stats ≡ old.stats
     → (settings : List Setting) → Gathers old settings → Gathers new (settings ++ Watch name.now ∷ [])
 watch_more old new name now steps stats settings g = record {
   steps = steps_append settings (Watch name.now ∷ []) ∙ append-nil (steps_named settings) ∙ g.steps ∙ sym (ap list_of steps);
@@ -181,7 +199,14 @@ room_allows allowance options settings (Watch name) g a t =
     record {
       few_steps = omega (arith, a.few_steps, named);
       few_stats = omega (arith, a.few_stats, stats_append settings (Watch name ∷ []));
-      few_watches = omega (arith, t, names, held, length-append (names_watched settings) (name ∷ []), length-map options.watch.items (λ (n : Bor (List ℕ)). n.now));
+      few_watches = omega (
+        arith,
+        t,
+        names,
+        held,
+        length-append (names_watched settings) (name ∷ []),
+        length-map options.watch.items (λ (n : Bor (List ℕ)). n.now),
+      );
     }
 
 list_of_none : (number : Option ℕ) → length (list_of number) ≤ 0 → number ≡ None
@@ -206,14 +231,23 @@ allows_room allowance options settings Stats g a =
 allows_room allowance options settings (Watch name) g a =
     let names = ap length (names_append settings (Watch name ∷ [])) in
     let held = ap length g.watch in
-    omega (arith, a.few_watches, names, held, length-append (names_watched settings) (name ∷ []), length-map options.watch.items (λ (n : Bor (List ℕ)). n.now))
+    omega (
+      arith,
+      a.few_watches,
+      names,
+      held,
+      length-append (names_watched settings) (name ∷ []),
+      length-map options.watch.items (λ (n : Bor (List ℕ)). n.now),
+    )
 
 -- ---- the loop
 
 -- the options with the next word
-pub options_more : (allowance : Allowance) (words : List (List ℕ)) (index : ℕ) (old new : read.Options) (setting : Setting) → index < length words
+pub options_more : (allowance : Allowance) (words : List (List ℕ)) (index : ℕ) (old new : read.Options) (setting : Setting)
+    → index < length words
     → AreGathered allowance (take index words) old → IsSetting (get_or words index []) setting → Takes allowance old setting
-    → ((settings : List Setting) → Gathers old settings → Gathers new (settings ++ setting ∷ [])) → AreGathered allowance (take (index + 1) words) new
+    → ((settings : List Setting) → Gathers old settings → Gathers new (settings ++ setting ∷ []))
+    → AreGathered allowance (take (index + 1) words) new
 options_more allowance words index old new setting lt g is room more = record {
   settings = g.settings ++ setting ∷ [];
   are = subst (λ (z : List (List ℕ)). AreSettings z (g.settings ++ setting ∷ [])) (sym (take_more words index [] lt))
@@ -223,7 +257,8 @@ options_more allowance words index old new setting lt g is room more = record {
 }
 
 -- what the last of so many options is
-last_setting : (words : List (List ℕ)) (word : List ℕ) (first second : List Setting) → AreSettings words first → AreSettings (words ++ word ∷ []) second
+last_setting : (words : List (List ℕ)) (word : List ℕ) (first second : List Setting) → AreSettings words first
+    → AreSettings (words ++ word ∷ []) second
     → (setting : Setting) × (second ≡ first ++ setting ∷ []) × IsSetting word setting
 last_setting words word first second h k =
     let s = are_split words (word ∷ []) second k in
@@ -281,7 +316,8 @@ no_stats zero h = refl
 no_stats (suc count) h = absurd (omega (arith, h))
 
 -- options of a command that watches no names
-pub without_names : (stats : ℕ) (words : List (List ℕ)) (o : AreOptions stats 0 words) → Options stats 0 words (steps_of (steps_named o.settings)) (is_some (stats_count o.settings)) []
+pub without_names : (stats : ℕ) (words : List (List ℕ)) (o : AreOptions stats 0 words)
+    → Options stats 0 words (steps_of (steps_named o.settings)) (is_some (stats_count o.settings)) []
 without_names stats words o = record {
   settings = o.settings;
   are = o.are;
@@ -292,7 +328,8 @@ without_names stats words o = record {
 }
 
 -- options of a command without statistics
-pub without_stats : (watches : ℕ) (words : List (List ℕ)) (o : AreOptions 0 watches words) → Options 0 watches words (steps_of (steps_named o.settings)) false (names_watched o.settings)
+pub without_stats : (watches : ℕ) (words : List (List ℕ)) (o : AreOptions 0 watches words)
+    → Options 0 watches words (steps_of (steps_named o.settings)) false (names_watched o.settings)
 without_stats watches words o = record {
   settings = o.settings;
   are = o.are;
@@ -302,7 +339,8 @@ without_stats watches words o = record {
   names_are = refl;
 }
 
-steps_within : (settings : List Setting) (words : List (List ℕ)) → AreSettings words settings → steps_of (steps_named settings) ≤ greatest_steps
+steps_within : (settings : List Setting) (words : List (List ℕ)) → AreSettings words settings
+    → steps_of (steps_named settings) ≤ greatest_steps
 steps_within [] words h = omega arith
 steps_within (Steps steps ∷ settings) [] h = absurd h
 steps_within (Steps steps ∷ settings) (word ∷ words) h = h.0.2.greatest
@@ -324,7 +362,8 @@ names_within stats watches words steps counted names o = let e = ap length o.nam
 
 -- options come to one thing
 pub one_meaning : (stats watches : ℕ) (words : List (List ℕ)) (steps others : ℕ) (counted shown : Bool) (names watched : List (List ℕ))
-    → Options stats watches words steps counted names → Options stats watches words others shown watched → (steps ≡ others) × (counted ≡ shown) × (names ≡ watched)
+    → Options stats watches words steps counted names → Options stats watches words others shown watched → (steps ≡ others)
+    × (counted ≡ shown) × (names ≡ watched)
 one_meaning stats watches words steps others counted shown names watched h k =
     let same : h.settings ≡ k.settings = are_once words h.settings k.settings h.are k.are in (
       h.steps_are ∙ ap (λ (s : List Setting). steps_of (steps_named s)) same ∙ sym k.steps_are,

@@ -1,5 +1,6 @@
 -- Which word is the first that cannot stand.
-use Rattle.std.proofs.Common.{◌≡◌, ◌≢◌, ◌<◌, ◌≤◌, ◌+◌, ◌∙◌, ℕ, suc, List, [], ◌∷◌, ◌++◌, length, take, drop, get_or, refl, sym, ap, subst, append_assoc, append-nil, arith, add-one, take-take, nat_eq, if◌then◌else◌}
+use Rattle.std.proofs.Common.{◌≡◌, ◌≢◌, ◌<◌, ◌≤◌, ◌+◌, ◌∙◌, ℕ, suc, List, [], ◌∷◌, ◌++◌, length, take, drop, get_or, refl, sym, ap, subst}
+use Rattle.std.proofs.Common.{append_assoc, append-nil, arith, add-one, take-take, nat_eq, if◌then◌else◌}
 use Rattle.std.proofs.lemmas.List.{take-append-drop}
 use Rattle.std.specs.Prelude.{codes, Bool, true, false, Err}
 use Rattle.alma_scan.specs.Bytes.{value_of}
@@ -7,12 +8,14 @@ use Rattle.alma_driver_words.specs.declared.command.Command as command
 use Rattle.alma_driver_words.specs.declared.command.Command.TheVariants as commands
 use Rattle.alma_driver_words.specs.declared.words.WordsError.{WordsError}
 use Rattle.alma_driver_words.specs.declared.words.WordsError.TheVariants.{Bad, Memory}
-use Rattle.alma_driver_words.specs.Words.{Request, Check, Compile, Listing, Run, Exec, Trace, Sample, Asks, Begins, IsBadWord, Reads, IsFileName, NamesLines, Options, default_steps}
+use Rattle.alma_driver_words.specs.Words.{Request, Check, Compile, Listing, Run, Exec, Trace, Sample, Asks, Begins, IsBadWord, Reads}
+use Rattle.alma_driver_words.specs.Words.{IsFileName, NamesLines, Options, default_steps}
 use Rattle.alma_driver_words.specs.Limits.{IsWithinLimits}
 use Rattle.alma_driver_words.specs.Inner.Commands.{word_of}
 use Rattle.alma_driver_words.specs.Inner.Settings.{AreOptions, IsBadOption, ReadsOptions}
 use Rattle.alma_driver_words.specs.Inner.Names.{LacksName, LacksLines, ReadsOne}
-use Rattle.alma_driver_words.proofs.SettingLemmas.{no_options, options_front, without_names, without_stats, one_meaning, options_within, names_within}
+use Rattle.alma_driver_words.proofs.SettingLemmas.{no_options, options_front, without_names, without_stats, one_meaning, options_within}
+use Rattle.alma_driver_words.proofs.SettingLemmas.{names_within}
 
 -- ---- lists of words
 
@@ -29,7 +32,8 @@ begins_front words more b = (more ++ b.0, b.1, subst (λ (z : List (List ℕ)). 
 begins_before : (words : List (List ℕ)) (k : ℕ) → Begins (take k words) → (j : ℕ) → j < k + 1 → Begins (take j words)
 begins_before words k b j h =
     let front : take j (take k words) ≡ take j words = take-take j k words (omega arith) in
-    subst Begins front (begins_front (take j (take k words)) (drop j (take k words)) (subst Begins (sym (take-append-drop j (take k words))) b))
+    subst Begins front (begins_front (take j (take k words)) (drop j (take k words))
+    (subst Begins (sym (take-append-drop j (take k words))) b))
 
 a_name : IsFileName (97 ∷ [])
 a_name e = absurd (omega (arith, e))
@@ -40,7 +44,8 @@ a_name e = absurd (omega (arith, e))
 by_letter : ℕ → command.Command
 by_letter letter =
     if nat_eq letter 104 then commands.Check else if nat_eq letter 111 then commands.Compile else if nat_eq letter 105 then commands.List
-    else if nat_eq letter 117 then commands.Run else if nat_eq letter 120 then commands.Exec else if nat_eq letter 114 then commands.Trace else commands.Sample
+    else if nat_eq letter 117 then commands.Run else if nat_eq letter 120 then commands.Exec else if nat_eq letter 114 then commands.Trace
+    else commands.Sample
 
 by_letter_is : (c : command.Command) → by_letter (get_or (word_of c) 1 0) ≡ c
 unfolding by_letter
@@ -60,7 +65,8 @@ one_command c d e = sym (by_letter_is c) ∙ ap (λ (w : List ℕ). by_letter (g
 abbrev pub Behind : command.Command → List (List ℕ) → Request → Type 0
 Behind commands.Check words request = (name : List ℕ) × (words ≡ name ∷ []) × IsFileName name × (request ≡ Check name)
 Behind commands.Compile words request =
-    (name : List ℕ) × (object : List ℕ) × (words ≡ name ∷ object ∷ []) × IsFileName name × IsFileName object × (request ≡ Compile name object)
+    (name : List ℕ) × (object : List ℕ) × (words ≡ name ∷ object ∷ []) × IsFileName name × IsFileName object
+    × (request ≡ Compile name object)
 Behind commands.List words request = (object : List ℕ) × (words ≡ object ∷ []) × IsFileName object × (request ≡ Listing object)
 Behind commands.Run words request =
     (name : List ℕ) × (options : List (List ℕ)) × (steps : ℕ) × (stats : Bool) × (words ≡ name ∷ options) × IsFileName name
@@ -113,7 +119,8 @@ bad_behind : (c : command.Command) (rest : List (List ℕ)) (k : ℕ) → Begins
     → (k < length rest → (more : List (List ℕ)) (request : Request) → Behind c (take (suc k) rest ++ more) request → ⊥)
     → k ≤ length rest → ((request : Request) → Behind c rest request → ⊥) → IsBadWord (word_of c ∷ rest) (k + 2)
 bad_behind c rest k front here end none = record {
-  before = λ j h. begins_before (word_of c ∷ rest) (suc k) (front.0, front.1, behind_asks c (take k rest ++ front.0) front.1 front.2) j (omega (arith, h));
+  before = λ j h. begins_before (word_of c ∷ rest) (suc k) (front.0, front.1, behind_asks c (take k rest ++ front.0) front.1 front.2) j
+      (omega (arith, h));
   here = λ l b.
       let at : k + 2 ≡ suc (suc k) = omega arith in
       let moved : Begins (word_of c ∷ take (suc k) rest) = subst (λ (n : ℕ). Begins (take n (word_of c ∷ rest))) at b in
@@ -136,8 +143,10 @@ bad_none = record {
   none = none_asked;
 }
 
-not_command : (word : List ℕ) (words : List (List ℕ)) → ((c : command.Command) → word ≢ word_of c) → (request : Request) → Asks (word ∷ words) request → ⊥
-not_command word words h request a = let own = asks_own (word ∷ words) request a in h own.0 (first_of word (word_of own.0) words own.1 own.2)
+not_command : (word : List ℕ) (words : List (List ℕ)) → ((c : command.Command) → word ≢ word_of c) → (request : Request)
+    → Asks (word ∷ words) request → ⊥
+not_command word words h request a = let own = asks_own (word ∷ words) request a in
+    h own.0 (first_of word (word_of own.0) words own.1 own.2)
 
 pub bad_command : (word : List ℕ) (words : List (List ℕ)) → ((c : command.Command) → word ≢ word_of c) → IsBadWord (word ∷ words) 1
 bad_command word words h = record {
@@ -172,9 +181,21 @@ begins_named : (c : command.Command) → TakesName c → BeginsBehind c []
 begins_named commands.Check t = ((97 ∷ []) ∷ [], Check (97 ∷ []), (97 ∷ [], refl, a_name, refl))
 begins_named commands.Compile t = ((97 ∷ []) ∷ (97 ∷ []) ∷ [], Compile (97 ∷ []) (97 ∷ []), (97 ∷ [], 97 ∷ [], refl, a_name, a_name, refl))
 begins_named commands.List t = ((97 ∷ []) ∷ [], Listing (97 ∷ []), (97 ∷ [], refl, a_name, refl))
-begins_named commands.Run t = ((97 ∷ []) ∷ [], Run (97 ∷ []) default_steps false, (97 ∷ [], [], default_steps, false, refl, a_name, no_options 1 0, refl))
-begins_named commands.Exec t = ((97 ∷ []) ∷ [], Exec (97 ∷ []) default_steps false, (97 ∷ [], [], default_steps, false, refl, a_name, no_options 1 0, refl))
-begins_named commands.Trace t = ((97 ∷ []) ∷ [], Trace (97 ∷ []) default_steps [], (97 ∷ [], [], default_steps, [], refl, a_name, no_options 0 8, refl))
+begins_named commands.Run t = (
+  (97 ∷ []) ∷ [],
+  Run (97 ∷ []) default_steps false,
+  (97 ∷ [], [], default_steps, false, refl, a_name, no_options 1 0, refl),
+)
+begins_named commands.Exec t = (
+  (97 ∷ []) ∷ [],
+  Exec (97 ∷ []) default_steps false,
+  (97 ∷ [], [], default_steps, false, refl, a_name, no_options 1 0, refl),
+)
+begins_named commands.Trace t = (
+  (97 ∷ []) ∷ [],
+  Trace (97 ∷ []) default_steps [],
+  (97 ∷ [], [], default_steps, [], refl, a_name, no_options 0 8, refl),
+)
 begins_named commands.Sample t = absurd t
 
 -- what lacks a name in front does so whatever stands behind the first word
@@ -184,20 +205,25 @@ lacks_front (word ∷ words) more h l = l
 
 pub bad_name : (c : command.Command) (words : List (List ℕ)) → TakesName c → LacksName words → IsBadWord (word_of c ∷ words) 2
 bad_name c words t l =
-    bad_behind c words 0 (begins_named c t) (λ lt more request b. has_name c (take 1 words ++ more) request t b (lacks_front words more lt l)) (omega arith)
+    bad_behind c words 0 (begins_named c t) (λ lt more request b. has_name c (take 1 words ++ more) request t b
+    (lacks_front words more lt l)) (omega arith)
     (λ request b. has_name c words request t b l)
 
 pub bad_behind_check : (name word : List ℕ) (words : List (List ℕ)) → IsFileName name → IsBadWord (codes "check" ∷ name ∷ word ∷ words) 3
 bad_behind_check name word words h =
-    bad_behind commands.Check (name ∷ word ∷ words) 1 ([], Check name, (name, refl, h, refl)) (λ lt more request b. absurd (omega (arith, ap length b.1)))
+    bad_behind commands.Check (name ∷ word ∷ words) 1 ([], Check name, (name, refl, h, refl))
+    (λ lt more request b. absurd (omega (arith, ap length b.1)))
     (omega arith) (λ request b. absurd (omega (arith, ap length b.1)))
 
-pub bad_behind_list : (object word : List ℕ) (words : List (List ℕ)) → IsFileName object → IsBadWord (codes "list" ∷ object ∷ word ∷ words) 3
+pub bad_behind_list : (object word : List ℕ) (words : List (List ℕ)) → IsFileName object
+    → IsBadWord (codes "list" ∷ object ∷ word ∷ words) 3
 bad_behind_list object word words h =
-    bad_behind commands.List (object ∷ word ∷ words) 1 ([], Listing object, (object, refl, h, refl)) (λ lt more request b. absurd (omega (arith, ap length b.1)))
+    bad_behind commands.List (object ∷ word ∷ words) 1 ([], Listing object, (object, refl, h, refl))
+    (λ lt more request b. absurd (omega (arith, ap length b.1)))
     (omega arith) (λ request b. absurd (omega (arith, ap length b.1)))
 
-has_object : (name : List ℕ) (words : List (List ℕ)) (request : Request) → LacksName words → Behind commands.Compile (name ∷ words) request → ⊥
+has_object : (name : List ℕ) (words : List (List ℕ)) (request : Request) → LacksName words → Behind commands.Compile (name ∷ words) request
+    → ⊥
 has_object name words request l b = subst LacksName (rest_of name b.0 words (b.1 ∷ []) b.2) l b.4
 
 pub bad_object : (name : List ℕ) (words : List (List ℕ)) → IsFileName name → LacksName words → IsBadWord (codes "compile" ∷ name ∷ words) 3
@@ -222,16 +248,23 @@ lines_front [] more h l = absurd (omega (arith, h))
 lines_front (word ∷ words) more h l = l
 
 no_lines : NamesLines (48 ∷ []) 0
-no_lines = record { numeral = record { digits = (refl, tt); some = omega arith; short = omega arith; value = refl }; greatest = omega arith }
+no_lines = record {
+  numeral = record { digits = (refl, tt); some = omega arith; short = omega arith; value = refl };
+  greatest =
+      omega arith;
+}
 
 pub bad_lines : (words : List (List ℕ)) → LacksLines words → IsBadWord (codes "sample" ∷ words) 2
 bad_lines words l =
     bad_behind commands.Sample words 0 ((48 ∷ []) ∷ [], Sample 0, (48 ∷ [], 0, refl, no_lines, refl))
-    (λ lt more request b. has_lines (take 1 words ++ more) request (lines_front words more lt l) b) (omega arith) (λ request b. has_lines words request l b)
+    (λ lt more request b. has_lines (take 1 words ++ more) request (lines_front words more lt l) b) (omega arith)
+    (λ request b. has_lines words request l b)
 
-pub bad_behind_lines : (digits word : List ℕ) (words : List (List ℕ)) (lines : ℕ) → NamesLines digits lines → IsBadWord (codes "sample" ∷ digits ∷ word ∷ words) 3
+pub bad_behind_lines : (digits word : List ℕ) (words : List (List ℕ)) (lines : ℕ) → NamesLines digits lines
+    → IsBadWord (codes "sample" ∷ digits ∷ word ∷ words) 3
 bad_behind_lines digits word words lines h =
-    bad_behind commands.Sample (digits ∷ word ∷ words) 1 ([], Sample lines, (digits, lines, refl, h, refl)) (λ lt more request b. absurd (omega (arith, ap length b.2)))
+    bad_behind commands.Sample (digits ∷ word ∷ words) 1 ([], Sample lines, (digits, lines, refl, h, refl))
+    (λ lt more request b. absurd (omega (arith, ap length b.2)))
     (omega arith) (λ request b. absurd (omega (arith, ap length b.2)))
 
 -- ---- options
@@ -269,9 +302,11 @@ trace_takes name h = record {
 past_bad : (stats watches : ℕ) (words : List (List ℕ)) (index : ℕ) (more : List (List ℕ)) → IsBadOption stats watches words index
     → AreOptions stats watches (take (suc index) words ++ more) → ⊥
 past_bad stats watches words index more bad h =
-    bad.here (subst (λ (n : ℕ). AreOptions stats watches (take n words)) (sym (add-one index)) (options_front stats watches (take (suc index) words) more h))
+    bad.here (subst (λ (n : ℕ). AreOptions stats watches (take n words)) (sym (add-one index))
+    (options_front stats watches (take (suc index) words) more h))
 
-bad_option : (c : command.Command) (stats watches : ℕ) (name : List ℕ) (words : List (List ℕ)) (index : ℕ) → TakesOptions c stats watches name
+bad_option : (c : command.Command) (stats watches : ℕ) (name : List ℕ) (words : List (List ℕ)) (index : ℕ)
+    → TakesOptions c stats watches name
     → IsBadOption stats watches words index → IsBadWord (word_of c ∷ name ∷ words) (index + 3)
 bad_option c stats watches name words index takes bad =
     let before = takes.begins (take index words) bad.before in
@@ -280,7 +315,8 @@ bad_option c stats watches name words index takes bad =
     let at : suc index + 2 ≡ index + 3 = omega arith in
     subst (IsBadWord (word_of c ∷ name ∷ words)) at
     (bad_behind c (name ∷ words) (suc index) front
-    (λ lt more request b. past_bad stats watches words index more bad (takes.are (take (suc index) words ++ more) request b)) (omega (arith, bad.within))
+    (λ lt more request b. past_bad stats watches words index more bad (takes.are (take (suc index) words ++ more) request b))
+    (omega (arith, bad.within))
     (λ request b. past_bad stats watches words index (drop (suc index) words) bad
     (subst (AreOptions stats watches) (sym (take-append-drop (suc index) words)) (takes.are words request b))))
 
@@ -306,17 +342,20 @@ pub list_error : (words : List (List ℕ)) (e : WordsError) → ReadsOne words (
 list_error words (Bad k) h = h.1
 list_error words Memory h = tt
 
-pub run_error : (name : List ℕ) (words : List (List ℕ)) (e : WordsError) → IsFileName name → ReadsOptions (record { stats = true; watches = 0 }) words (Err e)
+pub run_error : (name : List ℕ) (words : List (List ℕ)) (e : WordsError) → IsFileName name
+    → ReadsOptions (record { stats = true; watches = 0 }) words (Err e)
     → Reads (codes "run" ∷ name ∷ words) (Err e)
 run_error name words (Bad k) n h = subst (IsBadWord (codes "run" ∷ name ∷ words)) (sym h.1) (bad_run_option name words h.0 n h.2)
 run_error name words Memory n h = tt
 
-pub exec_error : (object : List ℕ) (words : List (List ℕ)) (e : WordsError) → IsFileName object → ReadsOptions (record { stats = true; watches = 0 }) words (Err e)
+pub exec_error : (object : List ℕ) (words : List (List ℕ)) (e : WordsError) → IsFileName object
+    → ReadsOptions (record { stats = true; watches = 0 }) words (Err e)
     → Reads (codes "exec" ∷ object ∷ words) (Err e)
 exec_error object words (Bad k) n h = subst (IsBadWord (codes "exec" ∷ object ∷ words)) (sym h.1) (bad_exec_option object words h.0 n h.2)
 exec_error object words Memory n h = tt
 
-pub trace_error : (name : List ℕ) (words : List (List ℕ)) (e : WordsError) → IsFileName name → ReadsOptions (record { stats = false; watches = 8 }) words (Err e)
+pub trace_error : (name : List ℕ) (words : List (List ℕ)) (e : WordsError) → IsFileName name
+    → ReadsOptions (record { stats = false; watches = 8 }) words (Err e)
     → Reads (codes "trace" ∷ name ∷ words) (Err e)
 trace_error name words (Bad k) n h = subst (IsBadWord (codes "trace" ∷ name ∷ words)) (sym h.1) (bad_trace_option name words h.0 n h.2)
 trace_error name words Memory n h = tt
@@ -336,7 +375,8 @@ within_limits words (Sample lines) a = a.2.greatest
 -- ---- one answer
 
 -- words behind a command are one request
-one_behind : (c : command.Command) (words : List (List ℕ)) (first second : Request) → Behind c words first → Behind c words second → first ≡ second
+one_behind : (c : command.Command) (words : List (List ℕ)) (first second : Request) → Behind c words first → Behind c words second
+    → first ≡ second
 one_behind commands.Check words first second h k =
     let same : h.0 ≡ k.0 = first_of h.0 k.0 [] [] (sym h.1 ∙ k.1) in h.3 ∙ ap Check same ∙ sym k.3
 one_behind commands.Compile words first second h k =

@@ -1,5 +1,6 @@
 -- What the words of a call ask for.
-use Rattle.std.specs.Prelude.{◌≡◌, ◌≢◌, ◌<◌, ◌≤◌, ◌+◌, ◌^◌, Bool, true, false, List, ℕ, zero, suc, [], ◌∷◌, ◌++◌, length, take, map, codes, String, Result, Ok, Err}
+use Rattle.std.specs.Prelude.{◌≡◌, ◌≢◌, ◌<◌, ◌≤◌, ◌+◌, ◌^◌, Bool, true, false, List, ℕ, zero, suc, [], ◌∷◌, ◌++◌, length, take, map, codes}
+use Rattle.std.specs.Prelude.{String, Result, Ok, Err}
 use Rattle.std.specs.declared.alloc.Global.{Global}
 use Rattle.std.specs.String.{string_bytes}
 use Rattle.alma_base.specs.Reading.{is_digit}

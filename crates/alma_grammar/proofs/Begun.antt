@@ -10,13 +10,18 @@ use Rattle.alma_tree.specs.declared.leaf.Mode.TheVariants as modes
 use Rattle.alma_tree.specs.Tree as tree
 use Rattle.alma_tree.specs.Spelling as spells
 use Rattle.alma_tree.specs.Kinds.{code}
-use Rattle.alma_grammar.specs.Parts.{Part, one, sign_part, factor_part, primary_part, factor_tail, term_tail, compared_part, args_part, args_inside}
-use Rattle.alma_grammar.specs.Parts.{expr_tail, selector_tail, stmt_part, after_desig, stmt_tail, elsif_tail, else_part, by_part, orelse_tail}
-use Rattle.alma_grammar.specs.Parts.{returned_part, desig_tail, arm_part, arm_tail, high_part, label_tail, name_tail, array_tail, plain_part, plain_tail}
-use Rattle.alma_grammar.specs.Parts.{field_list_part, field_list_tail, const_tail, type_tail, var_tail, mode_part, formal_tail, params_part, params_inside}
+use Rattle.alma_grammar.specs.Parts.{Part, one, sign_part, factor_part, primary_part, factor_tail, term_tail, compared_part, args_part}
+use Rattle.alma_grammar.specs.Parts.{args_inside}
+use Rattle.alma_grammar.specs.Parts.{expr_tail, selector_tail, stmt_part, after_desig, stmt_tail, elsif_tail, else_part, by_part}
+use Rattle.alma_grammar.specs.Parts.{orelse_tail}
+use Rattle.alma_grammar.specs.Parts.{returned_part, desig_tail, arm_part, arm_tail, high_part, label_tail, name_tail, array_tail}
+use Rattle.alma_grammar.specs.Parts.{plain_part, plain_tail}
+use Rattle.alma_grammar.specs.Parts.{field_list_part, field_list_tail, const_tail, type_tail, var_tail, mode_part, formal_tail, params_part}
+use Rattle.alma_grammar.specs.Parts.{params_inside}
 use Rattle.alma_grammar.specs.Parts.{result_part, decl_tail, body_part}
 use Rattle.alma_grammar.specs.Parts.{if_same, begins}
-use Rattle.alma_grammar.specs.Filling.{Behind, assigned, used, InsideArgs, closed_args, filled_args, InsideParams, closed_params, filled_params}
+use Rattle.alma_grammar.specs.Filling.{Behind, assigned, used, InsideArgs, closed_args, filled_args, InsideParams, closed_params}
+use Rattle.alma_grammar.specs.Filling.{filled_params}
 use Rattle.alma_grammar.specs.Filling.{Fill, spell_fill, Fills, spell_fills, WhereSome}
 use Rattle.alma_grammar.proofs.EveryKind.{same_kind}
 
@@ -76,7 +81,8 @@ begun_primary_part kinds.Chr rest =
 begun_primary_part _ rest = tt
 
 -- what a primary is built of builds a factor
-abbrev pub as_factor : (k : Kind) (rest : List Part) (b : Option (List Part)) → WhereSome b (Built primary_part k rest) → WhereSome b (Built factor_part k rest)
+abbrev pub as_factor : (k : Kind) (rest : List Part) (b : Option (List Part)) → WhereSome b (Built primary_part k rest)
+    → WhereSome b (Built factor_part k rest)
 as_factor k rest None w = tt
 as_factor k rest (Some parts) w = λ f. let r = w f in (tree.factor r.0, r.1, r.2)
 
@@ -87,7 +93,8 @@ begun_factor_part k rest = as_factor k rest (begins primary_part k) (begun_prima
 -- the same as Built, of an expression, which is no part by itself
 abbrev pub BuiltExpr : Kind → List Part → List Part → Type 0
 BuiltExpr k rest parts =
-    (f : Fills (parts ++ rest)) → (x : tree.Expr) × (o : Fills rest) × (spells.spell_expr x (spell_fills rest o) ≡ k ∷ spell_fills (parts ++ rest) f)
+    (f : Fills (parts ++ rest)) → (x : tree.Expr) × (o : Fills rest)
+    × (spells.spell_expr x (spell_fills rest o) ≡ k ∷ spell_fills (parts ++ rest) f)
 
 -- what may come in an expression behind its first factor
 abbrev pub behind_factor : List Part → List Part
@@ -126,12 +133,18 @@ begun_term_tail kinds.Or rest = λ f. ((tree.more_term adds.Or (tree.term f.0 f.
 begun_term_tail _ rest = tt
 
 abbrev pub begun_compared_part : (k : Kind) (rest : List Part) → WhereSome (begins compared_part k) (Built compared_part k rest)
-begun_compared_part kinds.Equal rest = λ f. ((tree.compared relations.Equal (tree.simple f.0 (tree.term f.1.0 f.1.1.0) f.1.1.1.0)), f.1.1.1.1, refl)
-begun_compared_part kinds.Unequal rest = λ f. ((tree.compared relations.Unequal (tree.simple f.0 (tree.term f.1.0 f.1.1.0) f.1.1.1.0)), f.1.1.1.1, refl)
-begun_compared_part kinds.Less rest = λ f. ((tree.compared relations.Less (tree.simple f.0 (tree.term f.1.0 f.1.1.0) f.1.1.1.0)), f.1.1.1.1, refl)
-begun_compared_part kinds.LessEq rest = λ f. ((tree.compared relations.LessEq (tree.simple f.0 (tree.term f.1.0 f.1.1.0) f.1.1.1.0)), f.1.1.1.1, refl)
-begun_compared_part kinds.Greater rest = λ f. ((tree.compared relations.Greater (tree.simple f.0 (tree.term f.1.0 f.1.1.0) f.1.1.1.0)), f.1.1.1.1, refl)
-begun_compared_part kinds.GreaterEq rest = λ f. ((tree.compared relations.GreaterEq (tree.simple f.0 (tree.term f.1.0 f.1.1.0) f.1.1.1.0)), f.1.1.1.1, refl)
+begun_compared_part kinds.Equal rest = λ f.
+    ((tree.compared relations.Equal (tree.simple f.0 (tree.term f.1.0 f.1.1.0) f.1.1.1.0)), f.1.1.1.1, refl)
+begun_compared_part kinds.Unequal rest =
+    λ f. ((tree.compared relations.Unequal (tree.simple f.0 (tree.term f.1.0 f.1.1.0) f.1.1.1.0)), f.1.1.1.1, refl)
+begun_compared_part kinds.Less rest = λ f.
+    ((tree.compared relations.Less (tree.simple f.0 (tree.term f.1.0 f.1.1.0) f.1.1.1.0)), f.1.1.1.1, refl)
+begun_compared_part kinds.LessEq rest = λ f.
+    ((tree.compared relations.LessEq (tree.simple f.0 (tree.term f.1.0 f.1.1.0) f.1.1.1.0)), f.1.1.1.1, refl)
+begun_compared_part kinds.Greater rest =
+    λ f. ((tree.compared relations.Greater (tree.simple f.0 (tree.term f.1.0 f.1.1.0) f.1.1.1.0)), f.1.1.1.1, refl)
+begun_compared_part kinds.GreaterEq rest =
+    λ f. ((tree.compared relations.GreaterEq (tree.simple f.0 (tree.term f.1.0 f.1.1.0) f.1.1.1.0)), f.1.1.1.1, refl)
 begun_compared_part _ rest = tt
 
 abbrev pub begun_args_part : (k : Kind) (rest : List Part) → WhereSome (begins args_part k) (Built args_part k rest)
@@ -171,7 +184,8 @@ abbrev pub begun_selector_tail : (k : Kind) (rest : List Part) → WhereSome (be
 begun_selector_tail kinds.Dot rest = λ f. ((tree.more_selector tree.field f.1.0), f.1.1, refl)
 begun_selector_tail kinds.OpenBracket rest =
     λ f. (
-      (tree.more_selector (tree.index (tree.exprs (tree.expr (tree.simple f.0 (tree.term f.1.0 f.1.1.0) f.1.1.1.0) f.1.1.1.1.0) f.1.1.1.1.1.0))
+      (tree.more_selector (tree.index
+          (tree.exprs (tree.expr (tree.simple f.0 (tree.term f.1.0 f.1.1.0) f.1.1.1.0) f.1.1.1.1.0) f.1.1.1.1.1.0))
           f.1.1.1.1.1.1.1.0),
       f.1.1.1.1.1.1.1.1,
       refl,
@@ -179,7 +193,8 @@ begun_selector_tail kinds.OpenBracket rest =
 begun_selector_tail _ rest = tt
 
 -- what an expression is built of builds a statement
-abbrev pub as_value : (k : Kind) (rest : List Part) (b : Option (List Part)) → WhereSome b (BuiltExpr k rest) → WhereSome b (Built stmt_part k rest)
+abbrev pub as_value : (k : Kind) (rest : List Part) (b : Option (List Part)) → WhereSome b (BuiltExpr k rest)
+    → WhereSome b (Built stmt_part k rest)
 as_value k rest None w = tt
 as_value k rest (Some parts) w = λ f. let r = w f in (tree.value r.0, r.1, r.2)
 
@@ -187,42 +202,50 @@ abbrev pub begun_stmt_part : (k : Kind) (rest : List Part) → WhereSome (begins
 begun_stmt_part kinds.Name rest = λ f. ((name_stmt f.0 f.1.0), f.1.1, name_spelled f.0 f.1.0 _)
 begun_stmt_part kinds.If rest =
     λ f. (
-      (tree.if_stmt (tree.expr (tree.simple f.0 (tree.term f.1.0 f.1.1.0) f.1.1.1.0) f.1.1.1.1.0) (tree.stmts f.1.1.1.1.1.1.0 f.1.1.1.1.1.1.1.0)
+      (tree.if_stmt (tree.expr (tree.simple f.0 (tree.term f.1.0 f.1.1.0) f.1.1.1.0) f.1.1.1.1.0)
+          (tree.stmts f.1.1.1.1.1.1.0 f.1.1.1.1.1.1.1.0)
           f.1.1.1.1.1.1.1.1.0 f.1.1.1.1.1.1.1.1.1.0),
       f.1.1.1.1.1.1.1.1.1.1.1,
       refl,
     )
 begun_stmt_part kinds.While rest =
     λ f. (
-      (tree.while_stmt (tree.expr (tree.simple f.0 (tree.term f.1.0 f.1.1.0) f.1.1.1.0) f.1.1.1.1.0) (tree.stmts f.1.1.1.1.1.1.0 f.1.1.1.1.1.1.1.0)),
+      (tree.while_stmt (tree.expr (tree.simple f.0 (tree.term f.1.0 f.1.1.0) f.1.1.1.0) f.1.1.1.1.0)
+          (tree.stmts f.1.1.1.1.1.1.0 f.1.1.1.1.1.1.1.0)),
       f.1.1.1.1.1.1.1.1.1,
       refl,
     )
 begun_stmt_part kinds.Repeat rest =
     λ f. (
-      (tree.repeat_stmt (tree.stmts f.0 f.1.0) (tree.expr (tree.simple f.1.1.1.0 (tree.term f.1.1.1.1.0 f.1.1.1.1.1.0) f.1.1.1.1.1.1.0) f.1.1.1.1.1.1.1.0)),
+      (tree.repeat_stmt (tree.stmts f.0 f.1.0)
+          (tree.expr (tree.simple f.1.1.1.0 (tree.term f.1.1.1.1.0 f.1.1.1.1.1.0) f.1.1.1.1.1.1.0) f.1.1.1.1.1.1.1.0)),
       f.1.1.1.1.1.1.1.1,
       refl,
     )
 begun_stmt_part kinds.For rest =
     λ f. (
-      (tree.for_stmt (tree.expr (tree.simple f.1.1.0 (tree.term f.1.1.1.0 f.1.1.1.1.0) f.1.1.1.1.1.0) f.1.1.1.1.1.1.0) (tree.expr (tree.simple
-          f.1.1.1.1.1.1.1.1.0 (tree.term f.1.1.1.1.1.1.1.1.1.0 f.1.1.1.1.1.1.1.1.1.1.0) f.1.1.1.1.1.1.1.1.1.1.1.0) f.1.1.1.1.1.1.1.1.1.1.1.1.0)
+      (tree.for_stmt (tree.expr (tree.simple f.1.1.0 (tree.term f.1.1.1.0 f.1.1.1.1.0) f.1.1.1.1.1.0) f.1.1.1.1.1.1.0)
+          (tree.expr (tree.simple
+          f.1.1.1.1.1.1.1.1.0 (tree.term f.1.1.1.1.1.1.1.1.1.0 f.1.1.1.1.1.1.1.1.1.1.0) f.1.1.1.1.1.1.1.1.1.1.1.0)
+          f.1.1.1.1.1.1.1.1.1.1.1.1.0)
           f.1.1.1.1.1.1.1.1.1.1.1.1.1.0 (tree.stmts f.1.1.1.1.1.1.1.1.1.1.1.1.1.1.1.0 f.1.1.1.1.1.1.1.1.1.1.1.1.1.1.1.1.0)),
       f.1.1.1.1.1.1.1.1.1.1.1.1.1.1.1.1.1.1,
       refl,
     )
 begun_stmt_part kinds.Some rest =
     λ f. (
-      (tree.some_stmt (tree.expr (tree.simple f.1.1.0 (tree.term f.1.1.1.0 f.1.1.1.1.0) f.1.1.1.1.1.0) f.1.1.1.1.1.1.0) (tree.expr (tree.simple
-          f.1.1.1.1.1.1.1.1.0 (tree.term f.1.1.1.1.1.1.1.1.1.0 f.1.1.1.1.1.1.1.1.1.1.0) f.1.1.1.1.1.1.1.1.1.1.1.0) f.1.1.1.1.1.1.1.1.1.1.1.1.0)
+      (tree.some_stmt (tree.expr (tree.simple f.1.1.0 (tree.term f.1.1.1.0 f.1.1.1.1.0) f.1.1.1.1.1.0) f.1.1.1.1.1.1.0)
+          (tree.expr (tree.simple
+          f.1.1.1.1.1.1.1.1.0 (tree.term f.1.1.1.1.1.1.1.1.1.0 f.1.1.1.1.1.1.1.1.1.1.0) f.1.1.1.1.1.1.1.1.1.1.1.0)
+          f.1.1.1.1.1.1.1.1.1.1.1.1.0)
           (tree.stmts f.1.1.1.1.1.1.1.1.1.1.1.1.1.1.0 f.1.1.1.1.1.1.1.1.1.1.1.1.1.1.1.0)),
       f.1.1.1.1.1.1.1.1.1.1.1.1.1.1.1.1.1,
       refl,
     )
 begun_stmt_part kinds.Case rest =
     λ f. (
-      (tree.case_stmt (tree.expr (tree.simple f.0 (tree.term f.1.0 f.1.1.0) f.1.1.1.0) f.1.1.1.1.0) f.1.1.1.1.1.1.0 f.1.1.1.1.1.1.1.0 f.1.1.1.1.1.1.1.1.0),
+      (tree.case_stmt (tree.expr (tree.simple f.0 (tree.term f.1.0 f.1.1.0) f.1.1.1.0) f.1.1.1.1.0) f.1.1.1.1.1.1.0 f.1.1.1.1.1.1.1.0
+          f.1.1.1.1.1.1.1.1.0),
       f.1.1.1.1.1.1.1.1.1.1,
       refl,
     )
@@ -233,7 +256,8 @@ begun_stmt_part kinds.Return rest = λ f. ((tree.return_stmt f.0), f.1, refl)
 begun_stmt_part kinds.Read rest = λ f. ((tree.read_stmt (tree.desig f.1.1.0) f.1.1.1.0), f.1.1.1.1.1, refl)
 begun_stmt_part kinds.Write rest =
     λ f. (
-      (tree.write_stmt (tree.exprs (tree.expr (tree.simple f.1.0 (tree.term f.1.1.0 f.1.1.1.0) f.1.1.1.1.0) f.1.1.1.1.1.0) f.1.1.1.1.1.1.0)),
+      (tree.write_stmt (tree.exprs (tree.expr (tree.simple f.1.0 (tree.term f.1.1.0 f.1.1.1.0) f.1.1.1.1.0) f.1.1.1.1.1.0)
+          f.1.1.1.1.1.1.0)),
       f.1.1.1.1.1.1.1.1,
       refl,
     )
@@ -241,12 +265,14 @@ begun_stmt_part kinds.Writeln rest = λ f. ((tree.writeln_stmt f.0), f.1, refl)
 begun_stmt_part k rest = as_value k rest (begins returned_part k) (begun_expr k rest)
 
 -- what a relation is built of builds the rest of an expression
-abbrev pub as_behind : (k : Kind) (rest : List Part) (b : Option (List Part)) → WhereSome b (Built compared_part k rest) → WhereSome b (Built after_desig k rest)
+abbrev pub as_behind : (k : Kind) (rest : List Part) (b : Option (List Part)) → WhereSome b (Built compared_part k rest)
+    → WhereSome b (Built after_desig k rest)
 as_behind k rest None w = tt
 as_behind k rest (Some parts) w = λ f. let r = w f in (used tree.no_args tree.no_factor tree.no_term r.0, r.1, r.2)
 
 abbrev pub begun_after_desig : (k : Kind) (rest : List Part) → WhereSome (begins after_desig k) (Built after_desig k rest)
-begun_after_desig kinds.Assign rest = λ f. ((assigned (tree.expr (tree.simple f.0 (tree.term f.1.0 f.1.1.0) f.1.1.1.0) f.1.1.1.1.0)), f.1.1.1.1.1, refl)
+begun_after_desig kinds.Assign rest = λ f.
+    ((assigned (tree.expr (tree.simple f.0 (tree.term f.1.0 f.1.1.0) f.1.1.1.0) f.1.1.1.1.0)), f.1.1.1.1.1, refl)
 begun_after_desig kinds.OpenParen rest = λ f. ((used (args_of f.0) f.1.0 f.1.1.0 f.1.1.1.0), f.1.1.1.1, args_spelled f.0 _)
 begun_after_desig kinds.Star rest = λ f. ((used tree.no_args (tree.more_factor muls.Star f.0 f.1.0) f.1.1.0 f.1.1.1.0), f.1.1.1.1, refl)
 begun_after_desig kinds.Div rest = λ f. ((used tree.no_args (tree.more_factor muls.Div f.0 f.1.0) f.1.1.0 f.1.1.1.0), f.1.1.1.1, refl)
@@ -270,7 +296,8 @@ begun_stmt_tail _ rest = tt
 abbrev pub begun_elsif_tail : (k : Kind) (rest : List Part) → WhereSome (begins elsif_tail k) (Built elsif_tail k rest)
 begun_elsif_tail kinds.Elsif rest =
     λ f. (
-      (tree.more_elsif (tree.expr (tree.simple f.0 (tree.term f.1.0 f.1.1.0) f.1.1.1.0) f.1.1.1.1.0) (tree.stmts f.1.1.1.1.1.1.0 f.1.1.1.1.1.1.1.0)
+      (tree.more_elsif (tree.expr (tree.simple f.0 (tree.term f.1.0 f.1.1.0) f.1.1.1.0) f.1.1.1.1.0)
+          (tree.stmts f.1.1.1.1.1.1.0 f.1.1.1.1.1.1.1.0)
           f.1.1.1.1.1.1.1.1.0),
       f.1.1.1.1.1.1.1.1.1,
       refl,
@@ -282,7 +309,11 @@ begun_else_part kinds.Else rest = λ f. ((tree.else_stmts (tree.stmts f.0 f.1.0)
 begun_else_part _ rest = tt
 
 abbrev pub begun_by_part : (k : Kind) (rest : List Part) → WhereSome (begins by_part k) (Built by_part k rest)
-begun_by_part kinds.By rest = λ f. ((tree.by_expr (tree.expr (tree.simple f.0 (tree.term f.1.0 f.1.1.0) f.1.1.1.0) f.1.1.1.1.0)), f.1.1.1.1.1, refl)
+begun_by_part kinds.By rest = λ f. (
+  (tree.by_expr (tree.expr (tree.simple f.0 (tree.term f.1.0 f.1.1.0) f.1.1.1.0) f.1.1.1.1.0)),
+  f.1.1.1.1.1,
+  refl,
+)
 begun_by_part _ rest = tt
 
 abbrev pub begun_orelse_tail : (k : Kind) (rest : List Part) → WhereSome (begins orelse_tail k) (Built orelse_tail k rest)
@@ -290,7 +321,8 @@ begun_orelse_tail kinds.Orelse rest = λ f. ((tree.more_orelse (tree.stmts f.0 f
 begun_orelse_tail _ rest = tt
 
 -- what an expression is built of builds what RETURN gives
-abbrev pub as_returned : (k : Kind) (rest : List Part) (b : Option (List Part)) → WhereSome b (BuiltExpr k rest) → WhereSome b (Built returned_part k rest)
+abbrev pub as_returned : (k : Kind) (rest : List Part) (b : Option (List Part)) → WhereSome b (BuiltExpr k rest)
+    → WhereSome b (Built returned_part k rest)
 as_returned k rest None w = tt
 as_returned k rest (Some parts) w = λ f. let r = w f in (tree.returned r.0, r.1, r.2)
 
@@ -330,13 +362,15 @@ begun_arm_tail kinds.Bar rest = λ f. ((tree.more_arm f.0 f.1.0), f.1.1, refl)
 begun_arm_tail _ rest = tt
 
 abbrev pub begun_high_part : (k : Kind) (rest : List Part) → WhereSome (begins high_part k) (Built high_part k rest)
-begun_high_part kinds.DotDot rest = λ f. ((tree.high_expr (tree.expr (tree.simple f.0 (tree.term f.1.0 f.1.1.0) f.1.1.1.0) f.1.1.1.1.0)), f.1.1.1.1.1, refl)
+begun_high_part kinds.DotDot rest = λ f.
+    ((tree.high_expr (tree.expr (tree.simple f.0 (tree.term f.1.0 f.1.1.0) f.1.1.1.0) f.1.1.1.1.0)), f.1.1.1.1.1, refl)
 begun_high_part _ rest = tt
 
 abbrev pub begun_label_tail : (k : Kind) (rest : List Part) → WhereSome (begins label_tail k) (Built label_tail k rest)
 begun_label_tail kinds.Comma rest =
     λ f. (
-      (tree.more_label (tree.label (tree.expr (tree.simple f.0 (tree.term f.1.0 f.1.1.0) f.1.1.1.0) f.1.1.1.1.0) f.1.1.1.1.1.0) f.1.1.1.1.1.1.0),
+      (tree.more_label (tree.label (tree.expr (tree.simple f.0 (tree.term f.1.0 f.1.1.0) f.1.1.1.0) f.1.1.1.1.0) f.1.1.1.1.1.0)
+          f.1.1.1.1.1.1.0),
       f.1.1.1.1.1.1.1,
       refl,
     )
@@ -389,7 +423,11 @@ begun_type_tail kinds.Name rest = λ f. ((tree.more_type (tree.type_node f.1.0 f
 begun_type_tail _ rest = tt
 
 abbrev pub begun_var_tail : (k : Kind) (rest : List Part) → WhereSome (begins var_tail k) (Built var_tail k rest)
-begun_var_tail kinds.Name rest = λ f. ((tree.more_var (tree.names f.0) (tree.type_node f.1.1.0 f.1.1.1.0) f.1.1.1.1.1.0), f.1.1.1.1.1.1, refl)
+begun_var_tail kinds.Name rest = λ f. (
+  (tree.more_var (tree.names f.0) (tree.type_node f.1.1.0 f.1.1.1.0) f.1.1.1.1.1.0),
+  f.1.1.1.1.1.1,
+  refl,
+)
 begun_var_tail _ rest = tt
 
 abbrev pub begun_mode_part : (k : Kind) (rest : List Part) → WhereSome (begins mode_part k) (Built mode_part k rest)
@@ -429,7 +467,11 @@ begun_decl_tail kinds.Const rest = λ f. ((tree.more_decl (tree.const_decl f.0) 
 begun_decl_tail kinds.Type rest = λ f. ((tree.more_decl (tree.type_decl f.0) f.1.0), f.1.1, refl)
 begun_decl_tail kinds.Var rest = λ f. ((tree.more_decl (tree.var_decl f.0) f.1.0), f.1.1, refl)
 begun_decl_tail kinds.Procedure rest =
-    λ f. ((tree.more_decl (tree.procedure f.1.0 f.1.1.0 (tree.block f.1.1.1.1.0 f.1.1.1.1.1.0)) f.1.1.1.1.1.1.1.1.1.0), f.1.1.1.1.1.1.1.1.1.1, refl)
+    λ f. (
+      (tree.more_decl (tree.procedure f.1.0 f.1.1.0 (tree.block f.1.1.1.1.0 f.1.1.1.1.1.0)) f.1.1.1.1.1.1.1.1.1.0),
+      f.1.1.1.1.1.1.1.1.1.1,
+      refl,
+    )
 begun_decl_tail _ rest = tt
 
 abbrev pub begun_body_part : (k : Kind) (rest : List Part) → WhereSome (begins body_part k) (Built body_part k rest)

@@ -1,5 +1,6 @@
 -- The depth passes 100 at no token before the one that is refused.
-use Rattle.std.proofs.Common.{◌≡◌, ◌≤◌, ◌<◌, ℕ, zero, suc, ◌+◌, ◌-◌, Bool, true, false, ◌&&◌, nat_lt, List, [], ◌∷◌, ◌++◌, take, Option, None, Some, refl, ap, arith}
+use Rattle.std.proofs.Common.{◌≡◌, ◌≤◌, ◌<◌, ℕ, zero, suc, ◌+◌, ◌-◌, Bool, true, false, ◌&&◌, nat_lt, List, [], ◌∷◌, ◌++◌, take, Option}
+use Rattle.std.proofs.Common.{None, Some, refl, ap, arith}
 use Rattle.std.proofs.lemmas.Bool.Decides.{nat_tests}
 use Rattle.alma_tree.specs.declared.kind.Kind.{Kind}
 use Rattle.alma_tree.specs.declared.kind.Kind.TheVariants as kinds
@@ -37,7 +38,8 @@ record Moved (o c d : ℕ) (P : ℕ → Type 0) : Type 0 where
   nested : P d
 
 moves : (opening closing : Bool) (o c d : ℕ) (P : ℕ → Type 0) → (opening && closing) ≡ false → c + d ≡ o → d ≤ 100
-    → (opening && nat_lt 99 d) ≡ false → Behind opening closing d P → Moved (o + one_where opening) (c + one_where closing) (next_depth opening closing d) P
+    → (opening && nat_lt 99 d) ≡ false → Behind opening closing d P
+    → Moved (o + one_where opening) (c + one_where closing) (next_depth opening closing d) P
 moves true false o c d P w e i h n =
     record { counted = omega arith; bounded = let x : d ≤ 99 = grind (arith, nat_tests) in omega arith; nested = n }
 moves true true o c d P w e i h n = absurd cc

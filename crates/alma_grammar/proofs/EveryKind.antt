@@ -11,9 +11,12 @@ all_kinds =
     kinds.Name ∷ kinds.Number ∷ kinds.Literal ∷ kinds.Semicolon ∷ kinds.Comma ∷ kinds.Dot ∷ kinds.DotDot ∷ kinds.Colon ∷ kinds.Assign ∷
     kinds.OpenParen ∷ kinds.CloseParen ∷ kinds.OpenBracket ∷ kinds.CloseBracket ∷ kinds.Equal ∷ kinds.Unequal ∷ kinds.Less ∷ kinds.LessEq ∷
     kinds.Greater ∷ kinds.GreaterEq ∷ kinds.Plus ∷ kinds.Minus ∷ kinds.Star ∷ kinds.Bar ∷ kinds.And ∷ kinds.Array ∷ kinds.Begin ∷ kinds.By ∷
-    kinds.Case ∷ kinds.Chr ∷ kinds.Commit ∷ kinds.Const ∷ kinds.Div ∷ kinds.Do ∷ kinds.Either ∷ kinds.Else ∷ kinds.Elsif ∷ kinds.End ∷ kinds.For ∷
-    kinds.Forall ∷ kinds.If ∷ kinds.Known ∷ kinds.Mix ∷ kinds.Mod ∷ kinds.Module ∷ kinds.Not ∷ kinds.Of ∷ kinds.Or ∷ kinds.Ord ∷ kinds.Orelse ∷
-    kinds.Procedure ∷ kinds.Read ∷ kinds.Record ∷ kinds.Repeat ∷ kinds.Return ∷ kinds.Some ∷ kinds.Then ∷ kinds.To ∷ kinds.Type ∷ kinds.Until ∷
+    kinds.Case ∷ kinds.Chr ∷ kinds.Commit ∷ kinds.Const ∷ kinds.Div ∷ kinds.Do ∷ kinds.Either ∷ kinds.Else ∷ kinds.Elsif ∷ kinds.End
+    ∷ kinds.For ∷
+    kinds.Forall ∷ kinds.If ∷ kinds.Known ∷ kinds.Mix ∷ kinds.Mod ∷ kinds.Module ∷ kinds.Not ∷ kinds.Of ∷ kinds.Or ∷ kinds.Ord
+    ∷ kinds.Orelse ∷
+    kinds.Procedure ∷ kinds.Read ∷ kinds.Record ∷ kinds.Repeat ∷ kinds.Return ∷ kinds.Some ∷ kinds.Then ∷ kinds.To ∷ kinds.Type
+    ∷ kinds.Until ∷
     kinds.Var ∷ kinds.While ∷ kinds.Write ∷ kinds.Writeln ∷ []
 
 -- the kind that stands at a place of a list

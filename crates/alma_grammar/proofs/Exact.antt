@@ -63,7 +63,8 @@ read_on (k ∷ front) x d parts later e =
 stops : (front rest : List Kind) (later : List Part) → open_after front whole ≡ Some later → Stuck later rest → Stops front rest
 stops front [] later e h = λ t s.
     let r = read_on front [] 0 whole later e in
-    let a : reading false (spelling t) 0 whole ≡ at_end (all_skip later) = ap (λ l. reading false l 0 whole) (s ∙ sym (append-nil front)) ∙ r.1 in
+    let a : reading false (spelling t) 0 whole ≡ at_end (all_skip later) = ap (λ l. reading false l 0 whole) (s ∙ sym (append-nil front))
+    ∙ r.1 in
     let b : done ≡ at_end false = sym (whole_read t) ∙ a ∙ ap at_end h in absurd cc
 stops front (k ∷ rest) later e h = λ t more s.
     let r = read_on front (k ∷ more) 0 whole later e in

@@ -49,7 +49,8 @@ front_joined k ks parts later None h r = tt
 front_joined k ks parts later (Some last) h r = λ f. let x = r f in let y = h x.0 in (y.0, y.1 ∙ ap (λ z. k ∷ z) x.1)
 
 front_from : (k : Kind) (ks : List Kind) (parts : List Part) (b : Option (List Part)) → WhereSome b (Before parts k)
-    → ((later : List Part) → WhereSome (open_after ks later) (Front ks later)) → WhereSome (and_then b (open_after ks)) (Front (k ∷ ks) parts)
+    → ((later : List Part) → WhereSome (open_after ks later) (Front ks later))
+    → WhereSome (and_then b (open_after ks)) (Front (k ∷ ks) parts)
 front_from k ks parts None h ih = tt
 front_from k ks parts (Some later) h ih = front_joined k ks parts later (open_after ks later) h (ih later)
 
@@ -86,7 +87,8 @@ no_tokens (p ∷ rest) h = no_tokens_from p rest (may_skip p) (all_skip rest) (s
 ended : (b : Option (List Part)) (ks : List Kind) → WhereSome b (Front ks whole)
     → WhereSome b (λ parts. all_skip parts ≡ true → (t : tree.Module) × (spelling t ≡ ks ++ []))
 ended None ks h = tt
-ended (Some parts) ks h = λ a. let e = no_tokens parts a in let r = h e.0 in let t = as_module r.0 in (t.0, t.1 ∙ r.1 ∙ ap (λ x. ks ++ x) e.1)
+ended (Some parts) ks h = λ a. let e = no_tokens parts a in let r = h e.0 in let t = as_module r.0 in
+    (t.0, t.1 ∙ r.1 ∙ ap (λ x. ks ++ x) e.1)
 
 pub each_end_is_a_tree : (ks : List Kind)
     → WhereSome (open_after ks whole) (λ parts. all_skip parts ≡ true → (t : tree.Module) × (spelling t ≡ ks ++ []))

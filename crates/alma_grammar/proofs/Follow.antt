@@ -4,10 +4,14 @@ use Rattle.std.proofs.lemmas.Bool.{and_parts}
 use Rattle.alma_tree.specs.declared.kind.Kind.{Kind}
 use Rattle.alma_tree.specs.declared.kind.Kind.TheVariants as kinds
 use Rattle.alma_tree.specs.Kinds.{code}
-use Rattle.alma_grammar.specs.Parts.{Part, one, sign_part, factor_part, primary_part, factor_tail, term_tail, compared_part, args_part, args_inside}
-use Rattle.alma_grammar.specs.Parts.{expr_tail, selector_tail, stmt_part, after_desig, stmt_tail, elsif_tail, else_part, by_part, orelse_tail}
-use Rattle.alma_grammar.specs.Parts.{returned_part, desig_tail, arm_part, arm_tail, high_part, label_tail, name_tail, array_tail, plain_part, plain_tail}
-use Rattle.alma_grammar.specs.Parts.{field_list_part, field_list_tail, const_tail, type_tail, var_tail, mode_part, formal_tail, params_part, params_inside}
+use Rattle.alma_grammar.specs.Parts.{Part, one, sign_part, factor_part, primary_part, factor_tail, term_tail, compared_part, args_part}
+use Rattle.alma_grammar.specs.Parts.{args_inside}
+use Rattle.alma_grammar.specs.Parts.{expr_tail, selector_tail, stmt_part, after_desig, stmt_tail, elsif_tail, else_part, by_part}
+use Rattle.alma_grammar.specs.Parts.{orelse_tail}
+use Rattle.alma_grammar.specs.Parts.{returned_part, desig_tail, arm_part, arm_tail, high_part, label_tail, name_tail, array_tail}
+use Rattle.alma_grammar.specs.Parts.{plain_part, plain_tail}
+use Rattle.alma_grammar.specs.Parts.{field_list_part, field_list_tail, const_tail, type_tail, var_tail, mode_part, formal_tail, params_part}
+use Rattle.alma_grammar.specs.Parts.{params_inside}
 use Rattle.alma_grammar.specs.Parts.{result_part, decl_tail, body_part, if_same, begins, may_skip, next, this_or_later}
 use Rattle.alma_grammar.specs.Filling.{WhereSome}
 use Rattle.alma_grammar.proofs.EveryKind.{all_kinds, each, of_every_kind, same_kind}
@@ -201,7 +205,8 @@ stands_so p (q ∷ parts) rest ks e c k h =
     let x = and_parts (begins_behind p q) _ e in
     stands_by (begins q k) (may_skip q) (begins_so p q x.0 k) x.1 h (λ e. stands_so p parts rest ks e c k)
   where
-    stands_by : (b : Option (List Part)) (m : Bool) → (is_some b ≡ true → may_follow p k ≡ true) → implies m (stand_behind p parts ks) ≡ true
+    stands_by : (b : Option (List Part)) (m : Bool) → (is_some b ≡ true → may_follow p k ≡ true)
+        → implies m (stand_behind p parts ks) ≡ true
         → is_some (this_or_later b m (parts ++ rest) (next (parts ++ rest) k)) ≡ true
         → (stand_behind p parts ks ≡ true → is_some (next (parts ++ rest) k) ≡ true → may_follow p k ≡ true) → may_follow p k ≡ true
     stands_by (Some l) m s e h ih = s refl
@@ -236,4 +241,5 @@ in_order_from p rest None false later g ih = tt
 -- the parts that are open behind one more token are in order where those before it were
 pub still_in_order : (parts : List Part) (k : Kind) → InOrder parts → WhereSome (next parts k) InOrder
 still_in_order [] k g = tt
-still_in_order (p ∷ rest) k g = in_order_from p rest (begins p k) (may_skip p) (next rest k) (in_order_inside p k rest g) (still_in_order rest k g.1)
+still_in_order (p ∷ rest) k g = in_order_from p rest (begins p k) (may_skip p) (next rest k) (in_order_inside p k rest g)
+    (still_in_order rest k g.1)

@@ -123,7 +123,8 @@ goes_so p k rest (Some parts) t = λ d h.
     subst (λ e. Nested e (one k ∷ parts ++ rest)) x.1 y
 
 -- a part that is one token opens and closes what the token does
-goes_one : (a k : Kind) (rest : List Part) (b : Bool) → (b ≡ true → a ≡ k) → WhereSome (if_same b) (λ parts. GoesOn (one a ∷ rest) k (parts ++ rest))
+goes_one : (a k : Kind) (rest : List Part) (b : Bool) → (b ≡ true → a ≡ k)
+    → WhereSome (if_same b) (λ parts. GoesOn (one a ∷ rest) k (parts ++ rest))
 goes_one a k rest true same = λ d h. subst (λ x. Behind (opens x) (closes x) d (λ e. Nested e rest)) (same refl) h
 goes_one a k rest false same = tt
 
@@ -141,7 +142,8 @@ left_out p rest d h n = n
 
 -- the same of a list of open parts, where it is so of the first part and of those behind it
 goes_from : (p : Part) (rest : List Part) (k : Kind) (b : Option (List Part)) → WhereSome b (λ parts. GoesOn (p ∷ rest) k (parts ++ rest))
-    → (m : Bool) → (m ≡ true → (d : ℕ) → Nested d (p ∷ rest) → Nested d rest) → (later : Option (List Part)) → WhereSome later (GoesOn rest k)
+    → (m : Bool) → (m ≡ true → (d : ℕ) → Nested d (p ∷ rest) → Nested d rest) → (later : Option (List Part))
+    → WhereSome later (GoesOn rest k)
     → WhereSome (this_or_later b m rest later) (GoesOn (p ∷ rest) k)
 goes_from p rest k (Some parts) h m s later ih = h
 goes_from p rest k None h true s None ih = tt

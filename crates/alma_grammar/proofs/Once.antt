@@ -20,10 +20,12 @@ same_on k ks parts f g (Some later) w c e o s t ih =
     sym c.1 ∙ ap (λ z. (w z).0) (ih later c.0 e.0 o x y) ∙ e.1
 
 -- fillers with one spelling are the same
-same_fills : (ks : List Kind) (parts : List Part) (f g : Fills parts) → InOrder parts → spell_fills parts f ≡ ks → spell_fills parts g ≡ ks → f ≡ g
+same_fills : (ks : List Kind) (parts : List Part) (f g : Fills parts) → InOrder parts → spell_fills parts f ≡ ks → spell_fills parts g ≡ ks
+    → f ≡ g
 same_fills [] parts f g o s t = same_unspelled parts f g (from [] parts f s (step parts f o)) (from [] parts g t (step parts g o))
 same_fills (k ∷ ks) parts f g o s t =
-    same_on k ks parts f g (next parts k) (before parts k) (from (k ∷ ks) parts f s (step parts f o)) (from (k ∷ ks) parts g t (step parts g o))
+    same_on k ks parts f g (next parts k) (before parts k) (from (k ∷ ks) parts f s (step parts f o))
+    (from (k ∷ ks) parts g t (step parts g o))
     (still_in_order parts k o) s t (same_fills ks)
 
 -- trees with one spelling are the same

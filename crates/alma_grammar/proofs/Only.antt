@@ -1,5 +1,6 @@
 -- Each list of kinds is a program, or has one token at which it is refused.
-use Rattle.std.proofs.Common.{◌≡◌, ◌≤◌, ◌<◌, ℕ, Bool, true, false, List, [], ◌∷◌, ◌++◌, take, Option, None, Some, refl, ap, sym, ◌∙◌, subst, append-nil, append_assoc, arith}
+use Rattle.std.proofs.Common.{◌≡◌, ◌≤◌, ◌<◌, ℕ, Bool, true, false, List, [], ◌∷◌, ◌++◌, take, Option, None, Some, refl, ap, sym, ◌∙◌, subst}
+use Rattle.std.proofs.Common.{append-nil, append_assoc, arith}
 use Rattle.std.proofs.lemmas.List.{append_cancel_right}
 use Rattle.alma_tree.specs.declared.kind.Kind.{Kind}
 use Rattle.alma_tree.specs.Depth.{depth}
@@ -62,7 +63,8 @@ deep_end : (rest : List Kind) (parts : List Part) (b : Bool) → at_end b ≡ to
 deep_end rest parts true e = absurd cc
 deep_end rest parts false e = absurd cc
 
-deep : (checked : Bool) (ks : List Kind) (d : ℕ) (parts : List Part) (rest : List Kind) → reading checked ks d parts ≡ too_deep rest → Deep ks parts rest
+deep : (checked : Bool) (ks : List Kind) (d : ℕ) (parts : List Part) (rest : List Kind) → reading checked ks d parts ≡ too_deep rest
+    → Deep ks parts rest
 deep checked [] d parts rest e = deep_end rest parts (all_skip parts) e
 deep checked (k ∷ ks) d parts rest e =
     deep_next k ks parts rest _ (reading checked ks (level d k)) (λ later. deep checked ks (level d k) later rest) (next parts k) refl e

@@ -11,7 +11,8 @@ use Rattle.alma_grammar.proofs.Follow.{InOrder, still_in_order}
 use Rattle.alma_grammar.proofs.Steps.{Came, from, step, all_skipped, whole_in_order, fills_of, spelled_so}
 
 -- fillers that come from a token are read on, where those of what is open behind it are
-reads_on : (k : Kind) (ks : List Kind) (parts : List Part) (f : Fills parts) (d : ℕ) (n : Option (List Part)) (w : WhereSome n (Before parts k))
+reads_on : (k : Kind) (ks : List Kind) (parts : List Part) (f : Fills parts) (d : ℕ) (n : Option (List Part))
+    (w : WhereSome n (Before parts k))
     → Came parts k f n w → WhereSome n InOrder → spell_fills parts f ≡ k ∷ ks
     → ((later : List Part) (g : Fills later) → InOrder later → spell_fills later g ≡ ks → reading false ks (level d k) later ≡ done)
     → goes_on n false (k ∷ ks) (reading false ks (level d k)) ≡ done
@@ -20,7 +21,8 @@ reads_on k ks parts f d (Some later) w c g s ih =
     let x = (w c.0).1 in let y = ap (spell_fills parts) c.1 in let z : spell_fills later c.0 ≡ ks = cc in ih later c.0 g z
 
 -- fillers of parts in order are read to their end
-reads : (ks : List Kind) (parts : List Part) (f : Fills parts) (d : ℕ) → InOrder parts → spell_fills parts f ≡ ks → reading false ks d parts ≡ done
+reads : (ks : List Kind) (parts : List Part) (f : Fills parts) (d : ℕ) → InOrder parts → spell_fills parts f ≡ ks
+    → reading false ks d parts ≡ done
 reads [] parts f d g s = ap at_end (all_skipped parts f (from [] parts f s (step parts f g)))
 reads (k ∷ ks) parts f d g s =
     reads_on k ks parts f d (next parts k) (before parts k) (from (k ∷ ks) parts f s (step parts f g)) (still_in_order parts k g) s

@@ -29,14 +29,16 @@ pub data Step (parts : List Part) (f : Fills parts) : Type 0 where
 -- ---- the first token
 
 -- a token that begins what fills the first part
-this_came : (p : Part) (rest : List Part) (k : Kind) (f : Fill p) (o : Fills rest) (b : Option (List Part)) (w : WhereSome b (Built p k rest))
+this_came : (p : Part) (rest : List Part) (k : Kind) (f : Fill p) (o : Fills rest) (b : Option (List Part))
+    (w : WhereSome b (Built p k rest))
     (m : Bool) (s : m ≡ true → Silent p) (later : Option (List Part)) (ih : WhereSome later (Before rest k)) → Undone p k rest f o b w
     → Came (p ∷ rest) k (f, o) (this_or_later b m rest later) (before_from p rest k b w m s later ih)
 this_came p rest k f o None w m s later ih u = absurd u
 this_came p rest k f o (Some parts) w m s later ih u = (u.0, let x = u.1 in let y = u.2 in cc)
 
 -- a token that a later part takes, where the first is filled by no token
-later_came : (p : Part) (rest : List Part) (k : Kind) (f : Fill p) (o : Fills rest) (b : Option (List Part)) (w : WhereSome b (Built p k rest))
+later_came : (p : Part) (rest : List Part) (k : Kind) (f : Fill p) (o : Fills rest) (b : Option (List Part))
+    (w : WhereSome b (Built p k rest))
     (m : Bool) (s : m ≡ true → Silent p) (later : Option (List Part)) (ih : WhereSome later (Before rest k))
     → is_some b ≡ false → (e : m ≡ true) → shortest p ≡ f → Came rest k o later ih
     → Came (p ∷ rest) k (f, o) (this_or_later b m rest later) (before_from p rest k b w m s later ih)
@@ -46,7 +48,8 @@ later_came p rest k f o None w true s (Some later) ih h refl q c = (c.0, let x =
 later_came p rest k f o None w false s later ih h e q c = absurd cc
 
 -- a token that fillers come from may stand there
-came_is : (parts : List Part) (k : Kind) (f : Fills parts) (n : Option (List Part)) (w : WhereSome n (Before parts k)) → Came parts k f n w → is_some n ≡ true
+came_is : (parts : List Part) (k : Kind) (f : Fills parts) (n : Option (List Part)) (w : WhereSome n (Before parts k)) → Came parts k f n w
+    → is_some n ≡ true
 came_is parts k f None w c = absurd c
 came_is parts k f (Some later) w c = refl
 
@@ -68,7 +71,8 @@ step (p ∷ rest) f g = step_by (undo p f.0 rest f.1) (step rest f.1 g.1) where
 unspelled : (parts : List Part) (f : Fills parts) → Unspelled parts f → spell_fills parts f ≡ []
 unspelled [] f u = refl
 unspelled (p ∷ rest) f u =
-    let x = silent p u.0.0 (spell_fills rest f.1) in ap (λ y. spell_fill p y (spell_fills rest f.1)) (sym u.0.1) ∙ x ∙ unspelled rest f.1 u.1
+    let x = silent p u.0.0 (spell_fills rest f.1) in ap (λ y. spell_fill p y (spell_fills rest f.1)) (sym u.0.1) ∙ x
+    ∙ unspelled rest f.1 u.1
 
 -- the parts that they fill may all be left out
 pub all_skipped : (parts : List Part) (f : Fills parts) → Unspelled parts f → all_skip parts ≡ true
@@ -116,15 +120,17 @@ from (a ∷ ks) parts f s (on k c) =
 
 -- the parts of a program are in order
 pub whole_in_order : InOrder whole
-whole_in_order = (λ k h. refl, (λ k h. refl, (λ k h. refl, (decls_behind, (body_behind, (λ k h. refl, (λ k h. refl, (λ k h. refl, tt)))))))) where
-  decls_behind : (k : Kind) → is_some (next (body_part ∷ one kinds.End ∷ one kinds.Name ∷ one kinds.Dot ∷ []) k) ≡ true → may_follow decl_tail k ≡ true
-  decls_behind kinds.Begin h = refl
-  decls_behind kinds.End h = refl
-  decls_behind k h = absurd cc
+whole_in_order = (λ k h. refl, (λ k h. refl, (λ k h. refl, (decls_behind, (body_behind, (λ k h. refl, (λ k h. refl, (λ k h. refl, tt))))))))
+  where
+    decls_behind : (k : Kind) → is_some (next (body_part ∷ one kinds.End ∷ one kinds.Name ∷ one kinds.Dot ∷ []) k) ≡ true
+        → may_follow decl_tail k ≡ true
+    decls_behind kinds.Begin h = refl
+    decls_behind kinds.End h = refl
+    decls_behind k h = absurd cc
 
-  body_behind : (k : Kind) → is_some (next (one kinds.End ∷ one kinds.Name ∷ one kinds.Dot ∷ []) k) ≡ true → may_follow body_part k ≡ true
-  body_behind kinds.End h = refl
-  body_behind k h = absurd cc
+    body_behind : (k : Kind) → is_some (next (one kinds.End ∷ one kinds.Name ∷ one kinds.Dot ∷ []) k) ≡ true → may_follow body_part k ≡ true
+    body_behind kinds.End h = refl
+    body_behind k h = absurd cc
 
 -- a tree as what fills the parts of a program
 abbrev pub fills_of : tree.Module → Fills whole

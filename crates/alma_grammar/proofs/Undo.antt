@@ -9,10 +9,14 @@ use Rattle.alma_tree.specs.declared.leaf.MulOperator.TheVariants as muls
 use Rattle.alma_tree.specs.declared.leaf.Mode.TheVariants as modes
 use Rattle.alma_tree.specs.Tree as tree
 use Rattle.alma_tree.specs.Kinds.{code}
-use Rattle.alma_grammar.specs.Parts.{Part, one, sign_part, factor_part, primary_part, factor_tail, term_tail, compared_part, args_part, args_inside}
-use Rattle.alma_grammar.specs.Parts.{expr_tail, selector_tail, stmt_part, after_desig, stmt_tail, elsif_tail, else_part, by_part, orelse_tail}
-use Rattle.alma_grammar.specs.Parts.{returned_part, desig_tail, arm_part, arm_tail, high_part, label_tail, name_tail, array_tail, plain_part, plain_tail}
-use Rattle.alma_grammar.specs.Parts.{field_list_part, field_list_tail, const_tail, type_tail, var_tail, mode_part, formal_tail, params_part, params_inside}
+use Rattle.alma_grammar.specs.Parts.{Part, one, sign_part, factor_part, primary_part, factor_tail, term_tail, compared_part, args_part}
+use Rattle.alma_grammar.specs.Parts.{args_inside}
+use Rattle.alma_grammar.specs.Parts.{expr_tail, selector_tail, stmt_part, after_desig, stmt_tail, elsif_tail, else_part, by_part}
+use Rattle.alma_grammar.specs.Parts.{orelse_tail}
+use Rattle.alma_grammar.specs.Parts.{returned_part, desig_tail, arm_part, arm_tail, high_part, label_tail, name_tail, array_tail}
+use Rattle.alma_grammar.specs.Parts.{plain_part, plain_tail}
+use Rattle.alma_grammar.specs.Parts.{field_list_part, field_list_tail, const_tail, type_tail, var_tail, mode_part, formal_tail, params_part}
+use Rattle.alma_grammar.specs.Parts.{params_inside}
 use Rattle.alma_grammar.specs.Parts.{result_part, decl_tail, body_part}
 use Rattle.alma_grammar.specs.Parts.{if_same, begins}
 use Rattle.alma_grammar.specs.Filling.{assigned, used, closed_args, filled_args, closed_params, filled_params}
@@ -22,7 +26,8 @@ use Rattle.alma_grammar.specs.Parts.{may_skip}
 use Rattle.alma_grammar.proofs.Begun.{Built, begun, begun_one}
 
 -- the filler and what follows it are made of fillers of what is open behind the token
-abbrev pub Undone : (p : Part) (k : Kind) (rest : List Part) → Fill p → Fills rest → (b : Option (List Part)) → WhereSome b (Built p k rest) → Type 0
+abbrev pub Undone : (p : Part) (k : Kind) (rest : List Part) → Fill p → Fills rest → (b : Option (List Part)) → WhereSome b (Built p k rest)
+    → Type 0
 Undone p k rest f o None w = ⊥
 Undone p k rest f o (Some parts) w = (g : Fills (parts ++ rest)) × ((w g).0 ≡ f) × ((w g).1 ≡ o)
 
@@ -112,15 +117,22 @@ undo_args_inside (filled_args (tree.exprs (tree.expr (tree.simple None (tree.ter
     token kinds.Number ((x0, (x1, (x2, (x3, (tt, o))))), refl, refl)
 undo_args_inside (filled_args (tree.exprs (tree.expr (tree.simple None (tree.term (tree.factor tree.literal) x0) x1) x2) x3)) rest o =
     token kinds.Literal ((x0, (x1, (x2, (x3, (tt, o))))), refl, refl)
-undo_args_inside (filled_args (tree.exprs (tree.expr (tree.simple None (tree.term (tree.factor (tree.named (tree.desig x0) x1)) x2) x3) x4) x5)) rest o =
+undo_args_inside (filled_args (tree.exprs (tree.expr (tree.simple None (tree.term (tree.factor (tree.named (tree.desig x0) x1)) x2) x3) x4)
+    x5)) rest o =
     token kinds.Name ((x0, (x1, (x2, (x3, (x4, (x5, (tt, o))))))), refl, refl)
-undo_args_inside (filled_args (tree.exprs (tree.expr (tree.simple None (tree.term (tree.factor (tree.paren (tree.stmts x0 x1))) x3) x4) x5) x6)) rest o =
+undo_args_inside (filled_args (tree.exprs (tree.expr (tree.simple None (tree.term (tree.factor (tree.paren (tree.stmts x0 x1))) x3) x4) x5)
+    x6)) rest o =
     token kinds.OpenParen ((x0, (x1, (tt, (x3, (x4, (x5, (x6, (tt, o)))))))), refl, refl)
-undo_args_inside (filled_args (tree.exprs (tree.expr (tree.simple None (tree.term (tree.factor (tree.known (tree.desig x2))) x4) x5) x6) x7)) rest o =
+undo_args_inside (filled_args (tree.exprs (tree.expr (tree.simple None (tree.term (tree.factor (tree.known (tree.desig x2))) x4) x5) x6)
+    x7)) rest o =
     token kinds.Known ((tt, (tt, (x2, (tt, (x4, (x5, (x6, (x7, (tt, o))))))))), refl, refl)
-undo_args_inside (filled_args (tree.exprs (tree.expr (tree.simple None (tree.term (tree.factor (tree.ord (tree.expr (tree.simple x1 (tree.term x2 x3) x4) x5))) x7) x8) x9) x10)) rest o =
+undo_args_inside (filled_args (tree.exprs
+    (tree.expr (tree.simple None (tree.term (tree.factor (tree.ord (tree.expr (tree.simple x1 (tree.term x2 x3) x4) x5))) x7) x8) x9) x10))
+    rest o =
     token kinds.Ord ((tt, (x1, (x2, (x3, (x4, (x5, (tt, (x7, (x8, (x9, (x10, (tt, o)))))))))))), refl, refl)
-undo_args_inside (filled_args (tree.exprs (tree.expr (tree.simple None (tree.term (tree.factor (tree.chr (tree.expr (tree.simple x1 (tree.term x2 x3) x4) x5))) x7) x8) x9) x10)) rest o =
+undo_args_inside (filled_args (tree.exprs
+    (tree.expr (tree.simple None (tree.term (tree.factor (tree.chr (tree.expr (tree.simple x1 (tree.term x2 x3) x4) x5))) x7) x8) x9) x10))
+    rest o =
     token kinds.Chr ((tt, (x1, (x2, (x3, (x4, (x5, (tt, (x7, (x8, (x9, (x10, (tt, o)))))))))))), refl, refl)
 
 undo_expr_tail : (f : Fill expr_tail) (rest : List Part) (o : Fills rest) → Undo expr_tail f rest o
@@ -145,10 +157,20 @@ undo_stmt_part (tree.while_stmt (tree.expr (tree.simple x0 (tree.term x1 x2) x3)
     token kinds.While ((x0, (x1, (x2, (x3, (x4, (tt, (x6, (x7, (tt, o))))))))), refl, refl)
 undo_stmt_part (tree.repeat_stmt (tree.stmts x0 x1) (tree.expr (tree.simple x3 (tree.term x4 x5) x6) x7)) rest o =
     token kinds.Repeat ((x0, (x1, (tt, (x3, (x4, (x5, (x6, (x7, o)))))))), refl, refl)
-undo_stmt_part (tree.for_stmt (tree.expr (tree.simple x2 (tree.term x3 x4) x5) x6) (tree.expr (tree.simple x8 (tree.term x9 x10) x11) x12) x13 (tree.stmts x15 x16)) rest o =
-    token kinds.For ((tt, (tt, (x2, (x3, (x4, (x5, (x6, (tt, (x8, (x9, (x10, (x11, (x12, (x13, (tt, (x15, (x16, (tt, o)))))))))))))))))), refl, refl)
-undo_stmt_part (tree.some_stmt (tree.expr (tree.simple x2 (tree.term x3 x4) x5) x6) (tree.expr (tree.simple x8 (tree.term x9 x10) x11) x12) (tree.stmts x14 x15)) rest o =
-    token kinds.Some ((tt, (tt, (x2, (x3, (x4, (x5, (x6, (tt, (x8, (x9, (x10, (x11, (x12, (tt, (x14, (x15, (tt, o))))))))))))))))), refl, refl)
+undo_stmt_part (tree.for_stmt (tree.expr (tree.simple x2 (tree.term x3 x4) x5) x6) (tree.expr (tree.simple x8 (tree.term x9 x10) x11) x12)
+    x13 (tree.stmts x15 x16)) rest o =
+    token kinds.For (
+      (tt, (tt, (x2, (x3, (x4, (x5, (x6, (tt, (x8, (x9, (x10, (x11, (x12, (x13, (tt, (x15, (x16, (tt, o)))))))))))))))))),
+      refl,
+      refl,
+    )
+undo_stmt_part (tree.some_stmt (tree.expr (tree.simple x2 (tree.term x3 x4) x5) x6) (tree.expr (tree.simple x8 (tree.term x9 x10) x11) x12)
+    (tree.stmts x14 x15)) rest o =
+    token kinds.Some (
+      (tt, (tt, (x2, (x3, (x4, (x5, (x6, (tt, (x8, (x9, (x10, (x11, (x12, (tt, (x14, (x15, (tt, o))))))))))))))))),
+      refl,
+      refl,
+    )
 undo_stmt_part (tree.case_stmt (tree.expr (tree.simple x0 (tree.term x1 x2) x3) x4) x6 x7 x8) rest o =
     token kinds.Case ((x0, (x1, (x2, (x3, (x4, (tt, (x6, (x7, (x8, (tt, o)))))))))), refl, refl)
 undo_stmt_part (tree.either_stmt (tree.stmts x0 x1) x2) rest o = token kinds.Either ((x0, (x1, (x2, (tt, o)))), refl, refl)
@@ -174,9 +196,11 @@ undo_stmt_part (tree.value (tree.expr (tree.simple None (tree.term (tree.factor 
     token kinds.OpenParen ((x0, (x1, (tt, (x3, (x4, (x5, o)))))), refl, refl)
 undo_stmt_part (tree.value (tree.expr (tree.simple None (tree.term (tree.factor (tree.known (tree.desig x2))) x4) x5) x6)) rest o =
     token kinds.Known ((tt, (tt, (x2, (tt, (x4, (x5, (x6, o))))))), refl, refl)
-undo_stmt_part (tree.value (tree.expr (tree.simple None (tree.term (tree.factor (tree.ord (tree.expr (tree.simple x1 (tree.term x2 x3) x4) x5))) x7) x8) x9)) rest o =
+undo_stmt_part (tree.value (tree.expr
+    (tree.simple None (tree.term (tree.factor (tree.ord (tree.expr (tree.simple x1 (tree.term x2 x3) x4) x5))) x7) x8) x9)) rest o =
     token kinds.Ord ((tt, (x1, (x2, (x3, (x4, (x5, (tt, (x7, (x8, (x9, o)))))))))), refl, refl)
-undo_stmt_part (tree.value (tree.expr (tree.simple None (tree.term (tree.factor (tree.chr (tree.expr (tree.simple x1 (tree.term x2 x3) x4) x5))) x7) x8) x9)) rest o =
+undo_stmt_part (tree.value (tree.expr
+    (tree.simple None (tree.term (tree.factor (tree.chr (tree.expr (tree.simple x1 (tree.term x2 x3) x4) x5))) x7) x8) x9)) rest o =
     token kinds.Chr ((tt, (x1, (x2, (x3, (x4, (x5, (tt, (x7, (x8, (x9, o)))))))))), refl, refl)
 
 undo_after_desig : (f : Fill after_desig) (rest : List Part) (o : Fills rest) → Undo after_desig f rest o
@@ -185,27 +209,37 @@ undo_after_desig (assigned (tree.expr (tree.simple x0 (tree.term x1 x2) x3) x4))
     token kinds.Assign ((x0, (x1, (x2, (x3, (x4, o))))), refl, refl)
 undo_after_desig (used tree.empty_args x1 x2 x3) rest o = token kinds.OpenParen ((closed_args, (x1, (x2, (x3, o)))), refl, refl)
 undo_after_desig (used (tree.args es) x1 x2 x3) rest o = token kinds.OpenParen (((filled_args es), (x1, (x2, (x3, o)))), refl, refl)
-undo_after_desig (used tree.no_args (tree.more_factor muls.Star x0 x1) x2 x3) rest o = token kinds.Star ((x0, (x1, (x2, (x3, o)))), refl, refl)
-undo_after_desig (used tree.no_args (tree.more_factor muls.Div x0 x1) x2 x3) rest o = token kinds.Div ((x0, (x1, (x2, (x3, o)))), refl, refl)
-undo_after_desig (used tree.no_args (tree.more_factor muls.Mod x0 x1) x2 x3) rest o = token kinds.Mod ((x0, (x1, (x2, (x3, o)))), refl, refl)
-undo_after_desig (used tree.no_args (tree.more_factor muls.And x0 x1) x2 x3) rest o = token kinds.And ((x0, (x1, (x2, (x3, o)))), refl, refl)
+undo_after_desig (used tree.no_args (tree.more_factor muls.Star x0 x1) x2 x3) rest o =
+    token kinds.Star ((x0, (x1, (x2, (x3, o)))), refl, refl)
+undo_after_desig (used tree.no_args (tree.more_factor muls.Div x0 x1) x2 x3) rest o =
+    token kinds.Div ((x0, (x1, (x2, (x3, o)))), refl, refl)
+undo_after_desig (used tree.no_args (tree.more_factor muls.Mod x0 x1) x2 x3) rest o =
+    token kinds.Mod ((x0, (x1, (x2, (x3, o)))), refl, refl)
+undo_after_desig (used tree.no_args (tree.more_factor muls.And x0 x1) x2 x3) rest o =
+    token kinds.And ((x0, (x1, (x2, (x3, o)))), refl, refl)
 undo_after_desig (used tree.no_args tree.no_factor (tree.more_term adds.Plus (tree.term x0 x1) x2) x3) rest o =
     token kinds.Plus ((x0, (x1, (x2, (x3, o)))), refl, refl)
 undo_after_desig (used tree.no_args tree.no_factor (tree.more_term adds.Minus (tree.term x0 x1) x2) x3) rest o =
     token kinds.Minus ((x0, (x1, (x2, (x3, o)))), refl, refl)
 undo_after_desig (used tree.no_args tree.no_factor (tree.more_term adds.Or (tree.term x0 x1) x2) x3) rest o =
     token kinds.Or ((x0, (x1, (x2, (x3, o)))), refl, refl)
-undo_after_desig (used tree.no_args tree.no_factor tree.no_term (tree.compared relations.Equal (tree.simple x0 (tree.term x1 x2) x3))) rest o =
+undo_after_desig (used tree.no_args tree.no_factor tree.no_term (tree.compared relations.Equal (tree.simple x0 (tree.term x1 x2) x3))) rest
+    o =
     token kinds.Equal ((x0, (x1, (x2, (x3, o)))), refl, refl)
-undo_after_desig (used tree.no_args tree.no_factor tree.no_term (tree.compared relations.Unequal (tree.simple x0 (tree.term x1 x2) x3))) rest o =
+undo_after_desig (used tree.no_args tree.no_factor tree.no_term (tree.compared relations.Unequal (tree.simple x0 (tree.term x1 x2) x3)))
+    rest o =
     token kinds.Unequal ((x0, (x1, (x2, (x3, o)))), refl, refl)
-undo_after_desig (used tree.no_args tree.no_factor tree.no_term (tree.compared relations.Less (tree.simple x0 (tree.term x1 x2) x3))) rest o =
+undo_after_desig (used tree.no_args tree.no_factor tree.no_term (tree.compared relations.Less (tree.simple x0 (tree.term x1 x2) x3))) rest
+    o =
     token kinds.Less ((x0, (x1, (x2, (x3, o)))), refl, refl)
-undo_after_desig (used tree.no_args tree.no_factor tree.no_term (tree.compared relations.LessEq (tree.simple x0 (tree.term x1 x2) x3))) rest o =
+undo_after_desig (used tree.no_args tree.no_factor tree.no_term (tree.compared relations.LessEq (tree.simple x0 (tree.term x1 x2) x3))) rest
+    o =
     token kinds.LessEq ((x0, (x1, (x2, (x3, o)))), refl, refl)
-undo_after_desig (used tree.no_args tree.no_factor tree.no_term (tree.compared relations.Greater (tree.simple x0 (tree.term x1 x2) x3))) rest o =
+undo_after_desig (used tree.no_args tree.no_factor tree.no_term (tree.compared relations.Greater (tree.simple x0 (tree.term x1 x2) x3)))
+    rest o =
     token kinds.Greater ((x0, (x1, (x2, (x3, o)))), refl, refl)
-undo_after_desig (used tree.no_args tree.no_factor tree.no_term (tree.compared relations.GreaterEq (tree.simple x0 (tree.term x1 x2) x3))) rest o =
+undo_after_desig (used tree.no_args tree.no_factor tree.no_term (tree.compared relations.GreaterEq (tree.simple x0 (tree.term x1 x2) x3)))
+    rest o =
     token kinds.GreaterEq ((x0, (x1, (x2, (x3, o)))), refl, refl)
 
 undo_stmt_tail : (f : Fill stmt_tail) (rest : List Part) (o : Fills rest) → Undo stmt_tail f rest o
@@ -223,7 +257,8 @@ undo_else_part (tree.else_stmts (tree.stmts x0 x1)) rest o = token kinds.Else ((
 
 undo_by_part : (f : Fill by_part) (rest : List Part) (o : Fills rest) → Undo by_part f rest o
 undo_by_part tree.no_by rest o = nothing refl refl
-undo_by_part (tree.by_expr (tree.expr (tree.simple x0 (tree.term x1 x2) x3) x4)) rest o = token kinds.By ((x0, (x1, (x2, (x3, (x4, o))))), refl, refl)
+undo_by_part (tree.by_expr (tree.expr (tree.simple x0 (tree.term x1 x2) x3) x4)) rest o =
+    token kinds.By ((x0, (x1, (x2, (x3, (x4, o))))), refl, refl)
 
 undo_orelse_tail : (f : Fill orelse_tail) (rest : List Part) (o : Fills rest) → Undo orelse_tail f rest o
 undo_orelse_tail tree.no_orelse rest o = nothing refl refl
@@ -241,15 +276,21 @@ undo_returned_part (tree.returned (tree.expr (tree.simple None (tree.term (tree.
     token kinds.Number ((x0, (x1, (x2, o))), refl, refl)
 undo_returned_part (tree.returned (tree.expr (tree.simple None (tree.term (tree.factor tree.literal) x0) x1) x2)) rest o =
     token kinds.Literal ((x0, (x1, (x2, o))), refl, refl)
-undo_returned_part (tree.returned (tree.expr (tree.simple None (tree.term (tree.factor (tree.named (tree.desig x0) x1)) x2) x3) x4)) rest o =
+undo_returned_part (tree.returned (tree.expr (tree.simple None (tree.term (tree.factor (tree.named (tree.desig x0) x1)) x2) x3) x4)) rest
+    o =
     token kinds.Name ((x0, (x1, (x2, (x3, (x4, o))))), refl, refl)
-undo_returned_part (tree.returned (tree.expr (tree.simple None (tree.term (tree.factor (tree.paren (tree.stmts x0 x1))) x3) x4) x5)) rest o =
+undo_returned_part (tree.returned (tree.expr (tree.simple None (tree.term (tree.factor (tree.paren (tree.stmts x0 x1))) x3) x4) x5)) rest
+    o =
     token kinds.OpenParen ((x0, (x1, (tt, (x3, (x4, (x5, o)))))), refl, refl)
 undo_returned_part (tree.returned (tree.expr (tree.simple None (tree.term (tree.factor (tree.known (tree.desig x2))) x4) x5) x6)) rest o =
     token kinds.Known ((tt, (tt, (x2, (tt, (x4, (x5, (x6, o))))))), refl, refl)
-undo_returned_part (tree.returned (tree.expr (tree.simple None (tree.term (tree.factor (tree.ord (tree.expr (tree.simple x1 (tree.term x2 x3) x4) x5))) x7) x8) x9)) rest o =
+undo_returned_part (tree.returned
+    (tree.expr (tree.simple None (tree.term (tree.factor (tree.ord (tree.expr (tree.simple x1 (tree.term x2 x3) x4) x5))) x7) x8) x9)) rest
+    o =
     token kinds.Ord ((tt, (x1, (x2, (x3, (x4, (x5, (tt, (x7, (x8, (x9, o)))))))))), refl, refl)
-undo_returned_part (tree.returned (tree.expr (tree.simple None (tree.term (tree.factor (tree.chr (tree.expr (tree.simple x1 (tree.term x2 x3) x4) x5))) x7) x8) x9)) rest o =
+undo_returned_part (tree.returned
+    (tree.expr (tree.simple None (tree.term (tree.factor (tree.chr (tree.expr (tree.simple x1 (tree.term x2 x3) x4) x5))) x7) x8) x9)) rest
+    o =
     token kinds.Chr ((tt, (x1, (x2, (x3, (x4, (x5, (tt, (x7, (x8, (x9, o)))))))))), refl, refl)
 
 undo_desig_tail : (f : Fill desig_tail) (rest : List Part) (o : Fills rest) → Undo desig_tail f rest o
@@ -262,21 +303,31 @@ undo_arm_part (tree.arm (tree.label (tree.expr (tree.simple (Some signs.Plus) (t
     token kinds.Plus ((x0, (x1, (x2, (x3, (x4, (x5, (tt, (x7, (x8, o))))))))), refl, refl)
 undo_arm_part (tree.arm (tree.label (tree.expr (tree.simple (Some signs.Minus) (tree.term x0 x1) x2) x3) x4) x5 (tree.stmts x7 x8)) rest o =
     token kinds.Minus ((x0, (x1, (x2, (x3, (x4, (x5, (tt, (x7, (x8, o))))))))), refl, refl)
-undo_arm_part (tree.arm (tree.label (tree.expr (tree.simple None (tree.term (tree.not_factor x0) x1) x2) x3) x4) x5 (tree.stmts x7 x8)) rest o =
+undo_arm_part (tree.arm (tree.label (tree.expr (tree.simple None (tree.term (tree.not_factor x0) x1) x2) x3) x4) x5 (tree.stmts x7 x8)) rest
+    o =
     token kinds.Not ((x0, (x1, (x2, (x3, (x4, (x5, (tt, (x7, (x8, o))))))))), refl, refl)
-undo_arm_part (tree.arm (tree.label (tree.expr (tree.simple None (tree.term (tree.factor tree.number) x0) x1) x2) x3) x4 (tree.stmts x6 x7)) rest o =
+undo_arm_part (tree.arm (tree.label (tree.expr (tree.simple None (tree.term (tree.factor tree.number) x0) x1) x2) x3) x4 (tree.stmts x6 x7))
+    rest o =
     token kinds.Number ((x0, (x1, (x2, (x3, (x4, (tt, (x6, (x7, o)))))))), refl, refl)
-undo_arm_part (tree.arm (tree.label (tree.expr (tree.simple None (tree.term (tree.factor tree.literal) x0) x1) x2) x3) x4 (tree.stmts x6 x7)) rest o =
+undo_arm_part (tree.arm (tree.label (tree.expr (tree.simple None (tree.term (tree.factor tree.literal) x0) x1) x2) x3) x4
+    (tree.stmts x6 x7)) rest o =
     token kinds.Literal ((x0, (x1, (x2, (x3, (x4, (tt, (x6, (x7, o)))))))), refl, refl)
-undo_arm_part (tree.arm (tree.label (tree.expr (tree.simple None (tree.term (tree.factor (tree.named (tree.desig x0) x1)) x2) x3) x4) x5) x6 (tree.stmts x8 x9)) rest o =
+undo_arm_part (tree.arm (tree.label (tree.expr (tree.simple None (tree.term (tree.factor (tree.named (tree.desig x0) x1)) x2) x3) x4) x5) x6
+    (tree.stmts x8 x9)) rest o =
     token kinds.Name ((x0, (x1, (x2, (x3, (x4, (x5, (x6, (tt, (x8, (x9, o)))))))))), refl, refl)
-undo_arm_part (tree.arm (tree.label (tree.expr (tree.simple None (tree.term (tree.factor (tree.paren (tree.stmts x0 x1))) x3) x4) x5) x6) x7 (tree.stmts x9 x10)) rest o =
+undo_arm_part (tree.arm (tree.label (tree.expr (tree.simple None (tree.term (tree.factor (tree.paren (tree.stmts x0 x1))) x3) x4) x5) x6) x7
+    (tree.stmts x9 x10)) rest o =
     token kinds.OpenParen ((x0, (x1, (tt, (x3, (x4, (x5, (x6, (x7, (tt, (x9, (x10, o))))))))))), refl, refl)
-undo_arm_part (tree.arm (tree.label (tree.expr (tree.simple None (tree.term (tree.factor (tree.known (tree.desig x2))) x4) x5) x6) x7) x8 (tree.stmts x10 x11)) rest o =
+undo_arm_part (tree.arm (tree.label (tree.expr (tree.simple None (tree.term (tree.factor (tree.known (tree.desig x2))) x4) x5) x6) x7) x8
+    (tree.stmts x10 x11)) rest o =
     token kinds.Known ((tt, (tt, (x2, (tt, (x4, (x5, (x6, (x7, (x8, (tt, (x10, (x11, o)))))))))))), refl, refl)
-undo_arm_part (tree.arm (tree.label (tree.expr (tree.simple None (tree.term (tree.factor (tree.ord (tree.expr (tree.simple x1 (tree.term x2 x3) x4) x5))) x7) x8) x9) x10) x11 (tree.stmts x13 x14)) rest o =
+undo_arm_part (tree.arm (tree.label
+    (tree.expr (tree.simple None (tree.term (tree.factor (tree.ord (tree.expr (tree.simple x1 (tree.term x2 x3) x4) x5))) x7) x8) x9) x10)
+    x11 (tree.stmts x13 x14)) rest o =
     token kinds.Ord ((tt, (x1, (x2, (x3, (x4, (x5, (tt, (x7, (x8, (x9, (x10, (x11, (tt, (x13, (x14, o))))))))))))))), refl, refl)
-undo_arm_part (tree.arm (tree.label (tree.expr (tree.simple None (tree.term (tree.factor (tree.chr (tree.expr (tree.simple x1 (tree.term x2 x3) x4) x5))) x7) x8) x9) x10) x11 (tree.stmts x13 x14)) rest o =
+undo_arm_part (tree.arm (tree.label
+    (tree.expr (tree.simple None (tree.term (tree.factor (tree.chr (tree.expr (tree.simple x1 (tree.term x2 x3) x4) x5))) x7) x8) x9) x10)
+    x11 (tree.stmts x13 x14)) rest o =
     token kinds.Chr ((tt, (x1, (x2, (x3, (x4, (x5, (tt, (x7, (x8, (x9, (x10, (x11, (tt, (x13, (x14, o))))))))))))))), refl, refl)
 
 undo_arm_tail : (f : Fill arm_tail) (rest : List Part) (o : Fills rest) → Undo arm_tail f rest o
@@ -304,7 +355,8 @@ undo_array_tail (tree.more_array (tree.dimensions x0 x1) x3) rest o = token kind
 undo_plain_part : (f : Fill plain_part) (rest : List Part) (o : Fills rest) → Undo plain_part f rest o
 undo_plain_part tree.type_name rest o = token kinds.Name (o, refl, refl)
 undo_plain_part (tree.listed (tree.names x1)) rest o = token kinds.OpenParen ((tt, (x1, (tt, o))), refl, refl)
-undo_plain_part (tree.subrange (tree.expr (tree.simple x0 (tree.term x1 x2) x3) x4) (tree.expr (tree.simple x6 (tree.term x7 x8) x9) x10)) rest o =
+undo_plain_part (tree.subrange (tree.expr (tree.simple x0 (tree.term x1 x2) x3) x4) (tree.expr (tree.simple x6 (tree.term x7 x8) x9) x10))
+    rest o =
     token kinds.OpenBracket ((x0, (x1, (x2, (x3, (x4, (tt, (x6, (x7, (x8, (x9, (x10, (tt, o)))))))))))), refl, refl)
 undo_plain_part (tree.record_type x0 x1) rest o = token kinds.Record ((x0, (x1, (tt, o))), refl, refl)
 
@@ -331,7 +383,8 @@ undo_type_tail (tree.more_type (tree.type_node x1 x2) x4) rest o = token kinds.N
 
 undo_var_tail : (f : Fill var_tail) (rest : List Part) (o : Fills rest) → Undo var_tail f rest o
 undo_var_tail tree.no_var rest o = nothing refl refl
-undo_var_tail (tree.more_var (tree.names x0) (tree.type_node x2 x3) x5) rest o = token kinds.Name ((x0, (tt, (x2, (x3, (tt, (x5, o)))))), refl, refl)
+undo_var_tail (tree.more_var (tree.names x0) (tree.type_node x2 x3) x5) rest o =
+    token kinds.Name ((x0, (tt, (x2, (x3, (tt, (x5, o)))))), refl, refl)
 
 undo_mode_part : (f : Fill mode_part) (rest : List Part) (o : Fills rest) → Undo mode_part f rest o
 undo_mode_part None rest o = nothing refl refl

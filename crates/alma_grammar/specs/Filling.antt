@@ -6,10 +6,14 @@ use Rattle.alma_tree.specs.declared.leaf.Sign.{Sign}
 use Rattle.alma_tree.specs.declared.leaf.Mode.{Mode}
 use Rattle.alma_tree.specs.Tree as tree
 use Rattle.alma_tree.specs.Spelling as spells
-use Rattle.alma_grammar.specs.Parts.{Part, one, sign_part, factor_part, primary_part, factor_tail, term_tail, compared_part, args_part, args_inside}
-use Rattle.alma_grammar.specs.Parts.{expr_tail, selector_tail, stmt_part, after_desig, stmt_tail, elsif_tail, else_part, by_part, orelse_tail}
-use Rattle.alma_grammar.specs.Parts.{returned_part, desig_tail, arm_part, arm_tail, high_part, label_tail, name_tail, array_tail, plain_part, plain_tail}
-use Rattle.alma_grammar.specs.Parts.{field_list_part, field_list_tail, const_tail, type_tail, var_tail, mode_part, formal_tail, params_part, params_inside}
+use Rattle.alma_grammar.specs.Parts.{Part, one, sign_part, factor_part, primary_part, factor_tail, term_tail, compared_part, args_part}
+use Rattle.alma_grammar.specs.Parts.{args_inside}
+use Rattle.alma_grammar.specs.Parts.{expr_tail, selector_tail, stmt_part, after_desig, stmt_tail, elsif_tail, else_part, by_part}
+use Rattle.alma_grammar.specs.Parts.{orelse_tail}
+use Rattle.alma_grammar.specs.Parts.{returned_part, desig_tail, arm_part, arm_tail, high_part, label_tail, name_tail, array_tail}
+use Rattle.alma_grammar.specs.Parts.{plain_part, plain_tail}
+use Rattle.alma_grammar.specs.Parts.{field_list_part, field_list_tail, const_tail, type_tail, var_tail, mode_part, formal_tail, params_part}
+use Rattle.alma_grammar.specs.Parts.{params_inside}
 use Rattle.alma_grammar.specs.Parts.{result_part, decl_tail, body_part, next}
 
 -- what stands behind a designator that begins a statement
@@ -73,7 +77,8 @@ Fill body_part = tree.Body
 -- `:=` and an expression; or the rest of an expression that the designator began
 abbrev pub spell_behind : Behind → List Kind → List Kind
 spell_behind (assigned e) rest = kinds.Assign ∷ spells.spell_expr e rest
-spell_behind (used a fs ts r) rest = spells.spell_args a (spells.spell_factor_tail fs (spells.spell_term_tail ts (spells.spell_compared r rest)))
+spell_behind (used a fs ts r) rest = spells.spell_args a
+    (spells.spell_factor_tail fs (spells.spell_term_tail ts (spells.spell_compared r rest)))
 
 -- the rest of arguments, the closing parenthesis included
 abbrev pub spell_inside_args : InsideArgs → List Kind → List Kind

@@ -196,7 +196,8 @@ begin_stmt kinds.If = Some (expr_parts (one kinds.Then ∷ stmts_parts (elsif_ta
 begin_stmt kinds.While = Some (expr_parts (one kinds.Do ∷ stmts_parts (one kinds.End ∷ [])))
 begin_stmt kinds.Repeat = Some (stmts_parts (one kinds.Until ∷ expr_parts []))
 begin_stmt kinds.For =
-    Some (one kinds.Name ∷ one kinds.Assign ∷ expr_parts (one kinds.To ∷ expr_parts (by_part ∷ one kinds.Do ∷ stmts_parts (one kinds.End ∷ []))))
+    Some (one kinds.Name ∷ one kinds.Assign ∷ expr_parts
+    (one kinds.To ∷ expr_parts (by_part ∷ one kinds.Do ∷ stmts_parts (one kinds.End ∷ []))))
 begin_stmt kinds.Some =
     Some (one kinds.Name ∷ one kinds.Assign ∷ expr_parts (one kinds.To ∷ expr_parts (one kinds.Do ∷ stmts_parts (one kinds.End ∷ []))))
 begin_stmt kinds.Case = Some (expr_parts (one kinds.Of ∷ arm_part ∷ arm_tail ∷ else_part ∷ one kinds.End ∷ []))

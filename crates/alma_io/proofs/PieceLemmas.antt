@@ -1,5 +1,6 @@
 -- A buffer whose front takes a piece.
-use Rattle.std.proofs.Common.{◌≡◌, ◌≤◌, ◌<◌, ◌+◌, ◌-◌, ℕ, List, [], ◌++◌, length, take, drop, min, ap, sym, ◌∙◌, arith, length-append, length-drop, length-take-le}
+use Rattle.std.proofs.Common.{◌≡◌, ◌≤◌, ◌<◌, ◌+◌, ◌-◌, ℕ, List, [], ◌++◌, length, take, drop, min, ap, sym, ◌∙◌, arith, length-append}
+use Rattle.std.proofs.Common.{length-drop, length-take-le}
 use Rattle.std.proofs.lemmas.List.{drop_at, drop_all, take_all}
 
 -- a piece of at most so many bytes, of the buffer's and of the part's
@@ -17,7 +18,8 @@ part_length at bytes = ap length (take_all (length bytes - at) (drop at bytes) (
     eq_le e = omega (arith, e)
 
 -- and the piece is its front
-pub piece_left : (n m at len : ℕ) (bytes : List ℕ) → at ≤ len → length bytes ≡ len → n ≡ min m (length (take (length bytes - at) (drop at bytes)))
+pub piece_left : (n m at len : ℕ) (bytes : List ℕ) → at ≤ len → length bytes ≡ len
+    → n ≡ min m (length (take (length bytes - at) (drop at bytes)))
     → at + n ≤ len
 piece_left n m at len bytes within same k = inside (length bytes) within same (k ∙ ap (min m) (part_length at bytes))
   where
@@ -35,24 +37,31 @@ piece_count n m piece at bytes filled buffer h same k =
     counted m piece room left h count = omega arith
 
 -- no byte moves into a buffer with room only where none is left
-pub piece_end : (n m piece at : ℕ) (bytes filled buffer : List ℕ) → 0 < piece → m ≡ min piece (length buffer) → length filled ≡ length buffer
+pub piece_end : (n m piece at : ℕ) (bytes filled buffer : List ℕ) → 0 < piece → m ≡ min piece (length buffer)
+    → length filled ≡ length buffer
     → n ≡ min m (length (take (length bytes - at) (drop at bytes))) → n ≡ 0 → 0 < length filled → drop (at + n) bytes ≡ []
 piece_end n m piece at bytes filled buffer some h same k none room =
-    drop_all (at + n) bytes (ended m piece (length buffer) (length filled) (length bytes) some h same (k ∙ ap (min m) (part_length at bytes)) none room)
+    drop_all (at + n) bytes (ended m piece (length buffer) (length filled) (length bytes) some h same
+    (k ∙ ap (min m) (part_length at bytes)) none room)
   where
-    ended : (m piece buffer filled count : ℕ) → 0 < piece → m ≡ min piece buffer → filled ≡ buffer → n ≡ min m (count - at) → n ≡ 0 → 0 < filled
+    ended : (m piece buffer filled count : ℕ) → 0 < piece → m ≡ min piece buffer → filled ≡ buffer → n ≡ min m (count - at) → n ≡ 0
+        → 0 < filled
         → count ≤ at + n
     ended m piece buffer filled count some h same k none room = omega arith
 
 -- the buffer keeps its length
-pub filled_length : (n : ℕ) (new buffer : List ℕ) → n ≤ length buffer → length new ≡ length (take n buffer) → length (new ++ drop n buffer) ≡ length buffer
-filled_length n new buffer within same = omega (arith, length-append new (drop n buffer), length-drop n buffer, length-take-le n buffer within)
+pub filled_length : (n : ℕ) (new buffer : List ℕ) → n ≤ length buffer → length new ≡ length (take n buffer)
+    → length (new ++ drop n buffer) ≡ length buffer
+filled_length n new buffer within same =
+    omega (arith, length-append new (drop n buffer), length-drop n buffer, length-take-le n buffer within)
 
 -- and it is the same behind the piece
-pub filled_rest : (n : ℕ) (new buffer : List ℕ) → n ≤ length buffer → length new ≡ length (take n buffer) → drop n (new ++ drop n buffer) ≡ drop n buffer
+pub filled_rest : (n : ℕ) (new buffer : List ℕ) → n ≤ length buffer → length new ≡ length (take n buffer)
+    → drop n (new ++ drop n buffer) ≡ drop n buffer
 filled_rest n new buffer within same = drop_at new (drop n buffer) n (same ∙ length-take-le n buffer within)
 
 -- the count is one of the filled buffer's
-pub filled_bound : (n : ℕ) (buffer filled : List ℕ) → n ≤ length buffer → length filled ≡ length buffer → (n ≤ length filled) × (n ≡ length (take n filled))
+pub filled_bound : (n : ℕ) (buffer filled : List ℕ) → n ≤ length buffer → length filled ≡ length buffer → (n ≤ length filled)
+    × (n ≡ length (take n filled))
 filled_bound n buffer filled within same =
     let inside : n ≤ length filled = omega arith in (inside, sym (length-take-le n filled inside))

@@ -26,7 +26,8 @@ pub piece_in : (most len room size chunk : ℕ) → most ≡ min len room → le
 piece_in most len room size chunk least same whole = omega arith
 
 -- and it has room where the chunk has
-pub piece_some : (most len room chunk filled part : ℕ) → most ≡ min len (room + 1) → len ≡ chunk → 0 < chunk → filled ≡ part → part ≡ most → 0 < filled
+pub piece_some : (most len room chunk filled part : ℕ) → most ≡ min len (room + 1) → len ≡ chunk → 0 < chunk → filled ≡ part → part ≡ most
+    → 0 < filled
 piece_some most len room chunk filled part least same some kept whole = omega arith
 
 -- a piece that is longer than the room tells that there were more bytes than the limit
@@ -39,7 +40,8 @@ more_left (Some old) (Some mid) (Some new) bytes piece count len limit h k past 
     omega (arith, ap length h, ap length k, length-append bytes mid, length-append piece new)
 
 -- a piece of no bytes uses up nothing
-pub ended_front : (a b c : Option (List ℕ)) (bytes piece : List ℕ) → Consumes a b bytes → Consumes b c piece → length piece ≡ 0 → Consumes a c bytes
+pub ended_front : (a b c : Option (List ℕ)) (bytes piece : List ℕ) → Consumes a b bytes → Consumes b c piece → length piece ≡ 0
+    → Consumes a c bytes
 ended_front None b c bytes piece h k none = tt
 ended_front (Some old) None c bytes piece h k none = absurd h
 ended_front (Some old) (Some mid) None bytes piece h k none = absurd k
@@ -47,12 +49,14 @@ ended_front (Some old) (Some mid) (Some new) bytes [] h k none = h ∙ ap (λ z.
 ended_front (Some old) (Some mid) (Some new) bytes (x ∷ piece) h k none = absurd (omega (arith, none))
 
 -- a piece that is longer than the room is longer by one byte
-pub one_past : (count filled part most chunk len limit items piece : ℕ) → count ≤ filled → filled ≡ part → part ≡ most → most ≡ min chunk (limit - len + 1)
+pub one_past : (count filled part most chunk len limit items piece : ℕ) → count ≤ filled → filled ≡ part → part ≡ most
+    → most ≡ min chunk (limit - len + 1)
     → limit - len < count → count ≡ piece → len ≡ items → items ≤ limit → items + piece ≡ limit + 1
 one_past count filled part most chunk len limit items piece few kept whole least past same sum within = omega arith
 
 -- one that is not leaves the whole within the limit
-pub none_past : (count len limit items piece : ℕ) → count ≤ limit - len → count ≡ piece → len ≡ items → items ≤ limit → items + piece ≤ limit + 1
+pub none_past : (count len limit items piece : ℕ) → count ≤ limit - len → count ≡ piece → len ≡ items → items ≤ limit
+    → items + piece ≤ limit + 1
 none_past count len limit items piece room same sum within = omega arith
 
 -- what is one more is at most one more

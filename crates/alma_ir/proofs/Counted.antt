@@ -14,9 +14,12 @@ use Rattle.alma_ir.specs.declared.phrase.Branch.{Branch}
 use Rattle.alma_ir.specs.declared.phrase.Loop.{Loop}
 use Rattle.alma_ir.specs.declared.phrase.Link.{Link}
 use Rattle.alma_ir.specs.declared.phrase.Call.{Call}
-use Rattle.alma_ir.specs.View.{stmt_of, test_of, expr_of, arg_of, sel_of, desig_of, loop_of, stmts_list, tests_list, args_list, sels_list, arms_list, cases_list, branches_list, links_list}
+use Rattle.alma_ir.specs.View.{stmt_of, test_of, expr_of, arg_of, sel_of, desig_of, loop_of, stmts_list, tests_list, args_list, sels_list}
+use Rattle.alma_ir.specs.View.{arms_list, cases_list, branches_list, links_list}
 use Rattle.alma_ir.specs.Lines.{stmt_count}
-use Rattle.alma_ir.specs.Phrases.{stmts_phrases, stmt_phrases, arms_phrases, cases_phrases, branches_phrases, loop_phrases, test_phrases, tests_phrases, expr_phrases, links_phrases, args_phrases, arg_phrases, desig_phrases, sels_phrases, sel_phrases}
+use Rattle.alma_ir.specs.Phrases.{stmts_phrases, stmt_phrases, arms_phrases, cases_phrases, branches_phrases, loop_phrases, test_phrases}
+use Rattle.alma_ir.specs.Phrases.{tests_phrases, expr_phrases, links_phrases, args_phrases, arg_phrases, desig_phrases, sels_phrases}
+use Rattle.alma_ir.specs.Phrases.{sel_phrases}
 use Rattle.alma_ir.proofs.LinesBack.{count_sum}
 use Rattle.alma_ir.proofs.Views
 use Rattle.std.proofs.lemmas.List.Recursion.{is_sum_by}
@@ -48,35 +51,48 @@ of_branch x = stmt_count (stmts_phrases (stmts_list x.body.items))
 
 pub stmts_sum : (xs : List S.Stmt) → stmt_count (stmts_phrases (stmts_list xs)) ≡ sum_by of_stmt xs
 unfolding stmts_phrases
-stmts_sum = is_sum_by (λ xs. stmt_count (stmts_phrases (stmts_list xs))) of_stmt refl (λ x rest. count_sum (stmt_phrases (stmt_of x)) (stmts_phrases (stmts_list rest)))
+stmts_sum = is_sum_by (λ xs. stmt_count (stmts_phrases (stmts_list xs))) of_stmt refl
+    (λ x rest. count_sum (stmt_phrases (stmt_of x)) (stmts_phrases (stmts_list rest)))
 
 pub tests_sum : (xs : List T.Test) → stmt_count (tests_phrases (tests_list xs)) ≡ sum_by of_test xs
 unfolding stmts_phrases
-tests_sum = is_sum_by (λ xs. stmt_count (tests_phrases (tests_list xs))) of_test refl (λ x rest. count_sum (test_phrases (test_of x)) (tests_phrases (tests_list rest)))
+tests_sum = is_sum_by (λ xs. stmt_count (tests_phrases (tests_list xs))) of_test refl
+    (λ x rest. count_sum (test_phrases (test_of x)) (tests_phrases (tests_list rest)))
 
 pub args_sum : (xs : List A.Arg) → stmt_count (args_phrases (args_list xs)) ≡ sum_by of_arg xs
 unfolding stmts_phrases
-args_sum = is_sum_by (λ xs. stmt_count (args_phrases (args_list xs))) of_arg refl (λ x rest. count_sum (arg_phrases (arg_of x)) (args_phrases (args_list rest)))
+args_sum = is_sum_by (λ xs. stmt_count (args_phrases (args_list xs))) of_arg refl
+    (λ x rest. count_sum (arg_phrases (arg_of x)) (args_phrases (args_list rest)))
 
 pub sels_sum : (xs : List L.Sel) → stmt_count (sels_phrases (sels_list xs)) ≡ sum_by of_sel xs
 unfolding stmts_phrases
-sels_sum = is_sum_by (λ xs. stmt_count (sels_phrases (sels_list xs))) of_sel refl (λ x rest. count_sum (sel_phrases (sel_of x)) (sels_phrases (sels_list rest)))
+sels_sum = is_sum_by (λ xs. stmt_count (sels_phrases (sels_list xs))) of_sel refl
+    (λ x rest. count_sum (sel_phrases (sel_of x)) (sels_phrases (sels_list rest)))
 
 pub links_sum : (xs : List Link) → stmt_count (links_phrases (links_list xs)) ≡ sum_by of_link xs
 unfolding stmts_phrases
-links_sum = is_sum_by (λ xs. stmt_count (links_phrases (links_list xs))) of_link refl (λ x rest. count_sum (expr_phrases (expr_of x.operand)) (links_phrases (links_list rest)))
+links_sum = is_sum_by (λ xs. stmt_count (links_phrases (links_list xs))) of_link refl
+    (λ x rest. count_sum (expr_phrases (expr_of x.operand)) (links_phrases (links_list rest)))
 
 pub arms_sum : (xs : List Arm) → stmt_count (arms_phrases (arms_list xs)) ≡ sum_by of_arm xs
 unfolding stmts_phrases
-arms_sum = is_sum_by (λ xs. stmt_count (arms_phrases (arms_list xs))) of_arm refl (λ x rest. omega (arith, count_sum (test_phrases (test_of x.cond) ++ stmts_phrases (stmts_list x.body.items)) (arms_phrases (arms_list rest)), count_sum (test_phrases (test_of x.cond)) (stmts_phrases (stmts_list x.body.items))))
+arms_sum = is_sum_by (λ xs. stmt_count (arms_phrases (arms_list xs))) of_arm refl
+    (λ x rest. omega (
+      arith,
+      count_sum (test_phrases (test_of x.cond) ++ stmts_phrases (stmts_list x.body.items))
+          (arms_phrases (arms_list rest)),
+      count_sum (test_phrases (test_of x.cond)) (stmts_phrases (stmts_list x.body.items)),
+    ))
 
 pub cases_sum : (xs : List CaseArm) → stmt_count (cases_phrases (cases_list xs)) ≡ sum_by of_case xs
 unfolding stmts_phrases
-cases_sum = is_sum_by (λ xs. stmt_count (cases_phrases (cases_list xs))) of_case refl (λ x rest. count_sum (stmts_phrases (stmts_list x.body.items)) (cases_phrases (cases_list rest)))
+cases_sum = is_sum_by (λ xs. stmt_count (cases_phrases (cases_list xs))) of_case refl
+    (λ x rest. count_sum (stmts_phrases (stmts_list x.body.items)) (cases_phrases (cases_list rest)))
 
 pub branches_sum : (xs : List Branch) → stmt_count (branches_phrases (branches_list xs)) ≡ sum_by of_branch xs
 unfolding stmts_phrases
-branches_sum = is_sum_by (λ xs. stmt_count (branches_phrases (branches_list xs))) of_branch refl (λ x rest. count_sum (stmts_phrases (stmts_list x.body.items)) (branches_phrases (branches_list rest)))
+branches_sum = is_sum_by (λ xs. stmt_count (branches_phrases (branches_list xs))) of_branch refl
+    (λ x rest. count_sum (stmts_phrases (stmts_list x.body.items)) (branches_phrases (branches_list rest)))
 
 -- ---- what a value made by a variant counts
 
@@ -84,25 +100,54 @@ pub teststmt_count : (t : T.Test) → stmt_count (stmt_phrases (stmt_of (S.Test 
 unfolding stmts_phrases
 teststmt_count t = omega (arith, ap (λ x. stmt_count (stmt_phrases x)) (Views.teststmt_view t))
 
-pub assign_count : (d : D.Desig) (e : E.Expr) (r : _) → stmt_count (stmt_phrases (stmt_of (S.Assign d e r))) ≡ 1 + stmt_count (desig_phrases (desig_of d)) + stmt_count (expr_phrases (expr_of e))
+pub assign_count : (d : D.Desig) (e : E.Expr) (r : _)
+    → stmt_count (stmt_phrases (stmt_of (S.Assign d e r))) ≡ 1 + stmt_count (desig_phrases (desig_of d))
+    + stmt_count (expr_phrases (expr_of e))
 unfolding stmts_phrases
-assign_count d e r = omega (arith, ap (λ x. stmt_count (stmt_phrases x)) (Views.assign_view d e r), count_sum (desig_phrases (desig_of d)) (expr_phrases (expr_of e)))
+assign_count d e r = omega (
+  arith,
+  ap (λ x. stmt_count (stmt_phrases x)) (Views.assign_view d e r),
+  count_sum (desig_phrases (desig_of d)) (expr_phrases (expr_of e)),
+)
 
-pub copycells_count : (d d' : D.Desig) → stmt_count (stmt_phrases (stmt_of (S.CopyCells d d'))) ≡ 1 + stmt_count (desig_phrases (desig_of d)) + stmt_count (desig_phrases (desig_of d'))
+pub copycells_count : (d d' : D.Desig) → stmt_count (stmt_phrases (stmt_of (S.CopyCells d d'))) ≡ 1 + stmt_count
+    (desig_phrases (desig_of d)) + stmt_count (desig_phrases (desig_of d'))
 unfolding stmts_phrases
-copycells_count d d' = omega (arith, ap (λ x. stmt_count (stmt_phrases x)) (Views.copycells_view d d'), count_sum (desig_phrases (desig_of d)) (desig_phrases (desig_of d')))
+copycells_count d d' = omega (
+  arith,
+  ap (λ x. stmt_count (stmt_phrases x)) (Views.copycells_view d d'),
+  count_sum (desig_phrases (desig_of d)) (desig_phrases (desig_of d')),
+)
 
-pub if_count : (a : Vec Arm Global) (v : Vec S.Stmt Global) → stmt_count (stmt_phrases (stmt_of (S.If a v))) ≡ 1 + stmt_count (arms_phrases (arms_list a.items)) + stmt_count (stmts_phrases (stmts_list v.items))
+pub if_count : (a : Vec Arm Global) (v : Vec S.Stmt Global)
+    → stmt_count (stmt_phrases (stmt_of (S.If a v))) ≡ 1 + stmt_count (arms_phrases (arms_list a.items))
+    + stmt_count (stmts_phrases (stmts_list v.items))
 unfolding stmts_phrases
-if_count a v = omega (arith, ap (λ x. stmt_count (stmt_phrases x)) (Views.if_view a v), count_sum (arms_phrases (arms_list a.items)) (stmts_phrases (stmts_list v.items)))
+if_count a v = omega (
+  arith,
+  ap (λ x. stmt_count (stmt_phrases x)) (Views.if_view a v),
+  count_sum (arms_phrases (arms_list a.items)) (stmts_phrases (stmts_list v.items)),
+)
 
-pub while_count : (t : T.Test) (v : Vec S.Stmt Global) → stmt_count (stmt_phrases (stmt_of (S.While t v))) ≡ 1 + stmt_count (test_phrases (test_of t)) + stmt_count (stmts_phrases (stmts_list v.items))
+pub while_count : (t : T.Test) (v : Vec S.Stmt Global)
+    → stmt_count (stmt_phrases (stmt_of (S.While t v))) ≡ 1 + stmt_count (test_phrases (test_of t))
+    + stmt_count (stmts_phrases (stmts_list v.items))
 unfolding stmts_phrases
-while_count t v = omega (arith, ap (λ x. stmt_count (stmt_phrases x)) (Views.while_view t v), count_sum (test_phrases (test_of t)) (stmts_phrases (stmts_list v.items)))
+while_count t v = omega (
+  arith,
+  ap (λ x. stmt_count (stmt_phrases x)) (Views.while_view t v),
+  count_sum (test_phrases (test_of t)) (stmts_phrases (stmts_list v.items)),
+)
 
-pub repeat_count : (v : Vec S.Stmt Global) (t : T.Test) → stmt_count (stmt_phrases (stmt_of (S.Repeat v t))) ≡ 1 + stmt_count (stmts_phrases (stmts_list v.items)) + stmt_count (test_phrases (test_of t))
+pub repeat_count : (v : Vec S.Stmt Global) (t : T.Test)
+    → stmt_count (stmt_phrases (stmt_of (S.Repeat v t))) ≡ 1 + stmt_count (stmts_phrases (stmts_list v.items))
+    + stmt_count (test_phrases (test_of t))
 unfolding stmts_phrases
-repeat_count v t = omega (arith, ap (λ x. stmt_count (stmt_phrases x)) (Views.repeat_view v t), count_sum (stmts_phrases (stmts_list v.items)) (test_phrases (test_of t)))
+repeat_count v t = omega (
+  arith,
+  ap (λ x. stmt_count (stmt_phrases x)) (Views.repeat_view v t),
+  count_sum (stmts_phrases (stmts_list v.items)) (test_phrases (test_of t)),
+)
 
 pub forto_count : (l : Loop) → stmt_count (stmt_phrases (stmt_of (S.ForTo l))) ≡ 1 + stmt_count (loop_phrases (loop_of l))
 unfolding stmts_phrases
@@ -112,17 +157,35 @@ pub someof_count : (l : Loop) → stmt_count (stmt_phrases (stmt_of (S.SomeOf l)
 unfolding stmts_phrases
 someof_count l = omega (arith, ap (λ x. stmt_count (stmt_phrases x)) (Views.someof_view l))
 
-pub case_none_count : (e : E.Expr) (v : Vec CaseArm Global) → stmt_count (stmt_phrases (stmt_of (S.Case e v None))) ≡ 1 + stmt_count (expr_phrases (expr_of e)) + stmt_count (cases_phrases (cases_list v.items))
+pub case_none_count : (e : E.Expr) (v : Vec CaseArm Global)
+    → stmt_count (stmt_phrases (stmt_of (S.Case e v None))) ≡ 1 + stmt_count (expr_phrases (expr_of e))
+    + stmt_count (cases_phrases (cases_list v.items))
 unfolding stmts_phrases
 case_none_count e v =
-    let view : stmt_count (stmt_phrases (stmt_of (S.Case e v None))) ≡ suc (stmt_count ((expr_phrases (expr_of e) ++ cases_phrases (cases_list v.items)) ++ [])) = ap (λ x. stmt_count (stmt_phrases x)) (Views.case_view e v None) in
-    omega (arith, view, count_sum (expr_phrases (expr_of e) ++ cases_phrases (cases_list v.items)) [], count_sum (expr_phrases (expr_of e)) (cases_phrases (cases_list v.items)))
+    let view : stmt_count (stmt_phrases (stmt_of (S.Case e v None))) ≡ suc
+    (stmt_count ((expr_phrases (expr_of e) ++ cases_phrases (cases_list v.items)) ++ [])) =
+    ap (λ x. stmt_count (stmt_phrases x)) (Views.case_view e v None) in
+    omega (
+      arith,
+      view,
+      count_sum (expr_phrases (expr_of e) ++ cases_phrases (cases_list v.items)) [],
+      count_sum (expr_phrases (expr_of e)) (cases_phrases (cases_list v.items)),
+    )
 
-pub case_some_count : (e : E.Expr) (v : Vec CaseArm Global) (w : Vec S.Stmt Global) → stmt_count (stmt_phrases (stmt_of (S.Case e v (Some w)))) ≡ 1 + stmt_count (expr_phrases (expr_of e)) + stmt_count (cases_phrases (cases_list v.items)) + stmt_count (stmts_phrases (stmts_list w.items))
+pub case_some_count : (e : E.Expr) (v : Vec CaseArm Global) (w : Vec S.Stmt Global)
+    → stmt_count (stmt_phrases (stmt_of (S.Case e v (Some w)))) ≡ 1 + stmt_count (expr_phrases (expr_of e))
+    + stmt_count (cases_phrases (cases_list v.items)) + stmt_count (stmts_phrases (stmts_list w.items))
 unfolding stmts_phrases
 case_some_count e v w =
-    let view : stmt_count (stmt_phrases (stmt_of (S.Case e v (Some w)))) ≡ suc (stmt_count ((expr_phrases (expr_of e) ++ cases_phrases (cases_list v.items)) ++ stmts_phrases (stmts_list w.items))) = ap (λ x. stmt_count (stmt_phrases x)) (Views.case_view e v (Some w)) in
-    omega (arith, view, count_sum (expr_phrases (expr_of e) ++ cases_phrases (cases_list v.items)) (stmts_phrases (stmts_list w.items)), count_sum (expr_phrases (expr_of e)) (cases_phrases (cases_list v.items)))
+    let view : stmt_count (stmt_phrases (stmt_of (S.Case e v (Some w)))) ≡ suc
+    (stmt_count ((expr_phrases (expr_of e) ++ cases_phrases (cases_list v.items)) ++ stmts_phrases (stmts_list w.items))) =
+    ap (λ x. stmt_count (stmt_phrases x)) (Views.case_view e v (Some w)) in
+    omega (
+      arith,
+      view,
+      count_sum (expr_phrases (expr_of e) ++ cases_phrases (cases_list v.items)) (stmts_phrases (stmts_list w.items)),
+      count_sum (expr_phrases (expr_of e)) (cases_phrases (cases_list v.items)),
+    )
 
 pub return_none_count : stmt_count (stmt_phrases (stmt_of (S.Return None))) ≡ 1
 unfolding stmts_phrases
@@ -132,23 +195,33 @@ pub return_some_count : (e : E.Expr) → stmt_count (stmt_phrases (stmt_of (S.Re
 unfolding stmts_phrases
 return_some_count e = omega (arith, ap (λ x. stmt_count (stmt_phrases x)) (Views.return_view (Some e)))
 
-pub either_count : (v : Vec Branch Global) → stmt_count (stmt_phrases (stmt_of (S.Either v))) ≡ 1 + stmt_count (branches_phrases (branches_list v.items))
+pub either_count : (v : Vec Branch Global)
+    → stmt_count (stmt_phrases (stmt_of (S.Either v))) ≡ 1 + stmt_count (branches_phrases (branches_list v.items))
 unfolding stmts_phrases
 either_count v = omega (arith, ap (λ x. stmt_count (stmt_phrases x)) (Views.either_view v))
 
-pub forall_count : (v w : Vec S.Stmt Global) → stmt_count (stmt_phrases (stmt_of (S.Forall v w))) ≡ 1 + stmt_count (stmts_phrases (stmts_list v.items)) + stmt_count (stmts_phrases (stmts_list w.items))
+pub forall_count : (v w : Vec S.Stmt Global)
+    → stmt_count (stmt_phrases (stmt_of (S.Forall v w))) ≡ 1 + stmt_count (stmts_phrases (stmts_list v.items))
+    + stmt_count (stmts_phrases (stmts_list w.items))
 unfolding stmts_phrases
-forall_count v w = omega (arith, ap (λ x. stmt_count (stmt_phrases x)) (Views.forall_view v w), count_sum (stmts_phrases (stmts_list v.items)) (stmts_phrases (stmts_list w.items)))
+forall_count v w = omega (
+  arith,
+  ap (λ x. stmt_count (stmt_phrases x)) (Views.forall_view v w),
+  count_sum (stmts_phrases (stmts_list v.items)) (stmts_phrases (stmts_list w.items)),
+)
 
-pub commit_count : (v : Vec S.Stmt Global) → stmt_count (stmt_phrases (stmt_of (S.Commit v))) ≡ 1 + stmt_count (stmts_phrases (stmts_list v.items))
+pub commit_count : (v : Vec S.Stmt Global)
+    → stmt_count (stmt_phrases (stmt_of (S.Commit v))) ≡ 1 + stmt_count (stmts_phrases (stmts_list v.items))
 unfolding stmts_phrases
 commit_count v = omega (arith, ap (λ x. stmt_count (stmt_phrases x)) (Views.commit_view v))
 
-pub read_count : (d : D.Desig) (how r : _) → stmt_count (stmt_phrases (stmt_of (S.Read d how r))) ≡ 1 + stmt_count (desig_phrases (desig_of d))
+pub read_count : (d : D.Desig) (how r : _)
+    → stmt_count (stmt_phrases (stmt_of (S.Read d how r))) ≡ 1 + stmt_count (desig_phrases (desig_of d))
 unfolding stmts_phrases
 read_count d how r = omega (arith, ap (λ x. stmt_count (stmt_phrases x)) (Views.read_view d how r))
 
-pub writeexpr_count : (e : E.Expr) (how : _) → stmt_count (stmt_phrases (stmt_of (S.WriteExpr e how))) ≡ 1 + stmt_count (expr_phrases (expr_of e))
+pub writeexpr_count : (e : E.Expr) (how : _)
+    → stmt_count (stmt_phrases (stmt_of (S.WriteExpr e how))) ≡ 1 + stmt_count (expr_phrases (expr_of e))
 unfolding stmts_phrases
 writeexpr_count e how = omega (arith, ap (λ x. stmt_count (stmt_phrases x)) (Views.writeexpr_view e how))
 
@@ -164,17 +237,34 @@ pub value_count : (e : E.Expr) → stmt_count (test_phrases (test_of (T.Value e)
 unfolding stmts_phrases
 value_count e = omega (arith, ap (λ x. stmt_count (test_phrases x)) (Views.value_view e))
 
-pub bind_count : (d : D.Desig) (e : E.Expr) (r left : _) → stmt_count (test_phrases (test_of (T.Bind d e r left))) ≡ stmt_count (desig_phrases (desig_of d)) + stmt_count (expr_phrases (expr_of e))
+pub bind_count : (d : D.Desig) (e : E.Expr) (r left : _)
+    → stmt_count (test_phrases (test_of (T.Bind d e r left))) ≡ stmt_count (desig_phrases (desig_of d))
+    + stmt_count (expr_phrases (expr_of e))
 unfolding stmts_phrases
-bind_count d e r left = omega (arith, ap (λ x. stmt_count (test_phrases x)) (Views.bind_view d e r left), count_sum (desig_phrases (desig_of d)) (expr_phrases (expr_of e)))
+bind_count d e r left = omega (
+  arith,
+  ap (λ x. stmt_count (test_phrases x)) (Views.bind_view d e r left),
+  count_sum (desig_phrases (desig_of d)) (expr_phrases (expr_of e)),
+)
 
-pub unify_count : (d : D.Desig) (r : _) (d' : D.Desig) (r' : _) → stmt_count (test_phrases (test_of (T.Unify d r d' r'))) ≡ stmt_count (desig_phrases (desig_of d)) + stmt_count (desig_phrases (desig_of d'))
+pub unify_count : (d : D.Desig) (r : _) (d' : D.Desig) (r' : _)
+    → stmt_count (test_phrases (test_of (T.Unify d r d' r'))) ≡ stmt_count (desig_phrases (desig_of d))
+    + stmt_count (desig_phrases (desig_of d'))
 unfolding stmts_phrases
-unify_count d r d' r' = omega (arith, ap (λ x. stmt_count (test_phrases x)) (Views.unify_view d r d' r'), count_sum (desig_phrases (desig_of d)) (desig_phrases (desig_of d')))
+unify_count d r d' r' = omega (
+  arith,
+  ap (λ x. stmt_count (test_phrases x)) (Views.unify_view d r d' r'),
+  count_sum (desig_phrases (desig_of d)) (desig_phrases (desig_of d')),
+)
 
-pub samecells_count : (d d' : D.Desig) → stmt_count (test_phrases (test_of (T.SameCells d d'))) ≡ stmt_count (desig_phrases (desig_of d)) + stmt_count (desig_phrases (desig_of d'))
+pub samecells_count : (d d' : D.Desig) → stmt_count (test_phrases (test_of (T.SameCells d d'))) ≡ stmt_count (desig_phrases (desig_of d))
+    + stmt_count (desig_phrases (desig_of d'))
 unfolding stmts_phrases
-samecells_count d d' = omega (arith, ap (λ x. stmt_count (test_phrases x)) (Views.samecells_view d d'), count_sum (desig_phrases (desig_of d)) (desig_phrases (desig_of d')))
+samecells_count d d' = omega (
+  arith,
+  ap (λ x. stmt_count (test_phrases x)) (Views.samecells_view d d'),
+  count_sum (desig_phrases (desig_of d)) (desig_phrases (desig_of d')),
+)
 
 pub seq_count : (v : Vec S.Stmt Global) → stmt_count (test_phrases (test_of (T.Seq v))) ≡ stmt_count (stmts_phrases (stmts_list v.items))
 unfolding stmts_phrases
@@ -204,13 +294,24 @@ pub load_count : (d : D.Desig) → stmt_count (expr_phrases (expr_of (E.Load d))
 unfolding stmts_phrases
 load_count d = omega (arith, ap (λ x. stmt_count (expr_phrases x)) (Views.load_view d))
 
-pub chain_count : (neg : _) (e : _) (v : Vec Link Global) → stmt_count (expr_phrases (expr_of (E.Chain neg e v))) ≡ stmt_count (expr_phrases (expr_of e.value)) + stmt_count (links_phrases (links_list v.items))
+pub chain_count : (neg : _) (e : _) (v : Vec Link Global)
+    → stmt_count (expr_phrases (expr_of (E.Chain neg e v))) ≡ stmt_count (expr_phrases (expr_of e.value))
+    + stmt_count (links_phrases (links_list v.items))
 unfolding stmts_phrases
-chain_count neg e v = omega (arith, ap (λ x. stmt_count (expr_phrases x)) (Views.chain_view neg e v), count_sum (expr_phrases (expr_of e.value)) (links_phrases (links_list v.items)))
+chain_count neg e v = omega (
+  arith,
+  ap (λ x. stmt_count (expr_phrases x)) (Views.chain_view neg e v),
+  count_sum (expr_phrases (expr_of e.value)) (links_phrases (links_list v.items)),
+)
 
-pub compare_count : (c a b : _) → stmt_count (expr_phrases (expr_of (E.Compare c a b))) ≡ stmt_count (expr_phrases (expr_of a.value)) + stmt_count (expr_phrases (expr_of b.value))
+pub compare_count : (c a b : _) → stmt_count (expr_phrases (expr_of (E.Compare c a b))) ≡ stmt_count (expr_phrases (expr_of a.value))
+    + stmt_count (expr_phrases (expr_of b.value))
 unfolding stmts_phrases
-compare_count c a b = omega (arith, ap (λ x. stmt_count (expr_phrases x)) (Views.compare_view c a b), count_sum (expr_phrases (expr_of a.value)) (expr_phrases (expr_of b.value)))
+compare_count c a b = omega (
+  arith,
+  ap (λ x. stmt_count (expr_phrases x)) (Views.compare_view c a b),
+  count_sum (expr_phrases (expr_of a.value)) (expr_phrases (expr_of b.value)),
+)
 
 pub truth_count : (t : _) → stmt_count (expr_phrases (expr_of (E.Truth t))) ≡ stmt_count (test_phrases (test_of t.value))
 unfolding stmts_phrases
@@ -256,13 +357,74 @@ pub index_count : (e : E.Expr) (r c : _) → stmt_count (sel_phrases (sel_of (L.
 unfolding stmts_phrases
 index_count e r c = omega (arith, ap (λ x. stmt_count (sel_phrases x)) (Views.index_view e r c))
 
-pub loop_count : (l : Loop) → stmt_count (loop_phrases (loop_of l)) ≡ stmt_count (desig_phrases (desig_of l.var)) + stmt_count (expr_phrases (expr_of l.from)) + stmt_count (expr_phrases (expr_of l.to)) + stmt_count (stmts_phrases (stmts_list l.body.items))
+pub loop_count : (l : Loop) → stmt_count (loop_phrases (loop_of l)) ≡ stmt_count (desig_phrases (desig_of l.var)) + stmt_count
+    (expr_phrases (expr_of l.from)) + stmt_count (expr_phrases (expr_of l.to)) + stmt_count (stmts_phrases (stmts_list l.body.items))
 unfolding stmts_phrases
-loop_count l = omega (arith, count_sum ((desig_phrases (desig_of l.var) ++ expr_phrases (expr_of l.from)) ++ expr_phrases (expr_of l.to)) (stmts_phrases (stmts_list l.body.items)), count_sum (desig_phrases (desig_of l.var) ++ expr_phrases (expr_of l.from)) (expr_phrases (expr_of l.to)), count_sum (desig_phrases (desig_of l.var)) (expr_phrases (expr_of l.from)))
+loop_count l = omega (
+  arith,
+  count_sum ((desig_phrases (desig_of l.var) ++ expr_phrases (expr_of l.from)) ++ expr_phrases (expr_of l.to))
+      (stmts_phrases (stmts_list l.body.items)),
+  count_sum (desig_phrases (desig_of l.var) ++ expr_phrases (expr_of l.from)) (expr_phrases (expr_of l.to)),
+  count_sum (desig_phrases (desig_of l.var)) (expr_phrases (expr_of l.from)),
+)
 
 pub desig_count : (d : D.Desig) → stmt_count (desig_phrases (desig_of d)) ≡ stmt_count (sels_phrases (sels_list d.sels.items))
 unfolding stmts_phrases
 desig_count d = refl
 
 -- all of these, for tactics
-pub ruleset counted = (teststmt_count, assign_count, copycells_count, if_count, while_count, repeat_count, forto_count, someof_count, case_none_count, case_some_count, return_none_count, return_some_count, either_count, forall_count, commit_count, read_count, writeexpr_count, writetext_count, writeline_count, value_count, bind_count, unify_count, samecells_count, seq_count, and_count, or_count, not_count, calltest_count, const_count, load_count, chain_count, compare_count, truth_count, known_count, chr_count, callexpr_count, byvalue_count, bycells_count, byplace_count, mixvalue_count, mixplace_count, field_count, index_count, loop_count, desig_count, stmts_sum, tests_sum, args_sum, sels_sum, links_sum, arms_sum, cases_sum, branches_sum)
+pub ruleset counted = (
+  teststmt_count,
+  assign_count,
+  copycells_count,
+  if_count,
+  while_count,
+  repeat_count,
+  forto_count,
+  someof_count,
+  case_none_count,
+  case_some_count,
+  return_none_count,
+  return_some_count,
+  either_count,
+  forall_count,
+  commit_count,
+  read_count,
+  writeexpr_count,
+  writetext_count,
+  writeline_count,
+  value_count,
+  bind_count,
+  unify_count,
+  samecells_count,
+  seq_count,
+  and_count,
+  or_count,
+  not_count,
+  calltest_count,
+  const_count,
+  load_count,
+  chain_count,
+  compare_count,
+  truth_count,
+  known_count,
+  chr_count,
+  callexpr_count,
+  byvalue_count,
+  bycells_count,
+  byplace_count,
+  mixvalue_count,
+  mixplace_count,
+  field_count,
+  index_count,
+  loop_count,
+  desig_count,
+  stmts_sum,
+  tests_sum,
+  args_sum,
+  sels_sum,
+  links_sum,
+  arms_sum,
+  cases_sum,
+  branches_sum,
+)

@@ -15,8 +15,11 @@ use Rattle.alma_ir.specs.declared.phrase.Loop.{Loop}
 use Rattle.alma_ir.specs.declared.phrase.Link.{Link}
 use Rattle.alma_ir.specs.declared.phrase.Call.{Call}
 use Rattle.alma_ir.specs.declared.program.Routine.{Routine}
-use Rattle.alma_ir.specs.View.{stmt_of, test_of, expr_of, arg_of, sel_of, desig_of, loop_of, routine_of, stmts_list, tests_list, args_list, sels_list, arms_list, cases_list, branches_list, links_list}
-use Rattle.alma_ir.specs.Count.{stmts_nodes, stmt_nodes, arms_nodes, cases_nodes, branches_nodes, test_nodes, tests_nodes, expr_nodes, links_nodes, args_nodes, arg_nodes, desig_nodes, sels_nodes, sel_nodes, loop_nodes, routines_nodes, saturate}
+use Rattle.alma_ir.specs.View.{stmt_of, test_of, expr_of, arg_of, sel_of, desig_of, loop_of, routine_of, stmts_list, tests_list, args_list}
+use Rattle.alma_ir.specs.View.{sels_list, arms_list, cases_list, branches_list, links_list}
+use Rattle.alma_ir.specs.Count.{stmts_nodes, stmt_nodes, arms_nodes, cases_nodes, branches_nodes, test_nodes, tests_nodes, expr_nodes}
+use Rattle.alma_ir.specs.Count.{links_nodes, args_nodes, arg_nodes, desig_nodes, sels_nodes, sel_nodes, loop_nodes, routines_nodes}
+use Rattle.alma_ir.specs.Count.{saturate}
 use Rattle.alma_ir.proofs.Views
 use Rattle.std.proofs.lemmas.List.Recursion.{is_sum_by}
 
@@ -111,19 +114,23 @@ routines_sum = is_sum_by (λ xs. routines_nodes (map routine_of xs)) of_routine 
 pub teststmt_nodes : (t : T.Test) → stmt_nodes (stmt_of (S.Test t)) ≡ 1 + test_nodes (test_of t)
 teststmt_nodes t = ap stmt_nodes (Views.teststmt_view t)
 
-pub assign_nodes : (d : D.Desig) (e : E.Expr) (r : _) → stmt_nodes (stmt_of (S.Assign d e r)) ≡ 1 + desig_nodes (desig_of d) + expr_nodes (expr_of e)
+pub assign_nodes : (d : D.Desig) (e : E.Expr) (r : _)
+    → stmt_nodes (stmt_of (S.Assign d e r)) ≡ 1 + desig_nodes (desig_of d) + expr_nodes (expr_of e)
 assign_nodes d e r = ap stmt_nodes (Views.assign_view d e r)
 
 pub copycells_nodes : (d d' : D.Desig) → stmt_nodes (stmt_of (S.CopyCells d d')) ≡ 1 + desig_nodes (desig_of d) + desig_nodes (desig_of d')
 copycells_nodes d d' = ap stmt_nodes (Views.copycells_view d d')
 
-pub if_nodes : (a : Vec Arm Global) (v : Vec S.Stmt Global) → stmt_nodes (stmt_of (S.If a v)) ≡ 1 + arms_nodes (arms_list a.items) + stmts_nodes (stmts_list v.items)
+pub if_nodes : (a : Vec Arm Global) (v : Vec S.Stmt Global)
+    → stmt_nodes (stmt_of (S.If a v)) ≡ 1 + arms_nodes (arms_list a.items) + stmts_nodes (stmts_list v.items)
 if_nodes a v = ap stmt_nodes (Views.if_view a v)
 
-pub while_nodes : (t : T.Test) (v : Vec S.Stmt Global) → stmt_nodes (stmt_of (S.While t v)) ≡ 1 + test_nodes (test_of t) + stmts_nodes (stmts_list v.items)
+pub while_nodes : (t : T.Test) (v : Vec S.Stmt Global)
+    → stmt_nodes (stmt_of (S.While t v)) ≡ 1 + test_nodes (test_of t) + stmts_nodes (stmts_list v.items)
 while_nodes t v = ap stmt_nodes (Views.while_view t v)
 
-pub repeat_nodes : (v : Vec S.Stmt Global) (t : T.Test) → stmt_nodes (stmt_of (S.Repeat v t)) ≡ 1 + stmts_nodes (stmts_list v.items) + test_nodes (test_of t)
+pub repeat_nodes : (v : Vec S.Stmt Global) (t : T.Test)
+    → stmt_nodes (stmt_of (S.Repeat v t)) ≡ 1 + stmts_nodes (stmts_list v.items) + test_nodes (test_of t)
 repeat_nodes v t = ap stmt_nodes (Views.repeat_view v t)
 
 pub forto_nodes : (l : Loop) → stmt_nodes (stmt_of (S.ForTo l)) ≡ 1 + loop_nodes (loop_of l)
@@ -132,10 +139,13 @@ forto_nodes l = ap stmt_nodes (Views.forto_view l)
 pub someof_nodes : (l : Loop) → stmt_nodes (stmt_of (S.SomeOf l)) ≡ 1 + loop_nodes (loop_of l)
 someof_nodes l = ap stmt_nodes (Views.someof_view l)
 
-pub case_none_nodes : (e : E.Expr) (v : Vec CaseArm Global) → stmt_nodes (stmt_of (S.Case e v None)) ≡ 1 + expr_nodes (expr_of e) + cases_nodes (cases_list v.items)
+pub case_none_nodes : (e : E.Expr) (v : Vec CaseArm Global)
+    → stmt_nodes (stmt_of (S.Case e v None)) ≡ 1 + expr_nodes (expr_of e) + cases_nodes (cases_list v.items)
 case_none_nodes e v = ap stmt_nodes (Views.case_view e v None) ∙ omega arith
 
-pub case_some_nodes : (e : E.Expr) (v : Vec CaseArm Global) (w : Vec S.Stmt Global) → stmt_nodes (stmt_of (S.Case e v (Some w))) ≡ 1 + expr_nodes (expr_of e) + cases_nodes (cases_list v.items) + stmts_nodes (stmts_list w.items)
+pub case_some_nodes : (e : E.Expr) (v : Vec CaseArm Global) (w : Vec S.Stmt Global)
+    → stmt_nodes (stmt_of (S.Case e v (Some w))) ≡ 1 + expr_nodes (expr_of e) + cases_nodes (cases_list v.items)
+    + stmts_nodes (stmts_list w.items)
 case_some_nodes e v w = ap stmt_nodes (Views.case_view e v (Some w))
 
 pub return_none_nodes : stmt_nodes (stmt_of (S.Return None)) ≡ 1
@@ -147,7 +157,8 @@ return_some_nodes e = ap stmt_nodes (Views.return_view (Some e))
 pub either_nodes : (v : Vec Branch Global) → stmt_nodes (stmt_of (S.Either v)) ≡ 1 + branches_nodes (branches_list v.items)
 either_nodes v = ap stmt_nodes (Views.either_view v)
 
-pub forall_nodes : (v w : Vec S.Stmt Global) → stmt_nodes (stmt_of (S.Forall v w)) ≡ 1 + stmts_nodes (stmts_list v.items) + stmts_nodes (stmts_list w.items)
+pub forall_nodes : (v w : Vec S.Stmt Global)
+    → stmt_nodes (stmt_of (S.Forall v w)) ≡ 1 + stmts_nodes (stmts_list v.items) + stmts_nodes (stmts_list w.items)
 forall_nodes v w = ap stmt_nodes (Views.forall_view v w)
 
 pub commit_nodes : (v : Vec S.Stmt Global) → stmt_nodes (stmt_of (S.Commit v)) ≡ 1 + stmts_nodes (stmts_list v.items)
@@ -168,10 +179,12 @@ writeline_nodes = ap stmt_nodes Views.writeline_view
 pub value_nodes : (e : E.Expr) → test_nodes (test_of (T.Value e)) ≡ 1 + expr_nodes (expr_of e)
 value_nodes e = ap test_nodes (Views.value_view e)
 
-pub bind_nodes : (d : D.Desig) (e : E.Expr) (r left : _) → test_nodes (test_of (T.Bind d e r left)) ≡ 1 + desig_nodes (desig_of d) + expr_nodes (expr_of e)
+pub bind_nodes : (d : D.Desig) (e : E.Expr) (r left : _)
+    → test_nodes (test_of (T.Bind d e r left)) ≡ 1 + desig_nodes (desig_of d) + expr_nodes (expr_of e)
 bind_nodes d e r left = ap test_nodes (Views.bind_view d e r left)
 
-pub unify_nodes : (d : D.Desig) (r : _) (d' : D.Desig) (r' : _) → test_nodes (test_of (T.Unify d r d' r')) ≡ 1 + desig_nodes (desig_of d) + desig_nodes (desig_of d')
+pub unify_nodes : (d : D.Desig) (r : _) (d' : D.Desig) (r' : _)
+    → test_nodes (test_of (T.Unify d r d' r')) ≡ 1 + desig_nodes (desig_of d) + desig_nodes (desig_of d')
 unify_nodes d r d' r' = ap test_nodes (Views.unify_view d r d' r')
 
 pub samecells_nodes : (d d' : D.Desig) → test_nodes (test_of (T.SameCells d d')) ≡ 1 + desig_nodes (desig_of d) + desig_nodes (desig_of d')
@@ -198,7 +211,8 @@ const_nodes n = ap expr_nodes (Views.const_view n)
 pub load_nodes : (d : D.Desig) → expr_nodes (expr_of (E.Load d)) ≡ 1 + desig_nodes (desig_of d)
 load_nodes d = ap expr_nodes (Views.load_view d)
 
-pub chain_nodes : (neg : _) (e : _) (v : Vec Link Global) → expr_nodes (expr_of (E.Chain neg e v)) ≡ 1 + expr_nodes (expr_of e.value) + links_nodes (links_list v.items)
+pub chain_nodes : (neg : _) (e : _) (v : Vec Link Global)
+    → expr_nodes (expr_of (E.Chain neg e v)) ≡ 1 + expr_nodes (expr_of e.value) + links_nodes (links_list v.items)
 chain_nodes neg e v = ap expr_nodes (Views.chain_view neg e v)
 
 pub compare_nodes : (c a b : _) → expr_nodes (expr_of (E.Compare c a b)) ≡ 1 + expr_nodes (expr_of a.value) + expr_nodes (expr_of b.value)

@@ -13,12 +13,14 @@ each_of_back P [] ys h = h
 each_of_back P (x ∷ xs) ys h = each_of_back P xs ys h.1
 
 -- where it holds in both it holds in the two in a row
-pub each_of_append : {X : Type 0} (P : X → Type 0) (xs ys : List X) → AllByRecursion P xs → AllByRecursion P ys → AllByRecursion P (xs ++ ys)
+pub each_of_append : {X : Type 0} (P : X → Type 0) (xs ys : List X) → AllByRecursion P xs → AllByRecursion P ys
+    → AllByRecursion P (xs ++ ys)
 each_of_append P [] ys h k = k
 each_of_append P (x ∷ xs) ys h k = (h.0, each_of_append P xs ys h.1 k)
 
 -- two facts are one fact
-pub each_of_both : {X : Type 0} (P Q : X → Type 0) (xs : List X) → AllByRecursion P xs → AllByRecursion Q xs → AllByRecursion (λ x. P x × Q x) xs
+pub each_of_both : {X : Type 0} (P Q : X → Type 0) (xs : List X) → AllByRecursion P xs → AllByRecursion Q xs
+    → AllByRecursion (λ x. P x × Q x) xs
 each_of_both P Q [] h k = tt
 each_of_both P Q (x ∷ xs) h k = ((h.0, k.0), each_of_both P Q xs h.1 k.1)
 

@@ -30,7 +30,8 @@ pub one_part : (a n x r : ℕ) → n ≡ 1 + a → x ≡ saturate a → r ≡ sa
 one_part a n x r e part sum = same (1 + a) n r (sym e) (one_more a x r part sum)
 
 -- a node with two
-pub two_parts : (a b n x y s r : ℕ) → n ≡ 1 + a + b → x ≡ saturate a → y ≡ saturate b → s ≡ saturate (x + y) → r ≡ saturate (s + 1) → r ≡ saturate n
+pub two_parts : (a b n x y s r : ℕ) → n ≡ 1 + a + b → x ≡ saturate a → y ≡ saturate b → s ≡ saturate (x + y) → r ≡ saturate (s + 1)
+    → r ≡ saturate n
 two_parts a b n x y s r e first second sum total =
     same (1 + (a + b)) n r (omega (arith, e)) (one_more (a + b) s r (both a b x y s first second sum) total)
 
@@ -52,7 +53,8 @@ turn f xs i x k r within is e h =
 pub turn_above_one : {X : Type 0} (f : X → ℕ) (xs : List X) (i : ℕ) (x : X) (y s r : ℕ) → i < length xs → x ≡ get_or xs i x →
     s ≡ saturate (1 + sum_by f (take i xs)) → y ≡ saturate (f x) → r ≡ saturate (s + y) → r ≡ saturate (1 + sum_by f (take (i + 1) xs))
 turn_above_one f xs i x y s r within is before one sum =
-    let more : sum_by f (take (i + 1) xs) ≡ sum_by f (take i xs) + f x = sum_by_more f xs i x within ∙ ap (λ y. sum_by f (take i xs) + f y) (sym is) in
+    let more : sum_by f (take (i + 1) xs) ≡ sum_by f (take i xs) + f x = sum_by_more f xs i x within
+    ∙ ap (λ y. sum_by f (take i xs) + f y) (sym is) in
     same _ _ r (omega (arith, more)) (both (1 + sum_by f (take i xs)) (f x) s y r before one sum)
 
 -- a turn whose item counts as one number

@@ -108,7 +108,8 @@ pub copycells_view : (d e : D.Desig) → View.stmt_of (S.CopyCells d e) ≡ Tree
 unfolding View.stmts_of
 copycells_view d e = rw (sels_held d.sels, sels_held e.sels)
 
-pub if_view : (a : Vec Arm Global) (v : Vec S.Stmt Global) → View.stmt_of (S.If a v) ≡ Tree.If (View.arms_list a.items) (View.stmts_list v.items)
+pub if_view : (a : Vec Arm Global) (v : Vec S.Stmt Global)
+    → View.stmt_of (S.If a v) ≡ Tree.If (View.arms_list a.items) (View.stmts_list v.items)
 unfolding View.stmts_of
 if_view a v = rw (arms_held a, stmts_held v)
 
@@ -116,7 +117,8 @@ pub while_view : (t : T.Test) (v : Vec S.Stmt Global) → View.stmt_of (S.While 
 unfolding View.stmts_of
 while_view t v = ap (Tree.While (View.test_of t)) (stmts_held v)
 
-pub repeat_view : (v : Vec S.Stmt Global) (t : T.Test) → View.stmt_of (S.Repeat v t) ≡ Tree.Repeat (View.stmts_list v.items) (View.test_of t)
+pub repeat_view : (v : Vec S.Stmt Global) (t : T.Test)
+    → View.stmt_of (S.Repeat v t) ≡ Tree.Repeat (View.stmts_list v.items) (View.test_of t)
 unfolding View.stmts_of
 repeat_view v t = ap (λ x. Tree.Repeat x (View.test_of t)) (stmts_held v)
 
@@ -144,7 +146,8 @@ pub load_view : (d : D.Desig) → View.expr_of (E.Load d) ≡ Tree.Load (View.de
 unfolding View.stmts_of
 load_view d = ap (λ x. Tree.Load (Tree.a_desig d.root d.cells x)) (sels_held d.sels)
 
-pub chain_view : (neg : _) (e : _) (v : Vec Link Global) → View.expr_of (E.Chain neg e v) ≡ Tree.Chain neg (View.expr_of e.value) (View.links_list v.items)
+pub chain_view : (neg : _) (e : _) (v : Vec Link Global)
+    → View.expr_of (E.Chain neg e v) ≡ Tree.Chain neg (View.expr_of e.value) (View.links_list v.items)
 unfolding View.stmts_of
 chain_view neg e v = ap (Tree.Chain neg (View.expr_of e.value)) (links_held v)
 
@@ -161,7 +164,8 @@ unfolding View.stmts_of
 return_view None = refl
 return_view (Some e) = refl
 
-pub case_view : (e : E.Expr) (v : Vec CaseArm Global) (x : Option (Vec S.Stmt Global)) → View.stmt_of (S.Case e v x) ≡ Tree.Case (View.expr_of e) (View.cases_list v.items) (View.else_option x)
+pub case_view : (e : E.Expr) (v : Vec CaseArm Global) (x : Option (Vec S.Stmt Global))
+    → View.stmt_of (S.Case e v x) ≡ Tree.Case (View.expr_of e) (View.cases_list v.items) (View.else_option x)
 unfolding View.stmts_of
 case_view e v None = rw (cases_held v)
 case_view e v (Some w) = rw (cases_held v, stmts_held w)
@@ -188,11 +192,13 @@ pub value_view : (e : E.Expr) → View.test_of (T.Value e) ≡ Tree.Value (View.
 unfolding View.stmts_of
 value_view e = refl
 
-pub bind_view : (d : D.Desig) (e : E.Expr) (r left : _) → View.test_of (T.Bind d e r left) ≡ Tree.Bind (View.desig_of d) (View.expr_of e) r left
+pub bind_view : (d : D.Desig) (e : E.Expr) (r left : _)
+    → View.test_of (T.Bind d e r left) ≡ Tree.Bind (View.desig_of d) (View.expr_of e) r left
 unfolding View.stmts_of
 bind_view d e r left = rw (sels_held d.sels)
 
-pub unify_view : (d : D.Desig) (r : _) (e : D.Desig) (r' : _) → View.test_of (T.Unify d r e r') ≡ Tree.Unify (View.desig_of d) r (View.desig_of e) r'
+pub unify_view : (d : D.Desig) (r : _) (e : D.Desig) (r' : _)
+    → View.test_of (T.Unify d r e r') ≡ Tree.Unify (View.desig_of d) r (View.desig_of e) r'
 unfolding View.stmts_of
 unify_view d r e r' = rw (sels_held d.sels, sels_held e.sels)
 
@@ -269,4 +275,46 @@ unfolding View.stmts_of
 index_view e r c = refl
 
 -- all of these, for tactics
-pub ruleset viewed = (teststmt_view, assign_view, copycells_view, if_view, while_view, repeat_view, forto_view, someof_view, either_view, forall_view, commit_view, load_view, chain_view, not_view, callexpr_view, return_view, case_view, read_view, writeexpr_view, writetext_view, writeline_view, value_view, bind_view, unify_view, samecells_view, seq_view, and_view, or_view, calltest_view, const_view, compare_view, truth_view, known_view, chr_view, byvalue_view, bycells_view, byplace_view, mixvalue_view, mixplace_view, field_view, index_view)
+pub ruleset viewed = (
+  teststmt_view,
+  assign_view,
+  copycells_view,
+  if_view,
+  while_view,
+  repeat_view,
+  forto_view,
+  someof_view,
+  either_view,
+  forall_view,
+  commit_view,
+  load_view,
+  chain_view,
+  not_view,
+  callexpr_view,
+  return_view,
+  case_view,
+  read_view,
+  writeexpr_view,
+  writetext_view,
+  writeline_view,
+  value_view,
+  bind_view,
+  unify_view,
+  samecells_view,
+  seq_view,
+  and_view,
+  or_view,
+  calltest_view,
+  const_view,
+  compare_view,
+  truth_view,
+  known_view,
+  chr_view,
+  byvalue_view,
+  bycells_view,
+  byplace_view,
+  mixvalue_view,
+  mixplace_view,
+  field_view,
+  index_view,
+)

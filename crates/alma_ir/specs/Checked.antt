@@ -1,6 +1,7 @@
 -- What the checker's programs keep, and what a program must keep to be compiled: each condition by
 -- itself, and all.
-use Rattle.std.specs.Prelude.{◌≡◌, ◌⊎◌, ℕ, zero, suc, ◌+◌, ◌*◌, ◌<◌, ◌≤◌, IsTrue, pos, ◌≤ℤ◌, List, [], ◌∷◌, ◌++◌, length, sum_by, Some, IsSome, IsNone}
+use Rattle.std.specs.Prelude.{◌≡◌, ◌⊎◌, ℕ, zero, suc, ◌+◌, ◌*◌, ◌<◌, ◌≤◌, IsTrue, pos, ◌≤ℤ◌, List, [], ◌∷◌, ◌++◌, length, sum_by, Some}
+use Rattle.std.specs.Prelude.{IsSome, IsNone}
 use Rattle.std.specs.List.{AllByRecursion}
 use Rattle.alma_base.specs.Limits.{cell_limit, routine_slot_limit, record_limit, pool_limit}
 use Rattle.alma_base.specs.Bytes.{is_letter, is_word_byte}
@@ -10,9 +11,13 @@ use Rattle.alma_ir.specs.declared.program.ArgKind.{ArgKind}
 use Rattle.alma_ir.specs.declared.program.ArgKind.TheVariants as kind
 use Rattle.alma_ir.specs.declared.program.Param.{Param}
 use Rattle.alma_ir.specs.declared.phrase.Root.TheVariants as root
-use Rattle.alma_ir.specs.Tree.{Stmts, CaseArms, Loop, Args, Arg, Desig, Sels, Sel, Routine, Global, Program, routine_at, Assign, CopyCells, ForTo, SomeOf, Case, Either, Forall, Commit, Return, Read, WriteText, no_cases, more_cases, no_branches, a_loop, no_result, some_result, Bind, Unify, SameCells, Seq, Or, CallTest, no_tests, Load, Known, CallExpr, no_args, more_args, ByValue, ByCells, ByPlace, MixValue, MixPlace, a_desig, no_sels, more_sels, Field, Index}
+use Rattle.alma_ir.specs.Tree.{Stmts, CaseArms, Loop, Args, Arg, Desig, Sels, Sel, Routine, Global, Program, routine_at, Assign, CopyCells}
+use Rattle.alma_ir.specs.Tree.{ForTo, SomeOf, Case, Either, Forall, Commit, Return, Read, WriteText, no_cases, more_cases, no_branches}
+use Rattle.alma_ir.specs.Tree.{a_loop, no_result, some_result, Bind, Unify, SameCells, Seq, Or, CallTest, no_tests, Load, Known, CallExpr}
+use Rattle.alma_ir.specs.Tree.{no_args, more_args, ByValue, ByCells, ByPlace, MixValue, MixPlace, a_desig, no_sels, more_sels, Field, Index}
 use Rattle.alma_ir.specs.Lines.{stmt_count}
-use Rattle.alma_ir.specs.Phrases.{Phrase, StmtPhrase, TestPhrase, ExprPhrase, ArgPhrase, DesigPhrase, SelPhrase, stmts_phrases, loop_phrases}
+use Rattle.alma_ir.specs.Phrases.{Phrase, StmtPhrase, TestPhrase, ExprPhrase, ArgPhrase, DesigPhrase, SelPhrase, stmts_phrases}
+use Rattle.alma_ir.specs.Phrases.{loop_phrases}
 
 -- ---- how the conditions are said
 
@@ -142,7 +147,8 @@ pub record IsGlobal (p : Program) (g : Global) : Type 0 where
 -- round it that holds a place of as many cells
 abbrev pub RootExists : Program → ℕ → Routine → Phrase → Type 0
 RootExists p r routine (DesigPhrase (a_desig (root.Local slot) cells sels)) = AreNumbers routine slot cells × LeavesPosition r slot
-RootExists p r routine (DesigPhrase (a_desig (root.Global slot) cells sels)) = (0 < routine.level) × AreNumbers (routine_at p 0) slot cells × (0 < slot)
+RootExists p r routine (DesigPhrase (a_desig (root.Global slot) cells sels)) = (0 < routine.level) × AreNumbers (routine_at p 0) slot cells
+    × (0 < slot)
 RootExists p r routine (DesigPhrase (a_desig (root.Param slot) cells sels)) = HoldPlace routine.params slot cells
 RootExists p r routine (DesigPhrase (a_desig (root.Outer links slot) cells sels)) =
     LeadOut routine links × AreNumbers (routine_at p (outer_at p r links)) slot cells
@@ -244,7 +250,8 @@ HasStep (a_loop d range counter limit from to by body) = by ≡ pos 0 → ⊥
 abbrev pub RootLeaves : Program → (holder r slot : ℕ) → Phrase → Type 0
 RootLeaves p holder r slot (DesigPhrase (a_desig (root.Local from) cells sels)) = holder ≡ r → IsOutside from cells slot
 RootLeaves p holder r slot (DesigPhrase (a_desig (root.Global from) cells sels)) = r ≡ 0 → IsOutside from cells slot
-RootLeaves p holder r slot (DesigPhrase (a_desig (root.Outer links from) cells sels)) = outer_at p holder links ≡ r → IsOutside from cells slot
+RootLeaves p holder r slot (DesigPhrase (a_desig (root.Outer links from) cells sels)) = outer_at p holder links ≡ r
+    → IsOutside from cells slot
 RootLeaves p holder r slot _ = Unit {0}
 
 -- neither of two slots is the counter or the limit of a loop

@@ -1,8 +1,16 @@
 -- The line of each statement: `lines` of a routine has them in the order of the text, a statement
 -- before those inside it.
 use Rattle.std.specs.Prelude.{ℕ, suc, true, false, List, [], ◌∷◌, get_or, drop}
-use Rattle.alma_ir.specs.Tree.{Stmts, Stmt, Arms, CaseArms, Else, Branches, Loop, ReturnExpr, Test, Tests, Expr, Links, Args, Arg, Desig, Sels, Sel, no_stmts, more_stmts, Routine, TestStmt, Assign, CopyCells, If, While, Repeat, ForTo, SomeOf, Case, Either, Forall, Commit, Return, Read, WriteExpr, WriteText, WriteLine, no_arms, more_arms, no_cases, more_cases, no_else, else_part, no_branches, more_branches, a_loop, no_result, some_result, Value, Bind, Unify, SameCells, Seq, And, Or, Not, CallTest, no_tests, more_tests, Const, Load, Chain, Compare, Truth, Known, Chr, CallExpr, no_links, more_links, no_args, more_args, ByValue, ByCells, ByPlace, MixValue, MixPlace, a_desig, no_sels, more_sels, Field, Index}
-use Rattle.alma_ir.specs.Phrases.{Phrase, StmtPhrase, TestPhrase, ExprPhrase, ArgPhrase, DesigPhrase, SelPhrase, stmts_phrases, stmt_phrases, arms_phrases, cases_phrases, test_phrases, expr_phrases, arg_phrases, desig_phrases, sel_phrases}
+use Rattle.alma_ir.specs.Tree.{Stmts, Stmt, Arms, CaseArms, Else, Branches, Loop, ReturnExpr, Test, Tests, Expr, Links, Args, Arg, Desig}
+use Rattle.alma_ir.specs.Tree.{Sels, Sel, no_stmts, more_stmts, Routine, TestStmt, Assign, CopyCells, If, While, Repeat, ForTo, SomeOf}
+use Rattle.alma_ir.specs.Tree.{Case, Either, Forall, Commit, Return, Read, WriteExpr, WriteText, WriteLine, no_arms, more_arms, no_cases}
+use Rattle.alma_ir.specs.Tree.{more_cases, no_else, else_part, no_branches, more_branches, a_loop, no_result, some_result, Value, Bind}
+use Rattle.alma_ir.specs.Tree.{Unify, SameCells, Seq, And, Or, Not, CallTest, no_tests, more_tests, Const, Load, Chain, Compare, Truth}
+use Rattle.alma_ir.specs.Tree.{Known, Chr, CallExpr, no_links, more_links, no_args, more_args, ByValue, ByCells, ByPlace, MixValue}
+use Rattle.alma_ir.specs.Tree.{MixPlace, a_desig, no_sels, more_sels, Field, Index}
+use Rattle.alma_ir.specs.Phrases.{Phrase, StmtPhrase, TestPhrase, ExprPhrase, ArgPhrase, DesigPhrase, SelPhrase, stmts_phrases}
+use Rattle.alma_ir.specs.Phrases.{stmt_phrases, arms_phrases, cases_phrases, test_phrases, expr_phrases, arg_phrases, desig_phrases}
+use Rattle.alma_ir.specs.Phrases.{sel_phrases}
 
 -- how many of the phrases are statements
 abbrev pub stmt_count : List Phrase → ℕ
@@ -38,7 +46,8 @@ unfoldable mutual
   stmt_with (ForTo l) ls = ForTo (loop_with l ls)
   stmt_with (SomeOf l) ls = SomeOf (loop_with l ls)
   stmt_with (Case e arms rest) ls =
-      Case (expr_with e ls) (cases_with arms (behind (expr_phrases e) ls)) (else_with rest (behind (cases_phrases arms) (behind (expr_phrases e) ls)))
+      Case (expr_with e ls) (cases_with arms (behind (expr_phrases e) ls))
+      (else_with rest (behind (cases_phrases arms) (behind (expr_phrases e) ls)))
   stmt_with (Either branches) ls = Either (branches_with branches ls)
   stmt_with (Forall x y) ls = Forall (stmts_with x ls) (stmts_with y (behind (stmts_phrases x) ls))
   stmt_with (Commit x) ls = Commit (stmts_with x ls)
@@ -52,7 +61,8 @@ unfoldable mutual
   pub arms_with : Arms → List ℕ → Arms
   arms_with no_arms ls = no_arms
   arms_with (more_arms t body rest) ls =
-      more_arms (test_with t ls) (stmts_with body (behind (test_phrases t) ls)) (arms_with rest (behind (stmts_phrases body) (behind (test_phrases t) ls)))
+      more_arms (test_with t ls) (stmts_with body (behind (test_phrases t) ls))
+      (arms_with rest (behind (stmts_phrases body) (behind (test_phrases t) ls)))
 
   -- the arms of CASE; a label has no statement
   pub cases_with : CaseArms → List ℕ → CaseArms

@@ -157,7 +157,18 @@ pub record Program : Type 0 where
 
 -- a routine that does nothing
 abbrev pub no_routine : Routine
-no_routine = record { name = []; params = []; result = None; declared = 0; slots = 0; body = no_stmts; level = 0; outer = 0; line = 0; lines = [] }
+no_routine = record {
+  name = [];
+  params = [];
+  result = None;
+  declared = 0;
+  slots = 0;
+  body = no_stmts;
+  level = 0;
+  outer = 0;
+  line = 0;
+  lines = [];
+}
 
 -- the routine with this number, or one that does nothing where there is none
 abbrev pub routine_at : Program → ℕ → Routine

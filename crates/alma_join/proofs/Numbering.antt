@@ -1,5 +1,6 @@
 -- The routines of a unit, numbered one after another.
-use Rattle.std.proofs.Common.{◌≡◌, ℕ, zero, suc, ◌+◌, ◌<◌, ◌≤◌, inl, inr, Bool, true, false, List, [], ◌∷◌, ◌++◌, length, get_or, drop, refl, sym, ap, subst, ◌∙◌, arith, add-one, Option, None, Result, Ok, Err, IfErr}
+use Rattle.std.proofs.Common.{◌≡◌, ℕ, zero, suc, ◌+◌, ◌<◌, ◌≤◌, inl, inr, Bool, true, false, List, [], ◌∷◌, ◌++◌, length, get_or, drop}
+use Rattle.std.proofs.Common.{refl, sym, ap, subst, ◌∙◌, arith, add-one, Option, None, Result, Ok, Err, IfErr}
 use Rattle.std.specs.Result.{IsErrAnd}
 use Rattle.std.specs.List.{AllByRecursion}
 use Rattle.std.proofs.lemmas.Bool.{cases_lt}
@@ -9,14 +10,16 @@ use Rattle.alma_base.specs.Choice.{if_true}
 use Rattle.alma_copy.specs.Numbers.{number_in}
 use Rattle.alma_ir.proofs.Each.{each_of_append}
 use Rattle.alma_ir.specs.Tree.{Routine, Program, routine_at, no_routine}
-use Rattle.alma_joined.specs.Joined.{Kept, JoinFault, is_bare, kept_of, kept_from, matches, first_match, match_fault, fault_from, or_next, number_of_kept, new_number}
+use Rattle.alma_joined.specs.Joined.{Kept, JoinFault, is_bare, kept_of, kept_from, matches, first_match, match_fault, fault_from, or_next}
+use Rattle.alma_joined.specs.Joined.{number_of_kept, new_number}
 use Rattle.alma_join.specs.declared.directory.Directory.{Directory}
 use Rattle.alma_join.specs.declared.error.JoinError.{JoinError}
 use Rattle.alma_join.specs.declared.error.JoinError.TheVariants as error
 use Rattle.alma_join.specs.Directory.{Holds}
 use Rattle.alma_join.specs.Fault.{IsErrorOf}
 use Rattle.alma_join.specs.Numbers.{Resolves, StandsAt, unit_fault, NumbersUnit}
-use Rattle.alma_join.proofs.Keeping.{Passed, passed_none, passed_bare, passed_kept, passed_all, here_is, rest_here, each_to, Differs, differs_by_unit, differs_by_number, number_there, number_none, new_number_if}
+use Rattle.alma_join.proofs.Keeping.{Passed, passed_none, passed_bare, passed_kept, passed_all, here_is, rest_here, each_to, Differs}
+use Rattle.alma_join.proofs.Keeping.{differs_by_unit, differs_by_number, number_there, number_none, new_number_if}
 use Rattle.alma_join.proofs.Rows.{rest_none}
 
 -- an error of the first of two is one of both

@@ -1,5 +1,6 @@
 -- The parts of the units, one after another.
-use Rattle.std.proofs.Common.{◌≡◌, ℕ, zero, suc, ◌+◌, ◌<◌, ◌≤◌, List, [], ◌∷◌, ◌++◌, length, get_or, drop, map, refl, sym, ap, subst, ◌∙◌, arith, add-one}
+use Rattle.std.proofs.Common.{◌≡◌, ℕ, zero, suc, ◌+◌, ◌<◌, ◌≤◌, List, [], ◌∷◌, ◌++◌, length, get_or, drop, map, refl, sym, ap, subst, ◌∙◌}
+use Rattle.std.proofs.Common.{arith, add-one}
 use Rattle.std.specs.Prelude.{sum_by}
 use Rattle.std.specs.List.{AllByRecursion}
 use Rattle.std.proofs.lemmas.List.{append-nil, append_assoc}
@@ -9,7 +10,8 @@ use Rattle.alma_ir.specs.Tree as ir
 use Rattle.alma_ir.specs.Tree.{Stmts, Program, Routine, routine_at}
 use Rattle.alma_ir.specs.View.{routine_of, global_of, stmts_list}
 use Rattle.alma_joined.proofs.Alone.{append_none}
-use Rattle.alma_joined.specs.Joined.{Kept, kept_in, kept_of, new_slot, own_slots, body_moves, procedure_moves, moved_procedure, joined_globals, joined_stmts, joined_lines, joined_procedures}
+use Rattle.alma_joined.specs.Joined.{Kept, kept_in, kept_of, new_slot, own_slots, body_moves, procedure_moves, moved_procedure}
+use Rattle.alma_joined.specs.Joined.{joined_globals, joined_stmts, joined_lines, joined_procedures}
 use Rattle.alma_join.specs.declared.part.Parts.{Parts}
 use Rattle.alma_join.specs.Numbers.{NumbersUnit, NumbersUnits}
 use Rattle.alma_join.specs.Parts.{body_numbers, procedure_numbers, AddsUnit, ArePartsOf}

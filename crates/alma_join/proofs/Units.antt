@@ -1,5 +1,6 @@
 -- Units that are gone through one after another.
-use Rattle.std.proofs.Common.{◌≡◌, ℕ, suc, ◌+◌, ◌<◌, ◌≤◌, List, [], ◌∷◌, ◌++◌, length, get_or, take, drop, map, refl, sym, ap, subst, ◌∙◌, arith, add-one, Vec, Global, None}
+use Rattle.std.proofs.Common.{◌≡◌, ℕ, suc, ◌+◌, ◌<◌, ◌≤◌, List, [], ◌∷◌, ◌++◌, length, get_or, take, drop, map, refl, sym, ap, subst, ◌∙◌}
+use Rattle.std.proofs.Common.{arith, add-one, Vec, Global, None}
 use Rattle.std.proofs.lemmas.List.{take_more, take_all, take-append-drop, length-take, length-map, length-append}
 use Rattle.alma_ir.specs.declared.program.Program as whole
 use Rattle.alma_ir.specs.Tree.{Program}

@@ -14,10 +14,13 @@ use Rattle.alma_ir.specs.declared.phrase.Branch.{Branch}
 use Rattle.alma_ir.specs.declared.phrase.Loop.{Loop}
 use Rattle.alma_ir.specs.declared.phrase.Link.{Link}
 use Rattle.alma_ir.specs.declared.phrase.Call.{Call}
-use Rattle.alma_ir.specs.View.{stmt_of, test_of, expr_of, arg_of, sel_of, desig_of, loop_of, stmts_list, tests_list, args_list, sels_list, arms_list, cases_list, branches_list, links_list}
+use Rattle.alma_ir.specs.View.{stmt_of, test_of, expr_of, arg_of, sel_of, desig_of, loop_of, stmts_list, tests_list, args_list, sels_list}
+use Rattle.alma_ir.specs.View.{arms_list, cases_list, branches_list, links_list}
 use Rattle.alma_ir.specs.Phrases.{Phrase}
 use Rattle.alma_join_size.specs.Texts.{text_count}
-use Rattle.alma_ir.specs.Phrases.{stmts_phrases, stmt_phrases, arms_phrases, cases_phrases, branches_phrases, loop_phrases, test_phrases, tests_phrases, expr_phrases, links_phrases, args_phrases, arg_phrases, desig_phrases, sels_phrases, sel_phrases}
+use Rattle.alma_ir.specs.Phrases.{stmts_phrases, stmt_phrases, arms_phrases, cases_phrases, branches_phrases, loop_phrases, test_phrases}
+use Rattle.alma_ir.specs.Phrases.{tests_phrases, expr_phrases, links_phrases, args_phrases, arg_phrases, desig_phrases, sels_phrases}
+use Rattle.alma_ir.specs.Phrases.{sel_phrases}
 use Rattle.alma_ir.proofs.Views
 use Rattle.std.proofs.lemmas.List.Recursion.{is_sum_by}
 
@@ -383,5 +386,58 @@ unfolding stmts_phrases
 desig_count d = omega arith
 
 -- all of these, for tactics
-pub ruleset counted =
-    (testtext_count, assign_count, copycells_count, if_count, while_count, repeat_count, forto_count, someof_count, case_none_count, case_some_count, return_none_count, return_some_count, either_count, forall_count, commit_count, read_count, writeexpr_count, writetext_count, writeline_count, value_count, bind_count, unify_count, samecells_count, seq_count, and_count, or_count, not_count, calltest_count, const_count, load_count, chain_count, compare_count, truth_count, known_count, chr_count, callexpr_count, byvalue_count, bycells_count, byplace_count, mixvalue_count, mixplace_count, field_count, index_count, loop_count, desig_count, stmts_sum, tests_sum, args_sum, sels_sum, links_sum, arms_sum, cases_sum, branches_sum)
+pub ruleset counted = (
+  testtext_count,
+  assign_count,
+  copycells_count,
+  if_count,
+  while_count,
+  repeat_count,
+  forto_count,
+  someof_count,
+  case_none_count,
+  case_some_count,
+  return_none_count,
+  return_some_count,
+  either_count,
+  forall_count,
+  commit_count,
+  read_count,
+  writeexpr_count,
+  writetext_count,
+  writeline_count,
+  value_count,
+  bind_count,
+  unify_count,
+  samecells_count,
+  seq_count,
+  and_count,
+  or_count,
+  not_count,
+  calltest_count,
+  const_count,
+  load_count,
+  chain_count,
+  compare_count,
+  truth_count,
+  known_count,
+  chr_count,
+  callexpr_count,
+  byvalue_count,
+  bycells_count,
+  byplace_count,
+  mixvalue_count,
+  mixplace_count,
+  field_count,
+  index_count,
+  loop_count,
+  desig_count,
+  stmts_sum,
+  tests_sum,
+  args_sum,
+  sels_sum,
+  links_sum,
+  arms_sum,
+  cases_sum,
+  branches_sum,
+)

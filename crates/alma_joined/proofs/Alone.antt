@@ -9,7 +9,9 @@ use Rattle.alma_base.specs.Choice.{if_true}
 use Rattle.alma_ir.specs.Tree.{Stmts, Program, Routine, Global, routine_at, no_routine, no_stmts, more_stmts}
 use Rattle.alma_ir.specs.Checked.{IsChecked}
 use Rattle.alma_copy.specs.Moved.{Moves, moved_stmts}
-use Rattle.alma_joined.specs.Joined.{is_bare, Kept, kept_from, kept_in, matches, first_match, number_of_kept, new_number, new_slot, own_slots, body_moves, procedure_moves, moved_procedure, moved_global, joined, HasNoImport, AloneIsItself}
+use Rattle.alma_joined.specs.Joined.{is_bare, Kept, kept_from, kept_in, matches, first_match, number_of_kept, new_number, new_slot}
+use Rattle.alma_joined.specs.Joined.{own_slots, body_moves, procedure_moves, moved_procedure, moved_global, joined, HasNoImport}
+use Rattle.alma_joined.specs.Joined.{AloneIsItself}
 use Rattle.alma_rules.specs.Parts.{append_stmts}
 use Rattle.alma_copy.proofs.Stays.{stmts_stay}
 

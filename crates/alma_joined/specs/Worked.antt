@@ -5,7 +5,8 @@ use Rattle.alma_ir.specs.declared.program.ArgKind.TheVariants as kind
 use Rattle.alma_ir.specs.declared.phrase.Op.TheVariants as op
 use Rattle.alma_ir.specs.Tree.{Program, Global, Routine, Assign, Load, ByPlace}
 use Rattle.alma_mean.specs.Events.{Succeeded}
-use Rattle.alma_mean.specs.Worked.Build.{module_with, procedure, param, number, var, let_be, write_var, call, operate, through_param, int, succeed, Gives}
+use Rattle.alma_mean.specs.Worked.Build.{module_with, procedure, param, number, var, let_be, write_var, call, operate, through_param, int}
+use Rattle.alma_mean.specs.Worked.Build.{succeed, Gives}
 use Rattle.alma_joined.specs.Joined.{Missing, Twice, HeadDiffers, join_fault, joined}
 
 -- a program with these variables

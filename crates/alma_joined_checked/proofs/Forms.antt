@@ -3,11 +3,17 @@ use Rattle.std.proofs.Common.{◌≡◌, ℕ, List, [], ◌∷◌, ◌++◌, map
 use Rattle.std.specs.Prelude.{suc, IsNone, IsSome, sum_by}
 use Rattle.std.specs.List.{AllByRecursion}
 use Rattle.std.proofs.lemmas.List.Sums.{sum_by-cons}
-use Rattle.alma_ir.specs.Tree.{Stmts, CaseArms, Loop, Desig, Sels, Sel, TestStmt, Assign, CopyCells, If, While, Repeat, ForTo, SomeOf, Case, Either, Forall, Commit, Return, Read, WriteExpr, WriteText, WriteLine, no_cases, more_cases, no_branches, more_branches, a_loop, no_result, some_result, Value, Bind, Unify, SameCells, Seq, And, Or, Not, CallTest, no_tests, more_tests, Const, Load, Chain, Compare, Truth, Known, Chr, CallExpr, ByValue, ByCells, ByPlace, MixValue, MixPlace, a_desig, no_sels, more_sels, Field, Index}
+use Rattle.alma_ir.specs.Tree.{Stmts, CaseArms, Loop, Desig, Sels, Sel, TestStmt, Assign, CopyCells, If, While, Repeat, ForTo, SomeOf, Case}
+use Rattle.alma_ir.specs.Tree.{Either, Forall, Commit, Return, Read, WriteExpr, WriteText, WriteLine, no_cases, more_cases, no_branches}
+use Rattle.alma_ir.specs.Tree.{more_branches, a_loop, no_result, some_result, Value, Bind, Unify, SameCells, Seq, And, Or, Not, CallTest}
+use Rattle.alma_ir.specs.Tree.{no_tests, more_tests, Const, Load, Chain, Compare, Truth, Known, Chr, CallExpr, ByValue, ByCells, ByPlace}
+use Rattle.alma_ir.specs.Tree.{MixValue, MixPlace, a_desig, no_sels, more_sels, Field, Index}
 use Rattle.alma_ir.specs.Tree.{Routine}
 use Rattle.alma_ir.specs.Phrases.{Phrase, StmtPhrase, TestPhrase, ExprPhrase, ArgPhrase, DesigPhrase, SelPhrase, stmts_phrases}
 use Rattle.alma_ir.specs.Lines.{stmt_count}
-use Rattle.alma_ir.specs.Checked.{loops_of, sel_cells, cells_after, desig_cells, IsPart, ArePartsOf, PartsExist, CellsAgree, labels_of, ranges_of, IsOrdered, RangesOrdered, HasStep, HasChoice, ReturnAgrees, IsNoReturn, HaveNoReturn, ReturnsStay, text_bytes}
+use Rattle.alma_ir.specs.Checked.{loops_of, sel_cells, cells_after, desig_cells, IsPart, ArePartsOf, PartsExist, CellsAgree, labels_of}
+use Rattle.alma_ir.specs.Checked.{ranges_of, IsOrdered, RangesOrdered, HasStep, HasChoice, ReturnAgrees, IsNoReturn, HaveNoReturn}
+use Rattle.alma_ir.specs.Checked.{ReturnsStay, text_bytes}
 use Rattle.alma_ir.proofs.Each.{each_follows}
 use Rattle.alma_copy.specs.Moved.{Moves, moved_stmts, moved_cases, moved_loop, moved_desig, moved_sels, moved_sel}
 use Rattle.alma_joined_checked.proofs.Moving.{moved_phrase, stmts_moved}

@@ -1,5 +1,6 @@
 -- Imports without a fault: each has one match, whose head serves the import's calls.
-use Rattle.std.proofs.Common.{◌≡◌, inl, inr, ℕ, zero, suc, ◌+◌, ◌<◌, true, List, [], ◌∷◌, length, get_or, drop, refl, sym, ap, ◌∙◌, subst, arith, eq-zero-or-pos}
+use Rattle.std.proofs.Common.{◌≡◌, inl, inr, ℕ, zero, suc, ◌+◌, ◌<◌, true, List, [], ◌∷◌, length, get_or, drop, refl, sym, ap, ◌∙◌, subst}
+use Rattle.std.proofs.Common.{arith, eq-zero-or-pos}
 use Rattle.std.specs.Prelude.{nat_eq, ◌&&◌, not, sum_by, Option, Some, None, is_some}
 use Rattle.std.specs.List.{AllByRecursion, list_any}
 use Rattle.std.proofs.lemmas.Bool.{true≢false, eqb-true, and_parts, cases_Bool}
@@ -11,9 +12,12 @@ use Rattle.alma_ir.specs.declared.program.Param.{Param}
 use Rattle.alma_ir.specs.Tree.{Program, Routine, routine_at, no_routine}
 use Rattle.alma_ir.specs.Checked.{IsChecked, param_slots}
 use Rattle.alma_ir.proofs.Each.{each_follows}
-use Rattle.alma_joined.specs.Joined.{Kept, is_empty, is_bare, kept_in, same_name, same_kind, same_range, same_params, same_result, same_head, matches, first_match, number_of_kept, JoinFault, Missing, Twice, HeadDiffers, match_fault, or_next, fault_from, import_fault, size_fault, no_totals, join_fault, joined, AreUnits}
+use Rattle.alma_joined.specs.Joined.{Kept, is_empty, is_bare, kept_in, same_name, same_kind, same_range, same_params, same_result}
+use Rattle.alma_joined.specs.Joined.{same_head, matches, first_match, number_of_kept, JoinFault, Missing, Twice, HeadDiffers, match_fault}
+use Rattle.alma_joined.specs.Joined.{or_next, fault_from, import_fault, size_fault, no_totals, join_fault, joined, AreUnits}
 use Rattle.alma_joined_checked.proofs.KeptLists.{by_test, no_kept, unit_at, behind_first, fewer_behind}
-use Rattle.alma_joined_checked.proofs.Places.{number, Stands, moved_routine, Home, home, count_is, number_low, number_high, SameHead, checked, head}
+use Rattle.alma_joined_checked.proofs.Places.{number, Stands, moved_routine, Home, home, count_is, number_low, number_high, SameHead}
+use Rattle.alma_joined_checked.proofs.Places.{checked, head}
 
 -- ---- no fault
 

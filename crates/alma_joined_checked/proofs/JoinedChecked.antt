@@ -6,13 +6,19 @@ use Rattle.std.proofs.lemmas.List.Sums.{sum_by-cons}
 use Rattle.alma_ir.specs.Tree.{Program, routine_at, no_routine}
 use Rattle.alma_ir.specs.Phrases.{stmts_phrases}
 use Rattle.alma_ir.specs.Lines.{stmt_count}
-use Rattle.alma_ir.specs.Checked.{IsChecked, EachRoutine, EachPhrase, IsGlobal, loops_of, CalleeExists, ResultAgrees, CallLeads, CallFits, PartsExist, CellsAgree, RangesOrdered, HasStep, HasChoice, ReturnAgrees, ReturnsStay, ParamsFirst, AreLaidOut, param_slots, HasOneCellAs, DeclaredFits, IsNested, HeadRangesOrdered, IsOrdered, RoutineKeepsLimits, HasLines, NamesSpelled, IsName, link_slots}
+use Rattle.alma_ir.specs.Checked.{IsChecked, EachRoutine, EachPhrase, IsGlobal, loops_of, CalleeExists, ResultAgrees, CallLeads, CallFits}
+use Rattle.alma_ir.specs.Checked.{PartsExist, CellsAgree, RangesOrdered, HasStep, HasChoice, ReturnAgrees, ReturnsStay, ParamsFirst}
+use Rattle.alma_ir.specs.Checked.{AreLaidOut, param_slots, HasOneCellAs, DeclaredFits, IsNested, HeadRangesOrdered, IsOrdered}
+use Rattle.alma_ir.specs.Checked.{RoutineKeepsLimits, HasLines, NamesSpelled, IsName, link_slots}
 use Rattle.alma_ir.proofs.Each.{each_follows}
-use Rattle.alma_joined.specs.Joined.{kept_in, join_fault, own_slots, procedure_moves, moved_global, joined_body, joined, AreUnits, JoinedIsChecked}
+use Rattle.alma_joined.specs.Joined.{kept_in, join_fault, own_slots, procedure_moves, moved_global, joined_body, joined, AreUnits}
+use Rattle.alma_joined.specs.Joined.{JoinedIsChecked}
 use Rattle.alma_joined_checked.proofs.Moving.{stmts_moved}
-use Rattle.alma_joined_checked.proofs.Forms.{parts_moved, cells_moved, ranges_moved, steps_moved, choices_moved, returns_moved, stays_moved, count_moved}
+use Rattle.alma_joined_checked.proofs.Forms.{parts_moved, cells_moved, ranges_moved, steps_moved, choices_moved, returns_moved, stays_moved}
+use Rattle.alma_joined_checked.proofs.Forms.{count_moved}
 use Rattle.alma_joined_checked.proofs.KeptLists.{each_at, unit_at, before_at}
-use Rattle.alma_joined_checked.proofs.Places.{number, moves, Stands, SameHead, number_low, number_high, first_is, checked, body_stands, head, outer_stands, numbers_own, each_global, each_routine, each_phrase}
+use Rattle.alma_joined_checked.proofs.Places.{number, moves, Stands, SameHead, number_low, number_high, first_is, checked, body_stands}
+use Rattle.alma_joined_checked.proofs.Places.{head, outer_stands, numbers_own, each_global, each_routine, each_phrase}
 use Rattle.alma_joined_checked.proofs.Slots.{slot_low, roots_checked, loops_checked}
 use Rattle.alma_joined_checked.proofs.Imports.{no_faults}
 use Rattle.alma_joined_checked.proofs.Calls.{Calls, calls_checked}

@@ -1,12 +1,14 @@
 -- The routines of modules that stay: each is found at one place, and has one number.
-use Rattle.std.proofs.Common.{◌≡◌, ◌⊎◌, inl, inr, ℕ, zero, suc, ◌+◌, ◌<◌, ◌≤◌, Bool, true, false, List, [], ◌∷◌, ◌++◌, length, get_or, drop, map, refl, sym, ap, ◌∙◌, subst, arith}
+use Rattle.std.proofs.Common.{◌≡◌, ◌⊎◌, inl, inr, ℕ, zero, suc, ◌+◌, ◌<◌, ◌≤◌, Bool, true, false, List, [], ◌∷◌, ◌++◌, length, get_or, drop}
+use Rattle.std.proofs.Common.{map, refl, sym, ap, ◌∙◌, subst, arith}
 use Rattle.std.specs.Prelude.{nat_eq, ◌&&◌}
 use Rattle.std.specs.List.{AllByRecursion}
 use Rattle.std.proofs.lemmas.Bool.{eq-eqb, ne_eqb, and_from, and_left, and_right, true≢false}
 use Rattle.alma_base.specs.Choice.{if_true}
 use Rattle.alma_ir.specs.Tree.{Program, Routine, routine_at, no_routine}
 use Rattle.alma_ir.proofs.Each.{each_of_append, each_follows}
-use Rattle.alma_joined.specs.Joined.{Kept, is_bare, kept_from, kept_of, kept_in, number_of_kept, own_slots, procedure_moves, moved_procedure, joined_procedures}
+use Rattle.alma_joined.specs.Joined.{Kept, is_bare, kept_from, kept_of, kept_in, number_of_kept, own_slots, procedure_moves}
+use Rattle.alma_joined.specs.Joined.{moved_procedure, joined_procedures}
 
 -- a fact of both outcomes of a test is one of the choice
 pub by_test : {A : Type 0} (P : A → Type 0) (b : Bool) (x y : Unit {0} → A) → (b ≡ true → P (x tt)) → (b ≡ false → P (y tt))

@@ -1,5 +1,6 @@
 -- What modules whose sizes have no fault hold together keeps the limits, and their lines are those of their statements.
-use Rattle.std.proofs.Common.{◌≡◌, inl, inr, ℕ, suc, ◌+◌, ◌<◌, ◌≤◌, false, List, [], ◌∷◌, length, drop, map, refl, sym, ap, ◌∙◌, subst, arith, length-append}
+use Rattle.std.proofs.Common.{◌≡◌, inl, inr, ℕ, suc, ◌+◌, ◌<◌, ◌≤◌, false, List, [], ◌∷◌, length, drop, map, refl, sym, ap, ◌∙◌, subst}
+use Rattle.std.proofs.Common.{arith, length-append}
 use Rattle.std.specs.Prelude.{◌||◌, nat_lt, sum_by, Some, None, is_some}
 use Rattle.std.specs.List.{AllByRecursion}
 use Rattle.std.proofs.lemmas.Bool.{true≢false, ltb-false, or_parts, cases_Bool}
@@ -14,7 +15,9 @@ use Rattle.alma_ir.specs.Checked.{link_slots, text_bytes, HasLines, KeepsLimits}
 use Rattle.alma_ir.proofs.Each.{each_of_append}
 use Rattle.alma_ir.proofs.LinesBack.{count_sum}
 use Rattle.alma_copy.specs.Moved.{Moves, moved_stmts}
-use Rattle.alma_joined.specs.Joined.{Kept, is_bare, kept_from, kept_of, kept_in, own_slots, body_moves, procedure_moves, moved_procedure, moved_global, joined_globals, joined_stmts, joined_lines, joined_procedures, TooLarge, Totals, no_totals, with_unit, passes, size_fault, first_of, joined_body, joined}
+use Rattle.alma_joined.specs.Joined.{Kept, is_bare, kept_from, kept_of, kept_in, own_slots, body_moves, procedure_moves, moved_procedure}
+use Rattle.alma_joined.specs.Joined.{moved_global, joined_globals, joined_stmts, joined_lines, joined_procedures, TooLarge, Totals}
+use Rattle.alma_joined.specs.Joined.{no_totals, with_unit, passes, size_fault, first_of, joined_body, joined}
 use Rattle.alma_joined_checked.proofs.Moving.{stmts_moved, append_phrases}
 use Rattle.alma_joined_checked.proofs.Forms.{texts_moved, count_moved}
 use Rattle.alma_joined_checked.proofs.KeptLists.{by_test}

@@ -1,5 +1,6 @@
 -- Where the routines of modules stand in the joined program, and what their heads say there.
-use Rattle.std.proofs.Common.{◌≡◌, inl, inr, ℕ, zero, suc, ◌+◌, ◌<◌, ◌≤◌, true, false, List, [], ◌∷◌, length, get_or, refl, sym, ap, ◌∙◌, subst, arith, eq-zero-or-pos}
+use Rattle.std.proofs.Common.{◌≡◌, inl, inr, ℕ, zero, suc, ◌+◌, ◌<◌, ◌≤◌, true, false, List, [], ◌∷◌, length, get_or, refl, sym, ap, ◌∙◌}
+use Rattle.std.proofs.Common.{subst, arith, eq-zero-or-pos}
 use Rattle.std.specs.Prelude.{nat_eq, ◌&&◌, not, sum_by, Option, Some, None, IsNone}
 use Rattle.std.specs.List.{AllByRecursion, list_any}
 use Rattle.std.proofs.lemmas.Bool.{true≢false, eq-eqb, and_right, not_from_true, cases_lt, cases_eq}
@@ -9,13 +10,17 @@ use Rattle.alma_base.specs.Choice.{if_true}
 use Rattle.alma_base.specs.declared.number.Range.{Range}
 use Rattle.alma_ir.specs.Tree.{Program, Routine, Global, routine_at, no_routine}
 use Rattle.alma_ir.specs.Phrases.{Phrase, stmts_phrases}
-use Rattle.alma_ir.specs.Checked.{IsChecked, EachRoutine, EachPhrase, AreNumbers, IsOutside, HoldsPlace, LeavesPosition, LeadOut, outer_at, param_slots}
+use Rattle.alma_ir.specs.Checked.{IsChecked, EachRoutine, EachPhrase, AreNumbers, IsOutside, HoldsPlace, LeavesPosition, LeadOut, outer_at}
+use Rattle.alma_ir.specs.Checked.{param_slots}
 use Rattle.alma_ir.proofs.Each.{each_of_append, each_follows}
 use Rattle.alma_copy.specs.Moved.{Moves, moved_stmts}
-use Rattle.alma_joined.specs.Joined.{Kept, is_empty, is_bare, kept_in, number_of_kept, matches, first_match, new_number, new_slot, own_slots, body_moves, procedure_moves, moved_procedure, moved_global, joined_globals, joined_stmts, joined_procedures, first_of, joined_body, joined, AreUnits}
+use Rattle.alma_joined.specs.Joined.{Kept, is_empty, is_bare, kept_in, number_of_kept, matches, first_match, new_number, new_slot}
+use Rattle.alma_joined.specs.Joined.{own_slots, body_moves, procedure_moves, moved_procedure, moved_global, joined_globals, joined_stmts}
+use Rattle.alma_joined.specs.Joined.{joined_procedures, first_of, joined_body, joined, AreUnits}
 use Rattle.alma_joined_checked.proofs.Moving.{moved_phrase, stmts_moved, append_phrases}
 use Rattle.alma_joined_checked.proofs.Forms.{each_of_map}
-use Rattle.alma_joined_checked.proofs.KeptLists.{each_at, no_kept, no_program, unit_at, before_at, ascend_in, number_is, Found, found, has_in, IsMoved, pairs_in, pairs_at, pairs_length}
+use Rattle.alma_joined_checked.proofs.KeptLists.{each_at, no_kept, no_program, unit_at, before_at, ascend_in, number_is, Found, found}
+use Rattle.alma_joined_checked.proofs.KeptLists.{has_in, IsMoved, pairs_in, pairs_at, pairs_length}
 
 -- ---- numbers and slots
 

@@ -4,15 +4,19 @@ use Rattle.std.specs.List.{AllByRecursion}
 use Rattle.std.proofs.lemmas.Bool.{cases_eq}
 use Rattle.alma_ir.specs.declared.phrase.Root.TheVariants as root
 use Rattle.alma_ir.specs.Tree.{Loop, Program, Routine, routine_at, a_loop, a_desig}
-use Rattle.alma_ir.specs.Phrases.{Phrase, StmtPhrase, TestPhrase, ExprPhrase, ArgPhrase, DesigPhrase, SelPhrase, stmts_phrases, loop_phrases}
-use Rattle.alma_ir.specs.Checked.{EachPhrase, AreNumbers, IsOutside, HoldPlace, LeavesPosition, LeadOut, outer_at, RootExists, RootLeaves, IsHiddenSlot, LoopLeaves, LoopIsApart, loops_of, IsGlobal, param_slots}
+use Rattle.alma_ir.specs.Phrases.{Phrase, StmtPhrase, TestPhrase, ExprPhrase, ArgPhrase, DesigPhrase, SelPhrase, stmts_phrases}
+use Rattle.alma_ir.specs.Phrases.{loop_phrases}
+use Rattle.alma_ir.specs.Checked.{EachPhrase, AreNumbers, IsOutside, HoldPlace, LeavesPosition, LeadOut, outer_at, RootExists, RootLeaves}
+use Rattle.alma_ir.specs.Checked.{IsHiddenSlot, LoopLeaves, LoopIsApart, loops_of, IsGlobal, param_slots}
 use Rattle.alma_ir.proofs.Each.{each_of_both, each_follows}
 use Rattle.alma_copy.specs.Moved.{moved_stmts, moved_loop}
 use Rattle.alma_joined.specs.Joined.{new_slot, joined, AreUnits}
 use Rattle.alma_joined_checked.proofs.Moving.{moved_phrase, loop_moved}
 use Rattle.alma_joined_checked.proofs.Forms.{each_of_map, loops_moved}
 use Rattle.alma_joined_checked.proofs.KeptLists.{unit_at, before_at}
-use Rattle.alma_joined_checked.proofs.Places.{number, own_slot, moves, Stands, routine_is, number_low, same_place, before_fits, body_apart, each_global, checked, body_stands, head, outer_moves, out_low, numbers_own, numbers_out, each_phrase}
+use Rattle.alma_joined_checked.proofs.Places.{number, own_slot, moves, Stands, routine_is, number_low, same_place, before_fits, body_apart}
+use Rattle.alma_joined_checked.proofs.Places.{each_global, checked, body_stands, head, outer_moves, out_low, numbers_own, numbers_out}
+use Rattle.alma_joined_checked.proofs.Places.{each_phrase}
 
 -- ---- slots
 

@@ -14,14 +14,16 @@ use Rattle.alma_plan.proofs.Courses.{course_ends, course_starved, gains_none}
 use Rattle.alma_plan_run.specs.Programs.{Tells, sense}
 use Rattle.alma_plan_run.proofs.Owns.{own_read_source, own_run_plan, own_status, own_store_plan, own_tells}
 use Rattle.alma_link.specs.Words.{Task, Run, Compile, Request, request_of}
-use Rattle.alma_link.specs.Link.{program, failed, default_steps, join_text, task_plan, unless_fault, join_plan, files_plan, request_plan, link_plan}
+use Rattle.alma_link.specs.Link.{program, failed, default_steps, join_text, task_plan, unless_fault, join_plan, files_plan, request_plan}
+use Rattle.alma_link.specs.Link.{link_plan}
 use Rattle.alma_link.specs.Ends.{join_end}
 
 -- an end without a print
 pub silent_end : (end : Ending) (files : FilesSide) (input : SourceSide) (out : SinkSide)
     → Follows (sense program failed) program (Ends (Tells (silent end))) files files input input out out end
 silent_end end files input out =
-    course_ends (sense program failed) program (Tells (silent end)) files input out out end (whole (silent end) refl refl refl (gains_none out))
+    course_ends (sense program failed) program (Tells (silent end)) files input out out end
+    (whole (silent end) refl refl refl (gains_none out))
 
 -- ---- modules
 
@@ -31,13 +33,15 @@ module _ (task : Task) (units : List Program) where
       → Follows (sense program failed) program (task_plan task (joined units)) f g i j o p end
       → Follows (sense program failed) program (join_plan task units) f g i j o p end
   course_joined f g i j o p end none course =
-      subst (λ (fault : Option JoinFault). Follows (sense program failed) program (unless_fault fault task units) f g i j o p end) (sym none) course
+      subst (λ (fault : Option JoinFault). Follows (sense program failed) program (unless_fault fault task units) f g i j o p end)
+      (sym none) course
 
   -- they are not, for this fault
   course_fault : (fault : JoinFault) (f : FilesSide) (i : SourceSide) (o : SinkSide) → join_fault units ≡ Some fault
       → Follows (sense program failed) program (join_plan task units) f f i i o o (tells program 13 (join_text units fault))
   course_fault fault f i o e =
-      subst (λ (found : Option JoinFault). Follows (sense program failed) program (unless_fault found task units) f f i i o o (tells program 13 (join_text units fault))) (sym e)
+      subst (λ (found : Option JoinFault). Follows (sense program failed) program (unless_fault found task units) f f i i o o
+      (tells program 13 (join_text units fault))) (sym e)
       (silent_end (tells program 13 (join_text units fault)) f i o)
 
   pub course_unjoined : (error : JoinError) (f : FilesSide) (i : SourceSide) (o : SinkSide) → IsJoinError error units
@@ -54,9 +58,11 @@ own_task : (task : Task) (p : Program) → HasOwnEnds (sense program failed) (ta
 own_task Run p = own_run_plan program failed (own_status 1 (inl (omega arith))) p default_steps
 own_task (Compile object) p = own_store_plan program failed p object
 
-own_join : (fault : Option JoinFault) (task : Task) (units : List Program) → HasOwnEnds (sense program failed) (unless_fault fault task units)
+own_join : (fault : Option JoinFault) (task : Task) (units : List Program)
+    → HasOwnEnds (sense program failed) (unless_fault fault task units)
 own_join None task units = own_task task (joined units)
-own_join (Some fault) task units = own_tells program failed (silent (tells program 13 (join_text units fault))) (own_status 13 (inr (omega arith)))
+own_join (Some fault) task units = own_tells program failed (silent (tells program 13 (join_text units fault)))
+    (own_status 13 (inr (omega arith)))
 
 own_files : (task : Task) (got : List Program) (names : List (List ℕ)) → HasOwnEnds (sense program failed) (files_plan task got names)
 own_files task got [] = own_join (join_fault got) task got

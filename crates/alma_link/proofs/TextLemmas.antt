@@ -5,7 +5,8 @@ use Rattle.alma_plan.specs.Plan.{line_of}
 use Rattle.alma_link.specs.Link.{program}
 
 -- of an import
-pub import_parts : (front fault number blank name end : List ℕ) (unit : ℕ) → front ≡ codes "alma_link: " → number ≡ decimal unit → blank ≡ codes " "
+pub import_parts : (front fault number blank name end : List ℕ) (unit : ℕ) → front ≡ codes "alma_link: " → number ≡ decimal unit
+    → blank ≡ codes " "
     → end ≡ codes "\n"
     → front ++ (fault ++ (number ++ (blank ++ (name ++ (end ++ []))))) ≡ line_of program (fault ++ (decimal unit ++ (codes " " ++ name)))
 import_parts front fault number blank name end unit f n b e =

@@ -9,7 +9,8 @@ use Rattle.alma_ir.specs.Tree as tree
 use Rattle.alma_ir.specs.declared.program.Program.{Program}
 
 -- one more behind others: all are checked, and there is one more
-pub one_more : (units : List Program) (unit : Program) (all : List Program) → all ≡ units ++ unit ∷ [] → AllByRecursion IsChecked (map program_of units)
+pub one_more : (units : List Program) (unit : Program) (all : List Program) → all ≡ units ++ unit ∷ []
+    → AllByRecursion IsChecked (map program_of units)
     → IsChecked (program_of unit) → AllByRecursion IsChecked (map program_of all) × (length all ≡ length units + 1)
 one_more units unit all e checked one = (
   subst (λ (ps : List tree.Program). AllByRecursion IsChecked ps) (sym (ap (map program_of) e ∙ map-append program_of units (unit ∷ [])))

@@ -13,7 +13,8 @@ abbrev Within : (before seen : ℕ) → List (List ℕ) → Type 0
 Within before seen words = (before < seen + length words) × (seen + length words ≤ before + greatest_files)
 
 -- where none is bad, there is one at least, and no more than there may be
-pub files_within : (before seen : ℕ) (words : List (List ℕ)) → seen ≤ before + greatest_files → bad_file before seen words ≡ None → Within before seen words
+pub files_within : (before seen : ℕ) (words : List (List ℕ)) → seen ≤ before + greatest_files → bad_file before seen words ≡ None
+    → Within before seen words
 files_within before seen [] within e = by (cases_lt before seen)
   where
     by : (before < seen) ⊎ (seen ≤ before) → Within before seen []
@@ -22,8 +23,10 @@ files_within before seen [] within e = by (cases_lt before seen)
 files_within before seen (word ∷ words) within e =
     by (is_file_name word && ltb seen (before + greatest_files)) refl e (files_within before (seen + 1) words)
   where
-    by : (good : Bool) → is_file_name word && ltb seen (before + greatest_files) ≡ good → cond good (bad_file before (seen + 1) words) (Some (seen + 1)) ≡ None
-        → (seen + 1 ≤ before + greatest_files → bad_file before (seen + 1) words ≡ None → Within before (seen + 1) words) → Within before seen (word ∷ words)
+    by : (good : Bool) → is_file_name word && ltb seen (before + greatest_files) ≡ good
+        → cond good (bad_file before (seen + 1) words) (Some (seen + 1)) ≡ None
+        → (seen + 1 ≤ before + greatest_files → bad_file before (seen + 1) words ≡ None → Within before (seen + 1) words)
+        → Within before seen (word ∷ words)
     by false is h more = cc h
     by true is h more =
         let room = ltb-true seen (before + greatest_files) (and_parts (is_file_name word) (ltb seen (before + greatest_files)) is).1 in

@@ -6,19 +6,32 @@ use Rattle.std.specs.List.{AllByRecursion}
 use Rattle.std.proofs.lemmas.List.{length-append}
 use Rattle.alma_base.specs.Numbers.{is_zero, bit}
 use Rattle.alma_base.specs.declared.fault.RunFault.TheVariants as fault
-use Rattle.alma_ir.specs.Tree.{Stmts, Stmt, Arms, CaseArms, Else, Branches, Loop, ReturnExpr, Test, Tests, Expr, Links, Args, Arg, Desig, Sels, Sel, Program, Routine, routine_at, no_stmts, more_stmts, TestStmt, Assign, CopyCells, If, While, Repeat, ForTo, SomeOf, Case, Either, Forall, Commit, Return, Read, WriteExpr, WriteText, WriteLine, no_arms, more_arms, no_cases, more_cases, no_else, else_part, no_branches, more_branches, a_loop, no_result, some_result, Value, Bind, Unify, SameCells, Seq, And, Or, Not, CallTest, no_tests, more_tests, Const, Load, Chain, Compare, Truth, Known, Chr, CallExpr, no_links, more_links, no_args, more_args, ByValue, ByCells, ByPlace, MixValue, MixPlace, a_desig, no_sels, more_sels, Field, Index}
+use Rattle.alma_ir.specs.Tree.{Stmts, Stmt, Arms, CaseArms, Else, Branches, Loop, ReturnExpr, Test, Tests, Expr, Links, Args, Arg, Desig}
+use Rattle.alma_ir.specs.Tree.{Sels, Sel, Program, Routine, routine_at, no_stmts, more_stmts, TestStmt, Assign, CopyCells, If, While}
+use Rattle.alma_ir.specs.Tree.{Repeat, ForTo, SomeOf, Case, Either, Forall, Commit, Return, Read, WriteExpr, WriteText, WriteLine, no_arms}
+use Rattle.alma_ir.specs.Tree.{more_arms, no_cases, more_cases, no_else, else_part, no_branches, more_branches, a_loop, no_result}
+use Rattle.alma_ir.specs.Tree.{some_result, Value, Bind, Unify, SameCells, Seq, And, Or, Not, CallTest, no_tests, more_tests, Const, Load}
+use Rattle.alma_ir.specs.Tree.{Chain, Compare, Truth, Known, Chr, CallExpr, no_links, more_links, no_args, more_args, ByValue, ByCells}
+use Rattle.alma_ir.specs.Tree.{ByPlace, MixValue, MixPlace, a_desig, no_sels, more_sels, Field, Index}
 use Rattle.alma_ir.specs.Lines.{body_with_lines}
-use Rattle.alma_ir.specs.Phrases.{Phrase, stmts_phrases, stmt_phrases, arms_phrases, cases_phrases, else_phrases, branches_phrases, loop_phrases, return_phrases, test_phrases, tests_phrases, expr_phrases, links_phrases, args_phrases, arg_phrases, desig_phrases, sels_phrases, sel_phrases}
+use Rattle.alma_ir.specs.Phrases.{Phrase, stmts_phrases, stmt_phrases, arms_phrases, cases_phrases, else_phrases, branches_phrases}
+use Rattle.alma_ir.specs.Phrases.{loop_phrases, return_phrases, test_phrases, tests_phrases, expr_phrases, links_phrases, args_phrases}
+use Rattle.alma_ir.specs.Phrases.{arg_phrases, desig_phrases, sels_phrases, sel_phrases}
 use Rattle.alma_ir.specs.Checked.{IsNoReturn, CalleeExists}
 use Rattle.alma_ir.proofs.Each.{each_of_front, each_of_back}
 use Rattle.alma_mean.specs.Store.{Store, Frame, Place, Number, top_frame, cell_of, part}
 use Rattle.alma_mean.specs.Events.{Events, NoYield}
-use Rattle.alma_mean.specs.Rows.{ArgValue, ArgNumber, ArgMix, ArgPlace, ArgCells, enter, frame_of, declared_cells, as_value, known_bit, return_within}
-use Rattle.alma_mean.specs.Meaning.{Level, level, level_above, ev_stmts, ev_stmt, ev_arms, ev_cases, ev_else, ev_branches, ev_for, ev_some, ev_return, ev_test, ev_and, ev_or, ev_expr, ev_links, ev_args, ev_arg, ev_desig, ev_sels, ev_sel, turn_for, turn_some, ev_routine}
+use Rattle.alma_mean.specs.Rows.{ArgValue, ArgNumber, ArgMix, ArgPlace, ArgCells, enter, frame_of, declared_cells, as_value, known_bit}
+use Rattle.alma_mean.specs.Rows.{return_within}
+use Rattle.alma_mean.specs.Meaning.{Level, level, level_above, ev_stmts, ev_stmt, ev_arms, ev_cases, ev_else, ev_branches, ev_for, ev_some}
+use Rattle.alma_mean.specs.Meaning.{ev_return, ev_test, ev_and, ev_or, ev_expr, ev_links, ev_args, ev_arg, ev_desig, ev_sels, ev_sel}
+use Rattle.alma_mean.specs.Meaning.{turn_for, turn_some, ev_routine}
 use Rattle.alma_mean.specs.Arithmetic.{fault_unless, compares}
 use Rattle.alma_listing.specs.Alike.{Alike, on_visit, on_print, on_alt, at_fail, at_fault, at_cut, HaveSame, MeanTheSame}
-use Rattle.alma_listing.proofs.AlikeLists.{leaf, under, joined, bound, visited, lined, noded, first_taken, checked, chosen, read, labelled, gone_through, left, value_given}
-use Rattle.alma_listing.proofs.AlikeRows.{Both, rooted, indexed, ranged, put_leaf, cell_bound, unified, matched, copied, applied, signed, read_in, while_alike, repeat_alike, for_alike, some_alike, begun, answered}
+use Rattle.alma_listing.proofs.AlikeLists.{leaf, under, joined, bound, visited, lined, noded, first_taken, checked, chosen, read, labelled}
+use Rattle.alma_listing.proofs.AlikeLists.{gone_through, left, value_given}
+use Rattle.alma_listing.proofs.AlikeRows.{Both, rooted, indexed, ranged, put_leaf, cell_bound, unified, matched, copied, applied, signed}
+use Rattle.alma_listing.proofs.AlikeRows.{read_in, while_alike, repeat_alike, for_alike, some_alike, begun, answered}
 
 -- nothing is asked of how an alternative of an expression goes on: each does
 abbrev Any : Type 0

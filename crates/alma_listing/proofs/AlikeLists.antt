@@ -9,7 +9,8 @@ use Rattle.alma_base.specs.Carry.{Carry, with_changes}
 use Rattle.alma_base.specs.declared.number.Range.{Range}
 use Rattle.alma_base.specs.declared.fault.RunFault.{RunFault}
 use Rattle.alma_mean.specs.Store.{Store, Cell, Unknown, Number, At, put, put_all, over, changes, without_top}
-use Rattle.alma_mean.specs.Events.{Events, NoYield, Visit, Print, Alt, Flow, Go, Return, one, join, bind, visit_each, at_line, node, on_first}
+use Rattle.alma_mean.specs.Events.{Events, NoYield, Visit, Print, Alt, Flow, Go, Return, one, join, bind, visit_each, at_line, node}
+use Rattle.alma_mean.specs.Events.{on_first}
 use Rattle.alma_mean.specs.Arithmetic.{fault_unless}
 use Rattle.alma_mean.specs.Rows.{read_cell, try_labels, forall_row, as_test, function_value}
 use Rattle.alma_listing.specs.Alike.{Alike, on_visit, on_print, on_alt, at_fail, at_fault, at_cut}

@@ -13,10 +13,13 @@ use Rattle.alma_ir.specs.declared.phrase.ReadAs.{ReadAs}
 use Rattle.alma_ir.specs.declared.phrase.ReadAs.TheVariants as read_as
 use Rattle.alma_ir.specs.declared.phrase.Root.{Root}
 use Rattle.alma_ir.specs.declared.phrase.Root.TheVariants as root
-use Rattle.alma_mean.specs.Store.{Store, Place, Cell, Unknown, Number, At, cell_at, put_at, put_top, cells_of, cell_of, part, top, top_cell, up}
+use Rattle.alma_mean.specs.Store.{Store, Place, Cell, Unknown, Number, At, cell_at, put_at, put_top, cells_of, cell_of, part, top, top_cell}
+use Rattle.alma_mean.specs.Store.{up}
 use Rattle.alma_mean.specs.Events.{Events, NoYield, Fail, one}
 use Rattle.alma_mean.specs.Arithmetic.{check_range, check_integer, apply_op, apply_sign}
-use Rattle.alma_mean.specs.Rows.{place_held, root_place, index_place, succeed_if, bind_cell, unify_cells, match_cell, match_cells, copy_cells, read_row, store_number, store_byte, position, set_position, set_variable, next_turn, while_turn, repeat_turn, for_turn, some_turn, begin_loop, return_within}
+use Rattle.alma_mean.specs.Rows.{place_held, root_place, index_place, succeed_if, bind_cell, unify_cells, match_cell, match_cells}
+use Rattle.alma_mean.specs.Rows.{copy_cells, read_row, store_number, store_byte, position, set_position, set_variable, next_turn}
+use Rattle.alma_mean.specs.Rows.{while_turn, repeat_turn, for_turn, some_turn, begin_loop, return_within}
 use Rattle.alma_listing.specs.Alike.{Alike, on_visit, on_alt, at_fail, at_fault}
 use Rattle.alma_listing.proofs.AlikeLists.{leaf, joined, bound, first_taken, checked, chosen, read, put_long, put_all_long}
 

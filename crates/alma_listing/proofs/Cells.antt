@@ -18,7 +18,8 @@ use Rattle.alma_mean.specs.Meaning.{Level, ev_stmts, ev_stmt, ev_test, ev_expr, 
 use Rattle.alma_listing.specs.Listing.{cell_text}
 use Rattle.alma_listing.specs.Lister.{index, cell_range, cell_of_global}
 use Rattle.alma_listing.proofs.Closes.{Closes, c_visit, c_fail, c_more, c_visited}
-use Rattle.alma_listing.proofs.Writes.{Writes, w_visit, w_print, w_done, w_more, w_alone, w_bound, w_visited, w_noded, w_lined, Taken, w_first, c_first, w_closed, w_says}
+use Rattle.alma_listing.proofs.Writes.{Writes, w_visit, w_print, w_done, w_more, w_alone, w_bound, w_visited, w_noded, w_lined, Taken}
+use Rattle.alma_listing.proofs.Writes.{w_first, c_first, w_closed, w_says}
 
 -- the store of a call from the body of the module: the global frame, and that of a procedure of three cells
 abbrev pub own : Frame → (r : ℕ) → (x y z : Cell) → Store

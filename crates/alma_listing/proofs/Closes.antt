@@ -6,7 +6,8 @@ use Rattle.std.proofs.lemmas.Bool.{true≢false}
 use Rattle.alma_base.specs.declared.fault.RunFault.{RunFault}
 use Rattle.alma_ir.specs.Tree.{Global}
 use Rattle.alma_mean.specs.Store.{Store}
-use Rattle.alma_mean.specs.Events.{Events, NoYield, Visit, Print, Alt, Go, Return, Fail, Fault, Cut, End, Succeeded, Failed, Faulted, CutOff, join, bind, visit_each, prints, visit_count}
+use Rattle.alma_mean.specs.Events.{Events, NoYield, Visit, Print, Alt, Go, Return, Fail, Fault, Cut, End, Succeeded, Failed, Faulted}
+use Rattle.alma_mean.specs.Events.{CutOff, join, bind, visit_each, prints, visit_count}
 use Rattle.alma_mean.specs.Laws.{IsPrefix, ends_in_cut}
 use Rattle.alma_listing.specs.Alike.{Alike, on_visit, on_print, on_alt, at_fail, at_fault, at_cut}
 use Rattle.alma_listing.specs.Listing.{line_of_store, listed, closes, alternatives}

@@ -18,7 +18,8 @@ use Rattle.alma_mean.specs.Rows.{next_turn, for_turn}
 use Rattle.alma_mean.specs.Meaning.{Level, level, ev_stmts, ev_stmt, ev_desig, turn_for}
 use Rattle.alma_listing.specs.Listing.{cell_text, more_cells, cells_text, global_text, more_globals, globals_text, line_of_store}
 use Rattle.alma_listing.specs.Lister.{cell_range, cells_loop, write_cells, write_globals, write_line}
-use Rattle.alma_listing.proofs.Writes.{Writes, w_visit, w_print, w_done, w_cut, w_more, w_weaker, w_alone, w_bound, w_noded, w_lined, w_says}
+use Rattle.alma_listing.proofs.Writes.{Writes, w_visit, w_print, w_done, w_cut, w_more, w_weaker, w_alone, w_bound, w_noded, w_lined}
+use Rattle.alma_listing.proofs.Writes.{w_says}
 use Rattle.alma_listing.proofs.Cells.{own, Is, in_range, cell_if, cell_written, comma, comma_if, comma_written}
 
 -- the store of a call of a procedure of three cells from the body of the module

@@ -4,11 +4,13 @@ use Rattle.std.specs.Prelude.{ℤ, pos, codes}
 use Rattle.std.specs.List.{AllByRecursion}
 use Rattle.alma_ir.specs.declared.phrase.Root.TheVariants as root
 use Rattle.alma_ir.specs.declared.phrase.WriteAs.TheVariants as write_as
-use Rattle.alma_ir.specs.Tree.{Stmts, Global, no_stmts, more_stmts, ForTo, WriteExpr, WriteText, Value, Const, Load, Known, a_desig, no_sels, Index}
+use Rattle.alma_ir.specs.Tree.{Stmts, Global, no_stmts, more_stmts, ForTo, WriteExpr, WriteText, Value, Const, Load, Known, a_desig}
+use Rattle.alma_ir.specs.Tree.{no_sels, Index}
 use Rattle.alma_ir.specs.Lines.{stmt_count}
 use Rattle.alma_ir.specs.Phrases.{Phrase, StmtPhrase, TestPhrase, ExprPhrase, DesigPhrase, SelPhrase, stmts_phrases, stmt_phrases}
 use Rattle.alma_rules.specs.Parts.{append_stmts}
-use Rattle.alma_listing.specs.Lister.{index, cell_range, cell_of_global, write_comma, write_cell, cells_loop, write_cells, write_globals, write_line, global_stmts, globals_stmts}
+use Rattle.alma_listing.specs.Lister.{index, cell_range, cell_of_global, write_comma, write_cell, cells_loop, write_cells, write_globals}
+use Rattle.alma_listing.specs.Lister.{write_line, global_stmts, globals_stmts}
 
 -- the phrases of two lists of statements
 pub append_phrases : (x y : Stmts) → stmts_phrases (append_stmts x y) ≡ stmts_phrases x ++ stmts_phrases y
@@ -88,7 +90,13 @@ module _ (F : Phrase → Type 0) (G : ℕ → ℕ → Type 0)
                                   variable,
                                   (
                                     write slot last g,
-                                    (load slot last g, (desig slot last g, (sel slot last g, (the_index, (variable, (text (codes "?"), h)))))),
+                                    (
+                                      load slot last g,
+                                      (
+                                        desig slot last g,
+                                        (sel slot last g, (the_index, (variable, (text (codes "?"), h)))),
+                                      ),
+                                    ),
                                   ),
                                 ),
                               ),

@@ -1,5 +1,6 @@
 -- The program that lists lists.
-use Rattle.std.proofs.Common.{◌≡◌, inl, inr, ℕ, zero, suc, ◌+◌, ◌*◌, ◌-◌, ◌<◌, ◌≤◌, List, [], ◌∷◌, ◌++◌, length, get_or, refl, sym, ap, ◌∙◌, subst, arith}
+use Rattle.std.proofs.Common.{◌≡◌, inl, inr, ℕ, zero, suc, ◌+◌, ◌*◌, ◌-◌, ◌<◌, ◌≤◌, List, [], ◌∷◌, ◌++◌, length, get_or, refl, sym, ap, ◌∙◌}
+use Rattle.std.proofs.Common.{subst, arith}
 use Rattle.std.specs.Prelude.{true, false, pos, nat_lt, nat_le, sum_by, codes}
 use Rattle.std.specs.List.{AllByRecursion}
 use Rattle.std.proofs.lemmas.Bool.{le-leb, cases_lt}
@@ -7,13 +8,17 @@ use Rattle.std.proofs.lemmas.List.{get_or_append_left, get_or_past, append-nil}
 use Rattle.std.proofs.Math.Seq.{get_or-append_seam}
 use Rattle.std.proofs.lemmas.List.Sums.{sum_by-cons}
 use Rattle.alma_base.specs.declared.fault.RunFault.TheVariants as fault
-use Rattle.alma_ir.specs.Tree.{Stmts, Program, Routine, Global, routine_at, no_routine, no_stmts, more_stmts, TestStmt, Assign, CopyCells, If, While, Repeat, ForTo, SomeOf, Case, Either, Forall, Commit, Return, Read, WriteExpr, WriteText, WriteLine, Value, Bind, Unify, SameCells, Seq, And, Or, Not, CallTest, Const, Load, Chain, Compare, Truth, Known, Chr, CallExpr, no_args}
+use Rattle.alma_ir.specs.Tree.{Stmts, Program, Routine, Global, routine_at, no_routine, no_stmts, more_stmts, TestStmt, Assign, CopyCells}
+use Rattle.alma_ir.specs.Tree.{If, While, Repeat, ForTo, SomeOf, Case, Either, Forall, Commit, Return, Read, WriteExpr, WriteText}
+use Rattle.alma_ir.specs.Tree.{WriteLine, Value, Bind, Unify, SameCells, Seq, And, Or, Not, CallTest, Const, Load, Chain, Compare, Truth}
+use Rattle.alma_ir.specs.Tree.{Known, Chr, CallExpr, no_args}
 use Rattle.alma_ir.specs.Count.{stmts_nodes, routine_nodes, routines_nodes}
 use Rattle.alma_ir.specs.Lines.{stmt_count, body_with_lines, stmts_with}
 use Rattle.alma_ir.specs.Phrases.{Phrase, StmtPhrase, TestPhrase, ExprPhrase, ArgPhrase, DesigPhrase, SelPhrase, stmts_phrases}
 use Rattle.alma_ir.specs.Checked.{IsChecked, IsNoReturn, HaveNoReturn, CalleeExists}
 use Rattle.alma_mean.specs.Store.{Store, Frame, Unknown}
-use Rattle.alma_mean.specs.Events.{Events, NoYield, Visit, Print, Alt, Flow, Go, Fail, Fault, Cut, Failed, join, bind, node, visit_each, at_line, visit_count, prints}
+use Rattle.alma_mean.specs.Events.{Events, NoYield, Visit, Print, Alt, Flow, Go, Fail, Fault, Cut, Failed, join, bind, node, visit_each}
+use Rattle.alma_mean.specs.Events.{at_line, visit_count, prints}
 use Rattle.alma_mean.specs.Events as events
 use Rattle.alma_mean.specs.Arithmetic.{fault_unless}
 use Rattle.alma_mean.specs.Rows.{enter, frame_of, declared_cells}
@@ -26,7 +31,9 @@ use Rattle.alma_listing.specs.Lister.{lister, list_and_fail, write_cells, write_
 use Rattle.alma_listing.specs.Listing.{line_of_store, listed, closes, alternatives, global_cells, ListsAt, Lists, CostsFew, EachIsListed}
 use Rattle.alma_listing.proofs.AlikeLists.{under}
 use Rattle.alma_listing.proofs.Alike.{mean_the_same}
-use Rattle.alma_listing.proofs.Closes.{Closes, c_visit, c_fail, c_end, c_more, c_weaker, c_visited, lists, no_alternative, prints_front, prints_whole, visits_few, never_cut, cut_alike, node_listed, node_closes, node_alternatives, node_visits}
+use Rattle.alma_listing.proofs.Closes.{Closes, c_visit, c_fail, c_end, c_more, c_weaker, c_visited, lists, no_alternative, prints_front}
+use Rattle.alma_listing.proofs.Closes.{prints_whole, visits_few, never_cut, cut_alike, node_listed, node_closes, node_alternatives}
+use Rattle.alma_listing.proofs.Closes.{node_visits}
 use Rattle.alma_listing.proofs.Writes.{Writes, w_cut, w_more, w_alone, w_noded, w_lined, w_left, w_closed}
 use Rattle.alma_listing.proofs.Cells.{own}
 use Rattle.alma_listing.proofs.Line.{Own, own_is, Stays, globals_visits, cells_sum, line_written}

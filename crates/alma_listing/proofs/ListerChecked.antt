@@ -1,5 +1,6 @@
 -- The program that lists a checked program is a checked one.
-use Rattle.std.proofs.Common.{◌≡◌, inl, inr, ℕ, zero, suc, ◌+◌, ◌*◌, ◌<◌, ◌≤◌, List, [], ◌∷◌, ◌++◌, length, refl, sym, ap, ◌∙◌, subst, arith}
+use Rattle.std.proofs.Common.{◌≡◌, inl, inr, ℕ, zero, suc, ◌+◌, ◌*◌, ◌<◌, ◌≤◌, List, [], ◌∷◌, ◌++◌, length, refl, sym, ap, ◌∙◌, subst}
+use Rattle.std.proofs.Common.{arith}
 use Rattle.std.specs.Prelude.{pos, ◌≤ℤ◌, IsNone, IsSome, sum_by, codes, replicate}
 use Rattle.std.specs.List.{AllByRecursion}
 use Rattle.std.specs.Prelude.{nat_abs, MatchOption}
@@ -10,16 +11,23 @@ use Rattle.std.proofs.lemmas.List.{get_or_append_left, length-append, length-rep
 use Rattle.std.proofs.Math.Seq.{get_or-append_seam}
 use Rattle.std.proofs.lemmas.List.Sums.{sum_by-cons}
 use Rattle.alma_ir.specs.declared.phrase.Root.TheVariants as root
-use Rattle.alma_ir.specs.Tree.{Stmts, Loop, Program, Routine, Global, routine_at, no_routine, no_stmts, more_stmts, WriteText, a_loop, Value, Bind, Unify, SameCells, Seq, And, Or, Not, CallTest, Const, Load, Chain, Compare, Truth, Known, Chr, CallExpr, no_args, a_desig}
+use Rattle.alma_ir.specs.Tree.{Stmts, Loop, Program, Routine, Global, routine_at, no_routine, no_stmts, more_stmts, WriteText, a_loop}
+use Rattle.alma_ir.specs.Tree.{Value, Bind, Unify, SameCells, Seq, And, Or, Not, CallTest, Const, Load, Chain, Compare, Truth, Known, Chr}
+use Rattle.alma_ir.specs.Tree.{CallExpr, no_args, a_desig}
 use Rattle.alma_ir.specs.Phrases.{Phrase, StmtPhrase, TestPhrase, ExprPhrase, ArgPhrase, DesigPhrase, SelPhrase, stmts_phrases}
 use Rattle.alma_ir.specs.Lines.{stmt_count}
-use Rattle.alma_ir.specs.Checked.{IsChecked, EachRoutine, EachPhrase, AreNumbers, IsOutside, HoldsPlace, HoldPlace, outer_at, RootExists, RootLeaves, IsHiddenSlot, LoopIsApart, loops_of, IsGlobal, param_slots, CalleeExists, ResultAgrees, CallLeads, CallFits, ArgsFit, LinksAgree, PartsExist, CellsAgree, RangesOrdered, HasStep, HasChoice, ReturnAgrees, ReturnsStay, ParamsFirst, DeclaredFits, IsNested, HeadRangesOrdered, RoutineKeepsLimits, HasLines, NamesSpelled, KeepsLimits, IsName, link_slots, text_bytes}
+use Rattle.alma_ir.specs.Checked.{IsChecked, EachRoutine, EachPhrase, AreNumbers, IsOutside, HoldsPlace, HoldPlace, outer_at, RootExists}
+use Rattle.alma_ir.specs.Checked.{RootLeaves, IsHiddenSlot, LoopIsApart, loops_of, IsGlobal, param_slots, CalleeExists, ResultAgrees}
+use Rattle.alma_ir.specs.Checked.{CallLeads, CallFits, ArgsFit, LinksAgree, PartsExist, CellsAgree, RangesOrdered, HasStep, HasChoice}
+use Rattle.alma_ir.specs.Checked.{ReturnAgrees, ReturnsStay, ParamsFirst, DeclaredFits, IsNested, HeadRangesOrdered, RoutineKeepsLimits}
+use Rattle.alma_ir.specs.Checked.{HasLines, NamesSpelled, KeepsLimits, IsName, link_slots, text_bytes}
 use Rattle.alma_ir.proofs.LinesBack.{count_sum}
 use Rattle.alma_ir.proofs.Each.{each_of_append, each_of_both, each_follows}
 use Rattle.alma_resolved.specs.Room.{HasRoom}
 use Rattle.alma_listing.specs.Listing.{ListerIsChecked}
 use Rattle.alma_rules.specs.Parts.{append_stmts}
-use Rattle.alma_listing.specs.Lister.{lister, list_and_fail, listing_body, listing_of, write_cells, write_globals, write_line, globals_stmts, cells_loop, cell_range}
+use Rattle.alma_listing.specs.Lister.{lister, list_and_fail, listing_body, listing_of, write_cells, write_globals, write_line}
+use Rattle.alma_listing.specs.Lister.{globals_stmts, cells_loop, cell_range}
 use Rattle.alma_listing.proofs.LineEach.{append_phrases, line_each, line_count}
 
 -- routines with the same slots and parameters have the same number slots

@@ -10,7 +10,8 @@ use Rattle.alma_ir.specs.declared.phrase.Desig as D
 use Rattle.alma_ir.specs.declared.phrase.Arm.{Arm}
 use Rattle.alma_ir.specs.declared.phrase.Root.TheVariants as root
 use Rattle.alma_ir.specs.declared.program.Param.{Param}
-use Rattle.alma_ir.specs.Tree.{Stmts, Stmt, Expr, Global, no_stmts, more_stmts, If, more_arms, no_arms, a_loop, Value, Const, Load, a_desig, no_sels, more_sels, Index}
+use Rattle.alma_ir.specs.Tree.{Stmts, Stmt, Expr, Global, no_stmts, more_stmts, If, more_arms, no_arms, a_loop, Value, Const, Load, a_desig}
+use Rattle.alma_ir.specs.Tree.{no_sels, more_sels, Index}
 use Rattle.alma_ir.specs.View.{stmts_list, stmt_of, arms_list, expr_of, sels_list, desig_of}
 use Rattle.alma_ir.specs.Lines.{stmt_count}
 use Rattle.alma_ir.specs.Phrases.{stmts_phrases}

@@ -2,7 +2,8 @@
 -- together.
 use Rattle.std.proofs.Common.{◌≡◌, ℕ, zero, suc, ◌+◌, ◌≤◌, List, [], ◌++◌, sym, subst, append_assoc, arith}
 use Rattle.alma_mean.specs.Store.{Store, without_top}
-use Rattle.alma_mean.specs.Events.{Events, NoYield, Visit, Print, Alt, Flow, Go, Return, Fail, Cut, Failed, join, bind, visit_each, at_line, node, on_first}
+use Rattle.alma_mean.specs.Events.{Events, NoYield, Visit, Print, Alt, Flow, Go, Return, Fail, Cut, Failed, join, bind, visit_each, at_line}
+use Rattle.alma_mean.specs.Events.{node, on_first}
 use Rattle.alma_mean.specs.Rows.{as_test}
 use Rattle.alma_listing.proofs.Closes.{Closes, c_visit, c_print, c_fail, c_cut, c_more}
 

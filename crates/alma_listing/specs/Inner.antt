@@ -1,6 +1,8 @@
 -- What the private functions of this crate promise. No reader of the contracts needs it.
 use Rattle.std.specs.Prelude.{ℕ, zero, suc, ◌++◌, List, [], Bool, true, false, ◌||◌, codes}
-use Rattle.alma_ir.specs.Tree.{Global, Stmts, Stmt, Arms, CaseArms, Else, Branches, Loop, no_stmts, more_stmts, TestStmt, Assign, CopyCells, If, While, Repeat, ForTo, SomeOf, Case, Either, Forall, Commit, Return, Read, WriteExpr, WriteText, WriteLine, no_arms, more_arms, no_cases, more_cases, no_else, else_part, no_branches, more_branches, a_loop}
+use Rattle.alma_ir.specs.Tree.{Global, Stmts, Stmt, Arms, CaseArms, Else, Branches, Loop, no_stmts, more_stmts, TestStmt, Assign, CopyCells}
+use Rattle.alma_ir.specs.Tree.{If, While, Repeat, ForTo, SomeOf, Case, Either, Forall, Commit, Return, Read, WriteExpr, WriteText}
+use Rattle.alma_ir.specs.Tree.{WriteLine, no_arms, more_arms, no_cases, more_cases, no_else, else_part, no_branches, more_branches, a_loop}
 use Rattle.alma_listing.specs.Lister.{write_cells}
 
 -- what stands before a global, given how many are before it

@@ -4,7 +4,9 @@ use Rattle.std.specs.Prelude.{ℕ, zero, suc, ◌+◌, pos, List, [], ◌∷◌,
 use Rattle.alma_base.specs.declared.number.Range.{Range}
 use Rattle.alma_ir.specs.declared.phrase.Root.TheVariants as root
 use Rattle.alma_ir.specs.declared.phrase.WriteAs.TheVariants as write_as
-use Rattle.alma_ir.specs.Tree.{Stmts, Stmt, Expr, Desig, Loop, Routine, Global, Program, no_stmts, more_stmts, TestStmt, If, ForTo, WriteExpr, WriteText, no_arms, more_arms, a_loop, Value, CallTest, Const, Load, Known, no_args, a_desig, no_sels, more_sels, Index}
+use Rattle.alma_ir.specs.Tree.{Stmts, Stmt, Expr, Desig, Loop, Routine, Global, Program, no_stmts, more_stmts, TestStmt, If, ForTo}
+use Rattle.alma_ir.specs.Tree.{WriteExpr, WriteText, no_arms, more_arms, a_loop, Value, CallTest, Const, Load, Known, no_args, a_desig}
+use Rattle.alma_ir.specs.Tree.{no_sels, more_sels, Index}
 use Rattle.alma_rules.specs.Parts.{append_stmts}
 
 -- ---- the procedure that writes the line. Its slots are the number of a cell, its count and the

@@ -6,7 +6,8 @@ use Rattle.alma_ir.specs.Tree.{Program, Global, routine_at}
 use Rattle.alma_ir.specs.Count.{nodes}
 use Rattle.alma_ir.specs.Checked.{IsChecked, HaveNoReturn}
 use Rattle.alma_mean.specs.Store.{Store, Cell, Unknown, Number, At, cell_at}
-use Rattle.alma_mean.specs.Events.{Events, NoYield, Visit, Print, Alt, Go, Return, Fail, Fault, Cut, End, Failed, Faulted, CutOff, first, end_of, prints, visit_count}
+use Rattle.alma_mean.specs.Events.{Events, NoYield, Visit, Print, Alt, Go, Return, Fail, Fault, Cut, End, Failed, Faulted, CutOff, first}
+use Rattle.alma_mean.specs.Events.{end_of, prints, visit_count}
 use Rattle.alma_mean.specs.Laws.{IsPrefix, ends_in_cut}
 use Rattle.alma_mean.specs.Meaning.{ev_program, result}
 use Rattle.alma_resolved.specs.Room.{HasRoom}

@@ -24,9 +24,11 @@ use Rattle.alma_lower_implements.proofs.Steps.{passed, Holds, Faults, faults_now
 module _ (code : PlainCode) (input : List ℕ) where
   -- the instruction at an address begins by reading a number slot
   abbrev pub ReadsFirst : (at slot : ℕ) → List PlainFrame → Type 0
-  ReadsFirst at slot now = (held : List PlainEntry) (s : State) → IsAt at now held s → (k : ℤ → Stepped) × (step code input s ≡ number (passed code input s) slot k)
+  ReadsFirst at slot now = (held : List PlainEntry) (s : State) → IsAt at now held s → (k : ℤ → Stepped)
+      × (step code input s ≡ number (passed code input s) slot k)
 
-  pub reads_unknown : (line at slot : ℕ) (now : List PlainFrame) (held : List PlainEntry) (s : State) → ReadsFirst at slot now → IsAt at now held s → line_at code at ≡ line → Holds now slot cell.Unknown → Faults code input line s fault.Unknown
+  pub reads_unknown : (line at slot : ℕ) (now : List PlainFrame) (held : List PlainEntry) (s : State) → ReadsFirst at slot now
+      → IsAt at now held s → line_at code at ≡ line → Holds now slot cell.Unknown → Faults code input line s fault.Unknown
   reads_unknown line at slot now held s reads is here there =
       let r = reads held s is in
       faults_now code input line s fault.Unknown (ap (line_at code) is.here ∙ here)
@@ -38,25 +40,35 @@ module _ (code : PlainCode) (input : List ℕ) where
     both_unknown : SameNumber store.Unknown cell.Unknown
 
   module _ (p : Program) (below : Level) (from cells : ℕ) (v : Store) where
-    pub bare_is : ev_expr p input below (Load (a_desig (root.Local from) cells no_sels)) v ≡ Visit (Visit (Visit (visit_each (join (read_cell (top_cell v from) (λ n. one v n)) Fail))))
+    pub bare_is : ev_expr p input below (Load (a_desig (root.Local from) cells no_sels)) v ≡ Visit
+        (Visit (Visit (visit_each (join (read_cell (top_cell v from) (λ n. one v n)) Fail))))
     unfolding ev_expr
     bare_is = refl
 
     -- in place of `bind_goes` over the code of an expression
-    pub bare_row : {B : Type 0} (line left2 more2 : ℕ) (fits2 : Store → Flow B → State → Type 0) (at slot : ℕ) (now : List PlainFrame) (held : List PlainEntry) (k : Store → ℤ → Events B) (c : Cell) (s : State) (r q : ℕ)
+    pub bare_row : {B : Type 0} (line left2 more2 : ℕ) (fits2 : Store → Flow B → State → Type 0) (at slot : ℕ) (now : List PlainFrame)
+        (held : List PlainEntry) (k : Store → ℤ → Events B) (c : Cell) (s : State) (r q : ℕ)
         → IsAt at now held s → Holds now slot c → SameNumber (top_cell v from) c → ReadsFirst at slot now → line_at code at ≡ line
         → ((n : ℤ) → is_integer n ≡ true → Holds now slot (cell.Int n) → Goes code input line left2 more2 fits2 held (k v n) s 8 q)
-        → Goes code input line left2 more2 fits2 held (bind (ev_expr p input below (Load (a_desig (root.Local from) cells no_sels)) v) k) s r q
+        → Goes code input line left2 more2 fits2 held (bind (ev_expr p input below (Load (a_desig (root.Local from) cells no_sels)) v) k) s
+        r q
     bare_row line left2 more2 fits2 at slot now held k c s r q is there same reads here goes =
         subst (λ e. Goes code input line left2 more2 fits2 held (bind e k) s r q) (sym bare_is) (by (top_cell v from) c same there)
       where
         by : (x : store.Cell) (d : Cell) → SameNumber x d → Holds now slot d
-            → Goes code input line left2 more2 fits2 held (bind (Visit (Visit (Visit (visit_each (join (read_cell x (λ n. one v n)) Fail))))) k) s r q
+            → Goes code input line left2 more2 fits2 held
+            (bind (Visit (Visit (Visit (visit_each (join (read_cell x (λ n. one v n)) Fail))))) k) s r q
         by x d (both_known n fits) hold =
             join_goes code input line left2 more2 fits2 held [] (k v n) Fail s (r + 32 + 32 + 32 + 32) q
             (weaker code input line left2 more2 fits2 (held ++ []) (k v n) s (r + 32 + 32 + 32 + 32) 8 q q (omega arith) (omega arith)
             (subst (λ h. Goes code input line left2 more2 fits2 h (k v n) s 8 q) (sym (append-nil held)) (goes n fits hold)))
-            (λ base2 x like failing. (0, x, omega arith, no_step code input x, record { mode = failing.mode; entries = failing.entries ∙ append-nil base2 }))
+            (λ base2 x like failing. (
+              0,
+              x,
+              omega arith,
+              no_step code input x,
+              record { mode = failing.mode; entries = failing.entries ∙ append-nil base2 },
+            ))
         by x d both_unknown hold =
             let z = reads_unknown line at slot now held s reads is here hold in
             (1, z.to, omega arith, z.silently, z.is, z.on_line)

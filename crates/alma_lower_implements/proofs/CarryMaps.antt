@@ -18,7 +18,8 @@ if_not true f g e = absurd (cc)
 if_not false f g e = refl
 
 -- what holds of both choices holds of the one that is taken
-pub if_keeps : {A : Type 0} (P : A → Type 0) (b : Bool) (f g : Unit {0} → A) → (b ≡ true → P (f tt)) → (b ≡ false → P (g tt)) → P (if_true b f g)
+pub if_keeps : {A : Type 0} (P : A → Type 0) (b : Bool) (f g : Unit {0} → A) → (b ≡ true → P (f tt)) → (b ≡ false → P (g tt))
+    → P (if_true b f g)
 if_keeps P true f g p q = p refl
 if_keeps P false f g p q = q refl
 
@@ -66,7 +67,8 @@ module _ {C : Type 0} where
   -- ---- a change
 
   -- a carry has for the place of a change its cell, and for others what it had
-  pub carried_with : (f s : ℕ) (x : Change C) (cs : Carry C) → carried_at f s (with_change x cs) ≡ if_true (is_same_place x.frame x.slot f s) (λ _. Some x.cell) (λ _. carried_at f s cs)
+  pub carried_with : (f s : ℕ) (x : Change C) (cs : Carry C)
+      → carried_at f s (with_change x cs) ≡ if_true (is_same_place x.frame x.slot f s) (λ _. Some x.cell) (λ _. carried_at f s cs)
   carried_with f s x [] = refl
   carried_with f s x (y ∷ cs) =
       let b = is_before x.frame x.slot y.frame y.slot in
@@ -79,7 +81,8 @@ module _ {C : Type 0} where
       ∙ (ap (λ z. if_true b (λ _. if_true t (λ _. Some x.cell) (λ _. if_true u (λ _. Some y.cell) (λ _. carried_at f s cs))) (λ _. z)) deep
       ∙ (ap (λ z. if_true b (λ _. if_true t (λ _. Some x.cell) (λ _. if_true u (λ _. Some y.cell) (λ _. carried_at f s cs)))
       (λ _. if_true q (λ _. if_true t (λ _. Some x.cell) (λ _. carried_at f s cs)) (λ _. if_true u (λ _. Some y.cell) (λ _. z)))) ih
-      ∙ pick b q t u (Some x.cell) (Some y.cell) (carried_at f s cs) (same_trans x.frame x.slot y.frame y.slot f s) (apart_trans x.frame x.slot y.frame y.slot f s)))
+      ∙ pick b q t u (Some x.cell) (Some y.cell) (carried_at f s cs) (same_trans x.frame x.slot y.frame y.slot f s)
+      (apart_trans x.frame x.slot y.frame y.slot f s)))
 
   -- ---- places that rise
 
@@ -96,16 +99,20 @@ module _ {C : Type 0} where
   above_trans a b c d [] e h = tt
   above_trans a b c d (x ∷ cs) e h = (before_trans a b c d x.frame x.slot e h.0, above_trans a b c d cs e h.1)
 
-  above_with : (f s : ℕ) (x : Change C) (cs : Carry C) → IsAbove f s cs → is_before f s x.frame x.slot ≡ true → IsAbove f s (with_change x cs)
+  above_with : (f s : ℕ) (x : Change C) (cs : Carry C) → IsAbove f s cs → is_before f s x.frame x.slot ≡ true
+      → IsAbove f s (with_change x cs)
   above_with f s x [] h e = (e, tt)
   above_with f s x (y ∷ cs) h e =
-      if_keeps (IsAbove f s) (is_before x.frame x.slot y.frame y.slot) (λ _. x ∷ y ∷ cs) (λ _. if_true (is_same_place x.frame x.slot y.frame y.slot) (λ _. x ∷ cs) (λ _. y ∷ with_change x cs)) (λ _. (e, h))
-      (λ _. if_keeps (IsAbove f s) (is_same_place x.frame x.slot y.frame y.slot) (λ _. x ∷ cs) (λ _. y ∷ with_change x cs) (λ _. (e, h.1)) (λ _. (h.0, above_with f s x cs h.1 e)))
+      if_keeps (IsAbove f s) (is_before x.frame x.slot y.frame y.slot) (λ _. x ∷ y ∷ cs)
+      (λ _. if_true (is_same_place x.frame x.slot y.frame y.slot) (λ _. x ∷ cs) (λ _. y ∷ with_change x cs)) (λ _. (e, h))
+      (λ _. if_keeps (IsAbove f s) (is_same_place x.frame x.slot y.frame y.slot) (λ _. x ∷ cs) (λ _. y ∷ with_change x cs) (λ _. (e, h.1))
+      (λ _. (h.0, above_with f s x cs h.1 e)))
 
   rising_with : (x : Change C) (cs : Carry C) → IsRising cs → IsRising (with_change x cs)
   rising_with x [] r = (tt, tt)
   rising_with x (y ∷ cs) r =
-      if_keeps IsRising (is_before x.frame x.slot y.frame y.slot) (λ _. x ∷ y ∷ cs) (λ _. if_true (is_same_place x.frame x.slot y.frame y.slot) (λ _. x ∷ cs) (λ _. y ∷ with_change x cs))
+      if_keeps IsRising (is_before x.frame x.slot y.frame y.slot) (λ _. x ∷ y ∷ cs)
+      (λ _. if_true (is_same_place x.frame x.slot y.frame y.slot) (λ _. x ∷ cs) (λ _. y ∷ with_change x cs))
       (λ b. ((b, above_trans x.frame x.slot y.frame y.slot cs b r.0), r))
       (λ nb. if_keeps IsRising (is_same_place x.frame x.slot y.frame y.slot) (λ _. x ∷ cs) (λ _. y ∷ with_change x cs)
       (λ s. let one = same_place_is x.frame x.slot y.frame y.slot s in (rw (one.0, one.1) r.0, r.1))
@@ -118,7 +125,8 @@ module _ {C : Type 0} where
   -- the first place of a carry that rises has no second cell
   pub absent_below : (f s : ℕ) (cs : Carry C) → IsAbove f s cs → carried_at f s cs ≡ None
   absent_below f s [] h = refl
-  absent_below f s (x ∷ cs) h = if_not (is_same_place x.frame x.slot f s) (λ _. Some x.cell) (λ _. carried_at f s cs) (before_not_same f s x.frame x.slot h.0) ∙ absent_below f s cs h.1
+  absent_below f s (x ∷ cs) h = if_not (is_same_place x.frame x.slot f s) (λ _. Some x.cell) (λ _. carried_at f s cs)
+      (before_not_same f s x.frame x.slot h.0) ∙ absent_below f s cs h.1
 
   -- ---- many changes, of which those at one place have one cell
 
@@ -130,12 +138,16 @@ module _ {C : Type 0} where
   Only f s c [] = Unit {0}
   Only f s c (x ∷ xs) = (is_same_place x.frame x.slot f s ≡ true → x.cell ≡ c) × Only f s c xs
 
-  pub carried_all : (f s : ℕ) (c : C) (xs : List (Change C)) (cs : Carry C) → Only f s c xs → carried_at f s (with_changes xs cs) ≡ if_true (has_place f s xs) (λ _. Some c) (λ _. carried_at f s cs)
+  pub carried_all : (f s : ℕ) (c : C) (xs : List (Change C)) (cs : Carry C) → Only f s c xs
+      → carried_at f s (with_changes xs cs) ≡ if_true (has_place f s xs) (λ _. Some c) (λ _. carried_at f s cs)
   carried_all f s c [] cs h = refl
   carried_all f s c (x ∷ xs) cs h =
-      carried_all f s c xs (with_change x cs) h.1 ∙ ap (λ o. if_true (has_place f s xs) (λ _. Some c) (λ _. o)) (carried_with f s x cs) ∙ by (is_same_place x.frame x.slot f s) (has_place f s xs) h.0
+      carried_all f s c xs (with_change x cs) h.1 ∙ ap (λ o. if_true (has_place f s xs) (λ _. Some c) (λ _. o)) (carried_with f s x cs)
+      ∙ by (is_same_place x.frame x.slot f s) (has_place f s xs) h.0
     where
-      by : (b d : Bool) → (b ≡ true → x.cell ≡ c) → if_true d (λ _. Some c) (λ _. if_true b (λ _. Some x.cell) (λ _. carried_at f s cs)) ≡ if_true (b || d) (λ _. Some c) (λ _. carried_at f s cs)
+      by : (b d : Bool) → (b ≡ true → x.cell ≡ c)
+          → if_true d (λ _. Some c) (λ _. if_true b (λ _. Some x.cell) (λ _. carried_at f s cs)) ≡ if_true (b || d) (λ _. Some c)
+          (λ _. carried_at f s cs)
       by true true e = refl
       by true false e = ap Some (e refl)
       by false true e = refl
@@ -145,7 +157,8 @@ module _ {C : Type 0} where
 
   pub has_both : (f s : ℕ) (xs ys : List (Change C)) → has_place f s (xs ++ ys) ≡ has_place f s xs || has_place f s ys
   has_both f s [] ys = refl
-  has_both f s (x ∷ xs) ys = ap (λ b. is_same_place x.frame x.slot f s || b) (has_both f s xs ys) ∙ assoc (is_same_place x.frame x.slot f s) (has_place f s xs) (has_place f s ys)
+  has_both f s (x ∷ xs) ys = ap (λ b. is_same_place x.frame x.slot f s || b) (has_both f s xs ys)
+      ∙ assoc (is_same_place x.frame x.slot f s) (has_place f s xs) (has_place f s ys)
     where
       assoc : (a b c : Bool) → a || (b || c) ≡ (a || b) || c
       assoc true b c = refl

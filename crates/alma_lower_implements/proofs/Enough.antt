@@ -9,7 +9,8 @@ use Rattle.alma_mean.specs.Events.{Events, NoYield, first, end_of, visit_count, 
 use Rattle.alma_mean.specs.Meaning.{ev_program}
 use Rattle.alma_mean.specs.Laws.{Extends, on_visit, on_print, on_alt, at_fail, at_fault, at_cut}
 use Rattle.alma_mean.proofs.Results.{further}
-use Rattle.alma_lower_implements.specs.Implements.{HasPrefix, nothing, a_visit, a_print, ComesTo, Implements, HasEnded, IsEnough, line_in, state_after, printed_by}
+use Rattle.alma_lower_implements.specs.Implements.{HasPrefix, nothing, a_visit, a_print, ComesTo, Implements, HasEnded, IsEnough, line_in}
+use Rattle.alma_lower_implements.specs.Implements.{state_after, printed_by}
 
 -- a front has at most as many visits as the whole
 front_within : {A : Type 0} {e : Events A} {printed : List ℕ} {visits : ℕ} → HasPrefix e printed visits → visits ≤ visit_count e
@@ -43,10 +44,12 @@ no_more_visits p input n m uncut = by (cases_lt m n)
     by : (m < n) ⊎ (n ≤ m) → visit_count (first (ev_program m p input)) ≤ visit_count (first (ev_program n p input))
     by (inl below) =
         let sum : (n - m) + m ≡ n = omega arith in
-        subst (λ k. visit_count (first (ev_program m p input)) ≤ visit_count (first (ev_program k p input))) sum (visits_grow (further p input m (n - m)))
+        subst (λ k. visit_count (first (ev_program m p input)) ≤ visit_count (first (ev_program k p input))) sum
+        (visits_grow (further p input m (n - m)))
     by (inr above) =
         let sum : (m - n) + n ≡ m = omega arith in
-        let same : visit_count (first (ev_program ((m - n) + n) p input)) ≡ visit_count (first (ev_program n p input)) = visits_stay (further p input n (m - n)) uncut in
+        let same : visit_count (first (ev_program ((m - n) + n) p input)) ≡ visit_count (first (ev_program n p input)) =
+        visits_stay (further p input n (m - n)) uncut in
         subst (λ k. visit_count (first (ev_program k p input)) ≤ visit_count (first (ev_program n p input))) sum (omega (arith, same))
 
 -- a machine that did not end would have covered too many visits
@@ -63,4 +66,5 @@ is_enough code p implements input lawful n uncut =
     let steps = 32 * (most + 1) in
     let quotient : steps / 32 ≡ most + 1 = mul-div_cancel_left (most + 1) (omega arith) in
     must_end p input most steps (omega (arith, quotient)) (no_more_visits p input n (suc steps) uncut)
-    (state_after code input steps).mode (line_in code (state_after code input steps)) (printed_by code input steps) (implements input lawful steps)
+    (state_after code input steps).mode (line_in code (state_after code input steps)) (printed_by code input steps)
+    (implements input lawful steps)

@@ -1,5 +1,6 @@
 -- The rows of expressions and designators: each is what its code does, given what its parts do.
-use Rattle.std.proofs.Common.{◌≡◌, ℕ, suc, ◌+◌, ◌<◌, ◌≤◌, true, List, ◌∷◌, ◌++◌, length, Some, refl, sym, ap, ◌∙◌, subst, arith, ℤ, length-append}
+use Rattle.std.proofs.Common.{◌≡◌, ℕ, suc, ◌+◌, ◌<◌, ◌≤◌, true, List, ◌∷◌, ◌++◌, length, Some, refl, sym, ap, ◌∙◌, subst, arith, ℤ}
+use Rattle.std.proofs.Common.{length-append}
 use Rattle.std.specs.Prelude.{slice_get}
 use Rattle.std.proofs.lemmas.List.{get_or_append_left, get_or-append-add}
 use Rattle.std.proofs.lemmas.Option.{slice_get-get_or, slice_get_within, get_or_from_slice_get}
@@ -47,7 +48,8 @@ module _ (p : Program) (code : PlainCode) (input : List ℕ) where
 
   -- the place of one cell in its slot
   abbrev pub LeavesPlace : (exit lo r : ℕ) → Begun → Store → Flow Place → State → Type 0
-  LeavesPlace exit lo r b v (Go q) t = Left exit lo r b.frames v t × AreNumbers p code v t.now q × (0 < q.size) × ((c : CellPlace) × SamePlace p v q c × Holds t.now lo (cell.Place c)) × Stays b v t
+  LeavesPlace exit lo r b v (Go q) t = Left exit lo r b.frames v t × AreNumbers p code v t.now q × (0 < q.size)
+      × ((c : CellPlace) × SamePlace p v q c × Holds t.now lo (cell.Place c)) × Stays b v t
   LeavesPlace exit lo r b v (Return n) t = ⊥
 
   abbrev pub begun : Store → List PlainFrame → List PlainEntry → Begun
@@ -56,7 +58,8 @@ module _ (p : Program) (code : PlainCode) (input : List ℕ) where
   -- ---- slots
 
   -- the first slot of a phrase is of the first kind
-  pub first_kind : (r lo : ℕ) (k : SlotKind) (rest : List SlotKind) → HasSlots p code r lo (k ∷ rest) → slice_get (kinds_at code r) lo ≡ Some k
+  pub first_kind : (r lo : ℕ) (k : SlotKind) (rest : List SlotKind) → HasSlots p code r lo (k ∷ rest)
+      → slice_get (kinds_at code r) lo ≡ Some k
   first_kind r lo k rest h =
       let at : lo + 0 ≡ lo = omega arith in
       subst (λ n. slice_get (kinds_at code r) n ≡ Some k) at (h.each 0 (omega arith))
@@ -70,7 +73,8 @@ module _ (p : Program) (code : PlainCode) (input : List ℕ) where
     where
       in_first : (i : ℕ) → i < length a → slice_get (a ++ b) i ≡ slice_get a i
       in_first i lt =
-          slice_get-get_or (a ++ b) i slot.Mark (omega (arith, lt, length-append a b)) ∙ ap Some (get_or_append_left a b slot.Mark i lt) ∙ sym (slice_get-get_or a i slot.Mark lt)
+          slice_get-get_or (a ++ b) i slot.Mark (omega (arith, lt, length-append a b)) ∙ ap Some (get_or_append_left a b slot.Mark i lt)
+          ∙ sym (slice_get-get_or a i slot.Mark lt)
 
   pub slots_behind : (r lo : ℕ) (a b : List SlotKind) → HasSlots p code r lo (a ++ b) → HasSlots p code r (lo + length a) b
   slots_behind r lo a b h = record {
@@ -83,7 +87,8 @@ module _ (p : Program) (code : PlainCode) (input : List ℕ) where
 
       in_second : (i : ℕ) → i < length b → slice_get (a ++ b) (length a + i) ≡ slice_get b i
       in_second i lt =
-          slice_get-get_or (a ++ b) (length a + i) slot.Mark (omega (arith, lt, length-append a b)) ∙ ap Some (get_or-append-add a b i slot.Mark) ∙ sym (slice_get-get_or b i slot.Mark lt)
+          slice_get-get_or (a ++ b) (length a + i) slot.Mark (omega (arith, lt, length-append a b))
+          ∙ ap Some (get_or-append-add a b i slot.Mark) ∙ sym (slice_get-get_or b i slot.Mark lt)
 
   module _ (v : Store) (now : List PlainFrame) (r : ℕ) (stand : StandFor p code v now) (routine : (top_frame v).routine ≡ r) where
     -- the kinds of the top frame are those of its routine
@@ -119,15 +124,19 @@ module _ (p : Program) (code : PlainCode) (input : List ℕ) where
 
   -- ---- what a part has left is where the next part begins
 
-  pub left_is_at : (exit lo r : ℕ) (before : List PlainFrame) (v : Store) (t : State) (held : List PlainEntry) → IsGoing held t → Left exit lo r before v t → IsAt exit t.now held t
+  pub left_is_at : (exit lo r : ℕ) (before : List PlainFrame) (v : Store) (t : State) (held : List PlainEntry) → IsGoing held t
+      → Left exit lo r before v t → IsAt exit t.now held t
   left_is_at exit lo r before v t held going left = record { mode = going.mode; here = left.here; frames = refl; entries = going.entries }
 
   -- one phrase after another, in words of where they leave off
-  pub left_on : (exit exit' lo lo' r : ℕ) (before : List PlainFrame) (v v' : Store) (t t' : State) → lo ≤ lo' → Left exit lo r before v t → Left exit' lo' r t.now v' t' → Left exit' lo r before v' t'
-  left_on exit exit' lo lo' r before v v' t t' le a b = record { here = b.here; fits = fits_on p code lo lo' v v' before t.now t'.now le a.fits b.fits; routine = b.routine }
+  pub left_on : (exit exit' lo lo' r : ℕ) (before : List PlainFrame) (v v' : Store) (t t' : State) → lo ≤ lo' → Left exit lo r before v t
+      → Left exit' lo' r t.now v' t' → Left exit' lo r before v' t'
+  left_on exit exit' lo lo' r before v v' t t' le a b =
+      record { here = b.here; fits = fits_on p code lo lo' v v' before t.now t'.now le a.fits b.fits; routine = b.routine }
 
   -- a slot of the phrases before keeps what it holds
-  pub kept_slot : (exit lo r n : ℕ) (c : Cell) (v v' : Store) (now : List PlainFrame) (t : State) → StandFor p code v now → (top_frame v).routine ≡ r → own_end p r ≤ n → n < lo → Left exit lo r now v' t → Holds now n c → Holds t.now n c
+  pub kept_slot : (exit lo r n : ℕ) (c : Cell) (v v' : Store) (now : List PlainFrame) (t : State) → StandFor p code v now
+      → (top_frame v).routine ≡ r → own_end p r ≤ n → n < lo → Left exit lo r now v' t → Holds now n c → Holds t.now n c
   kept_slot exit lo r n c v v' now t stand routine behind lt left h =
       let same = top_same p code v now stand in
       let is : own_end p (last_frame now).routine ≡ own_end p r = ap (own_end p) (sym same.routine ∙ routine) in
@@ -139,8 +148,10 @@ module _ (p : Program) (code : PlainCode) (input : List ℕ) where
 -- inside a statement with this line
 module _ (p : Program) (code : PlainCode) (input : List ℕ) (line : ℕ) where
   -- from its start, in any state whose frames stand for the store
-  abbrev pub RunsFrom : {A : Type 0} → (at r : ℕ) → (leaves : Begun p code input → Store → Flow A → State → Type 0) → (Store → Events A) → (q : ℕ) → Type 0
-  RunsFrom at r leaves f q = (v : Store) (now : List PlainFrame) (held : List PlainEntry) (s : State) → IsAt at now held s → StandFor p code v now → (top_frame v).routine ≡ r
+  abbrev pub RunsFrom : {A : Type 0} → (at r : ℕ) → (leaves : Begun p code input → Store → Flow A → State → Type 0) → (Store → Events A)
+      → (q : ℕ) → Type 0
+  RunsFrom at r leaves f q = (v : Store) (now : List PlainFrame) (held : List PlainEntry) (s : State) → IsAt at now held s
+      → StandFor p code v now → (top_frame v).routine ≡ r
       → Goes code input line 8 0 (leaves (begun p code input v now held)) held (f v) s 0 q
 
   abbrev pub RunsExpr : (at exit lo r : ℕ) → (Store → Events ℤ) → (q : ℕ) → Type 0
@@ -150,15 +161,23 @@ module _ (p : Program) (code : PlainCode) (input : List ℕ) (line : ℕ) where
   RunsPlace at exit lo r f q = RunsFrom at r (LeavesPlace p code input exit lo r) f q
 
   -- inside of a node: its own visit has paid for 32 steps, and so will the one before each alternative
-  abbrev pub InsideOf : {A : Type 0} → (at r : ℕ) → (leaves : Begun p code input → Store → Flow A → State → Type 0) → (Store → Events A) → (q : ℕ) → Type 0
-  InsideOf at r leaves f q = (v : Store) (now : List PlainFrame) (held : List PlainEntry) (s : State) → IsAt at now held s → StandFor p code v now → (top_frame v).routine ≡ r
+  abbrev pub InsideOf : {A : Type 0} → (at r : ℕ) → (leaves : Begun p code input → Store → Flow A → State → Type 0) → (Store → Events A)
+      → (q : ℕ) → Type 0
+  InsideOf at r leaves f q = (v : Store) (now : List PlainFrame) (held : List PlainEntry) (s : State) → IsAt at now held s
+      → StandFor p code v now → (top_frame v).routine ≡ r
       → Goes code input line 0 24 (leaves (begun p code input v now held)) held (f v) s 32 q
 
-  pub as_node : {A : Type 0} (at r : ℕ) (leaves : Begun p code input → Store → Flow A → State → Type 0) (f : Store → Events A) (q : ℕ) → InsideOf at r leaves f q → RunsFrom at r leaves (λ v. node (f v)) q
-  as_node at r leaves f q h v now held s is stand routine = node_goes code input line 0 8 24 (leaves (begun p code input v now held)) held (f v) s 0 q (omega arith) (h v now held s is stand routine)
+  pub as_node : {A : Type 0} (at r : ℕ) (leaves : Begun p code input → Store → Flow A → State → Type 0) (f : Store → Events A) (q : ℕ)
+      → InsideOf at r leaves f q → RunsFrom at r leaves (λ v. node (f v)) q
+  as_node at r leaves f q h v now held s is stand routine =
+      node_goes code input line 0 8 24 (leaves (begun p code input v now held)) held (f v) s 0 q (omega arith)
+      (h v now held s is stand routine)
 
   -- one step more
-  pub one_more : {A : Type 0} (left more : ℕ) (fits : Store → Flow A → State → Type 0) (base : List PlainEntry) (e : Events A) (s t : State) (r q : ℕ) → Silently code input 1 s t → Goes code input line left more fits base e t r q → Goes code input line left more fits base e s (suc r) q
-  one_more left more fits base e s t r q a h = before code input line left more fits base e s t 1 (suc r) r q q a (omega arith) (omega arith) h
+  pub one_more : {A : Type 0} (left more : ℕ) (fits : Store → Flow A → State → Type 0) (base : List PlainEntry) (e : Events A) (s t : State)
+      (r q : ℕ) → Silently code input 1 s t → Goes code input line left more fits base e t r q
+      → Goes code input line left more fits base e s (suc r) q
+  one_more left more fits base e s t r q a h =
+      before code input line left more fits base e s t 1 (suc r) r q q a (omega arith) (omega arith) h
   -- ---- constants
   -- ---- LOAD

@@ -1,5 +1,6 @@
 -- Writes to the top frame, and what they leave of the frames that stand for a store.
-use Rattle.std.proofs.Common.{◌≡◌, ◌≢◌, true, ℕ, zero, suc, ◌+◌, ◌-◌, ◌<◌, ◌≤◌, ◌⊎◌, inl, inr, List, [], ◌∷◌, length, get_or, set, Some, refl, sym, ap, ◌∙◌, subst, arith, ℤ}
+use Rattle.std.proofs.Common.{◌≡◌, ◌≢◌, true, ℕ, zero, suc, ◌+◌, ◌-◌, ◌<◌, ◌≤◌, ◌⊎◌, inl, inr, List, [], ◌∷◌, length, get_or, set, Some}
+use Rattle.std.proofs.Common.{refl, sym, ap, ◌∙◌, subst, arith, ℤ}
 use Rattle.std.specs.Prelude.{slice_get}
 use Rattle.std.proofs.lemmas.Bool.{cases_eq, cases_lt}
 use Rattle.std.proofs.lemmas.List.{get_or-set_same, get_or-set_other, length-set}
@@ -18,12 +19,14 @@ use Rattle.alma_code.specs.Plain.{PlainCode, kinds_at}
 use Rattle.alma_ir.specs.Tree.{Program, routine_at}
 use Rattle.alma_mean.specs.Store.{Store, Place, Frame, Unknown, Number, At, with_cell, put, top, top_frame, cell_of}
 use Rattle.alma_mean.specs.Store as store
-use Rattle.alma_lower_implements.proofs.Frames.{shift, shift_in, own_end, SameContent, HasLink, SameFrame, StandFor, HeldPlace, KeptBelow, Fits, AreNumbers, SamePlace}
+use Rattle.alma_lower_implements.proofs.Frames.{shift, shift_in, own_end, SameContent, HasLink, SameFrame, StandFor, HeldPlace, KeptBelow}
+use Rattle.alma_lower_implements.proofs.Frames.{Fits, AreNumbers, SamePlace}
 use Rattle.alma_lower_implements.proofs.Steps.{top_written, Holds, HasKind}
 
 -- ---- the top frame after a write
 
-pub top_is : (now : List PlainFrame) (n : ℕ) (c : Cell) → 1 ≤ length now → last_frame (top_written now n c) ≡ frame_with (last_frame now) n c
+pub top_is : (now : List PlainFrame) (n : ℕ) (c : Cell) → 1 ≤ length now
+    → last_frame (top_written now n c) ≡ frame_with (last_frame now) n c
 top_is now n c some =
     ap (λ m. get_or (top_written now n c) (m - 1) picture.no_frame) (length-set now (length now - 1) (frame_with (last_frame now) n c))
     ∙ get_or-set_same now (length now - 1) (frame_with (last_frame now) n c) picture.no_frame (omega arith)
@@ -32,7 +35,8 @@ pub count_kept : (now : List PlainFrame) (n : ℕ) (c : Cell) → length (top_wr
 count_kept now n c = length-set now (length now - 1) (frame_with (last_frame now) n c)
 
 -- what is written is there
-pub holds_written : (now : List PlainFrame) (n : ℕ) (c : Cell) → 1 ≤ length now → n < length (last_frame now).cells → Holds (top_written now n c) n c
+pub holds_written : (now : List PlainFrame) (n : ℕ) (c : Cell) → 1 ≤ length now → n < length (last_frame now).cells
+    → Holds (top_written now n c) n c
 holds_written now n c some within =
     let longer : n < length (set (last_frame now).cells n c) = omega (arith, length-set (last_frame now).cells n c) in
     ap (λ f. slice_get f.cells n) (top_is now n c some)
@@ -46,9 +50,11 @@ holds_other now n m c x some other h =
     let longer : m < length (set (last_frame now).cells n c) = omega (arith, length-set (last_frame now).cells n c) in
     ap (λ f. slice_get f.cells m) (top_is now n c some)
     ∙ slice_get-get_or (set (last_frame now).cells n c) m cell.Unset longer
-    ∙ ap Some (get_or-set_other (last_frame now).cells n m c cell.Unset other ∙ get_or_from_slice_get (last_frame now).cells m x cell.Unset h)
+    ∙ ap Some (get_or-set_other (last_frame now).cells n m c cell.Unset other
+    ∙ get_or_from_slice_get (last_frame now).cells m x cell.Unset h)
 
-pub kind_kept : (now : List PlainFrame) (n m : ℕ) (c : Cell) (k : SlotKind) → 1 ≤ length now → HasKind now m k → HasKind (top_written now n c) m k
+pub kind_kept : (now : List PlainFrame) (n m : ℕ) (c : Cell) (k : SlotKind) → 1 ≤ length now → HasKind now m k
+    → HasKind (top_written now n c) m k
 kind_kept now n m c k some h = ap (λ f. slice_get f.kinds m) (top_is now n c some) ∙ h
 
 -- ---- a store after a write
@@ -59,14 +65,16 @@ put_is (f ∷ v) zero n c lt = refl
 put_is (f ∷ v) (suc k) n c lt = ap (λ z. f ∷ z) (put_is v k n c (omega arith))
 
 -- a write changes the routine of no frame
-pub put_routine : (x : Store) (f n : ℕ) (new : store.Cell) → f < length x → (top_frame (store.put x f n new)).routine ≡ (top_frame x).routine
+pub put_routine : (x : Store) (f n : ℕ) (new : store.Cell) → f < length x
+    → (top_frame (store.put x f n new)).routine ≡ (top_frame x).routine
 put_routine x f n new lt =
     let y = set x f (store.with_cell (get_or x f store.no_frame) n new) in
     let is : store.put x f n new ≡ y = put_is x f n new lt in
     let last : length y - 1 ≡ length x - 1 = ap (λ m. m - 1) (length-set x f (store.with_cell (get_or x f store.no_frame) n new)) in
     ap (λ z. (top_frame z).routine) is ∙ ap (λ m. (get_or y m store.no_frame).routine) last ∙ by (length x - 1) (cases_eq (length x - 1) f)
   where
-    by : (k : ℕ) → (k ≡ f) ⊎ (k ≡ f → ⊥) → (get_or (set x f (store.with_cell (get_or x f store.no_frame) n new)) k store.no_frame).routine ≡ (get_or x k store.no_frame).routine
+    by : (k : ℕ) → (k ≡ f) ⊎ (k ≡ f → ⊥) → (get_or (set x f (store.with_cell (get_or x f store.no_frame) n new)) k store.no_frame).routine
+        ≡ (get_or x k store.no_frame).routine
     by k (inl e) =
         ap (λ m. (get_or (set x f (store.with_cell (get_or x f store.no_frame) n new)) m store.no_frame).routine) e
         ∙ ap (λ g. g.routine) (get_or-set_same x f (store.with_cell (get_or x f store.no_frame) n new) store.no_frame lt)
@@ -75,14 +83,18 @@ put_routine x f n new lt =
 
 -- a write changes the kinds, the routine and the declared cells of no frame
 pub written_frame : (now : List PlainFrame) (f n k : ℕ) (c : Cell) → f < length now
-    → ((get_or (frames_with_cell now f n c) k picture.no_frame).kinds ≡ (get_or now k picture.no_frame).kinds) × ((get_or (frames_with_cell now f n c) k picture.no_frame).declared ≡ (get_or now k picture.no_frame).declared)
+    → ((get_or (frames_with_cell now f n c) k picture.no_frame).kinds ≡ (get_or now k picture.no_frame).kinds)
+    × ((get_or (frames_with_cell now f n c) k picture.no_frame).declared ≡ (get_or now k picture.no_frame).declared)
 written_frame now f n k c lt = elim (cases_eq k f) [
   | inl e ↦
       let is : get_or (frames_with_cell now f n c) k picture.no_frame ≡ frame_with (get_or now k picture.no_frame) n c =
-      ap (λ m. get_or (frames_with_cell now f n c) m picture.no_frame) e ∙ get_or-set_same now f (frame_with (get_or now f picture.no_frame) n c) picture.no_frame lt ∙ ap (λ m. frame_with (get_or now m picture.no_frame) n c) (sym e) in
+      ap (λ m. get_or (frames_with_cell now f n c) m picture.no_frame) e
+      ∙ get_or-set_same now f (frame_with (get_or now f picture.no_frame) n c) picture.no_frame lt
+      ∙ ap (λ m. frame_with (get_or now m picture.no_frame) n c) (sym e) in
       (ap (λ g. g.kinds) is, ap (λ g. g.declared) is)
   | inr ne ↦
-      let is : get_or (frames_with_cell now f n c) k picture.no_frame ≡ get_or now k picture.no_frame = get_or-set_other now f k (frame_with (get_or now f picture.no_frame) n c) picture.no_frame ne in
+      let is : get_or (frames_with_cell now f n c) k picture.no_frame ≡ get_or now k picture.no_frame =
+      get_or-set_other now f k (frame_with (get_or now f picture.no_frame) n c) picture.no_frame ne in
       (ap (λ g. g.kinds) is, ap (λ g. g.declared) is)
 ]
 
@@ -93,7 +105,9 @@ HoldsPlace (Number x) = ⊥
 HoldsPlace (At q) = Unit {0}
 
 -- a number that is put hides no place
-place_put : (v : Store) (f n k i : ℕ) (x : ℤ) (q : Place) → f < length v → n < length (get_or v f store.no_frame).cells → get_or (get_or (put v f n (Number x)) k store.no_frame).cells i Unknown ≡ At q → get_or (get_or v k store.no_frame).cells i Unknown ≡ At q
+place_put : (v : Store) (f n k i : ℕ) (x : ℤ) (q : Place) → f < length v → n < length (get_or v f store.no_frame).cells
+    → get_or (get_or (put v f n (Number x)) k store.no_frame).cells i Unknown ≡ At q
+    → get_or (get_or v k store.no_frame).cells i Unknown ≡ At q
 place_put v f n k i x q lt there e = by (cases_eq k f) (cases_eq i n)
   where
     g : Frame
@@ -106,23 +120,30 @@ place_put v f n k i x q lt there e = by (cases_eq k f) (cases_eq i n)
     by (inr ne) at = ap (λ h. get_or h.cells i Unknown) (sym (get_or-set_other v f k g store.no_frame ne)) ∙ moved
     by (inl a) (inl b) =
         let is : get_or (get_or (set v f g) k store.no_frame).cells i Unknown ≡ Number x =
-        ap (λ m. get_or (get_or (set v f g) m store.no_frame).cells i Unknown) a ∙ ap (λ h. get_or h.cells i Unknown) (get_or-set_same v f g store.no_frame lt)
-        ∙ ap (λ m. get_or (set (get_or v f store.no_frame).cells n (Number x)) m Unknown) b ∙ get_or-set_same (get_or v f store.no_frame).cells n (Number x) Unknown there in
+        ap (λ m. get_or (get_or (set v f g) m store.no_frame).cells i Unknown) a
+        ∙ ap (λ h. get_or h.cells i Unknown) (get_or-set_same v f g store.no_frame lt)
+        ∙ ap (λ m. get_or (set (get_or v f store.no_frame).cells n (Number x)) m Unknown) b
+        ∙ get_or-set_same (get_or v f store.no_frame).cells n (Number x) Unknown there in
         absurd (subst HoldsPlace (sym moved ∙ is) tt)
     by (inl a) (inr nb) =
         let is : get_or (get_or (set v f g) k store.no_frame).cells i Unknown ≡ get_or (get_or v k store.no_frame).cells i Unknown =
-        ap (λ m. get_or (get_or (set v f g) m store.no_frame).cells i Unknown) a ∙ ap (λ h. get_or h.cells i Unknown) (get_or-set_same v f g store.no_frame lt)
-        ∙ get_or-set_other (get_or v f store.no_frame).cells n i (Number x) Unknown nb ∙ ap (λ m. get_or (get_or v m store.no_frame).cells i Unknown) (sym a) in
+        ap (λ m. get_or (get_or (set v f g) m store.no_frame).cells i Unknown) a
+        ∙ ap (λ h. get_or h.cells i Unknown) (get_or-set_same v f g store.no_frame lt)
+        ∙ get_or-set_other (get_or v f store.no_frame).cells n i (Number x) Unknown nb
+        ∙ ap (λ m. get_or (get_or v m store.no_frame).cells i Unknown) (sym a) in
         sym is ∙ moved
 
 -- and no frame becomes longer
-put_long : (v : Store) (f n k : ℕ) (c : store.Cell) → f < length v → length (get_or (put v f n c) k store.no_frame).cells ≡ length (get_or v k store.no_frame).cells
+put_long : (v : Store) (f n k : ℕ) (c : store.Cell) → f < length v
+    → length (get_or (put v f n c) k store.no_frame).cells ≡ length (get_or v k store.no_frame).cells
 put_long v f n k c lt = ap (λ z. length (get_or z k store.no_frame).cells) (put_is v f n c lt) ∙ by (cases_eq k f)
   where
-    by : (k ≡ f) ⊎ (k ≡ f → ⊥) → length (get_or (set v f (with_cell (get_or v f store.no_frame) n c)) k store.no_frame).cells ≡ length (get_or v k store.no_frame).cells
+    by : (k ≡ f) ⊎ (k ≡ f → ⊥) → length (get_or (set v f (with_cell (get_or v f store.no_frame) n c)) k store.no_frame).cells ≡ length
+        (get_or v k store.no_frame).cells
     by (inl e) =
         ap (λ m. length (get_or (set v f (with_cell (get_or v f store.no_frame) n c)) m store.no_frame).cells) e
-        ∙ ap (λ h. length h.cells) (get_or-set_same v f (with_cell (get_or v f store.no_frame) n c) store.no_frame lt) ∙ length-set (get_or v f store.no_frame).cells n c
+        ∙ ap (λ h. length h.cells) (get_or-set_same v f (with_cell (get_or v f store.no_frame) n c) store.no_frame lt)
+        ∙ length-set (get_or v f store.no_frame).cells n c
         ∙ ap (λ m. length (get_or v m store.no_frame).cells) (sym e)
     by (inr ne) = ap (λ h. length h.cells) (get_or-set_other v f k (with_cell (get_or v f store.no_frame) n c) store.no_frame ne)
 
@@ -130,32 +151,40 @@ module _ (p : Program) where
   -- ---- shifts
 
   -- a write changes the routine of no frame
-  pub put_frame : (v : Store) (f n k : ℕ) (c : store.Cell) → f < length v → ((get_or (put v f n c) k store.no_frame).routine ≡ (get_or v k store.no_frame).routine) × ((get_or (put v f n c) k store.no_frame).link ≡ (get_or v k store.no_frame).link)
+  pub put_frame : (v : Store) (f n k : ℕ) (c : store.Cell) → f < length v
+      → ((get_or (put v f n c) k store.no_frame).routine ≡ (get_or v k store.no_frame).routine)
+      × ((get_or (put v f n c) k store.no_frame).link ≡ (get_or v k store.no_frame).link)
   put_frame v f n k c lt =
       let w = set v f (with_cell (get_or v f store.no_frame) n c) in
       let is : put v f n c ≡ w = put_is v f n c lt in
-      subst (λ z. ((get_or z k store.no_frame).routine ≡ (get_or v k store.no_frame).routine) × ((get_or z k store.no_frame).link ≡ (get_or v k store.no_frame).link)) (sym is) (by (cases_eq k f))
+      subst (λ z. ((get_or z k store.no_frame).routine ≡ (get_or v k store.no_frame).routine)
+      × ((get_or z k store.no_frame).link ≡ (get_or v k store.no_frame).link)) (sym is) (by (cases_eq k f))
     where
       by : (k ≡ f) ⊎ (k ≡ f → ⊥)
           → ((get_or (set v f (with_cell (get_or v f store.no_frame) n c)) k store.no_frame).routine ≡ (get_or v k store.no_frame).routine)
           × ((get_or (set v f (with_cell (get_or v f store.no_frame) n c)) k store.no_frame).link ≡ (get_or v k store.no_frame).link)
       by (inl e) =
-          let there : get_or (set v f (with_cell (get_or v f store.no_frame) n c)) k store.no_frame ≡ with_cell (get_or v f store.no_frame) n c =
-          ap (λ m. get_or (set v f (with_cell (get_or v f store.no_frame) n c)) m store.no_frame) e ∙ get_or-set_same v f (with_cell (get_or v f store.no_frame) n c) store.no_frame lt in
+          let there : get_or (set v f (with_cell (get_or v f store.no_frame) n c)) k store.no_frame ≡ with_cell (get_or v f store.no_frame)
+          n c =
+          ap (λ m. get_or (set v f (with_cell (get_or v f store.no_frame) n c)) m store.no_frame) e
+          ∙ get_or-set_same v f (with_cell (get_or v f store.no_frame) n c) store.no_frame lt in
           let back : get_or v f store.no_frame ≡ get_or v k store.no_frame = ap (λ m. get_or v m store.no_frame) (sym e) in
           (ap (λ g. g.routine) there ∙ ap (λ g. g.routine) back, ap (λ g. g.link) there ∙ ap (λ g. g.link) back)
       by (inr ne) =
-          let there : get_or (set v f (with_cell (get_or v f store.no_frame) n c)) k store.no_frame ≡ get_or v k store.no_frame = get_or-set_other v f k (with_cell (get_or v f store.no_frame) n c) store.no_frame ne in
+          let there : get_or (set v f (with_cell (get_or v f store.no_frame) n c)) k store.no_frame ≡ get_or v k store.no_frame =
+          get_or-set_other v f k (with_cell (get_or v f store.no_frame) n c) store.no_frame ne in
           (ap (λ g. g.routine) there, ap (λ g. g.link) there)
 
   pub put_shift : (v : Store) (f n k : ℕ) (c : store.Cell) → f < length v → shift_in p (put v f n c) k ≡ shift_in p v k
   put_shift v f n k c lt = ap (shift p) (put_frame v f n k c lt).0
 
   -- a place is the same place where each frame has the shift that it had
-  place_moved : (v w : Store) (q : Place) (c : CellPlace) → ((k : ℕ) → shift_in p w k ≡ shift_in p v k) → SamePlace p v q c → SamePlace p w q c
+  place_moved : (v w : Store) (q : Place) (c : CellPlace) → ((k : ℕ) → shift_in p w k ≡ shift_in p v k) → SamePlace p v q c
+      → SamePlace p w q c
   place_moved v w q c same h = record { frame = h.frame; slot = ap (λ n. n + q.slot) (same q.frame) ∙ h.slot; size = h.size }
 
-  pub content_moved : (v w : Store) (kind : SlotKind) (a : store.Cell) (b : Cell) → ((k : ℕ) → shift_in p w k ≡ shift_in p v k) → SameContent p v kind a b → SameContent p w kind a b
+  pub content_moved : (v w : Store) (kind : SlotKind) (a : store.Cell) (b : Cell) → ((k : ℕ) → shift_in p w k ≡ shift_in p v k)
+      → SameContent p v kind a b → SameContent p w kind a b
   content_moved v w slot.Number Unknown cell.Unknown same h = h
   content_moved v w slot.Number Unknown cell.Unset same h = absurd h
   content_moved v w slot.Number Unknown (cell.Int x) same h = absurd h
@@ -184,30 +213,35 @@ module _ (p : Program) where
 module _ (p : Program) (code : PlainCode) where
   -- ---- frames that stand for frames
 
-  same_temp : (v : Store) (f : Frame) (g : PlainFrame) (n : ℕ) (c : Cell) → shift p f.routine + length f.cells ≤ n → SameFrame p code v f g → SameFrame p code v f (frame_with g n c)
+  same_temp : (v : Store) (f : Frame) (g : PlainFrame) (n : ℕ) (c : Cell) → shift p f.routine + length f.cells ≤ n → SameFrame p code v f g
+      → SameFrame p code v f (frame_with g n c)
   same_temp v f g n c behind h = record {
     routine = h.routine;
     kinds = h.kinds;
     full = length-set g.cells n c ∙ h.full;
     slots = h.slots;
     within = omega (arith, h.within, length-set g.cells n c);
-    cells = λ i lt. subst (SameContent p v (get_or g.kinds (shift p f.routine + i) slot.Mark) (get_or f.cells i Unknown)) (sym (get_or-set_other g.cells n (shift p f.routine + i) c cell.Unset (λ e. omega (arith, e, lt, behind)))) (h.cells i lt);
+    cells = λ i lt. subst (SameContent p v (get_or g.kinds (shift p f.routine + i) slot.Mark) (get_or f.cells i Unknown))
+        (sym (get_or-set_other g.cells n (shift p f.routine + i) c cell.Unset (λ e. omega (arith, e, lt, behind)))) (h.cells i lt);
     link = λ some. get_or-set_other g.cells n 0 c cell.Unset (λ e. omega (arith, e, some, behind)) ∙ h.link some;
   }
 
   -- and where each frame has the shift that it had
-  same_moved : (v w : Store) (f : Frame) (g : PlainFrame) → ((k : ℕ) → shift_in p w k ≡ shift_in p v k) → SameFrame p code v f g → SameFrame p code w f g
+  same_moved : (v w : Store) (f : Frame) (g : PlainFrame) → ((k : ℕ) → shift_in p w k ≡ shift_in p v k) → SameFrame p code v f g
+      → SameFrame p code w f g
   same_moved v w f g same h = record {
     routine = h.routine;
     kinds = h.kinds;
     full = h.full;
     slots = h.slots;
     within = h.within;
-    cells = λ i lt. content_moved p v w (get_or g.kinds (shift p f.routine + i) slot.Mark) (get_or f.cells i Unknown) (get_or g.cells (shift p f.routine + i) cell.Unset) same (h.cells i lt);
+    cells = λ i lt. content_moved p v w (get_or g.kinds (shift p f.routine + i) slot.Mark) (get_or f.cells i Unknown)
+        (get_or g.cells (shift p f.routine + i) cell.Unset) same (h.cells i lt);
     link = h.link;
   }
 
-  same_var : (v : Store) (f : Frame) (g : PlainFrame) (n : ℕ) (x : ℤ) → n < length f.cells → get_or g.kinds (shift p f.routine + n) slot.Mark ≡ slot.Number → is_integer x ≡ true → SameFrame p code v f g
+  same_var : (v : Store) (f : Frame) (g : PlainFrame) (n : ℕ) (x : ℤ) → n < length f.cells
+      → get_or g.kinds (shift p f.routine + n) slot.Mark ≡ slot.Number → is_integer x ≡ true → SameFrame p code v f g
       → SameFrame p code v (with_cell f n (Number x)) (frame_with g (shift p f.routine + n) (cell.Int x))
   same_var v f g n x there kind fits h = record {
     routine = h.routine;
@@ -220,18 +254,29 @@ module _ (p : Program) (code : PlainCode) where
   }
     where
       by : (i : ℕ) → i < length f.cells → (i ≡ n) ⊎ (i ≡ n → ⊥)
-          → SameContent p v (get_or g.kinds (shift p f.routine + i) slot.Mark) (get_or (set f.cells n (Number x)) i Unknown) (get_or (set g.cells (shift p f.routine + n) (cell.Int x)) (shift p f.routine + i) cell.Unset)
+          → SameContent p v (get_or g.kinds (shift p f.routine + i) slot.Mark) (get_or (set f.cells n (Number x)) i Unknown)
+          (get_or (set g.cells (shift p f.routine + n) (cell.Int x)) (shift p f.routine + i) cell.Unset)
       by i lt (inl e) =
-          let left : get_or (set f.cells n (Number x)) i Unknown ≡ Number x = ap (λ m. get_or (set f.cells n (Number x)) m Unknown) e ∙ get_or-set_same f.cells n (Number x) Unknown there in
+          let left : get_or (set f.cells n (Number x)) i Unknown ≡ Number x = ap (λ m. get_or (set f.cells n (Number x)) m Unknown) e
+          ∙ get_or-set_same f.cells n (Number x) Unknown there in
           let right : get_or (set g.cells (shift p f.routine + n) (cell.Int x)) (shift p f.routine + i) cell.Unset ≡ cell.Int x =
-          ap (λ m. get_or (set g.cells (shift p f.routine + n) (cell.Int x)) (shift p f.routine + m) cell.Unset) e ∙ get_or-set_same g.cells (shift p f.routine + n) (cell.Int x) cell.Unset (omega (arith, h.within, there)) in
-          let kind_i : get_or g.kinds (shift p f.routine + i) slot.Mark ≡ slot.Number = ap (λ m. get_or g.kinds (shift p f.routine + m) slot.Mark) e ∙ kind in
+          ap (λ m. get_or (set g.cells (shift p f.routine + n) (cell.Int x)) (shift p f.routine + m) cell.Unset) e
+          ∙ get_or-set_same g.cells (shift p f.routine + n) (cell.Int x) cell.Unset (omega (arith, h.within, there)) in
+          let kind_i : get_or g.kinds (shift p f.routine + i) slot.Mark ≡ slot.Number =
+          ap (λ m. get_or g.kinds (shift p f.routine + m) slot.Mark) e ∙ kind in
           let same : SameContent p v slot.Number (Number x) (cell.Int x) = (refl, fits) in
-          subst (λ k. SameContent p v k (get_or (set f.cells n (Number x)) i Unknown) (get_or (set g.cells (shift p f.routine + n) (cell.Int x)) (shift p f.routine + i) cell.Unset)) (sym kind_i)
-          (subst (λ a. SameContent p v slot.Number a (get_or (set g.cells (shift p f.routine + n) (cell.Int x)) (shift p f.routine + i) cell.Unset)) (sym left) (subst (SameContent p v slot.Number (Number x)) (sym right) same))
+          subst (λ k. SameContent p v k (get_or (set f.cells n (Number x)) i Unknown)
+          (get_or (set g.cells (shift p f.routine + n) (cell.Int x)) (shift p f.routine + i) cell.Unset)) (sym kind_i)
+          (subst (λ a. SameContent p v slot.Number a
+          (get_or (set g.cells (shift p f.routine + n) (cell.Int x)) (shift p f.routine + i) cell.Unset)) (sym left)
+          (subst (SameContent p v slot.Number (Number x)) (sym right) same))
       by i lt (inr ne) =
-          subst (λ a. SameContent p v (get_or g.kinds (shift p f.routine + i) slot.Mark) a (get_or (set g.cells (shift p f.routine + n) (cell.Int x)) (shift p f.routine + i) cell.Unset)) (sym (get_or-set_other f.cells n i (Number x) Unknown ne))
-          (subst (SameContent p v (get_or g.kinds (shift p f.routine + i) slot.Mark) (get_or f.cells i Unknown)) (sym (get_or-set_other g.cells (shift p f.routine + n) (shift p f.routine + i) (cell.Int x) cell.Unset (λ e. ne (omega (arith, e))))) (h.cells i lt))
+          subst (λ a. SameContent p v (get_or g.kinds (shift p f.routine + i) slot.Mark) a
+          (get_or (set g.cells (shift p f.routine + n) (cell.Int x)) (shift p f.routine + i) cell.Unset))
+          (sym (get_or-set_other f.cells n i (Number x) Unknown ne))
+          (subst (SameContent p v (get_or g.kinds (shift p f.routine + i) slot.Mark) (get_or f.cells i Unknown))
+          (sym (get_or-set_other g.cells (shift p f.routine + n) (shift p f.routine + i) (cell.Int x) cell.Unset
+          (λ e. ne (omega (arith, e))))) (h.cells i lt))
 
   -- the first m frames of two stores are of the same routines, as long, and of the same kinds
   pub record FrontAlike (m : ℕ) (v w : Store) (now later : List PlainFrame) : Type 0 where
@@ -241,20 +286,25 @@ module _ (p : Program) (code : PlainCode) where
     pub kinds : (k : ℕ) → k < m → (get_or later k picture.no_frame).kinds ≡ (get_or now k picture.no_frame).kinds
 
   -- numbers of a front are numbers
-  pub numbers_moved : (m : ℕ) (v w : Store) (now later : List PlainFrame) (q : Place) → FrontAlike m v w now later → q.frame < m → AreNumbers p code v now q → AreNumbers p code w later q
+  pub numbers_moved : (m : ℕ) (v w : Store) (now later : List PlainFrame) (q : Place) → FrontAlike m v w now later → q.frame < m
+      → AreNumbers p code v now q → AreNumbers p code w later q
   numbers_moved m v w now later q alike lt h = record {
     frame = omega (arith, lt, alike.live);
     cells = λ k small. omega (arith, h.cells k small, alike.long q.frame lt);
-    kinds = λ k small. ap (λ r. get_or (get_or later q.frame picture.no_frame).kinds (shift p r + (q.slot + k)) slot.Mark) (alike.routine q.frame lt) ∙ ap (λ ks. get_or ks (shift_in p v q.frame + (q.slot + k)) slot.Mark) (alike.kinds q.frame lt) ∙ h.kinds k small;
+    kinds = λ k small. ap (λ r. get_or (get_or later q.frame picture.no_frame).kinds (shift p r + (q.slot + k)) slot.Mark)
+        (alike.routine q.frame lt) ∙ ap (λ ks. get_or ks (shift_in p v q.frame + (q.slot + k)) slot.Mark) (alike.kinds q.frame lt)
+        ∙ h.kinds k small;
     free = h.free;
   }
 
   -- and what a frame of it holds
-  pub held_moved : (m : ℕ) (v w : Store) (now later : List PlainFrame) (k i : ℕ) (q : Place) → FrontAlike m v w now later → k < m → HeldPlace p code v now k i q → HeldPlace p code w later k i q
+  pub held_moved : (m : ℕ) (v w : Store) (now later : List PlainFrame) (k i : ℕ) (q : Place) → FrontAlike m v w now later → k < m
+      → HeldPlace p code v now k i q → HeldPlace p code w later k i q
   held_moved m v w now later k i q alike lt h = record {
     below = h.below;
     numbers = numbers_moved m v w now later q alike (omega (arith, h.below, lt)) h.numbers;
-    size = ap (λ r. get_or (get_or later k picture.no_frame).kinds (shift p r + i) slot.Mark) (alike.routine k lt) ∙ ap (λ ks. get_or ks (shift_in p v k + i) slot.Mark) (alike.kinds k lt) ∙ h.size;
+    size = ap (λ r. get_or (get_or later k picture.no_frame).kinds (shift p r + i) slot.Mark) (alike.routine k lt)
+        ∙ ap (λ ks. get_or ks (shift_in p v k + i) slot.Mark) (alike.kinds k lt) ∙ h.size;
   }
 
   -- ---- frames that stand for a store
@@ -263,10 +313,12 @@ module _ (p : Program) (code : PlainCode) where
   pub top_same : (v : Store) (now : List PlainFrame) → StandFor p code v now → SameFrame p code v (top_frame v) (last_frame now)
   top_same v now h =
       let at : length now - 1 ≡ length v - 1 = ap (λ n. n - 1) h.count in
-      subst (λ k. SameFrame p code v (top_frame v) (get_or now k picture.no_frame)) (sym at) (h.frames (length v - 1) (omega (arith, h.some)))
+      subst (λ k. SameFrame p code v (top_frame v) (get_or now k picture.no_frame)) (sym at)
+      (h.frames (length v - 1) (omega (arith, h.some)))
 
   -- a write behind the slots of the routine changes nothing of the store
-  pub stand_temp : (v : Store) (now : List PlainFrame) (n : ℕ) (c : Cell) → shift p (top_frame v).routine + length (top_frame v).cells ≤ n → StandFor p code v now → StandFor p code v (top_written now n c)
+  pub stand_temp : (v : Store) (now : List PlainFrame) (n : ℕ) (c : Cell) → shift p (top_frame v).routine + length (top_frame v).cells ≤ n
+      → StandFor p code v now → StandFor p code v (top_written now n c)
   stand_temp v now n c behind h = record {
     count = count_kept now n c ∙ h.count;
     some = h.some;
@@ -274,7 +326,13 @@ module _ (p : Program) (code : PlainCode) where
     links = h.links;
     declared = λ k lt. (written_frame now (length now - 1) n k c some_now).1 ∙ h.declared k lt;
     places = λ k i q lt e. held_moved (length v) v v now (top_written now n c) k i q
-        (record { live = omega arith; routine = λ j a. refl; long = λ j a. refl; kinds = λ j a. (written_frame now (length now - 1) n j c some_now).0 }) lt (h.places k i q lt e);
+        (record {
+          live = omega arith;
+          routine = λ j a. refl;
+          long = λ j a. refl;
+          kinds =
+              λ j a. (written_frame now (length now - 1) n j c some_now).0;
+        }) lt (h.places k i q lt e);
     routines = h.routines;
     main = h.main;
   }
@@ -285,28 +343,37 @@ module _ (p : Program) (code : PlainCode) where
       at : length now - 1 ≡ length v - 1
       at = ap (λ m. m - 1) h.count
 
-      by : (k : ℕ) → k < length v → (k ≡ length now - 1) ⊎ (k ≡ length now - 1 → ⊥) → SameFrame p code v (get_or v k store.no_frame) (get_or (top_written now n c) k picture.no_frame)
+      by : (k : ℕ) → k < length v → (k ≡ length now - 1) ⊎ (k ≡ length now - 1 → ⊥)
+          → SameFrame p code v (get_or v k store.no_frame) (get_or (top_written now n c) k picture.no_frame)
       by k lt (inl e) =
           let there : length now - 1 < length now = omega (arith, h.count, h.some) in
           let is : get_or (top_written now n c) k picture.no_frame ≡ frame_with (last_frame now) n c =
-          ap (λ m. get_or (top_written now n c) m picture.no_frame) e ∙ get_or-set_same now (length now - 1) (frame_with (last_frame now) n c) picture.no_frame there in
+          ap (λ m. get_or (top_written now n c) m picture.no_frame) e
+          ∙ get_or-set_same now (length now - 1) (frame_with (last_frame now) n c) picture.no_frame there in
           let of_top : get_or v k store.no_frame ≡ top_frame v = ap (λ m. get_or v m store.no_frame) (e ∙ at) in
           subst (λ f. SameFrame p code v f (get_or (top_written now n c) k picture.no_frame)) (sym of_top)
           (subst (SameFrame p code v (top_frame v)) (sym is) (same_temp v (top_frame v) (last_frame now) n c behind (top_same v now h)))
       by k lt (inr ne) =
-          subst (SameFrame p code v (get_or v k store.no_frame)) (sym (get_or-set_other now (length now - 1) k (frame_with (last_frame now) n c) picture.no_frame ne)) (h.frames k lt)
+          subst (SameFrame p code v (get_or v k store.no_frame))
+          (sym (get_or-set_other now (length now - 1) k (frame_with (last_frame now) n c) picture.no_frame ne)) (h.frames k lt)
 
   -- a number that is stored in a number slot of a frame is stored in the store
-  pub stand_put : (v : Store) (now : List PlainFrame) (f n : ℕ) (x : ℤ) → f < length v → n < length (get_or v f store.no_frame).cells → get_or (get_or now f picture.no_frame).kinds (shift_in p v f + n) slot.Mark ≡ slot.Number → is_integer x ≡ true
+  pub stand_put : (v : Store) (now : List PlainFrame) (f n : ℕ) (x : ℤ) → f < length v → n < length (get_or v f store.no_frame).cells
+      → get_or (get_or now f picture.no_frame).kinds (shift_in p v f + n) slot.Mark ≡ slot.Number → is_integer x ≡ true
       → StandFor p code v now → StandFor p code (put v f n (Number x)) (frames_with_cell now f (shift_in p v f + n) (cell.Int x))
   stand_put v now f n x live there kind fits h = record {
     count = length-set now f (frame_with (get_or now f picture.no_frame) (shift_in p v f + n) (cell.Int x)) ∙ h.count ∙ sym long;
     some = omega (arith, h.some, long);
-    frames = λ k lt. same_moved v (put v f n (Number x)) (get_or (put v f n (Number x)) k store.no_frame) (get_or (frames_with_cell now f (shift_in p v f + n) (cell.Int x)) k picture.no_frame) (λ j. put_shift p v f n j (Number x) live)
-        (subst (λ z. SameFrame p code v (get_or z k store.no_frame) (get_or (frames_with_cell now f (shift_in p v f + n) (cell.Int x)) k picture.no_frame)) (sym is) (by k (omega (arith, lt, long)) (cases_eq k f)));
+    frames = λ k lt. same_moved v (put v f n (Number x)) (get_or (put v f n (Number x)) k store.no_frame)
+        (get_or (frames_with_cell now f (shift_in p v f + n) (cell.Int x)) k picture.no_frame) (λ j. put_shift p v f n j (Number x) live)
+        (subst (λ z. SameFrame p code v (get_or z k store.no_frame)
+        (get_or (frames_with_cell now f (shift_in p v f + n) (cell.Int x)) k picture.no_frame)) (sym is)
+        (by k (omega (arith, lt, long)) (cases_eq k f)));
     links = λ k lt some. moved_link k (omega (arith, lt, long)) some;
-    declared = λ k lt. (written_frame now f (shift_in p v f + n) k (cell.Int x) live_now).1 ∙ h.declared k (omega (arith, lt, long)) ∙ ap (λ r. (routine_at p r).declared) (sym (put_frame p v f n k (Number x) live).0);
-    places = λ k i q lt e. held_moved (length v) v (put v f n (Number x)) now (frames_with_cell now f (shift_in p v f + n) (cell.Int x)) k i q
+    declared = λ k lt. (written_frame now f (shift_in p v f + n) k (cell.Int x) live_now).1 ∙ h.declared k (omega (arith, lt, long))
+        ∙ ap (λ r. (routine_at p r).declared) (sym (put_frame p v f n k (Number x) live).0);
+    places = λ k i q lt e. held_moved (length v) v (put v f n (Number x)) now (frames_with_cell now f (shift_in p v f + n) (cell.Int x)) k i
+        q
         (record {
           live = omega (arith, long);
           routine = λ j a. (put_frame p v f n j (Number x) live).0;
@@ -332,28 +399,52 @@ module _ (p : Program) (code : PlainCode) where
           let frame = put_frame p v f n k (Number x) live in
           record {
             below = omega (arith, was.below, frame.1);
-            outer = ap (λ m. (get_or (put v f n (Number x)) m store.no_frame).routine) frame.1 ∙ (put_frame p v f n (get_or v k store.no_frame).link (Number x) live).0 ∙ was.outer ∙ ap (λ r. (routine_at p r).outer) (sym frame.0);
+            outer = ap (λ m. (get_or (put v f n (Number x)) m store.no_frame).routine) frame.1
+                ∙ (put_frame p v f n (get_or v k store.no_frame).link (Number x) live).0 ∙ was.outer
+                ∙ ap (λ r. (routine_at p r).outer) (sym frame.0);
           }
 
       by : (k : ℕ) → k < length v → (k ≡ f) ⊎ (k ≡ f → ⊥)
-          → SameFrame p code v (get_or (set v f (with_cell (get_or v f store.no_frame) n (Number x))) k store.no_frame) (get_or (frames_with_cell now f (shift_in p v f + n) (cell.Int x)) k picture.no_frame)
+          → SameFrame p code v (get_or (set v f (with_cell (get_or v f store.no_frame) n (Number x))) k store.no_frame)
+          (get_or (frames_with_cell now f (shift_in p v f + n) (cell.Int x)) k picture.no_frame)
       by k lt (inl e) =
-          let right : get_or (frames_with_cell now f (shift_in p v f + n) (cell.Int x)) k picture.no_frame ≡ frame_with (get_or now f picture.no_frame) (shift_in p v f + n) (cell.Int x) =
-          ap (λ m. get_or (frames_with_cell now f (shift_in p v f + n) (cell.Int x)) m picture.no_frame) e ∙ get_or-set_same now f (frame_with (get_or now f picture.no_frame) (shift_in p v f + n) (cell.Int x)) picture.no_frame (omega (arith, live, h.count)) in
-          let left : get_or (set v f (with_cell (get_or v f store.no_frame) n (Number x))) k store.no_frame ≡ with_cell (get_or v f store.no_frame) n (Number x) =
-          ap (λ m. get_or (set v f (with_cell (get_or v f store.no_frame) n (Number x))) m store.no_frame) e ∙ get_or-set_same v f (with_cell (get_or v f store.no_frame) n (Number x)) store.no_frame live in
-          subst (λ g. SameFrame p code v g (get_or (frames_with_cell now f (shift_in p v f + n) (cell.Int x)) k picture.no_frame)) (sym left)
-          (subst (SameFrame p code v (with_cell (get_or v f store.no_frame) n (Number x))) (sym right) (same_var v (get_or v f store.no_frame) (get_or now f picture.no_frame) n x there kind fits (h.frames f live)))
+          let right : get_or (frames_with_cell now f (shift_in p v f + n) (cell.Int x)) k picture.no_frame ≡ frame_with
+          (get_or now f picture.no_frame) (shift_in p v f + n) (cell.Int x) =
+          ap (λ m. get_or (frames_with_cell now f (shift_in p v f + n) (cell.Int x)) m picture.no_frame) e
+          ∙ get_or-set_same now f (frame_with (get_or now f picture.no_frame) (shift_in p v f + n) (cell.Int x)) picture.no_frame
+          (omega (arith, live, h.count)) in
+          let left : get_or (set v f (with_cell (get_or v f store.no_frame) n (Number x))) k store.no_frame ≡ with_cell
+          (get_or v f store.no_frame) n (Number x) =
+          ap (λ m. get_or (set v f (with_cell (get_or v f store.no_frame) n (Number x))) m store.no_frame) e
+          ∙ get_or-set_same v f (with_cell (get_or v f store.no_frame) n (Number x)) store.no_frame live in
+          subst (λ g. SameFrame p code v g (get_or (frames_with_cell now f (shift_in p v f + n) (cell.Int x)) k picture.no_frame))
+          (sym left)
+          (subst (SameFrame p code v (with_cell (get_or v f store.no_frame) n (Number x))) (sym right)
+          (same_var v (get_or v f store.no_frame) (get_or now f picture.no_frame) n x there kind fits (h.frames f live)))
       by k lt (inr ne) =
-          subst (λ g. SameFrame p code v g (get_or (frames_with_cell now f (shift_in p v f + n) (cell.Int x)) k picture.no_frame)) (sym (get_or-set_other v f k (with_cell (get_or v f store.no_frame) n (Number x)) store.no_frame ne))
-          (subst (SameFrame p code v (get_or v k store.no_frame)) (sym (get_or-set_other now f k (frame_with (get_or now f picture.no_frame) (shift_in p v f + n) (cell.Int x)) picture.no_frame ne)) (h.frames k lt))
+          subst (λ g. SameFrame p code v g (get_or (frames_with_cell now f (shift_in p v f + n) (cell.Int x)) k picture.no_frame))
+          (sym (get_or-set_other v f k (with_cell (get_or v f store.no_frame) n (Number x)) store.no_frame ne))
+          (subst (SameFrame p code v (get_or v k store.no_frame))
+          (sym (get_or-set_other now f k (frame_with (get_or now f picture.no_frame) (shift_in p v f + n) (cell.Int x)) picture.no_frame
+          ne)) (h.frames k lt))
 
   -- ---- where a phrase leaves the frames
 
   kept_self : (lo : ℕ) (g : PlainFrame) → KeptBelow p code lo g g
-  kept_self lo g = record { back = refl; routine = refl; declared = refl; long = refl; link = λ i a. refl; cells = λ i a b. refl; kinds = refl; places = λ i l e a. refl }
+  kept_self lo g = record {
+    back = refl;
+    routine = refl;
+    declared = refl;
+    long = refl;
+    link = λ i a. refl;
+    cells = λ i a b. refl;
+    kinds =
+        refl;
+    places = λ i l e a. refl;
+  }
 
-  kept_on : (lo lo' : ℕ) (g g' g'' : PlainFrame) → lo ≤ lo' → KeptBelow p code lo g g' → KeptBelow p code lo' g' g'' → KeptBelow p code lo g g''
+  kept_on : (lo lo' : ℕ) (g g' g'' : PlainFrame) → lo ≤ lo' → KeptBelow p code lo g g' → KeptBelow p code lo' g' g''
+      → KeptBelow p code lo g g''
   kept_on lo lo' g g' g'' le h k = record {
     back = k.back ∙ h.back;
     routine = k.routine ∙ h.routine;
@@ -362,7 +453,8 @@ module _ (p : Program) (code : PlainCode) where
     link = λ i a. k.link i (subst (λ r. i < shift p r) (sym h.routine) a) ∙ h.link i a;
     cells = λ i a b. k.cells i (subst (λ r. own_end p r ≤ i) (sym h.routine) a) (omega arith) ∙ h.cells i a b;
     kinds = k.kinds ∙ h.kinds;
-    places = λ i l e a. k.places i l (ap (λ ks. get_or ks i slot.Mark) h.kinds ∙ e) (subst (λ r. i < own_end p r) (sym h.routine) a) ∙ h.places i l e a;
+    places = λ i l e a. k.places i l (ap (λ ks. get_or ks i slot.Mark) h.kinds ∙ e) (subst (λ r. i < own_end p r) (sym h.routine) a)
+        ∙ h.places i l e a;
   }
 
   -- a phrase that has done nothing yet
@@ -375,38 +467,56 @@ module _ (p : Program) (code : PlainCode) where
   }
 
   -- one phrase after another
-  pub fits_on : (lo lo' : ℕ) (v v' : Store) (before now later : List PlainFrame) → lo ≤ lo' → Fits p code lo before v now → Fits p code lo' now v' later → Fits p code lo before v' later
+  pub fits_on : (lo lo' : ℕ) (v v' : Store) (before now later : List PlainFrame) → lo ≤ lo' → Fits p code lo before v now
+      → Fits p code lo' now v' later → Fits p code lo before v' later
   fits_on lo lo' v v' before now later le h k = record {
     stand = k.stand;
     same_count = k.same_count ∙ h.same_count;
     top = kept_on lo lo' (last_frame before) (last_frame now) (last_frame later) le h.top k.top;
     others = λ i lt.
         let first = h.others i (omega (arith, lt, k.same_count)) in
-        kept_on (length (get_or before i picture.no_frame).cells) (length (get_or now i picture.no_frame).cells) (get_or before i picture.no_frame) (get_or now i picture.no_frame) (get_or later i picture.no_frame)
+        kept_on (length (get_or before i picture.no_frame).cells) (length (get_or now i picture.no_frame).cells)
+        (get_or before i picture.no_frame) (get_or now i picture.no_frame) (get_or later i picture.no_frame)
         (omega (arith, first.long)) first (k.others i lt);
   }
 
   -- the same with fewer slots that are kept
-  pub fits_less : (lo lo' : ℕ) (v : Store) (before now : List PlainFrame) → lo ≤ lo' → Fits p code lo' before v now → Fits p code lo before v now
+  pub fits_less : (lo lo' : ℕ) (v : Store) (before now : List PlainFrame) → lo ≤ lo' → Fits p code lo' before v now
+      → Fits p code lo before v now
   fits_less lo lo' v before now le h = record {
     stand = h.stand;
     same_count = h.same_count;
-    top = record { back = h.top.back; routine = h.top.routine; declared = h.top.declared; long = h.top.long; link = h.top.link; cells = λ i a b. h.top.cells i a (omega arith); kinds = h.top.kinds; places = h.top.places };
+    top = record {
+      back = h.top.back;
+      routine = h.top.routine;
+      declared = h.top.declared;
+      long = h.top.long;
+      link = h.top.link;
+      cells =
+          λ i a b. h.top.cells i a (omega arith);
+      kinds = h.top.kinds;
+      places = h.top.places;
+    };
     others = h.others;
   }
 
-  others_kept : (now : List PlainFrame) (n i : ℕ) (c : Cell) → suc i < length (top_written now n c) → KeptBelow p code (length (get_or now i picture.no_frame).cells) (get_or now i picture.no_frame) (get_or (top_written now n c) i picture.no_frame)
+  others_kept : (now : List PlainFrame) (n i : ℕ) (c : Cell) → suc i < length (top_written now n c)
+      → KeptBelow p code (length (get_or now i picture.no_frame).cells) (get_or now i picture.no_frame)
+      (get_or (top_written now n c) i picture.no_frame)
   others_kept now n i c lt =
       let below : i ≡ length now - 1 → ⊥ = λ e. omega (arith, e, lt, count_kept now n c) in
-      subst (KeptBelow p code (length (get_or now i picture.no_frame).cells) (get_or now i picture.no_frame)) (sym (get_or-set_other now (length now - 1) i (frame_with (last_frame now) n c) picture.no_frame below))
+      subst (KeptBelow p code (length (get_or now i picture.no_frame).cells) (get_or now i picture.no_frame))
+      (sym (get_or-set_other now (length now - 1) i (frame_with (last_frame now) n c) picture.no_frame below))
       (kept_self _ (get_or now i picture.no_frame))
 
   -- the frame on top has as many cells in the store as its routine has slots
-  slots_are : (v : Store) (now : List PlainFrame) → StandFor p code v now → length (top_frame v).cells ≡ (routine_at p (last_frame now).routine).slots
+  slots_are : (v : Store) (now : List PlainFrame) → StandFor p code v now
+      → length (top_frame v).cells ≡ (routine_at p (last_frame now).routine).slots
   slots_are v now h = let same = top_same v now h in same.slots ∙ ap (λ r. (routine_at p r).slots) same.routine
 
   -- a write to a slot of the phrase
-  pub fits_temp : (lo : ℕ) (v : Store) (now : List PlainFrame) (n : ℕ) (c : Cell) → lo ≤ n → shift p (top_frame v).routine + length (top_frame v).cells ≤ n → StandFor p code v now → Fits p code lo now v (top_written now n c)
+  pub fits_temp : (lo : ℕ) (v : Store) (now : List PlainFrame) (n : ℕ) (c : Cell) → lo ≤ n
+      → shift p (top_frame v).routine + length (top_frame v).cells ≤ n → StandFor p code v now → Fits p code lo now v (top_written now n c)
   fits_temp lo v now n c le behind h = record {
     stand = stand_temp v now n c behind h;
     same_count = count_kept now n c;
@@ -415,10 +525,12 @@ module _ (p : Program) (code : PlainCode) where
       routine = refl;
       declared = refl;
       long = length-set (last_frame now).cells n c;
-      link = λ i a. get_or-set_other (last_frame now).cells n i c cell.Unset (λ e. omega (arith, e, a, behind, ap (shift p) (top_same v now h).routine));
+      link = λ i a. get_or-set_other (last_frame now).cells n i c cell.Unset
+          (λ e. omega (arith, e, a, behind, ap (shift p) (top_same v now h).routine));
       cells = λ i a b. get_or-set_other (last_frame now).cells n i c cell.Unset (λ e. omega (arith, e));
       kinds = refl;
-      places = λ i l e a. get_or-set_other (last_frame now).cells n i c cell.Unset (λ z. omega (arith, z, a, behind, slots_are v now h, ap (shift p) (top_same v now h).routine));
+      places = λ i l e a. get_or-set_other (last_frame now).cells n i c cell.Unset
+          (λ z. omega (arith, z, a, behind, slots_are v now h, ap (shift p) (top_same v now h).routine));
     });
     others = λ i lt. others_kept now n i c lt;
   }
@@ -430,7 +542,9 @@ module _ (p : Program) (code : PlainCode) where
   IsNumberKind slot.Mark = ⊥
   IsNumberKind (slot.Link r) = ⊥
 
-  kept_put : (v : Store) (lo : ℕ) (f : Frame) (g : PlainFrame) (n : ℕ) (c : Cell) → n < length f.cells → get_or g.kinds (shift p f.routine + n) slot.Mark ≡ slot.Number → SameFrame p code v f g → KeptBelow p code lo g (frame_with g (shift p f.routine + n) c)
+  kept_put : (v : Store) (lo : ℕ) (f : Frame) (g : PlainFrame) (n : ℕ) (c : Cell) → n < length f.cells
+      → get_or g.kinds (shift p f.routine + n) slot.Mark ≡ slot.Number → SameFrame p code v f g
+      → KeptBelow p code lo g (frame_with g (shift p f.routine + n) c)
   kept_put v lo f g n c there kind same =
       let shifts : shift p f.routine ≡ shift p g.routine = ap (shift p) same.routine in
       let slots : length f.cells ≡ (routine_at p g.routine).slots = same.slots ∙ ap (λ r. (routine_at p r).slots) same.routine in
@@ -442,11 +556,14 @@ module _ (p : Program) (code : PlainCode) where
         link = λ i a. get_or-set_other g.cells (shift p f.routine + n) i c cell.Unset (λ e. omega (arith, e, a, shifts));
         cells = λ i a b. get_or-set_other g.cells (shift p f.routine + n) i c cell.Unset (λ e. omega (arith, e, a, there, slots, shifts));
         kinds = refl;
-        places = λ i l is a. get_or-set_other g.cells (shift p f.routine + n) i c cell.Unset (λ e. subst IsNumberKind (sym kind ∙ ap (λ m. get_or g.kinds m slot.Mark) (sym e) ∙ is) tt);
+        places = λ i l is a. get_or-set_other g.cells (shift p f.routine + n) i c cell.Unset
+            (λ e. subst IsNumberKind (sym kind ∙ ap (λ m. get_or g.kinds m slot.Mark) (sym e) ∙ is) tt);
       }
 
   -- a number stored in a slot of a routine
-  pub fits_put : (lo : ℕ) (v : Store) (now : List PlainFrame) (f n : ℕ) (x : ℤ) → f < length v → n < length (get_or v f store.no_frame).cells → get_or (get_or now f picture.no_frame).kinds (shift_in p v f + n) slot.Mark ≡ slot.Number → is_integer x ≡ true
+  pub fits_put : (lo : ℕ) (v : Store) (now : List PlainFrame) (f n : ℕ) (x : ℤ) → f < length v
+      → n < length (get_or v f store.no_frame).cells
+      → get_or (get_or now f picture.no_frame).kinds (shift_in p v f + n) slot.Mark ≡ slot.Number → is_integer x ≡ true
       → StandFor p code v now → Fits p code lo now (put v f n (Number x)) (frames_with_cell now f (shift_in p v f + n) (cell.Int x))
   fits_put lo v now f n x live there kind integer h = record {
     stand = stand_put v now f n x live there kind integer h;
@@ -458,43 +575,60 @@ module _ (p : Program) (code : PlainCode) where
       long : length (frames_with_cell now f (shift_in p v f + n) (cell.Int x)) ≡ length now
       long = length-set now f (frame_with (get_or now f picture.no_frame) (shift_in p v f + n) (cell.Int x))
 
-      at : (k lo2 : ℕ) → (k ≡ f) ⊎ (k ≡ f → ⊥) → KeptBelow p code lo2 (get_or now k picture.no_frame) (get_or (frames_with_cell now f (shift_in p v f + n) (cell.Int x)) k picture.no_frame)
+      at : (k lo2 : ℕ) → (k ≡ f) ⊎ (k ≡ f → ⊥)
+          → KeptBelow p code lo2 (get_or now k picture.no_frame)
+          (get_or (frames_with_cell now f (shift_in p v f + n) (cell.Int x)) k picture.no_frame)
       at k lo2 (inl e) =
-          let is : get_or (frames_with_cell now f (shift_in p v f + n) (cell.Int x)) k picture.no_frame ≡ frame_with (get_or now k picture.no_frame) (shift_in p v k + n) (cell.Int x) =
-          ap (λ m. get_or (frames_with_cell now f (shift_in p v f + n) (cell.Int x)) m picture.no_frame) e ∙ get_or-set_same now f (frame_with (get_or now f picture.no_frame) (shift_in p v f + n) (cell.Int x)) picture.no_frame (omega (arith, live, h.count))
+          let is : get_or (frames_with_cell now f (shift_in p v f + n) (cell.Int x)) k picture.no_frame ≡ frame_with
+          (get_or now k picture.no_frame) (shift_in p v k + n) (cell.Int x) =
+          ap (λ m. get_or (frames_with_cell now f (shift_in p v f + n) (cell.Int x)) m picture.no_frame) e
+          ∙ get_or-set_same now f (frame_with (get_or now f picture.no_frame) (shift_in p v f + n) (cell.Int x)) picture.no_frame
+          (omega (arith, live, h.count))
           ∙ ap (λ m. frame_with (get_or now m picture.no_frame) (shift_in p v m + n) (cell.Int x)) (sym e) in
-          let here : n < length (get_or v k store.no_frame).cells = subst (λ m. n < length (get_or v m store.no_frame).cells) (sym e) there in
+          let here : n < length (get_or v k store.no_frame).cells =
+          subst (λ m. n < length (get_or v m store.no_frame).cells) (sym e) there in
           subst (KeptBelow p code lo2 (get_or now k picture.no_frame)) (sym is)
-          (kept_put v lo2 (get_or v k store.no_frame) (get_or now k picture.no_frame) n (cell.Int x) here (subst (λ m. get_or (get_or now m picture.no_frame).kinds (shift_in p v m + n) slot.Mark ≡ slot.Number) (sym e) kind) (h.frames k (omega (arith, e, live))))
+          (kept_put v lo2 (get_or v k store.no_frame) (get_or now k picture.no_frame) n (cell.Int x) here
+          (subst (λ m. get_or (get_or now m picture.no_frame).kinds (shift_in p v m + n) slot.Mark ≡ slot.Number) (sym e) kind)
+          (h.frames k (omega (arith, e, live))))
       at k lo2 (inr ne) =
-          subst (KeptBelow p code lo2 (get_or now k picture.no_frame)) (sym (get_or-set_other now f k (frame_with (get_or now f picture.no_frame) (shift_in p v f + n) (cell.Int x)) picture.no_frame ne))
+          subst (KeptBelow p code lo2 (get_or now k picture.no_frame))
+          (sym (get_or-set_other now f k (frame_with (get_or now f picture.no_frame) (shift_in p v f + n) (cell.Int x)) picture.no_frame
+          ne))
           (kept_self lo2 (get_or now k picture.no_frame))
 
       ap_top : KeptBelow p code lo (last_frame now) (last_frame (frames_with_cell now f (shift_in p v f + n) (cell.Int x)))
       ap_top =
           let last : length (frames_with_cell now f (shift_in p v f + n) (cell.Int x)) - 1 ≡ length now - 1 = ap (λ m. m - 1) long in
-          subst (λ m. KeptBelow p code lo (last_frame now) (get_or (frames_with_cell now f (shift_in p v f + n) (cell.Int x)) m picture.no_frame)) (sym last) (at (length now - 1) lo (cases_eq (length now - 1) f))
+          subst (λ m. KeptBelow p code lo (last_frame now)
+          (get_or (frames_with_cell now f (shift_in p v f + n) (cell.Int x)) m picture.no_frame)) (sym last)
+          (at (length now - 1) lo (cases_eq (length now - 1) f))
 
   -- ---- places
 
   -- each frame is of the routine that it was of, and has the kinds that it had
-  pub frame_routine : (lo k : ℕ) (v v' : Store) (now later : List PlainFrame) → k < length v → StandFor p code v now → Fits p code lo now v' later
+  pub frame_routine : (lo k : ℕ) (v v' : Store) (now later : List PlainFrame) → k < length v → StandFor p code v now
+      → Fits p code lo now v' later
       → (get_or later k picture.no_frame).routine ≡ (get_or now k picture.no_frame).routine
   frame_routine lo k v v' now later lt h fit = by (cases_lt (suc k) (length later))
     where
-      by : (suc k < length later) ⊎ (length later ≤ suc k) → (get_or later k picture.no_frame).routine ≡ (get_or now k picture.no_frame).routine
+      by : (suc k < length later) ⊎ (length later ≤ suc k)
+          → (get_or later k picture.no_frame).routine ≡ (get_or now k picture.no_frame).routine
       by (inl below) = (fit.others k below).routine
       by (inr last) =
           let at_later : length later - 1 ≡ k = omega (arith, last, lt, h.count, fit.same_count) in
           let at_now : length now - 1 ≡ k = omega (arith, last, lt, h.count, fit.same_count) in
-          ap (λ m. (get_or later m picture.no_frame).routine) (sym at_later) ∙ fit.top.routine ∙ ap (λ m. (get_or now m picture.no_frame).routine) at_now
+          ap (λ m. (get_or later m picture.no_frame).routine) (sym at_later) ∙ fit.top.routine
+          ∙ ap (λ m. (get_or now m picture.no_frame).routine) at_now
 
   -- numbers stay numbers
-  pub numbers_kept : (lo : ℕ) (q : Place) (v v' : Store) (now later : List PlainFrame) → StandFor p code v now → Fits p code lo now v' later → AreNumbers p code v now q → AreNumbers p code v' later q
+  pub numbers_kept : (lo : ℕ) (q : Place) (v v' : Store) (now later : List PlainFrame) → StandFor p code v now → Fits p code lo now v' later
+      → AreNumbers p code v now q → AreNumbers p code v' later q
   numbers_kept lo q v v' now later h fit numbers = record {
     frame = omega (arith, numbers.frame, h.count, fit.same_count, fit.stand.count);
     cells = λ k lt. there k lt;
-    kinds = λ k lt. ap (λ n. get_or (get_or later q.frame picture.no_frame).kinds (n + (q.slot + k)) slot.Mark) same_shift ∙ ap (λ ks. get_or ks (shift_in p v q.frame + (q.slot + k)) slot.Mark) same_kinds ∙ numbers.kinds k lt;
+    kinds = λ k lt. ap (λ n. get_or (get_or later q.frame picture.no_frame).kinds (n + (q.slot + k)) slot.Mark) same_shift
+        ∙ ap (λ ks. get_or ks (shift_in p v q.frame + (q.slot + k)) slot.Mark) same_kinds ∙ numbers.kinds k lt;
     free = numbers.free;
   }
     where
@@ -510,7 +644,8 @@ module _ (p : Program) (code : PlainCode) where
       same_slots : length (get_or v' q.frame store.no_frame).cells ≡ length (get_or v q.frame store.no_frame).cells
       same_slots =
           (fit.stand.frames q.frame in_later).slots
-          ∙ ap (λ r. (routine_at p r).slots) ((fit.stand.frames q.frame in_later).routine ∙ same_routine ∙ sym (h.frames q.frame numbers.frame).routine)
+          ∙ ap (λ r. (routine_at p r).slots) ((fit.stand.frames q.frame in_later).routine ∙ same_routine
+          ∙ sym (h.frames q.frame numbers.frame).routine)
           ∙ sym (h.frames q.frame numbers.frame).slots
 
       same_shift : shift_in p v' q.frame ≡ shift_in p v q.frame
@@ -520,24 +655,29 @@ module _ (p : Program) (code : PlainCode) where
       there k lt = omega (arith, numbers.cells k lt, same_slots)
 
   -- a place stays the same place after a phrase
-  pub place_kept : (lo : ℕ) (q : Place) (c : CellPlace) (v v' : Store) (now later : List PlainFrame) → q.frame < length v → StandFor p code v now → Fits p code lo now v' later → SamePlace p v q c → SamePlace p v' q c
+  pub place_kept : (lo : ℕ) (q : Place) (c : CellPlace) (v v' : Store) (now later : List PlainFrame) → q.frame < length v
+      → StandFor p code v now → Fits p code lo now v' later → SamePlace p v q c → SamePlace p v' q c
   place_kept lo q c v v' now later lt h fit same =
       let in_later : q.frame < length v' = omega (arith, lt, h.count, fit.same_count, fit.stand.count) in
       let shifts : shift_in p v' q.frame ≡ shift_in p v q.frame =
-      ap (shift p) ((fit.stand.frames q.frame in_later).routine ∙ frame_routine lo q.frame v v' now later lt h fit ∙ sym (h.frames q.frame lt).routine) in
+      ap (shift p) ((fit.stand.frames q.frame in_later).routine ∙ frame_routine lo q.frame v v' now later lt h fit
+      ∙ sym (h.frames q.frame lt).routine) in
       record { frame = same.frame; slot = ap (λ n. n + q.slot) shifts ∙ same.slot; size = same.size }
 
   -- what is at a place of one cell
-  pub content_there : (v : Store) (now : List PlainFrame) (q : Place) (c : CellPlace) → StandFor p code v now → AreNumbers p code v now q → 0 < q.size → SamePlace p v q c
+  pub content_there : (v : Store) (now : List PlainFrame) (q : Place) (c : CellPlace) → StandFor p code v now → AreNumbers p code v now q
+      → 0 < q.size → SamePlace p v q c
       → (number_at now c.frame c.slot ≡ true) × SameContent p v slot.Number (cell_of v q) (cell_at now c.frame c.slot cell.Unset)
   content_there v now q c h numbers some same =
       let sh = shift_in p v q.frame in
       let at : sh + (q.slot + 0) ≡ sh + q.slot = omega arith in
       let frame = h.frames q.frame numbers.frame in
       let there : q.slot < length (get_or v q.frame store.no_frame).cells = omega (arith, numbers.cells 0 some) in
-      let kind : get_or (get_or now q.frame picture.no_frame).kinds (sh + q.slot) slot.Mark ≡ slot.Number = ap (λ n. get_or (get_or now q.frame picture.no_frame).kinds n slot.Mark) (sym at) ∙ numbers.kinds 0 some in
+      let kind : get_or (get_or now q.frame picture.no_frame).kinds (sh + q.slot) slot.Mark ≡ slot.Number =
+      ap (λ n. get_or (get_or now q.frame picture.no_frame).kinds n slot.Mark) (sym at) ∙ numbers.kinds 0 some in
       let kinds_long : sh + q.slot < length (get_or now q.frame picture.no_frame).kinds = omega (arith, there, frame.within, frame.full) in
-      let found : number_at now q.frame (sh + q.slot) ≡ true = ap is_number (slice_get-get_or (get_or now q.frame picture.no_frame).kinds (sh + q.slot) slot.Mark kinds_long ∙ ap Some kind) in
+      let found : number_at now q.frame (sh + q.slot) ≡ true =
+      ap is_number (slice_get-get_or (get_or now q.frame picture.no_frame).kinds (sh + q.slot) slot.Mark kinds_long ∙ ap Some kind) in
       let content : SameContent p v slot.Number (cell_of v q) (cell_at now q.frame (sh + q.slot) cell.Unset) =
       subst (λ k. SameContent p v k (cell_of v q) (cell_at now q.frame (sh + q.slot) cell.Unset)) kind (frame.cells q.slot there) in (
         ap (λ f. number_at now f c.slot) (sym same.frame) ∙ ap (number_at now q.frame) (sym same.slot) ∙ found,

@@ -66,14 +66,16 @@ module _ (p : Program) where
       pub slots : length f.cells ≡ (routine_at p f.routine).slots
       pub within : shift f.routine + length f.cells ≤ length g.cells
       pub cells : (i : ℕ) → i < length f.cells →
-          SameContent v (get_or g.kinds (shift f.routine + i) slot.Mark) (get_or f.cells i Unknown) (get_or g.cells (shift f.routine + i) cell.Unset)
+          SameContent v (get_or g.kinds (shift f.routine + i) slot.Mark) (get_or f.cells i Unknown)
+          (get_or g.cells (shift f.routine + i) cell.Unset)
       pub link : 1 ≤ shift f.routine → get_or g.cells 0 cell.Unset ≡ cell.Place (link_to f.link)
 
     -- a place of the store whose cells are live numbers, of the frames that stand for it too, and not the input position
     pub record AreNumbers (v : Store) (now : List PlainFrame) (q : Place) : Type 0 where
       pub frame : q.frame < length v
       pub cells : (k : ℕ) → k < q.size → q.slot + k < length (get_or v q.frame store.no_frame).cells
-      pub kinds : (k : ℕ) → k < q.size → get_or (get_or now q.frame picture.no_frame).kinds (shift_in v q.frame + (q.slot + k)) slot.Mark ≡ slot.Number
+      pub kinds : (k : ℕ) → k < q.size → get_or (get_or now q.frame picture.no_frame).kinds (shift_in v q.frame + (q.slot + k)) slot.Mark
+          ≡ slot.Number
       pub free : q.frame ≡ 0 → 0 < q.slot
 
     -- a place that a slot of a frame holds: live numbers of a frame that is not above it, as many as the slot says
@@ -88,7 +90,8 @@ module _ (p : Program) where
       pub some : 1 ≤ length v
       pub frames : (k : ℕ) → k < length v → SameFrame v (get_or v k store.no_frame) (get_or now k picture.no_frame)
       pub links : (k : ℕ) → k < length v → 1 ≤ k → HasLink v k (get_or v k store.no_frame)
-      pub declared : (k : ℕ) → k < length v → (get_or now k picture.no_frame).declared ≡ (routine_at p (get_or v k store.no_frame).routine).declared
+      pub declared : (k : ℕ) → k < length v → (get_or now k picture.no_frame).declared
+          ≡ (routine_at p (get_or v k store.no_frame).routine).declared
       pub places : (k i : ℕ) (q : Place) → k < length v → get_or (get_or v k store.no_frame).cells i Unknown ≡ At q → HeldPlace v now k i q
       pub routines : (k : ℕ) → k < length v → (get_or v k store.no_frame).routine < length p.routines
       pub main : (get_or v 0 store.no_frame).routine ≡ 0
@@ -104,7 +107,8 @@ module _ (p : Program) where
       pub cells : (i : ℕ) → own_end g.routine ≤ i → i < lo → get_or g'.cells i cell.Unset ≡ get_or g.cells i cell.Unset
       pub kinds : g'.kinds ≡ g.kinds
       -- what a parameter's place is never changes
-      pub places : (i l : ℕ) → get_or g.kinds i slot.Mark ≡ slot.Place l → i < own_end g.routine → get_or g'.cells i cell.Unset ≡ get_or g.cells i cell.Unset
+      pub places : (i l : ℕ) → get_or g.kinds i slot.Mark ≡ slot.Place l → i < own_end g.routine
+          → get_or g'.cells i cell.Unset ≡ get_or g.cells i cell.Unset
 
     -- a phrase that began with the frames `before` and has its own slots from lo on leaves the frames `now`, which stand
     -- for the store v
@@ -112,7 +116,8 @@ module _ (p : Program) where
       pub stand : StandFor v now
       pub same_count : length now ≡ length before
       pub top : KeptBelow lo (last_frame before) (last_frame now)
-      pub others : (k : ℕ) → suc k < length now → KeptBelow (length (get_or before k picture.no_frame).cells) (get_or before k picture.no_frame) (get_or now k picture.no_frame)
+      pub others : (k : ℕ) → suc k < length now
+          → KeptBelow (length (get_or before k picture.no_frame).cells) (get_or before k picture.no_frame) (get_or now k picture.no_frame)
 
     -- the slots of a routine from lo on are of these kinds
     pub record HasSlots (r lo : ℕ) (kinds : List SlotKind) : Type 0 where

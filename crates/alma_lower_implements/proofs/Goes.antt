@@ -5,13 +5,15 @@
 -- for, where `more` steps may be had on credit; q steps must still be made before a cut. `fits` says where and how an
 -- alternative leaves the machine. A fault that has no line yet ends the machine at an address of the line of the statement
 -- around, and another one at an address of its own line. When something fails again, the entries of `base` may have got other carries.
-use Rattle.std.proofs.Common.{◌≡◌, ℕ, zero, suc, ◌+◌, ◌-◌, ◌<◌, ◌≤◌, List, [], ◌∷◌, ◌++◌, refl, sym, ap, ◌∙◌, arith, append_assoc, append-nil}
+use Rattle.std.proofs.Common.{◌≡◌, ℕ, zero, suc, ◌+◌, ◌-◌, ◌<◌, ◌≤◌, List, [], ◌∷◌, ◌++◌, refl, sym, ap, ◌∙◌, arith, append_assoc}
+use Rattle.std.proofs.Common.{append-nil}
 use Rattle.alma_code.specs.declared.step.End.TheVariants as end
 use Rattle.alma_code.specs.Picture.{PlainEntry}
 use Rattle.alma_code.specs.Plain.{PlainCode}
 use Rattle.alma_code.specs.Machine.{Mode, Going, Failing, Ended, Stuck, State, step, after, prints}
 use Rattle.alma_mean.specs.Store.{Store}
-use Rattle.alma_mean.specs.Events.{Events, Flow, Go, Return, Visit, Print, Alt, Fail, Fault, Cut, one, join, bind, visit_each, node, on_first, line_or, at_line}
+use Rattle.alma_mean.specs.Events.{Events, Flow, Go, Return, Visit, Print, Alt, Fail, Fault, Cut, one, join, bind, visit_each, node}
+use Rattle.alma_mean.specs.Events.{on_first, line_or, at_line}
 use Rattle.alma_lower_implements.specs.Implements.{line_in}
 
 -- the machine has not come to an end
@@ -90,7 +92,8 @@ module _ (code : PlainCode) (input : List ℕ) where
       let e : suc j + k ≡ suc (j + k) = omega arith in
       ap (λ n. prints code input n s) e
       ∙ ap (λ x. (step code input s).printed ++ x) (prints_sum j k (step code input s).state)
-      ∙ sym (append_assoc (step code input s).printed (prints code input j (step code input s).state) (prints code input k (after code input (suc j) s)))
+      ∙ sym (append_assoc (step code input s).printed (prints code input j (step code input s).state)
+      (prints code input k (after code input (suc j) s)))
 
   pub no_step : (s : State) → Silently 0 s s
   no_step s = record { steps = refl; silent = refl }
@@ -99,29 +102,38 @@ module _ (code : PlainCode) (input : List ℕ) where
   pub and_then : {j k : ℕ} {s t u : State} → Silently j s t → Silently k t u → Silently (j + k) s u
   and_then {j = j} {k = k} {s = s} a b = record {
     steps = after_sum j k s ∙ ap (after code input k) a.steps ∙ b.steps;
-    silent = prints_sum j k s ∙ ap (λ x. x ++ prints code input k (after code input j s)) a.silent ∙ ap (prints code input k) a.steps ∙ b.silent;
+    silent = prints_sum j k s ∙ ap (λ x. x ++ prints code input k (after code input j s)) a.silent ∙ ap (prints code input k) a.steps
+        ∙ b.silent;
   }
 
 -- `line` is that of the statement around
 module _ (code : PlainCode) (input : List ℕ) (line : ℕ) where
-  abbrev pub Goes : {A : Type 0} → (left more : ℕ) → (fits : Store → Flow A → State → Type 0) → (base : List PlainEntry) → Events A → State → (r q : ℕ) → Type 0
+  abbrev pub Goes : {A : Type 0} → (left more : ℕ) → (fits : Store → Flow A → State → Type 0) → (base : List PlainEntry) → Events A → State
+      → (r q : ℕ) → Type 0
   Goes left more fits base Fail s r q = (k : ℕ) × (t : State) × (k ≤ r) × Silently code input k s t × IsFailing base t
-  Goes left more fits base (Fault f own) s r q = (k : ℕ) × (t : State) × (k ≤ r) × Silently code input k s t × (t.mode ≡ Ended (end.Fault f)) × (line_in code t ≡ line_or own line)
+  Goes left more fits base (Fault f own) s r q = (k : ℕ) × (t : State) × (k ≤ r) × Silently code input k s t
+      × (t.mode ≡ Ended (end.Fault f)) × (line_in code t ≡ line_or own line)
   Goes left more fits base Cut s r q = (k : ℕ) × (t : State) × (k ≤ r) × Silently code input k s t × (q ≤ k) × IsOn t.mode
   Goes left more fits base (Visit e) s r q = Goes left more fits base e s (r + 32) q
   Goes left more fits base (Print bytes e) s r q =
-      (k : ℕ) × (t : State) × (suc k ≤ r) × Silently code input k s t × (u : State) × Prints code input bytes t u × IsOn u.mode × Goes left more fits base e u (r - suc k) (q - suc k)
+      (k : ℕ) × (t : State) × (suc k ≤ r) × Silently code input k s t × (u : State) × Prints code input bytes t u × IsOn u.mode
+      × Goes left more fits base e u (r - suc k) (q - suc k)
   Goes left more fits base (Alt v w e) s r q =
-      (k : ℕ) × (t : State) × (k + left ≤ r + more) × Silently code input k s t × (above : List PlainEntry) × IsGoing (base ++ above) t × fits v w t
+      (k : ℕ) × (t : State) × (k + left ≤ r + more) × Silently code input k s t × (above : List PlainEntry) × IsGoing (base ++ above) t
+      × fits v w t
       × ((base2 : List PlainEntry) (u : State) → Like base base2 → IsFailing (base2 ++ above) u → Goes left more fits base2 e u 0 (q - k))
 
   -- ---- more credit, less debt, and steps before
 
-  pub before : {A : Type 0} (left more : ℕ) (fits : Store → Flow A → State → Type 0) (base : List PlainEntry) (e : Events A) (s t : State) (j r p q u : ℕ) → Silently code input j s t → j + p ≤ r → q ≤ j + u → Goes left more fits base e t p u → Goes left more fits base e s r q
+  pub before : {A : Type 0} (left more : ℕ) (fits : Store → Flow A → State → Type 0) (base : List PlainEntry) (e : Events A) (s t : State)
+      (j r p q u : ℕ) → Silently code input j s t → j + p ≤ r → q ≤ j + u → Goes left more fits base e t p u
+      → Goes left more fits base e s r q
   before left more fits base Fail s t j r p q u a le de h = (j + h.0, h.1, omega (arith, h.2), and_then code input a h.3, h.4)
   before left more fits base (Fault f own) s t j r p q u a le de h = (j + h.0, h.1, omega (arith, h.2), and_then code input a h.3, h.4, h.5)
-  before left more fits base Cut s t j r p q u a le de h = (j + h.0, h.1, omega (arith, h.2), and_then code input a h.3, omega (arith, h.4), h.5)
-  before left more fits base (Visit e) s t j r p q u a le de h = before left more fits base e s t j (r + 32) (p + 32) q u a (omega arith) de h
+  before left more fits base Cut s t j r p q u a le de h =
+      (j + h.0, h.1, omega (arith, h.2), and_then code input a h.3, omega (arith, h.4), h.5)
+  before left more fits base (Visit e) s t j r p q u a le de h =
+      before left more fits base e s t j (r + 32) (p + 32) q u a (omega arith) de h
   before left more fits base (Print bytes e) s t j r p q u a le de h = (
     j + h.0,
     h.1,
@@ -130,7 +142,8 @@ module _ (code : PlainCode) (input : List ℕ) (line : ℕ) where
     h.4,
     h.5,
     h.6,
-    before left more fits base e h.4 h.4 0 (r - suc (j + h.0)) (p - suc h.0) (q - suc (j + h.0)) (u - suc h.0) (no_step code input h.4) (omega (arith, h.2)) (omega arith) h.7,
+    before left more fits base e h.4 h.4 0 (r - suc (j + h.0)) (p - suc h.0) (q - suc (j + h.0)) (u - suc h.0) (no_step code input h.4)
+        (omega (arith, h.2)) (omega arith) h.7,
   )
   before left more fits base (Alt v w e) s t j r p q u a le de h = (
     j + h.0,
@@ -140,16 +153,22 @@ module _ (code : PlainCode) (input : List ℕ) (line : ℕ) where
     h.4,
     h.5,
     h.6,
-    λ base2 x like failing. before left more fits base2 e x x 0 0 0 (q - (j + h.0)) (u - h.0) (no_step code input x) (omega arith) (omega arith) (h.7 base2 x like failing),
+    λ base2 x like failing. before left more fits base2 e x x 0 0 0 (q - (j + h.0)) (u - h.0) (no_step code input x) (omega arith)
+        (omega arith) (h.7 base2 x like failing),
   )
 
-  pub weaker : {A : Type 0} (left more : ℕ) (fits : Store → Flow A → State → Type 0) (base : List PlainEntry) (e : Events A) (s : State) (r p q u : ℕ) → p ≤ r → q ≤ u → Goes left more fits base e s p u → Goes left more fits base e s r q
-  weaker left more fits base e s r p q u le de h = before left more fits base e s s 0 r p q u (no_step code input s) (omega arith) (omega arith) h
+  pub weaker : {A : Type 0} (left more : ℕ) (fits : Store → Flow A → State → Type 0) (base : List PlainEntry) (e : Events A) (s : State)
+      (r p q u : ℕ) → p ≤ r → q ≤ u → Goes left more fits base e s p u → Goes left more fits base e s r q
+  weaker left more fits base e s r p q u le de h =
+      before left more fits base e s s 0 r p q u (no_step code input s) (omega arith) (omega arith) h
 
   -- ---- one list and then another
 
   -- g is what the machine does when it fails over `base` and the entries of `mid`, whatever the carries in `base` have become
-  pub join_goes : {A : Type 0} (left more : ℕ) (fits : Store → Flow A → State → Type 0) (base mid : List PlainEntry) (f g : Events A) (s : State) (r q : ℕ) → Goes left more fits (base ++ mid) f s r q → ((base2 : List PlainEntry) (u : State) → Like base base2 → IsFailing (base2 ++ mid) u → Goes left more fits base2 g u 0 q) → Goes left more fits base (join f g) s r q
+  pub join_goes : {A : Type 0} (left more : ℕ) (fits : Store → Flow A → State → Type 0) (base mid : List PlainEntry) (f g : Events A)
+      (s : State) (r q : ℕ) → Goes left more fits (base ++ mid) f s r q
+      → ((base2 : List PlainEntry) (u : State) → Like base base2 → IsFailing (base2 ++ mid) u → Goes left more fits base2 g u 0 q)
+      → Goes left more fits base (join f g) s r q
   join_goes left more fits base mid Fail g s r q h k =
       before left more fits base g s h.1 h.0 r 0 q q h.3 (omega (arith, h.2)) (omega arith) (k base h.1 (like_self base) h.4)
   join_goes left more fits base mid (Fault x own) g s r q h k = h
@@ -163,7 +182,8 @@ module _ (code : PlainCode) (input : List ℕ) (line : ℕ) where
     h.4,
     h.5,
     h.6,
-    join_goes left more fits base mid e g h.4 (r - suc h.0) (q - suc h.0) h.7 (λ base2 u like failing. weaker left more fits base2 g u 0 0 (q - suc h.0) q (omega arith) (omega arith) (k base2 u like failing)),
+    join_goes left more fits base mid e g h.4 (r - suc h.0) (q - suc h.0) h.7
+        (λ base2 u like failing. weaker left more fits base2 g u 0 0 (q - suc h.0) q (omega arith) (omega arith) (k base2 u like failing)),
   )
   join_goes left more fits base mid (Alt v w e) g s r q h k = (
     h.0,
@@ -175,20 +195,26 @@ module _ (code : PlainCode) (input : List ℕ) (line : ℕ) where
     h.6,
     λ base2 u like failing.
         join_goes left more fits base2 mid e g u 0 (q - h.0)
-        (h.7 (base2 ++ mid) u (like_below base base2 mid like) (record { mode = failing.mode; entries = failing.entries ∙ sym (append_assoc base2 mid h.4) }))
-        (λ base3 x like3 failing3. weaker left more fits base3 g x 0 0 (q - h.0) q (omega arith) (omega arith) (k base3 x (like_trans base base2 base3 like like3) failing3)),
+        (h.7 (base2 ++ mid) u (like_below base base2 mid like)
+        (record { mode = failing.mode; entries = failing.entries ∙ sym (append_assoc base2 mid h.4) }))
+        (λ base3 x like3 failing3. weaker left more fits base3 g x 0 0 (q - h.0) q (omega arith) (omega arith)
+        (k base3 x (like_trans base base2 base3 like like3) failing3)),
   )
 
   -- ---- in place of each alternative that goes on
 
-  pub bind_goes : {A B : Type 0} (left left2 more2 : ℕ) (fits : Store → Flow A → State → Type 0) (fits2 : Store → Flow B → State → Type 0) (base : List PlainEntry) (e : Events A) (f : Store → A → Events B) (s : State) (r q p : ℕ) → p ≤ left → left2 ≤ left + more2 → Goes left 0 fits base e s r q
-      → ((v : Store) (y : A) (t : State) (held : List PlainEntry) → IsGoing held t → fits v (Go y) t → Goes left2 more2 fits2 held (f v y) t p q)
+  pub bind_goes : {A B : Type 0} (left left2 more2 : ℕ) (fits : Store → Flow A → State → Type 0) (fits2 : Store → Flow B → State → Type 0)
+      (base : List PlainEntry) (e : Events A) (f : Store → A → Events B) (s : State) (r q p : ℕ) → p ≤ left → left2 ≤ left + more2
+      → Goes left 0 fits base e s r q
+      → ((v : Store) (y : A) (t : State) (held : List PlainEntry) → IsGoing held t → fits v (Go y) t
+      → Goes left2 more2 fits2 held (f v y) t p q)
       → ((v : Store) (n : _) (t : State) → fits v (Return n) t → fits2 v (Return n) t)
       → Goes left2 more2 fits2 base (bind e f) s r q
   bind_goes left left2 more2 fits fits2 base Fail f s r q p pl ll h k back = h
   bind_goes left left2 more2 fits fits2 base (Fault x own) f s r q p pl ll h k back = h
   bind_goes left left2 more2 fits fits2 base Cut f s r q p pl ll h k back = h
-  bind_goes left left2 more2 fits fits2 base (Visit e) f s r q p pl ll h k back = bind_goes left left2 more2 fits fits2 base e f s (r + 32) q p pl ll h k back
+  bind_goes left left2 more2 fits fits2 base (Visit e) f s r q p pl ll h k back =
+      bind_goes left left2 more2 fits fits2 base e f s (r + 32) q p pl ll h k back
   bind_goes left left2 more2 fits fits2 base (Print bytes e) f s r q p pl ll h k back = (
     h.0,
     h.1,
@@ -197,7 +223,9 @@ module _ (code : PlainCode) (input : List ℕ) (line : ℕ) where
     h.4,
     h.5,
     h.6,
-    bind_goes left left2 more2 fits fits2 base e f h.4 (r - suc h.0) (q - suc h.0) p pl ll h.7 (λ v y t held going fit. weaker left2 more2 fits2 held (f v y) t p p (q - suc h.0) q (omega arith) (omega arith) (k v y t held going fit)) back,
+    bind_goes left left2 more2 fits fits2 base e f h.4 (r - suc h.0) (q - suc h.0) p pl ll h.7
+        (λ v y t held going fit. weaker left2 more2 fits2 held (f v y) t p p (q - suc h.0) q (omega arith) (omega arith)
+        (k v y t held going fit)) back,
   )
   bind_goes left left2 more2 fits fits2 base (Alt v (Return n) e) f s r q p pl ll h k back = (
     h.0,
@@ -208,18 +236,23 @@ module _ (code : PlainCode) (input : List ℕ) (line : ℕ) where
     h.5,
     back v n h.1 h.6,
     λ base2 u like failing. bind_goes left left2 more2 fits fits2 base2 e f u 0 (q - h.0) p pl ll (h.7 base2 u like failing)
-        (λ x y t held going fit. weaker left2 more2 fits2 held (f x y) t p p (q - h.0) q (omega arith) (omega arith) (k x y t held going fit)) back,
+        (λ x y t held going fit. weaker left2 more2 fits2 held (f x y) t p p (q - h.0) q (omega arith) (omega arith)
+        (k x y t held going fit)) back,
   )
   bind_goes left left2 more2 fits fits2 base (Alt v (Go y) e) f s r q p pl ll h k back =
-      let less = λ (x : Store) (z : _) (t : State) (held : List PlainEntry) (going : IsGoing held t) (fit : fits x (Go z) t). weaker left2 more2 fits2 held (f x z) t p p (q - h.0) q (omega arith) (omega arith) (k x z t held going fit) in
+      let less = λ (x : Store) (z : _) (t : State) (held : List PlainEntry) (going : IsGoing held t) (fit : fits x (Go z) t). weaker left2
+      more2 fits2 held (f x z) t p p (q - h.0) q (omega arith) (omega arith) (k x z t held going fit) in
       before left2 more2 fits2 base (join (f v y) (bind e f)) s h.1 h.0 r p q (q - h.0) h.3 (omega (arith, h.2)) (omega arith)
       (join_goes left2 more2 fits2 base h.4 (f v y) (bind e f) h.1 p (q - h.0) (less v y h.1 (base ++ h.4) h.5 h.6)
       (λ base2 u like failing. bind_goes left left2 more2 fits fits2 base2 e f u 0 (q - h.0) p pl ll (h.7 base2 u like failing) less back))
 
   -- ---- up to the first alternative; c more steps are handed on to both ways
 
-  pub first_goes : {A B : Type 0} (left left2 more2 : ℕ) (fits : Store → Flow A → State → Type 0) (fits2 : Store → Flow B → State → Type 0) (base base2 : List PlainEntry) (e : Events A) (found : Store → Flow A → Events B) (none : Unit {0} → Events B) (c : ℕ) (s : State) (r q : ℕ) → Goes left 0 fits base e s r q
-      → ((v : Store) (w : Flow A) (t : State) (above : List PlainEntry) → IsGoing (base ++ above) t → fits v w t → Goes left2 more2 fits2 base2 (found v w) t (left + c) q)
+  pub first_goes : {A B : Type 0} (left left2 more2 : ℕ) (fits : Store → Flow A → State → Type 0) (fits2 : Store → Flow B → State → Type 0)
+      (base base2 : List PlainEntry) (e : Events A) (found : Store → Flow A → Events B) (none : Unit {0} → Events B) (c : ℕ) (s : State)
+      (r q : ℕ) → Goes left 0 fits base e s r q
+      → ((v : Store) (w : Flow A) (t : State) (above : List PlainEntry) → IsGoing (base ++ above) t → fits v w t
+      → Goes left2 more2 fits2 base2 (found v w) t (left + c) q)
       → ((u : State) → IsFailing base u → Goes left2 more2 fits2 base2 (none tt) u c q)
       → Goes left2 more2 fits2 base2 (on_first e found none) s (r + c) q
   first_goes left left2 more2 fits fits2 base base2 Fail found none c s r q h k n =
@@ -237,34 +270,49 @@ module _ (code : PlainCode) (input : List ℕ) (line : ℕ) where
     h.4,
     h.5,
     h.6,
-    weaker left2 more2 fits2 base2 (on_first e found none) h.4 (r + c - suc h.0) (r - suc h.0 + c) (q - suc h.0) (q - suc h.0) (omega (arith, h.2)) (omega arith)
+    weaker left2 more2 fits2 base2 (on_first e found none) h.4 (r + c - suc h.0) (r - suc h.0 + c) (q - suc h.0) (q - suc h.0)
+        (omega (arith, h.2)) (omega arith)
         (first_goes left left2 more2 fits fits2 base base2 e found none c h.4 (r - suc h.0) (q - suc h.0) h.7
-        (λ v w t above going fit. weaker left2 more2 fits2 base2 (found v w) t (left + c) (left + c) (q - suc h.0) q (omega arith) (omega arith) (k v w t above going fit))
+        (λ v w t above going fit. weaker left2 more2 fits2 base2 (found v w) t (left + c) (left + c) (q - suc h.0) q (omega arith)
+        (omega arith) (k v w t above going fit))
         (λ u failing. weaker left2 more2 fits2 base2 (none tt) u c c (q - suc h.0) q (omega arith) (omega arith) (n u failing))),
   )
   first_goes left left2 more2 fits fits2 base base2 (Alt v w e) found none c s r q h k n =
-      before left2 more2 fits2 base2 (found v w) s h.1 h.0 (r + c) (left + c) q q h.3 (omega (arith, h.2)) (omega arith) (k v w h.1 h.4 h.5 h.6)
+      before left2 more2 fits2 base2 (found v w) s h.1 h.0 (r + c) (left + c) q q h.3 (omega (arith, h.2)) (omega arith)
+      (k v w h.1 h.4 h.5 h.6)
 
   -- ---- a visit before each alternative pays for 32 steps more
 
-  pub visited_goes : {A : Type 0} (left left2 more : ℕ) (fits : Store → Flow A → State → Type 0) (base : List PlainEntry) (e : Events A) (s : State) (r q : ℕ) → left2 + more ≤ left + 32 → Goes left more fits base e s r q → Goes left2 0 fits base (visit_each e) s r q
+  pub visited_goes : {A : Type 0} (left left2 more : ℕ) (fits : Store → Flow A → State → Type 0) (base : List PlainEntry) (e : Events A)
+      (s : State) (r q : ℕ) → left2 + more ≤ left + 32 → Goes left more fits base e s r q → Goes left2 0 fits base (visit_each e) s r q
   visited_goes left left2 more fits base Fail s r q le h = h
   visited_goes left left2 more fits base (Fault x own) s r q le h = h
   visited_goes left left2 more fits base Cut s r q le h = h
   visited_goes left left2 more fits base (Visit e) s r q le h = visited_goes left left2 more fits base e s (r + 32) q le h
   visited_goes left left2 more fits base (Print bytes e) s r q le h =
       (h.0, h.1, h.2, h.3, h.4, h.5, h.6, visited_goes left left2 more fits base e h.4 (r - suc h.0) (q - suc h.0) le h.7)
-  visited_goes left left2 more fits base (Alt v w e) s r q le h =
-      (h.0, h.1, omega (arith, h.2), h.3, h.4, h.5, h.6, λ base2 u like failing. visited_goes left left2 more fits base2 e u 0 (q - h.0) le (h.7 base2 u like failing))
+  visited_goes left left2 more fits base (Alt v w e) s r q le h = (
+    h.0,
+    h.1,
+    omega (arith, h.2),
+    h.3,
+    h.4,
+    h.5,
+    h.6,
+    λ base2 u like failing. visited_goes left left2 more fits base2 e u 0 (q - h.0) le (h.7 base2 u like failing),
+  )
 
   -- a node: its own visit pays for 32 steps, and so does the one before each alternative
-  pub node_goes : {A : Type 0} (left left2 more : ℕ) (fits : Store → Flow A → State → Type 0) (base : List PlainEntry) (e : Events A) (s : State) (r q : ℕ) → left2 + more ≤ left + 32 → Goes left more fits base e s (r + 32) q → Goes left2 0 fits base (node e) s r q
+  pub node_goes : {A : Type 0} (left left2 more : ℕ) (fits : Store → Flow A → State → Type 0) (base : List PlainEntry) (e : Events A)
+      (s : State) (r q : ℕ) → left2 + more ≤ left + 32 → Goes left more fits base e s (r + 32) q → Goes left2 0 fits base (node e) s r q
   node_goes left left2 more fits base e s r q le h = visited_goes left left2 more fits base e s (r + 32) q le h
 
   -- ---- some steps after each alternative, or another word for where it leaves off
 
-  pub then_goes : {A : Type 0} (left left2 more j : ℕ) (fits fits2 : Store → Flow A → State → Type 0) (base : List PlainEntry) (e : Events A) (s : State) (r q : ℕ) → left2 + j ≤ left
-      → ((v : Store) (w : Flow A) (t : State) (held : List PlainEntry) → IsGoing held t → fits v w t → (u : State) × Silently code input j t u × IsGoing held u × fits2 v w u)
+  pub then_goes : {A : Type 0} (left left2 more j : ℕ) (fits fits2 : Store → Flow A → State → Type 0) (base : List PlainEntry)
+      (e : Events A) (s : State) (r q : ℕ) → left2 + j ≤ left
+      → ((v : Store) (w : Flow A) (t : State) (held : List PlainEntry) → IsGoing held t → fits v w t → (u : State)
+      × Silently code input j t u × IsGoing held u × fits2 v w u)
       → Goes left more fits base e s r q → Goes left2 more fits2 base e s r q
   then_goes left left2 more j fits fits2 base Fail s r q le k h = h
   then_goes left left2 more j fits fits2 base (Fault x own) s r q le k h = h
@@ -281,11 +329,13 @@ module _ (code : PlainCode) (input : List ℕ) (line : ℕ) where
         h.4,
         more_steps.2,
         more_steps.3,
-        λ base2 u like failing. weaker left2 more fits2 base2 e u 0 0 (q - (h.0 + j)) (q - h.0) (omega arith) (omega arith) (then_goes left left2 more j fits fits2 base2 e u 0 (q - h.0) le k (h.7 base2 u like failing)),
+        λ base2 u like failing. weaker left2 more fits2 base2 e u 0 0 (q - (h.0 + j)) (q - h.0) (omega arith) (omega arith)
+            (then_goes left left2 more j fits fits2 base2 e u 0 (q - h.0) le k (h.7 base2 u like failing)),
       )
 
   -- an alternative at hand
-  pub one_goes : {A : Type 0} (left more : ℕ) (fits : Store → Flow A → State → Type 0) (base : List PlainEntry) (v : Store) (y : A) (s : State) (r q : ℕ) → left ≤ r + more → IsGoing base s → fits v (Go y) s → Goes left more fits base (one v y) s r q
+  pub one_goes : {A : Type 0} (left more : ℕ) (fits : Store → Flow A → State → Type 0) (base : List PlainEntry) (v : Store) (y : A)
+      (s : State) (r q : ℕ) → left ≤ r + more → IsGoing base s → fits v (Go y) s → Goes left more fits base (one v y) s r q
   one_goes left more fits base v y s r q le going fit = (
     0,
     s,
@@ -294,20 +344,35 @@ module _ (code : PlainCode) (input : List ℕ) (line : ℕ) where
     [],
     record { mode = going.mode; entries = going.entries ∙ sym (append-nil base) },
     fit,
-    λ base2 u like failing. (0, u, omega arith, no_step code input u, record { mode = failing.mode; entries = failing.entries ∙ append-nil base2 }),
+    λ base2 u like failing. (
+      0,
+      u,
+      omega arith,
+      no_step code input u,
+      record { mode = failing.mode; entries = failing.entries ∙ append-nil base2 },
+    ),
   )
 
   -- ---- what is left at an alternative, in other words
 
-  pub credited : {A : Type 0} (left left2 more more2 : ℕ) (fits : Store → Flow A → State → Type 0) (base : List PlainEntry) (e : Events A) (s : State) (r q : ℕ) → left2 + more ≤ left + more2 → Goes left more fits base e s r q → Goes left2 more2 fits base e s r q
+  pub credited : {A : Type 0} (left left2 more more2 : ℕ) (fits : Store → Flow A → State → Type 0) (base : List PlainEntry) (e : Events A)
+      (s : State) (r q : ℕ) → left2 + more ≤ left + more2 → Goes left more fits base e s r q → Goes left2 more2 fits base e s r q
   credited left left2 more more2 fits base Fail s r q le h = h
   credited left left2 more more2 fits base (Fault x own) s r q le h = h
   credited left left2 more more2 fits base Cut s r q le h = h
   credited left left2 more more2 fits base (Visit e) s r q le h = credited left left2 more more2 fits base e s (r + 32) q le h
   credited left left2 more more2 fits base (Print bytes e) s r q le h =
       (h.0, h.1, h.2, h.3, h.4, h.5, h.6, credited left left2 more more2 fits base e h.4 (r - suc h.0) (q - suc h.0) le h.7)
-  credited left left2 more more2 fits base (Alt v w e) s r q le h =
-      (h.0, h.1, omega (arith, h.2), h.3, h.4, h.5, h.6, λ base2 u like failing. credited left left2 more more2 fits base2 e u 0 (q - h.0) le (h.7 base2 u like failing))
+  credited left left2 more more2 fits base (Alt v w e) s r q le h = (
+    h.0,
+    h.1,
+    omega (arith, h.2),
+    h.3,
+    h.4,
+    h.5,
+    h.6,
+    λ base2 u like failing. credited left left2 more more2 fits base2 e u 0 (q - h.0) le (h.7 base2 u like failing),
+  )
 
 -- ---- the line of a statement
 
@@ -317,13 +382,25 @@ line_or_known zero (suc given) around some = refl
 line_or_known (suc own) given around some = refl
 
 -- a statement with a line of its own, inside one with another line
-pub lined_goes : {A : Type 0} (code : PlainCode) (input : List ℕ) (around given : ℕ) (left more : ℕ) (fits : Store → Flow A → State → Type 0) (base : List PlainEntry) (e : Events A) (s : State) (r q : ℕ) → 0 < given
+pub lined_goes : {A : Type 0} (code : PlainCode) (input : List ℕ) (around given : ℕ) (left more : ℕ)
+    (fits : Store → Flow A → State → Type 0) (base : List PlainEntry) (e : Events A) (s : State) (r q : ℕ) → 0 < given
     → Goes code input given left more fits base e s r q → Goes code input around left more fits base (at_line given e) s r q
 lined_goes code input around given left more fits base Fail s r q some h = h
-lined_goes code input around given left more fits base (Fault f own) s r q some h = (h.0, h.1, h.2, h.3, h.4, h.5 ∙ sym (line_or_known own given around some))
+lined_goes code input around given left more fits base (Fault f own) s r q some h =
+    (h.0, h.1, h.2, h.3, h.4, h.5 ∙ sym (line_or_known own given around some))
 lined_goes code input around given left more fits base Cut s r q some h = h
-lined_goes code input around given left more fits base (Visit e) s r q some h = lined_goes code input around given left more fits base e s (r + 32) q some h
+lined_goes code input around given left more fits base (Visit e) s r q some h =
+    lined_goes code input around given left more fits base e s (r + 32) q some h
 lined_goes code input around given left more fits base (Print bytes e) s r q some h =
     (h.0, h.1, h.2, h.3, h.4, h.5, h.6, lined_goes code input around given left more fits base e h.4 (r - suc h.0) (q - suc h.0) some h.7)
-lined_goes code input around given left more fits base (Alt v w e) s r q some h =
-    (h.0, h.1, h.2, h.3, h.4, h.5, h.6, λ base2 u like failing. lined_goes code input around given left more fits base2 e u 0 (q - h.0) some (h.7 base2 u like failing))
+lined_goes code input around given left more fits base (Alt v w e) s r q some h = (
+  h.0,
+  h.1,
+  h.2,
+  h.3,
+  h.4,
+  h.5,
+  h.6,
+  λ base2 u like failing. lined_goes code input around given left more fits base2 e u 0 (q - h.0) some
+      (h.7 base2 u like failing),
+)

@@ -20,7 +20,8 @@ use Rattle.alma_lower_implements.proofs.Goes.{Silently, and_then, before, one_go
 use Rattle.alma_lower_implements.proofs.Frames.{shift, shift_in, own_end, HasLink, SamePlace, AreNumbers, StandFor, Fits, IsAt}
 use Rattle.alma_lower_implements.proofs.FrameLemmas.{fits_on, fits_less, fits_temp, holds_written}
 use Rattle.alma_lower_implements.proofs.Steps.{top_written, Holds, InstrAt, own_step, chain_step, outer_step}
-use Rattle.alma_lower_implements.proofs.ExprRows.{kind_there, within_frame, slots_behind_routine, some_frames, LeavesPlace, begun, AreVariables, RunsPlace, InsideOf, as_node}
+use Rattle.alma_lower_implements.proofs.ExprRows.{kind_there, within_frame, slots_behind_routine, some_frames, LeavesPlace, begun}
+use Rattle.alma_lower_implements.proofs.ExprRows.{AreVariables, RunsPlace, InsideOf, as_node}
 
 module _ (p : Program) where
   -- so many links lead up from a frame, each held by the frame before it
@@ -36,11 +37,18 @@ module _ (p : Program) where
 
   module _ (code : PlainCode) where
     -- links that are fewer than the level lead up
-    pub linked_up : (v : Store) (now : List PlainFrame) (f links : ℕ) → ((r : ℕ) → r < length p.routines → IsNested p r (routine_at p r)) → ((k : ℕ) → k < length v → (get_or v k store.no_frame).routine < length p.routines)
-        → (get_or v 0 store.no_frame).routine ≡ 0 → StandFor p code v now → f < length v → links < (routine_at p (get_or v f store.no_frame).routine).level → LinkedUp v f links
+    pub linked_up : (v : Store) (now : List PlainFrame) (f links : ℕ) → ((r : ℕ) → r < length p.routines → IsNested p r (routine_at p r))
+        → ((k : ℕ) → k < length v → (get_or v k store.no_frame).routine < length p.routines)
+        → (get_or v 0 store.no_frame).routine ≡ 0 → StandFor p code v now → f < length v
+        → links < (routine_at p (get_or v f store.no_frame).routine).level → LinkedUp v f links
     linked_up v now f zero nested routines main stand lt few = lt
-    linked_up v now f (suc k) nested routines main stand lt few =
-        (lt, has_shift (routine_at p (get_or v f store.no_frame).routine).level (omega (arith, few)), some_frame, linked_up v now (get_or v f store.no_frame).link k nested routines main stand (omega (arith, link.below, lt)) (omega (arith, few, above, outer_is)))
+    linked_up v now f (suc k) nested routines main stand lt few = (
+      lt,
+      has_shift (routine_at p (get_or v f store.no_frame).routine).level (omega (arith, few)),
+      some_frame,
+      linked_up v now (get_or v f store.no_frame).link k nested routines main stand (omega (arith, link.below, lt))
+          (omega (arith, few, above, outer_is)),
+    )
       where
         r : ℕ
         r = (get_or v f store.no_frame).routine
@@ -49,24 +57,28 @@ module _ (p : Program) where
         not_main = elim (cases_eq (get_or v f store.no_frame).routine 0) [
           | inl e ↦
               let some : 0 < length p.routines = omega (arith, e, routines f lt) in
-              let level : (routine_at p (get_or v f store.no_frame).routine).level ≡ 0 = ap (λ q. (routine_at p q).level) e ∙ ((nested 0 some).body refl).0 in
+              let level : (routine_at p (get_or v f store.no_frame).routine).level ≡ 0 = ap (λ q. (routine_at p q).level) e
+              ∙ ((nested 0 some).body refl).0 in
               absurd (omega (arith, few, level))
           | inr ne ↦ omega (arith, ne)
         ]
 
         some_frame : 1 ≤ f
         some_frame = elim (cases_eq f 0) [
-          | inl e ↦ let is : (get_or v f store.no_frame).routine ≡ 0 = ap (λ q. (get_or v q store.no_frame).routine) e ∙ main in absurd (omega (arith, is, not_main))
+          | inl e ↦ let is : (get_or v f store.no_frame).routine ≡ 0 = ap (λ q. (get_or v q store.no_frame).routine) e ∙ main in
+              absurd (omega (arith, is, not_main))
           | inr ne ↦ omega (arith, ne)
         ]
 
         link : HasLink p v f (get_or v f store.no_frame)
         link = stand.links f lt some_frame
 
-        outer_is : (routine_at p (get_or v (get_or v f store.no_frame).link store.no_frame).routine).level ≡ (routine_at p (routine_at p (get_or v f store.no_frame).routine).outer).level
+        outer_is : (routine_at p (get_or v (get_or v f store.no_frame).link store.no_frame).routine).level
+            ≡ (routine_at p (routine_at p (get_or v f store.no_frame).routine).outer).level
         outer_is = ap (λ q. (routine_at p q).level) link.outer
 
-        above : (routine_at p (get_or v f store.no_frame).routine).level ≡ suc (routine_at p (routine_at p (get_or v f store.no_frame).routine).outer).level
+        above : (routine_at p (get_or v f store.no_frame).routine).level ≡ suc
+            (routine_at p (routine_at p (get_or v f store.no_frame).routine).outer).level
         above = (nested (get_or v f store.no_frame).routine (routines f lt)).above not_main
 
     -- the frame there is live, and of the routine so many links up
@@ -74,13 +86,15 @@ module _ (p : Program) where
     up_live v f zero up = up
     up_live v f (suc k) up = up_live v (get_or v f store.no_frame).link k up.3
 
-    pub up_routine : (v : Store) (now : List PlainFrame) (f links : ℕ) → StandFor p code v now → LinkedUp v f links → (get_or v (up_from v f links) store.no_frame).routine ≡ outer_at p (get_or v f store.no_frame).routine links
+    pub up_routine : (v : Store) (now : List PlainFrame) (f links : ℕ) → StandFor p code v now → LinkedUp v f links
+        → (get_or v (up_from v f links) store.no_frame).routine ≡ outer_at p (get_or v f store.no_frame).routine links
     up_routine v now f zero stand up = refl
     up_routine v now f (suc k) stand up =
         up_routine v now (get_or v f store.no_frame).link k stand up.3 ∙ ap (λ q. outer_at p q k) (stand.links f up.0 up.2).outer
 
     -- the first slot of a frame with a link holds it
-    pub link_held : (v : Store) (now : List PlainFrame) (f : ℕ) → StandFor p code v now → f < length v → 1 ≤ shift_in p v f → slice_get (get_or now f picture.no_frame).cells 0 ≡ Some (cell.Place (link_to (get_or v f store.no_frame).link))
+    pub link_held : (v : Store) (now : List PlainFrame) (f : ℕ) → StandFor p code v now → f < length v → 1 ≤ shift_in p v f
+        → slice_get (get_or now f picture.no_frame).cells 0 ≡ Some (cell.Place (link_to (get_or v f store.no_frame).link))
     link_held v now f stand lt some =
         let same = stand.frames f lt in
         slice_get-get_or (get_or now f picture.no_frame).cells 0 cell.Unset (omega (arith, same.within, some)) ∙ ap Some (same.link some)
@@ -106,8 +120,11 @@ module _ (p : Program) (code : PlainCode) (input : List ℕ) (line : ℕ) where
     pub fits : Fits p code lo now v frames
     pub holds : Holds frames n (cell.Place (link_to f))
 
-  pub chain_goes : (links at lo0 lo f r : ℕ) (v : Store) (before now : List PlainFrame) (held : List PlainEntry) (s0 s : State) (j : ℕ) → lo0 ≤ lo → own_end p r ≤ lo0 → Silently code input j s0 s → IsAt at now held s → Fits p code lo0 before v now → (top_frame v).routine ≡ r
-      → LinkedUp p v f links → Holds now lo (cell.Place (link_to f)) → ChainsAt at lo links → AreLinks r lo links → Linked (j + links) (at + links) lo0 (lo + links) (up_from v f links) before held v s0
+  pub chain_goes : (links at lo0 lo f r : ℕ) (v : Store) (before now : List PlainFrame) (held : List PlainEntry) (s0 s : State) (j : ℕ)
+      → lo0 ≤ lo → own_end p r ≤ lo0 → Silently code input j s0 s → IsAt at now held s → Fits p code lo0 before v now
+      → (top_frame v).routine ≡ r
+      → LinkedUp p v f links → Holds now lo (cell.Place (link_to f)) → ChainsAt at lo links → AreLinks r lo links
+      → Linked (j + links) (at + links) lo0 (lo + links) (up_from v f links) before held v s0
   chain_goes zero at lo0 lo f r v before now held s0 s j le behind run is fits routine up holds chains kinds =
       let jz : j ≡ j + 0 = omega arith in
       let az : at ≡ at + 0 = omega arith in
@@ -126,10 +143,14 @@ module _ (p : Program) (code : PlainCode) (input : List ℕ) (line : ℕ) where
       let there = link_held p code v now f fits.stand up.0 up.1 in
       let w = chain_step code input line at now held s is (lo + 1) lo 0 f g kinds.0.0 chains.0 kind holds there in
       let later = top_written now (lo + 1) (cell.Place (link_to g)) in
-      let one : Fits p code (lo + 1) now v later = fits_temp p code (lo + 1) v now (lo + 1) (cell.Place (link_to g)) (omega arith) (slots_behind_routine p code input v now r fits.stand routine (lo + 1) (omega (arith, le, behind))) fits.stand in
+      let one : Fits p code (lo + 1) now v later =
+      fits_temp p code (lo + 1) v now (lo + 1) (cell.Place (link_to g)) (omega arith)
+      (slots_behind_routine p code input v now r fits.stand routine (lo + 1) (omega (arith, le, behind))) fits.stand in
       let whole : Fits p code lo0 before v later = fits_on p code lo0 (lo + 1) v v before now later (omega (arith, le)) fits one in
-      let held_there = holds_written now (lo + 1) (cell.Place (link_to g)) (some_frames p code input v now r fits.stand routine) (within_frame p code input v now r fits.stand routine (lo + 1) (slot.Link kinds.0.0) kinds.0.1) in
-      let rest = chain_goes k (at + 1) lo0 (lo + 1) g r v before later held s0 w.to (j + 1) (omega (arith, le)) behind (and_then code input run w.silently) w.is whole routine up.3 held_there chains.1 kinds.1 in
+      let held_there = holds_written now (lo + 1) (cell.Place (link_to g)) (some_frames p code input v now r fits.stand routine)
+      (within_frame p code input v now r fits.stand routine (lo + 1) (slot.Link kinds.0.0) kinds.0.1) in
+      let rest = chain_goes k (at + 1) lo0 (lo + 1) g r v before later held s0 w.to (j + 1) (omega (arith, le)) behind
+      (and_then code input run w.silently) w.is whole routine up.3 held_there chains.1 kinds.1 in
       let js : j + 1 + k ≡ j + suc k = omega arith in
       let as_ : at + 1 + k ≡ at + suc k = omega arith in
       let ls : lo + 1 + k ≡ lo + suc k = omega arith in
@@ -143,15 +164,19 @@ module _ (p : Program) (code : PlainCode) (input : List ℕ) (line : ℕ) where
       }
 
   -- Own, and then the chain: a link to the frame so many links up from the one on top
-  pub link_goes : (links at lo r : ℕ) (v : Store) (now : List PlainFrame) (held : List PlainEntry) (s : State) → own_end p r ≤ lo → IsAt at now held s → StandFor p code v now → (top_frame v).routine ≡ r
-      → LinkedUp p v (top v) links → InstrAt code input line at (I.Own lo) → (q : ℕ) → slice_get (kinds_at code r) lo ≡ Some (slot.Link q) → ChainsAt (at + 1) lo links → AreLinks r lo links
+  pub link_goes : (links at lo r : ℕ) (v : Store) (now : List PlainFrame) (held : List PlainEntry) (s : State) → own_end p r ≤ lo
+      → IsAt at now held s → StandFor p code v now → (top_frame v).routine ≡ r
+      → LinkedUp p v (top v) links → InstrAt code input line at (I.Own lo) → (q : ℕ) → slice_get (kinds_at code r) lo ≡ Some (slot.Link q)
+      → ChainsAt (at + 1) lo links → AreLinks r lo links
       → Linked (1 + links) (at + 1 + links) lo (lo + links) (up_from v (top v) links) now held v s
   link_goes links at lo r v now held s behind is stand routine up own q own_kind chains kinds =
       let kind = kind_there p code input v now r stand routine lo (slot.Link q) own_kind in
       let w = own_step code input line at now held s is lo q own kind in
       let later = top_written now lo (cell.Place (link_to (length now - 1))) in
-      let fit : Fits p code lo now v later = fits_temp p code lo v now lo (cell.Place (link_to (length now - 1))) (omega arith) (slots_behind_routine p code input v now r stand routine lo behind) stand in
-      let there = holds_written now lo (cell.Place (link_to (length now - 1))) (some_frames p code input v now r stand routine) (within_frame p code input v now r stand routine lo (slot.Link q) own_kind) in
+      let fit : Fits p code lo now v later = fits_temp p code lo v now lo (cell.Place (link_to (length now - 1))) (omega arith)
+      (slots_behind_routine p code input v now r stand routine lo behind) stand in
+      let there = holds_written now lo (cell.Place (link_to (length now - 1))) (some_frames p code input v now r stand routine)
+      (within_frame p code input v now r stand routine lo (slot.Link q) own_kind) in
       let same : length now - 1 ≡ top v = ap (λ n. n - 1) stand.count in
       chain_goes links (at + 1) lo lo (top v) r v now later held s w.to 1 (omega arith) behind w.silently w.is fit routine up
       (subst (λ f. Holds later lo (cell.Place (link_to f))) same there) chains kinds
@@ -161,13 +186,15 @@ module _ (p : Program) (code : PlainCode) (input : List ℕ) (line : ℕ) where
   abbrev pub outer_place : (links from cells : ℕ) → Store → Place
   outer_place links from cells v = record { frame = up v links; slot = from; size = cells }
 
-  outer_are_numbers : (links from cells r : ℕ) (v : Store) (now : List PlainFrame) → StandFor p code v now → (top_frame v).routine ≡ r → LinkedUp p v (top v) links → AreVariables p code input (outer_at p r links) from cells
+  outer_are_numbers : (links from cells r : ℕ) (v : Store) (now : List PlainFrame) → StandFor p code v now → (top_frame v).routine ≡ r
+      → LinkedUp p v (top v) links → AreVariables p code input (outer_at p r links) from cells
       → AreNumbers p code v now (outer_place links from cells v)
   outer_are_numbers links from cells r v now stand routine reached h =
       let q = outer_at p r links in
       let f = up v links in
       let live = up_live p code v (top v) links reached in
-      let is : (get_or v f store.no_frame).routine ≡ q = up_routine p code v now (top v) links stand reached ∙ ap (λ x. outer_at p x links) routine in
+      let is : (get_or v f store.no_frame).routine ≡ q = up_routine p code v now (top v) links stand reached
+      ∙ ap (λ x. outer_at p x links) routine in
       let same = stand.frames f live in
       let slots : length (get_or v f store.no_frame).cells ≡ (routine_at p q).slots = same.slots ∙ ap (λ x. (routine_at p x).slots) is in
       let kinds : (get_or now f picture.no_frame).kinds ≡ kinds_at code q = same.kinds ∙ ap (kinds_at code) (sym same.routine ∙ is) in
@@ -177,34 +204,52 @@ module _ (p : Program) (code : PlainCode) (input : List ℕ) (line : ℕ) where
         cells = λ k lt. omega (arith, lt, h.exist, slots);
         kinds = λ k lt.
             subst (λ m. get_or (get_or now f picture.no_frame).kinds (m + (from + k)) slot.Mark ≡ slot.Number) shifts
-            (get_or_from_slice_get (get_or now f picture.no_frame).kinds (shift p q + (from + k)) slot.Number slot.Mark (ap (λ ks. slice_get ks (shift p q + (from + k))) kinds ∙ h.numbers k lt));
+            (get_or_from_slice_get (get_or now f picture.no_frame).kinds (shift p q + (from + k)) slot.Number slot.Mark
+            (ap (λ ks. slice_get ks (shift p q + (from + k))) kinds ∙ h.numbers k lt));
         free = λ e. h.free (sym is ∙ ap (λ n. (get_or v n store.no_frame).routine) e ∙ stand.main);
       }
 
   -- a variable of a routine round this one: its place goes into the slot lo, the links into the slots behind it
-  pub outer_row : (at lo r links from cells : ℕ) (q : ℕ) → 0 < cells → links ≤ 8 → ((v : Store) (now : List PlainFrame) → StandFor p code v now → (top_frame v).routine ≡ r → LinkedUp p v (top v) links)
-      → own_end p r ≤ lo → slice_get (kinds_at code r) lo ≡ Some (slot.Place cells) → (own : ℕ) → slice_get (kinds_at code r) (lo + 1) ≡ Some (slot.Link own) → AreLinks r (lo + 1) links
-      → InstrAt code input line at (I.Own (lo + 1)) → ChainsAt (at + 1) (lo + 1) links → InstrAt code input line (at + 1 + links) (I.Outer lo (lo + 1 + links) (shift p (outer_at p r links) + from)) → AreVariables p code input (outer_at p r links) from cells
+  pub outer_row : (at lo r links from cells : ℕ) (q : ℕ) → 0 < cells → links ≤ 8
+      → ((v : Store) (now : List PlainFrame) → StandFor p code v now → (top_frame v).routine ≡ r → LinkedUp p v (top v) links)
+      → own_end p r ≤ lo → slice_get (kinds_at code r) lo ≡ Some (slot.Place cells) → (own : ℕ)
+      → slice_get (kinds_at code r) (lo + 1) ≡ Some (slot.Link own) → AreLinks r (lo + 1) links
+      → InstrAt code input line at (I.Own (lo + 1)) → ChainsAt (at + 1) (lo + 1) links
+      → InstrAt code input line (at + 1 + links) (I.Outer lo (lo + 1 + links) (shift p (outer_at p r links) + from))
+      → AreVariables p code input (outer_at p r links) from cells
       → RunsPlace p code input line at (at + 1 + links + 1) lo r (λ v. node (one v (outer_place links from cells v))) q
   outer_row at lo r links from cells q some few reaches behind kind own own_kind kinds own_at chains_at outer_at_ variables =
-      as_node p code input line at r (LeavesPlace p code input (at + 1 + links + 1) lo r) (λ v. one v (outer_place links from cells v)) q inside
+      as_node p code input line at r (LeavesPlace p code input (at + 1 + links + 1) lo r) (λ v. one v (outer_place links from cells v)) q
+      inside
     where
-      inside : InsideOf p code input line at r (LeavesPlace p code input (at + 1 + links + 1) lo r) (λ v. one v (outer_place links from cells v)) q
+      inside : InsideOf p code input line at r (LeavesPlace p code input (at + 1 + links + 1) lo r)
+          (λ v. one v (outer_place links from cells v)) q
       inside v now held s is stand routine =
           let reached = reaches v now stand routine in
           let c : CellPlace = record { frame = up v links; slot = shift p (outer_at p r links) + from; len = cells } in
-          let l = link_goes links at (lo + 1) r v now held s (omega (arith, behind)) is stand routine reached own_at own own_kind chains_at kinds in
+          let l = link_goes links at (lo + 1) r v now held s (omega (arith, behind)) is stand routine reached own_at own own_kind chains_at
+          kinds in
           let place_kind = kind_there p code input v l.frames r l.fits.stand routine lo (slot.Place cells) kind in
-          let w = outer_step code input line (at + 1 + links) l.frames held l.to l.is lo (lo + 1 + links) (shift p (outer_at p r links) + from) (up v links) cells outer_at_ place_kind l.holds in
+          let w = outer_step code input line (at + 1 + links) l.frames held l.to l.is lo (lo + 1 + links)
+          (shift p (outer_at p r links) + from) (up v links) cells outer_at_ place_kind l.holds in
           let later = top_written l.frames lo (cell.Place c) in
-          let one_more_write : Fits p code lo l.frames v later = fits_temp p code lo v l.frames lo (cell.Place c) (omega arith) (slots_behind_routine p code input v l.frames r l.fits.stand routine lo behind) l.fits.stand in
-          let fit : Fits p code lo now v later = fits_on p code lo lo v v now l.frames later (omega arith) (fits_less p code lo (lo + 1) v now l.frames (omega arith) l.fits) one_more_write in
-          let there = holds_written l.frames lo (cell.Place c) (some_frames p code input v l.frames r l.fits.stand routine) (within_frame p code input v l.frames r l.fits.stand routine lo (slot.Place cells) kind) in
+          let one_more_write : Fits p code lo l.frames v later =
+          fits_temp p code lo v l.frames lo (cell.Place c) (omega arith)
+          (slots_behind_routine p code input v l.frames r l.fits.stand routine lo behind) l.fits.stand in
+          let fit : Fits p code lo now v later = fits_on p code lo lo v v now l.frames later (omega arith)
+          (fits_less p code lo (lo + 1) v now l.frames (omega arith) l.fits) one_more_write in
+          let there = holds_written l.frames lo (cell.Place c) (some_frames p code input v l.frames r l.fits.stand routine)
+          (within_frame p code input v l.frames r l.fits.stand routine lo (slot.Place cells) kind) in
           let numbers = outer_are_numbers links from cells r v later fit.stand routine reached variables in
-          let is_routine : (get_or v (up v links) store.no_frame).routine ≡ outer_at p r links = up_routine p code v now (top v) links stand reached ∙ ap (λ x. outer_at p x links) routine in
-          let same : SamePlace p v (outer_place links from cells v) c = record { frame = refl; slot = ap (λ x. shift p x + from) is_routine; size = refl } in
-          before code input line 0 24 (LeavesPlace p code input (at + 1 + links + 1) lo r (begun p code input v now held)) held (one v (outer_place links from cells v)) s w.to (1 + links + 1) 32 0 q q (and_then code input l.silently w.silently) (omega (arith, few)) (omega arith)
-          (one_goes code input line 0 24 (LeavesPlace p code input (at + 1 + links + 1) lo r (begun p code input v now held)) held v (outer_place links from cells v) w.to 0 q (omega arith) (record { mode = w.is.mode; entries = w.is.entries }) (
+          let is_routine : (get_or v (up v links) store.no_frame).routine ≡ outer_at p r links =
+          up_routine p code v now (top v) links stand reached ∙ ap (λ x. outer_at p x links) routine in
+          let same : SamePlace p v (outer_place links from cells v) c =
+          record { frame = refl; slot = ap (λ x. shift p x + from) is_routine; size = refl } in
+          before code input line 0 24 (LeavesPlace p code input (at + 1 + links + 1) lo r (begun p code input v now held)) held
+          (one v (outer_place links from cells v)) s w.to (1 + links + 1) 32 0 q q (and_then code input l.silently w.silently)
+          (omega (arith, few)) (omega arith)
+          (one_goes code input line 0 24 (LeavesPlace p code input (at + 1 + links + 1) lo r (begun p code input v now held)) held v
+          (outer_place links from cells v) w.to 0 q (omega arith) (record { mode = w.is.mode; entries = w.is.entries }) (
             record { here = w.is.here; fits = subst (Fits p code lo now v) (sym w.is.frames) fit; routine = routine },
             subst (λ z. AreNumbers p code v z (outer_place links from cells v)) (sym w.is.frames) numbers,
             some,

@@ -23,7 +23,8 @@ one_joined on_one = on_one
 one_joined at_fault = at_fault
 one_joined at_cut = at_cut
 
-pub one_bound : {A B : Type 0} {v : Store} {e : Events A} (k : Store → A → Events B) → GivesOne A v e → ((y : A) → GivesOne B v (k v y)) → GivesOne B v (bind e k)
+pub one_bound : {A B : Type 0} {v : Store} {e : Events A} (k : Store → A → Events B) → GivesOne A v e → ((y : A) → GivesOne B v (k v y))
+    → GivesOne B v (bind e k)
 one_bound k (on_visit h) rest = on_visit (one_bound k h rest)
 one_bound k (on_one {y = y}) rest = one_joined (rest y)
 one_bound k at_fault rest = at_fault

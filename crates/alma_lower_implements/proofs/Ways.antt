@@ -30,60 +30,76 @@ module _ (code : PlainCode) (input : List ℕ) where
   -- a part inside of a node, from any state that comes to its start in at most 8 steps: what the part begins with pays for them
   abbrev pub Later : {A : Type 0} → (line at exit : ℕ) → List PlainFrame → Ways A → Events A → (q : ℕ) → Type 0
   Later line at exit now w e q =
-      (j d : ℕ) → j ≤ 8 → d ≤ q → (held : List PlainEntry) (s u : State) → Silently code input j s u → IsAt at now held u → Goes code input line 0 24 (Leaves exit w) held e s 0 d
+      (j d : ℕ) → j ≤ 8 → d ≤ q → (held : List PlainEntry) (s u : State) → Silently code input j s u → IsAt at now held u
+      → Goes code input line 0 24 (Leaves exit w) held e s 0 d
 
   -- the events behind the visit with which a part begins
   abbrev pub Visited : {A : Type 0} → (line at exit : ℕ) → List PlainFrame → Ways A → Events A → (q : ℕ) → Type 0
-  Visited line at exit now w e q = (held : List PlainEntry) (s : State) → IsAt at now held s → Goes code input line 0 24 (Leaves exit w) held e s 24 q
+  Visited line at exit now w e q = (held : List PlainEntry) (s : State) → IsAt at now held s
+      → Goes code input line 0 24 (Leaves exit w) held e s 24 q
 
-  pub visited_later : {A : Type 0} (line at exit : ℕ) (now : List PlainFrame) (w : Ways A) (e : Events A) (q : ℕ) → Visited line at exit now w e q → Later line at exit now w (Visit e) q
+  pub visited_later : {A : Type 0} (line at exit : ℕ) (now : List PlainFrame) (w : Ways A) (e : Events A) (q : ℕ)
+      → Visited line at exit now w e q → Later line at exit now w (Visit e) q
   visited_later line at exit now w e q runs j d le owes held s u silently is =
       before code input line 0 24 (Leaves exit w) held e s u j 32 24 d q silently (omega (arith, le)) (omega (arith, owes)) (runs held u is)
 
   -- the events of a phrase inside of its node, whose visit pays
   abbrev pub Inside : {A : Type 0} → (line at exit : ℕ) → List PlainFrame → Ways A → Events A → (q : ℕ) → Type 0
-  Inside line at exit now w e q = (held : List PlainEntry) (s : State) → IsAt at now held s → Goes code input line 0 24 (Leaves exit w) held e s 32 q
+  Inside line at exit now w e q = (held : List PlainEntry) (s : State) → IsAt at now held s
+      → Goes code input line 0 24 (Leaves exit w) held e s 32 q
 
   -- a part inside of a node, with 8 steps left before it: the parts behind a condition
   abbrev pub Behind : {A : Type 0} → (line at exit : ℕ) → List PlainFrame → Ways A → Events A → (q : ℕ) → Type 0
-  Behind line at exit now w e q = (held : List PlainEntry) (s : State) → IsAt at now held s → Goes code input line 0 24 (Leaves exit w) held e s 8 q
+  Behind line at exit now w e q = (held : List PlainEntry) (s : State) → IsAt at now held s
+      → Goes code input line 0 24 (Leaves exit w) held e s 8 q
 
-  pub visited_behind : {A : Type 0} (line at exit : ℕ) (now : List PlainFrame) (w : Ways A) (e : Events A) (q : ℕ) → Visited line at exit now w e q → Behind line at exit now w (Visit e) q
-  visited_behind line at exit now w e q runs held s is = weaker code input line 0 24 (Leaves exit w) held e s 40 24 q q (omega arith) (omega arith) (runs held s is)
+  pub visited_behind : {A : Type 0} (line at exit : ℕ) (now : List PlainFrame) (w : Ways A) (e : Events A) (q : ℕ)
+      → Visited line at exit now w e q → Behind line at exit now w (Visit e) q
+  visited_behind line at exit now w e q runs held s is =
+      weaker code input line 0 24 (Leaves exit w) held e s 40 24 q q (omega arith) (omega arith) (runs held s is)
 
-  pub runs_behind : {A : Type 0} (line at exit : ℕ) (now : List PlainFrame) (w : Ways A) (e : Events A) (q : ℕ) → Runs line at exit now w e q → Behind line at exit now w e q
-  runs_behind line at exit now w e q runs held s is = credited code input line 8 0 0 24 (Leaves exit w) held e s 8 q (omega arith) (runs 8 (omega arith) held s is)
+  pub runs_behind : {A : Type 0} (line at exit : ℕ) (now : List PlainFrame) (w : Ways A) (e : Events A) (q : ℕ)
+      → Runs line at exit now w e q → Behind line at exit now w e q
+  runs_behind line at exit now w e q runs held s is =
+      credited code input line 8 0 0 24 (Leaves exit w) held e s 8 q (omega arith) (runs 8 (omega arith) held s is)
 
   -- so many steps at most, silently, to a state that goes on with the same frames and entries
   abbrev pub LeadsTo : (most at to_at : ℕ) → Type 0
-  LeadsTo most at to_at = (now : List PlainFrame) (held : List PlainEntry) (s : State) → IsAt at now held s → (k : ℕ) × (t : State) × (k ≤ most) × Silently code input k s t × IsAt to_at now held t
+  LeadsTo most at to_at = (now : List PlainFrame) (held : List PlainEntry) (s : State) → IsAt at now held s → (k : ℕ) × (t : State)
+      × (k ≤ most) × Silently code input k s t × IsAt to_at now held t
 
   pub leads_nowhere : (most at : ℕ) → LeadsTo most at at
   leads_nowhere most at now held s is = (0, s, omega arith, no_step code input s, is)
 
   pub leads_by_jump : (line most at to_at : ℕ) → 1 ≤ most → InstrAt code input line at (I.Jump to_at) → LeadsTo most at to_at
-  leads_by_jump line most at to_at le i now held s is = let w = jumps code input line at to_at now held s is i in (1, w.to, le, w.silently, w.is)
+  leads_by_jump line most at to_at le i now held s is = let w = jumps code input line at to_at now held s is i in
+      (1, w.to, le, w.silently, w.is)
 
-  pub leads_by_two : (line most at jump to_at : ℕ) → 2 ≤ most → InstrAt code input line at (I.Jump jump) → InstrAt code input line jump (I.Jump to_at) → LeadsTo most at to_at
+  pub leads_by_two : (line most at jump to_at : ℕ) → 2 ≤ most → InstrAt code input line at (I.Jump jump)
+      → InstrAt code input line jump (I.Jump to_at) → LeadsTo most at to_at
   leads_by_two line most at jump to_at le i j now held s is =
       let a = jumps code input line at jump now held s is i in
       let b = jumps code input line jump to_at now held a.to a.is j in
       (2, b.to, le, and_then code input a.silently b.silently, b.is)
 
-  pub leads_then : (line most at jump to_at : ℕ) → InstrAt code input line at (I.Jump jump) → LeadsTo most jump to_at → LeadsTo (most + 1) at to_at
+  pub leads_then : (line most at jump to_at : ℕ) → InstrAt code input line at (I.Jump jump) → LeadsTo most jump to_at
+      → LeadsTo (most + 1) at to_at
   leads_then line most at jump to_at i leads now held s is =
       let a = jumps code input line at jump now held s is i in
       let b = leads now held a.to a.is in
       (1 + b.0, b.1, omega (arith, b.2), and_then code input a.silently b.3, b.4)
 
   -- ---- at most j steps after each alternative, or another word for where it leaves off
-  pub then_up_to : {A : Type 0} (line left left2 more j : ℕ) (fits fits2 : Store → Flow A → State → Type 0) (base : List PlainEntry) (e : Events A) (s : State) (r q : ℕ) → left2 + j ≤ left
-      → ((v : Store) (w : Flow A) (t : State) (held : List PlainEntry) → IsGoing held t → fits v w t → (i : ℕ) × (u : State) × (i ≤ j) × Silently code input i t u × IsGoing held u × fits2 v w u)
+  pub then_up_to : {A : Type 0} (line left left2 more j : ℕ) (fits fits2 : Store → Flow A → State → Type 0) (base : List PlainEntry)
+      (e : Events A) (s : State) (r q : ℕ) → left2 + j ≤ left
+      → ((v : Store) (w : Flow A) (t : State) (held : List PlainEntry) → IsGoing held t → fits v w t → (i : ℕ) × (u : State) × (i ≤ j)
+      × Silently code input i t u × IsGoing held u × fits2 v w u)
       → Goes code input line left more fits base e s r q → Goes code input line left2 more fits2 base e s r q
   then_up_to line left left2 more j fits fits2 base Fail s r q le k h = h
   then_up_to line left left2 more j fits fits2 base (Fault x l) s r q le k h = h
   then_up_to line left left2 more j fits fits2 base Cut s r q le k h = h
-  then_up_to line left left2 more j fits fits2 base (Visit e) s r q le k h = then_up_to line left left2 more j fits fits2 base e s (r + 32) q le k h
+  then_up_to line left left2 more j fits fits2 base (Visit e) s r q le k h =
+      then_up_to line left left2 more j fits fits2 base e s (r + 32) q le k h
   then_up_to line left left2 more j fits fits2 base (Print bytes e) s r q le k h =
       (h.0, h.1, h.2, h.3, h.4, h.5, h.6, then_up_to line left left2 more j fits fits2 base e h.4 (r - suc h.0) (q - suc h.0) le k h.7)
   then_up_to line left left2 more j fits fits2 base (Alt v w e) s r q le k h =
@@ -95,12 +111,14 @@ module _ (code : PlainCode) (input : List ℕ) where
         h.4,
         z.4,
         z.5,
-        λ base2 u like failing. weaker code input line left2 more fits2 base2 e u 0 0 (q - (h.0 + z.0)) (q - h.0) (omega arith) (omega arith)
+        λ base2 u like failing. weaker code input line left2 more fits2 base2 e u 0 0 (q - (h.0 + z.0)) (q - h.0) (omega arith)
+            (omega arith)
             (then_up_to line left left2 more j fits fits2 base2 e u 0 (q - h.0) le k (h.7 base2 u like failing)),
       )
 
   -- an alternative that goes on leaves by jumps
-  pub leaves_by : {A : Type 0} (m exit most : ℕ) (w : Ways A) → LeadsTo most m exit → (v : Store) (f : Flow A) (t : State) (held : List PlainEntry) → IsGoing held t → Leaves m w v f t
+  pub leaves_by : {A : Type 0} (m exit most : ℕ) (w : Ways A) → LeadsTo most m exit
+      → (v : Store) (f : Flow A) (t : State) (held : List PlainEntry) → IsGoing held t → Leaves m w v f t
       → (i : ℕ) × (u : State) × (i ≤ most) × Silently code input i t u × IsGoing held u × Leaves exit w v f u
   leaves_by m exit most w leads v (Go y) t held going left =
       let z = leads t.now held t (record { mode = going.mode; here = left.0; frames = refl; entries = going.entries }) in

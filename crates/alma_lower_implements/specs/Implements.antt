@@ -34,7 +34,8 @@ line_in code s = line_at code s.last
 pub data HasPrefix {A : Type 0} : Events A → (printed : List ℕ) → (visits : ℕ) → Type 0 where
   nothing : {e : Events A} → HasPrefix e [] 0
   a_visit : {e : Events A} {printed : List ℕ} {visits : ℕ} → HasPrefix e printed visits → HasPrefix (Visit e) printed (suc visits)
-  a_print : {e : Events A} {bytes printed : List ℕ} {visits : ℕ} → HasPrefix e printed visits → HasPrefix (Print bytes e) (bytes ++ printed) visits
+  a_print : {e : Events A} {bytes printed : List ℕ} {visits : ℕ} → HasPrefix e printed visits
+      → HasPrefix (Print bytes e) (bytes ++ printed) visits
 
 -- The bytes are the prints of a front of the event list, and this front has at least so many
 -- visits.

@@ -6,7 +6,10 @@ use Rattle.std.specs.List.{AllByRecursion}
 use Rattle.std.proofs.lemmas.Bool.{false≢true}
 use Rattle.alma_ir.specs.Phrases.{stmts_phrases}
 use Rattle.alma_ir.specs.Tree.{Routine, routine_at, a_loop, Assign, more_stmts, no_stmts}
-use Rattle.alma_ir.specs.Checked.{IsChecked, ParamsFirst, DeclaredFits, HeadRangesOrdered, RoutineKeepsLimits, EachRoutine, EachPhrase, IsHiddenSlot, RootLeaves, RootExists, PartsExist, CellsAgree, RangesOrdered, IsOrdered, HasStep, LoopIsApart, loops_of, CalleeExists, ResultAgrees, CallLeads, IsNested, HasLines, CallFits, HasChoice, ReturnAgrees, ReturnsStay, text_bytes}
+use Rattle.alma_ir.specs.Checked.{IsChecked, ParamsFirst, DeclaredFits, HeadRangesOrdered, RoutineKeepsLimits, EachRoutine, EachPhrase}
+use Rattle.alma_ir.specs.Checked.{IsHiddenSlot, RootLeaves, RootExists, PartsExist, CellsAgree, RangesOrdered, IsOrdered, HasStep}
+use Rattle.alma_ir.specs.Checked.{LoopIsApart, loops_of, CalleeExists, ResultAgrees, CallLeads, IsNested, HasLines, CallFits, HasChoice}
+use Rattle.alma_ir.specs.Checked.{ReturnAgrees, ReturnsStay, text_bytes}
 use Rattle.alma_mean.specs.Worked.Build.{int, var, through_param, number, load}
 use Rattle.alma_mean.specs.Worked.Conditions.{lives_again, ConditionsTell}
 
@@ -32,11 +35,25 @@ hidden slot l h = record {
   position = λ e. omega arith;
   params = (inr (omega arith), tt);
   globals = λ e. tt;
-  roots = both (λ holder routine. AllByRecursion (RootLeaves lives_again holder 1 slot) (stmts_phrases routine.body)) (tt, (tt, (tt, (λ e. absurd (omega arith), (tt, (tt, (tt, (tt, (λ e. absurd (omega arith), (tt, (tt, (tt, (λ e. absurd (omega arith), tt))))))))))))) (tt, (λ e. inr (omega arith), (tt, (tt, (tt, (tt, (tt, (λ e. inr (omega arith), tt))))))));
+  roots = both (λ holder routine. AllByRecursion (RootLeaves lives_again holder 1 slot) (stmts_phrases routine.body)) (
+    tt,
+    (
+      tt,
+      (
+        tt,
+        (
+          λ e. absurd (omega arith),
+          (tt, (tt, (tt, (tt, (λ e. absurd (omega arith), (tt, (tt, (tt, (λ e. absurd (omega arith), tt))))))))),
+        ),
+      ),
+    ),
+  )
+      (tt, (λ e. inr (omega arith), (tt, (tt, (tt, (tt, (tt, (λ e. inr (omega arith), tt))))))));
 }
 
 -- the loop's counter and limit
-apart : LoopIsApart lives_again 1 (a_loop (var 1) int 2 3 (number 1) (number 3) (pos 1) (more_stmts 0 (Assign (through_param 0) (load 1) int) no_stmts))
+apart : LoopIsApart lives_again 1 (a_loop (var 1) int 2 3 (number 1) (number 3) (pos 1)
+    (more_stmts 0 (Assign (through_param 0) (load 1) int) no_stmts))
 unfolding stmts_phrases
 apart = record {
   of_counter = hidden 2 (omega arith) (omega arith);
@@ -48,68 +65,137 @@ apart = record {
 -- each condition on the phrases of the program that is let through, phrase by phrase
 roots : EachPhrase lives_again (RootExists lives_again)
 unfolding stmts_phrases
-roots = both (λ r routine. AllByRecursion (RootExists lives_again r routine) (stmts_phrases routine.body)) (tt, (tt, (tt, ((record { exist = omega arith; kinds = tt }, λ e. omega arith), (tt, (tt, (tt, (tt, ((record { exist = omega arith; kinds = tt }, λ e. omega arith), (tt, (tt, (tt, ((record { exist = omega arith; kinds = tt }, λ e. omega arith), tt))))))))))))) (tt, ((record { exist = omega arith; kinds = (λ h. inl (omega arith), tt) }, λ e. omega arith), (tt, (tt, (tt, (inl (tt, refl, refl), (tt, ((record { exist = omega arith; kinds = (λ h. inl (omega arith), tt) }, λ e. omega arith), tt))))))))
+roots = both (λ r routine. AllByRecursion (RootExists lives_again r routine) (stmts_phrases routine.body)) (
+  tt,
+  (
+    tt,
+    (
+      tt,
+      (
+        (record { exist = omega arith; kinds = tt }, λ e. omega arith),
+        (
+          tt,
+          (
+            tt,
+            (
+              tt,
+              (
+                tt,
+                (
+                  (record { exist = omega arith; kinds = tt }, λ e. omega arith),
+                  (tt, (tt, (tt, ((record { exist = omega arith; kinds = tt }, λ e. omega arith), tt)))),
+                ),
+              ),
+            ),
+          ),
+        ),
+      ),
+    ),
+  ),
+) (
+  tt,
+  (
+    (record { exist = omega arith; kinds = (λ h. inl (omega arith), tt) }, λ e. omega arith),
+    (
+      tt,
+      (
+        tt,
+        (
+          tt,
+          (
+            inl (tt, refl, refl),
+            (
+              tt,
+              ((record { exist = omega arith; kinds = (λ h. inl (omega arith), tt) }, λ e. omega arith), tt),
+            ),
+          ),
+        ),
+      ),
+    ),
+  ),
+)
 
 parts : EachPhrase lives_again (λ r routine x. PartsExist x)
 unfolding stmts_phrases
-parts = both (λ r routine. AllByRecursion (λ x. PartsExist x) (stmts_phrases routine.body)) (tt, (tt, (tt, (tt, (tt, (tt, (tt, (tt, (tt, (tt, (tt, (tt, (tt, tt))))))))))))) (tt, (tt, (tt, (tt, (tt, (tt, (tt, (tt, tt))))))))
+parts = both (λ r routine. AllByRecursion (λ x. PartsExist x) (stmts_phrases routine.body))
+    (tt, (tt, (tt, (tt, (tt, (tt, (tt, (tt, (tt, (tt, (tt, (tt, (tt, tt))))))))))))) (tt, (tt, (tt, (tt, (tt, (tt, (tt, (tt, tt))))))))
 
 cells : EachPhrase lives_again (λ r routine x. CellsAgree x)
 unfolding stmts_phrases
-cells = both (λ r routine. AllByRecursion (λ x. CellsAgree x) (stmts_phrases routine.body)) (tt, (tt, (tt, (tt, (tt, (tt, (tt, (refl, (tt, (tt, (tt, (refl, (tt, tt))))))))))))) (refl, (tt, (tt, (tt, (refl, (tt, (refl, (tt, tt))))))))
+cells = both (λ r routine. AllByRecursion (λ x. CellsAgree x) (stmts_phrases routine.body))
+    (tt, (tt, (tt, (tt, (tt, (tt, (tt, (refl, (tt, (tt, (tt, (refl, (tt, tt)))))))))))))
+    (refl, (tt, (tt, (tt, (refl, (tt, (refl, (tt, tt))))))))
 
 ranges : EachPhrase lives_again (λ r routine x. RangesOrdered x)
 unfolding stmts_phrases
-ranges = both (λ r routine. AllByRecursion (λ x. RangesOrdered x) (stmts_phrases routine.body)) (tt, (tt, (tt, (tt, (tt, (tt, (tt, (tt, (tt, (tt, (tt, (tt, (tt, tt))))))))))))) ((in_order, tt), (tt, (tt, (tt, ((in_order, tt), (tt, (tt, (tt, tt))))))))
+ranges = both (λ r routine. AllByRecursion (λ x. RangesOrdered x) (stmts_phrases routine.body))
+    (tt, (tt, (tt, (tt, (tt, (tt, (tt, (tt, (tt, (tt, (tt, (tt, (tt, tt)))))))))))))
+    ((in_order, tt), (tt, (tt, (tt, ((in_order, tt), (tt, (tt, (tt, tt))))))))
 
 steps : EachPhrase lives_again (λ r routine x. AllByRecursion HasStep (loops_of x))
 unfolding stmts_phrases
-steps = both (λ r routine. AllByRecursion (λ x. AllByRecursion HasStep (loops_of x)) (stmts_phrases routine.body)) (tt, (tt, (tt, (tt, (tt, (tt, (tt, (tt, (tt, (tt, (tt, (tt, (tt, tt))))))))))))) ((not_zero, tt), (tt, (tt, (tt, (tt, (tt, (tt, (tt, tt))))))))
+steps = both (λ r routine. AllByRecursion (λ x. AllByRecursion HasStep (loops_of x)) (stmts_phrases routine.body))
+    (tt, (tt, (tt, (tt, (tt, (tt, (tt, (tt, (tt, (tt, (tt, (tt, (tt, tt)))))))))))))
+    ((not_zero, tt), (tt, (tt, (tt, (tt, (tt, (tt, (tt, tt))))))))
 
 loops : EachPhrase lives_again (λ r routine x. AllByRecursion (LoopIsApart lives_again r) (loops_of x))
 unfolding stmts_phrases
-loops = both (λ r routine. AllByRecursion (λ x. AllByRecursion (LoopIsApart lives_again r) (loops_of x)) (stmts_phrases routine.body)) (tt, (tt, (tt, (tt, (tt, (tt, (tt, (tt, (tt, (tt, (tt, (tt, (tt, tt))))))))))))) ((apart, tt), (tt, (tt, (tt, (tt, (tt, (tt, (tt, tt))))))))
+loops = both (λ r routine. AllByRecursion (λ x. AllByRecursion (LoopIsApart lives_again r) (loops_of x)) (stmts_phrases routine.body))
+    (tt, (tt, (tt, (tt, (tt, (tt, (tt, (tt, (tt, (tt, (tt, (tt, (tt, tt)))))))))))))
+    ((apart, tt), (tt, (tt, (tt, (tt, (tt, (tt, (tt, tt))))))))
 
 links : EachPhrase lives_again (CallLeads lives_again)
 unfolding stmts_phrases
-links = both (λ r routine. AllByRecursion (CallLeads lives_again r routine) (stmts_phrases routine.body)) (tt, ((refl, refl), (tt, (tt, (tt, (tt, (tt, (tt, (tt, (tt, (tt, (tt, (tt, tt))))))))))))) (tt, (tt, (tt, (tt, (tt, (tt, (tt, (tt, tt))))))))
+links = both (λ r routine. AllByRecursion (CallLeads lives_again r routine) (stmts_phrases routine.body))
+    (tt, ((refl, refl), (tt, (tt, (tt, (tt, (tt, (tt, (tt, (tt, (tt, (tt, (tt, tt)))))))))))))
+    (tt, (tt, (tt, (tt, (tt, (tt, (tt, (tt, tt))))))))
 
 -- the procedure stands in the body of the module
 nested : EachRoutine lives_again (IsNested lives_again)
 nested =
-    both (IsNested lives_again) (record { body = λ e. (refl, refl); exists = omega arith; above = λ l. absurd (omega (arith, l)); few = omega arith })
+    both (IsNested lives_again) (record
+    { body = λ e. (refl, refl); exists = omega arith; above = λ l. absurd (omega (arith, l)); few = omega arith })
     (record { body = λ e. absurd (omega (arith, e)); exists = omega arith; above = λ l. refl; few = omega arith })
 
 -- each statement stands on line 1
 lines : EachRoutine lives_again (λ r routine. HasLines routine)
 unfolding stmts_phrases
 lines =
-    both (λ r routine. HasLines routine) (record { line = omega arith; count = refl; lines = (omega arith, (omega arith, (omega arith, tt))) })
+    both (λ r routine. HasLines routine) (record
+    { line = omega arith; count = refl; lines = (omega arith, (omega arith, (omega arith, tt))) })
     (record { line = omega arith; count = refl; lines = (omega arith, (omega arith, tt)) })
 
 callees : EachPhrase lives_again (λ r routine x. CalleeExists lives_again x)
 unfolding stmts_phrases
-callees = both (λ r routine. AllByRecursion (λ x. CalleeExists lives_again x) (stmts_phrases routine.body)) (tt, ((omega arith, omega arith), (tt, (tt, (tt, (tt, (tt, (tt, (tt, (tt, (tt, (tt, (tt, tt))))))))))))) (tt, (tt, (tt, (tt, (tt, (tt, (tt, (tt, tt))))))))
+callees = both (λ r routine. AllByRecursion (λ x. CalleeExists lives_again x) (stmts_phrases routine.body))
+    (tt, ((omega arith, omega arith), (tt, (tt, (tt, (tt, (tt, (tt, (tt, (tt, (tt, (tt, (tt, tt)))))))))))))
+    (tt, (tt, (tt, (tt, (tt, (tt, (tt, (tt, tt))))))))
 
 results : EachPhrase lives_again (λ r routine x. ResultAgrees lives_again x)
 unfolding stmts_phrases
-results = both (λ r routine. AllByRecursion (λ x. ResultAgrees lives_again x) (stmts_phrases routine.body)) (tt, (refl, (tt, (tt, (tt, (tt, (tt, (tt, (tt, (tt, (tt, (tt, (tt, tt))))))))))))) (tt, (tt, (tt, (tt, (tt, (tt, (tt, (tt, tt))))))))
+results = both (λ r routine. AllByRecursion (λ x. ResultAgrees lives_again x) (stmts_phrases routine.body))
+    (tt, (refl, (tt, (tt, (tt, (tt, (tt, (tt, (tt, (tt, (tt, (tt, (tt, tt))))))))))))) (tt, (tt, (tt, (tt, (tt, (tt, (tt, (tt, tt))))))))
 
 arguments : EachPhrase lives_again (λ r routine x. CallFits lives_again x)
 unfolding stmts_phrases
-arguments = both (λ r routine. AllByRecursion (λ x. CallFits lives_again x) (stmts_phrases routine.body)) (tt, (((refl, refl), tt), (tt, (tt, (tt, (tt, (tt, (tt, (tt, (tt, (tt, (tt, (tt, tt))))))))))))) (tt, (tt, (tt, (tt, (tt, (tt, (tt, (tt, tt))))))))
+arguments = both (λ r routine. AllByRecursion (λ x. CallFits lives_again x) (stmts_phrases routine.body))
+    (tt, (((refl, refl), tt), (tt, (tt, (tt, (tt, (tt, (tt, (tt, (tt, (tt, (tt, (tt, tt)))))))))))))
+    (tt, (tt, (tt, (tt, (tt, (tt, (tt, (tt, tt))))))))
 
 choices : EachPhrase lives_again (λ r routine x. HasChoice x)
 unfolding stmts_phrases
-choices = both (λ r routine. AllByRecursion (λ x. HasChoice x) (stmts_phrases routine.body)) (tt, (tt, (tt, (tt, (tt, (tt, (tt, (tt, (tt, (tt, (tt, (tt, (tt, tt))))))))))))) (tt, (tt, (tt, (tt, (tt, (tt, (tt, (tt, tt))))))))
+choices = both (λ r routine. AllByRecursion (λ x. HasChoice x) (stmts_phrases routine.body))
+    (tt, (tt, (tt, (tt, (tt, (tt, (tt, (tt, (tt, (tt, (tt, (tt, (tt, tt))))))))))))) (tt, (tt, (tt, (tt, (tt, (tt, (tt, (tt, tt))))))))
 
 returns : EachPhrase lives_again (λ r routine x. ReturnAgrees routine x)
 unfolding stmts_phrases
-returns = both (λ r routine. AllByRecursion (λ x. ReturnAgrees routine x) (stmts_phrases routine.body)) (tt, (tt, (tt, (tt, (tt, (tt, (tt, (tt, (tt, (tt, (tt, (tt, (tt, tt))))))))))))) (tt, (tt, (tt, (tt, (tt, (tt, (tt, (tt, tt))))))))
+returns = both (λ r routine. AllByRecursion (λ x. ReturnAgrees routine x) (stmts_phrases routine.body))
+    (tt, (tt, (tt, (tt, (tt, (tt, (tt, (tt, (tt, (tt, (tt, (tt, (tt, tt))))))))))))) (tt, (tt, (tt, (tt, (tt, (tt, (tt, (tt, tt))))))))
 
 returns_stay : EachPhrase lives_again (λ r routine x. ReturnsStay x)
 unfolding stmts_phrases
-returns_stay = both (λ r routine. AllByRecursion (λ x. ReturnsStay x) (stmts_phrases routine.body)) (tt, (tt, (tt, (tt, (tt, (tt, (tt, (tt, (tt, (tt, (tt, (tt, (tt, tt))))))))))))) (tt, (tt, (tt, (tt, (tt, (tt, (tt, (tt, tt))))))))
+returns_stay = both (λ r routine. AllByRecursion (λ x. ReturnsStay x) (stmts_phrases routine.body))
+    (tt, (tt, (tt, (tt, (tt, (tt, (tt, (tt, (tt, (tt, (tt, (tt, (tt, tt))))))))))))) (tt, (tt, (tt, (tt, (tt, (tt, (tt, (tt, tt))))))))
 
 -- no value is none
 none_is_not_some : {A : Type 0} {x : A} → None ≡ Some x → ⊥
@@ -130,14 +216,17 @@ passes : IsChecked lives_again
 passes = record {
   body = (omega arith, omega arith);
   body_takes_nothing = (refl, refl);
-  params = both (λ r routine. ParamsFirst routine) (record { laid_out = tt; fit = omega arith; cells = tt }) (record { laid_out = (refl, tt); fit = omega arith; cells = (tt, tt) });
-  declared = both DeclaredFits (record { within = omega arith; body = λ e. omega arith }) (record { within = omega arith; body = λ e. absurd (omega arith) });
+  params = both (λ r routine. ParamsFirst routine) (record { laid_out = tt; fit = omega arith; cells = tt })
+      (record { laid_out = (refl, tt); fit = omega arith; cells = (tt, tt) });
+  declared = both DeclaredFits (record { within = omega arith; body = λ e. omega arith })
+      (record { within = omega arith; body = λ e. absurd (omega arith) });
   globals = tt;
   nested = nested;
   roots = roots;
   parts = parts;
   cells = cells;
-  head_ranges = both (λ r routine. HeadRangesOrdered routine) (record { params = tt; result = λ range e. absurd (none_is_not_some e) }) (record { params = (in_order, tt); result = λ range e. absurd (none_is_not_some e) });
+  head_ranges = both (λ r routine. HeadRangesOrdered routine) (record { params = tt; result = λ range e. absurd (none_is_not_some e) })
+      (record { params = (in_order, tt); result = λ range e. absurd (none_is_not_some e) });
   ranges = ranges;
   steps = steps;
   loops = loops;
@@ -151,7 +240,8 @@ passes = record {
   lines = lines;
   names = record { globals = tt; routines = ((refl, tt), ((refl, tt), tt)) };
   limits = record { globals = omega arith; params = omega arith; names = omega arith; texts = texts };
-  routine_limits = both (λ r routine. RoutineKeepsLimits routine) (record { declared = omega arith; slots = omega arith }) (record { declared = omega arith; slots = omega arith });
+  routine_limits = both (λ r routine. RoutineKeepsLimits routine) (record { declared = omega arith; slots = omega arith })
+      (record { declared = omega arith; slots = omega arith });
 }
 
 -- there is a routine 0

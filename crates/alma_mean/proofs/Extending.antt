@@ -7,7 +7,8 @@ use Rattle.alma_base.specs.Carry.{Carry, with_changes}
 use Rattle.alma_base.specs.declared.number.Range.{Range}
 use Rattle.alma_base.specs.declared.fault.RunFault.{RunFault}
 use Rattle.alma_mean.specs.Store.{Store, Cell, Unknown, Number, At, over, changes}
-use Rattle.alma_mean.specs.Events.{Events, NoYield, Visit, Print, Alt, Flow, Go, Return, Fail, Fault, Cut, join, bind, visit_each, at_line, node, on_first}
+use Rattle.alma_mean.specs.Events.{Events, NoYield, Visit, Print, Alt, Flow, Go, Return, Fail, Fault, Cut, join, bind, visit_each, at_line}
+use Rattle.alma_mean.specs.Events.{node, on_first}
 use Rattle.alma_mean.specs.Arithmetic.{fault_unless}
 use Rattle.alma_mean.specs.Rows.{read_cell, try_labels, forall_row, as_test, as_value, function_value}
 use Rattle.alma_mean.specs.Laws.{Extends, on_visit, on_print, on_alt, at_fail, at_fault, at_cut}
@@ -31,7 +32,8 @@ joined at_fault k = at_fault
 joined at_cut k = at_cut
 
 -- so may what stands in place of its alternatives
-pub bound : {A B : Type 0} {e e' : Events A} {k k' : Store → A → Events B} → Extends A e e' → ((s : Store) (y : A) → Extends B (k s y) (k' s y)) → Extends B (bind e k) (bind e' k')
+pub bound : {A B : Type 0} {e e' : Events A} {k k' : Store → A → Events B} → Extends A e e'
+    → ((s : Store) (y : A) → Extends B (k s y) (k' s y)) → Extends B (bind e k) (bind e' k')
 bound (on_visit h) r = on_visit (bound h r)
 bound (on_print h) r = on_print (bound h r)
 bound (on_alt {s = s} {w = Go y} h) r = joined (r s y) (bound h r)
@@ -63,7 +65,9 @@ pub noded : {A : Type 0} {e e' : Events A} → Extends A e e' → Extends A (nod
 noded h = on_visit (visited h)
 
 -- the first alternative of a list that is extended is the same
-pub first_taken : {A B : Type 0} {e e' : Events A} {k k' : Store → Flow A → Events B} {z z' : NoYield → Events B} → Extends A e e' → ((s : Store) (f : Flow A) → Extends B (k s f) (k' s f)) → ((x : NoYield) → Extends B (z x) (z' x)) → Extends B (on_first e k z) (on_first e' k' z')
+pub first_taken : {A B : Type 0} {e e' : Events A} {k k' : Store → Flow A → Events B} {z z' : NoYield → Events B} → Extends A e e'
+    → ((s : Store) (f : Flow A) → Extends B (k s f) (k' s f)) → ((x : NoYield) → Extends B (z x) (z' x))
+    → Extends B (on_first e k z) (on_first e' k' z')
 first_taken (on_visit h) r w = on_visit (first_taken h r w)
 first_taken (on_print h) r w = on_print (first_taken h r w)
 first_taken (on_alt {s = s} {w = f} h) r w = r s f
@@ -72,12 +76,14 @@ first_taken at_fault r w = at_fault
 first_taken at_cut r w = at_cut
 
 -- a check goes the same way in both
-pub checked : {A : Type 0} (f : RunFault) (b : Bool) {k k' : Unit {0} → Events A} → ((x : NoYield) → Extends A (k x) (k' x)) → Extends A (fault_unless f b k) (fault_unless f b k')
+pub checked : {A : Type 0} (f : RunFault) (b : Bool) {k k' : Unit {0} → Events A} → ((x : NoYield) → Extends A (k x) (k' x))
+    → Extends A (fault_unless f b k) (fault_unless f b k')
 checked f true h = h tt
 checked f false h = at_fault
 
 -- so does a choice
-pub chosen : {A : Type 0} (b : Bool) {k k' z z' : Unit {0} → Events A} → ((x : NoYield) → Extends A (k x) (k' x)) → ((x : NoYield) → Extends A (z x) (z' x)) → Extends A (if_true b k z) (if_true b k' z')
+pub chosen : {A : Type 0} (b : Bool) {k k' z z' : Unit {0} → Events A} → ((x : NoYield) → Extends A (k x) (k' x))
+    → ((x : NoYield) → Extends A (z x) (z' x)) → Extends A (if_true b k z) (if_true b k' z')
 chosen true h w = h tt
 chosen false h w = w tt
 
@@ -88,12 +94,15 @@ read Unknown r = at_fault
 read (At p) r = at_fault
 
 -- the labels of CASE are tried alike
-pub labelled : (ls : List Range) (v : ℤ) {a a' n n' : Unit {0} → Events NoYield} → ((x : NoYield) → Extends NoYield (a x) (a' x)) → ((x : NoYield) → Extends NoYield (n x) (n' x)) → Extends NoYield (try_labels ls v a n) (try_labels ls v a' n')
+pub labelled : (ls : List Range) (v : ℤ) {a a' n n' : Unit {0} → Events NoYield} → ((x : NoYield) → Extends NoYield (a x) (a' x))
+    → ((x : NoYield) → Extends NoYield (n x) (n' x)) → Extends NoYield (try_labels ls v a n) (try_labels ls v a' n')
 labelled [] v h w = w tt
 labelled (r ∷ ls) v h w = on_visit (chosen (within r v) h (λ _. labelled ls v h w))
 
 -- FORALL goes through the same alternatives with the same carry
-pub gone_through : {T T' : Store → Events NoYield} → ((s : Store) → Extends NoYield (T s) (T' s)) → (s : Store) (c : Carry Cell) {e e' : Events NoYield} → Extends NoYield e e' → Extends NoYield (forall_row T s c e) (forall_row T' s c e')
+pub gone_through : {T T' : Store → Events NoYield} → ((s : Store) → Extends NoYield (T s) (T' s))
+    → (s : Store) (c : Carry Cell) {e e' : Events NoYield} → Extends NoYield e e'
+    → Extends NoYield (forall_row T s c e) (forall_row T' s c e')
 gone_through r s c (on_visit h) = on_visit (gone_through r s c h)
 gone_through r s c (on_print h) = on_print (gone_through r s c h)
 gone_through r s c (on_alt {s = x} h) =

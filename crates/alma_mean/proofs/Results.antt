@@ -5,7 +5,8 @@ use Rattle.std.proofs.lemmas.Bool.{true≢false}
 use Rattle.alma_ir.specs.Tree.{Program}
 use Rattle.alma_mean.specs.Events.{Events, NoYield, Visit, Print, Alt, first, prints, end_of, CutOff}
 use Rattle.alma_mean.specs.Meaning.{ev_program}
-use Rattle.alma_mean.specs.Laws.{Extends, on_visit, on_print, on_alt, at_fail, at_fault, at_cut, IsPrefix, ResultStays, PrintsGrow, ends_in_cut, UncutListsStay}
+use Rattle.alma_mean.specs.Laws.{Extends, on_visit, on_print, on_alt, at_fail, at_fault, at_cut, IsPrefix, ResultStays, PrintsGrow}
+use Rattle.alma_mean.specs.Laws.{ends_in_cut, UncutListsStay}
 use Rattle.alma_mean.proofs.Extending.{same}
 use Rattle.alma_mean.proofs.Rising.{levels_rise}
 
@@ -18,7 +19,8 @@ chained at_fault at_fault = at_fault
 chained at_cut k = at_cut
 
 -- a list that is extended after it has come to its first alternative or end has the same result
-stays : {e f : Events NoYield} → Extends NoYield e f → (end_of (first e) ≡ CutOff → ⊥) → (prints (first f) ≡ prints (first e)) × (end_of (first f) ≡ end_of (first e))
+stays : {e f : Events NoYield} → Extends NoYield e f → (end_of (first e) ≡ CutOff → ⊥) → (prints (first f) ≡ prints (first e))
+    × (end_of (first f) ≡ end_of (first e))
 stays (on_visit h) n = stays h n
 stays (on_print {b = b} h) n = let r = stays h n in (ap (λ x. b ++ x) r.0, r.1)
 stays (on_alt h) n = (refl, refl)
@@ -46,7 +48,8 @@ further p input n (suc k) =
 
 -- a result that is not cut off is that of each higher level
 pub result_stays : (p : Program) (input : List ℕ) → ResultStays p input
-result_stays p input n k h = let r = stays (further p input n k) h in ap (λ x. (x, end_of (first (ev_program (k + n) p input)))) r.0 ∙ ap (λ x. (prints (first (ev_program n p input)), x)) r.1
+result_stays p input n k h = let r = stays (further p input n k) h in ap (λ x. (x, end_of (first (ev_program (k + n) p input)))) r.0
+    ∙ ap (λ x. (prints (first (ev_program n p input)), x)) r.1
 
 -- what is printed is the front of what is printed at each higher level
 pub prints_grow : (p : Program) (input : List ℕ) → PrintsGrow p input

@@ -4,14 +4,24 @@ use Rattle.std.specs.Prelude.{true, false, ℤ, pos, nat_lt, nat_le, length, ◌
 use Rattle.alma_base.specs.Numbers.{is_beyond}
 use Rattle.alma_base.specs.declared.number.Range.{Range}
 use Rattle.alma_base.specs.declared.fault.RunFault.TheVariants as fault
-use Rattle.alma_ir.specs.Tree.{Stmts, Stmt, Arms, CaseArms, Else, Branches, Loop, ReturnExpr, Test, Tests, Expr, Links, Args, Arg, Desig, Sels, Sel, Program, routine_at, no_stmts, more_stmts, TestStmt, Assign, CopyCells, If, While, Repeat, ForTo, SomeOf, Case, Either, Forall, Commit, Return, Read, WriteExpr, WriteText, WriteLine, no_arms, more_arms, no_cases, more_cases, no_else, else_part, no_branches, more_branches, a_loop, no_result, some_result, Value, Bind, Unify, SameCells, Seq, And, Or, Not, CallTest, no_tests, more_tests, Const, Load, Chain, Compare, Truth, Known, Chr, CallExpr, no_links, more_links, no_args, more_args, ByValue, ByCells, ByPlace, MixValue, MixPlace, a_desig, no_sels, more_sels, Field, Index}
+use Rattle.alma_ir.specs.Tree.{Stmts, Stmt, Arms, CaseArms, Else, Branches, Loop, ReturnExpr, Test, Tests, Expr, Links, Args, Arg, Desig}
+use Rattle.alma_ir.specs.Tree.{Sels, Sel, Program, routine_at, no_stmts, more_stmts, TestStmt, Assign, CopyCells, If, While, Repeat, ForTo}
+use Rattle.alma_ir.specs.Tree.{SomeOf, Case, Either, Forall, Commit, Return, Read, WriteExpr, WriteText, WriteLine, no_arms, more_arms}
+use Rattle.alma_ir.specs.Tree.{no_cases, more_cases, no_else, else_part, no_branches, more_branches, a_loop, no_result, some_result, Value}
+use Rattle.alma_ir.specs.Tree.{Bind, Unify, SameCells, Seq, And, Or, Not, CallTest, no_tests, more_tests, Const, Load, Chain, Compare}
+use Rattle.alma_ir.specs.Tree.{Truth, Known, Chr, CallExpr, no_links, more_links, no_args, more_args, ByValue, ByCells, ByPlace, MixValue}
+use Rattle.alma_ir.specs.Tree.{MixPlace, a_desig, no_sels, more_sels, Field, Index}
 use Rattle.alma_ir.specs.Lines.{body_with_lines}
 use Rattle.alma_mean.specs.Store.{Store, Place, top_cell}
 use Rattle.alma_mean.specs.Events.{Events, NoYield, Fail, one}
-use Rattle.alma_mean.specs.Rows.{ArgValue, next_turn, set_variable, for_turn, some_turn, while_turn, repeat_turn, begin_loop, enter, declared_cells, frame_of}
-use Rattle.alma_mean.specs.Meaning.{Level, level, level_above, ev_stmts, ev_stmt, ev_arms, ev_cases, ev_else, ev_branches, ev_for, ev_some, ev_return, ev_test, ev_and, ev_or, ev_expr, ev_links, ev_args, ev_arg, ev_desig, ev_sels, ev_sel, turn_for, turn_some, ev_program, start}
+use Rattle.alma_mean.specs.Rows.{ArgValue, next_turn, set_variable, for_turn, some_turn, while_turn, repeat_turn, begin_loop, enter}
+use Rattle.alma_mean.specs.Rows.{declared_cells, frame_of}
+use Rattle.alma_mean.specs.Meaning.{Level, level, level_above, ev_stmts, ev_stmt, ev_arms, ev_cases, ev_else, ev_branches, ev_for, ev_some}
+use Rattle.alma_mean.specs.Meaning.{ev_return, ev_test, ev_and, ev_or, ev_expr, ev_links, ev_args, ev_arg, ev_desig, ev_sels, ev_sel}
+use Rattle.alma_mean.specs.Meaning.{turn_for, turn_some, ev_program, start}
 use Rattle.alma_mean.specs.Laws.{Extends, on_visit, at_fail, at_fault, at_cut, IsBelow, LevelsRise}
-use Rattle.alma_mean.proofs.Extending.{same, joined, bound, visited, lined, noded, first_taken, checked, chosen, read, labelled, gone_through, left, answered}
+use Rattle.alma_mean.proofs.Extending.{same, joined, bound, visited, lined, noded, first_taken, checked, chosen, read, labelled}
+use Rattle.alma_mean.proofs.Extending.{gone_through, left, answered}
 
 -- a function of the store that extends another
 abbrev Over : {A : Type 0} → (Store → Events A) → (Store → Events A) → Type 0
@@ -24,37 +34,44 @@ while_over : {c c' b b' a a' : Store → Events NoYield} → Over c c' → Over 
 while_over c b a s = on_visit (first_taken (c s) (λ t _. bound (b t) (λ u _. a u)) (λ _. same _))
 
 -- a turn of REPEAT
-repeat_over : {b b' c c' a a' : Store → Events NoYield} → Over b b' → Over c c' → Over a a' → Over (repeat_turn b c a) (repeat_turn b' c' a')
+repeat_over : {b b' c c' a a' : Store → Events NoYield} → Over b b' → Over c c' → Over a a'
+    → Over (repeat_turn b c a) (repeat_turn b' c' a')
 repeat_over b c a s = on_visit (bound (b s) (λ t _. first_taken (c t) (λ u _. same _) (λ _. a t)))
 
 -- the end of a turn
-stepped : (counter limit : ℕ) (by : ℤ) {a a' : Store → Events NoYield} → Over a a' → (s : Store) (last : Events NoYield) → Extends NoYield (next_turn counter limit by a s last) (next_turn counter limit by a' s last)
+stepped : (counter limit : ℕ) (by : ℤ) {a a' : Store → Events NoYield} → Over a a' → (s : Store) (last : Events NoYield)
+    → Extends NoYield (next_turn counter limit by a s last) (next_turn counter limit by a' s last)
 stepped counter limit by a s last =
     read (top_cell s counter) (λ v. read (top_cell s limit) (λ l. chosen _ (λ _. same last) (λ _. a _)))
 
 -- the setting of the variable
-with_var : {d d' : Store → Events Place} → Over d d' → (range : Range) (s : Store) (v : ℤ) {k k' : Store → Events NoYield} → Over k k' → Extends NoYield (set_variable d range s v k) (set_variable d' range s v k')
+with_var : {d d' : Store → Events Place} → Over d d' → (range : Range) (s : Store) (v : ℤ) {k k' : Store → Events NoYield} → Over k k'
+    → Extends NoYield (set_variable d range s v k) (set_variable d' range s v k')
 with_var d range s v k = checked fault.Range _ (λ _. bound (d s) (λ t p. k _))
 
 -- a turn of FOR
-for_over : {d d' : Store → Events Place} → Over d d' → (range : Range) (counter limit : ℕ) (by : ℤ) {b b' a a' : Store → Events NoYield} → Over b b' → Over a a' → Over (for_turn d range counter limit by b a) (for_turn d' range counter limit by b' a')
+for_over : {d d' : Store → Events Place} → Over d d' → (range : Range) (counter limit : ℕ) (by : ℤ) {b b' a a' : Store → Events NoYield}
+    → Over b b' → Over a a' → Over (for_turn d range counter limit by b a) (for_turn d' range counter limit by b' a')
 for_over d range counter limit by b a s =
     on_visit (read (top_cell s counter) (λ v. with_var d range s v (λ t. bound (b t) (λ u _. stepped counter limit by a u (one u tt)))))
 
 -- a turn of SOME
-some_over : {d d' : Store → Events Place} → Over d d' → (range : Range) (counter limit : ℕ) {b b' a a' : Store → Events NoYield} → Over b b' → Over a a' → Over (some_turn d range counter limit b a) (some_turn d' range counter limit b' a')
+some_over : {d d' : Store → Events Place} → Over d d' → (range : Range) (counter limit : ℕ) {b b' a a' : Store → Events NoYield} → Over b b'
+    → Over a a' → Over (some_turn d range counter limit b a) (some_turn d' range counter limit b' a')
 some_over d range counter limit b a s =
     on_visit (read (top_cell s counter) (λ v. joined (with_var d range s v b) (stepped counter limit (pos 1) a s Fail)))
 
 -- the begin of a loop
-begun : (counter limit : ℕ) (by v l : ℤ) (s : Store) {f f' : Store → Events NoYield} → Over f f' → (z : Store → Events NoYield) → Extends NoYield (begin_loop counter limit by v l s f z) (begin_loop counter limit by v l s f' z)
+begun : (counter limit : ℕ) (by v l : ℤ) (s : Store) {f f' : Store → Events NoYield} → Over f f' → (z : Store → Events NoYield)
+    → Extends NoYield (begin_loop counter limit by v l s f z) (begin_loop counter limit by v l s f' z)
 begun counter limit by v l s f z = chosen (is_beyond v l by) (λ _. same _) (λ _. f _)
 
 -- ---- the rows
 
 module _ (p : Program) (input : List ℕ) (b c : Level) (h : IsBelow b c) where
   -- the body of a call, where it stands one level below
-  entered : (r links : ℕ) (s : Store) (hs : List ArgValue) → Extends NoYield (enter p (b.routine r) r links s hs) (enter p (c.routine r) r links s hs)
+  entered : (r links : ℕ) (s : Store) (hs : List ArgValue)
+      → Extends NoYield (enter p (b.routine r) r links s hs) (enter p (c.routine r) r links s hs)
   entered r links s hs =
       checked fault.DepthFull (nat_lt (length s) 10000) (λ _.
       checked fault.CellsFull (nat_le (declared_cells p s + (routine_at p r).declared) 1048576) (λ _.
@@ -87,12 +104,14 @@ module _ (p : Program) (input : List ℕ) (b c : Level) (h : IsBelow b c) where
     stmt_over (WriteText text) s = same _
     stmt_over WriteLine s = same _
 
-    pub arms_over : (x : Arms) (s : Store) {k k' : Store → Events NoYield} → Over k k' → Extends NoYield (ev_arms p input b x s k) (ev_arms p input c x s k')
+    pub arms_over : (x : Arms) (s : Store) {k k' : Store → Events NoYield} → Over k k'
+        → Extends NoYield (ev_arms p input b x s k) (ev_arms p input c x s k')
     arms_over no_arms s k = k s
     arms_over (more_arms t body rest) s k =
         on_visit (first_taken (test_over t s) (λ u _. visited (stmts_over body u)) (λ _. arms_over rest s k))
 
-    pub cases_over : (x : CaseArms) (v : ℤ) (s : Store) {k k' : Store → Events NoYield} → Over k k' → Extends NoYield (ev_cases p input b x v s k) (ev_cases p input c x v s k')
+    pub cases_over : (x : CaseArms) (v : ℤ) (s : Store) {k k' : Store → Events NoYield} → Over k k'
+        → Extends NoYield (ev_cases p input b x v s k) (ev_cases p input c x v s k')
     cases_over no_cases v s k = k s
     cases_over (more_cases labels body rest) v s k =
         labelled labels v (λ _. noded (stmts_over body s)) (λ _. cases_over rest v s k)
@@ -109,13 +128,15 @@ module _ (p : Program) (input : List ℕ) (b c : Level) (h : IsBelow b c) where
     for_stmt_over (a_loop d range counter limit from to by body) s =
         bound (expr_over from s) (λ t v. bound (expr_over to t) (λ u l.
         begun counter limit by v l u
-        (for_over (λ w. desig_over d w) range counter limit by (h.stmts body) (h.for (a_loop d range counter limit from to by body))) (λ w. one w tt)))
+        (for_over (λ w. desig_over d w) range counter limit by (h.stmts body) (h.for (a_loop d range counter limit from to by body)))
+        (λ w. one w tt)))
 
     pub some_stmt_over : (l : Loop) (s : Store) → Extends NoYield (ev_some p input b l s) (ev_some p input c l s)
     some_stmt_over (a_loop d range counter limit from to by body) s =
         bound (expr_over from s) (λ t v. bound (expr_over to t) (λ u l.
         begun counter limit (pos 1) v l u
-        (some_over (λ w. desig_over d w) range counter limit (h.stmts body) (h.some (a_loop d range counter limit from to by body))) (λ w. Fail)))
+        (some_over (λ w. desig_over d w) range counter limit (h.stmts body) (h.some (a_loop d range counter limit from to by body)))
+        (λ w. Fail)))
 
     pub answer_over : (x : ReturnExpr) (s : Store) → Extends NoYield (ev_return p input b x s) (ev_return p input c x s)
     answer_over no_result s = same _

@@ -4,7 +4,8 @@ use Rattle.alma_base.specs.declared.number.Range.{Range}
 use Rattle.alma_base.specs.declared.fault.RunFault.{RunFault}
 use Rattle.alma_ir.specs.Tree.{Stmts, Stmt, Test, Expr, Arg, Desig, Sel, Loop, Program, While, Repeat, ForTo, SomeOf, a_loop}
 use Rattle.alma_mean.specs.Store.{Store, Place}
-use Rattle.alma_mean.specs.Events.{Events, NoYield, Visit, Print, Alt, Flow, Fail, Fault, Cut, one, bind, node, first, prints, end_of, CutOff}
+use Rattle.alma_mean.specs.Events.{Events, NoYield, Visit, Print, Alt, Flow, Fail, Fault, Cut, one, bind, node, first, prints, end_of}
+use Rattle.alma_mean.specs.Events.{CutOff}
 use Rattle.alma_mean.specs.Rows.{ArgValue, begin_loop}
 use Rattle.alma_mean.specs.Meaning.{Level, level, level_above, ev_stmt, ev_expr, ev_program, result}
 
@@ -82,4 +83,5 @@ pub record TurnsAgree (p : Program) (input : List ℕ) (below : Level) : Type 0 
   pub some : (d : Desig) (range : Range) (counter limit : ℕ) (from to : Expr) (by : ℤ) (body : Stmts) (s : Store) →
       ev_stmt p input below (SomeOf (a_loop d range counter limit from to by body)) s ≡
       node (bind (ev_expr p input below from s) (λ t n. bind (ev_expr p input below to t) (λ u l.
-      begin_loop counter limit (pos 1) n l u ((level_above p input below).some (a_loop d range counter limit from to by body)) (λ w. Fail))))
+      begin_loop counter limit (pos 1) n l u ((level_above p input below).some (a_loop d range counter limit from to by body))
+      (λ w. Fail))))

@@ -7,13 +7,22 @@ use Rattle.std.specs.Prelude.{ℕ, zero, suc, true, false, ℤ, pos, List, [], �
 use Rattle.alma_base.specs.Choice.{if_true}
 use Rattle.alma_base.specs.Numbers.{is_zero, bit}
 use Rattle.alma_base.specs.declared.fault.RunFault.TheVariants as fault
-use Rattle.alma_ir.specs.Tree.{Stmts, Stmt, Arms, CaseArms, Else, Branches, Loop, ReturnExpr, Test, Tests, Expr, Links, Args, Arg, Desig, Sels, Sel, Program, routine_at, no_stmts, more_stmts, TestStmt, Assign, CopyCells, If, While, Repeat, ForTo, SomeOf, Case, Either, Forall, Commit, Return, Read, WriteExpr, WriteText, WriteLine, no_arms, more_arms, no_cases, more_cases, no_else, else_part, no_branches, more_branches, a_loop, no_result, some_result, Value, Bind, Unify, SameCells, Seq, And, Or, Not, CallTest, no_tests, more_tests, Const, Load, Chain, Compare, Truth, Known, Chr, CallExpr, no_links, more_links, no_args, more_args, ByValue, ByCells, ByPlace, MixValue, MixPlace, a_desig, no_sels, more_sels, Field, Index}
+use Rattle.alma_ir.specs.Tree.{Stmts, Stmt, Arms, CaseArms, Else, Branches, Loop, ReturnExpr, Test, Tests, Expr, Links, Args, Arg, Desig}
+use Rattle.alma_ir.specs.Tree.{Sels, Sel, Program, routine_at, no_stmts, more_stmts, TestStmt, Assign, CopyCells, If, While, Repeat, ForTo}
+use Rattle.alma_ir.specs.Tree.{SomeOf, Case, Either, Forall, Commit, Return, Read, WriteExpr, WriteText, WriteLine, no_arms, more_arms}
+use Rattle.alma_ir.specs.Tree.{no_cases, more_cases, no_else, else_part, no_branches, more_branches, a_loop, no_result, some_result, Value}
+use Rattle.alma_ir.specs.Tree.{Bind, Unify, SameCells, Seq, And, Or, Not, CallTest, no_tests, more_tests, Const, Load, Chain, Compare}
+use Rattle.alma_ir.specs.Tree.{Truth, Known, Chr, CallExpr, no_links, more_links, no_args, more_args, ByValue, ByCells, ByPlace, MixValue}
+use Rattle.alma_ir.specs.Tree.{MixPlace, a_desig, no_sels, more_sels, Field, Index}
 use Rattle.alma_ir.specs.Lines.{body_with_lines}
 use Rattle.alma_mean.specs.Store.{Store, Place, Number, top_frame, part, cell_of, put_at, start_cells}
 use Rattle.alma_mean.specs.Events as events
-use Rattle.alma_mean.specs.Events.{Events, NoYield, Visit, Print, Alt, Fail, Fault, Cut, one, join, bind, node, visit_each, at_line, first, on_first, End, end_of, prints}
+use Rattle.alma_mean.specs.Events.{Events, NoYield, Visit, Print, Alt, Fail, Fault, Cut, one, join, bind, node, visit_each, at_line, first}
+use Rattle.alma_mean.specs.Events.{on_first, End, end_of, prints}
 use Rattle.alma_mean.specs.Arithmetic.{check_range, apply_op, apply_sign, compares, written_text}
-use Rattle.alma_mean.specs.Rows.{read_cell, known_bit, root_place, index_place, bind_cell, unify_cells, match_cells, copy_cells, while_turn, repeat_turn, for_turn, some_turn, begin_loop, try_labels, forall_row, read_row, ArgValue, ArgNumber, ArgMix, ArgPlace, ArgCells, enter, as_test, as_value, return_within}
+use Rattle.alma_mean.specs.Rows.{read_cell, known_bit, root_place, index_place, bind_cell, unify_cells, match_cells, copy_cells, while_turn}
+use Rattle.alma_mean.specs.Rows.{repeat_turn, for_turn, some_turn, begin_loop, try_labels, forall_row, read_row, ArgValue, ArgNumber}
+use Rattle.alma_mean.specs.Rows.{ArgMix, ArgPlace, ArgCells, enter, as_test, as_value, return_within}
 
 -- the meaning at one level: the events of each phrase in a store, of a routine's statements, and of
 -- a turn of a loop

@@ -1,5 +1,6 @@
 -- The rows of the meaning, each given the events of its parts. `Meaning` says what these parts are.
-use Rattle.std.specs.Prelude.{ℕ, zero, suc, ◌+◌, ◌*◌, Bool, true, false, nat_lt, nat_le, ℤ, pos, ◌+ℤ◌, ◌-ℤ◌, nat_abs, List, [], ◌∷◌, ◌++◌, length, replicate, drop, set, Option, Some, None, sum_by}
+use Rattle.std.specs.Prelude.{ℕ, zero, suc, ◌+◌, ◌*◌, Bool, true, false, nat_lt, nat_le, ℤ, pos, ◌+ℤ◌, ◌-ℤ◌, nat_abs, List, [], ◌∷◌, ◌++◌}
+use Rattle.std.specs.Prelude.{length, replicate, drop, set, Option, Some, None, sum_by}
 use Rattle.alma_base.specs.Limits.{cell_limit, frame_limit}
 use Rattle.alma_base.specs.Choice.{if_true}
 use Rattle.alma_base.specs.Numbers.{within, int_eq, is_beyond}
@@ -15,7 +16,8 @@ use Rattle.alma_ir.specs.declared.phrase.ReadAs.{ReadAs}
 use Rattle.alma_ir.specs.declared.phrase.ReadAs.TheVariants as read_as
 use Rattle.alma_ir.specs.declared.program.Param.{Param}
 use Rattle.alma_ir.specs.Tree.{Routine, Program, routine_at}
-use Rattle.alma_mean.specs.Store.{Store, Frame, Cell, Place, Unknown, Number, At, cell_at, put, put_all, cells_of, cell_of, put_at, part, top, up, top_cell, put_top, without_top, over, changes}
+use Rattle.alma_mean.specs.Store.{Store, Frame, Cell, Place, Unknown, Number, At, cell_at, put, put_all, cells_of, cell_of, put_at, part}
+use Rattle.alma_mean.specs.Store.{top, up, top_cell, put_top, without_top, over, changes}
 use Rattle.alma_mean.specs.Events.{Events, NoYield, Visit, Print, Alt, Flow, Go, Return, Fail, Fault, Cut, one, join, bind, on_first}
 use Rattle.alma_mean.specs.Arithmetic.{check_range, fault_unless}
 
@@ -131,14 +133,16 @@ next_turn counter limit by again s last =
     if_true (is_beyond (n +ℤ by) l by) (λ _. last) (λ _. again (put_top s counter (Number (n +ℤ by))))))
 
 -- the body, and behind each of its alternatives the end of the loop or the next turn
-abbrev pub for_turn : (locate : Store → Events Place) → Range → (counter limit : ℕ) (by : ℤ) (body again : Store → Events NoYield) → Store → Events NoYield
+abbrev pub for_turn : (locate : Store → Events Place) → Range → (counter limit : ℕ) (by : ℤ) (body again : Store → Events NoYield) → Store
+    → Events NoYield
 for_turn locate range counter limit by body again s =
     Visit (read_cell (top_cell s counter) (λ n. set_variable locate range s n (λ t.
     bind (body t) (λ u _. next_turn counter limit by again u (one u tt)))))
 
 -- the variable set and the body, and after their alternatives, or where there are none, the next
 -- turn, from the store in which this turn began: that store does not have the variable's new value
-abbrev pub some_turn : (locate : Store → Events Place) → Range → (counter limit : ℕ) (body again : Store → Events NoYield) → Store → Events NoYield
+abbrev pub some_turn : (locate : Store → Events Place) → Range → (counter limit : ℕ) (body again : Store → Events NoYield) → Store
+    → Events NoYield
 some_turn locate range counter limit body again s =
     Visit (read_cell (top_cell s counter) (λ n.
     join (set_variable locate range s n body) (next_turn counter limit (pos 1) again s Fail)))

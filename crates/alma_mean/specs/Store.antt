@@ -1,5 +1,6 @@
 -- Cells, frames and the store.
-use Rattle.std.specs.Prelude.{ℕ, zero, suc, ◌+◌, ◌-◌, Bool, true, false, ◌&&◌, nat_eq, ℤ, pos, List, [], ◌∷◌, ◌++◌, length, get_or, take, set, replicate}
+use Rattle.std.specs.Prelude.{ℕ, zero, suc, ◌+◌, ◌-◌, Bool, true, false, ◌&&◌, nat_eq, ℤ, pos, List, [], ◌∷◌, ◌++◌, length, get_or, take}
+use Rattle.std.specs.Prelude.{set, replicate}
 use Rattle.alma_base.specs.Numbers.{int_eq}
 use Rattle.alma_base.specs.Carry.{Change, Carry}
 

@@ -1,5 +1,6 @@
 -- The declarations of a block, and the entries of its map.
-use Rattle.std.proofs.Common.{◌≡◌, ℕ, ◌+◌, ◌<◌, ◌≤◌, List, [], ◌∷◌, ◌++◌, Option, None, Some, Bool, true, false, cond, not, Vec, Global, length, map, position, slice_get, refl, ap, sym, ◌∙◌, arith, true≢false, is_some}
+use Rattle.std.proofs.Common.{◌≡◌, ℕ, ◌+◌, ◌<◌, ◌≤◌, List, [], ◌∷◌, ◌++◌, Option, None, Some, Bool, true, false, cond, not, Vec, Global}
+use Rattle.std.proofs.Common.{length, map, position, slice_get, refl, ap, sym, ◌∙◌, arith, true≢false, is_some}
 use Rattle.std.specs.Prelude.{bytes_eq}
 use Rattle.std.specs.Option.{option_map}
 use Rattle.std.specs.List.{position_or_len}
@@ -17,7 +18,8 @@ use Rattle.alma_names.specs.Blocks.{DeclaredName, declared_of, place, seen, entr
 abbrev pub is_named : List ℕ → Vec ℕ Global → Bool
 is_named name k = bytes_eq name k.items
 
-first_names : (name : List ℕ) (es : List (Vec ℕ Global × Declaration)) → position_or_len (λ d. bytes_eq name d.name) (map declared_of es) ≡ position_or_len (is_named name) (keys_of es)
+first_names : (name : List ℕ) (es : List (Vec ℕ Global × Declaration))
+    → position_or_len (λ d. bytes_eq name d.name) (map declared_of es) ≡ position_or_len (is_named name) (keys_of es)
 first_names name [] = refl
 first_names name (e ∷ es) = ap (λ n. cond (not (bytes_eq name e.0.items)) (1 + n) 0) (first_names name es)
 
@@ -25,7 +27,8 @@ keys_len : (es : List (Vec ℕ Global × Declaration)) → length (map declared_
 keys_len es = length-map es declared_of ∙ sym (length-map es _)
 
 -- the place of a name among the declarations is its place among the keys
-place_names : (name : List ℕ) (es : List (Vec ℕ Global × Declaration)) → place name (map declared_of es) ≡ position (is_named name) (keys_of es)
+place_names : (name : List ℕ) (es : List (Vec ℕ Global × Declaration))
+    → place name (map declared_of es) ≡ position (is_named name) (keys_of es)
 place_names name es = rw (first_names name es, keys_len es) refl
 
 -- what a look-up in the map says of the block
@@ -39,10 +42,12 @@ module _ (name : List ℕ) (at : ℕ) (es : List (Vec ℕ Global × Declaration)
   there : (i : ℕ) (k : Vec ℕ Global) (x : Declaration) → slice_get es i ≡ Some (k, x) → slice_get b i ≡ Some (declared_of (k, x))
   there i k x h = rw (← v, slice_get-map declared_of es i, h) refl
 
-  pub seen_some : (i : ℕ) (k : Vec ℕ Global) (x : Declaration) → Some i ≡ position (is_named name) (keys_of es) → slice_get es i ≡ Some (k, x) → x.from ≤ at → Some i ≡ seen name at b
+  pub seen_some : (i : ℕ) (k : Vec ℕ Global) (x : Declaration) → Some i ≡ position (is_named name) (keys_of es)
+      → slice_get es i ≡ Some (k, x) → x.from ≤ at → Some i ≡ seen name at b
   seen_some i k x p h le = rw (← place_found p, there i k x h) (grind (arith, nat_tests))
 
-  pub seen_later : (i : ℕ) (k : Vec ℕ Global) (x : Declaration) → Some i ≡ position (is_named name) (keys_of es) → slice_get es i ≡ Some (k, x) → at < x.from → None ≡ seen name at b
+  pub seen_later : (i : ℕ) (k : Vec ℕ Global) (x : Declaration) → Some i ≡ position (is_named name) (keys_of es)
+      → slice_get es i ≡ Some (k, x) → at < x.from → None ≡ seen name at b
   seen_later i k x p h lt = rw (← place_found p, there i k x h) (grind (arith, nat_tests))
 
   pub entry_there : (i : ℕ) (x : Declaration) → slice_get (map (λ e. e.1) es) i ≡ Some x → x.entry ≡ entry_in (slice_get b i)
@@ -60,8 +65,10 @@ missed test es h = by (lookup test es) refl
     by (Some k) p = absurd (true≢false (sym (some_index test es ∙ ap is_some p) ∙ ap is_some h))
 
 -- the block after an insertion of a name that it did not have
-pub added_name : (name : List ℕ) (key : Vec ℕ Global) (declaration : Declaration) (es : List (Vec ℕ Global × Declaration)) (b : List DeclaredName) → map declared_of es ≡ b → place name b ≡ None → key.items ≡ name
-    → (new : List (Vec ℕ Global × Declaration)) → new ≡ insert_entry (λ x y. bytes_eq x.items y.items) es key declaration → map declared_of new ≡ b ++ record { name = name; from = declaration.from; entry = declaration.entry } ∷ []
+pub added_name : (name : List ℕ) (key : Vec ℕ Global) (declaration : Declaration) (es : List (Vec ℕ Global × Declaration))
+    (b : List DeclaredName) → map declared_of es ≡ b → place name b ≡ None → key.items ≡ name
+    → (new : List (Vec ℕ Global × Declaration)) → new ≡ insert_entry (λ x y. bytes_eq x.items y.items) es key declaration
+    → map declared_of new ≡ b ++ record { name = name; from = declaration.from; entry = declaration.entry } ∷ []
 added_name name key declaration es b v none is new h =
     let gone : lookup (is_named name) es ≡ None = missed (is_named name) es (place_found name 0 es b v refl ∙ none) in
     let same : lookup (is_named key.items) es ≡ None = rw is gone in

@@ -1,6 +1,7 @@
 -- A block as the list of its declarations, in their order and with different names, and what a look-up finds in it.
 use Rattle.std.specs.Global.{Global}
-use Rattle.std.specs.Prelude.{ℕ, pos, Bool, false, if◌then◌else◌, nat_le, List, [], ◌∷◌, map, slice_get, position, bytes_eq, codes, Option, None, Some, option_and_then, Vec}
+use Rattle.std.specs.Prelude.{ℕ, pos, Bool, false, if◌then◌else◌, nat_le, List, [], ◌∷◌, map, slice_get, position, bytes_eq, codes, Option}
+use Rattle.std.specs.Prelude.{None, Some, option_and_then, Vec}
 use Rattle.std.specs.HashMap.{HashMap}
 use Rattle.alma_names.specs.declared.block.Declaration.{Declaration}
 use Rattle.alma_names.specs.declared.block.Entry.{Entry}

@@ -1,5 +1,6 @@
 -- Scopes as a stack of blocks, whose entries are numbered through from the lowest block up, and what a look-up finds in it.
-use Rattle.std.specs.Prelude.{◌≡◌, ℕ, ◌+◌, ◌-◌, List, [], ◌∷◌, ◌++◌, Option, None, Some, Result, Ok, Err, if◌then◌else◌, nat_lt, length, slice_get, take, get_or, option_map}
+use Rattle.std.specs.Prelude.{◌≡◌, ℕ, ◌+◌, ◌-◌, List, [], ◌∷◌, ◌++◌, Option, None, Some, Result, Ok, Err, if◌then◌else◌, nat_lt, length}
+use Rattle.std.specs.Prelude.{slice_get, take, get_or, option_map}
 use Rattle.alma_names.specs.declared.block.Entry.{Entry}
 use Rattle.alma_names.specs.declared.block.Entry.TheVariants.{Bad}
 use Rattle.alma_names.specs.declared.scopes.Id.{Id}

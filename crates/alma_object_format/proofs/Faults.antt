@@ -17,7 +17,8 @@ first_done of i zero le = refl
 first_done of i (suc n) le = absurd (omega arith)
 
 -- from the item i of n on
-pub first_at : (of : ℕ → Option ObjectFault) (i n : ℕ) → i < n → first_fault of i (n - i) ≡ or_else (of i) (first_fault of (i + 1) (n - (i + 1)))
+pub first_at : (of : ℕ → Option ObjectFault) (i n : ℕ) → i < n
+    → first_fault of i (n - i) ≡ or_else (of i) (first_fault of (i + 1) (n - (i + 1)))
 first_at of i n lt =
     let e : (n - i) - 1 ≡ n - (i + 1) = omega arith in
     first_more of i (n - i) (omega arith) ∙ ap (λ k. or_else (of i) (first_fault of (i + 1) k)) e

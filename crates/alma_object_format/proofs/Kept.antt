@@ -1,5 +1,6 @@
 -- What the walk has seen where it met no fault.
-use Rattle.std.proofs.Common.{◌≡◌, ℕ, zero, suc, ◌+◌, ◌-◌, ◌*◌, ◌<◌, ◌≤◌, Bool, true, false, ◌&&◌, not, Option, Some, None, List, length, refl, sym, ap, ◌∙◌, subst, arith, inl, inr}
+use Rattle.std.proofs.Common.{◌≡◌, ℕ, zero, suc, ◌+◌, ◌-◌, ◌*◌, ◌<◌, ◌≤◌, Bool, true, false, ◌&&◌, not, Option, Some, None, List, length}
+use Rattle.std.proofs.Common.{refl, sym, ap, ◌∙◌, subst, arith, inl, inr}
 use Rattle.std.specs.Prelude.{◌||◌, nat_eq, nat_lt, nat_le}
 use Rattle.std.proofs.lemmas.Bool.{cases_lt}
 use Rattle.std.proofs.lemmas.Bool.Decides.{nat_tests}
@@ -8,7 +9,10 @@ use Rattle.alma_object_format.specs.declared.fault.ObjectFault.TheVariants as fa
 use Rattle.alma_object_format.specs.declared.header.Header.{Header}
 use Rattle.alma_object_format.specs.Fault.{unless, whole, or_else, first_fault}
 use Rattle.alma_object_format.specs.Header.{routines_at, globals_at, texts_at}
-use Rattle.alma_object_format.specs.Walk.{start_of, is_end, is_name_end, params_end, runs_end, code_end, name_end, name_count, routine_field, routine_fault, routines_fault, global_fault, globals_fault, text_end, text_fault, params_fault, runs_fault, ranges_fault, texts_fault, pools_fault, instrs_fault, lines_fault, sections_fault}
+use Rattle.alma_object_format.specs.Walk.{start_of, is_end, is_name_end, params_end, runs_end, code_end, name_end, name_count}
+use Rattle.alma_object_format.specs.Walk.{routine_field, routine_fault, routines_fault, global_fault, globals_fault, text_end, text_fault}
+use Rattle.alma_object_format.specs.Walk.{params_fault, runs_fault, ranges_fault, texts_fault, pools_fault, instrs_fault, lines_fault}
+use Rattle.alma_object_format.specs.Walk.{sections_fault}
 
 pub unless_none : (b : Bool) (f : ObjectFault) (rest : Option ObjectFault) → unless b f rest ≡ None → (b ≡ true) × (rest ≡ None)
 unless_none true f rest e = (refl, e)
@@ -60,7 +64,8 @@ end_fits start end count last e =
     let b = and_parts (nat_le end count) (not last || nat_eq end count) a.1 in
     record { low = le_fact _ _ a.0; high = le_fact _ _ b.0; last_is = last_fact _ _ _ b.1 }
 
-pub name_end_fits : (start end count : ℕ) (last : Bool) → is_name_end start end count last ≡ true → (start < end) × EndFits start end count last
+pub name_end_fits : (start end count : ℕ) (last : Bool) → is_name_end start end count last ≡ true → (start < end)
+    × EndFits start end count last
 name_end_fits start end count last e =
     let a = and_parts (nat_lt start end) (nat_le end count && (not last || nat_eq end count)) e in
     let b = and_parts (nat_le end count) (not last || nat_eq end count) a.1 in
@@ -87,13 +92,23 @@ routine_kept bytes h r e =
     let f = unless_none _ _ _ d.1 in
     let g = unless_none _ _ _ f.1 in
     let n = name_end_fits _ _ _ _ b.0 in
-    record { is_whole = a.0; some = n.0; name = n.1; params = end_fits _ _ _ _ c.0; runs = end_fits _ _ _ _ d.0; code = end_fits _ _ _ _ f.0; result = le_fact _ _ g.0 }
+    record {
+      is_whole = a.0;
+      some = n.0;
+      name = n.1;
+      params = end_fits _ _ _ _ c.0;
+      runs = end_fits _ _ _ _ d.0;
+      code =
+          end_fits _ _ _ _ f.0;
+      result = le_fact _ _ g.0;
+    }
 
 -- a global without fault
 pub record GlobalKept (bytes : List ℕ) (h : Header) (g : ℕ) : Type 0 where
   pub is_whole : globals_at h + 12 * g + 12 ≤ length bytes
   pub some : start_of (name_end bytes h) (h.routines + g) < name_end bytes h (h.routines + g)
-  pub name : EndFits (start_of (name_end bytes h) (h.routines + g)) (name_end bytes h (h.routines + g)) h.name_bytes (nat_eq (h.routines + g + 1) (name_count bytes h))
+  pub name : EndFits (start_of (name_end bytes h) (h.routines + g)) (name_end bytes h (h.routines + g)) h.name_bytes
+      (nat_eq (h.routines + g + 1) (name_count bytes h))
 
 pub global_kept : (bytes : List ℕ) (h : Header) (g : ℕ) → global_fault bytes h g ≡ None → GlobalKept bytes h g
 unfolding global_fault
@@ -111,10 +126,12 @@ pub record NameKept (bytes : List ℕ) (h : Header) (n : ℕ) : Type 0 where
 pub name_kept : (bytes : List ℕ) (h : Header) → routines_fault bytes h ≡ None → globals_fault bytes h ≡ None →
     (n : ℕ) → n < name_count bytes h → NameKept bytes h n
 name_kept bytes h er eg n lt = elim (cases_lt n h.routines) [
-  | inl below ↦ let k = routine_kept bytes h n (first_none (routine_fault bytes h) 0 h.routines n er (omega arith) (omega arith)) in record { some = k.some; name = k.name }
+  | inl below ↦ let k = routine_kept bytes h n (first_none (routine_fault bytes h) 0 h.routines n er (omega arith) (omega arith)) in
+      record { some = k.some; name = k.name }
   | inr above ↦
       let same : h.routines + (n - h.routines) ≡ n = omega arith in
-      let k = global_kept bytes h (n - h.routines) (first_none (global_fault bytes h) 0 h.globals (n - h.routines) eg (omega arith) (omega arith)) in
+      let k = global_kept bytes h (n - h.routines)
+      (first_none (global_fault bytes h) 0 h.globals (n - h.routines) eg (omega arith) (omega arith)) in
       subst (NameKept bytes h) same (record { some = k.some; name = k.name })
 ]
 
@@ -175,16 +192,19 @@ sections_kept bytes h e =
     record { routines = a.0; globals = b.0; params = c.0; runs = d.0; ranges = f.0; texts = g.0; pools = i.0; instrs = j.0; lines = k.0 }
 
 -- a text without fault
-pub text_kept : (bytes : List ℕ) (h : Header) (t : ℕ) → text_fault bytes h t ≡ None → EndFits (start_of (text_end bytes h) t) (text_end bytes h t) h.text_bytes (nat_eq (t + 1) h.texts)
+pub text_kept : (bytes : List ℕ) (h : Header) (t : ℕ) → text_fault bytes h t ≡ None
+    → EndFits (start_of (text_end bytes h) t) (text_end bytes h t) h.text_bytes (nat_eq (t + 1) h.texts)
 unfolding text_fault
 text_kept bytes h t e = end_fits _ _ _ _ (unless_none _ _ _ (whole_none bytes (texts_at h + 4 * t + 4) _ e).1).0
 
 module _ (bytes : List ℕ) (h : Header) (none : sections_fault bytes h ≡ None) where
   pub routine_seen : (r : ℕ) → r < h.routines → RoutineKept bytes h r
-  routine_seen r lt = routine_kept bytes h r (first_none (routine_fault bytes h) 0 h.routines r (sections_kept bytes h none).routines (omega arith) (omega arith))
+  routine_seen r lt = routine_kept bytes h r
+      (first_none (routine_fault bytes h) 0 h.routines r (sections_kept bytes h none).routines (omega arith) (omega arith))
 
   pub name_seen : (n : ℕ) → n < h.routines + h.globals → NameKept bytes h n
   name_seen n lt = name_kept bytes h (sections_kept bytes h none).routines (sections_kept bytes h none).globals n lt
 
   pub text_seen : (t : ℕ) → t < h.texts → EndFits (start_of (text_end bytes h) t) (text_end bytes h t) h.text_bytes (nat_eq (t + 1) h.texts)
-  text_seen t lt = text_kept bytes h t (first_none (text_fault bytes h) 0 h.texts t (sections_kept bytes h none).texts (omega arith) (omega arith))
+  text_seen t lt = text_kept bytes h t (first_none (text_fault bytes h) 0 h.texts t (sections_kept bytes h none).texts (omega arith)
+      (omega arith))

@@ -29,7 +29,8 @@ u16_at bytes at = from_le_bytes w16 (slice_index bytes at ∷ slice_index bytes 
 
 -- the number in the four bytes at an offset
 unfoldable pub u32_at : List ℕ → (at : ℕ) → ℕ
-u32_at bytes at = from_le_bytes w32 (slice_index bytes at ∷ slice_index bytes (at + 1) ∷ slice_index bytes (at + 2) ∷ slice_index bytes (at + 3) ∷ [])
+u32_at bytes at = from_le_bytes w32 (slice_index bytes at ∷ slice_index bytes (at + 1) ∷ slice_index bytes (at + 2)
+    ∷ slice_index bytes (at + 3) ∷ [])
 
 -- the number of INTEGER in the eight bytes at an offset
 unfoldable pub i64_at : List ℕ → (at : ℕ) → ℤ

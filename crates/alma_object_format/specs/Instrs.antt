@@ -155,5 +155,6 @@ is_instr version bytes at =
 -- the instruction whose record stands at an offset, or Fail where there is none
 unfoldable pub instr_at : List ℕ → (at : ℕ) → Instr
 instr_at bytes at =
-    get_or (I.Fail ∷ instrs_with (u32_at bytes (at + 1)) (u32_at bytes (at + 5)) (u32_at bytes (at + 9)) (u32_at bytes (at + 13)) (i64_at bytes (at + 5)))
+    get_or (I.Fail ∷ instrs_with (u32_at bytes (at + 1)) (u32_at bytes (at + 5)) (u32_at bytes (at + 9)) (u32_at bytes (at + 13))
+    (i64_at bytes (at + 5)))
     (slice_index bytes at) I.Fail

@@ -118,7 +118,8 @@ pool_bytes code = flat_map (λ r. r.name) code.routines ++ (flat_map (λ g. g.na
 
 -- the whole object
 unfoldable pub object_bytes : PlainCode → List ℕ
-object_bytes code = header_bytes code ++ (table_bytes code ++ (pool_bytes code ++ (flat_map instr_bytes code.instrs ++ flat_map line_bytes code.lines)))
+object_bytes code = header_bytes code ++ (table_bytes code
+    ++ (pool_bytes code ++ (flat_map instr_bytes code.instrs ++ flat_map line_bytes code.lines)))
 
 -- ---- objects
 

@@ -1,5 +1,6 @@
 -- The walk over the bytes of an object behind its header, section by section, and the first fault that it meets.
-use Rattle.std.specs.Prelude.{ℕ, zero, suc, ◌+◌, ◌-◌, ◌*◌, Bool, not, ◌&&◌, ◌||◌, nat_eq, nat_lt, nat_le, int_le, if◌then◌else◌, Option, None, List, length, slice_index}
+use Rattle.std.specs.Prelude.{ℕ, zero, suc, ◌+◌, ◌-◌, ◌*◌, Bool, not, ◌&&◌, ◌||◌, nat_eq, nat_lt, nat_le, int_le, if◌then◌else◌, Option}
+use Rattle.std.specs.Prelude.{None, List, length, slice_index}
 use Rattle.alma_base.specs.Reading.{is_digit}
 use Rattle.alma_code.specs.Records.{is_name_start}
 use Rattle.alma_object_format.specs.declared.fault.ObjectFault.{ObjectFault}
@@ -8,7 +9,8 @@ use Rattle.alma_object_format.specs.declared.header.Header.{Header}
 use Rattle.alma_object_format.specs.Bytes.{u32_at, i64_at}
 use Rattle.alma_object_format.specs.Instrs.{is_instr}
 use Rattle.alma_object_format.specs.Fault.{unless, whole, or_else, first_fault}
-use Rattle.alma_object_format.specs.Header.{header_of, header_fault, routines_at, globals_at, params_at, runs_at, ranges_at, texts_at, name_pool_at, text_pool_at, instrs_at, lines_at, end_at}
+use Rattle.alma_object_format.specs.Header.{header_of, header_fault, routines_at, globals_at, params_at, runs_at, ranges_at, texts_at}
+use Rattle.alma_object_format.specs.Header.{name_pool_at, text_pool_at, instrs_at, lines_at, end_at}
 
 -- ---- ends
 
@@ -51,7 +53,8 @@ module _ (bytes : List ℕ) (h : Header) where
   name_count = h.routines + h.globals
 
   unfoldable pub name_end : ℕ → ℕ
-  name_end name = if nat_lt name h.routines then u32_at bytes (routines_at h + 28 * name) else u32_at bytes (globals_at h + 12 * (name - h.routines))
+  name_end name = if nat_lt name h.routines then u32_at bytes (routines_at h + 28 * name) else u32_at bytes
+      (globals_at h + 12 * (name - h.routines))
 
   -- ---- routines
 
@@ -136,7 +139,8 @@ module _ (bytes : List ℕ) (h : Header) where
   unfoldable pub text_fault : ℕ → Option ObjectFault
   text_fault t =
       let at = texts_at h + 4 * t in
-      whole bytes (at + 4) (unless (is_end (start_of text_end t) (text_end t) h.text_bytes (nat_eq (t + 1) h.texts)) (fault.BadCount at) None)
+      whole bytes (at + 4) (unless (is_end (start_of text_end t) (text_end t) h.text_bytes (nat_eq (t + 1) h.texts)) (fault.BadCount at)
+      None)
 
   abbrev pub texts_fault : Option ObjectFault
   texts_fault = first_fault text_fault 0 h.texts
@@ -147,7 +151,8 @@ module _ (bytes : List ℕ) (h : Header) where
   unfoldable pub name_fault : ℕ → Option ObjectFault
   name_fault n =
       let start = start_of name_end n in
-      first_fault (λ i. unless (can_stand (nat_eq i start) (slice_index bytes (name_pool_at h + i))) (fault.BadName (name_pool_at h + i)) None)
+      first_fault (λ i. unless (can_stand (nat_eq i start) (slice_index bytes (name_pool_at h + i))) (fault.BadName (name_pool_at h + i))
+      None)
       start (name_end n - start)
 
   -- the name bytes, and behind them the text bytes
@@ -171,7 +176,8 @@ module _ (bytes : List ℕ) (h : Header) where
   line_fault l =
       let at = lines_at h + 8 * l in
       whole bytes (at + 8)
-      (unless ((nat_eq l 0 || nat_lt (u32_at bytes (at - 8)) (u32_at bytes at)) && nat_lt (u32_at bytes at) h.instrs) (fault.BadCount at) None)
+      (unless ((nat_eq l 0 || nat_lt (u32_at bytes (at - 8)) (u32_at bytes at)) && nat_lt (u32_at bytes at) h.instrs) (fault.BadCount at)
+      None)
 
   abbrev pub lines_fault : Option ObjectFault
   lines_fault = first_fault line_fault 0 h.lines

@@ -49,7 +49,8 @@ pub module_found : {s : List Kind → List Kind} {a b : At} (ks : List Kind) (m 
 module_found {s = s} {b = b} ks m tokens e x l h z =
     module_is_read m tokens (subst (λ y. Reads s (number_module m) module_parts 0 0 y b) e x) l h z
 
-pub ends_at : {fault : Fault} {a : At} (ks : List Kind) → a ≡ beginning ks → Fails fault module_parts 0 a → EndsIn fault (reading true ks 0 whole)
+pub ends_at : {fault : Fault} {a : At} (ks : List Kind) → a ≡ beginning ks → Fails fault module_parts 0 a
+    → EndsIn fault (reading true ks 0 whole)
 ends_at {fault = fault} ks e f = subst (λ x. EndsIn fault (reading true x.kinds 0 whole)) e (f.ends [])
 
 -- the module up to its END

@@ -84,7 +84,8 @@ of_deep : (ks rest : List Kind) (k : ℕ) → reading true ks 0 whole ≡ too_de
 of_deep ks rest k e h l =
     let f = deep true ks 0 whole rest e in
     let same : f.front ≡ h.0 = cancel f.front h.0 rest (sym f.whole_list ∙ h.1) in
-    let b = begun (f.front ++ take 1 rest) f.later (open_after (f.front ++ take 1 rest) whole) f.opened (each_front_is_finished (f.front ++ take 1 rest)) in
+    let b = begun (f.front ++ take 1 rest) f.later (open_after (f.front ++ take 1 rest) whole) f.opened
+    (each_front_is_finished (f.front ++ take 1 rest)) in
     (h.0, rest, h.1, front_length ks h.0 rest k h.1 l, h.2, h.3, subst (λ g. Begins (g ++ take 1 rest)) same b)
 
 pub refuses_unexpected : (ks rest : List Kind) (k : ℕ) → reading true ks 0 whole ≡ unexpected rest → k ≡ length ks - length rest
@@ -111,12 +112,14 @@ pub deep_at : (tokens rest : List Token) (k : ℕ) → reading true (kinds_of to
     → k ≡ length tokens - length rest → Refuses (errors.Syntax syntax.TooDeep k) (kinds_of tokens)
 deep_at tokens rest k e l = refuses_deep (kinds_of tokens) (kinds_of rest) k e (in_kinds tokens rest k l)
 
-pub unexpected_within : (tokens rest : List Token) → reading true (kinds_of tokens) 0 whole ≡ unexpected (kinds_of rest) → length rest ≤ length tokens
+pub unexpected_within : (tokens rest : List Token) → reading true (kinds_of tokens) 0 whole ≡ unexpected (kinds_of rest)
+    → length rest ≤ length tokens
 unexpected_within tokens rest e =
     let x = exact_place (kinds_of tokens) (kinds_of rest) e in
     let y = rest_shorter (kinds_of tokens) x.0 (kinds_of rest) x.1 in omega (arith, as_many tokens, as_many rest)
 
-pub deep_within : (tokens rest : List Token) → reading true (kinds_of tokens) 0 whole ≡ too_deep (kinds_of rest) → length rest ≤ length tokens
+pub deep_within : (tokens rest : List Token) → reading true (kinds_of tokens) 0 whole ≡ too_deep (kinds_of rest)
+    → length rest ≤ length tokens
 deep_within tokens rest e =
     let x = deep true (kinds_of tokens) 0 whole (kinds_of rest) e in
     let y = rest_shorter (kinds_of tokens) x.front (kinds_of rest) x.whole_list in omega (arith, as_many tokens, as_many rest)

@@ -12,7 +12,8 @@ use Rattle.alma_parse.specs.declared.error.ParseError.TheVariants as errors
 abbrev pub Refuses : ParseError → List Kind → Type 0
 Refuses errors.Memory ks = Unit {0}
 Refuses (errors.Syntax syntax.Unexpected k) ks =
-    (front : List Kind) × (rest : List Kind) × (ks ≡ front ++ rest) × (length front ≡ k) × Stops front rest × Begins front × (depth front ≤ 100)
+    (front : List Kind) × (rest : List Kind) × (ks ≡ front ++ rest) × (length front ≡ k) × Stops front rest × Begins front
+    × (depth front ≤ 100)
 Refuses (errors.Syntax syntax.TooDeep k) ks =
     (front : List Kind) × (rest : List Kind) × (ks ≡ front ++ rest) × (length front ≡ k) × (depth front ≤ 100)
     × (100 < depth (front ++ take 1 rest)) × Begins (front ++ take 1 rest)

@@ -17,7 +17,13 @@ pub record Loops (spelled : List Kind → List Kind) (numbered : Step) (p : Part
   pub shorter : length b.kinds ≤ length a.kinds
 
 pub loops_start : {p : Part} {d : ℕ} {a : At} → Loops (λ r. r) stay p d a a
-loops_start {p = p} {d = d} {a = a} = record { spelled_so = refl; numbered_so = λ k f. (refl, f); reads = λ o. refl; shorter = le_refl (length a.kinds) }
+loops_start {p = p} {d = d} {a = a} = record {
+  spelled_so = refl;
+  numbered_so = λ k f. (refl, f);
+  reads = λ o. refl;
+  shorter =
+      le_refl (length a.kinds);
+}
 
 -- one more turn
 pub turned : {s t u : List Kind → List Kind} {n m l : Step} {p : Part} {q : List Part → List Part} {d : ℕ} {a now later : At}

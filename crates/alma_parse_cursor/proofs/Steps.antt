@@ -155,13 +155,15 @@ moved e x y q h = subst (EndsIn e) (sym q) h
 -- a fault behind what was read
 pub after : {s : List Kind → List Kind} {n : Step} {p q : List Part → List Part} {d e : ℕ} {a b : At} {fault : Fault}
     → Reads s n p d e a b → Fails fault q e b → Fails fault (λ o. p (q o)) d a
-after {s = s} {n = n} {p = p} {q = q} {d = d} {e = e} {a = a} {b = b} {fault = fault} x y = record { ends = λ o. moved fault _ _ (x.reads (q o)) (y.ends o) }
+after {s = s} {n = n} {p = p} {q = q} {d = d} {e = e} {a = a} {b = b} {fault = fault} x y =
+    record { ends = λ o. moved fault _ _ (x.reads (q o)) (y.ends o) }
 
 -- a fault in the first of some parts
 pub first : {p q : List Part → List Part} {d : ℕ} {a : At} {fault : Fault} → Fails fault p d a → Fails fault (λ o. p (q o)) d a
 first {p = p} {q = q} y = record { ends = λ o. y.ends (q o) }
 
-pub becoming_fails : {p q : List Part → List Part} {d : ℕ} {a : At} {fault : Fault} → Becomes p q a.kinds → Fails fault q d a → Fails fault p d a
+pub becoming_fails : {p q : List Part → List Part} {d : ℕ} {a : At} {fault : Fault} → Becomes p q a.kinds → Fails fault q d a
+    → Fails fault p d a
 becoming_fails {p = p} {q = q} {d = d} {a = a} {fault = fault} h y = record { ends = λ o. moved fault _ _ (h.becomes d o) (y.ends o) }
 
 -- a fault behind what extends the first part
@@ -187,13 +189,15 @@ leafed {k = k} {d = d} {a = a} {b = b} h g x = record {
 
 -- ---- one function's result as another's
 
-pub instead : {T : Type 0} (r : Result (T × cursors.Cursor) Fault) (s : T → List Kind → List Kind) (n : T → Step) (p q : List Part → List Part) (d : ℕ) (a : At)
+pub instead : {T : Type 0} (r : Result (T × cursors.Cursor) Fault) (s : T → List Kind → List Kind) (n : T → Step)
+    (p q : List Part → List Part) (d : ℕ) (a : At)
     → Becomes p q a.kinds → MatchResult r (λ t. Reads (s t.0) (n t.0) q d d a (position_of t.1)) (λ e. Fails e q d a)
     → MatchResult r (λ t. Reads (s t.0) (n t.0) p d d a (position_of t.1)) (λ e. Fails e p d a)
 instead (Ok t) s n p q d a h x = becoming h x
 instead (Err e) s n p q d a h x = becoming_fails h x
 
-pub extended : {T : Type 0} (r : Result (T × cursors.Cursor) Fault) (s : T → List Kind → List Kind) (n : T → Step) {t : List Kind → List Kind} {m : Step}
+pub extended : {T : Type 0} (r : Result (T × cursors.Cursor) Fault) (s : T → List Kind → List Kind) (n : T → Step)
+    {t : List Kind → List Kind} {m : Step}
     {p : List Part → List Part} (q : List Part → List Part) {d : ℕ} {a b : At} → Reads t m p d d a b
     → MatchResult r (λ x. Extends t m q (s x.0) (n x.0) d b (position_of x.1)) (λ e. Fails e q d b)
     → MatchResult r (λ x. Reads (s x.0) (n x.0) (λ o. p (q o)) d d a (position_of x.1)) (λ e. Fails e (λ o. p (q o)) d a)

@@ -38,7 +38,8 @@ four_and f g h k r at = alike (f at) (g >> h >> k >> r) ((g >> h >> k) >> r) (th
 -- ---- lists
 
 -- what a list of items spells and numbers, by what one item does
-pub record Lists {A : Type 0} (spell : A → List Kind → List Kind) (spell_all : List A → List Kind → List Kind) (number : A → Step) (number_all : List A → Step)
+pub record Lists {A : Type 0} (spell : A → List Kind → List Kind) (spell_all : List A → List Kind → List Kind) (number : A → Step)
+    (number_all : List A → Step)
     : Type 0 where
   pub spelled_none : (r : List Kind) → spell_all [] r ≡ r
   pub spelled_more : (x : A) (xs : List A) (r : List Kind) → spell_all (x ∷ xs) r ≡ spell x (spell_all xs r)
@@ -48,7 +49,8 @@ pub record Lists {A : Type 0} (spell : A → List Kind → List Kind) (spell_all
 spelled_added : {A : Type 0} {s : A → List Kind → List Kind} {sa : List A → List Kind → List Kind} {n : A → Step} {na : List A → Step}
     → Lists s sa n na → (xs : List A) (x : A) (r : List Kind) → sa (xs ++ (x ∷ [])) r ≡ sa xs (s x r)
 spelled_added {s = s} l [] x r = l.spelled_more x [] r ∙ ap (s x) (l.spelled_none r) ∙ sym (l.spelled_none (s x r))
-spelled_added {s = s} l (y ∷ xs) x r = l.spelled_more y (xs ++ (x ∷ [])) r ∙ ap (s y) (spelled_added l xs x r) ∙ sym (l.spelled_more y xs (s x r))
+spelled_added {s = s} l (y ∷ xs) x r = l.spelled_more y (xs ++ (x ∷ [])) r ∙ ap (s y) (spelled_added l xs x r)
+    ∙ sym (l.spelled_more y xs (s x r))
 
 numbered_added : {A : Type 0} {s : A → List Kind → List Kind} {sa : List A → List Kind → List Kind} {n : A → Step} {na : List A → Step}
     → Lists s sa n na → (xs : List A) (x : A) (at : Cursor) → na (xs ++ (x ∷ [])) at ≡ (na xs >> n x) at
@@ -63,7 +65,8 @@ numbered_added {n = n} {na = na} l (y ∷ xs) x at =
 follows : (o : Option Cursor) (p : Cursor) (f : Step) → o ≡ Some p → and_then o f ≡ f p
 follows o p f e = ap (λ x. and_then x f) e
 
-pub begun : {A : Type 0} {s : A → List Kind → List Kind} {sa : List A → List Kind → List Kind} {n : A → Step} {na : List A → Step} {p : Part} {d : ℕ} {a : At}
+pub begun : {A : Type 0} {s : A → List Kind → List Kind} {sa : List A → List Kind → List Kind} {n : A → Step} {na : List A → Step}
+    {p : Part} {d : ℕ} {a : At}
     → Lists s sa n na → Loops (sa []) (na []) p d a a
 begun {a = a} l = record {
   spelled_so = sym (l.spelled_none a.kinds);
@@ -86,26 +89,32 @@ grown {sa = sa} {n = n} {na = na} {p = p} {d = d} {a = a} {b = b} {c = c} {xs = 
 
 -- ---- what the next token begins
 
-pub where_passed : {k : Kind} {p q : List Part → List Part} {a b : At} → Passes k a b → ((ks : List Kind) → Becomes p q (k ∷ ks)) → Becomes p q a.kinds
+pub where_passed : {k : Kind} {p q : List Part → List Part} {a b : At} → Passes k a b → ((ks : List Kind) → Becomes p q (k ∷ ks))
+    → Becomes p q a.kinds
 where_passed {p = p} {q = q} {b = b} x f = subst (Becomes p q) (sym x.kinds_so) (f b.kinds)
 
-begins_so : (k : Kind) (p q : List Part → List Part) (ks : List Kind) → starts_with k ks ≡ true → ((ks : List Kind) → Becomes p q (k ∷ ks)) → Becomes p q ks
+begins_so : (k : Kind) (p q : List Part → List Part) (ks : List Kind) → starts_with k ks ≡ true → ((ks : List Kind) → Becomes p q (k ∷ ks))
+    → Becomes p q ks
 begins_so k p q [] h f = cc
 begins_so k p q (l ∷ ks) h f = subst (λ x. Becomes p q (x ∷ ks)) (sym (one_kind l k h)) (f ks)
 
-pub where_started : {k : Kind} {p q : List Part → List Part} {ks : List Kind} → starts_with k ks ≡ true → ((ks : List Kind) → Becomes p q (k ∷ ks))
+pub where_started : {k : Kind} {p q : List Part → List Part} {ks : List Kind} → starts_with k ks ≡ true
+    → ((ks : List Kind) → Becomes p q (k ∷ ks))
     → Becomes p q ks
 where_started {k = k} {p = p} {q = q} {ks = ks} h f = begins_so k p q ks h f
 
 -- what a call gave for the other parts is returned for these
-pub match_instead : {T : Type 0} (s : T → List Kind → List Kind) (n : T → Step) (p q : List Part → List Part) (d e : ℕ) (a : At) (b : T → At)
+pub match_instead : {T : Type 0} (s : T → List Kind → List Kind) (n : T → Step) (p q : List Part → List Part) (d e : ℕ) (a : At)
+    (b : T → At)
     (r : Result T Fault) → Becomes p q a.kinds
-    → MatchResult r (λ t. Reads (s t) (n t) q d e a (b t)) (λ f. Fails f q d a) → MatchResult r (λ t. Reads (s t) (n t) p d e a (b t)) (λ f. Fails f p d a)
+    → MatchResult r (λ t. Reads (s t) (n t) q d e a (b t)) (λ f. Fails f q d a)
+    → MatchResult r (λ t. Reads (s t) (n t) p d e a (b t)) (λ f. Fails f p d a)
 match_instead s n p q d e a b (Ok t) become h = becoming become h
 match_instead s n p q d e a b (Err f) become h = becoming_fails become h
 
 -- and where it was given at any depth
-pub match_instead_any : {T : Type 0} (s : T → List Kind → List Kind) (n : T → Step) (p q : List Part → List Part) (d : ℕ) (a : At) (b : T → At)
+pub match_instead_any : {T : Type 0} (s : T → List Kind → List Kind) (n : T → Step) (p q : List Part → List Part) (d : ℕ) (a : At)
+    (b : T → At)
     (r : Result T Fault) → Becomes p q a.kinds
     → MatchResult r (λ t. (i : ℕ) → Reads (s t) (n t) q i i a (b t)) (λ f. (i : ℕ) → Fails f q i a)
     → MatchResult r (λ t. Reads (s t) (n t) p d d a (b t)) (λ f. Fails f p d a)

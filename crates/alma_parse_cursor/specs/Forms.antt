@@ -1,9 +1,11 @@
 -- The parts of each form of a statement and of a primary, its first token included.
 use Rattle.std.specs.Prelude.{List, ◌∷◌}
 use Rattle.alma_tree.specs.declared.kind.Kind.TheVariants as kinds
-use Rattle.alma_grammar.specs.Parts.{Part, one, args_part, elsif_tail, else_part, by_part, orelse_tail, returned_part, desig_tail, arm_part, arm_tail}
+use Rattle.alma_grammar.specs.Parts.{Part, one, args_part, elsif_tail, else_part, by_part, orelse_tail, returned_part, desig_tail, arm_part}
+use Rattle.alma_grammar.specs.Parts.{arm_tail}
 use Rattle.alma_grammar.specs.Parts.{label_tail, after_desig, expr_parts, exprs_parts, desig_parts, stmts_parts, label_parts}
-use Rattle.alma_grammar.specs.Parts.{plain_part, plain_tail, field_list_part, field_list_tail, names_parts, type_parts, const_tail, type_tail, var_tail}
+use Rattle.alma_grammar.specs.Parts.{plain_part, plain_tail, field_list_part, field_list_tail, names_parts, type_parts, const_tail}
+use Rattle.alma_grammar.specs.Parts.{type_tail, var_tail}
 use Rattle.alma_grammar.specs.Parts.{params_part, result_part, block_parts, formal_parts, formal_tail}
 use Rattle.alma_tree.specs.Numbers.{token}
 use Rattle.alma_parse_cursor.specs.declared.form.StmtForm.{StmtForm}

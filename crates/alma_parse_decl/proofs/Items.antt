@@ -12,7 +12,8 @@ use Rattle.alma_tree.specs.Spelling as spelling
 use Rattle.alma_tree.specs.View as view
 use Rattle.alma_tree.specs.Numbers as numbers
 use Rattle.alma_tree.specs.Numbers.{token, ◌>>◌}
-use Rattle.alma_parse_decl.specs.Entries.{spell_const_entry, spell_type_entry, spell_var_entry, number_const_entry, number_type_entry, number_var_entry}
+use Rattle.alma_parse_decl.specs.Entries.{spell_const_entry, spell_type_entry, spell_var_entry, number_const_entry, number_type_entry}
+use Rattle.alma_parse_decl.specs.Entries.{number_var_entry}
 use Rattle.alma_parse_decl.specs.Entries.{inside_params_of, number_inside_params}
 use Rattle.alma_grammar.specs.Filling.{spell_inside_params}
 use Rattle.alma_parse_cursor.proofs.Turns.{Lists, four_and, two_and}
@@ -23,23 +24,28 @@ consts_listed = record {
   spelled_none = λ r. refl;
   spelled_more = λ e es r. refl;
   numbered_none = λ at. refl;
-  numbered_more = λ e es at. four_and (numbers.number_name e.name) token (numbers.number_expr e.value) token (numbers.numbers_of_consts es) at;
+  numbered_more = λ e es at. four_and (numbers.number_name e.name) token (numbers.number_expr e.value) token (numbers.numbers_of_consts es)
+      at;
 }
 
-pub types_listed : Lists {A = TypeEntry} spell_type_entry (λ es. spelling.spell_type_tail (view.types_of es)) number_type_entry numbers.numbers_of_types
+pub types_listed : Lists {A = TypeEntry} spell_type_entry (λ es. spelling.spell_type_tail (view.types_of es)) number_type_entry
+    numbers.numbers_of_types
 types_listed = record {
   spelled_none = λ r. refl;
   spelled_more = λ e es r. refl;
   numbered_none = λ at. refl;
-  numbered_more = λ e es at. four_and (numbers.number_name e.name) token (numbers.number_type e.type_node) token (numbers.numbers_of_types es) at;
+  numbered_more = λ e es at. four_and (numbers.number_name e.name) token (numbers.number_type e.type_node) token
+      (numbers.numbers_of_types es) at;
 }
 
-pub vars_listed : Lists {A = VarEntry} spell_var_entry (λ es. spelling.spell_var_tail (view.vars_of es)) number_var_entry numbers.numbers_of_vars
+pub vars_listed : Lists {A = VarEntry} spell_var_entry (λ es. spelling.spell_var_tail (view.vars_of es)) number_var_entry
+    numbers.numbers_of_vars
 vars_listed = record {
   spelled_none = λ r. refl;
   spelled_more = λ e es r. refl;
   numbered_none = λ at. refl;
-  numbered_more = λ e es at. four_and (numbers.number_names e.names) token (numbers.number_type e.type_node) token (numbers.numbers_of_vars es) at;
+  numbered_more = λ e es at. four_and (numbers.number_names e.names) token (numbers.number_type e.type_node) token
+      (numbers.numbers_of_vars es) at;
 }
 
 pub formals_listed : Lists {A = Formal} (λ f r. kinds.Semicolon ∷ spelling.spell_formal (view.view_formal f) r)
@@ -62,7 +68,8 @@ decls_listed = record {
 
 -- ---- parameters behind their opening parenthesis
 
-pub params_spelled : (f : Option Formals) (r : List Kind) → kinds.OpenParen ∷ spell_inside_params (inside_params_of f) r ≡ spelling.spell_params
+pub params_spelled : (f : Option Formals) (r : List Kind)
+    → kinds.OpenParen ∷ spell_inside_params (inside_params_of f) r ≡ spelling.spell_params
     (view.params_values f) r
 params_spelled None r = refl
 params_spelled (Some f) r = refl

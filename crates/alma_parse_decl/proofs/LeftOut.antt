@@ -55,7 +55,8 @@ a_type_tail ks = record { becomes = λ d o. refl }
 pub a_var_tail : (ks : List Kind) → Becomes (λ o. var_tail ∷ o) (λ o. var_entry_parts (var_tail ∷ o)) (kinds.Name ∷ ks)
 a_var_tail ks = record { becomes = λ d o. refl }
 
-pub a_formal_tail : (ks : List Kind) → Becomes (λ o. formal_tail ∷ o) (λ o. one kinds.Semicolon ∷ formal_parts (formal_tail ∷ o)) (kinds.Semicolon ∷ ks)
+pub a_formal_tail : (ks : List Kind) → Becomes (λ o. formal_tail ∷ o) (λ o. one kinds.Semicolon ∷ formal_parts (formal_tail ∷ o))
+    (kinds.Semicolon ∷ ks)
 a_formal_tail ks = record { becomes = λ d o. refl }
 
 pub a_params_part : (ks : List Kind) → Becomes (λ o. params_part ∷ o) (λ o. one kinds.OpenParen ∷ params_inside ∷ o) (kinds.OpenParen ∷ ks)

@@ -42,7 +42,8 @@ plains_listed = record {
 }
 
 pub field_lists_listed : Lists {A = FieldList} (λ f r. kinds.Semicolon ∷ spelling.spell_field_list (view.view_field_list f) r)
-    (λ fs. spelling.spell_field_list_tail (view.field_lists_of fs)) (λ f. token >> numbers.number_field_list f) numbers.numbers_of_field_lists
+    (λ fs. spelling.spell_field_list_tail (view.field_lists_of fs)) (λ f. token >> numbers.number_field_list f)
+    numbers.numbers_of_field_lists
 field_lists_listed = record {
   spelled_none = λ r. refl;
   spelled_more = λ f fs r. refl;

@@ -47,6 +47,7 @@ a_plain_tail ks = record { becomes = λ d o. refl }
 pub a_field_list_part : (ks : List Kind) → Becomes (λ o. field_list_part ∷ o) (fields_parts) (kinds.Name ∷ ks)
 a_field_list_part ks = record { becomes = λ d o. refl }
 
-pub a_field_list_tail : (ks : List Kind) → Becomes (λ o. field_list_tail ∷ o) (λ o. one kinds.Semicolon ∷ field_list_part ∷ field_list_tail ∷ o)
+pub a_field_list_tail : (ks : List Kind)
+    → Becomes (λ o. field_list_tail ∷ o) (λ o. one kinds.Semicolon ∷ field_list_part ∷ field_list_tail ∷ o)
     (kinds.Semicolon ∷ ks)
 a_field_list_tail ks = record { becomes = λ d o. refl }

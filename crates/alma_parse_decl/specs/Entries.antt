@@ -21,7 +21,8 @@ spell_type_entry e rest = kinds.Name ∷ kinds.Equal ∷ spell_type_node (view_t
 
 -- Names ":" TypeNode ";"
 abbrev pub spell_var_entry : VarEntry → List Kind → List Kind
-spell_var_entry e rest = spell_names (view_names e.names) (kinds.Colon ∷ spell_type_node (view_type_node e.type_node) (kinds.Semicolon ∷ rest))
+spell_var_entry e rest = spell_names (view_names e.names)
+    (kinds.Colon ∷ spell_type_node (view_type_node e.type_node) (kinds.Semicolon ∷ rest))
 
 -- Name "=" Expr ";", which is no node of its own
 abbrev pub number_const_entry : ConstEntry → Step

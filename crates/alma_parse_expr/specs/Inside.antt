@@ -12,7 +12,8 @@ use Rattle.alma_parse_cursor.specs.Parsing.{position_of, Reads, Fails}
 
 -- at a cursor and a depth it reads statements, or fails where reading them does
 abbrev pub ReadsAt : Cursor → ℕ → Result (Stmts × Cursor) Fault → Type 0
-ReadsAt at d r = MatchResult r (λ t. Reads (spell_stmts (view_stmts t.0)) (number_stmts t.0) stmts_parts d d (position_of at) (position_of t.1))
+ReadsAt at d r = MatchResult r (λ t. Reads (spell_stmts (view_stmts t.0)) (number_stmts t.0) stmts_parts d d (position_of at)
+    (position_of t.1))
     (λ e. Fails e stmts_parts d (position_of at))
 
 -- it may be called at any cursor and depth, and each call reads statements there

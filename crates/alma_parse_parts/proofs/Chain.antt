@@ -38,7 +38,8 @@ module _ {T : Type 0} (s : T → List Kind → List Kind) (n : T → Step) (k : 
       → (z : Result ((T × ℕ) × cursors.Cursor) Fault) → Numbered q z
       → Gives (λ v ks. s v.0 (k ∷ ks)) (λ v. n v.0 >> token >> node v.1) (λ o. p (one k ∷ o)) d f a z
   ended_behind h r q x y z w = renumbered (λ v ks. s v (k ∷ ks)) n (λ o. p (one k ∷ o)) d f a z
-      (joins.ended (λ v ks. s v (k ∷ ks)) (λ v. n v >> token) (λ o. p (one k ∷ o)) d f a q z w (joins.followed s n {k = k} p d e f a h r q x y))
+      (joins.ended (λ v ks. s v (k ∷ ks)) (λ v. n v >> token) (λ o. p (one k ∷ o)) d f a q z w
+      (joins.followed s n {k = k} p d e f a h r q x y))
 
 -- what is given at any depth is given at this one
 pub at_depth : {T : Type 0} (s : T → List Kind → List Kind) (n : T → Step) (p : List Part → List Part) (d : ℕ) (a : At)
@@ -63,12 +64,15 @@ module _ {T : Type 0} (s : T → List Kind → List Kind) (n : T → Step) (p : 
   in_box (Err g) q x y = subst (Gives (λ b. s b.value) (λ b. n b.value) p d e a) (sym x) y
 
 -- what extends a first part, with the end of a node behind it
-abbrev pub Extending : {T : Type 0} → (T → List Kind → List Kind) → (T → Step) → (List Part → List Part) → (List Kind → List Kind) → Step → ℕ → At
+abbrev pub Extending : {T : Type 0} → (T → List Kind → List Kind) → (T → Step) → (List Part → List Part) → (List Kind → List Kind) → Step
+    → ℕ → At
     → Result (T × cursors.Cursor) Fault → Type 0
 Extending s n p t m d a r = MatchResult r (λ x. Extends t m p (s x.0) (n x.0) d a (position_of x.1)) (λ e. Fails e p d a)
 
-pub ended_extending : {T : Type 0} (s : T → List Kind → List Kind) (n : T → Step) (p : List Part → List Part) (t : List Kind → List Kind) (m : Step)
-    (d : ℕ) (a : At) (r : Result (T × cursors.Cursor) Fault) (z : Result ((T × ℕ) × cursors.Cursor) Fault) → Numbered r z → Extending s n p t m d a r
+pub ended_extending : {T : Type 0} (s : T → List Kind → List Kind) (n : T → Step) (p : List Part → List Part) (t : List Kind → List Kind)
+    (m : Step)
+    (d : ℕ) (a : At) (r : Result (T × cursors.Cursor) Fault) (z : Result ((T × ℕ) × cursors.Cursor) Fault) → Numbered r z
+    → Extending s n p t m d a r
     → Extending (λ v. s v.0) (λ v. n v.0 >> node v.1) p t m d a z
 ended_extending s n p t m d a (Ok x) (Ok u) w y = subst (λ v. Extends t m p (s v) (n v >> node u.0.1) d a (position_of u.1)) (sym w.0)
     (twice y (extending refl refl (counted w.1)))

@@ -16,17 +16,20 @@ abbrev pub Within : {T : Type 0} → ℕ → Result (T × cursors.Cursor) Fault 
 Within m r = MatchResult r (λ t. length (position_of t.1).kinds < m) (λ e. Unit {0})
 
 -- a part behind a token that was passed
-pub behind_within : {T : Type 0} (s : T → List Kind → List Kind) (n : T → Step) (p : List Part → List Part) (d e : ℕ) {k : Kind} {a b : At} → Passes k a b
+pub behind_within : {T : Type 0} (s : T → List Kind → List Kind) (n : T → Step) (p : List Part → List Part) (d e : ℕ) {k : Kind} {a b : At}
+    → Passes k a b
     → (r : Result (T × cursors.Cursor) Fault) → Gives s n p d e b r → Within (length a.kinds) r
 behind_within s n p d e x (Ok t) y = omega (arith, x.shorter, y.shorter)
 behind_within s n p d e x (Err f) y = tt
 
-pub made_within : {T U : Type 0} (f : T → U) (m : ℕ) (r : Result (T × cursors.Cursor) Fault) (q : Result (U × cursors.Cursor) Fault) → q ≡ made f r
+pub made_within : {T U : Type 0} (f : T → U) (m : ℕ) (r : Result (T × cursors.Cursor) Fault) (q : Result (U × cursors.Cursor) Fault)
+    → q ≡ made f r
     → Within m r → Within m q
 made_within f m (Ok t) q x y = subst (Within m) (sym x) y
 made_within f m (Err e) q x y = subst (Within m) (sym x) y
 
-pub pushed_within : {T : Type 0} (m : ℕ) (r : Result (T × cursors.Cursor) Fault) (xs ys : List T) (c : cursors.Cursor) → Pushed r xs ys (Ok c) → Within m r
+pub pushed_within : {T : Type 0} (m : ℕ) (r : Result (T × cursors.Cursor) Fault) (xs ys : List T) (c : cursors.Cursor)
+    → Pushed r xs ys (Ok c) → Within m r
     → length (position_of c).kinds < m
 pushed_within m (Ok t) xs ys c x y = subst (λ at. length (position_of at).kinds < m) (sym x.1) y
 pushed_within m (Err e) xs ys c x y = absurd (cc)

@@ -20,7 +20,8 @@ use Rattle.alma_parse_parts.specs.Heads.{BeginsLoop}
 use Rattle.alma_parse_parts.specs.Made.{made}
 use Rattle.alma_parse_parts.proofs.Growing.{pushed_turn, pushed_fault}
 
--- From a to b, and from depth d to depth e, it read what stands before a last part, and what that one reads, or how it fails, is said of both.
+-- From a to b, and from depth d to depth e, it read what stands before a last part, and what that one reads, or how it fails, is said of
+-- both.
 pub record Front (spelled : (List Kind → List Kind) → List Kind → List Kind) (numbered : Step → Step)
     (parts : (List Part → List Part) → List Part → List Part) (d e : ℕ) (a b : At) : Type 0 where
   pub reads : (t : List Kind → List Kind) (m : Step) (q : List Part → List Part) (f : ℕ) (c : At) → Reads t m q e f b c
@@ -42,7 +43,8 @@ part_and s n k p d e f a h r u x y = record {
 }
 
 -- one behind the other
-pub and_then : {s t : (List Kind → List Kind) → List Kind → List Kind} {n m : Step → Step} {p q : (List Part → List Part) → List Part → List Part}
+pub and_then : {s t : (List Kind → List Kind) → List Kind → List Kind} {n m : Step → Step}
+    {p q : (List Part → List Part) → List Part → List Part}
     {d e f : ℕ} {a b c : At} → Front s n p d e a b → Front t m q e f b c → Front (λ u. s (t u)) (λ l. n (m l)) (λ r. p (q r)) d f a c
 and_then {t = t} {m = m} {q = q} x y = record {
   reads = λ u l r g k z. x.reads (t u) (m l) (q r) g k (y.reads u l r g k z);
@@ -56,7 +58,8 @@ module _ {T U : Type 0} (s : T → List Kind → List Kind) (n : T → Step) (s'
   pub whole : (g : T → U) → ((v : T) → s' (g v) ≡ t (s v)) → ((v : T) → n' (g v) ≡ m (n v))
       → (r : Result (T × cursors.Cursor) Fault) (z : Result (U × cursors.Cursor) Fault) → z ≡ made g r → Gives s n q e f b r
       → Gives s' n' (p q) d f a z
-  whole g h k (Ok v) z w y = subst (Gives s' n' (p q) d f a) (sym w) (same (h v.0) (k v.0) (x.reads (s v.0) (n v.0) q f (position_of v.1) y))
+  whole g h k (Ok v) z w y = subst (Gives s' n' (p q) d f a) (sym w)
+      (same (h v.0) (k v.0) (x.reads (s v.0) (n v.0) q f (position_of v.1) y))
   whole g h k (Err i) z w y = subst (Gives s' n' (p q) d f a) (sym w) (x.fails q i y)
 
 module _ {T : Type 0} (s : T → List Kind → List Kind) (n : T → Step)
@@ -76,7 +79,8 @@ loop_front h x = and_then (part (opened h x.opens_first)) (and_then (part x.name
 pub loop_fewer : {k : Kind} {v : Name} {d e : ℕ} {a b : At} → BeginsLoop k v d e a b → length b.kinds < length a.kinds
 loop_fewer x = omega (arith, x.opens_first.passes.shorter, x.named.shorter, x.assigned.shorter)
 
-module _ {T : Type 0} {s : T → List Kind → List Kind} {sa : List T → List Kind → List Kind} {n : T → Step} {na : List T → Step} (l : Lists s sa n na)
+module _ {T : Type 0} {s : T → List Kind → List Kind} {sa : List T → List Kind → List Kind} {n : T → Step} {na : List T → Step}
+    (l : Lists s sa n na)
     {p : Part} (q : List Part → List Part) {d : ℕ} {a b : At} (xs ys : List T) (loop : Loops (sa xs) (na xs) p d a b)
     (h : Becomes (λ o. p ∷ o) (λ o. q (p ∷ o)) b.kinds) (r : Result (T × cursors.Cursor) Fault) where
   -- one more turn of a loop that puts what it read at the end of a list

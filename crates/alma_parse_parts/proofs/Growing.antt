@@ -18,7 +18,9 @@ module _ {T : Type 0} (s : T → List Kind → List Kind) (sa : List T → List 
       → (r : Result (T × cursors.Cursor) Fault) (c : cursors.Cursor) → Pushed r xs ys (Ok c) → Gives s n q d d b r
       → Loops (sa ys) (na ys) p d a (position_of c)
   pushed_turn l xs ys loop h (Ok t) c x y =
-      subst (λ zs. Loops (sa zs) (na zs) p d a (position_of c)) (sym x.0) (subst (λ at. Loops (sa (xs ++ (t.0 ∷ []))) (na (xs ++ (t.0 ∷ []))) p d a (position_of at)) (sym x.1) (grown {xs = xs} {x = t.0} l loop h y))
+      subst (λ zs. Loops (sa zs) (na zs) p d a (position_of c)) (sym x.0)
+      (subst (λ at. Loops (sa (xs ++ (t.0 ∷ []))) (na (xs ++ (t.0 ∷ []))) p d a (position_of at)) (sym x.1)
+      (grown {xs = xs} {x = t.0} l loop h y))
   pushed_turn l xs ys loop h (Err e) c x y = absurd (cc)
 
   -- a turn that ends in a fault

@@ -10,9 +10,11 @@ use Rattle.alma_tree.specs.declared.leaf.Relation.{Relation}
 use Rattle.alma_tree.specs.declared.leaf.Relation.TheVariants as relations
 use Rattle.alma_tree.specs.Depth.{opens, closes}
 use Rattle.alma_tree.specs.Spelling.{add_kind, mul_kind, relation_kind}
-use Rattle.alma_grammar.specs.Parts.{Part, one, factor_part, primary_part, factor_tail, term_tail, compared_part, args_part, args_inside, expr_tail}
+use Rattle.alma_grammar.specs.Parts.{Part, one, factor_part, primary_part, factor_tail, term_tail, compared_part, args_part, args_inside}
+use Rattle.alma_grammar.specs.Parts.{expr_tail}
 use Rattle.alma_grammar.specs.Parts.{after_desig}
-use Rattle.alma_grammar.specs.Parts.{stmt_part, arm_part, stmt_tail, elsif_tail, else_part, by_part, orelse_tail, desig_tail, arm_tail, high_part}
+use Rattle.alma_grammar.specs.Parts.{stmt_part, arm_part, stmt_tail, elsif_tail, else_part, by_part, orelse_tail, desig_tail, arm_tail}
+use Rattle.alma_grammar.specs.Parts.{high_part}
 use Rattle.alma_grammar.specs.Parts.{label_tail}
 use Rattle.alma_grammar.specs.Parts.{term_parts, simple_parts, expr_parts, exprs_parts, stmts_parts, label_parts}
 use Rattle.alma_grammar.specs.Parts.{desig_parts}
@@ -83,7 +85,8 @@ no_not [] h = record { becomes = λ d o. refl }
 no_not (kinds.Not ∷ ks) h = absurd (no h)
 no_not (k ∷ ks) h = record { becomes = λ d o. refl }
 
-pub some_args : (ks : List Kind) → starts_with kinds.CloseParen ks ≡ false → Becomes (λ o. args_inside ∷ o) (λ o. exprs_parts (one kinds.CloseParen ∷ o)) ks
+pub some_args : (ks : List Kind) → starts_with kinds.CloseParen ks ≡ false
+    → Becomes (λ o. args_inside ∷ o) (λ o. exprs_parts (one kinds.CloseParen ∷ o)) ks
 some_args [] h = record { becomes = λ d o. refl }
 some_args (kinds.CloseParen ∷ ks) h = absurd (no h)
 some_args (k ∷ ks) h = record { becomes = λ d o. refl }
@@ -103,13 +106,16 @@ headed {p = p} {q = q} {k = k} {a = a} {b = b} x h = subst (Becomes p q) (sym x.
 pub begins_not : {a b : At} → Passes kinds.Not a b → Becomes (λ o. factor_part ∷ o) (λ o. one kinds.Not ∷ primary_part ∷ o) a.kinds
 begins_not x = headed x (record { becomes = λ d o. refl })
 
-pub begins_exprs : {a b : At} → Passes kinds.Comma a b → Becomes (λ o. expr_tail ∷ o) (λ o. one kinds.Comma ∷ expr_parts (expr_tail ∷ o)) a.kinds
+pub begins_exprs : {a b : At} → Passes kinds.Comma a b
+    → Becomes (λ o. expr_tail ∷ o) (λ o. one kinds.Comma ∷ expr_parts (expr_tail ∷ o)) a.kinds
 begins_exprs x = headed x (record { becomes = λ d o. refl })
 
-pub begins_stmts : {a b : At} → Passes kinds.Semicolon a b → Becomes (λ o. stmt_tail ∷ o) (λ o. one kinds.Semicolon ∷ stmt_part ∷ stmt_tail ∷ o) a.kinds
+pub begins_stmts : {a b : At} → Passes kinds.Semicolon a b
+    → Becomes (λ o. stmt_tail ∷ o) (λ o. one kinds.Semicolon ∷ stmt_part ∷ stmt_tail ∷ o) a.kinds
 begins_stmts x = headed x (record { becomes = λ d o. refl })
 
-pub begins_elsifs : {a b : At} → Passes kinds.Elsif a b → Becomes (λ o. elsif_tail ∷ o) (λ o. one kinds.Elsif ∷ expr_parts (one kinds.Then ∷ stmts_parts
+pub begins_elsifs : {a b : At} → Passes kinds.Elsif a b
+    → Becomes (λ o. elsif_tail ∷ o) (λ o. one kinds.Elsif ∷ expr_parts (one kinds.Then ∷ stmts_parts
     (elsif_tail ∷ o))) a.kinds
 begins_elsifs x = headed x (record { becomes = λ d o. refl })
 
@@ -125,13 +131,16 @@ begins_arms x = headed x (record { becomes = λ d o. refl })
 pub begins_high : {a b : At} → Passes kinds.DotDot a b → Becomes (λ o. high_part ∷ o) (λ o. one kinds.DotDot ∷ expr_parts o) a.kinds
 begins_high x = headed x (record { becomes = λ d o. refl })
 
-pub begins_labels : {a b : At} → Passes kinds.Comma a b → Becomes (λ o. label_tail ∷ o) (λ o. one kinds.Comma ∷ label_parts (label_tail ∷ o)) a.kinds
+pub begins_labels : {a b : At} → Passes kinds.Comma a b
+    → Becomes (λ o. label_tail ∷ o) (λ o. one kinds.Comma ∷ label_parts (label_tail ∷ o)) a.kinds
 begins_labels x = headed x (record { becomes = λ d o. refl })
 
-pub begins_orelses : {a b : At} → Passes kinds.Orelse a b → Becomes (λ o. orelse_tail ∷ o) (λ o. one kinds.Orelse ∷ stmts_parts (orelse_tail ∷ o)) a.kinds
+pub begins_orelses : {a b : At} → Passes kinds.Orelse a b
+    → Becomes (λ o. orelse_tail ∷ o) (λ o. one kinds.Orelse ∷ stmts_parts (orelse_tail ∷ o)) a.kinds
 begins_orelses x = headed x (record { becomes = λ d o. refl })
 
-pub begins_desigs : {a b : At} → Passes kinds.Comma a b → Becomes (λ o. desig_tail ∷ o) (λ o. one kinds.Comma ∷ desig_parts (desig_tail ∷ o)) a.kinds
+pub begins_desigs : {a b : At} → Passes kinds.Comma a b
+    → Becomes (λ o. desig_tail ∷ o) (λ o. one kinds.Comma ∷ desig_parts (desig_tail ∷ o)) a.kinds
 begins_desigs x = headed x (record { becomes = λ d o. refl })
 
 pub begins_args_end : {a b : At} → Passes kinds.CloseParen a b → Becomes (λ o. args_inside ∷ o) (λ o. one kinds.CloseParen ∷ o) a.kinds
@@ -142,12 +151,14 @@ begins_args_end x = headed x (record { becomes = λ d o. refl })
 other : {p q : List Part → List Part} {ks : List Kind} → false ≡ true → Becomes p q ks
 other h = absurd (no (sym h))
 
-pub at_args : (ks : List Kind) → starts_with kinds.OpenParen ks ≡ true → Becomes (λ o. args_part ∷ o) (λ o. one kinds.OpenParen ∷ args_inside ∷ o) ks
+pub at_args : (ks : List Kind) → starts_with kinds.OpenParen ks ≡ true
+    → Becomes (λ o. args_part ∷ o) (λ o. one kinds.OpenParen ∷ args_inside ∷ o) ks
 at_args [] h = other h
 at_args (kinds.OpenParen ∷ ks) h = record { becomes = λ d o. refl }
 at_args (k ∷ ks) h = other h
 
-pub at_assign : (ks : List Kind) → starts_with kinds.Assign ks ≡ true → Becomes (λ o. after_desig ∷ o) (λ o. one kinds.Assign ∷ expr_parts o) ks
+pub at_assign : (ks : List Kind) → starts_with kinds.Assign ks ≡ true
+    → Becomes (λ o. after_desig ∷ o) (λ o. one kinds.Assign ∷ expr_parts o) ks
 at_assign [] h = other h
 at_assign (kinds.Assign ∷ ks) h = record { becomes = λ d o. refl }
 at_assign (k ∷ ks) h = other h

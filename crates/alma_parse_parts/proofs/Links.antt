@@ -36,7 +36,8 @@ term_linked op {a = a} d x r q e y =
     (λ v ks. add_kind (dk.out-AddLink v).operator ∷ spell_term (view_term (dk.out-AddLink v).operand) ks)
     (λ v. token >> number_term (dk.out-AddLink v).operand) (λ o. one (add_kind op) ∷ term_parts o) d d a
     (λ v. dk.roll-AddLink (record { operator = op; operand = v }))
-    (λ v. ap (λ o ks. add_kind o.operator ∷ spell_term (view_term o.operand) ks) (dk.out-roll-AddLink (record { operator = op; operand = v })))
+    (λ v. ap (λ o ks. add_kind o.operator ∷ spell_term (view_term o.operand) ks)
+    (dk.out-roll-AddLink (record { operator = op; operand = v })))
     (λ v. ap (λ o. token >> number_term o.operand) (dk.out-roll-AddLink (record { operator = op; operand = v }))) r q e
     (behind_front a_term number_term (passed (heads.add_opens op) (heads.add_closes op) x) term_parts d r y)
 
@@ -53,14 +54,17 @@ factor_linked op {a = a} d x r q e y =
     (behind_front a_factor number_factor (passed (heads.mul_opens op) (heads.mul_closes op) x) (λ o. factor_part ∷ o) d r y)
 
 -- the depth behind a bracket is that before it
-pub shallower_gives : {T : Type 0} (s : T → List Kind → List Kind) (n : T → Step) (p : List Part → List Part) {k : Kind} {d e : ℕ} {f g : At}
+pub shallower_gives : {T : Type 0} (s : T → List Kind → List Kind) (n : T → Step) (p : List Part → List Part) {k : Kind} {d e : ℕ}
+    {f g : At}
     → Opens k d e f g → (a : At) (r : Result (T × cursors.Cursor) Fault) → Gives s n p e (pred e) a r → Gives s n p e d a r
 shallower_gives s n p x a (Ok t) y = shallower x y
 shallower_gives s n p x a (Err i) y = y
 
 -- a turn that ends in a fault, of a loop over this kind of list
-pub broken_turn : {A : Type 0} {s : A → List Kind → List Kind} {sa : List A → List Kind → List Kind} {n : A → Step} {na : List A → Step} → Lists s sa n na
+pub broken_turn : {A : Type 0} {s : A → List Kind → List Kind} {sa : List A → List Kind → List Kind} {n : A → Step} {na : List A → Step}
+    → Lists s sa n na
     → (p : Part) (q : List Part → List Part) (d : ℕ) (a b : At) (xs ys : List A) → Loops (sa xs) (na xs) p d a b
-    → Becomes (λ o. p ∷ o) (λ o. q (p ∷ o)) b.kinds → (r : Result (A × cursors.Cursor) Fault) (e : Fault) → Pushed r xs ys (Err e) → Gives s n q d d b r
+    → Becomes (λ o. p ∷ o) (λ o. q (p ∷ o)) b.kinds → (r : Result (A × cursors.Cursor) Fault) (e : Fault) → Pushed r xs ys (Err e)
+    → Gives s n q d d b r
     → Fails e (λ o. p ∷ o) d a
 broken_turn {s = s} {sa = sa} {n = n} {na = na} l p q d a b xs ys loop h r e x y = pushed_fault s sa n na p q d a b xs ys loop h r e x y

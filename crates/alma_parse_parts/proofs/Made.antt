@@ -14,7 +14,8 @@ use Rattle.alma_parse_parts.specs.Made.{made, Made}
 module _ {T U : Type 0} (s : T → List Kind → List Kind) (n : T → Step) (s' : U → List Kind → List Kind) (n' : U → Step) where
   -- what the part read is what is made of it
   pub made_gives : (p : List Part → List Part) (d e : ℕ) (a : At) (f : T → U)
-      → ((v : T) → s' (f v) ≡ s v) → ((v : T) → n' (f v) ≡ n v) → (r : Result (T × cursors.Cursor) Fault) (q : Result (U × cursors.Cursor) Fault)
+      → ((v : T) → s' (f v) ≡ s v) → ((v : T) → n' (f v) ≡ n v)
+      → (r : Result (T × cursors.Cursor) Fault) (q : Result (U × cursors.Cursor) Fault)
       → q ≡ made f r → Gives s n p d e a r → Gives s' n' p d e a q
   made_gives p d e a f g h (Ok t) q x y = subst (Gives s' n' p d e a) (sym x) (same (g t.0) (h t.0) y)
   made_gives p d e a f g h (Err i) q x y = subst (Gives s' n' p d e a) (sym x) y
@@ -43,8 +44,10 @@ module _ {T : Type 0} (s : T → List Kind → List Kind) (n : T → Step) where
   becoming_gives p q d e a h (Err i) y = becoming_fails h y
 
   -- a part that extends a first one
-  pub extending_gives : (t : List Kind → List Kind) (m : Step) (s' : T → List Kind → List Kind) (n' : T → Step) (p : List Part → List Part) (d : ℕ) (a : At)
-      → ((v : T) → s' v ≡ (λ ks. t (s v ks))) → ((v : T) → n' v ≡ (m >> n v)) → (r : Result (T × cursors.Cursor) Fault) → Gives s n p d d a r
+  pub extending_gives : (t : List Kind → List Kind) (m : Step) (s' : T → List Kind → List Kind) (n' : T → Step) (p : List Part → List Part)
+      (d : ℕ) (a : At)
+      → ((v : T) → s' v ≡ (λ ks. t (s v ks))) → ((v : T) → n' v ≡ (m >> n v)) → (r : Result (T × cursors.Cursor) Fault)
+      → Gives s n p d d a r
       → MatchResult r (λ x. Extends t m p (s' x.0) (n' x.0) d a (position_of x.1)) (λ e. Fails e p d a)
   extending_gives t m s' n' p d a g h (Ok u) y = extending (g u.0) (h u.0) y
   extending_gives t m s' n' p d a g h (Err i) y = y
@@ -56,13 +59,15 @@ module _ {T U : Type 0} (s : T → List Kind → List Kind) (n : T → Step) (s'
       (q : Result (U × cursors.Cursor) Fault) → q ≡ made f r → Gives s n p d d a r
       → MatchResult q (λ x. Extends t m p (s' x.0) (n' x.0) d a (position_of x.1)) (λ e. Fails e p d a)
   made_extends t m p d a f g h (Ok u) q x y =
-      subst (λ r. MatchResult r (λ x. Extends t m p (s' x.0) (n' x.0) d a (position_of x.1)) (λ e. Fails e p d a)) (sym x) (extending (g u.0) (h u.0) y)
+      subst (λ r. MatchResult r (λ x. Extends t m p (s' x.0) (n' x.0) d a (position_of x.1)) (λ e. Fails e p d a)) (sym x)
+      (extending (g u.0) (h u.0) y)
   made_extends t m p d a f g h (Err i) q x y =
       subst (λ r. MatchResult r (λ x. Extends t m p (s' x.0) (n' x.0) d a (position_of x.1)) (λ e. Fails e p d a)) (sym x) y
 
   -- the same where it takes memory
   pub made_or_extends : (t : List Kind → List Kind) (m : Step) (p : List Part → List Part) (d : ℕ) (a : At) (R : T → U → Type 0)
-      → ((v : T) (u : U) → R v u → s' u ≡ (λ ks. t (s v ks))) → ((v : T) (u : U) → R v u → n' u ≡ (m >> n v)) → (r : Result (T × cursors.Cursor) Fault)
+      → ((v : T) (u : U) → R v u → s' u ≡ (λ ks. t (s v ks))) → ((v : T) (u : U) → R v u → n' u ≡ (m >> n v))
+      → (r : Result (T × cursors.Cursor) Fault)
       (q : Result (U × cursors.Cursor) Fault) → Made R r q → Gives s n p d d a r
       → MatchResult q (λ x. Extends t m p (s' x.0) (n' x.0) d a (position_of x.1)) (λ e. Fails e p d a)
   made_or_extends t m p d a R g h (Ok v) (Ok u) x y =

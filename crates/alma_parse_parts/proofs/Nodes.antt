@@ -25,7 +25,8 @@ compared_made relation right b h = (
 pub sum_made : (sign : Option Sign) (first : dm.Term) (more : Vec dk.AddLink Global) (n : ℕ) (b : Box dm.Term Global) → b.value ≡ first
     → SumOf sign first (more, n) (di.roll-Simple (record { node = n; sign = sign; first = b; more = more }))
 sum_made sign first more n b h = (
-  rows.simple_rolled (record { node = n; sign = sign; first = b; more = more }) ∙ ap (λ v. tree.simple sign (view_term v) (terms_of more.items)) h,
+  rows.simple_rolled (record { node = n; sign = sign; first = b; more = more })
+      ∙ ap (λ v. tree.simple sign (view_term v) (terms_of more.items)) h,
   numbers.simple_rolled (record { node = n; sign = sign; first = b; more = more })
       ∙ ap (λ v. number_sign sign >> number_term v >> numbers_of_terms more.items >> node n) h,
 )

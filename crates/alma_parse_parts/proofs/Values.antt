@@ -19,9 +19,11 @@ use Rattle.alma_tree.specs.declared.phrase.Term as dm
 use Rattle.alma_tree.specs.declared.phrase.Factor as dr
 use Rattle.alma_tree.specs.Spelling.{spell_primary, spell_stmt, spell_arm, spell_simple, spell_term, spell_factor, spell_selector}
 use Rattle.alma_tree.specs.View.{view_primary, view_stmt, view_arm, view_simple, view_term, view_factor, view_selector}
-use Rattle.alma_tree.specs.Spelling.{spell_expr, spell_stmts, spell_desig, spell_exprs, spell_term_tail, spell_factor_tail, spell_selector_tail}
+use Rattle.alma_tree.specs.Spelling.{spell_expr, spell_stmts, spell_desig, spell_exprs, spell_term_tail, spell_factor_tail}
+use Rattle.alma_tree.specs.Spelling.{spell_selector_tail}
 use Rattle.alma_tree.specs.Spelling.{spell_stmt_tail, spell_label_tail, spell_orelse_tail, spell_desig_tail}
-use Rattle.alma_tree.specs.View.{view_expr, view_stmts, view_desig, view_exprs, terms_of, factors_of, selectors_of, stmts_of, labels_of, orelses_of, desigs_of}
+use Rattle.alma_tree.specs.View.{view_expr, view_stmts, view_desig, view_exprs, terms_of, factors_of, selectors_of, stmts_of, labels_of}
+use Rattle.alma_tree.specs.View.{orelses_of, desigs_of}
 use Rattle.alma_tree.specs.Numbers.{Step, numbers_of_terms, numbers_of_factors, numbers_of_selectors, numbers_of_stmts, numbers_of_labels}
 use Rattle.alma_tree.specs.Numbers.{numbers_of_orelses, numbers_of_desigs}
 

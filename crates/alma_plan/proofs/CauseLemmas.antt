@@ -7,9 +7,12 @@ use Rattle.alma_io.specs.Files.{Told, MayHave, MayPass}
 use Rattle.alma_io.specs.Fronts.{AppendsFront}
 use Rattle.alma_io.specs.Sides.{SourceSide, FilesSide}
 use Rattle.alma_plan.specs.Outside.{FilesStay, Outside}
-use Rattle.alma_plan.specs.Plan.{Stored, Ending, Due, Plan, Sense, plain, Fetches, Judges, Reads, Ends, Reading, Kept, Finished, Passed, MayLack, Lacks, Comes}
-use Rattle.alma_plan.specs.Course.{Gains, Takes, OthersStay, Become, MayRead, ReadsOnly, GainsPrefix, Follows, unfetched, unread, unwritten, unstored, starved, done, Reports, said, unsaid, Answers}
-use Rattle.alma_plan.specs.Causes.{WriteFailed, WritesGrew, ReadsGrew, FetchFailed, InputFailed, MayCome, IsStoredName, MayEnd, unread_end, unwritten_end, starved_end, due_end, HasOwnEnds, HaveOneVerdict, Causes}
+use Rattle.alma_plan.specs.Plan.{Stored, Ending, Due, Plan, Sense, plain, Fetches, Judges, Reads, Ends, Reading, Kept, Finished, Passed}
+use Rattle.alma_plan.specs.Plan.{MayLack, Lacks, Comes}
+use Rattle.alma_plan.specs.Course.{Gains, Takes, OthersStay, Become, MayRead, ReadsOnly, GainsPrefix, Follows, unfetched, unread, unwritten}
+use Rattle.alma_plan.specs.Course.{unstored, starved, done, Reports, said, unsaid, Answers}
+use Rattle.alma_plan.specs.Causes.{WriteFailed, WritesGrew, ReadsGrew, FetchFailed, InputFailed, MayCome, IsStoredName, MayEnd, unread_end}
+use Rattle.alma_plan.specs.Causes.{unwritten_end, starved_end, due_end, HasOwnEnds, HaveOneVerdict, Causes}
 
 -- all bytes are a prefix
 whole_front : (a b : Option (List ℕ)) (bytes : List ℕ) → Appends a b bytes → AppendsFront a b bytes
@@ -45,7 +48,8 @@ takes_read P Passed due i j may h = inr (due, inr may)
 
 module _ {V L : Type 0} (sense : Sense V L) (program : List ℕ) (told : List ℕ → Told) (left : Option (List ℕ)) where
   -- a read fault is due only where a file is missing, and without a print or a store
-  due_reads : (plan : Plan V L) → HasOwnEnds sense plan → (r : Reading) (due : Due) → Comes sense program told left plan r due → due.end.status ≡ 6
+  due_reads : (plan : Plan V L) → HasOwnEnds sense plan → (r : Reading) (due : Due) → Comes sense program told left plan r due
+      → due.end.status ≡ 6
       → MayLack sense told plan × (due.out ≡ []) × (due.stored ≡ None)
   due_reads (Fetches name limit next) own r due (inl h) e =
       ((name, inl refl, h.0), ap (λ (d : Due). d.out) h.2, ap (λ (d : Due). d.stored) h.2)
@@ -77,7 +81,8 @@ module _ {V L : Type 0} (sense : Sense V L) (program : List ℕ) (told : List �
   due_own (Ends last) own r due h = ((own due h.1).1, (own due h.1).2)
 
   -- where a plan lacks a file a read fault is due
-  due_lacks : HaveOneVerdict sense → (plan : Plan V L) → Lacks sense told plan → (r : Reading) (due : Due) → Comes sense program told left plan r due → due.end.status ≡ 6
+  due_lacks : HaveOneVerdict sense → (plan : Plan V L) → Lacks sense told plan → (r : Reading) (due : Due)
+      → Comes sense program told left plan r due → due.end.status ≡ 6
   due_lacks one (Fetches name limit next) l r due (inl h) = ap (λ (d : Due). d.end.status) h.2
   due_lacks one (Fetches name limit next) (inl missing) r due (inr (inl h)) = absurd (subst (λ (t : Told). MayPass t limit) missing h.0)
   due_lacks one (Fetches name limit next) (inl missing) r due (inr (inr h)) = absurd (subst (λ (t : Told). MayHave t h.0) missing h.1)
@@ -98,7 +103,8 @@ plain_has_one source one other is also = absurd is
 
 -- ---- the clauses
 
-module _ {V L : Type 0} (sense : Sense V L) (program : List ℕ) (plan : Plan V L) (one : HaveOneVerdict sense) (own : HasOwnEnds sense plan) (before after : Outside) (status : ℕ) where
+module _ {V L : Type 0} (sense : Sense V L) (program : List ℕ) (plan : Plan V L) (one : HaveOneVerdict sense) (own : HasOwnEnds sense plan)
+    (before after : Outside) (status : ℕ) where
   -- what may come, how the call may come to an end, and how it reports it
   abbrev May : Reading → Due → Type 0
   May = MayCome sense program plan before
@@ -112,7 +118,8 @@ module _ {V L : Type 0} (sense : Sense V L) (program : List ℕ) (plan : Plan V 
   -- at a read fault a file is missing, or a fetch or a read failed; nothing was written, and the files stay
   abbrev ReadFaultIs : Type 0
   ReadFaultIs =
-      (FetchFailed sense plan before after ⊎ (InputFailed May before after ⊎ MayLack sense before.files.told plan)) × Appends before.out.written after.out.written []
+      (FetchFailed sense plan before after ⊎ (InputFailed May before after ⊎ MayLack sense before.files.told plan))
+      × Appends before.out.written after.out.written []
       × FilesStay before.files after.files
 
   read_fault_of : (end : Ending) → CourseTo end → ReportOf end → status ≡ 6 → ReadFaultIs
@@ -120,11 +127,15 @@ module _ {V L : Type 0} (sense : Sense V L) (program : List ℕ) (plan : Plan V 
   read_fault_of end (unfetched name asks q risen files input out) (said s g) e = (inl (risen.1, (name, asks)), out.bytes_are, files)
   read_fault_of end (unread q fetches files reads lost risen out) (said s g) e = (inr (inl (risen.1, reads)), out.bytes_are, files)
   read_fault_of end (unwritten r due may q fetches files takes out) (said s g) e = absurd (omega (arith, s, e, of_status end _ q))
-  read_fault_of end (unstored r due stored may is q fetches files risen takes out) (said s g) e = absurd (omega (arith, s, e, of_status end _ q))
+  read_fault_of end (unstored r due stored may is q fetches files risen takes out) (said s g) e =
+      absurd (omega (arith, s, e, of_status end _ q))
   read_fault_of end (starved q fetches files reads out faults) (said s g) e = absurd (omega (arith, s, e, of_status end _ q))
   read_fault_of end (done r due may is fetches files takes out) (said s g) e =
-      let found = due_reads sense program before.files.told before.input.left plan own r due may (of_status due.end end is ∙ sym s ∙ e) in
-      (inr (inr found.0), subst (Appends before.out.written after.out.written) found.1 out.bytes_are, subst (Become before.files after.files) found.2 files)
+      let found = due_reads sense program before.files.told before.input.left plan own r due may (of_status due.end end is ∙ sym s ∙ e) in (
+        inr (inr found.0),
+        subst (Appends before.out.written after.out.written) found.1 out.bytes_are,
+        subst (Become before.files after.files) found.2 files,
+      )
 
   write_fault_of : (end : Ending) → CourseTo end → ReportOf end → status ≡ 7 → WriteFailed before after
   write_fault_of end course (unsaid s f) e = inr (inl f.risen.1)
@@ -143,7 +154,8 @@ module _ {V L : Type 0} (sense : Sense V L) (program : List ℕ) (plan : Plan V 
   prefix_of end (unstored r due stored may is q fetches files risen takes out) =
       inr (r, due, may, whole_front before.out.written after.out.written due.out out.bytes_are)
   prefix_of end (starved q fetches files reads out faults) = out
-  prefix_of end (done r due may is fetches files takes out) = inr (r, due, may, whole_front before.out.written after.out.written due.out out.bytes_are)
+  prefix_of end (done r due may is fetches files takes out) =
+      inr (r, due, may, whole_front before.out.written after.out.written due.out out.bytes_are)
 
   end_of : (end : Ending) → CourseTo end → MayEnd program May end
   end_of end (unfetched name asks q risen files input out) = unread_end q
@@ -157,7 +169,8 @@ module _ {V L : Type 0} (sense : Sense V L) (program : List ℕ) (plan : Plan V 
   abbrev FilesAre : Type 0
   FilesAre = FilesStay before.files after.files ⊎ ((name : List ℕ) × IsStoredName May name × OthersStay before.files after.files name)
 
-  become_are : (r : Reading) (due : Due) → May r due → (stored : Option Stored) → due.stored ≡ stored → Become before.files after.files stored → FilesAre
+  become_are : (r : Reading) (due : Due) → May r due → (stored : Option Stored) → due.stored ≡ stored
+      → Become before.files after.files stored → FilesAre
   become_are r due may None is b = inl b
   become_are r due may (Some stored) is b = inr (stored.name, (r, due, stored, may, is, refl), b.0)
 
@@ -174,7 +187,8 @@ module _ {V L : Type 0} (sense : Sense V L) (program : List ℕ) (plan : Plan V 
   starved_files_of end (unfetched name asks q risen files input out) (said s g) e = files
   starved_files_of end (unread q fetches files reads lost risen out) (said s g) e = files
   starved_files_of end (unwritten r due may q fetches files takes out) (said s g) e = files
-  starved_files_of end (unstored r due stored may is q fetches files risen takes out) (said s g) e = absurd (omega (arith, s, e, of_status end _ q))
+  starved_files_of end (unstored r due stored may is q fetches files risen takes out) (said s g) e =
+      absurd (omega (arith, s, e, of_status end _ q))
   starved_files_of end (starved q fetches files reads out faults) (said s g) e = files
   starved_files_of end (done r due may is fetches files takes out) (said s g) e =
       absurd ((due_own sense program before.files.told before.input.left plan own r due may).1 (of_status due.end end is ∙ sym s ∙ e))
@@ -186,14 +200,16 @@ module _ {V L : Type 0} (sense : Sense V L) (program : List ℕ) (plan : Plan V 
   -- all that is due came
   abbrev IsWhole : Type 0
   IsWhole =
-      (r : Reading) × (due : Due) × May r due × (status ≡ due.end.status) × Gains before.out after.out due.out × Gains before.err after.err due.end.text
+      (r : Reading) × (due : Due) × May r due × (status ≡ due.end.status) × Gains before.out after.out due.out
+      × Gains before.err after.err due.end.text
       × Become before.files after.files due.stored × Takes r before.input after.input
 
   whole_of : (end : Ending) → CourseTo end → ReportOf end → (status ≢ 6) → (status ≢ 7) → (status ≢ 8) → IsWhole
   whole_of end course (unsaid s f) no_read no_write no_want = absurd (no_write s)
   whole_of end (unfetched name asks q risen files input out) (said s g) no_read no_write no_want = absurd (no_read (s ∙ of_status end _ q))
   whole_of end (unread q fetches files reads lost risen out) (said s g) no_read no_write no_want = absurd (no_read (s ∙ of_status end _ q))
-  whole_of end (unwritten r due may q fetches files takes out) (said s g) no_read no_write no_want = absurd (no_write (s ∙ of_status end _ q))
+  whole_of end (unwritten r due may q fetches files takes out) (said s g) no_read no_write no_want =
+      absurd (no_write (s ∙ of_status end _ q))
   whole_of end (unstored r due stored may is q fetches files risen takes out) (said s g) no_read no_write no_want =
       absurd (no_write (s ∙ of_status end _ q))
   whole_of end (starved q fetches files reads out faults) (said s g) no_read no_write no_want = absurd (no_want (s ∙ of_status end _ q))
@@ -227,7 +243,8 @@ module _ {V L : Type 0} (sense : Sense V L) (program : List ℕ) (plan : Plan V 
   quiet_reads fetches input (inl h) = omega (arith, h, fetches)
   quiet_reads fetches input (inr h) = omega (arith, h, input)
 
-  reads_shown_of : (end : Ending) → CourseTo end → ReportOf end → ReadsGrew before after → WriteFailed before after ⊎ ((status ≡ 6) ⊎ (status ≡ 8))
+  reads_shown_of : (end : Ending) → CourseTo end → ReportOf end → ReadsGrew before after → WriteFailed before after
+      ⊎ ((status ≡ 6) ⊎ (status ≡ 8))
   reads_shown_of end course (unsaid s f) grew = inl (inr (inl f.risen.1))
   reads_shown_of end (unfetched name asks q risen files input out) (said s g) grew = inr (inl (s ∙ of_status end _ q))
   reads_shown_of end (unread q fetches files reads lost risen out) (said s g) grew = inr (inl (s ∙ of_status end _ q))
@@ -249,7 +266,8 @@ module _ {V L : Type 0} (sense : Sense V L) (program : List ℕ) (plan : Plan V 
   input_of end (starved q fetches files reads out faults) = starved_input reads
   input_of end (done r due may is fetches files takes out) = takes_read May r due before.input after.input may takes
 
-  absence_shown_of : (end : Ending) → CourseTo end → ReportOf end → Lacks sense before.files.told plan → (status ≡ 6) ⊎ ((status ≡ 7) ⊎ (status ≡ 8))
+  absence_shown_of : (end : Ending) → CourseTo end → ReportOf end → Lacks sense before.files.told plan → (status ≡ 6)
+      ⊎ ((status ≡ 7) ⊎ (status ≡ 8))
   absence_shown_of end course (unsaid s f) l = inr (inl s)
   absence_shown_of end (unfetched name asks q risen files input out) (said s g) l = inl (s ∙ of_status end _ q)
   absence_shown_of end (unread q fetches files reads lost risen out) (said s g) l = inl (s ∙ of_status end _ q)

@@ -15,9 +15,11 @@ use Rattle.alma_io.specs.declared.whole.ReadAll.{ReadAll}
 use Rattle.alma_io.specs.declared.whole.ReadAll.TheVariants as reading
 use Rattle.alma_io.proofs.Known.{appends_none}
 use Rattle.alma_plan.specs.Outside.{HasRisen, FilesStay}
-use Rattle.alma_plan.specs.Plan.{Stored, Ending, Due, Plan, Sense, Fetches, Judges, Reads, Ends, Reading, Kept, Finished, Passed, Asks, Comes, MayBeLeft, silent, read_fault, write_fault, no_memory, too_long}
+use Rattle.alma_plan.specs.Plan.{Stored, Ending, Due, Plan, Sense, Fetches, Judges, Reads, Ends, Reading, Kept, Finished, Passed, Asks}
+use Rattle.alma_plan.specs.Plan.{Comes, MayBeLeft, silent, read_fault, write_fault, no_memory, too_long}
 use Rattle.alma_plan.specs.Refusals.{stop_end, fetch_stop, read_stop}
-use Rattle.alma_plan.specs.Course.{Gains, Takes, IsBegun, OthersStay, Become, MayRead, ReadsOnly, GainsPrefix, Goes, cut_short, hungry, hungry_within, whole, Course, Follows, unfetched, unread, unwritten, unstored, starved, done}
+use Rattle.alma_plan.specs.Course.{Gains, Takes, IsBegun, OthersStay, Become, MayRead, ReadsOnly, GainsPrefix, Goes, cut_short, hungry}
+use Rattle.alma_plan.specs.Course.{hungry_within, whole, Course, Follows, unfetched, unread, unwritten, unstored, starved, done}
 
 -- a sink that nothing was done to gained nothing
 pub gains_none : (o : SinkSide) → Gains o o []
@@ -28,12 +30,14 @@ pub files_same : (f : FilesSide) → FilesStay f f
 files_same f = (λ name. refl, refl)
 
 -- memory ran out before anything was done
-pub course_starved : (program : List ℕ) (asks : List ℕ → Type 0) (may : Reading → Due → Type 0) (f : FilesSide) (i : SourceSide) (o : SinkSide)
+pub course_starved : (program : List ℕ) (asks : List ℕ → Type 0) (may : Reading → Due → Type 0) (f : FilesSide) (i : SourceSide)
+    (o : SinkSide)
     → Course program asks may f f i i o o (no_memory program)
 course_starved program asks may f i o = starved refl refl (files_same f) (inl refl) (inl (appends_none o.written)) refl
 
 -- what may be asked for, and what may come, by what the files told before
-asks_told : {V L : Type 0} (sense : Sense V L) (told told' : List ℕ → Told) → ((name : List ℕ) → told' name ≡ told name) → (plan : Plan V L) (asked : List ℕ)
+asks_told : {V L : Type 0} (sense : Sense V L) (told told' : List ℕ → Told) → ((name : List ℕ) → told' name ≡ told name)
+    → (plan : Plan V L) (asked : List ℕ)
     → Asks sense told' plan asked → Asks sense told plan asked
 asks_told sense told told' same (Fetches name limit next) asked (inl e) = inl e
 asks_told sense told told' same (Fetches name limit next) asked (inr h) =
@@ -49,7 +53,12 @@ comes_told sense program told told' left same (Fetches name limit next) r due (i
 comes_told sense program told told' left same (Fetches name limit next) r due (inr (inl h)) =
     inr (inl (subst (λ (t : Told). MayPass t limit) (same name) h.0, h.1, h.2))
 comes_told sense program told told' left same (Fetches name limit next) r due (inr (inr h)) =
-    inr (inr (h.0, subst (λ (t : Told). MayHave t h.0) (same name) h.1, h.2, comes_told sense program told told' left same (next h.0) r due h.3))
+    inr (inr (
+      h.0,
+      subst (λ (t : Told). MayHave t h.0) (same name) h.1,
+      h.2,
+      comes_told sense program told told' left same (next h.0) r due h.3,
+    ))
 comes_told sense program told told' left same (Judges source next) r due h =
     (h.0, h.1, comes_told sense program told told' left same (next h.0) r due h.2)
 comes_told sense program told told' left same (Reads last) r due h = h
@@ -86,7 +95,8 @@ module _ (program : List ℕ) (A B : List ℕ → Type 0) (P Q : Reading → Due
       → (f g h : FilesSide) (i j : SourceSide) (o p : SinkSide) (end : Ending) → FilesStay f g → g.fetch_faults ≡ f.fetch_faults
       → Course program A P g h i j o p end → Course program B Q f h i j o p end
   course_map asked map f g h i j o p end stay quiet (unfetched name asks e risen files input out) =
-      unfetched name (asked name asks) e (risen_behind f.fetch_faults g.fetch_faults h.fetch_faults quiet risen) (stay_twice f g h stay files) input out
+      unfetched name (asked name asks) e (risen_behind f.fetch_faults g.fetch_faults h.fetch_faults quiet risen)
+      (stay_twice f g h stay files) input out
   course_map asked map f g h i j o p end stay quiet (unread e fetches files reads lost risen out) =
       unread e (fetches ∙ quiet) (stay_twice f g h stay files) (read_map P Q map reads) lost risen out
   course_map asked map f g h i j o p end stay quiet (unwritten r due may e fetches files takes out) =
@@ -109,18 +119,21 @@ module _ (program : List ℕ) (A B : List ℕ → Type 0) (P Q : Reading → Due
 
 module _ {V L : Type 0} (sense : Sense V L) (program : List ℕ) where
   -- a file was fetched
-  pub course_fetched : (name : List ℕ) (limit : ℕ) (next : List ℕ → Plan V L) (bytes : List ℕ) (f g h : FilesSide) (i j : SourceSide) (o p : SinkSide) (end : Ending)
+  pub course_fetched : (name : List ℕ) (limit : ℕ) (next : List ℕ → Plan V L) (bytes : List ℕ) (f g h : FilesSide) (i j : SourceSide)
+      (o p : SinkSide) (end : Ending)
       → FilesStay f g → g.fetch_faults ≡ f.fetch_faults → MayHave (f.told name) bytes → length bytes ≤ limit
       → Follows sense program (next bytes) g h i j o p end → Follows sense program (Fetches name limit next) f h i j o p end
   course_fetched name limit next bytes f g h i j o p end stay quiet has short course =
-      course_map program (Asks sense g.told (next bytes)) (Asks sense f.told (Fetches name limit next)) (Comes sense program g.told i.left (next bytes))
+      course_map program (Asks sense g.told (next bytes)) (Asks sense f.told (Fetches name limit next))
+      (Comes sense program g.told i.left (next bytes))
       (Comes sense program f.told i.left (Fetches name limit next))
       (λ asked asks. inr (bytes, has, short, asks_told sense f.told g.told stay.0 (next bytes) asked asks))
       (λ r due comes. inr (inr (bytes, has, short, comes_told sense program f.told g.told i.left stay.0 (next bytes) r due comes)))
       f g h i j o p end stay quiet course
 
   -- a file was not fetched
-  pub course_unfetched : (name : List ℕ) (limit : ℕ) (next : List ℕ → Plan V L) (fault : Fetch) (f g : FilesSide) (i : SourceSide) (o : SinkSide)
+  pub course_unfetched : (name : List ℕ) (limit : ℕ) (next : List ℕ → Plan V L) (fault : Fetch) (f g : FilesSide) (i : SourceSide)
+      (o : SinkSide)
       → FilesStay f g → IsFetched (f.told name) limit f.fetch_faults g.fetch_faults (Err fault)
       → Follows sense program (Fetches name limit next) f g i i o o (stop_end program (fetch_stop fault))
   course_unfetched name limit next fetch.Absent f g i o stay is =
@@ -132,8 +145,10 @@ module _ {V L : Type 0} (sense : Sense V L) (program : List ℕ) where
       starved refl is stay (inl refl) (inl (appends_none o.written)) refl
 
   -- a source was judged
-  pub course_judged : (source : List ℕ) (next : V → Plan V L) (verdict : V) (f h : FilesSide) (i j : SourceSide) (o p : SinkSide) (end : Ending)
-      → sense.judged source verdict → Follows sense program (next verdict) f h i j o p end → Follows sense program (Judges source next) f h i j o p end
+  pub course_judged : (source : List ℕ) (next : V → Plan V L) (verdict : V) (f h : FilesSide) (i j : SourceSide) (o p : SinkSide)
+      (end : Ending)
+      → sense.judged source verdict → Follows sense program (next verdict) f h i j o p end
+      → Follows sense program (Judges source next) f h i j o p end
   course_judged source next verdict f h i j o p end is course =
       course_map program (Asks sense f.told (next verdict)) (Asks sense f.told (Judges source next))
       (Comes sense program f.told i.left (next verdict)) (Comes sense program f.told i.left (Judges source next))
@@ -146,7 +161,8 @@ module _ {V L : Type 0} (sense : Sense V L) (program : List ℕ) where
   was_left (Some xs) (Some ys) bytes c e = c ∙ ap (λ z. bytes ++ z) e ∙ append-nil bytes
 
   -- a plan that reads the input has something that comes and does
-  reading_due : (told : List ℕ → Told) (left : Option (List ℕ)) (last : List ℕ → L) → ((bytes : List ℕ) → (due : Due) × sense.means (last bytes) due)
+  reading_due : (told : List ℕ → Told) (left : Option (List ℕ)) (last : List ℕ → L)
+      → ((bytes : List ℕ) → (due : Due) × sense.means (last bytes) due)
       → MayRead (Comes sense program told left (Reads last))
   reading_due told None last some = let found = some [] in (found.0, inl (inr ([], tt, omega arith, refl, found.1)))
   reading_due told (Some bytes) last some = by (cases_lt input_limit (length bytes))
@@ -160,7 +176,8 @@ module _ {V L : Type 0} (sense : Sense V L) (program : List ℕ) where
       → Follows sense program (Ends last) f f i i o p end
   course_ends last f i o p end (cut_short due may e out) = unwritten Kept due (refl, may) e refl (files_same f) refl out
   course_ends last f i o p end (hungry e out) = starved e refl (files_same f) (inl refl) (inl out.bytes_are) out.quiet
-  course_ends last f i o p end (hungry_within due may e out faults) = starved e refl (files_same f) (inl refl) (inr (Kept, due, (refl, may), out)) faults
+  course_ends last f i o p end (hungry_within due may e out faults) =
+      starved e refl (files_same f) (inl refl) (inr (Kept, due, (refl, may), out)) faults
   course_ends last f i o p end (whole due may is none out) =
       done Kept due (refl, may) is refl (subst (Become f f) (sym none) (files_same f)) refl out
 
@@ -212,7 +229,8 @@ module _ {V L : Type 0} (sense : Sense V L) (program : List ℕ) where
 
   -- a store failed
   pub course_unstored : (last : L) (due : Due) (stored : Stored) (f g : FilesSide) (i : SourceSide) (o : SinkSide) → sense.means last due
-      → due.stored ≡ Some stored → due.out ≡ [] → g.fetch_faults ≡ f.fetch_faults → OthersStay f g stored.name → HasRisen f.store_faults g.store_faults
+      → due.stored ≡ Some stored → due.out ≡ [] → g.fetch_faults ≡ f.fetch_faults → OthersStay f g stored.name
+      → HasRisen f.store_faults g.store_faults
       → Follows sense program (Ends last) f g i i o o (write_fault program)
   course_unstored last due stored f g i o means is none quiet others risen =
       unstored Kept due stored (refl, means) is refl quiet others risen refl (subst (Gains o o) (sym none) (gains_none o))

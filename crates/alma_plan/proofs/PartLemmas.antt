@@ -10,7 +10,8 @@ use Rattle.alma_io.proofs.Known.{appends_trans}
 
 -- all parts, by those before one of them, that one, and those behind it
 pub parts_at : (parts : List (Bor (List ℕ))) (i : ℕ) (d : Bor (List ℕ)) → i < length parts
-    → flat_map (λ (part : Bor (List ℕ)). part.now) parts ≡ flat_map (λ (part : Bor (List ℕ)). part.now) (take i parts) ++ ((get_or parts i d).now ++ flat_map (λ (part : Bor (List ℕ)). part.now) (drop (i + 1) parts))
+    → flat_map (λ (part : Bor (List ℕ)). part.now) parts ≡ flat_map (λ (part : Bor (List ℕ)). part.now) (take i parts)
+    ++ ((get_or parts i d).now ++ flat_map (λ (part : Bor (List ℕ)). part.now) (drop (i + 1) parts))
 parts_at parts i d h =
     let f = λ (part : Bor (List ℕ)). part.now in
     ap (flat_map f) (sym (take-append-drop i parts)) ∙ flat_map-append f (take i parts) (drop i parts)

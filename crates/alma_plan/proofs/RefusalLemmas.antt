@@ -12,7 +12,8 @@ word_parts program front number end word f n e =
     ∙ ap (λ x. program ++ (codes ": bad word " ++ (decimal word ++ (x ++ [])))) e
 
 -- of a fault of an object without a number
-pub numberless_parts : (program front name end fault : List ℕ) (number : Option ℕ) → number ≡ None → front ≡ codes ": object " → name ≡ fault → end ≡ codes "\n"
+pub numberless_parts : (program front name end fault : List ℕ) (number : Option ℕ) → number ≡ None → front ≡ codes ": object "
+    → name ≡ fault → end ≡ codes "\n"
     → program ++ (front ++ (name ++ (end ++ []))) ≡ line_of program (codes "object " ++ numbered fault number)
 numberless_parts program front name end fault number none f n e =
     ap (λ x. program ++ (x ++ (name ++ (end ++ [])))) f ∙ ap (λ x. program ++ (codes ": object " ++ (x ++ (end ++ [])))) n
@@ -20,7 +21,8 @@ numberless_parts program front name end fault number none f n e =
     ∙ ap (λ k. line_of program (codes "object " ++ numbered fault k)) (sym none)
 
 -- and of one with a number
-pub numbered_parts : (program front name middle digits end fault : List ℕ) (number : Option ℕ) (k : ℕ) → number ≡ Some k → front ≡ codes ": object " → name ≡ fault
+pub numbered_parts : (program front name middle digits end fault : List ℕ) (number : Option ℕ) (k : ℕ) → number ≡ Some k
+    → front ≡ codes ": object " → name ≡ fault
     → middle ≡ codes " " → digits ≡ decimal k → end ≡ codes "\n"
     → program ++ (front ++ (name ++ (middle ++ (digits ++ (end ++ []))))) ≡ line_of program (codes "object " ++ numbered fault number)
 numbered_parts program front name middle digits end fault number k some f n m d e =
@@ -33,9 +35,11 @@ numbered_parts program front name middle digits end fault number k some f n m d 
     ∙ ap (λ o. line_of program (codes "object " ++ numbered fault o)) (sym some)
 
 -- of a broken rule
-pub rule_parts : (program front rule middle at end : List ℕ) (r a : ℕ) → front ≡ codes ": object Rule " → rule ≡ decimal r → middle ≡ codes " " → at ≡ decimal a
+pub rule_parts : (program front rule middle at end : List ℕ) (r a : ℕ) → front ≡ codes ": object Rule " → rule ≡ decimal r
+    → middle ≡ codes " " → at ≡ decimal a
     → end ≡ codes "\n"
-    → program ++ (front ++ (rule ++ (middle ++ (at ++ (end ++ []))))) ≡ line_of program (codes "object Rule " ++ (decimal r ++ (codes " " ++ decimal a)))
+    → program ++ (front ++ (rule ++ (middle ++ (at ++ (end ++ []))))) ≡ line_of program
+    (codes "object Rule " ++ (decimal r ++ (codes " " ++ decimal a)))
 rule_parts program front rule middle at end r a f n m d e =
     ap (λ x. program ++ (x ++ (rule ++ (middle ++ (at ++ (end ++ [])))))) f
     ∙ ap (λ x. program ++ (codes ": object Rule " ++ (x ++ (middle ++ (at ++ (end ++ [])))))) n

@@ -3,7 +3,8 @@ use Rattle.std.specs.Prelude.{◌≡◌, ◌≢◌, ◌<◌, ◌⊎◌, List, �
 use Rattle.std.specs.Io.KnownBytes.{Appends}
 use Rattle.alma_io.specs.Causes.{Rose}
 use Rattle.alma_plan.specs.Outside.{FilesStay, Outside}
-use Rattle.alma_plan.specs.Plan.{Stored, Ending, Due, Plan, Sense, Fetches, Judges, Reads, Ends, Reading, Asks, MayLack, Lacks, Comes, read_fault, write_fault, no_memory}
+use Rattle.alma_plan.specs.Plan.{Stored, Ending, Due, Plan, Sense, Fetches, Judges, Reads, Ends, Reading, Asks, MayLack, Lacks, Comes}
+use Rattle.alma_plan.specs.Plan.{read_fault, write_fault, no_memory}
 use Rattle.alma_plan.specs.Course.{Gains, Takes, OthersStay, Become, MayRead, GainsPrefix, Reports}
 
 -- ---- what a call met
@@ -11,12 +12,14 @@ use Rattle.alma_plan.specs.Course.{Gains, Takes, OthersStay, Become, MayRead, Ga
 -- a write or a store failed in the call
 abbrev pub WriteFailed : Outside → Outside → Type 0
 WriteFailed before after =
-    Rose before.out.faults after.out.faults ⊎ (Rose before.err.faults after.err.faults ⊎ Rose before.files.store_faults after.files.store_faults)
+    Rose before.out.faults after.out.faults ⊎ (Rose before.err.faults after.err.faults
+    ⊎ Rose before.files.store_faults after.files.store_faults)
 
 -- a count of failed writes or stores is greater now
 abbrev pub WritesGrew : Outside → Outside → Type 0
 WritesGrew before after =
-    (before.out.faults < after.out.faults) ⊎ ((before.err.faults < after.err.faults) ⊎ (before.files.store_faults < after.files.store_faults))
+    (before.out.faults < after.out.faults) ⊎ ((before.err.faults < after.err.faults)
+    ⊎ (before.files.store_faults < after.files.store_faults))
 
 -- a count of failed fetches or reads is greater now
 abbrev pub ReadsGrew : Outside → Outside → Type 0
@@ -24,7 +27,8 @@ ReadsGrew before after = (before.files.fetch_faults < after.files.fetch_faults) 
 
 -- a fetch failed in the call, and the plan may ask for a file
 abbrev pub FetchFailed : {V L : Type 0} → Sense V L → Plan V L → Outside → Outside → Type 0
-FetchFailed sense plan before after = Rose before.files.fetch_faults after.files.fetch_faults × ((name : List ℕ) × Asks sense before.files.told plan name)
+FetchFailed sense plan before after = Rose before.files.fetch_faults after.files.fetch_faults
+    × ((name : List ℕ) × Asks sense before.files.told plan name)
 
 -- a read of the input failed in the call, and what may come reads it
 abbrev pub InputFailed : (may : Reading → Due → Type 0) → Outside → Outside → Type 0
@@ -38,7 +42,8 @@ MayCome sense program plan before = Comes sense program before.files.told before
 
 -- a file that is to be stored
 abbrev pub IsStoredName : (may : Reading → Due → Type 0) → List ℕ → Type 0
-IsStoredName may name = (reading : Reading) × (due : Due) × (stored : Stored) × may reading due × (due.stored ≡ Some stored) × (stored.name ≡ name)
+IsStoredName may name = (reading : Reading) × (due : Due) × (stored : Stored) × may reading due × (due.stored ≡ Some stored)
+    × (stored.name ≡ name)
 
 -- an end that the call may come to: a fault of the outside, want of memory, or one that is due
 pub data MayEnd (program : List ℕ) (may : Reading → Due → Type 0) (end : Ending) : Type 0 where
@@ -66,33 +71,35 @@ HaveOneVerdict {V} sense = (source : List ℕ) (one other : V) → sense.judged 
 -- ---- the call
 
 -- What each status says of a call with a plan, and what a call shows that met a fault.
-pub record Causes {V L : Type 0} (sense : Sense V L) (program : List ℕ) (plan : Plan V L) (before after : Outside) (status : ℕ) : Type 0 where
-  -- a read fault comes only where a fetch failed and the plan may ask for a file, where a read of the input failed that what may
-  -- come reads, or where a file that it may ask for is told to be missing
-  pub read_fault_is : status ≡ 6 → FetchFailed sense plan before after ⊎ (InputFailed (MayCome sense program plan before) before after ⊎ MayLack sense before.files.told plan)
-  -- at a read fault nothing was written to out
-  pub nothing : status ≡ 6 → Appends before.out.written after.out.written []
-  -- a write fault comes only where a write or a store failed
-  pub write_fault_is : status ≡ 7 → WriteFailed before after
-  -- whatever the status, out gained no more than what is due
-  pub prefix : GainsPrefix (MayCome sense program plan before) before.out after.out
-  -- err gained the text of the status; or it failed within the text of the status before, and that of a write fault is answered
-  pub reported : (end : Ending) × MayEnd program (MayCome sense program plan before) end × Reports end before.err after.err status
-  -- the files stay, but for one that is to be stored
-  pub files : FilesStay before.files after.files
-      ⊎ ((name : List ℕ) × IsStoredName (MayCome sense program plan before) name × OthersStay before.files after.files name)
-  -- at a read fault and at want of memory all of them stay
-  pub files_stay : (status ≡ 6) ⊎ (status ≡ 8) → FilesStay before.files after.files
-  -- but for read faults, write faults and want of memory, status, out, err, files and the input are all that is due
-  pub whole : (status ≢ 6) → (status ≢ 7) → (status ≢ 8)
-      → (reading : Reading) × (due : Due) × MayCome sense program plan before reading due × (status ≡ due.end.status)
-      × Gains before.out after.out due.out × Gains before.err after.err due.end.text
-      × Become before.files after.files due.stored × Takes reading before.input after.input
-  -- a failed write or store is not hidden: write fault, or want of memory
-  pub writes_shown : WritesGrew before after → (status ≡ 7) ⊎ (status ≡ 8)
-  -- nor a failed fetch or read, where no write failed: read fault, or want of memory
-  pub reads_shown : ReadsGrew before after → WriteFailed before after ⊎ ((status ≡ 6) ⊎ (status ≡ 8))
-  -- the input stays but where what may come reads it
-  pub input : (after.input ≡ before.input) ⊎ MayRead (MayCome sense program plan before)
-  -- nor is it hidden that a file is missing
-  pub absence_shown : Lacks sense before.files.told plan → (status ≡ 6) ⊎ ((status ≡ 7) ⊎ (status ≡ 8))
+pub record Causes {V L : Type 0} (sense : Sense V L) (program : List ℕ) (plan : Plan V L) (before after : Outside) (status : ℕ) : Type 0
+  where
+    -- a read fault comes only where a fetch failed and the plan may ask for a file, where a read of the input failed that what may
+    -- come reads, or where a file that it may ask for is told to be missing
+    pub read_fault_is : status ≡ 6 → FetchFailed sense plan before after
+        ⊎ (InputFailed (MayCome sense program plan before) before after ⊎ MayLack sense before.files.told plan)
+    -- at a read fault nothing was written to out
+    pub nothing : status ≡ 6 → Appends before.out.written after.out.written []
+    -- a write fault comes only where a write or a store failed
+    pub write_fault_is : status ≡ 7 → WriteFailed before after
+    -- whatever the status, out gained no more than what is due
+    pub prefix : GainsPrefix (MayCome sense program plan before) before.out after.out
+    -- err gained the text of the status; or it failed within the text of the status before, and that of a write fault is answered
+    pub reported : (end : Ending) × MayEnd program (MayCome sense program plan before) end × Reports end before.err after.err status
+    -- the files stay, but for one that is to be stored
+    pub files : FilesStay before.files after.files
+        ⊎ ((name : List ℕ) × IsStoredName (MayCome sense program plan before) name × OthersStay before.files after.files name)
+    -- at a read fault and at want of memory all of them stay
+    pub files_stay : (status ≡ 6) ⊎ (status ≡ 8) → FilesStay before.files after.files
+    -- but for read faults, write faults and want of memory, status, out, err, files and the input are all that is due
+    pub whole : (status ≢ 6) → (status ≢ 7) → (status ≢ 8)
+        → (reading : Reading) × (due : Due) × MayCome sense program plan before reading due × (status ≡ due.end.status)
+        × Gains before.out after.out due.out × Gains before.err after.err due.end.text
+        × Become before.files after.files due.stored × Takes reading before.input after.input
+    -- a failed write or store is not hidden: write fault, or want of memory
+    pub writes_shown : WritesGrew before after → (status ≡ 7) ⊎ (status ≡ 8)
+    -- nor a failed fetch or read, where no write failed: read fault, or want of memory
+    pub reads_shown : ReadsGrew before after → WriteFailed before after ⊎ ((status ≡ 6) ⊎ (status ≡ 8))
+    -- the input stays but where what may come reads it
+    pub input : (after.input ≡ before.input) ⊎ MayRead (MayCome sense program plan before)
+    -- nor is it hidden that a file is missing
+    pub absence_shown : Lacks sense before.files.told plan → (status ≡ 6) ⊎ ((status ≡ 7) ⊎ (status ≡ 8))

@@ -7,7 +7,8 @@ use Rattle.alma_io.specs.Fronts.{AppendsFront}
 use Rattle.alma_io.specs.Sides.{SinkSide, SourceSide, FilesSide}
 use Rattle.alma_io.specs.Whole.{LosesAtMost, LosesBytes}
 use Rattle.alma_plan.specs.Outside.{Outside, HasRisen, FilesStay}
-use Rattle.alma_plan.specs.Plan.{Stored, Ending, Due, Plan, Sense, Reading, Kept, Finished, Passed, Asks, Comes, read_fault, write_fault, no_memory}
+use Rattle.alma_plan.specs.Plan.{Stored, Ending, Due, Plan, Sense, Reading, Kept, Finished, Passed, Asks, Comes, read_fault, write_fault}
+use Rattle.alma_plan.specs.Plan.{no_memory}
 
 -- ---- the outputs
 
@@ -47,7 +48,8 @@ OthersStay old new name = (other : List ℕ) → other ≢ name → new.told oth
 abbrev pub Become : FilesSide → FilesSide → Option Stored → Type 0
 Become old new None = FilesStay old new
 Become old new (Some stored) =
-    OthersStay old new stored.name × NowHas (old.told stored.name) (new.told stored.name) stored.bytes × (new.store_faults ≡ old.store_faults)
+    OthersStay old new stored.name × NowHas (old.told stored.name) (new.told stored.name) stored.bytes
+    × (new.store_faults ≡ old.store_faults)
 
 -- ---- the call
 
@@ -63,7 +65,8 @@ module _ (may : Reading → Due → Type 0) where
   -- the sink gained a prefix of what may come; none is known where memory ran out before there was one
   abbrev pub GainsPrefix : SinkSide → SinkSide → Type 0
   GainsPrefix old new =
-      Appends old.written new.written [] ⊎ ((reading : Reading) × (due : Due) × may reading due × AppendsFront old.written new.written due.out)
+      Appends old.written new.written [] ⊎ ((reading : Reading) × (due : Due) × may reading due
+      × AppendsFront old.written new.written due.out)
 
 -- How the last part of a call, which writes to out alone, may come to this end, where this may come.
 pub data Goes (program : List ℕ) (may : Due → Type 0) (out out' : SinkSide) (end : Ending) : Type 0 where
@@ -77,17 +80,20 @@ pub data Goes (program : List ℕ) (may : Due → Type 0) (out out' : SinkSide) 
   whole : (due : Due) → may due → due.end ≡ end → due.stored ≡ None → Gains out out' due.out → Goes program may out out' end
 
 -- How a call in the name of a program may come to this end, where these files may be asked for, and this may come.
-pub data Course (program : List ℕ) (asks : List ℕ → Type 0) (may : Reading → Due → Type 0) (files files' : FilesSide) (input input' : SourceSide)
+pub data Course (program : List ℕ) (asks : List ℕ → Type 0) (may : Reading → Due → Type 0) (files files' : FilesSide)
+    (input input' : SourceSide)
     (out out' : SinkSide) (end : Ending) : Type 0 where
   -- the fetch of a file that may be asked for failed, and nothing was written
-  unfetched : (name : List ℕ) → asks name → end ≡ read_fault program → HasRisen files.fetch_faults files'.fetch_faults → FilesStay files files'
+  unfetched : (name : List ℕ) → asks name → end ≡ read_fault program → HasRisen files.fetch_faults files'.fetch_faults
+      → FilesStay files files'
       → input' ≡ input → Gains out out' [] → Course program asks may files files' input input' out out' end
   -- the input failed, and nothing was written
   unread : end ≡ read_fault program → files'.fetch_faults ≡ files.fetch_faults → FilesStay files files' → MayRead may
       → LosesAtMost input.left input'.left (input_limit + 1) → HasRisen input.faults input'.faults → Gains out out' []
       → Course program asks may files files' input input' out out' end
   -- a write failed within the bytes of what may come
-  unwritten : (reading : Reading) (due : Due) → may reading due → end ≡ write_fault program → files'.fetch_faults ≡ files.fetch_faults → FilesStay files files'
+  unwritten : (reading : Reading) (due : Due) → may reading due → end ≡ write_fault program → files'.fetch_faults ≡ files.fetch_faults
+      → FilesStay files files'
       → Takes reading input input' → FailsWithin out out' due.out → Course program asks may files files' input input' out out' end
   -- a store failed, when out had all that is due
   unstored : (reading : Reading) (due : Due) (stored : Stored) → may reading due → due.stored ≡ Some stored → end ≡ write_fault program
@@ -97,21 +103,25 @@ pub data Course (program : List ℕ) (asks : List ℕ → Type 0) (may : Reading
   starved : end ≡ no_memory program → files'.fetch_faults ≡ files.fetch_faults → FilesStay files files' → ReadsOnly may input input'
       → GainsPrefix may out out' → out'.faults ≡ out.faults → Course program asks may files files' input input' out out' end
   -- what may come came, whole
-  done : (reading : Reading) (due : Due) → may reading due → due.end ≡ end → files'.fetch_faults ≡ files.fetch_faults → Become files files' due.stored
+  done : (reading : Reading) (due : Due) → may reading due → due.end ≡ end → files'.fetch_faults ≡ files.fetch_faults
+      → Become files files' due.stored
       → Takes reading input input' → Gains out out' due.out → Course program asks may files files' input input' out out' end
 
 -- the same, where a plan says which files are asked for, and what may come
-abbrev pub Follows : {V L : Type 0} → Sense V L → (program : List ℕ) → Plan V L → FilesSide → FilesSide → SourceSide → SourceSide → SinkSide → SinkSide → Ending → Type 0
+abbrev pub Follows : {V L : Type 0} → Sense V L → (program : List ℕ) → Plan V L → FilesSide → FilesSide → SourceSide → SourceSide → SinkSide
+    → SinkSide → Ending → Type 0
 Follows sense program plan files files' input input' out out' end =
     Course program (Asks sense files.told plan) (Comes sense program files.told input.left plan) files files' input input' out out' end
 
--- How an end is reported: err gained its text, and its status is answered; or err failed within the text, and the status is that of a write fault.
+-- How an end is reported: err gained its text, and its status is answered; or err failed within the text, and the status is that of a write
+-- fault.
 pub data Reports (end : Ending) (old new : SinkSide) (status : ℕ) : Type 0 where
   said : status ≡ end.status → Gains old new end.text → Reports end old new status
   unsaid : status ≡ 7 → FailsWithin old new end.text → Reports end old new status
 
 -- How a call in the name of a program, with this plan, may change what is outside, and which status it may answer.
-pub record Answers {V L : Type 0} (sense : Sense V L) (program : List ℕ) (plan : Plan V L) (before after : Outside) (status : ℕ) : Type 0 where
-  pub end : Ending
-  pub course : Follows sense program plan before.files after.files before.input after.input before.out after.out end
-  pub reported : Reports end before.err after.err status
+pub record Answers {V L : Type 0} (sense : Sense V L) (program : List ℕ) (plan : Plan V L) (before after : Outside) (status : ℕ) : Type 0
+  where
+    pub end : Ending
+    pub course : Follows sense program plan before.files after.files before.input after.input before.out after.out end
+    pub reported : Reports end before.err after.err status

@@ -11,22 +11,32 @@ use Rattle.alma_lower_sound.specs.Reads.{program_reads}
 use Rattle.alma_plan.specs.Causes.{IsOwn, HasOwnEnds}
 use Rattle.alma_plan.specs.Plan.{Due, Ending, Plan, Ends, silent}
 use Rattle.alma_source.specs.Verdict.{Verdict, Accepted, Rejected}
-use Rattle.alma_plan_run.specs.Programs.{Last, Tells, Runs, Stores, sense, end_of, mode_end, accepted, read_source, refused, run_on, run_plan, size_of, store_plan, too_much_code, unless_large}
+use Rattle.alma_plan_run.specs.Programs.{Last, Tells, Runs, Stores, sense, end_of, mode_end, accepted, read_source, refused, run_on}
+use Rattle.alma_plan_run.specs.Programs.{run_plan, size_of, store_plan, too_much_code, unless_large}
 
 -- a status that is no fault of the outside, and no want of memory
 abbrev pub IsOwnStatus : ℕ → Type 0
 IsOwnStatus status = (status ≢ 6) × (status ≢ 7) × (status ≢ 8)
 
 pub own_status : (status : ℕ) → (status < 6) ⊎ (8 < status) → IsOwnStatus status
-own_status status (inl low) = (λ q. absurd (omega (arith, low, q)), λ q. absurd (omega (arith, low, q)), λ q. absurd (omega (arith, low, q)))
-own_status status (inr high) = (λ q. absurd (omega (arith, high, q)), λ q. absurd (omega (arith, high, q)), λ q. absurd (omega (arith, high, q)))
+own_status status (inl low) = (
+  λ q. absurd (omega (arith, low, q)),
+  λ q. absurd (omega (arith, low, q)),
+  λ q. absurd (omega (arith, low, q)),
+)
+own_status status (inr high) = (
+  λ q. absurd (omega (arith, high, q)),
+  λ q. absurd (omega (arith, high, q)),
+  λ q. absurd (omega (arith, high, q)),
+)
 
 module _ (program : List ℕ) (failed : Ending) where
   pub own_tells : (due : Due) → IsOwnStatus due.end.status → IsOwn (sense program failed) (Tells due)
   own_tells due own = λ other e. subst (λ (d : Due). IsOwnStatus d.end.status) (sym e) own
 
   -- a source that is refused, or goes on
-  own_accepted : (file : List ℕ) (next : Program → Plan Verdict Last) → ((p : Program) → HasOwnEnds (sense program failed) (next p)) → (verdict : Verdict)
+  own_accepted : (file : List ℕ) (next : Program → Plan Verdict Last) → ((p : Program) → HasOwnEnds (sense program failed) (next p))
+      → (verdict : Verdict)
       → HasOwnEnds (sense program failed) (accepted file next verdict)
   own_accepted file next own (Accepted p) = own p
   own_accepted file next own (Rejected fault place) = own_tells (silent (refused file fault place)) (own_status 3 (inl (omega arith)))
@@ -63,7 +73,8 @@ module _ (program : List ℕ) (failed : Ending) where
 
     own_runs : (p : Program) (input : List ℕ) (steps : ℕ) → IsOwn (sense program failed) (Runs p input steps)
     own_runs p input steps = λ due m.
-        subst (λ (d : Due). IsOwnStatus d.end.status) (sym m.2) (own_mode (state_after m.0 input steps).mode (line_in m.0 (state_after m.0 input steps)))
+        subst (λ (d : Due). IsOwnStatus d.end.status) (sym m.2)
+        (own_mode (state_after m.0 input steps).mode (line_in m.0 (state_after m.0 input steps)))
 
     own_on : (reads : Bool) (p : Program) (steps : ℕ) → HasOwnEnds (sense program failed) (run_on reads p steps)
     own_on true p steps = λ input. own_runs p input steps

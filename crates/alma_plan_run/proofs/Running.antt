@@ -20,13 +20,17 @@ use Rattle.alma_plan_run.specs.Ends.{program_end, run_end}
 use Rattle.alma_plan_run.specs.Programs.{Runs, IsCodeOf, mode_end, code_due, IsRun, Means}
 
 -- what is printed in fewer steps is a front of what is printed in more
-prints_front : (code : PlainCode) (input : List ℕ) (m n : ℕ) (s : State) → m ≤ n → (rest : List ℕ) × (prints code input n s ≡ prints code input m s ++ rest)
+prints_front : (code : PlainCode) (input : List ℕ) (m n : ℕ) (s : State) → m ≤ n → (rest : List ℕ)
+    × (prints code input n s ≡ prints code input m s ++ rest)
 prints_front code input zero n s le = (prints code input n s, refl)
 prints_front code input (suc m) zero s le = absurd (omega (arith, le))
 prints_front code input (suc m) (suc n) s le =
     let next = (step code input s).state in
-    let more = prints_front code input m n next (omega (arith, le)) in
-    (more.0, ap (λ z. (step code input s).printed ++ z) more.1 ∙ sym (append_assoc (step code input s).printed (prints code input m next) more.0))
+    let more = prints_front code input m n next (omega (arith, le)) in (
+      more.0,
+      ap (λ z. (step code input s).printed ++ z) more.1
+          ∙ sym (append_assoc (step code input s).printed (prints code input m next) more.0),
+    )
 
 -- a front of what is printed in fewer steps is a front of what is printed in more
 front_of_more : (a b : Option (List ℕ)) (code : PlainCode) (input : List ℕ) (m n : ℕ) (s : State) → m ≤ n
@@ -51,7 +55,8 @@ module _ (program : List ℕ) (failed : Ending) where
   mode_is (Ended (ended.Fault fault)) line = refl
 
   -- the end of a run that was not cut short is due
-  end_is : (code : PlainCode) (input : List ℕ) (new : State) (steps : ℕ) (answer : RunEnd) → answer ≡ run_end_of (state_after code input steps).mode
+  end_is : (code : PlainCode) (input : List ℕ) (new : State) (steps : ℕ) (answer : RunEnd)
+      → answer ≡ run_end_of (state_after code input steps).mode
       → new ≡ state_after code input steps
       → (code_due program failed code input steps).end ≡ program_end program failed (run_end answer (line_in code new))
   end_is code input new steps answer is same =
@@ -116,9 +121,11 @@ module _ (program : List ℕ) (failed : Ending) (p : Program) (code : PlainCode)
   run_is_due steps is input = (code_due program failed code input steps, (code, is, refl))
 
   -- a run of the code of a program goes as the program's
-  pub goes_program : (input : List ℕ) (steps : ℕ) (a b : SinkSide) (end : Ending) → IsCodeOf p code → Goes program (IsRun program failed code input steps) a b end
+  pub goes_program : (input : List ℕ) (steps : ℕ) (a b : SinkSide) (end : Ending) → IsCodeOf p code
+      → Goes program (IsRun program failed code input steps) a b end
       → Goes program (Means program failed (Runs p input steps)) a b end
   goes_program input steps a b end is (cut_short due may e out) = cut_short due (due_of_program input steps due is may) e out
   goes_program input steps a b end is (hungry e out) = hungry e out
-  goes_program input steps a b end is (hungry_within due may e out faults) = hungry_within due (due_of_program input steps due is may) e out faults
+  goes_program input steps a b end is (hungry_within due may e out faults) =
+      hungry_within due (due_of_program input steps due is may) e out faults
   goes_program input steps a b end is (whole due may is_end none out) = whole due (due_of_program input steps due is may) is_end none out

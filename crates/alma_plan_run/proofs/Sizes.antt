@@ -31,7 +31,8 @@ compiled_within p code too_much = by (cases_lt size_limit (size_of p))
     by (inr small) = small
 
 -- one that was refused for its size is past it, and that is the size
-pub refused_large : (p : Program) (n : ℕ) → (size_limit < size_of p → not_lowered (lower.TooMuchCode n) ≡ not_lowered (lower.TooMuchCode (size_of p)))
+pub refused_large : (p : Program) (n : ℕ)
+    → (size_limit < size_of p → not_lowered (lower.TooMuchCode n) ≡ not_lowered (lower.TooMuchCode (size_of p)))
     → (size_of p ≤ size_limit → (k : ℕ) → not_lowered (lower.TooMuchCode n) ≡ not_lowered (lower.TooMuchCode k) → ⊥)
     → (size_limit < size_of p) × (n ≡ size_of p)
 refused_large p n too_much within = by (cases_lt size_limit (size_of p))
@@ -43,14 +44,19 @@ refused_large p n too_much within = by (cases_lt size_limit (size_of p))
 module _ (program : List ℕ) (failed : Ending) (p : Program) (next : Plan Verdict Last) where
   -- a program within its limit goes on
   pub course_within : (f g : FilesSide) (i j : SourceSide) (o q : SinkSide) (end : Ending) → size_of p ≤ size_limit
-      → Follows (sense program failed) program next f g i j o q end → Follows (sense program failed) program (within_size program p next) f g i j o q end
+      → Follows (sense program failed) program next f g i j o q end
+      → Follows (sense program failed) program (within_size program p next) f g i j o q end
   course_within f g i j o q end small course =
-      subst (λ (large : Bool). Follows (sense program failed) program (unless_large large program p next) f g i j o q end) (sym (le-ltb size_limit (size_of p) small)) course
+      subst (λ (large : Bool). Follows (sense program failed) program (unless_large large program p next) f g i j o q end)
+      (sym (le-ltb size_limit (size_of p) small)) course
 
   -- one past it is refused
   pub course_large : (f : FilesSide) (i : SourceSide) (o : SinkSide) (n : ℕ) → size_limit < size_of p → n ≡ size_of p
-      → Follows (sense program failed) program (within_size program p next) f f i i o o (tells program 11 (codes "too much code " ++ decimal n))
+      → Follows (sense program failed) program (within_size program p next) f f i i o o
+      (tells program 11 (codes "too much code " ++ decimal n))
   course_large f i o n large is =
-      subst (λ (b : Bool). Follows (sense program failed) program (unless_large b program p next) f f i i o o (tells program 11 (codes "too much code " ++ decimal n))) (sym (lt-ltb size_limit (size_of p) large))
+      subst (λ (b : Bool). Follows (sense program failed) program (unless_large b program p next) f f i i o o
+      (tells program 11 (codes "too much code " ++ decimal n))) (sym (lt-ltb size_limit (size_of p) large))
       (course_ends (sense program failed) program (Tells (silent (too_much_code program p))) f i o o _
-      (whole (silent (too_much_code program p)) refl (ap (λ k. tells program 11 (codes "too much code " ++ decimal k)) (sym is)) refl (gains_none o)))
+      (whole (silent (too_much_code program p)) refl (ap (λ k. tells program 11 (codes "too much code " ++ decimal k)) (sym is)) refl
+      (gains_none o)))

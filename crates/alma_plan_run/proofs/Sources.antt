@@ -36,7 +36,8 @@ module _ (program : List ℕ) (failed : Ending) (file : List ℕ) (next : tree.P
       → Follows (sense program failed) program (read_source file next) f h i j o q end
   course_verdict verdict f g h i j o q end stay is course =
       let may = is.0 in
-      course_fetched (sense program failed) program file source_limit (λ source. Judges source (accepted file next)) may.0 f g h i j o q end stay is.1 may.1 may.2
+      course_fetched (sense program failed) program file source_limit (λ source. Judges source (accepted file next)) may.0 f g h i j o q end
+      stay is.1 may.1 may.2
       (course_judged (sense program failed) program may.0 (accepted file next) verdict g h i j o q end may.3 course)
 
   -- the file holds a program
@@ -63,10 +64,14 @@ module _ (program : List ℕ) (failed : Ending) (file : List ℕ) (next : tree.P
   course_unread_source (Syntax fault place) f g i o stay is = course_refused (source_fault.Syntax fault) place f g i o stay is
   course_unread_source (Check fault place) f g i o stay is = course_refused (source_fault.Check fault) place f g i o stay is
   course_unread_source Absent f g i o stay is =
-      course_unfetched (sense program failed) program file source_limit (λ source. Judges source (accepted file next)) fetch.Absent f g i o stay is
+      course_unfetched (sense program failed) program file source_limit (λ source. Judges source (accepted file next)) fetch.Absent f g i o
+      stay is
   course_unread_source Failed f g i o stay is =
-      course_unfetched (sense program failed) program file source_limit (λ source. Judges source (accepted file next)) fetch.Failed f g i o stay is
+      course_unfetched (sense program failed) program file source_limit (λ source. Judges source (accepted file next)) fetch.Failed f g i o
+      stay is
   course_unread_source TooLong f g i o stay is =
-      course_unfetched (sense program failed) program file source_limit (λ source. Judges source (accepted file next)) fetch.TooLong f g i o stay is
+      course_unfetched (sense program failed) program file source_limit (λ source. Judges source (accepted file next)) fetch.TooLong f g i o
+      stay is
   course_unread_source Memory f g i o stay is =
-      course_unfetched (sense program failed) program file source_limit (λ source. Judges source (accepted file next)) fetch.Memory f g i o stay is
+      course_unfetched (sense program failed) program file source_limit (λ source. Judges source (accepted file next)) fetch.Memory f g i o
+      stay is

@@ -17,11 +17,14 @@ abbrev pub stored_as : (name bytes : List ℕ) → Stored
 stored_as name bytes = record { name = name; bytes = bytes }
 
 -- the object of the code of a program
-pub is_object : (p : Program) (code : PlainCode) → IsCodeOf p code → KeepsVersion code → KeepsCounts code → KeepsRecords code → IsObject code (object_bytes code)
-is_object p code is version counts records = record { version = version; counts = counts; records = records; table = is.sound.table; spelled = refl }
+pub is_object : (p : Program) (code : PlainCode) → IsCodeOf p code → KeepsVersion code → KeepsCounts code → KeepsRecords code
+    → IsObject code (object_bytes code)
+is_object p code is version counts records =
+    record { version = version; counts = counts; records = records; table = is.sound.table; spelled = refl }
 
 -- files of which one tells what it told, and the others too
-pub told_stays : (f g : FilesSide) (name : List ℕ) → OthersStay f g name → g.told name ≡ f.told name → (other : List ℕ) → g.told other ≡ f.told other
+pub told_stays : (f g : FilesSide) (name : List ℕ) → OthersStay f g name → g.told name ≡ f.told name → (other : List ℕ)
+    → g.told other ≡ f.told other
 told_stays f g name others same other = by (bytes_eq other name) refl
   where
     by : (b : Bool) → bytes_eq other name ≡ b → g.told other ≡ f.told other

@@ -16,7 +16,8 @@ unknown_parts program front name end line z f e =
     ∙ ap (λ k. line_of program (codes "fault " ++ (name ++ line_words (known_line k)))) (sym z)
 
 -- and of one whose line is
-pub known_parts : (program front name middle number end : List ℕ) (line : ℕ) → (line ≡ 0 → ⊥) → front ≡ codes ": fault " → middle ≡ codes " line "
+pub known_parts : (program front name middle number end : List ℕ) (line : ℕ) → (line ≡ 0 → ⊥) → front ≡ codes ": fault "
+    → middle ≡ codes " line "
     → number ≡ decimal line → end ≡ codes "\n"
     → program ++ (front ++ (name ++ (middle ++ (number ++ (end ++ []))))) ≡ line_of program (named_words name line)
 known_parts program front name middle number end zero some f m d e = absurd (some refl)
@@ -29,7 +30,8 @@ known_parts program front name middle number end (suc k) some f m d e =
     ∙ ap (λ x. program ++ (codes ": fault " ++ x)) (sym (append_assoc name (codes " line " ++ decimal (suc k)) (codes "\n")))
 
 -- of a size
-pub size_parts : (program front number end : List ℕ) (size : ℕ) → front ≡ codes ": too much code " → number ≡ decimal size → end ≡ codes "\n"
+pub size_parts : (program front number end : List ℕ) (size : ℕ) → front ≡ codes ": too much code " → number ≡ decimal size
+    → end ≡ codes "\n"
     → program ++ (front ++ (number ++ (end ++ []))) ≡ line_of program (codes "too much code " ++ decimal size)
 size_parts program front number end size f n e =
     ap (λ x. program ++ (x ++ (number ++ (end ++ [])))) f ∙ ap (λ x. program ++ (codes ": too much code " ++ (x ++ (end ++ [])))) n
@@ -38,10 +40,12 @@ size_parts program front number end size f n e =
 -- of a refusal
 pub refusal_parts : (file colon line column blank name end : List ℕ) (place : Place) → colon ≡ codes ":" → line ≡ decimal place.line
     → column ≡ decimal place.column → blank ≡ codes ": " → end ≡ codes "\n"
-    → file ++ (colon ++ (line ++ (colon ++ (column ++ (blank ++ (name ++ (end ++ []))))))) ≡ refusal_line file (decimal place.line) (decimal place.column) name
+    → file ++ (colon ++ (line ++ (colon ++ (column ++ (blank ++ (name ++ (end ++ []))))))) ≡ refusal_line file (decimal place.line)
+    (decimal place.column) name
 refusal_parts file colon line column blank name end place c l k b e =
     ap (λ x. file ++ (x ++ (line ++ (x ++ (column ++ (blank ++ (name ++ (end ++ [])))))))) c
     ∙ ap (λ x. file ++ (codes ":" ++ (x ++ (codes ":" ++ (column ++ (blank ++ (name ++ (end ++ [])))))))) l
     ∙ ap (λ x. file ++ (codes ":" ++ (decimal place.line ++ (codes ":" ++ (x ++ (blank ++ (name ++ (end ++ [])))))))) k
     ∙ ap (λ x. file ++ (codes ":" ++ (decimal place.line ++ (codes ":" ++ (decimal place.column ++ (x ++ (name ++ (end ++ [])))))))) b
-    ∙ ap (λ x. file ++ (codes ":" ++ (decimal place.line ++ (codes ":" ++ (decimal place.column ++ (codes ": " ++ (name ++ (x ++ [])))))))) e
+    ∙ ap (λ x. file ++ (codes ":" ++ (decimal place.line ++ (codes ":" ++ (decimal place.column ++ (codes ": " ++ (name ++ (x ++ []))))))))
+    e

@@ -6,7 +6,8 @@ use Rattle.std.specs.Prelude.{◌⊎◌, eqb, cond}
 use Rattle.alma_code.specs.Machine.{State, step, after, prints, start}
 use Rattle.alma_code.specs.Plain.{PlainCode}
 use Rattle.alma_machine.proofs.Budget.{after_more, prints_more, prints_sum}
-use Rattle.alma_pool.specs.Pool.{Played, PoolView, Lone, lone, seen_of, begun, turned, no_program, program_at, after_turn, after_turns, turns_of, ended_in}
+use Rattle.alma_pool.specs.Pool.{Played, PoolView, Lone, lone, seen_of, begun, turned, no_program, program_at, after_turn, after_turns}
+use Rattle.alma_pool.specs.Pool.{turns_of, ended_in}
 use Rattle.alma_pool.specs.Laws.{RunAlone, PrintsFront}
 
 -- the program stands where its run alone is after so many turns
@@ -17,7 +18,8 @@ pub record IsAt (code : PlainCode) (input : List ℕ) (turns : ℕ) (p : Played)
   pub output_is : p.output ≡ prints code input turns (start code)
 
 -- so it stands after one more
-pub at_more : (code : PlainCode) (input : List ℕ) (turns : ℕ) (p : Played) → IsAt code input turns p → IsAt code input (turns + 1) (turned p)
+pub at_more : (code : PlainCode) (input : List ℕ) (turns : ℕ) (p : Played) → IsAt code input turns p
+    → IsAt code input (turns + 1) (turned p)
 at_more code input turns p h =
     let same : step p.code p.input p.state ≡ step code input (after code input turns (start code)) =
     ap (λ c. step c p.input p.state) h.code_is ∙ ap (λ i. step code i p.state) h.input_is ∙ ap (step code input) h.state_is in
@@ -25,7 +27,8 @@ at_more code input turns p h =
       code_is = h.code_is;
       input_is = h.input_is;
       state_is = ap (λ x. x.state) same ∙ sym (after_more code input turns (start code));
-      output_is = ap (λ x. p.output ++ x.printed) same ∙ ap (λ o. o ++ (step code input (after code input turns (start code))).printed) h.output_is
+      output_is = ap (λ x. p.output ++ x.printed) same
+          ∙ ap (λ o. o ++ (step code input (after code input turns (start code))).printed) h.output_is
           ∙ sym (prints_more code input turns (start code));
     }
 
@@ -86,5 +89,6 @@ pub prints_front : PrintsFront
 prints_front pool turns k code input more there e =
     let t = turns_of k turns in
     let rest = prints code input more (after code input t (start code)) in
-    let same : (program_at (after_turns pool turns) k).output ≡ prints code input t (start code) = ap (λ (l : Lone). l.output) (run_alone pool turns k code input there e) in
+    let same : (program_at (after_turns pool turns) k).output ≡ prints code input t (start code) =
+    ap (λ (l : Lone). l.output) (run_alone pool turns k code input there e) in
     (rest, prints_sum code input t more (start code) ∙ ap (λ o. o ++ rest) (sym same))

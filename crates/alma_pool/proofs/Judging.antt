@@ -28,7 +28,8 @@ opened_ok : (o : Option Ending) (rest : Result (List PlainCode) Ending) (all : L
 opened_ok None rest all e = e
 opened_ok (Some end) rest all e = cc e
 
-opening_count : (got : List PlainCode) (objects : List (List ℕ)) (all : List PlainCode) → opening got objects ≡ Ok all → length all ≡ length got + length objects
+opening_count : (got : List PlainCode) (objects : List (List ℕ)) (all : List PlainCode) → opening got objects ≡ Ok all
+    → length all ≡ length got + length objects
 opening_count got [] all e =
     let same : got ≡ all = cc e in
     omega (arith, ap (λ (xs : List PlainCode). length xs) same)
@@ -36,22 +37,27 @@ opening_count got (bytes ∷ objects) all e =
     let rest = opened_ok (object_refusal program bytes) (opening (got ++ object_code bytes ∷ []) objects) all e in
     omega (arith, opening_count (got ++ object_code bytes ∷ []) objects all rest, length-append got (object_code bytes ∷ []))
 
-pub opened_count : (objects : List (List ℕ)) (verified : List Verified) → opening [] objects ≡ Ok (codes_of verified) → length verified ≡ length objects
+pub opened_count : (objects : List (List ℕ)) (verified : List Verified) → opening [] objects ≡ Ok (codes_of verified)
+    → length verified ≡ length objects
 opened_count objects verified e = omega (arith, opening_count [] objects (codes_of verified) e, length-map verified code_of_verified)
 
 -- an end without a print
 silent_end : (end : Ending) (files : FilesSide) (input : SourceSide) (out : SinkSide)
     → Follows plain program (played (Err end) []) files files input input out out end
-silent_end end files input out = course_ends plain program (silent end) files input out out end (whole (silent end) refl refl refl (gains_none out))
+silent_end end files input out = course_ends plain program (silent end) files input out out end
+    (whole (silent end) refl refl refl (gains_none out))
 
 -- an object is refused, or memory ran out before it was known
-pub played_refused : (objects : List (List ℕ)) (turns : List ℕ) (refusal : Refusal) (files : FilesSide) (input : SourceSide) (out : SinkSide) → IsRefused objects refusal
+pub played_refused : (objects : List (List ℕ)) (turns : List ℕ) (refusal : Refusal) (files : FilesSide) (input : SourceSide)
+    (out : SinkSide) → IsRefused objects refusal
     → Follows plain program (played (opening [] objects) turns) files files input input out out (refusal_end program refusal)
 played_refused objects turns refusal files input out (inl e) =
-    subst (λ (end : Ending). Follows plain program (played (opening [] objects) turns) files files input input out out end) (sym (ap (refusal_end program) e))
+    subst (λ (end : Ending). Follows plain program (played (opening [] objects) turns) files files input input out out end)
+    (sym (ap (refusal_end program) e))
     (course_starved program _ _ files input out)
 played_refused objects turns refusal files input out (inr e) =
-    subst (λ (r : Result (List PlainCode) Ending). Follows plain program (played r turns) files files input input out out (refusal_end program refusal)) (sym e)
+    subst (λ (r : Result (List PlainCode) Ending). Follows plain program (played r turns) files files input input out out
+    (refusal_end program refusal)) (sym e)
     (silent_end (refusal_end program refusal) files input out)
 
 module _ (turns : List ℕ) (objects : List (List ℕ)) (files : FilesSide) (input input' : SourceSide) (out out' : SinkSide) where
@@ -59,7 +65,8 @@ module _ (turns : List ℕ) (objects : List (List ℕ)) (files : FilesSide) (inp
   pub judged_bad : (turn : ℕ) → bad_turn_behind (length objects) 0 turns ≡ Some turn
       → Follows plain program (judged turns objects) files files input input out out (tells program 13 (codes "bad turn " ++ decimal turn))
   judged_bad turn e =
-      subst (λ (bad : Option ℕ). Follows plain program (judged_by bad turns objects) files files input input out out (tells program 13 (codes "bad turn " ++ decimal turn))) (sym e)
+      subst (λ (bad : Option ℕ). Follows plain program (judged_by bad turns objects) files files input input out out
+      (tells program 13 (codes "bad turn " ++ decimal turn))) (sym e)
       (silent_end (tells program 13 (codes "bad turn " ++ decimal turn)) files input out)
 
   -- all may

@@ -18,7 +18,8 @@ use Rattle.alma_pool.specs.Inner.{all_bytes, codes_of}
 pub drop_here : {X : Type 0} (xs : List X) (i : ℕ) (x d : X) → i < length xs → x ≡ get_or xs i d → drop i xs ≡ x ∷ drop (i + 1) xs
 drop_here xs i x d within is = drop_more xs i d within ∙ ap (λ y. y ∷ drop (i + 1) xs) (sym is)
 
-module _ (objects : List (Vec ℕ)) (i : ℕ) (object d : Vec ℕ) (got : List PlainCode) (within : i < length objects) (is : object ≡ get_or objects i d)
+module _ (objects : List (Vec ℕ)) (i : ℕ) (object d : Vec ℕ) (got : List PlainCode) (within : i < length objects)
+    (is : object ≡ get_or objects i d)
     (before : opening [] (all_bytes objects) ≡ opening got (all_bytes (drop i objects))) where
   -- what comes of the objects, from one of them on
   opening_here : opening [] (all_bytes objects)
@@ -43,12 +44,14 @@ pub opening_ends : (objects : List (Vec ℕ)) (i : ℕ) (got : List PlainCode) �
 opening_ends objects i got all before = before ∙ ap (λ xs. opening got (all_bytes xs)) (drop_all i objects all)
 
 -- the codes of verified views and one more
-pub codes_more : (verified : List Verified) (one : Verified) → codes_of (verified ++ one ∷ []) ≡ codes_of verified ++ code_of_verified one ∷ []
+pub codes_more : (verified : List Verified) (one : Verified)
+    → codes_of (verified ++ one ∷ []) ≡ codes_of verified ++ code_of_verified one ∷ []
 codes_more verified one = map-append code_of_verified verified (one ∷ [])
 
 -- whether one of the codes reads, from one of them on
 pub reads_here : (verified : List Verified) (i : ℕ) (one d : Verified) → i < length verified → one ≡ get_or verified i d
-    → list_any code_reads (codes_of (drop i verified)) ≡ (code_reads (code_of_verified one) || list_any code_reads (codes_of (drop (i + 1) verified)))
+    → list_any code_reads (codes_of (drop i verified))
+    ≡ (code_reads (code_of_verified one) || list_any code_reads (codes_of (drop (i + 1) verified)))
 reads_here verified i one d within is = ap (λ xs. list_any code_reads (codes_of xs)) (drop_here verified i one d within is)
 
 -- none of them does, and there are no more

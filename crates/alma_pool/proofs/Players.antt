@@ -11,8 +11,10 @@ abbrev pub pool_of : List Played → Bool → PoolView
 pool_of programs whole = record { programs = programs; whole = whole }
 
 -- one program took a turn
-pub turned_view : (players : List Player) (k : ℕ) (old new : Player) (whole : Bool) (pool : PoolView) → pool_of (map played_of players) whole ≡ pool → k < length players
-    → old ≡ get_or players k old → played_of new ≡ turned (played_of old) → pool_of (map played_of (set players k new)) whole ≡ after_turn pool k
+pub turned_view : (players : List Player) (k : ℕ) (old new : Player) (whole : Bool) (pool : PoolView)
+    → pool_of (map played_of players) whole ≡ pool → k < length players
+    → old ≡ get_or players k old → played_of new ≡ turned (played_of old)
+    → pool_of (map played_of (set players k new)) whole ≡ after_turn pool k
 turned_view players k old new whole pool is there at turn =
     let here : program_at (pool_of (map played_of players) whole) k ≡ played_of old =
     get_or-map played_of players k old no_program there ∙ ap played_of (sym at) in
@@ -20,7 +22,8 @@ turned_view players k old new whole pool is there at turn =
     ∙ ap (λ p. after_turn p k) is
 
 -- it made one step more at most
-pub counted_view : (players : List Player) (k : ℕ) (old new : Player) (whole : Bool) (pool : PoolView) → pool_of (map played_of players) whole ≡ pool → k < length players
+pub counted_view : (players : List Player) (k : ℕ) (old new : Player) (whole : Bool) (pool : PoolView)
+    → pool_of (map played_of players) whole ≡ pool → k < length players
     → old ≡ get_or players k old → new.machine.state.steps ≤ old.machine.state.steps + 1
     → (program_at (pool_of (map played_of (set players k new)) whole) k).state.steps ≤ (program_at pool k).state.steps + 1
 counted_view players k old new whole pool is there at one =
@@ -28,7 +31,8 @@ counted_view players k old new whole pool is there at one =
     ap (λ p. program_at p k) (sym is) ∙ get_or-map played_of players k old no_program there ∙ ap played_of (sym at) in
     let within : k < length (map played_of players) = omega (arith, there, length-map players played_of) in
     let after : program_at (pool_of (map played_of (set players k new)) whole) k ≡ played_of new =
-    ap (λ ps. get_or ps k no_program) (map-set played_of players k new) ∙ get_or-set_same (map played_of players) k (played_of new) no_program within in
+    ap (λ ps. get_or ps k no_program) (map-set played_of players k new)
+    ∙ get_or-set_same (map played_of players) k (played_of new) no_program within in
     omega (arith, ap (λ (p : Played). p.state.steps) before, ap (λ (p : Played). p.state.steps) after, one)
 
 -- what holds where a call succeeds holds where it does not fail

@@ -1,5 +1,6 @@
 -- All turns of a file.
-use Rattle.std.proofs.Common.{◌≡◌, ◌<◌, ◌≤◌, ◌+◌, ◌-◌, ◌^◌, ◌∙◌, ℕ, zero, suc, List, [], ◌∷◌, ◌++◌, length, get_or, take, drop, refl, sym, ap, subst, arith}
+use Rattle.std.proofs.Common.{◌≡◌, ◌<◌, ◌≤◌, ◌+◌, ◌-◌, ◌^◌, ◌∙◌, ℕ, zero, suc, List, [], ◌∷◌, ◌++◌, length, get_or, take, drop, refl, sym}
+use Rattle.std.proofs.Common.{ap, subst, arith}
 use Rattle.std.proofs.lemmas.Bool.{and_parts, leb-true, ltb-true, eq-eqb, ne_eqb}
 use Rattle.std.proofs.lemmas.List.{get_or-set_same, length-set, take_more, drop_more, drop_all, append-nil, map-append, length-map}
 use Rattle.std.proofs.lemmas.List.Concat.{flat_map-append}
@@ -21,19 +22,22 @@ unless_none true number rest e = (refl, e)
 unless_none false number rest e = cc e
 
 -- each byte of a file without a bad one is a turn
-goods : (programs seen : ℕ) (turns : List ℕ) → bad_turn_behind programs seen turns ≡ None → (i d : ℕ) → i < length turns → is_turn programs (get_or turns i d) ≡ true
+goods : (programs seen : ℕ) (turns : List ℕ) → bad_turn_behind programs seen turns ≡ None → (i d : ℕ) → i < length turns
+    → is_turn programs (get_or turns i d) ≡ true
 goods programs seen [] e i d within = absurd (omega (arith, within))
 goods programs seen (byte ∷ bytes) e zero d within =
     (unless_none (is_turn programs byte) (seen + 1) (bad_turn_behind programs (seen + 1) bytes) e).0
 goods programs seen (byte ∷ bytes) e (suc i) d within =
-    goods programs (seen + 1) bytes (unless_none (is_turn programs byte) (seen + 1) (bad_turn_behind programs (seen + 1) bytes) e).1 i d (omega (arith, within))
+    goods programs (seen + 1) bytes (unless_none (is_turn programs byte) (seen + 1) (bad_turn_behind programs (seen + 1) bytes) e).1 i d
+    (omega (arith, within))
 
 -- also where some turns were made
 turns_count : (pool : PoolView) (turns : List ℕ) → length (after_turns pool turns).programs ≡ length pool.programs
 turns_count pool [] = refl
 turns_count pool (k ∷ turns) = turns_count (after_turn pool k) turns ∙ length-set pool.programs k (turned (program_at pool k))
 
-pub good_turn : (pool now : PoolView) (turns done : List ℕ) (i d : ℕ) → now ≡ after_turns pool done → bad_turn_behind (length pool.programs) 0 turns ≡ None
+pub good_turn : (pool now : PoolView) (turns done : List ℕ) (i d : ℕ) → now ≡ after_turns pool done
+    → bad_turn_behind (length pool.programs) 0 turns ≡ None
     → i < length turns → is_turn (length now.programs) (get_or turns i d) ≡ true
 good_turn pool now turns done i d is good within =
     let same : length now.programs ≡ length pool.programs = ap (λ (p : PoolView). length p.programs) is ∙ turns_count pool done in
@@ -42,7 +46,8 @@ good_turn pool now turns done i d is good within =
 -- a turn that is no line feed is a letter, and that of a program
 pub letter_fits : (programs byte : ℕ) → is_turn programs byte ≡ true → (byte ≡ 10 → ⊥) → (97 ≤ byte) × (byte - 97 < programs)
 letter_fits programs byte good other =
-    let rest : (leb 97 byte && ltb (byte - 97) programs) ≡ true = sym (ap (λ b. b || (leb 97 byte && ltb (byte - 97) programs)) (ne_eqb byte 10 other)) ∙ good in
+    let rest : (leb 97 byte && ltb (byte - 97) programs) ≡ true =
+    sym (ap (λ b. b || (leb 97 byte && ltb (byte - 97) programs)) (ne_eqb byte 10 other)) ∙ good in
     let parts = and_parts (leb 97 byte) (ltb (byte - 97) programs) rest in
     (leb-true 97 byte parts.0, ltb-true (byte - 97) programs parts.1)
 
@@ -55,7 +60,8 @@ feed_turn byte is = ap (λ b. cond b [] ((byte - 97) ∷ [])) (eq-eqb byte 10 is
 
 -- the first bad byte, from one of the bytes on
 bad_here : (programs : ℕ) (turns : List ℕ) (i d : ℕ) → i < length turns
-    → bad_turn_behind programs i (drop i turns) ≡ unless (is_turn programs (get_or turns i d)) (i + 1) (bad_turn_behind programs (i + 1) (drop (i + 1) turns))
+    → bad_turn_behind programs i (drop i turns) ≡ unless (is_turn programs (get_or turns i d)) (i + 1)
+    (bad_turn_behind programs (i + 1) (drop (i + 1) turns))
 bad_here programs turns i d within = ap (bad_turn_behind programs i) (drop_more turns i d within)
 
 pub bad_found : (programs : ℕ) (turns : List ℕ) (i d : ℕ) → i < length turns → is_turn programs (get_or turns i d) ≡ false
@@ -93,7 +99,8 @@ turns_more pool now next turns i d within is more =
     let split : turns_in (take (i + 1) turns) ≡ turns_in (take i turns) ++ turn_in byte =
     ap turns_in (take_more turns i d within) ∙ flat_map-append turn_in (take i turns) (byte ∷ [])
     ∙ ap (λ z. turns_in (take i turns) ++ z) (append-nil (turn_in byte)) in
-    more ∙ ap (λ p. after_turns p (turn_in byte)) is ∙ sym (after_both pool (turns_in (take i turns)) (turn_in byte)) ∙ ap (after_turns pool) (sym split)
+    more ∙ ap (λ p. after_turns p (turn_in byte)) is ∙ sym (after_both pool (turns_in (take i turns)) (turn_in byte))
+    ∙ ap (after_turns pool) (sym split)
 
 -- no program made more steps than so many and one
 pub few_turn : (old new : PoolView) (k most : ℕ) → k < length old.programs → new ≡ after_turn old k
@@ -107,17 +114,21 @@ few_turn old new k most there is one all =
     (All-set (λ (q : Played). q.state.steps ≤ most + 1) old.programs k t small (λ j d within. omega (arith, all j d within)))
 
 -- also where memory may want
-pub few_result : {T E : Type 0} (result : Result T E) (old new : PoolView) (k : ℕ) → k < length old.programs → OnOk result (new ≡ after_turn old k)
+pub few_result : {T E : Type 0} (result : Result T E) (old new : PoolView) (k : ℕ) → k < length old.programs
+    → OnOk result (new ≡ after_turn old k)
     → OnOk result ((program_at new k).state.steps ≤ (program_at old k).state.steps + 1)
-    → OnOk result ((most : ℕ) → All (λ (p : Played). p.state.steps ≤ most) old.programs → All (λ (p : Played). p.state.steps ≤ most + 1) new.programs)
+    → OnOk result ((most : ℕ) → All (λ (p : Played). p.state.steps ≤ most) old.programs
+    → All (λ (p : Played). p.state.steps ≤ most + 1) new.programs)
 few_result (Ok v) old new k there is one = λ most all. few_turn old new k most there is one all
 few_result (Err e) old new k there is one = tt
 
 -- nor did one where none made a step
-pub few_still : (programs : List Played) (most : ℕ) → All (λ (p : Played). p.state.steps ≤ most) programs → All (λ (p : Played). p.state.steps ≤ most + 1) programs
+pub few_still : (programs : List Played) (most : ℕ) → All (λ (p : Played). p.state.steps ≤ most) programs
+    → All (λ (p : Played). p.state.steps ≤ most + 1) programs
 few_still programs most all = λ j d within. omega (arith, all j d within)
 
-pub few_first : (programs : List Played) → All (λ (p : Played). p.state.steps ≡ 0) programs → All (λ (p : Played). p.state.steps ≤ 0) programs
+pub few_first : (programs : List Played) → All (λ (p : Played). p.state.steps ≡ 0) programs
+    → All (λ (p : Played). p.state.steps ≤ 0) programs
 few_first programs all = λ j d within. omega (arith, all j d within)
 
 -- so few are far below the greatest number
@@ -132,13 +143,16 @@ abbrev with_program : PoolView → Played → PoolView
 with_program pool p = record pool { programs = pool.programs ++ p ∷ [] }
 
 -- the programs of the codes so far, and of one more
-pub gathered : (verified : List Verified) (input : List ℕ) (i : ℕ) (one d : Verified) (old new : PoolView) → i < length verified → one ≡ get_or verified i d
+pub gathered : (verified : List Verified) (input : List ℕ) (i : ℕ) (one d : Verified) (old new : PoolView) → i < length verified
+    → one ≡ get_or verified i d
     → old ≡ pool_of (all_begun (codes_of (take i verified)) input) true
     → new ≡ with_program old (begun (code_of_verified one) input) → new ≡ pool_of (all_begun (codes_of (take (i + 1) verified)) input) true
 gathered verified input i one d old new within is before more =
-    let all : take (i + 1) verified ≡ take i verified ++ one ∷ [] = take_more verified i d within ∙ ap (λ x. take i verified ++ x ∷ []) (sym is) in
+    let all : take (i + 1) verified ≡ take i verified ++ one ∷ [] = take_more verified i d within
+    ∙ ap (λ x. take i verified ++ x ∷ []) (sym is) in
     let begin : PlainCode → Played = λ code. begun code input in
-    let split : all_begun (codes_of (take (i + 1) verified)) input ≡ all_begun (codes_of (take i verified)) input ++ begun (code_of_verified one) input ∷ [] =
+    let split : all_begun (codes_of (take (i + 1) verified)) input ≡ all_begun (codes_of (take i verified)) input
+    ++ begun (code_of_verified one) input ∷ [] =
     ap (λ xs. all_begun (codes_of xs) input) all ∙ ap (λ cs. all_begun cs input) (map-append code_of_verified (take i verified) (one ∷ []))
     ∙ map-append begin (codes_of (take i verified)) (code_of_verified one ∷ []) in
     more ∙ ap (λ p. with_program p (begun (code_of_verified one) input)) before ∙ ap (λ ps. pool_of ps true) (sym split)

@@ -1,5 +1,6 @@
 -- The lines of programs.
-use Rattle.std.proofs.Common.{◌≡◌, ◌<◌, ◌+◌, ◌∙◌, ℕ, zero, suc, List, [], ◌∷◌, ◌++◌, length, get_or, take, drop, refl, sym, ap, arith, append_assoc, length-take-le}
+use Rattle.std.proofs.Common.{◌≡◌, ◌<◌, ◌+◌, ◌∙◌, ℕ, zero, suc, List, [], ◌∷◌, ◌++◌, length, get_or, take, drop, refl, sym, ap, arith}
+use Rattle.std.proofs.Common.{append_assoc, length-take-le}
 use Rattle.std.proofs.lemmas.List.{append-nil, take-append-drop, take_more, drop_more, get_or-map, length-map}
 use Rattle.std.specs.Prelude.{Option, None, Some, true, codes, decimal}
 use Rattle.alma_code.specs.declared.step.End.{End}
@@ -7,7 +8,8 @@ use Rattle.alma_code.specs.declared.step.End.TheVariants as ended
 use Rattle.alma_code.specs.Plain.{PlainCode}
 use Rattle.alma_pool.specs.Due.{program_lines, program_text, end_text, pool_text}
 use Rattle.alma_pool.specs.Inner.{end_word, fault_word, shown_text, all_begun}
-use Rattle.alma_pool.specs.Pool.{Played, PoolView, Lone, lone, seen_of, begun, ended_in, no_code, no_program, program_at, after_turns, turns_of}
+use Rattle.alma_pool.specs.Pool.{Played, PoolView, Lone, lone, seen_of, begun, ended_in, no_code, no_program, program_at, after_turns}
+use Rattle.alma_pool.specs.Pool.{turns_of}
 use Rattle.alma_pool.proofs.Alone.{run_alone}
 use Rattle.alma_pool.proofs.Players.{pool_of}
 
@@ -18,9 +20,11 @@ abbrev parts_of : (first number blank word fault bytes count end output : List �
 parts_of first number blank word fault bytes count end output =
     first ++ (number ++ (blank ++ (word ++ (fault ++ (bytes ++ (count ++ (end ++ (output ++ (end ++ [])))))))))
 
-pub lines_parts : (first number blank word fault bytes count end output : List ℕ) (n : ℕ) → first ≡ codes "program " → number ≡ decimal n → blank ≡ codes " "
+pub lines_parts : (first number blank word fault bytes count end output : List ℕ) (n : ℕ) → first ≡ codes "program " → number ≡ decimal n
+    → blank ≡ codes " "
     → bytes ≡ codes " bytes " → count ≡ decimal (length output) → end ≡ codes "\n"
-    → first ++ (number ++ (blank ++ (word ++ (fault ++ (bytes ++ (count ++ (end ++ (output ++ (end ++ []))))))))) ≡ program_lines n (word ++ fault) output
+    → first ++ (number ++ (blank ++ (word ++ (fault ++ (bytes ++ (count ++ (end ++ (output ++ (end ++ []))))))))) ≡ program_lines n
+    (word ++ fault) output
 lines_parts first number blank word fault bytes count end output n f m b y k e =
     ap (λ x. parts_of x number blank word fault bytes count end output) f
     ∙ ap (λ x. parts_of (codes "program ") x blank word fault bytes count end output) m
@@ -38,7 +42,8 @@ end_words (Some ended.Succeeded) = refl
 end_words (Some ended.Failed) = refl
 end_words (Some (ended.Fault fault)) = refl
 
-pub program_shown : (n : ℕ) (p : Played) (end : Option End) (word fault output : List ℕ) → end ≡ ended_in p.state.mode → word ≡ end_word end → fault ≡ fault_word end
+pub program_shown : (n : ℕ) (p : Played) (end : Option End) (word fault output : List ℕ) → end ≡ ended_in p.state.mode → word ≡ end_word end
+    → fault ≡ fault_word end
     → output ≡ p.output → program_lines n (word ++ fault) output ≡ program_text n (seen_of p)
 program_shown n p end word fault output is w f o =
     ap (λ x. program_lines n (x ++ fault) output) w ∙ ap (λ x. program_lines n (end_word end ++ x) output) f
@@ -47,14 +52,16 @@ program_shown n p end word fault output is w f o =
 
 -- ---- all programs
 
-shown_append : (before : ℕ) (ps qs : List Played) → shown_text before (ps ++ qs) ≡ shown_text before ps ++ shown_text (before + length ps) qs
+shown_append : (before : ℕ) (ps qs : List Played)
+    → shown_text before (ps ++ qs) ≡ shown_text before ps ++ shown_text (before + length ps) qs
 shown_append before [] qs =
     let e : before ≡ before + zero = omega arith in
     ap (λ n. shown_text n qs) e
 shown_append before (p ∷ ps) qs =
     let t = program_text (before + 1) (seen_of p) in
     let e : before + 1 + length ps ≡ before + suc (length ps) = omega arith in
-    ap (λ z. t ++ z) (shown_append (before + 1) ps qs) ∙ sym (append_assoc t (shown_text (before + 1) ps) (shown_text (before + 1 + length ps) qs))
+    ap (λ z. t ++ z) (shown_append (before + 1) ps qs)
+    ∙ sym (append_assoc t (shown_text (before + 1) ps) (shown_text (before + 1 + length ps) qs))
     ∙ ap (λ n. (t ++ shown_text (before + 1) ps) ++ shown_text n qs) e
 
 -- how many stand before one of them
@@ -63,7 +70,8 @@ behind ps k within = omega (arith, length-take-le k ps (omega (arith, within)))
 
 -- all, by those before one of them, that one, and those behind it
 pub shown_here : (ps : List Played) (k : ℕ) → k < length ps
-    → shown_text 0 ps ≡ shown_text 0 (take k ps) ++ (program_text (k + 1) (seen_of (get_or ps k no_program)) ++ shown_text (k + 1) (drop (k + 1) ps))
+    → shown_text 0 ps ≡ shown_text 0 (take k ps)
+    ++ (program_text (k + 1) (seen_of (get_or ps k no_program)) ++ shown_text (k + 1) (drop (k + 1) ps))
 shown_here ps k within =
     let one = get_or ps k no_program in
     ap (shown_text 0) (sym (take-append-drop k ps) ∙ ap (λ xs. take k ps ++ xs) (drop_more ps k no_program within))
@@ -88,7 +96,8 @@ shown_is before [] (code ∷ codes) input turns e each = absurd (omega (arith, e
 shown_is before (p ∷ ps) [] input turns e each = absurd (omega (arith, e))
 shown_is before (p ∷ ps) (code ∷ codes) input turns e each =
     let none : before + zero ≡ before = omega arith in
-    let first : seen_of p ≡ lone code input (turns_of before turns) = each zero (omega arith) ∙ ap (λ n. lone code input (turns_of n turns)) none in
+    let first : seen_of p ≡ lone code input (turns_of before turns) = each zero (omega arith)
+    ∙ ap (λ n. lone code input (turns_of n turns)) none in
     let rest : shown_text (before + 1) ps ≡ pool_text (before + 1) codes input turns =
     shown_is (before + 1) ps codes input turns (omega (arith, e)) (λ k within.
     let one : before + suc k ≡ before + 1 + k = omega arith in
@@ -97,12 +106,14 @@ shown_is before (p ∷ ps) (code ∷ codes) input turns e each =
     ∙ ap (λ z. program_text (before + 1) (lone code input (turns_of before turns)) ++ z) rest
 
 -- all turns were made by codes from their start
-pub shown_alone : (codes : List PlainCode) (input turns : List ℕ) (before now : PoolView) → before ≡ pool_of (all_begun codes input) true → now ≡ after_turns before turns
+pub shown_alone : (codes : List PlainCode) (input turns : List ℕ) (before now : PoolView) → before ≡ pool_of (all_begun codes input) true
+    → now ≡ after_turns before turns
     → length now.programs ≡ length codes → shown_text 0 now.programs ≡ pool_text 0 codes input turns
 shown_alone codes input turns before now start is count =
     shown_is 0 now.programs codes input turns count (λ k within.
     let begin : PlainCode → Played = λ code. begun code input in
-    let there : k < length before.programs = omega (arith, within, ap (λ (p : PoolView). length p.programs) start, length-map codes begin) in
+    let there : k < length before.programs =
+    omega (arith, within, ap (λ (p : PoolView). length p.programs) start, length-map codes begin) in
     let at : program_at before k ≡ begun (get_or codes k no_code) input =
     ap (λ (p : PoolView). program_at p k) start ∙ get_or-map begin codes k no_code no_program within in
     let none : k ≡ 0 + k = omega arith in

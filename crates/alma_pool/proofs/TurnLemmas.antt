@@ -47,15 +47,18 @@ pub step_turn : (p : Played) (a : Step) (printed : List ℕ) (s : State) → ste
 step_turn p a printed s h = ap (λ x. with_run p x.state (p.output ++ x.printed)) h
 
 -- a step that did not end the run leaves a machine that can go on
-pub ready_on : (m : MachineView) (a : Step) (end : Option End) → end ≡ None → ((e : End) → a ≡ answer.Done e → ⊥) → ModeAfter a m.state.mode → m.running ≡ goes_on a
+pub ready_on : (m : MachineView) (a : Step) (end : Option End) → end ≡ None → ((e : End) → a ≡ answer.Done e → ⊥) → ModeAfter a m.state.mode
+    → m.running ≡ goes_on a
     → IsReady m end
 ready_on m (answer.Done e) end none not mode runs = absurd (not e refl)
 ready_on m answer.Went end none not mode runs = record { end_is = none ∙ sym (live_mode m.state.mode mode); running = λ _. runs }
 ready_on m (answer.Chose height) end none not mode runs = record { end_is = none ∙ sym (live_mode m.state.mode mode); running = λ _. runs }
 ready_on m (answer.Popped height) end none not mode runs = record { end_is = none ∙ sym (live_mode m.state.mode mode); running = λ _. runs }
 ready_on m (answer.Cut height) end none not mode runs = record { end_is = none ∙ sym (live_mode m.state.mode mode); running = λ _. runs }
-ready_on m (answer.Called routine frames) end none not mode runs = record { end_is = none ∙ sym (live_mode m.state.mode mode); running = λ _. runs }
-ready_on m (answer.Returned frames) end none not mode runs = record { end_is = none ∙ sym (live_mode m.state.mode mode); running = λ _. runs }
+ready_on m (answer.Called routine frames) end none not mode runs =
+    record { end_is = none ∙ sym (live_mode m.state.mode mode); running = λ _. runs }
+ready_on m (answer.Returned frames) end none not mode runs =
+    record { end_is = none ∙ sym (live_mode m.state.mode mode); running = λ _. runs }
 ready_on m answer.Printed end none not mode runs = record { end_is = none ∙ sym (live_mode m.state.mode mode); running = λ _. runs }
 
 -- no end is known where there is none

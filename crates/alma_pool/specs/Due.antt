@@ -1,5 +1,6 @@
 -- What a call of the program comes to: its plan.
-use Rattle.std.specs.Prelude.{◌≡◌, ◌+◌, ◌-◌, ℕ, Bool, true, false, ◌&&◌, ◌||◌, List, [], ◌∷◌, ◌++◌, length, codes, decimal, eqb, leb, ltb, cond, flat_map, Option, None, Some, Result, Ok, Err}
+use Rattle.std.specs.Prelude.{◌≡◌, ◌+◌, ◌-◌, ℕ, Bool, true, false, ◌&&◌, ◌||◌, List, [], ◌∷◌, ◌++◌, length, codes, decimal, eqb, leb, ltb}
+use Rattle.std.specs.Prelude.{cond, flat_map, Option, None, Some, Result, Ok, Err}
 use Rattle.std.specs.List.{list_any}
 use Rattle.alma_base.specs.Fault.{run_fault_text}
 use Rattle.alma_base.specs.Limits.{object_limit}
@@ -32,7 +33,8 @@ unless false number rest = Some number
 abbrev pub too_few : (seen : ℕ) → Option ℕ
 too_few seen = cond (ltb seen 2) (Some (seen + 1)) None
 
--- a file of turns and from 1 to 16 objects: the first word, from 1, that cannot stand where it is, or one more than there are, behind so many
+-- a file of turns and from 1 to 16 objects: the first word, from 1, that cannot stand where it is, or one more than there are, behind so
+-- many
 abbrev pub bad_word_behind : (seen : ℕ) → List (List ℕ) → Option ℕ
 bad_word_behind seen [] = too_few seen
 bad_word_behind seen (word ∷ words) = unless (is_file_name word && ltb seen 17) (seen + 1) (bad_word_behind (seen + 1) words)
@@ -65,7 +67,8 @@ end_text (Some (ended.Fault fault)) = codes "fault " ++ run_fault_text fault
 -- the lines of a program of a number
 abbrev pub program_lines : (number : ℕ) → (ended output : List ℕ) → List ℕ
 program_lines number ended output =
-    codes "program " ++ (decimal number ++ (codes " " ++ (ended ++ (codes " bytes " ++ (decimal (length output) ++ (codes "\n" ++ (output ++ codes "\n")))))))
+    codes "program " ++ (decimal number ++ (codes " "
+    ++ (ended ++ (codes " bytes " ++ (decimal (length output) ++ (codes "\n" ++ (output ++ codes "\n")))))))
 
 abbrev pub program_text : (number : ℕ) → Lone → List ℕ
 program_text number l = program_lines number (end_text l.end) l.output

@@ -1,5 +1,6 @@
 -- Each source can be read: it has tokens or a fault.
-use Rattle.std.proofs.Common.{◌≡◌, ◌≤◌, ◌<◌, ℕ, zero, suc, ◌-◌, Bool, true, false, ◌&&◌, List, [], ◌∷◌, ◌++◌, Option, None, Some, length, take, drop, refl, ap, sym, ◌∙◌, subst, arith, length-append, inl, inr}
+use Rattle.std.proofs.Common.{◌≡◌, ◌≤◌, ◌<◌, ℕ, zero, suc, ◌-◌, Bool, true, false, ◌&&◌, List, [], ◌∷◌, ◌++◌, Option, None, Some, length}
+use Rattle.std.proofs.Common.{take, drop, refl, ap, sym, ◌∙◌, subst, arith, length-append, inl, inr}
 use Rattle.std.specs.Prelude.{◌⊎◌, nat_eq, nat_le, unwrap_or}
 use Rattle.std.proofs.lemmas.List.{take-append-drop, length-take-le}
 use Rattle.std.proofs.lemmas.Bool.Decides.{nat_tests}
@@ -18,7 +19,8 @@ use Rattle.alma_scan.specs.Inner.Fronts.{IsGapEnd, IsOtherFirst}
 use Rattle.alma_scan.proofs.Basics.{true_false, heads, tails}
 use Rattle.alma_scan.proofs.Comments.{ClosesAll, opened, opened_back, closed_back, byted, byted_back, no_all}
 use Rattle.alma_scan.proofs.Gaps.{gap_shorter, closes_shorter}
-use Rattle.alma_scan.proofs.Standing.{word_token, number_token, digits_text, literal_token, literal_rest, ends_line, NoSymbol, two_token, one_token, bad_byte}
+use Rattle.alma_scan.proofs.Standing.{word_token, number_token, digits_text, literal_token, literal_rest, ends_line, NoSymbol, two_token}
+use Rattle.alma_scan.proofs.Standing.{one_token, bad_byte}
 use Rattle.alma_scan.proofs.Lists.{token_shorter}
 use Rattle.alma_scan.proofs.Once.{is_a_letter, is_a_digit, is_a_quote, is_another, first, empty_end, same_front}
 
@@ -45,26 +47,31 @@ ends_closed (suc depth) bytes more = go (more depth) where
   go (never n) = never (λ rest h. n rest (closed_back depth bytes rest h))
 
 -- before any other byte the same is known
-ends_byte : (depth b : ℕ) (bytes : List ℕ) → opens (b ∷ bytes) ≡ false → closes (b ∷ bytes) ≡ false → Ends depth bytes → Ends depth (b ∷ bytes)
+ends_byte : (depth b : ℕ) (bytes : List ℕ) → opens (b ∷ bytes) ≡ false → closes (b ∷ bytes) ≡ false → Ends depth bytes
+    → Ends depth (b ∷ bytes)
 ends_byte depth b bytes o c (closed_at rest h) = closed_at rest (byted depth b bytes rest o c h)
 ends_byte depth b bytes o c (never n) = never (λ rest h. n rest (byted_back depth b bytes rest o c h))
 
 -- the first two bytes decide
-ends_two : (depth a b : ℕ) (bytes : List ℕ) → ((d : ℕ) → Ends d bytes) → Ends depth (b ∷ bytes) → (o c : Bool) → opens (a ∷ b ∷ bytes) ≡ o → closes (a ∷ b ∷ bytes) ≡ c
+ends_two : (depth a b : ℕ) (bytes : List ℕ) → ((d : ℕ) → Ends d bytes) → Ends depth (b ∷ bytes) → (o c : Bool) → opens (a ∷ b ∷ bytes) ≡ o
+    → closes (a ∷ b ∷ bytes) ≡ c
     → Ends depth (a ∷ b ∷ bytes)
 ends_two depth a b bytes more next true c o e =
     let two = two_bytes 40 42 a b o in
-    subst (λ (x : ℕ). Ends depth (x ∷ b ∷ bytes)) (sym two.0) (subst (λ (y : ℕ). Ends depth (40 ∷ y ∷ bytes)) (sym two.1) (ends_opened depth bytes (more (suc depth))))
+    subst (λ (x : ℕ). Ends depth (x ∷ b ∷ bytes)) (sym two.0)
+    (subst (λ (y : ℕ). Ends depth (40 ∷ y ∷ bytes)) (sym two.1) (ends_opened depth bytes (more (suc depth))))
 ends_two depth a b bytes more next false true o c =
     let two = two_bytes 42 41 a b c in
-    subst (λ (x : ℕ). Ends depth (x ∷ b ∷ bytes)) (sym two.0) (subst (λ (y : ℕ). Ends depth (42 ∷ y ∷ bytes)) (sym two.1) (ends_closed depth bytes more))
+    subst (λ (x : ℕ). Ends depth (x ∷ b ∷ bytes)) (sym two.0)
+    (subst (λ (y : ℕ). Ends depth (42 ∷ y ∷ bytes)) (sym two.1) (ends_closed depth bytes more))
 ends_two depth a b bytes more next false false o c = ends_byte depth a (b ∷ bytes) o c next
 
 -- a comment ends or does not
 ends_total : (bytes : List ℕ) (depth : ℕ) → Ends depth bytes
 ends_total [] depth = never (no_all depth)
 ends_total (a ∷ []) depth = ends_byte depth a [] refl refl (never (no_all depth))
-ends_total (a ∷ b ∷ bytes) depth = ends_two depth a b bytes (λ d. ends_total bytes d) (ends_total (b ∷ bytes) depth) (opens (a ∷ b ∷ bytes)) (closes (a ∷ b ∷ bytes)) refl refl
+ends_total (a ∷ b ∷ bytes) depth = ends_two depth a b bytes (λ d. ends_total bytes d) (ends_total (b ∷ bytes) depth) (opens (a ∷ b ∷ bytes))
+    (closes (a ∷ b ∷ bytes)) refl refl
 
 -- the end of the gap with which bytes begin
 abbrev GapOf : List ℕ → Type 0
@@ -79,7 +86,8 @@ open_inner (a ∷ b ∷ bytes) h =
     (bytes, ap (λ (x : ℕ). x ∷ b ∷ bytes) two.0 ∙ ap (λ (y : ℕ). 40 ∷ y ∷ bytes) two.1)
 
 -- a gap that begins with a comment, where this ends
-gap_comment : (n : ℕ) (bytes inner : List ℕ) → length bytes ≤ suc n → bytes ≡ 40 ∷ 42 ∷ inner → Ends 0 inner → ((more : List ℕ) → length more ≤ n → GapOf more) → GapOf bytes
+gap_comment : (n : ℕ) (bytes inner : List ℕ) → length bytes ≤ suc n → bytes ≡ 40 ∷ 42 ∷ inner → Ends 0 inner
+    → ((more : List ℕ) → length more ≤ n → GapOf more) → GapOf bytes
 gap_comment n bytes inner l e (closed_at rest c) more =
     let whole = ap length e in
     let shorter = closes_shorter c in
@@ -95,7 +103,8 @@ gap_comment n bytes inner l e (never o) more = (
 )
 
 -- a gap goes on by its first byte
-gap_step : (n b : ℕ) (bytes : List ℕ) → length (b ∷ bytes) ≤ suc n → ((more : List ℕ) → length more ≤ n → GapOf more) → (t o : Bool) → is_blank b ≡ t → opens (b ∷ bytes) ≡ o → GapOf (b ∷ bytes)
+gap_step : (n b : ℕ) (bytes : List ℕ) → length (b ∷ bytes) ≤ suc n → ((more : List ℕ) → length more ≤ n → GapOf more) → (t o : Bool)
+    → is_blank b ≡ t → opens (b ∷ bytes) ≡ o → GapOf (b ∷ bytes)
 gap_step n b bytes l more true o t e = let r = more bytes (omega (arith, l)) in (r.0, blank b bytes r.0 t r.1, r.2)
 gap_step n b bytes l more false true t e =
     let i = open_inner (b ∷ bytes) e in
@@ -125,7 +134,14 @@ record RunOf (test : ℕ → Bool) (bytes : List ℕ) : Type 0 where
 
 -- a run goes on by its first byte
 run_step : (test : ℕ → Bool) (b : ℕ) (bytes : List ℕ) → RunOf test bytes → (t : Bool) → test b ≡ t → RunOf test (b ∷ bytes)
-run_step test b bytes r true t = record { run = b ∷ r.run; rest = r.rest; whole = ap (λ (z : List ℕ). b ∷ z) r.whole; inside = (t, r.inside); stop = r.stop }
+run_step test b bytes r true t = record {
+  run = b ∷ r.run;
+  rest = r.rest;
+  whole = ap (λ (z : List ℕ). b ∷ z) r.whole;
+  inside =
+      (t, r.inside);
+  stop = r.stop;
+}
 run_step test b bytes r false t = record { run = []; rest = b ∷ bytes; whole = refl; inside = tt; stop = t }
 
 -- each run has an end
@@ -143,11 +159,14 @@ data Stands (bytes : List ℕ) : Type 0 where
 word_stands : (bytes : List ℕ) → Begins is_letter bytes → Stands bytes
 word_stands bytes l =
     let r = run_total is_word_byte bytes in
-    a_token (unwrap_or (look_up reserved_words r.run) kinds.Name) r.run r.rest r.whole (word_token r.run r.rest (subst (Begins is_letter) r.whole l) r.inside r.stop)
+    a_token (unwrap_or (look_up reserved_words r.run) kinds.Name) r.run r.rest r.whole
+    (word_token r.run r.rest (subst (Begins is_letter) r.whole l) r.inside r.stop)
 
 -- a digit begins a number or one that is too large
-digits_stand : (bytes : List ℕ) → Begins is_digit bytes → (r : RunOf is_digit bytes) → (t : Bool) → nat_le (value_of r.run) greatest_number ≡ t → Stands bytes
-digits_stand bytes l r true t = a_token kinds.Number r.run r.rest r.whole (number_token r.run r.rest (subst (Begins is_digit) r.whole l) r.inside r.stop (grind (arith, nat_tests)))
+digits_stand : (bytes : List ℕ) → Begins is_digit bytes → (r : RunOf is_digit bytes) → (t : Bool)
+    → nat_le (value_of r.run) greatest_number ≡ t → Stands bytes
+digits_stand bytes l r true t = a_token kinds.Number r.run r.rest r.whole
+    (number_token r.run r.rest (subst (Begins is_digit) r.whole l) r.inside r.stop (grind (arith, nat_tests)))
 digits_stand bytes l r false t = a_fault NumberTooLarge record {
   digits = r.run;
   rest = r.rest;
@@ -158,7 +177,8 @@ digits_stand bytes l r false t = a_fault NumberTooLarge record {
 }
 
 -- a quote begins an open literal where the line ends first
-string_open : (b : ℕ) (bytes inner rest : List ℕ) → is_quote b ≡ true → bytes ≡ inner ++ rest → AllIn (may_stand_in b) inner → EndsLine rest → Stands (b ∷ bytes)
+string_open : (b : ℕ) (bytes inner rest : List ℕ) → is_quote b ≡ true → bytes ≡ inner ++ rest → AllIn (may_stand_in b) inner → EndsLine rest
+    → Stands (b ∷ bytes)
 string_open b bytes inner rest q e a l = a_fault OpenString record {
   quote = b;
   inner = inner;
@@ -170,30 +190,37 @@ string_open b bytes inner rest q e a l = a_fault OpenString record {
 }
 
 -- a quote begins a literal where the same quote comes first
-string_closes : (b c : ℕ) (bytes inner rest : List ℕ) → is_quote b ≡ true → bytes ≡ inner ++ c ∷ rest → AllIn (may_stand_in b) inner → may_stand_in b c ≡ false → (t : Bool) → nat_eq c b ≡ t → Stands (b ∷ bytes)
+string_closes : (b c : ℕ) (bytes inner rest : List ℕ) → is_quote b ≡ true → bytes ≡ inner ++ c ∷ rest → AllIn (may_stand_in b) inner
+    → may_stand_in b c ≡ false → (t : Bool) → nat_eq c b ≡ t → Stands (b ∷ bytes)
 string_closes b c bytes inner rest q e a s true t =
     let same : c ≡ b = grind (arith, nat_tests) in
-    a_token kinds.Literal (b ∷ (inner ++ b ∷ [])) rest (literal_rest b c (b ∷ bytes) bytes inner (c ∷ rest) rest refl e refl same) (literal_token b inner rest q a)
+    a_token kinds.Literal (b ∷ (inner ++ b ∷ [])) rest (literal_rest b c (b ∷ bytes) bytes inner (c ∷ rest) rest refl e refl same)
+    (literal_token b inner rest q a)
 string_closes b c bytes inner rest q e a s false t =
     string_open b bytes inner (c ∷ rest) q e a (ends_line b (c ∷ rest) s (λ d more f g. differs c b t (heads f ∙ g))) where
       differs : (c b : ℕ) → nat_eq c b ≡ false → c ≡ b → ⊥
       differs c b h e = grind (arith, nat_tests)
 
 -- a quote begins a literal or an open one
-string_stands : (b : ℕ) (bytes inner rest : List ℕ) → is_quote b ≡ true → bytes ≡ inner ++ rest → AllIn (may_stand_in b) inner → Stops (may_stand_in b) rest → Stands (b ∷ bytes)
+string_stands : (b : ℕ) (bytes inner rest : List ℕ) → is_quote b ≡ true → bytes ≡ inner ++ rest → AllIn (may_stand_in b) inner
+    → Stops (may_stand_in b) rest → Stands (b ∷ bytes)
 string_stands b bytes inner [] q e a s = string_open b bytes inner [] q e a tt
 string_stands b bytes inner (c ∷ rest) q e a s = string_closes b c bytes inner rest q e a s (nat_eq c b) refl
 
 -- a symbol of so many bytes stands at the front, or none does
 data SymbolOf (bytes : List ℕ) (size : ℕ) : Type 0 where
-  some_symbol : (k : Kind) (text rest : List ℕ) → bytes ≡ text ++ rest → length text ≡ size → look_up symbols text ≡ Some k → SymbolOf bytes size
+  some_symbol : (k : Kind) (text rest : List ℕ) → bytes ≡ text ++ rest → length text ≡ size → look_up symbols text ≡ Some k
+      → SymbolOf bytes size
   no_symbol : NoSymbol bytes size → SymbolOf bytes size
 
 -- the first bytes are a symbol or none
-symbol_found : (bytes : List ℕ) (size : ℕ) → size ≤ length bytes → (found : Option Kind) → look_up symbols (take size bytes) ≡ found → SymbolOf bytes size
-symbol_found bytes size l (Some k) h = some_symbol k (take size bytes) (drop size bytes) (sym (take-append-drop size bytes)) (length-take-le size bytes l) h
+symbol_found : (bytes : List ℕ) (size : ℕ) → size ≤ length bytes → (found : Option Kind) → look_up symbols (take size bytes) ≡ found
+    → SymbolOf bytes size
+symbol_found bytes size l (Some k) h = some_symbol k (take size bytes) (drop size bytes) (sym (take-append-drop size bytes))
+    (length-take-le size bytes l) h
 symbol_found bytes size l None h = no_symbol (λ text rest e n.
-    let same = same_front (take size bytes) (drop size bytes) text rest (take-append-drop size bytes ∙ e) (length-take-le size bytes l ∙ sym n) in
+    let same = same_front (take size bytes) (drop size bytes) text rest (take-append-drop size bytes ∙ e)
+    (length-take-le size bytes l ∙ sym n) in
     ap (look_up symbols) (sym same.0) ∙ h)
 
 -- there are so many bytes or not
@@ -209,9 +236,11 @@ symbol_total : (bytes : List ℕ) (size : ℕ) → SymbolOf bytes size
 symbol_total bytes size = symbol_sized bytes size (nat_le size (length bytes)) refl
 
 -- any other byte begins a symbol or is bad
-symbols_stand : (bytes : List ℕ) → IsOtherFirst bytes → Stops is_blank bytes → opens bytes ≡ false → SymbolOf bytes 2 → SymbolOf bytes 1 → Stands bytes
+symbols_stand : (bytes : List ℕ) → IsOtherFirst bytes → Stops is_blank bytes → opens bytes ≡ false → SymbolOf bytes 2 → SymbolOf bytes 1
+    → Stands bytes
 symbols_stand bytes o b c (some_symbol k text rest e n h) one = a_token k text rest e (two_token k bytes text rest e n h c o)
-symbols_stand bytes o b c (no_symbol two) (some_symbol k text rest e n h) = a_token k text rest e (one_token k bytes text rest e n h c o two)
+symbols_stand bytes o b c (no_symbol two) (some_symbol k text rest e n h) =
+    a_token k text rest e (one_token k bytes text rest e n h c o two)
 symbols_stand bytes o b c (no_symbol two) (no_symbol one) = a_fault BadByte (bad_byte bytes o b c two one)
 
 -- any other byte begins a symbol or an open comment or is bad
@@ -235,7 +264,8 @@ data Reading (size : ℕ) (bytes : List ℕ) : Type 0 where
   faulty : (tokens : List Lexeme) (fault : LexFault) (at : ℕ) → HasFault size bytes tokens fault at → Reading size bytes
 
 -- behind a token the rest decides
-reading_next : (size : ℕ) (bytes : List ℕ) (t : Lexeme) (rest : List ℕ) → HasToken size bytes t rest → Reading size rest → Reading size bytes
+reading_next : (size : ℕ) (bytes : List ℕ) (t : Lexeme) (rest : List ℕ) → HasToken size bytes t rest → Reading size rest
+    → Reading size bytes
 reading_next size bytes t rest h (listed ts i) = listed (t ∷ ts) (rest, h, i)
 reading_next size bytes t rest h (faulty ts fault at i) = faulty (t ∷ ts) fault at record {
   rest = i.rest;
@@ -277,8 +307,10 @@ reading_total (suc n) size bytes l k =
     reading_front (suc n) size bytes g.0 l k g.1 (stands g.0 g.2) (λ more m s. reading_total n size more m (omega (arith, k, s)))
 
 -- each source has tokens or a fault
-pub always : (source : List ℕ) → ((tokens : List Lexeme) × HasTokens (length source) source tokens []) ⊎ ((fault : LexFault) × (at : ℕ) × ((tokens : List Lexeme) × HasFault (length source) source tokens fault at))
+pub always : (source : List ℕ) → ((tokens : List Lexeme) × HasTokens (length source) source tokens [])
+    ⊎ ((fault : LexFault) × (at : ℕ) × ((tokens : List Lexeme) × HasFault (length source) source tokens fault at))
 always source = go (reading_total (length source) (length source) source (omega arith) (omega arith)) where
-  go : Reading (length source) source → ((tokens : List Lexeme) × HasTokens (length source) source tokens []) ⊎ ((fault : LexFault) × (at : ℕ) × ((tokens : List Lexeme) × HasFault (length source) source tokens fault at))
+  go : Reading (length source) source → ((tokens : List Lexeme) × HasTokens (length source) source tokens [])
+      ⊎ ((fault : LexFault) × (at : ℕ) × ((tokens : List Lexeme) × HasFault (length source) source tokens fault at))
   go (listed ts h) = inl (ts, h)
   go (faulty ts fault at h) = inr (fault, at, (ts, h))

@@ -33,7 +33,8 @@ close_back bytes rest h = elim (closes_by h) [
 ]
 
 -- any other byte goes on with the comment
-byte_back : (b : ℕ) (bytes rest : List ℕ) → opens (b ∷ bytes) ≡ false → closes (b ∷ bytes) ≡ false → Closes (b ∷ bytes) rest → Closes bytes rest
+byte_back : (b : ℕ) (bytes rest : List ℕ) → opens (b ∷ bytes) ≡ false → closes (b ∷ bytes) ≡ false → Closes (b ∷ bytes) rest
+    → Closes bytes rest
 byte_back b bytes rest o c h = elim (closes_by h) [
   | by_here e ↦ absurd (true_false (sym (ap closes e) ∙ c))
   | by_byte b' more e o' c' k ↦ subst (λ (z : List ℕ). Closes z rest) (sym (tails e)) k
@@ -81,7 +82,8 @@ opened_back zero bytes rest h = open_back bytes rest h
 opened_back (suc depth) bytes rest h = let k = open_back bytes h.0 h.1 in (k.0, k.1, (h.0, k.2, h.2))
 
 -- another comment opens
-pub same_opened : (depth : ℕ) (bytes after whole : List ℕ) → bytes ≡ 40 ∷ 42 ∷ after → SameEnd depth bytes whole → SameEnd (depth + 1) after whole
+pub same_opened : (depth : ℕ) (bytes after whole : List ℕ) → bytes ≡ 40 ∷ 42 ∷ after → SameEnd depth bytes whole
+    → SameEnd (depth + 1) after whole
 same_opened depth bytes after whole e s =
     let t : SameEnd depth (40 ∷ 42 ∷ after) whole = subst (λ (z : List ℕ). SameEnd depth z whole) e s in
     subst (λ (n : ℕ). SameEnd n after whole) (sym (add-one depth)) record {
@@ -101,29 +103,36 @@ closed depth after whole s = record {
 }
 
 -- an inner comment closes
-pub same_closed : (depth : ℕ) (bytes after whole : List ℕ) → bytes ≡ 42 ∷ 41 ∷ after → (depth ≡ 0 → ⊥) → SameEnd depth bytes whole → SameEnd (depth - 1) after whole
+pub same_closed : (depth : ℕ) (bytes after whole : List ℕ) → bytes ≡ 42 ∷ 41 ∷ after → (depth ≡ 0 → ⊥) → SameEnd depth bytes whole
+    → SameEnd (depth - 1) after whole
 same_closed zero bytes after whole e n s = absurd (n refl)
 same_closed (suc depth) bytes after whole e n s =
-    subst (λ (d : ℕ). SameEnd d after whole) (sym (sub-one (suc depth))) (closed depth after whole (subst (λ (z : List ℕ). SameEnd (suc depth) z whole) e s))
+    subst (λ (d : ℕ). SameEnd d after whole) (sym (sub-one (suc depth)))
+    (closed depth after whole (subst (λ (z : List ℕ). SameEnd (suc depth) z whole) e s))
 
 -- the comment itself closes
-pub same_end : (depth : ℕ) (bytes after whole : List ℕ) → bytes ≡ 42 ∷ 41 ∷ after → depth ≡ 0 → SameEnd depth bytes whole → Closes whole after
+pub same_end : (depth : ℕ) (bytes after whole : List ℕ) → bytes ≡ 42 ∷ 41 ∷ after → depth ≡ 0 → SameEnd depth bytes whole
+    → Closes whole after
 same_end depth bytes after whole e z s =
-    let t : SameEnd 0 (42 ∷ 41 ∷ after) whole = subst (λ (l : List ℕ). SameEnd 0 l whole) e (subst (λ (n : ℕ). SameEnd n bytes whole) z s) in
+    let t : SameEnd 0 (42 ∷ 41 ∷ after) whole =
+    subst (λ (l : List ℕ). SameEnd 0 l whole) e (subst (λ (n : ℕ). SameEnd n bytes whole) z s) in
     t.sound after (here after)
 
 -- a byte leaves as many to close
-pub byted : (depth b : ℕ) (bytes rest : List ℕ) → opens (b ∷ bytes) ≡ false → closes (b ∷ bytes) ≡ false → ClosesAll depth bytes rest → ClosesAll depth (b ∷ bytes) rest
+pub byted : (depth b : ℕ) (bytes rest : List ℕ) → opens (b ∷ bytes) ≡ false → closes (b ∷ bytes) ≡ false → ClosesAll depth bytes rest
+    → ClosesAll depth (b ∷ bytes) rest
 byted zero b bytes rest o c h = byte b bytes rest o c h
 byted (suc depth) b bytes rest o c h = (h.0, byte b bytes h.0 o c h.1, h.2)
 
 -- a byte left as many to close
-pub byted_back : (depth b : ℕ) (bytes rest : List ℕ) → opens (b ∷ bytes) ≡ false → closes (b ∷ bytes) ≡ false → ClosesAll depth (b ∷ bytes) rest → ClosesAll depth bytes rest
+pub byted_back : (depth b : ℕ) (bytes rest : List ℕ) → opens (b ∷ bytes) ≡ false → closes (b ∷ bytes) ≡ false
+    → ClosesAll depth (b ∷ bytes) rest → ClosesAll depth bytes rest
 byted_back zero b bytes rest o c h = byte_back b bytes rest o c h
 byted_back (suc depth) b bytes rest o c h = (h.0, byte_back b bytes h.0 o c h.1, h.2)
 
 -- a byte goes by
-pub same_byte : (depth b : ℕ) (bytes after whole : List ℕ) → bytes ≡ b ∷ after → opens bytes ≡ false → closes bytes ≡ false → SameEnd depth bytes whole → SameEnd depth after whole
+pub same_byte : (depth b : ℕ) (bytes after whole : List ℕ) → bytes ≡ b ∷ after → opens bytes ≡ false → closes bytes ≡ false
+    → SameEnd depth bytes whole → SameEnd depth after whole
 same_byte depth b bytes after whole e o c s =
     let t : SameEnd depth (b ∷ after) whole = subst (λ (z : List ℕ). SameEnd depth z whole) e s in
     let no : opens (b ∷ after) ≡ false = sym (ap opens e) ∙ o in

@@ -33,18 +33,22 @@ pub found_none : (size : ℕ) (source : List ℕ) → Found size [] source sourc
 found_none size source = record { sound = λ tokens end h. h }
 
 -- one more token
-pub found_next : (size : ℕ) (found : List Lexeme) (source rest after : List ℕ) (t : Lexeme) → Found size found source rest → HasToken size rest t after
+pub found_next : (size : ℕ) (found : List Lexeme) (source rest after : List ℕ) (t : Lexeme) → Found size found source rest
+    → HasToken size rest t after
     → Found size (found ++ t ∷ []) source after
 found_next size found source rest after t f h = record {
-  sound = λ tokens end k. subst (λ (z : List Lexeme). HasTokens size source z end) (sym (append_assoc found (t ∷ []) tokens)) (f.sound (t ∷ tokens) end (after, h, k));
+  sound = λ tokens end k. subst (λ (z : List Lexeme). HasTokens size source z end) (sym (append_assoc found (t ∷ []) tokens))
+      (f.sound (t ∷ tokens) end (after, h, k));
 }
 
 -- no more tokens
-pub found_all : (size : ℕ) (found : List Lexeme) (source rest end : List ℕ) → Found size found source rest → Gap rest end → HasTokens size source found end
+pub found_all : (size : ℕ) (found : List Lexeme) (source rest end : List ℕ) → Found size found source rest → Gap rest end
+    → HasTokens size source found end
 found_all size found source rest end f g = subst (λ (z : List Lexeme). HasTokens size source z end) (append-nil found) (f.sound [] end g)
 
 -- a fault behind the tokens
-pub found_fault : (size : ℕ) (found : List Lexeme) (source rest : List ℕ) (fault : LexFault) (at : ℕ) → Found size found source rest → HasFault size rest [] fault at
+pub found_fault : (size : ℕ) (found : List Lexeme) (source rest : List ℕ) (fault : LexFault) (at : ℕ) → Found size found source rest
+    → HasFault size rest [] fault at
     → HasFault size source found fault at
 found_fault size found source rest fault at f h = record {
   rest = h.rest;
@@ -54,7 +58,8 @@ found_fault size found source rest fault at f h = record {
 }
 
 -- the list as the code has it
-pub found_push : (size : ℕ) (before after : List Token) (token : Token) (source rest left : List ℕ) → after ≡ before ++ token ∷ [] → Found size (lexemes before) source rest
+pub found_push : (size : ℕ) (before after : List Token) (token : Token) (source rest left : List ℕ) → after ≡ before ++ token ∷ []
+    → Found size (lexemes before) source rest
     → HasToken size rest (lexeme token) left → Found size (lexemes after) source left
 found_push size before after token source rest left e f h =
     let more = ap (map lexeme) e ∙ map-append lexeme before (token ∷ []) in

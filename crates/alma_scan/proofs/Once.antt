@@ -15,7 +15,8 @@ use Rattle.alma_scan.specs.Faults.{IsOpenComment, IsOpenString, IsTooLarge, IsFa
 use Rattle.alma_scan.proofs.Basics.{true_false, heads, tails, some_none}
 use Rattle.alma_scan.proofs.Runs.{run_once}
 use Rattle.alma_scan.proofs.Gaps.{gap_once}
-use Rattle.alma_scan.proofs.Spelled.{word_only, number_only, literal_only, symbol_only, spells_some, starter_blank, sign_starter, letter_no_blank, digit_no_blank, quote_no_blank, digit_no_quote, digit_no_paren, quote_no_paren}
+use Rattle.alma_scan.proofs.Spelled.{word_only, number_only, literal_only, symbol_only, spells_some, starter_blank, sign_starter}
+use Rattle.alma_scan.proofs.Spelled.{letter_no_blank, digit_no_blank, quote_no_blank, digit_no_quote, digit_no_paren, quote_no_paren}
 use Rattle.alma_scan.proofs.Standing.{no_open, quote_stops, literal_whole}
 
 -- what the first byte of a spelled text is
@@ -137,7 +138,8 @@ quote_no_end quote rest [] q e h = some_none e
 quote_no_end quote rest (b ∷ other) q e h = quote_no_line_end quote q (ap is_line_end (heads e) ∙ h)
 
 -- a literal that is closed is not open
-closed_string : (quote other : ℕ) (inner rest inside after : List ℕ) → quote ∷ (inner ++ quote ∷ rest) ≡ other ∷ (inside ++ after) → is_quote quote ≡ true
+closed_string : (quote other : ℕ) (inner rest inside after : List ℕ) → quote ∷ (inner ++ quote ∷ rest) ≡ other ∷ (inside ++ after)
+    → is_quote quote ≡ true
     → AllIn (may_stand_in quote) inner → AllIn (may_stand_in other) inside → EndsLine after → ⊥
 closed_string quote other inner rest inside after e q a b s =
     let same = sym (heads e) in
@@ -154,7 +156,8 @@ string_no_text : (k : Kind) (text rest : List ℕ) → Spells k text → IsOpenS
 string_no_text k [] rest h o = spells_some k h
 string_no_text k (b ∷ text) rest h o =
     let l = (literal_only k b text h (string_first b (text ++ rest) o)).0 in
-    let e : l.0 ∷ (l.1 ++ l.0 ∷ rest) ≡ o.quote ∷ (o.inner ++ o.rest) = sym (literal_whole l.0 l.1 rest) ∙ ap (λ (z : List ℕ). z ++ rest) (sym l.2) ∙ o.whole in
+    let e : l.0 ∷ (l.1 ++ l.0 ∷ rest) ≡ o.quote ∷ (o.inner ++ o.rest) = sym (literal_whole l.0 l.1 rest)
+    ∙ ap (λ (z : List ℕ). z ++ rest) (sym l.2) ∙ o.whole in
     closed_string l.0 o.quote l.1 rest o.inner o.rest e l.3 l.4 o.inside o.ends
 
 -- digits begin with a digit
@@ -195,7 +198,8 @@ open_no_number bytes f g = true_false (sym (first_digit 40 (42 ∷ f.0) g.digits
 
 -- an open literal is no number
 string_no_number : (bytes : List ℕ) → IsOpenString bytes → IsTooLarge bytes → ⊥
-string_no_number bytes f g = digit_no_quote f.quote (first_digit f.quote (f.inner ++ f.rest) g.digits g.rest (sym f.whole ∙ g.whole) g.run) f.quoted
+string_no_number bytes f g = digit_no_quote f.quote (first_digit f.quote (f.inner ++ f.rest) g.digits g.rest (sym f.whole ∙ g.whole) g.run)
+    f.quoted
 
 -- one fault stands at a place
 fault_once : (fault other : LexFault) (bytes : List ℕ) → IsFault fault bytes → IsFault other bytes → fault ≡ other
@@ -257,9 +261,11 @@ lexeme_same t u k x s =
     ∙ ap (λ (z : ℕ). record { kind = u.kind; text = u.text; start = z }) s
 
 -- the same token comes next
-pub next_once : (size : ℕ) (bytes : List ℕ) (t u : Lexeme) (rest after : List ℕ) → HasToken size bytes t rest → HasToken size bytes u after → (t ≡ u) × (rest ≡ after)
+pub next_once : (size : ℕ) (bytes : List ℕ) (t u : Lexeme) (rest after : List ℕ) → HasToken size bytes t rest → HasToken size bytes u after
+    → (t ≡ u) × (rest ≡ after)
 next_once size bytes t u rest after h i =
-    let front = gap_once h.gap (u.text ++ after) (token_end t.kind t.text rest h.is_token) (token_end u.kind u.text after i.is_token) i.gap in
+    let front = gap_once h.gap (u.text ++ after) (token_end t.kind t.text rest h.is_token) (token_end u.kind u.text after i.is_token)
+    i.gap in
     let same = token_once t.kind u.kind t.text u.text rest after front h.is_token i.is_token in
     let left = ap length front in
     let start = h.start in
@@ -273,7 +279,8 @@ next_none size bytes t rest end h g f =
     f.no_token t.kind t.text rest front h.is_token
 
 -- the same tokens come, up to the same place
-pub lists_once : (size : ℕ) (bytes : List ℕ) (ts us : List Lexeme) (rest after : List ℕ) → HasTokens size bytes ts rest → HasTokens size bytes us after → Final rest → Final after
+pub lists_once : (size : ℕ) (bytes : List ℕ) (ts us : List Lexeme) (rest after : List ℕ) → HasTokens size bytes ts rest
+    → HasTokens size bytes us after → Final rest → Final after
     → (ts ≡ us) × (rest ≡ after)
 lists_once size bytes [] [] rest after h i f g = (refl, gap_once h after f.end g.end i)
 lists_once size bytes [] (u ∷ us) rest after h i f g = absurd (next_none size bytes u i.0 rest i.1 h f)
@@ -288,17 +295,20 @@ pub tokens_once : (size : ℕ) (bytes : List ℕ) (ts us : List Lexeme) → HasT
 tokens_once size bytes ts us h i = (lists_once size bytes ts us [] [] h i final_end final_end).0
 
 -- a source has one fault
-pub faults_once : (size : ℕ) (bytes : List ℕ) (ts us : List Lexeme) (fault other : LexFault) (at place : ℕ) → HasFault size bytes ts fault at → HasFault size bytes us other place
+pub faults_once : (size : ℕ) (bytes : List ℕ) (ts us : List Lexeme) (fault other : LexFault) (at place : ℕ)
+    → HasFault size bytes ts fault at → HasFault size bytes us other place
     → (fault ≡ other) × (at ≡ place)
 faults_once size bytes ts us fault other at place h i =
-    let same = (lists_once size bytes ts us h.rest i.rest h.front i.front (final_fault fault h.rest h.is_fault) (final_fault other i.rest i.is_fault)).1 in
+    let same = (lists_once size bytes ts us h.rest i.rest h.front i.front (final_fault fault h.rest h.is_fault)
+    (final_fault other i.rest i.is_fault)).1 in
     let left = ap length same in
     let here = h.place in
     let there = i.place in
     (fault_once fault other h.rest h.is_fault (subst (IsFault other) (sym same) i.is_fault), omega (arith, left, here, there))
 
 -- a source has no fault where it has tokens
-pub never_both : (size : ℕ) (bytes : List ℕ) (ts us : List Lexeme) (fault : LexFault) (at : ℕ) → HasTokens size bytes ts [] → HasFault size bytes us fault at → ⊥
+pub never_both : (size : ℕ) (bytes : List ℕ) (ts us : List Lexeme) (fault : LexFault) (at : ℕ) → HasTokens size bytes ts []
+    → HasFault size bytes us fault at → ⊥
 never_both size bytes ts us fault at h i =
     let same = (lists_once size bytes ts us [] i.rest h i.front final_end (final_fault fault i.rest i.is_fault)).1 in
     fault_some fault (subst (IsFault fault) (sym same) i.is_fault)
@@ -308,5 +318,6 @@ pub token_or_end : (size : ℕ) (bytes : List ℕ) (t : Lexeme) (rest : List ℕ
 token_or_end size bytes t rest h g = next_none size bytes t rest [] h g final_end
 
 -- no fault comes where a token does
-pub token_or_fault : (size : ℕ) (bytes : List ℕ) (t : Lexeme) (rest : List ℕ) (fault : LexFault) (at : ℕ) → HasToken size bytes t rest → HasFault size bytes [] fault at → ⊥
+pub token_or_fault : (size : ℕ) (bytes : List ℕ) (t : Lexeme) (rest : List ℕ) (fault : LexFault) (at : ℕ) → HasToken size bytes t rest
+    → HasFault size bytes [] fault at → ⊥
 token_or_fault size bytes t rest fault at h i = next_none size bytes t rest i.rest h i.front (final_fault fault i.rest i.is_fault)

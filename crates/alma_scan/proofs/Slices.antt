@@ -1,5 +1,6 @@
 -- Tokens are slices of their source.
-use Rattle.std.proofs.Common.{◌≡◌, ◌≤◌, ◌+◌, ◌-◌, ℕ, zero, suc, List, [], ◌∷◌, ◌++◌, length, take, drop, refl, ap, sym, ◌∙◌, arith, append_assoc, length-append}
+use Rattle.std.proofs.Common.{◌≡◌, ◌≤◌, ◌+◌, ◌-◌, ℕ, zero, suc, List, [], ◌∷◌, ◌++◌, length, take, drop, refl, ap, sym, ◌∙◌, arith}
+use Rattle.std.proofs.Common.{append_assoc, length-append}
 use Rattle.std.specs.Prelude.{All, slice_range}
 use Rattle.std.proofs.Math.Seq.{take-append_seam, drop-append_seam}
 use Rattle.alma_scan.specs.Comments.{Closes, here, byte, nested, Gap, none, blank, comment}
@@ -25,7 +26,8 @@ gap_front (comment bytes after rest c h) =
     (40 ∷ 42 ∷ (k.0 ++ l.0), ap (λ (z : List ℕ). 40 ∷ 42 ∷ z) (k.1 ∙ ap (λ (z : List ℕ). k.0 ++ z) l.1 ∙ sym (append_assoc k.0 l.0 rest)))
 
 -- a text behind a front is the slice there
-slice_at : (front text rest : List ℕ) (start : ℕ) → start ≡ length front → slice_range (front ++ (text ++ rest)) start (start + length text) ≡ text
+slice_at : (front text rest : List ℕ) (start : ℕ) → start ≡ length front
+    → slice_range (front ++ (text ++ rest)) start (start + length text) ≡ text
 slice_at front text rest start e =
     let size : start + length text - start ≡ length text = omega arith in
     ap (λ (n : ℕ). take n (drop start (front ++ (text ++ rest)))) size
@@ -34,7 +36,8 @@ slice_at front text rest start e =
     ∙ take-append_seam text rest
 
 -- a token behind a front is a slice
-one_slice : (source front text rest : List ℕ) (t : Lexeme) → source ≡ front ++ (text ++ rest) → t.text ≡ text → t.start + length (text ++ rest) ≡ length source → IsSlice source t
+one_slice : (source front text rest : List ℕ) (t : Lexeme) → source ≡ front ++ (text ++ rest) → t.text ≡ text
+    → t.start + length (text ++ rest) ≡ length source → IsSlice source t
 one_slice source front text rest t e x s =
     let whole = ap length e in
     let start : t.start ≡ length front = omega (arith, s, whole, length-append front (text ++ rest)) in
@@ -52,12 +55,14 @@ all_more P t ts h k zero d l = h
 all_more P t ts h k (suc n) d l = k n d (omega (arith, l))
 
 -- the tokens behind a front are slices
-all_slices : (source front bytes : List ℕ) (ts : List Lexeme) (rest : List ℕ) → source ≡ front ++ bytes → HasTokens (length source) bytes ts rest → All (IsSlice source) ts
+all_slices : (source front bytes : List ℕ) (ts : List Lexeme) (rest : List ℕ) → source ≡ front ++ bytes
+    → HasTokens (length source) bytes ts rest → All (IsSlice source) ts
 all_slices source front bytes [] rest e h = λ k d l. absurd (omega (arith, l))
 all_slices source front bytes (t ∷ ts) rest e h =
     let gap = gap_front h.1.gap in
     let before = front ++ gap.0 in
-    let whole : source ≡ before ++ (t.text ++ h.0) = e ∙ ap (λ (z : List ℕ). front ++ z) gap.1 ∙ sym (append_assoc front gap.0 (t.text ++ h.0)) in
+    let whole : source ≡ before ++ (t.text ++ h.0) = e ∙ ap (λ (z : List ℕ). front ++ z) gap.1
+    ∙ sym (append_assoc front gap.0 (t.text ++ h.0)) in
     let this = one_slice source before t.text h.0 t whole refl h.1.start in
     let more = all_slices source (before ++ t.text) h.0 ts rest (whole ∙ sym (append_assoc before t.text h.0)) h.2 in
     all_more (IsSlice source) t ts this more

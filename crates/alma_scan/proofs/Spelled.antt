@@ -1,5 +1,6 @@
 -- What the first byte of a spelled text tells of it.
-use Rattle.std.proofs.Common.{◌≡◌, ◌≤◌, ℕ, Bool, true, false, ◌&&◌, ◌||◌, List, [], ◌∷◌, ◌++◌, Option, None, Some, length, refl, ap, sym, ◌∙◌, subst, arith}
+use Rattle.std.proofs.Common.{◌≡◌, ◌≤◌, ℕ, Bool, true, false, ◌&&◌, ◌||◌, List, [], ◌∷◌, ◌++◌, Option, None, Some, length, refl, ap, sym}
+use Rattle.std.proofs.Common.{◌∙◌, subst, arith}
 use Rattle.std.specs.Prelude.{not, nat_eq, nat_le, bytes_eq, unwrap_or, if◌then◌else◌}
 use Rattle.std.proofs.lemmas.Bool.Decides.{nat_tests}
 use Rattle.std.proofs.lemmas.Slice.Eq.{bytes_eq-Decides}
@@ -8,7 +9,8 @@ use Rattle.alma_base.specs.Reading.{is_blank, is_digit}
 use Rattle.alma_tree.specs.declared.kind.Kind.{Kind}
 use Rattle.alma_tree.specs.declared.kind.Kind.TheVariants as kinds
 use Rattle.alma_scan.specs.Bytes.{is_quote, AllIn, value_of}
-use Rattle.alma_scan.specs.Spellings.{Spelling, symbols, reserved_words, look_up, IsDigits, IsLiteral, greatest_number, Spells, name, number, literal, symbol, reserved}
+use Rattle.alma_scan.specs.Spellings.{Spelling, symbols, reserved_words, look_up, IsDigits, IsLiteral, greatest_number, Spells, name}
+use Rattle.alma_scan.specs.Spellings.{number, literal, symbol, reserved}
 use Rattle.alma_scan.specs.Inner.Fronts.{IsOtherFirst}
 use Rattle.alma_scan.proofs.Basics.{true_false, both, heads}
 
@@ -70,7 +72,8 @@ and_right false b h = absurd (true_false (sym h))
 -- a table gives its first entry or one of the others
 taken : (test : Spelling → Bool) (e : Spelling) (table : List Spelling) (text : List ℕ) (kind : Kind) → test e ≡ true
     → (look_up table text ≡ Some kind → test (record { text = text; kind = kind }) ≡ true)
-    → (same : Bool) → bytes_eq e.text text ≡ same → (if same then Some e.kind else look_up table text) ≡ Some kind → test (record { text = text; kind = kind }) ≡ true
+    → (same : Bool) → bytes_eq e.text text ≡ same → (if same then Some e.kind else look_up table text) ≡ Some kind
+    → test (record { text = text; kind = kind }) ≡ true
 taken test e table text kind a more true s h =
     let t : e.text ≡ text = (bytes_eq-Decides e.text text).0 s in
     let k : e.kind ≡ kind = cc h in
@@ -79,11 +82,13 @@ taken test e table text kind a more true s h =
 taken test e table text kind a more false s h = more h
 
 -- what a table gives is one of its entries
-looked_up : (test : Spelling → Bool) (table : List Spelling) (text : List ℕ) (kind : Kind) → all_pass test table ≡ true → look_up table text ≡ Some kind
+looked_up : (test : Spelling → Bool) (table : List Spelling) (text : List ℕ) (kind : Kind) → all_pass test table ≡ true
+    → look_up table text ≡ Some kind
     → test (record { text = text; kind = kind }) ≡ true
 looked_up test [] text kind a h = let n : None ≡ Some kind = h in cc n
 looked_up test (e ∷ table) text kind a h =
-    taken test e table text kind (and_left (test e) (all_pass test table) a) (λ k. looked_up test table text kind (and_right (test e) (all_pass test table) a) k) (bytes_eq e.text text) refl h
+    taken test e table text kind (and_left (test e) (all_pass test table) a)
+    (λ k. looked_up test table text kind (and_right (test e) (all_pass test table) a) k) (bytes_eq e.text text) refl h
 
 -- of two tests that fail the first does
 or_left : (a b : Bool) → (a || b) ≡ false → a ≡ false
@@ -185,11 +190,13 @@ sign_starter b bytes kind h = not_true (is_starter b) (sign_so (b ∷ bytes) kin
 
 -- no symbol begins with a letter
 starter_letter : (b : ℕ) → is_starter b ≡ false → is_letter b ≡ false
-starter_letter b h = or_left (is_letter b) (is_digit b) (or_left (is_letter b || is_digit b) (is_quote b) (or_left (is_letter b || is_digit b || is_quote b) (is_blank b) h))
+starter_letter b h = or_left (is_letter b) (is_digit b)
+    (or_left (is_letter b || is_digit b) (is_quote b) (or_left (is_letter b || is_digit b || is_quote b) (is_blank b) h))
 
 -- no symbol begins with a digit
 starter_digit : (b : ℕ) → is_starter b ≡ false → is_digit b ≡ false
-starter_digit b h = or_right (is_letter b) (is_digit b) (or_left (is_letter b || is_digit b) (is_quote b) (or_left (is_letter b || is_digit b || is_quote b) (is_blank b) h))
+starter_digit b h = or_right (is_letter b) (is_digit b)
+    (or_left (is_letter b || is_digit b) (is_quote b) (or_left (is_letter b || is_digit b || is_quote b) (is_blank b) h))
 
 -- no symbol begins with a quote
 starter_quote : (b : ℕ) → is_starter b ≡ false → is_quote b ≡ false
@@ -235,7 +242,8 @@ literal_only kind b bytes (symbol h) l = absurd (both (is_quote b) l (starter_qu
 literal_only kind b bytes (reserved h) l = absurd (letter_no_quote b (word_so (b ∷ bytes) kind h).first l)
 
 -- what begins with another byte is a symbol
-pub symbol_only : (kind : Kind) (b : ℕ) (bytes : List ℕ) → Spells kind (b ∷ bytes) → IsOtherFirst (b ∷ bytes) → look_up symbols (b ∷ bytes) ≡ Some kind
+pub symbol_only : (kind : Kind) (b : ℕ) (bytes : List ℕ) → Spells kind (b ∷ bytes) → IsOtherFirst (b ∷ bytes)
+    → look_up symbols (b ∷ bytes) ≡ Some kind
 symbol_only kind b bytes (name e w n) l = absurd (both (is_letter b) w.0 l.0)
 symbol_only kind b bytes (number e d v) l = absurd (both (is_digit b) d.0 l.1)
 symbol_only kind b bytes (literal e q) l = absurd (both (is_quote b) (ap is_quote (heads q.2) ∙ q.3) l.2)

@@ -1,5 +1,6 @@
 -- Which token or fault stands at the front of bytes.
-use Rattle.std.proofs.Common.{◌≡◌, ◌≤◌, ℕ, ◌+◌, Bool, true, false, List, [], ◌∷◌, ◌++◌, Option, None, Some, length, refl, ap, sym, ◌∙◌, subst, arith, append_assoc, length-append, take}
+use Rattle.std.proofs.Common.{◌≡◌, ◌≤◌, ℕ, ◌+◌, Bool, true, false, List, [], ◌∷◌, ◌++◌, Option, None, Some, length, refl, ap, sym, ◌∙◌}
+use Rattle.std.proofs.Common.{subst, arith, append_assoc, length-append, take}
 use Rattle.std.proofs.Math.Seq.{take-append_seam}
 use Rattle.std.proofs.lemmas.Bool.Decides.{nat_tests}
 use Rattle.std.specs.Prelude.{nat_eq, unwrap_or, ok_or}
@@ -9,7 +10,8 @@ use Rattle.alma_tree.specs.declared.kind.Kind.{Kind}
 use Rattle.alma_tree.specs.declared.kind.Kind.TheVariants as kinds
 use Rattle.alma_scan.specs.Bytes.{is_quote, is_line_end, may_stand_in, AllIn, Begins, Stops, value_of}
 use Rattle.alma_scan.specs.Comments.{opens}
-use Rattle.alma_scan.specs.Spellings.{symbols, reserved_words, look_up, IsWord, IsDigits, greatest_number, Spells, name, number, literal, symbol, reserved}
+use Rattle.alma_scan.specs.Spellings.{symbols, reserved_words, look_up, IsWord, IsDigits, greatest_number, Spells, name, number, literal}
+use Rattle.alma_scan.specs.Spellings.{symbol, reserved}
 use Rattle.alma_scan.specs.Tokens.{IsToken}
 use Rattle.alma_scan.specs.Faults.{EndsLine, IsOpenString, IsTooLarge, IsBadByte}
 use Rattle.alma_base.specs.declared.fault.LexFault.TheVariants.{BadByte}
@@ -17,7 +19,8 @@ use Rattle.alma_scan.specs.declared.front.Front.{Front}
 use Rattle.alma_scan.specs.Inner.Fronts.{IsOtherFirst, IsFront, IsSymbolAt}
 use Rattle.alma_scan.proofs.Basics.{true_false, both, heads, tails}
 use Rattle.alma_scan.proofs.Runs.{run_longest, run_once}
-use Rattle.alma_scan.proofs.Spelled.{word_only, number_only, literal_only, symbol_only, spells_some, letter_no_digit, letter_no_paren, digit_no_paren, quote_no_paren, number_digits, symbol_short}
+use Rattle.alma_scan.proofs.Spelled.{word_only, number_only, literal_only, symbol_only, spells_some, letter_no_digit, letter_no_paren}
+use Rattle.alma_scan.proofs.Spelled.{digit_no_paren, quote_no_paren, number_digits, symbol_short}
 
 -- what begins with another byte than ( opens no comment
 pub no_open : (b : ℕ) (bytes : List ℕ) → nat_eq b 40 ≡ false → opens (b ∷ bytes) ≡ false
@@ -31,7 +34,8 @@ word_text [] (c ∷ rest) l a s = absurd (true_false (sym (let w : is_word_byte 
 word_text (b ∷ text) rest l a s = (l, a.1)
 
 -- a word is a reserved one or a name
-word_spelled : (text : List ℕ) (found : Option Kind) → look_up reserved_words text ≡ found → IsWord text → Spells (unwrap_or found kinds.Name) text
+word_spelled : (text : List ℕ) (found : Option Kind) → look_up reserved_words text ≡ found → IsWord text
+    → Spells (unwrap_or found kinds.Name) text
 word_spelled text None e w = name refl w e
 word_spelled text (Some kind) e w = reserved e
 
@@ -86,7 +90,8 @@ digits_no_open [] rest d = absurd d
 digits_no_open (b ∷ text) rest d = no_open b (text ++ rest) (digit_no_paren b d.0)
 
 -- a run of digits that is not too large is a token
-pub number_token : (text rest : List ℕ) → Begins is_digit (text ++ rest) → AllIn is_digit text → Stops is_digit rest → value_of text ≤ greatest_number
+pub number_token : (text rest : List ℕ) → Begins is_digit (text ++ rest) → AllIn is_digit text → Stops is_digit rest
+    → value_of text ≤ greatest_number
     → IsToken kinds.Number text rest
 number_token text rest l a s v =
     let d = digits_text text rest l a s in
@@ -102,12 +107,14 @@ pub quote_stops : (quote : ℕ) → may_stand_in quote quote ≡ false
 quote_stops quote = grind (arith, nat_tests)
 
 -- what stands between the quotes is one
-pub literal_once : (quote other : ℕ) (inner inside rest after : List ℕ) → quote ∷ (inner ++ quote ∷ rest) ≡ other ∷ (inside ++ other ∷ after)
+pub literal_once : (quote other : ℕ) (inner inside rest after : List ℕ)
+    → quote ∷ (inner ++ quote ∷ rest) ≡ other ∷ (inside ++ other ∷ after)
     → AllIn (may_stand_in quote) inner → AllIn (may_stand_in other) inside → inner ≡ inside
 literal_once quote other inner inside rest after e a b =
     let q : other ≡ quote = sym (heads e) in
     let t : inner ++ quote ∷ rest ≡ inside ++ quote ∷ after = tails e ∙ ap (λ (x : ℕ). inside ++ x ∷ after) q in
-    (run_once (may_stand_in quote) inner (quote ∷ rest) inside (quote ∷ after) t a (quote_stops quote) (subst (λ (x : ℕ). AllIn (may_stand_in x) inside) q b) (quote_stops quote)).0
+    (run_once (may_stand_in quote) inner (quote ∷ rest) inside (quote ∷ after) t a (quote_stops quote)
+    (subst (λ (x : ℕ). AllIn (may_stand_in x) inside) q b) (quote_stops quote)).0
 
 -- a literal and what stands behind it
 pub literal_whole : (quote : ℕ) (inner rest : List ℕ) → (quote ∷ (inner ++ quote ∷ [])) ++ rest ≡ quote ∷ (inner ++ quote ∷ rest)
@@ -137,23 +144,28 @@ literal_token quote inner rest q a = record {
 }
 
 -- a literal, and what stands behind its second quote
-pub literal_rest : (quote closing : ℕ) (bytes inner inside end rest : List ℕ) → bytes ≡ quote ∷ inner → inner ≡ inside ++ end → end ≡ closing ∷ rest → closing ≡ quote
+pub literal_rest : (quote closing : ℕ) (bytes inner inside end rest : List ℕ) → bytes ≡ quote ∷ inner → inner ≡ inside ++ end
+    → end ≡ closing ∷ rest → closing ≡ quote
     → bytes ≡ (quote ∷ (inside ++ quote ∷ [])) ++ rest
 literal_rest quote closing bytes inner inside end rest e f g h =
-    e ∙ ap (λ (z : List ℕ). quote ∷ z) (f ∙ ap (λ (z : List ℕ). inside ++ z) (g ∙ ap (λ (x : ℕ). x ∷ rest) h)) ∙ sym (literal_whole quote inside rest)
+    e ∙ ap (λ (z : List ℕ). quote ∷ z) (f ∙ ap (λ (z : List ℕ). inside ++ z) (g ∙ ap (λ (x : ℕ). x ∷ rest) h))
+    ∙ sym (literal_whole quote inside rest)
 
 -- a literal has two more bytes than stand inside it
-pub literal_text : (quote : ℕ) (bytes inside rest : List ℕ) → bytes ≡ (quote ∷ (inside ++ quote ∷ [])) ++ rest → take (length inside + 2) bytes ≡ quote ∷ (inside ++ quote ∷ [])
+pub literal_text : (quote : ℕ) (bytes inside rest : List ℕ) → bytes ≡ (quote ∷ (inside ++ quote ∷ [])) ++ rest
+    → take (length inside + 2) bytes ≡ quote ∷ (inside ++ quote ∷ [])
 literal_text quote bytes inside rest whole =
     let size : length inside + 2 ≡ length (quote ∷ (inside ++ quote ∷ [])) = omega (arith, length-append inside (quote ∷ [])) in
-    ap (λ (n : ℕ). take n bytes) size ∙ ap (take (length (quote ∷ (inside ++ quote ∷ [])))) whole ∙ take-append_seam (quote ∷ (inside ++ quote ∷ [])) rest
+    ap (λ (n : ℕ). take n bytes) size ∙ ap (take (length (quote ∷ (inside ++ quote ∷ [])))) whole
+    ∙ take-append_seam (quote ∷ (inside ++ quote ∷ [])) rest
 
 -- a byte that may not stand inside a literal and is not its quote ends the line
 line_end : (quote b : ℕ) → may_stand_in quote b ≡ false → (b ≡ quote → ⊥) → is_line_end b ≡ true
 line_end quote b h n = grind (arith, nat_tests)
 
 -- where the inside stops at no closing quote the line ends
-pub ends_line : (quote : ℕ) (end : List ℕ) → Stops (may_stand_in quote) end → ((b : ℕ) (rest : List ℕ) → end ≡ b ∷ rest → b ≡ quote → ⊥) → EndsLine end
+pub ends_line : (quote : ℕ) (end : List ℕ) → Stops (may_stand_in quote) end → ((b : ℕ) (rest : List ℕ) → end ≡ b ∷ rest → b ≡ quote → ⊥)
+    → EndsLine end
 ends_line quote [] s n = tt
 ends_line quote (b ∷ end) s n = line_end quote b s (n b end refl)
 
@@ -181,17 +193,21 @@ short_symbol other (c ∷ longer) bytes after e o h =
     (s, symbol_short (c ∷ longer) other s, omega arith)
 
 -- no token there is longer than one byte where no symbol of two stands
-one_longest : (bytes : List ℕ) → IsOtherFirst bytes → NoSymbol bytes 2 → (other : Kind) (longer after : List ℕ) → bytes ≡ longer ++ after → Spells other longer → length longer ≤ 1
+one_longest : (bytes : List ℕ) → IsOtherFirst bytes → NoSymbol bytes 2 → (other : Kind) (longer after : List ℕ) → bytes ≡ longer ++ after
+    → Spells other longer → length longer ≤ 1
 one_longest bytes o n other longer after e h =
     let s = short_symbol other longer bytes after e o h in
     go (nat_eq (length longer) 2) refl s where
-      go : (two : Bool) → nat_eq (length longer) 2 ≡ two → (look_up symbols longer ≡ Some other) × (length longer ≤ 2) × (1 ≤ length longer) → length longer ≤ 1
+      go : (two : Bool) → nat_eq (length longer) 2 ≡ two → (look_up symbols longer ≡ Some other) × (length longer ≤ 2) × (1 ≤ length longer)
+          → length longer ≤ 1
       go true t s = absurd (let c : None ≡ Some other = sym (n longer after e (grind (arith, nat_tests))) ∙ s.0 in cc c)
       go false t s = grind (arith, nat_tests)
 
 -- a symbol is a token where none is longer
-symbol_token : (kind : Kind) (bytes text rest : List ℕ) → bytes ≡ text ++ rest → look_up symbols text ≡ Some kind → opens bytes ≡ false → IsOtherFirst bytes
-    → ((other : Kind) (longer after : List ℕ) → bytes ≡ longer ++ after → Spells other longer → length longer ≤ length text) → IsToken kind text rest
+symbol_token : (kind : Kind) (bytes text rest : List ℕ) → bytes ≡ text ++ rest → look_up symbols text ≡ Some kind → opens bytes ≡ false
+    → IsOtherFirst bytes
+    → ((other : Kind) (longer after : List ℕ) → bytes ≡ longer ++ after → Spells other longer → length longer ≤ length text)
+    → IsToken kind text rest
 symbol_token kind bytes text rest e s c o l = record {
   spelled = symbol s;
   longest = λ other longer after f h. l other longer after (e ∙ f) h;
@@ -200,27 +216,33 @@ symbol_token kind bytes text rest e s c o l = record {
 }
 
 -- a symbol of two bytes is a token
-pub two_token : (kind : Kind) (bytes text rest : List ℕ) → bytes ≡ text ++ rest → length text ≡ 2 → look_up symbols text ≡ Some kind → opens bytes ≡ false → IsOtherFirst bytes
+pub two_token : (kind : Kind) (bytes text rest : List ℕ) → bytes ≡ text ++ rest → length text ≡ 2 → look_up symbols text ≡ Some kind
+    → opens bytes ≡ false → IsOtherFirst bytes
     → IsToken kind text rest
 two_token kind bytes text rest e two s c o =
-    symbol_token kind bytes text rest e s c o (λ other longer after f h. let k = (short_symbol other longer bytes after f o h).1 in omega (arith, k))
+    symbol_token kind bytes text rest e s c o
+    (λ other longer after f h. let k = (short_symbol other longer bytes after f o h).1 in omega (arith, k))
 
 -- a symbol of one byte is a token where none of two bytes stands
-pub one_token : (kind : Kind) (bytes text rest : List ℕ) → bytes ≡ text ++ rest → length text ≡ 1 → look_up symbols text ≡ Some kind → opens bytes ≡ false → IsOtherFirst bytes → NoSymbol bytes 2
+pub one_token : (kind : Kind) (bytes text rest : List ℕ) → bytes ≡ text ++ rest → length text ≡ 1 → look_up symbols text ≡ Some kind
+    → opens bytes ≡ false → IsOtherFirst bytes → NoSymbol bytes 2
     → IsToken kind text rest
 one_token kind bytes text rest e one s c o n =
-    symbol_token kind bytes text rest e s c o (λ other longer after f h. let k = one_longest bytes o n other longer after f h in omega (arith, k))
+    symbol_token kind bytes text rest e s c o
+    (λ other longer after f h. let k = one_longest bytes o n other longer after f h in omega (arith, k))
 
 -- no open literal begins there
 no_string : (bytes : List ℕ) → IsOtherFirst bytes → IsOpenString bytes → ⊥
-no_string bytes o s = let f : IsOtherFirst (s.quote ∷ (s.inner ++ s.rest)) = subst IsOtherFirst s.whole o in both (is_quote s.quote) s.quoted f.2
+no_string bytes o s = let f : IsOtherFirst (s.quote ∷ (s.inner ++ s.rest)) = subst IsOtherFirst s.whole o in
+    both (is_quote s.quote) s.quoted f.2
 
 -- no number begins there
 no_number : (bytes : List ℕ) → IsOtherFirst bytes → IsTooLarge bytes → ⊥
 no_number bytes o s = other_no_digits s.digits s.rest (subst IsOtherFirst s.whole o) s.run
 
 -- where no symbol stands the byte is bad
-pub bad_byte : (bytes : List ℕ) → IsOtherFirst bytes → Stops is_blank bytes → opens bytes ≡ false → NoSymbol bytes 2 → NoSymbol bytes 1 → IsBadByte bytes
+pub bad_byte : (bytes : List ℕ) → IsOtherFirst bytes → Stops is_blank bytes → opens bytes ≡ false → NoSymbol bytes 2 → NoSymbol bytes 1
+    → IsBadByte bytes
 bad_byte bytes o b c two one = record {
   there = other_cons bytes o;
   no_blank = b;
@@ -236,7 +258,8 @@ bad_byte bytes o b c two one = record {
 }
 
 -- one symbol of one byte, or a bad byte
-pub last_symbol : (bytes : List ℕ) (found : Option Front) → IsSymbolAt bytes 1 found → IsOtherFirst bytes → Stops is_blank bytes → opens bytes ≡ false → NoSymbol bytes 2
+pub last_symbol : (bytes : List ℕ) (found : Option Front) → IsSymbolAt bytes 1 found → IsOtherFirst bytes → Stops is_blank bytes
+    → opens bytes ≡ false → NoSymbol bytes 2
     → IsFront bytes (ok_or found BadByte)
 last_symbol bytes None s o b c two = bad_byte bytes o b c two s
 last_symbol bytes (Some front) s o b c two = record {

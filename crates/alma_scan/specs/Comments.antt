@@ -20,7 +20,8 @@ closes bytes = starts_with_two 42 41 bytes
 -- neither `(*` nor `*)` and more of the comment, or a whole comment and more of the comment.
 pub data Closes : List ℕ → List ℕ → Type 0 where
   here : (rest : List ℕ) → Closes (42 ∷ 41 ∷ rest) rest
-  byte : (b : ℕ) (bytes rest : List ℕ) → opens (b ∷ bytes) ≡ false → closes (b ∷ bytes) ≡ false → Closes bytes rest → Closes (b ∷ bytes) rest
+  byte : (b : ℕ) (bytes rest : List ℕ) → opens (b ∷ bytes) ≡ false → closes (b ∷ bytes) ≡ false → Closes bytes rest
+      → Closes (b ∷ bytes) rest
   nested : (bytes inner_rest rest : List ℕ) → Closes bytes inner_rest → Closes inner_rest rest → Closes (40 ∷ 42 ∷ bytes) rest
 
 -- the bytes are blanks and whole comments, behind which the rest stands

@@ -103,7 +103,8 @@ IsDigits (b ∷ bytes) = (is_digit b ≡ true) × AllIn is_digit bytes
 
 -- a quote, bytes that are neither it nor CR nor LF, and the same quote
 abbrev pub IsLiteral : List ℕ → Type 0
-IsLiteral text = (quote : ℕ) × (inner : List ℕ) × (text ≡ quote ∷ (inner ++ quote ∷ [])) × (is_quote quote ≡ true) × AllIn (may_stand_in quote) inner
+IsLiteral text = (quote : ℕ) × (inner : List ℕ) × (text ≡ quote ∷ (inner ++ quote ∷ [])) × (is_quote quote ≡ true)
+    × AllIn (may_stand_in quote) inner
 
 -- the greatest value of a number
 abbrev pub greatest_number : ℕ

@@ -1,5 +1,6 @@
 -- Refusals of a source: where they are, that there is one, and that a program has none.
-use Rattle.std.proofs.Common.{◌≡◌, ◌≤◌, ◌<◌, ◌+◌, ◌-◌, ◌∙◌, ℕ, zero, suc, List, [], ◌∷◌, ◌++◌, length, take, get_or, refl, sym, ap, subst, append_assoc, append-nil, arith, All, Option, None, Some}
+use Rattle.std.proofs.Common.{◌≡◌, ◌≤◌, ◌<◌, ◌+◌, ◌-◌, ◌∙◌, ℕ, zero, suc, List, [], ◌∷◌, ◌++◌, length, take, get_or, refl, sym, ap, subst}
+use Rattle.std.proofs.Common.{append_assoc, append-nil, arith, All, Option, None, Some}
 use Rattle.std.specs.Prelude.{unwrap_or}
 use Rattle.std.proofs.lemmas.List.{length-map}
 use Rattle.std.proofs.lemmas.Simd.{map-map}
@@ -47,7 +48,8 @@ offset_behind size (token ∷ tokens) zero le = absurd (omega (arith, le))
 offset_behind size (token ∷ tokens) (suc index) le = offset_behind size tokens index (omega (arith, le))
 
 -- an offset is within the source
-offset_within : (source : List ℕ) (tokens : List Lexeme) (index : ℕ) → All (IsSlice source) tokens → offset_of (length source) tokens index ≤ length source
+offset_within : (source : List ℕ) (tokens : List Lexeme) (index : ℕ) → All (IsSlice source) tokens
+    → offset_of (length source) tokens index ≤ length source
 offset_within source [] index h = omega arith
 offset_within source (token ∷ tokens) zero h = let here = h zero token (omega arith) in omega (arith, here.within)
 offset_within source (token ∷ tokens) (suc index) h = offset_within source tokens index (λ k d lt. h (suc k) d (omega (arith, lt)))
@@ -57,7 +59,8 @@ pub kinds_are : (tokens : List Token) → kinds (lexemes tokens) ≡ kinds_of to
 kinds_are tokens = map-map (λ (token : Lexeme). token.kind) lexeme tokens
 
 -- what is parsed is a tree of the source
-pub parsed_of : (source : List ℕ) (tokens : List Token) (tree : Tree) → Tokens source (lexemes tokens) → kinds_of tokens ≡ spelling (plain_module tree)
+pub parsed_of : (source : List ℕ) (tokens : List Token) (tree : Tree) → Tokens source (lexemes tokens)
+    → kinds_of tokens ≡ spelling (plain_module tree)
     → IsNumbered tree (length tokens) → depth (kinds_of tokens) ≤ 100 → IsParsed source (lexemes tokens) tree
 parsed_of source tokens tree scanned spelled numbered shallow = record {
   whole = record {
@@ -69,8 +72,10 @@ parsed_of source tokens tree scanned spelled numbered shallow = record {
 }
 
 -- what the check refuses is refused at the offset of the token
-pub refused_by_check : (source : List ℕ) (tokens : List Lexeme) (tree : Tree) (fault : CheckFault) (node token offset : ℕ) → IsParsed source tokens tree
-    → check_fault source tokens (view_module tree) ≡ Some (record { node = node; fault = fault }) → first_token_of (view_module tree) node ≡ token
+pub refused_by_check : (source : List ℕ) (tokens : List Lexeme) (tree : Tree) (fault : CheckFault) (node token offset : ℕ)
+    → IsParsed source tokens tree
+    → check_fault source tokens (view_module tree) ≡ Some (record { node = node; fault = fault })
+    → first_token_of (view_module tree) node ≡ token
     → offset ≡ offset_of (length source) tokens token → IsRefused source (Check fault) offset
 refused_by_check source tokens tree fault node token offset parsed least at place = record {
   tokens = tokens;
@@ -99,7 +104,8 @@ refused_within source (Lex fault) offset h = omega (arith, h.1.place)
 refused_within source (Syntax fault) offset h =
     let within = offset_within source h.tokens h.index (slices source h.tokens h.scanned) in omega (arith, h.place, within)
 refused_within source (Check fault) offset h =
-    let within = offset_within source h.tokens (first_token_of (view_module h.tree) h.node) (slices source h.tokens h.parsed.whole.scanned) in omega (arith, h.place, within)
+    let within = offset_within source h.tokens (first_token_of (view_module h.tree) h.node)
+    (slices source h.tokens h.parsed.whole.scanned) in omega (arith, h.place, within)
 
 -- ---- two fronts of one list
 
@@ -154,9 +160,11 @@ record Cut (ks : List Kind) (k : ℕ) : Type 0 where
   size : length front ≡ k
   begins : Begins front
   shallow : depth front ≤ 100
-  last : (next : Kind) (mid more : List Kind) → rest ≡ next ∷ more → Begins (front ++ (next ∷ mid)) → depth (front ++ (next ∷ mid)) ≤ 100 → ⊥
+  last : (next : Kind) (mid more : List Kind) → rest ≡ next ∷ more → Begins (front ++ (next ∷ mid)) → depth (front ++ (next ∷ mid)) ≤ 100
+      → ⊥
 
-no_longer : (front rest : List Kind) → Stops front rest → (next : Kind) (mid more : List Kind) → rest ≡ next ∷ more → Begins (front ++ (next ∷ mid)) → ⊥
+no_longer : (front rest : List Kind) → Stops front rest → (next : Kind) (mid more : List Kind) → rest ≡ next ∷ more
+    → Begins (front ++ (next ∷ mid)) → ⊥
 no_longer front rest h next mid more e b =
     let stops : Stops front (next ∷ more) = subst (Stops front) e h in
     stops b.0 (mid ++ b.1) (b.2 ∙ append_assoc front (next ∷ mid) b.1)
@@ -200,7 +208,8 @@ not_before ks j k a b lt =
     a.last l.0 l.1 (l.1 ++ b.rest) l.3 (subst Begins l.2 b.begins) (subst (λ (f : List Kind). depth f ≤ 100) l.2 b.shallow)
 
 -- tokens that stop a tree are not the next of one that begins so, nor is the end too deep
-not_both_at : (front rest : List Kind) → Stops front rest → depth front ≤ 100 → 100 < depth (front ++ take 1 rest) → Begins (front ++ take 1 rest) → ⊥
+not_both_at : (front rest : List Kind) → Stops front rest → depth front ≤ 100 → 100 < depth (front ++ take 1 rest)
+    → Begins (front ++ take 1 rest) → ⊥
 not_both_at front [] h d deep b =
     let x : depth (front ++ []) ≡ depth front = ap depth (append-nil front) in omega (arith, d, deep, x)
 not_both_at front (next ∷ rest) h d deep b = no_longer front (next ∷ rest) h next [] rest refl b
@@ -211,7 +220,8 @@ not_both ks k r q =
     let stops : Stops q.0 q.1 = subst (λ (f : List Kind). Stops f q.1) (sym s.0) (subst (λ (t : List Kind). Stops r.0 t) (sym s.1) r.4) in
     not_both_at q.0 q.1 stops q.4 q.5 q.6
 
-one_fault : (ks : List Kind) (k : ℕ) (fault other : SyntaxFault) → Refuses (parse_error.Syntax fault k) ks → Refuses (parse_error.Syntax other k) ks → fault ≡ other
+one_fault : (ks : List Kind) (k : ℕ) (fault other : SyntaxFault) → Refuses (parse_error.Syntax fault k) ks
+    → Refuses (parse_error.Syntax other k) ks → fault ≡ other
 one_fault ks k Unexpected Unexpected r q = refl
 one_fault ks k Unexpected TooDeep r q = absurd (not_both ks k r q)
 one_fault ks k TooDeep Unexpected r q = absurd (not_both ks k q r)
@@ -220,7 +230,8 @@ one_fault ks k TooDeep TooDeep r q = refl
 one_index : (ks : List Kind) (j k : ℕ) → Cut ks j → Cut ks k → j ≡ k
 one_index ks j k a b = omega (arith, not_before ks j k a b, not_before ks k j b a)
 
-one_syntax_fault : (source : List ℕ) (fault other : SyntaxFault) (at place : ℕ) → SyntaxFaultAt source fault at → SyntaxFaultAt source other place
+one_syntax_fault : (source : List ℕ) (fault other : SyntaxFault) (at place : ℕ) → SyntaxFaultAt source fault at
+    → SyntaxFaultAt source other place
     → (fault ≡ other) × (at ≡ place)
 one_syntax_fault source fault other at place h i =
     let same : i.tokens ≡ h.tokens = tokens_once (length source) source i.tokens h.tokens i.scanned h.scanned in
@@ -231,7 +242,8 @@ one_syntax_fault source fault other at place h i =
     let here : Refuses (parse_error.Syntax other h.index) (kinds h.tokens)
     = subst (λ k. Refuses (parse_error.Syntax other k) (kinds h.tokens)) index there in (
       one_fault (kinds h.tokens) h.index fault other h.refused here,
-      h.place ∙ ap (λ k. offset_of (length source) h.tokens k) (sym index) ∙ ap (λ (ts : List Lexeme). offset_of (length source) ts i.index) (sym same)
+      h.place ∙ ap (λ k. offset_of (length source) h.tokens k) (sym index)
+          ∙ ap (λ (ts : List Lexeme). offset_of (length source) ts i.index) (sym same)
           ∙ sym i.place,
     )
 
@@ -261,15 +273,18 @@ same_tree source s t m n a b =
     let same : s ≡ t = tokens_once (length source) source s t a.whole.scanned b.whole.scanned in
     record {
       tokens = same;
-      trees = one_tree_of_a_spelling m n (length s) (sym a.whole.spelled ∙ ap kinds same ∙ b.whole.spelled) a.whole.numbered (subst (λ (ts : List Lexeme). IsNumbered n (length ts)) (sym same) b.whole.numbered);
+      trees = one_tree_of_a_spelling m n (length s) (sym a.whole.spelled ∙ ap kinds same ∙ b.whole.spelled) a.whole.numbered
+          (subst (λ (ts : List Lexeme). IsNumbered n (length ts)) (sym same) b.whole.numbered);
     }
 
-one_check_fault : (source : List ℕ) (fault other : CheckFault) (at place : ℕ) → CheckFaultAt source fault at → CheckFaultAt source other place
+one_check_fault : (source : List ℕ) (fault other : CheckFault) (at place : ℕ) → CheckFaultAt source fault at
+    → CheckFaultAt source other place
     → (fault ≡ other) × (at ≡ place)
 one_check_fault source fault other at place h i =
     let same = same_tree source h.tokens i.tokens h.tree i.tree h.parsed i.parsed in
     let there : check_fault source h.tokens (view_module h.tree) ≡ Some (record { node = i.node; fault = other }) =
-    ap (λ (ts : List Lexeme). check_fault source ts (view_module h.tree)) same.tokens ∙ ap (check_fault source i.tokens) same.trees ∙ i.least in
+    ap (λ (ts : List Lexeme). check_fault source ts (view_module h.tree)) same.tokens ∙ ap (check_fault source i.tokens) same.trees
+    ∙ i.least in
     let both : Some (record { node = h.node; fault = fault }) ≡ Some (record { node = i.node; fault = other }) = sym h.least ∙ there in
     let node : h.node ≡ i.node = ap node_in both in (
       ap fault_in both,
@@ -291,11 +306,13 @@ pub one_program : (source : List ℕ) (p q : Program) → IsProgramOf source p �
 one_program source p q h i =
     let same = same_tree source h.tokens i.tokens h.tree i.tree h.parsed i.parsed in
     let both : Some p ≡ Some q =
-    sym h.program ∙ ap (λ (ts : List Lexeme). resolved source ts (view_module h.tree)) same.tokens ∙ ap (resolved source i.tokens) same.trees ∙ i.program in
+    sym h.program ∙ ap (λ (ts : List Lexeme). resolved source ts (view_module h.tree)) same.tokens
+    ∙ ap (resolved source i.tokens) same.trees ∙ i.program in
     ap (λ (o : Option Program). unwrap_or o p) both
 
 -- what the parser refuses has no tree
-tree_refused : (source : List ℕ) (fault : SyntaxFault) (at : ℕ) (tokens : List Lexeme) (tree : Tree) → SyntaxFaultAt source fault at → IsParsed source tokens tree → ⊥
+tree_refused : (source : List ℕ) (fault : SyntaxFault) (at : ℕ) (tokens : List Lexeme) (tree : Tree) → SyntaxFaultAt source fault at
+    → IsParsed source tokens tree → ⊥
 tree_refused source fault at tokens tree h p =
     let same : tokens ≡ h.tokens = tokens_once (length source) source tokens h.tokens p.whole.scanned h.scanned in
     program_refused fault h.index (kinds h.tokens) h.refused
@@ -306,14 +323,17 @@ pub one_refusal : (source : List ℕ) (fault other : SourceFault) (at place : �
     → (fault ≡ other) × (at ≡ place)
 one_refusal source (Lex fault) (Lex other) at place h i =
     let r = faults_once (length source) source h.0 i.0 fault other at place h.1 i.1 in (ap Lex r.0, r.1)
-one_refusal source (Lex fault) (Check other) at place h i = absurd (never_both (length source) source i.tokens h.0 fault at i.parsed.whole.scanned h.1)
-one_refusal source (Check fault) (Lex other) at place h i = absurd (never_both (length source) source h.tokens i.0 other place h.parsed.whole.scanned i.1)
+one_refusal source (Lex fault) (Check other) at place h i =
+    absurd (never_both (length source) source i.tokens h.0 fault at i.parsed.whole.scanned h.1)
+one_refusal source (Check fault) (Lex other) at place h i =
+    absurd (never_both (length source) source h.tokens i.0 other place h.parsed.whole.scanned i.1)
 one_refusal source (Syntax fault) (Check other) at place h i = absurd (tree_refused source fault at i.tokens i.tree h i.parsed)
 one_refusal source (Check fault) (Syntax other) at place h i = absurd (tree_refused source other place h.tokens h.tree i h.parsed)
 one_refusal source (Check fault) (Check other) at place h i =
     let r = one_check_fault source fault other at place h i in (ap Check r.0, r.1)
 one_refusal source (Lex fault) (Syntax other) at place h i = absurd (never_both (length source) source i.tokens h.0 fault at i.scanned h.1)
-one_refusal source (Syntax fault) (Lex other) at place h i = absurd (never_both (length source) source h.tokens i.0 other place h.scanned i.1)
+one_refusal source (Syntax fault) (Lex other) at place h i =
+    absurd (never_both (length source) source h.tokens i.0 other place h.scanned i.1)
 one_refusal source (Syntax fault) (Syntax other) at place h i =
     let r = one_syntax_fault source fault other at place h i in (ap Syntax r.0, r.1)
 
@@ -325,17 +345,20 @@ unbroken_refused source fault at p h i =
     let same = same_tree source h.tokens i.tokens h.tree i.tree h.parsed i.parsed in
     let none : check_fault source i.tokens (view_module i.tree) ≡ None = ap least i.unbroken in
     let there : check_fault source i.tokens (view_module i.tree) ≡ Some (record { node = h.node; fault = fault }) =
-    sym (ap (λ (ts : List Lexeme). check_fault source ts (view_module h.tree)) same.tokens ∙ ap (check_fault source i.tokens) same.trees) ∙ h.least in
+    sym (ap (λ (ts : List Lexeme). check_fault source ts (view_module h.tree)) same.tokens ∙ ap (check_fault source i.tokens) same.trees)
+    ∙ h.least in
     cc (none, there)
 
 -- what is refused is no program
-pub refused_no_program : (source : List ℕ) (fault : SourceFault) (offset : ℕ) (p : Program) → IsRefused source fault offset → IsProgramOf source p → ⊥
+pub refused_no_program : (source : List ℕ) (fault : SourceFault) (offset : ℕ) (p : Program) → IsRefused source fault offset
+    → IsProgramOf source p → ⊥
 refused_no_program source (Lex fault) offset p h i = never_both (length source) source i.tokens h.0 fault offset i.parsed.whole.scanned h.1
 refused_no_program source (Syntax fault) offset p h i = tree_refused source fault offset i.tokens i.tree h i.parsed
 refused_no_program source (Check fault) offset p h i = unbroken_refused source fault offset p h i
 
 -- what is refused for a fault of tokens or of syntax has no tokens that spell a program of the grammar
-pub refused_no_spelling : (source : List ℕ) (fault : SourceFault) (offset : ℕ) (tokens : List Lexeme) → IsOfGrammar fault → IsRefused source fault offset
+pub refused_no_spelling : (source : List ℕ) (fault : SourceFault) (offset : ℕ) (tokens : List Lexeme) → IsOfGrammar fault
+    → IsRefused source fault offset
     → Tokens source tokens → IsProgram (kinds tokens) → ⊥
 refused_no_spelling source (Lex fault) offset tokens g h scanned p = never_both (length source) source tokens h.0 fault offset scanned h.1
 refused_no_spelling source (Syntax fault) offset tokens g h scanned p =
@@ -344,7 +367,8 @@ refused_no_spelling source (Syntax fault) offset tokens g h scanned p =
 refused_no_spelling source (Check fault) offset tokens g h scanned p = g
 
 -- what is refused for a fault of tokens or of syntax has no tree
-pub refused_no_tree : (source : List ℕ) (fault : SourceFault) (offset : ℕ) (tokens : List Lexeme) (tree : Tree) → IsOfGrammar fault → IsRefused source fault offset
+pub refused_no_tree : (source : List ℕ) (fault : SourceFault) (offset : ℕ) (tokens : List Lexeme) (tree : Tree) → IsOfGrammar fault
+    → IsRefused source fault offset
     → IsParsed source tokens tree → ⊥
 refused_no_tree source (Lex fault) offset tokens tree g h p = never_both (length source) source tokens h.0 fault offset p.whole.scanned h.1
 refused_no_tree source (Syntax fault) offset tokens tree g h p = tree_refused source fault offset tokens tree h p

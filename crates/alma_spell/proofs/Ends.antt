@@ -18,7 +18,8 @@ pub pushed_last : {T E : Type 0} (r : Result T E) (new mid old : List Kind) (f g
     → ((rest : List Kind) → mid ++ f rest ≡ old ++ g rest) → OnOk r (Pushes old new g)
 pushed_last r new mid old f g h e = on_ok_weaker {P = Pushes mid new f} {Q = Pushes old new g} r (λ k rest. k rest ∙ e rest) h
 
-pub exprs_laid : (t : dx.Exprs) → view.view_exprs t ≡ tree.exprs (view.view_expr (dx.out-Exprs t).first.value) (view.exprs_of (dx.out-Exprs t).more.items)
+pub exprs_laid : (t : dx.Exprs) → view.view_exprs t ≡ tree.exprs (view.view_expr (dx.out-Exprs t).first.value)
+    (view.exprs_of (dx.out-Exprs t).more.items)
 exprs_laid t = ap view.view_exprs (sym (dx.roll-out-Exprs t)) ∙ rows.exprs_rolled (dx.out-Exprs t)
 
 pub simple_laid : (t : di.Simple)
@@ -26,10 +27,12 @@ pub simple_laid : (t : di.Simple)
     ≡ tree.simple (di.out-Simple t).sign (view.view_term (di.out-Simple t).first.value) (view.terms_of (di.out-Simple t).more.items)
 simple_laid t = ap view.view_simple (sym (di.roll-out-Simple t)) ∙ rows.simple_rolled (di.out-Simple t)
 
-pub term_laid : (t : dm.Term) → view.view_term t ≡ tree.term (view.view_factor (dm.out-Term t).first) (view.factors_of (dm.out-Term t).more.items)
+pub term_laid : (t : dm.Term) → view.view_term t ≡ tree.term (view.view_factor (dm.out-Term t).first)
+    (view.factors_of (dm.out-Term t).more.items)
 term_laid t = ap view.view_term (sym (dm.roll-out-Term t)) ∙ rows.term_rolled (dm.out-Term t)
 
-pub expr_laid : (t : de.Expr) → view.view_expr t ≡ tree.expr (view.view_simple (de.out-Expr t).left) (view.compared_of (de.out-Expr t).right)
+pub expr_laid : (t : de.Expr) → view.view_expr t ≡ tree.expr (view.view_simple (de.out-Expr t).left)
+    (view.compared_of (de.out-Expr t).right)
 expr_laid t = ap view.view_expr (sym (de.roll-out-Expr t)) ∙ rows.expr_rolled (de.out-Expr t)
 
 pub label_laid : (t : dl.Label) → view.view_label t ≡ tree.label (view.view_expr (dl.out-Label t).low) (view.high_of (dl.out-Label t).high)

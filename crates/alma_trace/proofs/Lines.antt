@@ -52,11 +52,13 @@ cells_more frames slot (suc (suc n)) =
     let first : List ℕ = cell_text (cell_at frames 0 slot cell.Unknown) in
     ap (λ (z : List ℕ). first ++ 44 ∷ z) (cells_more frames (suc slot) (suc n))
     ∙ ap (λ (k : ℕ). first ++ 44 ∷ (cells_text frames (suc slot) (suc n) ++ 44 ∷ cell_text (cell_at frames 0 k cell.Unknown))) e
-    ∙ sym (append_assoc first (44 ∷ cells_text frames (suc slot) (suc n)) (44 ∷ cell_text (cell_at frames 0 (slot + suc (suc n)) cell.Unknown)))
+    ∙ sym (append_assoc first (44 ∷ cells_text frames (suc slot) (suc n))
+    (44 ∷ cell_text (cell_at frames 0 (slot + suc (suc n)) cell.Unknown)))
 
 -- a cell behind others
 pub cells_put : (frames : List PlainFrame) (slot k : ℕ) (c : Cell) (line now one two : List ℕ)
-    → now ≡ line ++ cells_text frames slot k → one ≡ now ++ comma k → c ≡ cell_at frames 0 (slot + k) cell.Unknown → two ≡ one ++ cell_text c
+    → now ≡ line ++ cells_text frames slot k → one ≡ now ++ comma k → c ≡ cell_at frames 0 (slot + k) cell.Unknown
+    → two ≡ one ++ cell_text c
     → two ≡ line ++ cells_text frames slot (k + 1)
 cells_put frames slot k c line now one two a b e d =
     let more : k + 1 ≡ suc k = omega arith in

@@ -20,7 +20,8 @@ use Rattle.alma_trace.specs.Traced.{traced_words, run_lines, steps_end}
 
 -- a choice of a value is a value of the choice
 by_test : (frames : List PlainFrame) (b : Bool) (here : ℕ × ℕ) (else : Option (ℕ × ℕ))
-    → value_at frames (if_true b (λ _. Some here) (λ _. else)) ≡ if_true b (λ _. cells_text frames here.0 here.1) (λ _. value_at frames else)
+    → value_at frames (if_true b (λ _. Some here) (λ _. else)) ≡ if_true b (λ _. cells_text frames here.0 here.1)
+    (λ _. value_at frames else)
 by_test frames true here else = refl
 by_test frames false here else = refl
 
@@ -41,11 +42,13 @@ words_by_name code s (watch ∷ rest) h =
     ap (value_at s.now) (h 0 watch (omega arith)) ∙ value_by_name s.now code.globals watch.name.now in
     let tail : All (IsResolved code) rest = λ k d lt. h (suc k) d (omega arith) in
     ap (λ (z : List ℕ). (watch.name.now ++ 61 ∷ z) ∷ watch_words s.now rest) here
-    ∙ ap (λ (z : List (List ℕ)). (watch.name.now ++ 61 ∷ value_of_name s.now code.globals watch.name.now) ∷ z) (words_by_name code s rest tail)
+    ∙ ap (λ (z : List (List ℕ)). (watch.name.now ++ 61 ∷ value_of_name s.now code.globals watch.name.now) ∷ z)
+    (words_by_name code s rest tail)
 
 -- the words of an end have nothing behind them
 end_alone : (code : PlainCode) (names : List (List ℕ)) (e : End) (bytes : List ℕ) (s : State)
-    → map (λ (words : List (List ℕ)). words ++ []) (step_words code [] (answer.Done e) bytes s) ≡ step_words code names (answer.Done e) bytes s
+    → map (λ (words : List (List ℕ)). words ++ []) (step_words code [] (answer.Done e) bytes s) ≡ step_words code names (answer.Done e)
+    bytes s
 end_alone code names end.Succeeded bytes s = refl
 end_alone code names end.Failed bytes s = refl
 end_alone code names (end.Fault fault) bytes s = refl
@@ -70,8 +73,10 @@ lines_by_name : (code : PlainCode) (input : List ℕ) (watches : List Watch) (n 
 lines_by_name code input watches zero s h = refl
 lines_by_name code input watches (suc n) s h =
     let x : Stepped = step code input s in
-    ap (λ (z : List (List (List ℕ))). z ++ unless_done x.answer (λ _. run_lines code input watches steps_end n x.state)) (step_by_name code watches x.answer x.printed x.state h)
-    ∙ ap (λ (z : List (List (List ℕ))). step_words code (map (λ watch. watch.name.now) watches) x.answer x.printed x.state ++ unless_done x.answer (λ _. z)) (lines_by_name code input watches n x.state h)
+    ap (λ (z : List (List (List ℕ))). z ++ unless_done x.answer (λ _. run_lines code input watches steps_end n x.state))
+    (step_by_name code watches x.answer x.printed x.state h)
+    ∙ ap (λ (z : List (List (List ℕ))). step_words code (map (λ watch. watch.name.now) watches) x.answer x.printed x.state
+    ++ unless_done x.answer (λ _. z)) (lines_by_name code input watches n x.state h)
 
 -- the whole text
 pub traces_are_the_trace_text : (code : PlainCode) (input : List ℕ) → TracesAreTheTraceText code input

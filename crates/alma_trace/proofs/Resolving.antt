@@ -1,5 +1,6 @@
 -- Names and the places of globals.
-use Rattle.std.proofs.Common.{◌≡◌, ◌∙◌, ℕ, zero, suc, ◌+◌, ◌<◌, ◌≤◌, Bool, true, false, List, [], ◌∷◌, length, get_or, drop, drop-cons, ap, sym, subst, arith, refl, bytes_eq, nat_eq}
+use Rattle.std.proofs.Common.{◌≡◌, ◌∙◌, ℕ, zero, suc, ◌+◌, ◌<◌, ◌≤◌, Bool, true, false, List, [], ◌∷◌, length, get_or, drop, drop-cons, ap}
+use Rattle.std.proofs.Common.{sym, subst, arith, refl, bytes_eq, nat_eq}
 use Rattle.std.specs.Prelude.{◌&&◌, Option, Some, None, MatchOption, not, nat_lt, slice_get}
 use Rattle.std.specs.List.{list_all}
 use Rattle.std.proofs.lemmas.Bool.{and_parts}
@@ -23,20 +24,24 @@ same_is (x ∷ a) (y ∷ b) = ap (λ (z : Bool). nat_eq x y && z) (same_is a b)
 
 -- the globals from one on, by the first of them
 from_one : (globals : List PlainGlobal) (i : ℕ) (g : PlainGlobal) (name : List ℕ) → slice_get globals i ≡ Some g
-    → place_of_name (drop i globals) name ≡ if_true (same_name g.name name) (λ _. Some (g.slot, g.cells)) (λ _. place_of_name (drop (suc i) globals) name)
+    → place_of_name (drop i globals) name ≡ if_true (same_name g.name name) (λ _. Some (g.slot, g.cells))
+    (λ _. place_of_name (drop (suc i) globals) name)
 from_one globals i g name h =
     let lt : i < length globals = slice_get_within globals i g h in
     let here : get_or globals i g ≡ g = get_or_from_slice_get globals i g g h in
-    ap (λ (gs : List PlainGlobal). place_of_name gs name) (drop-cons globals i g lt ∙ ap (λ (x : PlainGlobal). x ∷ drop (suc i) globals) here)
+    ap (λ (gs : List PlainGlobal). place_of_name gs name)
+    (drop-cons globals i g lt ∙ ap (λ (x : PlainGlobal). x ∷ drop (suc i) globals) here)
 
 -- one that has the name
-pub found : (globals : List PlainGlobal) (i : ℕ) (g : PlainGlobal) (name : List ℕ) → slice_get globals i ≡ Some g → same_name g.name name ≡ true
+pub found : (globals : List PlainGlobal) (i : ℕ) (g : PlainGlobal) (name : List ℕ) → slice_get globals i ≡ Some g
+    → same_name g.name name ≡ true
     → place_of_name (drop i globals) name ≡ Some (g.slot, g.cells)
 found globals i g name h e =
     from_one globals i g name h ∙ ap (λ b. if_true b (λ _. Some (g.slot, g.cells)) (λ _. place_of_name (drop (suc i) globals) name)) e
 
 -- one that has not
-pub passed : (globals : List PlainGlobal) (i : ℕ) (g : PlainGlobal) (name : List ℕ) → slice_get globals i ≡ Some g → same_name g.name name ≡ false
+pub passed : (globals : List PlainGlobal) (i : ℕ) (g : PlainGlobal) (name : List ℕ) → slice_get globals i ≡ Some g
+    → same_name g.name name ≡ false
     → place_of_name (drop i globals) name ≡ place_of_name (drop (i + 1) globals) name
 passed globals i g name h e =
     let one : suc i ≡ i + 1 = omega arith in
@@ -52,7 +57,8 @@ cells_room : (code : PlainCode) (i n : ℕ) → cells_in code 0 i n ≡ true →
 cells_room code i zero h lt = absurd (omega arith)
 cells_room code i (suc n) h lt =
     let numbers = (and_parts (is_free code 0 i) (numbers_from (suc n) (kinds_at code 0) i) h).1 in
-    let last = slice_get_within (kinds_at code 0) (i + n) slot.Number (numbers_from_at code (suc n) (kinds_at code 0) i n numbers (omega arith)) in
+    let last = slice_get_within (kinds_at code 0) (i + n) slot.Number
+    (numbers_from_at code (suc n) (kinds_at code 0) i n numbers (omega arith)) in
     omega (arith, last)
 
 -- one of two places is within so many slots where each is

@@ -71,7 +71,8 @@ lines_then : (old now new : MachineView) (watches : List Watch) (m : ℕ) (a : S
     ++ unless_done a (λ _. run_lines old.code old.input watches behind k new.state))
 lines_then old now new watches m a front p done behind k =
     let at : step now.code now.input now.state ≡ step old.code old.input (after old.code old.input m old.state) =
-    ap (λ code. step code now.input now.state) p.code ∙ ap (λ input. step old.code input now.state) p.input ∙ ap (step old.code old.input) p.state in
+    ap (λ code. step code now.input now.state) p.code ∙ ap (λ input. step old.code input now.state) p.input
+    ∙ ap (step old.code old.input) p.state in
     front.lines behind (suc k)
     ∙ ap (λ (x : Stepped). lines_of old watches [] m ++ (traced_words old.code watches x.answer x.printed x.state
     ++ unless_done x.answer (λ _. run_lines old.code old.input watches behind k x.state))) (sym (done ∙ at))
@@ -95,7 +96,8 @@ text_more old now new watches m a front p done =
     ∙ flat_map-append text_line (lines_of old watches [] m) (traced_words old.code watches a new.printed new.state)
 
 -- with a step that goes on none ended the run
-pub front_more : (old now new : MachineView) (watches : List Watch) (m : ℕ) (a : Step) → IsFront old watches m → Progress old now m → Progress old new (m + 1)
+pub front_more : (old now new : MachineView) (watches : List Watch) (m : ℕ) (a : Step) → IsFront old watches m → Progress old now m
+    → Progress old new (m + 1)
     → stepped a new.printed new.state ≡ step now.code now.input now.state → goes_on a ≡ true → IsFront old watches (m + 1)
 front_more old now new watches m a front p q done goes = record {
   lines = λ behind k.
@@ -111,7 +113,8 @@ front_more old now new watches m a front p q done goes = record {
 }
 
 -- with the step that ends the run the text is whole
-pub text_whole : (old now new : MachineView) (watches : List Watch) (m budget : ℕ) (a : Step) (e : End) → IsFront old watches m → Progress old now m
+pub text_whole : (old now new : MachineView) (watches : List Watch) (m budget : ℕ) (a : Step) (e : End) → IsFront old watches m
+    → Progress old now m
     → stepped a new.printed new.state ≡ step now.code now.input now.state → a ≡ answer.Done e → m < budget
     → traced old.code old.input watches budget old.state ≡ text_of old watches m ++ step_text old.code watches a new.printed new.state
 text_whole old now new watches m budget a e front p done is lt =
@@ -140,7 +143,8 @@ end_within steps budget = if_true (nat_eq steps budget) (λ _. steps_end) (λ _.
 
 -- the text of the steps made begins with that of each but the last
 pub within_now : (old new : MachineView) (watches : List Watch) (m budget : ℕ) → IsFront old watches m → Progress old new m
-    → traced_within old.code old.input watches (made old new) budget old.state ≡ text_of old watches m ++ flat_map text_line (end_within m budget)
+    → traced_within old.code old.input watches (made old new) budget old.state ≡ text_of old watches m
+    ++ flat_map text_line (end_within m budget)
 within_now old new watches m budget front p =
     let none : m ≡ m + 0 = omega arith in
     ap (λ (n : ℕ). traced_within old.code old.input watches n budget old.state) (made_is old new m p)
@@ -176,7 +180,8 @@ on_cut (run.Fault fault) P h p = absurd h
 on_cut run.StepsOut P h p = absurd h
 
 -- a front of a line comes after the lines before it
-pub front_behind : (a b c : Option (List ℕ)) (xs ys rest zs : List ℕ) → Appends a b xs → AppendsFront b c ys → zs ≡ xs ++ (ys ++ rest) → AppendsFront a c zs
+pub front_behind : (a b c : Option (List ℕ)) (xs ys rest zs : List ℕ) → Appends a b xs → AppendsFront b c ys → zs ≡ xs ++ (ys ++ rest)
+    → AppendsFront a c zs
 front_behind a b c xs ys rest zs h (front, more, is, k) e =
     out_front a b c xs (ys ++ rest) zs h (front, more ++ rest, ap (λ (z : List ℕ). z ++ rest) is ∙ append_assoc front more rest, k) e
 

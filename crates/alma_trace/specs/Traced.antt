@@ -35,7 +35,8 @@ abbrev pub steps_end : List (List (List ℕ))
 steps_end = (codes "end" ∷ codes "steps" ∷ []) ∷ []
 
 -- the lines of a run of at most so many steps, and those behind them where they did not end it
-abbrev pub run_lines : PlainCode → (input : List ℕ) → List Watch → (behind : List (List (List ℕ))) → (steps : ℕ) → State → List (List (List ℕ))
+abbrev pub run_lines : PlainCode → (input : List ℕ) → List Watch → (behind : List (List (List ℕ))) → (steps : ℕ) → State
+    → List (List (List ℕ))
 run_lines code input watches behind zero s = behind
 run_lines code input watches behind (suc n) s =
     let x : Stepped = step code input s in

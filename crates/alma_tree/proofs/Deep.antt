@@ -1,5 +1,6 @@
 -- One more kind in the greatest depth.
-use Rattle.std.proofs.Common.{◌≡◌, ◌≤◌, ◌<◌, ℕ, ◌+◌, ◌-◌, max, Bool, true, false, List, [], ◌∷◌, length, drop, refl, ap, ◌∙◌, sym, lit≤, arith}
+use Rattle.std.proofs.Common.{◌≡◌, ◌≤◌, ◌<◌, ℕ, ◌+◌, ◌-◌, max, Bool, true, false, List, [], ◌∷◌, length, drop, refl, ap, ◌∙◌, sym, lit≤}
+use Rattle.std.proofs.Common.{arith}
 use Rattle.std.proofs.Math.ListN.{get_or}
 use Rattle.std.proofs.lemmas.List.{at_drop_more}
 use Rattle.alma_tree.specs.declared.kind.Kind.{Kind}
@@ -21,7 +22,8 @@ at_most_one true = lit≤ tt
 at_most_one false = lit≤ tt
 
 one_more : (g o c : ℕ) (k : Kind) (rest : List Kind) → o - c ≤ g
-    → max (max g (o + one_where (opens k) - (c + one_where (closes k)))) (depth_from (o + one_where (opens k)) (c + one_where (closes k)) rest)
+    → max (max g (o + one_where (opens k) - (c + one_where (closes k))))
+    (depth_from (o + one_where (opens k)) (c + one_where (closes k)) rest)
     ≡ max g (depth_from o c (k ∷ rest))
 one_more g o c k rest h = let x = at_least (o + one_where (opens k)) (c + one_where (closes k)) rest in omega arith
 
@@ -29,7 +31,8 @@ one_more g o c k rest h = let x = at_least (o + one_where (opens k)) (c + one_wh
 abbrev pub Kept : (greatest opened closed i : ℕ) → List Kind → Type 0
 Kept g o c i ks = (max g (depth_from o c (drop i ks)) ≡ depth ks) × (o - c ≤ g) × (o ≤ i) × (c ≤ i)
 
-pub kept : (g o c i : ℕ) (ks : List Kind) → i < length ks → Kept g o c i ks → (a b : Bool) → a ≡ opens (get_or ks i kinds.Name) → b ≡ closes (get_or
+pub kept : (g o c i : ℕ) (ks : List Kind) → i < length ks → Kept g o c i ks → (a b : Bool) → a ≡ opens (get_or ks i kinds.Name)
+    → b ≡ closes (get_or
     ks i kinds.Name)
     → (s m : ℕ) → s ≡ o + bool_byte a - (c + bool_byte b) → m ≡ max g s → Kept m (o + bool_byte a) (c + bool_byte b) (i + 1) ks
 kept g o c i ks l h a b e f s m p q =

@@ -40,14 +40,16 @@ stmts_kept v =
     stmts_row _ (da.TheBlock.hidden-the_row-Stmt-1 v) ∙ ap numbers.numbers_of_stmts (da.items_hidden-the_row-Stmt-1 v)
 
 pub stmts_laid : (s : ds.Stmts)
-    → (numbers.number_stmt s.first.value >> numbers.number_stmts_row (da.TheBlock.hidden-the_row-Stmt-1 s.more) >> node s.node) ≡ numbers.number_stmts s
+    → (numbers.number_stmt s.first.value >> numbers.number_stmts_row (da.TheBlock.hidden-the_row-Stmt-1 s.more) >> node s.node)
+    ≡ numbers.number_stmts s
 stmts_laid s = ap (λ g. numbers.number_stmt s.first.value >> g >> node s.node) (stmts_kept s.more)
 
 stmts_shown : (shape : _) (row : _)
     → numbers.number_stmts_row row ≡ numbers.numbers_of_stmts (da.TheBlock.shown-the_row-Stmt-1 shape row).items
 stmts_shown shape row = stmts_row _ row ∙ ap numbers.numbers_of_stmts (sym (da.items_shown-the_row-Stmt-1 shape row))
 
-selectors_row : (n : _) (row : dd.Row_of-Selector n) → numbers.number_selectors row ≡ numbers.numbers_of_selectors (dd.items-the_row-Selector n row)
+selectors_row : (n : _) (row : dd.Row_of-Selector n)
+    → numbers.number_selectors row ≡ numbers.numbers_of_selectors (dd.items-the_row-Selector n row)
 selectors_row n dd.end_of-Selector = refl
 selectors_row n (dd.more_of-Selector x rest) = ap (λ g. numbers.number_selector x >> g) (selectors_row _ rest)
 
@@ -61,7 +63,8 @@ selectors_shown : (shape : _) (row : _)
 selectors_shown shape row = selectors_row _ row ∙ ap numbers.numbers_of_selectors (sym (dd.items_shown-the_row-Selector-2 shape row))
 
 desig_laid : (d : dd.Desig)
-    → (numbers.number_name d.name >> numbers.number_selectors (da.TheBlock.hidden-the_row-Selector-2 d.more) >> node d.node) ≡ numbers.number_desig d
+    → (numbers.number_name d.name >> numbers.number_selectors (da.TheBlock.hidden-the_row-Selector-2 d.more) >> node d.node)
+    ≡ numbers.number_desig d
 desig_laid d = ap (λ g. numbers.number_name d.name >> g >> node d.node) (selectors_kept d.more)
 
 exprs_row : (n : _) (row : dx.Row_of-Expr n) → numbers.number_exprs_row row ≡ numbers.numbers_of_exprs (dx.items-the_row-Expr n row)
@@ -93,7 +96,8 @@ labels_kept v =
 
 terms_row : (n : _) (row : di.Row_of-AddLink n) → numbers.number_terms row ≡ numbers.numbers_of_terms (di.items-the_row-AddLink n row)
 terms_row n di.end_of-AddLink = refl
-terms_row n (di.more_of-AddLink (dk.AddLink' x t) rest) = rw (dk.outs-AddLink' x t) (ap (λ g. token >> numbers.number_term t >> g) (terms_row _ rest))
+terms_row n (di.more_of-AddLink (dk.AddLink' x t) rest) =
+    rw (dk.outs-AddLink' x t) (ap (λ g. token >> numbers.number_term t >> g) (terms_row _ rest))
 
 pub terms_kept : (v : Vec dk.AddLink Global)
     → numbers.number_terms (da.TheBlock.hidden-the_row-AddLink-8 v) ≡ numbers.numbers_of_terms v.items
@@ -113,7 +117,8 @@ orelses_row : (n : _) (row : dt.Row_of-Stmts n) → numbers.number_orelses row �
 orelses_row n dt.end_of-Stmts = refl
 orelses_row n (dt.more_of-Stmts m b s shape row rest) =
     ap (λ g. token >> (numbers.number_stmt s >> g >> node m) >> numbers.number_orelses rest) (stmts_shown shape row)
-    ∙ ap (λ g. token >> (numbers.number_stmt s >> numbers.numbers_of_stmts (da.TheBlock.shown-the_row-Stmt-1 shape row).items >> node m) >> g)
+    ∙ ap (λ g. token >> (numbers.number_stmt s >> numbers.numbers_of_stmts (da.TheBlock.shown-the_row-Stmt-1 shape row).items >> node m) >>
+    g)
     (orelses_row _ rest)
 
 pub orelses_kept : (v : Vec ds.Stmts Global)
@@ -125,7 +130,8 @@ desigs_row : (n : _) (row : dt.Row_of-Desig n) → numbers.number_desigs row ≡
 desigs_row n dt.end_of-Desig = refl
 desigs_row n (dt.more_of-Desig m l shape row rest) =
     ap (λ g. token >> (numbers.number_name l >> g >> node m) >> numbers.number_desigs rest) (selectors_shown shape row)
-    ∙ ap (λ g. token >> (numbers.number_name l >> numbers.numbers_of_selectors (da.TheBlock.shown-the_row-Selector-2 shape row).items >> node m) >>
+    ∙ ap (λ g. token >> (numbers.number_name l >> numbers.numbers_of_selectors (da.TheBlock.shown-the_row-Selector-2 shape row).items >>
+    node m) >>
     g) (desigs_row _ rest)
 
 pub desigs_kept : (v : Vec dd.Desig Global)
@@ -137,8 +143,10 @@ elsifs_row : (n : _) (row : dt.Row_of-Elsif n) → numbers.number_elsifs row ≡
 elsifs_row n dt.end_of-Elsif = refl
 elsifs_row n (dt.more_of-Elsif (df.Elsif' e m b s shape row) rest) =
     rw (df.outs-Elsif' e m b s shape row) (
-    ap (λ g. token >> numbers.number_expr e >> token >> (numbers.number_stmt s >> g >> node m) >> numbers.number_elsifs rest) (stmts_shown shape row)
-    ∙ ap (λ g. token >> numbers.number_expr e >> token >> (numbers.number_stmt s >> numbers.numbers_of_stmts (da.TheBlock.shown-the_row-Stmt-1 shape
+    ap (λ g. token >> numbers.number_expr e >> token >> (numbers.number_stmt s >> g >> node m) >> numbers.number_elsifs rest)
+    (stmts_shown shape row)
+    ∙ ap (λ g. token >> numbers.number_expr e >> token >>
+    (numbers.number_stmt s >> numbers.numbers_of_stmts (da.TheBlock.shown-the_row-Stmt-1 shape
     row).items >> node m) >> g)
     (elsifs_row _ rest))
 
@@ -165,7 +173,8 @@ pub high_kept : (x : Option de.Expr) → numbers.number_high (dl.back-Stmt-For-4
 high_kept None = refl
 high_kept (Some e) = refl
 
-compared_held : (b : _) (c : dc.Compared) → numbers.number_compared (de.Expr-right-Some' b c) ≡ (token >> numbers.number_simple (dc.out-Compared c).right)
+compared_held : (b : _) (c : dc.Compared)
+    → numbers.number_compared (de.Expr-right-Some' b c) ≡ (token >> numbers.number_simple (dc.out-Compared c).right)
 compared_held b (dc.Compared' r s) = rw (dc.outs-Compared' r s) refl
 
 pub compared_kept : (x : Option (Box dc.Compared Global)) → numbers.number_compared (de.back-Expr-right x) ≡ numbers.numbers_of_compared x
@@ -188,13 +197,16 @@ simple_rolled r =
 
 pub term_rolled : (r : _)
     → numbers.number_term (dm.roll-Term r) ≡ (numbers.number_factor r.first >> numbers.numbers_of_factors r.more.items >> node r.node)
-term_rolled r = ap numbers.number_term (dm.rolls-Term' r) ∙ ap (λ g. numbers.number_factor r.first >> g >> node r.node) (factors_kept r.more)
+term_rolled r = ap numbers.number_term (dm.rolls-Term' r)
+    ∙ ap (λ g. numbers.number_factor r.first >> g >> node r.node) (factors_kept r.more)
 
 pub expr_rolled : (r : _)
     → numbers.number_expr (de.roll-Expr r) ≡ (numbers.number_simple r.left >> numbers.numbers_of_compared r.right >> node r.node)
-expr_rolled r = ap numbers.number_expr (de.rolls-Expr' r) ∙ ap (λ g. numbers.number_simple r.left >> g >> node r.node) (compared_kept r.right)
+expr_rolled r = ap numbers.number_expr (de.rolls-Expr' r)
+    ∙ ap (λ g. numbers.number_simple r.left >> g >> node r.node) (compared_kept r.right)
 
-pub exprs_rolled : (r : _) → numbers.number_exprs (dx.roll-Exprs r) ≡ (numbers.number_expr r.first.value >> numbers.numbers_of_exprs r.more.items)
+pub exprs_rolled : (r : _) → numbers.number_exprs (dx.roll-Exprs r)
+    ≡ (numbers.number_expr r.first.value >> numbers.numbers_of_exprs r.more.items)
 exprs_rolled r = ap numbers.number_exprs (dx.rolls-Exprs' r) ∙ ap (λ g. numbers.number_expr r.first.value >> g) (exprs_kept r.more)
 
 pub label_rolled : (r : _)
@@ -205,7 +217,8 @@ pub labelled_laid : (n : _) (l : dl.Label) (more : Vec dl.Label Global) (s : ds.
     → numbers.number_arm (da.Labelled n l more s)
     ≡ (numbers.number_label l >> numbers.numbers_of_labels more.items >> token >> numbers.number_stmts s >> node n)
 labelled_laid n l more s =
-    ap (λ g. numbers.number_label l >> numbers.number_labels (da.TheBlock.hidden-the_row-Label-0 more) >> token >> g >> node n) (stmts_laid s)
+    ap (λ g. numbers.number_label l >> numbers.number_labels (da.TheBlock.hidden-the_row-Label-0 more) >> token >> g >> node n)
+    (stmts_laid s)
     ∙ ap (λ g. numbers.number_label l >> g >> token >> numbers.number_stmts s >> node n) (labels_kept more)
 
 pub named_laid : (n : _) (d : dd.Desig) (a : Option dg.Args)
@@ -230,14 +243,17 @@ assign_laid n d e = ap (λ g. g >> token >> numbers.number_expr e >> node n) (de
 
 pub if_laid : (n : _) (e : de.Expr) (s : ds.Stmts) (more : Vec df.Elsif Global) (other : Option ds.Stmts)
     → numbers.number_stmt (dt.If n e s more other)
-    ≡ (token >> numbers.number_expr e >> token >> numbers.number_stmts s >> numbers.numbers_of_elsifs more.items >> numbers.numbers_of_else other
+    ≡ (token >> numbers.number_expr e >> token >> numbers.number_stmts s >> numbers.numbers_of_elsifs more.items >> numbers.numbers_of_else
+    other
     >> token >> node n)
 if_laid n e s more other =
     ap (λ g. token >> numbers.number_expr e >> token >> g >> numbers.number_elsifs (da.TheBlock.hidden-the_row-Elsif-3 more)
     >> numbers.number_else (dt.back-Stmt-If-4 other) >> token >> node n) (stmts_laid s)
-    ∙ ap (λ g. token >> numbers.number_expr e >> token >> numbers.number_stmts s >> g >> numbers.number_else (dt.back-Stmt-If-4 other) >> token >> node n)
+    ∙ ap (λ g. token >> numbers.number_expr e >> token >> numbers.number_stmts s >> g >> numbers.number_else (dt.back-Stmt-If-4 other) >>
+    token >> node n)
     (elsifs_kept more)
-    ∙ ap (λ g. token >> numbers.number_expr e >> token >> numbers.number_stmts s >> numbers.numbers_of_elsifs more.items >> g >> token >> node n)
+    ∙ ap (λ g. token >> numbers.number_expr e >> token >> numbers.number_stmts s >> numbers.numbers_of_elsifs more.items >> g >> token >>
+    node n)
     (else_kept other)
 
 pub while_laid : (n : _) (e : de.Expr) (s : ds.Stmts)
@@ -263,21 +279,26 @@ pub some_laid : (n : _) (l : Name) (low high : de.Expr) (s : ds.Stmts)
     ≡ (token >> numbers.number_name l >> token >> numbers.number_expr low >> token >> numbers.number_expr high
     >> token >> numbers.number_stmts s >> token >> node n)
 some_laid n l low high s =
-    ap (λ g. token >> numbers.number_name l >> token >> numbers.number_expr low >> token >> numbers.number_expr high >> token >> g >> token >> node n)
+    ap (λ g. token >> numbers.number_name l >> token >> numbers.number_expr low >> token >> numbers.number_expr high >> token >> g >> token
+    >> node n)
     (stmts_laid s)
 
 pub case_laid : (n : _) (e : de.Expr) (a : Box da.Arm Global) (more : Vec da.Arm Global) (other : Option ds.Stmts)
     → numbers.number_stmt (dt.Case n e a more other)
-    ≡ (token >> numbers.number_expr e >> token >> numbers.number_arm a.value >> numbers.numbers_of_arms more.items >> numbers.numbers_of_else other
+    ≡ (token >> numbers.number_expr e >> token >> numbers.number_arm a.value >> numbers.numbers_of_arms more.items >>
+    numbers.numbers_of_else other
     >> token >> node n)
 case_laid n e a more other =
-    ap (λ g. token >> numbers.number_expr e >> token >> numbers.number_arm a.value >> g >> numbers.number_else (dt.back-Stmt-If-4 other) >> token >> node n)
+    ap (λ g. token >> numbers.number_expr e >> token >> numbers.number_arm a.value >> g >> numbers.number_else (dt.back-Stmt-If-4 other) >>
+    token >> node n)
     (arms_kept more)
-    ∙ ap (λ g. token >> numbers.number_expr e >> token >> numbers.number_arm a.value >> numbers.numbers_of_arms more.items >> g >> token >> node n)
+    ∙ ap (λ g. token >> numbers.number_expr e >> token >> numbers.number_arm a.value >> numbers.numbers_of_arms more.items >> g >> token >>
+    node n)
     (else_kept other)
 
 pub either_laid : (n : _) (s : ds.Stmts) (more : Vec ds.Stmts Global)
-    → numbers.number_stmt (dt.Either n s more) ≡ (token >> numbers.number_stmts s >> numbers.numbers_of_orelses more.items >> token >> node n)
+    → numbers.number_stmt (dt.Either n s more)
+    ≡ (token >> numbers.number_stmts s >> numbers.numbers_of_orelses more.items >> token >> node n)
 either_laid n s more =
     ap (λ g. token >> g >> numbers.number_orelses (da.TheBlock.hidden-the_row-Stmts-5 more) >> token >> node n) (stmts_laid s)
     ∙ ap (λ g. token >> numbers.number_stmts s >> g >> token >> node n) (orelses_kept more)
@@ -285,7 +306,8 @@ either_laid n s more =
 pub forall_laid : (n : _) (s t : ds.Stmts)
     → numbers.number_stmt (dt.Forall n s t) ≡ (token >> numbers.number_stmts s >> token >> numbers.number_stmts t >> token >> node n)
 forall_laid n s t =
-    ap (λ g. token >> g >> token >> (numbers.number_stmt t.first.value >> numbers.number_stmts_row (da.TheBlock.hidden-the_row-Stmt-1 t.more) >>
+    ap (λ g. token >> g >> token >> (numbers.number_stmt t.first.value >> numbers.number_stmts_row
+    (da.TheBlock.hidden-the_row-Stmt-1 t.more) >>
     node t.node)
     >> token >> node n) (stmts_laid s)
     ∙ ap (λ g. token >> numbers.number_stmts s >> token >> g >> token >> node n) (stmts_laid t)
@@ -308,7 +330,8 @@ writeln_laid n a = ap (λ g. token >> g >> node n) (args_kept a)
 
 -- ---- types
 
-plains_row : (n : _) (row : dz.Row_of-PlainType n) → numbers.number_plains row ≡ numbers.numbers_of_plains (dz.items-the_row-PlainType n row)
+plains_row : (n : _) (row : dz.Row_of-PlainType n)
+    → numbers.number_plains row ≡ numbers.numbers_of_plains (dz.items-the_row-PlainType n row)
 plains_row n dz.end_of-PlainType = refl
 plains_row n (dz.more_of-PlainType x rest) = ap (λ g. token >> numbers.number_plain x >> g) (plains_row _ rest)
 
@@ -321,7 +344,8 @@ plains_shown : (shape : _) (row : _)
     → numbers.number_plains row ≡ numbers.numbers_of_plains (dw.TheBlock.shown-the_row-PlainType-1 shape row).items
 plains_shown shape row = plains_row _ row ∙ ap numbers.numbers_of_plains (sym (dz.items_shown-the_row-PlainType-1 shape row))
 
-field_lists_row : (n : _) (row : dq.Row_of-FieldList n) → numbers.number_field_lists row ≡ numbers.numbers_of_field_lists (dq.items-the_row-FieldList n row)
+field_lists_row : (n : _) (row : dq.Row_of-FieldList n)
+    → numbers.number_field_lists row ≡ numbers.numbers_of_field_lists (dq.items-the_row-FieldList n row)
 field_lists_row n dq.end_of-FieldList = refl
 field_lists_row n (dq.more_of-FieldList x rest) = ap (λ g. token >> numbers.number_field_list x >> g) (field_lists_row _ rest)
 
@@ -330,11 +354,13 @@ pub field_lists_kept : (v : Vec dw.FieldList Global)
 field_lists_kept v =
     field_lists_row _ (dw.TheBlock.hidden-the_row-FieldList-0 v) ∙ ap numbers.numbers_of_field_lists (dq.items_hidden-the_row-FieldList-0 v)
 
-dimensions_row : (n : _) (row : dz.Row_of-Dimensions n) → numbers.number_dimensions row ≡ numbers.numbers_of_dimensions (dz.items-the_row-Dimensions n row)
+dimensions_row : (n : _) (row : dz.Row_of-Dimensions n)
+    → numbers.number_dimensions row ≡ numbers.numbers_of_dimensions (dz.items-the_row-Dimensions n row)
 dimensions_row n dz.end_of-Dimensions = refl
 dimensions_row n (dz.more_of-Dimensions p shape row rest) =
     ap (λ g. token >> numbers.number_plain p >> g >> token >> numbers.number_dimensions rest) (plains_shown shape row)
-    ∙ ap (λ g. token >> numbers.number_plain p >> numbers.numbers_of_plains (dw.TheBlock.shown-the_row-PlainType-1 shape row).items >> token >> g)
+    ∙ ap (λ g. token >> numbers.number_plain p >> numbers.numbers_of_plains (dw.TheBlock.shown-the_row-PlainType-1 shape row).items >> token
+    >> g)
     (dimensions_row _ rest)
 
 pub dimensions_kept : (v : Vec dv.Dimensions Global)
@@ -351,12 +377,14 @@ arrays_kept None = refl
 arrays_kept (Some (dz.Arrays' n p shape row shape' row')) =
     rw (dz.outs-Arrays' n p shape row shape' row') (
     ap (λ g. token >> numbers.number_plain p >> g >> token >> numbers.number_dimensions row' >> node n) (plains_shown shape row)
-    ∙ ap (λ g. token >> numbers.number_plain p >> numbers.numbers_of_plains (dw.TheBlock.shown-the_row-PlainType-1 shape row).items >> token >> g >> node n)
+    ∙ ap (λ g. token >> numbers.number_plain p >> numbers.numbers_of_plains (dw.TheBlock.shown-the_row-PlainType-1 shape row).items >> token
+    >> g >> node n)
     (dimensions_shown shape' row'))
 
 pub type_rolled : (r : _)
     → numbers.number_type (dy.roll-TypeNode r) ≡ (numbers.numbers_of_arrays r.arrays >> numbers.number_plain r.element >> node r.node)
-type_rolled r = ap numbers.number_type (dy.rolls-TypeNode' r) ∙ ap (λ g. g >> numbers.number_plain r.element >> node r.node) (arrays_kept r.arrays)
+type_rolled r = ap numbers.number_type (dy.rolls-TypeNode' r)
+    ∙ ap (λ g. g >> numbers.number_plain r.element >> node r.node) (arrays_kept r.arrays)
 
 pub record_laid : (n : _) (f : Box dw.FieldList Global) (more : Vec dw.FieldList Global)
     → numbers.number_plain (dq.Record n f more)

@@ -38,7 +38,8 @@ pub stmts_kept : (v : Vec dt.Stmt Global) → view.view_stmts_row (da.TheBlock.h
 stmts_kept v =
     stmts_row _ (da.TheBlock.hidden-the_row-Stmt-1 v) ∙ ap view.stmts_of (da.items_hidden-the_row-Stmt-1 v)
 
-pub stmts_laid : (s : ds.Stmts) → tree.stmts (view.view_stmt s.first.value) (view.view_stmts_row (da.TheBlock.hidden-the_row-Stmt-1 s.more)) ≡
+pub stmts_laid : (s : ds.Stmts) → tree.stmts (view.view_stmt s.first.value) (view.view_stmts_row (da.TheBlock.hidden-the_row-Stmt-1 s.more))
+    ≡
     view.view_stmts s
 stmts_laid s = ap (tree.stmts (view.view_stmt s.first.value)) (stmts_kept s.more)
 
@@ -49,7 +50,8 @@ selectors_row : (n : _) (row : dd.Row_of-Selector n) → view.view_selectors row
 selectors_row n dd.end_of-Selector = refl
 selectors_row n (dd.more_of-Selector x rest) = ap (tree.more_selector (view.view_selector x)) (selectors_row _ rest)
 
-pub selectors_kept : (v : Vec dj.Selector Global) → view.view_selectors (da.TheBlock.hidden-the_row-Selector-2 v) ≡ view.selectors_of v.items
+pub selectors_kept : (v : Vec dj.Selector Global)
+    → view.view_selectors (da.TheBlock.hidden-the_row-Selector-2 v) ≡ view.selectors_of v.items
 selectors_kept v =
     selectors_row _ (da.TheBlock.hidden-the_row-Selector-2 v) ∙ ap view.selectors_of (dd.items_hidden-the_row-Selector-2 v)
 
@@ -82,7 +84,8 @@ labels_kept v =
 
 terms_row : (n : _) (row : di.Row_of-AddLink n) → view.view_terms row ≡ view.terms_of (di.items-the_row-AddLink n row)
 terms_row n di.end_of-AddLink = refl
-terms_row n (di.more_of-AddLink (dk.AddLink' x t) rest) = rw (dk.outs-AddLink' x t) (ap (tree.more_term x (view.view_term t)) (terms_row _ rest))
+terms_row n (di.more_of-AddLink (dk.AddLink' x t) rest) =
+    rw (dk.outs-AddLink' x t) (ap (tree.more_term x (view.view_term t)) (terms_row _ rest))
 
 pub terms_kept : (v : Vec dk.AddLink Global) → view.view_terms (da.TheBlock.hidden-the_row-AddLink-8 v) ≡ view.terms_of v.items
 terms_kept v =
@@ -100,7 +103,8 @@ orelses_row : (n : _) (row : dt.Row_of-Stmts n) → view.view_orelses row ≡ vi
 orelses_row n dt.end_of-Stmts = refl
 orelses_row n (dt.more_of-Stmts m b s shape row rest) =
     ap (λ x. tree.more_orelse (tree.stmts (view.view_stmt s) x) (view.view_orelses rest)) (stmts_shown shape row)
-    ∙ ap (tree.more_orelse (tree.stmts (view.view_stmt s) (view.stmts_of (da.TheBlock.shown-the_row-Stmt-1 shape row).items))) (orelses_row _ rest)
+    ∙ ap (tree.more_orelse (tree.stmts (view.view_stmt s) (view.stmts_of (da.TheBlock.shown-the_row-Stmt-1 shape row).items)))
+    (orelses_row _ rest)
 
 pub orelses_kept : (v : Vec ds.Stmts Global) → view.view_orelses (da.TheBlock.hidden-the_row-Stmts-5 v) ≡ view.orelses_of v.items
 orelses_kept v =
@@ -121,7 +125,8 @@ elsifs_row n dt.end_of-Elsif = refl
 elsifs_row n (dt.more_of-Elsif (df.Elsif' e m b s shape row) rest) =
     rw (df.outs-Elsif' e m b s shape row) (
     ap (λ x. tree.more_elsif (view.view_expr e) (tree.stmts (view.view_stmt s) x) (view.view_elsifs rest)) (stmts_shown shape row)
-    ∙ ap (tree.more_elsif (view.view_expr e) (tree.stmts (view.view_stmt s) (view.stmts_of (da.TheBlock.shown-the_row-Stmt-1 shape row).items)))
+    ∙ ap (tree.more_elsif (view.view_expr e)
+    (tree.stmts (view.view_stmt s) (view.stmts_of (da.TheBlock.shown-the_row-Stmt-1 shape row).items)))
     (elsifs_row _ rest))
 
 pub elsifs_kept : (v : Vec df.Elsif Global) → view.view_elsifs (da.TheBlock.hidden-the_row-Elsif-3 v) ≡ view.elsifs_of v.items
@@ -161,7 +166,8 @@ args_kept (Some (dg.Args' (dg.Args-values-Some' es))) = rw (dg.outs-Args' (dg.Ar
 
 -- ---- structs and variants of the code
 
-pub simple_rolled : (r : _) → view.view_simple (di.roll-Simple r) ≡ tree.simple r.sign (view.view_term r.first.value) (view.terms_of r.more.items)
+pub simple_rolled : (r : _) → view.view_simple (di.roll-Simple r) ≡ tree.simple r.sign (view.view_term r.first.value)
+    (view.terms_of r.more.items)
 simple_rolled r = ap view.view_simple (di.rolls-Simple' r) ∙ ap (tree.simple r.sign (view.view_term r.first.value)) (terms_kept r.more)
 
 pub term_rolled : (r : _) → view.view_term (dm.roll-Term r) ≡ tree.term (view.view_factor r.first) (view.factors_of r.more.items)
@@ -179,11 +185,13 @@ label_rolled r = ap view.view_label (dl.rolls-Label' r) ∙ ap (tree.label (view
 pub labelled_laid : (n : _) (l : dl.Label) (more : Vec dl.Label Global) (s : ds.Stmts)
     → view.view_arm (da.Labelled n l more s) ≡ tree.arm (view.view_label l) (view.labels_of more.items) (view.view_stmts s)
 labelled_laid n l more s =
-    ap (λ x. tree.arm (view.view_label l) x (tree.stmts (view.view_stmt s.first.value) (view.view_stmts_row (da.TheBlock.hidden-the_row-Stmt-1 s.more))))
+    ap (λ x. tree.arm (view.view_label l) x (tree.stmts (view.view_stmt s.first.value)
+    (view.view_stmts_row (da.TheBlock.hidden-the_row-Stmt-1 s.more))))
     (labels_kept more)
     ∙ ap (tree.arm (view.view_label l) (view.labels_of more.items)) (stmts_laid s)
 
-pub named_laid : (n : _) (d : dd.Desig) (a : Option dg.Args) → view.view_primary (dp.Desig n d a) ≡ tree.named (view.view_desig d) (view.args_of a)
+pub named_laid : (n : _) (d : dd.Desig) (a : Option dg.Args)
+    → view.view_primary (dp.Desig n d a) ≡ tree.named (view.view_desig d) (view.args_of a)
 named_laid n d a =
     ap (λ r. tree.named (tree.desig r) (view.view_args (dp.back-Primary-Desig-2 a))) (selectors_kept d.more)
     ∙ ap (tree.named (view.view_desig d)) (args_kept a)
@@ -202,21 +210,26 @@ chr_laid n b = refl
 
 -- ---- statements
 
-pub assign_laid : (n : _) (d : dd.Desig) (e : de.Expr) → view.view_stmt (dt.Assign n d e) ≡ tree.assign (view.view_desig d) (view.view_expr e)
+pub assign_laid : (n : _) (d : dd.Desig) (e : de.Expr)
+    → view.view_stmt (dt.Assign n d e) ≡ tree.assign (view.view_desig d) (view.view_expr e)
 assign_laid n d e = ap (λ r. tree.assign (tree.desig r) (view.view_expr e)) (selectors_kept d.more)
 
 pub if_laid : (n : _) (e : de.Expr) (s : ds.Stmts) (more : Vec df.Elsif Global) (other : Option ds.Stmts)
-    → view.view_stmt (dt.If n e s more other) ≡ tree.if_stmt (view.view_expr e) (view.view_stmts s) (view.elsifs_of more.items) (view.else_of other)
+    → view.view_stmt (dt.If n e s more other) ≡ tree.if_stmt (view.view_expr e) (view.view_stmts s) (view.elsifs_of more.items)
+    (view.else_of other)
 if_laid n e s more other =
-    ap (λ x. tree.if_stmt (view.view_expr e) x (view.view_elsifs (da.TheBlock.hidden-the_row-Elsif-3 more)) (view.view_else (dt.back-Stmt-If-4 other)))
+    ap (λ x. tree.if_stmt (view.view_expr e) x (view.view_elsifs (da.TheBlock.hidden-the_row-Elsif-3 more))
+    (view.view_else (dt.back-Stmt-If-4 other)))
     (stmts_laid s)
     ∙ ap (λ x. tree.if_stmt (view.view_expr e) (view.view_stmts s) x (view.view_else (dt.back-Stmt-If-4 other))) (elsifs_kept more)
     ∙ ap (tree.if_stmt (view.view_expr e) (view.view_stmts s) (view.elsifs_of more.items)) (else_kept other)
 
-pub while_laid : (n : _) (e : de.Expr) (s : ds.Stmts) → view.view_stmt (dt.While n e s) ≡ tree.while_stmt (view.view_expr e) (view.view_stmts s)
+pub while_laid : (n : _) (e : de.Expr) (s : ds.Stmts)
+    → view.view_stmt (dt.While n e s) ≡ tree.while_stmt (view.view_expr e) (view.view_stmts s)
 while_laid n e s = ap (tree.while_stmt (view.view_expr e)) (stmts_laid s)
 
-pub repeat_laid : (n : _) (s : ds.Stmts) (e : de.Expr) → view.view_stmt (dt.Repeat n s e) ≡ tree.repeat_stmt (view.view_stmts s) (view.view_expr e)
+pub repeat_laid : (n : _) (s : ds.Stmts) (e : de.Expr)
+    → view.view_stmt (dt.Repeat n s e) ≡ tree.repeat_stmt (view.view_stmts s) (view.view_expr e)
 repeat_laid n s e = ap (λ x. tree.repeat_stmt x (view.view_expr e)) (stmts_laid s)
 
 pub for_laid : (n : _) (l : Name) (low high : de.Expr) (by : Option de.Expr) (s : ds.Stmts)
@@ -245,7 +258,8 @@ either_laid n s more =
 
 pub forall_laid : (n : _) (s t : ds.Stmts) → view.view_stmt (dt.Forall n s t) ≡ tree.forall_stmt (view.view_stmts s) (view.view_stmts t)
 forall_laid n s t =
-    ap (λ x. tree.forall_stmt x (tree.stmts (view.view_stmt t.first.value) (view.view_stmts_row (da.TheBlock.hidden-the_row-Stmt-1 t.more))))
+    ap (λ x. tree.forall_stmt x (tree.stmts (view.view_stmt t.first.value)
+    (view.view_stmts_row (da.TheBlock.hidden-the_row-Stmt-1 t.more))))
     (stmts_laid s)
     ∙ ap (tree.forall_stmt (view.view_stmts s)) (stmts_laid t)
 
@@ -281,7 +295,8 @@ field_lists_row : (n : _) (row : dq.Row_of-FieldList n) → view.view_field_list
 field_lists_row n dq.end_of-FieldList = refl
 field_lists_row n (dq.more_of-FieldList x rest) = ap (tree.more_fields (view.view_field_list x)) (field_lists_row _ rest)
 
-pub field_lists_kept : (v : Vec dw.FieldList Global) → view.view_field_lists (dw.TheBlock.hidden-the_row-FieldList-0 v) ≡ view.field_lists_of v.items
+pub field_lists_kept : (v : Vec dw.FieldList Global)
+    → view.view_field_lists (dw.TheBlock.hidden-the_row-FieldList-0 v) ≡ view.field_lists_of v.items
 field_lists_kept v =
     field_lists_row _ (dw.TheBlock.hidden-the_row-FieldList-0 v) ∙ ap view.field_lists_of (dq.items_hidden-the_row-FieldList-0 v)
 
@@ -289,14 +304,17 @@ dimensions_row : (n : _) (row : dz.Row_of-Dimensions n) → view.view_dimensions
 dimensions_row n dz.end_of-Dimensions = refl
 dimensions_row n (dz.more_of-Dimensions p shape row rest) =
     ap (λ x. tree.more_array (tree.dimensions (view.view_plain_type p) x) (view.view_dimensions rest)) (plains_shown shape row)
-    ∙ ap (tree.more_array (tree.dimensions (view.view_plain_type p) (view.plains_of (dw.TheBlock.shown-the_row-PlainType-1 shape row).items)))
+    ∙ ap (tree.more_array (tree.dimensions (view.view_plain_type p)
+    (view.plains_of (dw.TheBlock.shown-the_row-PlainType-1 shape row).items)))
     (dimensions_row _ rest)
 
-pub dimensions_kept : (v : Vec dv.Dimensions Global) → view.view_dimensions (dw.TheBlock.hidden-the_row-Dimensions-2 v) ≡ view.dimensions_of v.items
+pub dimensions_kept : (v : Vec dv.Dimensions Global)
+    → view.view_dimensions (dw.TheBlock.hidden-the_row-Dimensions-2 v) ≡ view.dimensions_of v.items
 dimensions_kept v =
     dimensions_row _ (dw.TheBlock.hidden-the_row-Dimensions-2 v) ∙ ap view.dimensions_of (dz.items_hidden-the_row-Dimensions-2 v)
 
-dimensions_shown : (shape : _) (row : _) → view.view_dimensions row ≡ view.dimensions_of (dw.TheBlock.shown-the_row-Dimensions-2 shape row).items
+dimensions_shown : (shape : _) (row : _)
+    → view.view_dimensions row ≡ view.dimensions_of (dw.TheBlock.shown-the_row-Dimensions-2 shape row).items
 dimensions_shown shape row = dimensions_row _ row ∙ ap view.dimensions_of (sym (dz.items_shown-the_row-Dimensions-2 shape row))
 
 pub arrays_kept : (x : Option dz.Arrays) → view.view_arrays (dy.back-TypeNode-arrays x) ≡ view.arrays_of x
@@ -304,10 +322,12 @@ arrays_kept None = refl
 arrays_kept (Some (dz.Arrays' n p shape row shape' row')) =
     rw (dz.outs-Arrays' n p shape row shape' row') (
     ap (λ x. tree.more_array (tree.dimensions (view.view_plain_type p) x) (view.view_dimensions row')) (plains_shown shape row)
-    ∙ ap (tree.more_array (tree.dimensions (view.view_plain_type p) (view.plains_of (dw.TheBlock.shown-the_row-PlainType-1 shape row).items)))
+    ∙ ap (tree.more_array (tree.dimensions (view.view_plain_type p)
+    (view.plains_of (dw.TheBlock.shown-the_row-PlainType-1 shape row).items)))
     (dimensions_shown shape' row'))
 
-pub type_rolled : (r : _) → view.view_type_node (dy.roll-TypeNode r) ≡ tree.type_node (view.arrays_of r.arrays) (view.view_plain_type r.element)
+pub type_rolled : (r : _) → view.view_type_node (dy.roll-TypeNode r) ≡ tree.type_node (view.arrays_of r.arrays)
+    (view.view_plain_type r.element)
 type_rolled r =
     ap view.view_type_node (dy.rolls-TypeNode' r) ∙ ap (λ x. tree.type_node x (view.view_plain_type r.element)) (arrays_kept r.arrays)
 
@@ -327,4 +347,5 @@ decls_kept v =
 
 pub procedure_laid : (n : _) (l : Name) (p : Option Params) (r : Option Name) (b : db.Block) (e : Name)
     → view.view_decl (dh.Procedure n l p r b e) ≡ tree.procedure (view.params_of p) (view.result_of r) (view.view_block b)
-procedure_laid n l p r b e = ap (λ x. tree.procedure (view.params_of p) (view.result_of r) (tree.block x (view.body_of b.body))) (decls_kept b.decls)
+procedure_laid n l p r b e = ap (λ x. tree.procedure (view.params_of p) (view.result_of r) (tree.block x (view.body_of b.body)))
+    (decls_kept b.decls)

@@ -101,7 +101,8 @@ abbrev mutual
   number_stmt (dt.Assign' n m l shape row e) = (number_name l >> number_selectors row >> node m) >> token >> number_expr e >> node n
   number_stmt (dt.Value n e) = number_expr e >> node n
   number_stmt (dt.If' n e m b s shape row shape' row' other) =
-      token >> number_expr e >> token >> (number_stmt s >> number_stmts_row row >> node m) >> number_elsifs row' >> number_else other >> token >> node n
+      token >> number_expr e >> token >> (number_stmt s >> number_stmts_row row >> node m) >> number_elsifs row' >> number_else other >>
+      token >> node n
   number_stmt (dt.While' n e m b s shape row) =
       token >> number_expr e >> token >> (number_stmt s >> number_stmts_row row >> node m) >> token >> node n
   number_stmt (dt.Repeat' n m b s shape row e) =

@@ -13,18 +13,26 @@ use Rattle.alma_tree.specs.declared.leaf.MulOperator.TheVariants as muls
 use Rattle.alma_tree.specs.declared.leaf.Mode.{Mode}
 use Rattle.alma_tree.specs.declared.leaf.Mode.TheVariants as modes
 use Rattle.alma_tree.specs.Tree.{Stmts, stmts, StmtTail, no_stmt, more_stmt, Stmt, nothing, assign, value, if_stmt, while_stmt, repeat_stmt}
-use Rattle.alma_tree.specs.Tree.{for_stmt, some_stmt, case_stmt, either_stmt, forall_stmt, commit_stmt, return_stmt, read_stmt, write_stmt, writeln_stmt}
-use Rattle.alma_tree.specs.Tree.{ElsifTail, no_elsif, more_elsif, Else, no_else, else_stmts, By, no_by, by_expr, OrelseTail, no_orelse, more_orelse}
-use Rattle.alma_tree.specs.Tree.{Returned, no_value, returned, DesigTail, no_desig, more_desig, Arm, empty_arm, arm, ArmTail, no_arm, more_arm}
+use Rattle.alma_tree.specs.Tree.{for_stmt, some_stmt, case_stmt, either_stmt, forall_stmt, commit_stmt, return_stmt, read_stmt, write_stmt}
+use Rattle.alma_tree.specs.Tree.{writeln_stmt}
+use Rattle.alma_tree.specs.Tree.{ElsifTail, no_elsif, more_elsif, Else, no_else, else_stmts, By, no_by, by_expr, OrelseTail, no_orelse}
+use Rattle.alma_tree.specs.Tree.{more_orelse}
+use Rattle.alma_tree.specs.Tree.{Returned, no_value, returned, DesigTail, no_desig, more_desig, Arm, empty_arm, arm, ArmTail, no_arm}
+use Rattle.alma_tree.specs.Tree.{more_arm}
 use Rattle.alma_tree.specs.Tree.{Label, label, High, no_high, high_expr, LabelTail, no_label, more_label}
 use Rattle.alma_tree.specs.Tree.{Expr, expr, Compared, no_relation, compared, Simple, simple, TermTail, no_term, more_term, Term, term}
-use Rattle.alma_tree.specs.Tree.{FactorTail, no_factor, more_factor, Factor, not_factor, factor, Primary, number, literal, named, paren, known, ord, chr}
+use Rattle.alma_tree.specs.Tree.{FactorTail, no_factor, more_factor, Factor, not_factor, factor, Primary, number, literal, named, paren}
+use Rattle.alma_tree.specs.Tree.{known, ord, chr}
 use Rattle.alma_tree.specs.Tree.{Args, no_args, empty_args, args, Exprs, exprs, ExprTail, no_expr, more_expr}
-use Rattle.alma_tree.specs.Tree.{Desig, desig, SelectorTail, no_selector, more_selector, Selector, field, index, NameTail, no_name, more_name, Names, names}
-use Rattle.alma_tree.specs.Tree.{TypeNode, type_node, ArrayTail, no_array, more_array, Dimensions, dimensions, PlainType, type_name, listed, subrange}
-use Rattle.alma_tree.specs.Tree.{record_type, PlainTail, no_plain, more_plain, FieldList, empty_fields, fields, FieldListTail, no_fields, more_fields}
+use Rattle.alma_tree.specs.Tree.{Desig, desig, SelectorTail, no_selector, more_selector, Selector, field, index, NameTail, no_name}
+use Rattle.alma_tree.specs.Tree.{more_name, Names, names}
+use Rattle.alma_tree.specs.Tree.{TypeNode, type_node, ArrayTail, no_array, more_array, Dimensions, dimensions, PlainType, type_name, listed}
+use Rattle.alma_tree.specs.Tree.{subrange}
+use Rattle.alma_tree.specs.Tree.{record_type, PlainTail, no_plain, more_plain, FieldList, empty_fields, fields, FieldListTail, no_fields}
+use Rattle.alma_tree.specs.Tree.{more_fields}
 use Rattle.alma_tree.specs.Tree.{ConstTail, no_const, more_const, TypeTail, no_type, more_type, VarTail, no_var, more_var}
-use Rattle.alma_tree.specs.Tree.{Formal, formal, FormalTail, no_formal, more_formal, Formals, formals, Params, no_params, empty_params, params}
+use Rattle.alma_tree.specs.Tree.{Formal, formal, FormalTail, no_formal, more_formal, Formals, formals, Params, no_params, empty_params}
+use Rattle.alma_tree.specs.Tree.{params}
 use Rattle.alma_tree.specs.Tree.{ResultName, no_result, result_name, Body, no_body, body, Block, block, DeclTail, no_decl, more_decl}
 use Rattle.alma_tree.specs.Tree.{Decl, const_decl, type_decl, var_decl, procedure, Module, module_of}
 
@@ -86,7 +94,8 @@ abbrev mutual
   spell_stmt (while_stmt e s) rest = kinds.While ∷ spell_expr e (kinds.Do ∷ spell_stmts s (kinds.End ∷ rest))
   spell_stmt (repeat_stmt s e) rest = kinds.Repeat ∷ spell_stmts s (kinds.Until ∷ spell_expr e rest)
   spell_stmt (for_stmt low high by s) rest =
-      kinds.For ∷ kinds.Name ∷ kinds.Assign ∷ spell_expr low (kinds.To ∷ spell_expr high (spell_by by (kinds.Do ∷ spell_stmts s (kinds.End ∷ rest))))
+      kinds.For ∷ kinds.Name ∷ kinds.Assign ∷ spell_expr low
+      (kinds.To ∷ spell_expr high (spell_by by (kinds.Do ∷ spell_stmts s (kinds.End ∷ rest))))
   spell_stmt (some_stmt low high s) rest =
       kinds.Some ∷ kinds.Name ∷ kinds.Assign ∷ spell_expr low (kinds.To ∷ spell_expr high (kinds.Do ∷ spell_stmts s (kinds.End ∷ rest)))
   spell_stmt (case_stmt e a more other) rest =

@@ -25,14 +25,16 @@ abbrev failed : UnitError → Result Program UnitError
 failed error = Err error
 
 -- a refusal is a verdict
-pub unit_refused : (source : List ℕ) (fault : SourceFault) (offset : ℕ) (place : Place) → IsRefused source fault offset → place ≡ place_of source offset
+pub unit_refused : (source : List ℕ) (fault : SourceFault) (offset : ℕ) (place : Place) → IsRefused source fault offset
+    → place ≡ place_of source offset
     → IsUnitOf source (failed (fault_error fault place))
 unit_refused source (source_fault.Lex fault) offset place is at = (offset, is, at)
 unit_refused source (source_fault.Syntax fault) offset place is at = (offset, is, at)
 unit_refused source (source_fault.Check fault) offset place is at = (offset, is, at)
 
 -- what comes of the bytes of a file
-pub unit_fetched : (told : Told) (before now : ℕ) (source : List ℕ) (r : Result Program UnitError) → MayHave told source → length source ≤ source_limit
+pub unit_fetched : (told : Told) (before now : ℕ) (source : List ℕ) (r : Result Program UnitError) → MayHave told source
+    → length source ≤ source_limit
     → now ≡ before → IsUnitOf source r → IsUnit told before now r
 unit_fetched told before now source (Ok p) has short quiet is = ((source, has, short, is), quiet)
 unit_fetched told before now source (Err (Lex fault place)) has short quiet is = ((source, has, short, is), quiet)

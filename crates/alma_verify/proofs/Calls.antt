@@ -19,10 +19,12 @@ both_right true b e = e
 both_right false b e = absurd cc
 
 -- the call that was seen
-pub fit_seen : (code : PlainCode) (s : SeenCall) (caller callee first : ℕ) → is_same s caller callee first ≡ true → IsFit code s → 0 < callee
+pub fit_seen : (code : PlainCode) (s : SeenCall) (caller callee first : ℕ) → is_same s caller callee first ≡ true → IsFit code s
+    → 0 < callee
     → fit_arguments code caller (head_at code callee).params first ≡ true
 fit_seen code s caller callee first e fit some =
-    let a : s.caller ≡ caller = eq_fact s.caller caller (both_left (nat_eq s.caller caller) (nat_eq s.callee callee && nat_eq s.first first) e) in
+    let a : s.caller ≡ caller = eq_fact s.caller caller
+    (both_left (nat_eq s.caller caller) (nat_eq s.callee callee && nat_eq s.first first) e) in
     let rest = both_right (nat_eq s.caller caller) (nat_eq s.callee callee && nat_eq s.first first) e in
     let b : s.callee ≡ callee = eq_fact s.callee callee (both_left (nat_eq s.callee callee) (nat_eq s.first first) rest) in
     let c : s.first ≡ first = eq_fact s.first first (both_right (nat_eq s.callee callee) (nat_eq s.first first) rest) in

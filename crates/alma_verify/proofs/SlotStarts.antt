@@ -19,12 +19,14 @@ start_later code (suc r) lt = let z : suc r - 1 ≡ r = omega arith in ap (end_a
 
 pub ruleset starts = (start_later)
 
-pub numbers_more : (n : ℕ) (kinds : List SlotKind) (i : ℕ) → 0 < n → numbers_from n kinds i ≡ (is_number (slice_get kinds i) && numbers_from (n - 1) kinds (i + 1))
+pub numbers_more : (n : ℕ) (kinds : List SlotKind) (i : ℕ) → 0 < n
+    → numbers_from n kinds i ≡ (is_number (slice_get kinds i) && numbers_from (n - 1) kinds (i + 1))
 numbers_more zero kinds i lt = absurd (omega arith)
 numbers_more (suc n) kinds i lt =
     let a : n ≡ suc n - 1 = omega arith in
     let b : suc i ≡ i + 1 = omega arith in
-    ap (λ k. is_number (slice_get kinds i) && numbers_from k kinds (suc i)) a ∙ ap (λ k. is_number (slice_get kinds i) && numbers_from (suc n - 1) kinds k) b
+    ap (λ k. is_number (slice_get kinds i) && numbers_from k kinds (suc i)) a
+    ∙ ap (λ k. is_number (slice_get kinds i) && numbers_from (suc n - 1) kinds k) b
 
 pub cells_more : (code : PlainCode) (r i n : ℕ) → 0 < n → cells_in code r i n ≡ (is_free code r i && numbers_from n (kinds_at code r) i)
 cells_more code r i zero lt = absurd (omega arith)
@@ -38,7 +40,8 @@ no_kind code r n le = ap (λ q. slice_get (kinds_of 0 q.head.runs) n) (get_or_pa
 
 pub no_numbers : (code : PlainCode) (r n i : ℕ) → length code.routines ≤ r → numbers_from n (kinds_at code r) i ≡ nat_eq n 0
 no_numbers code r zero i le = refl
-no_numbers code r (suc n) i le = ap (λ o. is_number o && numbers_from n (kinds_at code r) (suc i)) (no_kind code r i le) ∙ sym (eqb-suc-zero n)
+no_numbers code r (suc n) i le = ap (λ o. is_number o && numbers_from n (kinds_at code r) (suc i)) (no_kind code r i le)
+    ∙ sym (eqb-suc-zero n)
 
 -- the arguments of a call, by the kinds of the caller's slots
 takes_is : (code : PlainCode) (r : ℕ) (k : ParamKind) (n i : ℕ) → fits_argument code r k n i ≡ takes k n (kind_in code r i)
@@ -48,7 +51,8 @@ takes_is code r param.Mix n i = refl
 takes_is code r param.Cells n i = refl
 takes_is code r param.Link n i = refl
 
-pub arguments_are : (code : PlainCode) (r : ℕ) (ps : List CodeParam) (i : ℕ) → fit_slots r (kinds_at code r) ps i ≡ fit_arguments code r ps i
+pub arguments_are : (code : PlainCode) (r : ℕ) (ps : List CodeParam) (i : ℕ)
+    → fit_slots r (kinds_at code r) ps i ≡ fit_arguments code r ps i
 arguments_are code r [] i = refl
 arguments_are code r (p ∷ ps) i =
     sym (ap (λ b. (is_free code r i && b) && fit_arguments code r ps (suc i)) (takes_is code r p.kind p.cells i)

@@ -45,7 +45,8 @@ abbrev pub decreases-expression::check_primary : goal.decreases-expression::chec
 decreases-expression::check_primary g l = 8 * (dp.size-Primary l.primary.now)
 
 abbrev pub decreases-call::check_named : goal.decreases-call::check_named
-decreases-call::check_named g l = 8 * (max (dd.size-Desig l.desig.now) (shapes.weighed-Primary-Desig-2.weight _ dg.size-Args l.args.now)) + 3
+decreases-call::check_named g l = 8 * (max (dd.size-Desig l.desig.now) (shapes.weighed-Primary-Desig-2.weight _ dg.size-Args l.args.now))
+    + 3
 
 abbrev pub decreases-call::check_arguments : goal.decreases-call::check_arguments
 decreases-call::check_arguments g l = 8 * (dx.size-Exprs l.values.now) + 1
@@ -73,23 +74,31 @@ decreases-designator::check_index g l = 8 * (de.size-Expr l.index.now) + 1
 
 abbrev pub invariant-expression::check_terms-loop-link : goal.invariant-expression::check_terms-loop-link
 invariant-expression::check_terms-loop-link g l =
-    walk.judge_terms (scene_of l.env l.place) l.fn.slot l.sort (view.terms_of l.more) ≡ onward_operands (operands_in l.kept) (walk.judge_terms (scene_of l.env l.place) l.slot l.sort (view.terms_of (drop l.link-index l.more)))
+    walk.judge_terms (scene_of l.env l.place) l.fn.slot l.sort (view.terms_of l.more) ≡ onward_operands (operands_in l.kept)
+    (walk.judge_terms (scene_of l.env l.place) l.slot l.sort (view.terms_of (drop l.link-index l.more)))
 
 abbrev pub invariant-expression::check_factors-loop-link : goal.invariant-expression::check_factors-loop-link
 invariant-expression::check_factors-loop-link g l =
-    walk.judge_factors (scene_of l.env l.place) l.fn.slot l.sort (view.factors_of l.more) ≡ onward_operands (operands_in l.kept) (walk.judge_factors (scene_of l.env l.place) l.slot l.sort (view.factors_of (drop l.link-index l.more)))
+    walk.judge_factors (scene_of l.env l.place) l.fn.slot l.sort (view.factors_of l.more) ≡ onward_operands (operands_in l.kept)
+    (walk.judge_factors (scene_of l.env l.place) l.slot l.sort (view.factors_of (drop l.link-index l.more)))
 
 abbrev pub invariant-call::check_arguments-loop-value : goal.invariant-call::check_arguments-loop-value
 invariant-call::check_arguments-loop-value g l =
-    (l.index ≡ l.value-index) × (walk.judge_arguments (scene_of l.env l.place) l.fn.slot (nodes.formals_of (callee_in (headings_in l.env) l.callee)) (view.view_exprs l.values)
-    ≡ onward_args (args_in l.kept) (walk.judge_argument_tail (scene_of l.env l.place) l.slot (drop (l.value-index + 1) (nodes.formals_of (callee_in (headings_in l.env) l.callee))) (view.exprs_of (drop l.value-index (dx.out-Exprs l.values).more.items))))
+    (l.index ≡ l.value-index) × (walk.judge_arguments (scene_of l.env l.place) l.fn.slot
+    (nodes.formals_of (callee_in (headings_in l.env) l.callee)) (view.view_exprs l.values)
+    ≡ onward_args (args_in l.kept) (walk.judge_argument_tail (scene_of l.env l.place) l.slot
+    (drop (l.value-index + 1) (nodes.formals_of (callee_in (headings_in l.env) l.callee)))
+    (view.exprs_of (drop l.value-index (dx.out-Exprs l.values).more.items))))
 
 abbrev pub invariant-designator::check_selectors-loop-selector : goal.invariant-designator::check_selectors-loop-selector
 invariant-designator::check_selectors-loop-selector g l =
-    walk.judge_selectors (scene_of l.env l.place) (of_value l.fn.slot (denoted_in (headings_in l.env) l.fn.start)) (view.selectors_of l.more)
-    ≡ walk.judge_selectors (scene_of l.env l.place) (of_value l.slot (denoted_in (headings_in l.env) l.found)) (view.selectors_of (drop l.selector-index l.more))
+    walk.judge_selectors (scene_of l.env l.place) (of_value l.fn.slot (denoted_in (headings_in l.env) l.fn.start))
+    (view.selectors_of l.more)
+    ≡ walk.judge_selectors (scene_of l.env l.place) (of_value l.slot (denoted_in (headings_in l.env) l.found))
+    (view.selectors_of (drop l.selector-index l.more))
 
 abbrev pub invariant-designator::check_indices-loop-index : goal.invariant-designator::check_indices-loop-index
 invariant-designator::check_indices-loop-index g l =
     walk.judge_indices (scene_of l.env l.place) (of_value l.fn.slot (denoted_in (headings_in l.env) l.fn.found)) (view.view_exprs l.indices)
-    ≡ walk.judge_index_tail (scene_of l.env l.place) (of_value l.slot (denoted_in (headings_in l.env) l.part)) (view.exprs_of (drop l.index-index (dx.out-Exprs l.indices).more.items))
+    ≡ walk.judge_index_tail (scene_of l.env l.place) (of_value l.slot (denoted_in (headings_in l.env) l.part))
+    (view.exprs_of (drop l.index-index (dx.out-Exprs l.indices).more.items))

@@ -1,5 +1,6 @@
 -- What options come to, as they are read.
-use Rattle.std.specs.Prelude.{◌≡◌, ◌<◌, ◌+◌, Bool, true, false, List, ℕ, zero, suc, [], ◌∷◌, length, take, map, Option, None, Some, Result, Ok, Err}
+use Rattle.std.specs.Prelude.{◌≡◌, ◌<◌, ◌+◌, Bool, true, false, List, ℕ, zero, suc, [], ◌∷◌, length, take, map, Option, None, Some, Result}
+use Rattle.std.specs.Prelude.{Ok, Err}
 use Rattle.alma_driver_words.specs.declared.setting.Setting as read
 use Rattle.alma_driver_words.specs.declared.setting.Setting.TheVariants as read_setting
 use Rattle.alma_driver_words.specs.declared.options.Allowance.{Allowance}
@@ -64,5 +65,6 @@ pub record IsBadOption (stats watches : ℕ) (words : List (List ℕ)) (index : 
 -- What reading options may answer. The first of them is the third word of the call.
 abbrev pub ReadsOptions : Allowance → List (List ℕ) → Result read_options.Options WordsError → Type 0
 ReadsOptions allowance words (Ok options) = AreGathered allowance words options
-ReadsOptions allowance words (Err (Bad k)) = (index : ℕ) × (k ≡ index + 3) × IsBadOption (count_of allowance.stats) allowance.watches words index
+ReadsOptions allowance words (Err (Bad k)) = (index : ℕ) × (k ≡ index + 3)
+    × IsBadOption (count_of allowance.stats) allowance.watches words index
 ReadsOptions allowance words (Err Memory) = Unit {0}

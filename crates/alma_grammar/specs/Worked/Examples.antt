@@ -27,8 +27,10 @@ pub record ExamplesAreReadSo : Type 0 where
   -- MODULE A; END A.
   pub empty_module : read_whole (kinds.Module ∷ kinds.Name ∷ kinds.Semicolon ∷ ending) ≡ done
   -- MODULE A; BEGIN EITHER a[1] := 2 ORELSE p(x, -y) END END A.
-  pub choice : read_whole (behind_begin (kinds.Either ∷ kinds.Name ∷ kinds.OpenBracket ∷ kinds.Number ∷ kinds.CloseBracket ∷ kinds.Assign ∷ kinds.Number
-      ∷ kinds.Orelse ∷ kinds.Name ∷ kinds.OpenParen ∷ kinds.Name ∷ kinds.Comma ∷ kinds.Minus ∷ kinds.Name ∷ kinds.CloseParen ∷ kinds.End ∷ ending)) ≡ done
+  pub choice : read_whole (behind_begin
+      (kinds.Either ∷ kinds.Name ∷ kinds.OpenBracket ∷ kinds.Number ∷ kinds.CloseBracket ∷ kinds.Assign ∷ kinds.Number
+      ∷ kinds.Orelse ∷ kinds.Name ∷ kinds.OpenParen ∷ kinds.Name ∷ kinds.Comma ∷ kinds.Minus ∷ kinds.Name ∷ kinds.CloseParen ∷ kinds.End
+      ∷ ending)) ≡ done
   -- MODULE A; BEGIN WRITE(
   pub no_more : read_whole (behind_begin (kinds.Write ∷ kinds.OpenParen ∷ [])) ≡ unexpected []
   -- MODULE A; BEGIN x := END A.

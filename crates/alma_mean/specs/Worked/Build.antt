@@ -9,7 +9,11 @@ use Rattle.alma_ir.specs.declared.phrase.Root.TheVariants as root
 use Rattle.alma_ir.specs.declared.phrase.Op.{Op}
 use Rattle.alma_ir.specs.declared.phrase.Op.TheVariants as op
 use Rattle.alma_ir.specs.declared.phrase.WriteAs.TheVariants as write_as
-use Rattle.alma_ir.specs.Tree.{Stmts, Stmt, Arms, CaseArms, Branches, Test, Tests, Expr, Links, Args, Arg, Desig, Sels, Sel, Routine, Program, no_stmts, more_stmts, TestStmt, Assign, ForTo, SomeOf, Either, Forall, WriteExpr, no_arms, more_arms, no_cases, more_cases, no_branches, more_branches, a_loop, Value, Bind, CallTest, no_tests, more_tests, Const, Load, Chain, Known, CallExpr, no_links, more_links, no_args, more_args, a_desig, no_sels, more_sels, Index}
+use Rattle.alma_ir.specs.Tree.{Stmts, Stmt, Arms, CaseArms, Branches, Test, Tests, Expr, Links, Args, Arg, Desig, Sels, Sel, Routine}
+use Rattle.alma_ir.specs.Tree.{Program, no_stmts, more_stmts, TestStmt, Assign, ForTo, SomeOf, Either, Forall, WriteExpr, no_arms}
+use Rattle.alma_ir.specs.Tree.{more_arms, no_cases, more_cases, no_branches, more_branches, a_loop, Value, Bind, CallTest, no_tests}
+use Rattle.alma_ir.specs.Tree.{more_tests, Const, Load, Chain, Known, CallExpr, no_links, more_links, no_args, more_args, a_desig, no_sels}
+use Rattle.alma_ir.specs.Tree.{more_sels, Index}
 use Rattle.alma_ir.specs.Phrases.{stmts_phrases}
 use Rattle.alma_ir.specs.Lines.{stmt_count}
 use Rattle.alma_mean.specs.Events.{End, first, visit_count}

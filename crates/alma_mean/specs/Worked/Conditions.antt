@@ -5,7 +5,9 @@ use Rattle.alma_ir.specs.declared.phrase.Cmp.TheVariants as cmp
 use Rattle.alma_ir.specs.Tree.{Program, Assign, Commit, Return, no_result, ForTo, a_loop, Compare, Load, ByPlace, TestStmt, Or, no_tests}
 use Rattle.alma_ir.specs.Checked.{IsChecked}
 use Rattle.alma_mean.specs.Worked.Nested.{nested_to}
-use Rattle.alma_mean.specs.Worked.Build.{stmts, int, module_of, module_at, module_with, inside, outer, global, succeed, call_up, procedure, param, var, through_param, whole, number, load, test, let_be, write, write_var, either, some, for, call, value_of}
+use Rattle.alma_mean.specs.Worked.Build.{stmts, int, module_of, module_at, module_with, inside, outer, global, succeed, call_up, procedure}
+use Rattle.alma_mean.specs.Worked.Build.{param, var, through_param, whole, number, load, test, let_be, write, write_var, either, some, for}
+use Rattle.alma_mean.specs.Worked.Build.{call, value_of}
 
 -- PROCEDURE q(VAR a: INTEGER); VAR l: INTEGER; BEGIN SOME l := 1 TO 3 DO a := l END END q;  q(x);
 -- x > 2; WRITE(x)
@@ -57,4 +59,20 @@ pub record ConditionsTell : Type 0 where
   pub link_to_the_body : IsChecked (module_with 2 [] (procedure [] 0 (Assign (outer 1 1) (number 1) int ∷ []) ∷ [])) → ⊥
   pub global_in_the_body : IsChecked (module_of 2 (Assign (global 1) (number 1) int ∷ [])) → ⊥
   -- a name with a digit in front
-  pub bad_name : IsChecked (record { name = []; globals = record { name = codes "1a"; slot = 1; cells = 1 } ∷ []; routines = record { name = codes "A"; params = []; result = None; declared = 1; slots = 2; body = stmts []; level = 0; outer = 0; line = 1; lines = [] } ∷ [] }) → ⊥
+  pub bad_name : IsChecked (record {
+    name = [];
+    globals = record { name = codes "1a"; slot = 1; cells = 1 } ∷ [];
+    routines =
+        record {
+          name = codes "A";
+          params = [];
+          result = None;
+          declared = 1;
+          slots = 2;
+          body = stmts [];
+          level = 0;
+          outer = 0;
+          line = 1;
+          lines = [];
+        } ∷ [];
+  }) → ⊥

@@ -3,11 +3,14 @@ use Rattle.std.specs.Prelude.{◌≡◌, ◌+◌, ◌-◌, ◌^◌, ℕ, true, f
 use Rattle.alma_base.specs.declared.fault.RunFault.TheVariants as fault
 use Rattle.alma_ir.specs.declared.phrase.Op.TheVariants as op
 use Rattle.alma_ir.specs.declared.phrase.Cmp.TheVariants as cmp
-use Rattle.alma_ir.specs.Tree.{Stmt, Program, TestStmt, While, Repeat, ForTo, WriteText, Value, Bind, Seq, And, Not, Expr, Load, Known, Compare, Chain, a_loop}
+use Rattle.alma_ir.specs.Tree.{Stmt, Program, TestStmt, While, Repeat, ForTo, WriteText, Value, Bind, Seq, And, Not, Expr, Load, Known}
+use Rattle.alma_ir.specs.Tree.{Compare, Chain, a_loop}
 use Rattle.alma_mean.specs.Store.{Number, Unknown}
 use Rattle.alma_mean.specs.Events.{Succeeded, Failed, Faulted, CutOff, Go, Visit, Alt, Fail, first}
 use Rattle.alma_mean.specs.Meaning.{level, start}
-use Rattle.alma_mean.specs.Worked.Build.{stmts, tests, links, int, range, module_of, module_with, procedure, var, element, number, load, plus, greatest, test, succeed, fail, equals, is, let_be, write, write_var, write_known, either, some, for, call, digits_of, Gives}
+use Rattle.alma_mean.specs.Worked.Build.{stmts, tests, links, int, range, module_of, module_with, procedure, var, element, number, load}
+use Rattle.alma_mean.specs.Worked.Build.{plus, greatest, test, succeed, fail, equals, is, let_be, write, write_var, write_known, either}
+use Rattle.alma_mean.specs.Worked.Build.{some, for, call, digits_of, Gives}
 
 -- WHILE TRUE DO WRITE(1) END
 abbrev pub write_forever : Program
@@ -34,37 +37,58 @@ pub record LoopsRun : Type 0 where
   pub calls_at_5 : Gives 5 call_forever [] (digits_of (1 ∷ 1 ∷ 1 ∷ [])) CutOff
   pub calls_at_6 : Gives 6 call_forever [] (digits_of (1 ∷ 1 ∷ 1 ∷ 1 ∷ [])) CutOff
   -- x := 0; WHILE x < 3 DO x := x + 1; WRITE(x) END
-  pub while_counts : Gives 5 (module_of 2 (let_be 1 (number 0) ∷ While (Value (Compare cmp.Less (load 1) (number 3))) (stmts (let_be 1 (plus (load 1) (number 1)) ∷ write_var 1 ∷ [])) ∷ [])) [] (digits_of (1 ∷ 2 ∷ 3 ∷ [])) Succeeded
+  pub while_counts : Gives 5 (module_of 2
+      (let_be 1 (number 0) ∷ While (Value (Compare cmp.Less (load 1) (number 3)))
+      (stmts (let_be 1 (plus (load 1) (number 1)) ∷ write_var 1 ∷ [])) ∷ [])) [] (digits_of (1 ∷ 2 ∷ 3 ∷ [])) Succeeded
   -- WHILE NOT KNOWN(x) AND (x = 1) DO WRITE(x) END
-  pub condition_binds : Gives 3 (module_of 2 (While (And (tests (Not (Value (Known (var 1))) ∷ equals 1 1 ∷ []))) (stmts (write_var 1 ∷ [])) ∷ [])) [] (digits_of (1 ∷ [])) Succeeded
+  pub condition_binds : Gives 3 (module_of 2
+      (While (And (tests (Not (Value (Known (var 1))) ∷ equals 1 1 ∷ []))) (stmts (write_var 1 ∷ [])) ∷ [])) [] (digits_of (1 ∷ []))
+      Succeeded
   -- x := 0; REPEAT x := x + 1; WRITE(x) UNTIL x = 3
-  pub repeat_counts : Gives 3 (module_of 2 (let_be 1 (number 0) ∷ Repeat (stmts (let_be 1 (plus (load 1) (number 1)) ∷ write_var 1 ∷ [])) (equals 1 3) ∷ [])) [] (digits_of (1 ∷ 2 ∷ 3 ∷ [])) Succeeded
+  pub repeat_counts : Gives 3 (module_of 2
+      (let_be 1 (number 0) ∷ Repeat (stmts (let_be 1 (plus (load 1) (number 1)) ∷ write_var 1 ∷ [])) (equals 1 3) ∷ [])) []
+      (digits_of (1 ∷ 2 ∷ 3 ∷ [])) Succeeded
   -- the same at a level that is too low for the third turn
-  pub repeat_is_cut_off : Gives 2 (module_of 2 (let_be 1 (number 0) ∷ Repeat (stmts (let_be 1 (plus (load 1) (number 1)) ∷ write_var 1 ∷ [])) (equals 1 3) ∷ [])) [] (digits_of (1 ∷ 2 ∷ [])) CutOff
+  pub repeat_is_cut_off : Gives 2 (module_of 2
+      (let_be 1 (number 0) ∷ Repeat (stmts (let_be 1 (plus (load 1) (number 1)) ∷ write_var 1 ∷ [])) (equals 1 3) ∷ [])) []
+      (digits_of (1 ∷ 2 ∷ [])) CutOff
   -- x := 0; REPEAT x := x + 1 UNTIL (y = x; y = 2); WRITE(x, y):
   -- a condition that fails leaves y unknown
   pub repeat_undoes_the_condition :
-      Gives 2 (module_of 3 (let_be 1 (number 0) ∷ Repeat (stmts (let_be 1 (plus (load 1) (number 1)) ∷ [])) (Seq (stmts (TestStmt (Bind (var 2) (load 1) int true) ∷ is 2 2 ∷ []))) ∷
+      Gives 2 (module_of 3 (let_be 1 (number 0)
+      ∷ Repeat (stmts (let_be 1 (plus (load 1) (number 1)) ∷ []))
+      (Seq (stmts (TestStmt (Bind (var 2) (load 1) int true) ∷ is 2 2 ∷ []))) ∷
       write_var 1 ∷ write_var 2 ∷ [])) [] (digits_of (2 ∷ 2 ∷ [])) Succeeded
   -- FOR i := 5 TO 1 BY -2 DO WRITE(i) END; WRITE(i)
-  pub for_by_minus_two : Gives 4 (module_of 4 (ForTo (a_loop (var 1) int 2 3 (number 5) (number 1) (negsuc 1) (stmts (write_var 1 ∷ []))) ∷ write_var 1 ∷ [])) [] (digits_of (5 ∷ 3 ∷ 1 ∷ 1 ∷ [])) Succeeded
+  pub for_by_minus_two : Gives 4 (module_of 4
+      (ForTo (a_loop (var 1) int 2 3 (number 5) (number 1) (negsuc 1) (stmts (write_var 1 ∷ []))) ∷ write_var 1 ∷ [])) []
+      (digits_of (5 ∷ 3 ∷ 1 ∷ 1 ∷ [])) Succeeded
   -- FOR i := 3 TO 1 DO WRITE(i) END; WRITE(KNOWN(i))
   pub empty_for_does_nothing : Gives 1 (module_of 4 (empty_for ∷ write_known 1 ∷ [])) [] (codes "FALSE") Succeeded
   -- but counter and limit are stored
   pub empty_for_stores_its_bounds :
       first ((level (module_of 4 []) [] 1).stmt empty_for (start (module_of 4 []))) ≡
-      Visit (Visit (Visit (Visit (Visit (Visit (Alt (record { routine = 0; link = 0; cells = Number (pos 0) ∷ Unknown ∷ Number (pos 3) ∷ Number (pos 1) ∷ [] } ∷ []) (Go tt) Fail))))))
+      Visit (Visit (Visit (Visit
+      (Visit (Visit (Alt (record
+      { routine = 0; link = 0; cells = Number (pos 0) ∷ Unknown ∷ Number (pos 3) ∷ Number (pos 1) ∷ [] } ∷ []) (Go tt) Fail))))))
   -- FOR i := 1 TO 3 DO WRITE(i) END, i of [1..2]
-  pub for_leaves_the_range : Gives 4 (module_of 4 (ForTo (a_loop (var 1) (range 1 2) 2 3 (number 1) (number 3) (pos 1) (stmts (write_var 1 ∷ []))) ∷ [])) [] (digits_of (1 ∷ 2 ∷ [])) (Faulted fault.Range 1)
+  pub for_leaves_the_range : Gives 4 (module_of 4
+      (ForTo (a_loop (var 1) (range 1 2) 2 3 (number 1) (number 3) (pos 1) (stmts (write_var 1 ∷ []))) ∷ [])) [] (digits_of (1 ∷ 2 ∷ []))
+      (Faulted fault.Range 1)
   -- FOR i := 9223372036854775806 TO 9223372036854775807 DO WRITE(1) END
-  pub count_does_not_overflow : Gives 3 (module_of 4 (for 1 2 (number (2 ^ 63 - 2)) greatest (write (number 1) ∷ []) ∷ [])) [] (digits_of (1 ∷ 1 ∷ [])) Succeeded
+  pub count_does_not_overflow : Gives 3 (module_of 4 (for 1 2 (number (2 ^ 63 - 2)) greatest (write (number 1) ∷ []) ∷ [])) []
+      (digits_of (1 ∷ 1 ∷ [])) Succeeded
   -- x := 2; FOR i := 1 TO x DO x := 5; WRITE(i) END
-  pub bounds_are_taken_once : Gives 3 (module_of 5 (let_be 1 (number 2) ∷ for 2 3 (number 1) (load 1) (let_be 1 (number 5) ∷ write_var 2 ∷ []) ∷ [])) [] (digits_of (1 ∷ 2 ∷ [])) Succeeded
+  pub bounds_are_taken_once : Gives 3 (module_of 5
+      (let_be 1 (number 2) ∷ for 2 3 (number 1) (load 1) (let_be 1 (number 5) ∷ write_var 2 ∷ []) ∷ [])) [] (digits_of (1 ∷ 2 ∷ []))
+      Succeeded
   -- FOR i := 1 TO 3 DO WRITE(i); i := 7 END; WRITE(i)
-  pub count_is_hidden : Gives 4 (module_of 4 (for 1 2 (number 1) (number 3) (write_var 1 ∷ let_be 1 (number 7) ∷ []) ∷ write_var 1 ∷ [])) [] (digits_of (1 ∷ 2 ∷ 3 ∷ 7 ∷ [])) Succeeded
+  pub count_is_hidden : Gives 4 (module_of 4 (for 1 2 (number 1) (number 3) (write_var 1 ∷ let_be 1 (number 7) ∷ []) ∷ write_var 1 ∷ [])) []
+      (digits_of (1 ∷ 2 ∷ 3 ∷ 7 ∷ [])) Succeeded
   -- FOR i := 1 TO 2 DO EITHER TRUE ORELSE WRITE(2) END; WRITE(i) END; FALSE
   pub turns_keep_their_choices :
-      Gives 3 (module_of 4 (for 1 2 (number 1) (number 2) (either ((succeed ∷ []) ∷ (write (number 2) ∷ []) ∷ []) ∷ write_var 1 ∷ []) ∷ fail ∷ [])) []
+      Gives 3 (module_of 4 (for 1 2 (number 1) (number 2) (either ((succeed ∷ []) ∷ (write (number 2) ∷ []) ∷ []) ∷ write_var 1 ∷ []) ∷ fail
+      ∷ [])) []
       (digits_of (1 ∷ 2 ∷ 2 ∷ 2 ∷ 2 ∷ 1 ∷ 2 ∷ 2 ∷ 2 ∷ [])) Failed
   -- FOR i := 1 TO 60 DO WRITE('1') END
   pub sixty_turns : Gives 61 (module_of 4 (for 1 2 (number 1) (number 60) (WriteText (49 ∷ []) ∷ []) ∷ [])) [] (replicate 60 49) Succeeded

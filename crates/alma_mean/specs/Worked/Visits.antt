@@ -2,7 +2,8 @@
 use Rattle.std.specs.Prelude.{[], ◌∷◌}
 use Rattle.alma_ir.specs.declared.phrase.Root.TheVariants as root
 use Rattle.alma_ir.specs.Tree.{If, Case, no_else, Value, Known, a_desig, Field, no_stmts}
-use Rattle.alma_mean.specs.Worked.Build.{arms, case_arms, sels, range, module_of, module_with, procedure, number, succeed, write_bool, either, for, call, Visits}
+use Rattle.alma_mean.specs.Worked.Build.{arms, case_arms, sels, range, module_of, module_with, procedure, number, succeed, write_bool}
+use Rattle.alma_mean.specs.Worked.Build.{either, for, call, Visits}
 
 -- the visits of each form that has some of its own
 pub record VisitsCount : Type 0 where

@@ -9,9 +9,19 @@ use Rattle.alma_all.proofs.main_call.all.Goals as goal
 
 pub returns-clause-answer : goal.returns-clause-answer
 returns-clause-answer g c =
-    record { end = all_end (file_of (texts c.args.words.now)) c.perform-end.result; course = c.perform-end.ensures; reported = rw c.file_word.ensures at c.tell.ensures }
+    record {
+      end = all_end (file_of (texts c.args.words.now)) c.perform-end.result;
+      course = c.perform-end.ensures;
+      reported =
+          rw c.file_word.ensures at c.tell.ensures;
+    }
 
 pub returns-clause-causes : goal.returns-clause-causes
 returns-clause-causes g c =
     causes_of all_sense program (all_plan (texts c.args.words.now)) one_verdict (own_plan (texts c.args.words.now)) _ _ _
-    (record { end = all_end (file_of (texts c.args.words.now)) c.perform-end.result; course = c.perform-end.ensures; reported = rw c.file_word.ensures at c.tell.ensures })
+    (record {
+      end = all_end (file_of (texts c.args.words.now)) c.perform-end.result;
+      course = c.perform-end.ensures;
+      reported =
+          rw c.file_word.ensures at c.tell.ensures;
+    })

@@ -9,7 +9,8 @@ use Rattle.alma_all.proofs.serve.list.Goals as goal
 pub returns-in-Ok : goal.returns-in-Ok
 returns-in-Ok g c = λ file files.
     course_listed (program_of c.args.program.now) (program_of c.in-Ok.lister) c.args.steps files
-    (g.I.Source.side c.args.input.now) (g.I.Source.side c.run_program.new.input) (g.O.Sink.side c.args.out.now) (g.O.Sink.side c.run_program.new.out) _
+    (g.I.Source.side c.args.input.now) (g.I.Source.side c.run_program.new.input) (g.O.Sink.side c.args.out.now)
+    (g.O.Sink.side c.run_program.new.out) _
     c.in-Ok.ensures.taken c.in-Ok.ensures.program (c.run_program.ensures program success files)
 
 pub returns-in-Err-ModuleReturn : goal.returns-in-Err-ModuleReturn

@@ -10,7 +10,8 @@ returns-in_default-steps_option g c = rw (c.in-Some.ensures, sym c.steps_option.
 
 pub returns-then-is_empty : goal.returns-then-is_empty
 returns-then-is_empty g c =
-    rw (c.in-Some.ensures, sym c.steps_option.ensures ∙ c.in-Some-steps_option.is, no_word c.in-Some.more.now (c.if-is_empty.ensures)) c.list_file-then-is_empty.ensures
+    rw (c.in-Some.ensures, sym c.steps_option.ensures ∙ c.in-Some-steps_option.is, no_word c.in-Some.more.now (c.if-is_empty.ensures))
+    c.list_file-then-is_empty.ensures
 
 pub returns-else-is_empty : goal.returns-else-is_empty
 returns-else-is_empty g c =

@@ -12,6 +12,13 @@ returns c =
     let fits_b : FitsSigned w64 b = search rules in
     let fits_less : FitsSigned w64 (pos 1 -ℤ a) = omega (arith, ints) in
     let fits_quotient : FitsSigned w64 (int_div (pos 1 -ℤ a) b) = quotient_above_fits a b fits_a c.requires.positive c.requires.negative in
-    let fits : FitsSigned w64 (negsuc 0 -ℤ int_div (pos 1 -ℤ a) b) = quotient_above_less_fits a b fits_a c.requires.positive c.requires.negative in
-    rw (to_z-of_z w64 a fits_a, to_z-of_z w64 b fits_b, to_z-of_z w64 (pos 1 -ℤ a) fits_less, to_z-of_z w64 (int_div (pos 1 -ℤ a) b) fits_quotient, to_z-of_z w64 (negsuc 0 -ℤ int_div (pos 1 -ℤ a) b) fits)
+    let fits : FitsSigned w64 (negsuc 0 -ℤ int_div (pos 1 -ℤ a) b) =
+    quotient_above_less_fits a b fits_a c.requires.positive c.requires.negative in
+    rw (
+      to_z-of_z w64 a fits_a,
+      to_z-of_z w64 b fits_b,
+      to_z-of_z w64 (pos 1 -ℤ a) fits_less,
+      to_z-of_z w64 (int_div (pos 1 -ℤ a) b) fits_quotient,
+      to_z-of_z w64 (negsuc 0 -ℤ int_div (pos 1 -ℤ a) b) fits,
+    )
     (quotient_above a b c.requires.positive c.requires.negative)

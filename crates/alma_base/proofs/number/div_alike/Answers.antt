@@ -11,5 +11,6 @@ returns c =
     let b = c.args.b in
     let fits_a : FitsSigned w64 a = search rules in
     let fits_b : FitsSigned w64 b = search rules in
-    let given : SomeIff c.checked_div.result (CanDivide w64 a b) (int_div a b) = simp (to_z-of_z w64 a fits_a, to_z-of_z w64 b fits_b) at c.checked_div.ensures in
+    let given : SomeIff c.checked_div.result (CanDivide w64 a b) (int_div a b) =
+    simp (to_z-of_z w64 a fits_a, to_z-of_z w64 b fits_b) at c.checked_div.ensures in
     checked_alike a b c.checked_div.result fits_b c.requires.nonzero c.requires.below c.requires.above given

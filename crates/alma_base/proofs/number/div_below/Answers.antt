@@ -12,7 +12,11 @@ nonzero_div-result c =
     let a = c.args.a in
     let b = c.args.b in (
       nonzero_divides b c.ranges.b (λ e. omega (arith, ints)),
-      rw (to_z-of_z w64 a c.ranges.a, to_z-of_z w64 (negsuc 0 -ℤ a) (below_shifted_fits a c.ranges.a c.requires.negative), to_z-of_z w64 b c.ranges.b)
+      rw (
+        to_z-of_z w64 a c.ranges.a,
+        to_z-of_z w64 (negsuc 0 -ℤ a) (below_shifted_fits a c.ranges.a c.requires.negative),
+        to_z-of_z w64 b c.ranges.b,
+      )
           (quotient_below_fits a b c.ranges.a c.requires.negative c.requires.positive),
     )
 
@@ -37,6 +41,7 @@ returns c =
       to_z-of_z w64 b c.ranges.b,
       to_z-of_z w64 (negsuc 0 -ℤ a) (below_shifted_fits a c.ranges.a c.requires.negative),
       to_z-of_z w64 (int_div (negsuc 0 -ℤ a) b) (quotient_below_fits a b c.ranges.a c.requires.negative c.requires.positive),
-      to_z-of_z w64 (negsuc 0 -ℤ int_div (negsuc 0 -ℤ a) b) (quotient_below_less_fits a b c.ranges.a c.requires.negative c.requires.positive),
+      to_z-of_z w64 (negsuc 0 -ℤ int_div (negsuc 0 -ℤ a) b)
+          (quotient_below_less_fits a b c.ranges.a c.requires.negative c.requires.positive),
     )
     (quotient_below a b c.requires.negative c.requires.positive)

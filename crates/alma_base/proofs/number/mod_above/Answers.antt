@@ -1,7 +1,8 @@
 use Rattle.std.proofs.Common.{pos, ◌+ℤ◌, ◌-ℤ◌, w64, arith}
 use Rattle.std.proofs.lemmas.Int.{ints, to_z-of_z}
 use Rattle.std.specs.Prelude.{int_rem}
-use Rattle.alma_base.proofs.Division.{remainder_above, nonzero_divides, one_more_fits, above_shifted_fits, quotient_above_fits, rest_above_fits, remainder_above_fits}
+use Rattle.alma_base.proofs.Division.{remainder_above, nonzero_divides, one_more_fits, above_shifted_fits, quotient_above_fits}
+use Rattle.alma_base.proofs.Division.{rest_above_fits, remainder_above_fits}
 use Rattle.alma_base.proofs.number.mod_above.Goals as goal
 
 pub overflow_add-result : goal.overflow_add-result
@@ -15,7 +16,11 @@ nonzero_rem-result c =
     let a = c.args.a in
     let b = c.args.b in (
       nonzero_divides b c.ranges.b (λ e. omega (arith, ints)),
-      rw (to_z-of_z w64 a c.ranges.a, to_z-of_z w64 (pos 1 -ℤ a) (above_shifted_fits a c.ranges.a c.requires.positive), to_z-of_z w64 b c.ranges.b)
+      rw (
+        to_z-of_z w64 a c.ranges.a,
+        to_z-of_z w64 (pos 1 -ℤ a) (above_shifted_fits a c.ranges.a c.requires.positive),
+        to_z-of_z w64 b c.ranges.b,
+      )
           (quotient_above_fits a b c.ranges.a c.requires.positive c.requires.negative),
     )
 

@@ -15,6 +15,7 @@ loop-end-preserved c =
         value * 10 + digit,
         cc (cut_once 18446744073709551615 value digit, c.loop-end.invariant.passed.1),
         λ negative. c.loop-end.invariant.passed.2 negative
-            ∙ one_digit_more input c.args.start end value negative c.loop-end.invariant.begun (omega arith) (sym c.is_digit_byte.ensures ∙ c.if-is_digit_byte.true),
+            ∙ one_digit_more input c.args.start end value negative c.loop-end.invariant.begun (omega arith)
+            (sym c.is_digit_byte.ensures ∙ c.if-is_digit_byte.true),
       );
     }

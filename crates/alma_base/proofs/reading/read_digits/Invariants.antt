@@ -8,7 +8,8 @@ invariant-loop-end l = record {
   begun : l.start ≤ l.end;
   within : l.end ≤ length l.input;
   passed : (value : ℕ) × (l.magnitude ≡ min value (2 ^ 64 - 1)) × ((negative : Bool) →
-      digits_on false negative 0 l.start (drop l.start l.input) ≡ digits_on (nat_lt l.start l.end) negative value l.end (drop l.end l.input));
+      digits_on false negative 0 l.start (drop l.start l.input) ≡ digits_on (nat_lt l.start l.end) negative value l.end
+      (drop l.end l.input));
 }
 
 abbrev pub decreases-loop-end : goal.decreases-loop-end

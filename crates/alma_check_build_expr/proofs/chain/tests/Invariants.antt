@@ -6,4 +6,5 @@ use Rattle.alma_check_rules.specs.Views.{operands_view, meaning_view}
 use Rattle.alma_check_build_expr.proofs.chain.tests.Given as goal
 
 abbrev pub invariant-loop-behind : goal.invariant-loop-behind
-invariant-loop-behind l = tests_list l.tests.items ≡ ir.more_tests (parts.test_of (meaning_view l.fn.first)) (parts.tests_of (operands_view l.yielded))
+invariant-loop-behind l = tests_list l.tests.items ≡ ir.more_tests (parts.test_of (meaning_view l.fn.first))
+    (parts.tests_of (operands_view l.yielded))

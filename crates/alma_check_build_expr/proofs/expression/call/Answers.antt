@@ -11,5 +11,6 @@ returns-in-None-result c =
 
 pub returns-in-Some-result : goal.returns-in-Some-result
 returns-in-Some-result c =
-    rw (c.in-Some.is, c.in-Some-args.is) (ap Some (ap (λ m. record { shape = c.in-Some-result.shape; constant = None; meaning = m }) c.call_value.ensures
+    rw (c.in-Some.is, c.in-Some-args.is) (ap Some
+    (ap (λ m. record { shape = c.in-Some-result.shape; constant = None; meaning = m }) c.call_value.ensures
     ∙ sym (call_giving (callee_of (headings_in c.args.env.now) c.in-Some.callee) (args_of c.in-Some-args.args) _ c.in-Some-result.ensures)))

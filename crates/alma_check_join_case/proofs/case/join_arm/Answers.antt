@@ -13,4 +13,5 @@ pub returns-in_err-whole : goal.returns-in_err-whole
 returns-in_err-whole c = λ j n m a. no_memory _ cases_of m _ c.from_residual-in_err-whole.ensures.1
 
 pub returns : goal.returns
-returns c = λ j n m a. with_fine nodes.arm_of (both (of_value n (spans_in c.args.labels)) j) m _ (both_fine n m (spans_in c.args.labels) j _ (rw c.in_ok-body.was at a)) ∙ ap (of_value m) (sym c.in_ok-whole.ensures)
+returns c = λ j n m a. with_fine nodes.arm_of (both (of_value n (spans_in c.args.labels)) j) m _
+    (both_fine n m (spans_in c.args.labels) j _ (rw c.in_ok-body.was at a)) ∙ ap (of_value m) (sym c.in_ok-whole.ensures)

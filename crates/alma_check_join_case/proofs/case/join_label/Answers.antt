@@ -10,7 +10,16 @@ pub returns-in_err-high : goal.returns-in_err-high
 returns-in_err-high c = λ j n m a. passed _ span_view m _ _ c.from_residual.ensures.1 (stops_more _ _ _ (rw c.in_err-high.was at a))
 
 pub returns-in_err-pass_label : goal.returns-in_err-pass_label
-returns-in_err-pass_label c = λ j n m a. rw (rw c.in_ok-high.was at a) (passed _ span_view m _ _ c.from_residual-in_err-pass_label.ensures.1 c.in_err-pass_label.ensures)
+returns-in_err-pass_label c = λ j n m a. rw (rw c.in_ok-high.was at a)
+    (passed _ span_view m _ _ c.from_residual-in_err-pass_label.ensures.1 c.in_err-pass_label.ensures)
 
 pub returns : goal.returns
-returns c = λ j n m a. rw (rw c.in_ok-high.was at a) (with_some_fine (parts.span_of (scene_of c.args.env.now somewhere)) (at_node c.args.node (stmt_rules.label_rules (scene_of c.args.env.now somewhere) (typing_in c.args.case.now) (spans_view c.args.earlier.now) (parts.span_of (scene_of c.args.env.now somewhere)) (typing_in c.args.low) (typing_in c.in_ok-high.high)) (both (of_value n (typing_in c.args.low)) (of_value m (typing_in c.in_ok-high.high)))) m _ (node_fine c.args.node (stmt_rules.label_rules (scene_of c.args.env.now somewhere) (typing_in c.args.case.now) (spans_view c.args.earlier.now) (parts.span_of (scene_of c.args.env.now somewhere)) (typing_in c.args.low) (typing_in c.in_ok-high.high)) (both (of_value n (typing_in c.args.low)) (of_value m (typing_in c.in_ok-high.high))) m _ refl c.in_ok-pass_label.ensures) ∙ ap (of_value m) (sym c.span_in.ensures))
+returns c = λ j n m a. rw (rw c.in_ok-high.was at a)
+    (with_some_fine (parts.span_of (scene_of c.args.env.now somewhere))
+    (at_node c.args.node (stmt_rules.label_rules (scene_of c.args.env.now somewhere) (typing_in c.args.case.now)
+    (spans_view c.args.earlier.now) (parts.span_of (scene_of c.args.env.now somewhere)) (typing_in c.args.low)
+    (typing_in c.in_ok-high.high)) (both (of_value n (typing_in c.args.low)) (of_value m (typing_in c.in_ok-high.high)))) m _
+    (node_fine c.args.node (stmt_rules.label_rules (scene_of c.args.env.now somewhere) (typing_in c.args.case.now)
+    (spans_view c.args.earlier.now) (parts.span_of (scene_of c.args.env.now somewhere)) (typing_in c.args.low)
+    (typing_in c.in_ok-high.high)) (both (of_value n (typing_in c.args.low)) (of_value m (typing_in c.in_ok-high.high))) m _ refl
+    c.in_ok-pass_label.ensures) ∙ ap (of_value m) (sym c.span_in.ensures))

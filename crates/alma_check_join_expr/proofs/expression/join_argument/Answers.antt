@@ -12,10 +12,16 @@ pub returns-in_err-typed : goal.returns-in_err-typed
 returns-in_err-typed c = λ j m a. passed _ arg_of m _ _ c.from_residual.ensures.1 (stops_more j.faults _ _ (rw c.in_err-typed.was at a))
 
 pub returns-in_err-pass_argument : goal.returns-in_err-pass_argument
-returns-in_err-pass_argument c = λ j m a. passed _ arg_of m _ _ c.from_residual-in_err-pass_argument.ensures.1 (node_stops c.args.node (rules.argument_rules (scene_of c.args.env.now somewhere) (option_map formal_view c.args.formal) (argument_view c.args.kind)) (j) _ m _ ((rw c.in_ok-typed.was at a)) c.in_err-pass_argument.ensures)
+returns-in_err-pass_argument c = λ j m a. passed _ arg_of m _ _ c.from_residual-in_err-pass_argument.ensures.1
+    (node_stops c.args.node (rules.argument_rules (scene_of c.args.env.now somewhere) (option_map formal_view c.args.formal)
+    (argument_view c.args.kind)) (j) _ m _ ((rw c.in_ok-typed.was at a)) c.in_err-pass_argument.ensures)
 
 pub returns-in_err-whole : goal.returns-in_err-whole
 returns-in_err-whole c = λ j m a. no_memory _ arg_of m _ c.from_residual-in_err-whole.ensures.1
 
 pub returns : goal.returns
-returns c = λ j m a. with_fine (parts.argument_of (scene_of c.args.env.now somewhere) (option_map formal_view c.args.formal)) (at_node c.args.node (rules.argument_rules (scene_of c.args.env.now somewhere) (option_map formal_view c.args.formal) (argument_view c.args.kind)) (j)) m _ (node_fine c.args.node (rules.argument_rules (scene_of c.args.env.now somewhere) (option_map formal_view c.args.formal) (argument_view c.args.kind)) (j) m _ ((rw c.in_ok-typed.was at a)) c.in_ok-pass_argument.ensures) ∙ ap (of_value m) (sym c.in_ok-whole.ensures)
+returns c = λ j m a. with_fine (parts.argument_of (scene_of c.args.env.now somewhere) (option_map formal_view c.args.formal))
+    (at_node c.args.node (rules.argument_rules (scene_of c.args.env.now somewhere) (option_map formal_view c.args.formal)
+    (argument_view c.args.kind)) (j)) m _ (node_fine c.args.node
+    (rules.argument_rules (scene_of c.args.env.now somewhere) (option_map formal_view c.args.formal) (argument_view c.args.kind)) (j) m _
+    ((rw c.in_ok-typed.was at a)) c.in_ok-pass_argument.ensures) ∙ ap (of_value m) (sym c.in_ok-whole.ensures)

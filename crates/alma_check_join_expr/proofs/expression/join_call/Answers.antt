@@ -10,7 +10,16 @@ pub returns-in_err-args : goal.returns-in_err-args
 returns-in_err-args c = λ j n m a. passed _ typing_of m _ _ c.from_residual.ensures.1 (stops_more j.faults _ _ (rw c.in_err-args.was at a))
 
 pub returns-in_err-pass_call : goal.returns-in_err-pass_call
-returns-in_err-pass_call c = λ j n m a. passed _ typing_of m _ _ c.from_residual-in_err-pass_call.ensures.1 (node_stops c.args.node (rules.call_rules (scene_of c.args.env.now c.args.place) (callee_in (headings_in c.args.env.now) c.args.callee) c.args.count) (both (of_value n (callee_in (headings_in c.args.env.now) c.args.callee)) j) _ m _ (both_fine n m (callee_in (headings_in c.args.env.now) c.args.callee) j _ (rw c.in_ok-args.was at a)) c.in_err-pass_call.ensures)
+returns-in_err-pass_call c = λ j n m a. passed _ typing_of m _ _ c.from_residual-in_err-pass_call.ensures.1
+    (node_stops c.args.node (rules.call_rules (scene_of c.args.env.now c.args.place) (callee_in (headings_in c.args.env.now) c.args.callee)
+    c.args.count) (both (of_value n (callee_in (headings_in c.args.env.now) c.args.callee)) j) _ m _
+    (both_fine n m (callee_in (headings_in c.args.env.now) c.args.callee) j _ (rw c.in_ok-args.was at a)) c.in_err-pass_call.ensures)
 
 pub returns : goal.returns
-returns c = λ j n m a. with_fine parts.called (at_node c.args.node (rules.call_rules (scene_of c.args.env.now c.args.place) (callee_in (headings_in c.args.env.now) c.args.callee) c.args.count) (both (of_value n (callee_in (headings_in c.args.env.now) c.args.callee)) j)) m _ (node_fine c.args.node (rules.call_rules (scene_of c.args.env.now c.args.place) (callee_in (headings_in c.args.env.now) c.args.callee) c.args.count) (both (of_value n (callee_in (headings_in c.args.env.now) c.args.callee)) j) m _ (both_fine n m (callee_in (headings_in c.args.env.now) c.args.callee) j _ (rw c.in_ok-args.was at a)) c.in_ok-pass_call.ensures) ∙ ap (of_value m) (sym c.call.ensures)
+returns c = λ j n m a. with_fine parts.called
+    (at_node c.args.node (rules.call_rules (scene_of c.args.env.now c.args.place) (callee_in (headings_in c.args.env.now) c.args.callee)
+    c.args.count) (both (of_value n (callee_in (headings_in c.args.env.now) c.args.callee)) j)) m _
+    (node_fine c.args.node (rules.call_rules (scene_of c.args.env.now c.args.place) (callee_in (headings_in c.args.env.now) c.args.callee)
+    c.args.count) (both (of_value n (callee_in (headings_in c.args.env.now) c.args.callee)) j) m _
+    (both_fine n m (callee_in (headings_in c.args.env.now) c.args.callee) j _ (rw c.in_ok-args.was at a)) c.in_ok-pass_call.ensures)
+    ∙ ap (of_value m) (sym c.call.ensures)

@@ -10,10 +10,14 @@ pub returns-in_err-typed : goal.returns-in_err-typed
 returns-in_err-typed c = λ j m a. passed _ typing_of m _ _ c.from_residual.ensures.1 (stops_more j.faults _ _ (rw c.in_err-typed.was at a))
 
 pub returns-in_err-pass_chr : goal.returns-in_err-pass_chr
-returns-in_err-pass_chr c = λ j m a. passed _ typing_of m _ _ c.from_residual-in_err-pass_chr.ensures.1 (node_stops c.args.node (rules.chr_rules (scene_of c.args.env.now c.args.place)) (j) _ m _ ((rw c.in_ok-typed.was at a)) c.in_err-pass_chr.ensures)
+returns-in_err-pass_chr c = λ j m a. passed _ typing_of m _ _ c.from_residual-in_err-pass_chr.ensures.1
+    (node_stops c.args.node (rules.chr_rules (scene_of c.args.env.now c.args.place)) (j) _ m _ ((rw c.in_ok-typed.was at a))
+    c.in_err-pass_chr.ensures)
 
 pub returns-in_err-whole : goal.returns-in_err-whole
 returns-in_err-whole c = λ j m a. no_memory _ typing_of m _ c.from_residual-in_err-whole.ensures.1
 
 pub returns : goal.returns
-returns c = λ j m a. with_fine nodes.chr_typing (at_node c.args.node (rules.chr_rules (scene_of c.args.env.now c.args.place)) (j)) m _ (node_fine c.args.node (rules.chr_rules (scene_of c.args.env.now c.args.place)) (j) m _ ((rw c.in_ok-typed.was at a)) c.in_ok-pass_chr.ensures) ∙ ap (of_value m) (sym c.in_ok-whole.ensures)
+returns c = λ j m a. with_fine nodes.chr_typing (at_node c.args.node (rules.chr_rules (scene_of c.args.env.now c.args.place)) (j)) m _
+    (node_fine c.args.node (rules.chr_rules (scene_of c.args.env.now c.args.place)) (j) m _ ((rw c.in_ok-typed.was at a))
+    c.in_ok-pass_chr.ensures) ∙ ap (of_value m) (sym c.in_ok-whole.ensures)

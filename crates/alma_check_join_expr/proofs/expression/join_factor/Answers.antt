@@ -7,7 +7,10 @@ pub returns-in_err-typed : goal.returns-in_err-typed
 returns-in_err-typed c = λ j m a. passed _ typing_of m _ _ c.from_residual.ensures.1 (stops_more j.faults _ _ (rw c.in_err-typed.was at a))
 
 pub returns-in_err-pass_operand : goal.returns-in_err-pass_operand
-returns-in_err-pass_operand c = λ j m a. passed _ typing_of m _ _ c.from_residual-in_err-pass_operand.ensures.1 (node_stops c.args.node (rules.operand_rules (scene_of c.args.env.now somewhere) (operand_view c.args.operand)) (j) _ m _ ((rw c.in_ok-typed.was at a)) c.in_err-pass_operand.ensures)
+returns-in_err-pass_operand c = λ j m a. passed _ typing_of m _ _ c.from_residual-in_err-pass_operand.ensures.1
+    (node_stops c.args.node (rules.operand_rules (scene_of c.args.env.now somewhere) (operand_view c.args.operand)) (j) _ m _
+    ((rw c.in_ok-typed.was at a)) c.in_err-pass_operand.ensures)
 
 pub returns : goal.returns
-returns c = λ j m a. node_fine c.args.node (rules.operand_rules (scene_of c.args.env.now somewhere) (operand_view c.args.operand)) (j) m _ ((rw c.in_ok-typed.was at a)) c.in_ok-pass_operand.ensures
+returns c = λ j m a. node_fine c.args.node (rules.operand_rules (scene_of c.args.env.now somewhere) (operand_view c.args.operand)) (j) m _
+    ((rw c.in_ok-typed.was at a)) c.in_ok-pass_operand.ensures

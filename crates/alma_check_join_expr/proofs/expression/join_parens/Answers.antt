@@ -10,7 +10,11 @@ pub returns-in_err-typed : goal.returns-in_err-typed
 returns-in_err-typed c = λ j m a. passed _ typing_of m _ _ c.from_residual.ensures.1 (stops_more j.faults _ _ (rw c.in_err-typed.was at a))
 
 pub returns-in_err-pass_simple : goal.returns-in_err-pass_simple
-returns-in_err-pass_simple c = λ j m a. passed _ typing_of m _ _ c.from_residual-in_err-pass_simple.ensures.1 (node_stops c.args.node (rules.simple_rules (scene_of c.args.env.now somewhere)) (j) _ m _ ((rw c.in_ok-typed.was at a)) c.in_err-pass_simple.ensures)
+returns-in_err-pass_simple c = λ j m a. passed _ typing_of m _ _ c.from_residual-in_err-pass_simple.ensures.1
+    (node_stops c.args.node (rules.simple_rules (scene_of c.args.env.now somewhere)) (j) _ m _ ((rw c.in_ok-typed.was at a))
+    c.in_err-pass_simple.ensures)
 
 pub returns : goal.returns
-returns c = λ j m a. with_fine parts.without_place (at_node c.args.node (rules.simple_rules (scene_of c.args.env.now somewhere)) (j)) m _ (node_fine c.args.node (rules.simple_rules (scene_of c.args.env.now somewhere)) (j) m _ ((rw c.in_ok-typed.was at a)) c.in_ok-pass_simple.ensures) ∙ ap (of_value m) (sym c.without_place.ensures)
+returns c = λ j m a. with_fine parts.without_place (at_node c.args.node (rules.simple_rules (scene_of c.args.env.now somewhere)) (j)) m _
+    (node_fine c.args.node (rules.simple_rules (scene_of c.args.env.now somewhere)) (j) m _ ((rw c.in_ok-typed.was at a))
+    c.in_ok-pass_simple.ensures) ∙ ap (of_value m) (sym c.without_place.ensures)

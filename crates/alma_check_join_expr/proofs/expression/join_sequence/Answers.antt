@@ -11,7 +11,12 @@ pub returns-in_err-body : goal.returns-in_err-body
 returns-in_err-body c = λ j m a. passed _ typing_of m _ _ c.from_residual.ensures.1 (stops_more j.faults _ _ (rw c.in_err-body.was at a))
 
 pub returns-in_err-pass_constant : goal.returns-in_err-pass_constant
-returns-in_err-pass_constant c = λ j m a. passed _ typing_of m _ _ c.from_residual-in_err-pass_constant.ensures.1 (node_stops c.args.node (rules.sequence_rules (scene_of c.args.env.now c.args.place)) (j) _ m _ ((rw c.in_ok-body.was at a)) c.in_err-pass_constant.ensures)
+returns-in_err-pass_constant c = λ j m a. passed _ typing_of m _ _ c.from_residual-in_err-pass_constant.ensures.1
+    (node_stops c.args.node (rules.sequence_rules (scene_of c.args.env.now c.args.place)) (j) _ m _ ((rw c.in_ok-body.was at a))
+    c.in_err-pass_constant.ensures)
 
 pub returns : goal.returns
-returns c = λ j m a. with_fine (λ (b : ir.Stmts). parts.boolean_typing (parts.a_test (ir.Seq b))) (at_node c.args.node (rules.sequence_rules (scene_of c.args.env.now c.args.place)) (j)) m _ (node_fine c.args.node (rules.sequence_rules (scene_of c.args.env.now c.args.place)) (j) m _ ((rw c.in_ok-body.was at a)) c.in_ok-pass_constant.ensures) ∙ ap (of_value m) (sym c.sequence.ensures)
+returns c = λ j m a. with_fine (λ (b : ir.Stmts). parts.boolean_typing (parts.a_test (ir.Seq b)))
+    (at_node c.args.node (rules.sequence_rules (scene_of c.args.env.now c.args.place)) (j)) m _
+    (node_fine c.args.node (rules.sequence_rules (scene_of c.args.env.now c.args.place)) (j) m _ ((rw c.in_ok-body.was at a))
+    c.in_ok-pass_constant.ensures) ∙ ap (of_value m) (sym c.sequence.ensures)

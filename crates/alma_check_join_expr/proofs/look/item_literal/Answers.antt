@@ -9,4 +9,5 @@ pub returns-in-None : goal.returns-in-None
 returns-in-None c = ap (option_and_then literal_of) c.in-None.ensures ∙ sym (item_by (view.view_expr c.args.expr.now))
 
 pub returns-in-Some : goal.returns-in-Some
-returns-in-Some c = c.literal_in.ensures ∙ ap (option_and_then literal_of) c.in-Some.ensures ∙ sym (item_by (view.view_expr c.args.expr.now))
+returns-in-Some c = c.literal_in.ensures ∙ ap (option_and_then literal_of) c.in-Some.ensures
+    ∙ sym (item_by (view.view_expr c.args.expr.now))

@@ -8,10 +8,12 @@ use Rattle.alma_check_join_stmt.proofs.Steps as steps
 use Rattle.alma_check_join_stmt.proofs.list.add_cases.Goals as goal
 
 pub returns-in_err-more-clause-judged : goal.returns-in_err-more-clause-judged
-returns-in_err-more-clause-judged c = λ j m rest a. passed_on _ _ _ _ c.from_residual.ensures.1 (onward_stops parts.append_cases nodes.joined_cases (cases_in c.args.kept) j rest _ (rw c.in_err-more.was at a))
+returns-in_err-more-clause-judged c = λ j m rest a. passed_on _ _ _ _ c.from_residual.ensures.1
+    (onward_stops parts.append_cases nodes.joined_cases (cases_in c.args.kept) j rest _ (rw c.in_err-more.was at a))
 
 pub returns-in_err-whole-clause-judged : goal.returns-in_err-whole-clause-judged
 returns-in_err-whole-clause-judged c = λ j m rest a. no_memory_on _ _ _ c.from_residual-in_err-whole.ensures.1
 
 pub returns-clause-judged : goal.returns-clause-judged
-returns-clause-judged c = λ j m rest a. steps.cases_added (cases_in c.args.kept) _ j m rest (rw c.in_ok-more.was at a) ∙ ap (λ k. onward_cases k (rest m)) (sym c.in_ok-whole.ensures)
+returns-clause-judged c = λ j m rest a. steps.cases_added (cases_in c.args.kept) _ j m rest (rw c.in_ok-more.was at a)
+    ∙ ap (λ k. onward_cases k (rest m)) (sym c.in_ok-whole.ensures)

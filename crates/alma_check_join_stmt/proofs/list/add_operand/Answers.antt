@@ -9,10 +9,13 @@ use Rattle.alma_check_join_stmt.proofs.Steps as steps
 use Rattle.alma_check_join_stmt.proofs.list.add_operand.Goals as goal
 
 pub returns-in_err-typed : goal.returns-in_err-typed
-returns-in_err-typed c = λ j m rest a. passed_on _ _ _ _ c.from_residual.ensures.1 (onward_stops (λ (x y : parts.Operands). x ++ y) (nodes.cons_operand (operator_view c.args.operator)) (operands_in c.args.kept) j rest _ (rw c.in_err-typed.was at a))
+returns-in_err-typed c = λ j m rest a. passed_on _ _ _ _ c.from_residual.ensures.1
+    (onward_stops (λ (x y : parts.Operands). x ++ y) (nodes.cons_operand (operator_view c.args.operator)) (operands_in c.args.kept) j rest _
+    (rw c.in_err-typed.was at a))
 
 pub returns-in_err-whole : goal.returns-in_err-whole
 returns-in_err-whole c = λ j m rest a. no_memory_on _ _ _ c.from_residual-in_err-whole.ensures.1
 
 pub returns : goal.returns
-returns c = λ j m rest a. steps.operand_added (operator_view c.args.operator) (operands_in c.args.kept) _ j m rest (rw c.in_ok-typed.was at a) ∙ ap (λ k. onward_operands k (rest m)) (sym c.in_ok-whole.ensures)
+returns c = λ j m rest a. steps.operand_added (operator_view c.args.operator) (operands_in c.args.kept) _ j m rest
+    (rw c.in_ok-typed.was at a) ∙ ap (λ k. onward_operands k (rest m)) (sym c.in_ok-whole.ensures)

@@ -10,10 +10,16 @@ pub returns-in_err-typed : goal.returns-in_err-typed
 returns-in_err-typed c = λ j n m a. passed _ stmts_of m _ _ c.from_residual.ensures.1 (stops_more j.faults _ _ (rw c.in_err-typed.was at a))
 
 pub returns-in_err-pass_assign : goal.returns-in_err-pass_assign
-returns-in_err-pass_assign c = λ j n m a. passed _ stmts_of m _ _ c.from_residual-in_err-pass_assign.ensures.1 (node_stops c.args.node (stmt_rules.assign_rules (scene_of c.args.env.now somewhere)) (both (of_value n (located_in c.args.located)) j) _ m _ (both_fine n m (located_in c.args.located) j _ (rw c.in_ok-typed.was at a)) c.in_err-pass_assign.ensures)
+returns-in_err-pass_assign c = λ j n m a. passed _ stmts_of m _ _ c.from_residual-in_err-pass_assign.ensures.1
+    (node_stops c.args.node (stmt_rules.assign_rules (scene_of c.args.env.now somewhere)) (both (of_value n (located_in c.args.located)) j)
+    _ m _ (both_fine n m (located_in c.args.located) j _ (rw c.in_ok-typed.was at a)) c.in_err-pass_assign.ensures)
 
 pub returns-in_err-whole : goal.returns-in_err-whole
 returns-in_err-whole c = λ j n m a. no_memory _ stmts_of m _ c.from_residual-in_err-whole.ensures.1
 
 pub returns : goal.returns
-returns c = λ j n m a. with_fine (parts.assigned (scene_of c.args.env.now somewhere)) (at_node c.args.node (stmt_rules.assign_rules (scene_of c.args.env.now somewhere)) (both (of_value n (located_in c.args.located)) j)) m _ (node_fine c.args.node (stmt_rules.assign_rules (scene_of c.args.env.now somewhere)) (both (of_value n (located_in c.args.located)) j) m _ (both_fine n m (located_in c.args.located) j _ (rw c.in_ok-typed.was at a)) c.in_ok-pass_assign.ensures) ∙ ap (of_value m) (sym c.in_ok-whole.ensures)
+returns c = λ j n m a. with_fine (parts.assigned (scene_of c.args.env.now somewhere))
+    (at_node c.args.node (stmt_rules.assign_rules (scene_of c.args.env.now somewhere)) (both (of_value n (located_in c.args.located)) j)) m
+    _ (node_fine c.args.node (stmt_rules.assign_rules (scene_of c.args.env.now somewhere)) (both (of_value n (located_in c.args.located)) j)
+    m _ (both_fine n m (located_in c.args.located) j _ (rw c.in_ok-typed.was at a)) c.in_ok-pass_assign.ensures)
+    ∙ ap (of_value m) (sym c.in_ok-whole.ensures)

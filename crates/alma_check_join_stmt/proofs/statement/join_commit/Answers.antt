@@ -13,4 +13,5 @@ pub returns-in_err-whole : goal.returns-in_err-whole
 returns-in_err-whole c = λ j m a. no_memory _ stmts_of m _ c.from_residual-in_err-whole.ensures.1
 
 pub returns : goal.returns
-returns c = λ j m a. with_fine parts.one_stmt (with ir.Commit (j)) m _ (with_fine ir.Commit (j) m _ ((rw c.in_ok-body.was at a))) ∙ ap (of_value m) (sym c.in_ok-whole.ensures)
+returns c = λ j m a. with_fine parts.one_stmt (with ir.Commit (j)) m _ (with_fine ir.Commit (j) m _ ((rw c.in_ok-body.was at a)))
+    ∙ ap (of_value m) (sym c.in_ok-whole.ensures)

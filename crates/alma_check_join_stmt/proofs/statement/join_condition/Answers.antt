@@ -11,7 +11,12 @@ pub returns-in_err-typed : goal.returns-in_err-typed
 returns-in_err-typed c = λ j m a. passed _ test_of m _ _ c.from_residual.ensures.1 (stops_more j.faults _ _ (rw c.in_err-typed.was at a))
 
 pub returns-in_err-pass_test : goal.returns-in_err-pass_test
-returns-in_err-pass_test c = λ j m a. passed _ test_of m _ _ c.from_residual-in_err-pass_test.ensures.1 (node_stops c.args.node (rules.test_rules (scene_of c.args.env.now somewhere)) (j) _ m _ ((rw c.in_ok-typed.was at a)) c.in_err-pass_test.ensures)
+returns-in_err-pass_test c = λ j m a. passed _ test_of m _ _ c.from_residual-in_err-pass_test.ensures.1
+    (node_stops c.args.node (rules.test_rules (scene_of c.args.env.now somewhere)) (j) _ m _ ((rw c.in_ok-typed.was at a))
+    c.in_err-pass_test.ensures)
 
 pub returns : goal.returns
-returns c = λ j m a. with_fine (λ (t : parts.Typing). parts.test_of t.meaning) (at_node c.args.node (rules.test_rules (scene_of c.args.env.now somewhere)) (j)) m _ (node_fine c.args.node (rules.test_rules (scene_of c.args.env.now somewhere)) (j) m _ ((rw c.in_ok-typed.was at a)) c.in_ok-pass_test.ensures) ∙ ap (of_value m) (sym c.condition.ensures)
+returns c = λ j m a. with_fine (λ (t : parts.Typing). parts.test_of t.meaning)
+    (at_node c.args.node (rules.test_rules (scene_of c.args.env.now somewhere)) (j)) m _
+    (node_fine c.args.node (rules.test_rules (scene_of c.args.env.now somewhere)) (j) m _ ((rw c.in_ok-typed.was at a))
+    c.in_ok-pass_test.ensures) ∙ ap (of_value m) (sym c.condition.ensures)

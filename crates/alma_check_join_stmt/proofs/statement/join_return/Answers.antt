@@ -12,10 +12,18 @@ pub returns-in_err-typed : goal.returns-in_err-typed
 returns-in_err-typed c = λ j m a. passed _ stmts_of m _ _ c.from_residual.ensures.1 (stops_more j.faults _ _ (rw c.in_err-typed.was at a))
 
 pub returns-in_err-pass_return : goal.returns-in_err-pass_return
-returns-in_err-pass_return c = λ j m a. passed _ stmts_of m _ _ c.from_residual-in_err-pass_return.ensures.1 (node_stops c.args.node (stmt_rules.return_rules (scene_of c.args.env.now c.args.place) true) (j) _ m _ ((rw c.in_ok-typed.was at a)) c.in_err-pass_return.ensures)
+returns-in_err-pass_return c = λ j m a. passed _ stmts_of m _ _ c.from_residual-in_err-pass_return.ensures.1
+    (node_stops c.args.node (stmt_rules.return_rules (scene_of c.args.env.now c.args.place) true) (j) _ m _ ((rw c.in_ok-typed.was at a))
+    c.in_err-pass_return.ensures)
 
 pub returns-in_err-whole : goal.returns-in_err-whole
 returns-in_err-whole c = λ j m a. no_memory _ stmts_of m _ c.from_residual-in_err-whole.ensures.1
 
 pub returns : goal.returns
-returns c = λ j m a. with_fine parts.one_stmt (with (λ (t : parts.Typing). ir.Return (ir.some_result (parts.value_of t.meaning))) (at_node c.args.node (stmt_rules.return_rules (scene_of c.args.env.now c.args.place) true) (j))) m _ (with_fine (λ (t : parts.Typing). ir.Return (ir.some_result (parts.value_of t.meaning))) (at_node c.args.node (stmt_rules.return_rules (scene_of c.args.env.now c.args.place) true) (j)) m _ (node_fine c.args.node (stmt_rules.return_rules (scene_of c.args.env.now c.args.place) true) (j) m _ ((rw c.in_ok-typed.was at a)) c.in_ok-pass_return.ensures)) ∙ ap (of_value m) (sym c.in_ok-whole.ensures)
+returns c = λ j m a. with_fine parts.one_stmt
+    (with (λ (t : parts.Typing). ir.Return (ir.some_result (parts.value_of t.meaning)))
+    (at_node c.args.node (stmt_rules.return_rules (scene_of c.args.env.now c.args.place) true) (j))) m _
+    (with_fine (λ (t : parts.Typing). ir.Return (ir.some_result (parts.value_of t.meaning)))
+    (at_node c.args.node (stmt_rules.return_rules (scene_of c.args.env.now c.args.place) true) (j)) m _
+    (node_fine c.args.node (stmt_rules.return_rules (scene_of c.args.env.now c.args.place) true) (j) m _ ((rw c.in_ok-typed.was at a))
+    c.in_ok-pass_return.ensures)) ∙ ap (of_value m) (sym c.in_ok-whole.ensures)

@@ -14,4 +14,7 @@ pub returns-in_err-whole : goal.returns-in_err-whole
 returns-in_err-whole c = λ j n m a. no_memory _ stmts_of m _ c.from_residual-in_err-whole.ensures.1
 
 pub returns : goal.returns
-returns c = λ j n m a. with_fine parts.one_stmt (with (λ (p : ir.Test × ir.Stmts). ir.While p.0 p.1) (both (of_value n (test_in c.args.test)) j)) m _ (with_fine (λ (p : ir.Test × ir.Stmts). ir.While p.0 p.1) (both (of_value n (test_in c.args.test)) j) m _ (both_fine n m (test_in c.args.test) j _ (rw c.in_ok-body.was at a))) ∙ ap (of_value m) (sym c.in_ok-whole.ensures)
+returns c = λ j n m a. with_fine parts.one_stmt
+    (with (λ (p : ir.Test × ir.Stmts). ir.While p.0 p.1) (both (of_value n (test_in c.args.test)) j)) m _
+    (with_fine (λ (p : ir.Test × ir.Stmts). ir.While p.0 p.1) (both (of_value n (test_in c.args.test)) j) m _
+    (both_fine n m (test_in c.args.test) j _ (rw c.in_ok-body.was at a))) ∙ ap (of_value m) (sym c.in_ok-whole.ensures)

@@ -6,4 +6,6 @@ use Rattle.alma_check_phrases.proofs.assign.check_condition.Goals as goal
 
 pub returns : goal.returns
 returns g c =
-    rw (node_is c.args.test.now) (c.join_condition.ensures (walk.judge_expr (scene_of c.args.env.now c.args.place) c.args.slot.now (view.view_expr c.args.test.now)) _ c.check_expr-typed.ensures)
+    rw (node_is c.args.test.now) (c.join_condition.ensures
+    (walk.judge_expr (scene_of c.args.env.now c.args.place) c.args.slot.now (view.view_expr c.args.test.now)) _
+    c.check_expr-typed.ensures)

@@ -7,8 +7,10 @@ use Rattle.alma_check_phrases.proofs.branch.check_else.Goals as goal
 
 pub returns-in-None : goal.returns-in-None
 returns-in-None g c =
-    rw (c.in-None.is, stmts.else_none (scene_of c.args.env.now c.args.place) c.args.slot.now) (ap (of_value c.args.slot.now) (sym c.nothing.ensures))
+    rw (c.in-None.is, stmts.else_none (scene_of c.args.env.now c.args.place) c.args.slot.now)
+    (ap (of_value c.args.slot.now) (sym c.nothing.ensures))
 
 pub returns-in-Some : goal.returns-in-Some
 returns-in-Some g c =
-    rw (c.in-Some.is, stmts.else_some (scene_of c.args.env.now c.args.place) c.args.slot.now (view.view_stmts c.in-Some.body)) c.nested.ensures
+    rw (c.in-Some.is, stmts.else_some (scene_of c.args.env.now c.args.place) c.args.slot.now (view.view_stmts c.in-Some.body))
+    c.nested.ensures

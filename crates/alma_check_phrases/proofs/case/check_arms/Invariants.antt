@@ -10,4 +10,5 @@ use Rattle.alma_check_phrases.proofs.case.check_arms.Given as goal
 abbrev pub invariant-loop-arm : goal.invariant-loop-arm
 invariant-loop-arm g l =
     arms_judged (scene_of l.env l.place) l.fn.slot (typing_in l.case) (view.view_arm l.first) (view.arms_of l.more)
-    ≡ onward_cases (cases_in l.arms) (walk.judge_arm_tail (scene_of l.env l.place) l.slot (typing_in l.case) (spans_view l.spans) (view.arms_of (drop l.arm-index l.more)))
+    ≡ onward_cases (cases_in l.arms) (walk.judge_arm_tail (scene_of l.env l.place) l.slot (typing_in l.case) (spans_view l.spans)
+    (view.arms_of (drop l.arm-index l.more)))

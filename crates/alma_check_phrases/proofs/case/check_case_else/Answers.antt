@@ -10,4 +10,5 @@ returns-in-None g c =
 
 pub returns-in-Some : goal.returns-in-Some
 returns-in-Some g c =
-    rw (c.in-Some.is, stmts.case_else_some (scene_of c.args.env.now c.args.place) c.args.slot.now (view.view_stmts c.in-Some.body)) (c.join_else.ensures _ _ c.nested-stmts.ensures)
+    rw (c.in-Some.is, stmts.case_else_some (scene_of c.args.env.now c.args.place) c.args.slot.now (view.view_stmts c.in-Some.body))
+    (c.join_else.ensures _ _ c.nested-stmts.ensures)

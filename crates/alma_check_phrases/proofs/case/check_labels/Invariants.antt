@@ -9,6 +9,8 @@ use Rattle.alma_check_phrases.proofs.case.check_labels.Given as goal
 
 abbrev pub invariant-loop-label : goal.invariant-loop-label
 invariant-loop-label g l =
-    (labels_judged (scene_of l.env l.place) l.fn.slot (typing_in l.case) (spans_view l.fn.spans) (view.view_label l.first) (view.labels_of l.more)
-    ≡ onward_spans (spans_in l.labels) (walk.judge_labels (scene_of l.env l.place) l.slot (typing_in l.case) (spans_view l.spans) (view.labels_of (drop l.label-index l.more))))
+    (labels_judged (scene_of l.env l.place) l.fn.slot (typing_in l.case) (spans_view l.fn.spans) (view.view_label l.first)
+    (view.labels_of l.more)
+    ≡ onward_spans (spans_in l.labels) (walk.judge_labels (scene_of l.env l.place) l.slot (typing_in l.case) (spans_view l.spans)
+    (view.labels_of (drop l.label-index l.more))))
     × Grown (spans_view l.fn.spans) (spans_in l.labels) (spans_view l.spans)

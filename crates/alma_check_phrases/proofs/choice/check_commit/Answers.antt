@@ -5,4 +5,5 @@ use Rattle.alma_check_phrases.proofs.choice.check_commit.Goals as goal
 
 pub returns : goal.returns
 returns g c =
-    rw (stmts.commit_at (scene_of c.args.env.now c.args.place) c.args.slot.now c.args.node (view.view_stmts c.args.body.now)) (c.join_commit.ensures _ _ c.nested-body.ensures)
+    rw (stmts.commit_at (scene_of c.args.env.now c.args.place) c.args.slot.now c.args.node (view.view_stmts c.args.body.now))
+    (c.join_commit.ensures _ _ c.nested-body.ensures)

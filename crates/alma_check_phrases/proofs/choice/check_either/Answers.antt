@@ -13,9 +13,18 @@ use Rattle.alma_check_phrases.proofs.choice.check_either.Goals as goal
 
 pub returns-in_err-branches : goal.returns-in_err-branches
 returns-in_err-branches g c =
-    passed _ stmts_of _ _ _ c.from_residual.ensures.1 (stmts.either_stops (scene_of c.args.env.now c.args.place) c.args.slot.now c.args.node (view.view_stmts c.args.first.now) (view.orelses_of c.args.more.now) _ (c.in_err-branches.ensures (walk.judge_stmts (scene_of c.args.env.now c.args.place) c.args.slot.now (view.view_stmts c.args.first.now)) _ (λ m. walk.judge_orelses (scene_of c.args.env.now c.args.place) m (view.orelses_of c.args.more.now)) c.nested-first.ensures))
+    passed _ stmts_of _ _ _ c.from_residual.ensures.1
+    (stmts.either_stops (scene_of c.args.env.now c.args.place) c.args.slot.now c.args.node (view.view_stmts c.args.first.now)
+    (view.orelses_of c.args.more.now) _ (c.in_err-branches.ensures
+    (walk.judge_stmts (scene_of c.args.env.now c.args.place) c.args.slot.now (view.view_stmts c.args.first.now)) _
+    (λ m. walk.judge_orelses (scene_of c.args.env.now c.args.place) m (view.orelses_of c.args.more.now)) c.nested-first.ensures))
 
 pub returns : goal.returns
 returns g c =
-    rw (stmts.either_whole (scene_of c.args.env.now c.args.place) c.args.slot.now c.args.node (view.view_stmts c.args.first.now) (view.orelses_of c.args.more.now)) (c.join_either.ensures _ _ (answers_as _ _ branches_of _ _ (from_nothing append_branches ir.no_branches (branches_in (Some c.new.result)) _ _ (ap (λ l. Some (branches_list l)) c.new.ensures.items)
-    (c.in_ok-branches.ensures (walk.judge_stmts (scene_of c.args.env.now c.args.place) c.args.slot.now (view.view_stmts c.args.first.now)) _ (λ m. walk.judge_orelses (scene_of c.args.env.now c.args.place) m (view.orelses_of c.args.more.now)) c.nested-first.ensures)) c.check_orelses-branches.ensures))
+    rw (stmts.either_whole (scene_of c.args.env.now c.args.place) c.args.slot.now c.args.node (view.view_stmts c.args.first.now)
+    (view.orelses_of c.args.more.now)) (c.join_either.ensures _ _
+    (answers_as _ _ branches_of _ _ (from_nothing append_branches ir.no_branches (branches_in (Some c.new.result)) _ _
+    (ap (λ l. Some (branches_list l)) c.new.ensures.items)
+    (c.in_ok-branches.ensures (walk.judge_stmts (scene_of c.args.env.now c.args.place) c.args.slot.now (view.view_stmts c.args.first.now)) _
+    (λ m. walk.judge_orelses (scene_of c.args.env.now c.args.place) m (view.orelses_of c.args.more.now)) c.nested-first.ensures))
+    c.check_orelses-branches.ensures))

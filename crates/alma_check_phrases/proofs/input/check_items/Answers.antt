@@ -14,24 +14,37 @@ use Rattle.alma_check_phrases.proofs.input.check_items.Goals as goal
 
 pub loop-item-preserved : goal.loop-item-preserved
 loop-item-preserved g c =
-    c.loop-item.invariant ∙ ap (onward_stmts (stmts_in c.loop-item.kept)) (stmts.items_next (scene_of c.args.env.now c.args.place) c.loop-item.slot c.loop-item.item-index (dx.out-Exprs c.args.items.now).more.items c.item-item.result (rw c.deref-item-items.ensures.value at c.loop-item-test.true) (rw c.deref-item-items.ensures.value at c.item-item.is))
-    ∙ c.in_ok-kept-2.ensures _ _ (λ m. walk.judge_item_tail (scene_of c.args.env.now c.args.place) m (view.exprs_of (drop (c.loop-item.item-index + 1) (dx.out-Exprs c.args.items.now).more.items))) c.check_item-next.ensures
+    c.loop-item.invariant ∙ ap (onward_stmts (stmts_in c.loop-item.kept))
+    (stmts.items_next (scene_of c.args.env.now c.args.place) c.loop-item.slot c.loop-item.item-index
+    (dx.out-Exprs c.args.items.now).more.items c.item-item.result (rw c.deref-item-items.ensures.value at c.loop-item-test.true)
+    (rw c.deref-item-items.ensures.value at c.item-item.is))
+    ∙ c.in_ok-kept-2.ensures _ _ (λ m. walk.judge_item_tail (scene_of c.args.env.now c.args.place) m
+    (view.exprs_of (drop (c.loop-item.item-index + 1) (dx.out-Exprs c.args.items.now).more.items))) c.check_item-next.ensures
 
 pub returns-in_err-kept-2 : goal.returns-in_err-kept-2
 returns-in_err-kept-2 g c =
     passed _ stmts_of _ _ _ c.from_residual-in_err-kept-2.ensures.1
-    (stops_as _ _ _ (c.loop-item.invariant ∙ ap (onward_stmts (stmts_in c.loop-item.kept)) (stmts.items_next (scene_of c.args.env.now c.args.place) c.loop-item.slot c.loop-item.item-index (dx.out-Exprs c.args.items.now).more.items c.item-item.result (rw c.deref-item-items.ensures.value at c.loop-item-test.true) (rw c.deref-item-items.ensures.value at c.item-item.is))) (c.in_err-kept-2.ensures _ _ (λ m. walk.judge_item_tail (scene_of c.args.env.now c.args.place) m (view.exprs_of (drop (c.loop-item.item-index + 1) (dx.out-Exprs c.args.items.now).more.items))) c.check_item-next.ensures))
+    (stops_as _ _ _ (c.loop-item.invariant ∙ ap (onward_stmts (stmts_in c.loop-item.kept))
+    (stmts.items_next (scene_of c.args.env.now c.args.place) c.loop-item.slot c.loop-item.item-index
+    (dx.out-Exprs c.args.items.now).more.items c.item-item.result (rw c.deref-item-items.ensures.value at c.loop-item-test.true)
+    (rw c.deref-item-items.ensures.value at c.item-item.is)))
+    (c.in_err-kept-2.ensures _ _ (λ m. walk.judge_item_tail (scene_of c.args.env.now c.args.place) m
+    (view.exprs_of (drop (c.loop-item.item-index + 1) (dx.out-Exprs c.args.items.now).more.items))) c.check_item-next.ensures))
 
 pub returns : goal.returns
 returns g c =
-    c.loop-item.invariant ∙ ap (onward_stmts (stmts_in c.loop-item.kept)) (stmts.items_end (scene_of c.args.env.now c.args.place) c.loop-item.slot c.loop-item.item-index (dx.out-Exprs c.args.items.now).more.items (rw c.deref-item-items.ensures.value at c.loop-item-test.false))
+    c.loop-item.invariant ∙ ap (onward_stmts (stmts_in c.loop-item.kept))
+    (stmts.items_end (scene_of c.args.env.now c.args.place) c.loop-item.slot c.loop-item.item-index
+    (dx.out-Exprs c.args.items.now).more.items (rw c.deref-item-items.ensures.value at c.loop-item-test.false))
     ∙ onward_end parts.append_stmts ir.no_stmts (stmts_in c.loop-item.kept) c.loop-item.slot stmts.stmts_last
 
 pub returns-in_err-kept : goal.returns-in_err-kept
 returns-in_err-kept g c =
     passed _ stmts_of _ _ _ c.from_residual.ensures.1
-    (stmts.items_stops (scene_of c.args.env.now c.args.place) c.args.slot.now c.args.items.now _ (rw c.deref.ensures at c.in_err-kept.ensures))
+    (stmts.items_stops (scene_of c.args.env.now c.args.place) c.args.slot.now c.args.items.now _
+    (rw c.deref.ensures at c.in_err-kept.ensures))
 
 pub loop-item-init : goal.loop-item-init
 loop-item-init g c =
-    stmts.items_fine (scene_of c.args.env.now c.args.place) c.args.slot.now c.args.items.now _ _ (rw c.deref.ensures at c.in_ok-kept.ensures)
+    stmts.items_fine (scene_of c.args.env.now c.args.place) c.args.slot.now c.args.items.now _ _
+    (rw c.deref.ensures at c.in_ok-kept.ensures)

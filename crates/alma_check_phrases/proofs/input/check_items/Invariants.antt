@@ -9,4 +9,5 @@ use Rattle.alma_check_phrases.proofs.input.check_items.Given as goal
 abbrev pub invariant-loop-item : goal.invariant-loop-item
 invariant-loop-item g l =
     walk.judge_items (scene_of l.env l.place) l.fn.slot (view.view_exprs l.items)
-    ≡ onward_stmts (stmts_in l.kept) (walk.judge_item_tail (scene_of l.env l.place) l.slot (view.exprs_of (drop l.item-index (dx.out-Exprs l.items).more.items)))
+    ≡ onward_stmts (stmts_in l.kept) (walk.judge_item_tail (scene_of l.env l.place) l.slot
+    (view.exprs_of (drop l.item-index (dx.out-Exprs l.items).more.items)))

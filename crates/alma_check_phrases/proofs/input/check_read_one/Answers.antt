@@ -6,4 +6,6 @@ use Rattle.alma_check_phrases.proofs.input.check_read_one.Goals as goal
 
 pub returns : goal.returns
 returns g c =
-    c.join_read.ensures _ _ (c.join_place-located.ensures (walk.judge_desig (scene_of c.args.env.now c.args.place) c.args.slot.now rules.as_variable (view.view_desig c.args.desig.now)) _ c.check_desig-found.ensures)
+    c.join_read.ensures _ _ (c.join_place-located.ensures
+    (walk.judge_desig (scene_of c.args.env.now c.args.place) c.args.slot.now rules.as_variable (view.view_desig c.args.desig.now)) _
+    c.check_desig-found.ensures)

@@ -12,7 +12,8 @@ returns-in-Assign g c =
 
 pub returns-in-If : goal.returns-in-If
 returns-in-If g c =
-    rw (c.in-If.is, rows.if_is c.in-If.node c.in-If.test c.in-If.then c.in-If.elsifs c.in-If.otherwise) (rw (c.deref.ensures.value) at c.check_if.ensures)
+    rw (c.in-If.is, rows.if_is c.in-If.node c.in-If.test c.in-If.then c.in-If.elsifs c.in-If.otherwise)
+    (rw (c.deref.ensures.value) at c.check_if.ensures)
 
 pub returns-in-While : goal.returns-in-While
 returns-in-While g c =
@@ -32,11 +33,13 @@ returns-in-Some g c =
 
 pub returns-in-Case : goal.returns-in-Case
 returns-in-Case g c =
-    rw (c.in-Case.is, rows.case_is c.in-Case.node c.in-Case.value c.in-Case.first c.in-Case.more c.in-Case.otherwise) (rw (c.deref-in-Case.ensures, c.deref-in-Case-2.ensures.value) at c.check_case.ensures)
+    rw (c.in-Case.is, rows.case_is c.in-Case.node c.in-Case.value c.in-Case.first c.in-Case.more c.in-Case.otherwise)
+    (rw (c.deref-in-Case.ensures, c.deref-in-Case-2.ensures.value) at c.check_case.ensures)
 
 pub returns-in-Either : goal.returns-in-Either
 returns-in-Either g c =
-    rw (c.in-Either.is, rows.either_is c.in-Either.node c.in-Either.first c.in-Either.more) (rw (c.deref-in-Either.ensures.value) at c.check_either.ensures)
+    rw (c.in-Either.is, rows.either_is c.in-Either.node c.in-Either.first c.in-Either.more)
+    (rw (c.deref-in-Either.ensures.value) at c.check_either.ensures)
 
 pub returns-in-Forall : goal.returns-in-Forall
 returns-in-Forall g c =
@@ -52,7 +55,8 @@ returns-in-Return g c =
 
 pub returns-in-Read : goal.returns-in-Read
 returns-in-Read g c =
-    rw (c.in-Read.is, rows.read_is c.in-Read.node c.in-Read.first c.in-Read.more) (rw (c.deref-in-Read.ensures.value) at c.check_read.ensures)
+    rw (c.in-Read.is, rows.read_is c.in-Read.node c.in-Read.first c.in-Read.more)
+    (rw (c.deref-in-Read.ensures.value) at c.check_read.ensures)
 
 pub returns-in-Writeln : goal.returns-in-Writeln
 returns-in-Writeln g c =
@@ -60,7 +64,8 @@ returns-in-Writeln g c =
 
 pub returns-in-Nothing : goal.returns-in-Nothing
 returns-in-Nothing g c =
-    rw (c.in-Nothing.is, stmts.nothing_at (scene_of c.args.env.now c.args.place) c.args.slot.now c.in-Nothing.node) (ap (of_value c.args.slot.now) (sym c.nothing.ensures))
+    rw (c.in-Nothing.is, stmts.nothing_at (scene_of c.args.env.now c.args.place) c.args.slot.now c.in-Nothing.node)
+    (ap (of_value c.args.slot.now) (sym c.nothing.ensures))
 
 pub returns-in-Value : goal.returns-in-Value
 returns-in-Value g c =
@@ -68,4 +73,8 @@ returns-in-Value g c =
 
 pub returns-in-Write : goal.returns-in-Write
 returns-in-Write g c =
-    rw (c.in-Write.is, stmts.write_is (scene_of c.args.env.now c.args.place) c.args.slot.now c.in-Write.node (view.view_exprs c.in-Write.items)) c.check_items.ensures
+    rw (
+      c.in-Write.is,
+      stmts.write_is (scene_of c.args.env.now c.args.place) c.args.slot.now c.in-Write.node
+          (view.view_exprs c.in-Write.items),
+    ) c.check_items.ensures

@@ -11,4 +11,8 @@ returns-in-None g c =
 
 pub returns-in-Some : goal.returns-in-Some
 returns-in-Some g c =
-    rw (c.in-Some.is, stmts.by_some (scene_of c.args.env.now c.args.place) c.args.slot.now (view.view_expr c.in-Some.by), node_is c.in-Some.by) (c.join_step.ensures _ _ c.check_expr-typed.ensures)
+    rw (
+      c.in-Some.is,
+      stmts.by_some (scene_of c.args.env.now c.args.place) c.args.slot.now (view.view_expr c.in-Some.by),
+      node_is c.in-Some.by,
+    ) (c.join_step.ensures _ _ c.check_expr-typed.ensures)

@@ -5,5 +5,6 @@ use Rattle.alma_code_list.proofs.listing.push_instrs.Goals as goal
 
 pub loop-index-preserved : goal.loop-index-preserved
 loop-index-preserved c =
-    instrs_next _ c.loop-index.text.items c.push_instr.new.text.items c.args.at c.loop-index.index (I.Const 0 (pos 0)) c.args.instrs.now c.loop-index-test.true
+    instrs_next _ c.loop-index.text.items c.push_instr.new.text.items c.args.at c.loop-index.index (I.Const 0 (pos 0)) c.args.instrs.now
+    c.loop-index-test.true
     c.loop-index.invariant (search rules)

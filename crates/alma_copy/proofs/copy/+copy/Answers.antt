@@ -3,7 +3,9 @@ use Rattle.std.proofs.Common.{ap, ◌∙◌, refl, arith, w64, rules}
 use Rattle.std.proofs.lemmas.Int.{to_z-of_z}
 use Rattle.alma_copy.specs.Numbers.{moves_of}
 use Rattle.alma_copy.proofs.Copies
-use Rattle.alma_copy.proofs.Copies.{held, next, next_part, ended, by_stmts, by_tests, by_args, by_sels, by_links, by_arms, by_cases, by_branches, by_expr, by_test, of_stmt, of_test, of_arg, of_sel, of_link, of_arm, of_case, of_branch, stmt_copy, test_copy, arg_copy, sel_copy, link_copy, arm_copy, case_copy, branch_copy}
+use Rattle.alma_copy.proofs.Copies.{held, next, next_part, ended, by_stmts, by_tests, by_args, by_sels, by_links, by_arms, by_cases}
+use Rattle.alma_copy.proofs.Copies.{by_branches, by_expr, by_test, of_stmt, of_test, of_arg, of_sel, of_link, of_arm, of_case, of_branch}
+use Rattle.alma_copy.proofs.Copies.{stmt_copy, test_copy, arg_copy, sel_copy, link_copy, arm_copy, case_copy, branch_copy}
 use Rattle.alma_ir.specs.declared.phrase.Stmt as S
 use Rattle.alma_ir.specs.declared.phrase.Arg.TheViews as views
 use denote.Param.Weighed.{most, at_most}

@@ -1,7 +1,8 @@
 -- The loops of the copy: what was copied is the copy of the front of the list.
 use Rattle.std.proofs.Common.{◌≡◌, take, map}
 use Rattle.alma_copy.specs.Numbers.{moves_of}
-use Rattle.alma_copy.proofs.Copies.{of_stmt, of_test, of_arg, of_sel, of_link, of_arm, of_case, of_branch, stmt_copy, test_copy, arg_copy, sel_copy, link_copy, arm_copy, case_copy, branch_copy}
+use Rattle.alma_copy.proofs.Copies.{of_stmt, of_test, of_arg, of_sel, of_link, of_arm, of_case, of_branch, stmt_copy, test_copy, arg_copy}
+use Rattle.alma_copy.proofs.Copies.{sel_copy, link_copy, arm_copy, case_copy, branch_copy}
 use Rattle.alma_copy.proofs.copy.+copy.Given as goal
 
 abbrev pub invariant-copy_stmts-loop-stmt : goal.invariant-copy_stmts-loop-stmt

@@ -9,4 +9,5 @@ returns-in-Ok g c =
     (g.O.Sink.side c.exec_view.new.out) c.exec_view.result c.in-Ok.ensures.fault c.in-Ok.ensures.code c.exec_view.ensures
 
 pub returns-in-Err : goal.returns-in-Err
-returns-in-Err g c = runs_unopened c.args.bytes.now c.args.steps c.args.stats c.in-Err.fault (g.I.Source.side c.args.input.now) (g.O.Sink.side c.args.out.now) c.in-Err.ensures.fault
+returns-in-Err g c = runs_unopened c.args.bytes.now c.args.steps c.args.stats c.in-Err.fault (g.I.Source.side c.args.input.now)
+    (g.O.Sink.side c.args.out.now) c.in-Err.ensures.fault

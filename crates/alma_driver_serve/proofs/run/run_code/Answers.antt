@@ -17,10 +17,12 @@ open_encoded-verified-requires-clause-object g c = record {
 
 pub returns-in-Ok : goal.returns-in-Ok
 returns-in-Ok g c =
-    subst (λ (code : PlainCode). Runs (InputOutcome (g.I.Source.side c.args.input.now).left code c.args.steps (shown_of c.args.showing)) (g.I.Source.side c.args.input.now)
+    subst (λ (code : PlainCode). Runs (InputOutcome (g.I.Source.side c.args.input.now).left code c.args.steps (shown_of c.args.showing))
+    (g.I.Source.side c.args.input.now)
     (g.I.Source.side c.run_verified.new.input) (g.O.Sink.side c.args.out.now)
     (g.O.Sink.side c.run_verified.new.out) c.run_verified.result) c.open_encoded-verified.ensures c.run_verified.ensures
 
 pub returns-in-Err : goal.returns-in-Err
 returns-in-Err g c =
-    runs_starved (InputOutcome (g.I.Source.side c.args.input.now).left (code_of c.args.code.now) c.args.steps (shown_of c.args.showing)) (g.I.Source.side c.args.input.now) (g.O.Sink.side c.args.out.now)
+    runs_starved (InputOutcome (g.I.Source.side c.args.input.now).left (code_of c.args.code.now) c.args.steps (shown_of c.args.showing))
+    (g.I.Source.side c.args.input.now) (g.O.Sink.side c.args.out.now)

@@ -15,4 +15,5 @@ returns-in-Ok g c =
 
 pub returns-in-Err : goal.returns-in-Err
 returns-in-Err g c =
-    rw c.from.ensures (performs_bad (texts c.args.words.now) (g.F.Files.side c.args.files.now) c.in-Err.error (g.I.Source.side c.args.input.now) (g.O.Sink.side c.args.out.now) c.in-Err.ensures)
+    rw c.from.ensures (performs_bad (texts c.args.words.now) (g.F.Files.side c.args.files.now) c.in-Err.error
+    (g.I.Source.side c.args.input.now) (g.O.Sink.side c.args.out.now) c.in-Err.ensures)

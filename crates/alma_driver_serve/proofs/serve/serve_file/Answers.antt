@@ -24,14 +24,16 @@ trace_source-requires-clause-few g c = (rw c.in-Trace.is at c.requires.within).0
 
 pub returns-in-Check-clause-course : goal.returns-in-Check-clause-course
 returns-in-Check-clause-course g c =
-    rw c.in-Check.is (serves_check c.args.bytes.now (g.F.Files.side c.args.files.now) (g.I.Source.side c.args.input.now) (g.O.Sink.side c.args.out.now)
+    rw c.in-Check.is (serves_check c.args.bytes.now (g.F.Files.side c.args.files.now) (g.I.Source.side c.args.input.now)
+    (g.O.Sink.side c.args.out.now)
     c.check_only.result (c.check_only.ensures (g.O.Sink.side c.args.out.now)))
 
 pub returns-in-Compile-clause-course : goal.returns-in-Compile-clause-course
 returns-in-Compile-clause-course g c =
     rw c.in-Compile.is (serves_compile c.args.bytes.now c.in-Compile.object.now
     (g.F.Files.side c.args.files.now)
-    (g.F.Files.side c.compile_source.new.files) (g.I.Source.side c.args.input.now) (g.O.Sink.side c.args.out.now) (g.O.Sink.side c.args.out.now)
+    (g.F.Files.side c.compile_source.new.files) (g.I.Source.side c.args.input.now) (g.O.Sink.side c.args.out.now)
+    (g.O.Sink.side c.args.out.now)
     c.compile_source.result (c.compile_source.ensures.course (g.O.Sink.side c.args.out.now)))
 
 pub returns-in-List-clause-course : goal.returns-in-List-clause-course
@@ -68,7 +70,8 @@ returns-in-Sample-clause-course g c =
 
 pub returns-in-Trace-clause-course : goal.returns-in-Trace-clause-course
 returns-in-Trace-clause-course g c =
-    rw c.in-Trace.is (serves_source c.args.bytes.now c.in-Trace.steps (Traces (map (λ (name : Bor (List ℕ)). name.now) c.in-Trace.names.items))
+    rw c.in-Trace.is (serves_source c.args.bytes.now c.in-Trace.steps
+    (Traces (map (λ (name : Bor (List ℕ)). name.now) c.in-Trace.names.items))
     (g.F.Files.side c.args.files.now) (g.I.Source.side c.args.input.now)
     (g.I.Source.side c.trace_source.new.input) (g.O.Sink.side c.args.out.now)
     (g.O.Sink.side c.trace_source.new.out) c.trace_source.result (rw c.deref.ensures.value at c.trace_source.ensures))

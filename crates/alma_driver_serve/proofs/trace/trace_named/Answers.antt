@@ -19,10 +19,13 @@ trace_watched-requires-clause-resolved g c =
 
 pub returns-in-Ok : goal.returns-in-Ok
 returns-in-Ok g c =
-    let same : names_of c.deref.result.now ≡ map (λ (name : Bor (List ℕ)). name.now) c.args.names.now = ap names_of c.deref.ensures.value ∙ c.in-Ok.ensures.names in
-    subst (λ (names : List (List ℕ)). Goes (IsDue (code_of_verified c.args.code) c.args.input.now c.args.steps (Traces names)) (g.O.Sink.side c.args.out.now)
+    let same : names_of c.deref.result.now ≡ map (λ (name : Bor (List ℕ)). name.now) c.args.names.now = ap names_of c.deref.ensures.value
+    ∙ c.in-Ok.ensures.names in
+    subst (λ (names : List (List ℕ)). Goes (IsDue (code_of_verified c.args.code) c.args.input.now c.args.steps (Traces names))
+    (g.O.Sink.side c.args.out.now)
     (g.O.Sink.side c.trace_watched.new.out) c.trace_watched.result) same c.trace_watched.ensures
 
 pub returns-in-Err : goal.returns-in-Err
 returns-in-Err g c =
-    goes_starved (IsDue (code_of_verified c.args.code) c.args.input.now c.args.steps (Traces (map (λ (name : Bor (List ℕ)). name.now) c.args.names.now))) (g.O.Sink.side c.args.out.now)
+    goes_starved (IsDue (code_of_verified c.args.code) c.args.input.now c.args.steps
+    (Traces (map (λ (name : Bor (List ℕ)). name.now) c.args.names.now))) (g.O.Sink.side c.args.out.now)

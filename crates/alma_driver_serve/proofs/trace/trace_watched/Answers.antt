@@ -24,13 +24,16 @@ returns-in-Ok g c =
     let code = code_of_verified c.args.code in
     let new = c.trace-end.new.machine.state in
     let same = c.view.ensures ∙ h.same.0 ∙ ap (λ m. m.code) c.in-Ok.ensures in
-    let line : c.line_of-line.result ≡ line_in code new = c.line_of-line.ensures ∙ ap (λ k. line_at k c.at.result) same ∙ ap (line_at code) c.at.ensures in
+    let line : c.line_of-line.result ≡ line_in code new = c.line_of-line.ensures ∙ ap (λ k. line_at k c.at.result) same
+    ∙ ap (line_at code) c.at.ensures in
     let is : c.end_of.result ≡ run_end c.trace-end.result (line_in code new) None =
     c.end_of.ensures ∙ ap (λ k. run_end c.trace-end.result k None) line in
-    rw is (goes_trace code c.args.input.now c.in-Ok.machine c.trace-end.new.machine c.args.watched.now c.args.steps c.trace-end.result (g.O.Sink.side c.args.out.now)
+    rw is (goes_trace code c.args.input.now c.in-Ok.machine c.trace-end.new.machine c.args.watched.now c.args.steps c.trace-end.result
+    (g.O.Sink.side c.args.out.now)
     (g.O.Sink.side c.trace-end.new.out) c.in-Ok.ensures c.requires.resolved
     (record { answered = h.answer; state = h.state; out = h.out; few = h.few; front = h.front; cause = h.cause }))
 
 pub returns-in-Err : goal.returns-in-Err
 returns-in-Err g c =
-    goes_starved (IsDue (code_of_verified c.args.code) c.args.input.now c.args.steps (Traces (names_of c.args.watched.now))) (g.O.Sink.side c.args.out.now)
+    goes_starved (IsDue (code_of_verified c.args.code) c.args.input.now c.args.steps (Traces (names_of c.args.watched.now)))
+    (g.O.Sink.side c.args.out.now)

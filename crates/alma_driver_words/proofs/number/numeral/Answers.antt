@@ -23,8 +23,10 @@ loop-digit-preserved c =
     let digit = get_or c.args.digits.now c.loop-digit.digit-index 0 in
     let yes : is_digit digit ≡ true = sym c.is_ascii_digit.ensures.value ∙ c.if-not-is_ascii_digit.false in
     record {
-      value = ap (λ more. value_behind (c.loop-digit.number * 10 + more) (drop (c.loop-digit.digit-index + 1) c.args.digits.now)) c.from-more.ensures
-          ∙ sym (value_more c.args.digits.now c.loop-digit.digit-index c.loop-digit.number c.loop-digit-test.true) ∙ c.loop-digit.invariant.value;
+      value = ap (λ more. value_behind (c.loop-digit.number * 10 + more) (drop (c.loop-digit.digit-index + 1) c.args.digits.now))
+          c.from-more.ensures
+          ∙ sym (value_more c.args.digits.now c.loop-digit.digit-index c.loop-digit.number c.loop-digit-test.true)
+          ∙ c.loop-digit.invariant.value;
       small = omega (arith, c.if-number-greatest.false, c.from-more.ensures, digit_small digit yes, c.requires);
       digits = digits_more c.args.digits.now c.loop-digit.digit-index c.loop-digit-test.true c.loop-digit.invariant.digits yes;
     }

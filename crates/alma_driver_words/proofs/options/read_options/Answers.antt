@@ -10,19 +10,23 @@ pub returns-in_default : goal.returns-in_default
 returns-in_default c =
     let words = texts c.args.words.now in
     let index = c.loop-index.index in
-    let word = c.as_str.ensures.value ∙ text_at c.args.words.now index c.index-words-index.result c.loop-index-test.true c.index-words-index.is in
+    let word = c.as_str.ensures.value ∙ text_at c.args.words.now index c.index-words-index.result c.loop-index-test.true
+    c.index-words-index.is in
     let within : index < length words = omega (arith, c.loop-index-test.true, length-map c.args.words.now string_bytes) in (
       index,
       refl,
       option_is_bad c.args.allowance words index c.loop-index.options within c.loop-index.invariant
-          (subst (λ (w : List ℕ). (setting : Setting) → IsSetting w setting → Takes c.args.allowance c.loop-index.options setting → ⊥) word c.in_default.ensures),
+          (subst (λ (w : List ℕ). (setting : Setting) → IsSetting w setting → Takes c.args.allowance c.loop-index.options setting → ⊥) word
+          c.in_default.ensures),
     )
 
 pub loop-index-preserved : goal.loop-index-preserved
 loop-index-preserved c =
     let words = texts c.args.words.now in
     let index = c.loop-index.index in
-    let word = c.as_str.ensures.value ∙ text_at c.args.words.now index c.index-words-index.result c.loop-index-test.true c.index-words-index.is in
+    let word = c.as_str.ensures.value ∙ text_at c.args.words.now index c.index-words-index.result c.loop-index-test.true
+    c.index-words-index.is in
     let within : index < length words = omega (arith, c.loop-index-test.true, length-map c.args.words.now string_bytes) in
-    options_more c.args.allowance words index c.loop-index.options c.put.new.self (setting_in c.in-Some.setting) within c.loop-index.invariant
+    options_more c.args.allowance words index c.loop-index.options c.put.new.self (setting_in c.in-Some.setting) within
+    c.loop-index.invariant
     (subst (λ (w : List ℕ). IsSetting w (setting_in c.in-Some.setting)) word c.in-Some.ensures.0) c.in-Some.ensures.1 c.in_ok-put.ensures

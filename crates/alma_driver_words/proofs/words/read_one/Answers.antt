@@ -7,4 +7,5 @@ returns-in_default c = (bad_name commands.Check _ tt c.in_default.ensures, bad_n
 
 pub returns-in-Some-split_word : goal.returns-in-Some-split_word
 returns-in-Some-split_word c =
-    rw (c.in-Some.ensures.0, c.in-Some-split_word.ensures) (bad_behind_check _ _ _ c.in-Some.ensures.1, bad_behind_list _ _ _ c.in-Some.ensures.1)
+    rw (c.in-Some.ensures.0, c.in-Some-split_word.ensures)
+    (bad_behind_check _ _ _ c.in-Some.ensures.1, bad_behind_list _ _ _ c.in-Some.ensures.1)

@@ -4,8 +4,10 @@ use Rattle.alma_ir.specs.declared.phrase.Stmt as S
 use Rattle.alma_ir.specs.View.{sels_list}
 use Rattle.alma_ir.specs.Count.{sels_nodes}
 use Rattle.alma_ir.proofs.Counts
-use Rattle.alma_ir.proofs.Counts.{of_stmt, of_test, of_expr, of_arg, of_sel, of_link, of_arm, of_case, of_branch, by_expr, by_test, by_stmts, by_tests, by_args, by_arms, by_cases, by_branches, by_links}
-use Rattle.alma_ir.proofs.Saturated.{both, same, small, with_part, with_two, leaf, one_part, two_parts, turn, turn_above_one, next, ended, ended_above_one}
+use Rattle.alma_ir.proofs.Counts.{of_stmt, of_test, of_expr, of_arg, of_sel, of_link, of_arm, of_case, of_branch, by_expr, by_test}
+use Rattle.alma_ir.proofs.Counts.{by_stmts, by_tests, by_args, by_arms, by_cases, by_branches, by_links}
+use Rattle.alma_ir.proofs.Saturated.{both, same, small, with_part, with_two, leaf, one_part, two_parts, turn, turn_above_one, next, ended}
+use Rattle.alma_ir.proofs.Saturated.{ended_above_one}
 use Rattle.alma_ir.specs.declared.phrase.Arg.TheViews as views
 use denote.Param.Weighed.{most, at_most}
 use Rattle.alma_ir.proofs.count.+count.Goals as goal
@@ -29,11 +31,13 @@ count_arg-returns-in-Place t c =
 
 pub count_arg-returns-in-MixValue : goal.count_arg-returns-in-MixValue
 count_arg-returns-in-MixValue t c =
-    one_part _ _ _ _ (ap of_arg c.in-MixValue.is ∙ Counts.mixvalue_nodes _ _) c.count_expr-in-MixValue.ensures c.saturating_add-in-MixValue.ensures
+    one_part _ _ _ _ (ap of_arg c.in-MixValue.is ∙ Counts.mixvalue_nodes _ _) c.count_expr-in-MixValue.ensures
+    c.saturating_add-in-MixValue.ensures
 
 pub count_arg-returns-in-MixPlace : goal.count_arg-returns-in-MixPlace
 count_arg-returns-in-MixPlace t c =
-    one_part _ _ _ _ (ap of_arg c.in-MixPlace.is ∙ Counts.mixplace_nodes _) c.count_desig-in-MixPlace.ensures c.saturating_add-in-MixPlace.ensures
+    one_part _ _ _ _ (ap of_arg c.in-MixPlace.is ∙ Counts.mixplace_nodes _) c.count_desig-in-MixPlace.ensures
+    c.saturating_add-in-MixPlace.ensures
 
 pub count_expr-returns-in-Const : goal.count_expr-returns-in-Const
 count_expr-returns-in-Const t c = leaf _ (ap of_expr c.in-Const.is ∙ Counts.const_nodes _)
@@ -294,7 +298,8 @@ count_branches-loop-branch-preserved t c =
 
 pub count_branches-returns : goal.count_branches-returns
 count_branches-returns t c =
-    ended of_branch c.args.branches.now c.loop-branch.branch-index _ _ c.loop-branch-test.false (Counts.branches_sum _) c.loop-branch.invariant
+    ended of_branch c.args.branches.now c.loop-branch.branch-index _ _ c.loop-branch-test.false (Counts.branches_sum _)
+    c.loop-branch.invariant
 
 pub count_desig-loop-sel-preserved : goal.count_desig-loop-sel-preserved
 count_desig-loop-sel-preserved t c =
@@ -346,12 +351,26 @@ count_expr-count_links-requires t c = (
 )
 
 pub count_expr-count_expr-requires-in-Compare : goal.count_expr-count_expr-requires-in-Compare
-count_expr-count_expr-requires-in-Compare t c =
-    (omega (arith, c.decreases, ap views.size-Expr c.in-Compare.is ∙ views.sized-Compare _ _ _, ap views.size-Expr c.deref-in-Compare.ensures), tt)
+count_expr-count_expr-requires-in-Compare t c = (
+  omega (
+    arith,
+    c.decreases,
+    ap views.size-Expr c.in-Compare.is ∙ views.sized-Compare _ _ _,
+    ap views.size-Expr c.deref-in-Compare.ensures,
+  ),
+  tt,
+)
 
 pub count_expr-count_expr-requires-in-Compare-2 : goal.count_expr-count_expr-requires-in-Compare-2
-count_expr-count_expr-requires-in-Compare-2 t c =
-    (omega (arith, c.decreases, ap views.size-Expr c.in-Compare.is ∙ views.sized-Compare _ _ _, ap views.size-Expr c.deref-in-Compare-2.ensures), tt)
+count_expr-count_expr-requires-in-Compare-2 t c = (
+  omega (
+    arith,
+    c.decreases,
+    ap views.size-Expr c.in-Compare.is ∙ views.sized-Compare _ _ _,
+    ap views.size-Expr c.deref-in-Compare-2.ensures,
+  ),
+  tt,
+)
 
 pub count_expr-count_test-requires : goal.count_expr-count_test-requires
 count_expr-count_test-requires t c =
@@ -389,8 +408,10 @@ count_stmt-count_arms-requires t c =
     (omega (arith, c.decreases, ap views.size-Stmt c.in-If.is ∙ views.sized-If _ _, ap (most views.size-Arm) c.deref.ensures.value), tt)
 
 pub count_stmt-count_stmts-requires : goal.count_stmt-count_stmts-requires
-count_stmt-count_stmts-requires t c =
-    (omega (arith, c.decreases, ap views.size-Stmt c.in-If.is ∙ views.sized-If _ _, ap (most views.size-Stmt) c.deref-in-If.ensures.value), tt)
+count_stmt-count_stmts-requires t c = (
+  omega (arith, c.decreases, ap views.size-Stmt c.in-If.is ∙ views.sized-If _ _, ap (most views.size-Stmt) c.deref-in-If.ensures.value),
+  tt,
+)
 
 pub count_stmt-count_test-requires-in-While : goal.count_stmt-count_test-requires-in-While
 count_stmt-count_test-requires-in-While t c = (omega (arith, c.decreases, ap views.size-Stmt c.in-While.is ∙ views.sized-While _ _), tt)
@@ -528,12 +549,16 @@ count_test-count_stmts-requires t c =
     (omega (arith, c.decreases, ap views.size-Test c.in-Seq.is ∙ views.sized-Seq _, ap (most views.size-Stmt) c.deref.ensures.value), tt)
 
 pub count_test-count_tests-requires : goal.count_test-count_tests-requires
-count_test-count_tests-requires t c =
-    (omega (arith, c.decreases, ap views.size-Test c.in-And.is ∙ views.sized-And _, ap (most views.size-Test) c.deref-in-And.ensures.value), tt)
+count_test-count_tests-requires t c = (
+  omega (arith, c.decreases, ap views.size-Test c.in-And.is ∙ views.sized-And _, ap (most views.size-Test) c.deref-in-And.ensures.value),
+  tt,
+)
 
 pub count_test-count_tests-requires-in-Or : goal.count_test-count_tests-requires-in-Or
-count_test-count_tests-requires-in-Or t c =
-    (omega (arith, c.decreases, ap views.size-Test c.in-Or.is ∙ views.sized-Or _, ap (most views.size-Test) c.deref-in-Or.ensures.value), tt)
+count_test-count_tests-requires-in-Or t c = (
+  omega (arith, c.decreases, ap views.size-Test c.in-Or.is ∙ views.sized-Or _, ap (most views.size-Test) c.deref-in-Or.ensures.value),
+  tt,
+)
 
 pub count_test-count_test-requires : goal.count_test-count_test-requires
 count_test-count_test-requires t c =

@@ -17,6 +17,7 @@ loop-routine-preserved c =
 pub returns : goal.returns
 returns c =
     let routines = c.deref-routine-items.result.now in
-    let all = ended of_routine routines c.loop-routine.routine-index _ _ c.loop-routine-test.false (routines_sum routines) c.loop-routine.invariant in
+    let all = ended of_routine routines c.loop-routine.routine-index _ _ c.loop-routine-test.false (routines_sum routines)
+    c.loop-routine.invariant in
     sixteen (nodes (program_of c.args.program.now)) _ _
     (same _ _ _ (ap (λ xs. routines_nodes (map routine_of xs)) c.deref-routine-items.ensures.value) all) c.saturating_mul.ensures

@@ -3,7 +3,8 @@ use Rattle.std.proofs.lemmas.List.{map-append}
 use Rattle.alma_ir.specs.View.{program_of}
 use Rattle.alma_join.specs.Numbers.{numbers_in}
 use Rattle.alma_join.proofs.Numbering.{handed_on}
-use Rattle.alma_join.proofs.Units.{numbered_no_unit, units_numbered_more, unit_fault_first, units_numbers, units_sound, stands_at, program_there, within_units, past_units}
+use Rattle.alma_join.proofs.Units.{numbered_no_unit, units_numbered_more, unit_fault_first, units_numbers, units_sound, stands_at}
+use Rattle.alma_join.proofs.Units.{program_there, within_units, past_units}
 use Rattle.alma_join.proofs.import.number_units.Goals as goal
 
 pub loop-i-init : goal.loop-i-init

@@ -11,9 +11,19 @@ use Rattle.alma_link.proofs.main_call.link.Goals as goal
 
 pub returns-clause-answer : goal.returns-clause-answer
 returns-clause-answer g c =
-    record { end = link_end (map program_of c.perform-end.new.units.items) c.perform-end.result; course = c.perform-end.ensures; reported = rw c.deref.ensures.value at c.tell.ensures }
+    record {
+      end = link_end (map program_of c.perform-end.new.units.items) c.perform-end.result;
+      course = c.perform-end.ensures;
+      reported =
+          rw c.deref.ensures.value at c.tell.ensures;
+    }
 
 pub returns-clause-causes : goal.returns-clause-causes
 returns-clause-causes g c =
     causes_of (sense program failed) program (link_plan (texts c.args.words.now)) one_verdict (own_plan (texts c.args.words.now)) _ _ _
-    (record { end = link_end (map program_of c.perform-end.new.units.items) c.perform-end.result; course = c.perform-end.ensures; reported = rw c.deref.ensures.value at c.tell.ensures })
+    (record {
+      end = link_end (map program_of c.perform-end.new.units.items) c.perform-end.result;
+      course = c.perform-end.ensures;
+      reported =
+          rw c.deref.ensures.value at c.tell.ensures;
+    })

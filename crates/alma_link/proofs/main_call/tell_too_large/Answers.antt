@@ -6,5 +6,7 @@ use Rattle.alma_link.proofs.main_call.tell_too_large.Goals as goal
 
 pub returns : goal.returns
 returns g c =
-    let same = bound_parts _ _ _ c.args.unit c.as_slice-front.ensures (c.as_bytes-number.ensures.value ∙ c.format.ensures.text) c.as_slice-end.ensures in
-    subst (λ (bytes : List ℕ). Reports (ending_of 13 bytes) (g.E.Sink.side c.args.err.now) (g.E.Sink.side c.report.new.err) c.report.result.0) same c.report.ensures
+    let same = bound_parts _ _ _ c.args.unit c.as_slice-front.ensures (c.as_bytes-number.ensures.value ∙ c.format.ensures.text)
+    c.as_slice-end.ensures in
+    subst (λ (bytes : List ℕ). Reports (ending_of 13 bytes) (g.E.Sink.side c.args.err.now) (g.E.Sink.side c.report.new.err)
+    c.report.result.0) same c.report.ensures

@@ -20,8 +20,22 @@ serve_files-requires g t c κs within =
     let more = rw (c.is_err.ensures.negation, c.if-is_err.false) at c.push.ensures.items in
     let units = one_more c.args.units.now.items c.in-Ok.unit _ more c.requires.checked c.in-Ok.ensures.checked in
     let names = same_count c.args.names.now (c.in-Some.name.now ∷ texts c.in-Some.rest.now) c.in-Some.ensures in
-    let rest = length-map c.in-Some.rest.now (λ word. string_bytes word) in
-    (omega (arith, names, rest), (search rules, (search rules, (search rules, (units.0, (omega (arith, names, rest, units.1, c.requires.some), omega (arith, names, rest, units.1, c.requires.few)))))))
+    let rest = length-map c.in-Some.rest.now (λ word. string_bytes word) in (
+      omega (arith, names, rest),
+      (
+        search rules,
+        (
+          search rules,
+          (
+            search rules,
+            (
+              units.0,
+              (omega (arith, names, rest, units.1, c.requires.some), omega (arith, names, rest, units.1, c.requires.few)),
+            ),
+          ),
+        ),
+      ),
+    )
 
 pub returns-then-is_err : goal.returns-then-is_err
 returns-then-is_err g t c =

@@ -5,4 +5,5 @@ pub returns-in-Run : goal.returns-in-Run
 returns-in-Run g c = rw c.in-Run.is (c.run_program.ensures program failed (g.F.Files.side c.args.files.now))
 
 pub returns-in-Compile : goal.returns-in-Compile
-returns-in-Compile g c = rw c.in-Compile.is (c.store_program.ensures program failed (g.I.Source.side c.args.input.now) (g.O.Sink.side c.args.out.now))
+returns-in-Compile g c = rw c.in-Compile.is
+    (c.store_program.ensures program failed (g.I.Source.side c.args.input.now) (g.O.Sink.side c.args.out.now))

@@ -6,7 +6,8 @@ use Rattle.alma_link.proofs.serve.serve_units.Goals as goal
 
 pub returns-in-Ok : goal.returns-in-Ok
 returns-in-Ok g c =
-    course_joined (task_of c.args.task) (map program_of c.args.units.now) _ _ _ _ _ _ _ c.in-Ok.ensures.sound (rw c.in-Ok.ensures.joined at c.perform_task.ensures)
+    course_joined (task_of c.args.task) (map program_of c.args.units.now) _ _ _ _ _ _ _ c.in-Ok.ensures.sound
+    (rw c.in-Ok.ensures.joined at c.perform_task.ensures)
 
 pub returns-in-Err : goal.returns-in-Err
 returns-in-Err g c = course_unjoined (task_of c.args.task) (map program_of c.args.units.now) c.in-Err.error _ _ _ c.in-Err.ensures.refused

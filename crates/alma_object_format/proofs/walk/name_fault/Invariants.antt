@@ -9,5 +9,6 @@ use Rattle.alma_object_format.proofs.walk.name_fault.Given as goal
 abbrev pub invariant-loop-i : goal.invariant-loop-i
 invariant-loop-i l =
     name_fault l.bytes l.header l.fn.name ≡ first_fault
-    (λ i. unless (can_stand (nat_eq i l.start) (slice_index l.bytes (name_pool_at l.header + i))) (fault.BadName (name_pool_at l.header + i)) None)
+    (λ i. unless (can_stand (nat_eq i l.start) (slice_index l.bytes (name_pool_at l.header + i)))
+    (fault.BadName (name_pool_at l.header + i)) None)
     l.i (l.i-end - l.i)

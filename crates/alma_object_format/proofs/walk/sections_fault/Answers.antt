@@ -9,4 +9,5 @@ ranges_fault-requires c =
 
 pub pools_fault-requires-clause-ends : goal.pools_fault-requires-clause-ends
 pools_fault-requires-clause-ends c =
-    name_ends_fit c.args.bytes.now c.args.header.now (sym c.routines_fault.ensures.fault ∙ c.in_default.is) (sym c.globals_fault.ensures.fault ∙ c.in_default-globals_fault.is)
+    name_ends_fit c.args.bytes.now c.args.header.now (sym c.routines_fault.ensures.fault ∙ c.in_default.is)
+    (sym c.globals_fault.ensures.fault ∙ c.in_default-globals_fault.is)

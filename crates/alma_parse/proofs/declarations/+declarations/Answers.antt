@@ -24,7 +24,10 @@ block-returns-in_err-node t c =
     record { read = rw (p.1, p.2) (want c.in_err-node.ensures.counted) }
 
 pub block-returns : goal.block-returns
-block-returns t c = record { read = then (c.in_ok-decls.ensures.read) (then (c.in_ok-body.ensures.read) (counted c.in_ok-node.ensures.counted)) }
+block-returns t c = record {
+  read = then (c.in_ok-decls.ensures.read)
+      (then (c.in_ok-body.ensures.read) (counted c.in_ok-node.ensures.counted));
+}
 
 pub procedure-returns-in_err-at-clause-read : goal.procedure-returns-in_err-at-clause-read
 procedure-returns-in_err-at-clause-read t c =
@@ -59,7 +62,8 @@ procedure-returns-in_err-params-clause-shorter t c =
 pub procedure-returns-in_err-result-clause-read : goal.procedure-returns-in_err-result-clause-read
 procedure-returns-in_err-result-clause-read t c =
     let p = err_from_is_err_and c.from_residual-in_err-result.result c.from_residual-in_err-result.ensures.1 in
-    rw (p.1, p.2) (after (opened refl c.in_ok-at.ensures.opened) (after (c.in_ok-name.ensures.read _) (after (c.in_ok-params.ensures.read) (first
+    rw (p.1, p.2) (after (opened refl c.in_ok-at.ensures.opened)
+    (after (c.in_ok-name.ensures.read _) (after (c.in_ok-params.ensures.read) (first
     (c.in_err-result.ensures.read _)))))
 
 pub procedure-returns-in_err-result-clause-shorter : goal.procedure-returns-in_err-result-clause-shorter
@@ -70,7 +74,8 @@ procedure-returns-in_err-result-clause-shorter t c =
 pub procedure-returns-in_err-at-2-clause-read : goal.procedure-returns-in_err-at-2-clause-read
 procedure-returns-in_err-at-2-clause-read t c =
     let p = err_from_is_err_and c.from_residual-in_err-at-2.result c.from_residual-in_err-at-2.ensures.1 in
-    rw (p.1, p.2) (after (opened refl c.in_ok-at.ensures.opened) (after (c.in_ok-name.ensures.read _) (after (c.in_ok-params.ensures.read) (after
+    rw (p.1, p.2) (after (opened refl c.in_ok-at.ensures.opened)
+    (after (c.in_ok-name.ensures.read _) (after (c.in_ok-params.ensures.read) (after
     (c.in_ok-result.ensures.read _) (first (c.in_err-at-2.ensures.passes _))))))
 
 pub procedure-returns-in_err-at-2-clause-shorter : goal.procedure-returns-in_err-at-2-clause-shorter
@@ -81,7 +86,8 @@ procedure-returns-in_err-at-2-clause-shorter t c =
 pub procedure-returns-in_err-block-clause-read : goal.procedure-returns-in_err-block-clause-read
 procedure-returns-in_err-block-clause-read t c =
     let p = err_from_is_err_and c.from_residual-in_err-block.result c.from_residual-in_err-block.ensures.1 in
-    rw (p.1, p.2) (after (opened refl c.in_ok-at.ensures.opened) (after (c.in_ok-name.ensures.read _) (after (c.in_ok-params.ensures.read) (after
+    rw (p.1, p.2) (after (opened refl c.in_ok-at.ensures.opened)
+    (after (c.in_ok-name.ensures.read _) (after (c.in_ok-params.ensures.read) (after
     (c.in_ok-result.ensures.read _) (after (passed refl refl c.in_ok-at-2.ensures.passes) (first c.in_err-block.ensures.read))))))
 
 pub procedure-returns-in_err-block-clause-shorter : goal.procedure-returns-in_err-block-clause-shorter
@@ -92,7 +98,8 @@ procedure-returns-in_err-block-clause-shorter t c =
 pub procedure-returns-in_err-at-3-clause-read : goal.procedure-returns-in_err-at-3-clause-read
 procedure-returns-in_err-at-3-clause-read t c =
     let p = err_from_is_err_and c.from_residual-in_err-at-3.result c.from_residual-in_err-at-3.ensures.1 in
-    rw (p.1, p.2) (after (opened refl c.in_ok-at.ensures.opened) (after (c.in_ok-name.ensures.read _) (after (c.in_ok-params.ensures.read) (after
+    rw (p.1, p.2) (after (opened refl c.in_ok-at.ensures.opened)
+    (after (c.in_ok-name.ensures.read _) (after (c.in_ok-params.ensures.read) (after
     (c.in_ok-result.ensures.read _) (after (passed refl refl c.in_ok-at-2.ensures.passes) (after (c.in_ok-block.ensures.read) (first
     (c.in_err-at-3.ensures.passes _))))))))
 
@@ -104,7 +111,8 @@ procedure-returns-in_err-at-3-clause-shorter t c =
 pub procedure-returns-in_err-end_name-clause-read : goal.procedure-returns-in_err-end_name-clause-read
 procedure-returns-in_err-end_name-clause-read t c =
     let p = err_from_is_err_and c.from_residual-in_err-end_name.result c.from_residual-in_err-end_name.ensures.1 in
-    rw (p.1, p.2) (after (opened refl c.in_ok-at.ensures.opened) (after (c.in_ok-name.ensures.read _) (after (c.in_ok-params.ensures.read) (after
+    rw (p.1, p.2) (after (opened refl c.in_ok-at.ensures.opened)
+    (after (c.in_ok-name.ensures.read _) (after (c.in_ok-params.ensures.read) (after
     (c.in_ok-result.ensures.read _) (after (passed refl refl c.in_ok-at-2.ensures.passes) (after (c.in_ok-block.ensures.read) (after
     (closed refl refl c.in_ok-at.ensures.opened c.in_ok-at-3.ensures.passes) (first (c.in_err-end_name.ensures.read _)))))))))
 
@@ -116,7 +124,8 @@ procedure-returns-in_err-end_name-clause-shorter t c =
 pub procedure-returns-in_err-at-4-clause-read : goal.procedure-returns-in_err-at-4-clause-read
 procedure-returns-in_err-at-4-clause-read t c =
     let p = err_from_is_err_and c.from_residual-in_err-at-4.result c.from_residual-in_err-at-4.ensures.1 in
-    rw (p.1, p.2) (after (opened refl c.in_ok-at.ensures.opened) (after (c.in_ok-name.ensures.read _) (after (c.in_ok-params.ensures.read) (after
+    rw (p.1, p.2) (after (opened refl c.in_ok-at.ensures.opened)
+    (after (c.in_ok-name.ensures.read _) (after (c.in_ok-params.ensures.read) (after
     (c.in_ok-result.ensures.read _) (after (passed refl refl c.in_ok-at-2.ensures.passes) (after (c.in_ok-block.ensures.read) (after
     (closed refl refl c.in_ok-at.ensures.opened c.in_ok-at-3.ensures.passes) (after (c.in_ok-end_name.ensures.read _) (first
     (c.in_err-at-4.ensures.passes _))))))))))
@@ -138,8 +147,10 @@ procedure-returns-in_err-node-clause-shorter t c =
 
 pub procedure-returns-clause-read : goal.procedure-returns-clause-read
 procedure-returns-clause-read t c = rw (
-  rows.procedure_laid c.in_ok-node.node c.in_ok-name.name c.in_ok-params.params c.in_ok-result.result c.in_ok-block.block c.in_ok-end_name.end_name,
-  numbered.procedure_laid c.in_ok-node.node c.in_ok-name.name c.in_ok-params.params c.in_ok-result.result c.in_ok-block.block c.in_ok-end_name.end_name,
+  rows.procedure_laid c.in_ok-node.node c.in_ok-name.name c.in_ok-params.params c.in_ok-result.result c.in_ok-block.block
+      c.in_ok-end_name.end_name,
+  numbered.procedure_laid c.in_ok-node.node c.in_ok-name.name c.in_ok-params.params c.in_ok-result.result c.in_ok-block.block
+      c.in_ok-end_name.end_name,
 ) (then (opened refl c.in_ok-at.ensures.opened) (then (c.in_ok-name.ensures.read _) (then (c.in_ok-params.ensures.read) (then
     (c.in_ok-result.ensures.read _) (then (passed refl refl c.in_ok-at-2.ensures.passes) (then (c.in_ok-block.ensures.read) (then
     (closed refl refl c.in_ok-at.ensures.opened c.in_ok-at-3.ensures.passes) (then (c.in_ok-end_name.ensures.read _) (then

@@ -22,7 +22,8 @@ abbrev pub decreases-block : goal.decreases-block
 decreases-block l = 8 * length (position_of l.at).kinds + 4
 
 abbrev pub invariant-decl_list-loop-form : goal.invariant-decl_list-loop-form
-invariant-decl_list-loop-form l = Loops (spell_decl_tail (decls_of l.more.items)) (numbers_of_decls l.more.items) decl_tail l.depth (position_of l.fn.at) (position_of l.at)
+invariant-decl_list-loop-form l = Loops (spell_decl_tail (decls_of l.more.items)) (numbers_of_decls l.more.items) decl_tail l.depth
+    (position_of l.fn.at) (position_of l.at)
 
 abbrev pub decreases-decl_list-loop-form : goal.decreases-decl_list-loop-form
 decreases-decl_list-loop-form l = length (position_of l.at).kinds

@@ -56,7 +56,8 @@ pub returns : goal.returns
 returns c = record {
   read = module_found (kinds_of c.args.tokens.now)
       (record { node = c.in_ok-end_name.node; name = c.in_ok-name.name; block = c.in_ok-block.block; end_name = c.in_ok-end_name.end_name })
-      (length c.args.tokens.now) c.start.ensures.start (then (opened refl c.in_ok-at.ensures.opened) (then (c.in_ok-name.ensures.read _) (then
+      (length c.args.tokens.now) c.start.ensures.start
+      (then (opened refl c.in_ok-at.ensures.opened) (then (c.in_ok-name.ensures.read _) (then
       (passed refl refl c.in_ok-at-2.ensures.passes) (then (c.in_ok-block.ensures.read) (then
       (closed refl refl c.in_ok-at.ensures.opened c.in_ok-at-3.ensures.passes) c.in_ok-end_name.ensures.read.0)))))
       (as_many c.args.tokens.now) c.requires.few c.in_ok-end_name.ensures.read.1;

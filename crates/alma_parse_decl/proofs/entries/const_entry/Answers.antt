@@ -26,7 +26,8 @@ returns-in_err-at-clause-shorter c =
 pub returns-in_err-value-clause-read : goal.returns-in_err-value-clause-read
 returns-in_err-value-clause-read c =
     let p = err_from_is_err_and c.from_residual-in_err-value.result c.from_residual-in_err-value.ensures.1 in
-    rw (p.1, p.2) (after (c.in_ok-name.ensures.read _) (after (passed refl refl c.in_ok-at.ensures.passes) (first c.in_err-value.ensures.read)))
+    rw (p.1, p.2) (after (c.in_ok-name.ensures.read _)
+    (after (passed refl refl c.in_ok-at.ensures.passes) (first c.in_err-value.ensures.read)))
 
 pub returns-in_err-value-clause-shorter : goal.returns-in_err-value-clause-shorter
 returns-in_err-value-clause-shorter c =
@@ -36,7 +37,8 @@ returns-in_err-value-clause-shorter c =
 pub returns-in_err-at-2-clause-read : goal.returns-in_err-at-2-clause-read
 returns-in_err-at-2-clause-read c =
     let p = err_from_is_err_and c.from_residual-in_err-at-2.result c.from_residual-in_err-at-2.ensures.1 in
-    rw (p.1, p.2) (after (c.in_ok-name.ensures.read _) (after (passed refl refl c.in_ok-at.ensures.passes) (after (c.in_ok-value.ensures.read) (first
+    rw (p.1, p.2) (after (c.in_ok-name.ensures.read _)
+    (after (passed refl refl c.in_ok-at.ensures.passes) (after (c.in_ok-value.ensures.read) (first
     (c.in_err-at-2.ensures.passes _)))))
 
 pub returns-in_err-at-2-clause-shorter : goal.returns-in_err-at-2-clause-shorter
@@ -45,7 +47,8 @@ returns-in_err-at-2-clause-shorter c =
     rw p.1 tt
 
 pub returns-clause-read : goal.returns-clause-read
-returns-clause-read c = then (c.in_ok-name.ensures.read _) (then (passed refl refl c.in_ok-at.ensures.passes) (then (c.in_ok-value.ensures.read)
+returns-clause-read c = then (c.in_ok-name.ensures.read _)
+    (then (passed refl refl c.in_ok-at.ensures.passes) (then (c.in_ok-value.ensures.read)
     (passed refl refl c.in_ok-at-2.ensures.passes)))
 
 pub returns-clause-shorter : goal.returns-clause-shorter

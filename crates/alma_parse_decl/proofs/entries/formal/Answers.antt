@@ -12,7 +12,10 @@ returns-in_err-names c =
 pub returns-in_err-at : goal.returns-in_err-at
 returns-in_err-at c =
     let p = err_from_is_err_and c.from_residual-in_err-at.result c.from_residual-in_err-at.ensures.1 in
-    record { read = rw (p.1, p.2) (after (c.mode-mode.ensures.read _) (after (c.in_ok-names.ensures.read _) (first (c.in_err-at.ensures.passes _)))) }
+    record {
+      read = rw (p.1, p.2) (after (c.mode-mode.ensures.read _)
+          (after (c.in_ok-names.ensures.read _) (first (c.in_err-at.ensures.passes _))));
+    }
 
 pub returns-in_err-type_name : goal.returns-in_err-type_name
 returns-in_err-type_name c =

@@ -8,7 +8,8 @@ use Rattle.alma_parse_cursor.proofs.Loops.{Loops}
 use Rattle.alma_parse_decl.proofs.entries.formal_list.Given as goal
 
 abbrev pub invariant-loop-after : goal.invariant-loop-after
-invariant-loop-after l = Loops (spell_formal_tail (formal_tail_of l.more.items)) (numbers_of_formals l.more.items) formal_tail l.depth (position_of l.fn.at)
+invariant-loop-after l = Loops (spell_formal_tail (formal_tail_of l.more.items)) (numbers_of_formals l.more.items) formal_tail l.depth
+    (position_of l.fn.at)
     (position_of l.at)
 
 abbrev pub decreases-loop-after : goal.decreases-loop-after

@@ -9,7 +9,10 @@ use Rattle.alma_parse_decl.proofs.entries.params.Goals as goal
 pub returns-in_err-at : goal.returns-in_err-at
 returns-in_err-at c =
     let p = err_from_is_err_and c.from_residual.result c.from_residual.ensures.1 in
-    record { read = rw (p.1, p.2) (becoming_fails (where_started (sym c.if-not-is_at.ensures.starts) a_params_part) (first c.in_err-at.ensures.opened)) }
+    record {
+      read = rw (p.1, p.2) (becoming_fails (where_started (sym c.if-not-is_at.ensures.starts) a_params_part)
+          (first c.in_err-at.ensures.opened));
+    }
 
 pub returns-in_err-formals : goal.returns-in_err-formals
 returns-in_err-formals c =

@@ -6,7 +6,10 @@ use Rattle.alma_parse_decl.proofs.LeftOut.{a_params_inside, some_params}
 use Rattle.alma_parse_decl.proofs.entries.params_values.Goals as goal
 
 pub returns-in-Some : goal.returns-in-Some
-returns-in-Some c = record { read = becoming (where_passed c.in-Some.ensures.passes a_params_inside) (closed_any refl refl c.in-Some.ensures.passes) }
+returns-in-Some c = record {
+  read = becoming (where_passed c.in-Some.ensures.passes a_params_inside)
+      (closed_any refl refl c.in-Some.ensures.passes);
+}
 
 pub returns-in_err-formals : goal.returns-in_err-formals
 returns-in_err-formals c =

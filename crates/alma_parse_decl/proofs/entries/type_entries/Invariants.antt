@@ -8,7 +8,8 @@ use Rattle.alma_parse_cursor.proofs.Loops.{Loops}
 use Rattle.alma_parse_decl.proofs.entries.type_entries.Given as goal
 
 abbrev pub invariant-loop-alloc : goal.invariant-loop-alloc
-invariant-loop-alloc l = Loops (spell_type_tail (types_of l.more.items)) (numbers_of_types l.more.items) type_tail l.depth (position_of l.fn.at) (position_of l.at)
+invariant-loop-alloc l = Loops (spell_type_tail (types_of l.more.items)) (numbers_of_types l.more.items) type_tail l.depth
+    (position_of l.fn.at) (position_of l.at)
 
 abbrev pub decreases-loop-alloc : goal.decreases-loop-alloc
 decreases-loop-alloc l = length (position_of l.at).kinds

@@ -35,7 +35,8 @@ returns-in_err-node-clause-shorter c =
     rw p.1 tt
 
 pub returns-clause-read : goal.returns-clause-read
-returns-clause-read c = then (passed refl refl c.in_ok-at.ensures.passes) (then (c.in_ok-entries.ensures.read) (counted c.in_ok-node.ensures.counted))
+returns-clause-read c = then (passed refl refl c.in_ok-at.ensures.passes)
+    (then (c.in_ok-entries.ensures.read) (counted c.in_ok-node.ensures.counted))
 
 pub returns-clause-shorter : goal.returns-clause-shorter
 returns-clause-shorter c = omega (

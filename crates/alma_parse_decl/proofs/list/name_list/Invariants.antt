@@ -8,7 +8,8 @@ use Rattle.alma_parse_cursor.proofs.Loops.{Loops}
 use Rattle.alma_parse_decl.proofs.list.name_list.Given as goal
 
 abbrev pub invariant-loop-after : goal.invariant-loop-after
-invariant-loop-after l = (d : ℕ) → Loops (spell_name_tail (name_tail_of l.more.items)) (numbers_of_names l.more.items) name_tail d (position_of l.fn.at) (position_of l.at)
+invariant-loop-after l = (d : ℕ) → Loops (spell_name_tail (name_tail_of l.more.items)) (numbers_of_names l.more.items) name_tail d
+    (position_of l.fn.at) (position_of l.at)
 
 abbrev pub decreases-loop-after : goal.decreases-loop-after
 decreases-loop-after l = length (position_of l.at).kinds

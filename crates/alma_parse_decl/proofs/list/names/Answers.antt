@@ -19,4 +19,7 @@ returns-in_err-node c =
     record { read = rw (p.1, p.2) (λ d. want c.in_err-node.ensures.counted) }
 
 pub returns : goal.returns
-returns c = record { read = λ d. then (c.in_ok-first.ensures.read d) (then (c.in_ok-more.ensures.read d) (counted c.in_ok-node.ensures.counted)) }
+returns c = record {
+  read = λ d. then (c.in_ok-first.ensures.read d)
+      (then (c.in_ok-more.ensures.read d) (counted c.in_ok-node.ensures.counted));
+}

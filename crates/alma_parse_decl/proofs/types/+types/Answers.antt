@@ -6,9 +6,11 @@ use Rattle.alma_tree.proofs.Rows as rows
 use Rattle.alma_tree.proofs.NumberRows as numbered
 use Rattle.alma_parse_cursor.proofs.Loops.{ended, broken}
 use Rattle.alma_parse_cursor.proofs.Steps.{after, first, passed, opened, closed, counted, then, becoming, becoming_fails}
-use Rattle.alma_parse_cursor.proofs.Turns.{begun, grown, where_passed, where_started, numbered_alike, match_instead, match_instead_any, want, four_and}
+use Rattle.alma_parse_cursor.proofs.Turns.{begun, grown, where_passed, where_started, numbered_alike, match_instead, match_instead_any}
+use Rattle.alma_parse_cursor.proofs.Turns.{want, four_and}
 use Rattle.alma_parse_decl.proofs.TypeItems.{dimensions_listed, plains_listed, field_lists_listed}
-use Rattle.alma_parse_decl.proofs.TypesLeftOut.{no_array_tail, a_array_tail, no_plain_tail, a_plain_tail, a_field_list_part, no_field_list_tail, a_field_list_tail}
+use Rattle.alma_parse_decl.proofs.TypesLeftOut.{no_array_tail, a_array_tail, no_plain_tail, a_plain_tail, a_field_list_part}
+use Rattle.alma_parse_decl.proofs.TypesLeftOut.{no_field_list_tail, a_field_list_tail}
 use Rattle.alma_parse_decl.proofs.types.+types.Goals as goal
 
 pub type_node-returns-in_err-arrays : goal.type_node-returns-in_err-arrays
@@ -55,7 +57,8 @@ dimensions-returns-in_err-first-clause-shorter t c =
 pub dimensions-returns-in_err-more-clause-read : goal.dimensions-returns-in_err-more-clause-read
 dimensions-returns-in_err-more-clause-read t c =
     let p = err_from_is_err_and c.from_residual-in_err-more.result c.from_residual-in_err-more.ensures.1 in
-    rw (p.1, p.2) (after (passed refl refl c.in_ok-at.ensures.passes) (after (c.in_ok-first.ensures.read) (first c.in_err-more.ensures.read)))
+    rw (p.1, p.2) (after (passed refl refl c.in_ok-at.ensures.passes)
+    (after (c.in_ok-first.ensures.read) (first c.in_err-more.ensures.read)))
 
 pub dimensions-returns-in_err-more-clause-shorter : goal.dimensions-returns-in_err-more-clause-shorter
 dimensions-returns-in_err-more-clause-shorter t c =
@@ -65,7 +68,8 @@ dimensions-returns-in_err-more-clause-shorter t c =
 pub dimensions-returns-in_err-at-2-clause-read : goal.dimensions-returns-in_err-at-2-clause-read
 dimensions-returns-in_err-at-2-clause-read t c =
     let p = err_from_is_err_and c.from_residual-in_err-at-2.result c.from_residual-in_err-at-2.ensures.1 in
-    rw (p.1, p.2) (after (passed refl refl c.in_ok-at.ensures.passes) (after (c.in_ok-first.ensures.read) (after (c.in_ok-more.ensures.read) (first
+    rw (p.1, p.2) (after (passed refl refl c.in_ok-at.ensures.passes)
+    (after (c.in_ok-first.ensures.read) (after (c.in_ok-more.ensures.read) (first
     (c.in_err-at-2.ensures.passes _)))))
 
 pub dimensions-returns-in_err-at-2-clause-shorter : goal.dimensions-returns-in_err-at-2-clause-shorter
@@ -78,8 +82,13 @@ dimensions-returns-clause-read t c = then (passed refl refl c.in_ok-at.ensures.p
     (c.in_ok-more.ensures.read) (passed refl refl c.in_ok-at-2.ensures.passes)))
 
 pub dimensions-returns-clause-shorter : goal.dimensions-returns-clause-shorter
-dimensions-returns-clause-shorter t c = omega
-    (arith, c.in_ok-at.ensures.passes.shorter, c.in_ok-first.ensures.read.shorter, c.in_ok-more.ensures.read.shorter, c.in_ok-at-2.ensures.passes.shorter)
+dimensions-returns-clause-shorter t c = omega (
+  arith,
+  c.in_ok-at.ensures.passes.shorter,
+  c.in_ok-first.ensures.read.shorter,
+  c.in_ok-more.ensures.read.shorter,
+  c.in_ok-at-2.ensures.passes.shorter,
+)
 
 pub record_type-returns-in_err-at : goal.record_type-returns-in_err-at
 record_type-returns-in_err-at t c =
@@ -94,7 +103,10 @@ record_type-returns-in_err-first t c =
 pub record_type-returns-in_err-more : goal.record_type-returns-in_err-more
 record_type-returns-in_err-more t c =
     let p = err_from_is_err_and c.from_residual-in_err-more.result c.from_residual-in_err-more.ensures.1 in
-    record { read = rw (p.1, p.2) (after (opened refl c.in_ok-at.ensures.opened) (after (c.in_ok-first.ensures.read) (first c.in_err-more.ensures.read))) }
+    record {
+      read = rw (p.1, p.2) (after (opened refl c.in_ok-at.ensures.opened)
+          (after (c.in_ok-first.ensures.read) (first c.in_err-more.ensures.read)));
+    }
 
 pub record_type-returns-in_err-at-2 : goal.record_type-returns-in_err-at-2
 record_type-returns-in_err-at-2 t c =
@@ -152,7 +164,10 @@ fields-returns t c = record {
 pub arrays-returns-in_err-first : goal.arrays-returns-in_err-first
 arrays-returns-in_err-first t c =
     let p = err_from_is_err_and c.from_residual.result c.from_residual.ensures.1 in
-    record { read = rw (p.1, p.2) (becoming_fails (where_started (sym c.if-not-is_at.ensures.starts) a_array_tail) (first c.in_err-first.ensures.read)) }
+    record {
+      read = rw (p.1, p.2) (becoming_fails (where_started (sym c.if-not-is_at.ensures.starts) a_array_tail)
+          (first c.in_err-first.ensures.read));
+    }
 
 pub arrays-returns-in_err-more : goal.arrays-returns-in_err-more
 arrays-returns-in_err-more t c =
@@ -172,7 +187,8 @@ arrays-returns t c = record {
   read = rw (dz.out-roll-Arrays _) (numbered_alike (four_and token (number_plain c.in_ok-first.first.first)
       (numbers_of_plains c.in_ok-first.first.more.items) token
       (numbers_of_dimensions c.in_ok-more.more.items >> node c.in_ok-node.node))
-      (becoming (where_started (sym c.if-not-is_at.ensures.starts) a_array_tail) (then c.in_ok-first.ensures.read (then c.in_ok-more.ensures.read
+      (becoming (where_started (sym c.if-not-is_at.ensures.starts) a_array_tail)
+      (then c.in_ok-first.ensures.read (then c.in_ok-more.ensures.read
       (counted c.in_ok-node.ensures.counted)))));
 }
 

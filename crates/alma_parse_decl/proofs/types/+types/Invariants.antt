@@ -40,7 +40,8 @@ abbrev pub decreases-type_node : goal.decreases-type_node
 decreases-type_node l = 8 * length (position_of l.at).kinds + 4
 
 abbrev pub invariant-dimensions_list-loop-alloc : goal.invariant-dimensions_list-loop-alloc
-invariant-dimensions_list-loop-alloc l = Loops (spell_array_tail (dimensions_of l.more.items)) (numbers_of_dimensions l.more.items) array_tail l.depth
+invariant-dimensions_list-loop-alloc l =
+    Loops (spell_array_tail (dimensions_of l.more.items)) (numbers_of_dimensions l.more.items) array_tail l.depth
     (position_of l.fn.at) (position_of l.at)
 
 abbrev pub decreases-dimensions_list-loop-alloc : goal.decreases-dimensions_list-loop-alloc

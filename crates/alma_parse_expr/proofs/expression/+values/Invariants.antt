@@ -86,7 +86,8 @@ abbrev pub decreases-terms-loop-operator : goal.decreases-terms-loop-operator
 decreases-terms-loop-operator g l = length (position_of l.at).kinds
 
 abbrev pub invariant-factors-loop-operator : goal.invariant-factors-loop-operator
-invariant-factors-loop-operator g l = Loops (spell_factor_tail (factors_of l.more.items)) (numbers_of_factors l.more.items) factor_tail l.depth
+invariant-factors-loop-operator g l = Loops (spell_factor_tail (factors_of l.more.items)) (numbers_of_factors l.more.items) factor_tail
+    l.depth
     (position_of l.fn.at) (position_of l.at)
 
 abbrev pub decreases-factors-loop-operator : goal.decreases-factors-loop-operator

@@ -16,7 +16,8 @@ returns-in_err-node-clause-read c = stopped _ _ _ _ c.from_residual-in_err-node.
 
 pub returns-clause-read : goal.returns-clause-read
 returns-clause-read c = λ d.
-    steps.then (steps.passed refl refl c.in_ok-at.ensures.passes) (steps.then (c.in_ok-name.ensures.read d) (steps.counted c.in_ok-node.ensures.counted))
+    steps.then (steps.passed refl refl c.in_ok-at.ensures.passes)
+    (steps.then (c.in_ok-name.ensures.read d) (steps.counted c.in_ok-node.ensures.counted))
 
 pub returns-clause-shorter : goal.returns-clause-shorter
 returns-clause-shorter c =

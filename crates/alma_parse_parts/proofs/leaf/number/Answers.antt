@@ -11,4 +11,7 @@ pub returns-in_err-node : goal.returns-in_err-node
 returns-in_err-node c = record { read = stopped _ _ _ _ c.from_residual-in_err-node.ensures.1 (λ d. want c.in_err-node.ensures.counted) }
 
 pub returns : goal.returns
-returns c = record { read = λ d. steps.then (steps.leafed refl refl c.in_ok-after.ensures.passes) (steps.counted c.in_ok-node.ensures.counted) }
+returns c = record {
+  read = λ d. steps.then (steps.leafed refl refl c.in_ok-after.ensures.passes)
+      (steps.counted c.in_ok-node.ensures.counted);
+}

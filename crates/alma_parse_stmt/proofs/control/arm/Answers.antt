@@ -15,4 +15,7 @@ returns-then-begins_expr g c = record {
 }
 
 pub returns : goal.returns
-returns g c = record { read = instead_any c.empty_arm.result an_arm number_arm (λ o. arm_part ∷ o) (λ o. o) c.args.depth _ (rw c.if-begins_expr.false at c.begins_expr.ensures.arm) c.empty_arm.ensures.read }
+returns g c = record {
+  read = instead_any c.empty_arm.result an_arm number_arm (λ o. arm_part ∷ o) (λ o. o) c.args.depth _
+      (rw c.if-begins_expr.false at c.begins_expr.ensures.arm) c.empty_arm.ensures.read;
+}

@@ -16,10 +16,19 @@ pub loop-after-init : goal.loop-after-init
 loop-after-init g c = rw c.new-more.ensures.items loops.loops_start
 
 pub loop-after-preserved : goal.loop-after-preserved
-loop-after-preserved g c = one_more lists.labels (λ o. one kinds.Comma ∷ label_parts o) _ _ c.loop-after.invariant (heads.begins_labels c.in-Some.ensures.passes) c.label.result _ c.in_ok-at.ensures.pushed (both (λ v. spell_label (view_label v)) number_label (part (passed refl refl c.in-Some.ensures.passes)) _ _ c.label.result c.label.ensures.read)
+loop-after-preserved g c = one_more lists.labels (λ o. one kinds.Comma ∷ label_parts o) _ _ c.loop-after.invariant
+    (heads.begins_labels c.in-Some.ensures.passes) c.label.result _ c.in_ok-at.ensures.pushed
+    (both (λ v. spell_label (view_label v)) number_label (part (passed refl refl c.in-Some.ensures.passes)) _ _ c.label.result
+    c.label.ensures.read)
 
 pub returns : goal.returns
 returns g c = record { read = loops.ended c.loop-after.invariant (heads.skips_labels _ c.in_default.ensures.passes) }
 
 pub returns-in_err-at : goal.returns-in_err-at
-returns-in_err-at g c = record { read = stopped _ _ _ _ c.from_residual.ensures.1 (no_more lists.labels (λ o. one kinds.Comma ∷ label_parts o) _ _ c.loop-after.invariant (heads.begins_labels c.in-Some.ensures.passes) c.label.result _ c.in_err-at.ensures.pushed (both (λ v. spell_label (view_label v)) number_label (part (passed refl refl c.in-Some.ensures.passes)) _ _ c.label.result c.label.ensures.read)) }
+returns-in_err-at g c = record {
+  read = stopped _ _ _ _ c.from_residual.ensures.1
+      (no_more lists.labels (λ o. one kinds.Comma ∷ label_parts o) _ _ c.loop-after.invariant (heads.begins_labels c.in-Some.ensures.passes)
+      c.label.result _ c.in_err-at.ensures.pushed
+      (both (λ v. spell_label (view_label v)) number_label (part (passed refl refl c.in-Some.ensures.passes)) _ _ c.label.result
+      c.label.ensures.read));
+}

@@ -13,4 +13,9 @@ pub returns-in_default : goal.returns-in_default
 returns-in_default g c = record { read = skipped (heads.skips_else _ c.in_default.ensures.passes) }
 
 pub returns : goal.returns
-returns g c = record { read = becoming_gives (λ v. spell_else (else_of v)) numbers_of_else _ _ _ _ _ (heads.begins_else c.in-Some.ensures.passes) c.present.result (whole some_stmts number_stmts (λ v. spell_else (else_of v)) numbers_of_else (part (passed refl refl c.in-Some.ensures.passes)) _ _ (λ v. Some v) (λ v. refl) (λ v. refl) c.nested.result _ c.present.ensures.made c.nested.ensures.read) }
+returns g c = record {
+  read = becoming_gives (λ v. spell_else (else_of v)) numbers_of_else _ _ _ _ _
+      (heads.begins_else c.in-Some.ensures.passes) c.present.result
+      (whole some_stmts number_stmts (λ v. spell_else (else_of v)) numbers_of_else (part (passed refl refl c.in-Some.ensures.passes)) _ _
+      (λ v. Some v) (λ v. refl) (λ v. refl) c.nested.result _ c.present.ensures.made c.nested.ensures.read);
+}

@@ -18,12 +18,20 @@ returns-in_err-at g c = record { read = stopped _ _ _ _ c.from_residual.ensures.
 pub returns-in_err-body : goal.returns-in_err-body
 returns-in_err-body g c = record {
   read = stopped _ _ _ _ c.from_residual-in_err-body.ensures.1 (after (opened refl
-      c.in_ok-at.ensures.opened) (first (followed some_stmts number_stmts _ _ _ _ _ (matching kinds.Until refl refl c.in_ok-at.ensures.opened)
+      c.in_ok-at.ensures.opened) (first
+      (followed some_stmts number_stmts _ _ _ _ _ (matching kinds.Until refl refl c.in_ok-at.ensures.opened)
       c.nested.result (Err _) c.in_err-body.ensures.followed c.nested.ensures.read)));
 }
 
 pub returns : goal.returns
-returns g c = record { read = whole (λ v. an_expr v.0) (λ v. number_expr v.0 >> node v.1) a_stmt number_stmt (and_then (part (opened refl c.in_ok-at.ensures.opened)) (part_and some_stmts number_stmts kinds.Until _ _ _ _ _ (matching kinds.Until refl refl c.in_ok-at.ensures.opened) c.nested.result _ c.in_ok-body.ensures.followed c.nested.ensures.read)) _ _ _ (λ v. ap spell_stmt (rows.repeat_laid v.1 c.in_ok-body.body v.0)) (λ v. numbers.repeat_laid v.1 c.in_ok-body.body v.0) c.numbered.result _ c.repeat_of.ensures.made (ended an_expr number_expr _ _ _ _ c.expr.result c.numbered.result c.numbered.ensures.numbered c.expr.ensures.read) }
+returns g c = record {
+  read = whole (λ v. an_expr v.0) (λ v. number_expr v.0 >> node v.1) a_stmt number_stmt
+      (and_then (part (opened refl c.in_ok-at.ensures.opened))
+      (part_and some_stmts number_stmts kinds.Until _ _ _ _ _ (matching kinds.Until refl refl c.in_ok-at.ensures.opened) c.nested.result _
+      c.in_ok-body.ensures.followed c.nested.ensures.read)) _ _ _ (λ v. ap spell_stmt (rows.repeat_laid v.1 c.in_ok-body.body v.0))
+      (λ v. numbers.repeat_laid v.1 c.in_ok-body.body v.0) c.numbered.result _ c.repeat_of.ensures.made
+      (ended an_expr number_expr _ _ _ _ c.expr.result c.numbered.result c.numbered.ensures.numbered c.expr.ensures.read);
+}
 
 pub open-requires : goal.open-requires
 open-requires g c = record { opening = refl }

@@ -23,10 +23,21 @@ returns-in_err-desig g c = record { read = stopped _ _ _ _ c.from_residual.ensur
 pub returns-then-is_at : goal.returns-then-is_at
 returns-then-is_at g c = record {
   read = extended c.assign.result (λ v. spell_stmt (view_stmt v)) number_stmt (λ o. after_desig
-      ∷ o) c.in_ok-desig.ensures.read (instead_extending c.assign.result (λ v. spell_stmt (view_stmt v)) number_stmt (λ o. after_desig ∷ o) (λ o. one
-      kinds.Assign ∷ expr_parts o) c.args.depth _ (spell_desig (view_desig c.in_ok-desig.desig)) (number_desig c.in_ok-desig.desig) (heads.at_assign _
+      ∷ o) c.in_ok-desig.ensures.read (instead_extending c.assign.result (λ v. spell_stmt (view_stmt v)) number_stmt (λ o. after_desig ∷ o)
+      (λ o. one
+      kinds.Assign ∷ expr_parts o) c.args.depth _ (spell_desig (view_desig c.in_ok-desig.desig)) (number_desig c.in_ok-desig.desig)
+      (heads.at_assign _
       (sym c.is_at.ensures.starts ∙ c.if-is_at.true)) c.assign.ensures.read);
 }
 
 pub returns : goal.returns
-returns g c = record { read = made_gives (λ v. an_expr v.0) (λ v. number_expr v.0 >> node v.1) a_stmt number_stmt _ _ _ _ (λ v. dt.Value v.1 v.0) (λ v. refl) (λ v. refl) c.numbered.result _ c.value_of.ensures.made (extended c.numbered.result (λ v. an_expr v.0) (λ v. number_expr v.0 >> node v.1) (λ o. after_desig ∷ o) c.in_ok-desig.ensures.read (instead_extending c.numbered.result (λ v. an_expr v.0) (λ v. number_expr v.0 >> node v.1) (λ o. after_desig ∷ o) (λ o. args_part ∷ factor_tail ∷ term_tail ∷ compared_part ∷ o) c.args.depth _ (spell_desig (view_desig c.in_ok-desig.desig)) (number_desig c.in_ok-desig.desig) (heads.no_assign _ (sym c.is_at.ensures.starts ∙ c.if-is_at.false)) (ended_extending an_expr number_expr _ _ _ _ _ c.desig_value.result c.numbered.result c.numbered.ensures.numbered c.desig_value.ensures.read))) }
+returns g c = record {
+  read = made_gives (λ v. an_expr v.0) (λ v. number_expr v.0 >> node v.1) a_stmt number_stmt _ _ _ _
+      (λ v. dt.Value v.1 v.0) (λ v. refl) (λ v. refl) c.numbered.result _ c.value_of.ensures.made
+      (extended c.numbered.result (λ v. an_expr v.0) (λ v. number_expr v.0 >> node v.1) (λ o. after_desig ∷ o) c.in_ok-desig.ensures.read
+      (instead_extending c.numbered.result (λ v. an_expr v.0) (λ v. number_expr v.0 >> node v.1) (λ o. after_desig ∷ o)
+      (λ o. args_part ∷ factor_tail ∷ term_tail ∷ compared_part ∷ o) c.args.depth _ (spell_desig (view_desig c.in_ok-desig.desig))
+      (number_desig c.in_ok-desig.desig) (heads.no_assign _ (sym c.is_at.ensures.starts ∙ c.if-is_at.false))
+      (ended_extending an_expr number_expr _ _ _ _ _ c.desig_value.result c.numbered.result c.numbered.ensures.numbered
+      c.desig_value.ensures.read)));
+}

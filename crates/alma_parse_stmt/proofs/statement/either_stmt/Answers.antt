@@ -21,7 +21,14 @@ returns-in_err-first g c = record {
 }
 
 pub returns : goal.returns
-returns g c = record { read = whole (λ v ks. more_orelses v.0 (kinds.End ∷ ks)) (λ v. count_orelses v.0 >> token >> node v.1) a_stmt number_stmt (and_then (part (opened refl c.in_ok-at.ensures.opened)) (part c.in_ok-first.ensures.read)) _ _ _ (λ v. ap spell_stmt (rows.either_laid v.1 c.in_ok-first.first v.0)) (λ v. numbers.either_laid v.1 c.in_ok-first.first v.0) c.numbered.result _ c.either_of.ensures.made (ended_behind more_orelses count_orelses _ _ _ _ _ _ (matching kinds.End refl refl c.in_ok-at.ensures.opened) c.orelse_list.result c.followed_by-more.result c.followed_by-more.ensures.followed c.orelse_list.ensures.read c.numbered.result c.numbered.ensures.numbered) }
+returns g c = record {
+  read = whole (λ v ks. more_orelses v.0 (kinds.End ∷ ks)) (λ v. count_orelses v.0 >> token >> node v.1) a_stmt
+      number_stmt (and_then (part (opened refl c.in_ok-at.ensures.opened)) (part c.in_ok-first.ensures.read)) _ _ _
+      (λ v. ap spell_stmt (rows.either_laid v.1 c.in_ok-first.first v.0)) (λ v. numbers.either_laid v.1 c.in_ok-first.first v.0)
+      c.numbered.result _ c.either_of.ensures.made
+      (ended_behind more_orelses count_orelses _ _ _ _ _ _ (matching kinds.End refl refl c.in_ok-at.ensures.opened) c.orelse_list.result
+      c.followed_by-more.result c.followed_by-more.ensures.followed c.orelse_list.ensures.read c.numbered.result c.numbered.ensures.numbered);
+}
 
 pub open-requires : goal.open-requires
 open-requires g c = record { opening = refl }

@@ -23,7 +23,15 @@ returns-in_err-choice g c = record {
 }
 
 pub returns : goal.returns
-returns g c = record { read = whole (λ v ks. some_stmts v.0 (kinds.End ∷ ks)) (λ v. number_stmts v.0 >> token >> node v.1) a_stmt number_stmt (and_then (part (opened refl c.in_ok-at.ensures.opened)) (part_and some_stmts number_stmts kinds.Do _ _ _ _ _ (plain kinds.Do _ refl refl) c.nested.result _ c.in_ok-choice.ensures.followed c.nested.ensures.read)) _ _ _ (λ v. ap spell_stmt (rows.forall_laid v.1 c.in_ok-choice.choice v.0)) (λ v. numbers.forall_laid v.1 c.in_ok-choice.choice v.0) c.numbered.result _ c.forall_of.ensures.made (ended_behind some_stmts number_stmts _ _ _ _ _ _ (matching kinds.End refl refl c.in_ok-at.ensures.opened) c.nested-2.result c.followed_by-body.result c.followed_by-body.ensures.followed c.nested-2.ensures.read c.numbered.result c.numbered.ensures.numbered) }
+returns g c = record {
+  read = whole (λ v ks. some_stmts v.0 (kinds.End ∷ ks)) (λ v. number_stmts v.0 >> token >> node v.1) a_stmt
+      number_stmt (and_then (part (opened refl c.in_ok-at.ensures.opened))
+      (part_and some_stmts number_stmts kinds.Do _ _ _ _ _ (plain kinds.Do _ refl refl) c.nested.result _ c.in_ok-choice.ensures.followed
+      c.nested.ensures.read)) _ _ _ (λ v. ap spell_stmt (rows.forall_laid v.1 c.in_ok-choice.choice v.0))
+      (λ v. numbers.forall_laid v.1 c.in_ok-choice.choice v.0) c.numbered.result _ c.forall_of.ensures.made
+      (ended_behind some_stmts number_stmts _ _ _ _ _ _ (matching kinds.End refl refl c.in_ok-at.ensures.opened) c.nested-2.result
+      c.followed_by-body.result c.followed_by-body.ensures.followed c.nested-2.ensures.read c.numbered.result c.numbered.ensures.numbered);
+}
 
 pub open-requires : goal.open-requires
 open-requires g c = record { opening = refl }

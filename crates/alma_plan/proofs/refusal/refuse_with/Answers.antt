@@ -7,4 +7,5 @@ use Rattle.alma_plan.proofs.refusal.refuse_with.Goals as goal
 pub returns : goal.returns
 returns g c =
     let same = stop_parts c.args.program.now _ _ _ c.args.text.now c.as_slice-front.ensures refl c.as_slice-end.ensures in
-    subst (λ (bytes : List ℕ). Reports (ending_of c.args.status bytes) (g.E.Sink.side c.args.err.now) (g.E.Sink.side c.report.new.err) c.report.result.0) same c.report.ensures
+    subst (λ (bytes : List ℕ). Reports (ending_of c.args.status bytes) (g.E.Sink.side c.args.err.now) (g.E.Sink.side c.report.new.err)
+    c.report.result.0) same c.report.ensures

@@ -13,7 +13,8 @@ pub returns-in-Ok-store : goal.returns-in-Ok-store
 returns-in-Ok-store g c = λ p is program failed input out.
     let code = code_of c.args.code.now in
     let e = rw (c.deref.ensures.value, c.in-Ok.ensures) at c.in-Ok-store.ensures in
-    course_stored (sense program failed) program (Stores p c.args.object.now) (storing c.args.object.now (object_bytes code)) (stored_as c.args.object.now (object_bytes code)) _ _ input out
+    course_stored (sense program failed) program (Stores p c.args.object.now) (storing c.args.object.now (object_bytes code))
+    (stored_as c.args.object.now (object_bytes code)) _ _ input out
     (code, object_bytes code, is, is_object p code is c.requires.version c.requires.counts c.requires.records, c.fits_fields.ensures, refl)
     refl refl e.fetch_count (e.others, e.answer.0, e.answer.1)
 
@@ -22,7 +23,8 @@ returns-in-Err-Failed g c = λ p is program failed input out.
     let code = code_of c.args.code.now in
     let f = c.in-Err-Failed in
     let h = rw f.field-0-is at f.ensures.answer in
-    course_unstored (sense program failed) program (Stores p c.args.object.now) (storing c.args.object.now (object_bytes code)) (stored_as c.args.object.now (object_bytes code)) _ _ input out
+    course_unstored (sense program failed) program (Stores p c.args.object.now) (storing c.args.object.now (object_bytes code))
+    (stored_as c.args.object.now (object_bytes code)) _ _ input out
     (code, object_bytes code, is, is_object p code is c.requires.version c.requires.counts c.requires.records, c.fits_fields.ensures, refl)
     refl refl f.ensures.fetch_count f.ensures.others (h.0, h.1)
 

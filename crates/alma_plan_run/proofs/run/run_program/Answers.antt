@@ -14,7 +14,8 @@ pub returns-in-Err-TooMuchCode : goal.returns-in-Err-TooMuchCode
 returns-in-Err-TooMuchCode g c = λ program failed files.
     let p = program_of c.args.program.now in
     let e = c.in-Err-TooMuchCode.ensures in
-    let r = refused_large p c.in-Err-TooMuchCode.size (rw c.in-Err-TooMuchCode.field-0-is at e.too_much) (rw c.in-Err-TooMuchCode.field-0-is at e.within) in
+    let r = refused_large p c.in-Err-TooMuchCode.size (rw c.in-Err-TooMuchCode.field-0-is at e.too_much)
+    (rw c.in-Err-TooMuchCode.field-0-is at e.within) in
     rw c.in-Err-TooMuchCode.size-is (course_large program failed p _ files _ _ c.in-Err-TooMuchCode.size r.0 r.1)
 
 pub returns-in-Err-Memory : goal.returns-in-Err-Memory

@@ -6,5 +6,7 @@ use Rattle.alma_pool.proofs.main_call.refuse_turn.Goals as goal
 
 pub returns : goal.returns
 returns g c =
-    let same = turn_parts _ _ _ c.args.turn c.as_slice-front.ensures (c.as_bytes-number.ensures.value ∙ c.format.ensures.text) c.as_slice-end.ensures in
-    subst (λ (bytes : List ℕ). Reports (ending_of 13 bytes) (g.E.Sink.side c.args.err.now) (g.E.Sink.side c.report.new.err) c.report.result.0) same c.report.ensures
+    let same = turn_parts _ _ _ c.args.turn c.as_slice-front.ensures (c.as_bytes-number.ensures.value ∙ c.format.ensures.text)
+    c.as_slice-end.ensures in
+    subst (λ (bytes : List ℕ). Reports (ending_of 13 bytes) (g.E.Sink.side c.args.err.now) (g.E.Sink.side c.report.new.err)
+    c.report.result.0) same c.report.ensures

@@ -10,15 +10,19 @@ use Rattle.alma_pool.proofs.open.any_reads.Goals as goal
 
 pub returns-then-has_read : goal.returns-then-has_read
 returns-then-has_read c =
-    let reads : code_reads (code_of_verified c.code-item.result) ≡ true = ap (λ v. code_reads (code_of_view v)) (sym c.view.ensures.view) ∙ sym c.has_read.ensures ∙ c.if-has_read.true in
+    let reads : code_reads (code_of_verified c.code-item.result) ≡ true = ap (λ v. code_reads (code_of_view v)) (sym c.view.ensures.view)
+    ∙ sym c.has_read.ensures ∙ c.if-has_read.true in
     let rest = list_any code_reads (codes_of (drop (c.loop-code.code-index + 1) c.args.verified.now)) in
-    sym (c.loop-code.invariant ∙ reads_here c.args.verified.now c.loop-code.code-index c.code-item.result _ c.loop-code-test.true c.code-item.is ∙ ap (λ b. b || rest) reads)
+    sym (c.loop-code.invariant ∙ reads_here c.args.verified.now c.loop-code.code-index c.code-item.result _ c.loop-code-test.true
+    c.code-item.is ∙ ap (λ b. b || rest) reads)
 
 pub loop-code-preserved : goal.loop-code-preserved
 loop-code-preserved c =
-    let quiet : code_reads (code_of_verified c.code-item.result) ≡ false = ap (λ v. code_reads (code_of_view v)) (sym c.view.ensures.view) ∙ sym c.has_read.ensures ∙ c.if-has_read.false in
+    let quiet : code_reads (code_of_verified c.code-item.result) ≡ false = ap (λ v. code_reads (code_of_view v)) (sym c.view.ensures.view)
+    ∙ sym c.has_read.ensures ∙ c.if-has_read.false in
     let rest = list_any code_reads (codes_of (drop (c.loop-code.code-index + 1) c.args.verified.now)) in
-    c.loop-code.invariant ∙ reads_here c.args.verified.now c.loop-code.code-index c.code-item.result _ c.loop-code-test.true c.code-item.is ∙ ap (λ b. b || rest) quiet
+    c.loop-code.invariant ∙ reads_here c.args.verified.now c.loop-code.code-index c.code-item.result _ c.loop-code-test.true c.code-item.is
+    ∙ ap (λ b. b || rest) quiet
 
 pub returns : goal.returns
 returns c = sym (c.loop-code.invariant ∙ reads_none c.args.verified.now c.loop-code.code-index c.loop-code-test.false)

@@ -12,18 +12,23 @@ returns-then-is_err-clause-refused c = inl refl
 
 pub returns-in-Err-clause-refused : goal.returns-in-Err-clause-refused
 returns-in-Err-clause-refused c =
-    inr (opening_stops c.args.objects.now c.loop-bytes.bytes-index c.bytes-item.result _ (codes_of c.loop-bytes.verified.items) c.loop-bytes-test.true c.bytes-item.is
-    c.loop-bytes.invariant (refusal_end program c.in-Err.refusal) (ap (object_refusal program) (sym c.deref.ensures.value) ∙ c.in-Err.ensures.refused program))
+    inr (opening_stops c.args.objects.now c.loop-bytes.bytes-index c.bytes-item.result _ (codes_of c.loop-bytes.verified.items)
+    c.loop-bytes-test.true c.bytes-item.is
+    c.loop-bytes.invariant (refusal_end program c.in-Err.refusal)
+    (ap (object_refusal program) (sym c.deref.ensures.value) ∙ c.in-Err.ensures.refused program))
 
 pub loop-bytes-preserved : goal.loop-bytes-preserved
 loop-bytes-preserved c =
     let more = rw (c.is_err.ensures.negation, c.if-is_err.false) at c.push.ensures.items in
-    opening_more c.args.objects.now c.loop-bytes.bytes-index c.bytes-item.result _ (codes_of c.loop-bytes.verified.items) c.loop-bytes-test.true c.bytes-item.is
-    c.loop-bytes.invariant (code_of_verified c.in-Ok.code) (ap (object_refusal program) (sym c.deref.ensures.value) ∙ c.in-Ok.ensures.sound program)
+    opening_more c.args.objects.now c.loop-bytes.bytes-index c.bytes-item.result _ (codes_of c.loop-bytes.verified.items)
+    c.loop-bytes-test.true c.bytes-item.is
+    c.loop-bytes.invariant (code_of_verified c.in-Ok.code)
+    (ap (object_refusal program) (sym c.deref.ensures.value) ∙ c.in-Ok.ensures.sound program)
     (rw c.deref.ensures.value at c.in-Ok.ensures.code)
     ∙ ap (λ got. opening got (all_bytes (drop (c.loop-bytes.bytes-index + 1) c.args.objects.now)))
     (sym (ap codes_of more ∙ codes_more c.loop-bytes.verified.items c.in-Ok.code))
 
 pub returns-clause-codes : goal.returns-clause-codes
 returns-clause-codes c =
-    opening_ends c.args.objects.now c.loop-bytes.bytes-index (codes_of c.loop-bytes.verified.items) c.loop-bytes-test.false c.loop-bytes.invariant
+    opening_ends c.args.objects.now c.loop-bytes.bytes-index (codes_of c.loop-bytes.verified.items) c.loop-bytes-test.false
+    c.loop-bytes.invariant

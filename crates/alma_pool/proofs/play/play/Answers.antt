@@ -11,4 +11,5 @@ returns-then-any_reads g c = λ files. rw (sym c.any_reads.ensures ∙ c.if-any_
 pub returns : goal.returns
 returns g c = λ files.
     rw (sym c.any_reads.ensures ∙ c.if-any_reads.false)
-    (course_ends plain program (prints (pool_text 0 (codes_of c.args.verified.now) [] (turns_in c.args.turns.now))) files _ _ _ _ c.play_on.ensures)
+    (course_ends plain program (prints (pool_text 0 (codes_of c.args.verified.now) [] (turns_in c.args.turns.now))) files _ _ _ _
+    c.play_on.ensures)

@@ -13,7 +13,8 @@ use Rattle.alma_pool.proofs.play.play_in.Goals as goal
 
 pub show_all-requires : goal.show_all-requires
 show_all-requires g c =
-    let made = ok_of c.play_all.result (c.play_all.new.pool ≡ after_turns c.args.pool.now (turns_in c.args.turns.now)) (sym c.is_err.ensures.value ∙ c.if-is_err.false) c.play_all.ensures in
+    let made = ok_of c.play_all.result (c.play_all.new.pool ≡ after_turns c.args.pool.now (turns_in c.args.turns.now))
+    (sym c.is_err.ensures.value ∙ c.if-is_err.false) c.play_all.ensures in
     still_whole c.args.pool.now c.play_all.new.pool (turns_in c.args.turns.now) made c.requires.whole
 
 pub returns-then-is_err : goal.returns-then-is_err
@@ -21,18 +22,22 @@ returns-then-is_err g c = hungry refl (gains_none _)
 
 pub returns-in-Ok : goal.returns-in-Ok
 returns-in-Ok g c =
-    let made = ok_of c.play_all.result (c.play_all.new.pool ≡ after_turns c.args.pool.now (turns_in c.args.turns.now)) (sym c.is_err.ensures.value ∙ c.if-is_err.false) c.play_all.ensures in
+    let made = ok_of c.play_all.result (c.play_all.new.pool ≡ after_turns c.args.pool.now (turns_in c.args.turns.now))
+    (sym c.is_err.ensures.value ∙ c.if-is_err.false) c.play_all.ensures in
     whole (prints (shown_text 0 (after_turns c.args.pool.now (turns_in c.args.turns.now)).programs)) refl refl refl (record {
-      bytes_are = subst (λ (p : PoolView). Appends (g.O.Sink.side c.args.out.now).written (g.O.Sink.side c.show_all.new.out).written (shown_text 0 p.programs)) made
+      bytes_are = subst (λ (p : PoolView). Appends (g.O.Sink.side c.args.out.now).written (g.O.Sink.side c.show_all.new.out).written
+          (shown_text 0 p.programs)) made
           c.in-Ok.ensures.ok;
       quiet = c.in-Ok.ensures.cause.ok;
     })
 
 pub returns-in-Err : goal.returns-in-Err
 returns-in-Err g c =
-    let made = ok_of c.play_all.result (c.play_all.new.pool ≡ after_turns c.args.pool.now (turns_in c.args.turns.now)) (sym c.is_err.ensures.value ∙ c.if-is_err.false) c.play_all.ensures in
+    let made = ok_of c.play_all.result (c.play_all.new.pool ≡ after_turns c.args.pool.now (turns_in c.args.turns.now))
+    (sym c.is_err.ensures.value ∙ c.if-is_err.false) c.play_all.ensures in
     cut_short (prints (shown_text 0 (after_turns c.args.pool.now (turns_in c.args.turns.now)).programs)) refl refl (record {
-      front = subst (λ (p : PoolView). AppendsFront (g.O.Sink.side c.args.out.now).written (g.O.Sink.side c.show_all.new.out).written (shown_text 0 p.programs)) made
+      front = subst (λ (p : PoolView). AppendsFront (g.O.Sink.side c.args.out.now).written (g.O.Sink.side c.show_all.new.out).written
+          (shown_text 0 p.programs)) made
           c.in-Err.ensures.front;
       risen = (c.in-Err.ensures.cause.later, c.in-Err.ensures.cause.err);
     })

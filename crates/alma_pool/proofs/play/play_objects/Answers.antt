@@ -9,7 +9,8 @@ use Rattle.alma_pool.proofs.play.play_objects.Goals as goal
 pub play-requires-clause-good : goal.play-requires-clause-good
 play-requires-clause-good g c =
     let count : length c.in-Ok.verified.items ≡ length c.args.objects.now =
-    opened_count (all_bytes c.args.objects.now) c.in-Ok.verified.items c.in-Ok.ensures.codes ∙ length-map c.args.objects.now (λ (file : Vec ℕ). file.items) in
+    opened_count (all_bytes c.args.objects.now) c.in-Ok.verified.items c.in-Ok.ensures.codes
+    ∙ length-map c.args.objects.now (λ (file : Vec ℕ). file.items) in
     rw c.deref.ensures.value (ap (λ n. bad_turn_behind n 0 c.args.turns.now) count ∙ c.requires.good)
 
 pub returns-in-Ok : goal.returns-in-Ok

@@ -16,7 +16,8 @@ play_in-requires-clause-whole g c = ap (λ (p : PoolView). p.whole) c.in-Ok.ensu
 
 pub play_in-requires-clause-fresh : goal.play_in-requires-clause-fresh
 play_in-requires-clause-fresh g c =
-    subst (λ (p : PoolView). All (λ (q : Played). q.state.steps ≡ 0) p.programs) (sym c.in-Ok.ensures) (begun_fresh (codes_of c.args.verified.now) c.args.input.now)
+    subst (λ (p : PoolView). All (λ (q : Played). q.state.steps ≡ 0) p.programs) (sym c.in-Ok.ensures)
+    (begun_fresh (codes_of c.args.verified.now) c.args.input.now)
 
 pub play_in-requires-clause-good : goal.play_in-requires-clause-good
 play_in-requires-clause-good g c =
@@ -30,7 +31,8 @@ returns-in-Ok g c =
     let turns = turns_in c.args.turns.now in
     let same = shown_alone codes c.args.input.now turns c.in-Ok.pool (after_turns c.in-Ok.pool turns) c.in-Ok.ensures refl
     (played_count codes c.args.input.now turns c.in-Ok.pool (after_turns c.in-Ok.pool turns) c.in-Ok.ensures refl) in
-    subst (λ (bytes : List ℕ). Goes program (IsDue (prints bytes)) (g.O.Sink.side c.args.out.now) (g.O.Sink.side c.play_in.new.out) (pool_end c.play_in.result)) same
+    subst (λ (bytes : List ℕ). Goes program (IsDue (prints bytes)) (g.O.Sink.side c.args.out.now) (g.O.Sink.side c.play_in.new.out)
+    (pool_end c.play_in.result)) same
     c.play_in.ensures
 
 pub returns-in-Err : goal.returns-in-Err

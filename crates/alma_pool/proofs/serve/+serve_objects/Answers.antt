@@ -14,7 +14,8 @@ returns-in_default g t c = rw c.in_default.ensures (rw c.as_slice.ensures.value 
 
 pub returns-in-Err : goal.returns-in-Err
 returns-in-Err g t c =
-    rw (c.in-Some.ensures, c.from.ensures) (course_unfetched plain program c.in-Some.name.now object_limit (λ bytes. fetching c.args.turns.now (all_bytes c.args.got.now.items ++ bytes ∷ []) (texts c.in-Some.rest.now))
+    rw (c.in-Some.ensures, c.from.ensures) (course_unfetched plain program c.in-Some.name.now object_limit
+    (λ bytes. fetching c.args.turns.now (all_bytes c.args.got.now.items ++ bytes ∷ []) (texts c.in-Some.rest.now))
     c.in-Err.fault _ _ _ _ (c.in-Err.ensures.same, c.in-Err.ensures.store_count) c.in-Err.ensures.answer)
 
 pub returns-else-is_err : goal.returns-else-is_err

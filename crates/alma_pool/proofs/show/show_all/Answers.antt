@@ -10,7 +10,8 @@ pub returns-in_err-show_one-clause-front : goal.returns-in_err-show_one-clause-f
 returns-in_err-show_one-clause-front g c =
     let within : c.loop-k.k < length c.args.pool.now.programs = omega (arith, c.loop-k-test.true, c.count-k-end.ensures) in
     let p = err_from_is_err_and c.from_residual.result c.from_residual.ensures.1 in
-    rw p.1 (front_after _ _ _ _ _ _ _ (shown_here c.args.pool.now.programs c.loop-k.k within) c.loop-k.invariant.out c.in_err-show_one.ensures.front)
+    rw p.1 (front_after _ _ _ _ _ _ _ (shown_here c.args.pool.now.programs c.loop-k.k within) c.loop-k.invariant.out
+    c.in_err-show_one.ensures.front)
 
 pub loop-k-preserved : goal.loop-k-preserved
 loop-k-preserved g c =

@@ -15,7 +15,11 @@ pub overflow_sub-letter : goal.overflow_sub-letter
 overflow_sub-letter c = (letter_fits (length c.args.pool.now.programs) c.args.byte c.requires.good c.if-byte-eq10.false).0
 
 pub turn-requires-clause-there : goal.turn-requires-clause-there
-turn-requires-clause-there c = omega (arith, c.from.ensures, (letter_fits (length c.args.pool.now.programs) c.args.byte c.requires.good c.if-byte-eq10.false).1)
+turn-requires-clause-there c = omega (
+  arith,
+  c.from.ensures,
+  (letter_fits (length c.args.pool.now.programs) c.args.byte c.requires.good c.if-byte-eq10.false).1,
+)
 
 pub turn-requires-clause-few : goal.turn-requires-clause-few
 turn-requires-clause-few c =

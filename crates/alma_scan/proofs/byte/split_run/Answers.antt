@@ -6,5 +6,6 @@ use Rattle.alma_scan.proofs.byte.split_run.Goals as goal
 pub loop-count-preserved : goal.loop-count-preserved
 loop-count-preserved c = record {
   within = omega arith;
-  front = rw (add-one c.loop-count.count) (all_in_more (in_class c.args.class) c.args.bytes.now c.loop-count.count c.loop-count-test.true c.loop-count.invariant.front (cc (c.is_in.ensures, c.if-is_in.true)));
+  front = rw (add-one c.loop-count.count) (all_in_more (in_class c.args.class) c.args.bytes.now c.loop-count.count c.loop-count-test.true
+      c.loop-count.invariant.front (cc (c.is_in.ensures, c.if-is_in.true)));
 }

@@ -9,4 +9,5 @@ use Rattle.alma_scan.proofs.front.symbol_front.Goals as goal
 pub returns : goal.returns
 returns c =
     subst (λ (r : Result Front LexFault). IsFront c.args.bytes.now r) (sym c.ok_or.ensures.value)
-    (last_symbol c.args.bytes.now c.symbol_of-2.result c.symbol_of-2.ensures c.requires.other c.requires.gap_end.no_blank c.in_default.ensures c.in_default-symbol_of.ensures)
+    (last_symbol c.args.bytes.now c.symbol_of-2.result c.symbol_of-2.ensures c.requires.other c.requires.gap_end.no_blank
+    c.in_default.ensures c.in_default-symbol_of.ensures)

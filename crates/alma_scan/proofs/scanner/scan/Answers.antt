@@ -13,7 +13,8 @@ loop-token-smaller c = token_shorter _ _ _ _ (rw c.in-Ok-Some.field-0-is at c.in
 pub loop-token-preserved : goal.loop-token-preserved
 loop-token-preserved c =
     let at_size = rw c.in-Ok-Some.field-0-is at c.in-Ok-Some.ensures.token in
-    let whole = subst (λ (n : ℕ). HasToken n c.loop-token.scanner.bytes (lexeme c.in-Ok-Some.token) c.next.new.self.bytes) c.loop-token.invariant.size at_size in
+    let whole = subst (λ (n : ℕ). HasToken n c.loop-token.scanner.bytes (lexeme c.in-Ok-Some.token) c.next.new.self.bytes)
+    c.loop-token.invariant.size at_size in
     record {
       size = c.in-Ok-Some.ensures.size ∙ c.loop-token.invariant.size;
       found = found_push _ _ _ _ _ _ _ c.in_ok-push-in-Ok-Some.ensures.items c.loop-token.invariant.found whole;
@@ -26,7 +27,8 @@ returns-in-Ok-None-clause-tokens c =
 
 pub returns-in-Err-clause-fault : goal.returns-in-Err-clause-fault
 returns-in-Err-clause-fault c =
-    let fault = subst (λ (n : ℕ). HasFault n c.loop-token.scanner.bytes [] c.in-Err.stop.fault c.in-Err.stop.at) c.loop-token.invariant.size c.in-Err.ensures.fault in
+    let fault = subst (λ (n : ℕ). HasFault n c.loop-token.scanner.bytes [] c.in-Err.stop.fault c.in-Err.stop.at) c.loop-token.invariant.size
+    c.in-Err.ensures.fault in
     (lexemes c.loop-token.tokens.items, found_fault _ _ _ _ _ _ c.loop-token.invariant.found fault)
 
 pub returns-in-Ok-None-clause-slices : goal.returns-in-Ok-None-clause-slices

@@ -23,9 +23,11 @@ push_decl-returns-in_ok-push-in-Procedure-5 t c =
           ∙ c.in_ok-push_block-in-Procedure.ensures.pushed (kinds.End ∷ (kinds.Name ∷ (kinds.Semicolon ∷ rest)))
           ∙ c.in_ok-push-in-Procedure-3.ensures.pushed (spells.spell_block (view.view_block c.in-Procedure.block) (kinds.End ∷ (kinds.Name ∷
           (kinds.Semicolon ∷ rest))))
-          ∙ c.in_ok-push_result-in-Procedure.ensures.pushed (kinds.Semicolon ∷ (spells.spell_block (view.view_block c.in-Procedure.block) (kinds.End
+          ∙ c.in_ok-push_result-in-Procedure.ensures.pushed
+          (kinds.Semicolon ∷ (spells.spell_block (view.view_block c.in-Procedure.block) (kinds.End
           ∷ (kinds.Name ∷ (kinds.Semicolon ∷ rest)))))
-          ∙ c.in_ok-push_params-in-Procedure.ensures.pushed (spells.spell_result_name (view.result_of c.in-Procedure.result) (kinds.Semicolon ∷
+          ∙ c.in_ok-push_params-in-Procedure.ensures.pushed
+          (spells.spell_result_name (view.result_of c.in-Procedure.result) (kinds.Semicolon ∷
           (spells.spell_block (view.view_block c.in-Procedure.block) (kinds.End ∷ (kinds.Name ∷ (kinds.Semicolon ∷ rest))))))
           ∙ c.in_ok-push-in-Procedure-2.ensures.pushed (spells.spell_params (view.params_of c.in-Procedure.params) (spells.spell_result_name
           (view.result_of c.in-Procedure.result) (kinds.Semicolon ∷ (spells.spell_block (view.view_block c.in-Procedure.block) (kinds.End ∷

@@ -157,19 +157,23 @@ decreases-put_selector l = 3 * goal.size-put_selector l
 
 abbrev pub invariant-put_stmt_tail-loop-tree : goal.invariant-put_stmt_tail-loop-tree
 invariant-put_stmt_tail-loop-tree l =
-    Rests l.fn.out l.out (spells.spell_stmt_tail (view.stmts_of l.trees)) (spells.spell_stmt_tail (view.stmts_of (drop l.tree-index l.trees)))
+    Rests l.fn.out l.out (spells.spell_stmt_tail (view.stmts_of l.trees))
+    (spells.spell_stmt_tail (view.stmts_of (drop l.tree-index l.trees)))
 
 abbrev pub invariant-put_elsif_tail-loop-tree : goal.invariant-put_elsif_tail-loop-tree
 invariant-put_elsif_tail-loop-tree l =
-    Rests l.fn.out l.out (spells.spell_elsif_tail (view.elsifs_of l.trees)) (spells.spell_elsif_tail (view.elsifs_of (drop l.tree-index l.trees)))
+    Rests l.fn.out l.out (spells.spell_elsif_tail (view.elsifs_of l.trees))
+    (spells.spell_elsif_tail (view.elsifs_of (drop l.tree-index l.trees)))
 
 abbrev pub invariant-put_orelse_tail-loop-tree : goal.invariant-put_orelse_tail-loop-tree
 invariant-put_orelse_tail-loop-tree l =
-    Rests l.fn.out l.out (spells.spell_orelse_tail (view.orelses_of l.trees)) (spells.spell_orelse_tail (view.orelses_of (drop l.tree-index l.trees)))
+    Rests l.fn.out l.out (spells.spell_orelse_tail (view.orelses_of l.trees))
+    (spells.spell_orelse_tail (view.orelses_of (drop l.tree-index l.trees)))
 
 abbrev pub invariant-put_desig_tail-loop-tree : goal.invariant-put_desig_tail-loop-tree
 invariant-put_desig_tail-loop-tree l =
-    Rests l.fn.out l.out (spells.spell_desig_tail (view.desigs_of l.trees)) (spells.spell_desig_tail (view.desigs_of (drop l.tree-index l.trees)))
+    Rests l.fn.out l.out (spells.spell_desig_tail (view.desigs_of l.trees))
+    (spells.spell_desig_tail (view.desigs_of (drop l.tree-index l.trees)))
 
 abbrev pub invariant-put_arm_tail-loop-tree : goal.invariant-put_arm_tail-loop-tree
 invariant-put_arm_tail-loop-tree l =
@@ -177,20 +181,25 @@ invariant-put_arm_tail-loop-tree l =
 
 abbrev pub invariant-put_label_tail-loop-tree : goal.invariant-put_label_tail-loop-tree
 invariant-put_label_tail-loop-tree l =
-    Rests l.fn.out l.out (spells.spell_label_tail (view.labels_of l.trees)) (spells.spell_label_tail (view.labels_of (drop l.tree-index l.trees)))
+    Rests l.fn.out l.out (spells.spell_label_tail (view.labels_of l.trees))
+    (spells.spell_label_tail (view.labels_of (drop l.tree-index l.trees)))
 
 abbrev pub invariant-put_term_tail-loop-tree : goal.invariant-put_term_tail-loop-tree
 invariant-put_term_tail-loop-tree l =
-    Rests l.fn.out l.out (spells.spell_term_tail (view.terms_of l.trees)) (spells.spell_term_tail (view.terms_of (drop l.tree-index l.trees)))
+    Rests l.fn.out l.out (spells.spell_term_tail (view.terms_of l.trees))
+    (spells.spell_term_tail (view.terms_of (drop l.tree-index l.trees)))
 
 abbrev pub invariant-put_factor_tail-loop-tree : goal.invariant-put_factor_tail-loop-tree
 invariant-put_factor_tail-loop-tree l =
-    Rests l.fn.out l.out (spells.spell_factor_tail (view.factors_of l.trees)) (spells.spell_factor_tail (view.factors_of (drop l.tree-index l.trees)))
+    Rests l.fn.out l.out (spells.spell_factor_tail (view.factors_of l.trees))
+    (spells.spell_factor_tail (view.factors_of (drop l.tree-index l.trees)))
 
 abbrev pub invariant-put_expr_tail-loop-tree : goal.invariant-put_expr_tail-loop-tree
 invariant-put_expr_tail-loop-tree l =
-    Rests l.fn.out l.out (spells.spell_expr_tail (view.exprs_of l.trees)) (spells.spell_expr_tail (view.exprs_of (drop l.tree-index l.trees)))
+    Rests l.fn.out l.out (spells.spell_expr_tail (view.exprs_of l.trees))
+    (spells.spell_expr_tail (view.exprs_of (drop l.tree-index l.trees)))
 
 abbrev pub invariant-put_selector_tail-loop-tree : goal.invariant-put_selector_tail-loop-tree
 invariant-put_selector_tail-loop-tree l =
-    Rests l.fn.out l.out (spells.spell_selector_tail (view.selectors_of l.trees)) (spells.spell_selector_tail (view.selectors_of (drop l.tree-index l.trees)))
+    Rests l.fn.out l.out (spells.spell_selector_tail (view.selectors_of l.trees))
+    (spells.spell_selector_tail (view.selectors_of (drop l.tree-index l.trees)))

@@ -16,5 +16,6 @@ invariant-push_plain_tail-loop-tree l =
 
 abbrev pub invariant-push_field_list_tail-loop-tree : goal.invariant-push_field_list_tail-loop-tree
 invariant-push_field_list_tail-loop-tree l =
-    (rest : List Kind) → l.out.items ++ spells.spell_field_list_tail (view.field_lists_of (drop l.tree-index l.trees)) rest ≡ l.fn.out.items ++
+    (rest : List Kind) → l.out.items ++ spells.spell_field_list_tail (view.field_lists_of (drop l.tree-index l.trees)) rest ≡ l.fn.out.items
+    ++
     spells.spell_field_list_tail (view.field_lists_of l.trees) rest

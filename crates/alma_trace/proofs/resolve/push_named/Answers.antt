@@ -14,7 +14,8 @@ push_value-requires-clause-within g c =
     let code = code_of_view c.args.view.now in
     let slots = main_slots (g.M.MachineMemory.picture c.args.memory.now).now in
     subst (λ (at : Option (ℕ × ℕ)). MatchOption at (Unit {0}) (λ place. 0 < place.1 → place.0 + place.1 ≤ slots)) (sym c.place_of.ensures)
-    (subst (λ (n : ℕ). MatchOption (place_of_name code.globals c.args.name.now) (Unit {0}) (λ place. 0 < place.1 → place.0 + place.1 ≤ n)) (sym c.requires.slots)
+    (subst (λ (n : ℕ). MatchOption (place_of_name code.globals c.args.name.now) (Unit {0}) (λ place. 0 < place.1 → place.0 + place.1 ≤ n))
+    (sym c.requires.slots)
     (place_within code code.globals c.args.name.now (globals_sound code c.requires.sound)))
 
 pub push_value-requires-clause-few : goal.push_value-requires-clause-few

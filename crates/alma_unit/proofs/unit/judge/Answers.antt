@@ -18,4 +18,5 @@ returns-in-Err-Refused-clause-answer c =
     let stop = c.in-Err-Refused in
     let there : c.place.result ≡ place_of c.args.source.now stop.offset =
     λ i. record { line = (rw stop.offset-is at c.place.ensures.line) i; column = (rw stop.offset-is at c.place.ensures.column) i } in
-    rw (c.of_fault.ensures, stop.fault-is) (unit_refused c.args.source.now stop.fault stop.offset c.place.result (rw stop.field-0-is at stop.ensures.refused) there)
+    rw (c.of_fault.ensures, stop.fault-is) (unit_refused c.args.source.now stop.fault stop.offset c.place.result
+    (rw stop.field-0-is at stop.ensures.refused) there)

@@ -19,7 +19,8 @@ returns-then-not-fits_one g c =
     let no : c.fits_one.result ≡ false = cc in
     let test : (nat_lt 0 (r + slot) && takes p.kind p.cells (slice_get kinds slot)) ≡ false =
     sym (ap (λ o. nat_lt 0 (r + slot) && takes p.kind p.cells o) kind) ∙ (sym c.fits_one.ensures ∙ no) in
-    sym (c.loop-k.invariant.rest ∙ slots_more r kinds ps k c.args.first p c.param.ensures ∙ ap (λ b. b && fit_slots r kinds (drop (k + 1) ps) (c.args.first + (k + 1))) test)
+    sym (c.loop-k.invariant.rest ∙ slots_more r kinds ps k c.args.first p c.param.ensures
+    ∙ ap (λ b. b && fit_slots r kinds (drop (k + 1) ps) (c.args.first + (k + 1))) test)
 
 pub loop-k-preserved : goal.loop-k-preserved
 loop-k-preserved g c =
@@ -34,6 +35,7 @@ loop-k-preserved g c =
     let test : (nat_lt 0 (r + slot) && takes p.kind p.cells (slice_get kinds slot)) ≡ true =
     sym (ap (λ o. nat_lt 0 (r + slot) && takes p.kind p.cells o) kind) ∙ (sym c.fits_one.ensures ∙ yes) in
     record {
-      rest = c.loop-k.invariant.rest ∙ slots_more r kinds ps k c.args.first p c.param.ensures ∙ ap (λ b. b && fit_slots r kinds (drop (k + 1) ps) (c.args.first + (k + 1))) test;
+      rest = c.loop-k.invariant.rest ∙ slots_more r kinds ps k c.args.first p c.param.ensures
+          ∙ ap (λ b. b && fit_slots r kinds (drop (k + 1) ps) (c.args.first + (k + 1))) test;
       passes = c.next_passed-passed.ensures;
     }

@@ -14,7 +14,8 @@ pub returns-then-next-end : goal.returns-then-next-end
 returns-then-next-end g c =
     let runs : List Run = (g.H.Head.head c.args.head.now).runs in
     let e = ap (λ (r : Run). r.end) (read_is runs c.args.passed c.run.result c.run.ensures) in
-    passes_same runs (c.args.first + c.args.k) (c.args.first + (c.args.k + 1)) c.args.passed c.requires.passes (omega arith) (omega (arith, e))
+    passes_same runs (c.args.first + c.args.k) (c.args.first + (c.args.k + 1)) c.args.passed c.requires.passes (omega arith)
+    (omega (arith, e))
 
 pub returns : goal.returns
 returns g c =
@@ -22,4 +23,5 @@ returns g c =
     let e = ap (λ (r : Run). r.end) (read_is runs c.args.passed c.run.result c.run.ensures) in
     let lt : c.args.passed < length runs = omega arith in
     let under : c.args.first + c.args.k < (get_or runs c.args.passed no_run).end = c.requires.passes.behind lt in
-    passes_more runs (c.args.first + (c.args.k + 1)) c.args.passed (c.args.passed + 1) c.requires.rise lt (omega (arith, e, under)) (omega arith)
+    passes_more runs (c.args.first + (c.args.k + 1)) c.args.passed (c.args.passed + 1) c.requires.rise lt (omega (arith, e, under))
+    (omega arith)

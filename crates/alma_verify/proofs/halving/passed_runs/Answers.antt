@@ -46,7 +46,8 @@ halve-preserved g c =
     let e = read_is runs i c.run.result c.run.ensures in
     let n : suc i ≡ i + 1 = omega arith in
     let b : begin_from 0 runs (suc i) ≡ (get_or runs i no_run).end = begin_next 0 runs i lt in
-    let from : begin_from 0 runs (i + 1) ≤ c.args.slot = subst (λ k. begin_from 0 runs k ≤ c.args.slot) n (omega (arith, ap (λ (r : Run). r.end) e)) in
+    let from : begin_from 0 runs (i + 1) ≤ c.args.slot =
+    subst (λ k. begin_from 0 runs k ≤ c.args.slot) n (omega (arith, ap (λ (r : Run). r.end) e)) in
     record { order = omega arith; top = omega arith; count = c.halve.invariant.count; from = from; below = c.halve.invariant.below }
 
 pub returns : goal.returns

@@ -8,6 +8,7 @@ invariant-loop-k g l =
     record {
       rest :
           hold_params (kinds_at (g.R.CodeReader.code l.reader) l.routine) (head_at (g.R.CodeReader.code l.reader) l.routine).params 0
-          ≡ hold_params (kinds_at (g.R.CodeReader.code l.reader) l.routine) (drop l.k (head_at (g.R.CodeReader.code l.reader) l.routine).params) l.slot;
+          ≡ hold_params (kinds_at (g.R.CodeReader.code l.reader) l.routine)
+          (drop l.k (head_at (g.R.CodeReader.code l.reader) l.routine).params) l.slot;
       room : l.slot ≤ l.k * 4294967296;
     }

@@ -6,4 +6,5 @@ use Rattle.alma_code.specs.Rules.{names_routine}
 use Rattle.alma_verify.proofs.heads.name_routines.Given as goal
 
 abbrev pub invariant-loop-k : goal.invariant-loop-k
-invariant-loop-k g l = list_all (λ run. names_routine (g.R.CodeReader.code l.reader) run.kind) (take l.k (head_at (g.R.CodeReader.code l.reader) l.routine).runs) ≡ true
+invariant-loop-k g l = list_all (λ run. names_routine (g.R.CodeReader.code l.reader) run.kind)
+    (take l.k (head_at (g.R.CodeReader.code l.reader) l.routine).runs) ≡ true

@@ -22,5 +22,6 @@ walk-preserved g c =
     let b : at + (next - at) ≡ next = omega (arith, cover.within) in
     record {
       end = omega (arith, c.walk.invariant.end);
-      rest = c.walk.invariant.rest ∙ skip ∙ ap (λ m. numbers_from m kinds (at + (next - at))) a ∙ ap (λ i. numbers_from (end - next) kinds i) b;
+      rest = c.walk.invariant.rest ∙ skip ∙ ap (λ m. numbers_from m kinds (at + (next - at))) a
+          ∙ ap (λ i. numbers_from (end - next) kinds i) b;
     }

@@ -6,8 +6,10 @@ returns-in-None-clause-seen c = seen_none c.args.name.now c.args.at c.self.insid
 
 pub returns-then-declaration-at-clause-seen : goal.returns-then-declaration-at-clause-seen
 returns-then-declaration-at-clause-seen c =
-    seen_some c.args.name.now c.args.at c.self.inside.names.entries _ c.self.view_is _ _ _ c.in-Some.ensures.index c.in-Some.ensures.entry c.if-declaration-at.true
+    seen_some c.args.name.now c.args.at c.self.inside.names.entries _ c.self.view_is _ _ _ c.in-Some.ensures.index c.in-Some.ensures.entry
+    c.if-declaration-at.true
 
 pub returns-else-declaration-at-clause-seen : goal.returns-else-declaration-at-clause-seen
 returns-else-declaration-at-clause-seen c =
-    seen_later c.args.name.now c.args.at c.self.inside.names.entries _ c.self.view_is _ _ _ c.in-Some.ensures.index c.in-Some.ensures.entry c.if-declaration-at.false
+    seen_later c.args.name.now c.args.at c.self.inside.names.entries _ c.self.view_is _ _ _ c.in-Some.ensures.index c.in-Some.ensures.entry
+    c.if-declaration-at.false

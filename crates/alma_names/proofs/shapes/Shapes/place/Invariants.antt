@@ -8,6 +8,7 @@ invariant-loop-field l = record {
   rest : drop l.field-index l.fields ≡ drop l.field-index l.initial.fields;
   len : length l.fields ≡ length l.initial.fields;
   sum : l.offset ≡ sum_of_cells (cell_counts l.self) (fields_of (take l.field-index l.initial.fields));
-  left : l.offset + sum_of_cells (cell_counts l.self) (fields_of (drop l.field-index l.initial.fields)) ≡ sum_of_cells (cell_counts l.self) (fields_of l.initial.fields);
+  left : l.offset + sum_of_cells (cell_counts l.self) (fields_of (drop l.field-index l.initial.fields)) ≡ sum_of_cells (cell_counts l.self)
+      (fields_of l.initial.fields);
   below : AllBelow (length l.self) (fields_of (drop l.field-index l.initial.fields));
 }

@@ -7,5 +7,10 @@ use Rattle.alma_pool.proofs.pool.Pool.add.Goals as goal
 
 pub invariant_of-self-2 : goal.invariant_of-self-2
 invariant_of-self-2 c =
-    rw c.in_ok-push.ensures.items (λ whole. All-push (λ (q : Player). IsReady q.machine q.end) c.self.inside.players.items _ (c.self.invariant whole)
-    (record { end_is = sym (ap (λ m. ended_in m.state.mode) c.in_ok-machine.ensures); running = λ _. ap (λ m. m.running) c.in_ok-machine.ensures }))
+    rw c.in_ok-push.ensures.items (λ whole. All-push (λ (q : Player). IsReady q.machine q.end) c.self.inside.players.items _
+    (c.self.invariant whole)
+    (record {
+      end_is = sym (ap (λ m. ended_in m.state.mode) c.in_ok-machine.ensures);
+      running =
+          λ _. ap (λ m. m.running) c.in_ok-machine.ensures;
+    }))
