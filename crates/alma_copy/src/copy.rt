@@ -59,7 +59,8 @@ pub fn copy_global(
     global: &Variable,
     moves: &Moves<'_>,
 ) -> Result<Variable, NoMemory>
-    ensures copy { IfOk result (λ g. global_of g ≡ moved_global (moves_of moves.now) (global_of global.now)) }
+    ensures copy { IfOk result (λ g. global_of g
+        ≡ moved_global (moves_of moves.now) (global_of global.now)) }
 {
     let slot = copy_slot(global.slot, moves.global)?;
     Ok(Variable {
@@ -76,7 +77,8 @@ pub fn copy_routine(
     routine: &Routine,
     moves: &Moves<'_>,
 ) -> Result<Routine, NoMemory>
-    ensures copy { IfOk result (λ r. routine_of r ≡ moved_routine (moves_of moves.now) (routine_of routine.now)) }
+    ensures copy { IfOk result (λ r. routine_of r
+        ≡ moved_routine (moves_of moves.now) (routine_of routine.now)) }
 {
     Ok(Routine {
         name: routine.name.to_vec(alloc)?,
@@ -96,7 +98,8 @@ pub fn copy_routine(
 /// not so within the limits of a program.
 #[cycle(copy)]
 pub fn copy_stmts(alloc: Global, body: &[Stmt], moves: &Moves<'_>) -> Result<Vec<Stmt>, NoMemory>
-    ensures { IfOk result (λ v. stmts_list v.items ≡ moved_stmts (moves_of moves.now) (stmts_list body.now)) }
+    ensures { IfOk result (λ v. stmts_list v.items
+        ≡ moved_stmts (moves_of moves.now) (stmts_list body.now)) }
 {
     let mut copy = Vec::with_capacity(alloc, body.len())?;
     for stmt in body {
@@ -168,7 +171,8 @@ fn copy_stmt(alloc: Global, stmt: &Stmt, moves: &Moves<'_>) -> Result<Stmt, NoMe
 
 #[cycle(copy)]
 fn copy_arms(alloc: Global, arms: &[Arm], moves: &Moves<'_>) -> Result<Vec<Arm>, NoMemory>
-    ensures { IfOk result (λ v. arms_list v.items ≡ moved_arms (moves_of moves.now) (arms_list arms.now)) }
+    ensures { IfOk result (λ v. arms_list v.items
+        ≡ moved_arms (moves_of moves.now) (arms_list arms.now)) }
 {
     let mut copy = Vec::with_capacity(alloc, arms.len())?;
     for arm in arms {
@@ -181,7 +185,8 @@ fn copy_arms(alloc: Global, arms: &[Arm], moves: &Moves<'_>) -> Result<Vec<Arm>,
 
 #[cycle(copy)]
 fn copy_cases(alloc: Global, arms: &[CaseArm], moves: &Moves<'_>) -> Result<Vec<CaseArm>, NoMemory>
-    ensures { IfOk result (λ v. cases_list v.items ≡ moved_cases (moves_of moves.now) (cases_list arms.now)) }
+    ensures { IfOk result (λ v. cases_list v.items
+        ≡ moved_cases (moves_of moves.now) (cases_list arms.now)) }
 {
     let mut copy = Vec::with_capacity(alloc, arms.len())?;
     for arm in arms {
@@ -198,7 +203,8 @@ fn copy_branches(
     branches: &[Branch],
     moves: &Moves<'_>,
 ) -> Result<Vec<Branch>, NoMemory>
-    ensures { IfOk result (λ v. branches_list v.items ≡ moved_branches (moves_of moves.now) (branches_list branches.now)) }
+    ensures { IfOk result (λ v. branches_list v.items
+        ≡ moved_branches (moves_of moves.now) (branches_list branches.now)) }
 {
     let mut copy = Vec::with_capacity(alloc, branches.len())?;
     for branch in branches {
@@ -233,7 +239,8 @@ fn copy_loop(alloc: Global, each: &Loop, moves: &Moves<'_>) -> Result<Loop, NoMe
 
 #[cycle(copy)]
 fn copy_tests(alloc: Global, tests: &[Test], moves: &Moves<'_>) -> Result<Vec<Test>, NoMemory>
-    ensures { IfOk result (λ v. tests_list v.items ≡ moved_tests (moves_of moves.now) (tests_list tests.now)) }
+    ensures { IfOk result (λ v. tests_list v.items
+        ≡ moved_tests (moves_of moves.now) (tests_list tests.now)) }
 {
     let mut copy = Vec::with_capacity(alloc, tests.len())?;
     for test in tests {
@@ -306,7 +313,8 @@ fn copy_expr(alloc: Global, expr: &Expr, moves: &Moves<'_>) -> Result<Expr, NoMe
 
 #[cycle(copy)]
 fn copy_links(alloc: Global, links: &[Link], moves: &Moves<'_>) -> Result<Vec<Link>, NoMemory>
-    ensures { IfOk result (λ v. links_list v.items ≡ moved_links (moves_of moves.now) (links_list links.now)) }
+    ensures { IfOk result (λ v. links_list v.items
+        ≡ moved_links (moves_of moves.now) (links_list links.now)) }
 {
     let mut copy = Vec::with_capacity(alloc, links.len())?;
     for link in links {
@@ -321,7 +329,8 @@ fn copy_links(alloc: Global, links: &[Link], moves: &Moves<'_>) -> Result<Vec<Li
 
 #[cycle(copy)]
 fn copy_args(alloc: Global, args: &[Arg], moves: &Moves<'_>) -> Result<Vec<Arg>, NoMemory>
-    ensures { IfOk result (λ v. args_list v.items ≡ moved_args (moves_of moves.now) (args_list args.now)) }
+    ensures { IfOk result (λ v. args_list v.items
+        ≡ moved_args (moves_of moves.now) (args_list args.now)) }
 {
     let mut copy = Vec::with_capacity(alloc, args.len())?;
     for arg in args {
@@ -345,7 +354,8 @@ fn copy_arg(alloc: Global, arg: &Arg, moves: &Moves<'_>) -> Result<Arg, NoMemory
 
 #[cycle(copy)]
 fn copy_desig(alloc: Global, desig: &Desig, moves: &Moves<'_>) -> Result<Desig, NoMemory>
-    ensures { IfOk result (λ x. desig_of x ≡ moved_desig (moves_of moves.now) (desig_of desig.now)) }
+    ensures { IfOk result (λ x. desig_of x
+        ≡ moved_desig (moves_of moves.now) (desig_of desig.now)) }
 {
     let root = copy_root(desig.root, moves)?;
     let mut sels = Vec::with_capacity(alloc, desig.sels.len())?;

@@ -25,7 +25,8 @@ pub fn expr_of<'t, 's>(
     left: Simple,
     right: Result<((Option<Box<Compared>>, u32), Cursor<'t, 's>), Fault<'t, 's>>,
 ) -> Result<(Expr, Cursor<'t, 's>), Fault<'t, 's>>
-    ensures made { result ≡ made (λ v. de.roll-Expr (record { node = v.1; left = left; right = v.0 })) right.entry }
+    ensures made { result ≡ made (λ v. de.roll-Expr
+        (record { node = v.1; left = left; right = v.0 })) right.entry }
 {
     let ((right, node), at) = right?;
     Ok((Expr { node, left, right }, at))
@@ -73,7 +74,8 @@ pub fn add_link<'t, 's>(
     operator: AddOperator,
     operand: Result<(Term, Cursor<'t, 's>), Fault<'t, 's>>,
 ) -> Result<(AddLink, Cursor<'t, 's>), Fault<'t, 's>>
-    ensures made { result ≡ made (λ v. dk.roll-AddLink (record { operator = operator; operand = v })) operand.entry }
+    ensures made { result ≡ made (λ v. dk.roll-AddLink
+        (record { operator = operator; operand = v })) operand.entry }
 {
     let (operand, at) = operand?;
     Ok((AddLink { operator, operand }, at))
@@ -84,7 +86,8 @@ pub fn term_of<'t, 's>(
     first: Factor,
     more: Result<((Vec<MulLink>, u32), Cursor<'t, 's>), Fault<'t, 's>>,
 ) -> Result<(Term, Cursor<'t, 's>), Fault<'t, 's>>
-    ensures made { result ≡ made (λ v. dm.roll-Term (record { node = v.1; first = first; more = v.0 })) more.entry }
+    ensures made { result ≡ made (λ v. dm.roll-Term
+        (record { node = v.1; first = first; more = v.0 })) more.entry }
 {
     let ((more, node), at) = more?;
     Ok((Term { node, first, more }, at))
@@ -197,7 +200,8 @@ pub fn expressions_of<'t, 's>(
     first: Box<Expr>,
     more: Result<(Vec<Expr>, Cursor<'t, 's>), Fault<'t, 's>>,
 ) -> Result<(Exprs, Cursor<'t, 's>), Fault<'t, 's>>
-    ensures made { result ≡ made (λ v. dx.roll-Exprs (record { first = first; more = v })) more.entry }
+    ensures made { result ≡ made (λ v. dx.roll-Exprs
+        (record { first = first; more = v })) more.entry }
 {
     let (more, at) = more?;
     Ok((Exprs { first, more }, at))
