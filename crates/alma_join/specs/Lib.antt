@@ -3,3 +3,5 @@ pub mod Directory
 pub mod Fault
 pub mod Numbers
 pub mod Parts
+pub mod Texts
+pub mod Totals

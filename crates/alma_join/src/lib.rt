@@ -8,6 +8,9 @@ mod head;
 mod import;
 mod part;
 mod program;
+mod size;
+mod texts;
 
 pub use error::JoinError;
 pub use program::join;
+pub use size::first_too_large;

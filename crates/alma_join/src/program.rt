@@ -10,10 +10,10 @@ use crate::directory::following;
 use crate::error::JoinError;
 use crate::import::number_all;
 use crate::part::{Parts, parts_of};
+use crate::size::first_too_large;
 use alma_base::NoMemory;
 use alma_ir::{Program, Routine};
-use alma_join_size::first_too_large;
-use alma_joined_checked::laws::joined_is_checked;
+use alma_joined::laws::joined_is_checked;
 use std::alloc::Global;
 
 // The program with the name of a module and the head of its body.

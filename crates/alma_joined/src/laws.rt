@@ -1,5 +1,5 @@
 // The laws of joined programs, each as the contract of a function that does nothing.
-ghost use Rattle.alma_joined.specs.Joined.{AloneIsItself};
+ghost use Rattle.alma_joined.specs.Joined.{AloneIsItself, JoinedIsChecked};
 ghost use Rattle.alma_joined.specs.Worked.{JoinsWork};
 
 /// What small modules give that are joined.
@@ -12,4 +12,9 @@ pub fn joins_work()
 #[tactic(auto, using(crate::proofs::Alone::alone_is_itself))]
 pub fn alone_is_itself()
     ensures { AloneIsItself }
+{}
+
+/// Checked modules that join with no fault are a checked program.
+pub fn joined_is_checked()
+    ensures { JoinedIsChecked }
 {}

@@ -1,9 +1,0 @@
-mod Moving
-mod Forms
-mod KeptLists
-mod Places
-mod Slots
-mod Imports
-mod Calls
-mod Limits
-mod JoinedChecked
