@@ -153,7 +153,7 @@ formals_ordered t (f ∷ fs) (q ∷ qs) h = (h.0.ordered, formals_ordered t fs q
 head_simple : (s : Scene) (r n : ℕ) (params : Option tree.Params) (result : Option tree.Name) (b : tree.Block) → HeadThere s r params result b → HeadPlain s r params result b
     → ReturnsSimple (read_heading s r n params result b).frame.scene (returns_of (read_formals (first_frame s r params b) (formals_of params)).scene result)
 head_simple s r n params None b there plain = tt
-head_simple s r n params (Some name) b there plain = by (read_type_name (read_formals (first_frame s r params b) (formals_of params)).scene name).value there.result_there plain
+head_simple s r n params (Some name) b there plain = by (read_type_name (read_formals (first_frame s r params b) (formals_of params)).scene name).value there.result_there plain.simple
   where
     same : (read_heading s r n params (Some name) b).frame.scene.shapes ≡ (read_formals (first_frame s r params b) (formals_of params)).scene.shapes
     same =
@@ -230,7 +230,7 @@ mutual
         params = omega (arith, ap (λ qs. sum_by param_slots qs) own_params, frame.params, rise, ended.0);
         position = λ i. let some : 0 < f.slots = frame.position i in omega (arith, some, rise, ended.0);
         body = subst (λ m. Laid (place p ends k) false m (judge_body (read_decls f r decls) body).next (stmts_phrases v.second)) (sym ended.0) laid;
-        cells = decls_small f r decls quiet few;
+        cells = decls_small f r decls few;
         heads = record {
           params = subst (λ qs. AllByRecursion (λ q. IsOrdered q.range) qs) own_params ordered;
           result = result_ordered own (read_decls f r decls).scene (read_decls f r decls).scene.returns keep.frame.scene.table refl;
@@ -291,7 +291,7 @@ mutual
         outer = (procs q i).outer ∙ sym (owner_self (inner (place p ends k) r) (suc c));
         level = (all.routines q (procs q i).exists).nested.above (procs q i).some ∙ (ap (λ j. suc (routine_at p j).level) (procs q i).outer ∙ ap suc level);
       } in
-      let frame = head_frame (place p ends k) c r n s params result b outer keep proc_keeps own.params keeps.params.laid_out up (ends_first ends f (r + 1) r b ended) in
+      let frame = head_frame (place p ends k) c r n s params result b outer keep proc_keeps (plain u long).paired own.params keeps.params.laid_out up (ends_first ends f (r + 1) r b ended) in
       let simple : ReturnsSimple f.scene f.scene.returns = subst (λ y. ReturnsSimple f.scene y) (sym (head_returns s r n params result b)) (head_simple s r n params result b there (plain u long)) in
       let head = heading_some (get_or t.headings r None) (read r refl) in
       let few : f.declared ≤ cell_limit = omega (arith, head_cells s r n params result b, ap (λ qs. sum_by cells_declared qs) own.params, (keep.heads r head.0 head.1).small) in

@@ -127,7 +127,7 @@ head_onward k c f t lo r n params result b h room outer long before there given 
         record {
           formals = subst (λ qs. FormalsKeep f.scene.shapes x.formals qs) (sym (given.params_given ∙ late)) m.formals;
           result = result_keeps f.scene.shapes result x.result (routine_at k.program r) m.result_made given.result_given;
-          small = subst (λ qs. sum_by cells_declared qs ≤ cell_limit) (sym (given.params_given ∙ late)) (head_small f.scene r n params result b x e);
+          small = subst (λ qs. sum_by cells_declared qs ≤ cell_limit) (sym (given.params_given ∙ late)) (head_small f.scene r n params result b);
         }
 
 -- ---- all declarations
@@ -153,7 +153,7 @@ decl_keeps : (k : Place) (c : ℕ) (f : Frame) (t : Scene) (r : ℕ) (d : tree.D
 unfolding DeclsStand decls_routines
 decl_keeps k c f t r (tree.const_decl n xs) rest e h stand room le frame given more same = record { frame = consts_keep k c f xs frame; plain = tt }
 decl_keeps k c f t r (tree.type_decl n xs) rest e h stand room le frame given more same = record { frame = types_keep k c f xs frame; plain = tt }
-decl_keeps k c f t r (tree.var_decl n xs) rest e h stand room le frame given more same = record { frame = vars_keep k c f xs frame le; plain = tt }
+decl_keeps k c f t r (tree.var_decl n xs) rest e h stand room le frame given more same = record { frame = vars_keep k c f xs e frame le; plain = tt }
 decl_keeps k c f t r (tree.procedure n name params result b end_name) rest e h stand room le frame given more same =
     let below : r < length f.scene.headings = omega (arith, room) in
     let rise : f.slots ≤ (heading_in f r name (read_heading f.scene r n params result b)).slots = omega arith in

@@ -19,6 +19,7 @@ use Rattle.alma_rules.specs.Types.{declared, redeclared, read_constant, read_typ
 use Rattle.alma_rules.specs.Places.{width, mark_expr, mark_type}
 use Rattle.alma_rules.specs.Decls.{Frame, with_faults, with_scene, limited, constant_entry, constant_from, constant_in, read_consts, type_entry, type_in, read_types, variable_access, with_variable, variable_in, variables_in, variables_of, read_vars, const_names, type_entry_names, var_names, decl_names, decls_names, decls_routines, decl_routines, with_routine, with_routines, with_block, read_heading, read_decl, read_decls}
 use Rattle.alma_rules.proofs.Sound.{IsThere, IsTyped, nil_left, nil_right}
+use Rattle.alma_rules.proofs.Limited.{limited_faults, limited_scene}
 use Rattle.alma_resolved.specs.Stand.{DeclsStand, DeclStands}
 use Rattle.alma_resolved.proofs.Lookups.{Each, NotBad, HeadingThere, IsPlain, Grown, grown, grown_same, grown_twice, grown_each, grown_declared, plain_not_bad, each_new_block, each_more}
 use Rattle.alma_resolved.proofs.TypesSound.{From, from_front, from_back, last_from, type_good, typed_good}
@@ -112,8 +113,8 @@ declared_not s name from e h = by (is_first s name) h
 variable_scene : (f : Frame) (from shape : ℕ) (name : tree.Name) → (variable_in f from (Some shape) name).scene ≡ declared f.scene name from (entry.Variable (shape_id shape) (variable_access f.scene f.slots))
 variable_scene f from shape name = by (is_first f.scene name) refl
   where
-    by : (c : Bool) → is_first f.scene name ≡ c → (if_true c (λ u. limited name (with_variable f name from shape)) (λ u. with_faults f (broken_at name.node (redeclared f.scene name)))).scene ≡ declared f.scene name from (entry.Variable (shape_id shape) (variable_access f.scene f.slots))
-    by true e = refl
+    by : (c : Bool) → is_first f.scene name ≡ c → (if_true c (λ u. limited name f (with_variable f name from shape)) (λ u. with_faults f (broken_at name.node (redeclared f.scene name)))).scene ≡ declared f.scene name from (entry.Variable (shape_id shape) (variable_access f.scene f.slots))
+    by true e = limited_scene name f (with_variable f name from shape)
     by false e = declared_not f.scene name from (entry.Variable (shape_id shape) (variable_access f.scene f.slots)) e
 
 variables_grown : (lo : ℕ) (f : Frame) (from : ℕ) (o : Option ℕ) (xs : List tree.Name) → lo ≤ from → IsThere o → Grown lo f.scene (variables_in f from o xs).scene
@@ -127,8 +128,8 @@ variable_quiet : (f : Frame) (from : ℕ) (o : Option ℕ) (name : tree.Name) �
 variable_quiet f from None name e = nil_left f.faults _ e
 variable_quiet f from (Some shape) name e = by (is_first f.scene name) e
   where
-    by : (c : Bool) → (if_true c (λ u. limited name (with_variable f name from shape)) (λ u. with_faults f (broken_at name.node (redeclared f.scene name)))).faults ≡ [] → f.faults ≡ []
-    by true e = nil_left f.faults _ e
+    by : (c : Bool) → (if_true c (λ u. limited name f (with_variable f name from shape)) (λ u. with_faults f (broken_at name.node (redeclared f.scene name)))).faults ≡ [] → f.faults ≡ []
+    by true e = limited_faults name f (with_variable f name from shape) e refl
     by false e = nil_left f.faults _ e
 
 variables_quiet : (f : Frame) (from : ℕ) (o : Option ℕ) (xs : List tree.Name) → (variables_in f from o xs).faults ≡ [] → f.faults ≡ []

@@ -25,7 +25,7 @@ use Rattle.alma_resolved.proofs.Tables.{first_keeps}
 use Rattle.alma_resolved.proofs.Entries.{owner, AccessKeeps, RoutineKeeps, EntryKeeps, SceneKeeps, keeps_declared}
 use Rattle.alma_resolved.proofs.FramesKeep.{FrameKeeps}
 use Rattle.alma_resolved.proofs.HeadsKeep.{head_params}
-use Rattle.alma_resolved.proofs.ParamsKeep.{AllLaid, formals_keep}
+use Rattle.alma_resolved.proofs.ParamsKeep.{AllLaid, Paired, formals_keep}
 
 -- the place of a routine inside another
 abbrev pub inner : Place → ℕ → Place
@@ -84,11 +84,11 @@ headed_scene k c f (Some name) h = returns_keep (a_value (read_type_name f.scene
 
 -- the scene of a heading, with its parameters
 pub head_scene : (k : Place) (c r n : ℕ) (s : Scene) (params : Option tree.Params) (result : Option tree.Name) (b : tree.Block) → (routine_at k.program r).outer ≡ k.number → SceneKeeps k c s
-    → ((q : ℕ) → IsProcIn (r + 1) b q → RoutineKeeps (inner k r) (suc c) (suc (suc c)) q) → AllLaid (inner k r) → (routine_at k.program r).params ≡ (read_heading s r n params result b).frame.params
-    → SceneKeeps (inner k r) (suc c) (read_heading s r n params result b).frame.scene
-head_scene k c r n s params result b outer h f laid same =
+    → ((q : ℕ) → IsProcIn (r + 1) b q → RoutineKeeps (inner k r) (suc c) (suc (suc c)) q) → AllLaid (inner k r) → Paired (read_formals (first_frame s r params b) (formals_of params))
+    → (routine_at k.program r).params ≡ (read_heading s r n params result b).frame.params → SceneKeeps (inner k r) (suc c) (read_heading s r n params result b).frame.scene
+head_scene k c r n s params result b outer h f laid paired same =
     by (too_deep s) (headed_scene (inner k r) (suc c) (read_formals (first_frame s r params b) (formals_of params)) result
-    (formals_keep (inner k r) (suc c) (first_frame s r params b) (formals_of params) laid (omega arith) (block_scene k c r s nothing (formal_names (formals_of params)) b outer h f)
+    (formals_keep (inner k r) (suc c) (first_frame s r params b) (formals_of params) laid (omega arith) (block_scene k c r s nothing (formal_names (formals_of params)) b outer h f) (omega arith) paired
     (record { back = []; is = same ∙ (head_params s r n params result b ∙ sym (append-nil (read_formals (first_frame s r params b) (formals_of params)).params)) })))
   where
     by : (d : List CheckFault) → SceneKeeps (inner k r) (suc c) (headed (read_formals (first_frame s r params b) (formals_of params)) result).frame.scene
@@ -98,12 +98,12 @@ head_scene k c r n s params result b outer h f laid same =
 
 -- and its frame, whose slots end below this one
 pub head_frame : (k : Place) (c r n : ℕ) (s : Scene) (params : Option tree.Params) (result : Option tree.Name) (b : tree.Block) → (routine_at k.program r).outer ≡ k.number → SceneKeeps k c s
-    → ((q : ℕ) → IsProcIn (r + 1) b q → RoutineKeeps (inner k r) (suc c) (suc (suc c)) q) → (routine_at k.program r).params ≡ (read_heading s r n params result b).frame.params
-    → AreLaidOut 0 (routine_at k.program r).params → 0 < r → (read_heading s r n params result b).frame.slots ≤ k.ends r → FrameKeeps (inner k r) (suc c) (frame_of (read_heading s r n params result b))
-head_frame k c r n s params result b outer h f same laid up le =
+    → ((q : ℕ) → IsProcIn (r + 1) b q → RoutineKeeps (inner k r) (suc c) (suc (suc c)) q) → Paired (read_formals (first_frame s r params b) (formals_of params))
+    → (routine_at k.program r).params ≡ (read_heading s r n params result b).frame.params → AreLaidOut 0 (routine_at k.program r).params → 0 < r → (read_heading s r n params result b).frame.slots ≤ k.ends r → FrameKeeps (inner k r) (suc c) (frame_of (read_heading s r n params result b))
+head_frame k c r n s params result b outer h f paired same laid up le =
     let own = head_laid s r n params result b in
     let sum : sum_by param_slots (routine_at k.program r).params ≡ (read_heading s r n params result b).frame.slots = ap (λ qs. sum_by param_slots qs) same ∙ own.sum in
-    let scene = head_scene k c r n s params result b outer h f (record { laid = laid; within = omega (arith, sum, le) }) same in
+    let scene = head_scene k c r n s params result b outer h f (record { laid = laid; within = omega (arith, sum, le) }) paired same in
     record {
       scene = record { table = scene.table; deep = scene.deep; entries = scene.entries; heads = scene.heads };
       laid = laid;

@@ -21,6 +21,7 @@ use Rattle.alma_rules.specs.Places.{width, mark_expr, mark_type}
 use Rattle.alma_rules.specs.Types.{read_constant, declared, redeclared, read_type, read_type_name, all_names, last_token}
 use Rattle.alma_rules.specs.Decls.{Frame, with_faults, with_scene, limited, constant_entry, constant_in, read_consts, type_entry, type_in, read_types, variable_access, with_variable, variable_in, variables_in, variables_of, read_vars, param_kind, with_param, with_formal, param_in, params_in, formal_in, read_formals, formals_of, too_deep, headed, with_depth, read_heading, read_decl, read_decls, decl_routines}
 use Rattle.alma_rules.specs.Scene.{Scene}
+use Rattle.alma_rules.proofs.Limited.{limited_case}
 use Rattle.alma_resolved.proofs.HeadsSound.{first_frame}
 use Rattle.alma_resolved.proofs.Slots.{head_laid}
 use Rattle.alma_resolved.proofs.Entries.{cells_of_kind, cells_declared}
@@ -69,12 +70,12 @@ variable_holds tokens f a b from (Some shape) x h =
     own = ap (λ ts. sizes ts x.token) h.tokens_are
 
     by : (c : Bool) → (declared f.scene x from (entry.Variable (shape_id shape) (variable_access f.scene f.slots))).tokens ≡ tokens
-        → Holds tokens (if_true c (λ u. limited x (with_variable f x from shape)) (λ u. with_faults f (broken_at x.node (redeclared f.scene x)))) (a + 1) (b + sizes tokens x.token)
-    by true e = record {
+        → Holds tokens (if_true c (λ u. limited x f (with_variable f x from shape)) (λ u. with_faults f (broken_at x.node (redeclared f.scene x)))) (a + 1) (b + sizes tokens x.token)
+    by true e = limited_case (λ g. Holds tokens g (a + 1) (b + sizes tokens x.token)) x f (with_variable f x from shape) (λ le. record {
       tokens_are = e;
       many = omega (arith, length-append f.variables (made ∷ []), h.many);
       names = omega (arith, sum_by-append (λ (g : Global). length g.name) f.variables (made ∷ []), sum_by-cons (λ (g : Global). length g.name) made [], own, h.names);
-    }
+    }) (record { tokens_are = e; many = omega (arith, h.many); names = omega (arith, h.names) })
     by false e = record { tokens_are = h.tokens_are; many = omega (arith, h.many); names = omega (arith, h.names) }
 
 variables_hold : (tokens : List Lexeme) (f : Frame) (a b from : ℕ) (o : Option ℕ) (xs : List tree.Name) → Holds tokens f a b → Holds tokens (variables_in f from o xs) (a + weigh_names ones xs) (b + weigh_names (sizes tokens) xs)
@@ -123,9 +124,10 @@ param_few f from mode (Some shape) x = by (is_first f.scene x)
     made = record { kind = param_kind (is_structured f.scene shape) mode; slot = f.slots; cells = cells f.scene shape; range = range f.scene shape }
 
     by : (c : Bool)
-        → length (with_formal (if_true c (λ u. limited x (with_param f x from mode shape (param_kind (is_structured f.scene shape) mode))) (λ u. with_faults f (broken_at x.node (redeclared f.scene x)))) (Some (record { mode = mode; shape = shape }))).params
+        → length (with_formal (if_true c (λ u. limited x f (with_param f x from mode shape (param_kind (is_structured f.scene shape) mode))) (λ u. with_faults f (broken_at x.node (redeclared f.scene x)))) (Some (record { mode = mode; shape = shape }))).params
         ≤ length f.params + 1
-    by true = omega (arith, length-append f.params (made ∷ []))
+    by true = limited_case (λ g. length (with_formal g (Some (record { mode = mode; shape = shape }))).params ≤ length f.params + 1) x f (with_param f x from mode shape (param_kind (is_structured f.scene shape) mode))
+        (λ le. omega (arith, length-append f.params (made ∷ []))) (omega arith)
     by false = omega arith
 
 params_few : (f : Frame) (from : ℕ) (mode : Option Mode) (o : Option ℕ) (xs : List tree.Name) → length (params_in f from mode o xs).params ≤ length f.params + weigh_names ones xs

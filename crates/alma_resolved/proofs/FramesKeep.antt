@@ -21,9 +21,12 @@ use Rattle.alma_rules.specs.Parts.{Typing}
 use Rattle.alma_rules.specs.Places.{width, mark_expr, mark_type}
 use Rattle.alma_rules.specs.Types.{declared, redeclared, read_constant, read_type, all_names, last_token}
 use Rattle.alma_rules.specs.Decls.{Frame, with_faults, with_scene, limited, constant_entry, constant_from, constant_in, read_consts, type_entry, type_in, read_types, variable_access, with_variable, variable_in, variables_in, variables_of, read_vars}
+use Rattle.alma_rules.proofs.Sound.{nil_left}
+use Rattle.alma_rules.proofs.Limited.{limited_case, limited_scene, limited_quiet}
 use Rattle.alma_resolved.specs.Fits.{Place, InFrame}
 use Rattle.alma_resolved.proofs.Fits.{When, when_weaker}
 use Rattle.alma_resolved.proofs.Entries.{AccessKeeps, EntryKeeps, SceneKeeps, keeps_declared, Longer, longer_same, longer_declared}
+use Rattle.alma_resolved.proofs.Quiet.{variables_quiet, vars_quiet}
 use Rattle.alma_resolved.proofs.TypesKeep.{IsShape, IsValue, constant_keeps, type_keeps}
 
 -- ---- where a frame stands
@@ -104,8 +107,8 @@ variable_up : (f : Frame) (from : ℕ) (o : Option ℕ) (name : tree.Name) → f
 variable_up f from None name = omega arith
 variable_up f from (Some shape) name = by (is_first f.scene name)
   where
-    by : (b : Bool) → f.slots ≤ (if_true b (λ u. limited name (with_variable f name from shape)) (λ u. with_faults f (broken_at name.node (redeclared f.scene name)))).slots
-    by true = omega arith
+    by : (b : Bool) → f.slots ≤ (if_true b (λ u. limited name f (with_variable f name from shape)) (λ u. with_faults f (broken_at name.node (redeclared f.scene name)))).slots
+    by true = limited_case (λ g. f.slots ≤ g.slots) name f (with_variable f name from shape) (λ le. omega arith) (omega arith)
     by false = omega arith
 
 variables_up : (f : Frame) (from : ℕ) (o : Option ℕ) (xs : List tree.Name) → f.slots ≤ (variables_in f from o xs).slots
@@ -146,41 +149,47 @@ variable_shapes f from None name = longer_declared f.scene name from entry.Bad
 variable_shapes f from (Some shape) name = by (is_first f.scene name) (longer_declared f.scene name from (entry.Variable (shape_id shape) (variable_access f.scene f.slots)))
   where
     by : (b : Bool) → Longer f.scene (declared f.scene name from (entry.Variable (shape_id shape) (variable_access f.scene f.slots)))
-        → Longer f.scene (if_true b (λ u. limited name (with_variable f name from shape)) (λ u. with_faults f (broken_at name.node (redeclared f.scene name)))).scene
-    by true l = l
+        → Longer f.scene (if_true b (λ u. limited name f (with_variable f name from shape)) (λ u. with_faults f (broken_at name.node (redeclared f.scene name)))).scene
+    by true l = subst (λ s. Longer f.scene s) (sym (limited_scene name f (with_variable f name from shape))) l
     by false l = longer_same f.scene f.scene refl
 
--- a variable
-variable_keeps : (k : Place) (c : ℕ) (f : Frame) (from : ℕ) (o : Option ℕ) (name : tree.Name) → FrameKeeps k c f → When o (IsShape f.scene.shapes) → (variable_in f from o name).slots ≤ k.ends k.number → FrameKeeps k c (variable_in f from o name)
-variable_keeps k c f from None name h w le = frame_scene (variable_in f from None name) h (omega arith) (keeps_declared name from entry.Bad h.scene tt)
-variable_keeps k c f from (Some shape) name h w le = by (is_first f.scene name) le
+-- a variable, with which no rule is broken
+variable_keeps : (k : Place) (c : ℕ) (f : Frame) (from : ℕ) (o : Option ℕ) (name : tree.Name) → (variable_in f from o name).faults ≡ [] → FrameKeeps k c f → When o (IsShape f.scene.shapes)
+    → (variable_in f from o name).slots ≤ k.ends k.number → FrameKeeps k c (variable_in f from o name)
+variable_keeps k c f from None name e h w le = frame_scene (variable_in f from None name) h (omega arith) (keeps_declared name from entry.Bad h.scene tt)
+variable_keeps k c f from (Some shape) name e h w le = by (is_first f.scene name) e le
   where
     made : f.slots + cells f.scene shape ≤ k.ends k.number → SceneKeeps k c (declared f.scene name from (entry.Variable (shape_id shape) (variable_access f.scene f.slots)))
     made q = keeps_declared name from (entry.Variable (shape_id shape) (variable_access f.scene f.slots)) h.scene (w.gives, omega arith, access_keeps k c f (cells f.scene shape) h q)
 
-    by : (b : Bool) → (if_true b (λ u. limited name (with_variable f name from shape)) (λ u. with_faults f (broken_at name.node (redeclared f.scene name)))).slots ≤ k.ends k.number
-        → FrameKeeps k c (if_true b (λ u. limited name (with_variable f name from shape)) (λ u. with_faults f (broken_at name.node (redeclared f.scene name))))
-    by true q = frame_scene (limited name (with_variable f name from shape)) h (omega arith) (made q)
-    by false q = frame_scene (with_faults f (broken_at name.node (redeclared f.scene name))) h (omega arith) h.scene
+    by : (b : Bool) → (if_true b (λ u. limited name f (with_variable f name from shape)) (λ u. with_faults f (broken_at name.node (redeclared f.scene name)))).faults ≡ []
+        → (if_true b (λ u. limited name f (with_variable f name from shape)) (λ u. with_faults f (broken_at name.node (redeclared f.scene name)))).slots ≤ k.ends k.number
+        → FrameKeeps k c (if_true b (λ u. limited name f (with_variable f name from shape)) (λ u. with_faults f (broken_at name.node (redeclared f.scene name))))
+    by true e q =
+        limited_quiet (λ g. g.slots ≤ k.ends k.number → FrameKeeps k c g) name f (with_variable f name from shape) e
+        (λ le q. frame_scene (with_variable f name from shape) h (omega arith) (made q)) q
+    by false e q = frame_scene (with_faults f (broken_at name.node (redeclared f.scene name))) h (omega arith) h.scene
 
 shape_on : {s t : Scene} (o : Option ℕ) → Longer s t → When o (IsShape s.shapes) → When o (IsShape t.shapes)
 shape_on {s} {t} o l w = when_weaker w (λ a g. omega (arith, g, ap (λ (x : List PlainShape). length x) l.is, length-append s.shapes l.tail))
 
-variables_keep : (k : Place) (c : ℕ) (f : Frame) (from : ℕ) (o : Option ℕ) (xs : List tree.Name) → FrameKeeps k c f → When o (IsShape f.scene.shapes) → (variables_in f from o xs).slots ≤ k.ends k.number → FrameKeeps k c (variables_in f from o xs)
-variables_keep k c f from o [] h w le = h
-variables_keep k c f from o (x ∷ xs) h w le =
-    let one = variable_keeps k c f from o x h w (omega (arith, le, variables_up (variable_in f from o x) from o xs)) in
-    variables_keep k c (variable_in f from o x) from o xs one (shape_on o (variable_shapes f from o x) w) le
+variables_keep : (k : Place) (c : ℕ) (f : Frame) (from : ℕ) (o : Option ℕ) (xs : List tree.Name) → (variables_in f from o xs).faults ≡ [] → FrameKeeps k c f → When o (IsShape f.scene.shapes)
+    → (variables_in f from o xs).slots ≤ k.ends k.number → FrameKeeps k c (variables_in f from o xs)
+variables_keep k c f from o [] e h w le = h
+variables_keep k c f from o (x ∷ xs) e h w le =
+    let one = variable_keeps k c f from o x (variables_quiet (variable_in f from o x) from o xs e) h w (omega (arith, le, variables_up (variable_in f from o x) from o xs)) in
+    variables_keep k c (variable_in f from o x) from o xs e one (shape_on o (variable_shapes f from o x) w) le
 
-pub vars_keep : (k : Place) (c : ℕ) (f : Frame) (xs : List tree.VarEntry) → FrameKeeps k c f → (read_vars f xs).slots ≤ k.ends k.number → FrameKeeps k c (read_vars f xs)
-vars_keep k c f [] h le = h
-vars_keep k c f (x ∷ xs) h le =
+pub vars_keep : (k : Place) (c : ℕ) (f : Frame) (xs : List tree.VarEntry) → (read_vars f xs).faults ≡ [] → FrameKeeps k c f → (read_vars f xs).slots ≤ k.ends k.number → FrameKeeps k c (read_vars f xs)
+vars_keep k c f [] e h le = h
+vars_keep k c f (x ∷ xs) e h le =
     let r = type_keeps k c f.scene x.type_node h.scene in
     let f1 = with_scene f (read_type f.scene x.type_node).scene in
     let from = last_token x.names.first x.names.more + 3 + width (mark_type x.type_node) in
     let up : (variables_of f x (read_type f.scene x.type_node)).slots ≤ (read_vars f (x ∷ xs)).slots = vars_up (variables_of f x (read_type f.scene x.type_node)) xs in
-    let one = variables_keep k c f1 from (read_type f.scene x.type_node).value (all_names x.names) (frame_scene f1 h (omega arith) r.scene) r.value (omega (arith, up, le)) in
-    vars_keep k c (variables_of f x (read_type f.scene x.type_node)) xs (frame_scene (variables_of f x (read_type f.scene x.type_node)) one (omega arith) one.scene) le
+    let quiet = nil_left _ _ (vars_quiet (variables_of f x (read_type f.scene x.type_node)) xs e) in
+    let one = variables_keep k c f1 from (read_type f.scene x.type_node).value (all_names x.names) quiet (frame_scene f1 h (omega arith) r.scene) r.value (omega (arith, up, le)) in
+    vars_keep k c (variables_of f x (read_type f.scene x.type_node)) xs e (frame_scene (variables_of f x (read_type f.scene x.type_node)) one (omega arith) one.scene) le
 
 -- ---- frames only rise
 

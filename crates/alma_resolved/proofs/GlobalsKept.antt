@@ -14,6 +14,7 @@ use Rattle.alma_rules.specs.Types.{redeclared, read_type, read_constant, all_nam
 use Rattle.alma_rules.specs.Places.{width, mark_type}
 use Rattle.alma_rules.specs.Decls.{Frame, with_faults, with_scene, limited, constant_in, read_consts, type_in, read_types, with_variable, variable_in, variables_in, variables_of, read_vars, read_decl, read_decls, decl_routines}
 use Rattle.alma_rules.specs.Modules.{judge_body, judge_block, judge_bodies, judge_module, cons_routine, body_lines, module_frame, block_variables, program_of, broken, resolved}
+use Rattle.alma_rules.proofs.Limited.{limited_case}
 use Rattle.alma_resolved.specs.Stand.{BlockStands}
 use Rattle.alma_resolved.specs.Frames.{KeepsFrames}
 use Rattle.alma_resolved.proofs.FramesKept.{parts, body_up, program_keeps_frames}
@@ -38,13 +39,16 @@ variable_lies f from (Some shape) name h = by (is_first f.scene name)
     more : (g : Global) → (0 < g.slot) × (g.slot + g.cells ≤ f.slots) → (0 < g.slot) × (g.slot + g.cells ≤ f.slots + cells f.scene shape)
     more g k = (k.0, omega (arith, k.1))
 
-    by : (c : Bool) → VarsLie (if_true c (λ u. limited name (with_variable f name from shape)) (λ u. with_faults f (broken_at name.node (redeclared f.scene name))))
-    by true = record {
+    taken : VarsLie (with_variable f name from shape)
+    taken = record {
       above = omega (arith, h.above);
       each = each_of_append (λ (g : Global). (0 < g.slot) × (g.slot + g.cells ≤ f.slots + cells f.scene shape)) f.variables (record { name = text_at f.scene name.token; slot = f.slots; cells = cells f.scene shape } ∷ [])
           (each_follows (λ (g : Global). (0 < g.slot) × (g.slot + g.cells ≤ f.slots)) (λ (g : Global). (0 < g.slot) × (g.slot + g.cells ≤ f.slots + cells f.scene shape)) more f.variables h.each)
           ((h.above, omega arith), tt);
     }
+
+    by : (c : Bool) → VarsLie (if_true c (λ u. limited name f (with_variable f name from shape)) (λ u. with_faults f (broken_at name.node (redeclared f.scene name))))
+    by true = limited_case VarsLie name f (with_variable f name from shape) (λ le. taken) (record { above = h.above; each = h.each })
     by false = record { above = h.above; each = h.each }
 
 variables_lie : (f : Frame) (from : ℕ) (o : Option ℕ) (xs : List tree.Name) → VarsLie f → VarsLie (variables_in f from o xs)

@@ -1,5 +1,5 @@
 -- What a heading leaves of a scene: all but its blocks, its names, its routine and what RETURN gives.
-use Rattle.std.proofs.Common.{◌≡◌, ℕ, ◌+◌, Bool, true, false, List, [], ◌∷◌, Option, None, Some, refl, ◌∙◌}
+use Rattle.std.proofs.Common.{◌≡◌, ℕ, ◌+◌, Bool, true, false, List, [], ◌∷◌, Option, None, Some, refl, ◌∙◌, ap}
 use Rattle.std.specs.Prelude.{if◌then◌else◌}
 use Rattle.alma_base.specs.Choice.{if_true}
 use Rattle.alma_base.specs.declared.fault.CheckFault.{CheckFault}
@@ -13,6 +13,7 @@ use Rattle.alma_rules.specs.Judged.{broken_at}
 use Rattle.alma_rules.specs.Scene.{Scene, Returns, nothing, a_value, is_first, is_structured, text_at}
 use Rattle.alma_rules.specs.Types.{declared, redeclared, read_type_name, all_names}
 use Rattle.alma_rules.specs.Decls.{Frame, with_faults, limited, with_block, with_routine, with_routines, decl_routines, param_access, param_kind, with_param, param_in, params_in, formal_in, read_formals, formals_of, formal_names, too_deep, headed, with_depth, read_heading}
+use Rattle.alma_rules.proofs.Limited.{limited_scene}
 use Rattle.alma_resolved.proofs.HeadsSound.{first_frame}
 
 -- a scene with other blocks, names, routine and returns
@@ -35,8 +36,8 @@ param_same F h f from mode None name = declared_same F h f.scene name from entry
 param_same {A} F h f from mode (Some shape) name = by (is_first f.scene name) (declared_same F h f.scene name from (entry.Variable (shape_id shape) (param_access mode f.slots)))
   where
     by : (b : Bool) → F (declared f.scene name from (entry.Variable (shape_id shape) (param_access mode f.slots))) ≡ F f.scene
-        → F (if_true b (λ u. limited name (with_param f name from mode shape (param_kind (is_structured f.scene shape) mode))) (λ u. with_faults f (broken_at name.node (redeclared f.scene name)))).scene ≡ F f.scene
-    by true e = e
+        → F (if_true b (λ u. limited name f (with_param f name from mode shape (param_kind (is_structured f.scene shape) mode))) (λ u. with_faults f (broken_at name.node (redeclared f.scene name)))).scene ≡ F f.scene
+    by true e = ap F (limited_scene name f (with_param f name from mode shape (param_kind (is_structured f.scene shape) mode))) ∙ e
     by false e = refl
 
 params_same : {A : Type 0} (F : Scene → A) → Steady F → (f : Frame) (from : ℕ) (mode : Option Mode) (o : Option ℕ) (xs : List tree.Name) → F (params_in f from mode o xs).scene ≡ F f.scene

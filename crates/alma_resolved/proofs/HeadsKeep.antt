@@ -1,8 +1,9 @@
 -- Headings: a heading fits the parameters that it makes, and makes the same ones where it is read again in a later scene.
-use Rattle.std.proofs.Common.{◌≡◌, ℕ, ◌+◌, ◌<◌, Bool, true, false, List, [], ◌∷◌, ◌++◌, length, Option, None, Some, refl, sym, ap, ◌∙◌, subst, append_assoc, append-nil}
-use Rattle.std.specs.Prelude.{not, nat_eq, slice_get, option_map, option_and_then, unwrap_or, if◌then◌else◌}
+use Rattle.std.proofs.Common.{◌≡◌, ℕ, suc, ◌+◌, ◌<◌, Bool, true, false, List, [], ◌∷◌, ◌++◌, length, Option, None, Some, refl, sym, ap, ◌∙◌, subst, arith, append_assoc, append-nil, length-append}
+use Rattle.std.specs.Prelude.{not, nat_eq, nat_le, slice_get, option_map, option_and_then, unwrap_or, if◌then◌else◌}
 use Rattle.std.specs.List.{AllByRecursion}
 use Rattle.alma_base.specs.Choice.{if_true}
+use Rattle.alma_base.specs.Limits.{cell_limit}
 use Rattle.alma_base.specs.Numbers.{whole_range}
 use Rattle.alma_base.specs.declared.fault.CheckFault.{CheckFault}
 use Rattle.alma_base.specs.declared.fault.CheckFault.TheVariants as fault
@@ -19,9 +20,10 @@ use Rattle.alma_rules.specs.Numbered as tree
 use Rattle.alma_rules.specs.Judged.{Broken, broken_at, unless, unbroken, when}
 use Rattle.alma_rules.specs.Scene.{Scene, Heading, FormalOf, Returns, nothing, Found, absent, bad, constant, named, variable, routine, found, found_as, is_first, first_token, text_at, text_of, is_structured}
 use Rattle.alma_rules.specs.Types.{declared, redeclared, type_name_rules, shape_in, read_type_name, all_names}
-use Rattle.alma_rules.specs.Decls.{Frame, with_faults, limited, with_block, with_routine, with_routines, decl_routines, param_access, param_kind, with_param, param_in, params_in, formal_in, read_formals, formals_of, formal_names, structured_result, result_rules, too_deep, all_formals, heading_with, function_heading, proper_heading, headed, with_depth, read_heading}
+use Rattle.alma_rules.specs.Decls.{Frame, with_faults, too_large, limited, with_block, with_routine, with_routines, decl_routines, param_access, declared_cells, param_kind, with_param, param_in, params_in, formal_in, read_formals, formals_of, formal_names, structured_result, result_rules, too_deep, all_formals, heading_with, function_heading, proper_heading, headed, with_depth, read_heading}
 use Rattle.alma_rules.specs.Decls as decls
 use Rattle.alma_rules.proofs.Sound.{IsThere, nil_left, nil_right, quiet}
+use Rattle.alma_rules.proofs.Limited.{limited_case, limited_scene, limited_faults, limited_quiet}
 use Rattle.alma_resolved.specs.Scenes.{structured_in}
 use Rattle.alma_resolved.specs.Stand.{formal_types, result_types}
 use Rattle.alma_resolved.proofs.Fits.{When, when_some, when_none, when_node}
@@ -32,6 +34,7 @@ use Rattle.alma_resolved.proofs.HeadsSound.{TypeThere, first_frame}
 use Rattle.alma_resolved.proofs.DeclsSound.{block_each}
 use Rattle.alma_resolved.proofs.Tables.{TableKeeps, structured_still, simple_still, range_still, cells_more, ordered_at}
 use Rattle.alma_resolved.proofs.Entries.{Longer, FormalKeeps, FormalsKeep}
+use Rattle.alma_resolved.proofs.ParamsKeep.{Paired}
 use Rattle.alma_resolved.proofs.TypesKeep.{IsShape}
 
 -- ---- names of types
@@ -89,9 +92,9 @@ param_scene : (f : Frame) (from : ℕ) (mode : Option Mode) (shape : ℕ) (name 
 param_scene f from mode shape name = by (is_first f.scene name) refl
   where
     by : (b : Bool) → is_first f.scene name ≡ b
-        → (if_true b (λ u. limited name (with_param f name from mode shape (param_kind (is_structured f.scene shape) mode))) (λ u. with_faults f (broken_at name.node (redeclared f.scene name)))).scene
+        → (if_true b (λ u. limited name f (with_param f name from mode shape (param_kind (is_structured f.scene shape) mode))) (λ u. with_faults f (broken_at name.node (redeclared f.scene name)))).scene
         ≡ declared f.scene name from (entry.Variable (shape_id shape) (param_access mode f.slots))
-    by true e = refl
+    by true e = limited_scene name f (with_param f name from mode shape (param_kind (is_structured f.scene shape) mode))
     by false e = declared_not f.scene name from (entry.Variable (shape_id shape) (param_access mode f.slots)) e
 
 declared_shapes : (s : Scene) (name : tree.Name) (from : ℕ) (e : Entry) → (declared s name from e).shapes ≡ s.shapes
@@ -106,12 +109,27 @@ param_shapes f from mode shape name = ap (λ (s : Scene). s.shapes) (param_scene
 
 -- ---- one heading in two scenes
 
+-- the same parameters, slots and declared cells, and as many formals
+record Alike (f g : Frame) : Type 0 where
+  params : g.params ≡ f.params
+  slots : g.slots ≡ f.slots
+  declared : g.declared ≡ f.declared
+  formals : length g.formals ≡ length f.formals
+
+limited_alike : (name : tree.Name) (f g f1 g1 : Frame) → Alike f g → Alike f1 g1 → Alike (limited name f f1) (limited name g g1)
+limited_alike name f g f1 g1 h k = by (nat_le f1.declared cell_limit) (nat_le g1.declared cell_limit) (ap (λ n. nat_le n cell_limit) k.declared)
+  where
+    by : (b d : Bool) → d ≡ b → Alike (if_true b (λ _. f1) (λ _. too_large f name f1.scene)) (if_true d (λ _. g1) (λ _. too_large g name g1.scene))
+    by true true e = k
+    by false false e = record { params = h.params; slots = h.slots; declared = h.declared; formals = h.formals }
+    by true false e = absurd (cc)
+    by false true e = absurd (cc)
+
 -- two frames of one heading, the second in a later scene
 record Twins (lo : ℕ) (f g : Frame) : Type 0 where
   later : Later lo f.scene g.scene
   long : Longer f.scene g.scene
-  params : g.params ≡ f.params
-  slots : g.slots ≡ f.slots
+  alike : Alike f g
 
 same_first : (s t : Scene) (name : tree.Name) → s.tokens ≡ t.tokens → s.declares ≡ t.declares → is_first s name ≡ is_first t name
 same_first s t name h k =
@@ -138,26 +156,38 @@ param_twins lo f g from mode shape name lt h = record {
     tail = h.long.tail;
     is = param_shapes g from mode shape name ∙ (h.long.is ∙ ap (λ x. x ++ h.long.tail) (sym (param_shapes f from mode shape name)));
   };
-  params = both (is_first f.scene name) (is_first g.scene name) (same_first f.scene g.scene name h.later.tokens h.later.declares);
-  slots = all (is_first f.scene name) (is_first g.scene name) (same_first f.scene g.scene name h.later.tokens h.later.declares);
+  alike =
+      let a = all (is_first f.scene name) (is_first g.scene name) (same_first f.scene g.scene name h.later.tokens h.later.declares) in
+      record {
+        params = a.params;
+        slots = a.slots;
+        declared = a.declared;
+        formals = omega (arith, a.formals, length-append (kept f).formals (formal ∷ []), length-append (kept g).formals (formal ∷ []));
+      };
 }
   where
-    one : made_param g.scene.shapes mode shape g.slots ≡ made_param f.scene.shapes mode shape f.slots
-    one = ap (λ x. made_param x mode shape g.slots) h.long.is ∙ (made_same f.scene.shapes h.long.tail mode shape g.slots lt ∙ ap (λ n. made_param f.scene.shapes mode shape n) h.slots)
+    formal : Option FormalOf
+    formal = Some (record { mode = mode; shape = shape })
 
-    both : (b d : Bool) → b ≡ d
-        → (if_true d (λ u. limited name (with_param g name from mode shape (param_kind (is_structured g.scene shape) mode))) (λ u. with_faults g (broken_at name.node (redeclared g.scene name)))).params
-        ≡ (if_true b (λ u. limited name (with_param f name from mode shape (param_kind (is_structured f.scene shape) mode))) (λ u. with_faults f (broken_at name.node (redeclared f.scene name)))).params
-    both true true e = ap (λ x. x ++ made_param g.scene.shapes mode shape g.slots ∷ []) h.params ∙ ap (λ q. f.params ++ q ∷ []) one
-    both false false e = h.params
-    both true false e = absurd (cc)
-    both false true e = absurd (cc)
+    kept : Frame → Frame
+    kept x = if_true (is_first x.scene name) (λ u. limited name x (with_param x name from mode shape (param_kind (is_structured x.scene shape) mode))) (λ u. with_faults x (broken_at name.node (redeclared x.scene name)))
+
+    one : made_param g.scene.shapes mode shape g.slots ≡ made_param f.scene.shapes mode shape f.slots
+    one = ap (λ x. made_param x mode shape g.slots) h.long.is ∙ (made_same f.scene.shapes h.long.tail mode shape g.slots lt ∙ ap (λ n. made_param f.scene.shapes mode shape n) h.alike.slots)
+
+    taken : Alike (with_param f name from mode shape (param_kind (is_structured f.scene shape) mode)) (with_param g name from mode shape (param_kind (is_structured g.scene shape) mode))
+    taken = record {
+      params = ap (λ x. x ++ made_param g.scene.shapes mode shape g.slots ∷ []) h.alike.params ∙ ap (λ q. f.params ++ q ∷ []) one;
+      slots = ap (λ n. n + slots_of (made_param g.scene.shapes mode shape g.slots)) h.alike.slots ∙ ap (λ q. f.slots + slots_of q) one;
+      declared = ap (λ n. n + declared_cells mode (cells_at g.scene.shapes shape)) h.alike.declared ∙ ap (λ (q : Param). f.declared + declared_cells mode q.cells) one;
+      formals = h.alike.formals;
+    }
 
     all : (b d : Bool) → b ≡ d
-        → (if_true d (λ u. limited name (with_param g name from mode shape (param_kind (is_structured g.scene shape) mode))) (λ u. with_faults g (broken_at name.node (redeclared g.scene name)))).slots
-        ≡ (if_true b (λ u. limited name (with_param f name from mode shape (param_kind (is_structured f.scene shape) mode))) (λ u. with_faults f (broken_at name.node (redeclared f.scene name)))).slots
-    all true true e = ap (λ n. n + slots_of (made_param g.scene.shapes mode shape g.slots)) h.slots ∙ ap (λ q. f.slots + slots_of q) one
-    all false false e = h.slots
+        → Alike (if_true b (λ u. limited name f (with_param f name from mode shape (param_kind (is_structured f.scene shape) mode))) (λ u. with_faults f (broken_at name.node (redeclared f.scene name))))
+        (if_true d (λ u. limited name g (with_param g name from mode shape (param_kind (is_structured g.scene shape) mode))) (λ u. with_faults g (broken_at name.node (redeclared g.scene name))))
+    all true true e = limited_alike name f g (with_param f name from mode shape (param_kind (is_structured f.scene shape) mode)) (with_param g name from mode shape (param_kind (is_structured g.scene shape) mode)) h.alike taken
+    all false false e = record { params = h.alike.params; slots = h.alike.slots; declared = h.alike.declared; formals = h.alike.formals }
     all true false e = absurd (cc)
     all false true e = absurd (cc)
 
@@ -189,7 +219,11 @@ formal_twins lo f g x h e lt t = by (read_type_name f.scene x.type_name).value (
     add o p w q r =
         let v = subst (λ (y : Option ℕ). Twins lo (params_in f (x.type_name.token + 1) x.mode (read_type_name f.scene x.type_name).value (all_names x.names)) (params_in g (x.type_name.token + 1) x.mode y (all_names x.names))) r
         (subst (λ (y : Option ℕ). Twins lo (params_in f (x.type_name.token + 1) x.mode y (all_names x.names)) (params_in g (x.type_name.token + 1) x.mode p (all_names x.names))) q w) in
-        record { later = v.later; long = record { tail = v.long.tail; is = v.long.is }; params = v.params; slots = v.slots }
+        record {
+          later = v.later;
+          long = record { tail = v.long.tail; is = v.long.is };
+          alike = record { params = v.alike.params; slots = v.alike.slots; declared = v.alike.declared; formals = v.alike.formals };
+        }
 
     by : (o p : Option ℕ) → o ≡ (read_type_name f.scene x.type_name).value → p ≡ o → IsThere o → When o (IsShape f.scene.shapes)
         → Twins lo (formal_in f x (read_type_name f.scene x.type_name)) (formal_in g x (read_type_name g.scene x.type_name))
@@ -231,8 +265,9 @@ param_more : (f : Frame) (from : ℕ) (mode : Option Mode) (o : Option ℕ) (nam
 param_more f from mode None name = record { more = None ∷ []; is = refl }
 param_more f from mode (Some shape) name = by (is_first f.scene name)
   where
-    by : (b : Bool) → MoreFormals f (decls.with_formal (if_true b (λ u. limited name (with_param f name from mode shape (param_kind (is_structured f.scene shape) mode))) (λ u. with_faults f (broken_at name.node (redeclared f.scene name)))) (Some (record { mode = mode; shape = shape })))
-    by true = record { more = Some (record { mode = mode; shape = shape }) ∷ []; is = refl }
+    by : (b : Bool) → MoreFormals f (decls.with_formal (if_true b (λ u. limited name f (with_param f name from mode shape (param_kind (is_structured f.scene shape) mode))) (λ u. with_faults f (broken_at name.node (redeclared f.scene name)))) (Some (record { mode = mode; shape = shape })))
+    by true = limited_case (λ x. MoreFormals f (decls.with_formal x (Some (record { mode = mode; shape = shape })))) name f (with_param f name from mode shape (param_kind (is_structured f.scene shape) mode)) (λ le. record { more = Some (record { mode = mode; shape = shape }) ∷ []; is = refl })
+        (record { more = Some (record { mode = mode; shape = shape }) ∷ []; is = refl })
     by false = record { more = Some (record { mode = mode; shape = shape }) ∷ []; is = refl }
 
 more_twice : (f g h : Frame) → MoreFormals f g → MoreFormals g h → MoreFormals f h
@@ -328,11 +363,13 @@ param_made t f from mode shape name table lt same h = by (is_first f.scene name)
     add fs e r = subst (λ x. FormalsKeep t x (f.params ++ made_param f.scene.shapes mode shape f.slots ∷ [])) r.is (formals_more t r.front f.params formal (made_param f.scene.shapes mode shape f.slots) (h e r.front r.all) one)
 
     by : (b : Bool) → is_first f.scene name ≡ b
-        → (if_true b (λ u. limited name (with_param f name from mode shape (param_kind (is_structured f.scene shape) mode))) (λ u. with_faults f (broken_at name.node (redeclared f.scene name)))).faults ≡ []
+        → (if_true b (λ u. limited name f (with_param f name from mode shape (param_kind (is_structured f.scene shape) mode))) (λ u. with_faults f (broken_at name.node (redeclared f.scene name)))).faults ≡ []
         → (fs : List FormalOf)
-        → all_formals ((if_true b (λ u. limited name (with_param f name from mode shape (param_kind (is_structured f.scene shape) mode))) (λ u. with_faults f (broken_at name.node (redeclared f.scene name)))).formals ++ Some (record { mode = mode; shape = shape }) ∷ []) ≡ Some fs
-        → FormalsKeep t fs (if_true b (λ u. limited name (with_param f name from mode shape (param_kind (is_structured f.scene shape) mode))) (λ u. with_faults f (broken_at name.node (redeclared f.scene name)))).params
-    by true i e fs a = add fs (nil_left f.faults _ e) (all_some f.formals formal fs a)
+        → all_formals ((if_true b (λ u. limited name f (with_param f name from mode shape (param_kind (is_structured f.scene shape) mode))) (λ u. with_faults f (broken_at name.node (redeclared f.scene name)))).formals ++ Some (record { mode = mode; shape = shape }) ∷ []) ≡ Some fs
+        → FormalsKeep t fs (if_true b (λ u. limited name f (with_param f name from mode shape (param_kind (is_structured f.scene shape) mode))) (λ u. with_faults f (broken_at name.node (redeclared f.scene name)))).params
+    by true i e fs a =
+        limited_quiet (λ x. all_formals (x.formals ++ Some formal ∷ []) ≡ Some fs → FormalsKeep t fs x.params) name f (with_param f name from mode shape (param_kind (is_structured f.scene shape) mode)) e
+        (λ le q. add fs (limited_faults name f (with_param f name from mode shape (param_kind (is_structured f.scene shape) mode)) e refl) (all_some f.formals formal fs q)) a
     by false i e fs a =
         let broken : broken_at name.node (when (not (is_first f.scene name)) fault.Redeclared) ≡ [] = nil_right f.faults _ e in
         absurd (let bad : broken_at name.node (when (not false) fault.Redeclared) ≡ [] = subst (λ b. broken_at name.node (when (not b) fault.Redeclared) ≡ []) i broken in cc)
@@ -405,8 +442,9 @@ abbrev pub ResultPlain : Scene → Option tree.Name → Type 0
 ResultPlain s None = Unit {0}
 ResultPlain s (Some name) = (v : ℕ) → (read_type_name s name).value ≡ Some v → structured_in s.shapes v ≡ false
 
-abbrev pub HeadPlain : Scene → (r : ℕ) → Option tree.Params → Option tree.Name → tree.Block → Type 0
-HeadPlain s r params result b = ResultPlain (read_formals (first_frame s r params b) (formals_of params)).scene result
+pub record HeadPlain (s : Scene) (r : ℕ) (params : Option tree.Params) (result : Option tree.Name) (b : tree.Block) : Type 0 where
+  pub simple : ResultPlain (read_formals (first_frame s r params b) (formals_of params)).scene result
+  pub paired : Paired (read_formals (first_frame s r params b) (formals_of params))
 
 -- the result of a heading is simple, where it has one
 abbrev pub ResultMade : List PlainShape → Option tree.Name → Option ℕ → Type 0
@@ -419,18 +457,34 @@ pub record HeadMade (s : Scene) (r n : ℕ) (params : Option tree.Params) (resul
   pub plain : HeadPlain s r params result b
   pub all : AllSome (read_formals (first_frame s r params b) (formals_of params)).formals
 
-proper_made : (t : List PlainShape) (f : Frame) (h : Heading) → FormalsMade t f → proper_heading f ≡ Some h → FormalsKeep t h.formals f.params × (h.result ≡ None) × AllSome f.formals
+kept_many : (t : List PlainShape) (fs : List FormalOf) (qs : List Param) → FormalsKeep t fs qs → length qs ≡ length fs
+kept_many t [] [] h = refl
+kept_many t [] (q ∷ qs) h = absurd h
+kept_many t (f ∷ fs) [] h = absurd h
+kept_many t (f ∷ fs) (q ∷ qs) h = ap suc (kept_many t fs qs h.1)
+
+all_many : (xs : List (Option FormalOf)) (fs : List FormalOf) → all_formals xs ≡ Some fs → length fs ≡ length xs
+all_many [] [] e = refl
+all_many [] (f ∷ fs) e = absurd (cc)
+all_many (None ∷ xs) fs e = absurd (cc)
+all_many (Some x ∷ xs) fs e = by (all_formals xs) e (all_many xs)
+  where
+    by : (o : Option (List FormalOf)) → option_map (λ ys. x ∷ ys) o ≡ Some fs → ((gs : List FormalOf) → o ≡ Some gs → length gs ≡ length xs) → length fs ≡ suc (length xs)
+    by None q f = absurd (cc)
+    by (Some gs) q f = let same : x ∷ gs ≡ fs = cc in ap (λ (ys : List FormalOf). length ys) (sym same) ∙ ap suc (f gs refl)
+
+proper_made : (t : List PlainShape) (f : Frame) (h : Heading) → FormalsMade t f → proper_heading f ≡ Some h → FormalsKeep t h.formals f.params × (h.result ≡ None) × AllSome f.formals × Paired f
 proper_made t f h m e = by f.faults (all_formals f.formals) refl refl e
   where
-    by : (fs : List Broken) (o : Option (List FormalOf)) → f.faults ≡ fs → all_formals f.formals ≡ o → unbroken fs (option_map (heading_with f None) o) ≡ Some h → FormalsKeep t h.formals f.params × (h.result ≡ None) × AllSome f.formals
+    by : (fs : List Broken) (o : Option (List FormalOf)) → f.faults ≡ fs → all_formals f.formals ≡ o → unbroken fs (option_map (heading_with f None) o) ≡ Some h → FormalsKeep t h.formals f.params × (h.result ≡ None) × AllSome f.formals × Paired f
     by [] None p q e = absurd (cc)
     by [] (Some gs) p q e =
         let same : heading_with f None gs ≡ h = cc in
-        (subst (λ (x : Heading). FormalsKeep t x.formals f.params) same (m.fit p gs q), ap (λ (x : Heading). x.result) (sym same), record { list = gs; is = q })
+        (subst (λ (x : Heading). FormalsKeep t x.formals f.params) same (m.fit p gs q), ap (λ (x : Heading). x.result) (sym same), record { list = gs; is = q }, kept_many t gs f.params (m.fit p gs q) ∙ all_many f.formals gs q)
     by (b ∷ bs) o p q e = absurd (cc)
 
 function_made : (t : List PlainShape) (f : Frame) (name : tree.Name) (h : Heading) → FormalsMade t f → (headed f (Some name)).heading ≡ Some h
-    → FormalsKeep t h.formals f.params × ResultMade t (Some name) h.result × ResultPlain f.scene (Some name) × AllSome f.formals
+    → FormalsKeep t h.formals f.params × ResultMade t (Some name) h.result × ResultPlain f.scene (Some name) × AllSome f.formals × Paired f
 function_made t f name h m e = by (read_type_name f.scene name).value refl e
   where
     rules : Option ℕ → List Broken
@@ -443,7 +497,7 @@ function_made t f name h m e = by (read_type_name f.scene name).value refl e
 
     made : (v : ℕ) (fs : List Broken) (o : Option (List FormalOf)) → rules (Some v) ≡ fs → all_formals f.formals ≡ o → (read_type_name f.scene name).value ≡ Some v
         → unbroken fs (option_map (heading_with (with_faults f ((read_type_name f.scene name).faults ++ broken_at name.node (result_rules f.scene (Some v)))) (Some v)) o) ≡ Some h
-        → FormalsKeep t h.formals f.params × ResultMade t (Some name) h.result × ResultPlain f.scene (Some name) × AllSome f.formals
+        → FormalsKeep t h.formals f.params × ResultMade t (Some name) h.result × ResultPlain f.scene (Some name) × AllSome f.formals × Paired f
     made v [] None p q i e = absurd (cc)
     made v [] (Some gs) p q i e =
         let same : heading_with f (Some v) gs ≡ h = cc in
@@ -452,12 +506,13 @@ function_made t f name h m e = by (read_type_name f.scene name).value refl e
           (v, ap (λ (x : Heading). x.result) (sym same), subst (λ x. structured_in x v ≡ false) m.shapes plain),
           λ w j. let one : v ≡ w = ap (λ (x : Option ℕ). unwrap_or x 0) (sym i ∙ j) in subst (λ x. structured_in f.scene.shapes x ≡ false) one plain,
           record { list = gs; is = q },
+          kept_many t gs f.params (m.fit (nil_left f.faults _ p) gs q) ∙ all_many f.formals gs q,
         )
     made v (b ∷ bs) o p q i e = absurd (cc)
 
     by : (o : Option ℕ) → (read_type_name f.scene name).value ≡ o
         → option_and_then (function_heading (with_faults f ((read_type_name f.scene name).faults ++ broken_at name.node (result_rules f.scene o)))) o ≡ Some h
-        → FormalsKeep t h.formals f.params × ResultMade t (Some name) h.result × ResultPlain f.scene (Some name) × AllSome f.formals
+        → FormalsKeep t h.formals f.params × ResultMade t (Some name) h.result × ResultPlain f.scene (Some name) × AllSome f.formals × Paired f
     by None i e = absurd (cc)
     by (Some v) i e = made v (rules (Some v)) (all_formals f.formals) refl refl i e
 
@@ -476,13 +531,13 @@ head_made s r n params result b h table each e = go (by result (deep (too_deep s
     deep (x ∷ xs) e = absurd (cc)
 
     by : (o : Option tree.Name) → (headed (read_formals (first_frame s r params b) (formals_of params)) o).heading ≡ Some h
-        → FormalsKeep s.shapes h.formals (read_formals (first_frame s r params b) (formals_of params)).params × ResultMade s.shapes o h.result × ResultPlain (read_formals (first_frame s r params b) (formals_of params)).scene o × AllSome (read_formals (first_frame s r params b) (formals_of params)).formals
-    by None e = let p = proper_made s.shapes (read_formals (first_frame s r params b) (formals_of params)) h m e in (p.0, p.1, tt, p.2)
+        → FormalsKeep s.shapes h.formals (read_formals (first_frame s r params b) (formals_of params)).params × ResultMade s.shapes o h.result × ResultPlain (read_formals (first_frame s r params b) (formals_of params)).scene o × AllSome (read_formals (first_frame s r params b) (formals_of params)).formals × Paired (read_formals (first_frame s r params b) (formals_of params))
+    by None e = let p = proper_made s.shapes (read_formals (first_frame s r params b) (formals_of params)) h m e in (p.0, p.1, tt, p.2, p.3)
     by (Some name) e = function_made s.shapes (read_formals (first_frame s r params b) (formals_of params)) name h m e
 
-    go : FormalsKeep s.shapes h.formals (read_formals (first_frame s r params b) (formals_of params)).params × ResultMade s.shapes result h.result × ResultPlain (read_formals (first_frame s r params b) (formals_of params)).scene result × AllSome (read_formals (first_frame s r params b) (formals_of params)).formals
+    go : FormalsKeep s.shapes h.formals (read_formals (first_frame s r params b) (formals_of params)).params × ResultMade s.shapes result h.result × ResultPlain (read_formals (first_frame s r params b) (formals_of params)).scene result × AllSome (read_formals (first_frame s r params b) (formals_of params)).formals × Paired (read_formals (first_frame s r params b) (formals_of params))
         → HeadMade s r n params result b h
-    go p = record { formals = subst (λ qs. FormalsKeep s.shapes h.formals qs) (sym (head_params s r n params result b)) p.0; result_made = p.1; plain = p.2; all = p.3 }
+    go p = record { formals = subst (λ qs. FormalsKeep s.shapes h.formals qs) (sym (head_params s r n params result b)) p.0; result_made = p.1; plain = record { simple = p.2; paired = p.4 }; all = p.3 }
 
 -- ---- the same heading in a later scene
 
@@ -493,8 +548,7 @@ first_twins lo s t r params b h l = record {
     tail = l.tail;
     is = block_shapes t r nothing (formal_names (formals_of params)) b ∙ (l.is ∙ ap (λ x. x ++ l.tail) (sym (block_shapes s r nothing (formal_names (formals_of params)) b)));
   };
-  params = refl;
-  slots = refl;
+  alike = record { params = refl; slots = refl; declared = refl; formals = refl };
 }
 
 head_twins : (lo : ℕ) (s t : Scene) (r : ℕ) (params : Option tree.Params) (result : Option tree.Name) (b : tree.Block) → Outer lo s t → Longer s t → Each (NamedKeeps s.shapes) s
@@ -509,7 +563,7 @@ pub head_params_later : (lo : ℕ) (s t : Scene) (r n : ℕ) (params : Option tr
     → (read_heading t r n params result b).frame.params ≡ (read_heading s r n params result b).frame.params
 head_params_later lo s t r n params result b h l e lt there =
     head_params t r n params result b
-    ∙ ((head_twins lo s t r params result b h l e (each_of_front (λ (x : tree.Name). x.token < lo) (formal_types (formals_of params)) (result_types result) lt) there).params
+    ∙ ((head_twins lo s t r params result b h l e (each_of_front (λ (x : tree.Name). x.token < lo) (formal_types (formals_of params)) (result_types result) lt) there).alike.params
     ∙ sym (head_params s r n params result b))
 
 result_plain_later : (lo : ℕ) (s t : Scene) (o : Option tree.Name) → Later lo s t → Longer s t → AllByRecursion (λ x. x.token < lo) (result_types o) → ResultPlain s o → ResultPlain t o
@@ -521,4 +575,7 @@ pub head_plain_later : (lo : ℕ) (s t : Scene) (r : ℕ) (params : Option tree.
     → AllByRecursion (λ x. x.token < lo) (formal_types (formals_of params) ++ result_types result) → AllSome (read_formals (first_frame s r params b) (formals_of params)).formals → HeadPlain s r params result b → HeadPlain t r params result b
 head_plain_later lo s t r params result b h l e lt there p =
     let w = head_twins lo s t r params result b h l e (each_of_front (λ (x : tree.Name). x.token < lo) (formal_types (formals_of params)) (result_types result) lt) there in
-    result_plain_later lo _ _ result w.later w.long (each_of_back (λ (x : tree.Name). x.token < lo) (formal_types (formals_of params)) (result_types result) lt) p
+    record {
+      simple = result_plain_later lo _ _ result w.later w.long (each_of_back (λ (x : tree.Name). x.token < lo) (formal_types (formals_of params)) (result_types result) lt) p.simple;
+      paired = ap (λ (qs : List Param). length qs) w.alike.params ∙ (p.paired ∙ sym w.alike.formals);
+    }

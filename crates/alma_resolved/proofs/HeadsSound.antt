@@ -16,6 +16,7 @@ use Rattle.alma_rules.specs.Scene.{Scene, Heading, FormalOf, nothing, Found, abs
 use Rattle.alma_rules.specs.Types.{declared, redeclared, type_name_rules, shape_in, read_type_name, all_names}
 use Rattle.alma_rules.specs.Decls.{Frame, with_faults, limited, with_block, param_access, param_kind, with_param, param_in, params_in, formal_in, read_formals, formals_of, formal_names, result_rules, too_deep, all_formals, heading_with, function_heading, headed, with_depth, new_frame, read_heading}
 use Rattle.alma_rules.proofs.Sound.{IsThere, nil_left, nil_right}
+use Rattle.alma_rules.proofs.Limited.{limited_case, limited_faults, limited_scene}
 use Rattle.alma_resolved.specs.Stand.{formal_types, result_types}
 use Rattle.alma_resolved.proofs.Lookups.{Each, NotBad, HeadingThere, IsPlain, Grown, grown_same, grown_twice, grown_each, grown_declared, plain_not_bad}
 use Rattle.alma_resolved.proofs.TypesSound.{type_name_good}
@@ -56,9 +57,9 @@ param_scene : (f : Frame) (from : ℕ) (mode : Option Mode) (shape : ℕ) (name 
 param_scene f from mode shape name = by (is_first f.scene name) refl
   where
     by : (c : Bool) → is_first f.scene name ≡ c
-        → (if_true c (λ u. limited name (with_param f name from mode shape (param_kind (is_structured f.scene shape) mode))) (λ u. with_faults f (broken_at name.node (redeclared f.scene name)))).scene
+        → (if_true c (λ u. limited name f (with_param f name from mode shape (param_kind (is_structured f.scene shape) mode))) (λ u. with_faults f (broken_at name.node (redeclared f.scene name)))).scene
         ≡ declared f.scene name from (entry.Variable (shape_id shape) (param_access mode f.slots))
-    by true e = refl
+    by true e = limited_scene name f (with_param f name from mode shape (param_kind (is_structured f.scene shape) mode))
     by false e = declared_not f.scene name from (entry.Variable (shape_id shape) (param_access mode f.slots)) e
 
 param_grown : (f : Frame) (from : ℕ) (mode : Option Mode) (shape : ℕ) (name : tree.Name) → Grown 0 f.scene (param_in f from mode (Some shape) name).scene
@@ -84,8 +85,8 @@ param_quiet : (f : Frame) (from : ℕ) (mode : Option Mode) (o : Option ℕ) (na
 param_quiet f from mode None name e = nil_left f.faults _ e
 param_quiet f from mode (Some shape) name e = by (is_first f.scene name) e
   where
-    by : (c : Bool) → (if_true c (λ u. limited name (with_param f name from mode shape (param_kind (is_structured f.scene shape) mode))) (λ u. with_faults f (broken_at name.node (redeclared f.scene name)))).faults ≡ [] → f.faults ≡ []
-    by true e = nil_left f.faults _ e
+    by : (c : Bool) → (if_true c (λ u. limited name f (with_param f name from mode shape (param_kind (is_structured f.scene shape) mode))) (λ u. with_faults f (broken_at name.node (redeclared f.scene name)))).faults ≡ [] → f.faults ≡ []
+    by true e = limited_faults name f (with_param f name from mode shape (param_kind (is_structured f.scene shape) mode)) e refl
     by false e = nil_left f.faults _ e
 
 params_quiet : (f : Frame) (from : ℕ) (mode : Option Mode) (o : Option ℕ) (xs : List tree.Name) → (params_in f from mode o xs).faults ≡ [] → f.faults ≡ []
@@ -98,8 +99,10 @@ AllThere xs = AllByRecursion (λ x. IsThere x) xs
 param_formals : (f : Frame) (from : ℕ) (mode : Option Mode) (shape : ℕ) (name : tree.Name) → AllThere f.formals → AllThere (param_in f from mode (Some shape) name).formals
 param_formals f from mode shape name h = by (is_first f.scene name)
   where
-    by : (c : Bool) → AllThere ((if_true c (λ u. limited name (with_param f name from mode shape (param_kind (is_structured f.scene shape) mode))) (λ u. with_faults f (broken_at name.node (redeclared f.scene name)))).formals ++ Some (record { mode = mode; shape = shape }) ∷ [])
-    by true = each_of_append (λ x. IsThere x) f.formals (Some (record { mode = mode; shape = shape }) ∷ []) h (tt, tt)
+    by : (c : Bool) → AllThere ((if_true c (λ u. limited name f (with_param f name from mode shape (param_kind (is_structured f.scene shape) mode))) (λ u. with_faults f (broken_at name.node (redeclared f.scene name)))).formals ++ Some (record { mode = mode; shape = shape }) ∷ [])
+    by true =
+        let more = each_of_append (λ x. IsThere x) f.formals (Some (record { mode = mode; shape = shape }) ∷ []) h (tt, tt) in
+        limited_case (λ x. AllThere (x.formals ++ Some (record { mode = mode; shape = shape }) ∷ [])) name f (with_param f name from mode shape (param_kind (is_structured f.scene shape) mode)) (λ le. more) more
     by false = each_of_append (λ x. IsThere x) f.formals (Some (record { mode = mode; shape = shape }) ∷ []) h (tt, tt)
 
 params_formals : (f : Frame) (from : ℕ) (mode : Option Mode) (o : Option ℕ) (xs : List tree.Name) → IsThere o → AllThere f.formals → AllThere (params_in f from mode o xs).formals

@@ -26,6 +26,7 @@ use Rattle.alma_rules.specs.Places.{width, mark_expr, mark_type}
 use Rattle.alma_rules.specs.Types.{Reading, changed, reading_both, read_constant, declared, redeclared, redeclared_all, read_type_name, Formed, formed, too_large, add_shape, row_on, rows_on, rows_of, subrange_from, subrange_of, all_first, last_token, value_entry, declare_values, listed_in, read_listed, all_names, joined_fields, record_of, field_names, reading_with, read_type, read_arrays, read_dimension_tail, read_dimensions, read_plains, read_plain, read_fields, read_field_tail}
 use Rattle.alma_rules.specs.Decls.{Frame, with_faults, with_scene, limited, constant_entry, constant_in, read_consts, type_entry, type_in, read_types, variable_access, with_variable, variable_in, variables_in, variables_of, read_vars, param_kind, with_param, param_in, params_in, formal_in, read_formals, formals_of, too_deep, headed, with_depth, read_heading, read_decl, read_decls, decl_routines}
 use Rattle.alma_rules.specs.Modules.{judge_body, frame_of, with_shapes, judge_block, judge_bodies, judge_decl, first_scene, module_frame, judge_module, block_variables, program_of, broken, resolved, cons_routine, joined_routines, body_lines}
+use Rattle.alma_rules.proofs.Limited.{limited_case}
 use Rattle.alma_resolved.proofs.FramesKept.{parts}
 use Rattle.alma_resolved.proofs.HeadsSound.{first_frame}
 use Rattle.alma_resolved.proofs.HeadScenes.{Steady, block_same, head_same}
@@ -206,11 +207,11 @@ variable_good tokens f from (Some shape) x k h = by (is_first f.scene x) ((decla
     own = subst (λ ts. IsName (text_of (slice_get ts x.token))) (sym h.tokens_are) k
 
     by : (b : Bool) → (declared f.scene x from (entry.Variable (shape_id shape) (variable_access f.scene f.slots))).tokens ≡ tokens
-        → NamesGood tokens (if_true b (λ u. limited x (with_variable f x from shape)) (λ u. with_faults f (broken_at x.node (redeclared f.scene x))))
-    by true e = record {
+        → NamesGood tokens (if_true b (λ u. limited x f (with_variable f x from shape)) (λ u. with_faults f (broken_at x.node (redeclared f.scene x))))
+    by true e = limited_case (λ g. NamesGood tokens g) x f (with_variable f x from shape) (λ le. record {
       tokens_are = e;
       names = each_of_append (λ (g : Global). IsName g.name) f.variables (record { name = text_at f.scene x.token; slot = f.slots; cells = cells f.scene shape } ∷ []) h.names (own, tt);
-    }
+    }) (record { tokens_are = e; names = h.names })
     by false e = record { tokens_are = h.tokens_are; names = h.names }
 
 variables_good : (tokens : List Lexeme) (f : Frame) (from : ℕ) (o : Option ℕ) (xs : List tree.Name) → TextsNamed tokens xs → NamesGood tokens f → NamesGood tokens (variables_in f from o xs)
@@ -257,8 +258,8 @@ param_variables : (f : Frame) (from : ℕ) (mode : Option Mode) (o : Option ℕ)
 param_variables f from mode None x = refl
 param_variables f from mode (Some shape) x = by (is_first f.scene x)
   where
-    by : (b : Bool) → (if_true b (λ u. limited x (with_param f x from mode shape (param_kind (is_structured f.scene shape) mode))) (λ u. with_faults f (broken_at x.node (redeclared f.scene x)))).variables ≡ f.variables
-    by true = refl
+    by : (b : Bool) → (if_true b (λ u. limited x f (with_param f x from mode shape (param_kind (is_structured f.scene shape) mode))) (λ u. with_faults f (broken_at x.node (redeclared f.scene x)))).variables ≡ f.variables
+    by true = limited_case (λ g. g.variables ≡ f.variables) x f (with_param f x from mode shape (param_kind (is_structured f.scene shape) mode)) (λ le. refl) refl
     by false = refl
 
 params_variables : (f : Frame) (from : ℕ) (mode : Option Mode) (o : Option ℕ) (xs : List tree.Name) → (params_in f from mode o xs).variables ≡ f.variables

@@ -18,6 +18,7 @@ use Rattle.alma_rules.specs.Judged.{broken_at}
 use Rattle.alma_rules.specs.Scene.{Scene, cells, range, is_structured, is_first}
 use Rattle.alma_rules.specs.Types.{declared, redeclared, read_type_name, all_names}
 use Rattle.alma_rules.specs.Decls.{Frame, with_faults, with_formal, limited, param_access, param_kind, with_param, param_in, params_in, formal_in, read_formals}
+use Rattle.alma_rules.proofs.Limited.{limited_case, limited_scene}
 use Rattle.alma_resolved.specs.Fits.{Place, InFrame}
 use Rattle.alma_resolved.proofs.Fits.{When, when_weaker}
 use Rattle.alma_resolved.proofs.Slots.{simple_cells}
@@ -121,8 +122,8 @@ param_onward : (f : Frame) (from : ℕ) (mode : Option Mode) (o : Option ℕ) (n
 param_onward f from mode None name = onward_same f (param_in f from mode None name) refl
 param_onward f from mode (Some shape) name = by (is_first f.scene name)
   where
-    by : (b : Bool) → Onward f (with_formal (if_true b (λ u. limited name (with_param f name from mode shape (param_kind (is_structured f.scene shape) mode))) (λ u. with_faults f (broken_at name.node (redeclared f.scene name)))) (Some (record { mode = mode; shape = shape })))
-    by true = record { more = made f mode shape ∷ []; is = refl }
+    by : (b : Bool) → Onward f (with_formal (if_true b (λ u. limited name f (with_param f name from mode shape (param_kind (is_structured f.scene shape) mode))) (λ u. with_faults f (broken_at name.node (redeclared f.scene name)))) (Some (record { mode = mode; shape = shape })))
+    by true = limited_case (λ g. Onward f (with_formal g (Some (record { mode = mode; shape = shape })))) name f (with_param f name from mode shape (param_kind (is_structured f.scene shape) mode)) (λ le. record { more = made f mode shape ∷ []; is = refl }) (record { more = []; is = sym (append-nil f.params) })
     by false = record { more = []; is = sym (append-nil f.params) }
 
 params_onward : (f : Frame) (from : ℕ) (mode : Option Mode) (o : Option ℕ) (xs : List tree.Name) → Onward f (params_in f from mode o xs)
@@ -144,37 +145,91 @@ param_longer f from mode None name = longer_declared f.scene name from entry.Bad
 param_longer f from mode (Some shape) name = by (is_first f.scene name) (longer_declared f.scene name from (entry.Variable (shape_id shape) (param_access mode f.slots)))
   where
     by : (b : Bool) → Longer f.scene (declared f.scene name from (entry.Variable (shape_id shape) (param_access mode f.slots)))
-        → Longer f.scene (if_true b (λ u. limited name (with_param f name from mode shape (param_kind (is_structured f.scene shape) mode))) (λ u. with_faults f (broken_at name.node (redeclared f.scene name)))).scene
-    by true l = l
+        → Longer f.scene (if_true b (λ u. limited name f (with_param f name from mode shape (param_kind (is_structured f.scene shape) mode))) (λ u. with_faults f (broken_at name.node (redeclared f.scene name)))).scene
+    by true l = subst (λ s. Longer f.scene s) (sym (limited_scene name f (with_param f name from mode shape (param_kind (is_structured f.scene shape) mode)))) l
     by false l = longer_same f.scene f.scene refl
 
-param_keeps : (k : Place) (c : ℕ) (f : Frame) (from : ℕ) (mode : Option Mode) (o : Option ℕ) (name : tree.Name) → AllLaid k → 0 < c → SceneKeeps k c f.scene → When o (IsShape f.scene.shapes)
-    → Fronts k (param_in f from mode o name) → SceneKeeps k c (param_in f from mode o name).scene
-param_keeps k c f from mode None name a deep h w r = keeps_declared name from entry.Bad h tt
-param_keeps k c f from mode (Some shape) name a deep h w r = by (is_first f.scene name) r
+-- each formal has its parameter
+abbrev pub Paired : Frame → Type 0
+Paired f = length f.params ≡ length f.formals
+
+-- no more parameters than formals come behind those of a frame
+Fewer : Frame → Frame → Type 0
+Fewer f g = length g.params + length f.formals ≤ length f.params + length g.formals
+
+param_fewer : (f : Frame) (from : ℕ) (mode : Option Mode) (o : Option ℕ) (name : tree.Name) → Fewer f (param_in f from mode o name)
+unfolding Fewer
+param_fewer f from mode None name = omega (arith, length-append f.formals (None ∷ []))
+param_fewer f from mode (Some shape) name = by (is_first f.scene name)
   where
-    by : (b : Bool)
-        → Fronts k (with_formal (if_true b (λ u. limited name (with_param f name from mode shape (param_kind (is_structured f.scene shape) mode))) (λ u. with_faults f (broken_at name.node (redeclared f.scene name)))) (Some (record { mode = mode; shape = shape })))
-        → SceneKeeps k c (if_true b (λ u. limited name (with_param f name from mode shape (param_kind (is_structured f.scene shape) mode))) (λ u. with_faults f (broken_at name.node (redeclared f.scene name)))).scene
-    by true r =
+    one : length (f.formals ++ (Some (record { mode = mode; shape = shape })) ∷ []) ≡ length f.formals + 1
+    one = omega (arith, length-append f.formals ((Some (record { mode = mode; shape = shape })) ∷ []))
+
+    by : (b : Bool) → Fewer f (with_formal (if_true b (λ u. limited name f (with_param f name from mode shape (param_kind (is_structured f.scene shape) mode))) (λ u. with_faults f (broken_at name.node (redeclared f.scene name)))) (Some (record { mode = mode; shape = shape })))
+    by true = limited_case (λ g. Fewer f (with_formal g (Some (record { mode = mode; shape = shape })))) name f (with_param f name from mode shape (param_kind (is_structured f.scene shape) mode)) (λ le. omega (arith, one, length-append f.params (made f mode shape ∷ []))) (omega (arith, one))
+    by false = omega (arith, one)
+
+params_fewer : (f : Frame) (from : ℕ) (mode : Option Mode) (o : Option ℕ) (xs : List tree.Name) → Fewer f (params_in f from mode o xs)
+unfolding Fewer
+params_fewer f from mode o [] = omega arith
+params_fewer f from mode o (x ∷ xs) = omega (arith, param_fewer f from mode o x, params_fewer (param_in f from mode o x) from mode o xs)
+
+formals_fewer : (f : Frame) (xs : List tree.Formal) → Fewer f (read_formals f xs)
+unfolding Fewer
+formals_fewer f [] = omega arith
+formals_fewer f (x ∷ xs) =
+    let one : Fewer f (formal_in f x (read_type_name f.scene x.type_name)) = params_fewer f (x.type_name.token + 1) x.mode (read_type_name f.scene x.type_name).value (all_names x.names) in
+    omega (arith, one, formals_fewer (formal_in f x (read_type_name f.scene x.type_name)) xs)
+
+-- a frame is paired where one behind it is
+paired_back : (f g h : Frame) → length f.params ≤ length f.formals → Fewer f g → Fewer g h → Paired h → Paired g
+unfolding Fewer
+paired_back f g h le a b e = omega (arith, le, a, b, e)
+
+param_keeps : (k : Place) (c : ℕ) (f : Frame) (from : ℕ) (mode : Option Mode) (o : Option ℕ) (name : tree.Name) → AllLaid k → 0 < c → SceneKeeps k c f.scene → When o (IsShape f.scene.shapes)
+    → length f.params ≤ length f.formals → Paired (param_in f from mode o name) → Fronts k (param_in f from mode o name) → SceneKeeps k c (param_in f from mode o name).scene
+param_keeps k c f from mode None name a deep h w few even r = keeps_declared name from entry.Bad h tt
+param_keeps k c f from mode (Some shape) name a deep h w few even r = by (is_first f.scene name) even r
+  where
+    one : length (f.formals ++ (Some (record { mode = mode; shape = shape })) ∷ []) ≡ length f.formals + 1
+    one = omega (arith, length-append f.formals ((Some (record { mode = mode; shape = shape })) ∷ []))
+
+    taken : Fronts k (with_param f name from mode shape (param_kind (is_structured f.scene shape) mode)) → SceneKeeps k c (declared f.scene name from (entry.Variable (shape_id shape) (param_access mode f.slots)))
+    taken r =
         keeps_declared name from (entry.Variable (shape_id shape) (param_access mode f.slots)) h
         (w.gives, omega arith, access_keeps k c f mode shape a deep r.back (r.is ∙ append_assoc f.params (made f mode shape ∷ []) r.back))
-    by false r = h
+
+    by : (b : Bool)
+        → Paired (with_formal (if_true b (λ u. limited name f (with_param f name from mode shape (param_kind (is_structured f.scene shape) mode))) (λ u. with_faults f (broken_at name.node (redeclared f.scene name)))) (Some (record { mode = mode; shape = shape })))
+        → Fronts k (with_formal (if_true b (λ u. limited name f (with_param f name from mode shape (param_kind (is_structured f.scene shape) mode))) (λ u. with_faults f (broken_at name.node (redeclared f.scene name)))) (Some (record { mode = mode; shape = shape })))
+        → SceneKeeps k c (if_true b (λ u. limited name f (with_param f name from mode shape (param_kind (is_structured f.scene shape) mode))) (λ u. with_faults f (broken_at name.node (redeclared f.scene name)))).scene
+    by true even r =
+        limited_case (λ g. Paired (with_formal g (Some (record { mode = mode; shape = shape }))) → Fronts k (with_formal g (Some (record { mode = mode; shape = shape }))) → SceneKeeps k c g.scene) name f (with_param f name from mode shape (param_kind (is_structured f.scene shape) mode))
+        (λ le p q. taken (record { back = q.back; is = q.is })) (λ p q. absurd (omega (arith, few, one, p))) even r
+    by false even r = h
 
 shape_on : (s t : Scene) (o : Option ℕ) → Longer s t → When o (IsShape s.shapes) → When o (IsShape t.shapes)
 shape_on s t o l w = when_weaker w (λ a g. omega (arith, g, ap (λ x. length x) l.is, length-append s.shapes l.tail))
 
 params_keep : (k : Place) (c : ℕ) (f : Frame) (from : ℕ) (mode : Option Mode) (o : Option ℕ) (xs : List tree.Name) → AllLaid k → 0 < c → SceneKeeps k c f.scene → When o (IsShape f.scene.shapes)
-    → Fronts k (params_in f from mode o xs) → SceneKeeps k c (params_in f from mode o xs).scene
-params_keep k c f from mode o [] a deep h w r = h
-params_keep k c f from mode o (x ∷ xs) a deep h w r =
+    → length f.params ≤ length f.formals → Paired (params_in f from mode o xs) → Fronts k (params_in f from mode o xs) → SceneKeeps k c (params_in f from mode o xs).scene
+unfolding Fewer
+params_keep k c f from mode o [] a deep h w few even r = h
+params_keep k c f from mode o (x ∷ xs) a deep h w few even r =
     let front = fronts_back k (param_in f from mode o x) (params_in (param_in f from mode o x) from mode o xs) (params_onward (param_in f from mode o x) from mode o xs) r in
-    params_keep k c (param_in f from mode o x) from mode o xs a deep (param_keeps k c f from mode o x a deep h w front) (shape_on f.scene (param_in f from mode o x).scene o (param_longer f from mode o x) w) r
+    let fewer = param_fewer f from mode o x in
+    let here = paired_back f (param_in f from mode o x) (params_in (param_in f from mode o x) from mode o xs) few fewer (params_fewer (param_in f from mode o x) from mode o xs) even in
+    params_keep k c (param_in f from mode o x) from mode o xs a deep (param_keeps k c f from mode o x a deep h w few here front)
+    (shape_on f.scene (param_in f from mode o x).scene o (param_longer f from mode o x) w) (omega (arith, few, fewer)) even r
 
-pub formals_keep : (k : Place) (c : ℕ) (f : Frame) (xs : List tree.Formal) → AllLaid k → 0 < c → SceneKeeps k c f.scene → Fronts k (read_formals f xs) → SceneKeeps k c (read_formals f xs).scene
-formals_keep k c f [] a deep h r = h
-formals_keep k c f (x ∷ xs) a deep h r =
+pub formals_keep : (k : Place) (c : ℕ) (f : Frame) (xs : List tree.Formal) → AllLaid k → 0 < c → SceneKeeps k c f.scene → length f.params ≤ length f.formals → Paired (read_formals f xs) → Fronts k (read_formals f xs)
+    → SceneKeeps k c (read_formals f xs).scene
+unfolding Fewer
+formals_keep k c f [] a deep h few even r = h
+formals_keep k c f (x ∷ xs) a deep h few even r =
     let t = read_type_name f.scene x.type_name in
     let front = fronts_back k (formal_in f x t) (read_formals (formal_in f x t) xs) (formals_onward (formal_in f x t) xs) r in
-    let one = params_keep k c f (x.type_name.token + 1) x.mode t.value (all_names x.names) a deep h (name_keeps k c f.scene x.type_name h).value (record { back = front.back; is = front.is }) in
-    formals_keep k c (formal_in f x t) xs a deep one r
+    let fewer : Fewer f (formal_in f x t) = params_fewer f (x.type_name.token + 1) x.mode t.value (all_names x.names) in
+    let here : Paired (formal_in f x t) = paired_back f (formal_in f x t) (read_formals (formal_in f x t) xs) few fewer (formals_fewer (formal_in f x t) xs) even in
+    let one = params_keep k c f (x.type_name.token + 1) x.mode t.value (all_names x.names) a deep h (name_keeps k c f.scene x.type_name h).value few here (record { back = front.back; is = front.is }) in
+    formals_keep k c (formal_in f x t) xs a deep one (omega (arith, few, fewer)) even r

@@ -17,6 +17,7 @@ use Rattle.alma_rules.specs.Places.{width, mark_type}
 use Rattle.alma_rules.specs.Decls.{Frame, with_faults, with_scene, limited, constant_in, read_consts, type_in, read_types, with_variable, variable_in, variables_in, variables_of, read_vars, read_decl, read_decls, block_routines, decl_routines}
 use Rattle.alma_rules.specs.Modules.{first_scene, module_frame, judge_block, judge_module, block_variables, program_of, broken, resolved}
 use Rattle.alma_rules.proofs.Sound.{nil_left}
+use Rattle.alma_rules.proofs.Limited.{limited_case}
 use Rattle.alma_resolved.specs.Stand.{BlockStands}
 use Rattle.alma_resolved.specs.Frames.{KeepsFrames}
 use Rattle.alma_resolved.specs.Scenes.{ReturnsSimple}
@@ -49,11 +50,14 @@ variable_ends : (f : Frame) (from : ℕ) (o : Option ℕ) (name : tree.Name) →
 variable_ends f from None name h = h
 variable_ends f from (Some shape) name h = by (is_first f.scene name)
   where
-    by : (b : Bool) → VarsEnd (if_true b (λ u. limited name (with_variable f name from shape)) (λ u. with_faults f (broken_at name.node (redeclared f.scene name))))
-    by true =
+    taken : VarsEnd (with_variable f name from shape)
+    taken =
         each_of_append (λ (g : Global). g.slot + g.cells ≤ f.slots + cells f.scene shape) f.variables (record { name = text_at f.scene name.token; slot = f.slots; cells = cells f.scene shape } ∷ [])
         (each_follows (λ (g : Global). g.slot + g.cells ≤ f.slots) (λ (g : Global). g.slot + g.cells ≤ f.slots + cells f.scene shape) (λ g k. omega (arith, k)) f.variables h)
         (omega arith, tt)
+
+    by : (b : Bool) → VarsEnd (if_true b (λ u. limited name f (with_variable f name from shape)) (λ u. with_faults f (broken_at name.node (redeclared f.scene name))))
+    by true = limited_case (λ x. VarsEnd x) name f (with_variable f name from shape) (λ le. taken) h
     by false = h
 
 variables_end : (f : Frame) (from : ℕ) (o : Option ℕ) (xs : List tree.Name) → VarsEnd f → VarsEnd (variables_in f from o xs)

@@ -1,5 +1,5 @@
 -- A rule that is broken in declarations stays broken.
-use Rattle.std.proofs.Common.{◌≡◌, ℕ, ◌+◌, Bool, true, false, List, [], ◌∷◌, Option, None, Some}
+use Rattle.std.proofs.Common.{◌≡◌, ℕ, ◌+◌, Bool, true, false, List, [], ◌∷◌, Option, None, Some, refl}
 use Rattle.alma_base.specs.Choice.{if_true}
 use Rattle.alma_rules.specs.Numbered as tree
 use Rattle.alma_rules.specs.Judged.{broken_at}
@@ -8,6 +8,7 @@ use Rattle.alma_rules.specs.Places.{width, mark_type}
 use Rattle.alma_rules.specs.Types.{redeclared, read_constant, read_type, all_names, last_token}
 use Rattle.alma_rules.specs.Decls.{Frame, with_faults, with_scene, limited, constant_in, read_consts, type_in, read_types, with_variable, variable_in, variables_in, variables_of, read_vars, read_decl, read_decls, decl_routines}
 use Rattle.alma_rules.proofs.Sound.{nil_left}
+use Rattle.alma_rules.proofs.Limited.{limited_faults}
 
 consts_quiet : (f : Frame) (xs : List tree.ConstEntry) → (read_consts f xs).faults ≡ [] → f.faults ≡ []
 consts_quiet f [] e = e
@@ -21,8 +22,8 @@ pub variable_quiet : (f : Frame) (from : ℕ) (o : Option ℕ) (name : tree.Name
 variable_quiet f from None name e = nil_left f.faults _ e
 variable_quiet f from (Some shape) name e = by (is_first f.scene name) e
   where
-    by : (b : Bool) → (if_true b (λ u. limited name (with_variable f name from shape)) (λ u. with_faults f (broken_at name.node (redeclared f.scene name)))).faults ≡ [] → f.faults ≡ []
-    by true e = nil_left f.faults _ e
+    by : (b : Bool) → (if_true b (λ u. limited name f (with_variable f name from shape)) (λ u. with_faults f (broken_at name.node (redeclared f.scene name)))).faults ≡ [] → f.faults ≡ []
+    by true e = limited_faults name f (with_variable f name from shape) e refl
     by false e = nil_left f.faults _ e
 
 pub variables_quiet : (f : Frame) (from : ℕ) (o : Option ℕ) (xs : List tree.Name) → (variables_in f from o xs).faults ≡ [] → f.faults ≡ []

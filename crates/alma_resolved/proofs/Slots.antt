@@ -20,6 +20,7 @@ use Rattle.alma_rules.specs.Types.{redeclared, read_type_name, read_type, read_c
 use Rattle.alma_rules.specs.Places.{width, mark_type}
 use Rattle.alma_rules.specs.Decls.{Frame, with_faults, with_scene, limited, param_kind, declared_cells, with_param, param_in, params_in, formal_in, read_formals, constant_in, read_consts, type_in, read_types, with_variable, variable_in, variables_in, variables_of, read_vars, read_heading, read_decl, read_decls, decl_routines}
 use Rattle.alma_rules.specs.Decls as decls
+use Rattle.alma_rules.proofs.Limited.{limited_case}
 
 -- ---- simple shapes have one cell
 
@@ -104,8 +105,8 @@ param_laid : (f : Frame) (from : ℕ) (mode : Option Mode) (o : Option ℕ) (nam
 param_laid f from mode None name h = record { laid = h.laid; sum = h.sum; cells = h.cells; declared = h.declared }
 param_laid f from mode (Some shape) name h = by (is_first f.scene name)
   where
-    made : ParamsLaid (decls.with_formal (limited name (with_param f name from mode shape (param_kind (is_structured f.scene shape) mode))) (Some (record { mode = mode; shape = shape })))
-    made = record {
+    taken : ParamsLaid (decls.with_formal (with_param f name from mode shape (param_kind (is_structured f.scene shape) mode)) (Some (record { mode = mode; shape = shape })))
+    taken = record {
       laid = laid_more 0 f.params (record { kind = param_kind (is_structured f.scene shape) mode; slot = f.slots; cells = cells f.scene shape; range = range f.scene shape }) h.laid (omega (arith, h.sum));
       sum = sum_more f.params (record { kind = param_kind (is_structured f.scene shape) mode; slot = f.slots; cells = cells f.scene shape; range = range f.scene shape })
           ∙ (ap (λ n. n + slots_of_kind (param_kind (is_structured f.scene shape) mode) (cells f.scene shape)) h.sum ∙ ap (λ n. f.slots + n) (sym (same_slots (param_kind (is_structured f.scene shape) mode) (cells f.scene shape))));
@@ -114,8 +115,9 @@ param_laid f from mode (Some shape) name h = by (is_first f.scene name)
       declared = let c : declared_cells mode (cells f.scene shape) ≤ decls.param_slots (param_kind (is_structured f.scene shape) mode) (cells f.scene shape) = cells_fit (is_structured f.scene shape) mode (cells f.scene shape) (simple_cells f.scene shape) in omega (arith, h.declared, c);
     }
 
-    by : (c : Bool) → ParamsLaid (decls.with_formal (if_true c (λ u. limited name (with_param f name from mode shape (param_kind (is_structured f.scene shape) mode))) (λ u. with_faults f (broken_at name.node (redeclared f.scene name)))) (Some (record { mode = mode; shape = shape })))
-    by true = made
+    by : (c : Bool) → ParamsLaid (decls.with_formal (if_true c (λ u. limited name f (with_param f name from mode shape (param_kind (is_structured f.scene shape) mode))) (λ u. with_faults f (broken_at name.node (redeclared f.scene name)))) (Some (record { mode = mode; shape = shape })))
+    by true = limited_case (λ x. ParamsLaid (decls.with_formal x (Some (record { mode = mode; shape = shape })))) name f (with_param f name from mode shape (param_kind (is_structured f.scene shape) mode)) (λ le. taken)
+        (record { laid = h.laid; sum = h.sum; cells = h.cells; declared = h.declared })
     by false = record { laid = h.laid; sum = h.sum; cells = h.cells; declared = h.declared }
 
 params_laid : (f : Frame) (from : ℕ) (mode : Option Mode) (o : Option ℕ) (xs : List tree.Name) → ParamsLaid f → ParamsLaid (params_in f from mode o xs)
@@ -169,8 +171,8 @@ variable_steps : (f : Frame) (from : ℕ) (o : Option ℕ) (name : tree.Name) �
 variable_steps f from None name = steps_same f _ refl refl refl
 variable_steps f from (Some shape) name = by (is_first f.scene name)
   where
-    by : (c : Bool) → Steps f (if_true c (λ u. limited name (with_variable f name from shape)) (λ u. with_faults f (broken_at name.node (redeclared f.scene name))))
-    by true = record { params = refl; le = omega arith; same = omega arith }
+    by : (c : Bool) → Steps f (if_true c (λ u. limited name f (with_variable f name from shape)) (λ u. with_faults f (broken_at name.node (redeclared f.scene name))))
+    by true = limited_case (λ x. Steps f x) name f (with_variable f name from shape) (λ le. record { params = refl; le = omega arith; same = omega arith }) (steps_same f _ refl refl refl)
     by false = steps_same f _ refl refl refl
 
 variables_steps : (f : Frame) (from : ℕ) (o : Option ℕ) (xs : List tree.Name) → Steps f (variables_in f from o xs)

@@ -1,5 +1,5 @@
 -- How many bytes the names and the texts of a program have, where its source is short.
-use Rattle.std.specs.Prelude.{ℕ, ◌+◌, ◌*◌, ◌≤◌, length, sum_by}
+use Rattle.std.specs.Prelude.{◌+◌, ◌*◌, ◌≤◌, length, sum_by}
 use Rattle.alma_base.specs.Limits.{source_limit}
 use Rattle.alma_ir.specs.Tree.{Program}
 use Rattle.alma_ir.specs.Phrases.{stmts_phrases}

@@ -10,7 +10,7 @@ use Rattle.alma_rules.specs.Judged.{Broken, broken_at}
 use Rattle.alma_rules.specs.Scene.{Scene, is_first, is_structured}
 use Rattle.alma_rules.specs.Types.{Reading, redeclared, all_names, last_token, read_type, read_type_name, read_constant}
 use Rattle.alma_rules.specs.Places.{width, mark_type}
-use Rattle.alma_rules.specs.Decls.{Frame, with_faults, with_scene, passes_limit, constant_in, read_consts, type_in, read_types, with_variable, limited, variable_in, variables_in, variables_of, read_vars, with_param, param_kind, param_in, params_in, formal_in, read_formals, formals_in, formals_of, result_rules, too_deep, Headed, headed, with_depth, new_frame, with_block, formal_names, read_decl, read_decls, decl_routines}
+use Rattle.alma_rules.specs.Decls.{Frame, with_faults, with_scene, constant_in, read_consts, type_in, read_types, with_variable, limited, variable_in, variables_in, variables_of, read_vars, with_param, param_kind, param_in, params_in, formal_in, read_formals, formals_in, formals_of, result_rules, too_deep, Headed, headed, with_depth, new_frame, with_block, formal_names, read_decl, read_decls, decl_routines}
 use Rattle.alma_rules.specs.Scene.{nothing, Found, found}
 use Rattle.alma_rules.specs.Judged.{holds}
 use Rattle.alma_rules.specs.Types.{type_name_rules, shape_in}
@@ -19,14 +19,19 @@ use Rattle.alma_rules.specs.Rising.{rise_consts, rise_type_entries, rise_vars, r
 use Rattle.alma_rules.proofs.Ranks.{InOrder, empty, append, one}
 use Rattle.alma_rules.proofs.Within.{Within, none, ordered, higher, up, joined, alone_at, node_end, own, placed}
 use Rattle.alma_rules.proofs.Ordered.{stmts_in}
+use Rattle.alma_rules.proofs.Limited.{limited_case}
 use Rattle.alma_rules.proofs.TypesOrdered.{type_name_in, type_in as type_rules_in, redeclared_order, constant_in as constant_rules_in}
 
-limit_order : (f : Frame) → InOrder 0 23 (passes_limit f)
-limit_order f = one 0 23 _ fault.TooLarge (omega arith) (omega arith)
+limit_order : InOrder 0 23 (fault.TooLarge ∷ [])
+limit_order = one 0 23 true fault.TooLarge (omega arith) (omega arith)
 
 -- a name behind what is read so far
 named : (lo mid hi : ℕ) (a : List Broken) (x : tree.Name) (fs : List CheckFault) → InOrder 0 23 fs → Within lo mid a → (mid ≤ x.node) × (x.node < hi) → Within lo hi (a ++ broken_at x.node fs)
 named lo mid hi a x fs o w h = joined lo mid hi a _ w (alone_at mid x.node hi 23 fs o (omega arith) h.0 h.1)
+
+-- a name with which the declared cells would pass the limit, or none
+limit_in : (lo mid hi : ℕ) (f g : Frame) (x : tree.Name) → Within lo hi g.faults → Within lo mid f.faults → (mid ≤ x.node) × (x.node < hi) → Within lo hi (limited x f g).faults
+limit_in lo mid hi f g x v w h = limited_case (λ k. Within lo hi k.faults) x f g (λ le. v) (named lo mid hi f.faults x _ limit_order w h)
 
 consts_in : (lo mid hi : ℕ) (f : Frame) (xs : List tree.ConstEntry) → Within lo mid f.faults → rise_consts xs mid hi → Within lo hi (read_consts f xs).faults
 consts_in lo mid hi f [] w h = higher lo mid hi f.faults w h
@@ -44,8 +49,8 @@ var_in : (lo mid hi : ℕ) (f : Frame) (from : ℕ) (shape : Option ℕ) (x : tr
 var_in lo mid hi f from None x w h = named lo mid hi f.faults x _ (redeclared_order f.scene x) w h
 var_in lo mid hi f from (Some shape) x w h = go (is_first f.scene x)
   where
-    go : (b : Bool) → Within lo hi (if_true b (λ _. limited x (with_variable f x from shape)) (λ _. with_faults f (broken_at x.node (redeclared f.scene x)))).faults
-    go true = named lo mid hi f.faults x _ (limit_order (with_variable f x from shape)) w h
+    go : (b : Bool) → Within lo hi (if_true b (λ _. limited x f (with_variable f x from shape)) (λ _. with_faults f (broken_at x.node (redeclared f.scene x)))).faults
+    go true = limit_in lo mid hi f (with_variable f x from shape) x (higher lo mid hi f.faults w (omega (arith, h.0, h.1))) w h
     go false = named lo mid hi f.faults x _ (redeclared_order f.scene x) w h
 
 vars_in : (lo mid hi : ℕ) (f : Frame) (from : ℕ) (shape : Option ℕ) (xs : List tree.Name) → Within lo mid f.faults → rise_more_names xs mid hi → Within lo hi (variables_in f from shape xs).faults
@@ -64,8 +69,8 @@ parameter_in : (lo mid hi : ℕ) (f : Frame) (from : ℕ) (mode : Option Mode) (
 parameter_in lo mid hi f from mode None x w h = named lo mid hi f.faults x _ (redeclared_order f.scene x) w h
 parameter_in lo mid hi f from mode (Some shape) x w h = go (is_first f.scene x)
   where
-    go : (b : Bool) → Within lo hi (if_true b (λ _. limited x (with_param f x from mode shape (param_kind (is_structured f.scene shape) mode))) (λ _. with_faults f (broken_at x.node (redeclared f.scene x)))).faults
-    go true = named lo mid hi f.faults x _ (limit_order (with_param f x from mode shape (param_kind (is_structured f.scene shape) mode))) w h
+    go : (b : Bool) → Within lo hi (if_true b (λ _. limited x f (with_param f x from mode shape (param_kind (is_structured f.scene shape) mode))) (λ _. with_faults f (broken_at x.node (redeclared f.scene x)))).faults
+    go true = limit_in lo mid hi f (with_param f x from mode shape (param_kind (is_structured f.scene shape) mode)) x (higher lo mid hi f.faults w (omega (arith, h.0, h.1))) w h
     go false = named lo mid hi f.faults x _ (redeclared_order f.scene x) w h
 
 parameters_in : (lo mid hi : ℕ) (f : Frame) (from : ℕ) (mode : Option Mode) (shape : Option ℕ) (xs : List tree.Name) → Within lo mid f.faults → rise_more_names xs mid hi → Within lo hi (params_in f from mode shape xs).faults

@@ -5,7 +5,6 @@ use Rattle.alma_tree.specs.declared.phrase.Expr as de
 use Rattle.alma_tree.specs.declared.phrase.Exprs as dx
 use Rattle.alma_tree.specs.declared.phrase.Desig as dd
 use Rattle.alma_tree.specs.declared.phrase.Selector as dj
-use Rattle.alma_tree.specs.declared.leaf.Name.{Name}
 use Rattle.alma_rules.specs.declared.error.Stop.{Stop}
 use Rattle.alma_rules.specs.Numbered as tree
 use Rattle.alma_rules.specs.View as view

@@ -6,6 +6,7 @@ pub mod Ordered
 pub mod Leasts
 pub mod TypesOrdered
 pub mod DeclsOrdered
+pub mod Limited
 pub mod Bridge
 pub mod Sound
 pub mod SoundWalk

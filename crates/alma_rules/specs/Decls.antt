@@ -1,5 +1,5 @@
 -- Declarations and headings: the rules broken in them, and what they declare.
-use Rattle.std.specs.Prelude.{ℕ, ◌+◌, ℤ, Bool, true, false, ◌||◌, nat_lt, nat_le, nat_eq, if◌then◌else◌, List, [], ◌∷◌, ◌++◌, set, bytes_eq, Option, None, Some, option_map, option_and_then}
+use Rattle.std.specs.Prelude.{ℕ, ◌+◌, ℤ, Bool, true, false, ◌||◌, nat_le, nat_eq, if◌then◌else◌, List, [], ◌∷◌, ◌++◌, set, bytes_eq, Option, None, Some, option_map, option_and_then}
 use Rattle.alma_base.specs.declared.fault.CheckFault.{CheckFault}
 use Rattle.alma_base.specs.declared.fault.CheckFault.TheVariants as fault
 use Rattle.alma_base.specs.Choice.{if_true}
@@ -43,9 +43,13 @@ with_faults f faults = record f { faults = f.faults ++ faults }
 abbrev pub with_scene : Frame → Scene → Frame
 with_scene f s = record f { scene = s }
 
--- TooLarge: the Name of a variable or parameter with which its frame's declared cells pass the limit
-abbrev pub passes_limit : Frame → List CheckFault
-passes_limit f = when (nat_lt cell_limit f.declared) fault.TooLarge
+-- TooLarge: the Name of a variable or parameter with which its frame's declared cells would pass the limit; it takes no slots
+abbrev pub too_large : Frame → tree.Name → Scene → Frame
+too_large f name s = record f { faults = f.faults ++ broken_at name.node (fault.TooLarge ∷ []); scene = s }
+
+-- a frame with one more variable or parameter, where its declared cells are within the limit
+abbrev pub limited : tree.Name → (before after : Frame) → Frame
+limited name f g = if_true (nat_le g.declared cell_limit) (λ _. g) (λ _. too_large f name g.scene)
 
 -- ---- constants, types and variables
 
@@ -95,15 +99,12 @@ with_variable f name from shape =
       variables = f.variables ++ record { name = text_at f.scene name.token; slot = f.slots; cells = cells f.scene shape } ∷ [];
     }
 
-abbrev pub limited : tree.Name → Frame → Frame
-limited name f = with_faults f (broken_at name.node (passes_limit f))
-
 -- a variable, where its type is not Bad and it is the first of its name
 abbrev pub variable_in : Frame → (from : ℕ) → Option ℕ → tree.Name → Frame
 variable_in f from None name =
     record f { faults = f.faults ++ broken_at name.node (redeclared f.scene name); scene = declared f.scene name from entry.Bad }
 variable_in f from (Some shape) name = if_true (is_first f.scene name)
-    (λ _. limited name (with_variable f name from shape))
+    (λ _. limited name f (with_variable f name from shape))
     (λ _. with_faults f (broken_at name.node (redeclared f.scene name)))
 
 abbrev pub variables_in : Frame → (from : ℕ) → Option ℕ → List tree.Name → Frame
@@ -243,7 +244,7 @@ abbrev pub param_in : Frame → (from : ℕ) → Option Mode → Option ℕ → 
 param_in f from mode None name =
     with_formal (record f { faults = f.faults ++ broken_at name.node (redeclared f.scene name); scene = declared f.scene name from entry.Bad }) None
 param_in f from mode (Some shape) name = with_formal (if_true (is_first f.scene name)
-    (λ _. limited name (with_param f name from mode shape (param_kind (is_structured f.scene shape) mode)))
+    (λ _. limited name f (with_param f name from mode shape (param_kind (is_structured f.scene shape) mode)))
     (λ _. with_faults f (broken_at name.node (redeclared f.scene name)))) (Some (record { mode = mode; shape = shape }))
 
 abbrev pub params_in : Frame → (from : ℕ) → Option Mode → Option ℕ → List tree.Name → Frame

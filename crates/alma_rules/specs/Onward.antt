@@ -1,5 +1,5 @@
 -- What loops over phrases say.
-use Rattle.std.specs.Prelude.{◌≡◌, ℕ, Option, None, Some, Result, Ok, Err}
+use Rattle.std.specs.Prelude.{◌≡◌, Option, None, Some, Result, Ok, Err}
 use Rattle.alma_rules.specs.declared.error.Stop.{Stop}
 use Rattle.alma_rules.specs.Judged.{Judged, with}
 use Rattle.alma_rules.specs.Answers.{Stops}

@@ -1,5 +1,5 @@
 -- Where a phrase stands: the tokens, the declarations that are visible there, the shapes of their types, and the routine round it.
-use Rattle.std.specs.Prelude.{ℕ, ◌+◌, ◌-◌, ℤ, pos, Bool, true, false, not, nat_eq, nat_lt, if◌then◌else◌, List, [], ◌∷◌, length, drop, take, slice_get, get_or, bytes_eq, option_and_then, unwrap_or, Option, None, Some, is_some}
+use Rattle.std.specs.Prelude.{ℕ, ◌+◌, ◌-◌, ℤ, pos, Bool, true, false, not, nat_eq, if◌then◌else◌, List, [], ◌∷◌, length, drop, take, slice_get, get_or, bytes_eq, option_and_then, unwrap_or, Option, None, Some, is_some}
 use Rattle.std.specs.Str.Parse.{digits_value}
 use Rattle.alma_base.specs.declared.number.Range.{Range}
 use Rattle.alma_base.specs.Numbers.{whole_range}
@@ -11,7 +11,6 @@ use Rattle.alma_names.specs.declared.block.Access.TheVariants as access
 use Rattle.alma_names.specs.declared.block.Entry.{Entry}
 use Rattle.alma_names.specs.declared.block.Entry.TheVariants as entry
 use Rattle.alma_names.specs.Shapes.{PlainShape, row, fields, range_at, base_at, cells_at}
-use Rattle.alma_names.specs.Blocks.{DeclaredName}
 use Rattle.alma_names.specs.Scopes.{Blocks, visible, entry_at, level_of}
 use Rattle.alma_ir.specs.declared.program.Param.{Param}
 use Rattle.alma_ir.specs.declared.phrase.Root.{Root}
