@@ -2,9 +2,12 @@
 use Rattle.std.proofs.Common.{◌≡◌, ℕ, ◌≤◌, Bool, Some, arith}
 use Rattle.std.specs.List.{AllByRecursion}
 use Rattle.alma_ir.specs.declared.phrase.Root.TheVariants as root
-use Rattle.alma_ir.specs.Tree.{routine_at, Assign, CopyCells, ForTo, SomeOf, Case, Either, Forall, Commit, Return, Read, no_branches, a_loop, no_result, some_result, Bind, Unify, SameCells, Seq, Or, CallTest, no_tests, Load, Known, CallExpr, ByValue, MixValue, a_desig, Index, Stmts}
+use Rattle.alma_ir.specs.Tree.{routine_at, Assign, CopyCells, ForTo, SomeOf, Case, Either, Forall, Commit, Return, Read, no_branches}
+use Rattle.alma_ir.specs.Tree.{a_loop, no_result, some_result, Bind, Unify, SameCells, Seq, Or, CallTest, no_tests, Load, Known, CallExpr}
+use Rattle.alma_ir.specs.Tree.{ByValue, MixValue, a_desig, Index, Stmts}
 use Rattle.alma_ir.specs.Phrases.{Phrase, StmtPhrase, TestPhrase, ExprPhrase, ArgPhrase, DesigPhrase, SelPhrase, stmts_phrases}
-use Rattle.alma_ir.specs.Checked.{RootExists, PartsExist, CellsAgree, RangesOrdered, HasStep, loops_of, CalleeExists, ResultAgrees, CallLeads, CallFits, HasChoice, ReturnAgrees, ReturnsStay, AreNumbers, outer_at}
+use Rattle.alma_ir.specs.Checked.{RootExists, PartsExist, CellsAgree, RangesOrdered, HasStep, loops_of, CalleeExists, ResultAgrees}
+use Rattle.alma_ir.specs.Checked.{CallLeads, CallFits, HasChoice, ReturnAgrees, ReturnsStay, AreNumbers, outer_at}
 use Rattle.alma_ir.proofs.Each.{each_follows}
 use Rattle.alma_rules.specs.Numbered as tree
 use Rattle.alma_rules.specs.Scene.{Scene}
@@ -22,11 +25,13 @@ EndsFit k = (q : ℕ) → k.ends q ≤ (routine_at k.program q).slots
 numbers : (k : Place) (q slot cells : ℕ) → EndsFit k → InFrame k q slot cells → AreNumbers (routine_at k.program q) slot cells
 numbers k q slot cells ends h = record { exist = omega (arith, h.0, ends q); kinds = h.1 }
 
-root_of : (k : Place) (i : Bool) (lo hi : ℕ) (x : Phrase) → EndsFit k → Fits k i lo hi x → RootExists k.program k.number (routine_at k.program k.number) x
+root_of : (k : Place) (i : Bool) (lo hi : ℕ) (x : Phrase) → EndsFit k → Fits k i lo hi x
+    → RootExists k.program k.number (routine_at k.program k.number) x
 root_of k i lo hi (DesigPhrase (a_desig (root.Local slot) cells sels)) ends h = (numbers k k.number slot cells ends h.0.0, h.0.1)
 root_of k i lo hi (DesigPhrase (a_desig (root.Global slot) cells sels)) ends h = (h.0.0, numbers k 0 slot cells ends h.0.1, h.0.2)
 root_of k i lo hi (DesigPhrase (a_desig (root.Param slot) cells sels)) ends h = h.0
-root_of k i lo hi (DesigPhrase (a_desig (root.Outer links slot) cells sels)) ends h = (h.0.0, numbers k (outer_at k.program k.number links) slot cells ends h.0.1)
+root_of k i lo hi (DesigPhrase (a_desig (root.Outer links slot) cells sels)) ends h =
+    (h.0.0, numbers k (outer_at k.program k.number links) slot cells ends h.0.1)
 root_of k i lo hi (DesigPhrase (a_desig (root.OuterParam links slot) cells sels)) ends h = h.0
 root_of k i lo hi x ends h = tt
 
@@ -75,7 +80,8 @@ result_of k i lo hi (TestPhrase (CallTest q args up)) h = h.0
 result_of k i lo hi (ExprPhrase (CallExpr q args up)) h = h.0
 result_of k i lo hi x h = tt
 
-links_of : (k : Place) (i : Bool) (lo hi : ℕ) (x : Phrase) → Fits k i lo hi x → CallLeads k.program k.number (routine_at k.program k.number) x
+links_of : (k : Place) (i : Bool) (lo hi : ℕ) (x : Phrase) → Fits k i lo hi x
+    → CallLeads k.program k.number (routine_at k.program k.number) x
 links_of k i lo hi (TestPhrase (CallTest q args up)) h = h.1.2
 links_of k i lo hi (ExprPhrase (CallExpr q args up)) h = h.1.2
 links_of k i lo hi x h = tt
@@ -118,9 +124,12 @@ phrase_keeps k i lo hi x ends h = record {
 }
 
 -- a body in a scene that fits
-pub body_fits : (k : Place) (s : Scene) → SceneFits k s → (n : ℕ) (x : tree.Stmts) (y : Stmts) → (judge_stmts s n x).value ≡ Some y → Laid k s.inside n (judge_stmts s n x).next (stmts_phrases y)
+pub body_fits : (k : Place) (s : Scene) → SceneFits k s → (n : ℕ) (x : tree.Stmts) (y : Stmts) → (judge_stmts s n x).value ≡ Some y
+    → Laid k s.inside n (judge_stmts s n x).next (stmts_phrases y)
 body_fits k s e n x y i = when_is y i (stmts_fit e n x)
 
-pub body_keeps : (k : Place) (s : Scene) → EndsFit k → SceneFits k s → (n : ℕ) (x : tree.Stmts) (y : Stmts) → (judge_stmts s n x).value ≡ Some y → AllByRecursion (KeepsPhrase k.program k.number) (stmts_phrases y)
+pub body_keeps : (k : Place) (s : Scene) → EndsFit k → SceneFits k s → (n : ℕ) (x : tree.Stmts) (y : Stmts)
+    → (judge_stmts s n x).value ≡ Some y → AllByRecursion (KeepsPhrase k.program k.number) (stmts_phrases y)
 body_keeps k s ends e n x y i =
-    each_follows (Fits k s.inside n (judge_stmts s n x).next) (KeepsPhrase k.program k.number) (λ z h. phrase_keeps k s.inside n (judge_stmts s n x).next z ends h) (stmts_phrases y) (body_fits k s e n x y i).all
+    each_follows (Fits k s.inside n (judge_stmts s n x).next) (KeepsPhrase k.program k.number)
+    (λ z h. phrase_keeps k s.inside n (judge_stmts s n x).next z ends h) (stmts_phrases y) (body_fits k s e n x y i).all

@@ -10,12 +10,20 @@ use Rattle.alma_tree.specs.declared.leaf.Sign.TheVariants as signs
 use Rattle.alma_tree.specs.declared.leaf.Mode.{Mode}
 use Rattle.alma_tree.specs.declared.leaf.Mode.TheVariants as modes
 use Rattle.alma_ir.specs.Tree as ir
-use Rattle.alma_ir.specs.Phrases.{Phrase, StmtPhrase, TestPhrase, ExprPhrase, ArgPhrase, DesigPhrase, SelPhrase, expr_phrases, test_phrases, tests_phrases, links_phrases, args_phrases, arg_phrases, desig_phrases, sels_phrases, sel_phrases, stmts_phrases}
+use Rattle.alma_ir.specs.Phrases.{Phrase, StmtPhrase, TestPhrase, ExprPhrase, ArgPhrase, DesigPhrase, SelPhrase, expr_phrases, test_phrases}
+use Rattle.alma_ir.specs.Phrases.{tests_phrases, links_phrases, args_phrases, arg_phrases, desig_phrases, sels_phrases, sel_phrases}
+use Rattle.alma_ir.specs.Phrases.{stmts_phrases}
 use Rattle.alma_ir.specs.Lines.{stmt_count}
 use Rattle.alma_rules.specs.Judged.{unless, both_of, when, holds}
-use Rattle.alma_rules.specs.Scene.{Scene, FormalOf, Found, absent, bad, constant, named, variable, routine, row_at, is_structured, range, in_constant}
-use Rattle.alma_rules.specs.Parts.{Meaning, a_place, plain, a_test, Typing, value_of, test_of, no_place, without_place, boolean_typing, Located, desig_of, with_sel, Denoted, a_constant, a_variable, a_routine, no_array, denoted, field_of, field_part, select_field, element_part, select_in, select_index, located_in, typing_in, Callee, callee_in, simple_argument, structured_argument, argument_of, call_typing, equation_of, related, Operator, arithmetic, logical, Operands, links_of, tests_of, chain_of, chained}
-use Rattle.alma_rules.specs.ExprRules.{Use, no_constant, not_variable, not_procedure, name_rules, desig_rules, Operand, other_sort, no_operand, not_test, logical_operand, operand_rules, chain_rules}
+use Rattle.alma_rules.specs.Scene.{Scene, FormalOf, Found, absent, bad, constant, named, variable, routine, row_at, is_structured, range}
+use Rattle.alma_rules.specs.Scene.{in_constant}
+use Rattle.alma_rules.specs.Parts.{Meaning, a_place, plain, a_test, Typing, value_of, test_of, no_place, without_place, boolean_typing}
+use Rattle.alma_rules.specs.Parts.{Located, desig_of, with_sel, Denoted, a_constant, a_variable, a_routine, no_array, denoted, field_of}
+use Rattle.alma_rules.specs.Parts.{field_part, select_field, element_part, select_in, select_index, located_in, typing_in, Callee}
+use Rattle.alma_rules.specs.Parts.{callee_in, simple_argument, structured_argument, argument_of, call_typing, equation_of, related}
+use Rattle.alma_rules.specs.Parts.{Operator, arithmetic, logical, Operands, links_of, tests_of, chain_of, chained}
+use Rattle.alma_rules.specs.ExprRules.{Use, no_constant, not_variable, not_procedure, name_rules, desig_rules, Operand, other_sort}
+use Rattle.alma_rules.specs.ExprRules.{no_operand, not_test, logical_operand, operand_rules, chain_rules}
 use Rattle.alma_rules.specs.Nodes.{known_typing, ord_typing, chr_typing, not_typing, cons_operand, operand_behind, cons_arg}
 use Rattle.alma_resolved.proofs.Fits.{When, when_some, when_none, when_map, when_node}
 use Rattle.alma_resolved.proofs.Scenes.{no_fault, no_fault_alone, no_faults_left, or_left, phrases_with}
@@ -110,7 +118,8 @@ without_tally {n} t h = record { is = no_place_in n t.meaning h.is }
 pub typing_is : {t : Typing} (a b : ℕ) → a ≡ b → TypingTally a t → TypingTally b t
 typing_is {t} a b e h = subst (λ n. TypingTally n t) e h
 
-pub constant_tally : (shape : ℕ) (o : Option ℤ) (v : ℤ) → TypingTally 0 (record { shape = shape; constant = o; meaning = plain (ir.Const v) })
+pub constant_tally : (shape : ℕ) (o : Option ℤ) (v : ℤ)
+    → TypingTally 0 (record { shape = shape; constant = o; meaning = plain (ir.Const v) })
 unfolding expr_phrases
 constant_tally shape o v = record { is = expr_more (ir.Const v) tally_nil }
 
@@ -180,24 +189,30 @@ name_tally s (variable shape root) = when_some _ (record { is = (tt, tally_nil) 
 name_tally s (routine q up None) = when_none
 name_tally s (routine q up (Some h)) = when_some _ (record { is = tt })
 
-sels_with : (n m : ℕ) (sels : ir.Sels) (x : ir.Sel) → Tally n (sels_phrases sels) → Tally m (sel_phrases x) → Tally (n + m) (sels_phrases (with_sel sels x))
+sels_with : (n m : ℕ) (sels : ir.Sels) (x : ir.Sel) → Tally n (sels_phrases sels) → Tally m (sel_phrases x)
+    → Tally (n + m) (sels_phrases (with_sel sels x))
 sels_with n m sels x h k = subst (λ ys. Tally (n + m) ys) (sym (phrases_with sels x)) (tally_join h (tally_alone k))
 
-field_part_tally : (s : Scene) (f : Found) (n : ℕ) (l : Located) (p : ℕ × ℕ) → IsVariable f × Tally n (sels_phrases l.sels) → DenotedTally f n (field_part s l p)
+field_part_tally : (s : Scene) (f : Found) (n : ℕ) (l : Located) (p : ℕ × ℕ) → IsVariable f × Tally n (sels_phrases l.sels)
+    → DenotedTally f n (field_part s l p)
 unfolding expr_phrases
 field_part_tally s f n l p h = record { is = (h.0, tally_is (n + 0) n (omega arith) (sels_with n 0 l.sels _ h.1 (sel_more _ tally_nil))) }
 
-pub field_tally : (s : Scene) (f : Found) (n : ℕ) (name : List ℕ) (d : Denoted) → DenotedTally f n d → When (select_field s name d) (DenotedTally f n)
-field_tally s f n name (a_variable l) h = when_map {P = λ p. Unit {0}} (field_part s l) (anything (field_of s name l)) (λ p g. field_part_tally s f n l p h.is)
+pub field_tally : (s : Scene) (f : Found) (n : ℕ) (name : List ℕ) (d : Denoted) → DenotedTally f n d
+    → When (select_field s name d) (DenotedTally f n)
+field_tally s f n name (a_variable l) h =
+    when_map {P = λ p. Unit {0}} (field_part s l) (anything (field_of s name l)) (λ p g. field_part_tally s f n l p h.is)
 field_tally s f n name (a_constant shape v) h = when_some _ h
 field_tally s f n name (a_routine q up x) h = when_some _ h
 field_tally s f n name no_array h = when_some _ h
 
-element_tally : (s : Scene) (f : Found) (n m : ℕ) (l : Located) (r : ℕ × ℕ) (t : Typing) → IsVariable f × Tally n (sels_phrases l.sels) → TypingTally m t → DenotedTally f (n + m) (element_part s l r t)
+element_tally : (s : Scene) (f : Found) (n m : ℕ) (l : Located) (r : ℕ × ℕ) (t : Typing) → IsVariable f × Tally n (sels_phrases l.sels)
+    → TypingTally m t → DenotedTally f (n + m) (element_part s l r t)
 unfolding expr_phrases
 element_tally s f n m l r t h g = record { is = (h.0, sels_with n m l.sels _ h.1 (sel_more _ (value_tally g))) }
 
-pub index_tally : (s : Scene) (f : Found) (n m : ℕ) (d : Option Denoted) (i : Option Typing) → When d (DenotedTally f n) → When i (TypingTally m) → When (select_index s d i) (DenotedTally f (n + m))
+pub index_tally : (s : Scene) (f : Found) (n m : ℕ) (d : Option Denoted) (i : Option Typing) → When d (DenotedTally f n)
+    → When i (TypingTally m) → When (select_index s d i) (DenotedTally f (n + m))
 index_tally s f n m None i h g = when_none
 index_tally s f n m (Some (a_variable l)) i h g = by (row_at s l.shape) i g
   where
@@ -225,12 +240,16 @@ off_selected : (s : Scene) (w : Use) (f : Found) (v : Option Denoted) → OffVar
 off_selected s w absent v h q = h
 off_selected s w bad v h q = h
 off_selected s w (constant shape x) v h q =
-    absurd (let bad : true ≡ false = no_fault_alone (not_variable w true (constant shape x)) fault.NotVariable (no_fault (no_constant s true (constant shape x)) fault.NotConst _ (no_faults_left _ (when (not_procedure w true (constant shape x)) fault.NotProcedure) q)).1 in cc)
+    absurd (let bad : true ≡ false = no_fault_alone (not_variable w true (constant shape x)) fault.NotVariable
+    (no_fault (no_constant s true (constant shape x)) fault.NotConst _
+    (no_faults_left _ (when (not_procedure w true (constant shape x)) fault.NotProcedure) q)).1 in cc)
 off_selected s w (named shape) v h q = h
 off_selected s w (variable shape root) v h q = h
 off_selected s w (routine r up None) v h q = h
 off_selected s w (routine r up (Some x)) v h q =
-    absurd (let bad : true ≡ false = no_fault_alone (not_variable w true (routine r up (Some x))) fault.NotVariable (no_fault (no_constant s true (routine r up (Some x))) fault.NotConst _ (no_faults_left _ (when (not_procedure w true (routine r up (Some x))) fault.NotProcedure) q)).1 in cc)
+    absurd (let bad : true ≡ false = no_fault_alone (not_variable w true (routine r up (Some x))) fault.NotVariable
+    (no_fault (no_constant s true (routine r up (Some x))) fault.NotConst _
+    (no_faults_left _ (when (not_procedure w true (routine r up (Some x))) fault.NotProcedure) q)).1 in cc)
 
 pub bare_end : (f : Found) (d : Denoted) → DenotedTally f 0 d → DesigTally 0 d
 bare_end f (a_variable l) h = record { is = h.is.1 }
@@ -238,15 +257,19 @@ bare_end f (a_constant shape v) h = record { is = refl }
 bare_end f (a_routine q up x) h = record { is = refl }
 bare_end f no_array h = record { is = tt }
 
-pub selected_end : (s : Scene) (w : Use) (f : Found) (n : ℕ) (v : Option Denoted) (d : Denoted) → DenotedTally f n d → desig_rules s w true f v ≡ [] → DesigTally n d
+pub selected_end : (s : Scene) (w : Use) (f : Found) (n : ℕ) (v : Option Denoted) (d : Denoted) → DenotedTally f n d
+    → desig_rules s w true f v ≡ [] → DesigTally n d
 selected_end s w f n v (a_variable l) h q = record { is = h.is.1 }
 selected_end s w f n v (a_constant shape x) h q = absurd (off_selected s w f v h.is q)
 selected_end s w f n v (a_routine r up x) h q = absurd (off_selected s w f v h.is q)
 selected_end s w f n v no_array h q = record { is = tt }
 
 -- in a constant place nothing is selected
-pub constant_end : (s : Scene) (w : Use) (f : Found) (n : ℕ) (v : Option Denoted) (d : Denoted) → DenotedTally f n d → desig_rules (in_constant s) w true f v ≡ [] → ⊥
-constant_end s w f n v d h q = by f (there d h) (no_fault (no_constant (in_constant s) true f) fault.NotConst _ (no_faults_left _ (when (not_procedure w true f) fault.NotProcedure) q)).0
+pub constant_end : (s : Scene) (w : Use) (f : Found) (n : ℕ) (v : Option Denoted) (d : Denoted) → DenotedTally f n d
+    → desig_rules (in_constant s) w true f v ≡ [] → ⊥
+constant_end s w f n v d h q = by f (there d h)
+    (no_fault (no_constant (in_constant s) true f) fault.NotConst _
+    (no_faults_left _ (when (not_procedure w true f) fault.NotProcedure) q)).0
   where
     there : (d : Denoted) → DenotedTally f n d → (OffVariable f → ⊥) → IsVariable f
     there (a_variable l) h k = h.is.0
@@ -288,12 +311,15 @@ callee_tally n no_array h = when_none
 
 -- ---- calls
 
-pub call_tally : (n m : ℕ) (c : Callee) (o : Option ℕ) (args : ir.Args) → 0 ≡ n → Tally m (args_phrases args) → TypingTally (n + m) (call_typing c o args)
+pub call_tally : (n m : ℕ) (c : Callee) (o : Option ℕ) (args : ir.Args) → 0 ≡ n → Tally m (args_phrases args)
+    → TypingTally (n + m) (call_typing c o args)
 unfolding expr_phrases
 call_tally n m c None args e h = record { is = tally_is m (n + m) (omega (arith, e)) (test_more (ir.CallTest c.number args c.up) h) }
-call_tally n m c (Some shape) args e h = record { is = tally_is m (n + m) (omega (arith, e)) (expr_more (ir.CallExpr c.number args c.up) h) }
+call_tally n m c (Some shape) args e h =
+    record { is = tally_is m (n + m) (omega (arith, e)) (expr_more (ir.CallExpr c.number args c.up) h) }
 
-simple_arg : (s : Scene) (n : ℕ) (mode : Option Mode) (shape : ℕ) (m : Meaning) → MeaningTally n m → Tally n (arg_phrases (simple_argument s mode shape m))
+simple_arg : (s : Scene) (n : ℕ) (mode : Option Mode) (shape : ℕ) (m : Meaning) → MeaningTally n m
+    → Tally n (arg_phrases (simple_argument s mode shape m))
 unfolding expr_phrases
 simple_arg s n None shape m h = arg_more _ (value_in n m h)
 simple_arg s n (Some modes.Var) shape (a_place d) h = arg_more _ h
@@ -325,17 +351,20 @@ pub args_none : Tally 0 (args_phrases ir.no_args)
 unfolding expr_phrases
 args_none = tally_nil
 
-pub args_more : (n m : ℕ) (p : ir.Arg × ir.Args) → Tally n (arg_phrases p.0) → Tally m (args_phrases p.1) → Tally (n + m) (args_phrases (cons_arg p))
+pub args_more : (n m : ℕ) (p : ir.Arg × ir.Args) → Tally n (arg_phrases p.0) → Tally m (args_phrases p.1)
+    → Tally (n + m) (args_phrases (cons_arg p))
 unfolding expr_phrases
 args_more n m p h k = tally_join h k
 
 -- ---- relations
 
-pub related_tally : (s : Scene) (n m : ℕ) (r : Relation) (p : Typing × Typing) → TypingTally n p.0 → TypingTally m p.1 → TypingTally (n + m) (related s r p)
+pub related_tally : (s : Scene) (n m : ℕ) (r : Relation) (p : Typing × Typing) → TypingTally n p.0 → TypingTally m p.1
+    → TypingTally (n + m) (related s r p)
 unfolding expr_phrases
 related_tally s n m relations.Equal p h g = record { is = by p.0.meaning p.1.meaning h.is g.is }
   where
-    two : (b : Bool) (d e : ir.Desig) (r1 r2 : Range) → Tally n (desig_phrases d) → Tally m (desig_phrases e) → Tally (n + m) (test_phrases (if b then ir.SameCells d e else ir.Unify d r1 e r2))
+    two : (b : Bool) (d e : ir.Desig) (r1 r2 : Range) → Tally n (desig_phrases d) → Tally m (desig_phrases e)
+        → Tally (n + m) (test_phrases (if b then ir.SameCells d e else ir.Unify d r1 e r2))
     two true d e r1 r2 h g = test_more _ (tally_join h g)
     two false d e r1 r2 h g = test_more _ (tally_join h g)
 
@@ -374,7 +403,9 @@ pub record TermTally (o : Operand) (n : ℕ) (t : Typing) : Type 0 where
   pub sort : other_sort o ≡ false
 
 pub operand_sort : (s : Scene) (o : Operand) (v : Option Typing) → operand_rules s o v ≡ [] → other_sort o ≡ false
-operand_sort s o v q = or_left (other_sort o) (holds (no_operand s o) v) (no_fault_alone (other_sort o || holds (no_operand s o) v) fault.TypeMismatch (no_fault (logical_operand o.operator && holds (not_test s) v) fault.NotTest _ q).1)
+operand_sort s o v q = or_left (other_sort o) (holds (no_operand s o) v)
+    (no_fault_alone (other_sort o || holds (no_operand s o) v) fault.TypeMismatch
+    (no_fault (logical_operand o.operator && holds (not_test s) v) fault.NotTest _ q).1)
 
 pub operands_none : (sort : Bool) → OperandsTally sort 0 []
 unfolding expr_phrases
@@ -384,11 +415,23 @@ clash : {A : Type 0} (b : Bool) → b ≡ true → b ≡ false → A
 clash true p q = absurd (cc)
 clash false p q = absurd (cc)
 
-pub operands_more : (sort : Bool) (o : Operator) (n m : ℕ) (p : Typing × Operands) → TermTally (operand_behind sort o) n p.0 → OperandsTally sort m p.1 → OperandsTally sort (n + m) (cons_operand o p)
+pub operands_more : (sort : Bool) (o : Operator) (n m : ℕ) (p : Typing × Operands) → TermTally (operand_behind sort o) n p.0
+    → OperandsTally sort m p.1 → OperandsTally sort (n + m) (cons_operand o p)
 unfolding expr_phrases
 operands_more true (arithmetic op) n m p h g = absurd (let bad : true ≡ false = h.sort in cc)
-operands_more false (arithmetic op) n m p h g = record { links = λ e. tally_join (value_tally h.typing) (g.links e); tests = λ e. absurd (let bad : false ≡ true = e in cc); kind = refl }
-operands_more true logical n m p h g = record { links = λ e. absurd (let bad : true ≡ false = e in cc); tests = λ e. tally_join (test_tally h.typing) (g.tests e); kind = refl }
+operands_more false (arithmetic op) n m p h g =
+    record {
+      links = λ e. tally_join (value_tally h.typing) (g.links e);
+      tests = λ e. absurd (let bad : false ≡ true = e in cc);
+      kind =
+          refl;
+    }
+operands_more true logical n m p h g = record {
+  links = λ e. absurd (let bad : true ≡ false = e in cc);
+  tests =
+      λ e. tally_join (test_tally h.typing) (g.tests e);
+  kind = refl;
+}
 operands_more false logical n m p h g = absurd (let bad : true ≡ false = h.sort in cc)
 
 -- AND or OR of tests
@@ -408,20 +451,27 @@ unfolding expr_phrases
 no_links_left true n h = h.tests refl
 no_links_left false n h = h.links refl
 
-chain_meaning : (join : ir.Tests → ir.Test) → Joins join → (sign : Option Sign) (sort : Bool) (n m : ℕ) (first : Typing) (xs : Operands) → TypingTally n first → OperandsTally sort m xs → MeaningTally (n + m) (chain_of join sign (first, xs))
+chain_meaning : (join : ir.Tests → ir.Test) → Joins join → (sign : Option Sign) (sort : Bool) (n m : ℕ) (first : Typing) (xs : Operands)
+    → TypingTally n first → OperandsTally sort m xs → MeaningTally (n + m) (chain_of join sign (first, xs))
 unfolding expr_phrases
-chain_meaning join j None sort n m first [] h g = let none = (no_links_left sort m g).count in (typing_is n (n + m) (omega (arith, none)) h).is
-chain_meaning join j (Some signs.Plus) sort n m first [] h g = let none = (no_links_left sort m g).count in no_place_in (n + m) first.meaning (typing_is n (n + m) (omega (arith, none)) h).is
+chain_meaning join j None sort n m first [] h g = let none = (no_links_left sort m g).count in
+    (typing_is n (n + m) (omega (arith, none)) h).is
+chain_meaning join j (Some signs.Plus) sort n m first [] h g = let none = (no_links_left sort m g).count in
+    no_place_in (n + m) first.meaning (typing_is n (n + m) (omega (arith, none)) h).is
 chain_meaning join j (Some signs.Minus) sort n m first [] h g = expr_more _ (tally_join (value_tally h) (no_links_left sort m g))
 chain_meaning join j sign sort n m first ((arithmetic op, t) ∷ rest) h g = expr_more _ (tally_join (value_tally h) (g.links g.kind))
 chain_meaning join j sign sort n m first ((logical, t) ∷ rest) h g =
-    subst (λ ys. Tally (n + m) ys) (sym (j.is (ir.more_tests (test_of first.meaning) (tests_of ((logical, t) ∷ rest))))) (test_more _ (tally_join (test_tally h) (g.tests g.kind)))
+    subst (λ ys. Tally (n + m) ys) (sym (j.is (ir.more_tests (test_of first.meaning) (tests_of ((logical, t) ∷ rest)))))
+    (test_more _ (tally_join (test_tally h) (g.tests g.kind)))
 
-pub chain_tally : (s : Scene) (join : ir.Tests → ir.Test) → Joins join → (o : Operand) (sign : Option Sign) (l sort : Bool) (n m : ℕ) (v : Option (Typing × Operands)) → When v (λ p. TypingTally n p.0 × OperandsTally sort m p.1)
+pub chain_tally : (s : Scene) (join : ir.Tests → ir.Test) → Joins join
+    → (o : Operand) (sign : Option Sign) (l sort : Bool) (n m : ℕ) (v : Option (Typing × Operands))
+    → When v (λ p. TypingTally n p.0 × OperandsTally sort m p.1)
     → When (option_map (chained join sign) (unless (chain_rules s join o sign l v) v)) (TermTally o (n + m))
 chain_tally s join j o sign l sort n m v h =
     when_map {P = λ p. (TypingTally n p.0 × OperandsTally sort m p.1) × (other_sort o ≡ false)} (chained join sign)
-    (when_node (chain_rules s join o sign l) v h (λ p g q. (g, operand_sort s o _ (no_fault (s.constant && l) fault.NotConst _ (no_faults_left _ (when _ fault.ConstRange) q)).1)))
+    (when_node (chain_rules s join o sign l) v h
+    (λ p g q. (g, operand_sort s o _ (no_fault (s.constant && l) fault.NotConst _ (no_faults_left _ (when _ fault.ConstRange) q)).1)))
     (λ p g. record { typing = record { is = chain_meaning join j sign sort n m p.0 p.1 g.0.0 g.0.1 }; sort = g.1 })
 
 pub first_tally_of : {A B : Type 0} {P : A → Type 0} {v : Option A} (w : Option B) → When v P → When (option_map (λ p. p.0) (both_of v w)) P

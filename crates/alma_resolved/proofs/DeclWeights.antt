@@ -18,7 +18,8 @@ use Rattle.alma_rules.specs.Types.{all_names}
 use Rattle.alma_rules.specs.Decls.{formals_of}
 use Rattle.alma_resolved.proofs.Onward.{Up, up_stay, up_token, up_node, up_then, name_up}
 use Rattle.alma_resolved.proofs.Standing.{lists_up, type_lists, consts_lists, types_lists, mode_up}
-use Rattle.alma_resolved.proofs.Weights.{weigh_stmts, total, Weighs, weighs_up, weighs_both, weighs_after, weighs_before, name_weighs, stmt_weighs, list_stmts_weighs}
+use Rattle.alma_resolved.proofs.Weights.{weigh_stmts, total, Weighs, weighs_up, weighs_both, weighs_after, weighs_before, name_weighs}
+use Rattle.alma_resolved.proofs.Weights.{stmt_weighs, list_stmts_weighs}
 
 -- ---- what declarations weigh
 
@@ -68,13 +69,16 @@ vars_weigh : (W : ℕ → ℕ) (xs : List VarEntry) → Weighs W (number.numbers
 vars_weigh W [] = weighs_up W _ up_stay
 vars_weigh W (x ∷ xs) =
     weighs_both W _ _ _ _ (names_weigh W x.names)
-    (weighs_after W _ _ _ up_token (weighs_after W _ _ _ (lists_up _ _ (type_lists x.type_node)) (weighs_after W _ _ _ up_token (vars_weigh W xs))))
+    (weighs_after W _ _ _ up_token (weighs_after W _ _ _ (lists_up _ _ (type_lists x.type_node))
+    (weighs_after W _ _ _ up_token (vars_weigh W xs))))
 
 formal_weighs : (W : ℕ → ℕ) (x : Formal) → Weighs W (number.number_formal x) (weigh_names W (all_names (numbered.view_names x.names)))
 formal_weighs W x =
-    weighs_after W _ _ _ (mode_up x.mode) (weighs_before W _ _ _ (names_weigh W x.names) (up_then _ _ up_token (up_then _ _ (name_up x.type_name) (up_node x.node))))
+    weighs_after W _ _ _ (mode_up x.mode) (weighs_before W _ _ _ (names_weigh W x.names)
+    (up_then _ _ up_token (up_then _ _ (name_up x.type_name) (up_node x.node))))
 
-more_formals_weigh : (W : ℕ → ℕ) (xs : List Formal) → Weighs W (number.numbers_of_formals xs) (weigh_formals W (numbered.more_formals_of xs))
+more_formals_weigh : (W : ℕ → ℕ) (xs : List Formal)
+    → Weighs W (number.numbers_of_formals xs) (weigh_formals W (numbered.more_formals_of xs))
 more_formals_weigh W [] = weighs_up W _ up_stay
 more_formals_weigh W (x ∷ xs) = weighs_after W _ _ _ up_token (weighs_both W _ _ _ _ (formal_weighs W x) (more_formals_weigh W xs))
 
@@ -82,11 +86,13 @@ params_weigh : (W : ℕ → ℕ) (x : Option Params) → Weighs W (number.number
 params_weigh W None = weighs_up W _ up_stay
 params_weigh W (Some x) = by x.formals
   where
-    by : (o : Option Formals) → Weighs W (number.numbers_inside_params o) (weigh_formals W (formals_of (Some (record { formals = numbered.formals_in o }))))
+    by : (o : Option Formals) → Weighs W (number.numbers_inside_params o)
+        (weigh_formals W (formals_of (Some (record { formals = numbered.formals_in o }))))
     by None = weighs_up W _ (up_then _ _ up_token up_token)
     by (Some f) =
         weighs_after W _ _ _ up_token
-        (weighs_before W _ _ _ (weighs_both W _ _ _ _ (formal_weighs W f.first) (weighs_before W _ _ _ (more_formals_weigh W f.more.items) (up_node f.node))) up_token)
+        (weighs_before W _ _ _ (weighs_both W _ _ _ _ (formal_weighs W f.first)
+        (weighs_before W _ _ _ (more_formals_weigh W f.more.items) (up_node f.node))) up_token)
 
 result_up : (x : Option Name) → Up (number.numbers_of_result x)
 result_up None = up_stay
@@ -95,17 +101,21 @@ result_up (Some x) = up_then _ _ up_token (name_up x)
 body_weighs : (W : ℕ → ℕ) (x : Option ds.Stmts) → Weighs W (number.numbers_of_body x) (weigh_body W (numbered.body_of x))
 unfolding weigh_stmts
 body_weighs W None = weighs_up W _ up_stay
-body_weighs W (Some x) = weighs_after W _ _ _ up_token (weighs_both W _ _ _ _ (stmt_weighs W x.first.value) (weighs_before W _ _ _ (list_stmts_weighs W x.more.items) (up_node x.node)))
+body_weighs W (Some x) = weighs_after W _ _ _ up_token
+    (weighs_both W _ _ _ _ (stmt_weighs W x.first.value) (weighs_before W _ _ _ (list_stmts_weighs W x.more.items) (up_node x.node)))
 
 mutual
   unfolding weigh_block
 
   decl_weighs : (W : ℕ → ℕ) (x : dh.Decl) → Weighs W (number.number_decl x) (weigh_decl W (numbered.view_decl x))
-  decl_weighs W (dh.Const n entries) = weighs_up W _ (up_then _ _ up_token (up_then _ _ (lists_up _ _ (consts_lists entries.items)) (up_node n)))
-  decl_weighs W (dh.Type n entries) = weighs_up W _ (up_then _ _ up_token (up_then _ _ (lists_up _ _ (types_lists entries.items)) (up_node n)))
+  decl_weighs W (dh.Const n entries) = weighs_up W _
+      (up_then _ _ up_token (up_then _ _ (lists_up _ _ (consts_lists entries.items)) (up_node n)))
+  decl_weighs W (dh.Type n entries) = weighs_up W _
+      (up_then _ _ up_token (up_then _ _ (lists_up _ _ (types_lists entries.items)) (up_node n)))
   decl_weighs W (dh.Var n entries) = weighs_after W _ _ _ up_token (weighs_before W _ _ _ (vars_weigh W entries.items) (up_node n))
   decl_weighs W (dh.Procedure' n l p r m shape row b e) =
-      weighs_after W _ _ _ up_token (weighs_both W _ _ _ _ (name_weighs W l) (weighs_both W _ _ _ _ (params_weigh W p) (weighs_after W _ _ _ (result_up r) (weighs_after W _ _ _ up_token
+      weighs_after W _ _ _ up_token (weighs_both W _ _ _ _ (name_weighs W l)
+      (weighs_both W _ _ _ _ (params_weigh W p) (weighs_after W _ _ _ (result_up r) (weighs_after W _ _ _ up_token
       (weighs_before W _ _ _ (weighs_both W _ _ _ _ (row_weighs W row) (weighs_before W _ _ _ (body_weighs W b) (up_node m)))
       (up_then _ _ up_token (up_then _ _ (name_up e) (up_then _ _ up_token (up_node n)))))))))
 
@@ -124,7 +134,8 @@ block_weighs W x = weighs_both W _ _ _ _ (list_weighs W x.decls.items) (weighs_b
 
 module_weighs : (W : ℕ → ℕ) (m : Module) → Weighs W (number.number_module m) (weigh_module W (numbered.view_module m))
 module_weighs W m =
-    weighs_after W _ _ _ up_token (weighs_both W _ _ _ _ (name_weighs W m.name) (weighs_after W _ _ _ up_token (weighs_before W _ _ _ (block_weighs W m.block)
+    weighs_after W _ _ _ up_token (weighs_both W _ _ _ _ (name_weighs W m.name)
+    (weighs_after W _ _ _ up_token (weighs_before W _ _ _ (block_weighs W m.block)
     (up_then _ _ up_token (up_then _ _ (name_up m.end_name) (up_then _ _ up_token (up_node m.node)))))))
 
 -- a numbered tree weighs no more than its tokens

@@ -35,7 +35,8 @@ vars_made (x ∷ xs) = both _ (names_made x.names) (behind_token (both _ (type_m
 formal_made : (x : Formal) → Makes (number.number_formal x) (count.count_formal (plain.view_formal x)) (view.view_formal x)
 formal_made x = behind_mode x.mode (both _ (names_made x.names) (behind_token (both _ (name_made x.type_name) (closes x.node _))))
 
-formal_list_made : (xs : List Formal) → Makes (number.numbers_of_formals xs) (count.count_formal_tail (plain.formal_tail_of xs)) (view.more_formals_of xs)
+formal_list_made : (xs : List Formal) → Makes (number.numbers_of_formals xs) (count.count_formal_tail (plain.formal_tail_of xs))
+    (view.more_formals_of xs)
 formal_list_made [] = stays _
 formal_list_made (x ∷ xs) = behind_token (both _ (formal_made x) (last _ (formal_list_made xs)))
 
@@ -69,10 +70,12 @@ mutual
   decl_made (dh.Type n entries) = behind_token (both _ (types_made entries.items) (closes n _))
   decl_made (dh.Var n entries) = behind_token (both _ (vars_made entries.items) (closes n _))
   decl_made (dh.Procedure' n l p r m shape row b e) =
-      behind_token (both _ (name_made l) (both _ (params_made p) (both _ (result_made r) (behind_token (both _ (both _ (decls_made row) (both _
+      behind_token (both _ (name_made l) (both _ (params_made p)
+      (both _ (result_made r) (behind_token (both _ (both _ (decls_made row) (both _
       (body_made b) (closes m _))) (behind_token (both _ (name_made e) (behind_token (closes n _)))))))))
 
-  pub decls_made : {n : _} (x : db.Row_of-Decl n) → Makes (number.number_decls x) (count.count_decls (plain.view_decls x)) (view.view_decls x)
+  pub decls_made : {n : _} (x : db.Row_of-Decl n)
+      → Makes (number.number_decls x) (count.count_decls (plain.view_decls x)) (view.view_decls x)
   decls_made db.end_of-Decl = stays _
   decls_made (db.more_of-Decl d rest) = both _ (decl_made d) (last _ (decls_made rest))
 
@@ -85,5 +88,6 @@ block_made x = both _ (decl_list_made x.decls.items) (both _ (body_made x.body) 
 
 pub module_made : (x : Module) → Makes (number.number_module x) (count.count_module (plain.view_module x)) (view.view_module x)
 module_made x =
-    behind_token (both _ (name_made x.name) (behind_token (both _ (block_made x.block) (behind_token (both _ (name_made x.end_name) (behind_token
+    behind_token (both _ (name_made x.name) (behind_token
+    (both _ (block_made x.block) (behind_token (both _ (name_made x.end_name) (behind_token
     (closes x.node _)))))))

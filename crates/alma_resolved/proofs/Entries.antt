@@ -1,5 +1,6 @@
 -- What a scene keeps whose phrases belong to a routine of a program: its table, and what each name declared in it stands for.
-use Rattle.std.proofs.Common.{◌≡◌, ℕ, suc, ◌+◌, ◌-◌, ◌<◌, ◌≤◌, Bool, true, false, List, [], ◌∷◌, ◌++◌, length, Option, None, Some, refl, sym, ap, ◌∙◌, subst, arith, append_assoc, append-nil, length-append}
+use Rattle.std.proofs.Common.{◌≡◌, ℕ, suc, ◌+◌, ◌-◌, ◌<◌, ◌≤◌, Bool, true, false, List, [], ◌∷◌, ◌++◌, length, Option, None, Some, refl}
+use Rattle.std.proofs.Common.{sym, ap, ◌∙◌, subst, arith, append_assoc, append-nil, length-append}
 use Rattle.std.specs.Prelude.{get_or, sum_by, if◌then◌else◌, IsSome, IsNone}
 use Rattle.alma_names.specs.declared.block.Access.{Access}
 use Rattle.alma_names.specs.declared.block.Access.TheVariants as access
@@ -124,32 +125,43 @@ result_still t u None x h = h
 result_still t u (Some shape) x h = (h.0, simple_still t u shape h.1)
 
 pub head_still : (p : Program) (t u : List PlainShape) (q : ℕ) (h : Heading) → HeadKeeps p t q h → HeadKeeps p (t ++ u) q h
-head_still p t u q h g = record { formals = formals_still t u h.formals (routine_at p q).params g.formals; result = result_still t u h.result (routine_at p q) g.result; small = g.small }
+head_still p t u q h g = record {
+  formals = formals_still t u h.formals (routine_at p q).params g.formals;
+  result =
+      result_still t u h.result (routine_at p q) g.result;
+  small = g.small;
+}
 
-pub keeps_shapes : {k : Place} {c : ℕ} {s : Scene} (u : List PlainShape) → SceneKeeps k c s → TableKeeps (s.shapes ++ u) → SceneKeeps k c (record s { shapes = s.shapes ++ u })
+pub keeps_shapes : {k : Place} {c : ℕ} {s : Scene} (u : List PlainShape) → SceneKeeps k c s → TableKeeps (s.shapes ++ u)
+    → SceneKeeps k c (record s { shapes = s.shapes ++ u })
 keeps_shapes {k} {c} {s} u h t = record {
   table = t;
   deep = h.deep;
-  entries = each_follows_from (EntryKeeps k c s.shapes) (EntryKeeps k c (s.shapes ++ u)) (entry_still k c s.shapes u) 0 s.blocks.below s.blocks.top h.entries;
+  entries = each_follows_from (EntryKeeps k c s.shapes) (EntryKeeps k c (s.shapes ++ u)) (entry_still k c s.shapes u) 0 s.blocks.below
+      s.blocks.top h.entries;
   heads = λ q x e. head_still k.program s.shapes u q x (h.heads q x e);
 }
 
 -- ---- one name more
 
-on_top : (P : ℕ → Entry → Type 0) (n m : ℕ) (below : List (List DeclaredName)) (top : List DeclaredName) (d : DeclaredName) → AllFrom P n below top → n + length below ≡ m → P m d.entry → AllFrom P n below (top ++ d ∷ [])
+on_top : (P : ℕ → Entry → Type 0) (n m : ℕ) (below : List (List DeclaredName)) (top : List DeclaredName) (d : DeclaredName)
+    → AllFrom P n below top → n + length below ≡ m → P m d.entry → AllFrom P n below (top ++ d ∷ [])
 unfolding AllFrom
 on_top P n m [] [] d h e p = let same : m ≡ n = omega (arith, e) in (subst (λ i. P i d.entry) same p, tt)
 on_top P n m [] (x ∷ xs) d h e p = (h.0, on_top P n m [] xs d h.1 e p)
 on_top P n m (b ∷ bs) top d h e p = (h.0, on_top P (n + 1) m bs top d h.1 (omega (arith, e)) p)
 
-pub keeps_declared : {k : Place} {c : ℕ} {s : Scene} (name : tree.Name) (from : ℕ) (e : Entry) → SceneKeeps k c s → EntryKeeps k c s.shapes (suc c) e → SceneKeeps k c (declared s name from e)
+pub keeps_declared : {k : Place} {c : ℕ} {s : Scene} (name : tree.Name) (from : ℕ) (e : Entry) → SceneKeeps k c s
+    → EntryKeeps k c s.shapes (suc c) e → SceneKeeps k c (declared s name from e)
 keeps_declared {k} {c} {s} name from e h p = by (is_first s name)
   where
-    by : (b : Bool) → SceneKeeps k c (if b then record s { blocks = with_declared s.blocks (record { name = text_at s name.token; from = from; entry = e }) } else s)
+    by : (b : Bool) → SceneKeeps k c (if b then record s
+        { blocks = with_declared s.blocks (record { name = text_at s name.token; from = from; entry = e }) } else s)
     by true = record {
       table = h.table;
       deep = h.deep;
-      entries = on_top (EntryKeeps k c s.shapes) 0 (suc c) s.blocks.below s.blocks.top (record { name = text_at s name.token; from = from; entry = e }) h.entries (omega (arith, h.deep)) p;
+      entries = on_top (EntryKeeps k c s.shapes) 0 (suc c) s.blocks.below s.blocks.top
+          (record { name = text_at s name.token; from = from; entry = e }) h.entries (omega (arith, h.deep)) p;
       heads = h.heads;
     }
     by false = h
@@ -157,7 +169,8 @@ keeps_declared {k} {c} {s} name from e h p = by (is_first s name)
 declared_shapes : (s : Scene) (name : tree.Name) (from : ℕ) (e : Entry) → (declared s name from e).shapes ≡ s.shapes
 declared_shapes s name from e = by (is_first s name)
   where
-    by : (b : Bool) → (if b then record s { blocks = with_declared s.blocks (record { name = text_at s name.token; from = from; entry = e }) } else s).shapes ≡ s.shapes
+    by : (b : Bool) → (if b then record s
+        { blocks = with_declared s.blocks (record { name = text_at s name.token; from = from; entry = e }) } else s).shapes ≡ s.shapes
     by true = refl
     by false = refl
 
@@ -170,7 +183,11 @@ pub longer_same : (s t : Scene) → t.shapes ≡ s.shapes → Longer s t
 longer_same s t e = record { tail = []; is = e ∙ sym (append-nil s.shapes) }
 
 pub longer_twice : {s t u : Scene} → Longer s t → Longer t u → Longer s u
-longer_twice {s} {t} {u} a b = record { tail = a.tail ++ b.tail; is = b.is ∙ (ap (λ x. x ++ b.tail) a.is ∙ append_assoc s.shapes a.tail b.tail) }
+longer_twice {s} {t} {u} a b = record {
+  tail = a.tail ++ b.tail;
+  is = b.is
+      ∙ (ap (λ x. x ++ b.tail) a.is ∙ append_assoc s.shapes a.tail b.tail);
+}
 
 pub longer_declared : (s : Scene) (name : tree.Name) (from : ℕ) (e : Entry) → Longer s (declared s name from e)
 longer_declared s name from e = longer_same s (declared s name from e) (declared_shapes s name from e)

@@ -29,29 +29,39 @@ no_return k lo hi x h = tt
 
 -- ---- lists of phrases
 
-each_wider : (k : Place) (i : Bool) (lo hi low high : ℕ) (xs : List Phrase) → low ≤ lo → hi ≤ high → AllByRecursion (Fits k i lo hi) xs → AllByRecursion (Fits k i low high) xs
+each_wider : (k : Place) (i : Bool) (lo hi low high : ℕ) (xs : List Phrase) → low ≤ lo → hi ≤ high → AllByRecursion (Fits k i lo hi) xs
+    → AllByRecursion (Fits k i low high) xs
 each_wider k i lo hi low high xs p q h = each_follows (Fits k i lo hi) (Fits k i low high) (λ x g. wider k i lo hi low high x p q g) xs h
 
 pub laid_nil : (k : Place) (i : Bool) (lo hi : ℕ) → lo ≤ hi → Laid k i lo hi []
 laid_nil k i lo hi le = record { le = le; all = tt }
 
-pub laid_cons : {k : Place} {i : Bool} {lo hi : ℕ} {xs : List Phrase} (x : Phrase) → Fits k i lo hi x → Laid k i lo hi xs → Laid k i lo hi (x ∷ xs)
+pub laid_cons : {k : Place} {i : Bool} {lo hi : ℕ} {xs : List Phrase} (x : Phrase) → Fits k i lo hi x → Laid k i lo hi xs
+    → Laid k i lo hi (x ∷ xs)
 laid_cons x f h = record { le = h.le; all = (f, h.all) }
 
-pub laid_join : {k : Place} {i : Bool} {lo mid hi : ℕ} {xs ys : List Phrase} → Laid k i lo mid xs → Laid k i mid hi ys → Laid k i lo hi (xs ++ ys)
+pub laid_join : {k : Place} {i : Bool} {lo mid hi : ℕ} {xs ys : List Phrase} → Laid k i lo mid xs → Laid k i mid hi ys
+    → Laid k i lo hi (xs ++ ys)
 laid_join {k} {i} {lo} {mid} {hi} {xs} {ys} p q = record {
   le = omega (arith, p.le, q.le);
-  all = each_of_append (Fits k i lo hi) xs ys (each_wider k i lo mid lo hi xs (omega arith) q.le p.all) (each_wider k i mid hi lo hi ys p.le (omega arith) q.all);
+  all = each_of_append (Fits k i lo hi) xs ys (each_wider k i lo mid lo hi xs (omega arith) q.le p.all)
+      (each_wider k i mid hi lo hi ys p.le (omega arith) q.all);
 }
 
-pub laid_wide : {k : Place} {i : Bool} {lo hi : ℕ} {xs : List Phrase} (low high : ℕ) → low ≤ lo → hi ≤ high → Laid k i lo hi xs → Laid k i low high xs
-laid_wide {k} {i} {lo} {hi} {xs} low high a b p = record { le = omega (arith, a, b, p.le); all = each_wider k i lo hi low high xs a b p.all }
+pub laid_wide : {k : Place} {i : Bool} {lo hi : ℕ} {xs : List Phrase} (low high : ℕ) → low ≤ lo → hi ≤ high → Laid k i lo hi xs
+    → Laid k i low high xs
+laid_wide {k} {i} {lo} {hi} {xs} low high a b p =
+    record { le = omega (arith, a, b, p.le); all = each_wider k i lo hi low high xs a b p.all }
 
 pub laid_one : {k : Place} {i : Bool} {lo hi : ℕ} {xs : List Phrase} → Laid k i lo hi xs → Laid k i lo hi (xs ++ [])
 laid_one {k} {i} {lo} {hi} {xs} p = record { le = p.le; all = each_of_append (Fits k i lo hi) xs [] p.all tt }
 
 pub laid_outside : {k : Place} {lo hi : ℕ} {xs : List Phrase} (i : Bool) → Laid k true lo hi xs → Laid k i lo hi xs
-laid_outside {k} {lo} {hi} {xs} i p = record { le = p.le; all = each_follows (Fits k true lo hi) (Fits k i lo hi) (outside k i lo hi) xs p.all }
+laid_outside {k} {lo} {hi} {xs} i p = record {
+  le = p.le;
+  all =
+      each_follows (Fits k true lo hi) (Fits k i lo hi) (outside k i lo hi) xs p.all;
+}
 
 pub laid_stays : {k : Place} {lo hi : ℕ} {xs : List Phrase} → Laid k true lo hi xs → AllByRecursion IsNoReturn xs
 laid_stays {k} {lo} {hi} {xs} p = each_follows (Fits k true lo hi) IsNoReturn (no_return k lo hi) xs p.all
@@ -65,13 +75,16 @@ loop_leaves n m lo hi (a_loop d range counter limit from to by body) p q h = (
   λ e. omega (arith, e, q, h.3, h.4),
 )
 
-leaves : (k : Place) (i : Bool) (n m lo hi : ℕ) → n < lo → m < lo → (x : Phrase) → Fits k i lo hi x → AllByRecursion (LoopLeaves n m) (loops_of x)
+leaves : (k : Place) (i : Bool) (n m lo hi : ℕ) → n < lo → m < lo → (x : Phrase) → Fits k i lo hi x
+    → AllByRecursion (LoopLeaves n m) (loops_of x)
 leaves k i n m lo hi p q (StmtPhrase (ForTo l)) h = (loop_leaves n m lo hi l p q h, tt)
 leaves k i n m lo hi p q (StmtPhrase (SomeOf l)) h = (loop_leaves n m lo hi l p q h, tt)
 leaves k i n m lo hi p q x h = tt
 
-pub laid_leaves : {k : Place} {i : Bool} {lo hi : ℕ} {xs : List Phrase} (n m : ℕ) → n < lo → m < lo → Laid k i lo hi xs → AllByRecursion (λ x. AllByRecursion (LoopLeaves n m) (loops_of x)) xs
-laid_leaves {k} {i} {lo} {hi} {xs} n m p q h = each_follows (Fits k i lo hi) (λ x. AllByRecursion (LoopLeaves n m) (loops_of x)) (leaves k i n m lo hi p q) xs h.all
+pub laid_leaves : {k : Place} {i : Bool} {lo hi : ℕ} {xs : List Phrase} (n m : ℕ) → n < lo → m < lo → Laid k i lo hi xs
+    → AllByRecursion (λ x. AllByRecursion (LoopLeaves n m) (loops_of x)) xs
+laid_leaves {k} {i} {lo} {hi} {xs} n m p q h =
+    each_follows (Fits k i lo hi) (λ x. AllByRecursion (LoopLeaves n m) (loops_of x)) (leaves k i n m lo hi p q) xs h.all
 
 -- ---- values that there may not be
 
@@ -96,20 +109,24 @@ pub when_all : {A : Type 0} {P : A → Type 0} (v : Option A) → ((x : A) → v
 when_all None f = record { gives = tt }
 when_all (Some x) f = record { gives = f x refl }
 
-pub when_map : {A B : Type 0} {P : A → Type 0} {Q : B → Type 0} {v : Option A} (f : A → B) → When v P → ((x : A) → P x → Q (f x)) → When (option_map f v) Q
+pub when_map : {A B : Type 0} {P : A → Type 0} {Q : B → Type 0} {v : Option A} (f : A → B) → When v P → ((x : A) → P x → Q (f x))
+    → When (option_map f v) Q
 when_map {A} {B} {P} {Q} {v = None} f h g = record { gives = tt }
 when_map {A} {B} {P} {Q} {v = Some x} f h g = record { gives = g x h.gives }
 
-pub when_then : {A B : Type 0} {P : A → Type 0} {Q : B → Type 0} {v : Option A} (f : A → Option B) → When v P → ((x : A) → P x → When (f x) Q) → When (option_and_then f v) Q
+pub when_then : {A B : Type 0} {P : A → Type 0} {Q : B → Type 0} {v : Option A} (f : A → Option B) → When v P
+    → ((x : A) → P x → When (f x) Q) → When (option_and_then f v) Q
 when_then {A} {B} {P} {Q} {v = None} f h g = record { gives = tt }
 when_then {A} {B} {P} {Q} {v = Some x} f h g = g x h.gives
 
-pub when_both : {A B : Type 0} {P : A → Type 0} {Q : B → Type 0} {v : Option A} {w : Option B} → When v P → When w Q → When (both_of v w) (λ p. P p.0 × Q p.1)
+pub when_both : {A B : Type 0} {P : A → Type 0} {Q : B → Type 0} {v : Option A} {w : Option B} → When v P → When w Q
+    → When (both_of v w) (λ p. P p.0 × Q p.1)
 when_both {A} {B} {P} {Q} {v = None} h g = record { gives = tt }
 when_both {A} {B} {P} {Q} {v = Some x} {w = None} h g = record { gives = tt }
 when_both {A} {B} {P} {Q} {v = Some x} {w = Some y} h g = record { gives = (h.gives, g.gives) }
 
-pub when_node : {A : Type 0} {P Q : A → Type 0} (rules : Option A → List CheckFault) (v : Option A) → When v P → ((x : A) → P x → rules (Some x) ≡ [] → Q x) → When (unless (rules v) v) Q
+pub when_node : {A : Type 0} {P Q : A → Type 0} (rules : Option A → List CheckFault) (v : Option A) → When v P
+    → ((x : A) → P x → rules (Some x) ≡ [] → Q x) → When (unless (rules v) v) Q
 when_node {A} {P} {Q} rules None h g = none (rules None)
   where
     none : (fs : List CheckFault) → When (unless fs None) Q

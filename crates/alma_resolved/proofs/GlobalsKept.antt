@@ -1,5 +1,6 @@
 -- The variables of the module are number slots of routine 0.
-use Rattle.std.proofs.Common.{◌≡◌, ℕ, ◌+◌, ◌-◌, ◌<◌, ◌≤◌, Bool, true, false, List, [], ◌∷◌, get_or, Option, None, Some, refl, sym, subst, arith}
+use Rattle.std.proofs.Common.{◌≡◌, ℕ, ◌+◌, ◌-◌, ◌<◌, ◌≤◌, Bool, true, false, List, [], ◌∷◌, get_or, Option, None, Some, refl, sym, subst}
+use Rattle.std.proofs.Common.{arith}
 use Rattle.std.specs.Prelude.{option_map}
 use Rattle.std.specs.List.{AllByRecursion}
 use Rattle.alma_base.specs.Choice.{if_true}
@@ -12,8 +13,10 @@ use Rattle.alma_rules.specs.Judged.{Broken, broken_at, unbroken}
 use Rattle.alma_rules.specs.Scene.{cells, text_at, is_first}
 use Rattle.alma_rules.specs.Types.{redeclared, read_type, read_constant, all_names, last_token}
 use Rattle.alma_rules.specs.Places.{width, mark_type}
-use Rattle.alma_rules.specs.Decls.{Frame, with_faults, with_scene, limited, constant_in, read_consts, type_in, read_types, with_variable, variable_in, variables_in, variables_of, read_vars, read_decl, read_decls, decl_routines}
-use Rattle.alma_rules.specs.Modules.{judge_body, judge_block, judge_bodies, judge_module, cons_routine, body_lines, module_frame, block_variables, program_of, broken, resolved}
+use Rattle.alma_rules.specs.Decls.{Frame, with_faults, with_scene, limited, constant_in, read_consts, type_in, read_types, with_variable}
+use Rattle.alma_rules.specs.Decls.{variable_in, variables_in, variables_of, read_vars, read_decl, read_decls, decl_routines}
+use Rattle.alma_rules.specs.Modules.{judge_body, judge_block, judge_bodies, judge_module, cons_routine, body_lines, module_frame}
+use Rattle.alma_rules.specs.Modules.{block_variables, program_of, broken, resolved}
 use Rattle.alma_rules.proofs.Limited.{limited_case}
 use Rattle.alma_resolved.specs.Stand.{BlockStands}
 use Rattle.alma_resolved.specs.Frames.{KeepsFrames}
@@ -42,12 +45,15 @@ variable_lies f from (Some shape) name h = by (is_first f.scene name)
     taken : VarsLie (with_variable f name from shape)
     taken = record {
       above = omega (arith, h.above);
-      each = each_of_append (λ (g : Global). (0 < g.slot) × (g.slot + g.cells ≤ f.slots + cells f.scene shape)) f.variables (record { name = text_at f.scene name.token; slot = f.slots; cells = cells f.scene shape } ∷ [])
-          (each_follows (λ (g : Global). (0 < g.slot) × (g.slot + g.cells ≤ f.slots)) (λ (g : Global). (0 < g.slot) × (g.slot + g.cells ≤ f.slots + cells f.scene shape)) more f.variables h.each)
+      each = each_of_append (λ (g : Global). (0 < g.slot) × (g.slot + g.cells ≤ f.slots + cells f.scene shape)) f.variables
+          (record { name = text_at f.scene name.token; slot = f.slots; cells = cells f.scene shape } ∷ [])
+          (each_follows (λ (g : Global). (0 < g.slot) × (g.slot + g.cells ≤ f.slots))
+          (λ (g : Global). (0 < g.slot) × (g.slot + g.cells ≤ f.slots + cells f.scene shape)) more f.variables h.each)
           ((h.above, omega arith), tt);
     }
 
-    by : (c : Bool) → VarsLie (if_true c (λ u. limited name f (with_variable f name from shape)) (λ u. with_faults f (broken_at name.node (redeclared f.scene name))))
+    by : (c : Bool) → VarsLie (if_true c (λ u. limited name f (with_variable f name from shape))
+        (λ u. with_faults f (broken_at name.node (redeclared f.scene name))))
     by true = limited_case VarsLie name f (with_variable f name from shape) (λ le. taken) (record { above = h.above; each = h.each })
     by false = record { above = h.above; each = h.each }
 
@@ -58,7 +64,9 @@ variables_lie f from o (x ∷ xs) h = variables_lie (variable_in f from o x) fro
 vars_lie : (f : Frame) (xs : List tree.VarEntry) → VarsLie f → VarsLie (read_vars f xs)
 vars_lie f [] h = h
 vars_lie f (x ∷ xs) h =
-    let v = variables_lie (with_scene f (read_type f.scene x.type_node).scene) (last_token x.names.first x.names.more + 3 + width (mark_type x.type_node)) (read_type f.scene x.type_node).value (all_names x.names) (record { above = h.above; each = h.each }) in
+    let v = variables_lie (with_scene f (read_type f.scene x.type_node).scene)
+    (last_token x.names.first x.names.more + 3 + width (mark_type x.type_node)) (read_type f.scene x.type_node).value
+    (all_names x.names) (record { above = h.above; each = h.each }) in
     vars_lie (variables_of f x (read_type f.scene x.type_node)) xs (record { above = v.above; each = v.each })
 
 decl_lies : (f : Frame) (r : ℕ) (d : tree.Decl) → VarsLie f → VarsLie (read_decl f r d)
@@ -75,36 +83,53 @@ decls_lie f r (tree.more_decl d rest) h = decls_lie (read_decl f r d) (r + decl_
 abbrev Lie : List Global → Routine → Type 0
 Lie gs x = AllByRecursion (λ g. (0 < g.slot) × (g.slot + g.cells ≤ x.slots)) gs
 
-block_lies : (f : Frame) (r : ℕ) (name : tree.Name) (outer end : ℕ) (x : tree.Block) (rs : List Routine) → VarsLie f → (judge_block f r name outer end x).value ≡ Some rs → Lie (block_variables f r x) (get_or rs 0 no_routine)
+block_lies : (f : Frame) (r : ℕ) (name : tree.Name) (outer end : ℕ) (x : tree.Block) (rs : List Routine) → VarsLie f
+    → (judge_block f r name outer end x).value ≡ Some rs → Lie (block_variables f r x) (get_or rs 0 no_routine)
 unfolding judge_block
 block_lies f r name outer end (tree.block n decls body) rs h value =
     let v = parts (judge_bodies (read_decls f r decls).scene r decls).value (judge_body (read_decls f r decls) body).value
-    (cons_routine (read_decls f r decls) name outer (judge_body (read_decls f r decls) body).next (body_lines (read_decls f r decls).scene end body)) rs value in
+    (cons_routine (read_decls f r decls) name outer (judge_body (read_decls f r decls) body).next
+    (body_lines (read_decls f r decls).scene end body)) rs value in
     let up : (read_decls f r decls).slots ≤ (judge_body (read_decls f r decls) body).next = body_up (read_decls f r decls) body in
     subst (λ ys. Lie (read_decls f r decls).variables (get_or ys 0 no_routine)) v.is
-    (each_follows (λ (g : Global). (0 < g.slot) × (g.slot + g.cells ≤ (read_decls f r decls).slots)) (λ (g : Global). (0 < g.slot) × (g.slot + g.cells ≤ (judge_body (read_decls f r decls) body).next))
+    (each_follows (λ (g : Global). (0 < g.slot) × (g.slot + g.cells ≤ (read_decls f r decls).slots))
+    (λ (g : Global). (0 < g.slot) × (g.slot + g.cells ≤ (judge_body (read_decls f r decls) body).next))
     (λ g k. (k.0, omega (arith, k.1, up))) (read_decls f r decls).variables (decls_lie f r decls h).each)
 
-one_global : (p : Program) (g : Global) → (routine_at p 0).params ≡ [] → (0 < g.slot) × (g.slot + g.cells ≤ (routine_at p 0).slots) → IsGlobal p g
+one_global : (p : Program) (g : Global) → (routine_at p 0).params ≡ [] → (0 < g.slot) × (g.slot + g.cells ≤ (routine_at p 0).slots)
+    → IsGlobal p g
 one_global p g none h = record {
-  slots = record { exist = h.1; kinds = subst (λ qs. AllByRecursion (λ q. HoldsPlace q.kind → IsOutside g.slot g.cells q.slot) qs) (sym none) tt };
+  slots = record {
+    exist = h.1;
+    kinds = subst (λ qs. AllByRecursion (λ q. HoldsPlace q.kind → IsOutside g.slot g.cells q.slot) qs)
+        (sym none) tt;
+  };
   position = h.0;
 }
 
-made_globals : (source : List ℕ) (tokens : List Lexeme) (m : tree.Module) (rs : List Routine) → (get_or rs 0 no_routine).params ≡ [] → (judge_module source tokens m).value ≡ Some rs
+made_globals : (source : List ℕ) (tokens : List Lexeme) (m : tree.Module) (rs : List Routine) → (get_or rs 0 no_routine).params ≡ []
+    → (judge_module source tokens m).value ≡ Some rs
     → AllByRecursion (IsGlobal (program_of source tokens m rs)) (program_of source tokens m rs).globals
 made_globals source tokens m rs none value =
-    each_follows (λ (g : Global). (0 < g.slot) × (g.slot + g.cells ≤ (get_or rs 0 no_routine).slots)) (IsGlobal (program_of source tokens m rs)) (λ g k. one_global (program_of source tokens m rs) g none k) (block_variables (module_frame source tokens m) 1 m.block)
-    (block_lies (module_frame source tokens m) 1 m.name 0 (m.end_name.token - 1) m.block rs (record { above = omega arith; each = tt }) value)
+    each_follows (λ (g : Global). (0 < g.slot) × (g.slot + g.cells ≤ (get_or rs 0 no_routine).slots))
+    (IsGlobal (program_of source tokens m rs)) (λ g k. one_global (program_of source tokens m rs) g none k)
+    (block_variables (module_frame source tokens m) 1 m.block)
+    (block_lies (module_frame source tokens m) 1 m.name 0 (m.end_name.token - 1) m.block rs (record { above = omega arith; each = tt })
+    value)
 
-pub program_has_globals : (source : List ℕ) (tokens : List Lexeme) (m : tree.Module) (p : Program) → BlockStands m.block → resolved source tokens m ≡ Some p → AllByRecursion (IsGlobal p) p.globals
+pub program_has_globals : (source : List ℕ) (tokens : List Lexeme) (m : tree.Module) (p : Program) → BlockStands m.block
+    → resolved source tokens m ≡ Some p → AllByRecursion (IsGlobal p) p.globals
 program_has_globals source tokens m p stand e =
-    by (broken source tokens m) (judge_module source tokens m).value e (program_keeps_frames source tokens m p stand e) (λ rs none i. made_globals source tokens m rs none i)
+    by (broken source tokens m) (judge_module source tokens m).value e (program_keeps_frames source tokens m p stand e)
+    (λ rs none i. made_globals source tokens m rs none i)
   where
     by : (fs : List Broken) (o : Option (List Routine)) → unbroken fs (option_map (program_of source tokens m) o) ≡ Some p → KeepsFrames p
-        → ((rs : List Routine) → (get_or rs 0 no_routine).params ≡ [] → o ≡ Some rs → AllByRecursion (IsGlobal (program_of source tokens m rs)) (program_of source tokens m rs).globals) → AllByRecursion (IsGlobal p) p.globals
+        → ((rs : List Routine) → (get_or rs 0 no_routine).params ≡ [] → o ≡ Some rs
+        → AllByRecursion (IsGlobal (program_of source tokens m rs)) (program_of source tokens m rs).globals)
+        → AllByRecursion (IsGlobal p) p.globals
     by [] None e k f = absurd (cc)
     by [] (Some rs) e k f =
         let same : program_of source tokens m rs ≡ p = cc in
-        subst (λ x. AllByRecursion (IsGlobal x) x.globals) same (f rs (subst (λ x. (routine_at x 0).params ≡ []) (sym same) k.body_takes_nothing.0) refl)
+        subst (λ x. AllByRecursion (IsGlobal x) x.globals) same
+        (f rs (subst (λ x. (routine_at x 0).params ≡ []) (sym same) k.body_takes_nothing.0) refl)
     by (b ∷ bs) o e k f = absurd (cc)

@@ -18,7 +18,8 @@ counted t = (count_module t (record { token = 0; node = 0 })).0
 -- a tree that is numbered is its plain tree, counted
 numbered_is_counted : (m : Module) (tokens : ℕ) → IsNumbered m tokens → counted (plain.view_module m) ≡ view.view_module m
 numbered_is_counted m tokens h =
-    ap (λ (p : numbered.Module × Cursor). p.0) ((module_made m).so (record { token = 0; node = 0 }) (record { token = tokens; node = h.0 }) h.1)
+    ap (λ (p : numbered.Module × Cursor). p.0)
+    ((module_made m).so (record { token = 0; node = 0 }) (record { token = tokens; node = h.0 }) h.1)
 
 pub one_numbered_tree : (m n : Module) (tokens : ℕ) → plain.view_module m ≡ plain.view_module n → IsNumbered m tokens → IsNumbered n tokens
     → view.view_module m ≡ view.view_module n

@@ -76,19 +76,52 @@ sign_up (Some s) = up_token
 mutual
   pub stmt_up : (x : dt.Stmt) → Up (number.number_stmt x)
   stmt_up (dt.Nothing n) = up_node n
-  stmt_up (dt.Assign' n m l shape row e) = up_then _ _ (up_then _ _ (name_up l) (up_then _ _ (selectors_up row) (up_node m))) (up_then _ _ up_token (up_then _ _ (expr_up e) (up_node n)))
+  stmt_up (dt.Assign' n m l shape row e) =
+      up_then _ _ (up_then _ _ (name_up l) (up_then _ _ (selectors_up row) (up_node m)))
+      (up_then _ _ up_token (up_then _ _ (expr_up e) (up_node n)))
   stmt_up (dt.Value n e) = up_then _ _ (expr_up e) (up_node n)
-  stmt_up (dt.If' n e m b s shape row shape' row' other) = up_then _ _ up_token (up_then _ _ (expr_up e) (up_then _ _ up_token (up_then _ _ (up_then _ _ (stmt_up s) (up_then _ _ (stmts_row_up row) (up_node m))) (up_then _ _ (elsifs_up row') (up_then _ _ (else_up other) (up_then _ _ up_token (up_node n)))))))
-  stmt_up (dt.While' n e m b s shape row) = up_then _ _ up_token (up_then _ _ (expr_up e) (up_then _ _ up_token (up_then _ _ (up_then _ _ (stmt_up s) (up_then _ _ (stmts_row_up row) (up_node m))) (up_then _ _ up_token (up_node n)))))
-  stmt_up (dt.Repeat' n m b s shape row e) = up_then _ _ up_token (up_then _ _ (up_then _ _ (stmt_up s) (up_then _ _ (stmts_row_up row) (up_node m))) (up_then _ _ up_token (up_then _ _ (expr_up e) (up_node n))))
-  stmt_up (dt.For' n l low high by m b s shape row) = up_then _ _ up_token (up_then _ _ (name_up l) (up_then _ _ up_token (up_then _ _ (expr_up low) (up_then _ _ up_token (up_then _ _ (expr_up high) (up_then _ _ (by_up by) (up_then _ _ up_token (up_then _ _ (up_then _ _ (stmt_up s) (up_then _ _ (stmts_row_up row) (up_node m))) (up_then _ _ up_token (up_node n))))))))))
-  stmt_up (dt.Some' n l low high m b s shape row) = up_then _ _ up_token (up_then _ _ (name_up l) (up_then _ _ up_token (up_then _ _ (expr_up low) (up_then _ _ up_token (up_then _ _ (expr_up high) (up_then _ _ up_token (up_then _ _ (up_then _ _ (stmt_up s) (up_then _ _ (stmts_row_up row) (up_node m))) (up_then _ _ up_token (up_node n)))))))))
-  stmt_up (dt.Case' n e b a shape row other) = up_then _ _ up_token (up_then _ _ (expr_up e) (up_then _ _ up_token (up_then _ _ (arm_up a) (up_then _ _ (arms_up row) (up_then _ _ (else_up other) (up_then _ _ up_token (up_node n)))))))
-  stmt_up (dt.Either' n m b s shape row shape' row') = up_then _ _ up_token (up_then _ _ (up_then _ _ (stmt_up s) (up_then _ _ (stmts_row_up row) (up_node m))) (up_then _ _ (orelses_up row') (up_then _ _ up_token (up_node n))))
-  stmt_up (dt.Forall' n m b s shape row m' b' s' shape' row') = up_then _ _ up_token (up_then _ _ (up_then _ _ (stmt_up s) (up_then _ _ (stmts_row_up row) (up_node m))) (up_then _ _ up_token (up_then _ _ (up_then _ _ (stmt_up s') (up_then _ _ (stmts_row_up row') (up_node m'))) (up_then _ _ up_token (up_node n)))))
-  stmt_up (dt.Commit' n m b s shape row) = up_then _ _ up_token (up_then _ _ (up_then _ _ (stmt_up s) (up_then _ _ (stmts_row_up row) (up_node m))) (up_then _ _ up_token (up_node n)))
+  stmt_up (dt.If' n e m b s shape row shape' row' other) =
+      up_then _ _ up_token (up_then _ _ (expr_up e)
+      (up_then _ _ up_token (up_then _ _ (up_then _ _ (stmt_up s) (up_then _ _ (stmts_row_up row) (up_node m)))
+      (up_then _ _ (elsifs_up row') (up_then _ _ (else_up other) (up_then _ _ up_token (up_node n)))))))
+  stmt_up (dt.While' n e m b s shape row) =
+      up_then _ _ up_token (up_then _ _ (expr_up e)
+      (up_then _ _ up_token (up_then _ _ (up_then _ _ (stmt_up s) (up_then _ _ (stmts_row_up row) (up_node m)))
+      (up_then _ _ up_token (up_node n)))))
+  stmt_up (dt.Repeat' n m b s shape row e) =
+      up_then _ _ up_token (up_then _ _ (up_then _ _ (stmt_up s) (up_then _ _ (stmts_row_up row) (up_node m)))
+      (up_then _ _ up_token (up_then _ _ (expr_up e) (up_node n))))
+  stmt_up (dt.For' n l low high by m b s shape row) =
+      up_then _ _ up_token (up_then _ _ (name_up l)
+      (up_then _ _ up_token (up_then _ _ (expr_up low)
+      (up_then _ _ up_token (up_then _ _ (expr_up high)
+      (up_then _ _ (by_up by) (up_then _ _ up_token
+      (up_then _ _ (up_then _ _ (stmt_up s) (up_then _ _ (stmts_row_up row) (up_node m))) (up_then _ _ up_token (up_node n))))))))))
+  stmt_up (dt.Some' n l low high m b s shape row) =
+      up_then _ _ up_token (up_then _ _ (name_up l)
+      (up_then _ _ up_token (up_then _ _ (expr_up low)
+      (up_then _ _ up_token (up_then _ _ (expr_up high)
+      (up_then _ _ up_token (up_then _ _ (up_then _ _ (stmt_up s) (up_then _ _ (stmts_row_up row) (up_node m)))
+      (up_then _ _ up_token (up_node n)))))))))
+  stmt_up (dt.Case' n e b a shape row other) =
+      up_then _ _ up_token (up_then _ _ (expr_up e)
+      (up_then _ _ up_token (up_then _ _ (arm_up a)
+      (up_then _ _ (arms_up row) (up_then _ _ (else_up other) (up_then _ _ up_token (up_node n)))))))
+  stmt_up (dt.Either' n m b s shape row shape' row') =
+      up_then _ _ up_token (up_then _ _ (up_then _ _ (stmt_up s) (up_then _ _ (stmts_row_up row) (up_node m)))
+      (up_then _ _ (orelses_up row') (up_then _ _ up_token (up_node n))))
+  stmt_up (dt.Forall' n m b s shape row m' b' s' shape' row') =
+      up_then _ _ up_token (up_then _ _ (up_then _ _ (stmt_up s) (up_then _ _ (stmts_row_up row) (up_node m)))
+      (up_then _ _ up_token (up_then _ _ (up_then _ _ (stmt_up s') (up_then _ _ (stmts_row_up row') (up_node m')))
+      (up_then _ _ up_token (up_node n)))))
+  stmt_up (dt.Commit' n m b s shape row) =
+      up_then _ _ up_token (up_then _ _ (up_then _ _ (stmt_up s) (up_then _ _ (stmts_row_up row) (up_node m)))
+      (up_then _ _ up_token (up_node n)))
   stmt_up (dt.Return' n e) = up_then _ _ up_token (up_then _ _ (returned_up e) (up_node n))
-  stmt_up (dt.Read' n m l shape row shape' row') = up_then _ _ up_token (up_then _ _ up_token (up_then _ _ (up_then _ _ (name_up l) (up_then _ _ (selectors_up row) (up_node m))) (up_then _ _ (desigs_up row') (up_then _ _ up_token (up_node n)))))
+  stmt_up (dt.Read' n m l shape row shape' row') =
+      up_then _ _ up_token (up_then _ _ up_token
+      (up_then _ _ (up_then _ _ (name_up l) (up_then _ _ (selectors_up row) (up_node m)))
+      (up_then _ _ (desigs_up row') (up_then _ _ up_token (up_node n)))))
   stmt_up (dt.Write n es) = up_then _ _ up_token (up_then _ _ up_token (up_then _ _ (exprs_up es) (up_then _ _ up_token (up_node n))))
   stmt_up (dt.Writeln' n a) = up_then _ _ up_token (up_then _ _ (args_up a) (up_node n))
 
@@ -98,7 +131,9 @@ mutual
 
   pub elsifs_up : {n : _} (x : dt.Row_of-Elsif n) → Up (number.number_elsifs x)
   elsifs_up dt.end_of-Elsif = up_stay
-  elsifs_up (dt.more_of-Elsif (df.Elsif' e m b s shape row) rest) = up_then _ _ up_token (up_then _ _ (expr_up e) (up_then _ _ up_token (up_then _ _ (up_then _ _ (stmt_up s) (up_then _ _ (stmts_row_up row) (up_node m))) (elsifs_up rest))))
+  elsifs_up (dt.more_of-Elsif (df.Elsif' e m b s shape row) rest) =
+      up_then _ _ up_token (up_then _ _ (expr_up e)
+      (up_then _ _ up_token (up_then _ _ (up_then _ _ (stmt_up s) (up_then _ _ (stmts_row_up row) (up_node m))) (elsifs_up rest))))
 
   pub else_up : (x : dt.Held-Stmt-If-4) → Up (number.number_else x)
   else_up dt.Stmt-If-4-None' = up_stay
@@ -110,7 +145,8 @@ mutual
 
   pub orelses_up : {n : _} (x : dt.Row_of-Stmts n) → Up (number.number_orelses x)
   orelses_up dt.end_of-Stmts = up_stay
-  orelses_up (dt.more_of-Stmts m b s shape row rest) = up_then _ _ up_token (up_then _ _ (up_then _ _ (stmt_up s) (up_then _ _ (stmts_row_up row) (up_node m))) (orelses_up rest))
+  orelses_up (dt.more_of-Stmts m b s shape row rest) =
+      up_then _ _ up_token (up_then _ _ (up_then _ _ (stmt_up s) (up_then _ _ (stmts_row_up row) (up_node m))) (orelses_up rest))
 
   pub returned_up : (x : dl.Held-Stmt-For-4) → Up (number.number_returned x)
   returned_up dl.Stmt-For-4-None' = up_stay
@@ -118,11 +154,14 @@ mutual
 
   pub desigs_up : {n : _} (x : dt.Row_of-Desig n) → Up (number.number_desigs x)
   desigs_up dt.end_of-Desig = up_stay
-  desigs_up (dt.more_of-Desig m l shape row rest) = up_then _ _ up_token (up_then _ _ (up_then _ _ (name_up l) (up_then _ _ (selectors_up row) (up_node m))) (desigs_up rest))
+  desigs_up (dt.more_of-Desig m l shape row rest) =
+      up_then _ _ up_token (up_then _ _ (up_then _ _ (name_up l) (up_then _ _ (selectors_up row) (up_node m))) (desigs_up rest))
 
   pub arm_up : (x : da.Arm) → Up (number.number_arm x)
   arm_up (da.Empty n) = up_node n
-  arm_up (da.Labelled' n l shape row m b s shape' row') = up_then _ _ (label_up l) (up_then _ _ (labels_up row) (up_then _ _ up_token (up_then _ _ (up_then _ _ (stmt_up s) (up_then _ _ (stmts_row_up row') (up_node m))) (up_node n))))
+  arm_up (da.Labelled' n l shape row m b s shape' row') =
+      up_then _ _ (label_up l) (up_then _ _ (labels_up row)
+      (up_then _ _ up_token (up_then _ _ (up_then _ _ (stmt_up s) (up_then _ _ (stmts_row_up row') (up_node m))) (up_node n))))
 
   pub arms_up : {n : _} (x : dt.Row_of-Arm n) → Up (number.number_arms x)
   arms_up dt.end_of-Arm = up_stay
@@ -147,7 +186,8 @@ mutual
   compared_up (de.Expr-right-Some' b (dc.Compared' r s)) = up_then _ _ up_token (simple_up s)
 
   pub simple_up : (x : di.Simple) → Up (number.number_simple x)
-  simple_up (di.Simple' n sign b t shape row) = up_then _ _ (sign_up sign) (up_then _ _ (term_up t) (up_then _ _ (terms_up row) (up_node n)))
+  simple_up (di.Simple' n sign b t shape row) =
+      up_then _ _ (sign_up sign) (up_then _ _ (term_up t) (up_then _ _ (terms_up row) (up_node n)))
 
   pub terms_up : {n : _} (x : di.Row_of-AddLink n) → Up (number.number_terms x)
   terms_up di.end_of-AddLink = up_stay
@@ -167,9 +207,14 @@ mutual
   pub primary_up : (x : dp.Primary) → Up (number.number_primary x)
   primary_up (dp.Number n l) = up_then _ _ (up_leaf l.token) (up_node n)
   primary_up (dp.Literal n l) = up_then _ _ (up_leaf l.token) (up_node n)
-  primary_up (dp.Desig' n m l shape row a) = up_then _ _ (up_then _ _ (name_up l) (up_then _ _ (selectors_up row) (up_node m))) (up_then _ _ (args_up a) (up_node n))
-  primary_up (dp.Paren' n b m b' s shape row) = up_then _ _ up_token (up_then _ _ (up_then _ _ (stmt_up s) (up_then _ _ (stmts_row_up row) (up_node m))) (up_then _ _ up_token (up_node n)))
-  primary_up (dp.Known' n m l shape row) = up_then _ _ up_token (up_then _ _ up_token (up_then _ _ (up_then _ _ (name_up l) (up_then _ _ (selectors_up row) (up_node m))) (up_then _ _ up_token (up_node n))))
+  primary_up (dp.Desig' n m l shape row a) =
+      up_then _ _ (up_then _ _ (name_up l) (up_then _ _ (selectors_up row) (up_node m))) (up_then _ _ (args_up a) (up_node n))
+  primary_up (dp.Paren' n b m b' s shape row) =
+      up_then _ _ up_token (up_then _ _ (up_then _ _ (stmt_up s) (up_then _ _ (stmts_row_up row) (up_node m)))
+      (up_then _ _ up_token (up_node n)))
+  primary_up (dp.Known' n m l shape row) =
+      up_then _ _ up_token (up_then _ _ up_token
+      (up_then _ _ (up_then _ _ (name_up l) (up_then _ _ (selectors_up row) (up_node m))) (up_then _ _ up_token (up_node n))))
   primary_up (dp.Ord' n b e) = up_then _ _ up_token (up_then _ _ up_token (up_then _ _ (expr_up e) (up_then _ _ up_token (up_node n))))
   primary_up (dp.Chr' n b e) = up_then _ _ up_token (up_then _ _ up_token (up_then _ _ (expr_up e) (up_then _ _ up_token (up_node n))))
 

@@ -10,11 +10,17 @@ use Rattle.alma_tree.specs.declared.leaf.Sign.TheVariants as signs
 use Rattle.alma_tree.specs.declared.leaf.Mode.{Mode}
 use Rattle.alma_tree.specs.declared.leaf.Mode.TheVariants as modes
 use Rattle.alma_ir.specs.Tree as ir
-use Rattle.alma_ir.specs.Phrases.{Phrase, StmtPhrase, TestPhrase, ExprPhrase, ArgPhrase, DesigPhrase, SelPhrase, expr_phrases, test_phrases, tests_phrases, links_phrases, args_phrases, arg_phrases, desig_phrases, sels_phrases, sel_phrases, stmts_phrases}
+use Rattle.alma_ir.specs.Phrases.{Phrase, StmtPhrase, TestPhrase, ExprPhrase, ArgPhrase, DesigPhrase, SelPhrase, expr_phrases, test_phrases}
+use Rattle.alma_ir.specs.Phrases.{tests_phrases, links_phrases, args_phrases, arg_phrases, desig_phrases, sels_phrases, sel_phrases}
+use Rattle.alma_ir.specs.Phrases.{stmts_phrases}
 use Rattle.alma_ir.specs.Checked.{text_bytes}
 use Rattle.alma_rules.specs.Judged.{unless}
 use Rattle.alma_rules.specs.Scene.{Scene, FormalOf, Found, absent, bad, constant, named, variable, routine, row_at, is_structured, range}
-use Rattle.alma_rules.specs.Parts.{Meaning, a_place, plain, a_test, Typing, value_of, test_of, no_place, without_place, boolean_typing, Located, desig_of, with_sel, Denoted, a_constant, a_variable, a_routine, no_array, denoted, field_of, field_part, select_field, element_part, select_in, select_index, located_in, typing_in, Callee, simple_argument, structured_argument, argument_of, call_typing, equation_of, related, Operator, arithmetic, logical, Operands, links_of, tests_of, chain_of, chained}
+use Rattle.alma_rules.specs.Parts.{Meaning, a_place, plain, a_test, Typing, value_of, test_of, no_place, without_place, boolean_typing}
+use Rattle.alma_rules.specs.Parts.{Located, desig_of, with_sel, Denoted, a_constant, a_variable, a_routine, no_array, denoted, field_of}
+use Rattle.alma_rules.specs.Parts.{field_part, select_field, element_part, select_in, select_index, located_in, typing_in, Callee}
+use Rattle.alma_rules.specs.Parts.{simple_argument, structured_argument, argument_of, call_typing, equation_of, related, Operator}
+use Rattle.alma_rules.specs.Parts.{arithmetic, logical, Operands, links_of, tests_of, chain_of, chained}
 use Rattle.alma_rules.specs.ExprRules.{name_rules, Operand, chain_rules}
 use Rattle.alma_rules.specs.Nodes.{known_typing, ord_typing, chr_typing, not_typing, cons_operand, cons_arg}
 use Rattle.alma_resolved.proofs.Fits.{When, when_some, when_none, when_map, when_node}
@@ -106,7 +112,8 @@ no_place_in n (a_test t) h = h
 pub without_prints : {n : ℕ} (t : Typing) → TypingPrints n t → TypingPrints n (without_place t)
 without_prints {n} t h = record { is = no_place_in n t.meaning h.is }
 
-pub constant_prints : (n shape : ℕ) (o : Option ℤ) (v : ℤ) → TypingPrints n (record { shape = shape; constant = o; meaning = plain (ir.Const v) })
+pub constant_prints : (n shape : ℕ) (o : Option ℤ) (v : ℤ)
+    → TypingPrints n (record { shape = shape; constant = o; meaning = plain (ir.Const v) })
 unfolding expr_phrases
 constant_prints n shape o v = record { is = expr_more (ir.Const v) (prints_nil n) }
 
@@ -164,7 +171,8 @@ name_prints s (variable shape root) = when_some _ (record { is = prints_nil 0 })
 name_prints s (routine q up None) = when_none
 name_prints s (routine q up (Some h)) = when_some _ (record { is = tt })
 
-sels_with : (n m : ℕ) (sels : ir.Sels) (x : ir.Sel) → Prints n (sels_phrases sels) → Prints m (sel_phrases x) → Prints (n + m) (sels_phrases (with_sel sels x))
+sels_with : (n m : ℕ) (sels : ir.Sels) (x : ir.Sel) → Prints n (sels_phrases sels) → Prints m (sel_phrases x)
+    → Prints (n + m) (sels_phrases (with_sel sels x))
 sels_with n m sels x h k = subst (λ ys. Prints (n + m) ys) (sym (phrases_with sels x)) (prints_join h (prints_alone k))
 
 field_part_prints : (s : Scene) (n : ℕ) (l : Located) (p : ℕ × ℕ) → Prints n (sels_phrases l.sels) → DenotedPrints n (field_part s l p)
@@ -172,16 +180,19 @@ unfolding expr_phrases
 field_part_prints s n l p h = record { is = prints_up (n + 0) n (omega arith) (sels_with n 0 l.sels _ h (sel_more _ (prints_nil 0))) }
 
 pub field_prints : (s : Scene) (n : ℕ) (name : List ℕ) (d : Denoted) → DenotedPrints n d → When (select_field s name d) (DenotedPrints n)
-field_prints s n name (a_variable l) h = when_map {P = λ p. Unit {0}} (field_part s l) (anything (field_of s name l)) (λ p g. field_part_prints s n l p h.is)
+field_prints s n name (a_variable l) h =
+    when_map {P = λ p. Unit {0}} (field_part s l) (anything (field_of s name l)) (λ p g. field_part_prints s n l p h.is)
 field_prints s n name (a_constant shape v) h = when_some _ h
 field_prints s n name (a_routine q up x) h = when_some _ h
 field_prints s n name no_array h = when_some _ h
 
-element_prints : (s : Scene) (n m : ℕ) (l : Located) (r : ℕ × ℕ) (t : Typing) → Prints n (sels_phrases l.sels) → TypingPrints m t → DenotedPrints (n + m) (element_part s l r t)
+element_prints : (s : Scene) (n m : ℕ) (l : Located) (r : ℕ × ℕ) (t : Typing) → Prints n (sels_phrases l.sels) → TypingPrints m t
+    → DenotedPrints (n + m) (element_part s l r t)
 unfolding expr_phrases
 element_prints s n m l r t h g = record { is = sels_with n m l.sels _ h (sel_more _ (value_prints g)) }
 
-pub index_prints : (s : Scene) (n m : ℕ) (d : Option Denoted) (i : Option Typing) → When d (DenotedPrints n) → When i (TypingPrints m) → When (select_index s d i) (DenotedPrints (n + m))
+pub index_prints : (s : Scene) (n m : ℕ) (d : Option Denoted) (i : Option Typing) → When d (DenotedPrints n) → When i (TypingPrints m)
+    → When (select_index s d i) (DenotedPrints (n + m))
 index_prints s n m None i h g = when_none
 index_prints s n m (Some (a_variable l)) i h g = by (row_at s l.shape) i g
   where
@@ -214,12 +225,14 @@ located_prints n no_array h = when_none
 
 -- ---- calls
 
-pub call_prints : (n : ℕ) (c : Callee) (o : Option ℕ) (args : ir.Args) → Prints n (args_phrases args) → TypingPrints n (call_typing c o args)
+pub call_prints : (n : ℕ) (c : Callee) (o : Option ℕ) (args : ir.Args) → Prints n (args_phrases args)
+    → TypingPrints n (call_typing c o args)
 unfolding expr_phrases
 call_prints n c None args h = record { is = test_more (ir.CallTest c.number args c.up) h }
 call_prints n c (Some shape) args h = record { is = expr_more (ir.CallExpr c.number args c.up) h }
 
-simple_arg : (s : Scene) (n : ℕ) (mode : Option Mode) (shape : ℕ) (m : Meaning) → MeaningPrints n m → Prints n (arg_phrases (simple_argument s mode shape m))
+simple_arg : (s : Scene) (n : ℕ) (mode : Option Mode) (shape : ℕ) (m : Meaning) → MeaningPrints n m
+    → Prints n (arg_phrases (simple_argument s mode shape m))
 unfolding expr_phrases
 simple_arg s n None shape m h = arg_more _ (value_in n m h)
 simple_arg s n (Some modes.Var) shape (a_place d) h = arg_more _ h
@@ -243,7 +256,8 @@ unfolding expr_phrases
 argument_prints s n None t h = arg_more _ (value_prints h)
 argument_prints s n (Some f) t h = by (is_structured s f.shape)
   where
-    by : (b : Bool) → Prints n (arg_phrases (if b then structured_argument f.mode t.meaning else simple_argument s f.mode f.shape t.meaning))
+    by : (b : Bool) → Prints n (arg_phrases
+        (if b then structured_argument f.mode t.meaning else simple_argument s f.mode f.shape t.meaning))
     by true = structured_arg n f.mode t.meaning h.is
     by false = simple_arg s n f.mode f.shape t.meaning h.is
 
@@ -251,17 +265,20 @@ pub args_none : (n : ℕ) → Prints n (args_phrases ir.no_args)
 unfolding expr_phrases
 args_none n = prints_nil n
 
-pub args_more : (n m : ℕ) (p : ir.Arg × ir.Args) → Prints n (arg_phrases p.0) → Prints m (args_phrases p.1) → Prints (n + m) (args_phrases (cons_arg p))
+pub args_more : (n m : ℕ) (p : ir.Arg × ir.Args) → Prints n (arg_phrases p.0) → Prints m (args_phrases p.1)
+    → Prints (n + m) (args_phrases (cons_arg p))
 unfolding expr_phrases
 args_more n m p h k = prints_join h k
 
 -- ---- relations
 
-pub related_prints : (s : Scene) (n m : ℕ) (r : Relation) (p : Typing × Typing) → TypingPrints n p.0 → TypingPrints m p.1 → TypingPrints (n + m) (related s r p)
+pub related_prints : (s : Scene) (n m : ℕ) (r : Relation) (p : Typing × Typing) → TypingPrints n p.0 → TypingPrints m p.1
+    → TypingPrints (n + m) (related s r p)
 unfolding expr_phrases
 related_prints s n m relations.Equal p h g = record { is = by p.0.meaning p.1.meaning h.is g.is }
   where
-    two : (b : Bool) (d e : ir.Desig) (r1 r2 : Range) → Prints n (desig_phrases d) → Prints m (desig_phrases e) → Prints (n + m) (test_phrases (if b then ir.SameCells d e else ir.Unify d r1 e r2))
+    two : (b : Bool) (d e : ir.Desig) (r1 r2 : Range) → Prints n (desig_phrases d) → Prints m (desig_phrases e)
+        → Prints (n + m) (test_phrases (if b then ir.SameCells d e else ir.Unify d r1 e r2))
     two true d e r1 r2 h g = test_more _ (prints_join h g)
     two false d e r1 r2 h g = test_more _ (prints_join h g)
 
@@ -292,22 +309,30 @@ pub operands_none : OperandsPrint 0 []
 unfolding expr_phrases
 operands_none = record { links = prints_nil 0; tests = prints_nil 0 }
 
-pub operands_more : (o : Operator) (n m : ℕ) (p : Typing × Operands) → TypingPrints n p.0 → OperandsPrint m p.1 → OperandsPrint (n + m) (cons_operand o p)
+pub operands_more : (o : Operator) (n m : ℕ) (p : Typing × Operands) → TypingPrints n p.0 → OperandsPrint m p.1
+    → OperandsPrint (n + m) (cons_operand o p)
 unfolding expr_phrases
-operands_more (arithmetic op) n m p h g = record { links = prints_join (value_prints h) g.links; tests = prints_join (test_prints h) g.tests }
+operands_more (arithmetic op) n m p h g =
+    record { links = prints_join (value_prints h) g.links; tests = prints_join (test_prints h) g.tests }
 operands_more logical n m p h g = record { links = prints_up m (n + m) (omega arith) g.links; tests = prints_join (test_prints h) g.tests }
 
-chain_meaning : (join : ir.Tests → ir.Test) → Joins join → (sign : Option Sign) (n m : ℕ) (first : Typing) (xs : Operands) → TypingPrints n first → OperandsPrint m xs → MeaningPrints (n + m) (chain_of join sign (first, xs))
+chain_meaning : (join : ir.Tests → ir.Test) → Joins join → (sign : Option Sign) (n m : ℕ) (first : Typing) (xs : Operands)
+    → TypingPrints n first → OperandsPrint m xs → MeaningPrints (n + m) (chain_of join sign (first, xs))
 unfolding expr_phrases
 chain_meaning join j None n m first [] h g = meaning_up n (n + m) first.meaning (omega arith) h.is
-chain_meaning join j (Some signs.Plus) n m first [] h g = no_place_in (n + m) first.meaning (meaning_up n (n + m) first.meaning (omega arith) h.is)
+chain_meaning join j (Some signs.Plus) n m first [] h g =
+    no_place_in (n + m) first.meaning (meaning_up n (n + m) first.meaning (omega arith) h.is)
 chain_meaning join j (Some signs.Minus) n m first [] h g = expr_more _ (prints_join (value_prints h) g.links)
 chain_meaning join j sign n m first ((arithmetic op, t) ∷ rest) h g = expr_more _ (prints_join (value_prints h) g.links)
 chain_meaning join j sign n m first ((logical, t) ∷ rest) h g =
-    subst (λ ys. Prints (n + m) ys) (sym (j.is (ir.more_tests (test_of first.meaning) (tests_of ((logical, t) ∷ rest))))) (test_more _ (prints_join (test_prints h) g.tests))
+    subst (λ ys. Prints (n + m) ys) (sym (j.is (ir.more_tests (test_of first.meaning) (tests_of ((logical, t) ∷ rest)))))
+    (test_more _ (prints_join (test_prints h) g.tests))
 
-pub chain_prints : (s : Scene) (join : ir.Tests → ir.Test) → Joins join → (o : Operand) (sign : Option Sign) (l : Bool) (n m : ℕ) (v : Option (Typing × Operands)) → When v (λ p. TypingPrints n p.0 × OperandsPrint m p.1)
+pub chain_prints : (s : Scene) (join : ir.Tests → ir.Test) → Joins join
+    → (o : Operand) (sign : Option Sign) (l : Bool) (n m : ℕ) (v : Option (Typing × Operands))
+    → When v (λ p. TypingPrints n p.0 × OperandsPrint m p.1)
     → When (option_map (chained join sign) (unless (chain_rules s join o sign l v) v)) (TypingPrints (n + m))
 chain_prints s join j o sign l n m v h =
-    when_map {P = λ p. TypingPrints n p.0 × OperandsPrint m p.1} (chained join sign) (when_node (chain_rules s join o sign l) v h (λ p g q. g))
+    when_map {P = λ p. TypingPrints n p.0 × OperandsPrint m p.1} (chained join sign)
+    (when_node (chain_rules s join o sign l) v h (λ p g q. g))
     (λ p g. record { is = chain_meaning join j sign n m p.0 p.1 g.0 g.1 })

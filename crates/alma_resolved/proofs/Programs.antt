@@ -1,5 +1,6 @@
 -- A resolved program fits: each of its routines does, and its variables stand in the frame of routine 0.
-use Rattle.std.proofs.Common.{◌≡◌, ℕ, zero, suc, ◌+◌, ◌-◌, ◌<◌, ◌≤◌, Bool, true, false, List, [], ◌∷◌, length, get_or, Option, None, Some, refl, sym, ap, ◌∙◌, subst, arith}
+use Rattle.std.proofs.Common.{◌≡◌, ℕ, zero, suc, ◌+◌, ◌-◌, ◌<◌, ◌≤◌, Bool, true, false, List, [], ◌∷◌, length, get_or, Option, None, Some}
+use Rattle.std.proofs.Common.{refl, sym, ap, ◌∙◌, subst, arith}
 use Rattle.std.specs.Prelude.{nat_lt, sum_by, option_map}
 use Rattle.std.specs.List.{AllByRecursion}
 use Rattle.std.proofs.lemmas.Bool.{ltb-true, ltb-false}
@@ -14,7 +15,8 @@ use Rattle.alma_rules.specs.Judged.{Broken, broken_at, unbroken}
 use Rattle.alma_rules.specs.Scene.{Heading, nothing, cells, text_at, is_first}
 use Rattle.alma_rules.specs.Types.{redeclared, read_type, read_constant, all_names, last_token}
 use Rattle.alma_rules.specs.Places.{width, mark_type}
-use Rattle.alma_rules.specs.Decls.{Frame, with_faults, with_scene, limited, constant_in, read_consts, type_in, read_types, with_variable, variable_in, variables_in, variables_of, read_vars, read_decl, read_decls, block_routines, decl_routines}
+use Rattle.alma_rules.specs.Decls.{Frame, with_faults, with_scene, limited, constant_in, read_consts, type_in, read_types, with_variable}
+use Rattle.alma_rules.specs.Decls.{variable_in, variables_in, variables_of, read_vars, read_decl, read_decls, block_routines, decl_routines}
 use Rattle.alma_rules.specs.Modules.{first_scene, module_frame, judge_block, judge_module, block_variables, program_of, broken, resolved}
 use Rattle.alma_rules.proofs.Sound.{nil_left}
 use Rattle.alma_rules.proofs.Limited.{limited_case}
@@ -52,11 +54,14 @@ variable_ends f from (Some shape) name h = by (is_first f.scene name)
   where
     taken : VarsEnd (with_variable f name from shape)
     taken =
-        each_of_append (λ (g : Global). g.slot + g.cells ≤ f.slots + cells f.scene shape) f.variables (record { name = text_at f.scene name.token; slot = f.slots; cells = cells f.scene shape } ∷ [])
-        (each_follows (λ (g : Global). g.slot + g.cells ≤ f.slots) (λ (g : Global). g.slot + g.cells ≤ f.slots + cells f.scene shape) (λ g k. omega (arith, k)) f.variables h)
+        each_of_append (λ (g : Global). g.slot + g.cells ≤ f.slots + cells f.scene shape) f.variables
+        (record { name = text_at f.scene name.token; slot = f.slots; cells = cells f.scene shape } ∷ [])
+        (each_follows (λ (g : Global). g.slot + g.cells ≤ f.slots) (λ (g : Global). g.slot + g.cells ≤ f.slots + cells f.scene shape)
+        (λ g k. omega (arith, k)) f.variables h)
         (omega arith, tt)
 
-    by : (b : Bool) → VarsEnd (if_true b (λ u. limited name f (with_variable f name from shape)) (λ u. with_faults f (broken_at name.node (redeclared f.scene name))))
+    by : (b : Bool) → VarsEnd (if_true b (λ u. limited name f (with_variable f name from shape))
+        (λ u. with_faults f (broken_at name.node (redeclared f.scene name))))
     by true = limited_case (λ x. VarsEnd x) name f (with_variable f name from shape) (λ le. taken) h
     by false = h
 
@@ -68,7 +73,9 @@ vars_end : (f : Frame) (xs : List tree.VarEntry) → VarsEnd f → VarsEnd (read
 vars_end f [] h = h
 vars_end f (x ∷ xs) h =
     vars_end (variables_of f x (read_type f.scene x.type_node)) xs
-    (variables_end (with_scene f (read_type f.scene x.type_node).scene) (last_token x.names.first x.names.more + 3 + width (mark_type x.type_node)) (read_type f.scene x.type_node).value (all_names x.names) h)
+    (variables_end (with_scene f (read_type f.scene x.type_node).scene)
+    (last_token x.names.first x.names.more + 3 + width (mark_type x.type_node)) (read_type f.scene x.type_node).value
+    (all_names x.names) h)
 
 decl_ends_in : (f : Frame) (r : ℕ) (d : tree.Decl) → VarsEnd f → VarsEnd (read_decl f r d)
 decl_ends_in f r (tree.const_decl n xs) h = consts_end f xs h
@@ -80,9 +87,11 @@ decls_end : (f : Frame) (r : ℕ) (x : tree.DeclTail) → VarsEnd f → VarsEnd 
 decls_end f r tree.no_decl h = h
 decls_end f r (tree.more_decl d rest) h = decls_end (read_decl f r d) (r + decl_routines d) rest (decl_ends_in f r d h)
 
-globals_end : (ends : ℕ → ℕ) (f : Frame) (r : ℕ) (x : tree.Block) → VarsEnd f → EndsAt ends 0 (block_ends f r x) → AllByRecursion (λ g. g.slot + g.cells ≤ ends 0) (block_variables f r x)
+globals_end : (ends : ℕ → ℕ) (f : Frame) (r : ℕ) (x : tree.Block) → VarsEnd f → EndsAt ends 0 (block_ends f r x)
+    → AllByRecursion (λ g. g.slot + g.cells ≤ ends 0) (block_variables f r x)
 unfolding block_ends
-globals_end ends f r (tree.block n decls body) h e = subst (λ m. AllByRecursion (λ (g : Global). g.slot + g.cells ≤ m) (read_decls f r decls).variables) (sym e.0) (decls_end f r decls h)
+globals_end ends f r (tree.block n decls body) h e =
+    subst (λ m. AllByRecursion (λ (g : Global). g.slot + g.cells ≤ m) (read_decls f r decls).variables) (sym e.0) (decls_end f r decls h)
 
 -- ---- the program of these routines
 
@@ -91,15 +100,18 @@ past_end [] q le = refl
 past_end (x ∷ xs) zero le = absurd (omega (arith, le))
 past_end (x ∷ xs) (suc q) le = past_end xs q (omega (arith, le))
 
-module_room : (source : List ℕ) (tokens : List Lexeme) (m : tree.Module) → 1 + block_routines m.block ≤ length (first_scene source tokens m).headings
+module_room : (source : List ℕ) (tokens : List Lexeme) (m : tree.Module)
+    → 1 + block_routines m.block ≤ length (first_scene source tokens m).headings
 module_room source tokens m = let none : Option Heading = None in omega (arith, length-replicate (1 + block_routines m.block) none)
 
 -- where each frame ends
 abbrev ends_of : List ℕ → List Lexeme → tree.Module → ℕ → ℕ
 ends_of source tokens m q = get_or (block_ends (module_frame source tokens m) 1 m.block) q 0
 
-made_good : (source : List ℕ) (tokens : List Lexeme) (m : tree.Module) (rs : List Routine) → BlockStands m.block → broken source tokens m ≡ [] → (judge_module source tokens m).value ≡ Some rs → KeepsFrames (program_of source tokens m rs)
-    → Good (program_of source tokens m rs) (ends_of source tokens m) 0 rs (judge_block (module_frame source tokens m) 1 m.name 0 (m.end_name.token - 1) m.block).shapes
+made_good : (source : List ℕ) (tokens : List Lexeme) (m : tree.Module) (rs : List Routine) → BlockStands m.block
+    → broken source tokens m ≡ [] → (judge_module source tokens m).value ≡ Some rs → KeepsFrames (program_of source tokens m rs)
+    → Good (program_of source tokens m rs) (ends_of source tokens m) 0 rs
+    (judge_block (module_frame source tokens m) 1 m.name 0 (m.end_name.token - 1) m.block).shapes
 made_good source tokens m rs stand e value all =
     let p = program_of source tokens m rs in
     let ends = ends_of source tokens m in
@@ -108,7 +120,8 @@ made_good source tokens m rs stand e value all =
     let quiet = nil_left _ _ e in
     let numbered = numbered_all p 0 [] rs refl refl in
     let number = block_routine (first_scene source tokens m) 0 nothing [] m.block in
-    let procs = block_procs p f 1 0 m.name 0 (m.end_name.token - 1) m.block (first_scene source tokens m).headings rs headings quiet (block_opened source tokens m m.block) stand (module_room source tokens m) (omega arith) number value numbered in
+    let procs = block_procs p f 1 0 m.name 0 (m.end_name.token - 1) m.block (first_scene source tokens m).headings rs headings quiet
+    (block_opened source tokens m m.block) stand (module_room source tokens m) (omega arith) number value numbered in
     let first = all.routines 0 all.body.0 in
     let level : (routine_at p 0).level ≡ 0 = (first.nested.body refl).0 in
     let none : (routine_at p 0).params ≡ [] = all.body_takes_nothing.0 in
@@ -117,7 +130,8 @@ made_good source tokens m rs stand e value all =
       some = (procs q i).some;
       exists = (procs q i).exists;
       outer = (procs q i).outer ∙ sym (owner_self (place p ends 0) 0);
-      level = (all.routines q (procs q i).exists).nested.above (procs q i).some ∙ (ap (λ j. suc (routine_at p j).level) (procs q i).outer ∙ ap suc level);
+      level = (all.routines q (procs q i).exists).nested.above (procs q i).some
+          ∙ (ap (λ j. suc (routine_at p j).level) (procs q i).outer ∙ ap suc level);
     } in
     let frame : FrameKeeps (place p ends 0) 0 f = record {
       scene = module_scene (place p ends 0) source tokens m m.block proc_keeps;
@@ -126,42 +140,59 @@ made_good source tokens m rs stand e value all =
       position = λ i. omega arith;
       number = λ i. refl;
     } in
-    let simple : ReturnsSimple f.scene f.scene.returns = subst (λ y. ReturnsSimple f.scene y) (sym (block_returns (first_scene source tokens m) 0 nothing [] m.block)) tt in
-    block_good p ends all f 1 0 0 m.name 0 (m.end_name.token - 1) m.block (first_scene source tokens m).headings rs headings quiet (block_opened source tokens m m.block) stand (module_room source tokens m) (omega arith) frame
-    (record { level = level; outside = λ i. refl; module_level = λ i. refl }) number (block_inside (first_scene source tokens m) 0 nothing [] m.block) simple (subst (λ qs. AllByRecursion (λ q. IsOrdered q.range) qs) (sym none) tt) (omega arith) value numbered
+    let simple : ReturnsSimple f.scene f.scene.returns =
+    subst (λ y. ReturnsSimple f.scene y) (sym (block_returns (first_scene source tokens m) 0 nothing [] m.block)) tt in
+    block_good p ends all f 1 0 0 m.name 0 (m.end_name.token - 1) m.block (first_scene source tokens m).headings rs headings quiet
+    (block_opened source tokens m m.block) stand (module_room source tokens m) (omega arith) frame
+    (record { level = level; outside = λ i. refl; module_level = λ i. refl }) number
+    (block_inside (first_scene source tokens m) 0 nothing [] m.block) simple
+    (subst (λ qs. AllByRecursion (λ q. IsOrdered q.range) qs) (sym none) tt) (omega arith) value numbered
     (ends_all ends 0 [] (block_ends f 1 m.block) (block_ends f 1 m.block) refl (λ q. refl) refl)
 
-made_fits : (source : List ℕ) (tokens : List Lexeme) (m : tree.Module) (rs : List Routine) → BlockStands m.block → broken source tokens m ≡ [] → (judge_module source tokens m).value ≡ Some rs → KeepsFrames (program_of source tokens m rs)
+made_fits : (source : List ℕ) (tokens : List Lexeme) (m : tree.Module) (rs : List Routine) → BlockStands m.block
+    → broken source tokens m ≡ [] → (judge_module source tokens m).value ≡ Some rs → KeepsFrames (program_of source tokens m rs)
     → ProgramFits (program_of source tokens m rs)
-made_fits source tokens m rs stand e value all = record { ends = ends_of source tokens m; within = within; routines = routines; globals = globals }
+made_fits source tokens m rs stand e value all =
+    record { ends = ends_of source tokens m; within = within; routines = routines; globals = globals }
   where
     routines : (i : ℕ) → i < length rs → RoutineFits (program_of source tokens m rs) (ends_of source tokens m) i (get_or rs i no_routine)
     routines i lt =
         subst (λ j. RoutineFits (program_of source tokens m rs) (ends_of source tokens m) j (get_or rs i no_routine)) (omega arith)
-        (each_at (RoutineFits (program_of source tokens m rs) (ends_of source tokens m)) 0 i rs (made_good source tokens m rs stand e value all).each lt)
+        (each_at (RoutineFits (program_of source tokens m rs) (ends_of source tokens m)) 0 i rs
+        (made_good source tokens m rs stand e value all).each lt)
 
     many : length (block_ends (module_frame source tokens m) 1 m.block) ≡ length rs
-    many = ends_count (module_frame source tokens m) 1 m.block ∙ sym (block_count (module_frame source tokens m) 1 m.name 0 (m.end_name.token - 1) m.block rs value)
+    many = ends_count (module_frame source tokens m) 1 m.block
+        ∙ sym (block_count (module_frame source tokens m) 1 m.name 0 (m.end_name.token - 1) m.block rs value)
 
     within : (q : ℕ) → ends_of source tokens m q ≤ (get_or rs q no_routine).slots
     within q = by (nat_lt q (length rs)) refl
       where
         by : (b : Bool) → nat_lt q (length rs) ≡ b → ends_of source tokens m q ≤ (get_or rs q no_routine).slots
         by true i = (routines q (ltb-true q (length rs) i)).body.le
-        by false i = omega (arith, past_end (block_ends (module_frame source tokens m) 1 m.block) q (omega (arith, many, ltb-false q (length rs) i)))
+        by false i = omega (
+          arith,
+          past_end (block_ends (module_frame source tokens m) 1 m.block) q
+              (omega (arith, many, ltb-false q (length rs) i)),
+        )
 
     globals : AllByRecursion (λ g. g.slot + g.cells ≤ ends_of source tokens m 0) (block_variables (module_frame source tokens m) 1 m.block)
     globals =
         globals_end (ends_of source tokens m) (module_frame source tokens m) 1 m.block tt
-        (ends_all (ends_of source tokens m) 0 [] (block_ends (module_frame source tokens m) 1 m.block) (block_ends (module_frame source tokens m) 1 m.block) refl (λ q. refl) refl)
+        (ends_all (ends_of source tokens m) 0 [] (block_ends (module_frame source tokens m) 1 m.block)
+        (block_ends (module_frame source tokens m) 1 m.block) refl (λ q. refl) refl)
 
-pub program_fits : (source : List ℕ) (tokens : List Lexeme) (m : tree.Module) (p : Program) → BlockStands m.block → resolved source tokens m ≡ Some p → ProgramFits p
+pub program_fits : (source : List ℕ) (tokens : List Lexeme) (m : tree.Module) (p : Program) → BlockStands m.block
+    → resolved source tokens m ≡ Some p → ProgramFits p
 program_fits source tokens m p stand e =
-    by (broken source tokens m) (judge_module source tokens m).value (resolved_unbroken source tokens m p e) e (program_keeps_frames source tokens m p stand e)
+    by (broken source tokens m) (judge_module source tokens m).value (resolved_unbroken source tokens m p e) e
+    (program_keeps_frames source tokens m p stand e)
     (λ rs i all. made_fits source tokens m rs stand (resolved_unbroken source tokens m p e) i all)
   where
-    by : (fs : List Broken) (o : Option (List Routine)) → fs ≡ [] → unbroken fs (option_map (program_of source tokens m) o) ≡ Some p → KeepsFrames p
-        → ((rs : List Routine) → o ≡ Some rs → KeepsFrames (program_of source tokens m rs) → ProgramFits (program_of source tokens m rs)) → ProgramFits p
+    by : (fs : List Broken) (o : Option (List Routine)) → fs ≡ [] → unbroken fs (option_map (program_of source tokens m) o) ≡ Some p
+        → KeepsFrames p
+        → ((rs : List Routine) → o ≡ Some rs → KeepsFrames (program_of source tokens m rs) → ProgramFits (program_of source tokens m rs))
+        → ProgramFits p
     by [] None q e all f = absurd (cc)
     by [] (Some rs) q e all f =
         let same : program_of source tokens m rs ≡ p = cc in

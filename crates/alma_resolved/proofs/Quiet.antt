@@ -6,7 +6,8 @@ use Rattle.alma_rules.specs.Judged.{broken_at}
 use Rattle.alma_rules.specs.Scene.{is_first}
 use Rattle.alma_rules.specs.Places.{width, mark_type}
 use Rattle.alma_rules.specs.Types.{redeclared, read_constant, read_type, all_names, last_token}
-use Rattle.alma_rules.specs.Decls.{Frame, with_faults, with_scene, limited, constant_in, read_consts, type_in, read_types, with_variable, variable_in, variables_in, variables_of, read_vars, read_decl, read_decls, decl_routines}
+use Rattle.alma_rules.specs.Decls.{Frame, with_faults, with_scene, limited, constant_in, read_consts, type_in, read_types, with_variable}
+use Rattle.alma_rules.specs.Decls.{variable_in, variables_in, variables_of, read_vars, read_decl, read_decls, decl_routines}
 use Rattle.alma_rules.proofs.Sound.{nil_left}
 use Rattle.alma_rules.proofs.Limited.{limited_faults}
 
@@ -22,7 +23,8 @@ pub variable_quiet : (f : Frame) (from : ℕ) (o : Option ℕ) (name : tree.Name
 variable_quiet f from None name e = nil_left f.faults _ e
 variable_quiet f from (Some shape) name e = by (is_first f.scene name) e
   where
-    by : (b : Bool) → (if_true b (λ u. limited name f (with_variable f name from shape)) (λ u. with_faults f (broken_at name.node (redeclared f.scene name)))).faults ≡ [] → f.faults ≡ []
+    by : (b : Bool) → (if_true b (λ u. limited name f (with_variable f name from shape))
+        (λ u. with_faults f (broken_at name.node (redeclared f.scene name)))).faults ≡ [] → f.faults ≡ []
     by true e = limited_faults name f (with_variable f name from shape) e refl
     by false e = nil_left f.faults _ e
 
@@ -33,7 +35,9 @@ variables_quiet f from o (x ∷ xs) e = variable_quiet f from o x (variables_qui
 pub vars_quiet : (f : Frame) (xs : List tree.VarEntry) → (read_vars f xs).faults ≡ [] → f.faults ≡ []
 vars_quiet f [] e = e
 vars_quiet f (x ∷ xs) e =
-    variables_quiet (with_scene f (read_type f.scene x.type_node).scene) (last_token x.names.first x.names.more + 3 + width (mark_type x.type_node)) (read_type f.scene x.type_node).value (all_names x.names)
+    variables_quiet (with_scene f (read_type f.scene x.type_node).scene)
+    (last_token x.names.first x.names.more + 3 + width (mark_type x.type_node)) (read_type f.scene x.type_node).value
+    (all_names x.names)
     (nil_left _ _ (vars_quiet (variables_of f x (read_type f.scene x.type_node)) xs e))
 
 decl_quiet : (f : Frame) (r : ℕ) (d : tree.Decl) → (read_decl f r d).faults ≡ [] → f.faults ≡ []

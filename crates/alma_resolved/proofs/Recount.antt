@@ -9,7 +9,8 @@ use Rattle.alma_resolved.proofs.Steps.{Counts, give, skip, with_token, close, bi
 
 abbrev mutual
   pub count_stmts : tree.Stmts → Counts numbered.Stmts
-  count_stmts (tree.stmts s more) = bind (count_stmt s) (λ s'. bind (count_stmt_tail more) (λ more'. close (λ n. numbered.stmts n s' more')))
+  count_stmts (tree.stmts s more) = bind (count_stmt s)
+      (λ s'. bind (count_stmt_tail more) (λ more'. close (λ n. numbered.stmts n s' more')))
 
   pub count_stmt_tail : tree.StmtTail → Counts numbered.StmtTail
   count_stmt_tail tree.no_stmt = give numbered.no_stmt
@@ -20,11 +21,13 @@ abbrev mutual
   count_stmt (tree.assign d e) = bind (count_desig d) (λ d'. skip (bind (count_expr e) (λ e'. close (λ n. numbered.assign n d' e'))))
   count_stmt (tree.value e) = bind (count_expr e) (λ e'. close (λ n. numbered.value n e'))
   count_stmt (tree.if_stmt e s more other) =
-      skip (bind (count_expr e) (λ e'. skip (bind (count_stmts s) (λ s'. bind (count_elsifs more) (λ more'. bind (count_else other) (λ other'.
+      skip (bind (count_expr e) (λ e'. skip
+      (bind (count_stmts s) (λ s'. bind (count_elsifs more) (λ more'. bind (count_else other) (λ other'.
       skip (close (λ n. numbered.if_stmt n e' s' more' other'))))))))
   count_stmt (tree.while_stmt e s) =
       skip (bind (count_expr e) (λ e'. skip (bind (count_stmts s) (λ s'. skip (close (λ n. numbered.while_stmt n e' s'))))))
-  count_stmt (tree.repeat_stmt s e) = skip (bind (count_stmts s) (λ s'. skip (bind (count_expr e) (λ e'. close (λ n. numbered.repeat_stmt n s' e')))))
+  count_stmt (tree.repeat_stmt s e) = skip
+      (bind (count_stmts s) (λ s'. skip (bind (count_expr e) (λ e'. close (λ n. numbered.repeat_stmt n s' e')))))
   count_stmt (tree.for_stmt low high by s) =
       skip (bind count_name (λ v. skip (bind (count_expr low) (λ low'. skip (bind (count_expr high) (λ high'. bind (count_by by) (λ by'.
       skip (bind (count_stmts s) (λ s'. skip (close (λ n. numbered.for_stmt n v low' high' by' s')))))))))))
@@ -73,7 +76,8 @@ abbrev mutual
   pub count_arm : tree.Arm → Counts numbered.Arm
   count_arm tree.empty_arm = close numbered.empty_arm
   count_arm (tree.arm l more s) =
-      bind (count_label l) (λ l'. bind (count_labels more) (λ more'. skip (bind (count_stmts s) (λ s'. close (λ n. numbered.arm n l' more' s')))))
+      bind (count_label l) (λ l'. bind (count_labels more)
+      (λ more'. skip (bind (count_stmts s) (λ s'. close (λ n. numbered.arm n l' more' s')))))
 
   pub count_arms : tree.ArmTail → Counts numbered.ArmTail
   count_arms tree.no_arm = give numbered.no_arm
@@ -162,7 +166,8 @@ count_names (tree.names more) = bind count_name (λ x. bind (count_name_tail mor
 
 abbrev mutual
   pub count_type : tree.TypeNode → Counts numbered.TypeNode
-  count_type (tree.type_node dims p) = bind (count_arrays dims) (λ dims'. bind (count_plain p) (λ p'. close (λ n. numbered.type_node n dims' p')))
+  count_type (tree.type_node dims p) = bind (count_arrays dims)
+      (λ dims'. bind (count_plain p) (λ p'. close (λ n. numbered.type_node n dims' p')))
 
   pub count_arrays : tree.ArrayTail → Counts numbered.Arrays
   count_arrays tree.no_array = give numbered.no_arrays
@@ -173,7 +178,8 @@ abbrev mutual
   pub count_dimensions : tree.ArrayTail → Counts numbered.DimensionTail
   count_dimensions tree.no_array = give numbered.no_dimensions
   count_dimensions (tree.more_array (tree.dimensions p more) rest) =
-      skip (bind (count_plain p) (λ p'. bind (count_plains more) (λ more'. skip (map (numbered.more_dimensions (numbered.dimensions p' more'))
+      skip (bind (count_plain p) (λ p'. bind (count_plains more)
+      (λ more'. skip (map (numbered.more_dimensions (numbered.dimensions p' more'))
       (count_dimensions rest)))))
 
   pub count_plains : tree.PlainTail → Counts numbered.PlainTail
@@ -190,7 +196,8 @@ abbrev mutual
 
   pub count_fields : tree.FieldList → Counts numbered.FieldList
   count_fields tree.empty_fields = close numbered.empty_fields
-  count_fields (tree.fields ns t) = bind (count_names ns) (λ names'. skip (bind (count_type t) (λ t'. close (λ n. numbered.fields n names' t'))))
+  count_fields (tree.fields ns t) = bind (count_names ns)
+      (λ names'. skip (bind (count_type t) (λ t'. close (λ n. numbered.fields n names' t'))))
 
   pub count_field_tail : tree.FieldListTail → Counts numbered.FieldListTail
   count_field_tail tree.no_fields = give numbered.no_fields
@@ -276,4 +283,5 @@ abbrev mutual
 
 abbrev pub count_module : tree.Module → Counts numbered.Module
 count_module (tree.module_of b) =
-    skip (bind count_name (λ name. skip (bind (count_block b) (λ b'. skip (bind count_name (λ end_name. skip (close (module_at name b' end_name))))))))
+    skip (bind count_name (λ name. skip
+    (bind (count_block b) (λ b'. skip (bind count_name (λ end_name. skip (close (module_at name b' end_name))))))))

@@ -36,10 +36,17 @@ total_ones : (n : ℕ) → total ones n ≡ n
 total_ones zero = omega arith
 total_ones (suc n) = omega (arith, total_ones n)
 
-tokens_few : (size : ℕ) (bytes : List ℕ) (tokens : List Lexeme) (rest : List ℕ) → HasTokens size bytes tokens rest → length tokens + length rest ≤ length bytes
+tokens_few : (size : ℕ) (bytes : List ℕ) (tokens : List Lexeme) (rest : List ℕ) → HasTokens size bytes tokens rest
+    → length tokens + length rest ≤ length bytes
 tokens_few size bytes [] rest h = omega (arith, gap_less h)
 tokens_few size bytes (t ∷ ts) rest h =
-    omega (arith, gap_less h.1.gap, length-append t.text h.0, spelled_some t.kind t.text h.1.is_token.spelled, tokens_few size h.0 ts rest h.2)
+    omega (
+      arith,
+      gap_less h.1.gap,
+      length-append t.text h.0,
+      spelled_some t.kind t.text h.1.is_token.spelled,
+      tokens_few size h.0 ts rest h.2,
+    )
 
 -- as many leaves as bytes
 pub ones_within : (source : List ℕ) (tokens : List Lexeme) → Tokens source tokens → total ones (length tokens) ≤ length source
@@ -51,10 +58,12 @@ total_front : (W : ℕ → ℕ) (n : ℕ) → total W (suc n) ≡ W 0 + total (�
 total_front W zero = omega arith
 total_front W (suc n) = omega (arith, total_front W n)
 
-texts_few : (size : ℕ) (bytes : List ℕ) (tokens : List Lexeme) (rest : List ℕ) → HasTokens size bytes tokens rest → total (sizes tokens) (length tokens) + length rest ≤ length bytes
+texts_few : (size : ℕ) (bytes : List ℕ) (tokens : List Lexeme) (rest : List ℕ) → HasTokens size bytes tokens rest
+    → total (sizes tokens) (length tokens) + length rest ≤ length bytes
 texts_few size bytes [] rest h = omega (arith, gap_less h)
 texts_few size bytes (t ∷ ts) rest h =
-    let front : total (sizes (t ∷ ts)) (suc (length ts)) ≡ length t.text + total (sizes ts) (length ts) = total_front (sizes (t ∷ ts)) (length ts) in
+    let front : total (sizes (t ∷ ts)) (suc (length ts)) ≡ length t.text + total (sizes ts) (length ts) =
+    total_front (sizes (t ∷ ts)) (length ts) in
     omega (arith, front, gap_less h.1.gap, length-append t.text h.0, texts_few size h.0 ts rest h.2)
 
 -- the texts of all tokens stand in the source

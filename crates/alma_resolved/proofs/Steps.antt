@@ -105,14 +105,16 @@ pub behind_leaf : {A : Type 0} (t : ℕ) {g : Step} (r : ℕ → Counts A) {x : 
 unfolding with_token
 behind_leaf t {g = g} r {x = x} d = record { so = λ at b h. go at b (nat_eq t at.token) (eqb_tells t at.token) h }
   where
-    go : (at b : Cursor) (q : Bool) → ((q ≡ true) × (t ≡ at.token)) ⊎ ((q ≡ false) × (t ≡ at.token → ⊥)) → and_then (where_so q (past at)) g ≡ Some b
+    go : (at b : Cursor) (q : Bool) → ((q ≡ true) × (t ≡ at.token)) ⊎ ((q ≡ false) × (t ≡ at.token → ⊥))
+        → and_then (where_so q (past at)) g ≡ Some b
         → r at.token (past at) ≡ (x, b)
     go at b true (inl p) h = ap (λ (m : ℕ). r m (past at)) (sym p.1) ∙ d.so (past at) b h
     go at b true (inr p) h = absurd (cc)
     go at b false p h = absurd (cc)
 
 -- a part, and what comes behind it
-pub both : {A B : Type 0} {f g : Step} {r : Counts A} (k : A → Counts B) {x : A} {y : B} → Makes f r x → Makes g (k x) y → Makes (f >> g) (bind r k) y
+pub both : {A B : Type 0} {f g : Step} {r : Counts A} (k : A → Counts B) {x : A} {y : B} → Makes f r x → Makes g (k x) y
+    → Makes (f >> g) (bind r k) y
 unfolding bind
 both {A = A} {f = f} {g = g} k {y = y} d e = record {
   so = λ at b h. let p : (mid : Cursor) × (f at ≡ Some mid) × (g mid ≡ Some b) = parts (f at) g b h in
@@ -123,12 +125,14 @@ pub last : {A B : Type 0} {f : Step} (k : A → B) {r : Counts A} {x : A} → Ma
 unfolding map
 last {A = A} k d = record { so = λ at b h. ap (λ (q : A × Cursor). (k q.0, q.1)) (d.so at b h) }
 
-pub behind_sign : {A : Type 0} (s : Option Sign) {g : Step} {r : Counts A} {x : A} → Makes g r x → Makes (number_sign s >> g) (past_sign s r) x
+pub behind_sign : {A : Type 0} (s : Option Sign) {g : Step} {r : Counts A} {x : A} → Makes g r x
+    → Makes (number_sign s >> g) (past_sign s r) x
 unfolding past_sign skip
 behind_sign None d = record { so = λ at b h. d.so at b h }
 behind_sign (Some s) d = record { so = λ at b h. d.so (past at) b h }
 
-pub behind_mode : {A : Type 0} (m : Option Mode) {g : Step} {r : Counts A} {x : A} → Makes g r x → Makes (number_mode m >> g) (past_mode m r) x
+pub behind_mode : {A : Type 0} (m : Option Mode) {g : Step} {r : Counts A} {x : A} → Makes g r x
+    → Makes (number_mode m >> g) (past_mode m r) x
 unfolding past_mode skip
 behind_mode None d = record { so = λ at b h. d.so at b h }
 behind_mode (Some m) d = record { so = λ at b h. d.so (past at) b h }

@@ -1,5 +1,6 @@
 -- Tables of shapes as declarations make them: what each shape keeps, so that the table fits.
-use Rattle.std.proofs.Common.{◌≡◌, ◌⊎◌, inl, inr, ℕ, zero, suc, ◌+◌, ◌*◌, ◌<◌, ◌≤◌, Bool, true, false, List, [], ◌∷◌, ◌++◌, length, get_or, Option, None, Some, refl, sym, ap, ◌∙◌, subst, arith, append_assoc, append-nil, length-append}
+use Rattle.std.proofs.Common.{◌≡◌, ◌⊎◌, inl, inr, ℕ, zero, suc, ◌+◌, ◌*◌, ◌<◌, ◌≤◌, Bool, true, false, List, [], ◌∷◌, ◌++◌, length, get_or}
+use Rattle.std.proofs.Common.{Option, None, Some, refl, sym, ap, ◌∙◌, subst, arith, append_assoc, append-nil, length-append}
 use Rattle.std.specs.Prelude.{not, is_some, slice_get, option_map, option_and_then, unwrap_or, bytes_eq, if◌then◌else◌}
 use Rattle.std.specs.List.{AllByRecursion}
 use Rattle.std.proofs.lemmas.Int.{ints}
@@ -7,7 +8,9 @@ use Rattle.std.proofs.lemmas.Option.{slice_get_within}
 use Rattle.std.proofs.Math.Seq.{get_or-append_seam}
 use Rattle.alma_base.specs.declared.number.Range.{Range}
 use Rattle.alma_base.specs.Numbers.{range_size, whole_range}
-use Rattle.alma_names.specs.Shapes.{PlainShape, PlainField, integer, char, boolean, listed, sub, row, fields, range_of, range_at, base_of, base_at, size_of, values_at, sum_of_cells, cells_in, cell_counts, cells_at, placed, field_named, field_at, first_shapes}
+use Rattle.alma_names.specs.Shapes.{PlainShape, PlainField, integer, char, boolean, listed, sub, row, fields, range_of, range_at, base_of}
+use Rattle.alma_names.specs.Shapes.{base_at, size_of, values_at, sum_of_cells, cells_in, cell_counts, cells_at, placed, field_named}
+use Rattle.alma_names.specs.Shapes.{field_at, first_shapes}
 use Rattle.alma_names.proofs.Tables.{counts_push, counts_len, cells_still}
 use Rattle.alma_ir.specs.Checked.{IsOrdered}
 use Rattle.alma_ir.proofs.Each.{each_follows}
@@ -34,7 +37,8 @@ values_still t u a lt = ap size_of (range_still t u a lt)
 pub cells_more : (t u : List PlainShape) (a : ℕ) → a < length t → cells_at (t ++ u) a ≡ cells_at t a
 cells_more t [] a lt = ap (λ x. cells_at x a) (append-nil t)
 cells_more t (x ∷ u) a lt =
-    ap (λ y. cells_at y a) (sym (append_assoc t (x ∷ []) u)) ∙ (cells_more (t ++ x ∷ []) u a (omega (arith, lt, length-append t (x ∷ []))) ∙ cells_still t x a lt)
+    ap (λ y. cells_at y a) (sym (append_assoc t (x ∷ []) u))
+    ∙ (cells_more (t ++ x ∷ []) u a (omega (arith, lt, length-append t (x ∷ []))) ∙ cells_still t x a lt)
 
 -- a simple shape is one of the table
 pub simple_there : (t : List PlainShape) (a : ℕ) → structured_in t a ≡ false → a < length t
@@ -83,9 +87,11 @@ shape_still t u a (row i e) lt h = (
   rw (values_still t u i (simple_there t i h.0), cells_more t u e h.1, cells_more t u a lt) h.2,
 )
 shape_still t u a (fields fs) lt h =
-    each_follows (FieldKeeps t (cells_at t a)) (FieldKeeps (t ++ u) (cells_at (t ++ u) a)) (λ f g. (omega (arith, g.0, length-append t u), omega (arith, g.1, cells_more t u f.shape g.0, cells_more t u a lt))) fs h
+    each_follows (FieldKeeps t (cells_at t a)) (FieldKeeps (t ++ u) (cells_at (t ++ u) a))
+    (λ f g. (omega (arith, g.0, length-append t u), omega (arith, g.1, cells_more t u f.shape g.0, cells_more t u a lt))) fs h
 
-last_or_before : (t : List PlainShape) (s : PlainShape) (n : ℕ) (x : PlainShape) → slice_get (t ++ s ∷ []) n ≡ Some x → (slice_get t n ≡ Some x) ⊎ ((n ≡ length t) × (s ≡ x))
+last_or_before : (t : List PlainShape) (s : PlainShape) (n : ℕ) (x : PlainShape) → slice_get (t ++ s ∷ []) n ≡ Some x
+    → (slice_get t n ≡ Some x) ⊎ ((n ≡ length t) × (s ≡ x))
 last_or_before [] s zero x h = inr (refl, cc)
 last_or_before [] s (suc n) x h = absurd (cc)
 last_or_before (y ∷ t) s zero x h = inl h
@@ -110,7 +116,8 @@ table_more t s h k = record {
 last_cells : (t : List PlainShape) (s : PlainShape) → cells_at (t ++ s ∷ []) (length t) ≡ cells_in t (cell_counts t) s
 last_cells t s =
     ap (λ cs. get_or cs (length t) 0) (counts_push t s)
-    ∙ (ap (λ n. get_or (cell_counts t ++ cells_in t (cell_counts t) s ∷ []) n 0) (sym (counts_len t)) ∙ get_or-append_seam (cell_counts t) (cells_in t (cell_counts t) s) [] 0)
+    ∙ (ap (λ n. get_or (cell_counts t ++ cells_in t (cell_counts t) s ∷ []) n 0) (sym (counts_len t))
+    ∙ get_or-append_seam (cell_counts t) (cells_in t (cell_counts t) s) [] 0)
 
 pub row_keeps : (t : List PlainShape) (i e : ℕ) → TableKeeps t → structured_in t i ≡ false → e < length t → TableKeeps (t ++ row i e ∷ [])
 row_keeps t i e h simple lt = table_more t (row i e) h (
@@ -129,20 +136,24 @@ placed_sum cs o (f ∷ fs) = ap (λ n. get_or cs f.shape 0 + n) (placed_sum cs (
 abbrev pub FieldsThere : List PlainShape → List PlainField → Type 0
 FieldsThere t fs = AllByRecursion (λ f. f.shape < length t) fs
 
-placed_keep : (t u : List PlainShape) (n o : ℕ) (fs : List PlainField) → FieldsThere t fs → o + sum_of_cells (cell_counts t) fs ≤ n → AllByRecursion (FieldKeeps (t ++ u) n) (placed (cell_counts t) o fs)
+placed_keep : (t u : List PlainShape) (n o : ℕ) (fs : List PlainField) → FieldsThere t fs → o + sum_of_cells (cell_counts t) fs ≤ n
+    → AllByRecursion (FieldKeeps (t ++ u) n) (placed (cell_counts t) o fs)
 placed_keep t u n o [] h le = tt
 placed_keep t u n o (f ∷ fs) h le = (
   (omega (arith, h.0, length-append t u), omega (arith, cells_more t u f.shape h.0, le)),
   placed_keep t u n (o + get_or (cell_counts t) f.shape 0) fs h.1 (omega (arith, le)),
 )
 
-pub record_keeps : (t : List PlainShape) (fs : List PlainField) → TableKeeps t → FieldsThere t fs → TableKeeps (t ++ fields (placed (cell_counts t) 0 fs) ∷ [])
+pub record_keeps : (t : List PlainShape) (fs : List PlainField) → TableKeeps t → FieldsThere t fs
+    → TableKeeps (t ++ fields (placed (cell_counts t) 0 fs) ∷ [])
 record_keeps t fs h there =
     let x = fields (placed (cell_counts t) 0 fs) in
-    let all : cells_at (t ++ fields (placed (cell_counts t) 0 fs) ∷ []) (length t) ≡ sum_of_cells (cell_counts t) fs = last_cells t (fields (placed (cell_counts t) 0 fs)) ∙ placed_sum (cell_counts t) 0 fs in
+    let all : cells_at (t ++ fields (placed (cell_counts t) 0 fs) ∷ []) (length t) ≡ sum_of_cells (cell_counts t) fs =
+    last_cells t (fields (placed (cell_counts t) 0 fs)) ∙ placed_sum (cell_counts t) 0 fs in
     table_more t x h (placed_keep t (x ∷ []) (cells_at (t ++ x ∷ []) (length t)) 0 fs there (omega (arith, all)))
 
-pub sub_keeps : (t : List PlainShape) (b : ℕ) (r : Range) → TableKeeps t → structured_in t b ≡ false → IsOrdered r → TableKeeps (t ++ sub b r ∷ [])
+pub sub_keeps : (t : List PlainShape) (b : ℕ) (r : Range) → TableKeeps t → structured_in t b ≡ false → IsOrdered r
+    → TableKeeps (t ++ sub b r ∷ [])
 sub_keeps t b r h simple le = table_more t (sub b r) h (simple_still t (sub b r ∷ []) b simple, le)
 
 pub listed_keeps : (t : List PlainShape) (n : ℕ) → TableKeeps t → 0 < n → TableKeeps (t ++ listed n ∷ [])
@@ -174,7 +185,8 @@ first_keeps = record { firsts = by; each = shapes }
 pub base_structured : (t : List PlainShape) (a : ℕ) → TableKeeps t → structured_in t a ≡ structured_in t (base_at t a)
 base_structured t a h = by (slice_get t a) refl
   where
-    by : (o : Option PlainShape) → slice_get t a ≡ o → not (is_some (option_and_then range_of o)) ≡ structured_in t (unwrap_or (option_map (base_of a) o) a)
+    by : (o : Option PlainShape) → slice_get t a ≡ o
+        → not (is_some (option_and_then range_of o)) ≡ structured_in t (unwrap_or (option_map (base_of a) o) a)
     by None q = sym (ap (λ p. not (is_some (option_and_then range_of p))) q)
     by (Some integer) q = sym (ap (λ p. not (is_some (option_and_then range_of p))) q)
     by (Some char) q = sym (ap (λ p. not (is_some (option_and_then range_of p))) q)
@@ -187,13 +199,15 @@ base_structured t a h = by (slice_get t a) refl
 base_cells : (s : Scene) (a : ℕ) → TableKeeps s.shapes → cells_at s.shapes a ≡ cells_at s.shapes (base_at s.shapes a)
 base_cells s a h = by (slice_get s.shapes a) refl
   where
-    by : (o : Option PlainShape) → slice_get s.shapes a ≡ o → cells_at s.shapes a ≡ cells_at s.shapes (unwrap_or (option_map (base_of a) o) a)
+    by : (o : Option PlainShape) → slice_get s.shapes a ≡ o
+        → cells_at s.shapes a ≡ cells_at s.shapes (unwrap_or (option_map (base_of a) o) a)
     by None q = refl
     by (Some integer) q = refl
     by (Some char) q = refl
     by (Some boolean) q = refl
     by (Some (listed n)) q = refl
-    by (Some (sub b r)) q = simple_cells s a (ap (λ p. not (is_some (option_and_then range_of p))) q) ∙ sym (simple_cells s b (h.each a (sub b r) q).0)
+    by (Some (sub b r)) q = simple_cells s a (ap (λ p. not (is_some (option_and_then range_of p))) q)
+        ∙ sym (simple_cells s b (h.each a (sub b r) q).0)
     by (Some (row i e)) q = refl
     by (Some (fields fs)) q = refl
 
@@ -205,7 +219,8 @@ row_fits : (t : List PlainShape) (a i e : ℕ) → TableKeeps t → option_and_t
     → (structured_in t i ≡ false) × (range_size (unwrap_or (range_at t i) whole_range) * cells_at t e ≤ cells_at t a)
 row_fits t a i e h = by (slice_get t a) refl
   where
-    made : (j f : ℕ) → slice_get t a ≡ Some (row j f) → (structured_in t j ≡ false) × (range_size (unwrap_or (range_at t j) whole_range) * cells_at t f ≤ cells_at t a)
+    made : (j f : ℕ) → slice_get t a ≡ Some (row j f) → (structured_in t j ≡ false)
+        × (range_size (unwrap_or (range_at t j) whole_range) * cells_at t f ≤ cells_at t a)
     made j f q =
         let k = h.each a (row j f) q in
         (k.0, subst (λ n. n * cells_at t f ≤ cells_at t a) (size_same (range_at t j) k.0) k.2)
@@ -222,21 +237,26 @@ row_fits t a i e h = by (slice_get t a) refl
         let first : j ≡ i = ap (λ (x : Option (ℕ × ℕ)). (unwrap_or x (0, 0)).0) p in
         let second : f ≡ e = ap (λ (x : Option (ℕ × ℕ)). (unwrap_or x (0, 0)).1) p in
         subst (λ n. (structured_in t n ≡ false) × (range_size (unwrap_or (range_at t n) whole_range) * cells_at t e ≤ cells_at t a)) first
-        (subst (λ n. (structured_in t j ≡ false) × (range_size (unwrap_or (range_at t j) whole_range) * cells_at t n ≤ cells_at t a)) second (made j f q))
+        (subst (λ n. (structured_in t j ≡ false) × (range_size (unwrap_or (range_at t j) whole_range) * cells_at t n ≤ cells_at t a)) second
+        (made j f q))
     by (Some (fields fs)) q p = absurd (cc)
 
-named_fits : (t : List PlainShape) (n : ℕ) (name : List ℕ) (fs : List PlainField) (o f : ℕ) → AllByRecursion (FieldKeeps t n) fs → field_named name fs ≡ Some (o, f) → (f < length t) × (o + cells_at t f ≤ n)
+named_fits : (t : List PlainShape) (n : ℕ) (name : List ℕ) (fs : List PlainField) (o f : ℕ) → AllByRecursion (FieldKeeps t n) fs
+    → field_named name fs ≡ Some (o, f) → (f < length t) × (o + cells_at t f ≤ n)
 named_fits t n name [] o f h e = absurd (cc)
 named_fits t n name (x ∷ xs) o f h e = by (bytes_eq x.name name) e (λ p. named_fits t n name xs o f h.1 p)
   where
-    by : (c : Bool) → (if c then Some (x.offset, x.shape) else field_named name xs) ≡ Some (o, f) → (field_named name xs ≡ Some (o, f) → (f < length t) × (o + cells_at t f ≤ n)) → (f < length t) × (o + cells_at t f ≤ n)
+    by : (c : Bool) → (if c then Some (x.offset, x.shape) else field_named name xs) ≡ Some (o, f)
+        → (field_named name xs ≡ Some (o, f) → (f < length t) × (o + cells_at t f ≤ n)) → (f < length t) × (o + cells_at t f ≤ n)
     by true p rest =
         let first : x.offset ≡ o = ap (λ (y : Option (ℕ × ℕ)). (unwrap_or y (0, 0)).0) p in
         let second : x.shape ≡ f = ap (λ (y : Option (ℕ × ℕ)). (unwrap_or y (0, 0)).1) p in
-        subst (λ m. (m < length t) × (o + cells_at t m ≤ n)) second (subst (λ m. (x.shape < length t) × (m + cells_at t x.shape ≤ n)) first h.0)
+        subst (λ m. (m < length t) × (o + cells_at t m ≤ n)) second
+        (subst (λ m. (x.shape < length t) × (m + cells_at t x.shape ≤ n)) first h.0)
     by false p rest = rest p
 
-field_fits : (t : List PlainShape) (name : List ℕ) (a o f : ℕ) → TableKeeps t → field_at name (slice_get t a) ≡ Some (o, f) → o + cells_at t f ≤ cells_at t a
+field_fits : (t : List PlainShape) (name : List ℕ) (a o f : ℕ) → TableKeeps t → field_at name (slice_get t a) ≡ Some (o, f)
+    → o + cells_at t f ≤ cells_at t a
 field_fits t name a o f h = by (slice_get t a) refl
   where
     by : (x : Option PlainShape) → slice_get t a ≡ x → field_at name x ≡ Some (o, f) → o + cells_at t f ≤ cells_at t a

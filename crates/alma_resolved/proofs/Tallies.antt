@@ -2,7 +2,12 @@
 use Rattle.std.proofs.Common.{◌≡◌, ℕ, ◌+◌, List, [], ◌∷◌, ◌++◌, length, Option, None, Some, refl, arith}
 use Rattle.alma_tree.specs.declared.leaf.Sign.{Sign}
 use Rattle.alma_rules.specs.Numbered as tree
-use Rattle.alma_rules.specs.Places.{Mark, node_at, stmt_at, Step, stay, token, ◌>>◌, whole, statement, statement_of, from_here, mark_name, mark_sign, first_step, only_step, stmt_tokens, mark_stmts, mark_stmt_tail, mark_stmt, mark_elsifs, mark_else, mark_by, mark_orelses, mark_returned, mark_desigs, mark_arm, mark_arms, mark_label, mark_high, mark_labels, mark_expr, mark_compared, mark_simple, mark_terms, mark_term, mark_factors, mark_factor, mark_primary, mark_only, mark_value, mark_args, mark_exprs, mark_expr_tail, mark_items, mark_item_tail, mark_line_items, mark_desig, mark_selectors, mark_selector}
+use Rattle.alma_rules.specs.Places.{Mark, node_at, stmt_at, Step, stay, token, ◌>>◌, whole, statement, statement_of, from_here, mark_name}
+use Rattle.alma_rules.specs.Places.{mark_sign, first_step, only_step, stmt_tokens, mark_stmts, mark_stmt_tail, mark_stmt, mark_elsifs}
+use Rattle.alma_rules.specs.Places.{mark_else, mark_by, mark_orelses, mark_returned, mark_desigs, mark_arm, mark_arms, mark_label}
+use Rattle.alma_rules.specs.Places.{mark_high, mark_labels, mark_expr, mark_compared, mark_simple, mark_terms, mark_term, mark_factors}
+use Rattle.alma_rules.specs.Places.{mark_factor, mark_primary, mark_only, mark_value, mark_args, mark_exprs, mark_expr_tail, mark_items}
+use Rattle.alma_rules.specs.Places.{mark_item_tail, mark_line_items, mark_desig, mark_selectors, mark_selector}
 
 -- ---- how many
 
@@ -225,14 +230,16 @@ OnlyTallies None (Some n) = ⊥
 OnlyTallies (Some f) None = ⊥
 OnlyTallies (Some f) (Some n) = Tallies f n
 
-only_case : (m : ℕ) (rest : tree.StmtTail) (f : Option Step) (n : Option ℕ) → OnlyTallies f n → OnlyTallies (only_step m rest f) (only_tally rest n)
+only_case : (m : ℕ) (rest : tree.StmtTail) (f : Option Step) (n : Option ℕ) → OnlyTallies f n
+    → OnlyTallies (only_step m rest f) (only_tally rest n)
 only_case m tree.no_stmt None None h = tt
 only_case m tree.no_stmt None (Some n) h = h
 only_case m tree.no_stmt (Some f) None h = h
 only_case m tree.no_stmt (Some f) (Some n) h = tally_whole m f n h
 only_case m (tree.more_stmt x rest) f n h = tt
 
-first_tallies : (f : Option Step) (n : Option ℕ) (g : Step) (m : ℕ) → OnlyTallies f n → Tallies g m → Tallies (first_step f g) (first_tally n m)
+first_tallies : (f : Option Step) (n : Option ℕ) (g : Step) (m : ℕ) → OnlyTallies f n → Tallies g m
+    → Tallies (first_step f g) (first_tally n m)
 first_tallies None None g m h k = k
 first_tallies None (Some n) g m h k = absurd h
 first_tallies (Some f) None g m h k = absurd h
@@ -250,25 +257,67 @@ mutual
 
   stmt_tallied : (x : tree.Stmt) → Tallies (mark_stmt x) (tally_stmt x)
   stmt_tallied (tree.nothing n) = tally_whole n _ _ tally_stay
-  stmt_tallied (tree.assign n d e) = tally_whole n _ _ (tally_both _ _ _ _ tally_statement (tally_both _ _ _ _ (desig_tallied d) (tally_after _ _ _ tally_token (expr_tallied e))))
+  stmt_tallied (tree.assign n d e) = tally_whole n _ _
+      (tally_both _ _ _ _ tally_statement (tally_both _ _ _ _ (desig_tallied d) (tally_after _ _ _ tally_token (expr_tallied e))))
   stmt_tallied (tree.value n e) = tally_whole n _ _ (tally_both _ _ _ _ tally_statement (expr_tallied e))
-  stmt_tallied (tree.if_stmt n e body elsifs other) = tally_whole n _ _ (tally_both _ _ _ _ tally_statement (tally_after _ _ _ tally_token (tally_both _ _ _ _ (expr_tallied e) (tally_after _ _ _ tally_token (tally_both _ _ _ _ (stmts_tallied body) (tally_both _ _ _ _ (elsifs_tallied elsifs) (tally_before _ _ _ (else_tallied other) tally_token)))))))
-  stmt_tallied (tree.while_stmt n e body) = tally_whole n _ _ (tally_both _ _ _ _ tally_statement (tally_after _ _ _ tally_token (tally_both _ _ _ _ (expr_tallied e) (tally_after _ _ _ tally_token (tally_before _ _ _ (stmts_tallied body) tally_token)))))
-  stmt_tallied (tree.repeat_stmt n body e) = tally_whole n _ _ (tally_both _ _ _ _ tally_statement (tally_after _ _ _ tally_token (tally_both _ _ _ _ (stmts_tallied body) (tally_after _ _ _ tally_token (expr_tallied e)))))
-  stmt_tallied (tree.for_stmt n name low high by body) = tally_whole n _ _ (tally_both _ _ _ _ tally_statement (tally_after _ _ _ tally_token (tally_after _ _ _ (tally_name name) (tally_after _ _ _ tally_token (tally_both _ _ _ _ (expr_tallied low) (tally_after _ _ _ tally_token (tally_both _ _ _ _ (expr_tallied high) (tally_both _ _ _ _ (by_tallied by) (tally_after _ _ _ tally_token (tally_before _ _ _ (stmts_tallied body) tally_token))))))))))
-  stmt_tallied (tree.some_stmt n name low high body) = tally_whole n _ _ (tally_both _ _ _ _ tally_statement (tally_after _ _ _ tally_token (tally_after _ _ _ (tally_name name) (tally_after _ _ _ tally_token (tally_both _ _ _ _ (expr_tallied low) (tally_after _ _ _ tally_token (tally_both _ _ _ _ (expr_tallied high) (tally_after _ _ _ tally_token (tally_before _ _ _ (stmts_tallied body) tally_token)))))))))
-  stmt_tallied (tree.case_stmt n e first rest other) = tally_whole n _ _ (tally_both _ _ _ _ tally_statement (tally_after _ _ _ tally_token (tally_both _ _ _ _ (expr_tallied e) (tally_after _ _ _ tally_token (tally_both _ _ _ _ (arm_tallied first) (tally_both _ _ _ _ (arms_tallied rest) (tally_before _ _ _ (else_tallied other) tally_token)))))))
-  stmt_tallied (tree.either_stmt n body rest) = tally_whole n _ _ (tally_both _ _ _ _ tally_statement (tally_after _ _ _ tally_token (tally_both _ _ _ _ (stmts_tallied body) (tally_before _ _ _ (orelses_tallied rest) tally_token))))
-  stmt_tallied (tree.forall_stmt n choice body) = tally_whole n _ _ (tally_both _ _ _ _ tally_statement (tally_after _ _ _ tally_token (tally_both _ _ _ _ (stmts_tallied choice) (tally_after _ _ _ tally_token (tally_before _ _ _ (stmts_tallied body) tally_token)))))
-  stmt_tallied (tree.commit_stmt n body) = tally_whole n _ _ (tally_both _ _ _ _ tally_statement (tally_after _ _ _ tally_token (tally_before _ _ _ (stmts_tallied body) tally_token)))
-  stmt_tallied (tree.return_stmt n e) = tally_whole n _ _ (tally_both _ _ _ _ tally_statement (tally_after _ _ _ tally_token (returned_tallied e)))
-  stmt_tallied (tree.read_stmt n d rest) = tally_whole n _ _ (tally_from_here _ _ (λ at. (tally_after _ _ _ tally_token (tally_after _ _ _ tally_token (tally_both _ _ _ _ (tally_statement_of at) (tally_both _ _ _ _ (desig_tallied d) (tally_before _ _ _ (desigs_tallied at rest) tally_token)))))))
-  stmt_tallied (tree.write_stmt n items) = tally_whole n _ _ (tally_from_here _ _ (λ at. (tally_after _ _ _ tally_token (tally_after _ _ _ tally_token (tally_before _ _ _ (items_tallied at items) tally_token)))))
-  stmt_tallied (tree.writeln_stmt n items) = tally_whole n _ _ (tally_from_here _ _ (λ at. (tally_after _ _ _ tally_token (tally_both _ _ _ _ (line_items_tallied at items) (tally_statement_of at)))))
+  stmt_tallied (tree.if_stmt n e body elsifs other) =
+      tally_whole n _ _ (tally_both _ _ _ _ tally_statement
+      (tally_after _ _ _ tally_token (tally_both _ _ _ _ (expr_tallied e)
+      (tally_after _ _ _ tally_token (tally_both _ _ _ _ (stmts_tallied body)
+      (tally_both _ _ _ _ (elsifs_tallied elsifs) (tally_before _ _ _ (else_tallied other) tally_token)))))))
+  stmt_tallied (tree.while_stmt n e body) =
+      tally_whole n _ _ (tally_both _ _ _ _ tally_statement
+      (tally_after _ _ _ tally_token (tally_both _ _ _ _ (expr_tallied e)
+      (tally_after _ _ _ tally_token (tally_before _ _ _ (stmts_tallied body) tally_token)))))
+  stmt_tallied (tree.repeat_stmt n body e) =
+      tally_whole n _ _ (tally_both _ _ _ _ tally_statement
+      (tally_after _ _ _ tally_token (tally_both _ _ _ _ (stmts_tallied body) (tally_after _ _ _ tally_token (expr_tallied e)))))
+  stmt_tallied (tree.for_stmt n name low high by body) =
+      tally_whole n _ _ (tally_both _ _ _ _ tally_statement
+      (tally_after _ _ _ tally_token (tally_after _ _ _ (tally_name name)
+      (tally_after _ _ _ tally_token (tally_both _ _ _ _ (expr_tallied low)
+      (tally_after _ _ _ tally_token (tally_both _ _ _ _ (expr_tallied high)
+      (tally_both _ _ _ _ (by_tallied by) (tally_after _ _ _ tally_token (tally_before _ _ _ (stmts_tallied body) tally_token))))))))))
+  stmt_tallied (tree.some_stmt n name low high body) =
+      tally_whole n _ _ (tally_both _ _ _ _ tally_statement
+      (tally_after _ _ _ tally_token (tally_after _ _ _ (tally_name name)
+      (tally_after _ _ _ tally_token (tally_both _ _ _ _ (expr_tallied low)
+      (tally_after _ _ _ tally_token (tally_both _ _ _ _ (expr_tallied high)
+      (tally_after _ _ _ tally_token (tally_before _ _ _ (stmts_tallied body) tally_token)))))))))
+  stmt_tallied (tree.case_stmt n e first rest other) =
+      tally_whole n _ _ (tally_both _ _ _ _ tally_statement
+      (tally_after _ _ _ tally_token (tally_both _ _ _ _ (expr_tallied e)
+      (tally_after _ _ _ tally_token (tally_both _ _ _ _ (arm_tallied first)
+      (tally_both _ _ _ _ (arms_tallied rest) (tally_before _ _ _ (else_tallied other) tally_token)))))))
+  stmt_tallied (tree.either_stmt n body rest) =
+      tally_whole n _ _ (tally_both _ _ _ _ tally_statement
+      (tally_after _ _ _ tally_token (tally_both _ _ _ _ (stmts_tallied body) (tally_before _ _ _ (orelses_tallied rest) tally_token))))
+  stmt_tallied (tree.forall_stmt n choice body) =
+      tally_whole n _ _ (tally_both _ _ _ _ tally_statement
+      (tally_after _ _ _ tally_token (tally_both _ _ _ _ (stmts_tallied choice)
+      (tally_after _ _ _ tally_token (tally_before _ _ _ (stmts_tallied body) tally_token)))))
+  stmt_tallied (tree.commit_stmt n body) =
+      tally_whole n _ _ (tally_both _ _ _ _ tally_statement
+      (tally_after _ _ _ tally_token (tally_before _ _ _ (stmts_tallied body) tally_token)))
+  stmt_tallied (tree.return_stmt n e) = tally_whole n _ _
+      (tally_both _ _ _ _ tally_statement (tally_after _ _ _ tally_token (returned_tallied e)))
+  stmt_tallied (tree.read_stmt n d rest) =
+      tally_whole n _ _ (tally_from_here _ _
+      (λ at. (tally_after _ _ _ tally_token (tally_after _ _ _ tally_token
+      (tally_both _ _ _ _ (tally_statement_of at)
+      (tally_both _ _ _ _ (desig_tallied d) (tally_before _ _ _ (desigs_tallied at rest) tally_token)))))))
+  stmt_tallied (tree.write_stmt n items) =
+      tally_whole n _ _ (tally_from_here _ _
+      (λ at. (tally_after _ _ _ tally_token (tally_after _ _ _ tally_token (tally_before _ _ _ (items_tallied at items) tally_token)))))
+  stmt_tallied (tree.writeln_stmt n items) =
+      tally_whole n _ _ (tally_from_here _ _
+      (λ at. (tally_after _ _ _ tally_token (tally_both _ _ _ _ (line_items_tallied at items) (tally_statement_of at)))))
 
   elsifs_tallied : (x : tree.ElsifTail) → Tallies (mark_elsifs x) (tally_elsifs x)
   elsifs_tallied tree.no_elsif = tally_stay
-  elsifs_tallied (tree.more_elsif e body rest) = tally_after _ _ _ tally_token (tally_both _ _ _ _ (expr_tallied e) (tally_after _ _ _ tally_token (tally_both _ _ _ _ (stmts_tallied body) (elsifs_tallied rest))))
+  elsifs_tallied (tree.more_elsif e body rest) =
+      tally_after _ _ _ tally_token (tally_both _ _ _ _ (expr_tallied e)
+      (tally_after _ _ _ tally_token (tally_both _ _ _ _ (stmts_tallied body) (elsifs_tallied rest))))
 
   else_tallied : (x : tree.Else) → Tallies (mark_else x) (tally_else x)
   else_tallied tree.no_else = tally_stay
@@ -280,7 +329,8 @@ mutual
 
   orelses_tallied : (x : tree.OrelseTail) → Tallies (mark_orelses x) (tally_orelses x)
   orelses_tallied tree.no_orelse = tally_stay
-  orelses_tallied (tree.more_orelse body rest) = tally_after _ _ _ tally_token (tally_both _ _ _ _ (stmts_tallied body) (orelses_tallied rest))
+  orelses_tallied (tree.more_orelse body rest) =
+      tally_after _ _ _ tally_token (tally_both _ _ _ _ (stmts_tallied body) (orelses_tallied rest))
 
   returned_tallied : (x : tree.Returned) → Tallies (mark_returned x) (tally_returned x)
   returned_tallied tree.no_value = tally_stay
@@ -288,11 +338,15 @@ mutual
 
   desigs_tallied : (at : ℕ) (x : tree.DesigTail) → Tallies (mark_desigs at x) (tally_desigs x)
   desigs_tallied at tree.no_desig = tally_stay
-  desigs_tallied at (tree.more_desig d rest) = tally_after _ _ _ tally_token (tally_both _ _ _ _ (tally_statement_of at) (tally_both _ _ _ _ (desig_tallied d) (desigs_tallied at rest)))
+  desigs_tallied at (tree.more_desig d rest) =
+      tally_after _ _ _ tally_token (tally_both _ _ _ _ (tally_statement_of at)
+      (tally_both _ _ _ _ (desig_tallied d) (desigs_tallied at rest)))
 
   arm_tallied : (x : tree.Arm) → Tallies (mark_arm x) (tally_arm x)
   arm_tallied (tree.empty_arm n) = tally_whole n _ _ tally_stay
-  arm_tallied (tree.arm n first rest body) = tally_whole n _ _ (tally_both _ _ _ _ (label_tallied first) (tally_both _ _ _ _ (labels_tallied rest) (tally_after _ _ _ tally_token (stmts_tallied body))))
+  arm_tallied (tree.arm n first rest body) =
+      tally_whole n _ _ (tally_both _ _ _ _ (label_tallied first)
+      (tally_both _ _ _ _ (labels_tallied rest) (tally_after _ _ _ tally_token (stmts_tallied body))))
 
   arms_tallied : (x : tree.ArmTail) → Tallies (mark_arms x) (tally_arms x)
   arms_tallied tree.no_arm = tally_stay
@@ -317,7 +371,8 @@ mutual
   compared_tallied (tree.compared relation right) = tally_after _ _ _ tally_token (simple_tallied right)
 
   simple_tallied : (x : tree.Simple) → Tallies (mark_simple x) (tally_simple x)
-  simple_tallied (tree.simple n sign first rest) = tally_whole n _ _ (tally_after _ _ _ (tally_sign sign) (tally_both _ _ _ _ (term_tallied first) (terms_tallied rest)))
+  simple_tallied (tree.simple n sign first rest) =
+      tally_whole n _ _ (tally_after _ _ _ (tally_sign sign) (tally_both _ _ _ _ (term_tallied first) (terms_tallied rest)))
 
   terms_tallied : (x : tree.TermTail) → Tallies (mark_terms x) (tally_terms x)
   terms_tallied tree.no_term = tally_stay
@@ -338,10 +393,14 @@ mutual
   primary_tallied (tree.number n t) = tally_whole n _ _ tally_token
   primary_tallied (tree.literal n t) = tally_whole n _ _ tally_token
   primary_tallied (tree.named n d given) = tally_whole n _ _ (tally_both _ _ _ _ (desig_tallied d) (args_tallied given))
-  primary_tallied (tree.paren n body) = tally_whole n _ _ (tally_after _ _ _ tally_token (tally_before _ _ _ (first_tallies _ _ _ _ (only_tallied body) (stmts_tallied body)) tally_token))
-  primary_tallied (tree.known n d) = tally_whole n _ _ (tally_after _ _ _ tally_token (tally_after _ _ _ tally_token (tally_before _ _ _ (desig_tallied d) tally_token)))
-  primary_tallied (tree.ord n e) = tally_whole n _ _ (tally_after _ _ _ tally_token (tally_after _ _ _ tally_token (tally_before _ _ _ (expr_tallied e) tally_token)))
-  primary_tallied (tree.chr n e) = tally_whole n _ _ (tally_after _ _ _ tally_token (tally_after _ _ _ tally_token (tally_before _ _ _ (expr_tallied e) tally_token)))
+  primary_tallied (tree.paren n body) = tally_whole n _ _
+      (tally_after _ _ _ tally_token (tally_before _ _ _ (first_tallies _ _ _ _ (only_tallied body) (stmts_tallied body)) tally_token))
+  primary_tallied (tree.known n d) = tally_whole n _ _
+      (tally_after _ _ _ tally_token (tally_after _ _ _ tally_token (tally_before _ _ _ (desig_tallied d) tally_token)))
+  primary_tallied (tree.ord n e) = tally_whole n _ _
+      (tally_after _ _ _ tally_token (tally_after _ _ _ tally_token (tally_before _ _ _ (expr_tallied e) tally_token)))
+  primary_tallied (tree.chr n e) = tally_whole n _ _
+      (tally_after _ _ _ tally_token (tally_after _ _ _ tally_token (tally_before _ _ _ (expr_tallied e) tally_token)))
 
   args_tallied : (x : tree.Args) → Tallies (mark_args x) (tally_args x)
   args_tallied tree.no_args = tally_stay
@@ -356,11 +415,14 @@ mutual
   expr_tail_tallied (tree.more_expr e rest) = tally_after _ _ _ tally_token (tally_both _ _ _ _ (expr_tallied e) (expr_tail_tallied rest))
 
   items_tallied : (at : ℕ) (x : tree.Exprs) → Tallies (mark_items at x) (tally_items x)
-  items_tallied at (tree.exprs e rest) = tally_both _ _ _ _ (tally_statement_of at) (tally_both _ _ _ _ (expr_tallied e) (item_tail_tallied at rest))
+  items_tallied at (tree.exprs e rest) = tally_both _ _ _ _ (tally_statement_of at)
+      (tally_both _ _ _ _ (expr_tallied e) (item_tail_tallied at rest))
 
   item_tail_tallied : (at : ℕ) (x : tree.ExprTail) → Tallies (mark_item_tail at x) (tally_item_tail x)
   item_tail_tallied at tree.no_expr = tally_stay
-  item_tail_tallied at (tree.more_expr e rest) = tally_after _ _ _ tally_token (tally_both _ _ _ _ (tally_statement_of at) (tally_both _ _ _ _ (expr_tallied e) (item_tail_tallied at rest)))
+  item_tail_tallied at (tree.more_expr e rest) =
+      tally_after _ _ _ tally_token (tally_both _ _ _ _ (tally_statement_of at)
+      (tally_both _ _ _ _ (expr_tallied e) (item_tail_tallied at rest)))
 
   line_items_tallied : (at : ℕ) (x : tree.Args) → Tallies (mark_line_items at x) (tally_line_items x)
   line_items_tallied at tree.no_args = tally_stay
@@ -376,7 +438,8 @@ mutual
 
   selector_tallied : (x : tree.Selector) → Tallies (mark_selector x) (tally_selector x)
   selector_tallied (tree.field n name) = tally_whole n _ _ (tally_none _ _ tally_token (tally_name name))
-  selector_tallied (tree.index n items) = tally_whole n _ _ (tally_after _ _ _ tally_token (tally_before _ _ _ (exprs_tallied items) tally_token))
+  selector_tallied (tree.index n items) = tally_whole n _ _
+      (tally_after _ _ _ tally_token (tally_before _ _ _ (exprs_tallied items) tally_token))
 
   only_tallied : (x : tree.Stmts) → OnlyTallies (mark_only x) (tally_only x)
   only_tallied (tree.stmts n x rest) = only_case n rest (mark_value x) (tally_value x) (value_tallied x)

@@ -10,5 +10,7 @@ use Rattle.alma_resolved.specs.Whole.{kinds_in, IsTreeOf}
 use Rattle.alma_resolved.proofs.Naming.{numbered_names}
 use Rattle.alma_resolved.proofs.Named.{program_named}
 
-pub tree_named : (source : List ℕ) (tokens : List Lexeme) (m : Module) (p : Program) → IsTreeOf source tokens m → resolved source tokens (numbered.view_module m) ≡ Some p → NamesSpelled p
-tree_named source tokens m p t e = program_named source tokens (numbered.view_module m) p t.scanned (numbered_names m (length tokens) (kinds_in tokens) t.numbered t.spelled) e
+pub tree_named : (source : List ℕ) (tokens : List Lexeme) (m : Module) (p : Program) → IsTreeOf source tokens m
+    → resolved source tokens (numbered.view_module m) ≡ Some p → NamesSpelled p
+tree_named source tokens m p t e = program_named source tokens (numbered.view_module m) p t.scanned
+    (numbered_names m (length tokens) (kinds_in tokens) t.numbered t.spelled) e

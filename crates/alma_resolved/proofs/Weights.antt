@@ -41,7 +41,8 @@ unfoldable mutual
   weigh_stmt W (tree.if_stmt n e body elsifs other) = weigh_expr W e + (weigh_stmts W body + (weigh_elsifs W elsifs + weigh_else W other))
   weigh_stmt W (tree.while_stmt n e body) = weigh_expr W e + weigh_stmts W body
   weigh_stmt W (tree.repeat_stmt n body e) = weigh_stmts W body + weigh_expr W e
-  weigh_stmt W (tree.for_stmt n name low high by body) = W name.token + (weigh_expr W low + (weigh_expr W high + (weigh_by W by + weigh_stmts W body)))
+  weigh_stmt W (tree.for_stmt n name low high by body) = W name.token
+      + (weigh_expr W low + (weigh_expr W high + (weigh_by W by + weigh_stmts W body)))
   weigh_stmt W (tree.some_stmt n name low high body) = W name.token + (weigh_expr W low + (weigh_expr W high + weigh_stmts W body))
   weigh_stmt W (tree.case_stmt n e first rest other) = weigh_expr W e + (weigh_arm W first + (weigh_arms W rest + weigh_else W other))
   weigh_stmt W (tree.either_stmt n body rest) = weigh_stmts W body + weigh_orelses W rest
@@ -197,9 +198,11 @@ pub leaf_weighs : (W : ℕ → ℕ) (n : ℕ) → Weighs W (leaf n) (W n)
 unfolding Weighs
 leaf_weighs W n at b h = by (nat_eq n at.token) refl h
   where
-    by : (c : Bool) → nat_eq n at.token ≡ c → where_so c (record { token = suc at.token; node = at.node }) ≡ Some b → total W at.token + W n ≤ total W b.token
+    by : (c : Bool) → nat_eq n at.token ≡ c → where_so c (record { token = suc at.token; node = at.node }) ≡ Some b
+        → total W at.token + W n ≤ total W b.token
     by true e h =
-        let next : total W (suc at.token) ≡ total W b.token = ap (total W) (same_token (record { token = suc at.token; node = at.node }) b h) in
+        let next : total W (suc at.token) ≡ total W b.token =
+        ap (total W) (same_token (record { token = suc at.token; node = at.node }) b h) in
         omega (arith, next, ap W (eqb-true n at.token e))
     by false e h = absurd (cc)
 
@@ -213,53 +216,114 @@ mutual
 
   pub stmt_weighs : (W : ℕ → ℕ) (x : dt.Stmt) → Weighs W (number.number_stmt x) (weigh_stmt W (numbered.view_stmt x))
   stmt_weighs W (dt.Nothing n) = weighs_up W _ (up_node n)
-  stmt_weighs W (dt.Assign' n m l shape row e) = weighs_both W _ _ _ _ (weighs_after W _ _ _ (name_up l) (weighs_before W _ _ _ (selectors_weighs W row) (up_node m))) (weighs_after W _ _ _ up_token (weighs_before W _ _ _ (expr_weighs W e) (up_node n)))
+  stmt_weighs W (dt.Assign' n m l shape row e) =
+      weighs_both W _ _ _ _ (weighs_after W _ _ _ (name_up l) (weighs_before W _ _ _ (selectors_weighs W row) (up_node m)))
+      (weighs_after W _ _ _ up_token (weighs_before W _ _ _ (expr_weighs W e) (up_node n)))
   stmt_weighs W (dt.Value n e) = weighs_before W _ _ _ (expr_weighs W e) (up_node n)
-  stmt_weighs W (dt.If' n e m b s shape row shape' row' other) = weighs_after W _ _ _ up_token (weighs_both W _ _ _ _ (expr_weighs W e) (weighs_after W _ _ _ up_token (weighs_both W _ _ _ _ (weighs_both W _ _ _ _ (stmt_weighs W s) (weighs_before W _ _ _ (stmts_row_weighs W row) (up_node m))) (weighs_both W _ _ _ _ (elsifs_weighs W row') (weighs_before W _ _ _ (else_weighs W other) (up_then _ _ up_token (up_node n)))))))
-  stmt_weighs W (dt.While' n e m b s shape row) = weighs_after W _ _ _ up_token (weighs_both W _ _ _ _ (expr_weighs W e) (weighs_after W _ _ _ up_token (weighs_before W _ _ _ (weighs_both W _ _ _ _ (stmt_weighs W s) (weighs_before W _ _ _ (stmts_row_weighs W row) (up_node m))) (up_then _ _ up_token (up_node n)))))
-  stmt_weighs W (dt.Repeat' n m b s shape row e) = weighs_after W _ _ _ up_token (weighs_both W _ _ _ _ (weighs_both W _ _ _ _ (stmt_weighs W s) (weighs_before W _ _ _ (stmts_row_weighs W row) (up_node m))) (weighs_after W _ _ _ up_token (weighs_before W _ _ _ (expr_weighs W e) (up_node n))))
-  stmt_weighs W (dt.For' n l low high by m b s shape row) = weighs_after W _ _ _ up_token (weighs_both W _ _ _ _ (name_weighs W l) (weighs_after W _ _ _ up_token (weighs_both W _ _ _ _ (expr_weighs W low) (weighs_after W _ _ _ up_token (weighs_both W _ _ _ _ (expr_weighs W high) (weighs_both W _ _ _ _ (by_weighs W by) (weighs_after W _ _ _ up_token (weighs_before W _ _ _ (weighs_both W _ _ _ _ (stmt_weighs W s) (weighs_before W _ _ _ (stmts_row_weighs W row) (up_node m))) (up_then _ _ up_token (up_node n))))))))))
-  stmt_weighs W (dt.Some' n l low high m b s shape row) = weighs_after W _ _ _ up_token (weighs_both W _ _ _ _ (name_weighs W l) (weighs_after W _ _ _ up_token (weighs_both W _ _ _ _ (expr_weighs W low) (weighs_after W _ _ _ up_token (weighs_both W _ _ _ _ (expr_weighs W high) (weighs_after W _ _ _ up_token (weighs_before W _ _ _ (weighs_both W _ _ _ _ (stmt_weighs W s) (weighs_before W _ _ _ (stmts_row_weighs W row) (up_node m))) (up_then _ _ up_token (up_node n)))))))))
-  stmt_weighs W (dt.Case' n e b a shape row other) = weighs_after W _ _ _ up_token (weighs_both W _ _ _ _ (expr_weighs W e) (weighs_after W _ _ _ up_token (weighs_both W _ _ _ _ (arm_weighs W a) (weighs_both W _ _ _ _ (arms_weighs W row) (weighs_before W _ _ _ (else_weighs W other) (up_then _ _ up_token (up_node n)))))))
-  stmt_weighs W (dt.Either' n m b s shape row shape' row') = weighs_after W _ _ _ up_token (weighs_both W _ _ _ _ (weighs_both W _ _ _ _ (stmt_weighs W s) (weighs_before W _ _ _ (stmts_row_weighs W row) (up_node m))) (weighs_before W _ _ _ (orelses_weighs W row') (up_then _ _ up_token (up_node n))))
-  stmt_weighs W (dt.Forall' n m b s shape row m' b' s' shape' row') = weighs_after W _ _ _ up_token (weighs_both W _ _ _ _ (weighs_both W _ _ _ _ (stmt_weighs W s) (weighs_before W _ _ _ (stmts_row_weighs W row) (up_node m))) (weighs_after W _ _ _ up_token (weighs_before W _ _ _ (weighs_both W _ _ _ _ (stmt_weighs W s') (weighs_before W _ _ _ (stmts_row_weighs W row') (up_node m'))) (up_then _ _ up_token (up_node n)))))
-  stmt_weighs W (dt.Commit' n m b s shape row) = weighs_after W _ _ _ up_token (weighs_before W _ _ _ (weighs_both W _ _ _ _ (stmt_weighs W s) (weighs_before W _ _ _ (stmts_row_weighs W row) (up_node m))) (up_then _ _ up_token (up_node n)))
+  stmt_weighs W (dt.If' n e m b s shape row shape' row' other) =
+      weighs_after W _ _ _ up_token (weighs_both W _ _ _ _ (expr_weighs W e)
+      (weighs_after W _ _ _ up_token (weighs_both W _ _ _ _
+      (weighs_both W _ _ _ _ (stmt_weighs W s) (weighs_before W _ _ _ (stmts_row_weighs W row) (up_node m)))
+      (weighs_both W _ _ _ _ (elsifs_weighs W row') (weighs_before W _ _ _ (else_weighs W other) (up_then _ _ up_token (up_node n)))))))
+  stmt_weighs W (dt.While' n e m b s shape row) =
+      weighs_after W _ _ _ up_token (weighs_both W _ _ _ _ (expr_weighs W e)
+      (weighs_after W _ _ _ up_token (weighs_before W _ _ _
+      (weighs_both W _ _ _ _ (stmt_weighs W s) (weighs_before W _ _ _ (stmts_row_weighs W row) (up_node m)))
+      (up_then _ _ up_token (up_node n)))))
+  stmt_weighs W (dt.Repeat' n m b s shape row e) =
+      weighs_after W _ _ _ up_token (weighs_both W _ _ _ _
+      (weighs_both W _ _ _ _ (stmt_weighs W s) (weighs_before W _ _ _ (stmts_row_weighs W row) (up_node m)))
+      (weighs_after W _ _ _ up_token (weighs_before W _ _ _ (expr_weighs W e) (up_node n))))
+  stmt_weighs W (dt.For' n l low high by m b s shape row) =
+      weighs_after W _ _ _ up_token (weighs_both W _ _ _ _ (name_weighs W l)
+      (weighs_after W _ _ _ up_token (weighs_both W _ _ _ _ (expr_weighs W low)
+      (weighs_after W _ _ _ up_token (weighs_both W _ _ _ _ (expr_weighs W high)
+      (weighs_both W _ _ _ _ (by_weighs W by) (weighs_after W _ _ _ up_token
+      (weighs_before W _ _ _ (weighs_both W _ _ _ _ (stmt_weighs W s) (weighs_before W _ _ _ (stmts_row_weighs W row) (up_node m)))
+      (up_then _ _ up_token (up_node n))))))))))
+  stmt_weighs W (dt.Some' n l low high m b s shape row) =
+      weighs_after W _ _ _ up_token (weighs_both W _ _ _ _ (name_weighs W l)
+      (weighs_after W _ _ _ up_token (weighs_both W _ _ _ _ (expr_weighs W low)
+      (weighs_after W _ _ _ up_token (weighs_both W _ _ _ _ (expr_weighs W high)
+      (weighs_after W _ _ _ up_token (weighs_before W _ _ _
+      (weighs_both W _ _ _ _ (stmt_weighs W s) (weighs_before W _ _ _ (stmts_row_weighs W row) (up_node m)))
+      (up_then _ _ up_token (up_node n)))))))))
+  stmt_weighs W (dt.Case' n e b a shape row other) =
+      weighs_after W _ _ _ up_token (weighs_both W _ _ _ _ (expr_weighs W e)
+      (weighs_after W _ _ _ up_token (weighs_both W _ _ _ _ (arm_weighs W a)
+      (weighs_both W _ _ _ _ (arms_weighs W row) (weighs_before W _ _ _ (else_weighs W other) (up_then _ _ up_token (up_node n)))))))
+  stmt_weighs W (dt.Either' n m b s shape row shape' row') =
+      weighs_after W _ _ _ up_token (weighs_both W _ _ _ _
+      (weighs_both W _ _ _ _ (stmt_weighs W s) (weighs_before W _ _ _ (stmts_row_weighs W row) (up_node m)))
+      (weighs_before W _ _ _ (orelses_weighs W row') (up_then _ _ up_token (up_node n))))
+  stmt_weighs W (dt.Forall' n m b s shape row m' b' s' shape' row') =
+      weighs_after W _ _ _ up_token (weighs_both W _ _ _ _
+      (weighs_both W _ _ _ _ (stmt_weighs W s) (weighs_before W _ _ _ (stmts_row_weighs W row) (up_node m)))
+      (weighs_after W _ _ _ up_token (weighs_before W _ _ _
+      (weighs_both W _ _ _ _ (stmt_weighs W s') (weighs_before W _ _ _ (stmts_row_weighs W row') (up_node m')))
+      (up_then _ _ up_token (up_node n)))))
+  stmt_weighs W (dt.Commit' n m b s shape row) =
+      weighs_after W _ _ _ up_token (weighs_before W _ _ _
+      (weighs_both W _ _ _ _ (stmt_weighs W s) (weighs_before W _ _ _ (stmts_row_weighs W row) (up_node m)))
+      (up_then _ _ up_token (up_node n)))
   stmt_weighs W (dt.Return' n e) = weighs_after W _ _ _ up_token (weighs_before W _ _ _ (returned_weighs W e) (up_node n))
-  stmt_weighs W (dt.Read' n m l shape row shape' row') = weighs_after W _ _ _ up_token (weighs_after W _ _ _ up_token (weighs_both W _ _ _ _ (weighs_after W _ _ _ (name_up l) (weighs_before W _ _ _ (selectors_weighs W row) (up_node m))) (weighs_before W _ _ _ (desigs_weighs W row') (up_then _ _ up_token (up_node n)))))
-  stmt_weighs W (dt.Write n es) = weighs_after W _ _ _ up_token (weighs_after W _ _ _ up_token (weighs_before W _ _ _ (exprs_weighs W es) (up_then _ _ up_token (up_node n))))
+  stmt_weighs W (dt.Read' n m l shape row shape' row') =
+      weighs_after W _ _ _ up_token (weighs_after W _ _ _ up_token
+      (weighs_both W _ _ _ _ (weighs_after W _ _ _ (name_up l) (weighs_before W _ _ _ (selectors_weighs W row) (up_node m)))
+      (weighs_before W _ _ _ (desigs_weighs W row') (up_then _ _ up_token (up_node n)))))
+  stmt_weighs W (dt.Write n es) = weighs_after W _ _ _ up_token
+      (weighs_after W _ _ _ up_token (weighs_before W _ _ _ (exprs_weighs W es) (up_then _ _ up_token (up_node n))))
   stmt_weighs W (dt.Writeln' n a) = weighs_after W _ _ _ up_token (weighs_before W _ _ _ (args_weighs W a) (up_node n))
 
-  pub stmts_row_weighs : (W : ℕ → ℕ) {n : _} (x : da.Row_of-Stmt n) → Weighs W (number.number_stmts_row x) (weigh_stmt_tail W (numbered.view_stmts_row x))
+  pub stmts_row_weighs : (W : ℕ → ℕ) {n : _} (x : da.Row_of-Stmt n)
+      → Weighs W (number.number_stmts_row x) (weigh_stmt_tail W (numbered.view_stmts_row x))
   stmts_row_weighs W da.end_of-Stmt = weighs_up W _ up_stay
-  stmts_row_weighs W (da.more_of-Stmt s rest) = weighs_after W _ _ _ up_token (weighs_both W _ _ _ _ (stmt_weighs W s) (stmts_row_weighs W rest))
+  stmts_row_weighs W (da.more_of-Stmt s rest) =
+      weighs_after W _ _ _ up_token (weighs_both W _ _ _ _ (stmt_weighs W s) (stmts_row_weighs W rest))
 
-  pub elsifs_weighs : (W : ℕ → ℕ) {n : _} (x : dt.Row_of-Elsif n) → Weighs W (number.number_elsifs x) (weigh_elsifs W (numbered.view_elsifs x))
+  pub elsifs_weighs : (W : ℕ → ℕ) {n : _} (x : dt.Row_of-Elsif n)
+      → Weighs W (number.number_elsifs x) (weigh_elsifs W (numbered.view_elsifs x))
   elsifs_weighs W dt.end_of-Elsif = weighs_up W _ up_stay
-  elsifs_weighs W (dt.more_of-Elsif (df.Elsif' e m b s shape row) rest) = weighs_after W _ _ _ up_token (weighs_both W _ _ _ _ (expr_weighs W e) (weighs_after W _ _ _ up_token (weighs_both W _ _ _ _ (weighs_both W _ _ _ _ (stmt_weighs W s) (weighs_before W _ _ _ (stmts_row_weighs W row) (up_node m))) (elsifs_weighs W rest))))
+  elsifs_weighs W (dt.more_of-Elsif (df.Elsif' e m b s shape row) rest) =
+      weighs_after W _ _ _ up_token (weighs_both W _ _ _ _ (expr_weighs W e)
+      (weighs_after W _ _ _ up_token (weighs_both W _ _ _ _
+      (weighs_both W _ _ _ _ (stmt_weighs W s) (weighs_before W _ _ _ (stmts_row_weighs W row) (up_node m))) (elsifs_weighs W rest))))
 
   pub else_weighs : (W : ℕ → ℕ) (x : dt.Held-Stmt-If-4) → Weighs W (number.number_else x) (weigh_else W (numbered.view_else x))
   else_weighs W dt.Stmt-If-4-None' = weighs_up W _ up_stay
-  else_weighs W (dt.Stmt-If-4-Some' m b s shape row) = weighs_after W _ _ _ up_token (weighs_both W _ _ _ _ (stmt_weighs W s) (weighs_before W _ _ _ (stmts_row_weighs W row) (up_node m)))
+  else_weighs W (dt.Stmt-If-4-Some' m b s shape row) =
+      weighs_after W _ _ _ up_token (weighs_both W _ _ _ _ (stmt_weighs W s) (weighs_before W _ _ _ (stmts_row_weighs W row) (up_node m)))
 
   pub by_weighs : (W : ℕ → ℕ) (x : dl.Held-Stmt-For-4) → Weighs W (number.number_by x) (weigh_by W (numbered.view_by x))
   by_weighs W dl.Stmt-For-4-None' = weighs_up W _ up_stay
   by_weighs W (dl.Stmt-For-4-Some' e) = weighs_after W _ _ _ up_token (expr_weighs W e)
 
-  pub orelses_weighs : (W : ℕ → ℕ) {n : _} (x : dt.Row_of-Stmts n) → Weighs W (number.number_orelses x) (weigh_orelses W (numbered.view_orelses x))
+  pub orelses_weighs : (W : ℕ → ℕ) {n : _} (x : dt.Row_of-Stmts n)
+      → Weighs W (number.number_orelses x) (weigh_orelses W (numbered.view_orelses x))
   orelses_weighs W dt.end_of-Stmts = weighs_up W _ up_stay
-  orelses_weighs W (dt.more_of-Stmts m b s shape row rest) = weighs_after W _ _ _ up_token (weighs_both W _ _ _ _ (weighs_both W _ _ _ _ (stmt_weighs W s) (weighs_before W _ _ _ (stmts_row_weighs W row) (up_node m))) (orelses_weighs W rest))
+  orelses_weighs W (dt.more_of-Stmts m b s shape row rest) =
+      weighs_after W _ _ _ up_token (weighs_both W _ _ _ _
+      (weighs_both W _ _ _ _ (stmt_weighs W s) (weighs_before W _ _ _ (stmts_row_weighs W row) (up_node m))) (orelses_weighs W rest))
 
-  pub returned_weighs : (W : ℕ → ℕ) (x : dl.Held-Stmt-For-4) → Weighs W (number.number_returned x) (weigh_returned W (numbered.view_returned x))
+  pub returned_weighs : (W : ℕ → ℕ) (x : dl.Held-Stmt-For-4)
+      → Weighs W (number.number_returned x) (weigh_returned W (numbered.view_returned x))
   returned_weighs W dl.Stmt-For-4-None' = weighs_up W _ up_stay
   returned_weighs W (dl.Stmt-For-4-Some' e) = expr_weighs W e
 
-  pub desigs_weighs : (W : ℕ → ℕ) {n : _} (x : dt.Row_of-Desig n) → Weighs W (number.number_desigs x) (weigh_desigs W (numbered.view_desigs x))
+  pub desigs_weighs : (W : ℕ → ℕ) {n : _} (x : dt.Row_of-Desig n)
+      → Weighs W (number.number_desigs x) (weigh_desigs W (numbered.view_desigs x))
   desigs_weighs W dt.end_of-Desig = weighs_up W _ up_stay
-  desigs_weighs W (dt.more_of-Desig m l shape row rest) = weighs_after W _ _ _ up_token (weighs_both W _ _ _ _ (weighs_after W _ _ _ (name_up l) (weighs_before W _ _ _ (selectors_weighs W row) (up_node m))) (desigs_weighs W rest))
+  desigs_weighs W (dt.more_of-Desig m l shape row rest) =
+      weighs_after W _ _ _ up_token (weighs_both W _ _ _ _
+      (weighs_after W _ _ _ (name_up l) (weighs_before W _ _ _ (selectors_weighs W row) (up_node m))) (desigs_weighs W rest))
 
   pub arm_weighs : (W : ℕ → ℕ) (x : da.Arm) → Weighs W (number.number_arm x) (weigh_arm W (numbered.view_arm x))
   arm_weighs W (da.Empty n) = weighs_up W _ (up_node n)
-  arm_weighs W (da.Labelled' n l shape row m b s shape' row') = weighs_both W _ _ _ _ (label_weighs W l) (weighs_both W _ _ _ _ (labels_weighs W row) (weighs_after W _ _ _ up_token (weighs_before W _ _ _ (weighs_both W _ _ _ _ (stmt_weighs W s) (weighs_before W _ _ _ (stmts_row_weighs W row') (up_node m))) (up_node n))))
+  arm_weighs W (da.Labelled' n l shape row m b s shape' row') =
+      weighs_both W _ _ _ _ (label_weighs W l)
+      (weighs_both W _ _ _ _ (labels_weighs W row)
+      (weighs_after W _ _ _ up_token (weighs_before W _ _ _
+      (weighs_both W _ _ _ _ (stmt_weighs W s) (weighs_before W _ _ _ (stmts_row_weighs W row') (up_node m))) (up_node n))))
 
   pub arms_weighs : (W : ℕ → ℕ) {n : _} (x : dt.Row_of-Arm n) → Weighs W (number.number_arms x) (weigh_arms W (numbered.view_arm_row x))
   arms_weighs W dt.end_of-Arm = weighs_up W _ up_stay
@@ -272,30 +336,40 @@ mutual
   high_weighs W dl.Stmt-For-4-None' = weighs_up W _ up_stay
   high_weighs W (dl.Stmt-For-4-Some' e) = weighs_after W _ _ _ up_token (expr_weighs W e)
 
-  pub labels_weighs : (W : ℕ → ℕ) {n : _} (x : da.Row_of-Label n) → Weighs W (number.number_labels x) (weigh_labels W (numbered.view_labels x))
+  pub labels_weighs : (W : ℕ → ℕ) {n : _} (x : da.Row_of-Label n)
+      → Weighs W (number.number_labels x) (weigh_labels W (numbered.view_labels x))
   labels_weighs W da.end_of-Label = weighs_up W _ up_stay
-  labels_weighs W (da.more_of-Label l rest) = weighs_after W _ _ _ up_token (weighs_both W _ _ _ _ (label_weighs W l) (labels_weighs W rest))
+  labels_weighs W (da.more_of-Label l rest) =
+      weighs_after W _ _ _ up_token (weighs_both W _ _ _ _ (label_weighs W l) (labels_weighs W rest))
 
   pub expr_weighs : (W : ℕ → ℕ) (x : de.Expr) → Weighs W (number.number_expr x) (weigh_expr W (numbered.view_expr x))
-  expr_weighs W (de.Expr' n s right) = weighs_both W _ _ _ _ (simple_weighs W s) (weighs_before W _ _ _ (compared_weighs W right) (up_node n))
+  expr_weighs W (de.Expr' n s right) = weighs_both W _ _ _ _ (simple_weighs W s)
+      (weighs_before W _ _ _ (compared_weighs W right) (up_node n))
 
-  pub compared_weighs : (W : ℕ → ℕ) (x : de.Held-Expr-right) → Weighs W (number.number_compared x) (weigh_compared W (numbered.view_compared x))
+  pub compared_weighs : (W : ℕ → ℕ) (x : de.Held-Expr-right)
+      → Weighs W (number.number_compared x) (weigh_compared W (numbered.view_compared x))
   compared_weighs W de.Expr-right-None' = weighs_up W _ up_stay
   compared_weighs W (de.Expr-right-Some' b (dc.Compared' r s)) = weighs_after W _ _ _ up_token (simple_weighs W s)
 
   pub simple_weighs : (W : ℕ → ℕ) (x : di.Simple) → Weighs W (number.number_simple x) (weigh_simple W (numbered.view_simple x))
-  simple_weighs W (di.Simple' n sign b t shape row) = weighs_after W _ _ _ (sign_up sign) (weighs_both W _ _ _ _ (term_weighs W t) (weighs_before W _ _ _ (terms_weighs W row) (up_node n)))
+  simple_weighs W (di.Simple' n sign b t shape row) =
+      weighs_after W _ _ _ (sign_up sign) (weighs_both W _ _ _ _ (term_weighs W t) (weighs_before W _ _ _ (terms_weighs W row) (up_node n)))
 
-  pub terms_weighs : (W : ℕ → ℕ) {n : _} (x : di.Row_of-AddLink n) → Weighs W (number.number_terms x) (weigh_terms W (numbered.view_terms x))
+  pub terms_weighs : (W : ℕ → ℕ) {n : _} (x : di.Row_of-AddLink n)
+      → Weighs W (number.number_terms x) (weigh_terms W (numbered.view_terms x))
   terms_weighs W di.end_of-AddLink = weighs_up W _ up_stay
-  terms_weighs W (di.more_of-AddLink (dk.AddLink' o t) rest) = weighs_after W _ _ _ up_token (weighs_both W _ _ _ _ (term_weighs W t) (terms_weighs W rest))
+  terms_weighs W (di.more_of-AddLink (dk.AddLink' o t) rest) =
+      weighs_after W _ _ _ up_token (weighs_both W _ _ _ _ (term_weighs W t) (terms_weighs W rest))
 
   pub term_weighs : (W : ℕ → ℕ) (x : dm.Term) → Weighs W (number.number_term x) (weigh_term W (numbered.view_term x))
-  term_weighs W (dm.Term' n f shape row) = weighs_both W _ _ _ _ (factor_weighs W f) (weighs_before W _ _ _ (factors_weighs W row) (up_node n))
+  term_weighs W (dm.Term' n f shape row) =
+      weighs_both W _ _ _ _ (factor_weighs W f) (weighs_before W _ _ _ (factors_weighs W row) (up_node n))
 
-  pub factors_weighs : (W : ℕ → ℕ) {n : _} (x : dm.Row_of-MulLink n) → Weighs W (number.number_factors x) (weigh_factors W (numbered.view_factors x))
+  pub factors_weighs : (W : ℕ → ℕ) {n : _} (x : dm.Row_of-MulLink n)
+      → Weighs W (number.number_factors x) (weigh_factors W (numbered.view_factors x))
   factors_weighs W dm.end_of-MulLink = weighs_up W _ up_stay
-  factors_weighs W (dm.more_of-MulLink o f rest) = weighs_after W _ _ _ up_token (weighs_both W _ _ _ _ (factor_weighs W f) (factors_weighs W rest))
+  factors_weighs W (dm.more_of-MulLink o f rest) =
+      weighs_after W _ _ _ up_token (weighs_both W _ _ _ _ (factor_weighs W f) (factors_weighs W rest))
 
   pub factor_weighs : (W : ℕ → ℕ) (x : dr.Factor) → Weighs W (number.number_factor x) (weigh_factor W (numbered.view_factor x))
   factor_weighs W (dr.Not n p) = weighs_after W _ _ _ up_token (weighs_before W _ _ _ (primary_weighs W p) (up_node n))
@@ -304,31 +378,46 @@ mutual
   pub primary_weighs : (W : ℕ → ℕ) (x : dp.Primary) → Weighs W (number.number_primary x) (weigh_primary W (numbered.view_primary x))
   primary_weighs W (dp.Number n l) = weighs_up W _ (up_then _ _ (up_leaf l.token) (up_node n))
   primary_weighs W (dp.Literal n l) = weighs_before W _ _ _ (leaf_weighs W l.token) (up_node n)
-  primary_weighs W (dp.Desig' n m l shape row a) = weighs_both W _ _ _ _ (weighs_after W _ _ _ (name_up l) (weighs_before W _ _ _ (selectors_weighs W row) (up_node m))) (weighs_before W _ _ _ (args_weighs W a) (up_node n))
-  primary_weighs W (dp.Paren' n b m b' s shape row) = weighs_after W _ _ _ up_token (weighs_before W _ _ _ (weighs_both W _ _ _ _ (stmt_weighs W s) (weighs_before W _ _ _ (stmts_row_weighs W row) (up_node m))) (up_then _ _ up_token (up_node n)))
-  primary_weighs W (dp.Known' n m l shape row) = weighs_after W _ _ _ up_token (weighs_after W _ _ _ up_token (weighs_before W _ _ _ (weighs_after W _ _ _ (name_up l) (weighs_before W _ _ _ (selectors_weighs W row) (up_node m))) (up_then _ _ up_token (up_node n))))
-  primary_weighs W (dp.Ord' n b e) = weighs_after W _ _ _ up_token (weighs_after W _ _ _ up_token (weighs_before W _ _ _ (expr_weighs W e) (up_then _ _ up_token (up_node n))))
-  primary_weighs W (dp.Chr' n b e) = weighs_after W _ _ _ up_token (weighs_after W _ _ _ up_token (weighs_before W _ _ _ (expr_weighs W e) (up_then _ _ up_token (up_node n))))
+  primary_weighs W (dp.Desig' n m l shape row a) =
+      weighs_both W _ _ _ _ (weighs_after W _ _ _ (name_up l) (weighs_before W _ _ _ (selectors_weighs W row) (up_node m)))
+      (weighs_before W _ _ _ (args_weighs W a) (up_node n))
+  primary_weighs W (dp.Paren' n b m b' s shape row) =
+      weighs_after W _ _ _ up_token (weighs_before W _ _ _
+      (weighs_both W _ _ _ _ (stmt_weighs W s) (weighs_before W _ _ _ (stmts_row_weighs W row) (up_node m)))
+      (up_then _ _ up_token (up_node n)))
+  primary_weighs W (dp.Known' n m l shape row) =
+      weighs_after W _ _ _ up_token (weighs_after W _ _ _ up_token
+      (weighs_before W _ _ _ (weighs_after W _ _ _ (name_up l) (weighs_before W _ _ _ (selectors_weighs W row) (up_node m)))
+      (up_then _ _ up_token (up_node n))))
+  primary_weighs W (dp.Ord' n b e) = weighs_after W _ _ _ up_token
+      (weighs_after W _ _ _ up_token (weighs_before W _ _ _ (expr_weighs W e) (up_then _ _ up_token (up_node n))))
+  primary_weighs W (dp.Chr' n b e) = weighs_after W _ _ _ up_token
+      (weighs_after W _ _ _ up_token (weighs_before W _ _ _ (expr_weighs W e) (up_then _ _ up_token (up_node n))))
 
   pub args_weighs : (W : ℕ → ℕ) (x : dp.Held-Primary-Desig-2) → Weighs W (number.number_args x) (weigh_args W (numbered.view_args x))
   args_weighs W dp.Primary-Desig-2-None' = weighs_up W _ up_stay
   args_weighs W (dp.Primary-Desig-2-Some' (dg.Args' dg.Args-values-None')) = weighs_up W _ (up_then _ _ up_token up_token)
-  args_weighs W (dp.Primary-Desig-2-Some' (dg.Args' (dg.Args-values-Some' es))) = weighs_after W _ _ _ up_token (weighs_before W _ _ _ (exprs_weighs W es) up_token)
+  args_weighs W (dp.Primary-Desig-2-Some' (dg.Args' (dg.Args-values-Some' es))) =
+      weighs_after W _ _ _ up_token (weighs_before W _ _ _ (exprs_weighs W es) up_token)
 
   pub exprs_weighs : (W : ℕ → ℕ) (x : dx.Exprs) → Weighs W (number.number_exprs x) (weigh_exprs W (numbered.view_exprs x))
   exprs_weighs W (dx.Exprs' b e shape row) = weighs_both W _ _ _ _ (expr_weighs W e) (exprs_row_weighs W row)
 
-  pub exprs_row_weighs : (W : ℕ → ℕ) {n : _} (x : dx.Row_of-Expr n) → Weighs W (number.number_exprs_row x) (weigh_expr_tail W (numbered.view_exprs_row x))
+  pub exprs_row_weighs : (W : ℕ → ℕ) {n : _} (x : dx.Row_of-Expr n)
+      → Weighs W (number.number_exprs_row x) (weigh_expr_tail W (numbered.view_exprs_row x))
   exprs_row_weighs W dx.end_of-Expr = weighs_up W _ up_stay
-  exprs_row_weighs W (dx.more_of-Expr e rest) = weighs_after W _ _ _ up_token (weighs_both W _ _ _ _ (expr_weighs W e) (exprs_row_weighs W rest))
+  exprs_row_weighs W (dx.more_of-Expr e rest) =
+      weighs_after W _ _ _ up_token (weighs_both W _ _ _ _ (expr_weighs W e) (exprs_row_weighs W rest))
 
-  pub selectors_weighs : (W : ℕ → ℕ) {n : _} (x : dd.Row_of-Selector n) → Weighs W (number.number_selectors x) (weigh_selectors W (numbered.view_selectors x))
+  pub selectors_weighs : (W : ℕ → ℕ) {n : _} (x : dd.Row_of-Selector n)
+      → Weighs W (number.number_selectors x) (weigh_selectors W (numbered.view_selectors x))
   selectors_weighs W dd.end_of-Selector = weighs_up W _ up_stay
   selectors_weighs W (dd.more_of-Selector s rest) = weighs_both W _ _ _ _ (selector_weighs W s) (selectors_weighs W rest)
 
   pub selector_weighs : (W : ℕ → ℕ) (x : dj.Selector) → Weighs W (number.number_selector x) (weigh_selector W (numbered.view_selector x))
   selector_weighs W (dj.Field n l) = weighs_up W _ (up_then _ _ up_token (up_then _ _ (name_up l) (up_node n)))
-  selector_weighs W (dj.Index n es) = weighs_after W _ _ _ up_token (weighs_before W _ _ _ (exprs_weighs W es) (up_then _ _ up_token (up_node n)))
+  selector_weighs W (dj.Index n es) = weighs_after W _ _ _ up_token
+      (weighs_before W _ _ _ (exprs_weighs W es) (up_then _ _ up_token (up_node n)))
 
 pub list_stmts_weighs : (W : ℕ → ℕ) (x : List dt.Stmt) → Weighs W (number.numbers_of_stmts x) (weigh_stmt_tail W (numbered.stmts_of x))
 unfolding weigh_stmts

@@ -4,9 +4,12 @@ use Rattle.std.specs.Prelude.{◌≡◌, ℕ, suc, ◌+◌, ◌<◌, ◌≤◌, 
 use Rattle.std.specs.List.{AllByRecursion}
 use Rattle.alma_ir.specs.declared.phrase.Root.{Root}
 use Rattle.alma_ir.specs.declared.phrase.Root.TheVariants as root
-use Rattle.alma_ir.specs.Tree.{Program, Routine, Loop, Args, ReturnExpr, routine_at, Assign, CopyCells, ForTo, SomeOf, Case, Either, Forall, Commit, Return, Read, no_branches, a_loop, no_result, some_result, Bind, Unify, SameCells, Seq, Or, CallTest, no_tests, Load, Known, CallExpr, ByValue, MixValue, a_desig, Index}
+use Rattle.alma_ir.specs.Tree.{Program, Routine, Loop, Args, ReturnExpr, routine_at, Assign, CopyCells, ForTo, SomeOf, Case, Either, Forall}
+use Rattle.alma_ir.specs.Tree.{Commit, Return, Read, no_branches, a_loop, no_result, some_result, Bind, Unify, SameCells, Seq, Or, CallTest}
+use Rattle.alma_ir.specs.Tree.{no_tests, Load, Known, CallExpr, ByValue, MixValue, a_desig, Index}
 use Rattle.alma_ir.specs.Phrases.{Phrase, StmtPhrase, TestPhrase, ExprPhrase, ArgPhrase, DesigPhrase, SelPhrase, loop_phrases}
-use Rattle.alma_ir.specs.Checked.{loops_of, IsOutside, HoldsPlace, HoldPlace, LeavesPosition, LeadOut, outer_at, desig_cells, ArePartsOf, labels_of, IsOrdered, LoopLeaves, LinksAgree, ArgsFit, HaveNoReturn}
+use Rattle.alma_ir.specs.Checked.{loops_of, IsOutside, HoldsPlace, HoldPlace, LeavesPosition, LeadOut, outer_at, desig_cells, ArePartsOf}
+use Rattle.alma_ir.specs.Checked.{labels_of, IsOrdered, LoopLeaves, LinksAgree, ArgsFit, HaveNoReturn}
 
 -- where a body stands: the program, the number of its routine, and where the frame of each routine ends, before the slots of loops
 pub record Place : Type 0 where
@@ -22,7 +25,8 @@ own k = routine_at k.program k.number
 
 -- number slots in the frame of a routine
 abbrev pub InFrame : Place → (q slot cells : ℕ) → Type 0
-InFrame k q slot cells = (slot + cells ≤ k.ends q) × AllByRecursion (λ x. HoldsPlace x.kind → IsOutside slot cells x.slot) (routine_at k.program q).params
+InFrame k q slot cells = (slot + cells ≤ k.ends q)
+    × AllByRecursion (λ x. HoldsPlace x.kind → IsOutside slot cells x.slot) (routine_at k.program q).params
 
 -- a root is of slots in a frame, its own or one round it, or of a parameter that holds a place
 abbrev pub RootFits : Place → Root → ℕ → Type 0
@@ -30,17 +34,20 @@ RootFits k (root.Local slot) cells = InFrame k k.number slot cells × LeavesPosi
 RootFits k (root.Global slot) cells = (0 < (own k).level) × InFrame k 0 slot cells × (0 < slot)
 RootFits k (root.Param slot) cells = HoldPlace (own k).params slot cells
 RootFits k (root.Outer links slot) cells = LeadOut (own k) links × InFrame k (outer_at k.program k.number links) slot cells
-RootFits k (root.OuterParam links slot) cells = LeadOut (own k) links × HoldPlace (routine_at k.program (outer_at k.program k.number links)).params slot cells
+RootFits k (root.OuterParam links slot) cells = LeadOut (own k) links
+    × HoldPlace (routine_at k.program (outer_at k.program k.number links)).params slot cells
 
 -- the hidden slots of a loop are from lo on and below hi, and no loop inside of it has them
 abbrev pub LoopFits : (lo hi : ℕ) → Loop → Type 0
 LoopFits lo hi (a_loop d range counter limit from to by body) =
     (desig_cells d ≡ 1) × IsOrdered range × (by ≡ pos 0 → ⊥) × (lo ≤ counter) × (limit ≡ suc counter) × (limit < hi)
-    × AllByRecursion (λ x. AllByRecursion (LoopLeaves counter limit) (loops_of x)) (loop_phrases (a_loop d range counter limit from to by body))
+    × AllByRecursion (λ x. AllByRecursion (LoopLeaves counter limit) (loops_of x))
+    (loop_phrases (a_loop d range counter limit from to by body))
 
 -- a call is of a routine of the program, with links that lead to the routine round it, and with arguments that fit
 abbrev pub Calls : Place → (q : ℕ) → Args → (up : ℕ) → Type 0
-Calls k q args up = (0 < q) × (q < length k.program.routines) × LinksAgree k.program k.number (own k) q up × ArgsFit (routine_at k.program q).params args
+Calls k q args up = (0 < q) × (q < length k.program.routines) × LinksAgree k.program k.number (own k) q up
+    × ArgsFit (routine_at k.program q).params args
 
 -- RETURN has an expression exactly where the routine has a result
 abbrev pub ReturnFits : Routine → ReturnExpr → Type 0

@@ -3,7 +3,8 @@ use Rattle.std.specs.List.{AllByRecursion}
 use Rattle.std.specs.Prelude.{ℕ}
 use Rattle.alma_ir.specs.Tree.{Program, routine_at}
 use Rattle.alma_ir.specs.Phrases.{Phrase}
-use Rattle.alma_ir.specs.Checked.{RootExists, PartsExist, CellsAgree, RangesOrdered, HasStep, loops_of, CalleeExists, ResultAgrees, CallLeads, CallFits, HasChoice, ReturnAgrees, ReturnsStay}
+use Rattle.alma_ir.specs.Checked.{RootExists, PartsExist, CellsAgree, RangesOrdered, HasStep, loops_of, CalleeExists, ResultAgrees}
+use Rattle.alma_ir.specs.Checked.{CallLeads, CallFits, HasChoice, ReturnAgrees, ReturnsStay}
 
 -- a phrase of routine r
 pub record KeepsPhrase (p : Program) (r : ℕ) (x : Phrase) : Type 0 where

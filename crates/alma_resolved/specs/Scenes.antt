@@ -1,12 +1,14 @@
 -- What a scene keeps in which a body is judged: its table of shapes, and what each name in it stands for, in a place of a program.
-use Rattle.std.specs.Prelude.{◌≡◌, ℕ, ◌+◌, ◌*◌, ◌<◌, ◌≤◌, Bool, false, List, [], ◌∷◌, length, Option, None, Some, not, is_some, slice_get, option_and_then, unwrap_or, IsSome, IsNone}
+use Rattle.std.specs.Prelude.{◌≡◌, ℕ, ◌+◌, ◌*◌, ◌<◌, ◌≤◌, Bool, false, List, [], ◌∷◌, length, Option, None, Some, not, is_some, slice_get}
+use Rattle.std.specs.Prelude.{option_and_then, unwrap_or, IsSome, IsNone}
 use Rattle.alma_base.specs.Numbers.{range_size, whole_range}
 use Rattle.alma_names.specs.Shapes.{PlainShape, range_at, base_at, cells_at, field_at}
 use Rattle.alma_ir.specs.declared.program.Param.{Param}
 use Rattle.alma_ir.specs.Tree.{Routine, routine_at}
 use Rattle.alma_ir.specs.Checked.{IsOrdered, LinksAgree}
 use Rattle.alma_rules.specs.Numbered as tree
-use Rattle.alma_rules.specs.Scene.{Scene, Heading, FormalOf, Returns, nothing, a_value, Found, absent, bad, constant, named, variable, routine, found, cells, is_structured, row_of}
+use Rattle.alma_rules.specs.Scene.{Scene, Heading, FormalOf, Returns, nothing, a_value, Found, absent, bad, constant, named, variable}
+use Rattle.alma_rules.specs.Scene.{routine, found, cells, is_structured, row_of}
 use Rattle.alma_rules.specs.Decls.{param_kind}
 use Rattle.alma_resolved.specs.Fits.{Place, own, RootFits}
 
@@ -19,7 +21,8 @@ structured_in t a = not (is_some (range_at t a))
 -- what the table says of each number, one of a shape or not
 pub record TableFits (t : List PlainShape) : Type 0 where
   pub simple : (a : ℕ) → structured_in t a ≡ false → cells_at t a ≡ 1
-  pub rows : (a i e : ℕ) → option_and_then row_of (slice_get t a) ≡ Some (i, e) → range_size (unwrap_or (range_at t i) whole_range) * cells_at t e ≤ cells_at t a
+  pub rows : (a i e : ℕ) → option_and_then row_of (slice_get t a) ≡ Some (i, e)
+      → range_size (unwrap_or (range_at t i) whole_range) * cells_at t e ≤ cells_at t a
   pub indices : (a i e : ℕ) → option_and_then row_of (slice_get t a) ≡ Some (i, e) → structured_in t i ≡ false
   pub fields : (name : List ℕ) (a o f : ℕ) → field_at name (slice_get t a) ≡ Some (o, f) → o + cells_at t f ≤ cells_at t a
   pub alike : (a b : ℕ) → base_at t a ≡ base_at t b → structured_in t a ≡ structured_in t b

@@ -17,7 +17,8 @@ result_types (Some name) = name ∷ []
 -- there is a token behind the types of a heading, from which on these names stand
 abbrev pub IsBefore : Option tree.Params → Option tree.Name → List tree.Name → Type 0
 IsBefore params result names =
-    (at : ℕ) × AllByRecursion (λ x. x.token < at) (formal_types (formals_of params) ++ result_types result) × AllByRecursion (λ x. at ≤ x.token) names
+    (at : ℕ) × AllByRecursion (λ x. x.token < at) (formal_types (formals_of params) ++ result_types result)
+    × AllByRecursion (λ x. at ≤ x.token) names
 
 unfoldable mutual
   -- in a block each heading stands before what is declared behind it

@@ -63,7 +63,8 @@ same_node a b h = ap (λ (c : Cursor). c.node) (some_is a b h)
 node_gives : (n : ℕ) (at b : Cursor) → number.node n at ≡ Some b → (n ≡ at.node) × (b.node ≡ suc at.node)
 node_gives n at b h = go (nat_eq n at.node) (eqb_tells n at.node) h
   where
-    go : (t : Bool) → ((t ≡ true) × (n ≡ at.node)) ⊎ ((t ≡ false) × (n ≡ at.node → ⊥)) → where_so t (record { token = at.token; node = suc at.node }) ≡ Some b → (n ≡ at.node) × (b.node ≡ suc at.node)
+    go : (t : Bool) → ((t ≡ true) × (n ≡ at.node)) ⊎ ((t ≡ false) × (n ≡ at.node → ⊥))
+        → where_so t (record { token = at.token; node = suc at.node }) ≡ Some b → (n ≡ at.node) × (b.node ≡ suc at.node)
     go true (inl p) h = (p.1, sym (same_node (record { token = at.token; node = suc at.node }) b h))
     go true (inr p) h = absurd (cc)
     go false p h = absurd (cc)
@@ -76,7 +77,8 @@ does_stay at b h = let e : at.node ≡ b.node = same_node at b h in omega (arith
 
 does_then : (f g : Step) (r q : Rise) → Does f r → Does g q → Does (f >> g) (rise.◌>>◌ r q)
 unfolding Does
-does_then f g r q df dg at b h = let p : (mid : Cursor) × (f at ≡ Some mid) × (g mid ≡ Some b) = parts (f at) g b h in (p.0.node, df at p.0 p.1, dg p.0 b p.2)
+does_then f g r q df dg at b h = let p : (mid : Cursor) × (f at ≡ Some mid)
+    × (g mid ≡ Some b) = parts (f at) g b h in (p.0.node, df at p.0 p.1, dg p.0 b p.2)
 
 -- a token in front
 does_token : (g : Step) (q : Rise) → Does g q → Does (token >> g) q
@@ -158,26 +160,35 @@ mutual
   stmt_does (dt.Nothing n) =
       close _ n _ (bare n)
   stmt_does (dt.Assign' n m l shape row e) =
-      close _ n _ (tail _ _ _ _ n (close _ m _ (tail _ _ _ _ m (name_does l) (last _ _ m (selectors_does row)))) (closes_token _ _ _ (last _ _ n (expr_does e))))
+      close _ n _ (tail _ _ _ _ n (close _ m _ (tail _ _ _ _ m (name_does l) (last _ _ m (selectors_does row))))
+      (closes_token _ _ _ (last _ _ n (expr_does e))))
   stmt_does (dt.Value n e) =
       close _ n _ (last _ _ n (expr_does e))
   stmt_does (dt.If' n e m b s shape row shape' row' other) =
-      close _ n _ (closes_token _ _ _ (tail _ _ _ _ n (expr_does e) (closes_token _ _ _ (tail _ _ _ _ n (close _ m _ (tail _ _ _ _ m (stmt_does s) (last _ _ m (stmts_does row))))
+      close _ n _ (closes_token _ _ _ (tail _ _ _ _ n (expr_does e)
+      (closes_token _ _ _ (tail _ _ _ _ n (close _ m _ (tail _ _ _ _ m (stmt_does s) (last _ _ m (stmts_does row))))
       (tail _ _ _ _ n (elsifs_does row') (last_token _ _ n (else_does other)))))))
   stmt_does (dt.While' n e m b s shape row) =
-      close _ n _ (closes_token _ _ _ (tail _ _ _ _ n (expr_does e) (closes_token _ _ _ (last_token _ _ n (close _ m _ (tail _ _ _ _ m (stmt_does s) (last _ _ m (stmts_does row))))))))
+      close _ n _ (closes_token _ _ _ (tail _ _ _ _ n (expr_does e)
+      (closes_token _ _ _ (last_token _ _ n (close _ m _ (tail _ _ _ _ m (stmt_does s) (last _ _ m (stmts_does row))))))))
   stmt_does (dt.Repeat' n m b s shape row e) =
-      close _ n _ (closes_token _ _ _ (tail _ _ _ _ n (close _ m _ (tail _ _ _ _ m (stmt_does s) (last _ _ m (stmts_does row)))) (closes_token _ _ _ (last _ _ n (expr_does e)))))
+      close _ n _ (closes_token _ _ _ (tail _ _ _ _ n (close _ m _ (tail _ _ _ _ m (stmt_does s) (last _ _ m (stmts_does row))))
+      (closes_token _ _ _ (last _ _ n (expr_does e)))))
   stmt_does (dt.For' n l low high by m b s shape row) =
-      close _ n _ (closes_token _ _ _ (tail _ _ _ _ n (name_does l) (closes_token _ _ _ (tail _ _ _ _ n (expr_does low) (closes_token _ _ _ (tail _ _ _ _ n (expr_does high)
-      (tail _ _ _ _ n (by_does by) (closes_token _ _ _ (last_token _ _ n (close _ m _ (tail _ _ _ _ m (stmt_does s) (last _ _ m (stmts_does row)))))))))))))
+      close _ n _ (closes_token _ _ _ (tail _ _ _ _ n (name_does l)
+      (closes_token _ _ _ (tail _ _ _ _ n (expr_does low) (closes_token _ _ _ (tail _ _ _ _ n (expr_does high)
+      (tail _ _ _ _ n (by_does by) (closes_token _ _ _
+      (last_token _ _ n (close _ m _ (tail _ _ _ _ m (stmt_does s) (last _ _ m (stmts_does row)))))))))))))
   stmt_does (dt.Some' n l low high m b s shape row) =
-      close _ n _ (closes_token _ _ _ (tail _ _ _ _ n (name_does l) (closes_token _ _ _ (tail _ _ _ _ n (expr_does low) (closes_token _ _ _ (tail _ _ _ _ n (expr_does high)
+      close _ n _ (closes_token _ _ _ (tail _ _ _ _ n (name_does l)
+      (closes_token _ _ _ (tail _ _ _ _ n (expr_does low) (closes_token _ _ _ (tail _ _ _ _ n (expr_does high)
       (closes_token _ _ _ (last_token _ _ n (close _ m _ (tail _ _ _ _ m (stmt_does s) (last _ _ m (stmts_does row))))))))))))
   stmt_does (dt.Case' n e b a shape row other) =
-      close _ n _ (closes_token _ _ _ (tail _ _ _ _ n (expr_does e) (closes_token _ _ _ (tail _ _ _ _ n (arm_does a) (tail _ _ _ _ n (arms_does row) (last_token _ _ n (else_does other)))))))
+      close _ n _ (closes_token _ _ _ (tail _ _ _ _ n (expr_does e)
+      (closes_token _ _ _ (tail _ _ _ _ n (arm_does a) (tail _ _ _ _ n (arms_does row) (last_token _ _ n (else_does other)))))))
   stmt_does (dt.Either' n m b s shape row shape' row') =
-      close _ n _ (closes_token _ _ _ (tail _ _ _ _ n (close _ m _ (tail _ _ _ _ m (stmt_does s) (last _ _ m (stmts_does row)))) (last_token _ _ n (orelses_does row'))))
+      close _ n _ (closes_token _ _ _ (tail _ _ _ _ n (close _ m _ (tail _ _ _ _ m (stmt_does s) (last _ _ m (stmts_does row))))
+      (last_token _ _ n (orelses_does row'))))
   stmt_does (dt.Forall' n m b s shape row m' b' s' shape' row') =
       close _ n _ (closes_token _ _ _ (tail _ _ _ _ n (close _ m _ (tail _ _ _ _ m (stmt_does s) (last _ _ m (stmts_does row))))
       (closes_token _ _ _ (last_token _ _ n (close _ m' _ (tail _ _ _ _ m' (stmt_does s') (last _ _ m' (stmts_does row'))))))))
@@ -186,7 +197,9 @@ mutual
   stmt_does (dt.Return' n e) =
       close _ n _ (closes_token _ _ _ (last _ _ n (returned_does e)))
   stmt_does (dt.Read' n m l shape row shape' row') =
-      close _ n _ (closes_token _ _ _ (closes_token _ _ _ (tail _ _ _ _ n (close _ m _ (tail _ _ _ _ m (name_does l) (last _ _ m (selectors_does row)))) (last_token _ _ n (desigs_does row')))))
+      close _ n _ (closes_token _ _ _ (closes_token _ _ _
+      (tail _ _ _ _ n (close _ m _ (tail _ _ _ _ m (name_does l) (last _ _ m (selectors_does row))))
+      (last_token _ _ n (desigs_does row')))))
   stmt_does (dt.Write n es) =
       close _ n _ (closes_token _ _ _ (closes_token _ _ _ (last_token _ _ n (exprs_does es))))
   stmt_does (dt.Writeln' n a) =
@@ -199,7 +212,9 @@ mutual
   elsifs_does : {n : _} (x : dt.Row_of-Elsif n) → Does (number.number_elsifs x) (rise.rise_elsifs (view.view_elsifs x))
   elsifs_does dt.end_of-Elsif = does_stay
   elsifs_does (dt.more_of-Elsif (df.Elsif' e m b s shape row) rest) =
-      does_token _ _ (does_then _ _ _ _ (expr_does e) (does_token _ _ (does_then _ _ _ _ (close _ m _ (tail _ _ _ _ m (stmt_does s) (last _ _ m (stmts_does row)))) (elsifs_does rest))))
+      does_token _ _ (does_then _ _ _ _ (expr_does e)
+      (does_token _ _ (does_then _ _ _ _ (close _ m _ (tail _ _ _ _ m (stmt_does s) (last _ _ m (stmts_does row))))
+      (elsifs_does rest))))
 
   else_does : (x : dt.Held-Stmt-If-4) → Does (number.number_else x) (rise.rise_else (view.view_else x))
   else_does dt.Stmt-If-4-None' = does_stay
@@ -227,7 +242,9 @@ mutual
   arm_does (da.Empty n) =
       close _ n _ (bare n)
   arm_does (da.Labelled' n l shape row m b s shape' row') =
-      close _ n _ (tail _ _ _ _ n (label_does l) (tail _ _ _ _ n (labels_does row) (closes_token _ _ _ (last _ _ n (close _ m _ (tail _ _ _ _ m (stmt_does s) (last _ _ m (stmts_does row'))))))))
+      close _ n _ (tail _ _ _ _ n (label_does l)
+      (tail _ _ _ _ n (labels_does row) (closes_token _ _ _
+      (last _ _ n (close _ m _ (tail _ _ _ _ m (stmt_does s) (last _ _ m (stmts_does row'))))))))
 
   arms_does : {n : _} (x : dt.Row_of-Arm n) → Does (number.number_arms x) (rise.rise_arms (view.view_arm_row x))
   arms_does dt.end_of-Arm = does_stay
@@ -285,7 +302,8 @@ mutual
   primary_does (dp.Paren' n b m b' s shape row) =
       close _ n _ (closes_token _ _ _ (last_token _ _ n (close _ m _ (tail _ _ _ _ m (stmt_does s) (last _ _ m (stmts_does row))))))
   primary_does (dp.Known' n m l shape row) =
-      close _ n _ (closes_token _ _ _ (closes_token _ _ _ (last_token _ _ n (close _ m _ (tail _ _ _ _ m (name_does l) (last _ _ m (selectors_does row)))))))
+      close _ n _ (closes_token _ _ _ (closes_token _ _ _
+      (last_token _ _ n (close _ m _ (tail _ _ _ _ m (name_does l) (last _ _ m (selectors_does row)))))))
   primary_does (dp.Ord' n b e) =
       close _ n _ (closes_token _ _ _ (closes_token _ _ _ (last_token _ _ n (expr_does e))))
   primary_does (dp.Chr' n b e) =
@@ -316,7 +334,8 @@ mutual
 -- ---- names and types
 
 -- two parts that are one in the grammar, and a token behind them
-tail_two : (f g h : Step) (r q t : Rise) (n : ℕ) → Does f r → Does g q → Closes h n t → Closes (f >> g >> token >> h) n (rise.◌>>◌ (rise.◌>>◌ r q) t)
+tail_two : (f g h : Step) (r q t : Rise) (n : ℕ) → Does f r → Does g q → Closes h n t
+    → Closes (f >> g >> token >> h) n (rise.◌>>◌ (rise.◌>>◌ r q) t)
 unfolding Does Closes
 tail_two f g h r q t n df dg dh at b e =
     let p : (mid : Cursor) × (f at ≡ Some mid) × ((g >> token >> h) mid ≡ Some b) = parts (f at) (g >> token >> h) b e in
@@ -349,9 +368,11 @@ mutual
   arrays_does (dy.Some' (dz.Arrays' n p shape row shape' row')) =
       close _ n _ (closes_token _ _ _ (tail_two _ _ _ _ _ _ n (plain_does p) (plains_does row) (last _ _ n (dimensions_does row'))))
 
-  dimensions_does : {n : _} (x : dz.Row_of-Dimensions n) → Does (number.number_dimensions x) (rise.rise_dimension_tail (view.view_dimensions x))
+  dimensions_does : {n : _} (x : dz.Row_of-Dimensions n)
+      → Does (number.number_dimensions x) (rise.rise_dimension_tail (view.view_dimensions x))
   dimensions_does dz.end_of-Dimensions = does_stay
-  dimensions_does (dz.more_of-Dimensions p shape row rest) = does_token _ _ (then_two _ _ _ _ _ _ (plain_does p) (plains_does row) (dimensions_does rest))
+  dimensions_does (dz.more_of-Dimensions p shape row rest) =
+      does_token _ _ (then_two _ _ _ _ _ _ (plain_does p) (plains_does row) (dimensions_does rest))
 
   plains_does : {n : _} (x : dz.Row_of-PlainType n) → Does (number.number_plains x) (rise.rise_plains (view.view_plains x))
   plains_does dz.end_of-PlainType = does_stay
@@ -362,13 +383,15 @@ mutual
   plain_does (dq.Listed n l) = close _ n _ (closes_token _ _ _ (last_token _ _ n (names_does l)))
   plain_does (dq.Subrange n low high) =
       close _ n _ (closes_token _ _ _ (tail _ _ _ _ n (expr_does low) (closes_token _ _ _ (last_token _ _ n (expr_does high)))))
-  plain_does (dq.Record' n b f shape row) = close _ n _ (closes_token _ _ _ (tail _ _ _ _ n (field_list_does f) (last_token _ _ n (field_lists_does row))))
+  plain_does (dq.Record' n b f shape row) =
+      close _ n _ (closes_token _ _ _ (tail _ _ _ _ n (field_list_does f) (last_token _ _ n (field_lists_does row))))
 
   field_list_does : (x : dw.FieldList) → Does (number.number_field_list x) (rise.rise_fields (view.view_field_list x))
   field_list_does (dw.Empty n) = close _ n _ (bare n)
   field_list_does (dw.Fields n l t) = close _ n _ (tail _ _ _ _ n (names_does l) (closes_token _ _ _ (last _ _ n (type_does t))))
 
-  field_lists_does : {n : _} (x : dq.Row_of-FieldList n) → Does (number.number_field_lists x) (rise.rise_field_tail (view.view_field_lists x))
+  field_lists_does : {n : _} (x : dq.Row_of-FieldList n)
+      → Does (number.number_field_lists x) (rise.rise_field_tail (view.view_field_lists x))
   field_lists_does dq.end_of-FieldList = does_stay
   field_lists_does (dq.more_of-FieldList f rest) = does_token _ _ (does_then _ _ _ _ (field_list_does f) (field_lists_does rest))
 
@@ -381,18 +404,22 @@ mode_then (Some x) g n q dg at b h = dg (record { token = suc at.token; node = a
 
 consts_do : (xs : List ConstEntry) → Does (number.numbers_of_consts xs) (rise.rise_consts (view.consts_of xs))
 consts_do [] = does_stay
-consts_do (x ∷ xs) = does_then _ _ _ _ (name_does x.name) (does_token _ _ (does_then _ _ _ _ (expr_does x.value) (does_token _ _ (consts_do xs))))
+consts_do (x ∷ xs) = does_then _ _ _ _ (name_does x.name)
+    (does_token _ _ (does_then _ _ _ _ (expr_does x.value) (does_token _ _ (consts_do xs))))
 
 types_do : (xs : List TypeEntry) → Does (number.numbers_of_types xs) (rise.rise_type_entries (view.types_of xs))
 types_do [] = does_stay
-types_do (x ∷ xs) = does_then _ _ _ _ (name_does x.name) (does_token _ _ (does_then _ _ _ _ (type_does x.type_node) (does_token _ _ (types_do xs))))
+types_do (x ∷ xs) = does_then _ _ _ _ (name_does x.name)
+    (does_token _ _ (does_then _ _ _ _ (type_does x.type_node) (does_token _ _ (types_do xs))))
 
 vars_do : (xs : List VarEntry) → Does (number.numbers_of_vars xs) (rise.rise_vars (view.vars_of xs))
 vars_do [] = does_stay
-vars_do (x ∷ xs) = does_then _ _ _ _ (names_does x.names) (does_token _ _ (does_then _ _ _ _ (type_does x.type_node) (does_token _ _ (vars_do xs))))
+vars_do (x ∷ xs) = does_then _ _ _ _ (names_does x.names)
+    (does_token _ _ (does_then _ _ _ _ (type_does x.type_node) (does_token _ _ (vars_do xs))))
 
 formal_does : (x : Formal) → Does (number.number_formal x) (rise.rise_formal (view.view_formal x))
-formal_does x = close _ x.node _ (mode_then x.mode _ _ _ (tail _ _ _ _ x.node (names_does x.names) (closes_token _ _ _ (last _ _ x.node (name_does x.type_name)))))
+formal_does x = close _ x.node _ (mode_then x.mode _ _ _
+    (tail _ _ _ _ x.node (names_does x.names) (closes_token _ _ _ (last _ _ x.node (name_does x.type_name)))))
 
 more_formals_do : (xs : List Formal) → Does (number.numbers_of_formals xs) (rise.rise_more_formals (view.more_formals_of xs))
 more_formals_do [] = does_stay
@@ -421,7 +448,8 @@ stmt_list_does (x ∷ xs) = does_token _ _ (does_then _ _ _ _ (stmt_does x) (stm
 body_does : (x : Option ds.Stmts) → Does (number.numbers_of_body x) (rise.rise_body (view.body_of x))
 unfolding rise_expr
 body_does None = does_stay
-body_does (Some x) = does_token _ _ (close _ x.node _ (tail _ _ _ _ x.node (stmt_does x.first.value) (last _ _ x.node (stmt_list_does x.more.items))))
+body_does (Some x) = does_token _ _ (close _ x.node _
+    (tail _ _ _ _ x.node (stmt_does x.first.value) (last _ _ x.node (stmt_list_does x.more.items))))
 
 mutual
   unfolding rise_block
@@ -432,7 +460,8 @@ mutual
   decl_does (dh.Var n entries) = close _ n _ (closes_token _ _ _ (last _ _ n (vars_do entries.items)))
   decl_does (dh.Procedure' n l p r m shape row b e) =
       close _ n _ (closes_token _ _ _ (tail _ _ _ _ n (name_does l) (tail _ _ _ _ n (params_do p) (tail _ _ _ _ n (result_does r)
-      (closes_token _ _ _ (tail _ _ _ _ n (close _ m _ (tail _ _ _ _ m (decl_row_does row) (last _ _ m (body_does b)))) (closes_token _ _ _ (last_token _ _ n (name_does e)))))))))
+      (closes_token _ _ _ (tail _ _ _ _ n (close _ m _ (tail _ _ _ _ m (decl_row_does row) (last _ _ m (body_does b))))
+      (closes_token _ _ _ (last_token _ _ n (name_does e)))))))))
 
   decl_row_does : {n : _} (x : db.Row_of-Decl n) → Does (number.number_decls x) (rise.rise_decls (view.view_decls x))
   decl_row_does db.end_of-Decl = does_stay
@@ -449,7 +478,8 @@ block_does x = close _ x.node _ (tail _ _ _ _ x.node (decl_list_does x.decls.ite
 
 module_does : (x : Module) → Does (number.number_module x) (rise.rise_module (view.view_module x))
 module_does x =
-    close _ x.node _ (closes_token _ _ _ (tail _ _ _ _ x.node (name_does x.name) (closes_token _ _ _ (tail _ _ _ _ x.node (block_does x.block)
+    close _ x.node _ (closes_token _ _ _ (tail _ _ _ _ x.node (name_does x.name)
+    (closes_token _ _ _ (tail _ _ _ _ x.node (block_does x.block)
     (closes_token _ _ _ (last_token _ _ x.node (name_does x.end_name)))))))
 
 -- what the parser promises of a tree gives rising numbers

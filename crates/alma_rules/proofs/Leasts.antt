@@ -48,9 +48,11 @@ not_before a b h =
     let ra : rank a.fault < 32 = small a.fault in
     let rb : rank b.fault < 32 = small b.fault in
     let node : a.node ≤ b.node = omega (arith, h, ra, rb) in
-    neither (nat_lt b.node a.node) (nat_eq b.node a.node) (nat_lt (rank b.fault) (rank a.fault)) (le-ltb b.node a.node node) (same (eqb_tells b.node a.node))
+    neither (nat_lt b.node a.node) (nat_eq b.node a.node) (nat_lt (rank b.fault) (rank a.fault)) (le-ltb b.node a.node node)
+    (same (eqb_tells b.node a.node))
   where
-    same : ((nat_eq b.node a.node ≡ true) × (b.node ≡ a.node)) ⊎ ((nat_eq b.node a.node ≡ false) × (b.node ≡ a.node → ⊥)) → (nat_eq b.node a.node ≡ false) ⊎ (nat_lt (rank b.fault) (rank a.fault) ≡ false)
+    same : ((nat_eq b.node a.node ≡ true) × (b.node ≡ a.node)) ⊎ ((nat_eq b.node a.node ≡ false) × (b.node ≡ a.node → ⊥))
+        → (nat_eq b.node a.node ≡ false) ⊎ (nat_lt (rank b.fault) (rank a.fault) ≡ false)
     same (inr p) = inl p.0
     same (inl p) = inr (le-ltb (rank b.fault) (rank a.fault) (omega (arith, h, p.1)))
 
@@ -86,9 +88,11 @@ is_earlier a b h = go (nat_lt a.node b.node) refl (eqb_tells a.node b.node)
     rb : rank b.fault < 32
     rb = small b.fault
 
-    go : (t : Bool) → nat_lt a.node b.node ≡ t → ((nat_eq a.node b.node ≡ true) × (a.node ≡ b.node)) ⊎ ((nat_eq a.node b.node ≡ false) × (a.node ≡ b.node → ⊥)) → is_before a b ≡ true
+    go : (t : Bool) → nat_lt a.node b.node ≡ t → ((nat_eq a.node b.node ≡ true) × (a.node ≡ b.node))
+        ⊎ ((nat_eq a.node b.node ≡ false) × (a.node ≡ b.node → ⊥)) → is_before a b ≡ true
     go true e d = sure_left (nat_lt a.node b.node) _ e
-    go false e (inl p) = sure_right (nat_lt a.node b.node) (nat_eq a.node b.node) (nat_lt (rank a.fault) (rank b.fault)) p.0 (lt-ltb (rank a.fault) (rank b.fault) (omega (arith, h, p.1)))
+    go false e (inl p) = sure_right (nat_lt a.node b.node) (nat_eq a.node b.node) (nat_lt (rank a.fault) (rank b.fault)) p.0
+        (lt-ltb (rank a.fault) (rank b.fault) (omega (arith, h, p.1)))
     go false e (inr p) =
         let le : b.node ≤ a.node = ltb-false a.node b.node e in
         absurd (p.1 (let x : a.node ≡ b.node = omega (arith, h, ra, rb, le) in x))
@@ -122,7 +126,8 @@ lesser_joined x (Some y) (Some z) = go (is_before y x) (is_before z y) refl refl
         ap (λ (w : Broken). lesser x (Some w)) (takes_other y z q) ∙ takes_other x z (is_earlier z x (omega (arith, a, b)))
         ∙ sym (ap (λ (w : Broken). lesser w (Some z)) (takes_other x y p) ∙ takes_other y z q)
     go true false p q =
-        ap (λ (w : Broken). lesser x (Some w)) (keeps y z q) ∙ takes_other x y p ∙ sym (ap (λ (w : Broken). lesser w (Some z)) (takes_other x y p) ∙ keeps y z q)
+        ap (λ (w : Broken). lesser x (Some w)) (keeps y z q) ∙ takes_other x y p
+        ∙ sym (ap (λ (w : Broken). lesser w (Some z)) (takes_other x y p) ∙ keeps y z q)
     go false true p q =
         ap (λ (w : Broken). lesser x (Some w)) (takes_other y z q) ∙ sym (ap (λ (w : Broken). lesser w (Some z)) (keeps x y p))
     go false false p q =

@@ -9,7 +9,8 @@ use Rattle.alma_rules.specs.Decls.{Frame, too_large, limited}
 use Rattle.alma_rules.proofs.Sound.{nil_left, nil_right}
 
 -- what holds with it, where it is within the limit, and without it
-pub limited_case : (P : Frame → Type 0) (name : tree.Name) (f g : Frame) → (g.declared ≤ cell_limit → P g) → P (too_large f name g.scene) → P (limited name f g)
+pub limited_case : (P : Frame → Type 0) (name : tree.Name) (f g : Frame) → (g.declared ≤ cell_limit → P g) → P (too_large f name g.scene)
+    → P (limited name f g)
 limited_case P name f g taken left = by (nat_le g.declared cell_limit) refl
   where
     by : (b : Bool) → nat_le g.declared cell_limit ≡ b → P (if_true b (λ _. g) (λ _. too_large f name g.scene))
@@ -43,9 +44,11 @@ limited_faults name f g e same = by (nat_le g.declared cell_limit) e
     by false e = nil_left f.faults _ e
 
 -- where left rule is broken it is within the limit
-pub limited_quiet : (P : Frame → Type 0) (name : tree.Name) (f g : Frame) → (limited name f g).faults ≡ [] → (g.declared ≤ cell_limit → P g) → P (limited name f g)
+pub limited_quiet : (P : Frame → Type 0) (name : tree.Name) (f g : Frame) → (limited name f g).faults ≡ [] → (g.declared ≤ cell_limit → P g)
+    → P (limited name f g)
 limited_quiet P name f g e taken = by (nat_le g.declared cell_limit) refl e
   where
-    by : (b : Bool) → nat_le g.declared cell_limit ≡ b → (if_true b (λ _. g) (λ _. too_large f name g.scene)).faults ≡ [] → P (if_true b (λ _. g) (λ _. too_large f name g.scene))
+    by : (b : Bool) → nat_le g.declared cell_limit ≡ b → (if_true b (λ _. g) (λ _. too_large f name g.scene)).faults ≡ []
+        → P (if_true b (λ _. g) (λ _. too_large f name g.scene))
     by true i e = taken (leb-true g.declared cell_limit i)
     by false i e = absurd (let bad : (too_large f name g.scene).faults ≡ [] = e in let none = nil_right f.faults _ bad in cc)

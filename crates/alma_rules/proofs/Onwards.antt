@@ -15,7 +15,8 @@ judged fs n v = record { faults = fs; next = n; value = v }
 
 -- ---- a node whose first part is judged: `finish` makes it of its parts
 
-pub first_fine : {A B C X : Type 0} (finish : Judged (A × B) → Judged C) (whole : Judged C) (a : Judged A) (g : ℕ → Judged B) (w : X → C) (m k : ℕ) (v : Option A) (r : Result (Option X) Stop)
+pub first_fine : {A B C X : Type 0} (finish : Judged (A × B) → Judged C) (whole : Judged C) (a : Judged A) (g : ℕ → Judged B) (w : X → C)
+    (m k : ℕ) (v : Option A) (r : Result (Option X) Stop)
     → whole ≡ finish (and_then a g) → a ≡ of_value m v → Answers (finish (both (of_value m v) (g m))) w k r → Answers whole w k r
 first_fine finish whole a g w m k v r is h x = rw (is, h) x
 
@@ -23,16 +24,19 @@ first_fine finish whole a g w m k v r is h x = rw (is, h) x
 
 module _ {A B C D : Type 0} (join : A → B → D) (cons : C × B → B) where
   -- the part stops
-  pub onward_stops : (xs : Option A) (j : Judged C) (rest : ℕ → Judged B) (e : Stop) → Stops j.faults e → Stops (onward join xs (with cons (and_then j rest))).faults e
+  pub onward_stops : (xs : Option A) (j : Judged C) (rest : ℕ → Judged B) (e : Stop) → Stops j.faults e
+      → Stops (onward join xs (with cons (and_then j rest))).faults e
   onward_stops None j rest e h = stops_more j.faults (rest j.next).faults e h
   onward_stops (Some x) j rest e h = stops_more j.faults (rest j.next).faults e h
 
   -- the part is Bad, or what is so far
-  pub onward_bad : (xs : Option A) (j : Judged C) (m : ℕ) (rest : ℕ → Judged B) → j ≡ of_value m None → onward join xs (with cons (and_then j rest)) ≡ onward join None (rest m)
+  pub onward_bad : (xs : Option A) (j : Judged C) (m : ℕ) (rest : ℕ → Judged B) → j ≡ of_value m None
+      → onward join xs (with cons (and_then j rest)) ≡ onward join None (rest m)
   onward_bad None j m rest h = rw h refl
   onward_bad (Some x) j m rest h = rw h refl
 
-  pub onward_none : (j : Judged C) (m : ℕ) (v : Option C) (rest : ℕ → Judged B) → j ≡ of_value m v → onward join None (with cons (and_then j rest)) ≡ onward join None (rest m)
+  pub onward_none : (j : Judged C) (m : ℕ) (v : Option C) (rest : ℕ → Judged B) → j ≡ of_value m v
+      → onward join None (with cons (and_then j rest)) ≡ onward join None (rest m)
   onward_none j m v rest h = rw h refl
 
   -- one more part
@@ -46,7 +50,8 @@ module _ {A B C D : Type 0} (join : A → B → D) (cons : C × B → B) where
       by fs n (Some b) = ap (λ d. judged {A = D} (fs) (n) (Some d)) (same b)
 
 -- the first part, and the rest behind it
-pub onward_first : {A B D : Type 0} (join : A → B → D) (cons : A × B → D) (v : Option A) (m : ℕ) (j : Judged B) → ((a : A) (b : B) → cons (a, b) ≡ join a b)
+pub onward_first : {A B D : Type 0} (join : A → B → D) (cons : A × B → D) (v : Option A) (m : ℕ) (j : Judged B)
+    → ((a : A) (b : B) → cons (a, b) ≡ join a b)
     → with cons (both (of_value m v) j) ≡ onward join v j
 onward_first join cons None m j same = refl
 onward_first {A} {B} {D} join cons (Some a) m j same = by j.faults j.next j.value
@@ -66,17 +71,20 @@ onward_begin {A} {B} join nil j same = by j.faults j.next j.value
     by fs n (Some b) = ap (λ d. judged {A = B} (fs) (n) (Some d)) (same b)
 
 -- no part is left
-pub onward_end : {A B : Type 0} (join : A → B → A) (nil : B) (v : Option A) (m : ℕ) → ((a : A) → join a nil ≡ a) → onward join v (fine m nil) ≡ of_value m v
+pub onward_end : {A B : Type 0} (join : A → B → A) (nil : B) (v : Option A) (m : ℕ) → ((a : A) → join a nil ≡ a)
+    → onward join v (fine m nil) ≡ of_value m v
 onward_end join nil None m same = refl
 onward_end join nil (Some a) m same = ap (λ d. of_value m (Some d)) (same a)
 
 -- an error that `?` hands on
-pub passed_on : {A X : Type 0} (j : Judged A) (next : X → Judged A) (r : Result X Stop) (e : Stop) → IsErrAnd r (λ x. x ≡ e) → Stops j.faults e → Continues j next r
+pub passed_on : {A X : Type 0} (j : Judged A) (next : X → Judged A) (r : Result X Stop) (e : Stop) → IsErrAnd r (λ x. x ≡ e)
+    → Stops j.faults e → Continues j next r
 passed_on j next (Ok v) e h f = absurd h
 passed_on j next (Err x) e h f = rw h f
 
 -- want of memory says nothing
-pub no_memory_on : {A X : Type 0} (j : Judged A) (next : X → Judged A) (r : Result X Stop) → IsErrAnd r (λ x. x ≡ Memory) → Continues j next r
+pub no_memory_on : {A X : Type 0} (j : Judged A) (next : X → Judged A) (r : Result X Stop) → IsErrAnd r (λ x. x ≡ Memory)
+    → Continues j next r
 no_memory_on j next (Ok v) h = absurd h
 no_memory_on j next (Err x) h = rw h tt
 

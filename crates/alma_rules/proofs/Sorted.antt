@@ -24,7 +24,9 @@ first_is_least (b ∷ bs) = are_after b bs
 -- in a block and in the procedures inside
 abbrev mutual
   pub sorted_block : Frame → ℕ → tree.Block → Bool
-  sorted_block f r (tree.block n decls body) = sorted_passes (read_decls f r decls) r decls (first_is_least (read_decls f r decls).faults && first_is_least (judge_body (read_decls f r decls) body).faults)
+  sorted_block f r (tree.block n decls body) =
+      sorted_passes (read_decls f r decls) r decls
+      (first_is_least (read_decls f r decls).faults && first_is_least (judge_body (read_decls f r decls) body).faults)
 
   pub sorted_passes : Frame → ℕ → tree.DeclTail → Bool → Bool
   sorted_passes f r tree.no_decl so = so

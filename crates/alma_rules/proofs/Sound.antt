@@ -7,8 +7,10 @@ use Rattle.alma_rules.specs.Numbered as tree
 use Rattle.alma_rules.specs.Judged.{Judged, Broken, at_node, broken_at, unless, both_of, when, holds, of_value}
 use Rattle.alma_rules.specs.Scene.{Scene, Found, absent, bad, constant, named, variable, routine, found, text_at, is_record_in}
 use Rattle.std.specs.Prelude.{slice_get}
-use Rattle.alma_rules.specs.Parts.{Typing, Denoted, a_constant, a_variable, a_routine, no_array, denoted, located_in, typing_in, callee_in, select_field, select_index, select_in, field_of, field_part}
-use Rattle.alma_rules.specs.ExprRules.{Use, as_variable, as_value, as_procedure, no_constant, not_variable, not_procedure, name_rules, desig_rules, field_rules, array_rules}
+use Rattle.alma_rules.specs.Parts.{Typing, Denoted, a_constant, a_variable, a_routine, no_array, denoted, located_in, typing_in, callee_in}
+use Rattle.alma_rules.specs.Parts.{select_field, select_index, select_in, field_of, field_part}
+use Rattle.alma_rules.specs.ExprRules.{Use, as_variable, as_value, as_procedure, no_constant, not_variable, not_procedure, name_rules}
+use Rattle.alma_rules.specs.ExprRules.{desig_rules, field_rules, array_rules}
 use Rattle.alma_rules.specs.Nodes.{is_selected, indexed}
 use Rattle.alma_ir.specs.declared.phrase.Root.{Root}
 use Rattle.alma_rules.specs.Walk.{judge_expr, judge_selectors, judge_selector, judge_indices, judge_index_tail}
@@ -84,11 +86,13 @@ IsPart (Some (a_variable l)) = Unit {0}
 IsPart (Some no_array) = Unit {0}
 IsPart v = ⊥
 
-pub field_there : (s : Scene) (name : List ℕ) (v : Option Denoted) → field_rules s name v ≡ [] → IsVariable v → IsVariable (option_and_then (select_field s name) v)
+pub field_there : (s : Scene) (name : List ℕ) (v : Option Denoted) → field_rules s name v ≡ [] → IsVariable v
+    → IsVariable (option_and_then (select_field s name) v)
 field_there s name None h t = t
 field_there s name (Some (a_variable l)) h t =
     go (is_record_in (slice_get s.shapes l.shape)) (field_of s name l)
-    (when_left _ fault.NotRecord _ h) (when_alone _ fault.NoField (rules_right (when (holds (λ d. not (is_record_in (slice_get s.shapes l.shape))) (Some l)) fault.NotRecord) _ h))
+    (when_left _ fault.NotRecord _ h) (when_alone _ fault.NoField
+    (rules_right (when (holds (λ d. not (is_record_in (slice_get s.shapes l.shape))) (Some l)) fault.NotRecord) _ h))
   where
     go : (r : Bool) (o : Option (ℕ × ℕ)) → not r ≡ false → (r && not (is_some o)) ≡ false → IsVariable (option_map (field_part s l) o)
     go r (Some p) a b = tt
@@ -160,13 +164,15 @@ there_map f [] (Some x) h t = tt
 there_map f (g ∷ fs) v h t = absurd (cc)
 
 -- nodes that stand in no constant place
-pub typed_map : {A : Type 0} (s : Scene) (f : A → Typing) (fs : List CheckFault) (v : Option A) → fs ≡ [] → s.constant ≡ false → IsThere v → IsTyped s (option_map f (unless fs v))
+pub typed_map : {A : Type 0} (s : Scene) (f : A → Typing) (fs : List CheckFault) (v : Option A) → fs ≡ [] → s.constant ≡ false → IsThere v
+    → IsTyped s (option_map f (unless fs v))
 typed_map s f [] None h c t = t
 typed_map s f [] (Some x) h c t = λ e. clash s.constant e c
 typed_map s f (g ∷ fs) v h c t = absurd (cc)
 
 -- nodes with the value of their part
-pub typed_keep : (s : Scene) (f : Typing → Typing) (same : (t : Typing) → (f t).constant ≡ t.constant) (fs : List CheckFault) (v : Option Typing) → fs ≡ [] → IsTyped s v → IsTyped s (option_map f (unless fs v))
+pub typed_keep : (s : Scene) (f : Typing → Typing) (same : (t : Typing) → (f t).constant ≡ t.constant) (fs : List CheckFault)
+    (v : Option Typing) → fs ≡ [] → IsTyped s v → IsTyped s (option_map f (unless fs v))
 typed_keep s f same [] None h t = t
 typed_keep s f same [] (Some x) h t = λ e. subst (λ (o : Option ℤ). IsThere o) (sym (same x)) (t e)
 typed_keep s f same (g ∷ fs) v h t = absurd (cc)
@@ -177,7 +183,8 @@ typed_unless s (g ∷ fs) v h t = absurd (cc)
 
 -- ---- parts and nodes
 
-pub sound_node : {A : Type 0} (n : ℕ) (a : List Broken) (fs : List CheckFault) (v : Option A) → Sound a v → Sound (a ++ broken_at n fs) (unless fs v)
+pub sound_node : {A : Type 0} (n : ℕ) (a : List Broken) (fs : List CheckFault) (v : Option A) → Sound a v
+    → Sound (a ++ broken_at n fs) (unless fs v)
 unfolding Sound
 sound_node n a fs v p h = unless_there fs v (quiet n a fs h) (p (nil_left a (broken_at n fs) h))
 
@@ -202,7 +209,8 @@ pub sound_fine : {A : Type 0} (x : A) → Sound [] (Some x)
 unfolding Sound
 sound_fine x h = tt
 
-pub typed_node : (s : Scene) (n : ℕ) (a : List Broken) (fs : List CheckFault) (v : Option Typing) → Typed s a v → Typed s (a ++ broken_at n fs) (unless fs v)
+pub typed_node : (s : Scene) (n : ℕ) (a : List Broken) (fs : List CheckFault) (v : Option Typing) → Typed s a v
+    → Typed s (a ++ broken_at n fs) (unless fs v)
 unfolding Typed
 typed_node s n a fs v p h = typed_unless s fs v (quiet n a fs h) (p (nil_left a (broken_at n fs) h))
 
@@ -212,16 +220,20 @@ selectors_quiet : (s : Scene) (d : Judged Denoted) (more : tree.SelectorTail) �
 unfolding judge_expr
 selectors_quiet s d tree.no_selector h = h
 selectors_quiet s d (tree.more_selector (tree.field k name) rest) h =
-    nil_left d.faults (broken_at k (field_rules s (text_at s name.token) d.value)) (selectors_quiet s (judge_selector s d (tree.field k name)) rest h)
+    nil_left d.faults (broken_at k (field_rules s (text_at s name.token) d.value))
+    (selectors_quiet s (judge_selector s d (tree.field k name)) rest h)
 selectors_quiet s d (tree.more_selector (tree.index k items) rest) h =
-    indices_quiet s d items (nil_left (judge_indices s d items).faults (broken_at k (array_rules (judge_indices s d items).value)) (selectors_quiet s (judge_selector s d (tree.index k items)) rest h))
+    indices_quiet s d items (nil_left (judge_indices s d items).faults (broken_at k (array_rules (judge_indices s d items).value))
+    (selectors_quiet s (judge_selector s d (tree.index k items)) rest h))
   where
     tail_quiet : (s : Scene) (d : Judged Denoted) (x : tree.ExprTail) → (judge_index_tail s d x).faults ≡ [] → d.faults ≡ []
     tail_quiet s d tree.no_expr h = h
-    tail_quiet s d (tree.more_expr e rest) h = nil_left d.faults _ (tail_quiet s (indexed s d (tree.expr_node e) (judge_expr s d.next e)) rest h)
+    tail_quiet s d (tree.more_expr e rest) h =
+        nil_left d.faults _ (tail_quiet s (indexed s d (tree.expr_node e) (judge_expr s d.next e)) rest h)
 
     indices_quiet : (s : Scene) (d : Judged Denoted) (x : tree.Exprs) → (judge_indices s d x).faults ≡ [] → d.faults ≡ []
-    indices_quiet s d (tree.exprs e rest) h = nil_left d.faults _ (tail_quiet s (indexed s d (tree.expr_node e) (judge_expr s d.next e)) rest h)
+    indices_quiet s d (tree.exprs e rest) h =
+        nil_left d.faults _ (tail_quiet s (indexed s d (tree.expr_node e) (judge_expr s d.next e)) rest h)
 
 -- ---- designators
 
@@ -234,10 +246,12 @@ Part a v = a ≡ [] → IsPart v
 desig_quiet : (s : Scene) (w : Use) (sel : Bool) (f : Found) (v : Option Denoted) → desig_rules s w sel f v ≡ []
     → (no_constant s sel f ≡ false) × (not_variable w sel f ≡ false) × (not_procedure w sel f ≡ false)
 desig_quiet s w sel f v q =
-    let l : when (no_constant s sel f) fault.NotConst ++ when (not_variable w sel f) fault.NotVariable ≡ [] = rules_left _ (when (not_procedure w sel f) fault.NotProcedure) q in (
+    let l : when (no_constant s sel f) fault.NotConst ++ when (not_variable w sel f) fault.NotVariable ≡ [] =
+    rules_left _ (when (not_procedure w sel f) fault.NotProcedure) q in (
       when_left (no_constant s sel f) fault.NotConst _ l,
       when_alone (not_variable w sel f) fault.NotVariable (rules_right (when (no_constant s sel f) fault.NotConst) _ l),
-      when_alone (not_procedure w sel f) fault.NotProcedure (rules_right (when (no_constant s sel f) fault.NotConst ++ when (not_variable w sel f) fault.NotVariable) _ q),
+      when_alone (not_procedure w sel f) fault.NotProcedure
+          (rules_right (when (no_constant s sel f) fault.NotConst ++ when (not_variable w sel f) fault.NotVariable) _ q),
     )
 
 abbrev pub Named : Scene → ℕ → ℕ → tree.Name → tree.SelectorTail → Found → Judged Denoted
@@ -248,18 +262,23 @@ Desig s k n w name more f = at_node k (desig_rules s w (is_selected more) f) (Na
 
 -- a variable as far as its selectors go
 abbrev pub GoesOn : Scene → tree.SelectorTail → Type 0
-GoesOn s more = (d : Judged Denoted) → Variable d.faults d.value → Variable (judge_selectors s d more).faults (judge_selectors s d more).value
+GoesOn s more = (d : Judged Denoted) → Variable d.faults d.value
+    → Variable (judge_selectors s d more).faults (judge_selectors s d more).value
 
-named_quiet : (s : Scene) (k n : ℕ) (w : Use) (name : tree.Name) (more : tree.SelectorTail) (f : Found) → (Desig s k n w name more f).faults ≡ [] → broken_at name.node (name_rules f (denoted s f)) ≡ []
+named_quiet : (s : Scene) (k n : ℕ) (w : Use) (name : tree.Name) (more : tree.SelectorTail) (f : Found)
+    → (Desig s k n w name more f).faults ≡ [] → broken_at name.node (name_rules f (denoted s f)) ≡ []
 named_quiet s k n w name more f h =
     selectors_quiet s (at_node name.node (name_rules f) (of_value n (denoted s f))) more (nil_left (Named s k n name more f).faults _ h)
 
-rules_quiet : (s : Scene) (k n : ℕ) (w : Use) (name : tree.Name) (more : tree.SelectorTail) (f : Found) → (Desig s k n w name more f).faults ≡ []
+rules_quiet : (s : Scene) (k n : ℕ) (w : Use) (name : tree.Name) (more : tree.SelectorTail) (f : Found)
+    → (Desig s k n w name more f).faults ≡ []
     → desig_rules s w (is_selected more) f (Named s k n name more f).value ≡ []
 rules_quiet s k n w name more f h = quiet k (Named s k n name more f).faults _ h
 
-desig_calm : (s : Scene) (k n : ℕ) (w : Use) (name : tree.Name) (more : tree.SelectorTail) (f : Found) → (Desig s k n w name more f).faults ≡ []
-    → (no_constant s (is_selected more) f ≡ false) × (not_variable w (is_selected more) f ≡ false) × (not_procedure w (is_selected more) f ≡ false)
+desig_calm : (s : Scene) (k n : ℕ) (w : Use) (name : tree.Name) (more : tree.SelectorTail) (f : Found)
+    → (Desig s k n w name more f).faults ≡ []
+    → (no_constant s (is_selected more) f ≡ false) × (not_variable w (is_selected more) f ≡ false)
+    × (not_procedure w (is_selected more) f ≡ false)
 desig_calm s k n w name more f h = desig_quiet s w (is_selected more) f (Named s k n name more f).value (rules_quiet s k n w name more f h)
 
 a_variable_there : (s : Scene) (k n : ℕ) (w : Use) (name : tree.Name) (more : tree.SelectorTail) (shape : ℕ) (root : Root) → GoesOn s more
@@ -267,7 +286,8 @@ a_variable_there : (s : Scene) (k n : ℕ) (w : Use) (name : tree.Name) (more : 
 unfolding Variable
 a_variable_there s k n w name more shape root go h =
     unless_variable _ _ (rules_quiet s k n w name more (variable shape root) h)
-    (go (at_node name.node (name_rules (variable shape root)) (of_value n (denoted s (variable shape root)))) (λ e. tt) (nil_left (Named s k n name more (variable shape root)).faults _ h))
+    (go (at_node name.node (name_rules (variable shape root)) (of_value n (denoted s (variable shape root)))) (λ e. tt)
+    (nil_left (Named s k n name more (variable shape root)).faults _ h))
 
 is_located : (v : Option Denoted) → IsVariable v → IsThere (option_and_then located_in v)
 is_located None p = p
@@ -285,7 +305,8 @@ is_typed s (Some no_array) c p = absurd p
 
 pub located_at : (s : Scene) (k n : ℕ) (name : tree.Name) (more : tree.SelectorTail) (f : Found) → IsKnown s f → GoesOn s more
     → (Desig s k n as_variable name more f).faults ≡ [] → IsThere (option_and_then located_in (Desig s k n as_variable name more f).value)
-located_at s k n name more absent known go h = absurd (let q : broken_at name.node (fault.Undeclared ∷ []) ≡ [] = named_quiet s k n as_variable name more absent h in cc)
+located_at s k n name more absent known go h =
+    absurd (let q : broken_at name.node (fault.Undeclared ∷ []) ≡ [] = named_quiet s k n as_variable name more absent h in cc)
 located_at s k n name more bad known go h = absurd known
 located_at s k n name more (variable shape root) known go h = is_located _ (a_variable_there s k n as_variable name more shape root go h)
 located_at s k n name tree.no_selector (constant shape v) known go h =
@@ -306,13 +327,15 @@ located_at s k n name (tree.more_selector y z) (routine r up (Some x)) known go 
 pub valued_at : (s : Scene) (k n : ℕ) (name : tree.Name) (more : tree.SelectorTail) (f : Found) → IsKnown s f → GoesOn s more
     → (Desig s k n as_value name more f).faults ≡ [] → IsTyped s (option_and_then typing_in (Desig s k n as_value name more f).value)
 unfolding judge_expr
-valued_at s k n name more absent known go h = absurd (let q : broken_at name.node (fault.Undeclared ∷ []) ≡ [] = named_quiet s k n as_value name more absent h in cc)
+valued_at s k n name more absent known go h =
+    absurd (let q : broken_at name.node (fault.Undeclared ∷ []) ≡ [] = named_quiet s k n as_value name more absent h in cc)
 valued_at s k n name more bad known go h = absurd known
 valued_at s k n name more (variable shape root) known go h =
     is_typed s _ (desig_calm s k n as_value name more (variable shape root) h).0
     (a_variable_there s k n as_value name more shape root go h)
 valued_at s k n name tree.no_selector (constant shape v) known go h =
-    go_on (desig_rules s as_value false (constant shape v) (Some (a_constant shape v))) (rules_quiet s k n as_value name tree.no_selector (constant shape v) h)
+    go_on (desig_rules s as_value false (constant shape v) (Some (a_constant shape v)))
+    (rules_quiet s k n as_value name tree.no_selector (constant shape v) h)
   where
     go_on : (fs : List CheckFault) → fs ≡ [] → IsTyped s (option_and_then typing_in (unless fs (Some (a_constant shape v))))
     go_on [] e = λ c. tt
@@ -326,10 +349,12 @@ valued_at s k n name (tree.more_selector x r) (named shape) known go h =
 valued_at s k n name more (routine r up None) known go h =
     clash s.constant known (desig_calm s k n as_value name more (routine r up None) h).0
 valued_at s k n name tree.no_selector (routine r up (Some x)) known go h =
-    go_on (desig_rules s as_value false (routine r up (Some x)) (Some (a_routine r up x))) (rules_quiet s k n as_value name tree.no_selector (routine r up (Some x)) h)
+    go_on (desig_rules s as_value false (routine r up (Some x)) (Some (a_routine r up x)))
+    (rules_quiet s k n as_value name tree.no_selector (routine r up (Some x)) h)
     (desig_calm s k n as_value name tree.no_selector (routine r up (Some x)) h).0
   where
-    go_on : (fs : List CheckFault) → fs ≡ [] → s.constant ≡ false → IsTyped s (option_and_then typing_in (unless fs (Some (a_routine r up x))))
+    go_on : (fs : List CheckFault) → fs ≡ [] → s.constant ≡ false
+        → IsTyped s (option_and_then typing_in (unless fs (Some (a_routine r up x))))
     go_on [] e c = λ t. clash s.constant t c
     go_on (f ∷ fs) e c = absurd (cc)
 valued_at s k n name (tree.more_selector y z) (routine r up (Some x)) known go h =
@@ -338,7 +363,8 @@ valued_at s k n name (tree.more_selector y z) (routine r up (Some x)) known go h
 pub callee_at : (s : Scene) (k n : ℕ) (name : tree.Name) (more : tree.SelectorTail) (f : Found) → IsKnown s f
     → (Desig s k n as_procedure name more f).faults ≡ [] → IsThere (option_and_then callee_in (Desig s k n as_procedure name more f).value)
 unfolding judge_expr
-callee_at s k n name more absent known h = absurd (let q : broken_at name.node (fault.Undeclared ∷ []) ≡ [] = named_quiet s k n as_procedure name more absent h in cc)
+callee_at s k n name more absent known h =
+    absurd (let q : broken_at name.node (fault.Undeclared ∷ []) ≡ [] = named_quiet s k n as_procedure name more absent h in cc)
 callee_at s k n name more bad known h = absurd known
 callee_at s k n name more (variable shape root) known h =
     absurd (let q : true ≡ false = (desig_calm s k n as_procedure name more (variable shape root) h).2 in cc)
@@ -349,7 +375,8 @@ callee_at s k n name more (named shape) known h =
 callee_at s k n name more (routine r up None) known h =
     clash s.constant known (desig_calm s k n as_procedure name more (routine r up None) h).0
 callee_at s k n name tree.no_selector (routine r up (Some x)) known h =
-    go_on (desig_rules s as_procedure false (routine r up (Some x)) (Some (a_routine r up x))) (rules_quiet s k n as_procedure name tree.no_selector (routine r up (Some x)) h)
+    go_on (desig_rules s as_procedure false (routine r up (Some x)) (Some (a_routine r up x)))
+    (rules_quiet s k n as_procedure name tree.no_selector (routine r up (Some x)) h)
   where
     go_on : (fs : List CheckFault) → fs ≡ [] → IsThere (option_and_then callee_in (unless fs (Some (a_routine r up x))))
     go_on [] e = tt

@@ -23,7 +23,8 @@ module _ (s : Scene) where
       → nodes.loop_variable s n name ≡ of_value n (option_and_then parts.located_in (parts.denoted s (found s name)))
   variable_fine n name h = rw h refl
 
-  pub variable_stops : (n : ℕ) (name : tree.Name) (x : Stop) → Stops (broken_at name.node (stmt_rules.loop_name_rules s (found s name) None)) x
+  pub variable_stops : (n : ℕ) (name : tree.Name) (x : Stop)
+      → Stops (broken_at name.node (stmt_rules.loop_name_rules s (found s name) None)) x
       → Stops (nodes.loop_variable s n name).faults x
   variable_stops n name x h = h
 
@@ -32,14 +33,17 @@ module _ (s : Scene) where
     loop_var_stops : (x : Stop) → Stops var.faults x → Stops (nodes.loop_at s n k var a b c d).faults x
     loop_var_stops x h = stops_more _ _ x (stops_more var.faults _ x h)
 
-    loop_low_stops : (x : Stop) (m : ℕ) (v : Option parts.Located) → var ≡ of_value m v → Stops a.faults x → Stops (nodes.loop_at s n k var a b c d).faults x
+    loop_low_stops : (x : Stop) (m : ℕ) (v : Option parts.Located) → var ≡ of_value m v → Stops a.faults x
+        → Stops (nodes.loop_at s n k var a b c d).faults x
     loop_low_stops x m v p h = rw p (stops_more _ _ x (stops_more a.faults _ x h))
 
-    loop_high_stops : (x : Stop) (m i : ℕ) (v : Option parts.Located) (w : Option parts.Typing) → var ≡ of_value m v → a ≡ of_value i w → Stops b.faults x
+    loop_high_stops : (x : Stop) (m i : ℕ) (v : Option parts.Located) (w : Option parts.Typing) → var ≡ of_value m v → a ≡ of_value i w
+        → Stops b.faults x
         → Stops (nodes.loop_at s n k var a b c d).faults x
     loop_high_stops x m i v w p q h = rw (p, q) (stops_more _ _ x (stops_more b.faults _ x h))
 
-    loop_by_stops : (x : Stop) (m i j : ℕ) (v : Option parts.Located) (w u : Option parts.Typing) → var ≡ of_value m v → a ≡ of_value i w → b ≡ of_value j u → Stops c.faults x
+    loop_by_stops : (x : Stop) (m i j : ℕ) (v : Option parts.Located) (w u : Option parts.Typing) → var ≡ of_value m v → a ≡ of_value i w
+        → b ≡ of_value j u → Stops c.faults x
         → Stops (nodes.loop_at s n k var a b c d).faults x
     loop_by_stops x m i j v w u p q t h = rw (p, q, t) (stops_more _ _ x (stops_more c.faults _ x h))
 
@@ -58,38 +62,50 @@ module _ (s : Scene) where
     for_body = walk.judge_stmts s for_by.next body
 
     for_at : walk.judge_stmt s n (tree.for_stmt k name low high by body)
-        ≡ nodes.one (with ir.ForTo (nodes.loop_at s n k (nodes.loop_variable s n name) (walk.judge_expr s (n + 2) low) (walk.judge_expr s (walk.judge_expr s (n + 2) low).next high)
+        ≡ nodes.one (with ir.ForTo (nodes.loop_at s n k (nodes.loop_variable s n name) (walk.judge_expr s (n + 2) low)
+        (walk.judge_expr s (walk.judge_expr s (n + 2) low).next high)
         (walk.judge_by s (walk.judge_expr s (walk.judge_expr s (n + 2) low).next high).next by)
         (walk.judge_stmts s (walk.judge_by s (walk.judge_expr s (walk.judge_expr s (n + 2) low).next high).next by).next body)))
     unfolding walk.judge_stmts
     for_at = refl
 
-    pub for_name_stops : (x : Stop) → Stops (nodes.loop_variable s n name).faults x → Stops (walk.judge_stmt s n (tree.for_stmt k name low high by body)).faults x
+    pub for_name_stops : (x : Stop) → Stops (nodes.loop_variable s n name).faults x
+        → Stops (walk.judge_stmt s n (tree.for_stmt k name low high by body)).faults x
     for_name_stops x h = rw for_at (loop_var_stops n k (nodes.loop_variable s n name) for_low for_high for_by for_body x h)
 
-    pub for_low_stops : (x : Stop) (m : ℕ) (v : Option parts.Located) → nodes.loop_variable s n name ≡ of_value m v → Stops (walk.judge_expr s (n + 2) low).faults x
+    pub for_low_stops : (x : Stop) (m : ℕ) (v : Option parts.Located) → nodes.loop_variable s n name ≡ of_value m v
+        → Stops (walk.judge_expr s (n + 2) low).faults x
         → Stops (walk.judge_stmt s n (tree.for_stmt k name low high by body)).faults x
     for_low_stops x m v p h = rw for_at (loop_low_stops n k (nodes.loop_variable s n name) for_low for_high for_by for_body x m v p h)
 
-    pub for_high_stops : (x : Stop) (m i : ℕ) (v : Option parts.Located) (w : Option parts.Typing) → nodes.loop_variable s n name ≡ of_value m v → walk.judge_expr s (n + 2) low ≡ of_value i w
+    pub for_high_stops : (x : Stop) (m i : ℕ) (v : Option parts.Located) (w : Option parts.Typing)
+        → nodes.loop_variable s n name ≡ of_value m v → walk.judge_expr s (n + 2) low ≡ of_value i w
         → Stops (walk.judge_expr s i high).faults x → Stops (walk.judge_stmt s n (tree.for_stmt k name low high by body)).faults x
     for_high_stops x m i v w p q h =
         rw for_at (loop_high_stops n k (nodes.loop_variable s n name) for_low for_high for_by for_body x m i v w p q (rw q h))
 
-    pub for_by_stops : (x : Stop) (m i j : ℕ) (v : Option parts.Located) (w u : Option parts.Typing) → nodes.loop_variable s n name ≡ of_value m v → walk.judge_expr s (n + 2) low ≡ of_value i w
-        → walk.judge_expr s i high ≡ of_value j u → Stops (walk.judge_by s j by).faults x → Stops (walk.judge_stmt s n (tree.for_stmt k name low high by body)).faults x
+    pub for_by_stops : (x : Stop) (m i j : ℕ) (v : Option parts.Located) (w u : Option parts.Typing)
+        → nodes.loop_variable s n name ≡ of_value m v → walk.judge_expr s (n + 2) low ≡ of_value i w
+        → walk.judge_expr s i high ≡ of_value j u → Stops (walk.judge_by s j by).faults x
+        → Stops (walk.judge_stmt s n (tree.for_stmt k name low high by body)).faults x
     for_by_stops x m i j v w u p q t h =
-        rw for_at (loop_by_stops n k (nodes.loop_variable s n name) for_low for_high for_by for_body x m i j v w u p q (rw q t) (rw (q, t) h))
+        rw for_at (loop_by_stops n k (nodes.loop_variable s n name) for_low for_high for_by for_body x m i j v w u p q (rw q t)
+        (rw (q, t) h))
 
-    pub for_fine : {X : Type 0} (m i j l e : ℕ) (v : Option parts.Located) (w u : Option parts.Typing) (z : Option ℤ) (view : X → ir.Stmts) (r : Result (Option X) Stop)
-        → nodes.loop_variable s n name ≡ of_value m v → walk.judge_expr s (n + 2) low ≡ of_value i w → walk.judge_expr s i high ≡ of_value j u → walk.judge_by s j by ≡ of_value l z
-        → Answers (nodes.one (with ir.ForTo (nodes.loop_at s n k (of_value m v) (of_value i w) (of_value j u) (of_value l z) (walk.judge_stmts s l body)))) view e r
+    pub for_fine : {X : Type 0} (m i j l e : ℕ) (v : Option parts.Located) (w u : Option parts.Typing) (z : Option ℤ) (view : X → ir.Stmts)
+        (r : Result (Option X) Stop)
+        → nodes.loop_variable s n name ≡ of_value m v → walk.judge_expr s (n + 2) low ≡ of_value i w
+        → walk.judge_expr s i high ≡ of_value j u → walk.judge_by s j by ≡ of_value l z
+        → Answers (nodes.one (with ir.ForTo
+        (nodes.loop_at s n k (of_value m v) (of_value i w) (of_value j u) (of_value l z) (walk.judge_stmts s l body)))) view e r
         → Answers (walk.judge_stmt s n (tree.for_stmt k name low high by body)) view e r
-    for_fine {X} m i j l e v w u z view r p q t y a = rw for_at (by_parts (nodes.loop_variable s n name) (walk.judge_expr s (n + 2) low) p q)
+    for_fine {X} m i j l e v w u z view r p q t y a =
+        rw for_at (by_parts (nodes.loop_variable s n name) (walk.judge_expr s (n + 2) low) p q)
       where
         -- part by part
         by_parts : (var : Judged parts.Located) (a1 : Judged parts.Typing) → var ≡ of_value m v → a1 ≡ of_value i w
-            → Answers (nodes.one (with ir.ForTo (nodes.loop_at s n k var a1 (walk.judge_expr s a1.next high) (walk.judge_by s (walk.judge_expr s a1.next high).next by)
+            → Answers (nodes.one (with ir.ForTo
+            (nodes.loop_at s n k var a1 (walk.judge_expr s a1.next high) (walk.judge_by s (walk.judge_expr s a1.next high).next by)
             (walk.judge_stmts s (walk.judge_by s (walk.judge_expr s a1.next high).next by).next body)))) view e r
         by_parts var a1 p1 q1 = rw (p1, q1, t, y) a
 
@@ -105,30 +121,42 @@ module _ (s : Scene) where
     some_body = walk.judge_stmts s some_high.next body
 
     some_at : walk.judge_stmt s n (tree.some_stmt k name low high body)
-        ≡ nodes.one (with ir.SomeOf (nodes.loop_at s n k (nodes.loop_variable s n name) (walk.judge_expr s (n + 2) low) (walk.judge_expr s (walk.judge_expr s (n + 2) low).next high)
-        (fine (walk.judge_expr s (walk.judge_expr s (n + 2) low).next high).next (pos 1)) (walk.judge_stmts s (walk.judge_expr s (walk.judge_expr s (n + 2) low).next high).next body)))
+        ≡ nodes.one (with ir.SomeOf (nodes.loop_at s n k (nodes.loop_variable s n name) (walk.judge_expr s (n + 2) low)
+        (walk.judge_expr s (walk.judge_expr s (n + 2) low).next high)
+        (fine (walk.judge_expr s (walk.judge_expr s (n + 2) low).next high).next (pos 1))
+        (walk.judge_stmts s (walk.judge_expr s (walk.judge_expr s (n + 2) low).next high).next body)))
     unfolding walk.judge_stmts
     some_at = refl
 
-    pub some_name_stops : (x : Stop) → Stops (nodes.loop_variable s n name).faults x → Stops (walk.judge_stmt s n (tree.some_stmt k name low high body)).faults x
-    some_name_stops x h = rw some_at (loop_var_stops n k (nodes.loop_variable s n name) some_low some_high (fine some_high.next (pos 1)) some_body x h)
-
-    pub some_low_stops : (x : Stop) (m : ℕ) (v : Option parts.Located) → nodes.loop_variable s n name ≡ of_value m v → Stops (walk.judge_expr s (n + 2) low).faults x
+    pub some_name_stops : (x : Stop) → Stops (nodes.loop_variable s n name).faults x
         → Stops (walk.judge_stmt s n (tree.some_stmt k name low high body)).faults x
-    some_low_stops x m v p h = rw some_at (loop_low_stops n k (nodes.loop_variable s n name) some_low some_high (fine some_high.next (pos 1)) some_body x m v p h)
+    some_name_stops x h = rw some_at (loop_var_stops n k (nodes.loop_variable s n name) some_low some_high (fine some_high.next (pos 1))
+        some_body x h)
 
-    pub some_high_stops : (x : Stop) (m i : ℕ) (v : Option parts.Located) (w : Option parts.Typing) → nodes.loop_variable s n name ≡ of_value m v → walk.judge_expr s (n + 2) low ≡ of_value i w
+    pub some_low_stops : (x : Stop) (m : ℕ) (v : Option parts.Located) → nodes.loop_variable s n name ≡ of_value m v
+        → Stops (walk.judge_expr s (n + 2) low).faults x
+        → Stops (walk.judge_stmt s n (tree.some_stmt k name low high body)).faults x
+    some_low_stops x m v p h = rw some_at (loop_low_stops n k (nodes.loop_variable s n name) some_low some_high
+        (fine some_high.next (pos 1)) some_body x m v p h)
+
+    pub some_high_stops : (x : Stop) (m i : ℕ) (v : Option parts.Located) (w : Option parts.Typing)
+        → nodes.loop_variable s n name ≡ of_value m v → walk.judge_expr s (n + 2) low ≡ of_value i w
         → Stops (walk.judge_expr s i high).faults x → Stops (walk.judge_stmt s n (tree.some_stmt k name low high body)).faults x
     some_high_stops x m i v w p q h =
-        rw some_at (loop_high_stops n k (nodes.loop_variable s n name) some_low some_high (fine some_high.next (pos 1)) some_body x m i v w p q (rw q h))
+        rw some_at (loop_high_stops n k (nodes.loop_variable s n name) some_low some_high (fine some_high.next (pos 1)) some_body x m i v w
+        p q (rw q h))
 
-    pub some_fine : {X : Type 0} (m i j e : ℕ) (v : Option parts.Located) (w u : Option parts.Typing) (view : X → ir.Stmts) (r : Result (Option X) Stop)
-        → nodes.loop_variable s n name ≡ of_value m v → walk.judge_expr s (n + 2) low ≡ of_value i w → walk.judge_expr s i high ≡ of_value j u
-        → Answers (nodes.one (with ir.SomeOf (nodes.loop_at s n k (of_value m v) (of_value i w) (of_value j u) (fine j (pos 1)) (walk.judge_stmts s j body)))) view e r
+    pub some_fine : {X : Type 0} (m i j e : ℕ) (v : Option parts.Located) (w u : Option parts.Typing) (view : X → ir.Stmts)
+        (r : Result (Option X) Stop)
+        → nodes.loop_variable s n name ≡ of_value m v → walk.judge_expr s (n + 2) low ≡ of_value i w
+        → walk.judge_expr s i high ≡ of_value j u
+        → Answers (nodes.one (with ir.SomeOf
+        (nodes.loop_at s n k (of_value m v) (of_value i w) (of_value j u) (fine j (pos 1)) (walk.judge_stmts s j body)))) view e r
         → Answers (walk.judge_stmt s n (tree.some_stmt k name low high body)) view e r
     some_fine {X} m i j e v w u view r p q t a = rw some_at (by_parts (nodes.loop_variable s n name) (walk.judge_expr s (n + 2) low) p q)
       where
         by_parts : (var : Judged parts.Located) (a1 : Judged parts.Typing) → var ≡ of_value m v → a1 ≡ of_value i w
-            → Answers (nodes.one (with ir.SomeOf (nodes.loop_at s n k var a1 (walk.judge_expr s a1.next high) (fine (walk.judge_expr s a1.next high).next (pos 1))
+            → Answers (nodes.one (with ir.SomeOf
+            (nodes.loop_at s n k var a1 (walk.judge_expr s a1.next high) (fine (walk.judge_expr s a1.next high).next (pos 1))
             (walk.judge_stmts s (walk.judge_expr s a1.next high).next body)))) view e r
         by_parts var a1 p1 q1 = rw (p1, q1, t) a

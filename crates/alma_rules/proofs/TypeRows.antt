@@ -22,16 +22,20 @@ field_lists_row : (n : _) (row : dq.Row_of-FieldList n) → view.view_field_list
 field_lists_row n dq.end_of-FieldList = refl
 field_lists_row n (dq.more_of-FieldList x rest) = ap (tree.more_fields (view.view_field_list x)) (field_lists_row _ rest)
 
-field_lists_kept : (v : Vec dw.FieldList Global) → view.view_field_lists (dw.TheBlock.hidden-the_row-FieldList-0 v) ≡ view.field_lists_of v.items
-field_lists_kept v = field_lists_row _ (dw.TheBlock.hidden-the_row-FieldList-0 v) ∙ ap view.field_lists_of (dq.items_hidden-the_row-FieldList-0 v)
+field_lists_kept : (v : Vec dw.FieldList Global)
+    → view.view_field_lists (dw.TheBlock.hidden-the_row-FieldList-0 v) ≡ view.field_lists_of v.items
+field_lists_kept v = field_lists_row _ (dw.TheBlock.hidden-the_row-FieldList-0 v)
+    ∙ ap view.field_lists_of (dq.items_hidden-the_row-FieldList-0 v)
 
 dimensions_row : (n : _) (row : dz.Row_of-Dimensions n) → view.view_dimensions row ≡ view.dimensions_of (dz.items-the_row-Dimensions n row)
 dimensions_row n dz.end_of-Dimensions = refl
 dimensions_row n (dz.more_of-Dimensions p shape row rest) =
     ap (λ x. tree.more_dimensions (tree.dimensions (view.view_plain_type p) x) (view.view_dimensions rest)) (plains_shown shape row)
-    ∙ ap (tree.more_dimensions (tree.dimensions (view.view_plain_type p) (view.plains_of (dw.TheBlock.shown-the_row-PlainType-1 shape row).items))) (dimensions_row _ rest)
+    ∙ ap (tree.more_dimensions (tree.dimensions (view.view_plain_type p)
+    (view.plains_of (dw.TheBlock.shown-the_row-PlainType-1 shape row).items))) (dimensions_row _ rest)
 
-dimensions_shown : (shape : _) (row : _) → view.view_dimensions row ≡ view.dimensions_of (dw.TheBlock.shown-the_row-Dimensions-2 shape row).items
+dimensions_shown : (shape : _) (row : _)
+    → view.view_dimensions row ≡ view.dimensions_of (dw.TheBlock.shown-the_row-Dimensions-2 shape row).items
 dimensions_shown shape row = dimensions_row _ row ∙ ap view.dimensions_of (sym (dz.items_shown-the_row-Dimensions-2 shape row))
 
 arrays_kept : (x : Option dz.Arrays) → view.view_arrays (dy.back-TypeNode-arrays x) ≡ view.arrays_of x
@@ -39,12 +43,16 @@ arrays_kept None = refl
 arrays_kept (Some (dz.Arrays' n p shape row shape' row')) =
     rw (dz.outs-Arrays' n p shape row shape' row') (
     ap (λ x. tree.arrays n (tree.dimensions (view.view_plain_type p) x) (view.view_dimensions row')) (plains_shown shape row)
-    ∙ ap (tree.arrays n (tree.dimensions (view.view_plain_type p) (view.plains_of (dw.TheBlock.shown-the_row-PlainType-1 shape row).items))) (dimensions_shown shape' row'))
+    ∙ ap (tree.arrays n (tree.dimensions (view.view_plain_type p) (view.plains_of (dw.TheBlock.shown-the_row-PlainType-1 shape row).items)))
+    (dimensions_shown shape' row'))
 
-type_rolled : (r : _) → view.view_type_node (dy.roll-TypeNode r) ≡ tree.type_node r.node (view.arrays_of r.arrays) (view.view_plain_type r.element)
-type_rolled r = ap view.view_type_node (dy.rolls-TypeNode' r) ∙ ap (λ x. tree.type_node r.node x (view.view_plain_type r.element)) (arrays_kept r.arrays)
+type_rolled : (r : _) → view.view_type_node (dy.roll-TypeNode r) ≡ tree.type_node r.node (view.arrays_of r.arrays)
+    (view.view_plain_type r.element)
+type_rolled r = ap view.view_type_node (dy.rolls-TypeNode' r)
+    ∙ ap (λ x. tree.type_node r.node x (view.view_plain_type r.element)) (arrays_kept r.arrays)
 
-pub type_is : (t : dy.TypeNode) → view.view_type_node t ≡ tree.type_node (dy.out-TypeNode t).node (view.arrays_of (dy.out-TypeNode t).arrays) (view.view_plain_type (dy.out-TypeNode t).element)
+pub type_is : (t : dy.TypeNode) → view.view_type_node t ≡ tree.type_node (dy.out-TypeNode t).node
+    (view.arrays_of (dy.out-TypeNode t).arrays) (view.view_plain_type (dy.out-TypeNode t).element)
 type_is t = ap view.view_type_node (sym (dy.roll-out-TypeNode t)) ∙ type_rolled (dy.out-TypeNode t)
 
 pub record_is : (n : ℕ) (f : Box dw.FieldList Global) (more : Vec dw.FieldList Global)
@@ -61,6 +69,8 @@ decls_kept : (v : Vec dh.Decl Global) → view.view_decls (dh.TheBlock.hidden-th
 decls_kept v = decls_row _ (dh.TheBlock.hidden-the_row-Decl-0 v) ∙ ap view.decls_of (db.items_hidden-the_row-Decl-0 v)
 
 pub procedure_is : (n : _) (l : Name) (p : Option Params) (r : Option Name) (b : db.Block) (e : Name)
-    → view.view_decl (dh.Procedure n l p r b e) ≡ tree.procedure n (view.view_name l) (view.params_of p) (view.result_of r) (view.view_block b) (view.view_name e)
+    → view.view_decl (dh.Procedure n l p r b e) ≡ tree.procedure n (view.view_name l) (view.params_of p) (view.result_of r)
+    (view.view_block b) (view.view_name e)
 procedure_is n l p r b e =
-    ap (λ x. tree.procedure n (view.view_name l) (view.params_of p) (view.result_of r) (tree.block b.node x (view.body_of b.body)) (view.view_name e)) (decls_kept b.decls)
+    ap (λ x. tree.procedure n (view.view_name l) (view.params_of p) (view.result_of r) (tree.block b.node x (view.body_of b.body))
+    (view.view_name e)) (decls_kept b.decls)

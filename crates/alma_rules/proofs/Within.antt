@@ -67,10 +67,12 @@ joined lo mid hi a b p q = keys_joined (lo * 32) (mid * 32) (hi * 32) a b p q
 -- rules at one node alone
 pub alone_at : (lo n hi m : ℕ) (fs : List CheckFault) → InOrder 0 m fs → m < 32 → lo ≤ n → n < hi → Within lo hi (broken_at n fs)
 alone_at lo n hi m fs o small le h =
-    keys_lower (n * 32 + 0) (lo * 32) (hi * 32) (broken_at n fs) (omega (arith, le)) (keys_at n 0 m (hi * 32) fs o (omega (arith, small, h)))
+    keys_lower (n * 32 + 0) (lo * 32) (hi * 32) (broken_at n fs) (omega (arith, le))
+    (keys_at n 0 m (hi * 32) fs o (omega (arith, small, h)))
 
 -- the rules of a node behind its parts
-pub node_end : (lo n hi m : ℕ) (a : List Broken) (fs : List CheckFault) → InOrder 0 m fs → m < 32 → Within lo n a → n < hi → Within lo hi (a ++ broken_at n fs)
+pub node_end : (lo n hi m : ℕ) (a : List Broken) (fs : List CheckFault) → InOrder 0 m fs → m < 32 → Within lo n a → n < hi
+    → Within lo hi (a ++ broken_at n fs)
 node_end lo n hi m a fs o small h le = joined lo n hi a (broken_at n fs) h (alone_at n n hi m fs o small (omega arith) le)
 
 -- what is judged of a phrase whose own number is n: no rule of its own is broken, or its value is Bad and its rules have ranks up to m
@@ -89,13 +91,15 @@ bad_unless : {A : Type 0} (f : CheckFault) (fs : List CheckFault) (v : Option A)
 bad_unless f fs v = tt
 
 -- its own rules behind its parts
-pub own : {A : Type 0} (m lo n hi : ℕ) (a : List Broken) (fs : List CheckFault) (v : Option A) → InOrder 0 m fs → Within lo n a → lo ≤ n → n < hi
+pub own : {A : Type 0} (m lo n hi : ℕ) (a : List Broken) (fs : List CheckFault) (v : Option A) → InOrder 0 m fs → Within lo n a → lo ≤ n
+    → n < hi
     → Ends m lo n hi (a ++ broken_at n fs) (unless fs v)
 own m lo n hi a [] v o w le h = (inl (joined lo n n a [] w (none n n (omega arith))), le, h)
 own m lo n hi a (f ∷ fs) v o w le h = (
   inr (
     keys_joined (lo * 32) (n * 32) (n * 32 + suc m) a (broken_at n (f ∷ fs)) w
-        (keys_lower (n * 32 + 0) (n * 32) (n * 32 + suc m) (broken_at n (f ∷ fs)) (omega arith) (keys_at n 0 m (n * 32 + suc m) (f ∷ fs) o (omega arith))),
+        (keys_lower (n * 32 + 0) (n * 32) (n * 32 + suc m) (broken_at n (f ∷ fs)) (omega arith)
+        (keys_at n 0 m (n * 32 + suc m) (f ∷ fs) o (omega arith))),
     tt,
   ),
   le,
@@ -106,7 +110,8 @@ bad_map : {A B : Type 0} (f : A → B) (v : Option A) → IsBad v → IsBad (opt
 bad_map f None h = tt
 bad_map f (Some x) h = absurd h
 
-pub ends_map : {A B : Type 0} (m lo n hi : ℕ) (a : List Broken) (f : A → B) (v : Option A) → Ends m lo n hi a v → Ends m lo n hi a (option_map f v)
+pub ends_map : {A B : Type 0} (m lo n hi : ℕ) (a : List Broken) (f : A → B) (v : Option A) → Ends m lo n hi a v
+    → Ends m lo n hi a (option_map f v)
 ends_map m lo n hi a f v (inl w, le, h) = (inl w, le, h)
 ends_map m lo n hi a f v (inr p, le, h) = (inr (p.0, bad_map f v p.1), le, h)
 
@@ -114,14 +119,17 @@ bad_then : {A B : Type 0} (f : A → Option B) (v : Option A) → IsBad v → Is
 bad_then f None h = tt
 bad_then f (Some x) h = absurd h
 
-pub ends_then : {A B : Type 0} (m lo n hi : ℕ) (a : List Broken) (f : A → Option B) (v : Option A) → Ends m lo n hi a v → Ends m lo n hi a (option_and_then f v)
+pub ends_then : {A B : Type 0} (m lo n hi : ℕ) (a : List Broken) (f : A → Option B) (v : Option A) → Ends m lo n hi a v
+    → Ends m lo n hi a (option_and_then f v)
 ends_then m lo n hi a f v (inl w, le, h) = (inl w, le, h)
 ends_then m lo n hi a f v (inr p, le, h) = (inr (p.0, bad_then f v p.1), le, h)
 
 -- the rules of its place, behind its own: where its value is Bad, only those of later ranks
 pub placed : {A : Type 0} (m lo n hi : ℕ) (a : List Broken) (v : Option A) (rules : Option A → List CheckFault) → m < 23
-    → InOrder (suc m) 23 (rules None) → ((w : Option A) → InOrder 0 23 (rules w)) → Ends m lo n hi a v → Within lo hi (a ++ broken_at n (rules v))
+    → InOrder (suc m) 23 (rules None) → ((w : Option A) → InOrder 0 23 (rules w)) → Ends m lo n hi a v
+    → Within lo hi (a ++ broken_at n (rules v))
 placed m lo n hi a v rules small late order (inl w, le, h) = node_end lo n hi 23 a (rules v) (order v) (omega arith) w h
 placed m lo n hi a None rules small late order (inr p, le, h) =
-    keys_joined (lo * 32) (n * 32 + suc m) (hi * 32) a (broken_at n (rules None)) p.0 (keys_at n (suc m) 23 (hi * 32) (rules None) late (omega (arith, h)))
+    keys_joined (lo * 32) (n * 32 + suc m) (hi * 32) a (broken_at n (rules None)) p.0
+    (keys_at n (suc m) 23 (hi * 32) (rules None) late (omega (arith, h)))
 placed m lo n hi a (Some x) rules small late order (inr p, le, h) = absurd p.1

@@ -1,5 +1,6 @@
 -- What the calls that check show.
-use Rattle.std.specs.Prelude.{◌≡◌, ℕ, ◌<◌, ℤ, Bool, nat_eq, List, [], ◌∷◌, ◌⊎◌, length, Option, None, Some, IsSomeAnd, IsTrue, option_map, option_and_then, Result, Ok, Err, All}
+use Rattle.std.specs.Prelude.{◌≡◌, ℕ, ◌<◌, ℤ, Bool, nat_eq, List, [], ◌∷◌, ◌⊎◌, length, Option, None, Some, IsSomeAnd, IsTrue, option_map}
+use Rattle.std.specs.Prelude.{option_and_then, Result, Ok, Err, All}
 use Rattle.alma_base.specs.declared.fault.CheckFault.{CheckFault}
 use Rattle.alma_base.specs.Numbers.{within}
 use Rattle.alma_scan.specs.Tokens.{Lexeme}

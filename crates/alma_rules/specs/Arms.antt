@@ -16,4 +16,5 @@ arms_judged s n case first rest =
 -- the labels of an arm, behind those of the arms before it
 abbrev pub labels_judged : Scene → ℕ → Option Typing → (earlier : List Span) → tree.Label → tree.LabelTail → Judged (List Span)
 labels_judged s n case earlier first rest =
-    after (judge_label s n case earlier first) (λ x. with cons_span (and_then x (λ m. judge_labels s m case (earlier ++ option_to_list x.value) rest)))
+    after (judge_label s n case earlier first)
+    (λ x. with cons_span (and_then x (λ m. judge_labels s m case (earlier ++ option_to_list x.value) rest)))

@@ -1,5 +1,6 @@
 -- Declarations and headings: the rules broken in them, and what they declare.
-use Rattle.std.specs.Prelude.{ℕ, ◌+◌, ℤ, Bool, true, false, ◌||◌, nat_le, nat_eq, if◌then◌else◌, List, [], ◌∷◌, ◌++◌, set, bytes_eq, Option, None, Some, option_map, option_and_then}
+use Rattle.std.specs.Prelude.{ℕ, ◌+◌, ℤ, Bool, true, false, ◌||◌, nat_le, nat_eq, if◌then◌else◌, List, [], ◌∷◌, ◌++◌, set, bytes_eq, Option}
+use Rattle.std.specs.Prelude.{None, Some, option_map, option_and_then}
 use Rattle.alma_base.specs.declared.fault.CheckFault.{CheckFault}
 use Rattle.alma_base.specs.declared.fault.CheckFault.TheVariants as fault
 use Rattle.alma_base.specs.Choice.{if_true}
@@ -19,10 +20,12 @@ use Rattle.alma_ir.specs.declared.program.ArgKind.TheVariants as kinds
 use Rattle.alma_ir.specs.Tree as ir
 use Rattle.alma_rules.specs.Numbered as tree
 use Rattle.alma_rules.specs.Judged.{Broken, broken_at, unbroken, when, holds}
-use Rattle.alma_rules.specs.Scene.{Scene, FormalOf, Heading, Returns, nothing, a_value, text_at, cells, range, level, is_structured, is_first}
+use Rattle.alma_rules.specs.Scene.{Scene, FormalOf, Heading, Returns, nothing, a_value, text_at, cells, range, level, is_structured}
+use Rattle.alma_rules.specs.Scene.{is_first}
 use Rattle.alma_rules.specs.Parts.{Typing}
 use Rattle.alma_rules.specs.Places.{width, mark_expr, mark_type}
-use Rattle.alma_rules.specs.Types.{Reading, declared, redeclared, all_names, last_token, read_type, read_type_name, read_constant, type_names}
+use Rattle.alma_rules.specs.Types.{Reading, declared, redeclared, all_names, last_token, read_type, read_type_name, read_constant}
+use Rattle.alma_rules.specs.Types.{type_names}
 
 -- ---- the frame of a routine
 
@@ -114,7 +117,8 @@ variables_in f from shape (x ∷ xs) = variables_in (variable_in f from shape x)
 -- variables of one type: the faults at their names stand before those in their type
 abbrev pub variables_of : Frame → tree.VarEntry → Reading ℕ → Frame
 variables_of f x r =
-    with_faults (variables_in (with_scene f r.scene) (last_token x.names.first x.names.more + 3 + width (mark_type x.type_node)) r.value (all_names x.names)) r.faults
+    with_faults (variables_in (with_scene f r.scene) (last_token x.names.first x.names.more + 3 + width (mark_type x.type_node)) r.value
+    (all_names x.names)) r.faults
 
 abbrev pub read_vars : Frame → List tree.VarEntry → Frame
 read_vars f [] = f
@@ -201,7 +205,13 @@ with_routines_of s r (tree.block n decls body) = with_routines s r decls
 -- a new block, with the names that it declares, of which those before its declarations are given
 abbrev pub with_block : Scene → (routine : ℕ) → Returns → List tree.Name → tree.Block → Scene
 with_block s r returns names b =
-    with_routines_of (record s { blocks = with_new_block s.blocks; declares = with_texts s (names ++ block_names b); routine = r; returns = returns }) (r + 1) b
+    with_routines_of (record s {
+      blocks = with_new_block s.blocks;
+      declares = with_texts s (names ++ block_names b);
+      routine = r;
+      returns =
+          returns;
+    }) (r + 1) b
 
 -- ---- headings
 
@@ -242,7 +252,11 @@ with_formal f x = record f { formals = f.formals ++ x ∷ [] }
 
 abbrev pub param_in : Frame → (from : ℕ) → Option Mode → Option ℕ → tree.Name → Frame
 param_in f from mode None name =
-    with_formal (record f { faults = f.faults ++ broken_at name.node (redeclared f.scene name); scene = declared f.scene name from entry.Bad }) None
+    with_formal (record f {
+      faults = f.faults ++ broken_at name.node (redeclared f.scene name);
+      scene =
+          declared f.scene name from entry.Bad;
+    }) None
 param_in f from mode (Some shape) name = with_formal (if_true (is_first f.scene name)
     (λ _. limited name f (with_param f name from mode shape (param_kind (is_structured f.scene shape) mode)))
     (λ _. with_faults f (broken_at name.node (redeclared f.scene name)))) (Some (record { mode = mode; shape = shape }))

@@ -1,6 +1,7 @@
 -- The rules on designators and expressions, and those of each node in the order of CheckFault. A rule that needs a type is not
 -- broken where that type is Bad (None).
-use Rattle.std.specs.Prelude.{ℕ, ℤ, pos, Bool, true, false, ◌&&◌, ◌||◌, not, nat_eq, int_le, List, [], ◌∷◌, ◌++◌, length, is_some, Option, None, Some, option_map}
+use Rattle.std.specs.Prelude.{ℕ, ℤ, pos, Bool, true, false, ◌&&◌, ◌||◌, not, nat_eq, int_le, List, [], ◌∷◌, ◌++◌, length, is_some, Option}
+use Rattle.std.specs.Prelude.{None, Some, option_map}
 use Rattle.alma_base.specs.declared.fault.CheckFault.{CheckFault}
 use Rattle.alma_base.specs.declared.fault.CheckFault.TheVariants as fault
 use Rattle.alma_tree.specs.declared.leaf.Relation.{Relation}
@@ -11,8 +12,10 @@ use Rattle.alma_tree.specs.declared.leaf.Mode.TheVariants as modes
 use Rattle.alma_ir.specs.Tree as ir
 use Rattle.alma_rules.specs.Numbered as tree
 use Rattle.alma_rules.specs.Judged.{when, unless, holds}
-use Rattle.alma_rules.specs.Scene.{Scene, Heading, FormalOf, Found, absent, bad, constant, named, variable, routine, found, base, is_structured, is_record_in, has_integer, has_boolean, are_compatible, row_at}
-use Rattle.alma_rules.specs.Parts.{Typing, Located, Denoted, a_variable, no_array, Callee, Operator, is_logical, Operands, folded, chained, field_of}
+use Rattle.alma_rules.specs.Scene.{Scene, Heading, FormalOf, Found, absent, bad, constant, named, variable, routine, found, base}
+use Rattle.alma_rules.specs.Scene.{is_structured, is_record_in, has_integer, has_boolean, are_compatible, row_at}
+use Rattle.alma_rules.specs.Parts.{Typing, Located, Denoted, a_variable, no_array, Callee, Operator, is_logical, Operands, folded, chained}
+use Rattle.alma_rules.specs.Parts.{field_of}
 use Rattle.std.specs.Prelude.{slice_get}
 
 -- what a phrase asks of a designator
@@ -273,7 +276,8 @@ argument_desig s (tree.desig n name more) = argument_found s (found s name)
 
 -- the designator that an expression exactly is
 abbrev pub exactly : tree.Expr → Option tree.Desig
-exactly (tree.expr n (tree.simple m None (tree.term k (tree.factor i (tree.named j d tree.no_args)) tree.no_factor) tree.no_term) tree.no_relation) = Some d
+exactly (tree.expr n (tree.simple m None (tree.term k (tree.factor i (tree.named j d tree.no_args)) tree.no_factor) tree.no_term)
+    tree.no_relation) = Some d
 exactly e = None
 
 abbrev pub argument_kind_of : Scene → Option tree.Desig → Argument
@@ -299,7 +303,8 @@ other_type f t = not (nat_eq t.shape f.shape)
 abbrev pub argument_rules_of : Scene → FormalOf → Argument → Option Typing → List CheckFault
 argument_rules_of s f of_bad v = []
 argument_rules_of s f of_variable v =
-    when (not (is_some f.mode) && holds (not_fitting s f) v) fault.TypeMismatch ++ when (is_some f.mode && holds (other_type f) v) fault.ModeType
+    when (not (is_some f.mode) && holds (not_fitting s f) v) fault.TypeMismatch
+    ++ when (is_some f.mode && holds (other_type f) v) fault.ModeType
 argument_rules_of s f other v =
     when (not (is_var f.mode) && holds (not_fitting s f) v) fault.TypeMismatch ++ when (is_var f.mode) fault.NotDesignator
 

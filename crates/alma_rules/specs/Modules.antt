@@ -140,7 +140,8 @@ module_frame source tokens m = new_frame (with_block (first_scene source tokens 
 
 abbrev pub judge_module : List ℕ → List Lexeme → tree.Module → Bodied
 judge_module source tokens m =
-    ended (first_scene source tokens m) m.name m.end_name (judge_block (module_frame source tokens m) 1 m.name 0 (m.end_name.token - 1) m.block)
+    ended (first_scene source tokens m) m.name m.end_name
+    (judge_block (module_frame source tokens m) 1 m.name 0 (m.end_name.token - 1) m.block)
 
 -- the variables of the module, in order of declaration
 abbrev pub block_variables : Frame → (r : ℕ) → tree.Block → List ir.Global

@@ -9,9 +9,14 @@ use Rattle.alma_ir.specs.Tree as ir
 use Rattle.alma_rules.specs.Numbered as tree
 use Rattle.alma_rules.specs.Judged.{Judged, fine, of_value, at_node, both, after, with, with_some}
 use Rattle.alma_rules.specs.Scene.{Scene, FormalOf, found, literal_at, range}
-use Rattle.alma_rules.specs.Parts.{plain, a_test, Typing, value_of, test_of, without_place, integer_typing, char_typing, boolean_typing, Located, desig_of, Denoted, denoted, select_index, located_in, Callee, argument_of, called, related, Operator, add_operator, mul_operator, is_logical, Operands, chained, one_stmt, append_stmts, read_stmts, write_stmts, Span, span_of, ranges_of, append_cases}
-use Rattle.alma_rules.specs.ExprRules.{name_rules, index_rules, Operand, alone, operand_rules, chain_rules, call_rules, simple_rules, sequence_rules, relation_rules, constant_rules, test_rules, argument_kind, argument_rules}
-use Rattle.alma_rules.specs.StmtRules.{loop_name_rules, loop_rules, by_rules, case_rules, label_rules, return_rules, read_rules, write_rules}
+use Rattle.alma_rules.specs.Parts.{plain, a_test, Typing, value_of, test_of, without_place, integer_typing, char_typing, boolean_typing}
+use Rattle.alma_rules.specs.Parts.{Located, desig_of, Denoted, denoted, select_index, located_in, Callee, argument_of, called, related}
+use Rattle.alma_rules.specs.Parts.{Operator, add_operator, mul_operator, is_logical, Operands, chained, one_stmt, append_stmts, read_stmts}
+use Rattle.alma_rules.specs.Parts.{write_stmts, Span, span_of, ranges_of, append_cases}
+use Rattle.alma_rules.specs.ExprRules.{name_rules, index_rules, Operand, alone, operand_rules, chain_rules, call_rules, simple_rules}
+use Rattle.alma_rules.specs.ExprRules.{sequence_rules, relation_rules, constant_rules, test_rules, argument_kind, argument_rules}
+use Rattle.alma_rules.specs.StmtRules.{loop_name_rules, loop_rules, by_rules, case_rules, label_rules, return_rules, read_rules}
+use Rattle.alma_rules.specs.StmtRules.{write_rules}
 
 -- ---- what a node makes of its parts
 
@@ -169,7 +174,8 @@ loop_variable s n name =
     at_node name.node (loop_name_rules s (found s name)) (with_some located_in (of_value n (denoted s (found s name))))
 
 abbrev pub loop_of : Scene → ℕ → Located × (Typing × (Typing × (ℤ × ir.Stmts))) → ir.Loop
-loop_of s n p = ir.a_loop (desig_of p.0) (range s p.0.shape) n (n + 1) (value_of p.1.0.meaning) (value_of p.1.1.0.meaning) p.1.1.1.0 p.1.1.1.1
+loop_of s n p = ir.a_loop (desig_of p.0) (range s p.0.shape) n (n + 1) (value_of p.1.0.meaning) (value_of p.1.1.0.meaning) p.1.1.1.0
+    p.1.1.1.1
 
 abbrev pub loop_at : Scene → ℕ → ℕ → Judged Located → Judged Typing → Judged Typing → Judged ℤ → Judged ir.Stmts → Judged ir.Loop
 loop_at s n k var low high by body =
@@ -222,7 +228,8 @@ with_line xs = append_stmts xs (one_stmt ir.WriteLine)
 
 -- a literal that is a whole item of WRITE, and not of length 1: its node and token
 abbrev pub item_literal : tree.Expr → Option (ℕ × ℕ)
-item_literal (tree.expr n (tree.simple m None (tree.term k (tree.factor i (tree.literal j t)) tree.no_factor) tree.no_term) tree.no_relation) = Some (j, t)
+item_literal (tree.expr n (tree.simple m None (tree.term k (tree.factor i (tree.literal j t)) tree.no_factor) tree.no_term)
+    tree.no_relation) = Some (j, t)
 item_literal e = None
 
 abbrev pub text_rules : {A : Type 0} → Scene → Option A → List CheckFault

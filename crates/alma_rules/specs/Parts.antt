@@ -1,5 +1,6 @@
 -- What the phrases of a source stand for in the resolved program.
-use Rattle.std.specs.Prelude.{ℕ, ℤ, neg_ℤ, ◌+ℤ◌, ◌-ℤ◌, ◌*ℤ◌, Bool, true, false, if◌then◌else◌, List, [], ◌∷◌, Option, None, Some, option_map, option_and_then}
+use Rattle.std.specs.Prelude.{ℕ, ℤ, neg_ℤ, ◌+ℤ◌, ◌-ℤ◌, ◌*ℤ◌, Bool, true, false, if◌then◌else◌, List, [], ◌∷◌, Option, None, Some}
+use Rattle.std.specs.Prelude.{option_map, option_and_then}
 use Rattle.alma_base.specs.Choice.{if_true}
 use Rattle.alma_base.specs.Numbers.{is_integer, is_zero, div_down_of, mod_down_of, whole_range}
 use Rattle.alma_base.specs.declared.number.Range.{Range}
@@ -25,7 +26,8 @@ use Rattle.alma_ir.specs.declared.phrase.ReadAs.TheVariants as reads
 use Rattle.alma_ir.specs.declared.phrase.WriteAs.{WriteAs}
 use Rattle.alma_ir.specs.declared.phrase.WriteAs.TheVariants as writes
 use Rattle.alma_ir.specs.Tree as ir
-use Rattle.alma_rules.specs.Scene.{Scene, Heading, FormalOf, Found, absent, bad, constant, named, variable, routine, base, cells, range, is_structured, has_integer, has_char, row_at}
+use Rattle.alma_rules.specs.Scene.{Scene, Heading, FormalOf, Found, absent, bad, constant, named, variable, routine, base, cells, range}
+use Rattle.alma_rules.specs.Scene.{is_structured, has_integer, has_char, row_at}
 
 -- ---- expressions
 
@@ -117,7 +119,13 @@ select_field s name d = Some d
 -- the element of an index
 abbrev pub element_part : Scene → Located → ℕ × ℕ → Typing → Denoted
 element_part s l r i =
-    a_variable (record { shape = r.1; root = l.root; cells = l.cells; sels = with_sel l.sels (ir.Index (value_of i.meaning) (range s r.0) (cells s r.1)) })
+    a_variable (record {
+      shape = r.1;
+      root = l.root;
+      cells = l.cells;
+      sels =
+          with_sel l.sels (ir.Index (value_of i.meaning) (range s r.0) (cells s r.1));
+    })
 
 abbrev pub select_in : Scene → Located → Option (ℕ × ℕ) → Option Typing → Option Denoted
 select_in s l None i = Some no_array

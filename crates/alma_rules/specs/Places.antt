@@ -90,9 +90,11 @@ unfoldable mutual
   mark_stmt (tree.while_stmt n e body) = whole n (statement >> token >> mark_expr e >> token >> mark_stmts body >> token)
   mark_stmt (tree.repeat_stmt n body e) = whole n (statement >> token >> mark_stmts body >> token >> mark_expr e)
   mark_stmt (tree.for_stmt n name low high by body) =
-      whole n (statement >> token >> mark_name name >> token >> mark_expr low >> token >> mark_expr high >> mark_by by >> token >> mark_stmts body >> token)
+      whole n (statement >> token >> mark_name name >> token >> mark_expr low >> token >> mark_expr high >> mark_by by >> token >>
+      mark_stmts body >> token)
   mark_stmt (tree.some_stmt n name low high body) =
-      whole n (statement >> token >> mark_name name >> token >> mark_expr low >> token >> mark_expr high >> token >> mark_stmts body >> token)
+      whole n (statement >> token >> mark_name name >> token >> mark_expr low >> token >> mark_expr high >> token >> mark_stmts body >>
+      token)
   mark_stmt (tree.case_stmt n e first rest other) =
       whole n (statement >> token >> mark_expr e >> token >> mark_arm first >> mark_arms rest >> mark_else other >> token)
   mark_stmt (tree.either_stmt n body rest) = whole n (statement >> token >> mark_stmts body >> mark_orelses rest >> token)
@@ -317,7 +319,8 @@ unfoldable mutual
   mark_decl (tree.type_decl n xs) = whole n (token >> mark_type_entries xs)
   mark_decl (tree.var_decl n xs) = whole n (token >> mark_vars xs)
   mark_decl (tree.procedure n name params result b end_name) =
-      whole n (token >> mark_name name >> mark_params params >> mark_result result >> token >> mark_block b >> token >> mark_name end_name >> token)
+      whole n (token >> mark_name name >> mark_params params >> mark_result result >> token >> mark_block b >> token >> mark_name end_name
+      >> token)
 
 abbrev pub mark_module : tree.Module → Step
 mark_module m = whole m.node (token >> mark_name m.name >> token >> mark_block m.block >> token >> mark_name m.end_name >> token)

@@ -39,7 +39,8 @@ unfoldable mutual
   rise_stmt (tree.if_stmt n e body elsifs other) = node n (rise_expr e >> rise_stmts body >> rise_elsifs elsifs >> rise_else other)
   rise_stmt (tree.while_stmt n e body) = node n (rise_expr e >> rise_stmts body)
   rise_stmt (tree.repeat_stmt n body e) = node n (rise_stmts body >> rise_expr e)
-  rise_stmt (tree.for_stmt n name low high by body) = node n (rise_name name >> rise_expr low >> rise_expr high >> rise_by by >> rise_stmts body)
+  rise_stmt (tree.for_stmt n name low high by body) =
+      node n (rise_name name >> rise_expr low >> rise_expr high >> rise_by by >> rise_stmts body)
   rise_stmt (tree.some_stmt n name low high body) = node n (rise_name name >> rise_expr low >> rise_expr high >> rise_stmts body)
   rise_stmt (tree.case_stmt n e first rest other) = node n (rise_expr e >> rise_arm first >> rise_arms rest >> rise_else other)
   rise_stmt (tree.either_stmt n body rest) = node n (rise_stmts body >> rise_orelses rest)
@@ -241,7 +242,8 @@ unfoldable mutual
   rise_decl (tree.const_decl n xs) = node n (rise_consts xs)
   rise_decl (tree.type_decl n xs) = node n (rise_type_entries xs)
   rise_decl (tree.var_decl n xs) = node n (rise_vars xs)
-  rise_decl (tree.procedure n name params result b end_name) = node n (rise_name name >> rise_params params >> rise_result result >> rise_block b >> rise_name end_name)
+  rise_decl (tree.procedure n name params result b end_name) =
+      node n (rise_name name >> rise_params params >> rise_result result >> rise_block b >> rise_name end_name)
 
 abbrev pub rise_module : tree.Module → Rise
 rise_module m = node m.node (rise_name m.name >> rise_block m.block >> rise_name m.end_name)

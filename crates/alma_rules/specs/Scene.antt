@@ -1,5 +1,6 @@
 -- Where a phrase stands: the tokens, the declarations that are visible there, the shapes of their types, and the routine round it.
-use Rattle.std.specs.Prelude.{ℕ, ◌+◌, ◌-◌, ℤ, pos, Bool, true, false, not, nat_eq, if◌then◌else◌, List, [], ◌∷◌, length, drop, take, slice_get, get_or, bytes_eq, option_and_then, unwrap_or, Option, None, Some, is_some}
+use Rattle.std.specs.Prelude.{ℕ, ◌+◌, ◌-◌, ℤ, pos, Bool, true, false, not, nat_eq, if◌then◌else◌, List, [], ◌∷◌, length, drop, take}
+use Rattle.std.specs.Prelude.{slice_get, get_or, bytes_eq, option_and_then, unwrap_or, Option, None, Some, is_some}
 use Rattle.std.specs.Str.Parse.{digits_value}
 use Rattle.alma_base.specs.declared.number.Range.{Range}
 use Rattle.alma_base.specs.Numbers.{whole_range}

@@ -5,7 +5,8 @@ use Rattle.alma_base.specs.declared.fault.CheckFault.TheVariants as fault
 use Rattle.alma_base.specs.declared.number.Range.{Range}
 use Rattle.alma_base.specs.Numbers.{is_zero}
 use Rattle.alma_rules.specs.Judged.{when, holds, both_of}
-use Rattle.alma_rules.specs.Scene.{Scene, Returns, nothing, a_value, Found, absent, bad, variable, routine, base, is_structured, has_integer, has_char, has_boolean, are_compatible}
+use Rattle.alma_rules.specs.Scene.{Scene, Returns, nothing, a_value, Found, absent, bad, variable, routine, base, is_structured}
+use Rattle.alma_rules.specs.Scene.{has_integer, has_char, has_boolean, are_compatible}
 use Rattle.alma_rules.specs.Parts.{Typing, Located, Span}
 use Rattle.alma_rules.specs.ExprRules.{undeclared, no_integer, structured}
 
@@ -84,7 +85,8 @@ shares_with earlier (Some x) = shares_value x earlier
 abbrev pub label_twice : Scene → List Span → (Typing × Typing → Option Span) → Typing × Typing → Bool
 label_twice s earlier span p = ends_with s p && not (is_above p.0.constant p.1.constant) && shares_with earlier (span p)
 
-abbrev pub label_rules : {A : Type 0} → Scene → Option Typing → List Span → (Typing × Typing → Option Span) → Option Typing → Option Typing → Option A → List CheckFault
+abbrev pub label_rules : {A : Type 0} → Scene → Option Typing → List Span → (Typing × Typing → Option Span) → Option Typing → Option Typing
+    → Option A → List CheckFault
 label_rules s case earlier span low high v =
     when (holds (other_label s low high) case) fault.TypeMismatch
     ++ when (holds (low_above_high s) (both_of low high)) fault.ConstRange

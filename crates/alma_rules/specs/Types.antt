@@ -1,5 +1,6 @@
 -- Types: the rules broken in a type expression, the names and shapes that it declares, and its shape.
-use Rattle.std.specs.Prelude.{ℕ, ◌+◌, ℤ, pos, Bool, true, false, ◌&&◌, ◌||◌, not, nat_eq, if◌then◌else◌, List, [], ◌∷◌, ◌++◌, length, bytes_eq, Option, None, Some, option_map}
+use Rattle.std.specs.Prelude.{ℕ, ◌+◌, ℤ, pos, Bool, true, false, ◌&&◌, ◌||◌, not, nat_eq, if◌then◌else◌, List, [], ◌∷◌, ◌++◌, length}
+use Rattle.std.specs.Prelude.{bytes_eq, Option, None, Some, option_map}
 use Rattle.alma_base.specs.declared.fault.CheckFault.{CheckFault}
 use Rattle.alma_base.specs.declared.fault.CheckFault.TheVariants as fault
 use Rattle.alma_base.specs.Choice.{if_true}
@@ -60,7 +61,10 @@ read_constant s e = reading_of s (judge_expr (in_constant s) 0 e)
 -- the scene with a name, visible from a token on, where it is the first of its name in its block
 abbrev pub declared : Scene → tree.Name → (from : ℕ) → Entry → Scene
 declared s name from e =
-    if is_first s name then record s { blocks = with_declared s.blocks (record { name = text_at s name.token; from = from; entry = e }) } else s
+    if is_first s name then record s {
+      blocks =
+          with_declared s.blocks (record { name = text_at s name.token; from = from; entry = e });
+    } else s
 
 -- Redeclared: a Name in a declaration whose block declares it earlier in the text
 abbrev pub redeclared : Scene → tree.Name → List CheckFault
@@ -243,7 +247,8 @@ unfoldable mutual
       reading_with joined_indices (reading_then (read_dimensions s d) (λ i. read_dimension_tail i rest))
 
   pub read_dimensions : Scene → tree.Dimensions → Reading (List ℕ)
-  read_dimensions s (tree.dimensions p rest) = reading_with cons_index (reading_then (index_at p (read_plain s p)) (λ i. read_plains i rest))
+  read_dimensions s (tree.dimensions p rest) =
+      reading_with cons_index (reading_then (index_at p (read_plain s p)) (λ i. read_plains i rest))
 
   pub read_plains : Scene → tree.PlainTail → Reading (List ℕ)
   read_plains s tree.no_plain = gives s []
@@ -255,7 +260,8 @@ unfoldable mutual
   read_plain s (tree.subrange n low high) =
       reading_change subrange_of (reading_at n (subrange_rules s) (reading_then (read_constant s low) (λ i. read_constant i high)))
   read_plain s (tree.record_type n first rest) =
-      reading_change record_of (reading_with joined_fields (reading_then (read_fields s [] first) (λ i. read_field_tail i (field_names first) rest)))
+      reading_change record_of (reading_with joined_fields
+      (reading_then (read_fields s [] first) (λ i. read_field_tail i (field_names first) rest)))
 
   -- fields, behind those with these names
   pub read_fields : Scene → (earlier : List tree.Name) → tree.FieldList → Reading (List PlainField)

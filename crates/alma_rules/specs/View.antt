@@ -304,7 +304,8 @@ dimensions_of (d ∷ rest) = tree.more_dimensions (view_dimension d) (dimensions
 
 abbrev pub arrays_of : Option dz.Arrays → tree.Arrays
 arrays_of None = tree.no_arrays
-arrays_of (Some a) = tree.arrays (dz.out-Arrays a).node (view_dimension (dz.out-Arrays a).first) (dimensions_of (dz.out-Arrays a).more.items)
+arrays_of (Some a) = tree.arrays (dz.out-Arrays a).node (view_dimension (dz.out-Arrays a).first)
+    (dimensions_of (dz.out-Arrays a).more.items)
 
 -- ---- declarations and the module
 

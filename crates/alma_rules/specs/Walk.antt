@@ -5,10 +5,16 @@ use Rattle.alma_ir.specs.Tree as ir
 use Rattle.alma_rules.specs.Numbered as tree
 use Rattle.alma_rules.specs.Judged.{Judged, fine, at_node, and_then, after, with, with_some}
 use Rattle.alma_rules.specs.Scene.{Scene, FormalOf, in_constant, inside_of, found, text_at, literal_at, number_at}
-use Rattle.alma_rules.specs.Parts.{Typing, integer_typing, Denoted, select_field, located_in, typing_in, callee_in, add_operator, mul_operator, Operands, joined_stmts, assigned, Span}
-use Rattle.alma_rules.specs.ExprRules.{Use, as_variable, as_value, as_procedure, desig_rules, field_rules, array_rules, Operand, operand_rules, not_rules, literal_rules, simple_rules, known_rules, chr_rules, test_rules}
+use Rattle.alma_rules.specs.Parts.{Typing, integer_typing, Denoted, select_field, located_in, typing_in, callee_in, add_operator}
+use Rattle.alma_rules.specs.Parts.{mul_operator, Operands, joined_stmts, assigned, Span}
+use Rattle.alma_rules.specs.ExprRules.{Use, as_variable, as_value, as_procedure, desig_rules, field_rules, array_rules, Operand}
+use Rattle.alma_rules.specs.ExprRules.{operand_rules, not_rules, literal_rules, simple_rules, known_rules, chr_rules, test_rules}
 use Rattle.alma_rules.specs.StmtRules.{assign_rules}
-use Rattle.alma_rules.specs.Nodes.{judge_name, is_selected, indexed, literal_typing, in_parens, as_sequence, or_sequence, only_of, known_typing, ord_typing, chr_typing, not_typing, formals_of, argument_count, called_at, judged_argument, cons_arg, cons_operand, operand_behind, first_add, first_mul, sum_at, product_at, relation_at, condition_at, step_at, one, if_of, arms_of, loop_variable, loop_at, label_at, cons_span, Armed, armed, joined_cases, case_at, read_at, return_at, bare_return_at, with_line, item_literal, item_of}
+use Rattle.alma_rules.specs.Nodes.{judge_name, is_selected, indexed, literal_typing, in_parens, as_sequence, or_sequence, only_of}
+use Rattle.alma_rules.specs.Nodes.{known_typing, ord_typing, chr_typing, not_typing, formals_of, argument_count, called_at, judged_argument}
+use Rattle.alma_rules.specs.Nodes.{cons_arg, cons_operand, operand_behind, first_add, first_mul, sum_at, product_at, relation_at}
+use Rattle.alma_rules.specs.Nodes.{condition_at, step_at, one, if_of, arms_of, loop_variable, loop_at, label_at, cons_span, Armed, armed}
+use Rattle.alma_rules.specs.Nodes.{joined_cases, case_at, read_at, return_at, bare_return_at, with_line, item_literal, item_of}
 
 unfoldable mutual
   -- ---- statements
@@ -23,7 +29,8 @@ unfoldable mutual
   pub judge_stmt : Scene → ℕ → tree.Stmt → Judged ir.Stmts
   judge_stmt s n (tree.nothing k) = fine n ir.no_stmts
   judge_stmt s n (tree.assign k d e) =
-      with (assigned s) (at_node k (assign_rules s) (and_then (with_some located_in (judge_desig s n as_variable d)) (λ m. judge_expr s m e)))
+      with (assigned s) (at_node k (assign_rules s)
+      (and_then (with_some located_in (judge_desig s n as_variable d)) (λ m. judge_expr s m e)))
   judge_stmt s n (tree.value k e) = one (with ir.TestStmt (condition_at s e (judge_expr s n e)))
   judge_stmt s n (tree.if_stmt k e body elsifs other) =
       one (with if_of (and_then (condition_at s e (judge_expr s n e))
@@ -145,7 +152,8 @@ unfoldable mutual
   pub judge_terms : Scene → ℕ → (sort : Bool) → tree.TermTail → Judged Operands
   judge_terms s n sort tree.no_term = fine n []
   judge_terms s n sort (tree.more_term o t rest) =
-      with (cons_operand (add_operator o)) (and_then (judge_term s n (operand_behind sort (add_operator o)) t) (λ m. judge_terms s m sort rest))
+      with (cons_operand (add_operator o)) (and_then (judge_term s n (operand_behind sort (add_operator o)) t)
+      (λ m. judge_terms s m sort rest))
 
   pub judge_term : Scene → ℕ → Operand → tree.Term → Judged Typing
   judge_term s n o (tree.term k first rest) =
@@ -154,7 +162,8 @@ unfoldable mutual
   pub judge_factors : Scene → ℕ → (sort : Bool) → tree.FactorTail → Judged Operands
   judge_factors s n sort tree.no_factor = fine n []
   judge_factors s n sort (tree.more_factor o f rest) =
-      with (cons_operand (mul_operator o)) (and_then (judge_factor s n (operand_behind sort (mul_operator o)) f) (λ m. judge_factors s m sort rest))
+      with (cons_operand (mul_operator o)) (and_then (judge_factor s n (operand_behind sort (mul_operator o)) f)
+      (λ m. judge_factors s m sort rest))
 
   pub judge_factor : Scene → ℕ → Operand → tree.Factor → Judged Typing
   judge_factor s n o (tree.not_factor k p) =
@@ -187,12 +196,14 @@ unfoldable mutual
   -- arguments with the formals of their places, as far as there are any
   pub judge_arguments : Scene → ℕ → List FormalOf → tree.Exprs → Judged ir.Args
   judge_arguments s n formals (tree.exprs e rest) =
-      with cons_arg (and_then (judged_argument s (slice_get formals 0) e (judge_expr s n e)) (λ m. judge_argument_tail s m (drop 1 formals) rest))
+      with cons_arg (and_then (judged_argument s (slice_get formals 0) e (judge_expr s n e))
+      (λ m. judge_argument_tail s m (drop 1 formals) rest))
 
   pub judge_argument_tail : Scene → ℕ → List FormalOf → tree.ExprTail → Judged ir.Args
   judge_argument_tail s n formals tree.no_expr = fine n ir.no_args
   judge_argument_tail s n formals (tree.more_expr e rest) =
-      with cons_arg (and_then (judged_argument s (slice_get formals 0) e (judge_expr s n e)) (λ m. judge_argument_tail s m (drop 1 formals) rest))
+      with cons_arg (and_then (judged_argument s (slice_get formals 0) e (judge_expr s n e))
+      (λ m. judge_argument_tail s m (drop 1 formals) rest))
 
   -- ---- designators
 
@@ -206,7 +217,8 @@ unfoldable mutual
   judge_selectors s d (tree.more_selector x rest) = judge_selectors s (judge_selector s d x) rest
 
   pub judge_selector : Scene → Judged Denoted → tree.Selector → Judged Denoted
-  judge_selector s d (tree.field k name) = with_some (select_field s (text_at s name.token)) (at_node k (field_rules s (text_at s name.token)) d)
+  judge_selector s d (tree.field k name) =
+      with_some (select_field s (text_at s name.token)) (at_node k (field_rules s (text_at s name.token)) d)
   judge_selector s d (tree.index k items) = at_node k array_rules (judge_indices s d items)
 
   pub judge_indices : Scene → Judged Denoted → tree.Exprs → Judged Denoted

@@ -12,5 +12,7 @@ pub returns : goal.returns
 returns c = λ source tokens m p t e limits routine_limits.
     let stand = numbered_stands m _ t.numbered in
     let x = numbered.view_module m in
-    fits_checked p (program_keeps_frames source tokens x p stand e) (program_has_globals source tokens x p stand e) (program_fits source tokens x p stand e)
-    (program_lines source tokens x p (program_keeps_frames source tokens x p stand e) e) (tree_named source tokens m p t e) limits routine_limits
+    fits_checked p (program_keeps_frames source tokens x p stand e) (program_has_globals source tokens x p stand e)
+    (program_fits source tokens x p stand e)
+    (program_lines source tokens x p (program_keeps_frames source tokens x p stand e) e) (tree_named source tokens m p t e) limits
+    routine_limits

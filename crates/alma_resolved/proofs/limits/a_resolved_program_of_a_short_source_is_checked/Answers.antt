@@ -15,5 +15,6 @@ returns c = λ source tokens m p short t e.
     let x = numbered.view_module m in
     let frames = program_keeps_frames source tokens x p stand e in
     let fits = program_fits source tokens x p stand e in
-    fits_checked p frames (program_has_globals source tokens x p stand e) fits (program_lines source tokens x p frames e) (tree_named source tokens m p t e) (program_keeps_limits source tokens m p short t e)
+    fits_checked p frames (program_has_globals source tokens x p stand e) fits (program_lines source tokens x p frames e)
+    (tree_named source tokens m p t e) (program_keeps_limits source tokens m p short t e)
     (program_keeps_slots source tokens m p short t e fits)

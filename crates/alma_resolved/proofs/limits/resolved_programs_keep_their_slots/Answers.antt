@@ -6,4 +6,5 @@ use Rattle.alma_resolved.proofs.limits.resolved_programs_keep_their_slots.Goals 
 
 pub returns : goal.returns
 returns c = λ source tokens m p short t e.
-    program_keeps_slots source tokens m p short t e (program_fits source tokens (numbered.view_module m) p (numbered_stands m _ t.numbered) e)
+    program_keeps_slots source tokens m p short t e
+    (program_fits source tokens (numbered.view_module m) p (numbered_stands m _ t.numbered) e)
