@@ -1,6 +1,6 @@
 -- The slot into which an expression puts its value by its last instruction: the first slot of the expression, or a variable
 -- of the routine.
-use Rattle.std.proofs.Common.{◌≡◌, ℕ, suc, ◌+◌, ◌<◌, ◌≤◌, true, List, Some, refl, sym, subst, arith, ℤ}
+use Rattle.std.proofs.Common.{◌≡◌, ℕ, suc, ◌+◌, ◌≤◌, true, List, Some, refl, sym, subst, arith, ℤ}
 use Rattle.std.specs.Prelude.{slice_get}
 use Rattle.alma_base.specs.Numbers.{is_integer}
 use Rattle.alma_code.specs.declared.cell.Cell.TheVariants as cell
@@ -9,7 +9,7 @@ use Rattle.alma_code.specs.Picture.{PlainFrame, PlainEntry}
 use Rattle.alma_code.specs.Plain.{PlainCode, kinds_at}
 use Rattle.alma_code.specs.Machine.{State}
 use Rattle.alma_ir.specs.Tree.{Program}
-use Rattle.alma_mean.specs.Store.{Store, Number, top, put_top}
+use Rattle.alma_mean.specs.Store.{Store, Number, put_top}
 use Rattle.alma_mean.specs.Events.{Events, one, bind}
 use Rattle.alma_lower_implements.proofs.Goes.{before, bind_goes, one_goes}
 use Rattle.alma_lower_implements.proofs.Frames.{shift, own_end, IsAt}

@@ -1,5 +1,5 @@
 -- The forms of expressions, from template to run: constants, variables, sums, comparisons, KNOWN and CHR.
-use Rattle.std.proofs.Common.{◌≡◌, ℕ, ◌+◌, ◌<◌, ◌≤◌, Bool, true, false, not, List, [], ◌∷◌, ◌++◌, ◌⊎◌, inl, length, Option, Some, None, refl, sym, ap, ◌∙◌, subst, arith, ℤ, pos, append_assoc}
+use Rattle.std.proofs.Common.{◌≡◌, ℕ, ◌+◌, ◌<◌, ◌≤◌, Bool, true, false, not, List, [], ◌∷◌, ◌++◌, inl, length, Option, Some, None, refl, sym, ap, ◌∙◌, subst, arith, ℤ, pos, append_assoc}
 use Rattle.std.specs.Prelude.{slice_get}
 use Rattle.std.proofs.lemmas.List.{length-append}
 use Rattle.alma_base.specs.declared.fault.RunFault.TheVariants as fault

@@ -1,6 +1,6 @@
 -- A first operand that stays in its own slot: a variable of the routine, where the next operand is one too or a constant. It is
 -- read by the instruction that takes both, and where it is unknown that instruction faults, whatever the next operand is.
-use Rattle.std.proofs.Common.{◌≡◌, ℕ, suc, ◌+◌, ◌<◌, ◌≤◌, Bool, true, false, List, [], ◌∷◌, ◌⊎◌, inl, inr, length, Option, Some, None, refl, sym, ap, ◌∙◌, subst, arith, ℤ}
+use Rattle.std.proofs.Common.{◌≡◌, ℕ, suc, ◌+◌, ◌≤◌, Bool, true, false, List, ◌⊎◌, inl, inr, length, Option, Some, None, refl, sym, ap, ◌∙◌, subst, arith, ℤ}
 use Rattle.std.specs.Prelude.{slice_get}
 use Rattle.alma_base.specs.declared.fault.RunFault.TheVariants as fault
 use Rattle.alma_base.specs.Numbers.{is_integer}
@@ -24,7 +24,6 @@ use Rattle.alma_lower_implements.proofs.ExprRows.{AreVariables}
 use Rattle.alma_lower_implements.proofs.ForSteps.{SlotThere, a_number, not_known, slot_there, number_there}
 use Rattle.alma_lower_implements.proofs.Steps.{top_written, Holds, Faults, InstrAt, const_step}
 use Rattle.alma_lower_implements.proofs.Ways.{Ways, Leaves}
-use Rattle.alma_lower_templates.specs.Lined.{Lined}
 use Rattle.alma_lower_templates.specs.Tables.{Tables}
 use Rattle.alma_lower_templates.specs.Slots.{bare, bare_desig, is_given, is_ready, if_ready, stays_by, stays, stays_in, unless_bare}
 use Rattle.alma_lower_templates.specs.Templates.{expr_code, value_at}

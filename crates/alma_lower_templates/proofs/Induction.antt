@@ -8,7 +8,6 @@ use Rattle.alma_code.specs.declared.cell.SlotKind.{SlotKind}
 use Rattle.alma_code.specs.declared.cell.SlotKind.TheVariants as slot
 use Rattle.alma_code.specs.declared.head.Run.{Run}
 use Rattle.alma_code.specs.Layout.{kinds_of}
-use Rattle.alma_code.specs.Picture.{PlainFrame}
 use Rattle.alma_code.specs.Plain.{PlainCode, kinds_at}
 use Rattle.alma_ir.specs.declared.phrase.Cmp.{Cmp}
 use Rattle.alma_ir.specs.declared.phrase.Cmp.TheVariants as cmp
@@ -26,7 +25,7 @@ use Rattle.alma_ir.specs.Phrases.{Phrase, StmtPhrase, DesigPhrase, stmts_phrases
 use Rattle.alma_mean.specs.Meaning.{Level, level_above, ev_desig, ev_stmt, ev_stmts, ev_test}
 use Rattle.alma_mean.specs.Events.{Events, NoYield, Visit, one, bind, on_first}
 use Rattle.alma_mean.specs.Rows.{while_turn, repeat_turn}
-use Rattle.alma_lower_implements.proofs.Ways.{Ways, Later, visited_later}
+use Rattle.alma_lower_implements.proofs.Ways.{Later, visited_later}
 use Rattle.alma_lower_templates.specs.Stands.{Stands}
 use Rattle.alma_base.specs.Limits.{input_limit}
 use Rattle.alma_lower_implements.proofs.Frames.{shift, own_end, HasSlots}
@@ -59,7 +58,7 @@ use Rattle.alma_lower_templates.proofs.GuardedForms.{Decided, ArmsRun, no_arms_r
 use Rattle.alma_lower_templates.proofs.Levels.{Below, ForTurns, SomeTurns, owes_less}
 use Rattle.alma_lower_templates.proofs.ReadForms.{read_runs}
 use Rattle.alma_lower_templates.proofs.Returning.{return_runs, return_value_runs}
-use Rattle.alma_lower_templates.proofs.Parts.{NodeFor, RunsFor, ValueIn, PlaceIn, leaving, ending, as_statement}
+use Rattle.alma_lower_templates.proofs.Parts.{NodeFor, RunsFor, PlaceIn, ending, as_statement}
 use Rattle.alma_lower_templates.proofs.LoopForms.{truth_runs, TurnsRun, while_exit, repeat_exit, while_turn_runs, while_runs, repeat_turn_runs, repeat_runs}
 use Rattle.alma_lower_templates.proofs.RangeChecks.{chr_runs}
 use Rattle.alma_lower_templates.proofs.RootForms.{RootFits, IsParam}

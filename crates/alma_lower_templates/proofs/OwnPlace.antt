@@ -1,6 +1,6 @@
 -- A parameter whose place is used in its own slot: where it holds none yet, the instruction that uses it faults, and the
 -- fault is the one that the meaning tells.
-use Rattle.std.proofs.Common.{◌≡◌, ℕ, ◌+◌, ◌-◌, ◌<◌, ◌≤◌, List, length, get_or, Some, None, Option, refl, sym, ap, ◌∙◌, subst, arith}
+use Rattle.std.proofs.Common.{◌≡◌, ℕ, ◌+◌, ◌-◌, ◌<◌, List, length, get_or, Some, None, Option, sym, ap, ◌∙◌, subst, arith}
 use Rattle.std.specs.Prelude.{slice_get}
 use Rattle.alma_base.specs.declared.fault.RunFault.TheVariants as fault
 use Rattle.alma_code.specs.declared.cell.Cell.TheVariants as cell
@@ -22,7 +22,6 @@ use Rattle.alma_lower_implements.proofs.Goes.{weaker}
 use Rattle.alma_lower_implements.proofs.Frames.{shift, shift_in, IsAt}
 use Rattle.alma_lower_implements.proofs.Steps.{Holds, Faults, passed, faults_now}
 use Rattle.alma_lower_implements.proofs.Ways.{Ways, Leaves}
-use Rattle.alma_lower_templates.specs.Tables.{Tables}
 use Rattle.alma_lower_templates.specs.Slots.{own_place}
 use Rattle.alma_lower_templates.proofs.Parts.{Begins, IsPlace, From, alone_from, faults_here}
 use Rattle.alma_lower_templates.proofs.RootForms.{HeldIs, a_place, no_place, held_is, IsParam}
