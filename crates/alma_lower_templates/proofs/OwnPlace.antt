@@ -1,6 +1,6 @@
 -- A parameter whose place is used in its own slot: where it holds none yet, the instruction that uses it faults, and the
 -- fault is the one that the meaning tells.
-use Rattle.std.proofs.Common.{◌≡◌, ℕ, ◌+◌, ◌-◌, ◌<◌, List, length, get_or, Some, None, Option, sym, ap, ◌∙◌, subst, arith}
+use Rattle.std.proofs.Common.{◌≡◌, ℕ, ◌+◌, ◌-◌, ◌<◌, List, length, get_or, Some, None, Option, sym, ap, ◌∙◌, subst, arith, Bool, true, false}
 use Rattle.std.specs.Prelude.{slice_get}
 use Rattle.alma_base.specs.declared.fault.RunFault.TheVariants as fault
 use Rattle.alma_code.specs.declared.cell.Cell.TheVariants as cell
@@ -11,8 +11,9 @@ use Rattle.alma_code.specs.Picture.{PlainFrame, PlainEntry, last_frame}
 use Rattle.alma_code.specs.Picture as picture
 use Rattle.alma_code.specs.Plain.{PlainCode, kinds_at}
 use Rattle.alma_code.specs.Machine.{State, Stepped, step, as_place, place}
+use Rattle.alma_ir.specs.declared.phrase.Root.{Root}
 use Rattle.alma_ir.specs.declared.phrase.Root.TheVariants as root
-use Rattle.alma_ir.specs.Tree.{Program, Desig, a_desig, no_sels, more_sels}
+use Rattle.alma_ir.specs.Tree.{Program, Desig, Sels, a_desig, no_sels, more_sels, Field, Index}
 use Rattle.alma_mean.specs.Store.{Store, Place, Unknown, At, top, top_cell}
 use Rattle.alma_mean.specs.Store as store
 use Rattle.alma_mean.specs.Events.{Events, Fail, Fault, one, join, bind, node}
@@ -22,7 +23,7 @@ use Rattle.alma_lower_implements.proofs.Goes.{weaker}
 use Rattle.alma_lower_implements.proofs.Frames.{shift, shift_in, IsAt}
 use Rattle.alma_lower_implements.proofs.Steps.{Holds, Faults, passed, faults_now}
 use Rattle.alma_lower_implements.proofs.Ways.{Ways, Leaves}
-use Rattle.alma_lower_templates.specs.Slots.{own_place}
+use Rattle.alma_lower_templates.specs.Slots.{is_ready, if_ready, own_place, own_root}
 use Rattle.alma_lower_templates.proofs.Parts.{Begins, IsPlace, From, alone_from, faults_here}
 use Rattle.alma_lower_templates.proofs.RootForms.{HeldIs, a_place, no_place, held_is, IsParam}
 
@@ -34,6 +35,20 @@ own_place_is (a_desig (root.Local n) cells sels) from e = absurd (cc)
 own_place_is (a_desig (root.Global n) cells sels) from e = absurd (cc)
 own_place_is (a_desig (root.Outer links n) cells sels) from e = absurd (cc)
 own_place_is (a_desig (root.OuterParam links n) cells sels) from e = absurd (cc)
+
+-- and the root of one whose first part is taken there
+pub own_root_is : (x : Root) (sels : Sels) (from : ℕ) → own_root x sels ≡ Some from → x ≡ root.Param from
+own_root_is (root.Param n) no_sels from e = absurd (cc)
+own_root_is (root.Param n) (more_sels (Field offset cells) rest) from e = let same : n ≡ from = cc in ap root.Param same
+own_root_is (root.Param n) (more_sels (Index x range cells) rest) from e = by (is_ready x) e
+  where
+    by : (z : Bool) → if_ready z n ≡ Some from → root.Param n ≡ root.Param from
+    by true h = let same : n ≡ from = cc in ap root.Param same
+    by false h = absurd (cc)
+own_root_is (root.Local n) sels from e = absurd (cc)
+own_root_is (root.Global n) sels from e = absurd (cc)
+own_root_is (root.Outer links n) sels from e = absurd (cc)
+own_root_is (root.OuterParam links n) sels from e = absurd (cc)
 
 module _ (code : PlainCode) (input : List ℕ) where
   -- the instruction at an address begins by reading a place

@@ -1,9 +1,8 @@
 -- Statements without parts that are statements, from template to run: assignment and WRITE; and the value of an expression
 -- as a test.
 use Rattle.std.proofs.Common.{◌≡◌, ℕ, suc, ◌+◌, ◌-◌, ◌≤◌, Bool, true, false, List, [], ◌∷◌, ◌++◌, length, Option, Some, None, refl, sym, ap, ◌∙◌, subst, arith, ℤ}
-use Rattle.std.specs.Prelude.{slice_get, ◌&&◌}
+use Rattle.std.specs.Prelude.{slice_get}
 use Rattle.std.proofs.lemmas.List.{length-append}
-use Rattle.std.proofs.lemmas.Bool.{and_parts}
 use Rattle.alma_base.specs.declared.fault.RunFault.TheVariants as fault
 use Rattle.alma_base.specs.Choice.{if_true}
 use Rattle.alma_base.specs.Numbers.{is_zero}
@@ -29,7 +28,7 @@ use Rattle.alma_lower_implements.proofs.Steps.{InstrAt, PrintsNow, does, check_f
 use Rattle.alma_lower_implements.proofs.Ways.{Leaves}
 use Rattle.alma_lower_templates.specs.Lined.{Lined, own, in_row}
 use Rattle.alma_lower_templates.specs.Tables.{Tables, text_number, is_whole}
-use Rattle.alma_lower_templates.specs.Slots.{bare, bare_desig, unless_bare, if_ready, ends_alone, straight_by, goes_straight, desig_slots}
+use Rattle.alma_lower_templates.specs.Slots.{bare, bare_desig, unless_bare, goes_straight, desig_slots}
 use Rattle.alma_lower_templates.specs.Pieces.{fit_code, straight, write_code}
 use Rattle.alma_lower_templates.specs.Templates.{test_code, expr_code, desig_code, value_at, set_by, set_to}
 use Rattle.alma_lower_templates.specs.Stands.{Stands}
@@ -40,7 +39,7 @@ use Rattle.alma_lower_templates.proofs.Tested.{ChecksValue}
 use Rattle.alma_lower_templates.proofs.RangeChecks.{past_from, fit_from, fit_line, fit_reads, fit_long, behind_fit, whole_within}
 use Rattle.alma_lower_templates.proofs.Destinations.{into, then_into}
 use Rattle.alma_lower_templates.proofs.ExprForms.{RunsTo}
-use Rattle.alma_lower_templates.proofs.Straight.{alone_bare, put_count}
+use Rattle.alma_lower_templates.proofs.Straight.{alone_bare, put_count, GoesStraight, straight_is}
 use Rattle.alma_lower_templates.proofs.Targets.{target_after, target_from, set_from, set_reads}
 use Rattle.alma_lower_templates.proofs.PlaceSteps.{write_text_step}
 use Rattle.alma_lower_templates.proofs.FormRuns.{DesigRuns, TestRuns, StmtRuns, FitsRange}
@@ -124,23 +123,6 @@ module _ (p : Program) (tables : Tables) (code : PlainCode) (input : List ℕ) (
           let left3 : Left p code input lo r t (put_at u2 a (Number n)) t2 = subst (λ z. Left p code input lo r t z t2) put_there (left_less p code input lo la r t (put_top u2 to (Number n)) t2 (omega arith) left2) in
           subst (λ z. From p code input line 8 exit exit t2 (leaving p code input lo r t2 (Nothing p code input)) (fault_unless fault.Range z (λ _. one (put_at u2 a (Number n)) tt)) q) (sym (whole_within range n whole integer))
           (ends_here p code input line 8 exit lo r (put_at u2 a (Number n)) t2 (Nothing p code input) tt q (begins p code input lo r t (put_at u2 a (Number n)) t2 left3) tt))))))
-
-  -- what goes straight
-  pub record GoesStraight (d : Desig) (x : Expr) (range : Range) (to : ℕ) : Type 0 where
-    pub variable : bare_desig d ≡ Some to
-    pub whole : is_whole range ≡ true
-    pub alone : ends_alone x ≡ true
-
-  straight_is : (d : Desig) (x : Expr) (range : Range) (to : ℕ) → goes_straight d x range ≡ Some to → GoesStraight d x range to
-  straight_is d x range to e = by (bare_desig d) refl e
-    where
-      by_both : (n : ℕ) (z : Bool) → bare_desig d ≡ Some n → (is_whole range && ends_alone x) ≡ z → if_ready z n ≡ Some to → GoesStraight d x range to
-      by_both n true is both h = let same : n ≡ to = cc in let z = and_parts (is_whole range) (ends_alone x) both in record { variable = is ∙ ap Some same; whole = z.0; alone = z.1 }
-      by_both n false is both h = absurd (cc)
-
-      by : (o : Option ℕ) → bare_desig d ≡ o → straight_by o (is_whole range && ends_alone x) ≡ Some to → GoesStraight d x range to
-      by (Some n) is h = by_both n (is_whole range && ends_alone x) is refl h
-      by None is h = absurd (cc)
 
   pub assign_runs : (at lo : ℕ) (d : Desig) (x : Expr) (range : Range) → BareFits p tables code input below r line q (bare_desig d) → desig_cells d ≡ 1 → own_end p r ≤ lo → FitsRange p tables code input below r line q range
       → (bare_desig d ≡ None → DesigRuns p tables code input below r line q at lo d) → ((next : ℕ) → AtOnce p tables code input below r line q next (lo + length (unless_bare (bare_desig d) (desig_slots p r d))) x)

@@ -1,16 +1,19 @@
 -- Code whose last instruction puts its number into another slot.
-use Rattle.std.proofs.Common.{◌≡◌, ℕ, zero, suc, ◌+◌, ◌<◌, true, false, not, List, [], ◌∷◌, ◌++◌, length, Option, Some, None, refl, sym, ap, ◌∙◌, arith, append-nil}
+use Rattle.std.proofs.Common.{◌≡◌, ℕ, zero, suc, ◌+◌, ◌<◌, true, false, not, List, [], ◌∷◌, ◌++◌, length, Option, Some, None, refl, sym, ap, ◌∙◌, arith, append-nil, Bool}
 use Rattle.std.proofs.lemmas.List.{length-append}
 use Rattle.alma_code.specs.declared.instr.Instr.{Instr}
 use Rattle.alma_ir.specs.declared.phrase.Op.{Op}
 use Rattle.alma_ir.specs.declared.phrase.Op.TheVariants as op
-use Rattle.alma_ir.specs.Tree.{Program, Expr, Links, Const, Load, Chain, Compare, Truth, Known, Chr, CallExpr, no_links, more_links}
+use Rattle.alma_ir.specs.Tree.{Program, Expr, Links, Const, Load, Chain, Compare, Truth, Known, Chr, CallExpr, no_links, more_links, Desig}
 use Rattle.alma_mean.specs.Store.{Store, Cell, put}
 use Rattle.alma_lower_templates.specs.Lined.{Lined, own, in_row}
-use Rattle.alma_lower_templates.specs.Tables.{Tables}
-use Rattle.alma_lower_templates.specs.Slots.{bare, bare_desig, is_given, ends_alone, unless_bare, behind_value}
+use Rattle.alma_lower_templates.specs.Tables.{Tables, is_whole}
+use Rattle.alma_lower_templates.specs.Slots.{bare, bare_desig, is_given, ends_alone, unless_bare, behind_value, if_ready, straight_by, goes_straight}
 use Rattle.alma_lower_templates.specs.Pieces.{op_code, aim, straight}
 use Rattle.alma_lower_templates.specs.Templates.{expr_code, links_code, value_at}
+use Rattle.std.specs.Prelude.{◌&&◌}
+use Rattle.std.proofs.lemmas.Bool.{and_parts}
+use Rattle.alma_base.specs.declared.number.Range.{Range}
 
 pub straight_long : (to : ℕ) (code : List Lined) → length (straight to code) ≡ length code
 straight_long to [] = refl
@@ -51,6 +54,26 @@ alone_bare (Truth t) e = absurd (let bad : false ≡ true = e in cc)
 alone_bare (Known d) e = absurd (let bad : false ≡ true = e in cc)
 alone_bare (Chr x) e = absurd (let bad : false ≡ true = e in cc)
 alone_bare (CallExpr q args up) e = absurd (let bad : false ≡ true = e in cc)
+
+-- what goes straight: into a variable of the routine of all INTEGERs, by the last instruction alone
+pub record GoesStraight (d : Desig) (x : Expr) (range : Range) (to : ℕ) : Type 0 where
+  pub variable : bare_desig d ≡ Some to
+  pub whole : is_whole range ≡ true
+  pub alone : ends_alone x ≡ true
+
+pub straight_is : (d : Desig) (x : Expr) (range : Range) (to : ℕ) → goes_straight d x range ≡ Some to → GoesStraight d x range to
+straight_is d x range to e = by (bare_desig d) refl e
+  where
+    by_both : (n : ℕ) (z : Bool) → bare_desig d ≡ Some n → (is_whole range && ends_alone x) ≡ z → if_ready z n ≡ Some to → GoesStraight d x range to
+    by_both n true is both h = let same : n ≡ to = cc in let z = and_parts (is_whole range) (ends_alone x) both in record { variable = is ∙ ap Some same; whole = z.0; alone = z.1 }
+    by_both n false is both h = absurd (cc)
+
+    by : (o : Option ℕ) → bare_desig d ≡ o → straight_by o (is_whole range && ends_alone x) ≡ Some to → GoesStraight d x range to
+    by (Some n) is h = by_both n (is_whole range && ends_alone x) is refl h
+    by None is h = absurd (cc)
+
+pub straight_variable : (d : Desig) (x : Expr) (range : Range) (to : ℕ) → goes_straight d x range ≡ Some to → bare_desig d ≡ Some to
+straight_variable d x range to e = (straight_is d x range to e).variable
 
 -- a cell that is put leaves the number of frames
 pub put_count : (v : Store) (f i : ℕ) (c : Cell) → length (put v f i c) ≡ length v
