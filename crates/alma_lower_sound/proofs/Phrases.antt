@@ -20,9 +20,9 @@ use Rattle.alma_ir.proofs.Each.{each_of_front, each_of_back, each_of_append}
 use Rattle.alma_lower_templates.specs.Lined.{Lined, own}
 use Rattle.alma_lower_templates.specs.Tables.{Tables, range_number, text_number}
 use Rattle.alma_lower_templates.specs.Pieces.{condition, guarded, chosen, first_of_two, truth_code, fit_code, neg_code, op_code, cmp_code, unequal_code, write_code, read_code, case_arm, passed_over, has_dead, behind_labels, begin_loop, for_turns, some_turns, turn_code, each_body}
-use Rattle.alma_lower_templates.specs.Slots.{bare, bare_desig, stays, stays_in, unless_bare, is_simple, mark_slots, handed_slots, call_links, root_slots, arg_kind, stmts_slots, stmt_slots, arms_slots, dead_slots, cases_slots, else_slots, branches_slots, for_slots, some_slots, test_slots, and_slots, or_slots, expr_slots, links_slots, args_slots, arg_slots, desig_slots, sels_slots, sel_slots, behind_expr, behind_dead, behind_value, behind_desig, behind_target, behind_variable, behind_test, behind_stmts, behind_stmt, behind_condition}
+use Rattle.alma_lower_templates.specs.Slots.{bare, bare_desig, stays, stays_in, unless_bare, is_simple, mark_slots, handed_slots, call_links, root_slots, arg_kind, stmts_slots, stmt_slots, arms_slots, dead_slots, cases_slots, else_slots, branches_slots, for_slots, some_slots, test_slots, and_slots, or_slots, expr_slots, links_slots, args_slots, arg_slots, desig_slots, sels_slots, sel_slots, behind_expr, behind_dead, behind_value, behind_desig, behind_target, behind_variable, behind_test, behind_stmts, behind_stmt, behind_condition, own_place, own_root, goes_straight}
 use Rattle.alma_lower_templates.specs.Slots as slots_of
-use Rattle.alma_lower_templates.specs.Templates.{char_range, own_slot, slot_or, value_at, part_slot, behind_root, place_at, root_code, call_link_code, arguments_from, call_code, set_code, load_code, count_at, count_code, fit_result, stmts_code, stmt_code, if_code, arms_code, for_code, some_code, dead_code, case_code, cases_code, else_code, either_code, branches_code, test_code, and_code, or_code, operands_code, jump_code, expr_code, links_code, args_code, arg_code, desig_code, sels_code, sel_code}
+use Rattle.alma_lower_templates.specs.Templates.{char_range, own_slot, slot_or, value_at, part_slot, behind_root, place_at, root_code, call_link_code, arguments_from, call_code, set_code, load_code, count_at, count_code, fit_result, stmts_code, stmt_code, if_code, arms_code, for_code, some_code, dead_code, case_code, cases_code, else_code, either_code, branches_code, test_code, and_code, or_code, operands_code, jump_code, expr_code, links_code, args_code, arg_code, desig_code, sels_code, sel_code, held_at, set_to}
 use Rattle.alma_lower_templates.specs.CodeOf.{HoldsChecked}
 use Rattle.alma_lower_templates.specs.Compiled.{is_function}
 use Rattle.alma_lower_templates.proofs.Args.{same_cells}
@@ -36,6 +36,7 @@ use Rattle.alma_lower_sound.proofs.Roots as roots
 use Rattle.alma_lower_sound.proofs.Roots.{Compiled, Slots}
 use Rattle.alma_lower_sound.proofs.Values as values
 use Rattle.alma_lower_sound.proofs.Values.{Good}
+use Rattle.alma_lower_templates.proofs.Straight.{straight_variable}
 
 module _ (p : Program) (tables : Tables) (code : PlainCode) (checked : IsChecked p) (w : Compiled p tables code) (r : ℕ) (lt : r < length p.routines) where
   abbrev SlotsOf : (lo : ℕ) → List SlotKind → Type 0
@@ -216,6 +217,13 @@ module _ (p : Program) (tables : Tables) (code : PlainCode) (checked : IsChecked
       is None h = refl
       is (Some range) h = absurd (cc)
 
+  -- ---- a value that goes straight into a variable, or what sets the variable
+
+  set_fits : (o : Option ℕ) (at line lo : ℕ) (d : Desig) (e : Expr) (range : Range) (value : List Lined) (set : List Instr) → goes_straight d e range ≡ o → Fine (desig_phrases d) → desig_cells d ≡ 1 → Here at value → AllNeeds set → Here at (set_to p tables r o line value set)
+  set_fits (Some to) at line lo d e range value set is good cell f needs =
+      pieces.straight_fits code r (own_slot p tables r to) at value (subst (values.BareIs p tables code checked w r lt) (straight_variable d e range to is) (values.bare_variable p tables code checked w r lt d good cell)) f
+  set_fits None at line lo d e range value set is good cell f needs = then_own at line value set f needs
+
   -- ---- the count of a turn
 
   count_needs : (o : Option ℕ) (range : Range) (counter lo : ℕ) → HoldsChecked tables range → Number code r counter → (o ≡ None → Number code r lo) → AllNeeds (count_code p tables r o range counter lo) × Number code r (count_at p tables r o counter lo)
@@ -247,10 +255,14 @@ module _ (p : Program) (tables : Tables) (code : PlainCode) (checked : IsChecked
 
     desig_fits : (line at lo : ℕ) (d : Desig) → Fine (desig_phrases d) → SlotsOf lo (desig_slots p r d) → Here at (desig_code p tables r line at lo d)
     desig_fits line at lo (a_desig x cells sels) good slots =
-        let one : List Lined = own line (root_code p tables r lo x) in
+        let o : Option ℕ = own_root x sels in
+        let placed : List Lined = own line (root_code p tables r lo x) in
+        let one : List Lined = unless_bare o placed in
+        let from : ℕ = slot_or p tables r o lo in
         let lo2 : ℕ = behind_root p tables r lo x in
-        row at one (sels_code p tables r line (at + length one) lo lo2 sels) (own_fits at line (root_code p tables r lo x) (roots.root_needs p tables code checked w r lt lo cells x (sels_slots p r sels) good.0.0 slots))
-        (sels_fit line (at + length one) lo lo2 cells sels good.1 (first_slot lo (slot.Place cells) (root_slots p r x ++ sels_slots p r sels) slots) good.0.1 (values.sels_behind p tables code checked w r lt lo cells x sels slots))
+        row at one (sels_code p tables r line (at + length one) from lo2 sels)
+        (pieces.unless code r 0 at o placed (λ none. own_fits at line (root_code p tables r lo x) (roots.root_needs p tables code checked w r lt lo cells x (sels_slots p r sels) good.0.0 slots)))
+        (sels_fit line (at + length one) from lo2 cells sels good.1 (values.root_place p tables code checked w r lt o lo cells x sels refl good.0.0 (first_slot lo (slot.Place cells) (root_slots p r x ++ sels_slots p r sels) slots)) good.0.1 (values.sels_behind p tables code checked w r lt lo cells x sels slots))
 
     sels_fit : (line at from lo size : ℕ) (sels : Sels) → Fine (sels_phrases sels) → Place code r from size → ArePartsOf sels size → SlotsOf lo (sels_slots p r sels) → Here at (sels_code p tables r line at from lo sels)
     sels_fit line at from lo size no_sels good place parts slots = λ room. tt
@@ -286,7 +298,10 @@ module _ (p : Program) (tables : Tables) (code : PlainCode) (checked : IsChecked
     expr_fits line at lo (Const n) good slots = own_fits at line (I.Const lo n ∷ []) (first_slot lo slot.Number [] slots, tt)
     expr_fits line at lo (Load d) good slots =
         let inner = back lo (slot.Number ∷ []) (unless_bare (bare_desig d) (desig_slots p r d)) slots in
-        then_own at line (unless_bare (bare_desig d) (desig_code p tables r line at (lo + 1) d)) (load_code p tables r lo d ∷ []) (located line at (lo + 1) d (target_slots (lo + 1) d inner) (desig_fits line at (lo + 1) d good.1))
+        let place : List Lined = desig_code p tables r line at (lo + 1) d in
+        let one : List Lined = unless_bare (own_place d) place in
+        then_own at line (unless_bare (bare_desig d) one) (load_code p tables r lo d ∷ [])
+        (pieces.unless code r 0 at (bare_desig d) one (λ none. pieces.unless code r 0 at (own_place d) place (λ other. desig_fits line at (lo + 1) d good.1 (target_slots (lo + 1) d inner none))))
         (values.load_needs p tables code checked w r lt lo d good.1 good.0 slots, tt)
     expr_fits line at lo (Chain negated e links) good slots =
         let mine = front lo (expr_slots p r e) (links_slots p r links) slots in
@@ -324,8 +339,9 @@ module _ (p : Program) (tables : Tables) (code : PlainCode) (checked : IsChecked
         (pieces.truth_fits code r line lo (at + length one) (first_slot lo slot.Number (mark_slots (is_simple t) ++ test_slots p r t) slots))
     expr_fits line at lo (Known d) good slots =
         let inner = back lo (slot.Number ∷ []) (desig_slots p r d) slots in
-        then_own at line (desig_code p tables r line at (lo + 1) d) (I.Known lo (place_at p tables r (lo + 1) d) ∷ []) (desig_fits line at (lo + 1) d good.1 inner)
-        ((first_slot lo slot.Number (desig_slots p r d) slots, values.one_place p tables code checked w r lt (lo + 1) d good.0 inner), tt)
+        let place : List Lined = desig_code p tables r line at (lo + 1) d in
+        then_own at line (unless_bare (own_place d) place) (I.Known lo (held_at p tables r (lo + 1) d) ∷ []) (pieces.unless code r 0 at (own_place d) place (λ other. desig_fits line at (lo + 1) d good.1 inner))
+        ((first_slot lo slot.Number (desig_slots p r d) slots, values.held_place p tables code checked w r lt (lo + 1) d good.1 good.0 inner), tt)
     expr_fits line at lo (Chr e) good slots =
         then_own at line (expr_code p tables r line at lo e) (I.InRange lo (range_number tables char_range) ∷ []) (expr_fits line at lo e good.1 slots)
         ((values.expr_number p tables code checked w r lt lo e slots, values.is_range p tables code checked w r lt char_range good.0), tt)
@@ -527,7 +543,7 @@ module _ (p : Program) (tables : Tables) (code : PlainCode) (checked : IsChecked
         let good_d = fine_front (desig_phrases d) (expr_phrases e) good.1 in
         let good_e = fine_back (desig_phrases d) (expr_phrases e) good.1 in
         let n = number lo2 e good_e others in
-        then_own at line (one ++ two) (fit_code tables range v ++ (set_code p tables r lo v d ∷ []))
+        set_fits (goes_straight d e range) at line lo d e range (one ++ two) (fit_code tables range v ++ (set_code p tables r lo v d ∷ [])) refl good_d good.0.0
         (row at one two (located line at lo d place_slots (desig_fits line at lo d good_d)) (once line (at + length one) lo2 e others (expr_fits line (at + length one) lo2 e good_e)))
         (each_of_append (Needs code r) (fit_code tables range v) (set_code p tables r lo v d ∷ []) (values.fit_needs p tables code checked w r lt range v good.0.1 n) (values.set_needs p tables code checked w r lt lo v d good_d good.0.0 place_slots n, tt))
     stmt_fits line at lo (CopyCells d e) good slots =

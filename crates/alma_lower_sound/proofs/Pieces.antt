@@ -1,5 +1,5 @@
 -- Code at an address of a routine, each instruction with what it needs: the pieces that phrases share.
-use Rattle.std.proofs.Common.{◌≡◌, ℕ, ◌+◌, ◌*◌, ◌<◌, ◌≤◌, Bool, true, false, List, [], ◌∷◌, ◌++◌, length, Option, Some, None, ℤ, pos, negsuc, refl, arith}
+use Rattle.std.proofs.Common.{◌≡◌, ℕ, ◌+◌, ◌*◌, ◌<◌, ◌≤◌, Bool, true, false, List, [], ◌∷◌, ◌++◌, length, Option, Some, None, ℤ, pos, negsuc, refl, arith, subst}
 use Rattle.std.specs.List.{AllByRecursion}
 use Rattle.std.proofs.lemmas.List.{length-append, length-map}
 use Rattle.alma_base.specs.declared.number.Range.{Range}
@@ -8,9 +8,10 @@ use Rattle.alma_code.specs.declared.instr.Instr.TheVariants as I
 use Rattle.alma_code.specs.Plain.{PlainCode, start_at, end_at}
 use Rattle.alma_ir.proofs.Each.{each_of_append}
 use Rattle.alma_lower_templates.specs.Lined.{Lined, own, in_row, leaving}
-use Rattle.alma_lower_templates.specs.Pieces.{condition, guarded, chosen, first_of_two, refused, truth_code, each_body, forall_code, label_code, labels_code, behind_labels, case_arm, passed_over, entry_code, begin_loop, turn_code, for_turns, some_turns}
+use Rattle.alma_lower_templates.specs.Pieces.{condition, guarded, chosen, first_of_two, refused, truth_code, each_body, forall_code, label_code, labels_code, behind_labels, case_arm, passed_over, entry_code, begin_loop, turn_code, for_turns, some_turns, aim, straight}
 use Rattle.alma_lower_templates.specs.Slots.{unless_bare}
 use Rattle.alma_lower_sound.proofs.Needs.{IsInside, Needs, Number, Mark}
+use Rattle.alma_lower_templates.proofs.Straight.{straight_long}
 
 module _ (code : PlainCode) (r : ℕ) where
   abbrev pub NeedsOf : Lined → Type 0
@@ -62,6 +63,25 @@ module _ (code : PlainCode) (r : ℕ) where
 
   pub row : (spare at : ℕ) (a b : List Lined) → Fits 0 at a → Fits spare (at + length a) b → Fits spare at (a ++ b)
   row spare at a b f g = in_two spare at a b (first (length b + spare) at a f) g
+
+  -- a value that goes straight into another slot
+  aim_needs : (to : ℕ) (i : Instr) → Number code r to → Needs code r i → Needs code r (aim to i)
+  aim_needs to (I.Const old n) there h = there
+  aim_needs to (I.Load old place) there h = (there, h.1)
+  aim_needs to (I.Add old first operand) there h = (there, h.1, h.2)
+  aim_needs to (I.Sub old first operand) there h = (there, h.1, h.2)
+  aim_needs to (I.Mul old first operand) there h = (there, h.1, h.2)
+  aim_needs to (I.Div old first operand) there h = (there, h.1, h.2)
+  aim_needs to (I.Mod old first operand) there h = (there, h.1, h.2)
+  aim_needs to i there h = h
+
+  straight_need : (to : ℕ) (c : List Lined) → Number code r to → AllNeed c → AllNeed (straight to c)
+  straight_need to [] there h = tt
+  straight_need to (x ∷ []) there h = (aim_needs to x.instr there h.0, tt)
+  straight_need to (x ∷ (y ∷ rest)) there h = (h.0, straight_need to (y ∷ rest) there h.1)
+
+  pub straight_fits : (to at : ℕ) (c : List Lined) → Number code r to → Fits 0 at c → Fits 0 at (straight to c)
+  straight_fits to at c there h room = straight_need to c there (h (subst (λ n. Room at (n + 0)) (straight_long to c) room))
 
   pub unless : (spare at : ℕ) (o : Option ℕ) (c : List Lined) → (o ≡ None → Fits spare at c) → Fits spare at (unless_bare o c)
   unless spare at (Some n) c f room = tt

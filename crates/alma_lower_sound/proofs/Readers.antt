@@ -16,9 +16,9 @@ use Rattle.alma_ir.specs.declared.phrase.WriteAs.TheVariants as write_as
 use Rattle.alma_ir.specs.Tree.{Stmts, Stmt, Arms, CaseArms, Else, Branches, Loop, ReturnExpr, Test, Tests, Expr, Links, Args, Arg, Desig, Sels, Sel, Program, routine_at, no_stmts, more_stmts, TestStmt, Assign, CopyCells, If, While, Repeat, ForTo, SomeOf, Case, Either, Forall, Commit, Return, Read, WriteExpr, WriteText, WriteLine, no_arms, more_arms, no_cases, more_cases, no_else, else_part, no_branches, more_branches, a_loop, no_result, some_result, Value, Bind, Unify, SameCells, Seq, And, Or, Not, CallTest, no_tests, more_tests, Const, Load, Chain, Compare, Truth, Known, Chr, CallExpr, no_links, more_links, no_args, more_args, ByValue, ByCells, ByPlace, MixValue, MixPlace, a_desig, no_sels, more_sels, Field, Index}
 use Rattle.alma_lower_templates.specs.Lined.{Lined, own, leaving}
 use Rattle.alma_lower_templates.specs.Tables.{Tables, range_number, is_whole}
-use Rattle.alma_lower_templates.specs.Pieces.{condition, guarded, chosen, first_of_two, refused, fit_code, neg_code, op_code, cmp_code, unequal_code, write_code, read_code, case_arm, passed_over, has_dead, behind_labels, labels_code, begin_loop, bounds_code, entry_code, chain_code, link_code, unless_whole, for_turns, some_turns, turn_code, each_body, forall_code}
-use Rattle.alma_lower_templates.specs.Slots.{shift_of, bare, bare_desig, stays, stays_in, unless_bare, is_simple, handed_slots, arg_slots, behind_expr, behind_dead, behind_value, behind_desig, behind_target, behind_variable, behind_test, behind_stmts, behind_stmt, behind_condition}
-use Rattle.alma_lower_templates.specs.Templates.{char_range, own_slot, slot_or, outer_slot, link_if, set_by, load_by, value_at, part_slot, behind_root, place_at, root_code, call_link_code, arguments_from, call_code, set_code, load_code, count_at, count_code, fit_result, stmts_code, stmt_code, if_code, arms_code, for_code, some_code, dead_code, case_code, cases_code, else_code, either_code, branches_code, test_code, and_code, or_code, operands_code, jump_code, expr_code, links_code, args_code, arg_code, desig_code, sels_code, sel_code}
+use Rattle.alma_lower_templates.specs.Pieces.{condition, guarded, chosen, first_of_two, refused, fit_code, neg_code, op_code, cmp_code, unequal_code, write_code, read_code, case_arm, passed_over, has_dead, behind_labels, labels_code, begin_loop, bounds_code, entry_code, chain_code, link_code, unless_whole, for_turns, some_turns, turn_code, each_body, forall_code, aim, straight}
+use Rattle.alma_lower_templates.specs.Slots.{shift_of, bare, bare_desig, stays, stays_in, unless_bare, is_simple, handed_slots, arg_slots, behind_expr, behind_dead, behind_value, behind_desig, behind_target, behind_variable, behind_test, behind_stmts, behind_stmt, behind_condition, own_place, own_root, goes_straight}
+use Rattle.alma_lower_templates.specs.Templates.{char_range, own_slot, slot_or, outer_slot, link_if, set_by, load_by, value_at, part_slot, behind_root, place_at, root_code, call_link_code, arguments_from, call_code, set_code, load_code, count_at, count_code, fit_result, stmts_code, stmt_code, if_code, arms_code, for_code, some_code, dead_code, case_code, cases_code, else_code, either_code, branches_code, test_code, and_code, or_code, operands_code, jump_code, expr_code, links_code, args_code, arg_code, desig_code, sels_code, sel_code, held_at, set_to}
 use Rattle.alma_lower_templates.proofs.First.{as_stays, as_stays_in}
 use Rattle.alma_lower_templates.proofs.Tested.{compared_code, Tested, tested, as_value, as_unequal}
 use Rattle.alma_code.specs.Reads.{is_read}
@@ -154,6 +154,15 @@ pub both : (a b : List Lined) → reads (a ++ b) ≡ reads a + reads b
 both [] b = omega arith
 both (x ∷ a) b = omega (arith, both a b)
 
+aim_reads : (to : ℕ) (i : Instr) → is_read (aim to i) ≡ is_read i
+aim_reads to (I.Const old n) = refl
+aim_reads to i = refl
+
+straight_reads : (to : ℕ) (c : List Lined) → reads (straight to c) ≡ reads c
+straight_reads to [] = refl
+straight_reads to (x ∷ []) = ap (λ z. bit_of z + 0) (aim_reads to x.instr)
+straight_reads to (x ∷ (y ∷ rest)) = ap (λ n. bit_of (is_read x.instr) + n) (straight_reads to (y ∷ rest))
+
 -- instructions of which none reads
 abbrev Quiet : List Instr → Type 0
 Quiet xs = (line : ℕ) → reads (own line xs) ≡ 0
@@ -230,6 +239,14 @@ desig_bare (a_desig (root.Param from) cells sels) = tt
 desig_bare (a_desig (root.Outer links from) cells sels) = tt
 desig_bare (a_desig (root.OuterParam links from) cells sels) = tt
 
+place_quiet : (d : Desig) → BareQuiet (own_place d) (desig_reads d)
+place_quiet (a_desig (root.Param from) cells no_sels) = refl
+place_quiet (a_desig (root.Param from) cells (more_sels x rest)) = tt
+place_quiet (a_desig (root.Local from) cells sels) = tt
+place_quiet (a_desig (root.Global from) cells sels) = tt
+place_quiet (a_desig (root.Outer links from) cells sels) = tt
+place_quiet (a_desig (root.OuterParam links from) cells sels) = tt
+
 expr_bare : (e : Expr) → BareQuiet (bare e) (expr_reads e)
 expr_bare (Const n) = tt
 expr_bare (Load d) = desig_bare d
@@ -249,6 +266,10 @@ once e c h = unless_reads (bare e) (expr_reads e) c (expr_bare e) h
 
 located : (d : Desig) (c : List Lined) → reads c ≡ desig_reads d → reads (unless_bare (bare_desig d) c) ≡ desig_reads d
 located d c h = unless_reads (bare_desig d) (desig_reads d) c (desig_bare d) h
+
+-- the place of a whole parameter
+placed : (d : Desig) (c : List Lined) → reads c ≡ desig_reads d → reads (unless_bare (own_place d) c) ≡ desig_reads d
+placed d c h = unless_reads (own_place d) (desig_reads d) c (place_quiet d) h
 
 -- ---- pieces
 
@@ -404,6 +425,14 @@ module _ (p : Program) (tables : Tables) (r : ℕ) where
   over_reads line next at lo (more_cases [] body rest) = omega arith
   over_reads line next at lo (more_cases (label ∷ labels) body rest) = over_reads line next at lo rest
 
+  set_reads : (o : Option ℕ) (line : ℕ) (value : List Lined) (set : List Instr) → Quiet set → reads (set_to p tables r o line value set) ≡ reads value
+  set_reads (Some to) line value set quiet = straight_reads (own_slot p tables r to) value
+  set_reads None line value set quiet = then_own line value set quiet
+
+  root_reads : (o : Option ℕ) (line lo : ℕ) (x : Root) → reads (unless_bare o (own line (root_code p tables r lo x))) ≡ 0
+  root_reads (Some from) line lo x = refl
+  root_reads None line lo x = root_quiet lo x line
+
   -- a value as a test reads where the value does
   value_same : (line at lo : ℕ) (e : Expr) → reads (test_code p tables r line at lo (Value e)) ≡ reads (unless_bare (bare e) (expr_code p tables r line at lo e))
   value_same line at lo e = by (tested p tables r e)
@@ -422,9 +451,11 @@ module _ (p : Program) (tables : Tables) (r : ℕ) where
   mutual
     desig_same : (line at lo : ℕ) (x : Desig) → reads (desig_code p tables r line at lo x) ≡ desig_reads x
     desig_same line at lo (a_desig root cells sels) =
-        let one : List Lined = own line (root_code p tables r lo root) in
+        let o : Option ℕ = own_root root sels in
+        let one : List Lined = unless_bare o (own line (root_code p tables r lo root)) in
+        let from : ℕ = slot_or p tables r o lo in
         let lo2 : ℕ = behind_root p tables r lo root in
-        omega (arith, own_then line (root_code p tables r lo root) (sels_code p tables r line (at + length one) lo lo2 sels) (root_quiet lo root), sels_same line (at + length one) lo lo2 sels)
+        omega (arith, both one (sels_code p tables r line (at + length one) from lo2 sels), root_reads o line lo root, sels_same line (at + length one) from lo2 sels)
 
     sels_same : (line at from lo : ℕ) (x : Sels) → reads (sels_code p tables r line at from lo x) ≡ sels_reads x
     sels_same line at from lo no_sels = omega arith
@@ -441,7 +472,9 @@ module _ (p : Program) (tables : Tables) (r : ℕ) where
     expr_same : (line at lo : ℕ) (x : Expr) → reads (expr_code p tables r line at lo x) ≡ expr_reads x
     expr_same line at lo (Const n) = omega arith
     expr_same line at lo (Load d) =
-        omega (arith, then_own line (unless_bare (bare_desig d) (desig_code p tables r line at (lo + 1) d)) (load_code p tables r lo d ∷ []) (load_quiet lo d), located d (desig_code p tables r line at (lo + 1) d) (desig_same line at (lo + 1) d), desig_same line at (lo + 1) d)
+        let place : List Lined = desig_code p tables r line at (lo + 1) d in
+        let one : List Lined = unless_bare (own_place d) place in
+        omega (arith, then_own line (unless_bare (bare_desig d) one) (load_code p tables r lo d ∷ []) (load_quiet lo d), located d one (placed d place (desig_same line at (lo + 1) d)), desig_same line at (lo + 1) d)
     expr_same line at lo (Chain negated e links) =
         let o : Option ℕ = stays_in negated e links in
         let inner : List Lined = unless_bare o (expr_code p tables r line at lo e) in
@@ -474,7 +507,9 @@ module _ (p : Program) (tables : Tables) (r : ℕ) where
         let end : ℕ = at + length one in
         let z = asked line at (lo + 1) 2 t (λ next. []) (test_reads t) 0 (λ none. jump_same line at (lo + 1) none t) (λ at lo. test_same line at lo t) (λ next. omega arith) in
         omega (arith, z, then_own line one (I.Const lo (pos 1) ∷ I.Jump (end + 3) ∷ I.Const lo (pos 0) ∷ []) (λ l. refl))
-    expr_same line at lo (Known d) = omega (arith, then_own line (desig_code p tables r line at (lo + 1) d) (I.Known lo (place_at p tables r (lo + 1) d) ∷ []) (λ l. refl), desig_same line at (lo + 1) d)
+    expr_same line at lo (Known d) =
+        let place : List Lined = desig_code p tables r line at (lo + 1) d in
+        omega (arith, then_own line (unless_bare (own_place d) place) (I.Known lo (held_at p tables r (lo + 1) d) ∷ []) (λ l. refl), placed d place (desig_same line at (lo + 1) d), desig_same line at (lo + 1) d)
     expr_same line at lo (Chr e) = omega (arith, then_own line (expr_code p tables r line at lo e) (I.InRange lo (range_number tables char_range) ∷ []) (λ l. refl), expr_same line at lo e)
     expr_same line at lo (CallExpr called args up) =
         let to : ℕ = arguments_from p tables r called up (lo + 2) in
@@ -625,7 +660,7 @@ module _ (p : Program) (tables : Tables) (r : ℕ) where
         let two : List Lined = unless_bare (bare e) inner in
         omega (
           arith,
-          then_own line (one ++ two) (fit_code tables range v ++ (set_code p tables r lo v d ∷ [])) (quiet_two (fit_code tables range v) (set_code p tables r lo v d ∷ []) (fit_quiet range v) (set_quiet lo v d)),
+          set_reads (goes_straight d e range) line (one ++ two) (fit_code tables range v ++ (set_code p tables r lo v d ∷ [])) (quiet_two (fit_code tables range v) (set_code p tables r lo v d ∷ []) (fit_quiet range v) (set_quiet lo v d)),
           both one two,
           located d place (desig_same line at lo d),
           once e inner (expr_same line (at + length one) lo2 e),

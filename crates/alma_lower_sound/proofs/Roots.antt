@@ -30,7 +30,7 @@ use Rattle.alma_lower_templates.specs.Templates.{own_slot, outer_slot, root_code
 use Rattle.alma_lower_templates.specs.CodeOf.{HoldsAllOf}
 use Rattle.alma_lower_templates.specs.Compiled.{link_params, param_named, is_function}
 use Rattle.alma_lower_templates.proofs.RootForms.{IsParam}
-use Rattle.alma_lower_sound.proofs.Needs.{HasKind, Needs, Number, Link}
+use Rattle.alma_lower_sound.proofs.Needs.{HasKind, Needs, Number, Link, Place}
 
 abbrev no_input : List ℕ
 no_input = []
@@ -188,6 +188,13 @@ module _ (p : Program) (tables : Tables) (code : PlainCode) (checked : IsChecked
 
     -- ---- roots
 
+    -- the slot of a parameter that holds a place
+    pub held : (from cells : ℕ) → HoldPlace (routine_at p r).params from cells → Place code r (own_slot p tables r from) cells
+    held from cells h = record { kind = (w.places r from cells lt h).kind; free = positive r (shift p r + from) (λ main. absurd (none main)) }
+      where
+        none : r ≡ 0 → ⊥
+        none main = subst (λ qs. HoldPlace qs from cells) (ap (λ q. (routine_at p q).params) main ∙ checked.body_takes_nothing.0) h
+
     pub root_needs : (lo cells : ℕ) (x : Root) (rest : List SlotKind) → RootExists p r (routine_at p r) (DesigPhrase (a_desig x cells no_sels)) → Slots lo (slot.Place cells ∷ (root_slots p r x ++ rest)) → AllByRecursion (Needs code r) (root_code p tables r lo x)
     root_needs lo cells (root.Local from) rest h slots =
         let place = first_slot lo (slot.Place cells) rest slots in
@@ -201,12 +208,7 @@ module _ (p : Program) (tables : Tables) (code : PlainCode) (checked : IsChecked
           tt,
         )
     root_needs lo cells (root.Global from) rest h slots = (record { cells = cells; place = first_slot lo (slot.Place cells) rest slots; numbers = global_cells from cells h.1 h.2 }, tt)
-    root_needs lo cells (root.Param from) rest h slots =
-        let held = w.places r from cells lt h in
-        (record { cells = cells; first = first_slot lo (slot.Place cells) rest slots; second = record { kind = held.kind; free = positive r (shift p r + from) (λ main. absurd (none main)) } }, tt)
-      where
-        none : r ≡ 0 → ⊥
-        none main = subst (λ qs. HoldPlace qs from cells) (ap (λ q. (routine_at p q).params) main ∙ checked.body_takes_nothing.0) h
+    root_needs lo cells (root.Param from) rest h slots = (record { cells = cells; first = first_slot lo (slot.Place cells) rest slots; second = held from cells h }, tt)
     root_needs lo cells (root.Outer links from) rest h slots =
         let behind_first = back lo (slot.Place cells ∷ []) (chain_slots p r links ++ rest) slots in
         let z = link_needs links (lo + 1) h.0.1 (front (lo + 1) (chain_slots p r links) rest behind_first) in

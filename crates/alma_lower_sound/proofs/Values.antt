@@ -25,19 +25,20 @@ use Rattle.alma_ir.specs.declared.phrase.WriteAs.TheVariants as write_as
 use Rattle.alma_ir.specs.declared.program.Param.{Param}
 use Rattle.alma_ir.specs.Tree.{Program, Expr, Arg, Args, Desig, Sels, Sel, routine_at, Const, Load, Chain, Compare, Truth, Known, Chr, CallExpr, no_args, more_args, ByValue, ByCells, ByPlace, MixValue, MixPlace, a_desig, no_sels, more_sels, Field, Index}
 use Rattle.alma_ir.specs.Phrases.{Phrase, DesigPhrase, stmts_phrases, expr_phrases, desig_phrases}
-use Rattle.alma_ir.specs.Checked.{IsChecked, ArgFits, ArgsFit, HasOneCellAs, sel_cells, cells_after, desig_cells, outer_at, link_slots}
+use Rattle.alma_ir.specs.Checked.{IsChecked, ArgFits, ArgsFit, HasOneCellAs, sel_cells, cells_after, desig_cells, outer_at, link_slots, RootExists}
 use Rattle.alma_lower_implements.proofs.ExprRows.{AreVariables}
 use Rattle.alma_lower_templates.specs.Tables.{Tables, range_number, is_whole}
 use Rattle.alma_lower_templates.specs.Pieces.{op_code, cmp_code, neg_code, write_code, fit_code, unless_whole, first_argument}
-use Rattle.alma_lower_templates.specs.Slots.{shift_of, chain_slots, links_if, bare, bare_desig, unless_bare, arg_kind, handed_slots, call_links, root_slots, expr_slots, desig_slots, sels_slots, sel_slots}
-use Rattle.alma_lower_templates.specs.Templates.{own_slot, slot_or, value_at, part_slot, part_at, behind_root, place_at, link_if, call_link_code, handed, handed_from, call_code, set_by, set_code, load_by, load_code}
+use Rattle.alma_lower_templates.specs.Slots.{shift_of, chain_slots, links_if, bare, bare_desig, unless_bare, arg_kind, handed_slots, call_links, root_slots, expr_slots, desig_slots, sels_slots, sel_slots, own_place, own_root}
+use Rattle.alma_lower_templates.specs.Templates.{own_slot, slot_or, value_at, part_slot, part_at, behind_root, place_at, link_if, call_link_code, handed, handed_from, call_code, set_by, set_code, load_by, load_code, held_at}
 use Rattle.alma_lower_templates.specs.CodeOf.{HoldsRange, HoldsChecked}
 use Rattle.alma_lower_templates.specs.Compiled.{link_params, param_kind, param_named, is_function}
 use Rattle.alma_lower_templates.proofs.Args.{same_cells}
 use Rattle.alma_lower_templates.proofs.ExprForms as exprs
 use Rattle.alma_lower_sound.proofs.Facts.{Facts, CallFacts}
 use Rattle.alma_lower_sound.proofs.Needs.{HasKind, Needs, IsRange, Number, Place, Link}
-use Rattle.alma_lower_sound.proofs.Roots.{Compiled, Slots, front, back, free, first_slot, variable, link_needs}
+use Rattle.alma_lower_sound.proofs.Roots.{Compiled, Slots, front, back, free, first_slot, variable, link_needs, held}
+use Rattle.alma_lower_templates.proofs.OwnPlace.{own_root_is}
 
 is_some : {A : Type 0} (o : Option A) → IsSome o → (a : A) × (o ≡ Some a)
 is_some None h = absurd (cc)
@@ -102,6 +103,28 @@ module _ (p : Program) (tables : Tables) (code : PlainCode) (checked : IsChecked
   bare_value (Chr e) h = tt
   bare_value (CallExpr called args up) h = tt
 
+  -- the slot of a whole parameter
+  abbrev pub PlaceIs : Option ℕ → Type 0
+  PlaceIs (Some from) = Place code r (own_slot p tables r from) 1
+  PlaceIs None = Unit {0}
+
+  held_root : (d : Desig) → Facts p tables r (DesigPhrase d) → desig_cells d ≡ 1 → PlaceIs (own_place d)
+  held_root (a_desig (root.Param from) cells no_sels) h e = subst (Place code r (own_slot p tables r from)) e (held p tables code checked w r lt from cells h.0)
+  held_root (a_desig (root.Param from) cells (more_sels x rest)) h e = tt
+  held_root (a_desig (root.Local from) cells sels) h e = tt
+  held_root (a_desig (root.Global from) cells sels) h e = tt
+  held_root (a_desig (root.Outer links from) cells sels) h e = tt
+  held_root (a_desig (root.OuterParam links from) cells sels) h e = tt
+
+  held_variable : (d : Desig) → Good (desig_phrases d) → desig_cells d ≡ 1 → PlaceIs (own_place d)
+  unfolding stmts_phrases
+  held_variable (a_desig x cells sels) h e = held_root (a_desig x cells sels) h.0 e
+
+  -- the slot of which the first selector takes a part
+  pub root_place : (o : Option ℕ) (lo cells : ℕ) (x : Root) (sels : Sels) → own_root x sels ≡ o → RootExists p r (routine_at p r) (DesigPhrase (a_desig x cells no_sels)) → Place code r lo cells → Place code r (slot_or p tables r o lo) cells
+  root_place (Some from) lo cells x sels e h place = held p tables code checked w r lt from cells (subst (λ y. RootExists p r (routine_at p r) (DesigPhrase (a_desig y cells no_sels))) (own_root_is x sels from e) h)
+  root_place None lo cells x sels e h place = place
+
   -- the value of an expression
   pub expr_number : (lo : ℕ) (e : Expr) → SlotsOf lo (expr_slots p r e) → Number code r lo
   expr_number lo e h = record { kind = exprs.first_slot p code [] r lo e h; free = free p tables code checked w r lt lo h.behind }
@@ -155,6 +178,14 @@ module _ (p : Program) (tables : Tables) (code : PlainCode) (checked : IsChecked
   pub one_place : (lo : ℕ) (d : Desig) → desig_cells d ≡ 1 → SlotsOf lo (desig_slots p r d) → Place code r (place_at p tables r lo d) 1
   one_place lo d e h = subst (λ n. Place code r (place_at p tables r lo d) n) e (desig_place lo d h)
 
+  -- where it stands to be read at once
+  pub held_place : (lo : ℕ) (d : Desig) → Good (desig_phrases d) → desig_cells d ≡ 1 → SlotsOf lo (desig_slots p r d) → Place code r (held_at p tables r lo d) 1
+  held_place lo d good e slots = by (own_place d) (held_variable d good e)
+    where
+      by : (o : Option ℕ) → PlaceIs o → Place code r (slot_or p tables r o (place_at p tables r lo d)) 1
+      by (Some from) h = h
+      by None h = one_place lo d e slots
+
   -- ---- variables
 
   pub set_needs : (lo value : ℕ) (d : Desig) → Good (desig_phrases d) → desig_cells d ≡ 1 → (bare_desig d ≡ None → SlotsOf lo (desig_slots p r d)) → Number code r value → Needs code r (set_code p tables r lo value d)
@@ -172,7 +203,7 @@ module _ (p : Program) (tables : Tables) (code : PlainCode) (checked : IsChecked
 
       by : (o : Option ℕ) → bare_desig d ≡ o → BareIs o → Needs code r (load_by p tables r o lo d)
       by (Some from) is b = (n, b)
-      by None is b = (n, one_place (lo + 1) d e (none_slots (bare_desig d) (lo + 1) (desig_slots p r d) is (back p tables code checked w r lt lo (slot.Number ∷ []) (unless_bare (bare_desig d) (desig_slots p r d)) slots)))
+      by None is b = (n, held_place (lo + 1) d good e (none_slots (bare_desig d) (lo + 1) (desig_slots p r d) is (back p tables code checked w r lt lo (slot.Number ∷ []) (unless_bare (bare_desig d) (desig_slots p r d)) slots)))
 
   -- ---- operators
 

@@ -13,9 +13,9 @@ use Rattle.alma_ir.specs.Count.{stmts_nodes, stmt_nodes, arms_nodes, cases_nodes
 use Rattle.alma_lower_templates.proofs.Tested.{compared_code, Tested, tested, as_value, as_unequal}
 use Rattle.alma_lower_templates.specs.Lined.{Lined, own, leaving, line_from, lines_from}
 use Rattle.alma_lower_templates.specs.Tables.{Tables, range_number, text_number}
-use Rattle.alma_lower_templates.specs.Pieces.{condition, guarded, chosen, first_of_two, refused, fit_code, neg_code, op_code, cmp_code, unequal_code, write_code, read_code, case_arm, passed_over, has_dead, behind_labels, labels_code, begin_loop, bounds_code, for_turns, some_turns, turn_code, each_body, forall_code}
-use Rattle.alma_lower_templates.specs.Slots.{bare, bare_desig, stays, stays_in, unless_bare, is_simple, handed_slots, arg_slots, behind_expr, behind_dead, behind_value, behind_desig, behind_target, behind_variable, behind_test, behind_stmts, behind_stmt, behind_condition}
-use Rattle.alma_lower_templates.specs.Templates.{char_range, own_slot, slot_or, value_at, part_slot, behind_root, place_at, root_code, call_link_code, arguments_from, call_code, set_code, load_code, count_at, count_code, fit_result, stmts_code, stmt_code, if_code, arms_code, for_code, some_code, dead_code, case_code, cases_code, else_code, either_code, branches_code, test_code, and_code, or_code, operands_code, jump_code, expr_code, links_code, args_code, arg_code, desig_code, sels_code, sel_code}
+use Rattle.alma_lower_templates.specs.Pieces.{condition, guarded, chosen, first_of_two, refused, fit_code, neg_code, op_code, cmp_code, unequal_code, write_code, read_code, case_arm, passed_over, has_dead, behind_labels, labels_code, begin_loop, bounds_code, for_turns, some_turns, turn_code, each_body, forall_code, straight}
+use Rattle.alma_lower_templates.specs.Slots.{bare, bare_desig, stays, stays_in, unless_bare, is_simple, handed_slots, arg_slots, behind_expr, behind_dead, behind_value, behind_desig, behind_target, behind_variable, behind_test, behind_stmts, behind_stmt, behind_condition, own_place, own_root, goes_straight}
+use Rattle.alma_lower_templates.specs.Templates.{char_range, own_slot, slot_or, value_at, part_slot, behind_root, place_at, root_code, call_link_code, arguments_from, call_code, set_code, load_code, count_at, count_code, fit_result, stmts_code, stmt_code, if_code, arms_code, for_code, some_code, dead_code, case_code, cases_code, else_code, either_code, branches_code, test_code, and_code, or_code, operands_code, jump_code, expr_code, links_code, args_code, arg_code, desig_code, sels_code, sel_code, held_at, set_to}
 
 -- ---- walks
 
@@ -78,6 +78,11 @@ to_other a b c (x ∷ xs) = omega (arith, to_other x.line b c xs)
 -- code of one line within that of another
 around : (a line c : ℕ) (xs : List Lined) → walk a xs c ≤ 2 + walk line xs line
 around a line c xs = omega (arith, from_other a line xs c, to_other line line c xs, hop_few a line, hop_few line c)
+
+straight_walk : (from to line : ℕ) (xs : List Lined) → walk from (straight to xs) line ≡ walk from xs line
+straight_walk from to line [] = refl
+straight_walk from to line (x ∷ []) = refl
+straight_walk from to line (x ∷ (y ∷ rest)) = ap (λ n. hop from x.line + n) (straight_walk x.line to line (y ∷ rest))
 
 module _ (line : ℕ) where
   -- from a line and back to it
@@ -238,6 +243,11 @@ module _ (p : Program) (tables : Tables) (r : ℕ) where
       located : (at : ℕ) → round line (unless_bare (bare_desig d) (desig_code p tables r line at (lo + 1) d)) ≤ m
       located at = let z = f at in omega (arith, z, unless_round line (bare_desig d) (desig_code p tables r line at (lo + 1) d))
 
+  -- a value that goes straight into a variable, or what sets the variable
+  set_round : (o : Option ℕ) (line : ℕ) (value : List Lined) (set : List Instr) → round line (set_to p tables r o line value set) ≤ round line value
+  set_round (Some to) line value set = omega (arith, straight_walk line (own_slot p tables r to) line value)
+  set_round None line value set = then_own line value set
+
   -- a value as a test goes over the lines of the value
   value_round : (line at lo : ℕ) (e : Expr) → round line (test_code p tables r line at lo (Value e)) ≡ round line (unless_bare (bare e) (expr_code p tables r line at lo e))
   value_round line at lo e = by (tested p tables r e)
@@ -256,9 +266,12 @@ module _ (p : Program) (tables : Tables) (r : ℕ) where
   mutual
     desig_round : (line at lo : ℕ) (x : Desig) → round line (desig_code p tables r line at lo x) ≤ 2 * desig_nodes x
     desig_round line at lo (a_desig root cells sels) =
-        let one : List Lined = own line (root_code p tables r lo root) in
+        let o : Option ℕ = own_root root sels in
+        let placed : List Lined = own line (root_code p tables r lo root) in
+        let one : List Lined = unless_bare o placed in
+        let from : ℕ = slot_or p tables r o lo in
         let lo2 : ℕ = behind_root p tables r lo root in
-        omega (arith, own_then line (root_code p tables r lo root) (sels_code p tables r line (at + length one) lo lo2 sels), sels_round line (at + length one) lo lo2 sels)
+        omega (arith, both line one (sels_code p tables r line (at + length one) from lo2 sels), unless_round line o placed, own_round line (root_code p tables r lo root), sels_round line (at + length one) from lo2 sels)
 
     sels_round : (line at from lo : ℕ) (x : Sels) → round line (sels_code p tables r line at from lo x) ≤ 2 * sels_nodes x
     sels_round line at from lo no_sels = omega (arith, hop_none line)
@@ -275,7 +288,9 @@ module _ (p : Program) (tables : Tables) (r : ℕ) where
     expr_round : (line at lo : ℕ) (x : Expr) → round line (expr_code p tables r line at lo x) ≤ 2 * expr_nodes x
     expr_round line at lo (Const n) = omega (arith, own_round line (I.Const lo n ∷ []))
     expr_round line at lo (Load d) =
-        omega (arith, then_own line (unless_bare (bare_desig d) (desig_code p tables r line at (lo + 1) d)) (load_code p tables r lo d ∷ []), unless_round line (bare_desig d) (desig_code p tables r line at (lo + 1) d), desig_round line at (lo + 1) d)
+        let place : List Lined = desig_code p tables r line at (lo + 1) d in
+        let one : List Lined = unless_bare (own_place d) place in
+        omega (arith, then_own line (unless_bare (bare_desig d) one) (load_code p tables r lo d ∷ []), unless_round line (bare_desig d) one, unless_round line (own_place d) place, desig_round line at (lo + 1) d)
     expr_round line at lo (Chain negated e links) =
         let o : Option ℕ = stays_in negated e links in
         let inner : List Lined = unless_bare o (expr_code p tables r line at lo e) in
@@ -309,7 +324,9 @@ module _ (p : Program) (tables : Tables) (r : ℕ) where
         let end : ℕ = at + length one in
         let z = asked line at (lo + 1) 2 t (λ next. []) (2 * test_nodes t) 0 (λ none. jump_round line at (lo + 1) none t) (λ at lo. test_round line at lo t) (λ next. omega (arith, hop_none line)) in
         omega (arith, z, then_own line one (I.Const lo (pos 1) ∷ I.Jump (end + 3) ∷ I.Const lo (pos 0) ∷ []))
-    expr_round line at lo (Known d) = omega (arith, then_own line (desig_code p tables r line at (lo + 1) d) (I.Known lo (place_at p tables r (lo + 1) d) ∷ []), desig_round line at (lo + 1) d)
+    expr_round line at lo (Known d) =
+        let place : List Lined = desig_code p tables r line at (lo + 1) d in
+        omega (arith, then_own line (unless_bare (own_place d) place) (I.Known lo (held_at p tables r (lo + 1) d) ∷ []), unless_round line (own_place d) place, desig_round line at (lo + 1) d)
     expr_round line at lo (Chr e) = omega (arith, then_own line (expr_code p tables r line at lo e) (I.InRange lo (range_number tables char_range) ∷ []), expr_round line at lo e)
     expr_round line at lo (CallExpr called args up) =
         let to : ℕ = arguments_from p tables r called up (lo + 2) in
@@ -460,7 +477,7 @@ module _ (p : Program) (tables : Tables) (r : ℕ) where
         let two : List Lined = unless_bare (bare e) inner in
         omega (
           arith,
-          then_own line (one ++ two) (fit_code tables range v ++ (set_code p tables r lo v d ∷ [])),
+          set_round (goes_straight d e range) line (one ++ two) (fit_code tables range v ++ (set_code p tables r lo v d ∷ [])),
           both line one two,
           unless_round line (bare_desig d) place,
           unless_round line (bare e) inner,

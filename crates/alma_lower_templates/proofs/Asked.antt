@@ -17,14 +17,17 @@ use Rattle.alma_ir.specs.Checked.{RootExists, PartsExist, CellsAgree, LoopIsApar
 use Rattle.alma_ir.proofs.Each.{each_of_front, each_of_back}
 use Rattle.alma_ir.proofs.LinesBack.{count_sum, behind_two}
 use Rattle.alma_mean.specs.Meaning.{Level}
-use Rattle.alma_lower_implements.proofs.Frames.{HasSlots}
-use Rattle.alma_lower_implements.proofs.ExprRows.{slots_behind}
+use Rattle.alma_lower_implements.proofs.Frames.{HasSlots, shift}
+use Rattle.alma_lower_implements.proofs.ExprRows.{AreVariables, slots_behind}
 use Rattle.alma_lower_templates.specs.Tables.{Tables, range_number, text_number, is_whole}
-use Rattle.alma_lower_templates.specs.Slots.{bare, bare_desig, unless_bare, is_simple, is_simple_expr, mark_slots, expr_slots, desig_slots, test_slots}
-use Rattle.alma_lower_templates.specs.Templates.{char_range}
+use Rattle.alma_lower_templates.specs.Slots.{bare, bare_desig, unless_bare, ends_alone, own_place, is_simple, is_simple_expr, mark_slots, expr_slots, desig_slots, test_slots}
+use Rattle.alma_lower_templates.specs.Pieces.{straight}
+use Rattle.alma_lower_templates.specs.Templates.{char_range, expr_code}
 use Rattle.alma_lower_templates.proofs.AtOnce.{BareFits, AtOnce}
 use Rattle.alma_lower_templates.proofs.First.{ConstantFits}
-use Rattle.alma_lower_templates.proofs.ExprForms.{NextRuns}
+use Rattle.alma_lower_templates.proofs.Destinations.{into}
+use Rattle.alma_lower_templates.proofs.ExprForms.{RunsTo, NextRuns}
+use Rattle.alma_lower_templates.proofs.OwnPlace.{OwnFits}
 use Rattle.alma_lower_templates.proofs.FormRuns.{ExprRuns, DesigRuns, TestRuns}
 use Rattle.alma_lower_templates.proofs.GuardedForms.{Decided, decided}
 use Rattle.alma_mean.specs.Meaning.{ev_test}
@@ -229,6 +232,7 @@ module _ (p : Program) (tables : Tables) (code : PlainCode) (input : List ℕ) w
   module _ (below : Level) (r line q : ℕ) where
     pub record DesigGoes (d : Desig) : Type 0 where
       pub fits : desig_cells d ≡ 1 → BareFits p tables code input below r line q (bare_desig d)
+      pub own : desig_cells d ≡ 1 → OwnFits p code input r (own_place d)
       pub runs : (at lo : ℕ) → HasSlots p code r lo (desig_slots p r d) → DesigRuns p tables code input below r line q at lo d
 
     -- both operands of a comparison
@@ -242,6 +246,7 @@ module _ (p : Program) (tables : Tables) (code : PlainCode) (input : List ℕ) w
       pub constants : ConstantFits p tables code input below r line q x
       pub runs : (at lo : ℕ) → HasSlots p code r lo (expr_slots p r x) → ExprRuns p tables code input below r line q at lo x
       pub operands : (how : Cmp) (a b : Expr) → x ≡ Compare how a b → OperandsGo a b
+      pub straightly : (to at lo : ℕ) → ends_alone x ≡ true → AreVariables p code input r to 1 → HasSlots p code r lo (expr_slots p r x) → RunsTo p tables code input below r line q (into p code input to lo r) at (straight (shift p r + to) (expr_code p tables r line at lo x)) x
 
     pub record TestGoes (t : Test) : Type 0 where
       pub runs : (at lo : ℕ) → HasSlots p code r lo (test_slots p r t) → TestRuns p tables code input below r line q at lo t

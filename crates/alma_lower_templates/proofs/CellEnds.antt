@@ -19,7 +19,9 @@ use Rattle.alma_mean.specs.Rows.{read_cell, known_bit}
 use Rattle.alma_lower_implements.proofs.Frames.{own_end, AreNumbers, SamePlace, SameContent, StandFor}
 use Rattle.alma_lower_implements.proofs.FrameLemmas.{content_there}
 use Rattle.alma_lower_implements.proofs.Steps.{InstrAt, load_step, load_unknown}
+use Rattle.alma_lower_implements.proofs.Ways.{Ways}
 use Rattle.alma_lower_templates.proofs.Parts.{Begins, has_kind, IsPlace, ValueIn, From, leaving, faults_here, value_ends}
+use Rattle.alma_lower_templates.proofs.Destinations.{Destination}
 use Rattle.alma_lower_templates.proofs.PlaceSteps.{known_step, not_known_step}
 
 module _ (p : Program) (code : PlainCode) (input : List ℕ) where
@@ -49,22 +51,22 @@ module _ (p : Program) (code : PlainCode) (input : List ℕ) where
   pub cell_is : (r n size : ℕ) (v : Store) (a : Place) (now : List PlainFrame) → 0 < size → Begins p code input r v now → (h : IsPlace p code input n size v a now) → CellIs v a now h.place
   cell_is r n size v a now some b h = cell_there v a now h.place b.stand h.numbers (omega (arith, some, h.sized)) h.same
 
-  module _ (line q at lo r place_slot size : ℕ) (v : Store) (now : List PlainFrame) (a : Place) (behind : own_end p r ≤ lo) (kind : slice_get (kinds_at code r) lo ≡ Some slot.Number) (some : 0 < size) (b : Begins p code input r v now) (h : IsPlace p code input place_slot size v a now) where
+  module _ (line q at lo r place_slot size : ℕ) (v : Store) (now : List PlainFrame) (a : Place) (some : 0 < size) (b : Begins p code input r v now) (h : IsPlace p code input place_slot size v a now) where
     -- the number there is loaded
-    pub load_ends : InstrAt code input line at (I.Load lo place_slot) → From p code input line 8 at (at + 1) now (leaving p code input lo r now (ValueIn p code input lo)) (read_cell (cell_of v a) (λ x. one v x)) q
-    load_ends i = by (cell_is r place_slot size v a now some b h)
+    pub load_to : (to : ℕ) (w : List PlainFrame → Ways ℤ) → Destination p code input line q lo r to w → InstrAt code input line at (I.Load to place_slot) → From p code input line 8 at (at + 1) now (w now) (read_cell (cell_of v a) (λ x. one v x)) q
+    load_to to w takes i = by (cell_is r place_slot size v a now some b h)
       where
-        by : CellIs v a now h.place → From p code input line 8 at (at + 1) now (leaving p code input lo r now (ValueIn p code input lo)) (read_cell (cell_of v a) (λ x. one v x)) q
+        by : CellIs v a now h.place → From p code input line 8 at (at + 1) now (w now) (read_cell (cell_of v a) (λ x. one v x)) q
         by (is_number x e live is integer) =
-            subst (λ c. From p code input line 8 at (at + 1) now (leaving p code input lo r now (ValueIn p code input lo)) (read_cell c (λ x. one v x)) q) (sym e)
-            (value_ends p code input line 7 at lo r v now x q behind kind integer b (λ held s there. load_step code input line at now held s there lo place_slot h.place x i (has_kind p code input r lo v now slot.Number kind b) h.holds (live, is)))
+            subst (λ c. From p code input line 8 at (at + 1) now (w now) (read_cell c (λ x. one v x)) q) (sym e)
+            (takes.ends 7 at v now x b integer (λ held s there. load_step code input line at now held s there to place_slot h.place x i (takes.kind v now b) h.holds (live, is)))
         by (is_unknown e live is) =
-            subst (λ c. From p code input line 8 at (at + 1) now (leaving p code input lo r now (ValueIn p code input lo)) (read_cell c (λ x. one v x)) q) (sym e)
-            (faults_here p code input line 7 at (at + 1) now (leaving p code input lo r now (ValueIn p code input lo)) fault.Unknown q (λ held s there. load_unknown code input line at now held s there lo place_slot h.place i h.holds (live, is)))
+            subst (λ c. From p code input line 8 at (at + 1) now (w now) (read_cell c (λ x. one v x)) q) (sym e)
+            (faults_here p code input line 7 at (at + 1) now (w now) fault.Unknown q (λ held s there. load_unknown code input line at now held s there to place_slot h.place i h.holds (live, is)))
 
     -- whether a number is there
-    pub known_ends : InstrAt code input line at (I.Known lo place_slot) → From p code input line 8 at (at + 1) now (leaving p code input lo r now (ValueIn p code input lo)) (one v (known_bit (cell_of v a))) q
-    known_ends i = by (cell_is r place_slot size v a now some b h)
+    pub known_ends : own_end p r ≤ lo → slice_get (kinds_at code r) lo ≡ Some slot.Number → InstrAt code input line at (I.Known lo place_slot) → From p code input line 8 at (at + 1) now (leaving p code input lo r now (ValueIn p code input lo)) (one v (known_bit (cell_of v a))) q
+    known_ends behind kind i = by (cell_is r place_slot size v a now some b h)
       where
         by : CellIs v a now h.place → From p code input line 8 at (at + 1) now (leaving p code input lo r now (ValueIn p code input lo)) (one v (known_bit (cell_of v a))) q
         by (is_number x e live is integer) =

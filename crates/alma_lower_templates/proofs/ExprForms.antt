@@ -1,5 +1,5 @@
 -- The forms of expressions, from template to run: constants, variables, sums, comparisons, KNOWN and CHR.
-use Rattle.std.proofs.Common.{◌≡◌, ℕ, ◌+◌, ◌<◌, ◌≤◌, Bool, true, false, not, List, [], ◌∷◌, ◌++◌, ◌⊎◌, inl, length, Option, Some, None, refl, sym, ap, ◌∙◌, subst, arith, ℤ, pos, append_assoc}
+use Rattle.std.proofs.Common.{◌≡◌, ℕ, ◌+◌, ◌<◌, ◌≤◌, Bool, true, false, not, List, [], ◌∷◌, ◌++◌, inl, length, Option, Some, None, refl, sym, ap, ◌∙◌, subst, arith, ℤ, pos, append_assoc}
 use Rattle.std.specs.Prelude.{slice_get}
 use Rattle.std.proofs.lemmas.List.{length-append}
 use Rattle.alma_base.specs.declared.fault.RunFault.TheVariants as fault
@@ -16,9 +16,10 @@ use Rattle.alma_code.specs.Machine.{act}
 use Rattle.alma_ir.specs.declared.phrase.Op.{Op}
 use Rattle.alma_ir.specs.declared.phrase.Cmp.{Cmp}
 use Rattle.alma_ir.specs.declared.phrase.Cmp.TheVariants as cmp
-use Rattle.alma_ir.specs.Tree.{Program, Expr, Links, Desig, Const, Load, Chain, Compare, Truth, Known, Chr, CallExpr, no_links, more_links, Value}
+use Rattle.alma_ir.specs.Tree.{Program, Expr, Links, Desig, Const, Load, Chain, Compare, Truth, Known, Chr, CallExpr, no_links, more_links, Value, a_desig, no_sels}
 use Rattle.alma_ir.specs.Checked.{desig_cells}
-use Rattle.alma_mean.specs.Store.{Store, cell_of, top_cell}
+use Rattle.alma_ir.specs.declared.phrase.Root.TheVariants as root
+use Rattle.alma_mean.specs.Store.{Store, Place, cell_of, top_cell}
 use Rattle.alma_mean.specs.Events.{Events, NoYield, Visit, Fail, one, join, bind}
 use Rattle.alma_mean.specs.Arithmetic.{apply_op, apply_sign, compares}
 use Rattle.alma_mean.specs.Rows.{read_cell, known_bit}
@@ -30,20 +31,24 @@ use Rattle.alma_lower_implements.proofs.ExprRows.{first_kind, slots_first, AreVa
 use Rattle.alma_lower_implements.proofs.ForSteps.{SlotThere, a_number, not_known, slot_there, move_step}
 use Rattle.alma_lower_implements.proofs.Numbers.{bit_integer, zero_bit}
 use Rattle.alma_lower_implements.proofs.Steps.{Holds, InstrAt, const_step, does, equal_step, zero_jumps, other_goes_on, fail_step}
-use Rattle.alma_lower_implements.proofs.Ways.{Leaves}
+use Rattle.alma_lower_implements.proofs.Ways.{Ways, Leaves}
 use Rattle.alma_lower_templates.specs.Lined.{Lined, own, in_row}
 use Rattle.alma_lower_templates.specs.Tables.{Tables}
-use Rattle.alma_lower_templates.specs.Slots.{bare, bare_desig, stays, stays_in, unless_bare, expr_slots, links_slots, desig_slots, test_slots, mark_slots, is_simple, call_links, handed_slots, args_slots, behind_expr, behind_value}
-use Rattle.alma_lower_templates.specs.Pieces.{op_code, cmp_code, unequal_code, neg_code}
+use Rattle.alma_lower_templates.specs.Slots.{bare, bare_desig, own_place, has_operator, stays, stays_in, unless_bare, expr_slots, links_slots, desig_slots, test_slots, mark_slots, is_simple, call_links, handed_slots, args_slots, behind_expr, behind_value}
+use Rattle.alma_lower_templates.specs.Pieces.{op_code, cmp_code, unequal_code, straight, neg_code}
 use Rattle.alma_lower_templates.specs.Templates.{expr_code, links_code, desig_code, place_at, slot_or, value_at, load_by}
 use Rattle.alma_lower_templates.specs.Stands.{Stands}
 use Rattle.alma_lower_templates.proofs.Stands.{stands_front, stands_back}
-use Rattle.alma_lower_templates.proofs.Parts.{Begins, begins, has_kind, holds_after, value_after, IsValue, ValueIn, PlaceIn, Nothing, NodeRuns, NodeFor, From, leaving, from_more, node_runs, then_from, alone_from, faults_here, fails_here, ends_here, value_ends, value_goes_on}
+use Rattle.alma_lower_templates.proofs.Parts.{Begins, begins, has_kind, holds_after, value_after, IsValue, ValueIn, PlaceIn, Nothing, NodeRuns, NodeFor, From, leaving, leaving_carries, from_more, node_runs, then_from, then_ways, value_then, alone_from, faults_here, fails_here, ends_here, value_ends, value_goes_on}
 use Rattle.alma_lower_templates.proofs.Tested.{operands_code, compared_code}
-use Rattle.alma_lower_templates.proofs.AtOnce.{AtOnce, BareFits, at_once, bare_place}
+use Rattle.alma_lower_templates.proofs.AtOnce.{AtOnce, BareFits, at_once, at_once_ways, bare_place}
 use Rattle.alma_lower_templates.proofs.First.{ReadsBoth, second_reads, ConstantFits, stays_is, both_from}
 use Rattle.alma_lower_templates.proofs.OperatorParts.{op_reads, equal_reads, cmp_reads, op_from, sign_from, compare_ends}
-use Rattle.alma_lower_templates.proofs.CellEnds.{load_ends, known_ends}
+use Rattle.alma_lower_templates.proofs.CellEnds.{load_to, known_ends}
+use Rattle.alma_lower_templates.proofs.Destinations.{Destination, first_takes}
+use Rattle.alma_lower_templates.proofs.OwnPlace.{ReadsPlace, OwnFits, own_place_is, own_from}
+use Rattle.alma_lower_templates.proofs.RootForms.{IsParam}
+use Rattle.alma_lower_templates.proofs.Straight.{ends_code, put_by, ends_same, straight_ends, straight_behind, straight_last, some_links}
 use Rattle.alma_lower_templates.proofs.RangeChecks.{past_from}
 use Rattle.alma_lower_templates.proofs.FormRuns.{ExprRuns, DesigRuns, TestRuns}
 
@@ -71,15 +76,20 @@ module _ (p : Program) (code : PlainCode) (input : List ℕ) (r : ℕ) where
   some_slots (CallExpr called args up) = omega arith
 
 module _ (p : Program) (tables : Tables) (code : PlainCode) (input : List ℕ) (below : Level) (r line q : ℕ) where
+  -- an expression that runs to ways of its own
+  abbrev pub RunsTo : (w : List PlainFrame → Ways ℤ) → (at : ℕ) → List Lined → Expr → Type 0
+  RunsTo w at made x = Stands code at made → (v : Store) (now : List PlainFrame) → Begins p code input r v now → NodeRuns p code input line at (at + length made) now (w now) (ev_expr p input below x v) q
+
   -- ---- constants
 
-  pub const_runs : (at lo : ℕ) (n : ℤ) → is_integer n ≡ true → HasSlots p code r lo (slot.Number ∷ []) → ExprRuns p tables code input below r line q at lo (Const n)
+  pub const_to : (at lo end : ℕ) (n : ℤ) (w : List PlainFrame → Ways ℤ) → is_integer n ≡ true → Destination p code input line q lo r end w → RunsTo w at (own line (I.Const end n ∷ [])) (Const n)
   unfolding ev_expr
-  const_runs at lo n integer slots stands v now b =
-      let kind = first_kind p code input r lo slot.Number [] slots in
-      node_runs p code input line 8 at (at + 1) now (leaving p code input lo r now (ValueIn p code input lo)) (one v n) q (omega arith)
-      (value_ends p code input line 7 at lo r v now n q slots.behind kind integer b
-      (λ held s is. const_step code input line at now held s is lo n (record { instr = stands.0; on_line = stands.1 }) (has_kind p code input r lo v now slot.Number kind b)))
+  const_to at lo end n w integer takes stands v now b =
+      node_runs p code input line 8 at (at + 1) now (w now) (one v n) q (omega arith)
+      (takes.ends 7 at v now n b integer (λ held s is. const_step code input line at now held s is end n (record { instr = stands.0; on_line = stands.1 }) (takes.kind v now b)))
+
+  pub const_runs : (at lo : ℕ) (n : ℤ) → is_integer n ≡ true → HasSlots p code r lo (slot.Number ∷ []) → ExprRuns p tables code input below r line q at lo (Const n)
+  const_runs at lo n integer slots = const_to at lo lo n (λ t. leaving p code input lo r t (ValueIn p code input lo)) integer (first_takes p code input line q lo r slots.behind (first_kind p code input r lo slot.Number [] slots))
 
   -- ---- variables
 
@@ -101,91 +111,120 @@ module _ (p : Program) (tables : Tables) (code : PlainCode) (input : List ℕ) (
           (faults_here p code input line 7 at (at + 1) now (leaving p code input lo r now (ValueIn p code input lo)) fault.Unknown q
           (λ held s is. reads_unknown code input line at (shift p r + from) now held s (move_reads at lo (shift p r + from) now i) is i.on_line hold))
 
-  load_of : (at lo : ℕ) (d : Desig) (o : Option ℕ) → bare_desig d ≡ o → BareFits p tables code input below r line q o → (o ≡ None → DesigRuns p tables code input below r line q at (lo + 1) d) → desig_cells d ≡ 1
-      → HasSlots p code r lo (slot.Number ∷ unless_bare o (desig_slots p r d)) → (made : List Lined) → made ≡ unless_bare o (desig_code p tables r line at (lo + 1) d) ++ own line (load_by p tables r o lo d ∷ [])
-      → NodeFor p code input r line at lo made (ev_expr p input below (Load d)) (ValueIn p code input lo) q
+  load_reads : (at to from : ℕ) (now : List PlainFrame) → InstrAt code input line at (I.Load to from) → ReadsPlace code input at from now
+  unfolding act
+  load_reads at to from now i held s is = (_, does code input line at now held s (I.Load to from) is i)
+
+  -- the number at a place: that of a whole parameter stands in its own slot
+  load_by_place : (at lo end : ℕ) (d : Desig) (w : List PlainFrame → Ways ℤ) (o : Option ℕ) → own_place d ≡ o → OwnFits p code input r o → Destination p code input line q lo r end w → DesigRuns p tables code input below r line q at (lo + 1) d → desig_cells d ≡ 1
+      → RunsTo w at (unless_bare o (desig_code p tables r line at (lo + 1) d) ++ own line (I.Load end (slot_or p tables r o (place_at p tables r (lo + 1) d)) ∷ [])) (Load d)
   unfolding ev_expr
-  load_of at lo d None e fits runs cells slots made is stands v now b =
+  load_by_place at lo end d w None e fits takes runs cells stands v now b =
       let inner : List Lined = desig_code p tables r line at (lo + 1) d in
       let m : ℕ = at + length inner in
-      let last : List Lined = own line (I.Load lo (place_at p tables r (lo + 1) d) ∷ []) in
-      let there : Stands code at (inner ++ last) = subst (Stands code at) is stands in
-      let back = stands_back code at inner last there in
+      let last : List Lined = own line (I.Load end (place_at p tables r (lo + 1) d) ∷ []) in
+      let back = stands_back code at inner last stands in
       let whole : length (inner ++ last) ≡ length inner + 1 = length-append inner last in
-      let long : length made ≡ length (inner ++ last) = ap length is in
-      let end : m + 1 ≡ at + length made = omega (arith, whole, long) in
-      let kind = first_kind p code input r lo slot.Number (desig_slots p r d) slots in
-      subst (λ n. NodeRuns p code input line at n now (leaving p code input lo r now (ValueIn p code input lo)) (ev_expr p input below (Load d) v) q) end
-      (node_runs p code input line 0 at (m + 1) now (leaving p code input lo r now (ValueIn p code input lo)) (bind (ev_desig p input below d v) (λ t a. read_cell (cell_of t a) (λ n. one t n))) q (omega arith)
-      (then_from p code input line at m (m + 1) lo (lo + 1) r now (PlaceIn p code input (place_at p tables r (lo + 1) d) (desig_cells d)) (ValueIn p code input lo) (ev_desig p input below d v) (λ t a. read_cell (cell_of t a) (λ n. one t n)) q (omega arith) slots.behind
-      (runs refl (stands_front code at inner last there) v now b)
-      (λ u a t left place. load_ends p code input line q m lo r (place_at p tables r (lo + 1) d) (desig_cells d) u t a slots.behind kind (omega (arith, cells)) (begins p code input (lo + 1) r now u t left) place (record { instr = back.0; on_line = back.1 }))))
-  load_of at lo d (Some from) e fits runs cells slots made is stands v now b =
+      let exit_is : m + 1 ≡ at + length (inner ++ last) = omega (arith, whole) in
+      subst (λ n. NodeRuns p code input line at n now (w now) (ev_expr p input below (Load d) v) q) exit_is
+      (node_runs p code input line 0 at (m + 1) now (w now) (bind (ev_desig p input below d v) (λ t a. read_cell (cell_of t a) (λ n. one t n))) q (omega arith)
+      (then_ways p code input line at m (m + 1) lo (lo + 1) r now (PlaceIn p code input (place_at p tables r (lo + 1) d) (desig_cells d)) w (ev_desig p input below d v) (λ t a. read_cell (cell_of t a) (λ n. one t n)) q (omega arith) takes.carries
+      (runs (stands_front code at inner last stands) v now b)
+      (λ u a t left place. load_to p code input line q m lo r (place_at p tables r (lo + 1) d) (desig_cells d) u t a (omega (arith, cells)) (begins p code input (lo + 1) r now u t left) place end w takes (record { instr = back.0; on_line = back.1 }))))
+  load_by_place at lo end d w (Some from) e fits takes runs cells stands v now b =
+      let z = own_place_is d from e in
+      let i : InstrAt code input line at (I.Load end (shift p r + from)) = record { instr = stands.0; on_line = stands.1 } in
+      let one_cell : z.0 ≡ 1 = ap desig_cells (sym z.1) ∙ cells in
+      let k : Store → Place → Events ℤ = λ t a. read_cell (cell_of t a) (λ n. one t n) in
+      subst (λ y. NodeRuns p code input line at (at + 1) now (w now) (ev_expr p input below (Load y) v) q) (sym z.1)
+      (node_runs p code input line 0 at (at + 1) now (w now) (bind (ev_desig p input below (a_desig (root.Param from) z.0 no_sels) v) k) q (omega arith)
+      (own_from p code input r below line q at (at + 1) from z.0 v now (w now) k (subst (IsParam p code input r from) (sym one_cell) fits) b i.on_line (load_reads at end (shift p r + from) now i)
+      (λ a place. load_to p code input line q at lo r (shift p r + from) z.0 v now a (omega (arith, one_cell)) b place end w takes i)))
+
+  -- whatever variable it is
+  load_of : (at lo : ℕ) (d : Desig) (o : Option ℕ) → bare_desig d ≡ o → BareFits p tables code input below r line q o → OwnFits p code input r (own_place d) → (o ≡ None → DesigRuns p tables code input below r line q at (lo + 1) d) → desig_cells d ≡ 1
+      → HasSlots p code r lo (slot.Number ∷ unless_bare o (desig_slots p r d))
+      → NodeFor p code input r line at lo (unless_bare o (unless_bare (own_place d) (desig_code p tables r line at (lo + 1) d)) ++ own line (load_by p tables r o lo d ∷ [])) (ev_expr p input below (Load d)) (ValueIn p code input lo) q
+  unfolding ev_expr
+  load_of at lo d None e fits param runs cells slots stands v now b =
+      let takes = first_takes p code input line q lo r slots.behind (first_kind p code input r lo slot.Number (desig_slots p r d) slots) in
+      load_by_place at lo lo d (λ t. leaving p code input lo r t (ValueIn p code input lo)) (own_place d) refl param takes (runs refl) cells stands v now b
+  load_of at lo d (Some from) e fits param runs cells slots stands v now b =
       let z = bare_place d from e in
-      let there : Stands code at (own line (I.Move lo (shift p r + from) ∷ [])) = subst (Stands code at) is stands in
-      let long : length made ≡ 1 = ap length is in
-      let end : at + 1 ≡ at + length made = omega (arith, long) in
       let kind = first_kind p code input r lo slot.Number [] slots in
       let w = leaving p code input lo r now (ValueIn p code input lo) in
-      subst (λ n. NodeRuns p code input line at n now w (ev_expr p input below (Load d) v) q) end
-      (subst (λ y. NodeRuns p code input line at (at + 1) now w (ev_expr p input below (Load y) v) q) (sym z.1)
+      subst (λ y. NodeRuns p code input line at (at + 1) now w (ev_expr p input below (Load y) v) q) (sym z.1)
       (node_runs p code input line 8 at (at + 1) now w (Visit (Visit (join (read_cell (top_cell v from) (λ n. one v n)) Fail))) q (omega arith)
       (λ held s here. weaker code input line 0 24 (Leaves (at + 1) w) held (join (read_cell (top_cell v from) (λ n. one v n)) Fail) s 72 8 q q (omega arith) (omega arith)
       (alone_from p code input line 8 at (at + 1) now w (read_cell (top_cell v from) (λ n. one v n)) q
-      (move_from at lo from v now slots.behind kind fits (record { instr = there.0; on_line = there.1 }) b) held s here))))
+      (move_from at lo from v now slots.behind kind fits (record { instr = stands.0; on_line = stands.1 }) b) held s here)))
 
-  pub load_runs : (at lo : ℕ) (d : Desig) → BareFits p tables code input below r line q (bare_desig d) → (bare_desig d ≡ None → DesigRuns p tables code input below r line q at (lo + 1) d) → desig_cells d ≡ 1
+  pub load_runs : (at lo : ℕ) (d : Desig) → BareFits p tables code input below r line q (bare_desig d) → OwnFits p code input r (own_place d) → (bare_desig d ≡ None → DesigRuns p tables code input below r line q at (lo + 1) d) → desig_cells d ≡ 1
       → HasSlots p code r lo (expr_slots p r (Load d)) → ExprRuns p tables code input below r line q at lo (Load d)
-  load_runs at lo d fits runs cells slots = load_of at lo d (bare_desig d) refl fits runs cells slots (expr_code p tables r line at lo (Load d)) refl
+  load_runs at lo d fits param runs cells slots = load_of at lo d (bare_desig d) refl fits param runs cells slots
+
+  -- the number at a place, into any slot
+  pub load_straight : (at lo end : ℕ) (d : Desig) (w : List PlainFrame → Ways ℤ) → bare_desig d ≡ None → OwnFits p code input r (own_place d) → DesigRuns p tables code input below r line q at (lo + 1) d → desig_cells d ≡ 1 → Destination p code input line q lo r end w
+      → RunsTo w at (straight end (expr_code p tables r line at lo (Load d))) (Load d)
+  load_straight at lo end d w none param runs cells takes =
+      let inner : List Lined = unless_bare (own_place d) (desig_code p tables r line at (lo + 1) d) in
+      let there : straight end (expr_code p tables r line at lo (Load d)) ≡ inner ++ own line (I.Load end (slot_or p tables r (own_place d) (place_at p tables r (lo + 1) d)) ∷ []) =
+      ap (λ o. straight end (unless_bare o inner ++ own line (load_by p tables r o lo d ∷ []))) none ∙ straight_last end line inner (I.Load lo (slot_or p tables r (own_place d) (place_at p tables r (lo + 1) d))) in
+      subst (λ c. RunsTo w at c (Load d)) (sym there) (load_by_place at lo end d w (own_place d) refl param takes runs cells)
 
   -- ---- sums and products
 
-  -- the operators behind a value that stands in the slot `to`
-  abbrev pub LinksRun : (at to lo : ℕ) → Links → Type 0
-  LinksRun at to lo links =
-      Stands code at (links_code p tables r line at to to lo links) → (v : Store) (now : List PlainFrame) (n : ℤ) → Begins p code input r v now → IsValue p code input to n now
-      → From p code input line 0 at (at + length (links_code p tables r line at to to lo links)) now (leaving p code input to r now (ValueIn p code input to)) (ev_links p input below links n v) q
-
-  pub no_links_run : (at to lo : ℕ) → LinksRun at to lo no_links
-  unfolding ev_expr
-  no_links_run at to lo stands v now n b value =
-      let zero : at ≡ at + 0 = omega arith in
-      subst (λ m. From p code input line 0 at m now (leaving p code input to r now (ValueIn p code input to)) (one v n) q) zero (ends_here p code input line 0 at to r v now (ValueIn p code input to) n q b value)
+  -- the operators behind a value that stands in the slot `to`, of which the last puts its value into the slot `end`
+  abbrev pub LinksRun : (end : ℕ) (w : List PlainFrame → Ways ℤ) → (at to lo : ℕ) → Links → Type 0
+  LinksRun end w at to lo no_links = Unit {0}
+  LinksRun end w at to lo (more_links how x rest) =
+      Stands code at (ends_code p tables r end line at to to lo (more_links how x rest)) → (v : Store) (now : List PlainFrame) (n : ℤ) → Begins p code input r v now → IsValue p code input to n now
+      → From p code input line 0 at (at + length (ends_code p tables r end line at to to lo (more_links how x rest))) now (w now) (ev_links p input below (more_links how x rest) n v) q
 
   -- an operator, and those behind it
-  operator_then : (m next to lo first operand : ℕ) (how : Op) (rest : Links) → next ≡ m + 1 → own_end p r ≤ to → slice_get (kinds_at code r) to ≡ Some slot.Number → InstrAt code input line m (op_code how to first operand)
-      → Stands code next (links_code p tables r line next to to lo rest) → LinksRun next to lo rest → (u : Store) (t : List PlainFrame) (n y : ℤ) → Begins p code input r u t → IsValue p code input first n t → IsValue p code input operand y t
-      → From p code input line 8 m (next + length (links_code p tables r line next to to lo rest)) t (leaving p code input to r t (ValueIn p code input to)) (bind (apply_op u how n y) (λ x z. ev_links p input below rest z x)) q
-  operator_then m next to lo first operand how rest here behind kind i stands others u t n y b value operand_value =
-      let exit : ℕ = next + length (links_code p tables r line next to to lo rest) in
-      op_from p code input line q to r behind kind u t b m exit (ValueIn p code input to) (λ x z. ev_links p input below rest z x) how first operand n y i value.holds operand_value
-      (λ z t2 left2 value2.
-      subst (λ a. From p code input line 7 a exit t2 (leaving p code input to r t2 (ValueIn p code input to)) (ev_links p input below rest z u) q) here
-      (from_more p code input line 0 7 next exit t2 (leaving p code input to r t2 (ValueIn p code input to)) (ev_links p input below rest z u) q (omega arith)
-      (others stands u t2 z (begins p code input to r t u t2 left2) value2)))
-
-  pub more_links_run : (at to lo : ℕ) (how : Op) (x : Expr) (rest : Links) → to < lo → own_end p r ≤ to → slice_get (kinds_at code r) to ≡ Some slot.Number
-      → AtOnce p tables code input below r line q at lo x → ((next : ℕ) → LinksRun next to (behind_value p r lo x) rest) → LinksRun at to lo (more_links how x rest)
+  operator_then : (m next end to lo first operand : ℕ) (w : List PlainFrame → Ways ℤ) (how : Op) (rest : Links) → Destination p code input line q to r end w → next ≡ m + 1 → own_end p r ≤ to → slice_get (kinds_at code r) to ≡ Some slot.Number → InstrAt code input line m (op_code how (put_by rest to end) first operand)
+      → Stands code next (ends_code p tables r end line next to to lo rest) → LinksRun end w next to lo rest → (u : Store) (t : List PlainFrame) (n y : ℤ) → Begins p code input r u t → IsValue p code input first n t → IsValue p code input operand y t
+      → From p code input line 8 m (next + length (ends_code p tables r end line next to to lo rest)) t (w t) (bind (apply_op u how n y) (λ x z. ev_links p input below rest z x)) q
   unfolding ev_expr
-  more_links_run at to lo how x rest lt behind kind once others stands v now n b value =
+  operator_then m next end to lo first operand w how no_links takes here behind kind i stands others u t n y b value operand_value =
+      let exit_is : m + 1 ≡ next + 0 = omega (arith, here) in
+      subst (λ e. From p code input line 8 m e t (w t) (bind (apply_op u how n y) (λ x z. one x z)) q) exit_is
+      (op_from p code input line q end u t (takes.kind u t b) m (m + 1) (w t) (λ x z. one x z) how first operand n y i value.holds operand_value
+      (λ z integer writes. takes.ends 7 m u t z b integer writes))
+  operator_then m next end to lo first operand w how (more_links how2 x2 rest) takes here behind kind i stands others u t n y b value operand_value =
+      let links : Links = more_links how2 x2 rest in
+      let exit : ℕ = next + length (ends_code p tables r end line next to to lo links) in
+      op_from p code input line q to u t (has_kind p code input r to u t slot.Number kind b) m exit (w t) (λ x z. ev_links p input below links z x) how first operand n y i value.holds operand_value
+      (λ z integer writes.
+      value_then p code input line 7 m exit to r u t z w (ev_links p input below links z u) q behind kind integer b takes.carries writes
+      (λ t2 left2 value2.
+      subst (λ a. From p code input line 7 a exit t2 (w t2) (ev_links p input below links z u) q) here
+      (from_more p code input line 0 7 next exit t2 (w t2) (ev_links p input below links z u) q (omega arith)
+      (others stands u t2 z (begins p code input to r t u t2 left2) value2))))
+
+  pub more_links_run : (at end to lo : ℕ) (w : List PlainFrame → Ways ℤ) (how : Op) (x : Expr) (rest : Links) → Destination p code input line q to r end w → to < lo → own_end p r ≤ to → slice_get (kinds_at code r) to ≡ Some slot.Number
+      → AtOnce p tables code input below r line q at lo x → ((next : ℕ) → LinksRun end w next to (behind_value p r lo x) rest) → LinksRun end w at to lo (more_links how x rest)
+  unfolding ev_expr
+  more_links_run at end to lo w how x rest takes lt behind kind once others stands v now n b value =
+      let put : ℕ = put_by rest to end in
       let inner : List Lined = unless_bare (bare x) (expr_code p tables r line at lo x) in
       let operand : ℕ = value_at p tables r lo x in
-      let last : List Lined = own line (op_code how to to operand ∷ []) in
+      let last : List Lined = own line (op_code how put to operand ∷ []) in
       let m : ℕ = at + length inner in
       let next : ℕ = at + length (inner ++ last) in
-      let after : List Lined = links_code p tables r line next to to (behind_value p r lo x) rest in
+      let after : List Lined = ends_code p tables r end line next to to (behind_value p r lo x) rest in
       let front = stands_front code at (inner ++ last) after stands in
       let back = stands_back code at inner last front in
-      let i : InstrAt code input line m (op_code how to to operand) = record { instr = back.0; on_line = back.1 } in
+      let i : InstrAt code input line m (op_code how put to operand) = record { instr = back.0; on_line = back.1 } in
       let both : length (inner ++ last) ≡ length inner + 1 = length-append inner last in
       let whole : length ((inner ++ last) ++ after) ≡ length (inner ++ last) + length after = length-append (inner ++ last) after in
       let here : next ≡ m + 1 = omega (arith, both) in
-      let end : next + length after ≡ at + length ((inner ++ last) ++ after) = omega (arith, whole) in
-      subst (λ e. From p code input line 0 at e now (leaving p code input to r now (ValueIn p code input to)) (ev_links p input below (more_links how x rest) n v) q) end
-      (at_once p tables code input below r line q (next + length after) to lo at v now (ValueIn p code input to) (λ t y. bind (apply_op t how n y) (λ u z. ev_links p input below rest z u)) (omega (arith, lt)) behind b x once
-      (stands_front code at inner last front) i.on_line ((op_reads p code input line q to r behind kind how m to operand now i).other n value.holds)
+      let exit_is : next + length after ≡ at + length ((inner ++ last) ++ after) = omega (arith, whole) in
+      subst (λ e. From p code input line 0 at e now (w now) (ev_links p input below (more_links how x rest) n v) q) exit_is
+      (at_once_ways p tables code input below r line q (next + length after) to lo at v now w (λ t y. bind (apply_op t how n y) (λ u z. ev_links p input below rest z u)) (omega (arith, lt)) takes.carries b x once
+      (stands_front code at inner last front) i.on_line ((op_reads code input line put how m to operand now i).other n value.holds)
       (λ u y t left operand_value.
-      operator_then m next to (behind_value p r lo x) to operand how rest here behind kind i (stands_back code at (inner ++ last) after stands) (others next) u t n y (begins p code input lo r now u t left)
+      operator_then m next end to (behind_value p r lo x) to operand w how rest takes here behind kind i (stands_back code at (inner ++ last) after stands) (others next) u t n y (begins p code input lo r now u t left)
       (value_after p code input lo r to n v u now t b behind lt left value) operand_value))
 
   -- what is needed of an operand behind a first one
@@ -195,106 +234,155 @@ module _ (p : Program) (tables : Tables) (code : PlainCode) (input : List ℕ) (
     pub slots : HasSlots p code r la (unless_bare (bare y) (expr_slots p r y))
 
   -- and of the operators behind it
-  abbrev pub OthersRun : (to la : ℕ) → Links → Type 0
-  OthersRun to la no_links = Unit {0}
-  OthersRun to la (more_links how y rest) = NextRuns la y × ((next : ℕ) → LinksRun next to (behind_value p r la y) rest)
+  abbrev pub OthersRun : (end : ℕ) (w : List PlainFrame → Ways ℤ) → (to la : ℕ) → Links → Type 0
+  OthersRun end w to la no_links = Unit {0}
+  OthersRun end w to la (more_links how y rest) = NextRuns la y × ((next : ℕ) → LinksRun end w next to (behind_value p r la y) rest)
 
-  next_kind : (la : ℕ) (y : Expr) → HasSlots p code r la (unless_bare (bare y) (expr_slots p r y)) → bare y ≡ None → slice_get (kinds_at code r) la ≡ Some slot.Number
+  pub next_kind : (la : ℕ) (y : Expr) → HasSlots p code r la (unless_bare (bare y) (expr_slots p r y)) → bare y ≡ None → slice_get (kinds_at code r) la ≡ Some slot.Number
   next_kind la y slots none = first_slot p code input r la y (subst (λ o. HasSlots p code r la (unless_bare o (expr_slots p r y))) none slots)
 
+  -- the operators behind a first operand that does not stay
+  behind_run : (at end lo la : ℕ) (w : List PlainFrame → Ways ℤ) (links : Links) → Destination p code input line q lo r end w → lo < la → own_end p r ≤ lo → slice_get (kinds_at code r) lo ≡ Some slot.Number → OthersRun end w lo la links → LinksRun end w at lo la links
+  behind_run at end lo la w no_links takes lt behind kind others = tt
+  behind_run at end lo la w (more_links how y rest) takes lt behind kind others = more_links_run at end lo la w how y rest takes lt behind kind (others.0.once at) others.1
+
   -- a first operand that stays, its operator and the next operand
-  stays_run : (at lo la : ℕ) (how : Op) (x y : Expr) (rest : Links) (from : ℕ) → stays x y ≡ Some from → lo < la → own_end p r ≤ lo → slice_get (kinds_at code r) lo ≡ Some slot.Number → BareFits p tables code input below r line q (bare x) → OthersRun lo la (more_links how y rest)
-      → Stands code at (links_code p tables r line at (shift p r + from) lo la (more_links how y rest)) → (v : Store) (now : List PlainFrame) → Begins p code input r v now
-      → From p code input line 0 at (at + length (links_code p tables r line at (shift p r + from) lo la (more_links how y rest))) now (leaving p code input lo r now (ValueIn p code input lo))
+  stays_run : (at end lo la : ℕ) (w : List PlainFrame → Ways ℤ) (how : Op) (x y : Expr) (rest : Links) (from : ℕ) → stays x y ≡ Some from → Destination p code input line q lo r end w → lo < la → own_end p r ≤ lo → slice_get (kinds_at code r) lo ≡ Some slot.Number
+      → BareFits p tables code input below r line q (bare x) → OthersRun end w lo la (more_links how y rest)
+      → Stands code at (ends_code p tables r end line at (shift p r + from) lo la (more_links how y rest)) → (v : Store) (now : List PlainFrame) → Begins p code input r v now
+      → From p code input line 0 at (at + length (ends_code p tables r end line at (shift p r + from) lo la (more_links how y rest))) now (w now)
       (bind (ev_expr p input below x v) (λ t n. bind (apply_sign false t n) (λ u z. ev_links p input below (more_links how y rest) z u))) q
   unfolding ev_expr
-  stays_run at lo la how x y rest from e lt behind kind fits others stands v now b =
+  stays_run at end lo la w how x y rest from e takes lt behind kind fits others stands v now b =
       let s = stays_is x y from e in
+      let put : ℕ = put_by rest lo end in
       let first : ℕ = shift p r + from in
       let inner : List Lined = unless_bare (bare y) (expr_code p tables r line at la y) in
       let operand : ℕ = value_at p tables r la y in
-      let last : List Lined = own line (op_code how lo first operand ∷ []) in
+      let last : List Lined = own line (op_code how put first operand ∷ []) in
       let m : ℕ = at + length inner in
       let next : ℕ = at + length (inner ++ last) in
-      let after : List Lined = links_code p tables r line next lo lo (behind_value p r la y) rest in
+      let after : List Lined = ends_code p tables r end line next lo lo (behind_value p r la y) rest in
       let front = stands_front code at (inner ++ last) after stands in
       let back = stands_back code at inner last front in
-      let i : InstrAt code input line m (op_code how lo first operand) = record { instr = back.0; on_line = back.1 } in
+      let i : InstrAt code input line m (op_code how put first operand) = record { instr = back.0; on_line = back.1 } in
       let both : length (inner ++ last) ≡ length inner + 1 = length-append inner last in
       let whole : length ((inner ++ last) ++ after) ≡ length (inner ++ last) + length after = length-append (inner ++ last) after in
       let here : next ≡ m + 1 = omega (arith, both) in
-      let end : next + length after ≡ at + length ((inner ++ last) ++ after) = omega (arith, whole) in
+      let exit_is : next + length after ≡ at + length ((inner ++ last) ++ after) = omega (arith, whole) in
       let exit : ℕ = next + length after in
-      let w = leaving p code input lo r now (ValueIn p code input lo) in
-      subst (λ a. From p code input line 0 at a now w (bind (ev_expr p input below x v) (λ t n. bind (apply_sign false t n) (λ u z. ev_links p input below (more_links how y rest) z u))) q) end
-      (both_from p tables code input below r line q exit lo la from v now (ValueIn p code input lo) (λ t n z. bind (apply_op t how n z) (λ u x2. ev_links p input below rest x2 u)) (omega (arith, lt)) behind b (subst (BareFits p tables code input below r line q) s.first fits)
+      subst (λ a. From p code input line 0 at a now (w now) (bind (ev_expr p input below x v) (λ t n. bind (apply_sign false t n) (λ u z. ev_links p input below (more_links how y rest) z u))) q) exit_is
+      (both_from p tables code input below r line q exit lo la from v now w (λ t n z. bind (apply_op t how n z) (λ u x2. ev_links p input below rest x2 u)) (omega (arith, lt)) behind takes.carries b (subst (BareFits p tables code input below r line q) s.first fits)
       at x y s (others.0.once at).fits others.0.constants (next_kind la y others.0.slots) (stands_front code at inner last front)
       (record {
         on_line = i.on_line;
-        reads = λ t. inl (op_reads p code input line q lo r behind kind how m first operand t i);
-        goes = λ n z t left value value2. operator_then m next lo (behind_value p r la y) first operand how rest here behind kind i (stands_back code at (inner ++ last) after stands) (others.1 next) v t n z (begins p code input lo r now v t left) value value2;
+        reads = λ t. inl (op_reads code input line put how m first operand t i);
+        goes = λ n z t left value value2. operator_then m next end lo (behind_value p r la y) first operand w how rest takes here behind kind i (stands_back code at (inner ++ last) after stands) (others.1 next) v t n z (begins p code input lo r now v t left) value value2;
       })
       (λ t n. bind (apply_sign false t n) (λ u z. ev_links p input below (more_links how y rest) z u))
-      (λ n goes. alone_from p code input line 8 at exit now w (ev_links p input below (more_links how y rest) n v) q goes))
+      (λ n goes. alone_from p code input line 8 at exit now (w now) (ev_links p input below (more_links how y rest) n v) q goes))
 
-  -- a chain whose first operand stays or not
-  abbrev chain_code : Option ℕ → (at lo : ℕ) → Bool → Expr → Links → List Lined
-  chain_code o at lo negated x links =
-      in_row at (unless_bare o (expr_code p tables r line at lo x) ++ own line (neg_code negated lo)) (λ next. links_code p tables r line next (slot_or p tables r o lo) lo (behind_expr p r lo x) links)
+  -- a chain whose first operand stays or not, and of which the last operator puts its value into the slot `end`
+  abbrev chain_code : Option ℕ → (at end lo : ℕ) → Bool → Expr → Links → List Lined
+  chain_code o at end lo negated x links =
+      in_row at (unless_bare o (expr_code p tables r line at lo x) ++ own line (neg_code negated lo)) (λ next. ends_code p tables r end line next (slot_or p tables r o lo) lo (behind_expr p r lo x) links)
+
+  -- the value behind the sign is the whole, or operators follow
+  abbrev Follows : (end lo la : ℕ) (w : List PlainFrame → Ways ℤ) → Links → Type 0
+  Follows end lo la w links =
+      (at : ℕ) → Stands code at (ends_code p tables r end line at lo lo la links) → (v : Store) (now : List PlainFrame) (n : ℤ) → Begins p code input r v now → IsValue p code input lo n now
+      → From p code input line 0 at (at + length (ends_code p tables r end line at lo lo la links)) now (w now) (ev_links p input below links n v) q
 
   -- where it does not
-  chain_of : (at lo : ℕ) (negated : Bool) (x : Expr) (links : Links) → HasSlots p code r lo (expr_slots p r (Chain negated x links)) → ExprRuns p tables code input below r line q at lo x
-      → ((next : ℕ) → LinksRun next lo (behind_expr p r lo x) links) → NodeFor p code input r line at lo (chain_code None at lo negated x links) (ev_expr p input below (Chain negated x links)) (ValueIn p code input lo) q
+  chain_of : (at end lo : ℕ) (w : List PlainFrame → Ways ℤ) (negated : Bool) (x : Expr) (links : Links) → Destination p code input line q lo r end w → HasSlots p code r lo (expr_slots p r (Chain negated x links)) → ExprRuns p tables code input below r line q at lo x
+      → Follows end lo (behind_expr p r lo x) w links → RunsTo w at (chain_code None at end lo negated x links) (Chain negated x links)
   unfolding ev_expr
-  chain_of at lo negated x links slots runs others stands v now b =
+  chain_of at end lo w negated x links takes slots runs others stands v now b =
       let kind = first_slot p code input r lo (Chain negated x links) slots in
       let inner : List Lined = expr_code p tables r line at lo x in
       let sign : List Lined = own line (neg_code negated lo) in
       let m : ℕ = at + length inner in
       let next : ℕ = at + length (inner ++ sign) in
-      let after : List Lined = links_code p tables r line next lo lo (behind_expr p r lo x) links in
+      let after : List Lined = ends_code p tables r end line next lo lo (behind_expr p r lo x) links in
       let front = stands_front code at (inner ++ sign) after stands in
       let both : length (inner ++ sign) ≡ length inner + length sign = length-append inner sign in
       let whole : length ((inner ++ sign) ++ after) ≡ length (inner ++ sign) + length after = length-append (inner ++ sign) after in
       let here : next ≡ m + length sign = omega (arith, both) in
-      let end : next + length after ≡ at + length ((inner ++ sign) ++ after) = omega (arith, whole) in
+      let exit_is : next + length after ≡ at + length ((inner ++ sign) ++ after) = omega (arith, whole) in
       let exit : ℕ = next + length after in
-      subst (λ e. NodeRuns p code input line at e now (leaving p code input lo r now (ValueIn p code input lo)) (ev_expr p input below (Chain negated x links) v) q) end
-      (node_runs p code input line 0 at exit now (leaving p code input lo r now (ValueIn p code input lo)) (bind (ev_expr p input below x v) (λ t n. bind (apply_sign negated t n) (λ u y. ev_links p input below links y u))) q (omega arith)
-      (then_from p code input line at m exit lo lo r now (ValueIn p code input lo) (ValueIn p code input lo) (ev_expr p input below x v) (λ t n. bind (apply_sign negated t n) (λ u y. ev_links p input below links y u)) q (omega arith) slots.behind
+      subst (λ e. NodeRuns p code input line at e now (w now) (ev_expr p input below (Chain negated x links) v) q) exit_is
+      (node_runs p code input line 0 at exit now (w now) (bind (ev_expr p input below x v) (λ t n. bind (apply_sign negated t n) (λ u y. ev_links p input below links y u))) q (omega arith)
+      (then_ways p code input line at m exit lo lo r now (ValueIn p code input lo) w (ev_expr p input below x v) (λ t n. bind (apply_sign negated t n) (λ u y. ev_links p input below links y u)) q (omega arith) takes.carries
       (runs (stands_front code at inner sign front) v now b)
       (λ u n t left value.
-      sign_from p code input line q lo r slots.behind kind u t (begins p code input lo r now u t left) negated m exit (ValueIn p code input lo) (λ x2 y. ev_links p input below links y x2) n (stands_back code at inner sign front) value
+      sign_from p code input line q lo r slots.behind kind u t (begins p code input lo r now u t left) negated m exit w (λ x2 y. ev_links p input below links y x2) n takes.carries (stands_back code at inner sign front) value
       (λ z t2 left2 value2.
-      subst (λ a. From p code input line 7 a exit t2 (leaving p code input lo r t2 (ValueIn p code input lo)) (ev_links p input below links z u) q) here
-      (from_more p code input line 0 7 next exit t2 (leaving p code input lo r t2 (ValueIn p code input lo)) (ev_links p input below links z u) q (omega arith)
+      subst (λ a. From p code input line 7 a exit t2 (w t2) (ev_links p input below links z u) q) here
+      (from_more p code input line 0 7 next exit t2 (w t2) (ev_links p input below links z u) q (omega arith)
       (others next (stands_back code at (inner ++ sign) after stands) u t2 z (begins p code input lo r t u t2 left2) value2))))))
 
   -- where it does
-  stays_of : (at lo : ℕ) (negated : Bool) (x : Expr) (links : Links) (from : ℕ) → stays_in negated x links ≡ Some from → HasSlots p code r lo (expr_slots p r (Chain negated x links)) → BareFits p tables code input below r line q (bare x)
-      → OthersRun lo (behind_expr p r lo x) links → NodeFor p code input r line at lo (chain_code (Some from) at lo negated x links) (ev_expr p input below (Chain negated x links)) (ValueIn p code input lo) q
+  stays_of : (at end lo : ℕ) (w : List PlainFrame → Ways ℤ) (negated : Bool) (x : Expr) (links : Links) (from : ℕ) → stays_in negated x links ≡ Some from → Destination p code input line q lo r end w → HasSlots p code r lo (expr_slots p r (Chain negated x links))
+      → BareFits p tables code input below r line q (bare x) → OthersRun end w lo (behind_expr p r lo x) links → RunsTo w at (chain_code (Some from) at end lo negated x links) (Chain negated x links)
   unfolding ev_expr
-  stays_of at lo true x links from e slots fits others stands v now b = absurd (cc)
-  stays_of at lo false x no_links from e slots fits others stands v now b = absurd (cc)
-  stays_of at lo false x (more_links how y rest) from e slots fits others stands v now b =
+  stays_of at end lo w true x links from e takes slots fits others stands v now b = absurd (cc)
+  stays_of at end lo w false x no_links from e takes slots fits others stands v now b = absurd (cc)
+  stays_of at end lo w false x (more_links how y rest) from e takes slots fits others stands v now b =
       let lo2 : ℕ = behind_expr p r lo x in
+      let first : ℕ = shift p r + from in
       let kind = first_slot p code input r lo (Chain false x (more_links how y rest)) slots in
       let zero : at + 0 ≡ at = omega arith in
-      let there : Stands code at (links_code p tables r line at (shift p r + from) lo lo2 (more_links how y rest)) = subst (λ m. Stands code at (links_code p tables r line m (shift p r + from) lo lo2 (more_links how y rest))) zero stands in
-      let w = leaving p code input lo r now (ValueIn p code input lo) in
+      let there : Stands code at (ends_code p tables r end line at first lo lo2 (more_links how y rest)) = subst (λ m. Stands code at (ends_code p tables r end line m first lo lo2 (more_links how y rest))) zero stands in
       let k : Store → ℤ → Events ℤ = λ t n. bind (apply_sign false t n) (λ u z. ev_links p input below (more_links how y rest) z u) in
-      subst (λ m. NodeRuns p code input line at (at + length (links_code p tables r line m (shift p r + from) lo lo2 (more_links how y rest))) now w (ev_expr p input below (Chain false x (more_links how y rest)) v) q) (sym zero)
-      (node_runs p code input line 0 at (at + length (links_code p tables r line at (shift p r + from) lo lo2 (more_links how y rest))) now w (bind (ev_expr p input below x v) k) q (omega arith)
-      (stays_run at lo lo2 how x y rest from e (omega (arith, some_slots p code input r x)) slots.behind kind fits others there v now b))
+      subst (λ m. NodeRuns p code input line at (at + length (ends_code p tables r end line m first lo lo2 (more_links how y rest))) now (w now) (ev_expr p input below (Chain false x (more_links how y rest)) v) q) (sym zero)
+      (node_runs p code input line 0 at (at + length (ends_code p tables r end line at first lo lo2 (more_links how y rest))) now (w now) (bind (ev_expr p input below x v) k) q (omega arith)
+      (stays_run at end lo lo2 w how x y rest from e takes (omega (arith, some_slots p code input r x)) slots.behind kind fits others there v now b))
 
-  chain_by : (at lo : ℕ) (negated : Bool) (x : Expr) (links : Links) (o : Option ℕ) → stays_in negated x links ≡ o → HasSlots p code r lo (expr_slots p r (Chain negated x links)) → ExprRuns p tables code input below r line q at lo x → BareFits p tables code input below r line q (bare x)
-      → ((next : ℕ) → LinksRun next lo (behind_expr p r lo x) links) → OthersRun lo (behind_expr p r lo x) links → NodeFor p code input r line at lo (chain_code o at lo negated x links) (ev_expr p input below (Chain negated x links)) (ValueIn p code input lo) q
-  chain_by at lo negated x links None e slots runs fits all others = chain_of at lo negated x links slots runs all
-  chain_by at lo negated x links (Some from) e slots runs fits all others = stays_of at lo negated x links from e slots fits others
+  chain_by : (at end lo : ℕ) (w : List PlainFrame → Ways ℤ) (negated : Bool) (x : Expr) (links : Links) (o : Option ℕ) → stays_in negated x links ≡ o → Destination p code input line q lo r end w → HasSlots p code r lo (expr_slots p r (Chain negated x links)) → ExprRuns p tables code input below r line q at lo x
+      → BareFits p tables code input below r line q (bare x) → Follows end lo (behind_expr p r lo x) w links → OthersRun end w lo (behind_expr p r lo x) links → RunsTo w at (chain_code o at end lo negated x links) (Chain negated x links)
+  chain_by at end lo w negated x links None e takes slots runs fits all others = chain_of at end lo w negated x links takes slots runs all
+  chain_by at end lo w negated x links (Some from) e takes slots runs fits all others = stays_of at end lo w negated x links from e takes slots fits others
+
+  -- operators that are some follow in any ways, and none only where the value stands already
+  some_follow : (end lo la : ℕ) (w : List PlainFrame → Ways ℤ) (links : Links) → has_operator links ≡ true → ((at : ℕ) → LinksRun end w at lo la links) → Follows end lo la w links
+  some_follow end lo la w no_links e all at stands v now n b value = absurd (let bad : false ≡ true = e in cc)
+  some_follow end lo la w (more_links how y rest) e all at stands v now n b value = all at stands v now n b value
+
+  all_follow : (lo la : ℕ) (links : Links) → ((at : ℕ) → LinksRun lo (λ t. leaving p code input lo r t (ValueIn p code input lo)) at lo la links) → Follows lo lo la (λ t. leaving p code input lo r t (ValueIn p code input lo)) links
+  unfolding ev_expr
+  all_follow lo la no_links all at stands v now n b value =
+      let zero : at ≡ at + 0 = omega arith in
+      subst (λ m. From p code input line 0 at m now (leaving p code input lo r now (ValueIn p code input lo)) (one v n) q) zero (ends_here p code input line 0 at lo r v now (ValueIn p code input lo) n q b value)
+  all_follow lo la (more_links how y rest) all at stands v now n b value = all at stands v now n b value
 
   pub chain_runs : (at lo : ℕ) (negated : Bool) (x : Expr) (links : Links) → HasSlots p code r lo (expr_slots p r (Chain negated x links)) → ExprRuns p tables code input below r line q at lo x → BareFits p tables code input below r line q (bare x)
-      → ((next : ℕ) → LinksRun next lo (behind_expr p r lo x) links) → OthersRun lo (behind_expr p r lo x) links → ExprRuns p tables code input below r line q at lo (Chain negated x links)
-  chain_runs at lo negated x links slots runs fits all others = chain_by at lo negated x links (stays_in negated x links) refl slots runs fits all others
+      → OthersRun lo (λ t. leaving p code input lo r t (ValueIn p code input lo)) lo (behind_expr p r lo x) links → ExprRuns p tables code input below r line q at lo (Chain negated x links)
+  chain_runs at lo negated x links slots runs fits others =
+      let la : ℕ = behind_expr p r lo x in
+      let kind = first_slot p code input r lo (Chain negated x links) slots in
+      let w : List PlainFrame → Ways ℤ = λ t. leaving p code input lo r t (ValueIn p code input lo) in
+      let takes = first_takes p code input line q lo r slots.behind kind in
+      let o : Option ℕ = stays_in negated x links in
+      let front : List Lined = unless_bare o (expr_code p tables r line at lo x) ++ own line (neg_code negated lo) in
+      let is = ap (λ c. front ++ c) (ends_same p tables r line (at + length front) (slot_or p tables r o lo) lo la links) in
+      subst (λ c. RunsTo w at c (Chain negated x links)) (sym is)
+      (chain_by at lo lo w negated x links o refl takes slots runs fits (all_follow lo la links (λ next. behind_run next lo lo la w links takes (omega (arith, some_slots p code input r x)) slots.behind kind others)) others)
+
+  -- the last operator puts its value into any slot
+  pub chain_straight : (at lo end : ℕ) (w : List PlainFrame → Ways ℤ) (negated : Bool) (x : Expr) (links : Links) → has_operator links ≡ true → Destination p code input line q lo r end w → HasSlots p code r lo (expr_slots p r (Chain negated x links)) → ExprRuns p tables code input below r line q at lo x
+      → BareFits p tables code input below r line q (bare x) → OthersRun end w lo (behind_expr p r lo x) links → RunsTo w at (straight end (expr_code p tables r line at lo (Chain negated x links))) (Chain negated x links)
+  chain_straight at lo end w negated x no_links e takes slots runs fits others = absurd (let bad : false ≡ true = e in cc)
+  chain_straight at lo end w negated x (more_links how y rest) e takes slots runs fits others =
+      let links : Links = more_links how y rest in
+      let la : ℕ = behind_expr p r lo x in
+      let kind = first_slot p code input r lo (Chain negated x links) slots in
+      let o : Option ℕ = stays_in negated x links in
+      let first : ℕ = slot_or p tables r o lo in
+      let front : List Lined = unless_bare o (expr_code p tables r line at lo x) ++ own line (neg_code negated lo) in
+      let next : ℕ = at + length front in
+      let is = straight_behind end front (links_code p tables r line next first lo la links) (some_links p tables r line next first lo la how y rest) ∙ ap (λ c. front ++ c) (straight_ends p tables r end line next first lo la how y rest) in
+      subst (λ c. RunsTo w at c (Chain negated x links)) (sym is)
+      (chain_by at end lo w negated x links o refl takes slots runs fits (some_follow end lo la w links e (λ m. behind_run m end lo la w links takes (omega (arith, some_slots p code input r x)) slots.behind kind others)) others)
 
   -- ---- comparisons
 
@@ -360,7 +448,7 @@ module _ (p : Program) (tables : Tables) (code : PlainCode) (input : List ℕ) (
         subst (λ n. NodeRuns p code input line at (at + length (unless_bare (bare y) (expr_code p tables r line n lo2 y) ++ last)) now w (ev_expr p input below (Compare how x y) v) q) (sym zero)
         (subst (λ n. NodeRuns p code input line at n now w (ev_expr p input below (Compare how x y) v) q) end
         (node_runs p code input line 0 at exit now w (bind (ev_expr p input below x v) k) q (omega arith)
-        (both_from p tables code input below r line q exit lo lo2 from v now yields (λ u n z. one u (bit (compares how n z))) (omega arith) slots.behind b (subst (BareFits p tables code input below r line q) s.first fits)
+        (both_from p tables code input below r line q exit lo lo2 from v now (λ t. leaving p code input lo r t yields) (λ u n z. one u (bit (compares how n z))) (omega arith) slots.behind (leaving_carries p code input lo r yields) b (subst (BareFits p tables code input below r line q) s.first fits)
         at x y s (next.once at).fits next.constants (next_kind lo2 y next.slots) (stands_front code at second last there)
         (record {
           on_line = lines m first operand compares_at;
@@ -381,7 +469,7 @@ module _ (p : Program) (tables : Tables) (code : PlainCode) (input : List ℕ) (
   compare_runs at lo how x y slots runs fits next =
       let kind = first_slot p code input r lo (Compare how x y) slots in
       compared_by at lo how x y (ValueIn p code input lo) (λ first operand. cmp_code how lo first operand) slots next (λ m first operand i. cmp_line how first operand m i)
-      (λ m first operand t i. cmp_reads p code input line q lo r slots.behind kind how m first operand t i)
+      (λ m first operand t i. cmp_reads code input line lo how m first operand t i)
       (λ m first operand n z u t b i hx hy. compare_ends p code input line q lo r slots.behind kind u t b how m first operand n z i hx hy) runs fits
     where
       cmp_line : (how : Cmp) (first operand n : ℕ) → Stands code n (own line (cmp_code how lo first operand)) → line_at code n ≡ line
@@ -435,7 +523,7 @@ module _ (p : Program) (tables : Tables) (code : PlainCode) (input : List ℕ) (
       (node_runs p code input line 0 at (n2 + 2) now w (bind (ev_expr p input below (Compare cmp.Unequal x y) v) k) q (omega arith)
       (then_from p code input line at n2 (n2 + 2) lo lo r now (ContraryIn lo) (Nothing p code input) (ev_expr p input below (Compare cmp.Unequal x y) v) k q (omega arith) slots.behind
       (compared_by at lo cmp.Unequal x y (ContraryIn lo) (λ a o. I.Equal lo a o ∷ []) slots next (λ n a o i. i.1)
-      (λ n a o t i. inl (equal_reads p code input line q lo r slots.behind kind n a o t (record { instr = i.0; on_line = i.1 })))
+      (λ n a o t i. inl (equal_reads code input line lo n a o t (record { instr = i.0; on_line = i.1 })))
       (λ n a o y2 z u t b2 i hx hy. contrary_ends kind n a o y2 z u t b2 i hx hy) runs fits (stands_front code at (operands ++ equal) last there) v now b)
       (λ u n t left value. unequal_ends (is_zero n) n2 lo u t (record { instr = back.0; on_line = back.1 }) (record { instr = back.2.0; on_line = back.2.1 }) value (begins p code input lo r now u t left))))
     where
@@ -453,9 +541,14 @@ module _ (p : Program) (tables : Tables) (code : PlainCode) (input : List ℕ) (
 
   -- ---- KNOWN and CHR
 
-  pub known_runs : (at lo : ℕ) (d : Desig) → HasSlots p code r lo (expr_slots p r (Known d)) → desig_cells d ≡ 1 → DesigRuns p tables code input below r line q at (lo + 1) d → ExprRuns p tables code input below r line q at lo (Known d)
+  known_reads : (at to from : ℕ) (now : List PlainFrame) → InstrAt code input line at (I.Known to from) → ReadsPlace code input at from now
+  unfolding act
+  known_reads at to from now i held s is = (_, does code input line at now held s (I.Known to from) is i)
+
+  known_of : (at lo : ℕ) (d : Desig) (o : Option ℕ) → own_place d ≡ o → OwnFits p code input r o → HasSlots p code r lo (expr_slots p r (Known d)) → desig_cells d ≡ 1 → DesigRuns p tables code input below r line q at (lo + 1) d
+      → NodeFor p code input r line at lo (unless_bare o (desig_code p tables r line at (lo + 1) d) ++ own line (I.Known lo (slot_or p tables r o (place_at p tables r (lo + 1) d)) ∷ [])) (ev_expr p input below (Known d)) (ValueIn p code input lo) q
   unfolding ev_expr
-  known_runs at lo d slots cells runs stands v now b =
+  known_of at lo d None e fits slots cells runs stands v now b =
       let inner : List Lined = desig_code p tables r line at (lo + 1) d in
       let m : ℕ = at + length inner in
       let last : List Lined = own line (I.Known lo (place_at p tables r (lo + 1) d) ∷ []) in
@@ -468,4 +561,18 @@ module _ (p : Program) (tables : Tables) (code : PlainCode) (input : List ℕ) (
       (node_runs p code input line 0 at (m + 1) now w (bind (ev_desig p input below d v) (λ t a. one t (known_bit (cell_of t a)))) q (omega arith)
       (then_from p code input line at m (m + 1) lo (lo + 1) r now (PlaceIn p code input (place_at p tables r (lo + 1) d) (desig_cells d)) (ValueIn p code input lo) (ev_desig p input below d v) (λ t a. one t (known_bit (cell_of t a))) q (omega arith) slots.behind
       (runs (stands_front code at inner last stands) v now b)
-      (λ u a t left place. known_ends p code input line q m lo r (place_at p tables r (lo + 1) d) (desig_cells d) u t a slots.behind kind (omega (arith, cells)) (begins p code input (lo + 1) r now u t left) place (record { instr = back.0; on_line = back.1 }))))
+      (λ u a t left place. known_ends p code input line q m lo r (place_at p tables r (lo + 1) d) (desig_cells d) u t a (omega (arith, cells)) (begins p code input (lo + 1) r now u t left) place slots.behind kind (record { instr = back.0; on_line = back.1 }))))
+  known_of at lo d (Some from) e fits slots cells runs stands v now b =
+      let z = own_place_is d from e in
+      let i : InstrAt code input line at (I.Known lo (shift p r + from)) = record { instr = stands.0; on_line = stands.1 } in
+      let one_cell : z.0 ≡ 1 = ap desig_cells (sym z.1) ∙ cells in
+      let kind = first_kind p code input r lo slot.Number (desig_slots p r d) slots in
+      let k : Store → Place → Events ℤ = λ t a. one t (known_bit (cell_of t a)) in
+      let w = leaving p code input lo r now (ValueIn p code input lo) in
+      subst (λ y. NodeRuns p code input line at (at + 1) now w (ev_expr p input below (Known y) v) q) (sym z.1)
+      (node_runs p code input line 0 at (at + 1) now w (bind (ev_desig p input below (a_desig (root.Param from) z.0 no_sels) v) k) q (omega arith)
+      (own_from p code input r below line q at (at + 1) from z.0 v now w k (subst (IsParam p code input r from) (sym one_cell) fits) b i.on_line (known_reads at lo (shift p r + from) now i)
+      (λ a place. known_ends p code input line q at lo r (shift p r + from) z.0 v now a (omega (arith, one_cell)) b place slots.behind kind i)))
+
+  pub known_runs : (at lo : ℕ) (d : Desig) → OwnFits p code input r (own_place d) → HasSlots p code r lo (expr_slots p r (Known d)) → desig_cells d ≡ 1 → DesigRuns p tables code input below r line q at (lo + 1) d → ExprRuns p tables code input below r line q at lo (Known d)
+  known_runs at lo d fits slots cells runs = known_of at lo d (own_place d) refl fits slots cells runs

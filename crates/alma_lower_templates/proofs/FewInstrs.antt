@@ -14,9 +14,10 @@ use Rattle.alma_ir.specs.Lines.{behind, stmts_with, stmt_with, arms_with, cases_
 use Rattle.alma_ir.specs.Phrases.{DesigPhrase, stmts_phrases, stmt_phrases, arms_phrases, cases_phrases, else_phrases, branches_phrases, loop_phrases, test_phrases, tests_phrases, expr_phrases, links_phrases, args_phrases, arg_phrases, desig_phrases, sels_phrases, sel_phrases}
 use Rattle.alma_lower_templates.specs.Lined.{Lined, own, in_row}
 use Rattle.alma_lower_templates.specs.Pieces.{cmp_code, op_code, neg_code, fit_code, unless_whole, link_code, chain_code, condition, guarded, read_code, write_code, truth_code, first_of_two, chosen, passed_over, has_dead, case_arm, behind_labels, labels_code, label_code, begin_loop, for_turns, some_turns, turn_code}
-use Rattle.alma_lower_templates.specs.Slots.{shift_of, bare, bare_desig, stays, stays_in, unless_bare, is_simple, handed_slots, arg_slots, behind_stmts, behind_stmt, behind_test, behind_condition, behind_expr, behind_dead, behind_value, behind_desig, behind_target, behind_variable}
+use Rattle.alma_lower_templates.specs.Slots.{shift_of, bare, bare_desig, stays, stays_in, unless_bare, is_simple, handed_slots, arg_slots, behind_stmts, behind_stmt, behind_test, behind_condition, behind_expr, behind_dead, behind_value, behind_desig, behind_target, behind_variable, own_place, own_root, goes_straight}
 use Rattle.alma_lower_templates.specs.Tables.{Tables, range_number, is_whole}
 use Rattle.alma_lower_templates.specs.Templates
+use Rattle.alma_lower_templates.proofs.Straight.{straight_long}
 use Rattle.alma_lower_templates.proofs.FewSlots.{Short, AreShort, short_front, short_back, unless_few}
 use Rattle.alma_lower_templates.proofs.Tested.{tested_long}
 
@@ -97,6 +98,10 @@ module _ (p : Program) (tables : Tables) (r : ℕ) where
       let code : List Instr = Templates.root_code p tables r lo (root.OuterParam links from) in
       let z = chain_long (lo + 1) links in
       omega (arith, own_long line code, length-append (link_code (lo + 1) links) (I.OuterSame lo (lo + 1 + links) (Templates.outer_slot p tables r links from) ∷ []), z, h)
+
+  set_few : (o : Option ℕ) (line : ℕ) (value : List Lined) (set : List Instr) → length (Templates.set_to p tables r o line value set) ≤ length value + length (own line set)
+  set_few (Some to) line value set = omega (arith, straight_long (Templates.own_slot p tables r to) value)
+  set_few None line value set = omega (arith, length-append value (own line set))
 
   result_few : (line : ℕ) (o : Option Range) (value : ℕ) (rest : List Instr) → length (own line (Templates.fit_result p tables r o value ++ rest)) ≤ 1 + length rest
   result_few line (Some range) value rest = fit_few line range value rest
@@ -193,10 +198,13 @@ module _ (p : Program) (tables : Tables) (r : ℕ) where
 
     desig_few : (line at lo : ℕ) (d : Desig) (ls : List ℕ) → AreShort (desig_phrases d) → length (Templates.desig_code p tables r line at lo (desig_with d ls)) ≤ 16 * desig_nodes d
     desig_few line at lo (a_desig x cells sels) ls h =
-        let one : List Lined = own line (Templates.root_code p tables r lo x) in
+        let o : Option ℕ = own_root x (sels_with sels ls) in
+        let placed : List Lined = own line (Templates.root_code p tables r lo x) in
+        let one : List Lined = unless_bare o placed in
+        let from : ℕ = Templates.slot_or p tables r o lo in
         let next : ℕ = at + length one in
         let lo2 : ℕ = Templates.behind_root p tables r lo x in
-        omega (arith, length-append one (Templates.sels_code p tables r line next lo lo2 (sels_with sels ls)), root_few line lo x cells sels h.0, sels_few line next lo lo2 sels ls h.1)
+        omega (arith, length-append one (Templates.sels_code p tables r line next from lo2 (sels_with sels ls)), unless_few o placed, root_few line lo x cells sels h.0, sels_few line next from lo2 sels ls h.1)
 
     sels_few : (line at from lo : ℕ) (sels : Sels) (ls : List ℕ) → AreShort (sels_phrases sels) → length (Templates.sels_code p tables r line at from lo (sels_with sels ls)) ≤ 16 * sels_nodes sels
     sels_few line at from lo no_sels ls h = omega arith
@@ -219,8 +227,9 @@ module _ (p : Program) (tables : Tables) (r : ℕ) where
     expr_few line at lo (Const n) ls h = omega arith
     expr_few line at lo (Load d) ls h =
         let y : Desig = desig_with d ls in
-        let x : List Lined = Templates.desig_code p tables r line at (lo + 1) y in
-        omega (arith, length-append (unless_bare (bare_desig y) x) (own line (Templates.load_code p tables r lo y ∷ [])), unless_few (bare_desig y) x, desig_few line at (lo + 1) d ls h.1)
+        let place : List Lined = Templates.desig_code p tables r line at (lo + 1) y in
+        let x : List Lined = unless_bare (own_place y) place in
+        omega (arith, length-append (unless_bare (bare_desig y) x) (own line (Templates.load_code p tables r lo y ∷ [])), unless_few (bare_desig y) x, unless_few (own_place y) place, desig_few line at (lo + 1) d ls h.1)
     expr_few line at lo (Chain negated e links) ls h =
         let ls2 = behind (expr_phrases e) ls in
         let y : Expr = expr_with e ls in
@@ -270,7 +279,9 @@ module _ (p : Program) (tables : Tables) (r : ℕ) where
         )
     expr_few line at lo (Known d) ls h =
         let y : Desig = desig_with d ls in
-        omega (arith, length-append (Templates.desig_code p tables r line at (lo + 1) y) (own line (I.Known lo (Templates.place_at p tables r (lo + 1) y) ∷ [])), desig_few line at (lo + 1) d ls h.1)
+        let place : List Lined = Templates.desig_code p tables r line at (lo + 1) y in
+        let last : Instr = I.Known lo (Templates.held_at p tables r (lo + 1) y) in
+        omega (arith, length-append (unless_bare (own_place y) place) (own line (last ∷ [])), unless_few (own_place y) place, desig_few line at (lo + 1) d ls h.1)
     expr_few line at lo (Chr e) ls h =
         omega (arith, length-append (Templates.expr_code p tables r line at lo (expr_with e ls)) (own line (I.InRange lo (range_number tables Templates.char_range) ∷ [])), expr_few line at lo e ls h.1)
     expr_few line at lo (CallExpr called args up) ls h =
@@ -485,7 +496,7 @@ module _ (p : Program) (tables : Tables) (r : ℕ) where
         let last : List Instr = Templates.set_code p tables r lo value y ∷ [] in
         omega (
           arith,
-          length-append (one ++ two) (own line (fit_code tables range value ++ last)),
+          set_few (goes_straight y z range) line (one ++ two) (fit_code tables range value ++ last),
           length-append one two,
           fit_few line range value last,
           unless_few (bare_desig y) (Templates.desig_code p tables r line at lo y),

@@ -31,7 +31,7 @@ use Rattle.alma_base.specs.Limits.{input_limit}
 use Rattle.alma_lower_implements.proofs.Frames.{shift, own_end, HasSlots}
 use Rattle.alma_lower_implements.proofs.ExprRows.{AreVariables, first_kind, slots_first, slots_behind}
 use Rattle.alma_lower_templates.specs.Tables.{Tables}
-use Rattle.alma_lower_templates.specs.Slots.{routine_kinds, bare, bare_desig, unless_bare, is_simple, mark_slots, handed_slots, root_slots, stmts_slots, stmt_slots, test_slots, and_slots, or_slots, expr_slots, links_slots, args_slots, arg_slots, desig_slots, sels_slots, sel_slots, behind_expr, behind_dead, behind_value, behind_desig, behind_test, behind_stmts, behind_stmt, behind_condition, behind_variable, arms_slots, dead_slots, cases_slots, else_slots}
+use Rattle.alma_lower_templates.specs.Slots.{routine_kinds, bare, bare_desig, own_place, own_root, unless_bare, is_simple, mark_slots, handed_slots, root_slots, stmts_slots, stmt_slots, test_slots, and_slots, or_slots, expr_slots, links_slots, args_slots, arg_slots, desig_slots, sels_slots, sel_slots, behind_expr, behind_dead, behind_value, behind_desig, behind_test, behind_stmts, behind_stmt, behind_condition, behind_variable, arms_slots, dead_slots, cases_slots, else_slots}
 use Rattle.alma_lower_templates.specs.Compiled.{program_code}
 use Rattle.alma_lower_templates.specs.Templates.{part_slot, behind_root, arg_code, desig_code, place_at, stmts_code, stmt_code}
 use Rattle.alma_lower_templates.proofs.AtOnce.{BareFits}
@@ -46,8 +46,11 @@ use Rattle.alma_lower_templates.proofs.SomeForms.{some_runs, some_counts}
 use Rattle.alma_lower_templates.proofs.CellRuns.{copy_runs, match_runs}
 use Rattle.alma_lower_templates.proofs.CellTests.{bind_runs, bind_value_runs, unify_runs}
 use Rattle.alma_lower_templates.proofs.ChoiceForms.{EachRuns, either_form, OperandsRun, last_operand_run, more_operands_run, one_or_runs, or_runs}
-use Rattle.alma_lower_templates.proofs.DesigForms.{SelRuns, SelsRun, field_runs, index_runs, no_sels_run, more_sels_run, desig_runs}
-use Rattle.alma_lower_templates.proofs.ExprForms.{LinksRun, OthersRun, const_runs, load_runs, no_links_run, more_links_run, chain_runs, compare_runs, unequal_runs, known_runs, first_slot, some_slots}
+use Rattle.alma_lower_templates.proofs.Destinations.{into, Goal, in_first, in_variable, goal_end, goal_ways, GoalFits, goal_takes, variable_takes}
+use Rattle.alma_lower_templates.proofs.Straight.{alone_bare}
+use Rattle.alma_lower_templates.proofs.OwnPlace.{OwnFits}
+use Rattle.alma_lower_templates.proofs.DesigForms.{IsNear, NearRuns, near_root, near_index_runs, OwnRuns, SelRuns, SelsRun, field_runs, index_runs, no_sels_run, more_sels_run, desig_runs}
+use Rattle.alma_lower_templates.proofs.ExprForms.{LinksRun, OthersRun, const_to, const_runs, load_runs, load_straight, more_links_run, chain_runs, chain_straight, compare_runs, unequal_runs, known_runs, first_slot, some_slots}
 use Rattle.alma_lower_templates.proofs.Tested.{Tested, tested, as_value, as_unequal}
 use Rattle.alma_lower_templates.proofs.FormRuns.{TestRuns, ListRuns, StmtRuns, StatementRuns}
 use Rattle.alma_lower_templates.proofs.ForallRuns.{forall_runs}
@@ -130,6 +133,15 @@ module _ (p : Program) (tables : Tables) (code : PlainCode) (all : List (List Ru
   bare_fits below line q r cells sels sels2 (root.Param from) lt h e = tt
   bare_fits below line q r cells sels sels2 (root.Outer links from) lt h e = tt
   bare_fits below line q r cells sels sels2 (root.OuterParam links from) lt h e = tt
+
+  -- the slot of a whole parameter
+  own_fits : (r cells : ℕ) (sels sels2 : Sels) (x : Root) → r < length p.routines → RootExists p r (routine_at p r) (DesigPhrase (a_desig x cells sels2)) → desig_cells (a_desig x cells sels) ≡ 1 → OwnFits p code input r (own_place (a_desig x cells sels))
+  own_fits r cells no_sels sels2 (root.Param from) lt h e = subst (IsParam p code input r from) e (params r from cells lt h)
+  own_fits r cells (more_sels y rest) sels2 (root.Param from) lt h e = tt
+  own_fits r cells sels sels2 (root.Local from) lt h e = tt
+  own_fits r cells sels sels2 (root.Global from) lt h e = tt
+  own_fits r cells sels sels2 (root.Outer links from) lt h e = tt
+  own_fits r cells sels sels2 (root.OuterParam links from) lt h e = tt
 
   -- counter and limit of a loop are variables of the routine
   hidden_variable : (r n : ℕ) → r < length p.routines → IsHiddenSlot p r n → AreVariables p code input r n 1
@@ -271,6 +283,10 @@ module _ (p : Program) (tables : Tables) (code : PlainCode) (all : List (List Ru
     result_is None h = absurd (cc)
     result_is (Some range) h = (range, refl)
 
+    -- an assigned value that goes straight has the slots of the statement
+    straight_slots : (o o2 : Option ℕ) (to : ℕ) (xs ys : List SlotKind) → o ≡ Some to → o2 ≡ None → {r lo : ℕ} → HasSlots p code r lo (unless_bare o xs ++ unless_bare o2 ys) → HasSlots p code r lo ys
+    straight_slots o o2 to xs ys e e2 {r = r} {lo = lo} h = subst (λ k. HasSlots p code r lo (unless_bare k ys)) e2 (subst (λ k. HasSlots p code r lo (unless_bare k xs ++ unless_bare o2 ys)) e h)
+
     -- ---- expressions
 
     mutual
@@ -282,12 +298,15 @@ module _ (p : Program) (tables : Tables) (code : PlainCode) (all : List (List Ru
           let asked = h.asked.0 in
           record {
             fits = λ e. bare_fits below line (suc n) r cells (sels_with sels ls) sels x lt asked.root e;
+            own = λ e. own_fits r cells (sels_with sels ls) sels x lt asked.root e;
             runs = λ at lo slots.
                 let own_lo : own_end p r ≤ lo = slots.behind in
                 let behind_first = slots_behind p code input r lo (slot.Place cells ∷ []) (root_slots p r x ++ sels_slots p r (sels_with sels ls)) slots in
                 let rest = slots_behind p code input r (lo + 1) (root_slots p r x) (sels_slots p r (sels_with sels ls)) behind_first in
-                desig_runs p tables code input below r line (suc n) at lo cells x (sels_with sels ls) (root_fits r cells sels x lt asked.root) checked.nested slots
-                (λ next. sels_go r line lt sels ls inner cells asked.parts next lo (behind_root p tables r lo x) (omega arith) own_lo rest);
+                let fits = root_fits r cells sels x lt asked.root in
+                desig_runs p tables code input below r line (suc n) at lo cells x (sels_with sels ls) fits checked.nested slots
+                (λ next. sels_go r line lt sels ls inner cells asked.parts next lo (behind_root p tables r lo x) (omega arith) own_lo rest)
+                (λ from is. own_sels_go r line lt sels ls inner cells asked.parts x from is fits (behind_root p tables r lo x) (omega (arith, own_lo)) rest);
           }
 
       sels_go : (r line : ℕ) → r < length p.routines → (sels : Sels) (ls : List ℕ) → FineIn r (sels_phrases sels) ls → (size : ℕ) → ArePartsOf sels size → (at from lo : ℕ) → from < lo → own_end p r ≤ from → HasSlots p code r lo (sels_slots p r (sels_with sels ls))
@@ -305,6 +324,34 @@ module _ (p : Program) (tables : Tables) (code : PlainCode) (all : List (List Ru
           (sels_go r line lt rest ls2 (fine_back p tables code input r (sel_phrases x) (sels_phrases rest) ls h) (checked_of.sel_cells x) parts.1 next (part_slot p tables r lo y) (part_slot p tables r lo y + 1) (omega arith) below_part
           (subst (λ k. HasSlots p code r k (sels_slots p r (sels_with rest ls2))) ends behind_slots)))
 
+      -- at the slot of a parameter
+      own_sels_go : (r line : ℕ) → r < length p.routines → (sels : Sels) (ls : List ℕ) → FineIn r (sels_phrases sels) ls → (size : ℕ) → ArePartsOf sels size → (x : Root) (from : ℕ) → own_root x (sels_with sels ls) ≡ Some from → RootFits p code input r x size → (lo : ℕ) → own_end p r ≤ lo
+          → HasSlots p code r lo (sels_slots p r (sels_with sels ls)) → OwnRuns p tables code input below r line (suc n) from lo size (sels_with sels ls)
+      own_sels_go r line lt no_sels ls h size parts x from e fits lo own_lo slots = tt
+      own_sels_go r line lt (more_sels z rest) ls h size parts x from e fits lo own_lo slots =
+          let y : Sel = sel_with z ls in
+          let ls2 = behind (sel_phrases z) ls in
+          let near = near_root p tables code input below r line (suc n) x y (sels_with rest ls2) from e in
+          let param : IsParam p code input r from size = subst (λ k. RootFits p code input r k size) near.0 fits in
+          let ends = part_end p tables r lo y in
+          let behind_slots = slots_behind p code input r lo (sel_slots p r y) (sels_slots p r (sels_with rest ls2)) slots in
+          let below_part : own_end p r ≤ part_slot p tables r lo y = omega (arith, own_lo, part_above p tables r lo y) in
+          let first = own_sel_go r line lt z ls (fine_front p tables code input r (sel_phrases z) (sels_phrases rest) ls h) size parts.0 from lo near.1 (omega (arith, own_lo, param.exists)) (slots_first p code input r lo (sel_slots p r y) (sels_slots p r (sels_with rest ls2)) slots) in (
+            first.0,
+            λ next. more_sels_run p tables code input below r line (suc n) next (shift p r + from) lo size y (sels_with rest ls2) own_lo (first.1 next)
+                (λ m. subst (λ k. SelsRun p tables code input below r line (suc n) m (part_slot p tables r lo y) (part_slot p tables r lo y + 1) k (sels_with rest ls2)) (sym (sel_cells_with z ls))
+                (sels_go r line lt rest ls2 (fine_back p tables code input r (sel_phrases z) (sels_phrases rest) ls h) (checked_of.sel_cells z) parts.1 m (part_slot p tables r lo y) (part_slot p tables r lo y + 1) (omega arith) below_part
+                (subst (λ k. HasSlots p code r k (sels_slots p r (sels_with rest ls2))) ends behind_slots))),
+          )
+
+      own_sel_go : (r line : ℕ) → r < length p.routines → (x : Sel) (ls : List ℕ) → FineIn r (sel_phrases x) ls → (size : ℕ) → IsPart x size → (from lo : ℕ) → IsNear p tables code input below r line (suc n) (sel_with x ls) → shift p r + from < lo → HasSlots p code r lo (sel_slots p r (sel_with x ls))
+          → NearRuns p tables code input below r line (suc n) lo (sel_with x ls) × ((at : ℕ) → SelRuns p tables code input below r line (suc n) at (shift p r + from) lo size (sel_with x ls))
+      own_sel_go r line lt (Field offset cells) ls h size part from lo near low slots = (tt, λ at. field_runs p tables code input below r line (suc n) at (shift p r + from) lo size offset cells slots part)
+      own_sel_go r line lt (Index e range cells) ls h size part from lo near low slots =
+          let y : Expr = expr_with e ls in
+          let next = behind_first p tables code input below r line (suc n) y (expr_go r line lt e ls (fine_sel p tables code input r (Index e range cells) (expr_phrases e) ls h)) lo (slots_first p code input r lo (unless_bare (bare y) (expr_slots p r y)) (slot.Place cells ∷ []) slots) in
+          (next, λ at. near_index_runs p tables code input below r line (suc n) (shift p r + from) lo size low cells y range slots h.asked.0.coded part next at near)
+
       sel_go : (r line : ℕ) → r < length p.routines → (x : Sel) (ls : List ℕ) → FineIn r (sel_phrases x) ls → (size : ℕ) → IsPart x size → (at from lo : ℕ) → from < lo → own_end p r ≤ from → HasSlots p code r lo (sel_slots p r (sel_with x ls))
           → SelRuns p tables code input below r line (suc n) at from lo size (sel_with x ls)
       sel_go r line lt (Field offset cells) ls h size part at from lo small own_from slots = field_runs p tables code input below r line (suc n) at from lo size offset cells slots part
@@ -314,7 +361,13 @@ module _ (p : Program) (tables : Tables) (code : PlainCode) (all : List (List Ru
           (once p tables code input below r line (suc n) y (expr_go r line lt e ls (fine_sel p tables code input r (Index e range cells) (expr_phrases e) ls h)) at lo (slots_first p code input r lo (unless_bare (bare y) (expr_slots p r y)) (slot.Place cells ∷ []) slots))
 
       expr_go : (r line : ℕ) → r < length p.routines → (e : Expr) (ls : List ℕ) → FineIn r (expr_phrases e) ls → GoodExpr r line (expr_with e ls)
-      expr_go r line lt (Const m) ls h = record { fits = tt; constants = λ n same. subst (λ k. is_integer k ≡ true) (same_number m n same) h.asked.0.coded; runs = λ at lo slots. const_runs p tables code input below r line (suc n) at lo m h.asked.0.coded slots; operands = λ how x y same. absurd (cc) }
+      expr_go r line lt (Const m) ls h = record {
+        fits = tt;
+        constants = λ n same. subst (λ k. is_integer k ≡ true) (same_number m n same) h.asked.0.coded;
+        runs = λ at lo slots. const_runs p tables code input below r line (suc n) at lo m h.asked.0.coded slots;
+        operands = λ how x y same. absurd (cc);
+        straightly = λ to at lo alone numbers slots. const_to p tables code input below r line (suc n) at lo (shift p r + to) m (into p code input to lo r) h.asked.0.coded (variable_takes p code input line (suc n) lo r to numbers);
+      }
       expr_go r line lt (Load d) ls h =
           let g = desig_go r line lt d ls (fine_expr p tables code input r (Load d) (desig_phrases d) ls h) in
           let y : Desig = desig_with d ls in
@@ -322,26 +375,37 @@ module _ (p : Program) (tables : Tables) (code : PlainCode) (all : List (List Ru
           record {
             fits = g.fits one_cell;
             constants = λ n same. absurd (cc);
-            runs = λ at lo slots. load_runs p tables code input below r line (suc n) at lo y (g.fits one_cell)
+            runs = λ at lo slots. load_runs p tables code input below r line (suc n) at lo y (g.fits one_cell) (g.own one_cell)
                 (target p tables code input below r line (suc n) y g at (lo + 1) (slots_behind p code input r lo (slot.Number ∷ []) (unless_bare (bare_desig y) (desig_slots p r y)) slots)) one_cell slots;
             operands = λ how y z same. absurd (cc);
+            straightly = λ to at lo alone numbers slots.
+                let none = alone_bare (Load y) alone in
+                let placed = target p tables code input below r line (suc n) y g at (lo + 1) (slots_behind p code input r lo (slot.Number ∷ []) (unless_bare (bare_desig y) (desig_slots p r y)) slots) none in
+                load_straight p tables code input below r line (suc n) at lo (shift p r + to) y (into p code input to lo r) none (g.own one_cell) placed one_cell (variable_takes p code input line (suc n) lo r to numbers);
           }
       expr_go r line lt (Chain negated e links) ls h =
           let inner = fine_expr p tables code input r (Chain negated e links) (expr_phrases e ++ links_phrases links) ls h in
           let ls2 = behind (expr_phrases e) ls in
           let x : Expr = expr_with e ls in
           let g = expr_go r line lt e ls (fine_front p tables code input r (expr_phrases e) (links_phrases links) ls inner) in
+          let behind_e = fine_back p tables code input r (expr_phrases e) (links_phrases links) ls inner in
           record {
             fits = tt;
             constants = λ n same. absurd (cc);
             runs = λ at lo slots.
                 let first = slots_first p code input r lo (expr_slots p r x) (links_slots p r (links_with links ls2)) slots in
+                let kind = first_slot p code input r lo x first in
                 chain_runs p tables code input below r line (suc n) at lo negated x (links_with links ls2) slots (g.runs at lo first) g.fits
-                (λ next. links_go r line lt links ls2 (fine_back p tables code input r (expr_phrases e) (links_phrases links) ls inner) next lo (behind_expr p r lo x) (omega (arith, some_slots p code input r x)) slots.behind (first_slot p code input r lo x first)
-                (slots_behind p code input r lo (expr_slots p r x) (links_slots p r (links_with links ls2)) slots))
-                (others_go r line lt links ls2 (fine_back p tables code input r (expr_phrases e) (links_phrases links) ls inner) lo (behind_expr p r lo x) (omega (arith, some_slots p code input r x)) slots.behind (first_slot p code input r lo x first)
+                (others_go r line lt links ls2 behind_e in_first lo (behind_expr p r lo x) tt (omega (arith, some_slots p code input r x)) slots.behind kind
                 (slots_behind p code input r lo (expr_slots p r x) (links_slots p r (links_with links ls2)) slots));
             operands = λ how y z same. absurd (cc);
+            straightly = λ to at lo alone numbers slots.
+                let first = slots_first p code input r lo (expr_slots p r x) (links_slots p r (links_with links ls2)) slots in
+                let kind = first_slot p code input r lo x first in
+                let takes = variable_takes p code input line (suc n) lo r to numbers in
+                chain_straight p tables code input below r line (suc n) at lo (shift p r + to) (into p code input to lo r) negated x (links_with links ls2) alone takes slots (g.runs at lo first) g.fits
+                (others_go r line lt links ls2 behind_e (in_variable to) lo (behind_expr p r lo x) numbers (omega (arith, some_slots p code input r x)) slots.behind kind
+                (slots_behind p code input r lo (expr_slots p r x) (links_slots p r (links_with links ls2)) slots));
           }
       expr_go r line lt (Compare how a b) ls h =
           let inner = fine_expr p tables code input r (Compare how a b) (expr_phrases a ++ expr_phrases b) ls h in
@@ -359,6 +423,7 @@ module _ (p : Program) (tables : Tables) (code : PlainCode) (all : List (List Ru
             operands = λ how2 a2 b2 same.
                 subst (λ k. OperandsGo p tables code input below r line (suc n) k b2) (same_left how how2 x a2 y b2 same)
                 (subst (λ k. OperandsGo p tables code input below r line (suc n) x k) (same_right how how2 x a2 y b2 same) (record { fits = g.fits; first = g.runs; second = behind_first p tables code input below r line (suc n) y g2 }));
+            straightly = λ to at lo alone numbers slots. absurd (let bad : false ≡ true = alone in cc);
           }
       expr_go r line lt (Truth t) ls h =
           let u : Test = test_with t ls in
@@ -369,6 +434,7 @@ module _ (p : Program) (tables : Tables) (code : PlainCode) (all : List (List Ru
             runs = λ at lo slots. truth_runs p tables code input below r line (suc n) at lo u slots
                 (λ none. decides p tables code input below r line (suc n) u g at (lo + 1) none (slots_behind p code input r lo (slot.Number ∷ []) (mark_slots (is_simple u) ++ test_slots p r u) slots));
             operands = λ how y z same. absurd (cc);
+            straightly = λ to at lo alone numbers slots. absurd (let bad : false ≡ true = alone in cc);
           }
       expr_go r line lt (Known d) ls h =
           let y : Desig = desig_with d ls in
@@ -376,13 +442,14 @@ module _ (p : Program) (tables : Tables) (code : PlainCode) (all : List (List Ru
           record {
             fits = tt;
             constants = λ n same. absurd (cc);
-            runs = λ at lo slots. known_runs p tables code input below r line (suc n) at lo y slots (cells_with d ls ∙ h.asked.0.cells) (g.runs at (lo + 1) (slots_behind p code input r lo (slot.Number ∷ []) (desig_slots p r y) slots));
+            runs = λ at lo slots. known_runs p tables code input below r line (suc n) at lo y (g.own (cells_with d ls ∙ h.asked.0.cells)) slots (cells_with d ls ∙ h.asked.0.cells) (g.runs at (lo + 1) (slots_behind p code input r lo (slot.Number ∷ []) (desig_slots p r y) slots));
             operands = λ how y z same. absurd (cc);
+            straightly = λ to at lo alone numbers slots. absurd (let bad : false ≡ true = alone in cc);
           }
       expr_go r line lt (Chr e) ls h =
           let x : Expr = expr_with e ls in
           let g = expr_go r line lt e ls (fine_expr p tables code input r (Chr e) (expr_phrases e) ls h) in
-          record { fits = tt; constants = λ n same. absurd (cc); runs = λ at lo slots. chr_runs p tables code input below r line (suc n) at lo x slots h.asked.0.coded (g.runs at lo slots); operands = λ how y z same. absurd (cc) }
+          record { fits = tt; constants = λ n same. absurd (cc); runs = λ at lo slots. chr_runs p tables code input below r line (suc n) at lo x slots h.asked.0.coded (g.runs at lo slots); operands = λ how y z same. absurd (cc); straightly = λ to at lo alone numbers slots. absurd (let bad : false ≡ true = alone in cc) }
       expr_go r line lt (CallExpr called args up) ls h =
           let inner = fine_expr p tables code input r (CallExpr called args up) (args_phrases args) ls h in
           let asked = h.asked.0 in
@@ -392,30 +459,31 @@ module _ (p : Program) (tables : Tables) (code : PlainCode) (all : List (List Ru
             runs = λ at lo slots. expr_call_runs p tables code all is count names checked input below n routines r line lt called up (args_with args ls) at lo asked.callee asked.leads (args_with_fit (routine_at p called).params args ls asked.fits) asked.result slots
                 (λ m first arg_slots_. args_go r line lt args ls inner m first (first + length (handed_slots (args_with args ls))) arg_slots_);
             operands = λ how y z same. absurd (cc);
+            straightly = λ to at lo alone numbers slots. absurd (let bad : false ≡ true = alone in cc);
           }
 
-      links_go : (r line : ℕ) → r < length p.routines → (links : Links) (ls : List ℕ) → FineIn r (links_phrases links) ls → (at to lo : ℕ) → to < lo → own_end p r ≤ to → slice_get (kinds_at code r) to ≡ Some slot.Number → HasSlots p code r lo (links_slots p r (links_with links ls))
-          → LinksRun p tables code input below r line (suc n) at to lo (links_with links ls)
-      links_go r line lt no_links ls h at to lo small own_to kind slots = no_links_run p tables code input below r line (suc n) at to lo
-      links_go r line lt (more_links how e rest) ls h at to lo small own_to kind slots =
+      links_go : (r line : ℕ) → r < length p.routines → (links : Links) (ls : List ℕ) → FineIn r (links_phrases links) ls → (g : Goal p code input) (at to lo : ℕ) → GoalFits p code input r g → to < lo → own_end p r ≤ to → slice_get (kinds_at code r) to ≡ Some slot.Number
+          → HasSlots p code r lo (links_slots p r (links_with links ls)) → LinksRun p tables code input below r line (suc n) (goal_end p code input r g to) (goal_ways p code input r g to) at to lo (links_with links ls)
+      links_go r line lt no_links ls h goal at to lo fits small own_to kind slots = tt
+      links_go r line lt (more_links how e rest) ls h goal at to lo fits small own_to kind slots =
           let x : Expr = expr_with e ls in
           let ls2 = behind (expr_phrases e) ls in
           let g = expr_go r line lt e ls (fine_front p tables code input r (expr_phrases e) (links_phrases rest) ls h) in
-          more_links_run p tables code input below r line (suc n) at to lo how x (links_with rest ls2) small own_to kind
+          more_links_run p tables code input below r line (suc n) at (goal_end p code input r goal to) to lo (goal_ways p code input r goal to) how x (links_with rest ls2) (goal_takes p code input r line (suc n) to goal fits own_to kind) small own_to kind
           (once p tables code input below r line (suc n) x g at lo (slots_first p code input r lo (unless_bare (bare x) (expr_slots p r x)) (links_slots p r (links_with rest ls2)) slots))
-          (λ next. links_go r line lt rest ls2 (fine_back p tables code input r (expr_phrases e) (links_phrases rest) ls h) next to (behind_value p r lo x) (omega (arith, small)) own_to kind
+          (λ next. links_go r line lt rest ls2 (fine_back p tables code input r (expr_phrases e) (links_phrases rest) ls h) goal next to (behind_value p r lo x) fits (omega (arith, small)) own_to kind
           (slots_behind p code input r lo (unless_bare (bare x) (expr_slots p r x)) (links_slots p r (links_with rest ls2)) slots))
 
-      -- behind a first operand that stays
-      others_go : (r line : ℕ) → r < length p.routines → (links : Links) (ls : List ℕ) → FineIn r (links_phrases links) ls → (to lo : ℕ) → to < lo → own_end p r ≤ to → slice_get (kinds_at code r) to ≡ Some slot.Number → HasSlots p code r lo (links_slots p r (links_with links ls))
-          → OthersRun p tables code input below r line (suc n) to lo (links_with links ls)
-      others_go r line lt no_links ls h to lo small own_to kind slots = tt
-      others_go r line lt (more_links how e rest) ls h to lo small own_to kind slots =
+      -- behind a first operand
+      others_go : (r line : ℕ) → r < length p.routines → (links : Links) (ls : List ℕ) → FineIn r (links_phrases links) ls → (g : Goal p code input) (to lo : ℕ) → GoalFits p code input r g → to < lo → own_end p r ≤ to → slice_get (kinds_at code r) to ≡ Some slot.Number
+          → HasSlots p code r lo (links_slots p r (links_with links ls)) → OthersRun p tables code input below r line (suc n) (goal_end p code input r g to) (goal_ways p code input r g to) to lo (links_with links ls)
+      others_go r line lt no_links ls h goal to lo fits small own_to kind slots = tt
+      others_go r line lt (more_links how e rest) ls h goal to lo fits small own_to kind slots =
           let x : Expr = expr_with e ls in
           let ls2 = behind (expr_phrases e) ls in
           let g = expr_go r line lt e ls (fine_front p tables code input r (expr_phrases e) (links_phrases rest) ls h) in (
             behind_first p tables code input below r line (suc n) x g lo (slots_first p code input r lo (unless_bare (bare x) (expr_slots p r x)) (links_slots p r (links_with rest ls2)) slots),
-            λ next. links_go r line lt rest ls2 (fine_back p tables code input r (expr_phrases e) (links_phrases rest) ls h) next to (behind_value p r lo x) (omega (arith, small)) own_to kind
+            λ next. links_go r line lt rest ls2 (fine_back p tables code input r (expr_phrases e) (links_phrases rest) ls h) goal next to (behind_value p r lo x) fits (omega (arith, small)) own_to kind
                 (slots_behind p code input r lo (unless_bare (bare x) (expr_slots p r x)) (links_slots p r (links_with rest ls2)) slots),
           )
 
@@ -582,7 +650,8 @@ module _ (p : Program) (tables : Tables) (code : PlainCode) (all : List (List Ru
           let value : List SlotKind = unless_bare (bare x) (expr_slots p r x) in
           plain may r line at lo (Assign y x range) (assign_runs p tables code input below r line (suc n) at lo y x range (g.fits one_cell) one_cell slots.behind h.asked.0.coded
           (target p tables code input below r line (suc n) y g at lo (slots_first p code input r lo place value slots))
-          (λ next. once p tables code input below r line (suc n) x g2 next (lo + length place) (slots_behind p code input r lo place value slots)))
+          (λ next. once p tables code input below r line (suc n) x g2 next (lo + length place) (slots_behind p code input r lo place value slots))
+          (λ to next goes numbers. g2.straightly to next lo goes.alone numbers (straight_slots (bare_desig y) (bare x) to (desig_slots p r y) (expr_slots p r x) goes.variable (alone_bare x goes.alone) slots)))
       stmt_go may r lt (CopyCells d e) ls0 h stays line at lo slots =
           let ls = drop 1 ls0 in
           let inner = fine_stmt p tables code input r (CopyCells d e) (desig_phrases d ++ desig_phrases e) ls0 h in

@@ -11,13 +11,16 @@ pub mod Calls
 pub mod ForallRuns
 pub mod OperatorParts
 pub mod FormRuns
+pub mod Targets
+pub mod Destinations
+pub mod Straight
+pub mod OwnPlace
 pub mod CellEnds
 pub mod Tested
 pub mod ExprForms
 pub mod RootForms
 pub mod DesigForms
 pub mod RangeChecks
-pub mod Targets
 pub mod StmtForms
 pub mod SimpleOne
 pub mod Conditions

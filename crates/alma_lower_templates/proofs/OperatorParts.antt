@@ -1,5 +1,5 @@
--- Operators, signs and comparisons inside of an expression: the value stands in the first slot of the expression, and an
--- operand in any slot.
+-- Operators, signs and comparisons inside of an expression: the value goes into a slot of numbers, and an operand stands in
+-- any slot.
 use Rattle.std.proofs.Common.{◌≡◌, ℕ, ◌+◌, ◌≤◌, Bool, true, false, not, List, inl, inr, length, Some, refl, ap, ◌∙◌, subst, arith, ℤ, ◌+ℤ◌, ◌-ℤ◌, ◌*ℤ◌, neg_ℤ}
 use Rattle.std.specs.Prelude.{slice_get, int_lt, int_le}
 use Rattle.alma_base.specs.declared.fault.RunFault.TheVariants as fault
@@ -22,15 +22,16 @@ use Rattle.alma_mean.specs.Store.{Store}
 use Rattle.alma_mean.specs.Events.{Events, one, bind}
 use Rattle.alma_mean.specs.Arithmetic.{apply_op, apply_sign, check_integer, fault_unless, compares}
 use Rattle.alma_lower_implements.proofs.Frames.{own_end, IsAt}
-use Rattle.alma_lower_implements.proofs.Steps.{Holds, HasKind, InstrAt, passed, does, number_is, here_too, flip_step, equal_step, less_step, less_eq_step, fits_step, overflow_step, neg_does, add_does, sub_does, mul_does, div_does, mod_does, faults_now}
+use Rattle.alma_lower_implements.proofs.Steps.{Holds, HasKind, Writes, InstrAt, passed, does, number_is, here_too, flip_step, equal_step, less_step, less_eq_step, fits_step, overflow_step, neg_does, add_does, sub_does, mul_does, div_does, mod_does, faults_now}
+use Rattle.alma_lower_implements.proofs.Ways.{Ways}
 use Rattle.alma_lower_implements.proofs.Numbers.{bit_integer, zero_bit, rest_integer, nonzero}
 use Rattle.alma_lower_templates.specs.Lined.{own}
 use Rattle.alma_lower_templates.specs.Pieces.{op_code, cmp_code, neg_code}
 use Rattle.alma_lower_templates.specs.Stands.{Stands}
-use Rattle.alma_lower_templates.proofs.Parts.{Begins, begins, Left, left_self, has_kind, IsValue, ValueIn, From, leaving, from_more, alone_from, faults_here, value_ends, value_goes_on}
+use Rattle.alma_lower_templates.proofs.Parts.{Begins, begins, Left, left_self, has_kind, IsValue, ValueIn, From, Carries, leaving, from_more, alone_from, faults_here, value_ends, value_then, value_goes_on}
 use Rattle.alma_lower_templates.proofs.First.{ReadsPair, ReadsBoth}
 
-module _ (p : Program) (code : PlainCode) (input : List ℕ) (line q lo r : ℕ) (behind : own_end p r ≤ lo) (kind : slice_get (kinds_at code r) lo ≡ Some slot.Number) where
+module _ (code : PlainCode) (input : List ℕ) (line lo : ℕ) where
   -- ---- both operands are read, one after the other
 
   pub op_reads : (how : Op) (at first operand : ℕ) (now : List PlainFrame) → InstrAt code input line at (op_code how lo first operand) → ReadsPair code input at first operand now
@@ -85,19 +86,17 @@ module _ (p : Program) (code : PlainCode) (input : List ℕ) (line q lo r : ℕ)
   cmp_reads cmp.Greater at first operand now i = inr (less_reads at operand first now (record { instr = i.0; on_line = i.1 }))
   cmp_reads cmp.GreaterEq at first operand now i = inr (less_eq_reads at operand first now (record { instr = i.0; on_line = i.1 }))
 
-  module _ (v : Store) (now : List PlainFrame) (b : Begins p code input r v now) where
-    kind_now : HasKind now lo slot.Number
-    kind_now = has_kind p code input r lo v now slot.Number kind b
-
+module _ (p : Program) (code : PlainCode) (input : List ℕ) (line q lo : ℕ) where
+  module _ (v : Store) (now : List PlainFrame) (kind_now : HasKind now lo slot.Number) where
     -- ---- operators
 
-    module _ {B : Type 0} (at exit : ℕ) (yields : Store → B → List PlainFrame → Type 0) (k : Store → ℤ → Events B) where
-      -- how the phrase goes on with a value
+    module _ {B : Type 0} (at exit : ℕ) (w : Ways B) (k : Store → ℤ → Events B) where
+      -- how the phrase goes on with a value, given the step that puts it
       abbrev pub GoesOnWith : ℤ → Type 0
-      GoesOnWith z = (t : List PlainFrame) → Left p code input lo r now v t → IsValue p code input lo z t → From p code input line 7 (at + 1) exit t (leaving p code input lo r t yields) (k v z) q
+      GoesOnWith z = is_integer z ≡ true → ((held : List PlainEntry) (s : State) → IsAt at now held s → Writes code input at now held s lo (cell.Int z)) → From p code input line 8 at exit now w (k v z) q
 
       abbrev pub Applied : Events ℤ → Type 0
-      Applied e = From p code input line 8 at exit now (leaving p code input lo r now yields) (bind e k) q
+      Applied e = From p code input line 8 at exit now w (bind e k) q
 
       -- a result that must be one of INTEGER
       checked_from : (z : ℤ) → line_at code at ≡ line → ((held : List PlainEntry) (s : State) → IsAt at now held s → step code input s ≡ integer_result (passed code input s) z (λ x. put_number (passed code input s) lo x)) → GoesOnWith z → Applied (check_integer v z)
@@ -105,9 +104,9 @@ module _ (p : Program) (code : PlainCode) (input : List ℕ) (line q lo r : ℕ)
         where
           by : (t : Bool) → is_integer z ≡ t → Applied (fault_unless fault.Overflow t (λ _. one v z))
           by true fits =
-              alone_from p code input line 8 at exit now (leaving p code input lo r now yields) (k v z) q
-              (value_goes_on p code input line 7 at exit lo r v now z yields (k v z) q behind kind fits b (λ held s is. fits_step code input line at now held s is lo z kind_now fits (e held s is)) later)
-          by false fits = faults_here p code input line 7 at exit now (leaving p code input lo r now yields) fault.Overflow q (λ held s is. overflow_step code input line at now held s is lo z there fits (e held s is))
+              alone_from p code input line 8 at exit now w (k v z) q
+              (later fits (λ held s is. fits_step code input line at now held s is lo z kind_now fits (e held s is)))
+          by false fits = faults_here p code input line 7 at exit now w fault.Overflow q (λ held s is. overflow_step code input line at now held s is lo z there fits (e held s is))
 
       -- past the test of a divisor
       divided_from : (y z : ℤ) (e : Events ℤ) → line_at code at ≡ line → ((held : List PlainEntry) (s : State) → IsAt at now held s → step code input s ≡ if_true (is_zero y) (λ _. ends_in_fault fault.ZeroDivide (passed code input s)) (λ _. integer_result (passed code input s) z (λ x. put_number (passed code input s) lo x)))
@@ -118,7 +117,7 @@ module _ (p : Program) (code : PlainCode) (input : List ℕ) (line q lo r : ℕ)
           by : (t : Bool) → is_zero y ≡ t → Applied (fault_unless fault.ZeroDivide (not t) (λ _. e))
           by false other = goes other (λ held s is. does held s is ∙ ap (λ t. if_true t (λ _. ends_in_fault fault.ZeroDivide (passed code input s)) (λ _. integer_result (passed code input s) z (λ x. put_number (passed code input s) lo x))) other)
           by true zero_there =
-              faults_here p code input line 7 at exit now (leaving p code input lo r now yields) fault.ZeroDivide q
+              faults_here p code input line 7 at exit now w fault.ZeroDivide q
               (λ held s is. faults_now code input line s fault.ZeroDivide (here_too code input line at now held s is there)
               (does held s is ∙ ap (λ t. if_true t (λ _. ends_in_fault fault.ZeroDivide (passed code input s)) (λ _. integer_result (passed code input s) z (λ x. put_number (passed code input s) lo x))) zero_there))
 
@@ -133,22 +132,29 @@ module _ (p : Program) (code : PlainCode) (input : List ℕ) (line q lo r : ℕ)
           divided_from y (mod_down_of x y) (one v (mod_down_of x y)) i.on_line (λ held s is. mod_does code input line at now held s is lo first operand x y i hx hy.holds)
           (λ other does.
           let fits = rest_integer y (mod_down_of x y) hy.integer (rounds_down x y (nonzero y other)) in
-          alone_from p code input line 8 at exit now (leaving p code input lo r now yields) (k v (mod_down_of x y)) q
-          (value_goes_on p code input line 7 at exit lo r v now (mod_down_of x y) yields (k v (mod_down_of x y)) q behind kind fits b (λ held s is. fits_step code input line at now held s is lo (mod_down_of x y) kind_now fits (does held s is)) (later (mod_down_of x y))))
+          alone_from p code input line 8 at exit now w (k v (mod_down_of x y)) q
+          (later (mod_down_of x y) fits (λ held s is. fits_step code input line at now held s is lo (mod_down_of x y) kind_now fits (does held s is))))
 
       pub neg_from : (x : ℤ) → InstrAt code input line at (I.Neg lo lo) → Holds now lo (cell.Int x) → ((z : ℤ) → GoesOnWith z) → Applied (apply_sign true v x)
       neg_from x i hx later = checked_from (neg_ℤ x) i.on_line (λ held s is. neg_does code input line at now held s is lo lo x i hx) (later (neg_ℤ x))
 
+module _ (p : Program) (code : PlainCode) (input : List ℕ) (line q lo r : ℕ) (behind : own_end p r ≤ lo) (kind : slice_get (kinds_at code r) lo ≡ Some slot.Number) where
+  module _ (v : Store) (now : List PlainFrame) (b : Begins p code input r v now) where
+    kind_now : HasKind now lo slot.Number
+    kind_now = has_kind p code input r lo v now slot.Number kind b
+
     -- the sign of a first operand
-    pub sign_from : {B : Type 0} (negated : Bool) (at exit : ℕ) (yields : Store → B → List PlainFrame → Type 0) (k : Store → ℤ → Events B) (x : ℤ) → Stands code at (own line (neg_code negated lo)) → IsValue p code input lo x now
-        → ((z : ℤ) (t : List PlainFrame) → Left p code input lo r now v t → IsValue p code input lo z t → From p code input line 7 (at + length (own line (neg_code negated lo))) exit t (leaving p code input lo r t yields) (k v z) q)
-        → From p code input line 8 at exit now (leaving p code input lo r now yields) (bind (apply_sign negated v x) k) q
-    sign_from true at exit yields k x i hx later = neg_from at exit yields k x (record { instr = i.0; on_line = i.1 }) hx.holds later
-    sign_from false at exit yields k x i hx later =
+    pub sign_from : {B : Type 0} (negated : Bool) (at exit : ℕ) (w : List PlainFrame → Ways B) (k : Store → ℤ → Events B) (x : ℤ) → Carries p code input lo r w → Stands code at (own line (neg_code negated lo)) → IsValue p code input lo x now
+        → ((z : ℤ) (t : List PlainFrame) → Left p code input lo r now v t → IsValue p code input lo z t → From p code input line 7 (at + length (own line (neg_code negated lo))) exit t (w t) (k v z) q)
+        → From p code input line 8 at exit now (w now) (bind (apply_sign negated v x) k) q
+    sign_from true at exit w k x carries i hx later =
+        neg_from p code input line q lo v now kind_now at exit (w now) k x (record { instr = i.0; on_line = i.1 }) hx.holds
+        (λ z integer writes. value_then p code input line 7 at exit lo r v now z w (k v z) q behind kind integer b carries writes (later z))
+    sign_from false at exit w k x carries i hx later =
         let zero : at + 0 ≡ at = omega arith in
-        alone_from p code input line 8 at exit now (leaving p code input lo r now yields) (k v x) q
-        (from_more p code input line 7 8 at exit now (leaving p code input lo r now yields) (k v x) q (omega arith)
-        (subst (λ n. From p code input line 7 n exit now (leaving p code input lo r now yields) (k v x) q) zero (later x now (left_self p code input lo r v now b) hx)))
+        alone_from p code input line 8 at exit now (w now) (k v x) q
+        (from_more p code input line 7 8 at exit now (w now) (k v x) q (omega arith)
+        (subst (λ n. From p code input line 7 n exit now (w now) (k v x) q) zero (later x now (left_self p code input lo r v now b) hx)))
 
     -- ---- comparisons
 

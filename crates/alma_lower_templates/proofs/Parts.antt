@@ -260,18 +260,36 @@ module _ (p : Program) (code : PlainCode) (input : List ℕ) where
       (λ x y u h. (left_on lo la r now v x t u le left h.0, h.1))
       (λ x n a u h. h)
 
-  -- a part that is a node, and what is behind it, which leaves the slots before lo of the frames that it finds
+  -- ways out of a phrase that hold of the frames that it found where they hold of those that a part of it left
+  pub record Carries {B : Type 0} (lo r : ℕ) (w : List PlainFrame → Ways B) : Type 0 where
+    pub goes : (v : Store) (now t : List PlainFrame) → Left lo r now v t → (x : Store) (y : B) (u : List PlainFrame) → (w t).goes x y u → (w now).goes x y u
+    pub returns : (v : Store) (now t : List PlainFrame) → Left lo r now v t → (x : Store) (n : Option ℤ) (a : ℕ) (u : List PlainFrame) → (w t).returns x n a u → (w now).returns x n a u
+
+  pub leaving_carries : {B : Type 0} (lo r : ℕ) (yields : Store → B → List PlainFrame → Type 0) → Carries lo r (λ t. leaving lo r t yields)
+  leaving_carries lo r yields = record { goes = λ v now t left x y u h. (left_on lo lo r now v x t u (omega arith) left h.0, h.1); returns = λ v now t left x n a u h. h }
+
+  pub carried : {B : Type 0} (line c at exit lo r : ℕ) (v : Store) (now t : List PlainFrame) (w : List PlainFrame → Ways B) (e : Events B) (q : ℕ) → Carries lo r w → Left lo r now v t → From line c at exit t (w t) e q → From line c at exit t (w now) e q
+  carried line c at exit lo r v now t w e q carries left = from_less line c at exit t (w t) (w now) e q (carries.goes v now t left) (carries.returns v now t left)
+
+  -- a part that is a node, and what is behind it
+  pub then_ways : {A B : Type 0} (line at m exit lo la r : ℕ) (now : List PlainFrame) (ya : Store → A → List PlainFrame → Type 0) (w : List PlainFrame → Ways B) (e : Events A) (k : Store → A → Events B) (q : ℕ)
+      → lo ≤ la → Carries lo r w → NodeRuns line at m now (leaving la r now ya) e q
+      → ((v : Store) (y : A) (t : List PlainFrame) → Left la r now v t → ya v y t → From line 8 m exit t (w t) (k v y) q)
+      → From line 0 at exit now (w now) (bind e k) q
+  then_ways line at m exit lo la r now ya w e k q le carries runs later held s is =
+      bind_goes code input line 8 0 24 (Leaves m (leaving la r now ya)) (Leaves exit (w now)) held e k s 0 q 8 (omega arith) (omega arith)
+      (node_here line at m now (leaving la r now ya) e q runs held s is)
+      (λ v y t base going left.
+      carried line 8 m exit lo r v now t.now w (k v y) q carries (left_less lo la r now v t.now le left.1.0) (later v y t.now left.1.0 left.1.1) base t
+      (record { mode = going.mode; here = left.0; frames = refl; entries = going.entries }))
+      (λ v n t left. absurd left)
+
+  -- one that leaves the slots before lo of the frames that it finds
   pub then_from : {A B : Type 0} (line at m exit lo la r : ℕ) (now : List PlainFrame) (ya : Store → A → List PlainFrame → Type 0) (yb : Store → B → List PlainFrame → Type 0) (e : Events A) (k : Store → A → Events B) (q : ℕ)
       → lo ≤ la → own_end p r ≤ lo → NodeRuns line at m now (leaving la r now ya) e q
       → ((v : Store) (y : A) (t : List PlainFrame) → Left la r now v t → ya v y t → From line 8 m exit t (leaving lo r t yb) (k v y) q)
       → From line 0 at exit now (leaving lo r now yb) (bind e k) q
-  then_from line at m exit lo la r now ya yb e k q le own runs later held s is =
-      bind_goes code input line 8 0 24 (Leaves m (leaving la r now ya)) (Leaves exit (leaving lo r now yb)) held e k s 0 q 8 (omega arith) (omega arith)
-      (node_here line at m now (leaving la r now ya) e q runs held s is)
-      (λ v y t base going left.
-      on_from line 8 m exit lo lo r v now t.now yb (k v y) q (omega arith) own (left_less lo la r now v t.now le left.1.0) (later v y t.now left.1.0 left.1.1) base t
-      (record { mode = going.mode; here = left.0; frames = refl; entries = going.entries }))
-      (λ v n t left. left)
+  then_from line at m exit lo la r now ya yb e k q le own runs later = then_ways line at m exit lo la r now ya (λ t. leaving lo r t yb) e k q le (leaving_carries lo r yb) runs later
 
   -- ---- own steps
 
@@ -282,12 +300,16 @@ module _ (p : Program) (code : PlainCode) (input : List ℕ) where
   pub writes_take : (at n : ℕ) (now : List PlainFrame) (c : Cell) → ((held : List PlainEntry) (s : State) → IsAt at now held s → Writes code input at now held s n c) → Takes at (at + 1) now (top_written now n c)
   writes_take at n now c w held s is = let z = w held s is in record { to = z.to; silently = z.silently; is = z.is }
 
+  pub step_ways : {A : Type 0} (line c at m exit lo r : ℕ) (v : Store) (now t : List PlainFrame) (w : List PlainFrame → Ways A) (e : Events A) (q : ℕ) → Carries lo r w → Takes at m now t → Left lo r now v t
+      → From line c m exit t (w t) e q → From line (suc c) at exit now (w now) e q
+  step_ways line c at m exit lo r v now t w e q carries takes left h held s is =
+      let z = takes held s is in
+      before code input line 0 24 (Leaves exit (w now)) held e s z.to 1 (suc c) c q q z.silently (omega arith) (omega arith)
+      (carried line c m exit lo r v now t w e q carries left h held z.to z.is)
+
   pub step_from : {A : Type 0} (line c at m exit lo r : ℕ) (v : Store) (now t : List PlainFrame) (yields : Store → A → List PlainFrame → Type 0) (e : Events A) (q : ℕ) → own_end p r ≤ lo → Takes at m now t → Left lo r now v t
       → From line c m exit t (leaving lo r t yields) e q → From line (suc c) at exit now (leaving lo r now yields) e q
-  step_from line c at m exit lo r v now t yields e q own takes left h held s is =
-      let z = takes held s is in
-      before code input line 0 24 (Leaves exit (leaving lo r now yields)) held e s z.to 1 (suc c) c q q z.silently (omega arith) (omega arith)
-      (on_from line c m exit lo lo r v now t yields e q (omega arith) own left h held z.to z.is)
+  step_from line c at m exit lo r v now t yields e q own takes left h = step_ways line c at m exit lo r v now t (λ x. leaving lo r x yields) e q (leaving_carries lo r yields) takes left h
 
   -- the end of a phrase
   pub ends_here : {A : Type 0} (line c at lo r : ℕ) (v : Store) (now : List PlainFrame) (yields : Store → A → List PlainFrame → Type 0) (y : A) (q : ℕ) → Begins r v now → yields v y now → From line c at at now (leaving lo r now yields) (one v y) q
@@ -318,13 +340,18 @@ module _ (p : Program) (code : PlainCode) (input : List ℕ) where
       (record { holds = holds_temp r lo v now (cell.Int x) slot.Number kind b; integer = integer }))
 
   -- a value goes into a slot by one step, and the phrase goes on
+  pub value_then : {B : Type 0} (line c at exit lo r : ℕ) (v : Store) (now : List PlainFrame) (x : ℤ) (w : List PlainFrame → Ways B) (e : Events B) (q : ℕ) → own_end p r ≤ lo → slice_get (kinds_at code r) lo ≡ Some slot.Number → is_integer x ≡ true → Begins r v now → Carries lo r w
+      → ((held : List PlainEntry) (s : State) → IsAt at now held s → Writes code input at now held s lo (cell.Int x))
+      → ((t : List PlainFrame) → Left lo r now v t → IsValue lo x t → From line c (at + 1) exit t (w t) e q) → From line (suc c) at exit now (w now) e q
+  value_then line c at exit lo r v now x w e q own kind integer b carries writes later =
+      let left = left_temp lo r lo v now (cell.Int x) (omega arith) own b in
+      step_ways line c at (at + 1) exit lo r v now (top_written now lo (cell.Int x)) w e q carries (writes_take at lo now (cell.Int x) writes) left
+      (later (top_written now lo (cell.Int x)) left (record { holds = holds_temp r lo v now (cell.Int x) slot.Number kind b; integer = integer }))
+
   pub value_goes_on : {B : Type 0} (line c at exit lo r : ℕ) (v : Store) (now : List PlainFrame) (x : ℤ) (yields : Store → B → List PlainFrame → Type 0) (e : Events B) (q : ℕ) → own_end p r ≤ lo → slice_get (kinds_at code r) lo ≡ Some slot.Number → is_integer x ≡ true → Begins r v now
       → ((held : List PlainEntry) (s : State) → IsAt at now held s → Writes code input at now held s lo (cell.Int x))
       → ((t : List PlainFrame) → Left lo r now v t → IsValue lo x t → From line c (at + 1) exit t (leaving lo r t yields) e q) → From line (suc c) at exit now (leaving lo r now yields) e q
-  value_goes_on line c at exit lo r v now x yields e q own kind integer b w later =
-      let left = left_temp lo r lo v now (cell.Int x) (omega arith) own b in
-      step_from line c at (at + 1) exit lo r v now (top_written now lo (cell.Int x)) yields e q own (writes_take at lo now (cell.Int x) w) left
-      (later (top_written now lo (cell.Int x)) left (record { holds = holds_temp r lo v now (cell.Int x) slot.Number kind b; integer = integer }))
+  value_goes_on line c at exit lo r v now x yields e q own kind integer b w later = value_then line c at exit lo r v now x (λ t. leaving lo r t yields) e q own kind integer b (leaving_carries lo r yields) w later
 
   -- a place goes into a slot by one step, and the phrase goes on
   pub place_goes_on : {B : Type 0} (line c at exit lo r n size : ℕ) (v : Store) (now : List PlainFrame) (a : Place) (m : CellPlace) (yields : Store → B → List PlainFrame → Type 0) (e : Events B) (q : ℕ) → own_end p r ≤ lo → lo ≤ n → slice_get (kinds_at code r) n ≡ Some (slot.Place size) → Begins r v now

@@ -1,8 +1,9 @@
 -- Statements without parts that are statements, from template to run: assignment and WRITE; and the value of an expression
 -- as a test.
-use Rattle.std.proofs.Common.{◌≡◌, ℕ, suc, ◌+◌, ◌-◌, ◌≤◌, Bool, true, false, List, [], ◌∷◌, ◌++◌, length, Option, Some, None, refl, sym, ap, subst, arith, ℤ}
+use Rattle.std.proofs.Common.{◌≡◌, ℕ, suc, ◌+◌, ◌-◌, ◌≤◌, Bool, true, false, List, [], ◌∷◌, ◌++◌, length, Option, Some, None, refl, sym, ap, ◌∙◌, subst, arith, ℤ}
 use Rattle.std.specs.Prelude.{slice_get}
 use Rattle.std.proofs.lemmas.List.{length-append}
+use Rattle.alma_base.specs.declared.fault.RunFault.TheVariants as fault
 use Rattle.alma_base.specs.Choice.{if_true}
 use Rattle.alma_base.specs.Numbers.{is_zero}
 use Rattle.alma_base.specs.declared.number.Range.{Range}
@@ -15,26 +16,30 @@ use Rattle.alma_ir.specs.declared.phrase.WriteAs.{WriteAs}
 use Rattle.alma_ir.specs.declared.phrase.WriteAs.TheVariants as write_as
 use Rattle.alma_ir.specs.Tree.{Program, Expr, Desig, Test, Assign, WriteExpr, WriteText, WriteLine, TestStmt, Value}
 use Rattle.alma_ir.specs.Checked.{desig_cells}
-use Rattle.alma_mean.specs.Store.{Store, Number, put_at}
-use Rattle.alma_mean.specs.Events.{Print, Fail, one, bind}
-use Rattle.alma_mean.specs.Arithmetic.{check_range, written_text}
+use Rattle.alma_mean.specs.Store.{Store, Place, Number, put, put_at, put_top, top}
+use Rattle.alma_mean.specs.Events.{Events, NoYield, Print, Fail, one, bind}
+use Rattle.alma_mean.specs.Arithmetic.{check_range, fault_unless, written_text}
 use Rattle.alma_mean.specs.Meaning.{Level, ev_stmt, ev_test, ev_expr, ev_desig}
 use Rattle.alma_lower_implements.proofs.Goes.{IsOn, no_step, one_goes}
-use Rattle.alma_lower_implements.proofs.Frames.{own_end, IsAt}
+use Rattle.alma_lower_implements.proofs.Frames.{shift, own_end, IsAt}
+use Rattle.alma_lower_implements.proofs.ExprRows.{AreVariables}
 use Rattle.alma_lower_implements.proofs.BareRow.{ReadsFirst}
 use Rattle.alma_lower_implements.proofs.Steps.{InstrAt, PrintsNow, does, check_fails, check_passes, write_int_step, write_bool_step, write_char_step, write_line_step}
 use Rattle.alma_lower_implements.proofs.Ways.{Leaves}
 use Rattle.alma_lower_templates.specs.Lined.{Lined, own, in_row}
-use Rattle.alma_lower_templates.specs.Tables.{Tables, text_number}
-use Rattle.alma_lower_templates.specs.Slots.{bare, bare_desig, unless_bare, desig_slots}
-use Rattle.alma_lower_templates.specs.Pieces.{fit_code, write_code}
-use Rattle.alma_lower_templates.specs.Templates.{stmt_code, test_code, expr_code, desig_code, value_at, set_by}
+use Rattle.alma_lower_templates.specs.Tables.{Tables, text_number, is_whole}
+use Rattle.alma_lower_templates.specs.Slots.{bare, bare_desig, unless_bare, goes_straight, desig_slots}
+use Rattle.alma_lower_templates.specs.Pieces.{fit_code, straight, write_code}
+use Rattle.alma_lower_templates.specs.Templates.{test_code, expr_code, desig_code, value_at, set_by, set_to}
 use Rattle.alma_lower_templates.specs.Stands.{Stands}
 use Rattle.alma_lower_templates.proofs.Stands.{stands_front, stands_back}
-use Rattle.alma_lower_templates.proofs.Parts.{Begins, begins, Left, left_self, IsValue, Nothing, NodeRuns, NodeFor, From, leaving, from_more, node_runs, node_from, fails_here, ends_here}
+use Rattle.alma_lower_templates.proofs.Parts.{Begins, begins, Left, left_self, left_less, IsValue, Nothing, NodeRuns, NodeFor, From, leaving, from_more, node_runs, node_from, fails_here, ends_here}
 use Rattle.alma_lower_templates.proofs.AtOnce.{AtOnce, BareFits, at_once}
 use Rattle.alma_lower_templates.proofs.Tested.{ChecksValue}
-use Rattle.alma_lower_templates.proofs.RangeChecks.{past_from, fit_from, fit_line, fit_reads, fit_long, behind_fit}
+use Rattle.alma_lower_templates.proofs.RangeChecks.{past_from, fit_from, fit_line, fit_reads, fit_long, behind_fit, whole_within}
+use Rattle.alma_lower_templates.proofs.Destinations.{into, then_into}
+use Rattle.alma_lower_templates.proofs.ExprForms.{RunsTo}
+use Rattle.alma_lower_templates.proofs.Straight.{alone_bare, put_count, GoesStraight, straight_is}
 use Rattle.alma_lower_templates.proofs.Targets.{target_after, target_from, set_from, set_reads}
 use Rattle.alma_lower_templates.proofs.PlaceSteps.{write_text_step}
 use Rattle.alma_lower_templates.proofs.FormRuns.{DesigRuns, TestRuns, StmtRuns, FitsRange}
@@ -84,10 +89,60 @@ module _ (p : Program) (tables : Tables) (code : PlainCode) (input : List ℕ) (
       (target_after p tables code input below r line q o lo lo2 d a u u2 t t2 b1 behind (omega arith) left2 target) value i
       (λ t3 left3. ends_here p code input line 6 exit lo r (put_at u2 a (Number n)) t3 (Nothing p code input) tt q (begins p code input lo r t2 (put_at u2 a (Number n)) t3 left3) tt)))))))
 
+  -- the value goes straight into the variable
+  straight_runs : (at lo to : ℕ) (d : Desig) (x : Expr) (range : Range) → bare_desig d ≡ Some to → is_whole range ≡ true → bare x ≡ None → own_end p r ≤ lo → ((next la : ℕ) → la ≡ lo → RunsTo p tables code input below r line q (into p code input to la r) next (straight (shift p r + to) (expr_code p tables r line next la x)) x)
+      → NodeFor p code input r line at lo (straight (shift p r + to) (in_row at (unless_bare (bare_desig d) (desig_code p tables r line at lo d)) (λ next. unless_bare (bare x) (expr_code p tables r line next (lo + length (unless_bare (bare_desig d) (desig_slots p r d))) x)))) (ev_stmt p input below (Assign d x range)) (Nothing p code input) q
+  unfolding ev_expr
+  straight_runs at lo to d x range e whole none behind runs =
+      subst (λ o. NodeFor p code input r line at lo (straight (shift p r + to) (in_row at (unless_bare o (desig_code p tables r line at lo d)) (λ next. unless_bare (bare x) (expr_code p tables r line next (lo + length (unless_bare o (desig_slots p r d))) x)))) (ev_stmt p input below (Assign d x range)) (Nothing p code input) q) (sym e)
+      (subst (λ o. NodeFor p code input r line at lo (straight (shift p r + to) (unless_bare o (expr_code p tables r line (at + 0) (lo + 0) x))) (ev_stmt p input below (Assign d x range)) (Nothing p code input) q) (sym none) goes)
+    where
+      goes : NodeFor p code input r line at lo (straight (shift p r + to) (expr_code p tables r line (at + 0) (lo + 0) x)) (ev_stmt p input below (Assign d x range)) (Nothing p code input) q
+      goes stands v now b =
+          let la : ℕ = lo + 0 in
+          let same : la ≡ lo = omega arith in
+          let made : List Lined = straight (shift p r + to) (expr_code p tables r line (at + 0) la x) in
+          let zero : at + 0 ≡ at = omega arith in
+          let there : Stands code (at + 0) made = subst (λ m. Stands code m made) (sym zero) stands in
+          let exit : ℕ = at + 0 + length made in
+          let end : exit ≡ at + length made = omega arith in
+          let w = leaving p code input lo r now (Nothing p code input) in
+          let k : Place → Store → ℤ → Events NoYield = λ a u n. check_range range n (λ _. one (put_at u a (Number n)) tt) in
+          subst (λ n. NodeRuns p code input line at n now w (ev_stmt p input below (Assign d x range) v) q) end
+          (node_runs p code input line 0 at exit now w (bind (ev_desig p input below d v) (λ t a. bind (ev_expr p input below x t) (k a))) q (omega arith)
+          (target_from p tables code input below r line q (Some to) at exit lo lo d v now (Nothing p code input) (λ t a. bind (ev_expr p input below x t) (k a)) e (omega arith) behind b (λ bad. absurd (cc)) tt
+          (λ u a t left target.
+          let b1 = begins p code input lo r now u t left in
+          from_more p code input line 0 8 (at + 0) exit t (leaving p code input lo r t (Nothing p code input)) (bind (ev_expr p input below x u) (k a)) q (omega arith)
+          (then_into p code input line (at + 0) exit exit lo la to r t (Nothing p code input) (ev_expr p input below x u) (k a) q (omega arith) behind (runs (at + 0) la same there u t b1)
+          (λ u2 n t2 left2 integer.
+          let longs : length (put_top u2 to (Number n)) ≡ length u = sym left2.fits.stand.count ∙ left2.fits.same_count ∙ b1.stand.count in
+          let long : length u2 ≡ length u = sym (put_count u2 (top u2) to (Number n)) ∙ longs in
+          let frame : top u2 ≡ a.frame = ap (λ m. m - 1) long ∙ sym target.0 in
+          let put_there : put_top u2 to (Number n) ≡ put_at u2 a (Number n) = ap (λ m. put u2 m to (Number n)) frame ∙ ap (λ m. put u2 a.frame m (Number n)) (sym target.1) in
+          let left3 : Left p code input lo r t (put_at u2 a (Number n)) t2 = subst (λ z. Left p code input lo r t z t2) put_there (left_less p code input lo la r t (put_top u2 to (Number n)) t2 (omega arith) left2) in
+          subst (λ z. From p code input line 8 exit exit t2 (leaving p code input lo r t2 (Nothing p code input)) (fault_unless fault.Range z (λ _. one (put_at u2 a (Number n)) tt)) q) (sym (whole_within range n whole integer))
+          (ends_here p code input line 8 exit lo r (put_at u2 a (Number n)) t2 (Nothing p code input) tt q (begins p code input lo r t (put_at u2 a (Number n)) t2 left3) tt))))))
+
   pub assign_runs : (at lo : ℕ) (d : Desig) (x : Expr) (range : Range) → BareFits p tables code input below r line q (bare_desig d) → desig_cells d ≡ 1 → own_end p r ≤ lo → FitsRange p tables code input below r line q range
       → (bare_desig d ≡ None → DesigRuns p tables code input below r line q at lo d) → ((next : ℕ) → AtOnce p tables code input below r line q next (lo + length (unless_bare (bare_desig d) (desig_slots p r d))) x)
+      → ((to next : ℕ) → GoesStraight d x range to → AreVariables p code input r to 1 → RunsTo p tables code input below r line q (into p code input to lo r) next (straight (shift p r + to) (expr_code p tables r line next lo x)) x)
       → StmtRuns p tables code input below r line q at lo (Assign d x range)
-  assign_runs at lo d x range fits cells behind has runs once = assign_of (bare_desig d) at lo d x range refl fits cells behind has runs once (stmt_code p tables r line at lo (Assign d x range)) refl
+  assign_runs at lo d x range fits cells behind has runs once straightly = by (goes_straight d x range) refl
+    where
+      value : List Lined
+      value = in_row at (unless_bare (bare_desig d) (desig_code p tables r line at lo d)) (λ next. unless_bare (bare x) (expr_code p tables r line next (lo + length (unless_bare (bare_desig d) (desig_slots p r d))) x))
+
+      set : List Instr
+      set = fit_code tables range (value_at p tables r (lo + length (unless_bare (bare_desig d) (desig_slots p r d))) x) ++ (set_by p tables r (bare_desig d) lo (value_at p tables r (lo + length (unless_bare (bare_desig d) (desig_slots p r d))) x) d ∷ [])
+
+      by : (o : Option ℕ) → goes_straight d x range ≡ o → NodeFor p code input r line at lo (set_to p tables r o line value set) (ev_stmt p input below (Assign d x range)) (Nothing p code input) q
+      by None e = assign_of (bare_desig d) at lo d x range refl fits cells behind has runs once (value ++ own line set) refl
+      by (Some to) e =
+          let g = straight_is d x range to e in
+          straight_runs at lo to d x range g.variable g.whole (alone_bare x g.alone) behind
+          (λ next la same. subst (λ n. RunsTo p tables code input below r line q (into p code input to n r) next (straight (shift p r + to) (expr_code p tables r line next n x)) x) (sym same)
+          (straightly to next g (subst (BareFits p tables code input below r line q) g.variable fits)))
 
   -- ---- WRITE
 

@@ -68,6 +68,19 @@ module _ (p : Program) (code : PlainCode) (input : List ℕ) where
       let fit : Fits p code lo now (put v f i (Number x)) (frames_with_cell now f (shift_in p v f + i) (cell.Int x)) = fits_put p code lo v now f i x live there kind integer b.stand in
       record { fits = fit; routine = put_routine v f i (Number x) live ∙ b.routine; sound = sound_after p code input lo v (put v f i (Number x)) now (frames_with_cell now f (shift_in p v f + i) (cell.Int x)) b.stand fit (put_places v f i x live there) (put_position p code input v f i (Number x) free) b.sound }
 
+  -- a number in a variable of the routine
+  pub left_variable : (lo r from : ℕ) (v : Store) (now : List PlainFrame) (x : ℤ) → AreVariables p code input r from 1 → is_integer x ≡ true → Begins p code input r v now
+      → Left p code input lo r now (put_top v from (Number x)) (top_written now (shift p r + from) (cell.Int x))
+  left_variable lo r from v now x variable integer b =
+      let t : List PlainFrame = top_written now (shift p r + from) (cell.Int x) in
+      let live : top v < length v = omega (arith, b.stand.some) in
+      let fit : Fits p code lo now (put_top v from (Number x)) t = fits_top p code input r from variable v now b.stand b.routine lo x integer in
+      record {
+        fits = fit;
+        routine = put_routine v (top v) from (Number x) live ∙ b.routine;
+        sound = sound_after p code input lo v (put_top v from (Number x)) now t b.stand fit (put_places v (top v) from x live (slot_within p code input r from variable v now b.stand b.routine)) (put_position p code input v (top v) from (Number x) (top_free from r v now variable b)) b.sound;
+      }
+
   module _ {B : Type 0} (line c at exit lo r : ℕ) (v : Store) (now : List PlainFrame) (x : ℤ) (yields : Store → B → List PlainFrame → Type 0) (e : Events B) (q : ℕ) (behind : own_end p r ≤ lo) (b : Begins p code input r v now) where
     -- a number goes into a place by one step, and the phrase goes on
     pub put_goes_on : (n size : ℕ) (a : Place) → 0 < size → (h : IsPlace p code input n size v a now) → is_integer x ≡ true → Takes p code input at (at + 1) now (frames_with_cell now h.place.frame h.place.slot (cell.Int x))
@@ -98,13 +111,7 @@ module _ (p : Program) (code : PlainCode) (input : List ℕ) where
         → ((t : List PlainFrame) → Left p code input lo r now (put_top v from (Number x)) t → From p code input line c (at + 1) exit t (leaving p code input lo r t yields) e q) → From p code input line (suc c) at exit now (leaving p code input lo r now yields) e q
     move_goes_on from value variable hx i later =
         let t : List PlainFrame = top_written now (shift p r + from) (cell.Int x) in
-        let live : top v < length v = omega (arith, b.stand.some) in
-        let fit : Fits p code lo now (put_top v from (Number x)) t = fits_top p code input r from variable v now b.stand b.routine lo x hx.integer in
-        let left : Left p code input lo r now (put_top v from (Number x)) t = record {
-          fits = fit;
-          routine = put_routine v (top v) from (Number x) live ∙ b.routine;
-          sound = sound_after p code input lo v (put_top v from (Number x)) now t b.stand fit (put_places v (top v) from x live (slot_within p code input r from variable v now b.stand b.routine)) (put_position p code input v (top v) from (Number x) (top_free from r v now variable b)) b.sound;
-        } in
+        let left = left_variable lo r from v now x variable hx.integer b in
         step_from p code input line c at (at + 1) exit lo r (put_top v from (Number x)) now t yields e q behind
         (λ held s is.
         let w = move_step code input line at now held s is (shift p r + from) value x i (slot_has_kind p code input r from variable v now b.stand b.routine) hx.holds in

@@ -38,6 +38,23 @@ cmp_code cmp.GreaterEq to first other = I.LessEq to other first ∷ []
 abbrev pub unequal_code : (to first other at : ℕ) → List Instr
 unequal_code to first other at = I.Equal to first other ∷ I.JumpZero to (at + 3) ∷ I.Fail ∷ []
 
+-- the instruction with its number put into another slot
+abbrev pub aim : (to : ℕ) → Instr → Instr
+aim to (I.Const old n) = I.Const to n
+aim to (I.Load old place) = I.Load to place
+aim to (I.Add old first operand) = I.Add to first operand
+aim to (I.Sub old first operand) = I.Sub to first operand
+aim to (I.Mul old first operand) = I.Mul to first operand
+aim to (I.Div old first operand) = I.Div to first operand
+aim to (I.Mod old first operand) = I.Mod to first operand
+aim to i = i
+
+-- code whose last instruction puts its number into another slot
+abbrev pub straight : (to : ℕ) → List Lined → List Lined
+straight to [] = []
+straight to (x ∷ []) = record { line = x.line; instr = aim to x.instr } ∷ []
+straight to (x ∷ (y ∷ rest)) = x ∷ straight to (y ∷ rest)
+
 abbrev pub neg_code : Bool → (to : ℕ) → List Instr
 neg_code true to = I.Neg to to ∷ []
 neg_code false to = []

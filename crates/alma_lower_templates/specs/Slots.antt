@@ -1,6 +1,7 @@
 -- The slots of a routine's frame: the link, its own slots, and a fresh slot for each need of each phrase of its body, in
 -- the order of the phrases. No two phrases share one.
-use Rattle.std.specs.Prelude.{ℕ, zero, suc, ◌+◌, ◌-◌, Bool, true, false, ◌&&◌, List, [], ◌∷◌, ◌++◌, length, replicate, Option, Some, None}
+use Rattle.std.specs.Prelude.{ℕ, zero, suc, ◌+◌, ◌-◌, Bool, true, false, not, ◌&&◌, List, [], ◌∷◌, ◌++◌, length, replicate, Option, Some, None}
+use Rattle.alma_base.specs.declared.number.Range.{Range}
 use Rattle.alma_code.specs.declared.cell.SlotKind.{SlotKind}
 use Rattle.alma_code.specs.declared.cell.SlotKind.TheVariants as slot
 use Rattle.alma_ir.specs.declared.phrase.Root.{Root}
@@ -11,6 +12,7 @@ use Rattle.alma_ir.specs.declared.program.Param.{Param}
 use Rattle.alma_ir.specs.Tree.{Stmts, Stmt, Arms, CaseArms, Else, Branches, Loop, ReturnExpr, Test, Tests, Expr, Links, Args, Arg, Desig, Sels, Sel, Routine, Program, routine_at, no_stmts, more_stmts, TestStmt, Assign, CopyCells, If, While, Repeat, ForTo, SomeOf, Case, Either, Forall, Commit, Return, Read, WriteExpr, WriteText, WriteLine, no_arms, more_arms, no_cases, more_cases, no_else, else_part, no_branches, more_branches, a_loop, no_result, some_result, Value, Bind, Unify, SameCells, Seq, And, Or, Not, CallTest, no_tests, more_tests, Const, Load, Chain, Compare, Truth, Known, Chr, CallExpr, no_links, more_links, no_args, more_args, ByValue, ByCells, ByPlace, MixValue, MixPlace, a_desig, no_sels, more_sels, Field, Index}
 use Rattle.alma_ir.specs.Checked.{link_slots}
 use Rattle.alma_ir.specs.Lines.{body_with_lines}
+use Rattle.alma_lower_templates.specs.Tables.{is_whole}
 
 -- ---- links
 
@@ -66,6 +68,41 @@ stays_in false first (more_links how next rest) = stays first next
 abbrev pub unless_bare : {A : Type 0} → Option ℕ → List A → List A
 unless_bare (Some from) all = []
 unless_bare None all = all
+
+-- ---- values that go straight into a variable
+
+-- whether an operator stands behind the first operand
+abbrev pub has_operator : Links → Bool
+has_operator no_links = false
+has_operator (more_links how e rest) = true
+
+-- whether an expression that has code puts its value in place by its last instruction alone
+abbrev pub ends_alone : Expr → Bool
+ends_alone (Const n) = true
+ends_alone (Load d) = not (is_given (bare_desig d))
+ends_alone (Chain negated e links) = has_operator links
+ends_alone _ = false
+
+abbrev pub straight_by : Option ℕ → (alone : Bool) → Option ℕ
+straight_by (Some to) alone = if_ready alone to
+straight_by None alone = None
+
+-- the variable of the routine into which an assigned value goes straight: one of all INTEGERs, since no check stands between
+abbrev pub goes_straight : Desig → Expr → Range → Option ℕ
+goes_straight d e range = straight_by (bare_desig d) (is_whole range && ends_alone e)
+
+-- ---- parameters whose place is used in their own slot
+
+-- the slot of a parameter that holds the place of the whole designator
+abbrev pub own_place : Desig → Option ℕ
+own_place (a_desig (root.Param from) cells no_sels) = Some from
+own_place _ = None
+
+-- the slot of a parameter of whose place the first selector takes a part: its index is ready, so nothing comes between
+abbrev pub own_root : Root → Sels → Option ℕ
+own_root (root.Param from) (more_sels (Field offset cells) rest) = Some from
+own_root (root.Param from) (more_sels (Index e range cells) rest) = if_ready (is_ready e) from
+own_root _ _ = None
 
 -- ---- conditions that need no choice entry: the value of an expression without a call and without a truth
 

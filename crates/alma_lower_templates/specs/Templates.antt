@@ -12,8 +12,8 @@ use Rattle.alma_ir.specs.Checked.{outer_at}
 use Rattle.alma_ir.specs.Lines.{body_with_lines}
 use Rattle.alma_lower_templates.specs.Lined.{Lined, own, in_row, leaving}
 use Rattle.alma_lower_templates.specs.Tables.{Tables, range_number, text_number}
-use Rattle.alma_lower_templates.specs.Slots.{shift_of, bare_desig, bare, stays, stays_in, unless_bare, is_simple, handed_slots, call_links, root_slots, arg_slots, behind_stmts, behind_stmt, behind_test, behind_condition, behind_expr, behind_dead, behind_value, behind_desig, behind_target, behind_variable, own_kinds}
-use Rattle.alma_lower_templates.specs.Pieces.{op_code, cmp_code, unequal_code, neg_code, write_code, read_code, fit_code, link_code, condition, guarded, chosen, first_of_two, refused, truth_code, each_body, forall_code, begin_loop, turn_code, for_turns, some_turns, behind_labels, case_arm, passed_over, has_dead, first_argument}
+use Rattle.alma_lower_templates.specs.Slots.{shift_of, bare_desig, bare, stays, stays_in, unless_bare, goes_straight, own_place, own_root, is_simple, handed_slots, call_links, root_slots, arg_slots, behind_stmts, behind_stmt, behind_test, behind_condition, behind_expr, behind_dead, behind_value, behind_desig, behind_target, behind_variable, own_kinds}
+use Rattle.alma_lower_templates.specs.Pieces.{op_code, cmp_code, unequal_code, straight, neg_code, write_code, read_code, fit_code, link_code, condition, guarded, chosen, first_of_two, refused, truth_code, each_body, forall_code, begin_loop, turn_code, for_turns, some_turns, behind_labels, case_arm, passed_over, has_dead, first_argument}
 
 -- the numbers of CHAR
 abbrev pub char_range : Range
@@ -53,6 +53,10 @@ module _ (p : Program) (tables : Tables) (r : ℕ) where
 
   abbrev pub place_at : (lo : ℕ) → Desig → ℕ
   place_at lo (a_desig root cells sels) = part_at lo (behind_root lo root) sels
+
+  -- that of a parameter stands in its own slot where it is read at once
+  abbrev pub held_at : (lo : ℕ) → Desig → ℕ
+  held_at lo d = slot_or (own_place d) (place_at lo d)
 
   -- ---- designators without selectors
 
@@ -98,10 +102,15 @@ module _ (p : Program) (tables : Tables) (r : ℕ) where
   abbrev pub set_code : (lo value : ℕ) → Desig → Instr
   set_code lo value d = set_by (bare_desig d) lo value d
 
+  -- a value and what sets a variable to it, or the value alone where it goes straight into the slot of the variable
+  abbrev pub set_to : Option ℕ → (line : ℕ) → (value : List Lined) → (set : List Instr) → List Lined
+  set_to (Some to) line value set = straight (own_slot to) value
+  set_to None line value set = value ++ own line set
+
   -- the number of a variable goes into a slot
   abbrev pub load_by : Option ℕ → (lo : ℕ) → Desig → Instr
   load_by (Some from) lo d = I.Move lo (own_slot from)
-  load_by None lo d = I.Load lo (place_at (lo + 1) d)
+  load_by None lo d = I.Load lo (held_at (lo + 1) d)
 
   abbrev pub load_code : (lo : ℕ) → Desig → Instr
   load_code lo d = load_by (bare_desig d) lo d
@@ -138,8 +147,9 @@ module _ (p : Program) (tables : Tables) (r : ℕ) where
     pub stmt_code : (line at lo : ℕ) → Stmt → List Lined
     stmt_code line at lo (TestStmt t) = test_code line at lo t
     stmt_code line at lo (Assign d e range) =
-        in_row at (unless_bare (bare_desig d) (desig_code line at lo d)) (λ next. unless_bare (bare e) (expr_code line next (behind_target p r lo d) e))
-        ++ own line (fit_code tables range (value_at (behind_target p r lo d) e) ++ (set_code lo (value_at (behind_target p r lo d) e) d ∷ []))
+        set_to (goes_straight d e range) line
+        (in_row at (unless_bare (bare_desig d) (desig_code line at lo d)) (λ next. unless_bare (bare e) (expr_code line next (behind_target p r lo d) e)))
+        (fit_code tables range (value_at (behind_target p r lo d) e) ++ (set_code lo (value_at (behind_target p r lo d) e) d ∷ []))
     stmt_code line at lo (CopyCells d e) =
         in_row at (desig_code line at lo d) (λ next. desig_code line next (behind_desig p r lo d) e)
         ++ own line (I.CopyCells (place_at lo d) (place_at (behind_desig p r lo d) e) ∷ [])
@@ -308,7 +318,7 @@ module _ (p : Program) (tables : Tables) (r : ℕ) where
     pub expr_code : (line at lo : ℕ) → Expr → List Lined
     expr_code line at lo (Const n) = own line (I.Const lo n ∷ [])
     expr_code line at lo (Load d) =
-        unless_bare (bare_desig d) (desig_code line at (lo + 1) d) ++ own line (load_code lo d ∷ [])
+        unless_bare (bare_desig d) (unless_bare (own_place d) (desig_code line at (lo + 1) d)) ++ own line (load_code lo d ∷ [])
     expr_code line at lo (Chain negated e links) =
         in_row at (unless_bare (stays_in negated e links) (expr_code line at lo e) ++ own line (neg_code negated lo))
         (λ next. links_code line next (slot_or (stays_in negated e links) lo) lo (behind_expr p r lo e) links)
@@ -319,7 +329,8 @@ module _ (p : Program) (tables : Tables) (r : ℕ) where
         ++ own line (cmp_code how lo (slot_or (stays x y) lo) (value_at (behind_expr p r lo x) y))
     expr_code line at lo (Truth t) =
         in_row at (guarded at 2 (λ none. condition (is_simple t) line at (lo + 1) none (λ at lo none. jump_code line at lo none t) (λ at lo. test_code line at lo t)) (λ next. [])) (λ next. truth_code line lo next)
-    expr_code line at lo (Known d) = desig_code line at (lo + 1) d ++ own line (I.Known lo (place_at (lo + 1) d) ∷ [])
+    expr_code line at lo (Known d) =
+        unless_bare (own_place d) (desig_code line at (lo + 1) d) ++ own line (I.Known lo (held_at (lo + 1) d) ∷ [])
     expr_code line at lo (Chr e) = expr_code line at lo e ++ own line (I.InRange lo (range_number tables char_range) ∷ [])
     expr_code line at lo (CallExpr called args up) =
         let first : ℕ = arguments_from called up (lo + 2) in
@@ -348,10 +359,10 @@ module _ (p : Program) (tables : Tables) (r : ℕ) where
         unless_bare (bare e) (expr_code line at lo e) ++ own line (fit_code tables range (value_at lo e) ++ (I.Move to (value_at lo e) ∷ []))
     arg_code line at to lo (MixPlace d) = desig_code line at lo d ++ own line (I.Same to (place_at lo d) ∷ [])
 
-    -- the place goes into the slot `place_at lo`
+    -- the place goes into the slot `place_at lo`. Where that of a parameter is no place yet, the instruction that takes the part faults
     pub desig_code : (line at lo : ℕ) → Desig → List Lined
     desig_code line at lo (a_desig root cells sels) =
-        in_row at (own line (root_code lo root)) (λ next. sels_code line next lo (behind_root lo root) sels)
+        in_row at (unless_bare (own_root root sels) (own line (root_code lo root))) (λ next. sels_code line next (slot_or (own_root root sels) lo) (behind_root lo root) sels)
 
     -- the place to be narrowed stands in the slot `from`
     pub sels_code : (line at from lo : ℕ) → Sels → List Lined
