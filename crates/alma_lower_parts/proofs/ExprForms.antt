@@ -93,7 +93,8 @@ module _ (s : Around) (line : ℕ) where
   made_stand_of lo ls d h = ap (λ o. stand_by s o (T.place_at s.program s.tables s.routine lo (desig_with d ls))) (own_desig d ls ∙ h)
 
   -- the number of a variable that stands in its own slot
-  pub load_own : (a b c : Front) (x : Desig) (to from : ℕ) → Some from ≡ option_map (T.own_slot s.program s.tables s.routine) (bare_desig x) → Takes a b slot.Number → to ≡ a.next
+  pub load_own : (a b c : Front) (x : Desig) (to from : ℕ)
+      → Some from ≡ option_map (T.own_slot s.program s.tables s.routine) (bare_desig x) → Takes a b slot.Number → to ≡ a.next
       → Codes b c (own line (I.Move to from ∷ [])) → PutsExpr s line a c (Load x)
   unfolding stmts_with stmts_phrases
   load_own a b c x to from is h there k = by (bare_desig x) refl is
@@ -102,7 +103,9 @@ module _ (s : Around) (line : ℕ) where
       put n e same =
           let y = desig_with x a.lines in
           let z : bare_desig y ≡ Some n = own_desig x a.lines ∙ e in
-          let code : Option ℕ → List Lined = λ o. unless_bare o (unless_bare (own_place y) (T.desig_code s.program s.tables s.routine line (length a.code) (a.next + 1) y)) ++ own line (T.load_by s.program s.tables s.routine o a.next y ∷ []) in
+          let place = unless_bare (own_place y) (T.desig_code s.program s.tables s.routine line (length a.code) (a.next + 1) y) in
+          let code : Option ℕ → List Lined = λ o.
+          unless_bare o place ++ own line (T.load_by s.program s.tables s.routine o a.next y ∷ []) in
           record {
             all = adds_as a c _ _ _ _ _ _ (slot_adds a b c _ _ _ _ h (only_code b c _ k))
                 (ap (λ m. own line (I.Move m from ∷ [])) there ∙ ap (λ m. own line (I.Move a.next m ∷ [])) same ∙ ap code (sym z))
@@ -110,18 +113,23 @@ module _ (s : Around) (line : ℕ) where
                 (sym (own_desig_passes x n a.lines e));
           }
 
-      by : (o : Option ℕ) → bare_desig x ≡ o → Some from ≡ option_map (T.own_slot s.program s.tables s.routine) o → PutsExpr s line a c (Load x)
+      by : (o : Option ℕ) → bare_desig x ≡ o → Some from ≡ option_map (T.own_slot s.program s.tables s.routine) o
+          → PutsExpr s line a c (Load x)
       by (Some n) e same = put n e cc
       by None e same = absurd (cc)
 
   -- the number at a place
-  pub load_held : (a b c d : Front) (x : Desig) (to place : ℕ) → None ≡ option_map (T.own_slot s.program s.tables s.routine) (bare_desig x) → Takes a b slot.Number → to ≡ a.next
-      → PutsHeld s line b c x → place ≡ T.held_at s.program s.tables s.routine b.next (desig_with x b.lines) → Codes c d (own line (I.Load to place ∷ [])) → PutsExpr s line a d (Load x)
+  pub load_held : (a b c d : Front) (x : Desig) (to place : ℕ)
+      → None ≡ option_map (T.own_slot s.program s.tables s.routine) (bare_desig x) → Takes a b slot.Number → to ≡ a.next
+      → PutsHeld s line b c x → place ≡ T.held_at s.program s.tables s.routine b.next (desig_with x b.lines)
+      → Codes c d (own line (I.Load to place ∷ [])) → PutsExpr s line a d (Load x)
   unfolding stmts_with stmts_phrases
   load_held a b c d x to place none h is j is2 k =
       let y = desig_with x a.lines in
       let z : bare_desig y ≡ None = own_desig x a.lines ∙ no_bare (T.own_slot s.program s.tables s.routine) (bare_desig x) none in
-      let there : place ≡ T.held_at s.program s.tables s.routine (a.next + 1) y = is2 ∙ ap (λ n. T.held_at s.program s.tables s.routine n (desig_with x b.lines)) h.next_slot ∙ ap (λ n. T.held_at s.program s.tables s.routine (a.next + 1) (desig_with x n)) h.left in
+      let there : place ≡ T.held_at s.program s.tables s.routine (a.next + 1) y = is2
+      ∙ ap (λ n. T.held_at s.program s.tables s.routine n (desig_with x b.lines)) h.next_slot
+      ∙ ap (λ n. T.held_at s.program s.tables s.routine (a.next + 1) (desig_with x n)) h.left in
       let code : List Lined = unless_bare (own_place y) (T.desig_code s.program s.tables s.routine line (length a.code) (a.next + 1) y) in
       record {
         all = adds_as a d _ _ _ _ _ _ (slot_adds a b d _ _ _ _ h (adds_code b c d _ _ _ _ j.all k))
@@ -183,12 +191,15 @@ module _ (s : Around) (line : ℕ) where
             refl (sym (behind_two (expr_phrases x) (expr_phrases y) a.lines));
       }
 
-  pub known_put : (a b c d : Front) (x : Desig) (to place : ℕ) → Takes a b slot.Number → to ≡ a.next → PutsHeld s line b c x → place ≡ T.held_at s.program s.tables s.routine b.next (desig_with x b.lines)
+  pub known_put : (a b c d : Front) (x : Desig) (to place : ℕ) → Takes a b slot.Number → to ≡ a.next → PutsHeld s line b c x
+      → place ≡ T.held_at s.program s.tables s.routine b.next (desig_with x b.lines)
       → Codes c d (own line (I.Known to place ∷ [])) → PutsExpr s line a d (Known x)
   unfolding stmts_with stmts_phrases
   known_put a b c d x to place h is j is2 k =
       let y = desig_with x a.lines in
-      let there : place ≡ T.held_at s.program s.tables s.routine (a.next + 1) y = is2 ∙ ap (λ n. T.held_at s.program s.tables s.routine n (desig_with x b.lines)) h.next_slot ∙ ap (λ n. T.held_at s.program s.tables s.routine (a.next + 1) (desig_with x n)) h.left in
+      let there : place ≡ T.held_at s.program s.tables s.routine (a.next + 1) y = is2
+      ∙ ap (λ n. T.held_at s.program s.tables s.routine n (desig_with x b.lines)) h.next_slot
+      ∙ ap (λ n. T.held_at s.program s.tables s.routine (a.next + 1) (desig_with x n)) h.left in
       let code = unless_bare (own_place y) (T.desig_code s.program s.tables s.routine line (length a.code) (a.next + 1) y) in
       record {
         all = adds_as a d _ _ _ _ _ _ (slot_adds a b d _ _ _ _ h (adds_code b c d _ _ _ _ j.all k))

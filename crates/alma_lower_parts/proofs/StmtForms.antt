@@ -98,19 +98,25 @@ module _ (s : Around) where
   -- the code of a variable and of the number for it, before that is put there
   abbrev assigned_code : (line at lo next : ℕ) → Desig → Expr → List Lined
   assigned_code line at lo next d e =
-      in_row at (unless_bare (bare_desig d) (T.desig_code s.program s.tables s.routine line at lo d)) (λ at. unless_bare (bare e) (T.expr_code s.program s.tables s.routine line at next e))
+      in_row at (unless_bare (bare_desig d) (T.desig_code s.program s.tables s.routine line at lo d))
+      (λ at. unless_bare (bare e) (T.expr_code s.program s.tables s.routine line at next e))
 
   -- a value that ends alone has code
-  has_code : (line at lo : ℕ) (e : Expr) → ends_alone e ≡ true → 0 < length (unless_bare (bare e) (T.expr_code s.program s.tables s.routine line at lo e))
+  has_code : (line at lo : ℕ) (e : Expr) → ends_alone e ≡ true
+      → 0 < length (unless_bare (bare e) (T.expr_code s.program s.tables s.routine line at lo e))
   has_code line at lo (Const n) h = omega arith
   has_code line at lo (Load d) h = by (bare_desig d) refl h
     where
-      by : (o : Option ℕ) → bare_desig d ≡ o → not (is_given o) ≡ true → 0 < length (unless_bare o (T.expr_code s.program s.tables s.routine line at lo (Load d)))
+      by : (o : Option ℕ) → bare_desig d ≡ o → not (is_given o) ≡ true
+          → 0 < length (unless_bare o (T.expr_code s.program s.tables s.routine line at lo (Load d)))
       by (Some from) e h = absurd (cc)
-      by None e h = long_behind (unless_bare (bare_desig d) (unless_bare (own_place d) (T.desig_code s.program s.tables s.routine line at (lo + 1) d))) _ (omega arith)
+      by None e h = long_behind
+          (unless_bare (bare_desig d) (unless_bare (own_place d) (T.desig_code s.program s.tables s.routine line at (lo + 1) d))) _
+          (omega arith)
   has_code line at lo (Chain negated e no_links) h = absurd (cc)
   has_code line at lo (Chain negated e (more_links how x rest)) h =
-      long_behind (unless_bare (stays_in negated e (more_links how x rest)) (T.expr_code s.program s.tables s.routine line at lo e) ++ own line (neg_code negated lo)) _
+      long_behind (unless_bare (stays_in negated e (more_links how x rest))
+      (T.expr_code s.program s.tables s.routine line at lo e) ++ own line (neg_code negated lo)) _
       (long_before _ _ (long_behind (unless_bare (bare x) (T.expr_code s.program s.tables s.routine line _ _ x)) _ (omega arith)))
   has_code line at lo (Compare how x y) h = absurd (cc)
   has_code line at lo (Truth t) h = absurd (cc)
@@ -130,9 +136,12 @@ module _ (s : Around) (line : ℕ) where
   unfolding stmts_with stmts_phrases
   test_put a b t h = record { all = h.all }
 
-  pub assign_put : (a b c d e : Front) (x : Desig) (y : Expr) (range : Range) (stand : Stand) (value : ℕ) → None ≡ option_map (T.own_slot s.program s.tables s.routine) (goes_straight x y range)
-      → PutsTarget s line a b x → stand ≡ stand_of s a.next (desig_with x a.lines) → PutsValue s line b c y → value ≡ value_slot s b.next (expr_with y b.lines)
-      → Codes c d (own line (fit_code s.tables range value)) → Codes d e (own line (set_instr stand value ∷ [])) → PutsStmt s line a e (Assign x y range)
+  pub assign_put : (a b c d e : Front) (x : Desig) (y : Expr) (range : Range) (stand : Stand) (value : ℕ)
+      → None ≡ option_map (T.own_slot s.program s.tables s.routine) (goes_straight x y range)
+      → PutsTarget s line a b x → stand ≡ stand_of s a.next (desig_with x a.lines) → PutsValue s line b c y
+      → value ≡ value_slot s b.next (expr_with y b.lines)
+      → Codes c d (own line (fit_code s.tables range value)) → Codes d e (own line (set_instr stand value ∷ []))
+      → PutsStmt s line a e (Assign x y range)
   unfolding stmts_with stmts_phrases
   assign_put a b c d e x y range stand value none h is j is2 k l =
       let u = desig_with x a.lines in
@@ -141,23 +150,28 @@ module _ (s : Around) (line : ℕ) where
       let v = expr_with y ls in
       let there : value ≡ value_slot s lo v = is2 ∙ ap (λ n. value_slot s n (expr_with y b.lines)) h.all.next_slot ∙ ap (λ n. value_slot s lo (expr_with y n)) h.all.left in
       let both = assigned_code s line (length a.code) a.next lo u v in
-      let set : List Instr = fit_code s.tables range (value_slot s lo v) ++ (T.set_code s.program s.tables s.routine a.next (value_slot s lo v) u ∷ []) in
+      let set : List Instr =
+      fit_code s.tables range (value_slot s lo v) ++ (T.set_code s.program s.tables s.routine a.next (value_slot s lo v) u ∷ []) in
       record {
         all = adds_as a e _ _ _ _ _ _ (adds_code a c e _ _ _ _ (then_adds a b c _ _ _ _ _ _ h.all j.all) (code_code c d e _ _ k l))
             (ap (λ i. both ++ (own line (fit_code s.tables range value) ++ own line (i ∷ []))) (ap (λ n. set_instr n value) is ∙ set_is a.next value u)
             ∙ ap (λ l. both ++ l) (sym (own_two line (fit_code s.tables range value) (T.set_code s.program s.tables s.routine a.next value u ∷ [])))
             ∙ ap (λ n. both ++ own line (fit_code s.tables range n ++ (T.set_code s.program s.tables s.routine a.next n u ∷ []))) there
-            ∙ ap (λ o. T.set_to s.program s.tables s.routine o line both set) (sym (straight_with x y range a.lines ls ∙ no_bare (T.own_slot s.program s.tables s.routine) (goes_straight x y range) none)))
+            ∙ ap (λ o. T.set_to s.program s.tables s.routine o line both set)
+            (sym (straight_with x y range a.lines ls
+            ∙ no_bare (T.own_slot s.program s.tables s.routine) (goes_straight x y range) none)))
             refl (sym (behind_two (desig_phrases x) (expr_phrases y) a.lines));
       }
 
   -- the value goes straight into the slot of the variable
-  pub straight_put : (a b c d : Front) (x : Desig) (y : Expr) (range : Range) (to : ℕ) → Some to ≡ option_map (T.own_slot s.program s.tables s.routine) (goes_straight x y range)
+  pub straight_put : (a b c d : Front) (x : Desig) (y : Expr) (range : Range) (to : ℕ)
+      → Some to ≡ option_map (T.own_slot s.program s.tables s.routine) (goes_straight x y range)
       → PutsTarget s line a b x → PutsValue s line b c y → Changes c d (λ xs. straight to xs) → PutsStmt s line a d (Assign x y range)
   unfolding stmts_with stmts_phrases
   straight_put a b c d x y range to some h j k = by (goes_straight x y range) refl some
     where
-      put : (from : ℕ) → goes_straight x y range ≡ Some from → to ≡ T.own_slot s.program s.tables s.routine from → PutsStmt s line a d (Assign x y range)
+      put : (from : ℕ) → goes_straight x y range ≡ Some from → to ≡ T.own_slot s.program s.tables s.routine from
+          → PutsStmt s line a d (Assign x y range)
       put from e is =
           let u = desig_with x a.lines in
           let ls = behind (desig_phrases x) a.lines in
@@ -165,12 +179,15 @@ module _ (s : Around) (line : ℕ) where
           let v = expr_with y ls in
           let both : List Lined = assigned_code s line (length a.code) a.next lo u v in
           let same : goes_straight u v range ≡ Some from = straight_with x y range a.lines ls ∙ e in
-          let set : List Instr = fit_code s.tables range (value_slot s lo v) ++ (T.set_code s.program s.tables s.routine a.next (value_slot s lo v) u ∷ []) in
+          let set : List Instr =
+          fit_code s.tables range (value_slot s lo v) ++ (T.set_code s.program s.tables s.routine a.next (value_slot s lo v) u ∷ []) in
           let all = then_adds a b c _ _ _ _ _ _ h.all j.all in
           record {
             all = record {
               instrs = k.instrs ∙ ap (straight to) all.instrs
-                  ∙ straight_behind to a.code both (long_behind (unless_bare (bare_desig u) (T.desig_code s.program s.tables s.routine line (length a.code) a.next u)) _ (has_code s line _ lo v (goes_alone u v range from same)))
+                  ∙ straight_behind to a.code both
+                  (long_behind (unless_bare (bare_desig u) (T.desig_code s.program s.tables s.routine line (length a.code) a.next u))
+                  _ (has_code s line _ lo v (goes_alone u v range from same)))
                   ∙ ap (λ n. a.code ++ straight n both) is
                   ∙ ap (λ o. a.code ++ T.set_to s.program s.tables s.routine o line both set) (sym same);
               taken = k.taken ∙ all.taken;
@@ -180,7 +197,8 @@ module _ (s : Around) (line : ℕ) where
             };
           }
 
-      by : (o : Option ℕ) → goes_straight x y range ≡ o → Some to ≡ option_map (T.own_slot s.program s.tables s.routine) o → PutsStmt s line a d (Assign x y range)
+      by : (o : Option ℕ) → goes_straight x y range ≡ o → Some to ≡ option_map (T.own_slot s.program s.tables s.routine) o
+          → PutsStmt s line a d (Assign x y range)
       by (Some from) e is = put from e cc
       by None e is = absurd (cc)
 

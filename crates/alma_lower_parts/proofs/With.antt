@@ -79,8 +79,10 @@ alone_with (Known d) ls = refl
 alone_with (Chr e) ls = refl
 alone_with (CallExpr r args up) ls = refl
 
-pub straight_with : (d : Desig) (e : Expr) (range : Range) (ls ls2 : List ℕ) → goes_straight (desig_with d ls) (expr_with e ls2) range ≡ goes_straight d e range
-straight_with d e range ls ls2 = ap (λ o. straight_by o (is_whole range && ends_alone (expr_with e ls2))) (own_desig d ls) ∙ ap (λ b. straight_by (bare_desig d) (is_whole range && b)) (alone_with e ls2)
+pub straight_with : (d : Desig) (e : Expr) (range : Range) (ls ls2 : List ℕ)
+    → goes_straight (desig_with d ls) (expr_with e ls2) range ≡ goes_straight d e range
+straight_with d e range ls ls2 = ap (λ o. straight_by o (is_whole range && ends_alone (expr_with e ls2))) (own_desig d ls)
+    ∙ ap (λ b. straight_by (bare_desig d) (is_whole range && b)) (alone_with e ls2)
 
 -- ---- parameters whose place is used in their own slot
 

@@ -84,23 +84,33 @@ call::emit_call_value-returns g t c =
     }
 
 pub designator::emit_desig-returns-clause-place : goal.designator::emit_desig-returns-clause-place
-designator::emit_desig-returns-clause-place g t c = if_ok c.emit_sels.result (λ place h. desig_place (around c.args.scene.now) c.args.line _ _ _ place _ _ _ _ (ap sels_list c.deref.ensures.value) c.in_ok-to.ensures h) c.emit_sels.ensures.place
+designator::emit_desig-returns-clause-place g t c = if_ok c.emit_sels.result
+    (λ place h. desig_place (around c.args.scene.now) c.args.line _ _ _ place _ _ _ _
+    (ap sels_list c.deref.ensures.value) c.in_ok-to.ensures h) c.emit_sels.ensures.place
 
 pub designator::emit_desig-returns-clause-puts : goal.designator::emit_desig-returns-clause-puts
-designator::emit_desig-returns-clause-puts g t c = on_ok c.emit_sels.result (desig_put (around c.args.scene.now) c.args.line _ _ _ _ _ _ _ _ (ap sels_list c.deref.ensures.value) c.in_ok-to.ensures) c.emit_sels.ensures.puts
+designator::emit_desig-returns-clause-puts g t c = on_ok c.emit_sels.result
+    (desig_put (around c.args.scene.now) c.args.line _ _ _ _ _ _ _ _ (ap sels_list c.deref.ensures.value) c.in_ok-to.ensures)
+    c.emit_sels.ensures.puts
 
 pub expression::emit_load-returns-in-Some : goal.expression::emit_load-returns-in-Some
 expression::emit_load-returns-in-Some g t c =
     record {
       slot = if_ok c.slot_of.result (λ given is. is ∙ c.in_ok-to.ensures.slot) c.slot_of.ensures.slot;
-      puts = on_ok c.slot_of.result (λ ok. load_own (around c.args.scene.now) c.args.line _ _ _ _ _ _ (sym c.in-Some.is ∙ c.in_ok-from.ensures) c.in_ok-to.ensures.takes c.in_ok-to.ensures.slot (said c.add.result ok c.add.ensures)) c.slot_of.ensures.done;
+      puts = on_ok c.slot_of.result
+          (λ ok. load_own (around c.args.scene.now) c.args.line _ _ _ _ _ _
+          (sym c.in-Some.is ∙ c.in_ok-from.ensures) c.in_ok-to.ensures.takes c.in_ok-to.ensures.slot (said c.add.result ok c.add.ensures))
+          c.slot_of.ensures.done;
     }
 
 pub expression::emit_load-returns-in-None : goal.expression::emit_load-returns-in-None
 expression::emit_load-returns-in-None g t c =
     record {
       slot = if_ok c.load_of.result (λ given is. is ∙ c.in_ok-to.ensures.slot) c.load_of.ensures.slot;
-      puts = put_behind c.emit_held-place.result c.load_of.result c.emit_held-place.ensures.puts c.emit_held-place.ensures.place c.load_of.ensures.done c.load_of.ensures.codes (λ at puts is h. load_held (around c.args.scene.now) c.args.line _ _ _ _ _ _ _ (sym c.in-None.is ∙ c.in_ok-from.ensures) c.in_ok-to.ensures.takes c.in_ok-to.ensures.slot puts is h);
+      puts = put_behind c.emit_held-place.result c.load_of.result c.emit_held-place.ensures.puts c.emit_held-place.ensures.place
+          c.load_of.ensures.done c.load_of.ensures.codes
+          (λ at puts is h. load_held (around c.args.scene.now) c.args.line _ _ _ _ _ _ _
+          (sym c.in-None.is ∙ c.in_ok-from.ensures) c.in_ok-to.ensures.takes c.in_ok-to.ensures.slot puts is h);
     }
 
 pub expression::emit_chain-returns : goal.expression::emit_chain-returns
@@ -277,7 +287,8 @@ pub designator::emit_held-returns-in-Some : goal.designator::emit_held-returns-i
 designator::emit_held-returns-in-Some g t c =
     let own = sym c.in-Some.is ∙ c.in_ok-from.ensures in
     record {
-      place = if_ok c.hold_at.result (λ place h. h ∙ own_held_at (around c.args.scene.now) c.args.line _ _ _ _ own) c.hold_at.ensures.place;
+      place = if_ok c.hold_at.result
+          (λ place h. h ∙ own_held_at (around c.args.scene.now) c.args.line _ _ _ _ own) c.hold_at.ensures.place;
       puts = on_ok c.hold_at.result (own_held (around c.args.scene.now) c.args.line _ _ _ _ _ _ own) c.hold_at.ensures.takes;
     }
 
@@ -285,7 +296,8 @@ pub designator::emit_held-returns-in-None : goal.designator::emit_held-returns-i
 designator::emit_held-returns-in-None g t c =
     let none = sym c.in-None.is ∙ c.in_ok-from.ensures in
     record {
-      place = if_ok c.emit_desig.result (λ place h. made_held_at (around c.args.scene.now) c.args.line _ _ _ _ none h) c.emit_desig.ensures.place;
+      place = if_ok c.emit_desig.result
+          (λ place h. made_held_at (around c.args.scene.now) c.args.line _ _ _ _ none h) c.emit_desig.ensures.place;
       puts = on_ok c.emit_desig.result (made_held (around c.args.scene.now) c.args.line _ _ _ none) c.emit_desig.ensures.puts;
     }
 
