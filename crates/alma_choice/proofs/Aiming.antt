@@ -7,6 +7,7 @@ use Rattle.alma_code.specs.declared.instr.Instr.{Instr}
 use Rattle.alma_code.specs.declared.instr.Instr.TheVariants as I
 use Rattle.alma_choice.specs.declared.emit.Emit.{Emit}
 use Rattle.alma_lower_templates.specs.Lined.{Lined, own}
+use Rattle.alma_lower_templates.specs.Pieces.{aim, straight}
 use Rattle.alma_choice.specs.Emitted.{lined, made, with_target, aimed, Appends, Aims, EndsEach, EndsForall}
 
 -- an instruction of the code is written anew with its target
@@ -15,6 +16,19 @@ pub aimed_in : (xs : List (Instr × ℕ)) (at to : ℕ) (d : Instr × ℕ) → a
 aimed_in [] at to d lt = absurd (omega (arith, lt))
 aimed_in (x ∷ xs) zero to d lt = refl
 aimed_in (x ∷ xs) (suc at) to d lt = ap (λ l. lined x ∷ l) (aimed_in xs at to d (omega (arith, lt)))
+
+-- the last instruction of the code is written anew with its destination
+pub straight_in : (xs : List (Instr × ℕ)) (at to : ℕ) (d : Instr × ℕ) → length xs ≡ suc at
+    → map lined (slice_set xs at (aim to (get_or xs at d).0, (get_or xs at d).1)) ≡ straight to (map lined xs)
+straight_in [] at to d e = absurd (omega (arith, e))
+straight_in (x ∷ []) zero to d e = refl
+straight_in (x ∷ []) (suc at) to d e = absurd (omega (arith, e))
+straight_in (x ∷ y ∷ xs) zero to d e = absurd (omega (arith, e))
+straight_in (x ∷ y ∷ xs) (suc at) to d e = ap (λ l. lined x ∷ l) (straight_in (y ∷ xs) at to d (omega (arith, e)))
+
+pub straight_none : (xs : List (Instr × ℕ)) (to : ℕ) → length xs ≡ 0 → straight to (map lined xs) ≡ map lined xs
+straight_none [] to e = refl
+straight_none (x ∷ xs) to e = absurd (omega (arith, e))
 
 -- behind the code there is nothing to be aimed
 pub aimed_out : (xs : List Lined) (at to : ℕ) → length xs ≤ at → aimed xs at to ≡ xs

@@ -6,6 +6,7 @@ use Rattle.alma_code.specs.declared.instr.Instr.{Instr}
 use Rattle.alma_code.specs.declared.instr.Instr.TheVariants as I
 use Rattle.alma_choice.specs.declared.emit.Emit.{Emit}
 use Rattle.alma_lower_templates.specs.Lined.{Lined, own}
+use Rattle.alma_lower_templates.specs.Pieces.{straight}
 
 -- an instruction in memory beside its line
 abbrev pub lined : Instr × ℕ → Lined
@@ -51,6 +52,12 @@ pub record HasSlotRoom (a : Emit) : Type 0 where
 -- b is a with the jump at an address aimed at another
 pub record Aims (a b : Emit) (at to : ℕ) : Type 0 where
   pub instrs : made b ≡ aimed (made a) at to
+  pub kinds : b.kinds.items ≡ a.kinds.items
+  pub next : b.next ≡ a.next
+
+-- b is a whose last instruction puts its number into another slot
+pub record Redirects (a b : Emit) (to : ℕ) : Type 0 where
+  pub instrs : made b ≡ straight to (made a)
   pub kinds : b.kinds.items ≡ a.kinds.items
   pub next : b.next ≡ a.next
 

@@ -5,7 +5,7 @@ ghost use Rattle.alma_code.specs.declared.cell.SlotKind.TheVariants as slot;
 ghost use Rattle.alma_lower_templates.specs.Lined.{own};
 ghost use Rattle.alma_lower_templates.specs.Pieces as pieces;
 ghost use Rattle.alma_base.specs.Limits.{instr_limit};
-ghost use Rattle.alma_choice.specs.Emitted.{made, with_target, aimed, Appends, Aims, EndsEach, EndsForall, IsAsBefore, HasSlotRoom};
+ghost use Rattle.alma_choice.specs.Emitted.{made, with_target, aimed, Appends, Aims, Redirects, EndsEach, EndsForall, IsAsBefore, HasSlotRoom};
 
 use alma_base::{INSTR_LIMIT, NoMemory, SLOT_LIMIT};
 use alma_code::{Instr, SlotKind};
@@ -147,6 +147,18 @@ impl Emit {
         self.code[at as usize] = (aimed_at(jump, target), line);
     }
 
+    /// Sends the number of the last instruction into another slot.
+    pub fn redirect(&mut self, to: u32)
+        ensures redirects { Redirects self.old self.new to }
+    {
+        let count = self.code.len();
+        if count == 0 {
+            return;
+        }
+        let (instr, line) = self.code[count - 1];
+        self.code[count - 1] = (sent_to(instr, to), line);
+    }
+
     /// The front of a phrase of which the first alternative is taken: its mark, and the address of the choice, which is
     /// still to be aimed where the code goes on without an alternative. `Cut` of the mark goes behind the phrase.
     pub fn begin_first(&mut self, line: u32) -> Result<(u32, u32), NoMemory>
@@ -260,6 +272,22 @@ fn aimed_at(jump: Instr, to: u32) -> Instr
             by,
             out: to,
         },
+        other => other,
+    }
+}
+
+// The same instruction with its number for another slot.
+fn sent_to(instr: Instr, to: u32) -> Instr
+    ensures { result ≡ pieces.aim to instr }
+{
+    match instr {
+        Instr::Const { value, .. } => Instr::Const { to, value },
+        Instr::Load { from, .. } => Instr::Load { to, from },
+        Instr::Add { left, right, .. } => Instr::Add { to, left, right },
+        Instr::Sub { left, right, .. } => Instr::Sub { to, left, right },
+        Instr::Mul { left, right, .. } => Instr::Mul { to, left, right },
+        Instr::Div { left, right, .. } => Instr::Div { to, left, right },
+        Instr::Mod { left, right, .. } => Instr::Mod { to, left, right },
         other => other,
     }
 }

@@ -2,16 +2,18 @@
 ghost use Rattle.std.specs.Prelude.{◌≡◌, IfOk, OnOk};
 ghost use Rattle.alma_ir.specs.View.{desig_of, sel_of, sels_list};
 ghost use Rattle.alma_ir.specs.Lines.{desig_with, sels_with, sel_with};
-ghost use Rattle.alma_lower_templates.specs.Templates.{place_at, part_at, part_slot};
+ghost use Rattle.alma_lower_templates.specs.Templates.{held_at, place_at, part_at, part_slot};
 ghost use Rattle.alma_lower_work.specs.Front.{around, front};
-ghost use Rattle.alma_lower_work.specs.Puts.{PutsDesig, PutsTarget, PutsSels, PutsSel, stand_of};
+ghost use Rattle.alma_lower_work.specs.Puts.{PutsDesig, PutsHeld, PutsTarget, PutsSels, PutsSel, stand_of};
 ghost use Rattle.alma_lower_emit.specs.Inside.{EmitsStmts};
 
 use crate::expression::emit_value;
 use crate::plain::element_of;
 use alma_base::NoMemory;
 use alma_ir::{Desig, Sel, Stmt};
-use alma_lower_parts::{Scene, Stand, Work, begin_place, emit_field, own_stand, stand_at};
+use alma_lower_parts::{
+    Scene, Stand, Work, begin_place, emit_field, hold_at, own_place, own_stand, stand_at,
+};
 
 /// The place of a designator.
 #[cycle(emit)]
@@ -31,12 +33,35 @@ where
     ensures puts { OnOk result (PutsDesig (around scene.now) line
         (front work.old) (front work.new) (desig_of desig.now)) }
 {
-    let to = begin_place(work, scene, line, desig.cells, desig.root)?;
+    let to = begin_place(work, scene, line, desig)?;
     emit_sels(work, scene, line, to, &desig.sels, inside)
 }
 
-/// Where a variable stands that is read or written.
+/// The place of a designator that is read at once.
 #[cycle(emit)]
+pub fn emit_held<S>(
+    work: &mut Work,
+    scene: &Scene<'_>,
+    line: u32,
+    desig: &Desig,
+    inside: &S,
+) -> Result<u32, NoMemory>
+where
+    S: for<'a, 'b, 'c, 'd> Fn(&'a mut Work, &'b Scene<'c>, &'d [Stmt]) -> Result<(), NoMemory>,
+    requires emits { EmitsStmts (S.IsAlwaysCallable inside.now) (S.post inside.now) }
+    ensures place { IfOk result (λ place. place ≡ held_at (around scene.now).program
+        (around scene.now).tables (around scene.now).routine (front work.old).next (desig_with
+        (desig_of desig.now) (front work.old).lines)) }
+    ensures puts { OnOk result (PutsHeld (around scene.now) line
+        (front work.old) (front work.new) (desig_of desig.now)) }
+{
+    match own_place(scene, desig)? {
+        Some(from) => hold_at(work, desig.cells, from),
+        None => emit_desig(work, scene, line, desig, inside),
+    }
+}
+
+/// Where a variable stands that is written.
 pub fn emit_target<S>(
     work: &mut Work,
     scene: &Scene<'_>,

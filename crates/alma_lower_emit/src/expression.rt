@@ -11,14 +11,14 @@ ghost use Rattle.alma_lower_emit.specs.Inside.{EmitsStmts};
 
 use crate::call::emit_call_value;
 use crate::condition::emit_guard;
-use crate::designator::{emit_desig, emit_target};
-use crate::plain::chr_of;
+use crate::designator::emit_held;
+use crate::plain::{chr_of, load_of};
 use alma_base::NoMemory;
 use alma_code::{Instr, SlotKind};
 use alma_ir::{Cmp, Desig, Expr, Link, Stmt, Test};
 use alma_lower_parts::{
-    FirstOperand, Scene, Work, emit_const, end_truth, next_operand, op_instr, own_first, own_value,
-    put_at, put_cmp, put_neg, slot_of, stay_at,
+    FirstOperand, Scene, Work, emit_const, end_truth, next_operand, op_instr, own_first, own_stand,
+    own_value, put_at, put_cmp, put_neg, slot_of, stay_at,
 };
 
 /// An expression, and the slot of its number.
@@ -73,8 +73,13 @@ where
         (front work.old) (front work.new) (tree.Load (desig_of desig.now))) }
 {
     let to = work.slot(SlotKind::Number)?;
-    let stand = emit_target(work, scene, line, desig, inside)?;
-    slot_of(work.add(line, stand.load(to)), to)
+    match own_stand(scene, desig)? {
+        Some(from) => slot_of(work.add(line, Instr::Move { to, from }), to),
+        None => {
+            let place = emit_held(work, scene, line, desig, inside);
+            load_of(work, line, to, place)
+        }
+    }
 }
 
 // A first operand, its sign, and operators with their operands.
@@ -218,7 +223,7 @@ where
         (front work.old) (front work.new) (tree.Known (desig_of desig.now))) }
 {
     let to = work.slot(SlotKind::Number)?;
-    let of = emit_desig(work, scene, line, desig, inside)?;
+    let of = emit_held(work, scene, line, desig, inside)?;
     slot_of(work.add(line, Instr::Known { to, of }), to)
 }
 

@@ -48,6 +48,23 @@ pub(crate) fn place_of(
     work.add(line, Instr::Same { to, from })
 }
 
+// The number at a place, for a slot; that slot.
+pub(crate) fn load_of(
+    work: &mut Work,
+    line: u32,
+    to: u32,
+    place: Result<u32, NoMemory>,
+) -> Result<u32, NoMemory>
+    ensures done { OnOk result (IsOk place) }
+    ensures slot { IfOk result (λ given. given ≡ to) }
+    ensures codes { IfOk place (λ place. OnOk result (Codes (front work.old) (front work.new)
+        (own line (instr.Load to place ∷ [])))) }
+{
+    let from = place?;
+    work.put(line, Instr::Load { to, from })?;
+    Ok(to)
+}
+
 // The end of a test of inequality, behind its first operand.
 pub(crate) fn unequal_of(
     work: &mut Work,

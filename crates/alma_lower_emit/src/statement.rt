@@ -17,7 +17,7 @@ use crate::test::emit_test;
 use alma_base::{NoMemory, Range};
 use alma_code::Instr;
 use alma_ir::{Desig, Expr, Stmt};
-use alma_lower_parts::{Scene, Work, emit_line, emit_text, put_set};
+use alma_lower_parts::{Scene, Work, emit_line, emit_text, put_set, straight_slot};
 
 // Statements in order, each at its line.
 pub(crate) fn emit_sequence<S>(
@@ -100,8 +100,14 @@ where
         (tree.Assign (desig_of desig.now) (expr_of value.now) range)) }
 {
     let stand = emit_target(work, scene, line, desig, inside)?;
-    let value = emit_value(work, scene, line, value, inside)?;
-    put_set(work, scene, line, range, stand, value)
+    let number = emit_value(work, scene, line, value, inside)?;
+    match straight_slot(scene, desig, value, range)? {
+        Some(to) => {
+            work.redirect(to);
+            Ok(())
+        }
+        None => put_set(work, scene, line, range, stand, number),
+    }
 }
 
 // All cells of a variable for another.

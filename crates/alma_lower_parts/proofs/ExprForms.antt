@@ -1,6 +1,6 @@
 -- What each form of expression adds.
 use Rattle.std.proofs.Common.{◌≡◌, ℕ, ℤ, ◌+◌, Bool, List, [], ◌∷◌, ◌++◌, length, Some, None, refl, sym, ap, ◌∙◌}
-use Rattle.std.specs.Prelude.{Option}
+use Rattle.std.specs.Prelude.{Option, option_map}
 use Rattle.alma_code.specs.declared.cell.SlotKind.TheVariants as slot
 use Rattle.alma_code.specs.declared.instr.Instr.TheVariants as I
 use Rattle.alma_ir.specs.declared.phrase.Op.{Op}
@@ -9,14 +9,13 @@ use Rattle.alma_ir.specs.Tree.{Expr, Links, Desig, Const, Load, Chain, Compare, 
 use Rattle.alma_ir.specs.Phrases.{stmts_phrases, expr_phrases, links_phrases}
 use Rattle.alma_ir.specs.Lines.{behind, stmts_with, expr_with, links_with, desig_with}
 use Rattle.alma_ir.proofs.LinesBack.{behind_two}
-use Rattle.alma_lower_work.specs.declared.stand.Stand.{Stand}
 use Rattle.alma_lower_work.specs.Front.{Around, Front, Codes, Takes}
-use Rattle.alma_lower_work.specs.Puts.{PutsExpr, PutsFirstOperand, PutsValue, PutsLinks, PutsDesig, PutsTarget, stand_by, stand_of, value_slot, load_instr}
+use Rattle.alma_lower_work.specs.Puts.{PutsExpr, PutsFirstOperand, PutsValue, PutsLinks, PutsDesig, PutsHeld, PutsTarget, stand_by, stand_of, value_slot}
 use Rattle.alma_lower_work.proofs.Joins.{nothing, then_adds, adds_as, adds_code, only_code, slot_adds}
-use Rattle.alma_lower_parts.proofs.With.{own_desig, own_expr, own_desig_passes, own_expr_passes, stays_with, stays_in_with}
+use Rattle.alma_lower_parts.proofs.With.{no_bare, own_desig, own_expr, own_desig_passes, own_expr_passes, stays_with, stays_in_with}
 use Rattle.alma_lower_templates.specs.Lined.{Lined, own, in_row}
 use Rattle.alma_lower_templates.specs.Tables.{range_number}
-use Rattle.alma_lower_templates.specs.Slots.{bare_desig, bare, stays, stays_in, unless_bare, expr_slots, desig_slots}
+use Rattle.alma_lower_templates.specs.Slots.{bare_desig, bare, own_place, stays, stays_in, unless_bare, expr_slots, desig_slots}
 use Rattle.alma_lower_templates.specs.Pieces.{op_code, cmp_code, neg_code}
 use Rattle.alma_lower_templates.proofs.AtOnce.{bare_value}
 use Rattle.alma_lower_templates.specs.Templates as T
@@ -93,23 +92,50 @@ module _ (s : Around) (line : ℕ) where
   pub made_stand_of : (lo : ℕ) (ls : List ℕ) (d : Desig) → bare_desig d ≡ None → stand_of s lo (desig_with d ls) ≡ stand_by s None (T.place_at s.program s.tables s.routine lo (desig_with d ls))
   made_stand_of lo ls d h = ap (λ o. stand_by s o (T.place_at s.program s.tables s.routine lo (desig_with d ls))) (own_desig d ls ∙ h)
 
-  load_by : (o : Option ℕ) (to place : ℕ) (d : Desig) → T.place_at s.program s.tables s.routine (to + 1) d ≡ place → load_instr (stand_by s o place) to ≡ T.load_by s.program s.tables s.routine o to d
-  load_by (Some from) to place d h = refl
-  load_by None to place d h = ap (λ n. I.Load to n) (sym h)
-
-  -- the number of a variable
-  pub load_put : (a b c d : Front) (x : Desig) (to : ℕ) (stand : Stand) → Takes a b slot.Number → to ≡ a.next → PutsTarget s line b c x → stand ≡ stand_of s b.next (desig_with x b.lines)
-      → Codes c d (own line (load_instr stand to ∷ [])) → PutsExpr s line a d (Load x)
+  -- the number of a variable that stands in its own slot
+  pub load_own : (a b c : Front) (x : Desig) (to from : ℕ)
+      → Some from ≡ option_map (T.own_slot s.program s.tables s.routine) (bare_desig x) → Takes a b slot.Number → to ≡ a.next
+      → Codes b c (own line (I.Move to from ∷ [])) → PutsExpr s line a c (Load x)
   unfolding stmts_with stmts_phrases
-  load_put a b c d x to stand h is j is2 k =
-      let ls = a.lines in
-      let y = desig_with x ls in
-      let same : stand_of s b.next (desig_with x b.lines) ≡ stand_of s (a.next + 1) y = ap (λ n. stand_of s n (desig_with x b.lines)) h.next_slot ∙ ap (λ n. stand_of s (a.next + 1) (desig_with x n)) h.left in
-      let instr : load_instr stand to ≡ T.load_code s.program s.tables s.routine a.next y = ap (λ n. load_instr n to) (is2 ∙ same) ∙ ap (load_instr (stand_of s (a.next + 1) y)) is
-      ∙ load_by (bare_desig y) a.next (T.place_at s.program s.tables s.routine (a.next + 1) y) y refl in
+  load_own a b c x to from is h there k = by (bare_desig x) refl is
+    where
+      put : (n : ℕ) → bare_desig x ≡ Some n → from ≡ T.own_slot s.program s.tables s.routine n → PutsExpr s line a c (Load x)
+      put n e same =
+          let y = desig_with x a.lines in
+          let z : bare_desig y ≡ Some n = own_desig x a.lines ∙ e in
+          let place = unless_bare (own_place y) (T.desig_code s.program s.tables s.routine line (length a.code) (a.next + 1) y) in
+          let code : Option ℕ → List Lined = λ o.
+          unless_bare o place ++ own line (T.load_by s.program s.tables s.routine o a.next y ∷ []) in
+          record {
+            all = adds_as a c _ _ _ _ _ _ (slot_adds a b c _ _ _ _ h (only_code b c _ k))
+                (ap (λ m. own line (I.Move m from ∷ [])) there ∙ ap (λ m. own line (I.Move a.next m ∷ [])) same ∙ ap code (sym z))
+                (ap (λ o. slot.Number ∷ unless_bare o (desig_slots s.program s.routine y)) (sym z))
+                (sym (own_desig_passes x n a.lines e));
+          }
+
+      by : (o : Option ℕ) → bare_desig x ≡ o → Some from ≡ option_map (T.own_slot s.program s.tables s.routine) o
+          → PutsExpr s line a c (Load x)
+      by (Some n) e same = put n e cc
+      by None e same = absurd (cc)
+
+  -- the number at a place
+  pub load_held : (a b c d : Front) (x : Desig) (to place : ℕ)
+      → None ≡ option_map (T.own_slot s.program s.tables s.routine) (bare_desig x) → Takes a b slot.Number → to ≡ a.next
+      → PutsHeld s line b c x → place ≡ T.held_at s.program s.tables s.routine b.next (desig_with x b.lines)
+      → Codes c d (own line (I.Load to place ∷ [])) → PutsExpr s line a d (Load x)
+  unfolding stmts_with stmts_phrases
+  load_held a b c d x to place none h is j is2 k =
+      let y = desig_with x a.lines in
+      let z : bare_desig y ≡ None = own_desig x a.lines ∙ no_bare (T.own_slot s.program s.tables s.routine) (bare_desig x) none in
+      let there : place ≡ T.held_at s.program s.tables s.routine (a.next + 1) y = is2
+      ∙ ap (λ n. T.held_at s.program s.tables s.routine n (desig_with x b.lines)) h.next_slot
+      ∙ ap (λ n. T.held_at s.program s.tables s.routine (a.next + 1) (desig_with x n)) h.left in
+      let code : List Lined = unless_bare (own_place y) (T.desig_code s.program s.tables s.routine line (length a.code) (a.next + 1) y) in
       record {
         all = adds_as a d _ _ _ _ _ _ (slot_adds a b d _ _ _ _ h (adds_code b c d _ _ _ _ j.all k))
-            (ap (λ i. unless_bare (bare_desig y) (T.desig_code s.program s.tables s.routine line (length a.code) (a.next + 1) y) ++ own line (i ∷ [])) instr) refl refl;
+            (ap (λ n. code ++ own line (I.Load n place ∷ [])) is ∙ ap (λ n. code ++ own line (I.Load a.next n ∷ [])) there
+            ∙ ap (λ o. unless_bare o code ++ own line (T.load_by s.program s.tables s.routine o a.next y ∷ [])) (sym z))
+            (ap (λ o. slot.Number ∷ unless_bare o (desig_slots s.program s.routine y)) (sym z)) refl;
       }
 
   -- ---- operators
@@ -165,13 +191,16 @@ module _ (s : Around) (line : ℕ) where
             refl (sym (behind_two (expr_phrases x) (expr_phrases y) a.lines));
       }
 
-  pub known_put : (a b c d : Front) (x : Desig) (to place : ℕ) → Takes a b slot.Number → to ≡ a.next → PutsDesig s line b c x → place ≡ T.place_at s.program s.tables s.routine b.next (desig_with x b.lines)
+  pub known_put : (a b c d : Front) (x : Desig) (to place : ℕ) → Takes a b slot.Number → to ≡ a.next → PutsHeld s line b c x
+      → place ≡ T.held_at s.program s.tables s.routine b.next (desig_with x b.lines)
       → Codes c d (own line (I.Known to place ∷ [])) → PutsExpr s line a d (Known x)
   unfolding stmts_with stmts_phrases
   known_put a b c d x to place h is j is2 k =
       let y = desig_with x a.lines in
-      let there : place ≡ T.place_at s.program s.tables s.routine (a.next + 1) y = is2 ∙ ap (λ n. T.place_at s.program s.tables s.routine n (desig_with x b.lines)) h.next_slot ∙ ap (λ n. T.place_at s.program s.tables s.routine (a.next + 1) (desig_with x n)) h.left in
-      let code = T.desig_code s.program s.tables s.routine line (length a.code) (a.next + 1) y in
+      let there : place ≡ T.held_at s.program s.tables s.routine (a.next + 1) y = is2
+      ∙ ap (λ n. T.held_at s.program s.tables s.routine n (desig_with x b.lines)) h.next_slot
+      ∙ ap (λ n. T.held_at s.program s.tables s.routine (a.next + 1) (desig_with x n)) h.left in
+      let code = unless_bare (own_place y) (T.desig_code s.program s.tables s.routine line (length a.code) (a.next + 1) y) in
       record {
         all = adds_as a d _ _ _ _ _ _ (slot_adds a b d _ _ _ _ h (adds_code b c d _ _ _ _ j.all k))
             (ap (λ n. code ++ own line (I.Known n place ∷ [])) is ∙ ap (λ n. code ++ own line (I.Known a.next n ∷ [])) there) refl refl;

@@ -4,6 +4,7 @@ pub mod CaseForms
 pub mod LabelForms
 pub mod Putting
 pub mod With
+pub mod PlaceForms
 pub mod ExprForms
 pub mod GuardForms
 pub mod IfForms

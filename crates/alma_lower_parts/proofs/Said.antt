@@ -21,6 +21,7 @@ use Rattle.alma_lower_work.specs.Front.{Around, Front, Codes, Takes}
 use Rattle.alma_lower_work.specs.Puts.{stays_before, PutsFirstOperand, PutsStmts, PutsStmt, PutsArms, PutsCases, PutsDeadBodies, PutsElse, PutsBranches, PutsTest, PutsGuard, PutsAnd, PutsOperands, PutsExpr, PutsValue, PutsLinks, PutsArgs, PutsArg, PutsDesig, PutsTarget, PutsSels, PutsSel, value_slot, stand_of}
 use Rattle.alma_lower_parts.proofs.ExprForms.{stay_put, made_first_put, own_value_put, own_value_slot, made_value_put, made_value_slot, own_target_put, made_target_put, own_stand_of, made_stand_of}
 use Rattle.alma_lower_work.proofs.DesigForms.{parts_on}
+use Rattle.alma_lower_parts.proofs.With.{no_bare}
 use Rattle.alma_lower_parts.specs.Cases.{PutsAllArms, PutsArmOf}
 use Rattle.alma_lower_templates.specs.Lined.{own}
 use Rattle.alma_lower_templates.specs.Slots.{bare, bare_desig, sel_slots}
@@ -168,10 +169,6 @@ module _ (s : Around) (line : ℕ) where
       by : (o : Option ℕ) → bare_desig d ≡ o → Some slot ≡ option_map (T.own_slot s.program s.tables s.routine) o → stands.Own slot ≡ stand_of s lo (desig_with d ls)
       by (Some from) e h = let is : slot ≡ T.own_slot s.program s.tables s.routine from = cc in ap stands.Own is ∙ sym (own_stand_of s line lo ls d from e)
       by None e h = absurd (cc)
-
-  no_bare : (f : ℕ → ℕ) (o : Option ℕ) → None ≡ option_map f o → o ≡ None
-  no_bare f (Some from) h = absurd (cc)
-  no_bare f None h = refl
 
   pub made_target : (a b : Front) (d : Desig) → None ≡ option_map (T.own_slot s.program s.tables s.routine) (bare_desig d) → PutsDesig s line a b d → PutsTarget s line a b d
   made_target a b d h j = made_target_put s line a b d (no_bare (T.own_slot s.program s.tables s.routine) (bare_desig d) h) j

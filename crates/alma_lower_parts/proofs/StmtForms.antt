@@ -1,6 +1,6 @@
 -- What each form of statement adds that has no condition, no count and no labels.
-use Rattle.std.proofs.Common.{◌≡◌, ℕ, ◌+◌, List, [], ◌∷◌, ◌++◌, length, drop, get_or, Some, None, refl, sym, ap, ◌∙◌, arith, append_assoc, length-append}
-use Rattle.std.specs.Prelude.{Option}
+use Rattle.std.proofs.Common.{◌≡◌, ℕ, ◌+◌, ◌<◌, Bool, true, false, List, [], ◌∷◌, ◌++◌, length, drop, get_or, Some, None, refl, sym, ap, ◌∙◌, arith, append_assoc, length-append}
+use Rattle.std.specs.Prelude.{Option, option_map, not, ◌&&◌}
 use Rattle.std.proofs.lemmas.List.{append-nil}
 use Rattle.alma_base.specs.declared.number.Range.{Range}
 use Rattle.alma_code.specs.declared.cell.SlotKind.TheVariants as slot
@@ -9,7 +9,7 @@ use Rattle.alma_code.specs.declared.instr.Instr.TheVariants as I
 use Rattle.alma_choice.specs.Emitted.{aimed}
 use Rattle.alma_ir.specs.declared.phrase.ReadAs.{ReadAs}
 use Rattle.alma_ir.specs.declared.phrase.WriteAs.{WriteAs}
-use Rattle.alma_ir.specs.Tree.{Stmts, Stmt, Branches, Test, Expr, Desig, no_stmts, more_stmts, TestStmt, Assign, CopyCells, If, While, Repeat, ForTo, SomeOf, Case, Either, Forall, Commit, Return, Read, WriteExpr, WriteText, WriteLine, no_branches, more_branches, no_result, some_result}
+use Rattle.alma_ir.specs.Tree.{Stmts, Stmt, Branches, Test, Expr, Desig, no_stmts, more_stmts, TestStmt, Assign, CopyCells, If, While, Repeat, ForTo, SomeOf, Case, Either, Forall, Commit, Return, Read, WriteExpr, WriteText, WriteLine, no_branches, more_branches, no_result, some_result, Const, Load, Chain, Compare, Truth, Known, Chr, CallExpr, no_links, more_links}
 use Rattle.alma_ir.specs.Phrases.{StmtPhrase, stmts_phrases, stmt_phrases, branches_phrases, expr_phrases, desig_phrases}
 use Rattle.alma_ir.specs.Lines.{stmt_count, behind, stmts_with, stmt_with, branches_with, expr_with, desig_with}
 use Rattle.alma_ir.proofs.LinesBack.{behind_two, drop_two}
@@ -17,11 +17,13 @@ use Rattle.alma_lower_work.specs.declared.stand.Stand.{Stand}
 use Rattle.alma_lower_work.specs.Front.{Around, Front, Adds, Codes, Takes, Changes, Holes, EndsEach, EndsForall, result_of}
 use Rattle.alma_lower_work.specs.Puts.{PutsValue, PutsDesig, PutsTarget, PutsTest, PutsStmts, PutsStmt, PutsBranches, PutsChosen, value_slot, stand_of, stand_by, set_instr, inside}
 use Rattle.alma_lower_work.proofs.Joins.{nothing, then_adds, adds_as, code_code, code_adds, adds_code, only_code, slot_adds, filled, over, own_two, address_behind}
+use Rattle.alma_lower_parts.proofs.With.{no_bare, straight_with}
 use Rattle.alma_lower_parts.proofs.TestForms.{two_places}
 use Rattle.alma_lower_templates.specs.Lined.{Lined, own, in_row}
-use Rattle.alma_lower_templates.specs.Tables.{range_number, text_number}
-use Rattle.alma_lower_templates.specs.Slots.{bare, bare_desig, unless_bare, stmts_slots, stmt_slots, desig_slots}
-use Rattle.alma_lower_templates.specs.Pieces.{fit_code, write_code, read_code, begin_forall, begin_each, end_each, each_body, chosen}
+use Rattle.alma_lower_templates.specs.Tables.{range_number, text_number, is_whole}
+use Rattle.alma_lower_templates.specs.Slots.{bare, bare_desig, is_given, ends_alone, straight_by, goes_straight, own_place, stays_in, unless_bare, stmts_slots, stmt_slots, desig_slots}
+use Rattle.alma_lower_templates.specs.Pieces.{straight, neg_code, fit_code, write_code, read_code, begin_forall, begin_each, end_each, each_body, chosen}
+use Rattle.alma_lower_templates.proofs.Straight.{straight_behind}
 use Rattle.alma_lower_templates.specs.Templates as T
 
 -- ---- lists of statements
@@ -75,6 +77,53 @@ module _ (s : Around) where
       adds_as a c _ _ _ _ _ _ mine (ap (λ n. f n (length a.code) a.next (drop 1 ls)) is) refl (behind_inside x ls) in
       record { all = adds_as a d _ _ _ _ _ _ (then_adds a c d _ _ _ _ _ _ own_line j.all) refl refl (sym (behind_two (stmt_phrases x) (stmts_phrases rest) ls)) }
 
+-- ---- values that go straight into a variable
+
+long_behind : (xs ys : List Lined) → 0 < length ys → 0 < length (xs ++ ys)
+long_behind xs ys long = omega (arith, long, length-append xs ys)
+
+long_before : (xs ys : List Lined) → 0 < length xs → 0 < length (xs ++ ys)
+long_before xs ys long = omega (arith, long, length-append xs ys)
+
+goes_alone : (d : Desig) (e : Expr) (range : Range) (from : ℕ) → goes_straight d e range ≡ Some from → ends_alone e ≡ true
+goes_alone d e range from h = by (bare_desig d) (is_whole range) (ends_alone e) h
+  where
+    by : (o : Option ℕ) (whole alone : Bool) → straight_by o (whole && alone) ≡ Some from → alone ≡ true
+    by (Some to) true true h = refl
+    by (Some to) true false h = absurd (cc)
+    by (Some to) false alone h = absurd (cc)
+    by None whole alone h = absurd (cc)
+
+module _ (s : Around) where
+  -- the code of a variable and of the number for it, before that is put there
+  abbrev assigned_code : (line at lo next : ℕ) → Desig → Expr → List Lined
+  assigned_code line at lo next d e =
+      in_row at (unless_bare (bare_desig d) (T.desig_code s.program s.tables s.routine line at lo d))
+      (λ at. unless_bare (bare e) (T.expr_code s.program s.tables s.routine line at next e))
+
+  -- a value that ends alone has code
+  has_code : (line at lo : ℕ) (e : Expr) → ends_alone e ≡ true
+      → 0 < length (unless_bare (bare e) (T.expr_code s.program s.tables s.routine line at lo e))
+  has_code line at lo (Const n) h = omega arith
+  has_code line at lo (Load d) h = by (bare_desig d) refl h
+    where
+      by : (o : Option ℕ) → bare_desig d ≡ o → not (is_given o) ≡ true
+          → 0 < length (unless_bare o (T.expr_code s.program s.tables s.routine line at lo (Load d)))
+      by (Some from) e h = absurd (cc)
+      by None e h = long_behind
+          (unless_bare (bare_desig d) (unless_bare (own_place d) (T.desig_code s.program s.tables s.routine line at (lo + 1) d))) _
+          (omega arith)
+  has_code line at lo (Chain negated e no_links) h = absurd (cc)
+  has_code line at lo (Chain negated e (more_links how x rest)) h =
+      long_behind (unless_bare (stays_in negated e (more_links how x rest))
+      (T.expr_code s.program s.tables s.routine line at lo e) ++ own line (neg_code negated lo)) _
+      (long_before _ _ (long_behind (unless_bare (bare x) (T.expr_code s.program s.tables s.routine line _ _ x)) _ (omega arith)))
+  has_code line at lo (Compare how x y) h = absurd (cc)
+  has_code line at lo (Truth t) h = absurd (cc)
+  has_code line at lo (Known d) h = absurd (cc)
+  has_code line at lo (Chr e) h = absurd (cc)
+  has_code line at lo (CallExpr q args up) h = absurd (cc)
+
 module _ (s : Around) (line : ℕ) where
   set_by : (o : Option ℕ) (lo value : ℕ) (d : Desig) → set_instr (stand_by s o (T.place_at s.program s.tables s.routine lo d)) value ≡ T.set_by s.program s.tables s.routine o lo value d
   set_by (Some to) lo value d = refl
@@ -87,24 +136,71 @@ module _ (s : Around) (line : ℕ) where
   unfolding stmts_with stmts_phrases
   test_put a b t h = record { all = h.all }
 
-  pub assign_put : (a b c d e : Front) (x : Desig) (y : Expr) (range : Range) (stand : Stand) (value : ℕ) → PutsTarget s line a b x → stand ≡ stand_of s a.next (desig_with x a.lines)
-      → PutsValue s line b c y → value ≡ value_slot s b.next (expr_with y b.lines) → Codes c d (own line (fit_code s.tables range value)) → Codes d e (own line (set_instr stand value ∷ []))
+  pub assign_put : (a b c d e : Front) (x : Desig) (y : Expr) (range : Range) (stand : Stand) (value : ℕ)
+      → None ≡ option_map (T.own_slot s.program s.tables s.routine) (goes_straight x y range)
+      → PutsTarget s line a b x → stand ≡ stand_of s a.next (desig_with x a.lines) → PutsValue s line b c y
+      → value ≡ value_slot s b.next (expr_with y b.lines)
+      → Codes c d (own line (fit_code s.tables range value)) → Codes d e (own line (set_instr stand value ∷ []))
       → PutsStmt s line a e (Assign x y range)
   unfolding stmts_with stmts_phrases
-  assign_put a b c d e x y range stand value h is j is2 k l =
+  assign_put a b c d e x y range stand value none h is j is2 k l =
       let u = desig_with x a.lines in
       let ls = behind (desig_phrases x) a.lines in
       let lo = a.next + length (unless_bare (bare_desig u) (desig_slots s.program s.routine u)) in
       let v = expr_with y ls in
       let there : value ≡ value_slot s lo v = is2 ∙ ap (λ n. value_slot s n (expr_with y b.lines)) h.all.next_slot ∙ ap (λ n. value_slot s lo (expr_with y n)) h.all.left in
-      let both = in_row (length a.code) (unless_bare (bare_desig u) (T.desig_code s.program s.tables s.routine line (length a.code) a.next u)) (λ next. unless_bare (bare v) (T.expr_code s.program s.tables s.routine line next lo v)) in
+      let both = assigned_code s line (length a.code) a.next lo u v in
+      let set : List Instr =
+      fit_code s.tables range (value_slot s lo v) ++ (T.set_code s.program s.tables s.routine a.next (value_slot s lo v) u ∷ []) in
       record {
         all = adds_as a e _ _ _ _ _ _ (adds_code a c e _ _ _ _ (then_adds a b c _ _ _ _ _ _ h.all j.all) (code_code c d e _ _ k l))
             (ap (λ i. both ++ (own line (fit_code s.tables range value) ++ own line (i ∷ []))) (ap (λ n. set_instr n value) is ∙ set_is a.next value u)
             ∙ ap (λ l. both ++ l) (sym (own_two line (fit_code s.tables range value) (T.set_code s.program s.tables s.routine a.next value u ∷ [])))
-            ∙ ap (λ n. both ++ own line (fit_code s.tables range n ++ (T.set_code s.program s.tables s.routine a.next n u ∷ []))) there)
+            ∙ ap (λ n. both ++ own line (fit_code s.tables range n ++ (T.set_code s.program s.tables s.routine a.next n u ∷ []))) there
+            ∙ ap (λ o. T.set_to s.program s.tables s.routine o line both set)
+            (sym (straight_with x y range a.lines ls
+            ∙ no_bare (T.own_slot s.program s.tables s.routine) (goes_straight x y range) none)))
             refl (sym (behind_two (desig_phrases x) (expr_phrases y) a.lines));
       }
+
+  -- the value goes straight into the slot of the variable
+  pub straight_put : (a b c d : Front) (x : Desig) (y : Expr) (range : Range) (to : ℕ)
+      → Some to ≡ option_map (T.own_slot s.program s.tables s.routine) (goes_straight x y range)
+      → PutsTarget s line a b x → PutsValue s line b c y → Changes c d (λ xs. straight to xs) → PutsStmt s line a d (Assign x y range)
+  unfolding stmts_with stmts_phrases
+  straight_put a b c d x y range to some h j k = by (goes_straight x y range) refl some
+    where
+      put : (from : ℕ) → goes_straight x y range ≡ Some from → to ≡ T.own_slot s.program s.tables s.routine from
+          → PutsStmt s line a d (Assign x y range)
+      put from e is =
+          let u = desig_with x a.lines in
+          let ls = behind (desig_phrases x) a.lines in
+          let lo = a.next + length (unless_bare (bare_desig u) (desig_slots s.program s.routine u)) in
+          let v = expr_with y ls in
+          let both : List Lined = assigned_code s line (length a.code) a.next lo u v in
+          let same : goes_straight u v range ≡ Some from = straight_with x y range a.lines ls ∙ e in
+          let set : List Instr =
+          fit_code s.tables range (value_slot s lo v) ++ (T.set_code s.program s.tables s.routine a.next (value_slot s lo v) u ∷ []) in
+          let all = then_adds a b c _ _ _ _ _ _ h.all j.all in
+          record {
+            all = record {
+              instrs = k.instrs ∙ ap (straight to) all.instrs
+                  ∙ straight_behind to a.code both
+                  (long_behind (unless_bare (bare_desig u) (T.desig_code s.program s.tables s.routine line (length a.code) a.next u))
+                  _ (has_code s line _ lo v (goes_alone u v range from same)))
+                  ∙ ap (λ n. a.code ++ straight n both) is
+                  ∙ ap (λ o. a.code ++ T.set_to s.program s.tables s.routine o line both set) (sym same);
+              taken = k.taken ∙ all.taken;
+              next_slot = k.next_slot ∙ all.next_slot;
+              left = k.left ∙ all.left ∙ sym (behind_two (desig_phrases x) (expr_phrases y) a.lines);
+              whole = k.whole ∙ all.whole;
+            };
+          }
+
+      by : (o : Option ℕ) → goes_straight x y range ≡ o → Some to ≡ option_map (T.own_slot s.program s.tables s.routine) o
+          → PutsStmt s line a d (Assign x y range)
+      by (Some from) e is = put from e cc
+      by None e is = absurd (cc)
 
   pub copy_put : (a b c d : Front) (x y : Desig) (place place2 : ℕ) → PutsDesig s line a b x → place ≡ T.place_at s.program s.tables s.routine a.next (desig_with x a.lines)
       → PutsDesig s line b c y → place2 ≡ T.place_at s.program s.tables s.routine b.next (desig_with y b.lines) → Codes c d (own line (I.CopyCells place place2 ∷ [])) → PutsStmt s line a d (CopyCells x y)

@@ -1,6 +1,8 @@
 -- Phrases with lines have the form of the phrases without.
 use Rattle.std.proofs.Common.{◌≡◌, ℕ, Bool, true, false, List, ◌∷◌, Option, Some, None, refl, ap, ◌∙◌}
-use Rattle.std.specs.Prelude.{◌&&◌}
+use Rattle.std.specs.Prelude.{option_map, not, ◌&&◌}
+use Rattle.alma_base.specs.declared.number.Range.{Range}
+use Rattle.alma_ir.specs.declared.phrase.Root.{Root}
 use Rattle.alma_code.specs.declared.cell.SlotKind.TheVariants as slot
 use Rattle.alma_ir.specs.declared.phrase.Cmp.TheVariants as cmp
 use Rattle.alma_ir.specs.declared.phrase.Root.TheVariants as root
@@ -8,9 +10,14 @@ use Rattle.alma_ir.specs.Tree.{Test, Expr, Links, Args, Arg, Desig, Sels, Sel, V
 use Rattle.alma_ir.specs.Phrases.{stmts_phrases, expr_phrases, desig_phrases, sel_phrases, arg_phrases}
 use Rattle.alma_ir.specs.Lines.{behind, stmts_with, test_with, expr_with, links_with, args_with, arg_with, desig_with, sels_with, sel_with}
 use Rattle.alma_lower_work.specs.Puts.{is_unequal}
-use Rattle.alma_lower_templates.specs.Slots.{bare_desig, bare, is_given, is_ready, if_ready, stays_by, stays, stays_in, is_simple_expr, are_simple_links, is_simple_desig, are_simple_sels, is_simple_sel, is_simple, cells_behind, desig_cells, arg_kind, handed_slots}
+use Rattle.alma_lower_templates.specs.Tables.{is_whole}
+use Rattle.alma_lower_templates.specs.Slots.{bare_desig, bare, ends_alone, straight_by, goes_straight, own_place, own_root, is_given, is_ready, if_ready, stays_by, stays, stays_in, is_simple_expr, are_simple_links, is_simple_desig, are_simple_sels, is_simple_sel, is_simple, cells_behind, desig_cells, arg_kind, handed_slots}
 
 -- ---- variables that stand in their own slots
+
+pub no_bare : (f : ℕ → ℕ) (o : Option ℕ) → None ≡ option_map f o → o ≡ None
+no_bare f (Some from) h = absurd (cc)
+no_bare f None h = refl
 
 pub own_desig : (d : Desig) (ls : List ℕ) → bare_desig (desig_with d ls) ≡ bare_desig d
 unfolding stmts_with
@@ -57,6 +64,46 @@ unfolding stmts_with
 stays_in_with true x links ls ls2 = refl
 stays_in_with false x no_links ls ls2 = refl
 stays_in_with false x (more_links how y rest) ls ls2 = stays_with x y ls ls2
+
+-- ---- values that go straight into a variable
+
+alone_with : (e : Expr) (ls : List ℕ) → ends_alone (expr_with e ls) ≡ ends_alone e
+unfolding stmts_with
+alone_with (Const n) ls = refl
+alone_with (Load d) ls = ap (λ o. not (is_given o)) (own_desig d ls)
+alone_with (Chain negated e no_links) ls = refl
+alone_with (Chain negated e (more_links how x rest)) ls = refl
+alone_with (Compare how x y) ls = refl
+alone_with (Truth t) ls = refl
+alone_with (Known d) ls = refl
+alone_with (Chr e) ls = refl
+alone_with (CallExpr r args up) ls = refl
+
+pub straight_with : (d : Desig) (e : Expr) (range : Range) (ls ls2 : List ℕ)
+    → goes_straight (desig_with d ls) (expr_with e ls2) range ≡ goes_straight d e range
+straight_with d e range ls ls2 = ap (λ o. straight_by o (is_whole range && ends_alone (expr_with e ls2))) (own_desig d ls)
+    ∙ ap (λ b. straight_by (bare_desig d) (is_whole range && b)) (alone_with e ls2)
+
+-- ---- parameters whose place is used in their own slot
+
+pub place_with : (d : Desig) (ls : List ℕ) → own_place (desig_with d ls) ≡ own_place d
+unfolding stmts_with
+place_with (a_desig (root.Param from) cells no_sels) ls = refl
+place_with (a_desig (root.Param from) cells (more_sels x rest)) ls = refl
+place_with (a_desig (root.Local from) cells sels) ls = refl
+place_with (a_desig (root.Global from) cells sels) ls = refl
+place_with (a_desig (root.Outer links from) cells sels) ls = refl
+place_with (a_desig (root.OuterParam links from) cells sels) ls = refl
+
+pub root_with : (r : Root) (sels : Sels) (ls : List ℕ) → own_root r (sels_with sels ls) ≡ own_root r sels
+unfolding stmts_with
+root_with (root.Param from) no_sels ls = refl
+root_with (root.Param from) (more_sels (Field offset cells) rest) ls = refl
+root_with (root.Param from) (more_sels (Index e range cells) rest) ls = ap (λ z. if_ready z from) (ready_with e ls)
+root_with (root.Local from) sels ls = refl
+root_with (root.Global from) sels ls = refl
+root_with (root.Outer links from) sels ls = refl
+root_with (root.OuterParam links from) sels ls = refl
 
 -- ---- variables without code
 

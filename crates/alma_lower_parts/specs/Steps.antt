@@ -5,10 +5,10 @@ use Rattle.alma_code.specs.declared.cell.SlotKind.TheVariants as slot
 use Rattle.alma_code.specs.declared.instr.Instr.TheVariants as I
 use Rattle.alma_choice.specs.Emitted.{aimed}
 use Rattle.alma_ir.specs.declared.phrase.Root.{Root}
-use Rattle.alma_ir.specs.Tree.{Args}
+use Rattle.alma_ir.specs.Tree.{Args, Sels}
 use Rattle.alma_lower_work.specs.Front.{Around, Front, Adds, Codes, Takes, Changes, Holes, EndsEach, EndsForall}
 use Rattle.alma_lower_templates.specs.Lined.{Lined, own}
-use Rattle.alma_lower_templates.specs.Slots.{call_links, handed_slots, root_slots}
+use Rattle.alma_lower_templates.specs.Slots.{call_links, handed_slots, root_slots, own_root, unless_bare}
 use Rattle.alma_lower_templates.specs.Pieces.{bounds_code, truth_code}
 use Rattle.alma_lower_templates.specs.Templates as T
 
@@ -34,12 +34,12 @@ pub record PutsAimed (a c : Front) (xs : List Lined) (at skip : ℕ) : Type 0 wh
 
 -- ---- of places, conditions and calls
 
--- a slot for a place, and the place of a root in it
-pub record BeginsPlace (s : Around) (line : ℕ) (a c : Front) (cells : ℕ) (r : Root) (to : ℕ) : Type 0 where
+-- a slot for a place, and the place of a root in it, where it is not used in the slot of a parameter
+pub record BeginsPlace (s : Around) (line : ℕ) (a c : Front) (cells : ℕ) (r : Root) (sels : Sels) (to : ℕ) : Type 0 where
   pub b : Front
   pub takes : Takes a b (slot.Place cells)
-  pub to_slot : to ≡ a.next
-  pub root : Adds b c (λ at lo ls. own line (T.root_code s.program s.tables s.routine to r)) (λ ls. root_slots s.program s.routine r) (λ ls. ls)
+  pub to_slot : to ≡ T.slot_or s.program s.tables s.routine (own_root r sels) a.next
+  pub root : Adds b c (λ at lo ls. unless_bare (own_root r sels) (own line (T.root_code s.program s.tables s.routine a.next r))) (λ ls. root_slots s.program s.routine r) (λ ls. ls)
 
 -- the jump of a condition is aimed, and the condition is a number
 pub record EndsTruth (line : ℕ) (a c : Front) (jump to : ℕ) : Type 0 where

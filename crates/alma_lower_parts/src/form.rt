@@ -3,6 +3,7 @@ ghost use Rattle.std.specs.Prelude.{◌≡◌, ◌∷◌, [], IfOk, IsOk, OnOk};
 ghost use Rattle.alma_code.specs.declared.cell.SlotKind.TheVariants as slot;
 ghost use Rattle.alma_code.specs.declared.instr.Instr.TheVariants as instr;
 ghost use Rattle.alma_choice.specs.Emitted.{aimed};
+ghost use Rattle.alma_ir.specs.View.{sels_list};
 ghost use Rattle.alma_lower_templates.specs.Lined.{own};
 ghost use Rattle.alma_lower_templates.specs.Pieces as pieces;
 ghost use Rattle.alma_lower_templates.specs.Tables.{range_number};
@@ -13,9 +14,9 @@ ghost use Rattle.alma_lower_parts.specs.Steps.{BeginsPlace, BeginsWhile, EndsTru
 
 use alma_base::{NoMemory, Range};
 use alma_code::{Instr, SlotKind};
-use alma_ir::{ReadAs, Root};
+use alma_ir::{Desig, ReadAs};
 use alma_lower_work::{
-    Scene, Stand, Work, put_fit, put_result_fit, put_root, put_truth, read_instr,
+    Scene, Stand, Work, own_root, put_fit, put_result_fit, put_root, put_truth, read_instr,
 };
 
 // The numbers of CHAR.
@@ -170,20 +171,24 @@ pub fn put_index(
     Ok(to)
 }
 
-/// The place of the root of a designator, in a slot of its own.
+/// The place of the root of a designator, in a slot of its own where it is not used in that of a parameter.
 pub fn begin_place(
     work: &mut Work,
     scene: &Scene<'_>,
     line: u32,
-    cells: u32,
-    root: Root,
+    desig: &Desig,
 ) -> Result<u32, NoMemory>
     ensures { IfOk result (λ to. BeginsPlace (around scene.now) line (front work.old)
-        (front work.new) cells root to) }
+        (front work.new) desig.now.cells desig.now.root (sels_list desig.now.sels.items) to) }
 {
-    let to = work.slot(SlotKind::Place(cells))?;
-    put_root(work, scene, line, to, root)?;
-    Ok(to)
+    let to = work.slot(SlotKind::Place(desig.cells))?;
+    match own_root(scene, desig.root, &desig.sels)? {
+        Some(from) => Ok(from),
+        None => {
+            put_root(work, scene, line, to, desig.root)?;
+            Ok(to)
+        }
+    }
 }
 
 /// A condition as a number, behind the condition, whose jump is aimed; the slot of the number.

@@ -6,15 +6,15 @@ use Rattle.alma_code.specs.declared.cell.SlotKind.TheVariants as slot
 use Rattle.alma_code.specs.declared.instr.Instr.{Instr}
 use Rattle.alma_code.specs.declared.instr.Instr.TheVariants as I
 use Rattle.alma_ir.specs.declared.phrase.Root.{Root}
-use Rattle.alma_ir.specs.Tree.{Program, Expr, Sels, Sel, routine_at, a_desig, no_sels, more_sels, Field, Index}
+use Rattle.alma_ir.specs.Tree.{Program, Expr, Sels, Sel, routine_at, no_sels, more_sels, Field, Index}
 use Rattle.alma_ir.specs.Checked.{outer_at}
 use Rattle.alma_ir.specs.Phrases.{stmts_phrases, sels_phrases, sel_phrases}
-use Rattle.alma_ir.specs.Lines.{behind, stmts_with, expr_with, desig_with, sels_with, sel_with}
+use Rattle.alma_ir.specs.Lines.{behind, stmts_with, expr_with, sels_with, sel_with}
 use Rattle.alma_ir.proofs.LinesBack.{behind_two}
 use Rattle.alma_lower_work.specs.Front.{Around, Front, Adds, Codes, Takes}
-use Rattle.alma_lower_work.specs.Puts.{PutsValue, PutsDesig, PutsSels, PutsSel, value_slot}
+use Rattle.alma_lower_work.specs.Puts.{PutsValue, PutsSels, PutsSel, value_slot}
 use Rattle.alma_lower_work.proofs.Joins.{on_ok_map, nothing, then_adds, adds_as, adds_code, only_code, slot_adds, adds_slot, own_two}
-use Rattle.alma_lower_templates.specs.Lined.{Lined, own, in_row}
+use Rattle.alma_lower_templates.specs.Lined.{own}
 use Rattle.alma_lower_templates.specs.Tables.{range_number}
 use Rattle.alma_lower_templates.specs.Slots.{bare, unless_bare, chain_slots, root_slots, expr_slots, sel_slots}
 use Rattle.alma_lower_templates.specs.Pieces.{chain_code, link_code}
@@ -149,22 +149,3 @@ module _ (s : Around) (line : ℕ) where
   pub index_part : (a b : Front) (e : Expr) (range : Range) (cells to : ℕ) → PutsValue s line a b e → to ≡ b.next → to ≡ T.part_slot s.program s.tables s.routine a.next (sel_with (Index e range cells) a.lines)
   unfolding stmts_with
   index_part a b e range cells to h is = is ∙ h.all.next_slot
-
-  -- ---- designators
-
-  pub desig_put : (a b c d : Front) (to : ℕ) (r : Root) (cells : ℕ) (sels : Sels) → Takes a b (slot.Place cells) → to ≡ a.next → PutsRoot to b c r → PutsSels s line to c d sels
-      → PutsDesig s line a d (a_desig r cells sels)
-  unfolding stmts_with stmts_phrases
-  desig_put a b c d to r cells sels h is j k =
-      let all = slot_adds a b d _ _ _ _ h (then_adds b c d _ _ _ _ _ _ j k.all) in
-      let at = length a.code in
-      let code : ℕ → List Lined = λ n. in_row at (own line (T.root_code s.program s.tables s.routine n r)) (λ next. T.sels_code s.program s.tables s.routine line next n (a.next + 1 + length (root_slots s.program s.routine r)) (sels_with sels a.lines)) in
-      record { all = adds_as a d _ _ _ _ _ _ all (ap code is) refl refl }
-
-  pub desig_place : (a b c : Front) (to place : ℕ) (r : Root) (cells : ℕ) (sels : Sels) → Takes a b (slot.Place cells) → to ≡ a.next → PutsRoot to b c r
-      → place ≡ T.part_at s.program s.tables s.routine to c.next (sels_with sels c.lines) → place ≡ T.place_at s.program s.tables s.routine a.next (desig_with (a_desig r cells sels) a.lines)
-  unfolding stmts_with
-  desig_place a b c to place r cells sels h is j is2 =
-      is2 ∙ ap (λ n. T.part_at s.program s.tables s.routine n c.next (sels_with sels c.lines)) is
-      ∙ ap (λ n. T.part_at s.program s.tables s.routine a.next n (sels_with sels c.lines)) (j.next_slot ∙ ap (λ n. n + length (root_slots s.program s.routine r)) h.next_slot)
-      ∙ ap (λ n. T.part_at s.program s.tables s.routine a.next (a.next + 1 + length (root_slots s.program s.routine r)) (sels_with sels n)) (j.left ∙ h.left)

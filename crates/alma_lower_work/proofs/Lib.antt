@@ -5,3 +5,4 @@ pub mod DesigForms
 pub mod Small
 pub mod Bare
 pub mod Ready
+pub mod Alone

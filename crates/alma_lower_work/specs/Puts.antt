@@ -7,6 +7,8 @@ use Rattle.alma_code.specs.declared.instr.Instr.{Instr}
 use Rattle.alma_code.specs.declared.instr.Instr.TheVariants as I
 use Rattle.alma_ir.specs.declared.phrase.Cmp.TheVariants as cmp
 use Rattle.alma_ir.specs.declared.phrase.Expr as E
+use Rattle.alma_ir.specs.declared.phrase.Root.{Root}
+use Rattle.alma_ir.specs.declared.phrase.Root.TheVariants as root
 use Rattle.alma_ir.specs.Tree.{Stmts, Stmt, Arms, CaseArms, Else, Branches, Test, Tests, Expr, Links, Args, Arg, Desig, Sels, Sel, Compare, no_args, more_args}
 use Rattle.alma_ir.specs.Phrases.{Phrase, stmts_phrases, stmt_phrases, arms_phrases, cases_phrases, else_phrases, branches_phrases, test_phrases, tests_phrases, expr_phrases, links_phrases, args_phrases, arg_phrases, desig_phrases, sels_phrases, sel_phrases}
 use Rattle.alma_ir.specs.Lines.{behind, stmts_with, stmt_with, arms_with, cases_with, else_with, branches_with, test_with, tests_with, expr_with, links_with, args_with, arg_with, desig_with, sels_with, sel_with}
@@ -15,7 +17,7 @@ use Rattle.alma_lower_work.specs.declared.stand.Stand.{Stand}
 use Rattle.alma_lower_work.specs.declared.stand.Stand.TheVariants as stands
 use Rattle.alma_lower_work.specs.Front.{Around, Front, Adds, Holes}
 use Rattle.alma_lower_templates.specs.Lined.{Lined, own, in_row}
-use Rattle.alma_lower_templates.specs.Slots.{shift_of, bare_desig, bare, stays, unless_bare, is_simple, mark_slots, handed_slots, call_links, stmts_slots, stmt_slots, arms_slots, dead_slots, cases_slots, else_slots, behind_condition, branches_slots, test_slots, and_slots, or_slots, expr_slots, links_slots, args_slots, arg_slots, desig_slots, sels_slots, sel_slots}
+use Rattle.alma_lower_templates.specs.Slots.{shift_of, bare_desig, bare, stays, unless_bare, own_place, is_simple, mark_slots, handed_slots, call_links, stmts_slots, stmt_slots, arms_slots, dead_slots, cases_slots, else_slots, behind_condition, branches_slots, test_slots, and_slots, or_slots, expr_slots, links_slots, args_slots, arg_slots, desig_slots, sels_slots, sel_slots}
 use Rattle.alma_lower_templates.specs.Pieces.{condition, guarded, first_of_two, chosen, labels_code, behind_labels, case_arm, passed_over, has_dead, first_argument}
 use Rattle.alma_lower_templates.specs.Templates as T
 
@@ -49,14 +51,15 @@ first_of_call (Some slot) args to = slot
 first_of_call None no_args to = 0
 first_of_call None (more_args a rest) to = to
 
--- a number goes to a variable, and the number of a variable into a slot
+-- a number goes to a variable
 abbrev pub set_instr : Stand → (value : ℕ) → Instr
 set_instr (stands.Own to) value = I.Move to value
 set_instr (stands.Placed place) value = I.Store place value
 
-abbrev pub load_instr : Stand → (to : ℕ) → Instr
-load_instr (stands.Own from) to = I.Move to from
-load_instr (stands.Placed place) to = I.Load to place
+-- the slot of a root that is a parameter with a place
+abbrev pub param_of : Root → Option ℕ
+param_of (root.Param from) = Some from
+param_of _ = None
 
 -- the slot of the routine in which a first operand stays, with the next one if there is one
 abbrev pub stays_before : (first : Expr) → (next : Option (Bor E.Expr)) → Option ℕ
@@ -107,6 +110,10 @@ pub record PutsDesig (s : Around) (line : ℕ) (a b : Front) (d : Desig) : Type 
 -- a variable that is read or written, which has no code where it stands in its own slot
 pub record PutsTarget (s : Around) (line : ℕ) (a b : Front) (d : Desig) : Type 0 where
   pub all : Adds a b (λ at lo ls. unless_bare (bare_desig (desig_with d ls)) (T.desig_code s.program s.tables s.routine line at lo (desig_with d ls))) (λ ls. unless_bare (bare_desig (desig_with d ls)) (desig_slots s.program s.routine (desig_with d ls))) (behind (desig_phrases d))
+
+-- a place that is read at once: that of a parameter stands in its own slot
+pub record PutsHeld (s : Around) (line : ℕ) (a b : Front) (d : Desig) : Type 0 where
+  pub all : Adds a b (λ at lo ls. unless_bare (own_place (desig_with d ls)) (T.desig_code s.program s.tables s.routine line at lo (desig_with d ls))) (λ ls. desig_slots s.program s.routine (desig_with d ls)) (behind (desig_phrases d))
 
 -- selectors, from the place in a slot on
 pub record PutsSels (s : Around) (line from : ℕ) (a b : Front) (sels : Sels) : Type 0 where

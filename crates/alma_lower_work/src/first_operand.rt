@@ -24,7 +24,7 @@ pub struct FirstOperand {
 }
 
 // Whether a designator names a variable of the routine, without a selector.
-fn is_own(desig: &Desig) -> bool
+pub(crate) fn is_own(desig: &Desig) -> bool
     ensures { result ≡ slots.is_given (bare_desig (desig_of desig.now)) }
 {
     if !desig.sels.is_empty() {
@@ -37,7 +37,7 @@ fn is_own(desig: &Desig) -> bool
 }
 
 // Whether an operand is a variable of the routine or a constant.
-fn is_ready(expr: &Expr) -> bool
+pub(crate) fn is_ready(expr: &Expr) -> bool
     ensures { result ≡ slots.is_ready (expr_of expr.now) }
 {
     match expr {

@@ -2,20 +2,24 @@
 #![tactic(auto)]
 
 mod first_operand;
+mod held;
 mod inequality;
 mod place;
 mod scene;
 mod simple;
 mod stand;
+mod straight;
 mod value;
 mod work;
 
 pub use first_operand::{FirstOperand, next_operand, own_first, put_at, stay_at};
+pub use held::{hold_at, own_place, own_root};
 pub use inequality::{put_unequal, unequal};
 pub use place::{put_links, put_root};
 pub use scene::Scene;
 pub use simple::is_simple;
 pub use stand::{Stand, own_stand, own_value};
+pub use straight::straight_slot;
 pub use value::{
     op_instr, put_cmp, put_fit, put_function, put_neg, put_result_fit, put_truth, read_instr,
     write_instr,

@@ -4,7 +4,7 @@ ghost use Rattle.alma_ir.specs.View.{desig_of, expr_of};
 ghost use Rattle.alma_lower_templates.specs.Slots.{bare, bare_desig};
 ghost use Rattle.alma_lower_templates.specs.Templates.{own_slot};
 ghost use Rattle.alma_lower_work.specs.Front.{around};
-ghost use Rattle.alma_lower_work.specs.Puts.{load_instr, set_instr};
+ghost use Rattle.alma_lower_work.specs.Puts.{set_instr};
 
 use crate::scene::Scene;
 use alma_base::NoMemory;
@@ -29,16 +29,6 @@ impl Stand {
                 to: place,
                 from: value,
             },
-        }
-    }
-
-    /// The number of the variable goes into a slot.
-    pub fn load(self, to: u32) -> Instr
-        ensures { result ≡ load_instr self to }
-    {
-        match self {
-            Stand::Own(from) => Instr::Move { to, from },
-            Stand::Placed(place) => Instr::Load { to, from: place },
         }
     }
 }

@@ -101,7 +101,7 @@ pub fn put_neg(work: &mut Work, line: u32, negated: bool, to: u32) -> Result<(),
 }
 
 // Whether a range holds all numbers of INTEGER.
-fn holds_all(range: Range) -> bool
+pub(crate) fn holds_all(range: Range) -> bool
     ensures { result ≡ is_whole range }
 {
     range.low <= i64::MIN && i64::MAX <= range.high

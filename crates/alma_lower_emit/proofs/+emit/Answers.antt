@@ -5,7 +5,7 @@ use Rattle.std.proofs.lemmas.Int.{to_z-of_z}
 use Rattle.std.proofs.Math.ListN.{drop_of_length-le}
 use Rattle.alma_ir.specs.Tree as tree
 use Rattle.alma_ir.specs.View.{stmts_list, tests_list, test_of, expr_of, links_list, args_list, arg_of, desig_of, sels_list, sel_of}
-use Rattle.alma_ir.specs.Lines.{sels_with, sel_with, desig_with}
+use Rattle.alma_ir.specs.Lines.{sels_with, sel_with}
 use Rattle.alma_ir.specs.Count.{test_nodes, expr_nodes, args_nodes, arg_nodes, sels_nodes, sel_nodes}
 use Rattle.alma_ir.proofs.Views
 use Rattle.alma_lower_work.specs.Front.{around, front}
@@ -14,13 +14,14 @@ use Rattle.alma_choice.specs.Emitted.{aimed}
 use Rattle.alma_lower_templates.specs.Slots.{is_simple}
 use Rattle.alma_lower_work.specs.Puts.{PutsGuard}
 use Rattle.alma_lower_parts.proofs.Beginning.{both_ok}
-use Rattle.alma_lower_parts.proofs.ExprForms.{load_put, no_links_put, links_put, chain_put, compare_put, known_put, chr_put}
-use Rattle.alma_lower_work.proofs.DesigForms.{no_sels_put, sels_put, index_put, index_part, desig_put, desig_place}
+use Rattle.alma_lower_parts.proofs.ExprForms.{load_own, load_held, no_links_put, links_put, chain_put, compare_put, known_put, chr_put}
+use Rattle.alma_lower_work.proofs.DesigForms.{no_sels_put, sels_put, index_put, index_part}
+use Rattle.alma_lower_parts.proofs.PlaceForms.{desig_put, desig_place, own_held, own_held_at, made_held, made_held_at}
 use Rattle.alma_lower_parts.proofs.CallForms.{no_args_put, args_put, value_arg_put, mix_value_put, cells_arg_put, place_arg_put, mix_place_put, handed_put, call_test_put, call_value_put}
 use Rattle.alma_lower_parts.proofs.GuardForms.{simple_guard, barrier_guard}
 use Rattle.alma_lower_parts.proofs.IfForms.{truth_put}
 use Rattle.alma_lower_parts.proofs.TestForms.{value_test_put, unequal_put, bind_left_put, bind_right_put, unify_put, same_put, seq_put, no_and_put, more_and_put, and_put, not_put, first_put, last_put}
-use Rattle.alma_lower_parts.proofs.Said.{on_ok, if_ok, then_ok, from_both, from_said, said, through, guard_is, test_as, expr_as, arg_as, sel_as, expr_is, args_is, links_is, sels_is, desig_is, operands_is, tests_is, args_at, stays_at, stays_there, put_there, put_slot, first_is, first_at, own_target, own_stands, made_target, made_stands, own_value, own_at, made_value, made_at, no_parts, part_step, codes_is, some_elements, no_elements, drop_one, drop_last}
+use Rattle.alma_lower_parts.proofs.Said.{on_ok, if_ok, then_ok, from_both, from_said, said, through, guard_is, test_as, expr_as, arg_as, sel_as, expr_is, args_is, links_is, sels_is, operands_is, tests_is, args_at, stays_at, stays_there, put_there, put_slot, first_is, first_at, own_value, own_at, made_value, made_at, no_parts, part_step, codes_is, some_elements, no_elements, drop_one, drop_last}
 use Rattle.alma_lower_parts.proofs.Rows.{more_operands, or_none, or_one, or_of}
 use Rattle.alma_lower_parts.proofs.Sizes.{test_at, arg_at, sel_at, link_at}
 use Rattle.alma_lower_emit.proofs.Behind.{put_behind, value_behind, slot_behind, jump_behind}
@@ -83,22 +84,33 @@ call::emit_call_value-returns g t c =
     }
 
 pub designator::emit_desig-returns-clause-place : goal.designator::emit_desig-returns-clause-place
-designator::emit_desig-returns-clause-place g t c =
-    let sels = ap sels_list c.deref.ensures.value in
-    let begins = c.in_ok-to.ensures in
-    if_ok c.emit_sels.result (λ place h. desig_place (around c.args.scene.now) c.args.line _ _ _ _ place c.args.desig.now.root c.args.desig.now.cells (sels_list c.deref.result.now) begins.takes begins.to_slot begins.root h
-    ∙ ap (λ x. T.place_at (around c.args.scene.now).program (around c.args.scene.now).tables (around c.args.scene.now).routine (front c.args.work.now).next (desig_with (tree.a_desig c.args.desig.now.root c.args.desig.now.cells x) (front c.args.work.now).lines)) sels) c.emit_sels.ensures.place
+designator::emit_desig-returns-clause-place g t c = if_ok c.emit_sels.result
+    (λ place h. desig_place (around c.args.scene.now) c.args.line _ _ _ place _ _ _ _
+    (ap sels_list c.deref.ensures.value) c.in_ok-to.ensures h) c.emit_sels.ensures.place
 
 pub designator::emit_desig-returns-clause-puts : goal.designator::emit_desig-returns-clause-puts
-designator::emit_desig-returns-clause-puts g t c =
-    let begins = c.in_ok-to.ensures in
-    on_ok c.emit_sels.result (λ h. desig_is (around c.args.scene.now) c.args.line _ _ _ _ (ap (tree.a_desig c.args.desig.now.root c.args.desig.now.cells) (ap sels_list c.deref.ensures.value)) (desig_put (around c.args.scene.now) c.args.line _ _ _ _ _ _ _ _ begins.takes begins.to_slot begins.root h)) c.emit_sels.ensures.puts
+designator::emit_desig-returns-clause-puts g t c = on_ok c.emit_sels.result
+    (desig_put (around c.args.scene.now) c.args.line _ _ _ _ _ _ _ _ (ap sels_list c.deref.ensures.value) c.in_ok-to.ensures)
+    c.emit_sels.ensures.puts
 
-pub expression::emit_load-returns : goal.expression::emit_load-returns
-expression::emit_load-returns g t c =
+pub expression::emit_load-returns-in-Some : goal.expression::emit_load-returns-in-Some
+expression::emit_load-returns-in-Some g t c =
     record {
       slot = if_ok c.slot_of.result (λ given is. is ∙ c.in_ok-to.ensures.slot) c.slot_of.ensures.slot;
-      puts = on_ok c.slot_of.result (λ ok. load_put (around c.args.scene.now) c.args.line _ _ _ _ _ _ _ c.in_ok-to.ensures.takes c.in_ok-to.ensures.slot c.in_ok-stand.ensures.puts c.in_ok-stand.ensures.stand (codes_is _ _ c.args.line _ _ c.load.ensures (said c.add.result ok c.add.ensures))) c.slot_of.ensures.done;
+      puts = on_ok c.slot_of.result
+          (λ ok. load_own (around c.args.scene.now) c.args.line _ _ _ _ _ _
+          (sym c.in-Some.is ∙ c.in_ok-from.ensures) c.in_ok-to.ensures.takes c.in_ok-to.ensures.slot (said c.add.result ok c.add.ensures))
+          c.slot_of.ensures.done;
+    }
+
+pub expression::emit_load-returns-in-None : goal.expression::emit_load-returns-in-None
+expression::emit_load-returns-in-None g t c =
+    record {
+      slot = if_ok c.load_of.result (λ given is. is ∙ c.in_ok-to.ensures.slot) c.load_of.ensures.slot;
+      puts = put_behind c.emit_held-place.result c.load_of.result c.emit_held-place.ensures.puts c.emit_held-place.ensures.place
+          c.load_of.ensures.done c.load_of.ensures.codes
+          (λ at puts is h. load_held (around c.args.scene.now) c.args.line _ _ _ _ _ _ _
+          (sym c.in-None.is ∙ c.in_ok-from.ensures) c.in_ok-to.ensures.takes c.in_ok-to.ensures.slot puts is h);
     }
 
 pub expression::emit_chain-returns : goal.expression::emit_chain-returns
@@ -271,15 +283,22 @@ designator::emit_sel-returns-in-Field g t c =
     let view : sel_of c.args.sel.now ≡ tree.Field c.in-Field.offset c.in-Field.cells = ap sel_of c.in-Field.is ∙ Views.field_view _ _ in
     record { part = if_ok c.emit_field.result (λ part h. h ∙ ap (λ x. T.part_slot (around c.args.scene.now).program (around c.args.scene.now).tables (around c.args.scene.now).routine (front c.args.work.now).next (sel_with x (front c.args.work.now).lines)) (sym view)) c.emit_field.ensures.part; puts = sel_as c.emit_field.result (around c.args.scene.now) c.args.line c.args.from _ _ _ _ view c.emit_field.ensures.puts }
 
-pub designator::emit_target-returns-in-Some : goal.designator::emit_target-returns-in-Some
-designator::emit_target-returns-in-Some g t c = record { stand = own_stands (around c.args.scene.now) c.args.line _ _ _ _ (sym c.in-Some.is ∙ c.in_ok-slot.ensures); puts = own_target (around c.args.scene.now) c.args.line _ _ _ (sym c.in-Some.is ∙ c.in_ok-slot.ensures) }
-
-pub designator::emit_target-returns-in-None : goal.designator::emit_target-returns-in-None
-designator::emit_target-returns-in-None g t c =
-    let none = sym c.in-None.is ∙ c.in_ok-slot.ensures in
+pub designator::emit_held-returns-in-Some : goal.designator::emit_held-returns-in-Some
+designator::emit_held-returns-in-Some g t c =
+    let own = sym c.in-Some.is ∙ c.in_ok-from.ensures in
     record {
-      stand = through c.emit_desig.result c.stand_at.result c.emit_desig.ensures.place c.stand_at.ensures.done c.stand_at.ensures.stand (λ at stand place is. is ∙ made_stands (around c.args.scene.now) c.args.line _ _ _ at none place);
-      puts = on_ok c.stand_at.result (λ ok. made_target (around c.args.scene.now) c.args.line _ _ _ none (said c.emit_desig.result ok c.emit_desig.ensures.puts)) c.stand_at.ensures.done;
+      place = if_ok c.hold_at.result
+          (λ place h. h ∙ own_held_at (around c.args.scene.now) c.args.line _ _ _ _ own) c.hold_at.ensures.place;
+      puts = on_ok c.hold_at.result (own_held (around c.args.scene.now) c.args.line _ _ _ _ _ _ own) c.hold_at.ensures.takes;
+    }
+
+pub designator::emit_held-returns-in-None : goal.designator::emit_held-returns-in-None
+designator::emit_held-returns-in-None g t c =
+    let none = sym c.in-None.is ∙ c.in_ok-from.ensures in
+    record {
+      place = if_ok c.emit_desig.result
+          (λ place h. made_held_at (around c.args.scene.now) c.args.line _ _ _ _ none h) c.emit_desig.ensures.place;
+      puts = on_ok c.emit_desig.result (made_held (around c.args.scene.now) c.args.line _ _ _ none) c.emit_desig.ensures.puts;
     }
 
 pub designator::emit_sels-loop-sel-init : goal.designator::emit_sels-loop-sel-init
@@ -541,11 +560,11 @@ condition::emit_guard-emit_barrier-requires g t c κs within = (omega arith, (se
 pub condition::emit_barrier-emit_test-done-requires : goal.condition::emit_barrier-emit_test-done-requires
 condition::emit_barrier-emit_test-done-requires g t c κs within = (omega arith, (search rules, c.requires.emits))
 
-pub designator::emit_target-emit_desig-requires : goal.designator::emit_target-emit_desig-requires
-designator::emit_target-emit_desig-requires g t c κs within = (omega arith, (search rules, c.requires.emits))
+pub designator::emit_held-emit_desig-requires : goal.designator::emit_held-emit_desig-requires
+designator::emit_held-emit_desig-requires g t c κs within = (omega arith, (search rules, c.requires.emits))
 
-pub expression::emit_load-emit_target-requires : goal.expression::emit_load-emit_target-requires
-expression::emit_load-emit_target-requires g t c κs within = (omega arith, (search rules, c.requires.emits))
+pub expression::emit_load-emit_held-place-requires : goal.expression::emit_load-emit_held-place-requires
+expression::emit_load-emit_held-place-requires g t c κs within = (omega arith, (search rules, c.requires.emits))
 
 pub expression::emit_chain-emit_first-requires : goal.expression::emit_chain-emit_first-requires
 expression::emit_chain-emit_first-requires g t c κs within = (omega arith, (search rules, c.requires.emits))
@@ -562,8 +581,8 @@ expression::emit_compare-emit_value-requires g t c κs within = (omega arith, (s
 pub expression::emit_truth-emit_guard-requires : goal.expression::emit_truth-emit_guard-requires
 expression::emit_truth-emit_guard-requires g t c κs within = (omega arith, (search rules, c.requires.emits))
 
-pub expression::emit_known-emit_desig-requires : goal.expression::emit_known-emit_desig-requires
-expression::emit_known-emit_desig-requires g t c κs within = (omega arith, (search rules, c.requires.emits))
+pub expression::emit_known-emit_held-requires : goal.expression::emit_known-emit_held-requires
+expression::emit_known-emit_held-requires g t c κs within = (omega arith, (search rules, c.requires.emits))
 
 pub expression::emit_first-emit_expr-requires : goal.expression::emit_first-emit_expr-requires
 expression::emit_first-emit_expr-requires g t c κs within = (omega arith, (search rules, c.requires.emits))

@@ -29,8 +29,8 @@ decreases-condition::emit_barrier g l = 16 * (test_nodes (test_of l.test.now)) +
 abbrev pub decreases-designator::emit_desig : goal.decreases-designator::emit_desig
 decreases-designator::emit_desig g l = 16 * (desig_nodes (desig_of l.desig.now)) + 0
 
-abbrev pub decreases-designator::emit_target : goal.decreases-designator::emit_target
-decreases-designator::emit_target g l = 16 * (desig_nodes (desig_of l.desig.now)) + 1
+abbrev pub decreases-designator::emit_held : goal.decreases-designator::emit_held
+decreases-designator::emit_held g l = 16 * (desig_nodes (desig_of l.desig.now)) + 1
 
 abbrev pub decreases-designator::emit_sels : goal.decreases-designator::emit_sels
 decreases-designator::emit_sels g l = 16 * (sels_nodes (sels_list l.sels.now)) + 1
@@ -60,7 +60,7 @@ abbrev pub decreases-expression::emit_truth : goal.decreases-expression::emit_tr
 decreases-expression::emit_truth g l = 16 * (test_nodes (test_of l.test.now)) + 3
 
 abbrev pub decreases-expression::emit_known : goal.decreases-expression::emit_known
-decreases-expression::emit_known g l = 16 * (desig_nodes (desig_of l.desig.now)) + 1
+decreases-expression::emit_known g l = 16 * (desig_nodes (desig_of l.desig.now)) + 2
 
 abbrev pub decreases-expression::emit_value : goal.decreases-expression::emit_value
 decreases-expression::emit_value g l = 16 * (expr_nodes (expr_of l.expr.now)) + 1

@@ -1,5 +1,5 @@
-use Rattle.std.proofs.Common.{◌≡◌, ◌+◌, ap, length, subst}
-use Rattle.alma_choice.specs.Emitted.{made, Aims}
+use Rattle.std.proofs.Common.{◌+◌, subst}
+use Rattle.alma_choice.specs.Emitted.{Aims}
 use Rattle.alma_choice.proofs.Aiming.{ends_each}
 use Rattle.alma_choice.proofs.emit.Emit.end_each.Goals as goal
 
