@@ -1,5 +1,6 @@
 -- Code with a jump aimed late.
-use Rattle.std.proofs.Common.{◌≡◌, ℕ, zero, suc, ◌+◌, ◌<◌, ◌≤◌, List, [], ◌∷◌, ◌++◌, length, map, get_or, refl, sym, ap, ◌∙◌, arith, append_assoc, append-nil, length-append}
+use Rattle.std.proofs.Common.{◌≡◌, ℕ, zero, suc, ◌+◌, ◌<◌, ◌≤◌, List, [], ◌∷◌, ◌++◌, length, map, get_or, refl, sym, ap, ◌∙◌, arith}
+use Rattle.std.proofs.Common.{append_assoc, append-nil, length-append}
 use Rattle.std.specs.Prelude.{slice_set}
 use Rattle.std.proofs.lemmas.List.{length-map}
 use Rattle.alma_code.specs.declared.cell.SlotKind.{SlotKind}
@@ -43,7 +44,8 @@ aim_between [] x ys to = refl
 aim_between (z ∷ xs) x ys to = ap (λ l. z ∷ l) (aim_between xs x ys to)
 
 -- one after another
-pub append_then : (a b c : Emit) (f g : List Lined) (k l : List SlotKind) → Appends a b f k → Appends b c g l → Appends a c (f ++ g) (k ++ l)
+pub append_then : (a b c : Emit) (f g : List Lined) (k l : List SlotKind) → Appends a b f k → Appends b c g l
+    → Appends a c (f ++ g) (k ++ l)
 append_then a b c f g k l h j = record {
   instrs = j.instrs ∙ ap (λ x. x ++ g) h.instrs ∙ append_assoc (made a) f g;
   kinds = j.kinds ∙ ap (λ x. x ++ l) h.kinds ∙ append_assoc a.kinds.items k l;
@@ -55,12 +57,14 @@ pub made_long : (e : Emit) → length (made e) ≡ length e.code.items
 made_long e = length-map e.code.items lined
 
 -- instructions of one line behind the code
-own_behind : (xs : List (Instr × ℕ)) (line : ℕ) (instrs : List Instr) → map lined (xs ++ map (λ i. (i, line)) instrs) ≡ map lined xs ++ own line instrs
+own_behind : (xs : List (Instr × ℕ)) (line : ℕ) (instrs : List Instr)
+    → map lined (xs ++ map (λ i. (i, line)) instrs) ≡ map lined xs ++ own line instrs
 own_behind [] line [] = refl
 own_behind [] line (i ∷ instrs) = ap (λ l. record { line = line; instr = i } ∷ l) (own_behind [] line instrs)
 own_behind (x ∷ xs) line instrs = ap (λ l. lined x ∷ l) (own_behind xs line instrs)
 
-pub puts_all : (a b : Emit) (line : ℕ) (instrs : List Instr) → b.code.items ≡ a.code.items ++ map (λ i. (i, line)) instrs → b.kinds ≡ a.kinds → b.next ≡ a.next → Appends a b (own line instrs) []
+pub puts_all : (a b : Emit) (line : ℕ) (instrs : List Instr) → b.code.items ≡ a.code.items ++ map (λ i. (i, line)) instrs
+    → b.kinds ≡ a.kinds → b.next ≡ a.next → Appends a b (own line instrs) []
 puts_all a b line instrs code kinds next = record {
   instrs = ap (λ l. map lined l) code ∙ own_behind a.code.items line instrs;
   kinds = ap (λ k. k.items) kinds ∙ sym (append-nil a.kinds.items);
@@ -68,24 +72,30 @@ puts_all a b line instrs code kinds next = record {
 }
 
 -- an instruction without a target may be put before the jump is aimed
-aimed_front : (xs : List Lined) (x : Lined) (at to : ℕ) → with_target x.instr to ≡ x.instr → aimed (xs ++ x ∷ []) at to ≡ aimed xs at to ++ x ∷ []
+aimed_front : (xs : List Lined) (x : Lined) (at to : ℕ) → with_target x.instr to ≡ x.instr
+    → aimed (xs ++ x ∷ []) at to ≡ aimed xs at to ++ x ∷ []
 aimed_front [] x zero to e = ap (λ (i : Instr). record { line = x.line; instr = i } ∷ []) e
 aimed_front [] x (suc at) to e = refl
 aimed_front (y ∷ xs) x zero to e = refl
 aimed_front (y ∷ xs) x (suc at) to e = ap (λ l. y ∷ l) (aimed_front xs x at to e)
 
 -- the ends of FORALL, aimed when they are put
-pub ends_each : (a b c : Emit) (line mark inner overlay : ℕ) → Appends a b (own line (I.Cut inner ∷ I.Keep mark ∷ I.Fail ∷ [])) [] → Aims b c overlay (length (made a) + 2) → EndsEach a c line mark inner overlay
+pub ends_each : (a b c : Emit) (line mark inner overlay : ℕ) → Appends a b (own line (I.Cut inner ∷ I.Keep mark ∷ I.Fail ∷ [])) []
+    → Aims b c overlay (length (made a) + 2) → EndsEach a c line mark inner overlay
 ends_each a b c line mark inner overlay h aims = record {
-  instrs = aims.instrs ∙ ap (λ l. aimed l overlay (length (made a) + 2)) (h.instrs ∙ sym (append_assoc (made a) (own line (I.Cut inner ∷ I.Keep mark ∷ [])) (own line (I.Fail ∷ []))))
-      ∙ aimed_front (made a ++ own line (I.Cut inner ∷ I.Keep mark ∷ [])) (record { line = line; instr = I.Fail }) overlay (length (made a) + 2) refl;
+  instrs = aims.instrs ∙ ap (λ l. aimed l overlay (length (made a) + 2))
+      (h.instrs ∙ sym (append_assoc (made a) (own line (I.Cut inner ∷ I.Keep mark ∷ [])) (own line (I.Fail ∷ []))))
+      ∙ aimed_front (made a ++ own line (I.Cut inner ∷ I.Keep mark ∷ [])) (record { line = line; instr = I.Fail }) overlay
+      (length (made a) + 2) refl;
   kinds = aims.kinds ∙ h.kinds ∙ append-nil a.kinds.items;
   next = omega (arith, aims.next, h.next);
 }
 
-pub ends_forall : (a b c : Emit) (line forall : ℕ) → Appends a b (own line (I.Finish ∷ [])) [] → Aims b c forall (length (made a)) → EndsForall a c line forall
+pub ends_forall : (a b c : Emit) (line forall : ℕ) → Appends a b (own line (I.Finish ∷ [])) [] → Aims b c forall (length (made a))
+    → EndsForall a c line forall
 ends_forall a b c line forall h aims = record {
-  instrs = aims.instrs ∙ ap (λ l. aimed l forall (length (made a))) h.instrs ∙ aimed_front (made a) (record { line = line; instr = I.Finish }) forall (length (made a)) refl;
+  instrs = aims.instrs ∙ ap (λ l. aimed l forall (length (made a))) h.instrs
+      ∙ aimed_front (made a) (record { line = line; instr = I.Finish }) forall (length (made a)) refl;
   kinds = aims.kinds ∙ h.kinds ∙ append-nil a.kinds.items;
   next = omega (arith, aims.next, h.next);
 }

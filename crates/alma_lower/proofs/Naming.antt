@@ -14,7 +14,8 @@ names_of rs = map (λ r. r.name) rs
 
 -- routines with the same names, one by one
 names_alike : (xs : List PlainRoutine) (ys : List Routine) → length xs ≡ length ys
-    → ((r : ℕ) → r < length xs → (get_or xs r plain.no_routine).name ≡ (get_or ys r tree.no_routine).name) → names_of xs ≡ map (λ (y : Routine). y.name) ys
+    → ((r : ℕ) → r < length xs → (get_or xs r plain.no_routine).name ≡ (get_or ys r tree.no_routine).name)
+    → names_of xs ≡ map (λ (y : Routine). y.name) ys
 names_alike [] [] e h = refl
 names_alike [] (y ∷ ys) e h = absurd (omega (arith, e))
 names_alike (x ∷ xs) [] e h = absurd (omega (arith, e))
@@ -26,6 +27,7 @@ names_alike (x ∷ xs) (y ∷ ys) e h =
 pub keeps_names : (p : Program) (code : PlainCode) → IsCodeOf p code → KeepsNames code p
 keeps_names p code is_code = record {
   variables = ap (λ (c : PlainCode). c.globals) is_code.is;
-  routines = names_alike code.routines p.routines (count p code is_code) (λ r lt. name_is p code is_code r (omega (arith, lt, count p code is_code)));
+  routines = names_alike code.routines p.routines (count p code is_code)
+      (λ r lt. name_is p code is_code r (omega (arith, lt, count p code is_code)));
   version = ap (λ (c : PlainCode). c.version) is_code.is;
 }

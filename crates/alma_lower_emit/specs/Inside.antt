@@ -10,7 +10,8 @@ use Rattle.alma_lower_work.specs.Front.{around, front}
 use Rattle.alma_lower_work.specs.Puts.{PutsStmts}
 
 -- it may be called at any code, and each call that does not run out of memory puts the statements that it is given behind the code so far
-pub record EmitsStmts (callable : Type 0) (post : MutBor Work → Bor Scene → Bor (List Stmt) → Result (Unit {0}) NoMemory → MutBor Work → Type 0) : Type 0 where
+pub record EmitsStmts (callable : Type 0)
+    (post : MutBor Work → Bor Scene → Bor (List Stmt) → Result (Unit {0}) NoMemory → MutBor Work → Type 0) : Type 0 where
   pub may_call : callable
   pub each_call : (work : MutBor Work) (scene : Bor Scene) (body : Bor (List Stmt)) (r : Result (Unit {0}) NoMemory) (after : MutBor Work) →
       post work scene body r after → OnOk r (PutsStmts (around scene.now) (front work.now) (front after.now) (stmts_list body.now))

@@ -3,7 +3,8 @@ use Rattle.std.proofs.Common.{◌≡◌, ℕ, ◌+◌, List, [], ◌∷◌, ◌+
 use Rattle.alma_base.specs.declared.number.Range.{Range}
 use Rattle.alma_code.specs.declared.cell.SlotKind.TheVariants as slot
 use Rattle.alma_code.specs.declared.instr.Instr.TheVariants as I
-use Rattle.alma_ir.specs.Tree.{Expr, Args, Arg, Desig, CallTest, CallExpr, no_args, more_args, ByValue, ByCells, ByPlace, MixValue, MixPlace}
+use Rattle.alma_ir.specs.Tree.{Expr, Args, Arg, Desig, CallTest, CallExpr, no_args, more_args, ByValue, ByCells, ByPlace, MixValue}
+use Rattle.alma_ir.specs.Tree.{MixPlace}
 use Rattle.alma_ir.specs.Phrases.{stmts_phrases, args_phrases, arg_phrases, expr_phrases, desig_phrases}
 use Rattle.alma_ir.specs.Lines.{behind, stmts_with, args_with, expr_with, desig_with}
 use Rattle.alma_ir.proofs.LinesBack.{behind_two}
@@ -21,53 +22,76 @@ module _ (s : Around) (line : ℕ) where
   unfolding stmts_with stmts_phrases
   no_args_put a to = record { all = adds_as a a _ _ _ _ _ _ (nothing a) refl refl refl }
 
-  pub args_put : (a b c : Front) (to : ℕ) (x : Arg) (rest : Args) → PutsArg s line to a b x → PutsArgs s line (to + 1) b c rest → PutsArgs s line to a c (more_args x rest)
+  pub args_put : (a b c : Front) (to : ℕ) (x : Arg) (rest : Args) → PutsArg s line to a b x → PutsArgs s line (to + 1) b c rest
+      → PutsArgs s line to a c (more_args x rest)
   unfolding stmts_with stmts_phrases
-  args_put a b c to x rest h j = record { all = adds_as a c _ _ _ _ _ _ (then_adds a b c _ _ _ _ _ _ h.all j.all) refl refl (sym (behind_two (arg_phrases x) (args_phrases rest) a.lines)) }
+  args_put a b c to x rest h j = record {
+    all =
+        adds_as a c _ _ _ _ _ _ (then_adds a b c _ _ _ _ _ _ h.all j.all) refl refl
+        (sym (behind_two (arg_phrases x) (args_phrases rest) a.lines));
+  }
 
-  number_put : (a b c d : Front) (to value : ℕ) (e : Expr) (range : Range) → PutsValue s line a b e → value ≡ value_slot s a.next (expr_with e a.lines)
+  number_put : (a b c d : Front) (to value : ℕ) (e : Expr) (range : Range) → PutsValue s line a b e
+      → value ≡ value_slot s a.next (expr_with e a.lines)
       → Codes b c (own line (fit_code s.tables range value)) → Codes c d (own line (I.Move to value ∷ []))
-      → Adds a d (λ at lo ls. unless_bare (bare (expr_with e ls)) (T.expr_code s.program s.tables s.routine line at lo (expr_with e ls)) ++ own line (fit_code s.tables range (value_slot s lo (expr_with e ls)) ++ (I.Move to (value_slot s lo (expr_with e ls)) ∷ [])))
+      → Adds a d (λ at lo ls. unless_bare (bare (expr_with e ls)) (T.expr_code s.program s.tables s.routine line at lo (expr_with e ls))
+      ++ own line (fit_code s.tables range (value_slot s lo (expr_with e ls)) ++ (I.Move to (value_slot s lo (expr_with e ls)) ∷ [])))
       (λ ls. unless_bare (bare (expr_with e ls)) (expr_slots s.program s.routine (expr_with e ls))) (behind (expr_phrases e))
   number_put a b c d to value e range h is j k =
       let u = expr_with e a.lines in
       let code = unless_bare (bare u) (T.expr_code s.program s.tables s.routine line (length a.code) a.next u) in
       adds_as a d _ _ _ _ _ _ (adds_code a b d _ _ _ _ h.all (code_code b c d _ _ j k))
-      (ap (λ l. code ++ l) (sym (own_two line (fit_code s.tables range value) (I.Move to value ∷ []))) ∙ ap (λ n. code ++ own line (fit_code s.tables range n ++ (I.Move to n ∷ []))) is) refl refl
+      (ap (λ l. code ++ l) (sym (own_two line (fit_code s.tables range value) (I.Move to value ∷ [])))
+      ∙ ap (λ n. code ++ own line (fit_code s.tables range n ++ (I.Move to n ∷ []))) is) refl refl
 
-  pub value_arg_put : (a b c d : Front) (to value : ℕ) (e : Expr) (range : Range) → PutsValue s line a b e → value ≡ value_slot s a.next (expr_with e a.lines)
-      → Codes b c (own line (fit_code s.tables range value)) → Codes c d (own line (I.Move to value ∷ [])) → PutsArg s line to a d (ByValue e range)
+  pub value_arg_put : (a b c d : Front) (to value : ℕ) (e : Expr) (range : Range) → PutsValue s line a b e
+      → value ≡ value_slot s a.next (expr_with e a.lines)
+      → Codes b c (own line (fit_code s.tables range value)) → Codes c d (own line (I.Move to value ∷ []))
+      → PutsArg s line to a d (ByValue e range)
   unfolding stmts_with stmts_phrases
   value_arg_put a b c d to value e range h is j k = record { all = number_put a b c d to value e range h is j k }
 
-  pub mix_value_put : (a b c d : Front) (to value : ℕ) (e : Expr) (range : Range) → PutsValue s line a b e → value ≡ value_slot s a.next (expr_with e a.lines)
-      → Codes b c (own line (fit_code s.tables range value)) → Codes c d (own line (I.Move to value ∷ [])) → PutsArg s line to a d (MixValue e range)
+  pub mix_value_put : (a b c d : Front) (to value : ℕ) (e : Expr) (range : Range) → PutsValue s line a b e
+      → value ≡ value_slot s a.next (expr_with e a.lines)
+      → Codes b c (own line (fit_code s.tables range value)) → Codes c d (own line (I.Move to value ∷ []))
+      → PutsArg s line to a d (MixValue e range)
   unfolding stmts_with stmts_phrases
   mix_value_put a b c d to value e range h is j k = record { all = number_put a b c d to value e range h is j k }
 
-  place_put : (a b c : Front) (to place : ℕ) (x : Desig) → PutsDesig s line a b x → place ≡ T.place_at s.program s.tables s.routine a.next (desig_with x a.lines) → Codes b c (own line (I.Same to place ∷ []))
-      → Adds a c (λ at lo ls. T.desig_code s.program s.tables s.routine line at lo (desig_with x ls) ++ own line (I.Same to (T.place_at s.program s.tables s.routine lo (desig_with x ls)) ∷ []))
+  place_put : (a b c : Front) (to place : ℕ) (x : Desig) → PutsDesig s line a b x
+      → place ≡ T.place_at s.program s.tables s.routine a.next (desig_with x a.lines) → Codes b c (own line (I.Same to place ∷ []))
+      → Adds a c (λ at lo ls. T.desig_code s.program s.tables s.routine line at lo (desig_with x ls)
+      ++ own line (I.Same to (T.place_at s.program s.tables s.routine lo (desig_with x ls)) ∷ []))
       (λ ls. desig_slots s.program s.routine (desig_with x ls)) (behind (desig_phrases x))
   place_put a b c to place x h is j =
       let code = T.desig_code s.program s.tables s.routine line (length a.code) a.next (desig_with x a.lines) in
       adds_as a c _ _ _ _ _ _ (adds_code a b c _ _ _ _ h.all j) (ap (λ n. code ++ own line (I.Same to n ∷ [])) is) refl refl
 
-  pub cells_arg_put : (a b c : Front) (to place : ℕ) (x : Desig) → PutsDesig s line a b x → place ≡ T.place_at s.program s.tables s.routine a.next (desig_with x a.lines) → Codes b c (own line (I.Same to place ∷ [])) → PutsArg s line to a c (ByCells x)
+  pub cells_arg_put : (a b c : Front) (to place : ℕ) (x : Desig) → PutsDesig s line a b x
+      → place ≡ T.place_at s.program s.tables s.routine a.next (desig_with x a.lines) → Codes b c (own line (I.Same to place ∷ []))
+      → PutsArg s line to a c (ByCells x)
   unfolding stmts_with stmts_phrases
   cells_arg_put a b c to place x h is j = record { all = place_put a b c to place x h is j }
 
-  pub place_arg_put : (a b c : Front) (to place : ℕ) (x : Desig) → PutsDesig s line a b x → place ≡ T.place_at s.program s.tables s.routine a.next (desig_with x a.lines) → Codes b c (own line (I.Same to place ∷ [])) → PutsArg s line to a c (ByPlace x)
+  pub place_arg_put : (a b c : Front) (to place : ℕ) (x : Desig) → PutsDesig s line a b x
+      → place ≡ T.place_at s.program s.tables s.routine a.next (desig_with x a.lines) → Codes b c (own line (I.Same to place ∷ []))
+      → PutsArg s line to a c (ByPlace x)
   unfolding stmts_with stmts_phrases
   place_arg_put a b c to place x h is j = record { all = place_put a b c to place x h is j }
 
-  pub mix_place_put : (a b c : Front) (to place : ℕ) (x : Desig) → PutsDesig s line a b x → place ≡ T.place_at s.program s.tables s.routine a.next (desig_with x a.lines) → Codes b c (own line (I.Same to place ∷ [])) → PutsArg s line to a c (MixPlace x)
+  pub mix_place_put : (a b c : Front) (to place : ℕ) (x : Desig) → PutsDesig s line a b x
+      → place ≡ T.place_at s.program s.tables s.routine a.next (desig_with x a.lines) → Codes b c (own line (I.Same to place ∷ []))
+      → PutsArg s line to a c (MixPlace x)
   unfolding stmts_with stmts_phrases
   mix_place_put a b c to place x h is j = record { all = place_put a b c to place x h is j }
 
   -- ---- calls
 
-  pub handed_put : (a b c d : Front) (called up to : ℕ) (args : Args) → Adds a b (λ at lo ls. own line (T.call_link_code s.program s.tables s.routine called up lo)) (λ ls. call_links s.program s.routine called up) (λ ls. ls)
-      → Adds b c (λ at lo ls. []) (λ ls. handed_slots args) (λ ls. ls) → to ≡ b.next → PutsArgs s line to c d args → PutsHanded s line called up a d args
+  pub handed_put : (a b c d : Front) (called up to : ℕ) (args : Args)
+      → Adds a b (λ at lo ls. own line (T.call_link_code s.program s.tables s.routine called up lo))
+      (λ ls. call_links s.program s.routine called up) (λ ls. ls)
+      → Adds b c (λ at lo ls. []) (λ ls. handed_slots args) (λ ls. ls) → to ≡ b.next → PutsArgs s line to c d args
+      → PutsHanded s line called up a d args
   handed_put a b c d called up to args h t is j =
       let ls = a.lines in
       let u = args_with args ls in
@@ -79,23 +103,33 @@ module _ (s : Around) (line : ℕ) where
       let code : (to at lo : ℕ) → List Lined = λ to at lo. link ++ T.args_code s.program s.tables s.routine line at to lo u in
       record {
         all = adds_as a d _ _ _ _ _ _ (then_adds a b d _ _ _ _ _ _ h (then_adds b c d _ _ _ _ _ _ t j.all))
-            (ap (λ n. code to n (a.next + length links + length (handed_slots args))) (add-zero at) ∙ ap (λ n. code n at (a.next + length links + length (handed_slots args))) there
+            (ap (λ n. code to n (a.next + length links + length (handed_slots args))) (add-zero at)
+            ∙ ap (λ n. code n at (a.next + length links + length (handed_slots args))) there
             ∙ ap (λ k. code first at (first + length k)) (sym (same_handed args ls)))
             (ap (λ k. links ++ (k ++ args_slots s.program s.routine u)) (sym (same_handed args ls))) refl;
       }
 
-  pub call_test_put : (a b c : Front) (called up first : ℕ) (args : Args) → PutsHanded s line called up a b args → first ≡ first_slot s called up a.next args → Codes b c (own line (I.Call called first 0 ∷ []))
+  pub call_test_put : (a b c : Front) (called up first : ℕ) (args : Args) → PutsHanded s line called up a b args
+      → first ≡ first_slot s called up a.next args → Codes b c (own line (I.Call called first 0 ∷ []))
       → PutsTest s line a c (CallTest called args up)
   unfolding stmts_with stmts_phrases
   call_test_put a b c called up first args h is j =
       let u = args_with args a.lines in
-      let there : first ≡ first_slot s called up a.next u = is ∙ ap (λ k. first_argument (shift_of s.program called + length k) (T.handed_from s.program s.tables s.routine (shift_of s.program called) up a.next)) (sym (same_handed args a.lines)) in
+      let there : first ≡ first_slot s called up a.next u = is
+      ∙ ap (λ k. first_argument (shift_of s.program called + length k)
+      (T.handed_from s.program s.tables s.routine (shift_of s.program called) up a.next)) (sym (same_handed args a.lines)) in
       let front = T.arguments_from s.program s.tables s.routine called up a.next in
-      let code = in_row (length a.code) (own line (T.call_link_code s.program s.tables s.routine called up a.next)) (λ next. T.args_code s.program s.tables s.routine line next front (front + length (handed_slots u)) u) in
-      record { all = adds_as a c _ _ _ _ _ _ (adds_code a b c _ _ _ _ h.all j) (ap (λ n. code ++ own line (I.Call called n 0 ∷ [])) there) refl refl }
+      let code = in_row (length a.code) (own line (T.call_link_code s.program s.tables s.routine called up a.next))
+      (λ next. T.args_code s.program s.tables s.routine line next front (front + length (handed_slots u)) u) in
+      record {
+        all = adds_as a c _ _ _ _ _ _ (adds_code a b c _ _ _ _ h.all j) (ap (λ n. code ++ own line (I.Call called n 0 ∷ [])) there)
+            refl refl;
+      }
 
-  pub call_value_put : (a b c d e : Front) (called up to mark first : ℕ) (args : Args) → Takes a b slot.Number → to ≡ a.next → Takes b c slot.Mark → mark ≡ b.next → PutsHanded s line called up c d args
-      → first ≡ first_slot s called up c.next args → Codes d e (own line (I.Mark mark ∷ I.Call called first to ∷ I.Cut mark ∷ [])) → PutsExpr s line a e (CallExpr called args up)
+  pub call_value_put : (a b c d e : Front) (called up to mark first : ℕ) (args : Args) → Takes a b slot.Number → to ≡ a.next
+      → Takes b c slot.Mark → mark ≡ b.next → PutsHanded s line called up c d args
+      → first ≡ first_slot s called up c.next args → Codes d e (own line (I.Mark mark ∷ I.Call called first to ∷ I.Cut mark ∷ []))
+      → PutsExpr s line a e (CallExpr called args up)
   unfolding stmts_with stmts_phrases
   call_value_put a b c d e called up to mark first args h is t is2 j is3 k =
       let ls = a.lines in
@@ -106,14 +140,17 @@ module _ (s : Around) (line : ℕ) where
       let mine : mark ≡ a.next + 1 = is2 ∙ h.next_slot in
       let link : ℕ → List Lined = λ lo. own line (T.call_link_code s.program s.tables s.routine called up lo) in
       let front : ℕ → ℕ = λ lo. T.arguments_from s.program s.tables s.routine called up lo in
-      let code : ℕ → List Lined = λ lo. in_row at (link lo) (λ next. T.args_code s.program s.tables s.routine line next (front lo) (front lo + length (handed_slots u)) u) in
+      let code : ℕ → List Lined = λ lo. in_row at (link lo)
+      (λ next. T.args_code s.program s.tables s.routine line next (front lo) (front lo + length (handed_slots u)) u) in
       let there : first ≡ first_slot s called up (a.next + 2) u = is3 ∙ ap (λ n. first_slot s called up n args) low2
-      ∙ ap (λ k. first_argument (shift_of s.program called + length k) (T.handed_from s.program s.tables s.routine (shift_of s.program called) up (a.next + 2))) (sym (same_handed args ls)) in
+      ∙ ap (λ k. first_argument (shift_of s.program called + length k)
+      (T.handed_from s.program s.tables s.routine (shift_of s.program called) up (a.next + 2))) (sym (same_handed args ls)) in
       record {
         all = adds_as a e _ _ _ _ _ _ (slot_adds a b e _ _ _ _ h (slot_adds b c e _ _ _ _ t (adds_code c d e _ _ _ _ j.all k)))
             (ap (λ lo. code lo ++ own line (I.Mark mark ∷ I.Call called first to ∷ I.Cut mark ∷ [])) low
             ∙ ap (λ n. code (a.next + 2) ++ own line (I.Mark n ∷ I.Call called first to ∷ I.Cut n ∷ [])) mine
             ∙ ap (λ n. code (a.next + 2) ++ own line (I.Mark (a.next + 1) ∷ I.Call called n to ∷ I.Cut (a.next + 1) ∷ [])) there
-            ∙ ap (λ n. code (a.next + 2) ++ own line (I.Mark (a.next + 1) ∷ I.Call called (first_slot s called up (a.next + 2) u) n ∷ I.Cut (a.next + 1) ∷ [])) is)
+            ∙ ap (λ n. code (a.next + 2) ++ own line
+            (I.Mark (a.next + 1) ∷ I.Call called (first_slot s called up (a.next + 2) u) n ∷ I.Cut (a.next + 1) ∷ [])) is)
             refl refl;
       }

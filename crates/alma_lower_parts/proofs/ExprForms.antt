@@ -10,7 +10,8 @@ use Rattle.alma_ir.specs.Phrases.{stmts_phrases, expr_phrases, links_phrases}
 use Rattle.alma_ir.specs.Lines.{behind, stmts_with, expr_with, links_with, desig_with}
 use Rattle.alma_ir.proofs.LinesBack.{behind_two}
 use Rattle.alma_lower_work.specs.Front.{Around, Front, Codes, Takes}
-use Rattle.alma_lower_work.specs.Puts.{PutsExpr, PutsFirstOperand, PutsValue, PutsLinks, PutsDesig, PutsHeld, PutsTarget, stand_by, stand_of, value_slot}
+use Rattle.alma_lower_work.specs.Puts.{PutsExpr, PutsFirstOperand, PutsValue, PutsLinks, PutsDesig, PutsHeld, PutsTarget, stand_by}
+use Rattle.alma_lower_work.specs.Puts.{stand_of, value_slot}
 use Rattle.alma_lower_work.proofs.Joins.{nothing, then_adds, adds_as, adds_code, only_code, slot_adds}
 use Rattle.alma_lower_parts.proofs.With.{no_bare, own_desig, own_expr, own_desig_passes, own_expr_passes, stays_with, stays_in_with}
 use Rattle.alma_lower_templates.specs.Lined.{Lined, own, in_row}
@@ -21,27 +22,34 @@ use Rattle.alma_lower_templates.proofs.AtOnce.{bare_value}
 use Rattle.alma_lower_templates.specs.Templates as T
 
 module _ (s : Around) (line : ℕ) where
-  pub const_put : (a b c : Front) (to : ℕ) (n : ℤ) → Takes a b slot.Number → to ≡ a.next → Codes b c (own line (I.Const to n ∷ [])) → PutsExpr s line a c (Const n)
+  pub const_put : (a b c : Front) (to : ℕ) (n : ℤ) → Takes a b slot.Number → to ≡ a.next → Codes b c (own line (I.Const to n ∷ []))
+      → PutsExpr s line a c (Const n)
   unfolding stmts_with stmts_phrases
-  const_put a b c to n h is j = record { all = adds_as a c _ _ _ _ _ _ (slot_adds a b c _ _ _ _ h (only_code b c _ j)) (ap (λ m. own line (I.Const m n ∷ [])) is) refl refl }
+  const_put a b c to n h is j = record {
+    all =
+        adds_as a c _ _ _ _ _ _ (slot_adds a b c _ _ _ _ h (only_code b c _ j)) (ap (λ m. own line (I.Const m n ∷ [])) is) refl refl;
+  }
 
   -- ---- values that are used at once
 
   pub own_value_put : (a : Front) (e : Expr) (from : ℕ) → bare e ≡ Some from → PutsValue s line a a e
   own_value_put a e from h = record {
     all = adds_as a a _ _ _ _ _ _ (nothing a)
-        (sym (ap (λ o. unless_bare o (T.expr_code s.program s.tables s.routine line (length a.code) a.next (expr_with e a.lines))) (own_expr e a.lines ∙ h)))
+        (sym (ap (λ o. unless_bare o (T.expr_code s.program s.tables s.routine line (length a.code) a.next (expr_with e a.lines)))
+        (own_expr e a.lines ∙ h)))
         (sym (ap (λ o. unless_bare o (expr_slots s.program s.routine (expr_with e a.lines))) (own_expr e a.lines ∙ h)))
         (sym (own_expr_passes e from a.lines h));
   }
 
-  pub own_value_slot : (lo : ℕ) (ls : List ℕ) (e : Expr) (from : ℕ) → bare e ≡ Some from → value_slot s lo (expr_with e ls) ≡ T.own_slot s.program s.tables s.routine from
+  pub own_value_slot : (lo : ℕ) (ls : List ℕ) (e : Expr) (from : ℕ) → bare e ≡ Some from
+      → value_slot s lo (expr_with e ls) ≡ T.own_slot s.program s.tables s.routine from
   own_value_slot lo ls e from h = ap (λ o. T.slot_or s.program s.tables s.routine o lo) (own_expr e ls ∙ h)
 
   pub made_value_put : (a b : Front) (e : Expr) → bare e ≡ None → PutsExpr s line a b e → PutsValue s line a b e
   made_value_put a b e h j = record {
     all = adds_as a b _ _ _ _ _ _ j.all
-        (sym (ap (λ o. unless_bare o (T.expr_code s.program s.tables s.routine line (length a.code) a.next (expr_with e a.lines))) (own_expr e a.lines ∙ h)))
+        (sym (ap (λ o. unless_bare o (T.expr_code s.program s.tables s.routine line (length a.code) a.next (expr_with e a.lines)))
+        (own_expr e a.lines ∙ h)))
         (sym (ap (λ o. unless_bare o (expr_slots s.program s.routine (expr_with e a.lines))) (own_expr e a.lines ∙ h)))
         refl;
   }
@@ -55,7 +63,8 @@ module _ (s : Around) (line : ℕ) where
   alone : (e : Expr) (from : ℕ) (ls : List ℕ) → bare e ≡ Some from → slot.Number ∷ [] ≡ expr_slots s.program s.routine (expr_with e ls)
   alone e from ls h = let z = bare_value (expr_with e ls) from (own_expr e ls ∙ h) in sym (ap (expr_slots s.program s.routine) z.1)
 
-  pub stay_put : (a b : Front) (e : Expr) (o : Option ℕ) (from : ℕ) → o ≡ Some from → bare e ≡ Some from → Takes a b slot.Number → PutsFirstOperand s line a b o e
+  pub stay_put : (a b : Front) (e : Expr) (o : Option ℕ) (from : ℕ) → o ≡ Some from → bare e ≡ Some from → Takes a b slot.Number
+      → PutsFirstOperand s line a b o e
   stay_put a b e o from is h j = record {
     all = adds_as a b _ _ _ _ _ _ (slot_adds a b b _ _ _ _ j (nothing b))
         (sym (ap (λ o. unless_bare o (T.expr_code s.program s.tables s.routine line (length a.code) a.next (expr_with e a.lines))) is))
@@ -65,7 +74,9 @@ module _ (s : Around) (line : ℕ) where
 
   pub made_first_put : (a b : Front) (e : Expr) (o : Option ℕ) → o ≡ None → PutsExpr s line a b e → PutsFirstOperand s line a b o e
   made_first_put a b e o is h = record {
-    all = adds_as a b _ _ _ _ _ _ h.all (sym (ap (λ o. unless_bare o (T.expr_code s.program s.tables s.routine line (length a.code) a.next (expr_with e a.lines))) is)) refl refl;
+    all = adds_as a b _ _ _ _ _ _ h.all (sym
+        (ap (λ o. unless_bare o (T.expr_code s.program s.tables s.routine line (length a.code) a.next (expr_with e a.lines))) is)) refl
+        refl;
   }
 
   -- ---- variables
@@ -73,7 +84,8 @@ module _ (s : Around) (line : ℕ) where
   pub own_target_put : (a : Front) (d : Desig) (from : ℕ) → bare_desig d ≡ Some from → PutsTarget s line a a d
   own_target_put a d from h = record {
     all = adds_as a a _ _ _ _ _ _ (nothing a)
-        (sym (ap (λ o. unless_bare o (T.desig_code s.program s.tables s.routine line (length a.code) a.next (desig_with d a.lines))) (own_desig d a.lines ∙ h)))
+        (sym (ap (λ o. unless_bare o (T.desig_code s.program s.tables s.routine line (length a.code) a.next (desig_with d a.lines)))
+        (own_desig d a.lines ∙ h)))
         (sym (ap (λ o. unless_bare o (desig_slots s.program s.routine (desig_with d a.lines))) (own_desig d a.lines ∙ h)))
         (sym (own_desig_passes d from a.lines h));
   }
@@ -81,15 +93,18 @@ module _ (s : Around) (line : ℕ) where
   pub made_target_put : (a b : Front) (d : Desig) → bare_desig d ≡ None → PutsDesig s line a b d → PutsTarget s line a b d
   made_target_put a b d h j = record {
     all = adds_as a b _ _ _ _ _ _ j.all
-        (sym (ap (λ o. unless_bare o (T.desig_code s.program s.tables s.routine line (length a.code) a.next (desig_with d a.lines))) (own_desig d a.lines ∙ h)))
+        (sym (ap (λ o. unless_bare o (T.desig_code s.program s.tables s.routine line (length a.code) a.next (desig_with d a.lines)))
+        (own_desig d a.lines ∙ h)))
         (sym (ap (λ o. unless_bare o (desig_slots s.program s.routine (desig_with d a.lines))) (own_desig d a.lines ∙ h)))
         refl;
   }
 
-  pub own_stand_of : (lo : ℕ) (ls : List ℕ) (d : Desig) (from : ℕ) → bare_desig d ≡ Some from → stand_of s lo (desig_with d ls) ≡ stand_by s (Some from) 0
+  pub own_stand_of : (lo : ℕ) (ls : List ℕ) (d : Desig) (from : ℕ) → bare_desig d ≡ Some from
+      → stand_of s lo (desig_with d ls) ≡ stand_by s (Some from) 0
   own_stand_of lo ls d from h = ap (λ o. stand_by s o (T.place_at s.program s.tables s.routine lo (desig_with d ls))) (own_desig d ls ∙ h)
 
-  pub made_stand_of : (lo : ℕ) (ls : List ℕ) (d : Desig) → bare_desig d ≡ None → stand_of s lo (desig_with d ls) ≡ stand_by s None (T.place_at s.program s.tables s.routine lo (desig_with d ls))
+  pub made_stand_of : (lo : ℕ) (ls : List ℕ) (d : Desig) → bare_desig d ≡ None
+      → stand_of s lo (desig_with d ls) ≡ stand_by s None (T.place_at s.program s.tables s.routine lo (desig_with d ls))
   made_stand_of lo ls d h = ap (λ o. stand_by s o (T.place_at s.program s.tables s.routine lo (desig_with d ls))) (own_desig d ls ∙ h)
 
   -- the number of a variable that stands in its own slot
@@ -144,20 +159,28 @@ module _ (s : Around) (line : ℕ) where
   unfolding stmts_with stmts_phrases
   no_links_put a first to = record { all = adds_as a a _ _ _ _ _ _ (nothing a) refl refl refl }
 
-  pub links_put : (a b c d : Front) (first to operand : ℕ) (op : Op) (e : Expr) (rest : Links) → PutsValue s line a b e → operand ≡ value_slot s a.next (expr_with e a.lines)
-      → Codes b c (own line (op_code op to first operand ∷ [])) → PutsLinks s line to to c d rest → PutsLinks s line first to a d (more_links op e rest)
+  pub links_put : (a b c d : Front) (first to operand : ℕ) (op : Op) (e : Expr) (rest : Links) → PutsValue s line a b e
+      → operand ≡ value_slot s a.next (expr_with e a.lines)
+      → Codes b c (own line (op_code op to first operand ∷ [])) → PutsLinks s line to to c d rest
+      → PutsLinks s line first to a d (more_links op e rest)
   unfolding stmts_with stmts_phrases
   links_put a b c d first to operand op e rest h is j k =
       let all = then_adds a c d _ _ _ _ _ _ (adds_code a b c _ _ _ _ h.all j) k.all in
-      let value = unless_bare (bare (expr_with e a.lines)) (T.expr_code s.program s.tables s.routine line (length a.code) a.next (expr_with e a.lines)) in
+      let value = unless_bare (bare (expr_with e a.lines))
+      (T.expr_code s.program s.tables s.routine line (length a.code) a.next (expr_with e a.lines)) in
       record {
         all = adds_as a d _ _ _ _ _ _ all
-            (ap (λ n. in_row (length a.code) (value ++ own line (op_code op to first n ∷ [])) (λ next. T.links_code s.program s.tables s.routine line next to to (a.next + length (unless_bare (bare (expr_with e a.lines)) (expr_slots s.program s.routine (expr_with e a.lines)))) (links_with rest (behind (expr_phrases e) a.lines)))) is)
+            (ap (λ n. in_row (length a.code) (value ++ own line (op_code op to first n ∷ []))
+            (λ next. T.links_code s.program s.tables s.routine line next to to
+            (a.next + length (unless_bare (bare (expr_with e a.lines)) (expr_slots s.program s.routine (expr_with e a.lines))))
+            (links_with rest (behind (expr_phrases e) a.lines)))) is)
             refl (sym (behind_two (expr_phrases e) (links_phrases rest) a.lines));
       }
 
-  pub chain_put : (a b c d : Front) (from to : ℕ) (negated : Bool) (e : Expr) (links : Links) → PutsFirstOperand s line a b (stays_in negated e links) e → to ≡ a.next
-      → from ≡ T.slot_or s.program s.tables s.routine (stays_in negated e links) a.next → Codes b c (own line (neg_code negated to)) → PutsLinks s line from to c d links → PutsExpr s line a d (Chain negated e links)
+  pub chain_put : (a b c d : Front) (from to : ℕ) (negated : Bool) (e : Expr) (links : Links)
+      → PutsFirstOperand s line a b (stays_in negated e links) e → to ≡ a.next
+      → from ≡ T.slot_or s.program s.tables s.routine (stays_in negated e links) a.next → Codes b c (own line (neg_code negated to))
+      → PutsLinks s line from to c d links → PutsExpr s line a d (Chain negated e links)
   unfolding stmts_with stmts_phrases
   chain_put a b c d from to negated e links h is is2 j k =
       let all = then_adds a c d _ _ _ _ _ _ (adds_code a b c _ _ _ _ h.all j) k.all in
@@ -165,7 +188,9 @@ module _ (s : Around) (line : ℕ) where
       let lo = a.next + length (expr_slots s.program s.routine x) in
       let ls = behind (expr_phrases e) a.lines in
       let code : Option ℕ → (from to : ℕ) → List Lined = λ o from to.
-      in_row (length a.code) (unless_bare o (T.expr_code s.program s.tables s.routine line (length a.code) a.next x) ++ own line (neg_code negated to)) (λ next. T.links_code s.program s.tables s.routine line next from to lo (links_with links ls)) in
+      in_row (length a.code) (unless_bare o (T.expr_code s.program s.tables s.routine line (length a.code) a.next x)
+      ++ own line (neg_code negated to)) (λ next. T.links_code s.program s.tables s.routine line next from to lo (links_with links ls))
+      in
       record {
         all = adds_as a d _ _ _ _ _ _ all
             (ap (code (stays_in negated e links) from) is ∙ ap (λ n. code (stays_in negated e links) n a.next) is2
@@ -173,21 +198,27 @@ module _ (s : Around) (line : ℕ) where
             refl (sym (behind_two (expr_phrases e) (links_phrases links) a.lines));
       }
 
-  pub compare_put : (a b c d : Front) (from to other : ℕ) (how : Cmp) (x y : Expr) → PutsFirstOperand s line a b (stays x y) x → to ≡ a.next → from ≡ T.slot_or s.program s.tables s.routine (stays x y) a.next
-      → PutsValue s line b c y → other ≡ value_slot s b.next (expr_with y b.lines) → Codes c d (own line (cmp_code how to from other)) → PutsExpr s line a d (Compare how x y)
+  pub compare_put : (a b c d : Front) (from to other : ℕ) (how : Cmp) (x y : Expr) → PutsFirstOperand s line a b (stays x y) x → to ≡ a.next
+      → from ≡ T.slot_or s.program s.tables s.routine (stays x y) a.next
+      → PutsValue s line b c y → other ≡ value_slot s b.next (expr_with y b.lines) → Codes c d (own line (cmp_code how to from other))
+      → PutsExpr s line a d (Compare how x y)
   unfolding stmts_with stmts_phrases
   compare_put a b c d from to other how x y h is is2 j is3 k =
       let ls = behind (expr_phrases x) a.lines in
       let lo = a.next + length (expr_slots s.program s.routine (expr_with x a.lines)) in
-      let there : other ≡ value_slot s lo (expr_with y ls) = is3 ∙ ap (λ n. value_slot s n (expr_with y b.lines)) h.all.next_slot ∙ ap (λ n. value_slot s lo (expr_with y n)) h.all.left in
+      let there : other ≡ value_slot s lo (expr_with y ls) = is3 ∙ ap (λ n. value_slot s n (expr_with y b.lines)) h.all.next_slot
+      ∙ ap (λ n. value_slot s lo (expr_with y n)) h.all.left in
       let all = adds_code a c d _ _ _ _ (then_adds a b c _ _ _ _ _ _ h.all j.all) k in
       let code : Option ℕ → (from to other : ℕ) → List Lined = λ o from to other.
-      in_row (length a.code) (unless_bare o (T.expr_code s.program s.tables s.routine line (length a.code) a.next (expr_with x a.lines))) (λ next. unless_bare (bare (expr_with y ls)) (T.expr_code s.program s.tables s.routine line next lo (expr_with y ls)))
+      in_row (length a.code) (unless_bare o (T.expr_code s.program s.tables s.routine line (length a.code) a.next (expr_with x a.lines)))
+      (λ next. unless_bare (bare (expr_with y ls)) (T.expr_code s.program s.tables s.routine line next lo (expr_with y ls)))
       ++ own line (cmp_code how to from other) in
       record {
         all = adds_as a d _ _ _ _ _ _ all
-            (ap (λ n. code (stays x y) from n other) is ∙ ap (λ n. code (stays x y) n a.next other) is2 ∙ ap (code (stays x y) (T.slot_or s.program s.tables s.routine (stays x y) a.next) a.next) there
-            ∙ ap (λ o. code o (T.slot_or s.program s.tables s.routine o a.next) a.next (value_slot s lo (expr_with y ls))) (sym (stays_with x y a.lines ls)))
+            (ap (λ n. code (stays x y) from n other) is ∙ ap (λ n. code (stays x y) n a.next other) is2
+            ∙ ap (code (stays x y) (T.slot_or s.program s.tables s.routine (stays x y) a.next) a.next) there
+            ∙ ap (λ o. code o (T.slot_or s.program s.tables s.routine o a.next) a.next (value_slot s lo (expr_with y ls)))
+            (sym (stays_with x y a.lines ls)))
             refl (sym (behind_two (expr_phrases x) (expr_phrases y) a.lines));
       }
 
@@ -211,4 +242,7 @@ module _ (s : Around) (line : ℕ) where
   unfolding stmts_with stmts_phrases
   chr_put a b c e to range h is is2 k =
       let code = T.expr_code s.program s.tables s.routine line (length a.code) a.next (expr_with e a.lines) in
-      record { all = adds_as a c _ _ _ _ _ _ (adds_code a b c _ _ _ _ h.all k) (ap (λ n. code ++ own line (I.InRange n range ∷ [])) is ∙ ap (λ n. code ++ own line (I.InRange a.next n ∷ [])) is2) refl refl }
+      record {
+        all = adds_as a c _ _ _ _ _ _ (adds_code a b c _ _ _ _ h.all k)
+            (ap (λ n. code ++ own line (I.InRange n range ∷ [])) is ∙ ap (λ n. code ++ own line (I.InRange a.next n ∷ [])) is2) refl refl;
+      }

@@ -7,34 +7,53 @@ use Rattle.alma_choice.specs.Emitted.{aimed}
 use Rattle.alma_choice.proofs.Aiming.{aim_between}
 use Rattle.alma_lower_work.specs.Puts.{all_labels}
 use Rattle.alma_lower_work.specs.Front.{Front, Codes, Changes, Holes}
-use Rattle.alma_lower_work.proofs.Joins.{code_code, adds_code, code_holes, holes_as, own_two, closed, only_code, address_after, address_behind}
+use Rattle.alma_lower_work.proofs.Joins.{code_code, adds_code, code_holes, holes_as, own_two, closed, only_code, address_after}
+use Rattle.alma_lower_work.proofs.Joins.{address_behind}
 use Rattle.alma_lower_templates.specs.Lined.{Lined, own}
 use Rattle.alma_lower_templates.specs.Pieces.{last_label_code, label_code, labels_code}
 
 -- six instructions, of which the third and the last are aimed
-pub label_holes : (a b c d e f g : Front) (line value bound test low high : ℕ) (label : Range) (least most : ℤ) → test ≡ bound + 1 → least ≡ label.low → most ≡ label.high
-    → Codes a b (own line (I.Const bound least ∷ [])) → Codes b c (own line (I.LessEq test bound value ∷ [])) → low ≡ length c.code → Codes c d (own line (I.JumpZero test 0 ∷ []))
-    → Codes d e (own line (I.Const bound most ∷ [])) → Codes e f (own line (I.LessEq test value bound ∷ [])) → high ≡ length f.code → Codes f g (own line (I.JumpZero test 0 ∷ []))
-    → Holes a g (λ to xs. aimed (aimed xs low to) high to) (λ none at lo ls. own line (last_label_code value bound none label)) (λ ls. []) (λ ls. ls)
+pub label_holes : (a b c d e f g : Front) (line value bound test low high : ℕ) (label : Range) (least most : ℤ) → test ≡ bound + 1
+    → least ≡ label.low → most ≡ label.high
+    → Codes a b (own line (I.Const bound least ∷ [])) → Codes b c (own line (I.LessEq test bound value ∷ [])) → low ≡ length c.code
+    → Codes c d (own line (I.JumpZero test 0 ∷ []))
+    → Codes d e (own line (I.Const bound most ∷ [])) → Codes e f (own line (I.LessEq test value bound ∷ [])) → high ≡ length f.code
+    → Codes f g (own line (I.JumpZero test 0 ∷ []))
+    → Holes a g (λ to xs. aimed (aimed xs low to) high to) (λ none at lo ls. own line (last_label_code value bound none label)) (λ ls. [])
+    (λ ls. ls)
 label_holes a b c d e f g line value bound test low high label least most t is is2 h1 h2 at1 h3 h4 h5 at2 h6 =
     let xs = a.code in
-    let all : (test : ℕ) (least most : ℤ) (n m : ℕ) → List Lined = λ test least most n m. own line (I.Const bound least ∷ I.LessEq test bound value ∷ I.JumpZero test n ∷ I.Const bound most ∷ I.LessEq test value bound ∷ I.JumpZero test m ∷ []) in
-    let codes = code_code a b g _ _ h1 (code_code b c g _ _ h2 (code_code c d g _ _ h3 (code_code d e g _ _ h4 (code_code e f g _ _ h5 h6)))) in
+    let all : (test : ℕ) (least most : ℤ) (n m : ℕ)
+    → List Lined = λ test least most n m. own line
+    (I.Const bound least ∷ I.LessEq test bound value ∷ I.JumpZero test n ∷ I.Const bound most ∷ I.LessEq test value bound
+    ∷ I.JumpZero test m ∷ []) in
+    let codes = code_code a b g _ _ h1 (code_code b c g _ _ h2
+    (code_code c d g _ _ h3 (code_code d e g _ _ h4 (code_code e f g _ _ h5 h6)))) in
     let front = code_code a b c _ _ h1 h2 in
     let back = code_code a b f _ _ h1 (code_code b c f _ _ h2 (code_code c d f _ _ h3 (code_code d e f _ _ h4 h5))) in
     let two = own line (I.Const bound least ∷ I.LessEq test bound value ∷ []) in
-    let five : ℕ → List Lined = λ n. own line (I.Const bound least ∷ I.LessEq test bound value ∷ I.JumpZero test n ∷ I.Const bound most ∷ I.LessEq test value bound ∷ []) in
+    let five : ℕ → List Lined = λ n. own line
+    (I.Const bound least ∷ I.LessEq test bound value ∷ I.JumpZero test n ∷ I.Const bound most ∷ I.LessEq test value bound ∷ []) in
     let third : ℕ → Lined = λ n. record { line = line; instr = I.JumpZero test n } in
     let last : List Lined = own line (I.Const bound most ∷ I.LessEq test value bound ∷ I.JumpZero test 0 ∷ []) in
     let first : low ≡ length (xs ++ two) = at1 ∙ address_after a c _ front ∙ sym (length-append xs two) in
-    let second : (to : ℕ) → high ≡ length (xs ++ five to) = λ to. omega (arith, at2, address_after a f _ back, length-append xs (five to)) in
+    let second : (to : ℕ) → high ≡ length (xs ++ five to) = λ to. omega (arith, at2, address_after a f _ back, length-append xs (five to))
+    in
     let said : (n : ℕ) → all test least most n n ≡ all (bound + 1) label.low label.high n n =
     λ n. ap (λ z. all z least most n n) t ∙ ap (λ z. all (bound + 1) z most n n) is ∙ ap (λ z. all (bound + 1) label.low z n n) is2 in
     record {
-      all = record { instrs = codes.instrs ∙ ap (λ l. xs ++ l) (said 0); taken = (only_code a g _ codes).taken; next_slot = (only_code a g _ codes).next_slot; left = codes.left; whole = codes.whole };
+      all = record {
+        instrs = codes.instrs ∙ ap (λ l. xs ++ l) (said 0);
+        taken = (only_code a g _ codes).taken;
+        next_slot =
+            (only_code a g _ codes).next_slot;
+        left = codes.left;
+        whole = codes.whole;
+      };
       fills = λ to ys.
           ap (λ l. aimed (aimed (l ++ ys) low to) high to) codes.instrs
-          ∙ ap (λ l. aimed (aimed l low to) high to) (append_assoc xs (all test least most 0 0) ys ∙ sym (append_assoc xs two (third 0 ∷ (last ++ ys))))
+          ∙ ap (λ l. aimed (aimed l low to) high to)
+          (append_assoc xs (all test least most 0 0) ys ∙ sym (append_assoc xs two (third 0 ∷ (last ++ ys))))
           ∙ ap (λ n. aimed (aimed ((xs ++ two) ++ (third 0 ∷ (last ++ ys))) n to) high to) first
           ∙ ap (λ l. aimed l high to) (aim_between (xs ++ two) (third 0) (last ++ ys) to)
           ∙ ap (λ l. aimed l high to) (append_assoc xs two (third to ∷ (last ++ ys)) ∙ sym (append_assoc xs (five to) (third 0 ∷ ys)))
@@ -46,8 +65,10 @@ label_holes a b c d e f g line value bound test low high label least most t is i
 
 -- a label that is not the last: both jumps go behind the jump to the body
 pub label_done : (a b c d e : Front) (line value bound hit low high behind : ℕ) (label : Range)
-    → Holes a b (λ to xs. aimed (aimed xs low to) high to) (λ none at lo ls. own line (last_label_code value bound none label)) (λ ls. []) (λ ls. ls) → behind ≡ length b.code + 1
-    → Changes b c (λ xs. aimed xs low behind) → Changes c d (λ xs. aimed xs high behind) → Codes d e (own line (I.Jump hit ∷ [])) → Codes a e (own line (label_code value bound (length a.code) hit label))
+    → Holes a b (λ to xs. aimed (aimed xs low to) high to) (λ none at lo ls. own line (last_label_code value bound none label)) (λ ls. [])
+    (λ ls. ls) → behind ≡ length b.code + 1
+    → Changes b c (λ xs. aimed xs low behind) → Changes c d (λ xs. aimed xs high behind) → Codes d e (own line (I.Jump hit ∷ []))
+    → Codes a e (own line (label_code value bound (length a.code) hit label))
 label_done a b c d e line value bound hit low high behind label h is x y j =
     let both : Changes b d (λ xs. aimed (aimed xs low behind) high behind) = record {
       instrs = y.instrs ∙ ap (λ l. aimed l high behind) x.instrs;
@@ -68,9 +89,12 @@ label_done a b c d e line value bound hit low high behind label h is x y j =
     }
 
 -- a label, and then the others
-pub more_labels : (a b c : Front) (line value bound hit : ℕ) (aim : ℕ → List Lined → List Lined) (label : Range) (rest : List Range) → 0 < length rest → Codes a b (own line (label_code value bound (length a.code) hit label))
-    → Holes b c aim (λ none at lo ls. own line (all_labels value bound at hit none rest)) (λ ls. []) (λ ls. ls) → Holes a c aim (λ none at lo ls. own line (all_labels value bound at hit none (label ∷ rest))) (λ ls. []) (λ ls. ls)
+pub more_labels : (a b c : Front) (line value bound hit : ℕ) (aim : ℕ → List Lined → List Lined) (label : Range) (rest : List Range)
+    → 0 < length rest → Codes a b (own line (label_code value bound (length a.code) hit label))
+    → Holes b c aim (λ none at lo ls. own line (all_labels value bound at hit none rest)) (λ ls. []) (λ ls. ls)
+    → Holes a c aim (λ none at lo ls. own line (all_labels value bound at hit none (label ∷ rest))) (λ ls. []) (λ ls. ls)
 more_labels a b c line value bound hit aim label [] some h j = absurd (omega (arith, some))
 more_labels a b c line value bound hit aim label (label2 ∷ rest) some h j =
     holes_as a c _ _ _ _ _ _ _ (code_holes a b c _ _ _ aim _ h j)
-    (λ to. sym (own_two line (label_code value bound (length a.code) hit label) (labels_code value bound (length a.code + 7) hit to label2 rest))) refl refl
+    (λ to. sym (own_two line (label_code value bound (length a.code) hit label)
+    (labels_code value bound (length a.code + 7) hit to label2 rest))) refl refl

@@ -1,6 +1,7 @@
 -- What a call answered, said of the phrase that it stands for.
 use Rattle.std.proofs.Common.{zero, take, ◌-◌, ◌≤◌, length-drop}
-use Rattle.std.proofs.Common.{◌≡◌, ℕ, suc, ◌+◌, ◌<◌, List, [], ◌∷◌, length, drop, get_or, refl, sym, ap, ◌∙◌, subst, arith, drop-cons, add-one, true, false}
+use Rattle.std.proofs.Common.{◌≡◌, ℕ, suc, ◌+◌, ◌<◌, List, [], ◌∷◌, length, drop, get_or, refl, sym, ap, ◌∙◌, subst, arith, drop-cons}
+use Rattle.std.proofs.Common.{add-one, true, false}
 use Rattle.std.specs.Prelude.{◌==◌}
 use Rattle.std.proofs.lemmas.Bool.Decides.{nat_tests}
 use Rattle.std.specs.Prelude.{Bool, ⊤, Result, Ok, Err, IsOk, OnOk, IfOk}
@@ -13,13 +14,17 @@ use Rattle.alma_ir.specs.declared.phrase.Expr as E
 use Rattle.alma_ir.specs.View.{expr_of}
 use Rattle.alma_lower_templates.proofs.First.{stays_is}
 use Rattle.alma_choice.specs.Emitted.{aimed}
-use Rattle.alma_ir.specs.Tree.{Stmts, Stmt, Arms, CaseArms, Else, Branches, Test, Tests, Expr, Links, Args, Arg, Desig, Sels, Sel, no_sels, more_sels}
+use Rattle.alma_ir.specs.Tree.{Stmts, Stmt, Arms, CaseArms, Else, Branches, Test, Tests, Expr, Links, Args, Arg, Desig, Sels, Sel, no_sels}
+use Rattle.alma_ir.specs.Tree.{more_sels}
 use Rattle.alma_ir.specs.Lines.{behind, stmts_with, expr_with, desig_with, sels_with, sel_with}
 use Rattle.alma_ir.specs.Phrases.{sel_phrases}
 use Rattle.alma_lower_work.specs.declared.stand.Stand.TheVariants as stands
 use Rattle.alma_lower_work.specs.Front.{Around, Front, Codes, Takes}
-use Rattle.alma_lower_work.specs.Puts.{stays_before, PutsFirstOperand, PutsStmts, PutsStmt, PutsArms, PutsCases, PutsDeadBodies, PutsElse, PutsBranches, PutsTest, PutsGuard, PutsAnd, PutsOperands, PutsExpr, PutsValue, PutsLinks, PutsArgs, PutsArg, PutsDesig, PutsTarget, PutsSels, PutsSel, value_slot, stand_of}
-use Rattle.alma_lower_parts.proofs.ExprForms.{stay_put, made_first_put, own_value_put, own_value_slot, made_value_put, made_value_slot, own_target_put, made_target_put, own_stand_of, made_stand_of}
+use Rattle.alma_lower_work.specs.Puts.{stays_before, PutsFirstOperand, PutsStmts, PutsStmt, PutsArms, PutsCases, PutsDeadBodies, PutsElse}
+use Rattle.alma_lower_work.specs.Puts.{PutsBranches, PutsTest, PutsGuard, PutsAnd, PutsOperands, PutsExpr, PutsValue, PutsLinks, PutsArgs}
+use Rattle.alma_lower_work.specs.Puts.{PutsArg, PutsDesig, PutsTarget, PutsSels, PutsSel, value_slot, stand_of}
+use Rattle.alma_lower_parts.proofs.ExprForms.{stay_put, made_first_put, own_value_put, own_value_slot, made_value_put, made_value_slot}
+use Rattle.alma_lower_parts.proofs.ExprForms.{own_target_put, made_target_put, own_stand_of, made_stand_of}
 use Rattle.alma_lower_work.proofs.DesigForms.{parts_on}
 use Rattle.alma_lower_parts.proofs.With.{no_bare}
 use Rattle.alma_lower_parts.specs.Cases.{PutsAllArms, PutsArmOf}
@@ -68,34 +73,42 @@ pub from_said : {A E : Type 0} (r : Result A E) {P Q R : Type 0} → IsOk r → 
 from_said r ok h j f = f (said r ok h) (said r ok j)
 
 -- of a call whose result is handed on unopened, and of its value
-pub through : {A B E : Type 0} (r : Result A E) (q : Result B E) {P : A → Type 0} {R : A → B → Type 0} {S : B → Type 0} → IfOk r P → OnOk q (IsOk r) → IfOk q (λ y. IfOk r (λ x. R x y)) → ((x : A) (y : B) → P x → R x y → S y) → IfOk q S
+pub through : {A B E : Type 0} (r : Result A E) (q : Result B E) {P : A → Type 0} {R : A → B → Type 0} {S : B → Type 0} → IfOk r P
+    → OnOk q (IsOk r) → IfOk q (λ y. IfOk r (λ x. R x y)) → ((x : A) (y : B) → P x → R x y → S y) → IfOk q S
 through (Ok x) (Ok y) h ok j f = f x y h j
 through {A = A} (Err e) (Ok y) h ok j f = said {A = A} (Err e) ok h
 through (Ok x) (Err d) h ok j f = j
 through (Err e) (Err d) h ok j f = j
 
-pub with_value : {A B E : Type 0} (r : Result A E) (q : Result B E) {P R : A → Type 0} {S : Type 0} → IfOk r P → OnOk q (IsOk r) → IfOk r (λ x. OnOk q (R x)) → ((x : A) → P x → R x → S) → OnOk q S
+pub with_value : {A B E : Type 0} (r : Result A E) (q : Result B E) {P R : A → Type 0} {S : Type 0} → IfOk r P → OnOk q (IsOk r)
+    → IfOk r (λ x. OnOk q (R x)) → ((x : A) → P x → R x → S) → OnOk q S
 with_value (Ok x) (Ok y) h ok j f = f x h j
 with_value {A = A} (Err e) (Ok y) h ok j f = said {A = A} (Err e) ok h
 with_value (Ok x) (Err d) h ok j f = ok
 with_value (Err e) (Err d) h ok j f = ok
 
-pub stmt_as : {A E : Type 0} (r : Result A E) (s : Around) (line : ℕ) (a b : Front) (x y : Stmt) → y ≡ x → OnOk r (PutsStmt s line a b x) → OnOk r (PutsStmt s line a b y)
+pub stmt_as : {A E : Type 0} (r : Result A E) (s : Around) (line : ℕ) (a b : Front) (x y : Stmt) → y ≡ x → OnOk r (PutsStmt s line a b x)
+    → OnOk r (PutsStmt s line a b y)
 stmt_as r s line a b x y e h = subst (λ z. OnOk r (PutsStmt s line a b z)) (sym e) h
 
-pub test_as : {A E : Type 0} (r : Result A E) (s : Around) (line : ℕ) (a b : Front) (x y : Test) → y ≡ x → OnOk r (PutsTest s line a b x) → OnOk r (PutsTest s line a b y)
+pub test_as : {A E : Type 0} (r : Result A E) (s : Around) (line : ℕ) (a b : Front) (x y : Test) → y ≡ x → OnOk r (PutsTest s line a b x)
+    → OnOk r (PutsTest s line a b y)
 test_as r s line a b x y e h = subst (λ z. OnOk r (PutsTest s line a b z)) (sym e) h
 
-pub expr_as : {A E : Type 0} (r : Result A E) (s : Around) (line : ℕ) (a b : Front) (x y : Expr) → y ≡ x → OnOk r (PutsExpr s line a b x) → OnOk r (PutsExpr s line a b y)
+pub expr_as : {A E : Type 0} (r : Result A E) (s : Around) (line : ℕ) (a b : Front) (x y : Expr) → y ≡ x → OnOk r (PutsExpr s line a b x)
+    → OnOk r (PutsExpr s line a b y)
 expr_as r s line a b x y e h = subst (λ z. OnOk r (PutsExpr s line a b z)) (sym e) h
 
-pub arg_as : {A E : Type 0} (r : Result A E) (s : Around) (line to : ℕ) (a b : Front) (x y : Arg) → y ≡ x → OnOk r (PutsArg s line to a b x) → OnOk r (PutsArg s line to a b y)
+pub arg_as : {A E : Type 0} (r : Result A E) (s : Around) (line to : ℕ) (a b : Front) (x y : Arg) → y ≡ x → OnOk r (PutsArg s line to a b x)
+    → OnOk r (PutsArg s line to a b y)
 arg_as r s line to a b x y e h = subst (λ z. OnOk r (PutsArg s line to a b z)) (sym e) h
 
-pub sel_as : {A E : Type 0} (r : Result A E) (s : Around) (line from : ℕ) (a b : Front) (x y : Sel) → y ≡ x → OnOk r (PutsSel s line from a b x) → OnOk r (PutsSel s line from a b y)
+pub sel_as : {A E : Type 0} (r : Result A E) (s : Around) (line from : ℕ) (a b : Front) (x y : Sel) → y ≡ x
+    → OnOk r (PutsSel s line from a b x) → OnOk r (PutsSel s line from a b y)
 sel_as r s line from a b x y e h = subst (λ z. OnOk r (PutsSel s line from a b z)) (sym e) h
 
-pub else_as : {A E : Type 0} (r : Result A E) (s : Around) (line : ℕ) (a b : Front) (x y : Else) → y ≡ x → OnOk r (PutsElse s line a b x) → OnOk r (PutsElse s line a b y)
+pub else_as : {A E : Type 0} (r : Result A E) (s : Around) (line : ℕ) (a b : Front) (x y : Else) → y ≡ x → OnOk r (PutsElse s line a b x)
+    → OnOk r (PutsElse s line a b y)
 else_as r s line a b x y e h = subst (λ z. OnOk r (PutsElse s line a b z)) (sym e) h
 
 module _ (s : Around) (line : ℕ) where
@@ -108,7 +121,8 @@ module _ (s : Around) (line : ℕ) where
   pub expr_is : (a b : Front) (x y : Expr) → x ≡ y → PutsExpr s line a b x → PutsExpr s line a b y
   expr_is a b x y e h = subst (λ z. PutsExpr s line a b z) e h
 
-  pub guard_is : (a b : Front) (jump given : ℕ) (t : Test) → given ≡ jump → PutsGuard s line a b (λ to xs. aimed xs jump to) t → PutsGuard s line a b (λ to xs. aimed xs given to) t
+  pub guard_is : (a b : Front) (jump given : ℕ) (t : Test) → given ≡ jump → PutsGuard s line a b (λ to xs. aimed xs jump to) t
+      → PutsGuard s line a b (λ to xs. aimed xs given to) t
   guard_is a b jump given t e h = subst (λ x. PutsGuard s line a b (λ to xs. aimed xs x to) t) (sym e) h
 
   pub args_is : (to : ℕ) (a b : Front) (x y : Args) → x ≡ y → PutsArgs s line to a b x → PutsArgs s line to a b y
@@ -138,17 +152,21 @@ module _ (s : Around) (line : ℕ) where
   pub tests_is : (a b : Front) (x y : Tests) → x ≡ y → PutsAnd s line a b x → PutsAnd s line a b y
   tests_is a b x y e h = subst (λ z. PutsAnd s line a b z) e h
 
-  pub cases_is : (value bound exit : ℕ) (a b : Front) (x y : CaseArms) → x ≡ y → PutsCases s line value bound exit a b x → PutsCases s line value bound exit a b y
+  pub cases_is : (value bound exit : ℕ) (a b : Front) (x y : CaseArms) → x ≡ y → PutsCases s line value bound exit a b x
+      → PutsCases s line value bound exit a b y
   cases_is value bound exit a b x y e h = subst (λ z. PutsCases s line value bound exit a b z) e h
 
   pub bodies_is : (a b : Front) (x y : CaseArms) → x ≡ y → PutsDeadBodies s a b x → PutsDeadBodies s a b y
   bodies_is a b x y e h = subst (λ z. PutsDeadBodies s a b z) e h
 
-  pub all_is : (value bound : ℕ) (a b : Front) (x y : CaseArms) (rest : Else) → x ≡ y → PutsAllArms s line value bound a b x rest → PutsAllArms s line value bound a b y rest
+  pub all_is : (value bound : ℕ) (a b : Front) (x y : CaseArms) (rest : Else) → x ≡ y → PutsAllArms s line value bound a b x rest
+      → PutsAllArms s line value bound a b y rest
   all_is value bound a b x y rest e h = subst (λ z. PutsAllArms s line value bound a b z rest) e h
 
-  pub arm_is : (value bound : ℕ) (a b : Front) (x y : List Range) (u w : Stmts) → x ≡ y → u ≡ w → PutsArmOf s line value bound a b x u → PutsArmOf s line value bound a b y w
-  arm_is value bound a b x y u w e d h = subst (λ z. PutsArmOf s line value bound a b y z) d (subst (λ z. PutsArmOf s line value bound a b z u) e h)
+  pub arm_is : (value bound : ℕ) (a b : Front) (x y : List Range) (u w : Stmts) → x ≡ y → u ≡ w → PutsArmOf s line value bound a b x u
+      → PutsArmOf s line value bound a b y w
+  arm_is value bound a b x y u w e d h = subst (λ z. PutsArmOf s line value bound a b y z) d
+      (subst (λ z. PutsArmOf s line value bound a b z u) e h)
 
   -- the slot behind, as it was counted
   pub args_at : (a b : Front) (to slot : ℕ) (x : Args) → slot ≡ to + 1 → PutsArgs s line slot a b x → PutsArgs s line (to + 1) a b x
@@ -156,76 +174,98 @@ module _ (s : Around) (line : ℕ) where
 
   -- ---- variables in their own slots
 
-  pub own_target : (a : Front) (d : Desig) (slot : ℕ) → Some slot ≡ option_map (T.own_slot s.program s.tables s.routine) (bare_desig d) → PutsTarget s line a a d
+  pub own_target : (a : Front) (d : Desig) (slot : ℕ) → Some slot ≡ option_map (T.own_slot s.program s.tables s.routine) (bare_desig d)
+      → PutsTarget s line a a d
   own_target a d slot h = by (bare_desig d) refl h
     where
       by : (o : Option ℕ) → bare_desig d ≡ o → Some slot ≡ option_map (T.own_slot s.program s.tables s.routine) o → PutsTarget s line a a d
       by (Some from) e h = own_target_put s line a d from e
       by None e h = absurd (cc)
 
-  pub own_stands : (lo : ℕ) (ls : List ℕ) (d : Desig) (slot : ℕ) → Some slot ≡ option_map (T.own_slot s.program s.tables s.routine) (bare_desig d) → stands.Own slot ≡ stand_of s lo (desig_with d ls)
+  pub own_stands : (lo : ℕ) (ls : List ℕ) (d : Desig) (slot : ℕ)
+      → Some slot ≡ option_map (T.own_slot s.program s.tables s.routine) (bare_desig d) → stands.Own slot ≡ stand_of s lo (desig_with d ls)
   own_stands lo ls d slot h = by (bare_desig d) refl h
     where
-      by : (o : Option ℕ) → bare_desig d ≡ o → Some slot ≡ option_map (T.own_slot s.program s.tables s.routine) o → stands.Own slot ≡ stand_of s lo (desig_with d ls)
-      by (Some from) e h = let is : slot ≡ T.own_slot s.program s.tables s.routine from = cc in ap stands.Own is ∙ sym (own_stand_of s line lo ls d from e)
+      by : (o : Option ℕ) → bare_desig d ≡ o → Some slot ≡ option_map (T.own_slot s.program s.tables s.routine) o
+          → stands.Own slot ≡ stand_of s lo (desig_with d ls)
+      by (Some from) e h = let is : slot ≡ T.own_slot s.program s.tables s.routine from = cc in ap stands.Own is
+          ∙ sym (own_stand_of s line lo ls d from e)
       by None e h = absurd (cc)
 
-  pub made_target : (a b : Front) (d : Desig) → None ≡ option_map (T.own_slot s.program s.tables s.routine) (bare_desig d) → PutsDesig s line a b d → PutsTarget s line a b d
+  pub made_target : (a b : Front) (d : Desig) → None ≡ option_map (T.own_slot s.program s.tables s.routine) (bare_desig d)
+      → PutsDesig s line a b d → PutsTarget s line a b d
   made_target a b d h j = made_target_put s line a b d (no_bare (T.own_slot s.program s.tables s.routine) (bare_desig d) h) j
 
-  pub made_stands : (lo : ℕ) (ls : List ℕ) (d : Desig) (place : ℕ) → None ≡ option_map (T.own_slot s.program s.tables s.routine) (bare_desig d) → place ≡ T.place_at s.program s.tables s.routine lo (desig_with d ls)
+  pub made_stands : (lo : ℕ) (ls : List ℕ) (d : Desig) (place : ℕ)
+      → None ≡ option_map (T.own_slot s.program s.tables s.routine) (bare_desig d)
+      → place ≡ T.place_at s.program s.tables s.routine lo (desig_with d ls)
       → stands.Placed place ≡ stand_of s lo (desig_with d ls)
-  made_stands lo ls d place h is = ap stands.Placed is ∙ sym (made_stand_of s line lo ls d (no_bare (T.own_slot s.program s.tables s.routine) (bare_desig d) h))
+  made_stands lo ls d place h is = ap stands.Placed is
+      ∙ sym (made_stand_of s line lo ls d (no_bare (T.own_slot s.program s.tables s.routine) (bare_desig d) h))
 
-  pub own_value : (a : Front) (e : Expr) (slot : ℕ) → Some slot ≡ option_map (T.own_slot s.program s.tables s.routine) (bare e) → PutsValue s line a a e
+  pub own_value : (a : Front) (e : Expr) (slot : ℕ) → Some slot ≡ option_map (T.own_slot s.program s.tables s.routine) (bare e)
+      → PutsValue s line a a e
   own_value a e slot h = by (bare e) refl h
     where
       by : (o : Option ℕ) → bare e ≡ o → Some slot ≡ option_map (T.own_slot s.program s.tables s.routine) o → PutsValue s line a a e
       by (Some from) d h = own_value_put s line a e from d
       by None d h = absurd (cc)
 
-  pub own_at : (lo : ℕ) (ls : List ℕ) (e : Expr) (slot : ℕ) → Some slot ≡ option_map (T.own_slot s.program s.tables s.routine) (bare e) → slot ≡ value_slot s lo (expr_with e ls)
+  pub own_at : (lo : ℕ) (ls : List ℕ) (e : Expr) (slot : ℕ) → Some slot ≡ option_map (T.own_slot s.program s.tables s.routine) (bare e)
+      → slot ≡ value_slot s lo (expr_with e ls)
   own_at lo ls e slot h = by (bare e) refl h
     where
-      by : (o : Option ℕ) → bare e ≡ o → Some slot ≡ option_map (T.own_slot s.program s.tables s.routine) o → slot ≡ value_slot s lo (expr_with e ls)
-      by (Some from) d h = let is : slot ≡ T.own_slot s.program s.tables s.routine from = cc in is ∙ sym (own_value_slot s line lo ls e from d)
+      by : (o : Option ℕ) → bare e ≡ o → Some slot ≡ option_map (T.own_slot s.program s.tables s.routine) o
+          → slot ≡ value_slot s lo (expr_with e ls)
+      by (Some from) d h = let is : slot ≡ T.own_slot s.program s.tables s.routine from = cc in is
+          ∙ sym (own_value_slot s line lo ls e from d)
       by None d h = absurd (cc)
 
-  pub made_value : (a b : Front) (e : Expr) → None ≡ option_map (T.own_slot s.program s.tables s.routine) (bare e) → PutsExpr s line a b e → PutsValue s line a b e
+  pub made_value : (a b : Front) (e : Expr) → None ≡ option_map (T.own_slot s.program s.tables s.routine) (bare e) → PutsExpr s line a b e
+      → PutsValue s line a b e
   made_value a b e h j = made_value_put s line a b e (no_bare (T.own_slot s.program s.tables s.routine) (bare e) h) j
 
-  pub made_at : (lo : ℕ) (ls : List ℕ) (e : Expr) (slot : ℕ) → None ≡ option_map (T.own_slot s.program s.tables s.routine) (bare e) → slot ≡ lo → slot ≡ value_slot s lo (expr_with e ls)
+  pub made_at : (lo : ℕ) (ls : List ℕ) (e : Expr) (slot : ℕ) → None ≡ option_map (T.own_slot s.program s.tables s.routine) (bare e)
+      → slot ≡ lo → slot ≡ value_slot s lo (expr_with e ls)
   made_at lo ls e slot h is = is ∙ sym (made_value_slot s line lo ls e (no_bare (T.own_slot s.program s.tables s.routine) (bare e) h))
 
   -- ---- first operands
 
   -- one that stays, said of the slot of the routine and of that of the code
-  pub stays_at : (lo : ℕ) (o : Option ℕ) (slot : ℕ) → Some slot ≡ option_map (T.own_slot s.program s.tables s.routine) o → slot ≡ T.slot_or s.program s.tables s.routine o lo
+  pub stays_at : (lo : ℕ) (o : Option ℕ) (slot : ℕ) → Some slot ≡ option_map (T.own_slot s.program s.tables s.routine) o
+      → slot ≡ T.slot_or s.program s.tables s.routine o lo
   stays_at lo (Some from) slot h = cc
   stays_at lo None slot h = absurd (cc)
 
-  pub stays_there : (a b : Front) (e : Expr) (next : Option (Bor E.Expr)) (slot : ℕ) → Some slot ≡ option_map (T.own_slot s.program s.tables s.routine) (stays_before e next) → Takes a b kinds.Number → PutsFirstOperand s line a b (stays_before e next) e
+  pub stays_there : (a b : Front) (e : Expr) (next : Option (Bor E.Expr)) (slot : ℕ)
+      → Some slot ≡ option_map (T.own_slot s.program s.tables s.routine) (stays_before e next) → Takes a b kinds.Number
+      → PutsFirstOperand s line a b (stays_before e next) e
   stays_there a b e next slot h j = by (stays_before e next) refl h
     where
       of_bare : (next : Option (Bor E.Expr)) (from : ℕ) → stays_before e next ≡ Some from → bare e ≡ Some from
       of_bare (Some y) from is = (stays_is e (expr_of y.now) from is).first
       of_bare None from is = absurd (cc)
 
-      by : (o : Option ℕ) → stays_before e next ≡ o → Some slot ≡ option_map (T.own_slot s.program s.tables s.routine) o → PutsFirstOperand s line a b (stays_before e next) e
+      by : (o : Option ℕ) → stays_before e next ≡ o → Some slot ≡ option_map (T.own_slot s.program s.tables s.routine) o
+          → PutsFirstOperand s line a b (stays_before e next) e
       by (Some from) is h = stay_put s line a b e (stays_before e next) from is (of_bare next from is) j
       by None is h = absurd (cc)
 
-  pub put_there : (a b : Front) (e : Expr) (o : Option ℕ) → None ≡ option_map (T.own_slot s.program s.tables s.routine) o → PutsExpr s line a b e → PutsFirstOperand s line a b o e
+  pub put_there : (a b : Front) (e : Expr) (o : Option ℕ) → None ≡ option_map (T.own_slot s.program s.tables s.routine) o
+      → PutsExpr s line a b e → PutsFirstOperand s line a b o e
   put_there a b e o h j = made_first_put s line a b e o (no_bare (T.own_slot s.program s.tables s.routine) o h) j
 
-  pub put_slot : (lo : ℕ) (o : Option ℕ) (slot : ℕ) → None ≡ option_map (T.own_slot s.program s.tables s.routine) o → slot ≡ lo → slot ≡ T.slot_or s.program s.tables s.routine o lo
-  put_slot lo o slot h is = is ∙ sym (ap (λ o. T.slot_or s.program s.tables s.routine o lo) (no_bare (T.own_slot s.program s.tables s.routine) o h))
+  pub put_slot : (lo : ℕ) (o : Option ℕ) (slot : ℕ) → None ≡ option_map (T.own_slot s.program s.tables s.routine) o → slot ≡ lo
+      → slot ≡ T.slot_or s.program s.tables s.routine o lo
+  put_slot lo o slot h is = is ∙ sym (ap (λ o. T.slot_or s.program s.tables s.routine o lo)
+      (no_bare (T.own_slot s.program s.tables s.routine) o h))
 
   -- the same operand, said of the operators behind it
   pub first_is : (a b : Front) (e : Expr) (o o2 : Option ℕ) → o ≡ o2 → PutsFirstOperand s line a b o e → PutsFirstOperand s line a b o2 e
   first_is a b e o o2 h j = subst (λ z. PutsFirstOperand s line a b z e) h j
 
-  pub first_at : (lo slot : ℕ) (o o2 : Option ℕ) → o ≡ o2 → slot ≡ T.slot_or s.program s.tables s.routine o lo → slot ≡ T.slot_or s.program s.tables s.routine o2 lo
+  pub first_at : (lo slot : ℕ) (o o2 : Option ℕ) → o ≡ o2 → slot ≡ T.slot_or s.program s.tables s.routine o lo
+      → slot ≡ T.slot_or s.program s.tables s.routine o2 lo
   first_at lo slot o o2 h is = is ∙ ap (λ z. T.slot_or s.program s.tables s.routine z lo) h
 
   -- ---- selectors
@@ -234,11 +274,14 @@ module _ (s : Around) (line : ℕ) where
   unfolding stmts_with
   no_parts from lo ls = refl
 
-  pub part_step : (a b : Front) (from part : ℕ) (x : Sel) (rest : Sels) → PutsSel s line from a b x → part ≡ T.part_slot s.program s.tables s.routine a.next (sel_with x a.lines)
-      → T.part_at s.program s.tables s.routine from a.next (sels_with (more_sels x rest) a.lines) ≡ T.part_at s.program s.tables s.routine part b.next (sels_with rest b.lines)
+  pub part_step : (a b : Front) (from part : ℕ) (x : Sel) (rest : Sels) → PutsSel s line from a b x
+      → part ≡ T.part_slot s.program s.tables s.routine a.next (sel_with x a.lines)
+      → T.part_at s.program s.tables s.routine from a.next (sels_with (more_sels x rest) a.lines) ≡ T.part_at s.program s.tables s.routine
+      part b.next (sels_with rest b.lines)
   part_step a b from part x rest h is =
       let at : (part lo : ℕ) → List ℕ → ℕ = λ part lo ls. T.part_at s.program s.tables s.routine part lo (sels_with rest ls) in
-      parts_on s line from a.next a.lines x rest ∙ ap (λ n. at n (a.next + length (sel_slots s.program s.routine (sel_with x a.lines))) (behind (sel_phrases x) a.lines)) (sym is)
+      parts_on s line from a.next a.lines x rest
+      ∙ ap (λ n. at n (a.next + length (sel_slots s.program s.routine (sel_with x a.lines))) (behind (sel_phrases x) a.lines)) (sym is)
       ∙ ap (λ n. at part n (behind (sel_phrases x) a.lines)) (sym h.all.next_slot) ∙ ap (at part b.next) (sym h.all.left)
 
 -- an instruction, said in another way

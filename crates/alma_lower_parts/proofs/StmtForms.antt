@@ -1,5 +1,6 @@
 -- What each form of statement adds that has no condition, no count and no labels.
-use Rattle.std.proofs.Common.{◌≡◌, ℕ, ◌+◌, ◌<◌, Bool, true, false, List, [], ◌∷◌, ◌++◌, length, drop, get_or, Some, None, refl, sym, ap, ◌∙◌, arith, append_assoc, length-append}
+use Rattle.std.proofs.Common.{◌≡◌, ℕ, ◌+◌, ◌<◌, Bool, true, false, List, [], ◌∷◌, ◌++◌, length, drop, get_or, Some, None, refl, sym, ap}
+use Rattle.std.proofs.Common.{◌∙◌, arith, append_assoc, length-append}
 use Rattle.std.specs.Prelude.{Option, option_map, not, ◌&&◌}
 use Rattle.std.proofs.lemmas.List.{append-nil}
 use Rattle.alma_base.specs.declared.number.Range.{Range}
@@ -9,20 +10,27 @@ use Rattle.alma_code.specs.declared.instr.Instr.TheVariants as I
 use Rattle.alma_choice.specs.Emitted.{aimed}
 use Rattle.alma_ir.specs.declared.phrase.ReadAs.{ReadAs}
 use Rattle.alma_ir.specs.declared.phrase.WriteAs.{WriteAs}
-use Rattle.alma_ir.specs.Tree.{Stmts, Stmt, Branches, Test, Expr, Desig, no_stmts, more_stmts, TestStmt, Assign, CopyCells, If, While, Repeat, ForTo, SomeOf, Case, Either, Forall, Commit, Return, Read, WriteExpr, WriteText, WriteLine, no_branches, more_branches, no_result, some_result, Const, Load, Chain, Compare, Truth, Known, Chr, CallExpr, no_links, more_links}
+use Rattle.alma_ir.specs.Tree.{Stmts, Stmt, Branches, Test, Expr, Desig, no_stmts, more_stmts, TestStmt, Assign, CopyCells, If, While}
+use Rattle.alma_ir.specs.Tree.{Repeat, ForTo, SomeOf, Case, Either, Forall, Commit, Return, Read, WriteExpr, WriteText, WriteLine}
+use Rattle.alma_ir.specs.Tree.{no_branches, more_branches, no_result, some_result, Const, Load, Chain, Compare, Truth, Known, Chr, CallExpr}
+use Rattle.alma_ir.specs.Tree.{no_links, more_links}
 use Rattle.alma_ir.specs.Phrases.{StmtPhrase, stmts_phrases, stmt_phrases, branches_phrases, expr_phrases, desig_phrases}
 use Rattle.alma_ir.specs.Lines.{stmt_count, behind, stmts_with, stmt_with, branches_with, expr_with, desig_with}
 use Rattle.alma_ir.proofs.LinesBack.{behind_two, drop_two}
 use Rattle.alma_lower_work.specs.declared.stand.Stand.{Stand}
 use Rattle.alma_lower_work.specs.Front.{Around, Front, Adds, Codes, Takes, Changes, Holes, EndsEach, EndsForall, result_of}
-use Rattle.alma_lower_work.specs.Puts.{PutsValue, PutsDesig, PutsTarget, PutsTest, PutsStmts, PutsStmt, PutsBranches, PutsChosen, value_slot, stand_of, stand_by, set_instr, inside}
-use Rattle.alma_lower_work.proofs.Joins.{nothing, then_adds, adds_as, code_code, code_adds, adds_code, only_code, slot_adds, filled, over, own_two, address_behind}
+use Rattle.alma_lower_work.specs.Puts.{PutsValue, PutsDesig, PutsTarget, PutsTest, PutsStmts, PutsStmt, PutsBranches, PutsChosen}
+use Rattle.alma_lower_work.specs.Puts.{value_slot, stand_of, stand_by, set_instr, inside}
+use Rattle.alma_lower_work.proofs.Joins.{nothing, then_adds, adds_as, code_code, code_adds, adds_code, only_code, slot_adds, filled, over}
+use Rattle.alma_lower_work.proofs.Joins.{own_two, address_behind}
 use Rattle.alma_lower_parts.proofs.With.{no_bare, straight_with}
 use Rattle.alma_lower_parts.proofs.TestForms.{two_places}
 use Rattle.alma_lower_templates.specs.Lined.{Lined, own, in_row}
 use Rattle.alma_lower_templates.specs.Tables.{range_number, text_number, is_whole}
-use Rattle.alma_lower_templates.specs.Slots.{bare, bare_desig, is_given, ends_alone, straight_by, goes_straight, own_place, stays_in, unless_bare, stmts_slots, stmt_slots, desig_slots}
-use Rattle.alma_lower_templates.specs.Pieces.{straight, neg_code, fit_code, write_code, read_code, begin_forall, begin_each, end_each, each_body, chosen}
+use Rattle.alma_lower_templates.specs.Slots.{bare, bare_desig, is_given, ends_alone, straight_by, goes_straight, own_place, stays_in}
+use Rattle.alma_lower_templates.specs.Slots.{unless_bare, stmts_slots, stmt_slots, desig_slots}
+use Rattle.alma_lower_templates.specs.Pieces.{straight, neg_code, fit_code, write_code, read_code, begin_forall, begin_each, end_each}
+use Rattle.alma_lower_templates.specs.Pieces.{each_body, chosen}
 use Rattle.alma_lower_templates.proofs.Straight.{straight_behind}
 use Rattle.alma_lower_templates.specs.Templates as T
 
@@ -58,24 +66,33 @@ module _ (s : Around) where
   no_stmts_put a = record { all = adds_as a a _ _ _ _ _ _ (nothing a) refl refl refl }
 
   -- a statement at the next line, and then the others
-  pub stmts_put : (a b c d : Front) (line : ℕ) (x : Stmt) (rest : Stmts) → line ≡ get_or a.lines 0 0 → b.code ≡ a.code → b.kinds ≡ a.kinds → b.next ≡ a.next → b.lines ≡ drop 1 a.lines → b.all_lines ≡ a.all_lines
+  pub stmts_put : (a b c d : Front) (line : ℕ) (x : Stmt) (rest : Stmts) → line ≡ get_or a.lines 0 0 → b.code ≡ a.code → b.kinds ≡ a.kinds
+      → b.next ≡ a.next → b.lines ≡ drop 1 a.lines → b.all_lines ≡ a.all_lines
       → PutsStmt s line b c x → PutsStmts s c d rest → PutsStmts s a d (more_stmts 0 x rest)
   unfolding stmts_with stmts_phrases
   stmts_put a b c d line x rest is code kinds next lines whole h j =
       let ls = a.lines in
       let y = stmt_with x (drop 1 ls) in
       let f : ℕ → ℕ → ℕ → List ℕ → List Lined = λ n at lo ms. T.stmt_code s.program s.tables s.routine n at lo (stmt_with x ms) in
-      let mine : Adds a c (λ at lo ls. f line at lo (drop 1 ls)) (λ ls. stmt_slots s.program s.routine (stmt_with x (drop 1 ls))) (λ ls. behind (inside x) (drop 1 ls)) = record {
-        instrs = h.all.instrs ∙ ap (λ z. z ++ f line (length b.code) b.next b.lines) code ∙ ap (λ z. a.code ++ f line (length z) b.next b.lines) code
+      let mine : Adds a c (λ at lo ls. f line at lo (drop 1 ls)) (λ ls. stmt_slots s.program s.routine (stmt_with x (drop 1 ls)))
+      (λ ls. behind (inside x) (drop 1 ls)) = record {
+        instrs = h.all.instrs ∙ ap (λ z. z ++ f line (length b.code) b.next b.lines) code
+            ∙ ap (λ z. a.code ++ f line (length z) b.next b.lines) code
             ∙ ap (λ n. a.code ++ f line (length a.code) n b.lines) next ∙ ap (λ n. a.code ++ f line (length a.code) a.next n) lines;
-        taken = h.all.taken ∙ ap (λ z. z ++ stmt_slots s.program s.routine (stmt_with x b.lines)) kinds ∙ ap (λ n. a.kinds ++ stmt_slots s.program s.routine (stmt_with x n)) lines;
-        next_slot = h.all.next_slot ∙ ap (λ n. n + length (stmt_slots s.program s.routine (stmt_with x b.lines))) next ∙ ap (λ n. a.next + length (stmt_slots s.program s.routine (stmt_with x n))) lines;
+        taken = h.all.taken ∙ ap (λ z. z ++ stmt_slots s.program s.routine (stmt_with x b.lines)) kinds
+            ∙ ap (λ n. a.kinds ++ stmt_slots s.program s.routine (stmt_with x n)) lines;
+        next_slot = h.all.next_slot ∙ ap (λ n. n + length (stmt_slots s.program s.routine (stmt_with x b.lines))) next
+            ∙ ap (λ n. a.next + length (stmt_slots s.program s.routine (stmt_with x n))) lines;
         left = h.all.left ∙ ap (behind (inside x)) lines;
         whole = h.all.whole ∙ whole;
       } in
-      let own_line : Adds a c (λ at lo ls. f (get_or ls 0 0) at lo (drop 1 ls)) (λ ls. stmt_slots s.program s.routine (stmt_with x (drop 1 ls))) (behind (stmt_phrases x)) =
+      let own_line : Adds a c (λ at lo ls. f (get_or ls 0 0) at lo (drop 1 ls))
+      (λ ls. stmt_slots s.program s.routine (stmt_with x (drop 1 ls))) (behind (stmt_phrases x)) =
       adds_as a c _ _ _ _ _ _ mine (ap (λ n. f n (length a.code) a.next (drop 1 ls)) is) refl (behind_inside x ls) in
-      record { all = adds_as a d _ _ _ _ _ _ (then_adds a c d _ _ _ _ _ _ own_line j.all) refl refl (sym (behind_two (stmt_phrases x) (stmts_phrases rest) ls)) }
+      record {
+        all = adds_as a d _ _ _ _ _ _ (then_adds a c d _ _ _ _ _ _ own_line j.all) refl refl
+            (sym (behind_two (stmt_phrases x) (stmts_phrases rest) ls));
+      }
 
 -- ---- values that go straight into a variable
 
@@ -125,7 +142,8 @@ module _ (s : Around) where
   has_code line at lo (CallExpr q args up) h = absurd (cc)
 
 module _ (s : Around) (line : ℕ) where
-  set_by : (o : Option ℕ) (lo value : ℕ) (d : Desig) → set_instr (stand_by s o (T.place_at s.program s.tables s.routine lo d)) value ≡ T.set_by s.program s.tables s.routine o lo value d
+  set_by : (o : Option ℕ) (lo value : ℕ) (d : Desig)
+      → set_instr (stand_by s o (T.place_at s.program s.tables s.routine lo d)) value ≡ T.set_by s.program s.tables s.routine o lo value d
   set_by (Some to) lo value d = refl
   set_by None lo value d = refl
 
@@ -148,14 +166,17 @@ module _ (s : Around) (line : ℕ) where
       let ls = behind (desig_phrases x) a.lines in
       let lo = a.next + length (unless_bare (bare_desig u) (desig_slots s.program s.routine u)) in
       let v = expr_with y ls in
-      let there : value ≡ value_slot s lo v = is2 ∙ ap (λ n. value_slot s n (expr_with y b.lines)) h.all.next_slot ∙ ap (λ n. value_slot s lo (expr_with y n)) h.all.left in
+      let there : value ≡ value_slot s lo v = is2 ∙ ap (λ n. value_slot s n (expr_with y b.lines)) h.all.next_slot
+      ∙ ap (λ n. value_slot s lo (expr_with y n)) h.all.left in
       let both = assigned_code s line (length a.code) a.next lo u v in
       let set : List Instr =
       fit_code s.tables range (value_slot s lo v) ++ (T.set_code s.program s.tables s.routine a.next (value_slot s lo v) u ∷ []) in
       record {
         all = adds_as a e _ _ _ _ _ _ (adds_code a c e _ _ _ _ (then_adds a b c _ _ _ _ _ _ h.all j.all) (code_code c d e _ _ k l))
-            (ap (λ i. both ++ (own line (fit_code s.tables range value) ++ own line (i ∷ []))) (ap (λ n. set_instr n value) is ∙ set_is a.next value u)
-            ∙ ap (λ l. both ++ l) (sym (own_two line (fit_code s.tables range value) (T.set_code s.program s.tables s.routine a.next value u ∷ [])))
+            (ap (λ i. both ++ (own line (fit_code s.tables range value) ++ own line (i ∷ [])))
+            (ap (λ n. set_instr n value) is ∙ set_is a.next value u)
+            ∙ ap (λ l. both ++ l) (sym
+            (own_two line (fit_code s.tables range value) (T.set_code s.program s.tables s.routine a.next value u ∷ [])))
             ∙ ap (λ n. both ++ own line (fit_code s.tables range n ++ (T.set_code s.program s.tables s.routine a.next n u ∷ []))) there
             ∙ ap (λ o. T.set_to s.program s.tables s.routine o line both set)
             (sym (straight_with x y range a.lines ls
@@ -202,12 +223,16 @@ module _ (s : Around) (line : ℕ) where
       by (Some from) e is = put from e cc
       by None e is = absurd (cc)
 
-  pub copy_put : (a b c d : Front) (x y : Desig) (place place2 : ℕ) → PutsDesig s line a b x → place ≡ T.place_at s.program s.tables s.routine a.next (desig_with x a.lines)
-      → PutsDesig s line b c y → place2 ≡ T.place_at s.program s.tables s.routine b.next (desig_with y b.lines) → Codes c d (own line (I.CopyCells place place2 ∷ [])) → PutsStmt s line a d (CopyCells x y)
+  pub copy_put : (a b c d : Front) (x y : Desig) (place place2 : ℕ) → PutsDesig s line a b x
+      → place ≡ T.place_at s.program s.tables s.routine a.next (desig_with x a.lines)
+      → PutsDesig s line b c y → place2 ≡ T.place_at s.program s.tables s.routine b.next (desig_with y b.lines)
+      → Codes c d (own line (I.CopyCells place place2 ∷ [])) → PutsStmt s line a d (CopyCells x y)
   unfolding stmts_with stmts_phrases
-  copy_put a b c d x y place place2 h is j is2 k = record { all = two_places s line a b c d x y place place2 (λ m n. I.CopyCells m n) h is j is2 k }
+  copy_put a b c d x y place place2 h is j is2 k =
+      record { all = two_places s line a b c d x y place place2 (λ m n. I.CopyCells m n) h is j is2 k }
 
-  pub commit_put : (a b c d e : Front) (mark : ℕ) (body : Stmts) → Takes a b slot.Mark → mark ≡ a.next → Codes b c (own line (I.Mark mark ∷ [])) → PutsStmts s c d body → Codes d e (own line (I.Cut mark ∷ []))
+  pub commit_put : (a b c d e : Front) (mark : ℕ) (body : Stmts) → Takes a b slot.Mark → mark ≡ a.next
+      → Codes b c (own line (I.Mark mark ∷ [])) → PutsStmts s c d body → Codes d e (own line (I.Cut mark ∷ []))
       → PutsStmt s line a e (Commit body)
   unfolding stmts_with stmts_phrases
   commit_put a b c d e mark body h is j k l =
@@ -221,8 +246,10 @@ module _ (s : Around) (line : ℕ) where
   unfolding stmts_with stmts_phrases
   return_put a b h = record { all = adds_as a b _ _ _ _ _ _ (only_code a b _ h) refl refl refl }
 
-  pub return_value_put : (a b c d : Front) (e : Expr) (value : ℕ) → PutsValue s line a b e → value ≡ value_slot s a.next (expr_with e a.lines)
-      → Codes b c (own line (T.fit_result s.program s.tables s.routine (result_of s) value)) → Codes c d (own line (I.ReturnValue value ∷ [])) → PutsStmt s line a d (Return (some_result e))
+  pub return_value_put : (a b c d : Front) (e : Expr) (value : ℕ) → PutsValue s line a b e
+      → value ≡ value_slot s a.next (expr_with e a.lines)
+      → Codes b c (own line (T.fit_result s.program s.tables s.routine (result_of s) value))
+      → Codes c d (own line (I.ReturnValue value ∷ [])) → PutsStmt s line a d (Return (some_result e))
   unfolding stmts_with stmts_phrases
   return_value_put a b c d e value h is j k =
       let u = expr_with e a.lines in
@@ -230,28 +257,43 @@ module _ (s : Around) (line : ℕ) where
       let fit : ℕ → List Instr = λ n. T.fit_result s.program s.tables s.routine (result_of s) n in
       record {
         all = adds_as a d _ _ _ _ _ _ (adds_code a b d _ _ _ _ h.all (code_code b c d _ _ j k))
-            (ap (λ l. code ++ l) (sym (own_two line (fit value) (I.ReturnValue value ∷ []))) ∙ ap (λ n. code ++ own line (fit n ++ (I.ReturnValue n ∷ []))) is) refl refl;
+            (ap (λ l. code ++ l) (sym (own_two line (fit value) (I.ReturnValue value ∷ [])))
+            ∙ ap (λ n. code ++ own line (fit n ++ (I.ReturnValue n ∷ []))) is) refl refl;
       }
 
-  pub read_put : (a b c : Front) (x : Desig) (how : ReadAs) (range : Range) (place number : ℕ) → PutsDesig s line a b x → place ≡ T.place_at s.program s.tables s.routine a.next (desig_with x a.lines)
-      → number ≡ range_number s.tables range → Codes b c (own line (read_code how place number ∷ [])) → PutsStmt s line a c (Read x how range)
+  pub read_put : (a b c : Front) (x : Desig) (how : ReadAs) (range : Range) (place number : ℕ) → PutsDesig s line a b x
+      → place ≡ T.place_at s.program s.tables s.routine a.next (desig_with x a.lines)
+      → number ≡ range_number s.tables range → Codes b c (own line (read_code how place number ∷ []))
+      → PutsStmt s line a c (Read x how range)
   unfolding stmts_with stmts_phrases
   read_put a b c x how range place number h is is2 j =
       let code = T.desig_code s.program s.tables s.routine line (length a.code) a.next (desig_with x a.lines) in
       record {
         all = adds_as a c _ _ _ _ _ _ (adds_code a b c _ _ _ _ h.all j)
-            (ap (λ n. code ++ own line (read_code how n number ∷ [])) is ∙ ap (λ n. code ++ own line (read_code how (T.place_at s.program s.tables s.routine a.next (desig_with x a.lines)) n ∷ [])) is2) refl refl;
+            (ap (λ n. code ++ own line (read_code how n number ∷ [])) is
+            ∙ ap (λ n. code ++ own line (read_code how (T.place_at s.program s.tables s.routine a.next (desig_with x a.lines)) n ∷ []))
+            is2) refl refl;
       }
 
-  pub write_put : (a b c : Front) (e : Expr) (how : WriteAs) (value : ℕ) → PutsValue s line a b e → value ≡ value_slot s a.next (expr_with e a.lines) → Codes b c (own line (write_code how value ∷ [])) → PutsStmt s line a c (WriteExpr e how)
+  pub write_put : (a b c : Front) (e : Expr) (how : WriteAs) (value : ℕ) → PutsValue s line a b e
+      → value ≡ value_slot s a.next (expr_with e a.lines) → Codes b c (own line (write_code how value ∷ []))
+      → PutsStmt s line a c (WriteExpr e how)
   unfolding stmts_with stmts_phrases
   write_put a b c e how value h is j =
-      let code = unless_bare (bare (expr_with e a.lines)) (T.expr_code s.program s.tables s.routine line (length a.code) a.next (expr_with e a.lines)) in
-      record { all = adds_as a c _ _ _ _ _ _ (adds_code a b c _ _ _ _ h.all j) (ap (λ n. code ++ own line (write_code how n ∷ [])) is) refl refl }
+      let code = unless_bare (bare (expr_with e a.lines))
+      (T.expr_code s.program s.tables s.routine line (length a.code) a.next (expr_with e a.lines)) in
+      record {
+        all = adds_as a c _ _ _ _ _ _ (adds_code a b c _ _ _ _ h.all j) (ap (λ n. code ++ own line (write_code how n ∷ [])) is) refl
+            refl;
+      }
 
-  pub text_put : (a b : Front) (text : List ℕ) (number : ℕ) → number ≡ text_number s.tables text → Codes a b (own line (I.WriteText number ∷ [])) → PutsStmt s line a b (WriteText text)
+  pub text_put : (a b : Front) (text : List ℕ) (number : ℕ) → number ≡ text_number s.tables text
+      → Codes a b (own line (I.WriteText number ∷ [])) → PutsStmt s line a b (WriteText text)
   unfolding stmts_with stmts_phrases
-  text_put a b text number is h = record { all = adds_as a b _ _ _ _ _ _ (only_code a b _ h) (ap (λ n. own line (I.WriteText n ∷ [])) is) refl refl }
+  text_put a b text number is h = record {
+    all =
+        adds_as a b _ _ _ _ _ _ (only_code a b _ h) (ap (λ n. own line (I.WriteText n ∷ [])) is) refl refl;
+  }
 
   pub line_put : (a b : Front) → Codes a b (own line (I.WriteLine ∷ [])) → PutsStmt s line a b WriteLine
   unfolding stmts_with stmts_phrases
@@ -259,9 +301,11 @@ module _ (s : Around) (line : ℕ) where
 
   -- ---- EITHER
 
-  pub chosen_put : (a b c d : Front) (choice target : ℕ) (body : Stmts) → choice ≡ length a.code → Codes a b (own line (I.Choose 0 ∷ [])) → PutsStmts s b c body → Changes c d (λ xs. aimed xs choice target)
+  pub chosen_put : (a b c d : Front) (choice target : ℕ) (body : Stmts) → choice ≡ length a.code → Codes a b (own line (I.Choose 0 ∷ []))
+      → PutsStmts s b c body → Changes c d (λ xs. aimed xs choice target)
       → target ≡ length c.code + 1 → PutsChosen s line a d body
-  chosen_put a b c d choice target body here h j k is = record { all = over a b c d line choice target (I.Choose 0) _ _ _ (λ n. n + 1) here refl h j.all k is }
+  chosen_put a b c d choice target body here h j k is =
+      record { all = over a b c d line choice target (I.Choose 0) _ _ _ (λ n. n + 1) here refl h j.all k is }
 
   pub no_either_put : (a b : Front) → Codes a b (own line (I.Fail ∷ [])) → PutsStmt s line a b (Either no_branches)
   unfolding stmts_with stmts_phrases
@@ -269,73 +313,116 @@ module _ (s : Around) (line : ℕ) where
 
   pub one_either_put : (a b : Front) (body : Stmts) → PutsStmts s a b body → PutsStmt s line a b (Either (more_branches body no_branches))
   unfolding stmts_with stmts_phrases
-  one_either_put a b body h = record { all = adds_as a b _ _ _ _ _ _ h.all refl (sym (append-nil _)) (sym (behind_two (stmts_phrases body) (branches_phrases no_branches) a.lines)) }
+  one_either_put a b body h = record {
+    all =
+        adds_as a b _ _ _ _ _ _ h.all refl (sym (append-nil _))
+        (sym (behind_two (stmts_phrases body) (branches_phrases no_branches) a.lines));
+  }
 
-  pub last_branch_put : (a b : Front) (exit : ℕ) (body : Stmts) → PutsStmts s a b body → PutsBranches s line exit a b (more_branches body no_branches)
+  pub last_branch_put : (a b : Front) (exit : ℕ) (body : Stmts) → PutsStmts s a b body
+      → PutsBranches s line exit a b (more_branches body no_branches)
   unfolding stmts_with stmts_phrases
-  last_branch_put a b exit body h = record { all = adds_as a b _ _ _ _ _ _ h.all refl (sym (append-nil _)) (sym (behind_two (stmts_phrases body) (branches_phrases no_branches) a.lines)) }
+  last_branch_put a b exit body h = record {
+    all =
+        adds_as a b _ _ _ _ _ _ h.all refl (sym (append-nil _))
+        (sym (behind_two (stmts_phrases body) (branches_phrases no_branches) a.lines));
+  }
 
-  pub branches_put : (a b c d : Front) (exit : ℕ) (body body2 : Stmts) (rest : Branches) → PutsChosen s line a b body → Codes b c (own line (I.Jump exit ∷ [])) → PutsBranches s line exit c d (more_branches body2 rest)
+  pub branches_put : (a b c d : Front) (exit : ℕ) (body body2 : Stmts) (rest : Branches) → PutsChosen s line a b body
+      → Codes b c (own line (I.Jump exit ∷ [])) → PutsBranches s line exit c d (more_branches body2 rest)
       → PutsBranches s line exit a d (more_branches body (more_branches body2 rest))
   unfolding stmts_with stmts_phrases
   branches_put a b c d exit body body2 rest h j k =
-      record { all = adds_as a d _ _ _ _ _ _ (then_adds a c d _ _ _ _ _ _ (adds_code a b c _ _ _ _ h.all j) k.all) refl refl (sym (behind_two (stmts_phrases body) (branches_phrases (more_branches body2 rest)) a.lines)) }
+      record {
+        all = adds_as a d _ _ _ _ _ _ (then_adds a c d _ _ _ _ _ _ (adds_code a b c _ _ _ _ h.all j) k.all) refl refl
+            (sym (behind_two (stmts_phrases body) (branches_phrases (more_branches body2 rest)) a.lines));
+      }
 
-  pub either_put : (a b c d e : Front) (exit target : ℕ) (body body2 : Stmts) (rest : Branches) → PutsChosen s line a b body → exit ≡ length b.code → Codes b c (own line (I.Jump 0 ∷ []))
-      → PutsBranches s line exit c d (more_branches body2 rest) → Changes d e (λ xs. aimed xs exit target) → target ≡ length d.code → PutsStmt s line a e (Either (more_branches body (more_branches body2 rest)))
+  pub either_put : (a b c d e : Front) (exit target : ℕ) (body body2 : Stmts) (rest : Branches) → PutsChosen s line a b body
+      → exit ≡ length b.code → Codes b c (own line (I.Jump 0 ∷ []))
+      → PutsBranches s line exit c d (more_branches body2 rest) → Changes d e (λ xs. aimed xs exit target) → target ≡ length d.code
+      → PutsStmt s line a e (Either (more_branches body (more_branches body2 rest)))
   unfolding stmts_with stmts_phrases
   either_put a b c d e exit target body body2 rest h here j k m is =
       let ls = a.lines in
-      let first = chosen line (length a.code + 1) (T.stmts_code s.program s.tables s.routine (length a.code + 1) a.next (stmts_with body ls)) in
+      let first = chosen line (length a.code + 1)
+      (T.stmts_code s.program s.tables s.routine (length a.code + 1) a.next (stmts_with body ls)) in
       let jump = length a.code + length first in
       let low = a.next + length (stmts_slots s.program s.routine (stmts_with body ls)) in
       let out : exit ≡ jump = here ∙ address_behind a b _ _ _ h.all in
       let code : List Lined → List Lined = λ c. first ++ (own line (I.Jump (jump + 1 + length c) ∷ []) ++ c) in
       record {
-        all = adds_as a e _ _ _ _ _ _ (then_adds a b e _ _ _ _ _ _ h.all (over b c d e line exit target (I.Jump 0) _ _ _ (λ n. n) here refl j k.all m is))
-            (ap (λ x. code (T.branches_code s.program s.tables s.routine line x (jump + 1) low (branches_with (more_branches body2 rest) (behind (stmts_phrases body) ls)))) out)
+        all = adds_as a e _ _ _ _ _ _ (then_adds a b e _ _ _ _ _ _ h.all
+            (over b c d e line exit target (I.Jump 0) _ _ _ (λ n. n) here refl j k.all m is))
+            (ap (λ x. code (T.branches_code s.program s.tables s.routine line x (jump + 1) low
+            (branches_with (more_branches body2 rest) (behind (stmts_phrases body) ls)))) out)
             refl (sym (behind_two (stmts_phrases body) (branches_phrases (more_branches body2 rest)) ls));
       }
 
   -- ---- FORALL
 
-  each_put : (a b c d : Front) (mark inner overlay : ℕ) (body : Stmts) → Holes a b (λ to xs. aimed xs overlay to) (λ none at lo ls. begin_each line mark lo none) (λ ls. slot.Mark ∷ []) (λ ls. ls)
+  each_put : (a b c d : Front) (mark inner overlay : ℕ) (body : Stmts)
+      → Holes a b (λ to xs. aimed xs overlay to) (λ none at lo ls. begin_each line mark lo none) (λ ls. slot.Mark ∷ []) (λ ls. ls)
       → inner ≡ a.next → PutsStmts s b c body → EndsEach c d line mark inner overlay
-      → Adds a d (λ at lo ls. each_body line (at + 2) mark lo (T.stmts_code s.program s.tables s.routine (at + 2) (lo + 1) (stmts_with body ls))) (λ ls. slot.Mark ∷ stmts_slots s.program s.routine (stmts_with body ls)) (behind (stmts_phrases body))
+      → Adds a d (λ at lo ls. each_body line (at + 2) mark lo
+      (T.stmts_code s.program s.tables s.routine (at + 2) (lo + 1) (stmts_with body ls)))
+      (λ ls. slot.Mark ∷ stmts_slots s.program s.routine (stmts_with body ls)) (behind (stmts_phrases body))
   each_put a b c d mark inner overlay body h is j k =
       let ends = own line (I.Cut inner ∷ I.Keep mark ∷ []) in
       let e : Front = record { code = c.code ++ ends; next = c.next; kinds = c.kinds; lines = c.lines; all_lines = c.all_lines } in
-      let f : Front = record { code = aimed (c.code ++ ends) overlay (length c.code + 2); next = c.next; kinds = c.kinds; lines = c.lines; all_lines = c.all_lines } in
+      let f : Front = record {
+        code = aimed (c.code ++ ends) overlay (length c.code + 2);
+        next = c.next;
+        kinds = c.kinds;
+        lines = c.lines;
+        all_lines = c.all_lines;
+      } in
       let put : Codes c e ends = record { instrs = refl; taken = refl; next_slot = refl; left = refl; whole = refl } in
-      let aim : Changes e f (λ xs. aimed xs overlay (length c.code + 2)) = record { instrs = refl; taken = refl; next_slot = refl; left = refl; whole = refl } in
-      let fail : Codes f d (own line (I.Fail ∷ [])) = record { instrs = k.instrs; taken = k.taken; next_slot = k.next_slot; left = k.left; whole = k.whole } in
+      let aim : Changes e f (λ xs. aimed xs overlay (length c.code + 2)) =
+      record { instrs = refl; taken = refl; next_slot = refl; left = refl; whole = refl } in
+      let fail : Codes f d (own line (I.Fail ∷ [])) =
+      record { instrs = k.instrs; taken = k.taken; next_slot = k.next_slot; left = k.left; whole = k.whole } in
       let far : length c.code + 2 ≡ length (c.code ++ ends) = omega (arith, length-append c.code ends) in
       let x = T.stmts_code s.program s.tables s.routine (length a.code + 2) (a.next + 1) (stmts_with body a.lines) in
       let long : length a.code + 2 + length (x ++ ends) ≡ length a.code + 2 + length x + 2 = omega (arith, length-append x ends) in
-      adds_as a d _ _ _ _ _ _ (adds_code a f d _ _ _ _ (filled a b e f _ _ _ _ _ _ _ (length c.code + 2) (λ n. n) h (adds_code b c e _ _ _ _ j.all put) aim far) fail)
+      adds_as a d _ _ _ _ _ _ (adds_code a f d _ _ _ _
+      (filled a b e f _ _ _ _ _ _ _ (length c.code + 2) (λ n. n) h (adds_code b c e _ _ _ _ j.all put) aim far) fail)
       (ap (λ n. (begin_each line mark a.next n ++ (x ++ ends)) ++ own line (I.Fail ∷ [])) long
       ∙ append_assoc (begin_each line mark a.next (length a.code + 2 + length x + 2)) (x ++ ends) (own line (I.Fail ∷ []))
       ∙ ap (λ l. begin_each line mark a.next (length a.code + 2 + length x + 2) ++ l) (append_assoc x ends (own line (I.Fail ∷ [])))
       ∙ ap (λ n. begin_each line mark a.next (length a.code + 2 + length x + 2) ++ (x ++ end_each line mark n)) is)
       refl refl
 
-  pub forall_put : (a b c d e f g : Front) (mark forall inner overlay : ℕ) (x y : Stmts) → Holes a b (λ to xs. aimed xs forall to) (λ none at lo ls. begin_forall line lo none) (λ ls. slot.Mark ∷ []) (λ ls. ls)
-      → mark ≡ a.next → PutsStmts s b c x → Holes c d (λ to xs. aimed xs overlay to) (λ none at lo ls. begin_each line mark lo none) (λ ls. slot.Mark ∷ []) (λ ls. ls) → inner ≡ c.next
+  pub forall_put : (a b c d e f g : Front) (mark forall inner overlay : ℕ) (x y : Stmts)
+      → Holes a b (λ to xs. aimed xs forall to) (λ none at lo ls. begin_forall line lo none) (λ ls. slot.Mark ∷ []) (λ ls. ls)
+      → mark ≡ a.next → PutsStmts s b c x → Holes c d (λ to xs. aimed xs overlay to) (λ none at lo ls. begin_each line mark lo none)
+      (λ ls. slot.Mark ∷ []) (λ ls. ls) → inner ≡ c.next
       → PutsStmts s d e y → EndsEach e f line mark inner overlay → EndsForall f g line forall → PutsStmt s line a g (Forall x y)
   unfolding stmts_with stmts_phrases
   forall_put a b c d e f g mark forall inner overlay x y h is j h2 is2 k l m =
       let ls = a.lines in
       let u = stmts_with x ls in
       let v = stmts_with y (behind (stmts_phrases x) ls) in
-      let z : Front = record { code = aimed f.code forall (length f.code); next = f.next; kinds = f.kinds; lines = f.lines; all_lines = f.all_lines } in
-      let aim : Changes f z (λ xs. aimed xs forall (length f.code)) = record { instrs = refl; taken = refl; next_slot = refl; left = refl; whole = refl } in
-      let finish : Codes z g (own line (I.Finish ∷ [])) = record { instrs = m.instrs; taken = m.taken; next_slot = m.next_slot; left = m.left; whole = m.whole } in
+      let z : Front = record {
+        code = aimed f.code forall (length f.code);
+        next = f.next;
+        kinds = f.kinds;
+        lines = f.lines;
+        all_lines =
+            f.all_lines;
+      } in
+      let aim : Changes f z (λ xs. aimed xs forall (length f.code)) =
+      record { instrs = refl; taken = refl; next_slot = refl; left = refl; whole = refl } in
+      let finish : Codes z g (own line (I.Finish ∷ [])) =
+      record { instrs = m.instrs; taken = m.taken; next_slot = m.next_slot; left = m.left; whole = m.whole } in
       let each = each_put c d e f mark inner overlay y h2 is2 k l in
-      let all = adds_code a z g _ _ _ _ (filled a b f z _ _ _ _ _ _ _ (length f.code) (λ n. n) h (then_adds b c f _ _ _ _ _ _ j.all each) aim refl) finish in
+      let all = adds_code a z g _ _ _ _ (filled a b f z _ _ _ _ _ _ _ (length f.code) (λ n. n) h (then_adds b c f _ _ _ _ _ _ j.all each)
+      aim refl) finish in
       let at = length a.code + 1 in
       let first = T.stmts_code s.program s.tables s.routine at (a.next + 1) u in
       let low = a.next + 1 + length (stmts_slots s.program s.routine u) in
-      let parts : ℕ → List Lined = λ mark. in_row at first (λ next. each_body line (next + 2) mark low (T.stmts_code s.program s.tables s.routine (next + 2) (low + 1) v)) in
+      let parts : ℕ → List Lined = λ mark. in_row at first
+      (λ next. each_body line (next + 2) mark low (T.stmts_code s.program s.tables s.routine (next + 2) (low + 1) v)) in
       record {
         all = adds_as a g _ _ _ _ _ _ all
             (ap (λ n. (begin_forall line a.next (at + length (parts n)) ++ parts n) ++ own line (I.Finish ∷ [])) is

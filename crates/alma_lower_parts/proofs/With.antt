@@ -6,12 +6,17 @@ use Rattle.alma_ir.specs.declared.phrase.Root.{Root}
 use Rattle.alma_code.specs.declared.cell.SlotKind.TheVariants as slot
 use Rattle.alma_ir.specs.declared.phrase.Cmp.TheVariants as cmp
 use Rattle.alma_ir.specs.declared.phrase.Root.TheVariants as root
-use Rattle.alma_ir.specs.Tree.{Test, Expr, Links, Args, Arg, Desig, Sels, Sel, Value, Bind, Unify, SameCells, Seq, And, Or, Not, CallTest, Const, Load, Chain, Compare, Truth, Known, Chr, CallExpr, no_links, more_links, no_args, more_args, ByValue, ByCells, ByPlace, MixValue, MixPlace, a_desig, no_sels, more_sels, Field, Index}
+use Rattle.alma_ir.specs.Tree.{Test, Expr, Links, Args, Arg, Desig, Sels, Sel, Value, Bind, Unify, SameCells, Seq, And, Or, Not, CallTest}
+use Rattle.alma_ir.specs.Tree.{Const, Load, Chain, Compare, Truth, Known, Chr, CallExpr, no_links, more_links, no_args, more_args, ByValue}
+use Rattle.alma_ir.specs.Tree.{ByCells, ByPlace, MixValue, MixPlace, a_desig, no_sels, more_sels, Field, Index}
 use Rattle.alma_ir.specs.Phrases.{stmts_phrases, expr_phrases, desig_phrases, sel_phrases, arg_phrases}
 use Rattle.alma_ir.specs.Lines.{behind, stmts_with, test_with, expr_with, links_with, args_with, arg_with, desig_with, sels_with, sel_with}
 use Rattle.alma_lower_work.specs.Puts.{is_unequal}
 use Rattle.alma_lower_templates.specs.Tables.{is_whole}
-use Rattle.alma_lower_templates.specs.Slots.{bare_desig, bare, ends_alone, straight_by, goes_straight, own_place, own_root, is_given, is_ready, if_ready, stays_by, stays, stays_in, is_simple_expr, are_simple_links, is_simple_desig, are_simple_sels, is_simple_sel, is_simple, cells_behind, desig_cells, arg_kind, handed_slots}
+use Rattle.alma_lower_templates.specs.Slots.{bare_desig, bare, ends_alone, straight_by, goes_straight, own_place, own_root, is_given}
+use Rattle.alma_lower_templates.specs.Slots.{is_ready, if_ready, stays_by, stays, stays_in, is_simple_expr, are_simple_links}
+use Rattle.alma_lower_templates.specs.Slots.{is_simple_desig, are_simple_sels, is_simple_sel, is_simple, cells_behind, desig_cells}
+use Rattle.alma_lower_templates.specs.Slots.{arg_kind, handed_slots}
 
 -- ---- variables that stand in their own slots
 
@@ -59,7 +64,8 @@ stays_with x y ls ls2 = ap (λ o. stays_by o (expr_with y ls2)) (own_expr x ls) 
     by (Some from) = ap (λ z. if_ready z from) (ready_with y ls2)
     by None = refl
 
-pub stays_in_with : (negated : Bool) (x : Expr) (links : Links) (ls ls2 : List ℕ) → stays_in negated (expr_with x ls) (links_with links ls2) ≡ stays_in negated x links
+pub stays_in_with : (negated : Bool) (x : Expr) (links : Links) (ls ls2 : List ℕ)
+    → stays_in negated (expr_with x ls) (links_with links ls2) ≡ stays_in negated x links
 unfolding stmts_with
 stays_in_with true x links ls ls2 = refl
 stays_in_with false x no_links ls ls2 = refl
@@ -154,8 +160,11 @@ mutual
   pub simple_expr : (e : Expr) (ls : List ℕ) → is_simple_expr (expr_with e ls) ≡ is_simple_expr e
   simple_expr (Const n) ls = refl
   simple_expr (Load d) ls = simple_desig d ls
-  simple_expr (Chain negated e links) ls = ap (λ b. b && are_simple_links (links_with links (behind (expr_phrases e) ls))) (simple_expr e ls) ∙ ap (λ b. is_simple_expr e && b) (simple_links links (behind (expr_phrases e) ls))
-  simple_expr (Compare how x y) ls = ap (λ b. b && is_simple_expr (expr_with y (behind (expr_phrases x) ls))) (simple_expr x ls) ∙ ap (λ b. is_simple_expr x && b) (simple_expr y (behind (expr_phrases x) ls))
+  simple_expr (Chain negated e links) ls =
+      ap (λ b. b && are_simple_links (links_with links (behind (expr_phrases e) ls))) (simple_expr e ls)
+      ∙ ap (λ b. is_simple_expr e && b) (simple_links links (behind (expr_phrases e) ls))
+  simple_expr (Compare how x y) ls = ap (λ b. b && is_simple_expr (expr_with y (behind (expr_phrases x) ls))) (simple_expr x ls)
+      ∙ ap (λ b. is_simple_expr x && b) (simple_expr y (behind (expr_phrases x) ls))
   simple_expr (Truth t) ls = refl
   simple_expr (Known d) ls = simple_desig d ls
   simple_expr (Chr e) ls = simple_expr e ls
@@ -163,14 +172,17 @@ mutual
 
   simple_links : (links : Links) (ls : List ℕ) → are_simple_links (links_with links ls) ≡ are_simple_links links
   simple_links no_links ls = refl
-  simple_links (more_links how e rest) ls = ap (λ b. b && are_simple_links (links_with rest (behind (expr_phrases e) ls))) (simple_expr e ls) ∙ ap (λ b. is_simple_expr e && b) (simple_links rest (behind (expr_phrases e) ls))
+  simple_links (more_links how e rest) ls =
+      ap (λ b. b && are_simple_links (links_with rest (behind (expr_phrases e) ls))) (simple_expr e ls)
+      ∙ ap (λ b. is_simple_expr e && b) (simple_links rest (behind (expr_phrases e) ls))
 
   simple_desig : (d : Desig) (ls : List ℕ) → is_simple_desig (desig_with d ls) ≡ is_simple_desig d
   simple_desig (a_desig root cells sels) ls = simple_sels sels ls
 
   simple_sels : (sels : Sels) (ls : List ℕ) → are_simple_sels (sels_with sels ls) ≡ are_simple_sels sels
   simple_sels no_sels ls = refl
-  simple_sels (more_sels x rest) ls = ap (λ b. b && are_simple_sels (sels_with rest (behind (sel_phrases x) ls))) (simple_sel x ls) ∙ ap (λ b. is_simple_sel x && b) (simple_sels rest (behind (sel_phrases x) ls))
+  simple_sels (more_sels x rest) ls = ap (λ b. b && are_simple_sels (sels_with rest (behind (sel_phrases x) ls))) (simple_sel x ls)
+      ∙ ap (λ b. is_simple_sel x && b) (simple_sels rest (behind (sel_phrases x) ls))
 
   simple_sel : (x : Sel) (ls : List ℕ) → is_simple_sel (sel_with x ls) ≡ is_simple_sel x
   simple_sel (Field offset cells) ls = refl
@@ -212,4 +224,5 @@ same_arg (MixPlace d) ls = ap slot.Place (same_cells d ls)
 pub same_handed : (args : Args) (ls : List ℕ) → handed_slots (args_with args ls) ≡ handed_slots args
 unfolding stmts_with
 same_handed no_args ls = refl
-same_handed (more_args x rest) ls = ap (λ k. k ∷ handed_slots (args_with rest (behind (arg_phrases x) ls))) (same_arg x ls) ∙ ap (λ l. arg_kind x ∷ l) (same_handed rest (behind (arg_phrases x) ls))
+same_handed (more_args x rest) ls = ap (λ k. k ∷ handed_slots (args_with rest (behind (arg_phrases x) ls))) (same_arg x ls)
+    ∙ ap (λ l. arg_kind x ∷ l) (same_handed rest (behind (arg_phrases x) ls))

@@ -11,8 +11,11 @@ use Rattle.alma_lower_templates.specs.Templates as T
 
 -- all arms of CASE, and its ELSE part
 pub record PutsAllArms (s : Around) (line value bound : ℕ) (a b : Front) (arms : CaseArms) (rest : Else) : Type 0 where
-  pub all : Adds a b (λ at lo ls. T.case_code s.program s.tables s.routine line value bound at lo (cases_with arms ls) (λ next lo. T.else_code s.program s.tables s.routine line next lo (else_with rest (behind (cases_phrases arms) ls))))
-      (λ ls. cases_slots s.program s.routine (cases_with arms ls) ++ else_slots s.program s.routine (else_with rest (behind (cases_phrases arms) ls))) (λ ls. behind (else_phrases rest) (behind (cases_phrases arms) ls))
+  pub all : Adds a b (λ at lo ls. T.case_code s.program s.tables s.routine line value bound at lo (cases_with arms ls)
+      (λ next lo. T.else_code s.program s.tables s.routine line next lo (else_with rest (behind (cases_phrases arms) ls))))
+      (λ ls. cases_slots s.program s.routine (cases_with arms ls)
+      ++ else_slots s.program s.routine (else_with rest (behind (cases_phrases arms) ls)))
+      (λ ls. behind (else_phrases rest) (behind (cases_phrases arms) ls))
 
 -- an arm of CASE with its labels, of which there is one
 abbrev pub PutsArmOf : (s : Around) (line value bound : ℕ) (a b : Front) → List Range → Stmts → Type 0

@@ -48,7 +48,9 @@ pub record PutsTurn (s : Around) (line after : ℕ) (range : Range) (counter : �
   pub e : Front
   pub count : ℕ
   pub stand : Stand
-  pub checked : Adds a b (λ at lo ls. own line (T.count_code s.program s.tables s.routine (bare_desig (desig_with x a.lines)) range counter lo)) (λ ls. unless_bare (bare_desig (desig_with x a.lines)) (slot.Number ∷ [])) (λ ls. ls)
+  pub checked : Adds a b (λ at lo ls. own line
+      (T.count_code s.program s.tables s.routine (bare_desig (desig_with x a.lines)) range counter lo))
+      (λ ls. unless_bare (bare_desig (desig_with x a.lines)) (slot.Number ∷ [])) (λ ls. ls)
   pub count_slot : count ≡ T.count_at s.program s.tables s.routine (bare_desig (desig_with x a.lines)) counter a.next
   pub located : PutsTarget s line b c x
   pub stands : stand ≡ stand_of s b.next (desig_with x b.lines)

@@ -39,7 +39,8 @@ pub record BeginsPlace (s : Around) (line : ℕ) (a c : Front) (cells : ℕ) (r 
   pub b : Front
   pub takes : Takes a b (slot.Place cells)
   pub to_slot : to ≡ T.slot_or s.program s.tables s.routine (own_root r sels) a.next
-  pub root : Adds b c (λ at lo ls. unless_bare (own_root r sels) (own line (T.root_code s.program s.tables s.routine a.next r))) (λ ls. root_slots s.program s.routine r) (λ ls. ls)
+  pub root : Adds b c (λ at lo ls. unless_bare (own_root r sels) (own line (T.root_code s.program s.tables s.routine a.next r)))
+      (λ ls. root_slots s.program s.routine r) (λ ls. ls)
 
 -- the jump of a condition is aimed, and the condition is a number
 pub record EndsTruth (line : ℕ) (a c : Front) (jump to : ℕ) : Type 0 where
@@ -63,7 +64,8 @@ pub record TakesResult (a c : Front) (to mark : ℕ) : Type 0 where
 -- the link of a call, and the slots of its arguments
 pub record BeginsCall (s : Around) (line called up : ℕ) (a c : Front) (args : Args) (to : ℕ) : Type 0 where
   pub b : Front
-  pub link : Adds a b (λ at lo ls. own line (T.call_link_code s.program s.tables s.routine called up lo)) (λ ls. call_links s.program s.routine called up) (λ ls. ls)
+  pub link : Adds a b (λ at lo ls. own line (T.call_link_code s.program s.tables s.routine called up lo))
+      (λ ls. call_links s.program s.routine called up) (λ ls. ls)
   pub slots : Adds b c (λ at lo ls. []) (λ ls. handed_slots args) (λ ls. ls)
   pub to_slot : to ≡ b.next
 
@@ -114,7 +116,8 @@ pub record BeginsSome (line counter limit first last : ℕ) (a e : Front) (jump 
   pub turn : ℕ
   pub takes : Takes a b slot.Number
   pub more_slot : more ≡ a.next
-  pub bounds : Holes b c (λ to xs. aimed xs jump to) (λ empty at lo ls. own line (bounds_code (pos 1) counter limit first last empty)) (λ ls. []) (λ ls. ls)
+  pub bounds : Holes b c (λ to xs. aimed xs jump to) (λ empty at lo ls. own line (bounds_code (pos 1) counter limit first last empty))
+      (λ ls. []) (λ ls. ls)
   pub top_at : top ≡ length c.code
   pub turn_at : turn ≡ length c.code + 3
   pub tests : Codes c d (own line (I.Less more counter limit ∷ I.JumpZero more turn ∷ []))

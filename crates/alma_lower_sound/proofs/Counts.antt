@@ -29,16 +29,29 @@ use Rattle.alma_lower_sound.proofs.Whole.{count, head_is, name_is}
 -- ---- sums over routines
 
 -- a sum over the routines of a code is at most one over those of the program where each is
-sum_over : (f : PlainRoutine → ℕ) (g : Routine → ℕ) (xs : List PlainRoutine) (rs : List Routine) → length xs ≡ length rs → ((r : ℕ) → r < length xs → f (get_or xs r plain.no_routine) ≤ g (get_or rs r no_routine)) → sum_by f xs ≤ sum_by g rs
+sum_over : (f : PlainRoutine → ℕ) (g : Routine → ℕ) (xs : List PlainRoutine) (rs : List Routine) → length xs ≡ length rs
+    → ((r : ℕ) → r < length xs → f (get_or xs r plain.no_routine) ≤ g (get_or rs r no_routine)) → sum_by f xs ≤ sum_by g rs
 sum_over f g [] rs e h = omega arith
 sum_over f g (x ∷ xs) [] e h = absurd (omega (arith, e))
 sum_over f g (x ∷ xs) (r ∷ rs) e h =
     let first = h 0 (omega arith) in
-    omega (arith, first, sum_by-cons f x xs, sum_by-cons g r rs, sum_over f g xs rs (omega (arith, e)) (λ i lt. h (suc i) (omega (arith, lt))))
+    omega (
+      arith,
+      first,
+      sum_by-cons f x xs,
+      sum_by-cons g r rs,
+      sum_over f g xs rs (omega (arith, e)) (λ i lt. h (suc i) (omega (arith, lt))),
+    )
 
-sum_of_nodes : (rs : List Routine) → sum_by (λ r. 2 * (length r.params + link_slots r.level) + 16 * routine_nodes r) rs ≤ 2 * sum_by (λ r. length r.params + link_slots r.level) rs + 16 * routines_nodes rs
+sum_of_nodes : (rs : List Routine) → sum_by (λ r. 2 * (length r.params + link_slots r.level) + 16 * routine_nodes r) rs ≤ 2 * sum_by
+    (λ r. length r.params + link_slots r.level) rs + 16 * routines_nodes rs
 sum_of_nodes [] = omega arith
-sum_of_nodes (r ∷ rs) = omega (arith, sum_by-cons (λ x. 2 * (length x.params + link_slots x.level) + 16 * routine_nodes x) r rs, sum_by-cons (λ x. length x.params + link_slots x.level) r rs, sum_of_nodes rs)
+sum_of_nodes (r ∷ rs) = omega (
+  arith,
+  sum_by-cons (λ x. 2 * (length x.params + link_slots x.level) + 16 * routine_nodes x) r rs,
+  sum_by-cons (λ x. length x.params + link_slots x.level) r rs,
+  sum_of_nodes rs,
+)
 
 few_routines : (rs : List Routine) → length rs ≤ routines_nodes rs
 few_routines [] = omega arith
@@ -46,7 +59,12 @@ few_routines (r ∷ rs) = omega (arith, few_routines rs)
 
 same_names : (gs : List Global) → sum_by (λ g. length g.name) (map global_named gs) ≡ sum_by (λ g. length g.name) gs
 same_names [] = refl
-same_names (g ∷ gs) = omega (arith, sum_by-cons (λ x. length x.name) (global_named g) (map global_named gs), sum_by-cons (λ x. length x.name) g gs, same_names gs)
+same_names (g ∷ gs) = omega (
+  arith,
+  sum_by-cons (λ x. length x.name) (global_named g) (map global_named gs),
+  sum_by-cons (λ x. length x.name) g gs,
+  same_names gs,
+)
 
 link_long : (level outer : ℕ) → length (link_params level outer) ≡ link_slots level
 link_long zero outer = refl
@@ -71,7 +89,8 @@ module _ (p : Program) (tables : Tables) where
         stmts_alike mine.body mine.lines,
       )
 
-  routines_walk : (xs : List Routine) (r at from : ℕ) → ((i : ℕ) → routine_at p (r + i) ≡ get_or xs i no_routine) → walk from (routines_code p tables r (length xs) at) 0 ≤ 1 + 2 * routines_nodes xs
+  routines_walk : (xs : List Routine) (r at from : ℕ) → ((i : ℕ) → routine_at p (r + i) ≡ get_or xs i no_routine)
+      → walk from (routines_code p tables r (length xs) at) 0 ≤ 1 + 2 * routines_nodes xs
   routines_walk [] r at from same = omega (arith, hop_few from 0)
   routines_walk (x ∷ rest) r at from same =
       let first : List Lined = routine_code p tables r at in
@@ -79,7 +98,8 @@ module _ (p : Program) (tables : Tables) where
       let line : ℕ = (routine_at p r).line in
       let here : r ≡ r + 0 = omega arith in
       let is : routine_nodes (routine_at p r) ≡ routine_nodes x = ap routine_nodes (ap (routine_at p) here ∙ same 0) in
-      let others = routines_walk rest (suc r) next line (λ i. (let moved : suc r + i ≡ r + suc i = omega arith in ap (routine_at p) moved ∙ same (suc i))) in
+      let others = routines_walk rest (suc r) next line
+      (λ i. (let moved : suc r + i ≡ r + suc i = omega arith in ap (routine_at p) moved ∙ same (suc i))) in
       omega (arith, others, is, routine_walk r at from, walk_two from line 0 first (routines_code p tables (suc r) (length rest) next))
 
 module _ (p : Program) (code : PlainCode) (checked : IsChecked p) (is_code : IsCodeOf p code) where
@@ -109,14 +129,17 @@ module _ (p : Program) (code : PlainCode) (checked : IsChecked p) (is_code : IsC
 
   runs_few : HasLongRuns p code → run_count code ≤ 2 * sum_by (λ r. length r.params + link_slots r.level) p.routines + 16 * nodes p
   runs_few runs =
-      let each = sum_over (λ r. length r.head.runs) (λ r. 2 * (length r.params + link_slots r.level) + 16 * routine_nodes r) code.routines p.routines (count p code is_code)
+      let each = sum_over (λ r. length r.head.runs) (λ r. 2 * (length r.params + link_slots r.level) + 16 * routine_nodes r) code.routines
+      p.routines (count p code is_code)
       (λ r lt. omega (arith, routine_runs p r (head_at code r).runs (runs r (there r lt)), few_slots p checked r (there r lt))) in
       omega (arith, each, sum_of_nodes p.routines)
 
   names_same : sum_by (λ r. length r.name) code.routines ≤ sum_by (λ r. length r.name) p.routines
-  names_same = sum_over (λ r. length r.name) (λ r. length r.name) code.routines p.routines (count p code is_code) (λ r lt. omega (arith, ap length (name_is p code is_code r (there r lt))))
+  names_same = sum_over (λ r. length r.name) (λ r. length r.name) code.routines p.routines (count p code is_code)
+      (λ r lt. omega (arith, ap length (name_is p code is_code r (there r lt))))
 
-  counts : 16 * nodes p ≤ size_limit → HasLongRuns p code → length code.ranges ≤ record_limit → length code.texts ≤ record_limit → text_count code ≤ pool_limit → KeepsCounts code
+  counts : 16 * nodes p ≤ size_limit → HasLongRuns p code → length code.ranges ≤ record_limit → length code.texts ≤ record_limit
+      → text_count code ≤ pool_limit → KeepsCounts code
   counts few runs ranges texts bytes = record {
     routines = omega (arith, few, count p code is_code, few_routines p.routines);
     globals = omega (arith, checked.limits.globals, ap (λ c. length c.globals) is_code.is, length-map p.globals global_named);
@@ -124,7 +147,13 @@ module _ (p : Program) (code : PlainCode) (checked : IsChecked p) (is_code : IsC
     runs = omega (arith, runs_few runs, checked.limits.params, few);
     ranges = ranges;
     texts = texts;
-    names = omega (arith, names_same, ap (λ c. sum_by (λ g. length g.name) c.globals) is_code.is, same_names p.globals, checked.limits.names);
+    names = omega (
+      arith,
+      names_same,
+      ap (λ c. sum_by (λ g. length g.name) c.globals) is_code.is,
+      same_names p.globals,
+      checked.limits.names,
+    );
     text_bytes = bytes;
     instrs = omega (arith, code_is_short p code checked is_code, few);
     lines = omega (arith, few_lines, few);
@@ -132,12 +161,15 @@ module _ (p : Program) (code : PlainCode) (checked : IsChecked p) (is_code : IsC
 
 -- where the tables are known to be small
 pub keeps_counts_by :
-    (p : Program) (code : PlainCode) → IsChecked p → IsCodeOf p code → HasLongRuns p code → length code.ranges ≤ record_limit → length code.texts ≤ record_limit → text_count code ≤ pool_limit → 16 * nodes p ≤ size_limit → KeepsCounts code
+    (p : Program) (code : PlainCode) → IsChecked p → IsCodeOf p code → HasLongRuns p code → length code.ranges ≤ record_limit
+    → length code.texts ≤ record_limit → text_count code ≤ pool_limit → 16 * nodes p ≤ size_limit → KeepsCounts code
 keeps_counts_by p code checked is_code runs ranges texts bytes few = counts p code checked is_code few runs ranges texts bytes
 
-pub code_keeps_counts : (p : Program) (code : PlainCode) → IsChecked p → IsCodeOf p code → HasLongRuns p code → HoldsEachOnce p code → 16 * nodes p ≤ size_limit → KeepsCounts code
+pub code_keeps_counts : (p : Program) (code : PlainCode) → IsChecked p → IsCodeOf p code → HasLongRuns p code → HoldsEachOnce p code
+    → 16 * nodes p ≤ size_limit → KeepsCounts code
 code_keeps_counts p code checked is_code runs held few =
-    counts p code checked is_code few runs (omega (arith, few_ranges p code held, few)) (omega (arith, few_texts p code held, few)) (omega (arith, few_text_bytes p code held, checked.limits.texts))
+    counts p code checked is_code few runs (omega (arith, few_ranges p code held, few)) (omega (arith, few_texts p code held, few))
+    (omega (arith, few_text_bytes p code held, checked.limits.texts))
 
 pub code_keeps_version : (p : Program) (code : PlainCode) → IsCodeOf p code → KeepsVersion code
 code_keeps_version p code is_code =

@@ -16,7 +16,9 @@ use Rattle.alma_code.specs.declared.step.VerifyFault.{VerifyFault}
 use Rattle.alma_code.specs.Kinds.{is_number, is_place, is_place_of, is_mark, is_link, is_link_of, numbers_from}
 use Rattle.alma_code.specs.Plain.{PlainCode, head_at, start_at, end_at, kinds_at}
 use Rattle.alma_code.specs.Words.{words, four}
-use Rattle.alma_code.specs.Rules.{unless, instr_fault, rule_4, rule_5, rule_6, rule_7, rule_8, rule_9, rule_10, rule_11, rule_12, names_slot, names_entry, names_address, is_slot, is_free, length_in, place_length, link_in, link_routine, cells_in, has_room, fit_arguments, holds_first, holds_result, ends_routine}
+use Rattle.alma_code.specs.Rules.{unless, instr_fault, rule_4, rule_5, rule_6, rule_7, rule_8, rule_9, rule_10, rule_11, rule_12}
+use Rattle.alma_code.specs.Rules.{names_slot, names_entry, names_address, is_slot, is_free, length_in, place_length, link_in, link_routine}
+use Rattle.alma_code.specs.Rules.{cells_in, has_room, fit_arguments, holds_first, holds_result, ends_routine}
 
 -- a test that passes hands on to what comes after it
 passed : {b : Bool} (rule at : ℕ) (rest : Option VerifyFault) → b ≡ true → unless b rule at rest ≡ rest
@@ -182,10 +184,12 @@ module _ (code : PlainCode) (r : ℕ) where
   module _ (full : length (kinds_at code r) ≡ (head_at code r).slots) where
     is_a_slot : {n : ℕ} {k : SlotKind} → HasKind n k → is_slot code r n ≡ true
     is_a_slot {n} {k} h =
-        and_from (nat_lt n (head_at code r).slots) (is_free code r n) (lt-ltb n (head_at code r).slots (omega (arith, slice_get_within (kinds_at code r) n k h.kind, full)))
+        and_from (nat_lt n (head_at code r).slots) (is_free code r n)
+        (lt-ltb n (head_at code r).slots (omega (arith, slice_get_within (kinds_at code r) n k h.kind, full)))
         (lt-ltb 0 (r + n) h.free)
 
-    word : {n : ℕ} {k : SlotKind} (is : Option SlotKind → Bool) → HasKind n k → is (Some k) ≡ true → (is_slot code r n && is (slice_get (kinds_at code r) n)) ≡ true
+    word : {n : ℕ} {k : SlotKind} (is : Option SlotKind → Bool) → HasKind n k → is (Some k) ≡ true
+        → (is_slot code r n && is (slice_get (kinds_at code r) n)) ≡ true
     word {n} {k} is h e = and_from (is_slot code r n) (is (slice_get (kinds_at code r) n)) (is_a_slot h) (ap is h.kind ∙ e)
 
     number_word : {n : ℕ} → Number n → names_slot code r (W.Number n) ≡ true
@@ -202,7 +206,8 @@ module _ (code : PlainCode) (r : ℕ) where
 
     slot_word : {n : ℕ} → IsFreeSlot n → names_slot code r (W.Slot n) ≡ true
     slot_word {n} h =
-        and_from (nat_lt n (head_at code r).slots) (is_free code r n) (lt-ltb n (head_at code r).slots (omega (arith, h.within, full))) (lt-ltb 0 (r + n) h.free)
+        and_from (nat_lt n (head_at code r).slots) (is_free code r n) (lt-ltb n (head_at code r).slots (omega (arith, h.within, full)))
+        (lt-ltb 0 (r + n) h.free)
 
     address_word : {n : ℕ} → IsInside n → names_address code r (W.Address n) ≡ true
     address_word {n} h = and_from _ _ (le-leb (start_at code r) n h.low) (lt-ltb n (end_at code r) h.high)
@@ -230,16 +235,21 @@ module _ (code : PlainCode) (r : ℕ) where
     four_true : {a b c d : Bool} → a ≡ true → b ≡ true → c ≡ true → d ≡ true → (a && (b && (c && (d && true)))) ≡ true
     four_true ha hb hc hd = and_from _ _ ha (and_from _ _ hb (and_from _ _ hc (and_from _ _ hd refl)))
 
-    three_numbers : {a b c : ℕ} → Number a → Number b → Number c → list_all (names_slot code r) (four (W.Number a) (W.Number b) (W.Number c) W.Free) ≡ true
+    three_numbers : {a b c : ℕ} → Number a → Number b → Number c
+        → list_all (names_slot code r) (four (W.Number a) (W.Number b) (W.Number c) W.Free) ≡ true
     three_numbers ha hb hc = four_true (number_word ha) (number_word hb) (number_word hc) refl
 
     -- ---- the nine rules
 
-    clean : (at : ℕ) (i : Instr) → rule_4 code r i ≡ true → rule_5 code r i ≡ true → rule_6 code r i ≡ true → rule_7 code r i ≡ true → rule_8 code i ≡ true
-        → rule_9 code r i ≡ true → rule_10 code r at i ≡ true → rule_11 code r at i ≡ true → rule_12 code r i ≡ true → instr_fault code r at i ≡ None
+    clean : (at : ℕ) (i : Instr) → rule_4 code r i ≡ true → rule_5 code r i ≡ true → rule_6 code r i ≡ true → rule_7 code r i ≡ true
+        → rule_8 code i ≡ true
+        → rule_9 code r i ≡ true → rule_10 code r at i ≡ true → rule_11 code r at i ≡ true → rule_12 code r i ≡ true
+        → instr_fault code r at i ≡ None
     unfolding instr_fault
     clean at i h4 h5 h6 h7 h8 h9 h10 h11 h12 =
-        passed 4 at _ h4 ∙ (passed 5 at _ h5 ∙ (passed 6 at _ h6 ∙ (passed 7 at _ h7 ∙ (passed 8 at _ h8 ∙ (passed 9 at _ h9 ∙ (passed 10 at _ h10 ∙ (passed 11 at _ h11 ∙ passed 12 at _ h12)))))))
+        passed 4 at _ h4 ∙ (passed 5 at _ h5 ∙ (passed 6 at _ h6
+        ∙ (passed 7 at _ h7 ∙ (passed 8 at _ h8
+        ∙ (passed 9 at _ h9 ∙ (passed 10 at _ h10 ∙ (passed 11 at _ h11 ∙ passed 12 at _ h12)))))))
 
     -- rule 11 where an instruction stands behind
     behind_true : (b : Bool) → (true || b) ≡ true
@@ -255,79 +265,129 @@ module _ (code : PlainCode) (r : ℕ) where
     -- an instruction that has what it needs breaks no rule, where another stands behind it in the routine
     pub no_fault : (at : ℕ) (i : Instr) → suc at < end_at code r → Needs i → instr_fault code r at i ≡ None
     unfolding words rule_5 rule_6 rule_7 rule_10 rule_12
-    no_fault at (I.Const a v) lt h = clean at (I.Const a v) (four_true (number_word h) refl refl refl) refl refl refl refl refl refl (not_last at _ lt) refl
-    no_fault at (I.Move a b) lt h = clean at (I.Move a b) (four_true (number_word h.0) (number_word h.1) refl refl) refl refl refl refl refl refl (not_last at _ lt) refl
-    no_fault at (I.Add a b c) lt h = clean at (I.Add a b c) (three_numbers h.0 h.1 h.2) refl refl refl refl refl refl (not_last at _ lt) refl
-    no_fault at (I.Sub a b c) lt h = clean at (I.Sub a b c) (three_numbers h.0 h.1 h.2) refl refl refl refl refl refl (not_last at _ lt) refl
-    no_fault at (I.Mul a b c) lt h = clean at (I.Mul a b c) (three_numbers h.0 h.1 h.2) refl refl refl refl refl refl (not_last at _ lt) refl
-    no_fault at (I.Div a b c) lt h = clean at (I.Div a b c) (three_numbers h.0 h.1 h.2) refl refl refl refl refl refl (not_last at _ lt) refl
-    no_fault at (I.Mod a b c) lt h = clean at (I.Mod a b c) (three_numbers h.0 h.1 h.2) refl refl refl refl refl refl (not_last at _ lt) refl
-    no_fault at (I.Neg a b) lt h = clean at (I.Neg a b) (four_true (number_word h.0) (number_word h.1) refl refl) refl refl refl refl refl refl (not_last at _ lt) refl
-    no_fault at (I.Equal a b c) lt h = clean at (I.Equal a b c) (three_numbers h.0 h.1 h.2) refl refl refl refl refl refl (not_last at _ lt) refl
-    no_fault at (I.Less a b c) lt h = clean at (I.Less a b c) (three_numbers h.0 h.1 h.2) refl refl refl refl refl refl (not_last at _ lt) refl
-    no_fault at (I.LessEq a b c) lt h = clean at (I.LessEq a b c) (three_numbers h.0 h.1 h.2) refl refl refl refl refl refl (not_last at _ lt) refl
-    no_fault at (I.Flip a b) lt h = clean at (I.Flip a b) (four_true (number_word h.0) (number_word h.1) refl refl) refl refl refl refl refl refl (not_last at _ lt) refl
-    no_fault at (I.InRange a t) lt h = clean at (I.InRange a t) (four_true (number_word h.0) refl refl refl) refl refl refl (four_true refl (range_word h.1) refl refl) refl refl (not_last at _ lt) refl
+    no_fault at (I.Const a v) lt h = clean at (I.Const a v) (four_true (number_word h) refl refl refl) refl refl refl refl refl refl
+        (not_last at _ lt) refl
+    no_fault at (I.Move a b) lt h = clean at (I.Move a b) (four_true (number_word h.0) (number_word h.1) refl refl) refl refl refl refl refl
+        refl (not_last at _ lt) refl
+    no_fault at (I.Add a b c) lt h = clean at (I.Add a b c) (three_numbers h.0 h.1 h.2) refl refl refl refl refl refl (not_last at _ lt)
+        refl
+    no_fault at (I.Sub a b c) lt h = clean at (I.Sub a b c) (three_numbers h.0 h.1 h.2) refl refl refl refl refl refl (not_last at _ lt)
+        refl
+    no_fault at (I.Mul a b c) lt h = clean at (I.Mul a b c) (three_numbers h.0 h.1 h.2) refl refl refl refl refl refl (not_last at _ lt)
+        refl
+    no_fault at (I.Div a b c) lt h = clean at (I.Div a b c) (three_numbers h.0 h.1 h.2) refl refl refl refl refl refl (not_last at _ lt)
+        refl
+    no_fault at (I.Mod a b c) lt h = clean at (I.Mod a b c) (three_numbers h.0 h.1 h.2) refl refl refl refl refl refl (not_last at _ lt)
+        refl
+    no_fault at (I.Neg a b) lt h = clean at (I.Neg a b) (four_true (number_word h.0) (number_word h.1) refl refl) refl refl refl refl refl
+        refl (not_last at _ lt) refl
+    no_fault at (I.Equal a b c) lt h = clean at (I.Equal a b c) (three_numbers h.0 h.1 h.2) refl refl refl refl refl refl (not_last at _ lt)
+        refl
+    no_fault at (I.Less a b c) lt h = clean at (I.Less a b c) (three_numbers h.0 h.1 h.2) refl refl refl refl refl refl (not_last at _ lt)
+        refl
+    no_fault at (I.LessEq a b c) lt h = clean at (I.LessEq a b c) (three_numbers h.0 h.1 h.2) refl refl refl refl refl refl
+        (not_last at _ lt) refl
+    no_fault at (I.Flip a b) lt h = clean at (I.Flip a b) (four_true (number_word h.0) (number_word h.1) refl refl) refl refl refl refl refl
+        refl (not_last at _ lt) refl
+    no_fault at (I.InRange a t) lt h = clean at (I.InRange a t) (four_true (number_word h.0) refl refl refl) refl refl refl
+        (four_true refl (range_word h.1) refl refl) refl refl (not_last at _ lt) refl
     no_fault at (I.Local a b) lt h =
-        clean at (I.Local a b) (four_true (place_word h.place) (slot_word h.first) refl refl) (ap (cells_in code r b) (long h.place) ∙ h.numbers) refl refl refl refl refl (not_last at _ lt) refl
+        clean at (I.Local a b) (four_true (place_word h.place) (slot_word h.first) refl refl)
+        (ap (cells_in code r b) (long h.place) ∙ h.numbers) refl refl refl refl refl (not_last at _ lt) refl
     no_fault at (I.Global a b) lt h =
-        clean at (I.Global a b) (four_true (place_word h.place) refl refl refl) (ap (cells_in code 0 b) (long h.place) ∙ h.numbers) refl refl refl refl refl (not_last at _ lt) refl
-    no_fault at (I.Same a b) lt h = clean at (I.Same a b) (same_places h) (alike h.first h.second) refl refl refl refl refl (not_last at _ lt) refl
+        clean at (I.Global a b) (four_true (place_word h.place) refl refl refl) (ap (cells_in code 0 b) (long h.place) ∙ h.numbers) refl
+        refl refl refl refl (not_last at _ lt) refl
+    no_fault at (I.Same a b) lt h = clean at (I.Same a b) (same_places h) (alike h.first h.second) refl refl refl refl refl
+        (not_last at _ lt) refl
     no_fault at (I.Field a b c) lt h =
-        clean at (I.Field a b c) (four_true (place_word h.place) (place_word h.whole) refl refl) (le-leb (c + length_in code r a) (length_in code r b) (omega (arith, h.fits, long h.place, long h.whole))) refl refl refl refl refl (not_last at _ lt) refl
+        clean at (I.Field a b c) (four_true (place_word h.place) (place_word h.whole) refl refl)
+        (le-leb (c + length_in code r a) (length_in code r b) (omega (arith, h.fits, long h.place, long h.whole))) refl refl refl refl
+        refl (not_last at _ lt) refl
     no_fault at (I.Index a b c d) lt h =
         clean at (I.Index a b c d) (four_true (place_word h.place) (place_word h.whole) (number_word h.index) refl) refl
-        (ap (λ o. has_room o (length_in code r a) (length_in code r b)) h.there ∙ ap (λ n. has_room (Some h.range) n (length_in code r b)) (long h.place) ∙ ap (has_room (Some h.range) h.part) (long h.whole) ∙ le-leb (range_size h.range * h.part) h.cells h.fits)
+        (ap (λ o. has_room o (length_in code r a) (length_in code r b)) h.there
+        ∙ ap (λ n. has_room (Some h.range) n (length_in code r b)) (long h.place) ∙ ap (has_room (Some h.range) h.part) (long h.whole)
+        ∙ le-leb (range_size h.range * h.part) h.cells h.fits)
         refl (four_true refl refl refl (range_word (slice_get_within code.ranges d h.range h.there))) refl refl (not_last at _ lt) refl
-    no_fault at (I.Load a b) lt h = clean at (I.Load a b) (four_true (number_word h.0) (place_word h.1) refl refl) refl refl (one_cell h.1) refl refl refl (not_last at _ lt) refl
-    no_fault at (I.Store a b) lt h = clean at (I.Store a b) (four_true (place_word h.0) (number_word h.1) refl refl) refl refl (one_cell h.0) refl refl refl (not_last at _ lt) refl
-    no_fault at (I.Known a b) lt h = clean at (I.Known a b) (four_true (number_word h.0) (place_word h.1) refl refl) refl refl (one_cell h.1) refl refl refl (not_last at _ lt) refl
+    no_fault at (I.Load a b) lt h = clean at (I.Load a b) (four_true (number_word h.0) (place_word h.1) refl refl) refl refl (one_cell h.1)
+        refl refl refl (not_last at _ lt) refl
+    no_fault at (I.Store a b) lt h = clean at (I.Store a b) (four_true (place_word h.0) (number_word h.1) refl refl) refl refl
+        (one_cell h.0) refl refl refl (not_last at _ lt) refl
+    no_fault at (I.Known a b) lt h = clean at (I.Known a b) (four_true (number_word h.0) (place_word h.1) refl refl) refl refl
+        (one_cell h.1) refl refl refl (not_last at _ lt) refl
     no_fault at (I.Bind a b c) lt h =
-        clean at (I.Bind a b c) (four_true (place_word h.0) (number_word h.1) refl refl) refl refl (one_cell h.0) (four_true refl refl (range_word h.2) refl) refl refl (not_last at _ lt) refl
+        clean at (I.Bind a b c) (four_true (place_word h.0) (number_word h.1) refl refl) refl refl (one_cell h.0)
+        (four_true refl refl (range_word h.2) refl) refl refl (not_last at _ lt) refl
     no_fault at (I.Unify a b c d) lt h =
-        clean at (I.Unify a b c d) (four_true (place_word h.0) refl (place_word h.2) refl) refl refl (and_from _ _ (one_cell h.0) (one_cell h.2)) (four_true refl (range_word h.1) refl (range_word h.3)) refl refl (not_last at _ lt) refl
-    no_fault at (I.CopyCells a b) lt h = clean at (I.CopyCells a b) (same_places h) refl refl (alike h.first h.second) refl refl refl (not_last at _ lt) refl
-    no_fault at (I.SameCells a b) lt h = clean at (I.SameCells a b) (same_places h) refl refl (alike h.first h.second) refl refl refl (not_last at _ lt) refl
-    no_fault at (I.Jump a) lt h = clean at (I.Jump a) refl refl refl refl refl (four_true (address_word h) refl refl refl) refl (not_last at _ lt) refl
-    no_fault at (I.JumpZero a b) lt h = clean at (I.JumpZero a b) (four_true (number_word h.0) refl refl refl) refl refl refl refl (four_true refl (address_word h.1) refl refl) refl (not_last at _ lt) refl
-    no_fault at (I.Check a) lt h = clean at (I.Check a) (four_true (number_word h) refl refl refl) refl refl refl refl refl refl (not_last at _ lt) refl
+        clean at (I.Unify a b c d) (four_true (place_word h.0) refl (place_word h.2) refl) refl refl
+        (and_from _ _ (one_cell h.0) (one_cell h.2)) (four_true refl (range_word h.1) refl (range_word h.3)) refl refl
+        (not_last at _ lt) refl
+    no_fault at (I.CopyCells a b) lt h = clean at (I.CopyCells a b) (same_places h) refl refl (alike h.first h.second) refl refl refl
+        (not_last at _ lt) refl
+    no_fault at (I.SameCells a b) lt h = clean at (I.SameCells a b) (same_places h) refl refl (alike h.first h.second) refl refl refl
+        (not_last at _ lt) refl
+    no_fault at (I.Jump a) lt h = clean at (I.Jump a) refl refl refl refl refl (four_true (address_word h) refl refl refl) refl
+        (not_last at _ lt) refl
+    no_fault at (I.JumpZero a b) lt h = clean at (I.JumpZero a b) (four_true (number_word h.0) refl refl refl) refl refl refl refl
+        (four_true refl (address_word h.1) refl refl) refl (not_last at _ lt) refl
+    no_fault at (I.Check a) lt h = clean at (I.Check a) (four_true (number_word h) refl refl refl) refl refl refl refl refl refl
+        (not_last at _ lt) refl
     no_fault at I.Fail lt h = clean at I.Fail refl refl refl refl refl refl refl (not_last at _ lt) refl
-    no_fault at (I.Mark a) lt h = clean at (I.Mark a) (four_true (mark_word h) refl refl refl) refl refl refl refl refl refl (not_last at _ lt) refl
-    no_fault at (I.Cut a) lt h = clean at (I.Cut a) (four_true (mark_word h) refl refl refl) refl refl refl refl refl refl (not_last at _ lt) refl
-    no_fault at (I.Choose a) lt h = clean at (I.Choose a) refl refl refl refl refl (four_true (address_word h) refl refl refl) refl (not_last at _ lt) refl
-    no_fault at (I.Forall a b) lt h = clean at (I.Forall a b) (four_true (mark_word h.0) refl refl refl) refl refl refl refl (four_true refl (address_word h.1) refl refl) refl (not_last at _ lt) refl
-    no_fault at (I.Overlay a b) lt h = clean at (I.Overlay a b) (four_true (mark_word h.0) refl refl refl) refl refl refl refl (four_true refl (address_word h.1) refl refl) refl (not_last at _ lt) refl
-    no_fault at (I.Keep a) lt h = clean at (I.Keep a) (four_true (mark_word h) refl refl refl) refl refl refl refl refl refl (not_last at _ lt) refl
+    no_fault at (I.Mark a) lt h = clean at (I.Mark a) (four_true (mark_word h) refl refl refl) refl refl refl refl refl refl
+        (not_last at _ lt) refl
+    no_fault at (I.Cut a) lt h = clean at (I.Cut a) (four_true (mark_word h) refl refl refl) refl refl refl refl refl refl
+        (not_last at _ lt) refl
+    no_fault at (I.Choose a) lt h = clean at (I.Choose a) refl refl refl refl refl (four_true (address_word h) refl refl refl) refl
+        (not_last at _ lt) refl
+    no_fault at (I.Forall a b) lt h = clean at (I.Forall a b) (four_true (mark_word h.0) refl refl refl) refl refl refl refl
+        (four_true refl (address_word h.1) refl refl) refl (not_last at _ lt) refl
+    no_fault at (I.Overlay a b) lt h = clean at (I.Overlay a b) (four_true (mark_word h.0) refl refl refl) refl refl refl refl
+        (four_true refl (address_word h.1) refl refl) refl (not_last at _ lt) refl
+    no_fault at (I.Keep a) lt h = clean at (I.Keep a) (four_true (mark_word h) refl refl refl) refl refl refl refl refl refl
+        (not_last at _ lt) refl
     no_fault at I.Finish lt h = clean at I.Finish refl refl refl refl refl refl refl (not_last at _ lt) refl
     no_fault at (I.Call a b c) lt h =
         clean at (I.Call a b c) refl refl refl refl refl refl
-        (and_from _ _ (and_from _ _ (lt-ltb 0 a h.not_main) (lt-ltb a (length code.routines) h.exists)) (and_from _ _ (and_from _ _ h.fits h.begins) (and_from _ _ h.result (lt-ltb (suc at) (end_at code r) lt))))
+        (and_from _ _ (and_from _ _ (lt-ltb 0 a h.not_main) (lt-ltb a (length code.routines) h.exists))
+        (and_from _ _ (and_from _ _ h.fits h.begins) (and_from _ _ h.result (lt-ltb (suc at) (end_at code r) lt))))
         (not_last at _ lt) refl
     no_fault at I.Return lt h = clean at I.Return refl refl refl refl refl refl refl (not_last at _ lt) (ap not h)
-    no_fault at (I.ReturnValue a) lt h = clean at (I.ReturnValue a) (four_true (number_word h.0) refl refl refl) refl refl refl refl refl refl (not_last at _ lt) h.1
-    no_fault at (I.ReadInt a t) lt h = clean at (I.ReadInt a t) (four_true (place_word h.0) refl refl refl) refl refl (one_cell h.0) (four_true refl (range_word h.1) refl refl) refl refl (not_last at _ lt) refl
-    no_fault at (I.ReadChar a t) lt h = clean at (I.ReadChar a t) (four_true (place_word h.0) refl refl refl) refl refl (one_cell h.0) (four_true refl (range_word h.1) refl refl) refl refl (not_last at _ lt) refl
-    no_fault at (I.WriteInt a) lt h = clean at (I.WriteInt a) (four_true (number_word h) refl refl refl) refl refl refl refl refl refl (not_last at _ lt) refl
-    no_fault at (I.WriteChar a) lt h = clean at (I.WriteChar a) (four_true (number_word h) refl refl refl) refl refl refl refl refl refl (not_last at _ lt) refl
-    no_fault at (I.WriteBool a) lt h = clean at (I.WriteBool a) (four_true (number_word h) refl refl refl) refl refl refl refl refl refl (not_last at _ lt) refl
-    no_fault at (I.WriteText t) lt h = clean at (I.WriteText t) refl refl refl refl (four_true (text_word h) refl refl refl) refl refl (not_last at _ lt) refl
+    no_fault at (I.ReturnValue a) lt h = clean at (I.ReturnValue a) (four_true (number_word h.0) refl refl refl) refl refl refl refl refl
+        refl (not_last at _ lt) h.1
+    no_fault at (I.ReadInt a t) lt h = clean at (I.ReadInt a t) (four_true (place_word h.0) refl refl refl) refl refl (one_cell h.0)
+        (four_true refl (range_word h.1) refl refl) refl refl (not_last at _ lt) refl
+    no_fault at (I.ReadChar a t) lt h = clean at (I.ReadChar a t) (four_true (place_word h.0) refl refl refl) refl refl (one_cell h.0)
+        (four_true refl (range_word h.1) refl refl) refl refl (not_last at _ lt) refl
+    no_fault at (I.WriteInt a) lt h = clean at (I.WriteInt a) (four_true (number_word h) refl refl refl) refl refl refl refl refl refl
+        (not_last at _ lt) refl
+    no_fault at (I.WriteChar a) lt h = clean at (I.WriteChar a) (four_true (number_word h) refl refl refl) refl refl refl refl refl refl
+        (not_last at _ lt) refl
+    no_fault at (I.WriteBool a) lt h = clean at (I.WriteBool a) (four_true (number_word h) refl refl refl) refl refl refl refl refl refl
+        (not_last at _ lt) refl
+    no_fault at (I.WriteText t) lt h = clean at (I.WriteText t) refl refl refl refl (four_true (text_word h) refl refl refl) refl refl
+        (not_last at _ lt) refl
     no_fault at I.WriteLine lt h = clean at I.WriteLine refl refl refl refl refl refl refl (not_last at _ lt) refl
     no_fault at (I.Fault n) lt h = clean at (I.Fault n) refl refl refl refl refl refl refl (not_last at _ lt) h
     no_fault at (I.Step a b c d) lt h =
-        clean at (I.Step a b c d) (four_true (number_word h.0) (number_word h.1) (number_word h.2) refl) refl refl refl refl (four_true refl refl refl (address_word h.3)) refl (not_last at _ lt) refl
+        clean at (I.Step a b c d) (four_true (number_word h.0) (number_word h.1) (number_word h.2) refl) refl refl refl refl
+        (four_true refl refl refl (address_word h.3)) refl (not_last at _ lt) refl
     no_fault at (I.Own a) lt h =
-        clean at (I.Own a) (four_true (link_word h) refl refl refl) (ap (is_link_of r) h.kind ∙ eq-eqb r r refl) refl refl refl refl refl (not_last at _ lt) refl
+        clean at (I.Own a) (four_true (link_word h) refl refl refl) (ap (is_link_of r) h.kind ∙ eq-eqb r r refl) refl refl refl refl refl
+        (not_last at _ lt) refl
     no_fault at (I.Chain a b c) lt h =
         clean at (I.Chain a b c) (four_true (link_word h.link) (link_word h.before) refl refl)
-        (ap (λ s. is_link_of (link_in code r a) (slice_get (kinds_at code s) c)) (leads h.before) ∙ ap (is_link_of (link_in code r a)) h.there ∙ eq-eqb h.to (link_in code r a) (omega (arith, leads h.link)))
+        (ap (λ s. is_link_of (link_in code r a) (slice_get (kinds_at code s) c)) (leads h.before)
+        ∙ ap (is_link_of (link_in code r a)) h.there ∙ eq-eqb h.to (link_in code r a) (omega (arith, leads h.link)))
         refl refl refl refl refl (not_last at _ lt) refl
     no_fault at (I.Outer a b c) lt h =
         clean at (I.Outer a b c) (four_true (place_word h.place) (link_word h.link) refl refl)
-        (ap (λ s. numbers_from (length_in code r a) (kinds_at code s) c) (leads h.link) ∙ ap (λ n. numbers_from n (kinds_at code h.routine) c) (long h.place) ∙ h.numbers)
+        (ap (λ s. numbers_from (length_in code r a) (kinds_at code s) c) (leads h.link)
+        ∙ ap (λ n. numbers_from n (kinds_at code h.routine) c) (long h.place) ∙ h.numbers)
         refl refl refl refl refl (not_last at _ lt) refl
     no_fault at (I.OuterSame a b c) lt h =
         clean at (I.OuterSame a b c) (four_true (place_word h.place) (link_word h.link) refl refl)
-        (ap (λ s. is_place_of (length_in code r a) (slice_get (kinds_at code s) c)) (leads h.link) ∙ ap (is_place_of (length_in code r a)) h.there ∙ eq-eqb h.cells (length_in code r a) (omega (arith, long h.place)))
+        (ap (λ s. is_place_of (length_in code r a) (slice_get (kinds_at code s) c)) (leads h.link)
+        ∙ ap (is_place_of (length_in code r a)) h.there ∙ eq-eqb h.cells (length_in code r a) (omega (arith, long h.place)))
         refl refl refl refl refl (not_last at _ lt) refl
 
     -- the ends of a routine need no instruction behind them

@@ -1,5 +1,6 @@
 -- The code of each phrase of a routine of a checked program: each instruction has what it needs, by induction over the phrases.
-use Rattle.std.proofs.Common.{◌≡◌, ℕ, ◌+◌, ◌<◌, Bool, true, false, List, [], ◌∷◌, ◌++◌, length, Option, Some, None, pos, refl, sym, ap, ◌∙◌, subst, arith, append_assoc}
+use Rattle.std.proofs.Common.{◌≡◌, ℕ, ◌+◌, ◌<◌, Bool, true, false, List, [], ◌∷◌, ◌++◌, length, Option, Some, None, pos, refl, sym, ap, ◌∙◌}
+use Rattle.std.proofs.Common.{subst, arith, append_assoc}
 use Rattle.std.specs.Prelude.{slice_get, IsNone, IsSome}
 use Rattle.std.specs.List.{AllByRecursion}
 use Rattle.std.proofs.lemmas.List.{length-append}
@@ -13,16 +14,36 @@ use Rattle.alma_code.specs.Plain.{PlainCode, head_at}
 use Rattle.alma_ir.specs.declared.phrase.Cmp.TheVariants as cmp
 use Rattle.alma_ir.specs.declared.phrase.ReadAs.{ReadAs}
 use Rattle.alma_ir.specs.declared.phrase.ReadAs.TheVariants as read_as
-use Rattle.alma_ir.specs.Tree.{Stmts, Stmt, Arms, CaseArms, Else, Branches, Loop, Test, Tests, Expr, Links, Args, Arg, Desig, Sels, Sel, Program, routine_at, no_stmts, more_stmts, TestStmt, Assign, CopyCells, If, While, Repeat, ForTo, SomeOf, Case, Either, Forall, Commit, Return, Read, WriteExpr, WriteText, WriteLine, no_arms, more_arms, no_cases, more_cases, no_else, else_part, no_branches, more_branches, a_loop, no_result, some_result, Value, Bind, Unify, SameCells, Seq, And, Or, Not, CallTest, no_tests, more_tests, Const, Load, Chain, Compare, Truth, Known, Chr, CallExpr, no_links, more_links, no_args, more_args, ByValue, ByCells, ByPlace, MixValue, MixPlace, a_desig, no_sels, more_sels, Field, Index}
-use Rattle.alma_ir.specs.Phrases.{Phrase, StmtPhrase, stmts_phrases, stmt_phrases, arms_phrases, cases_phrases, else_phrases, branches_phrases, loop_phrases, test_phrases, tests_phrases, expr_phrases, links_phrases, args_phrases, arg_phrases, desig_phrases, sels_phrases, sel_phrases}
+use Rattle.alma_ir.specs.Tree.{Stmts, Stmt, Arms, CaseArms, Else, Branches, Loop, Test, Tests, Expr, Links, Args, Arg, Desig, Sels, Sel}
+use Rattle.alma_ir.specs.Tree.{Program, routine_at, no_stmts, more_stmts, TestStmt, Assign, CopyCells, If, While, Repeat, ForTo, SomeOf}
+use Rattle.alma_ir.specs.Tree.{Case, Either, Forall, Commit, Return, Read, WriteExpr, WriteText, WriteLine, no_arms, more_arms, no_cases}
+use Rattle.alma_ir.specs.Tree.{more_cases, no_else, else_part, no_branches, more_branches, a_loop, no_result, some_result, Value, Bind}
+use Rattle.alma_ir.specs.Tree.{Unify, SameCells, Seq, And, Or, Not, CallTest, no_tests, more_tests, Const, Load, Chain, Compare, Truth}
+use Rattle.alma_ir.specs.Tree.{Known, Chr, CallExpr, no_links, more_links, no_args, more_args, ByValue, ByCells, ByPlace, MixValue}
+use Rattle.alma_ir.specs.Tree.{MixPlace, a_desig, no_sels, more_sels, Field, Index}
+use Rattle.alma_ir.specs.Phrases.{Phrase, StmtPhrase, stmts_phrases, stmt_phrases, arms_phrases, cases_phrases, else_phrases}
+use Rattle.alma_ir.specs.Phrases.{branches_phrases, loop_phrases, test_phrases, tests_phrases, expr_phrases, links_phrases, args_phrases}
+use Rattle.alma_ir.specs.Phrases.{arg_phrases, desig_phrases, sels_phrases, sel_phrases}
 use Rattle.alma_ir.specs.Checked.{IsChecked, ArePartsOf, IsPart, sel_cells, desig_cells}
 use Rattle.alma_ir.proofs.Each.{each_of_front, each_of_back, each_of_append}
 use Rattle.alma_lower_templates.specs.Lined.{Lined, own}
 use Rattle.alma_lower_templates.specs.Tables.{Tables, range_number, text_number}
-use Rattle.alma_lower_templates.specs.Pieces.{condition, guarded, chosen, first_of_two, truth_code, fit_code, neg_code, op_code, cmp_code, unequal_code, write_code, read_code, case_arm, passed_over, has_dead, behind_labels, begin_loop, for_turns, some_turns, turn_code, each_body}
-use Rattle.alma_lower_templates.specs.Slots.{bare, bare_desig, stays, stays_in, unless_bare, is_simple, mark_slots, handed_slots, call_links, root_slots, arg_kind, stmts_slots, stmt_slots, arms_slots, dead_slots, cases_slots, else_slots, branches_slots, for_slots, some_slots, test_slots, and_slots, or_slots, expr_slots, links_slots, args_slots, arg_slots, desig_slots, sels_slots, sel_slots, behind_expr, behind_dead, behind_value, behind_desig, behind_target, behind_variable, behind_test, behind_stmts, behind_stmt, behind_condition, own_place, own_root, goes_straight}
+use Rattle.alma_lower_templates.specs.Pieces.{condition, guarded, chosen, first_of_two, truth_code, fit_code, neg_code, op_code, cmp_code}
+use Rattle.alma_lower_templates.specs.Pieces.{unequal_code, write_code, read_code, case_arm, passed_over, has_dead, behind_labels}
+use Rattle.alma_lower_templates.specs.Pieces.{begin_loop, for_turns, some_turns, turn_code, each_body}
+use Rattle.alma_lower_templates.specs.Slots.{bare, bare_desig, stays, stays_in, unless_bare, is_simple, mark_slots, handed_slots}
+use Rattle.alma_lower_templates.specs.Slots.{call_links, root_slots, arg_kind, stmts_slots, stmt_slots, arms_slots, dead_slots, cases_slots}
+use Rattle.alma_lower_templates.specs.Slots.{else_slots, branches_slots, for_slots, some_slots, test_slots, and_slots, or_slots, expr_slots}
+use Rattle.alma_lower_templates.specs.Slots.{links_slots, args_slots, arg_slots, desig_slots, sels_slots, sel_slots, behind_expr}
+use Rattle.alma_lower_templates.specs.Slots.{behind_dead, behind_value, behind_desig, behind_target, behind_variable, behind_test}
+use Rattle.alma_lower_templates.specs.Slots.{behind_stmts, behind_stmt, behind_condition, own_place, own_root, goes_straight}
 use Rattle.alma_lower_templates.specs.Slots as slots_of
-use Rattle.alma_lower_templates.specs.Templates.{char_range, own_slot, slot_or, value_at, part_slot, behind_root, place_at, root_code, call_link_code, arguments_from, call_code, set_code, load_code, count_at, count_code, fit_result, stmts_code, stmt_code, if_code, arms_code, for_code, some_code, dead_code, case_code, cases_code, else_code, either_code, branches_code, test_code, and_code, or_code, operands_code, jump_code, expr_code, links_code, args_code, arg_code, desig_code, sels_code, sel_code, held_at, set_to}
+use Rattle.alma_lower_templates.specs.Templates.{char_range, own_slot, slot_or, value_at, part_slot, behind_root, place_at, root_code}
+use Rattle.alma_lower_templates.specs.Templates.{call_link_code, arguments_from, call_code, set_code, load_code, count_at, count_code}
+use Rattle.alma_lower_templates.specs.Templates.{fit_result, stmts_code, stmt_code, if_code, arms_code, for_code, some_code, dead_code}
+use Rattle.alma_lower_templates.specs.Templates.{case_code, cases_code, else_code, either_code, branches_code, test_code, and_code, or_code}
+use Rattle.alma_lower_templates.specs.Templates.{operands_code, jump_code, expr_code, links_code, args_code, arg_code, desig_code}
+use Rattle.alma_lower_templates.specs.Templates.{sels_code, sel_code, held_at, set_to}
 use Rattle.alma_lower_templates.specs.CodeOf.{HoldsChecked}
 use Rattle.alma_lower_templates.specs.Compiled.{is_function}
 use Rattle.alma_lower_templates.proofs.Args.{same_cells}
@@ -38,7 +59,8 @@ use Rattle.alma_lower_sound.proofs.Values as values
 use Rattle.alma_lower_sound.proofs.Values.{Good}
 use Rattle.alma_lower_templates.proofs.Straight.{straight_variable}
 
-module _ (p : Program) (tables : Tables) (code : PlainCode) (checked : IsChecked p) (w : Compiled p tables code) (r : ℕ) (lt : r < length p.routines) where
+module _ (p : Program) (tables : Tables) (code : PlainCode) (checked : IsChecked p) (w : Compiled p tables code) (r : ℕ)
+    (lt : r < length p.routines) where
   abbrev SlotsOf : (lo : ℕ) → List SlotKind → Type 0
   SlotsOf lo kinds = Slots p tables code checked w r lt lo kinds
 
@@ -68,7 +90,8 @@ module _ (p : Program) (tables : Tables) (code : PlainCode) (checked : IsChecked
   fine_back : (xs ys : List Phrase) → Fine (xs ++ ys) → Fine ys
   fine_back xs ys h = each_of_back (Facts p tables r) xs ys h
 
-  number : (lo : ℕ) (e : Expr) → Fine (expr_phrases e) → SlotsOf lo (unless_bare (bare e) (expr_slots p r e)) → Number code r (value_at p tables r lo e)
+  number : (lo : ℕ) (e : Expr) → Fine (expr_phrases e) → SlotsOf lo (unless_bare (bare e) (expr_slots p r e))
+      → Number code r (value_at p tables r lo e)
   number lo e good slots = values.value_number p tables code checked w r lt lo e good slots
 
   own_fits : (at line : ℕ) (xs : List Instr) → AllNeeds xs → Here at (own line xs)
@@ -82,25 +105,33 @@ module _ (p : Program) (tables : Tables) (code : PlainCode) (checked : IsChecked
 
   -- ---- parts that have code only where they have slots
 
-  once : (line at lo : ℕ) (e : Expr) → SlotsOf lo (unless_bare (bare e) (expr_slots p r e)) → (SlotsOf lo (expr_slots p r e) → Here at (expr_code p tables r line at lo e)) → Here at (unless_bare (bare e) (expr_code p tables r line at lo e))
-  once line at lo e slots f = pieces.unless code r 0 at (bare e) (expr_code p tables r line at lo e) (λ none. f (values.none_slots p tables code checked w r lt (bare e) lo (expr_slots p r e) none slots))
+  once : (line at lo : ℕ) (e : Expr) → SlotsOf lo (unless_bare (bare e) (expr_slots p r e))
+      → (SlotsOf lo (expr_slots p r e) → Here at (expr_code p tables r line at lo e))
+      → Here at (unless_bare (bare e) (expr_code p tables r line at lo e))
+  once line at lo e slots f = pieces.unless code r 0 at (bare e) (expr_code p tables r line at lo e)
+      (λ none. f (values.none_slots p tables code checked w r lt (bare e) lo (expr_slots p r e) none slots))
 
-  located : (line at lo : ℕ) (d : Desig) → (bare_desig d ≡ None → SlotsOf lo (desig_slots p r d)) → (SlotsOf lo (desig_slots p r d) → Here at (desig_code p tables r line at lo d)) → Here at (unless_bare (bare_desig d) (desig_code p tables r line at lo d))
+  located : (line at lo : ℕ) (d : Desig) → (bare_desig d ≡ None → SlotsOf lo (desig_slots p r d))
+      → (SlotsOf lo (desig_slots p r d) → Here at (desig_code p tables r line at lo d))
+      → Here at (unless_bare (bare_desig d) (desig_code p tables r line at lo d))
   located line at lo d slots f = pieces.unless code r 0 at (bare_desig d) (desig_code p tables r line at lo d) (λ none. f (slots none))
 
-  target_slots : (lo : ℕ) (d : Desig) → SlotsOf lo (unless_bare (bare_desig d) (desig_slots p r d)) → bare_desig d ≡ None → SlotsOf lo (desig_slots p r d)
+  target_slots : (lo : ℕ) (d : Desig) → SlotsOf lo (unless_bare (bare_desig d) (desig_slots p r d)) → bare_desig d ≡ None
+      → SlotsOf lo (desig_slots p r d)
   target_slots lo d slots none = values.none_slots p tables code checked w r lt (bare_desig d) lo (desig_slots p r d) none slots
 
   -- ---- conditions
 
   abbrev condition_code : (line at lo none : ℕ) → Test → List Lined
-  condition_code line at lo none t = condition (is_simple t) line at lo none (λ at lo none. jump_code p tables r line at lo none t) (λ at lo. test_code p tables r line at lo t)
+  condition_code line at lo none t = condition (is_simple t) line at lo none (λ at lo none. jump_code p tables r line at lo none t)
+      (λ at lo. test_code p tables r line at lo t)
 
   abbrev guarded_code : (line at lo skipped : ℕ) → Test → ((at : ℕ) → List Lined) → List Lined
   guarded_code line at lo skipped t body = guarded at skipped (λ none. condition_code line at lo none t) body
 
   jump_long : (line at lo a b : ℕ) (t : Test) → length (jump_code p tables r line at lo a t) ≡ length (jump_code p tables r line at lo b t)
-  jump_long line at lo a b (Value x) = length-append _ (own line (I.JumpZero _ a ∷ [])) ∙ sym (length-append _ (own line (I.JumpZero _ b ∷ [])))
+  jump_long line at lo a b (Value x) = length-append _ (own line (I.JumpZero _ a ∷ []))
+      ∙ sym (length-append _ (own line (I.JumpZero _ b ∷ [])))
   jump_long line at lo a b (Bind d x range left) = refl
   jump_long line at lo a b (Unify d range x range') = refl
   jump_long line at lo a b (SameCells d x) = refl
@@ -113,7 +144,9 @@ module _ (p : Program) (tables : Tables) (code : PlainCode) (checked : IsChecked
   condition_long : (line at lo none : ℕ) (t : Test) → length (condition_code line at lo none t) ≡ length (condition_code line at lo 0 t)
   condition_long line at lo none t = by (is_simple t)
     where
-      by : (z : Bool) → length (condition z line at lo none (λ at lo none. jump_code p tables r line at lo none t) (λ at lo. test_code p tables r line at lo t)) ≡ length (condition z line at lo 0 (λ at lo none. jump_code p tables r line at lo none t) (λ at lo. test_code p tables r line at lo t))
+      by : (z : Bool) → length (condition z line at lo none (λ at lo none. jump_code p tables r line at lo none t)
+          (λ at lo. test_code p tables r line at lo t)) ≡ length
+          (condition z line at lo 0 (λ at lo none. jump_code p tables r line at lo none t) (λ at lo. test_code p tables r line at lo t))
       by true = jump_long line at lo none 0 t
       by false = refl
 
@@ -130,30 +163,39 @@ module _ (p : Program) (tables : Tables) (code : PlainCode) (checked : IsChecked
   marked_slots true lo xs h e = absurd (let bad : true ≡ false = e in cc)
 
   -- a condition that goes on at an address of the routine where it has no alternative
-  decides : (line at lo none : ℕ) (t : Test) → SlotsOf lo (mark_slots (is_simple t) ++ test_slots p r t) → (SlotsOf lo (test_slots p r t) → Here at (jump_code p tables r line at lo none t))
-      → ((at lo : ℕ) → SlotsOf lo (test_slots p r t) → Here at (test_code p tables r line at lo t)) → IsInside code r none → Here at (condition_code line at lo none t)
+  decides : (line at lo none : ℕ) (t : Test) → SlotsOf lo (mark_slots (is_simple t) ++ test_slots p r t)
+      → (SlotsOf lo (test_slots p r t) → Here at (jump_code p tables r line at lo none t))
+      → ((at lo : ℕ) → SlotsOf lo (test_slots p r t) → Here at (test_code p tables r line at lo t)) → IsInside code r none
+      → Here at (condition_code line at lo none t)
   decides line at lo none t slots j f out =
-      pieces.condition_fits code r (is_simple t) 0 line at lo none (λ at lo none. jump_code p tables r line at lo none t) (λ at lo. test_code p tables r line at lo t)
+      pieces.condition_fits code r (is_simple t) 0 line at lo none (λ at lo none. jump_code p tables r line at lo none t)
+      (λ at lo. test_code p tables r line at lo t)
       (λ simple. j (simple_slots (is_simple t) lo (test_slots p r t) slots simple)) (mark_of (is_simple t) lo (test_slots p r t) slots)
       (λ marked. f (at + 2) (lo + 1) (marked_slots (is_simple t) lo (test_slots p r t) slots marked)) out
 
-  guards : (line at lo skipped : ℕ) (t : Test) (body : (at : ℕ) → List Lined) → SlotsOf lo (mark_slots (is_simple t) ++ test_slots p r t) → ((none : ℕ) → IsInside code r none → SlotsOf lo (test_slots p r t) → Here at (jump_code p tables r line at lo none t))
-      → ((at lo : ℕ) → SlotsOf lo (test_slots p r t) → Here at (test_code p tables r line at lo t)) → ((at : ℕ) → Here at (body at)) → Fits code r skipped at (guarded_code line at lo skipped t body)
+  guards : (line at lo skipped : ℕ) (t : Test) (body : (at : ℕ) → List Lined) → SlotsOf lo (mark_slots (is_simple t) ++ test_slots p r t)
+      → ((none : ℕ) → IsInside code r none → SlotsOf lo (test_slots p r t) → Here at (jump_code p tables r line at lo none t))
+      → ((at lo : ℕ) → SlotsOf lo (test_slots p r t) → Here at (test_code p tables r line at lo t)) → ((at : ℕ) → Here at (body at))
+      → Fits code r skipped at (guarded_code line at lo skipped t body)
   guards line at lo skipped t body slots j f b =
-      pieces.guarded_fits code r at skipped (λ none. condition_code line at lo none t) body (λ none. condition_long line at lo none t) (λ none out. decides line at lo none t slots (j none out) f out) b
+      pieces.guarded_fits code r at skipped (λ none. condition_code line at lo none t) body (λ none. condition_long line at lo none t)
+      (λ none out. decides line at lo none t slots (j none out) f out) b
 
   -- the slots of a condition, and those behind it
-  condition_slots : (lo : ℕ) (z : Bool) (xs ys : List SlotKind) → SlotsOf lo (mark_slots z ++ (xs ++ ys)) → SlotsOf lo (mark_slots z ++ xs) × SlotsOf (lo + length (mark_slots z) + length xs) ys
+  condition_slots : (lo : ℕ) (z : Bool) (xs ys : List SlotKind) → SlotsOf lo (mark_slots z ++ (xs ++ ys)) → SlotsOf lo (mark_slots z ++ xs)
+      × SlotsOf (lo + length (mark_slots z) + length xs) ys
   condition_slots lo z xs ys h = (
     front lo (mark_slots z ++ xs) ys (subst (SlotsOf lo) (sym (append_assoc (mark_slots z) xs ys)) h),
     back (lo + length (mark_slots z)) xs ys (back lo (mark_slots z) (xs ++ ys) h),
   )
 
   -- the slots of a condition, of what it guards, and those behind
-  arm_parts : (lo : ℕ) (a b c d e : List SlotKind) → SlotsOf lo ((a ++ (b ++ (c ++ d))) ++ e) → SlotsOf lo (a ++ b) × SlotsOf (lo + length a + length b) c × SlotsOf (lo + length a + length b + length c) (d ++ e)
+  arm_parts : (lo : ℕ) (a b c d e : List SlotKind) → SlotsOf lo ((a ++ (b ++ (c ++ d))) ++ e) → SlotsOf lo (a ++ b)
+      × SlotsOf (lo + length a + length b) c × SlotsOf (lo + length a + length b + length c) (d ++ e)
   arm_parts lo a b c d e h =
       let flat : SlotsOf lo (a ++ (b ++ (c ++ (d ++ e)))) =
-      subst (SlotsOf lo) (append_assoc a (b ++ (c ++ d)) e ∙ ap (λ x. a ++ x) (append_assoc b (c ++ d) e ∙ ap (λ x. b ++ x) (append_assoc c d e))) h in
+      subst (SlotsOf lo) (append_assoc a (b ++ (c ++ d)) e
+      ∙ ap (λ x. a ++ x) (append_assoc b (c ++ d) e ∙ ap (λ x. b ++ x) (append_assoc c d e))) h in
       let behind_a = back lo a (b ++ (c ++ (d ++ e))) flat in
       let behind_b = back (lo + length a) b (c ++ (d ++ e)) behind_a in (
         front lo (a ++ b) (c ++ (d ++ e)) (subst (SlotsOf lo) (sym (append_assoc a b (c ++ (d ++ e)))) flat),
@@ -174,7 +216,8 @@ module _ (p : Program) (tables : Tables) (code : PlainCode) (checked : IsChecked
 
   -- ---- a value as a test
 
-  unequal_fits : (line at lo : ℕ) (x y : Expr) → Here at (expr_code p tables r line at lo (Compare cmp.Unequal x y)) → Here at (test_code p tables r line at lo (Value (Compare cmp.Unequal x y)))
+  unequal_fits : (line at lo : ℕ) (x y : Expr) → Here at (expr_code p tables r line at lo (Compare cmp.Unequal x y))
+      → Here at (test_code p tables r line at lo (Value (Compare cmp.Unequal x y)))
   unequal_fits line at lo x y f room =
       let operand : ℕ = value_at p tables r (behind_expr p r lo x) y in
       let operands : List Lined = compared_code p tables r line at lo x y in
@@ -184,14 +227,20 @@ module _ (p : Program) (tables : Tables) (code : PlainCode) (checked : IsChecked
       let long = length-append operands end in
       let all = f (record { low = room.low; high = omega (arith, room.high, long, length-append operands value) }) in
       let equal = each_of_back (pieces.NeedsOf code r) operands value all in
-      let out : IsInside code r (at + length operands + 3) = record { low = omega (arith, room.low); high = omega (arith, room.high, long) } in
-      each_of_append (pieces.NeedsOf code r) operands end (each_of_front (pieces.NeedsOf code r) operands value all) (equal.0, ((equal.0.0, out), (tt, tt)))
+      let out : IsInside code r (at + length operands + 3) =
+      record { low = omega (arith, room.low); high = omega (arith, room.high, long) } in
+      each_of_append (pieces.NeedsOf code r) operands end (each_of_front (pieces.NeedsOf code r) operands value all)
+      (equal.0, ((equal.0.0, out), (tt, tt)))
 
-  value_fits : (line at lo : ℕ) (e : Expr) → Fine (expr_phrases e) → SlotsOf lo (unless_bare (bare e) (expr_slots p r e)) → Here at (unless_bare (bare e) (expr_code p tables r line at lo e)) → Tested p tables r e → Here at (test_code p tables r line at lo (Value e))
+  value_fits : (line at lo : ℕ) (e : Expr) → Fine (expr_phrases e) → SlotsOf lo (unless_bare (bare e) (expr_slots p r e))
+      → Here at (unless_bare (bare e) (expr_code p tables r line at lo e)) → Tested p tables r e
+      → Here at (test_code p tables r line at lo (Value e))
   value_fits line at lo e good slots f (as_value is) =
-      subst (Here at) (sym (is line at lo)) (then_own at line (unless_bare (bare e) (expr_code p tables r line at lo e)) (I.Check (value_at p tables r lo e) ∷ []) f (number lo e good slots, tt))
+      subst (Here at) (sym (is line at lo)) (then_own at line (unless_bare (bare e) (expr_code p tables r line at lo e))
+      (I.Check (value_at p tables r lo e) ∷ []) f (number lo e good slots, tt))
   value_fits line at lo e good slots f (as_unequal x y same) =
-      subst (λ z. Here at (test_code p tables r line at lo (Value z))) (sym same) (unequal_fits line at lo x y (subst (λ z. Here at (unless_bare (bare z) (expr_code p tables r line at lo z))) same f))
+      subst (λ z. Here at (test_code p tables r line at lo (Value z))) (sym same)
+      (unequal_fits line at lo x y (subst (λ z. Here at (unless_bare (bare z) (expr_code p tables r line at lo z))) same f))
 
   -- ---- READ and RETURN
 
@@ -199,8 +248,10 @@ module _ (p : Program) (tables : Tables) (code : PlainCode) (checked : IsChecked
   read_needs read_as.Int place range a b = (a, b)
   read_needs read_as.Char place range a b = (a, b)
 
-  result_needs : (value : ℕ) → IsSome (routine_at p r).result → Number code r value → AllNeeds (fit_result p tables r (routine_at p r).result value ++ (I.ReturnValue value ∷ []))
-  result_needs value some n = each_of_append (Needs code r) (fit_result p tables r (routine_at p r).result value) (I.ReturnValue value ∷ []) (fits (routine_at p r).result refl) ((n, w.results r lt ∙ is (routine_at p r).result some), tt)
+  result_needs : (value : ℕ) → IsSome (routine_at p r).result → Number code r value
+      → AllNeeds (fit_result p tables r (routine_at p r).result value ++ (I.ReturnValue value ∷ []))
+  result_needs value some n = each_of_append (Needs code r) (fit_result p tables r (routine_at p r).result value) (I.ReturnValue value ∷ [])
+      (fits (routine_at p r).result refl) ((n, w.results r lt ∙ is (routine_at p r).result some), tt)
     where
       fits : (o : Option Range) → (routine_at p r).result ≡ o → AllNeeds (fit_result p tables r o value)
       fits None e = tt
@@ -219,26 +270,38 @@ module _ (p : Program) (tables : Tables) (code : PlainCode) (checked : IsChecked
 
   -- ---- a value that goes straight into a variable, or what sets the variable
 
-  set_fits : (o : Option ℕ) (at line lo : ℕ) (d : Desig) (e : Expr) (range : Range) (value : List Lined) (set : List Instr) → goes_straight d e range ≡ o → Fine (desig_phrases d) → desig_cells d ≡ 1 → Here at value → AllNeeds set → Here at (set_to p tables r o line value set)
+  set_fits : (o : Option ℕ) (at line lo : ℕ) (d : Desig) (e : Expr) (range : Range) (value : List Lined) (set : List Instr)
+      → goes_straight d e range ≡ o → Fine (desig_phrases d) → desig_cells d ≡ 1 → Here at value → AllNeeds set
+      → Here at (set_to p tables r o line value set)
   set_fits (Some to) at line lo d e range value set is good cell f needs =
-      pieces.straight_fits code r (own_slot p tables r to) at value (subst (values.BareIs p tables code checked w r lt) (straight_variable d e range to is) (values.bare_variable p tables code checked w r lt d good cell)) f
+      pieces.straight_fits code r (own_slot p tables r to) at value
+      (subst (values.BareIs p tables code checked w r lt) (straight_variable d e range to is)
+      (values.bare_variable p tables code checked w r lt d good cell)) f
   set_fits None at line lo d e range value set is good cell f needs = then_own at line value set f needs
 
   -- ---- the count of a turn
 
-  count_needs : (o : Option ℕ) (range : Range) (counter lo : ℕ) → HoldsChecked tables range → Number code r counter → (o ≡ None → Number code r lo) → AllNeeds (count_code p tables r o range counter lo) × Number code r (count_at p tables r o counter lo)
+  count_needs : (o : Option ℕ) (range : Range) (counter lo : ℕ) → HoldsChecked tables range → Number code r counter
+      → (o ≡ None → Number code r lo) → AllNeeds (count_code p tables r o range counter lo)
+      × Number code r (count_at p tables r o counter lo)
   count_needs (Some to) range counter lo h n m = (values.fit_needs p tables code checked w r lt range counter h n, n)
   count_needs None range counter lo h n m = let k = m refl in (((k, n), values.fit_needs p tables code checked w r lt range lo h k), k)
 
   abbrev turn_of : (line at counter lo : ℕ) → Desig → Range → ((at : ℕ) → List Lined) → List Lined
   turn_of line at counter lo d range body =
-      turn_code line at (count_code p tables r (bare_desig d) range counter lo) (λ at. unless_bare (bare_desig d) (desig_code p tables r line at (lo + 1) d)) (set_code p tables r (lo + 1) (count_at p tables r (bare_desig d) counter lo) d) body
+      turn_code line at (count_code p tables r (bare_desig d) range counter lo)
+      (λ at. unless_bare (bare_desig d) (desig_code p tables r line at (lo + 1) d))
+      (set_code p tables r (lo + 1) (count_at p tables r (bare_desig d) counter lo) d) body
 
-  turn : (line at counter lo : ℕ) (d : Desig) (range : Range) (body : (at : ℕ) → List Lined) → HoldsChecked tables range → desig_cells d ≡ 1 → Fine (desig_phrases d) → Number code r counter → SlotsOf lo (unless_bare (bare_desig d) (slot.Number ∷ desig_slots p r d))
-      → ((at lo : ℕ) → SlotsOf lo (desig_slots p r d) → Here at (desig_code p tables r line at lo d)) → ((at : ℕ) → Here at (body at)) → Here at (turn_of line at counter lo d range body)
+  turn : (line at counter lo : ℕ) (d : Desig) (range : Range) (body : (at : ℕ) → List Lined) → HoldsChecked tables range → desig_cells d ≡ 1
+      → Fine (desig_phrases d) → Number code r counter → SlotsOf lo (unless_bare (bare_desig d) (slot.Number ∷ desig_slots p r d))
+      → ((at lo : ℕ) → SlotsOf lo (desig_slots p r d) → Here at (desig_code p tables r line at lo d)) → ((at : ℕ) → Here at (body at))
+      → Here at (turn_of line at counter lo d range body)
   turn line at counter lo d range body held cell good n slots f b =
       let c = count_needs (bare_desig d) range counter lo held n (λ none. first_slot lo slot.Number (desig_slots p r d) (own_slots none)) in
-      pieces.turn_fits code r line at (count_code p tables r (bare_desig d) range counter lo) (λ at. unless_bare (bare_desig d) (desig_code p tables r line at (lo + 1) d)) (set_code p tables r (lo + 1) (count_at p tables r (bare_desig d) counter lo) d) body
+      pieces.turn_fits code r line at (count_code p tables r (bare_desig d) range counter lo)
+      (λ at. unless_bare (bare_desig d) (desig_code p tables r line at (lo + 1) d))
+      (set_code p tables r (lo + 1) (count_at p tables r (bare_desig d) counter lo) d) body
       c.0 (λ at. located line at (lo + 1) d place_slots (f at (lo + 1)))
       (values.set_needs p tables code checked w r lt (lo + 1) (count_at p tables r (bare_desig d) counter lo) d good cell place_slots c.1) b
     where
@@ -253,7 +316,8 @@ module _ (p : Program) (tables : Tables) (code : PlainCode) (checked : IsChecked
 
     -- ---- designators
 
-    desig_fits : (line at lo : ℕ) (d : Desig) → Fine (desig_phrases d) → SlotsOf lo (desig_slots p r d) → Here at (desig_code p tables r line at lo d)
+    desig_fits : (line at lo : ℕ) (d : Desig) → Fine (desig_phrases d) → SlotsOf lo (desig_slots p r d)
+        → Here at (desig_code p tables r line at lo d)
     desig_fits line at lo (a_desig x cells sels) good slots =
         let o : Option ℕ = own_root x sels in
         let placed : List Lined = own line (root_code p tables r lo x) in
@@ -261,24 +325,36 @@ module _ (p : Program) (tables : Tables) (code : PlainCode) (checked : IsChecked
         let from : ℕ = slot_or p tables r o lo in
         let lo2 : ℕ = behind_root p tables r lo x in
         row at one (sels_code p tables r line (at + length one) from lo2 sels)
-        (pieces.unless code r 0 at o placed (λ none. own_fits at line (root_code p tables r lo x) (roots.root_needs p tables code checked w r lt lo cells x (sels_slots p r sels) good.0.0 slots)))
-        (sels_fit line (at + length one) from lo2 cells sels good.1 (values.root_place p tables code checked w r lt o lo cells x sels refl good.0.0 (first_slot lo (slot.Place cells) (root_slots p r x ++ sels_slots p r sels) slots)) good.0.1 (values.sels_behind p tables code checked w r lt lo cells x sels slots))
+        (pieces.unless code r 0 at o placed (λ none. own_fits at line (root_code p tables r lo x)
+        (roots.root_needs p tables code checked w r lt lo cells x (sels_slots p r sels) good.0.0 slots)))
+        (sels_fit line (at + length one) from lo2 cells sels good.1
+        (values.root_place p tables code checked w r lt o lo cells x sels refl good.0.0
+        (first_slot lo (slot.Place cells) (root_slots p r x ++ sels_slots p r sels) slots)) good.0.1
+        (values.sels_behind p tables code checked w r lt lo cells x sels slots))
 
-    sels_fit : (line at from lo size : ℕ) (sels : Sels) → Fine (sels_phrases sels) → Place code r from size → ArePartsOf sels size → SlotsOf lo (sels_slots p r sels) → Here at (sels_code p tables r line at from lo sels)
+    sels_fit : (line at from lo size : ℕ) (sels : Sels) → Fine (sels_phrases sels) → Place code r from size → ArePartsOf sels size
+        → SlotsOf lo (sels_slots p r sels) → Here at (sels_code p tables r line at from lo sels)
     sels_fit line at from lo size no_sels good place parts slots = λ room. tt
     sels_fit line at from lo size (more_sels x rest) good place parts slots =
         let one : List Lined = sel_code p tables r line at from lo x in
         let part : ℕ = part_slot p tables r lo x in
         let mine = front lo (sel_slots p r x) (sels_slots p r rest) slots in
-        row at one (sels_code p tables r line (at + length one) part (part + 1) rest) (sel_fits line at from lo size x (fine_front (sel_phrases x) (sels_phrases rest) good) place parts.0 mine)
-        (sels_fit line (at + length one) part (part + 1) (sel_cells x) rest (fine_back (sel_phrases x) (sels_phrases rest) good) (values.part_place p tables code checked w r lt lo x mine) parts.1 (values.behind_part p tables code checked w r lt lo x rest slots))
+        row at one (sels_code p tables r line (at + length one) part (part + 1) rest)
+        (sel_fits line at from lo size x (fine_front (sel_phrases x) (sels_phrases rest) good) place parts.0 mine)
+        (sels_fit line (at + length one) part (part + 1) (sel_cells x) rest (fine_back (sel_phrases x) (sels_phrases rest) good)
+        (values.part_place p tables code checked w r lt lo x mine) parts.1
+        (values.behind_part p tables code checked w r lt lo x rest slots))
 
-    sel_fits : (line at from lo size : ℕ) (x : Sel) → Fine (sel_phrases x) → Place code r from size → IsPart x size → SlotsOf lo (sel_slots p r x) → Here at (sel_code p tables r line at from lo x)
+    sel_fits : (line at from lo size : ℕ) (x : Sel) → Fine (sel_phrases x) → Place code r from size → IsPart x size
+        → SlotsOf lo (sel_slots p r x) → Here at (sel_code p tables r line at from lo x)
     sel_fits line at from lo size (Field offset cells) good place part slots =
-        own_fits at line (I.Field lo from offset ∷ []) (record { part = cells; cells = size; place = first_slot lo (slot.Place cells) [] slots; whole = place; fits = part }, tt)
+        own_fits at line (I.Field lo from offset ∷ [])
+        (record { part = cells; cells = size; place = first_slot lo (slot.Place cells) [] slots; whole = place; fits = part }, tt)
     sel_fits line at from lo size (Index e range cells) good place part slots =
         let mine = front lo (unless_bare (bare e) (expr_slots p r e)) (slot.Place cells ∷ []) slots in
-        then_own at line (unless_bare (bare e) (expr_code p tables r line at lo e)) (I.Index (behind_value p r lo e) from (value_at p tables r lo e) (range_number tables range) ∷ []) (once line at lo e mine (expr_fits line at lo e good.1)) (
+        then_own at line (unless_bare (bare e) (expr_code p tables r line at lo e))
+        (I.Index (behind_value p r lo e) from (value_at p tables r lo e) (range_number tables range) ∷ [])
+        (once line at lo e mine (expr_fits line at lo e good.1)) (
           record {
             part = cells;
             cells = size;
@@ -294,14 +370,17 @@ module _ (p : Program) (tables : Tables) (code : PlainCode) (checked : IsChecked
 
     -- ---- expressions
 
-    expr_fits : (line at lo : ℕ) (e : Expr) → Fine (expr_phrases e) → SlotsOf lo (expr_slots p r e) → Here at (expr_code p tables r line at lo e)
+    expr_fits : (line at lo : ℕ) (e : Expr) → Fine (expr_phrases e) → SlotsOf lo (expr_slots p r e)
+        → Here at (expr_code p tables r line at lo e)
     expr_fits line at lo (Const n) good slots = own_fits at line (I.Const lo n ∷ []) (first_slot lo slot.Number [] slots, tt)
     expr_fits line at lo (Load d) good slots =
         let inner = back lo (slot.Number ∷ []) (unless_bare (bare_desig d) (desig_slots p r d)) slots in
         let place : List Lined = desig_code p tables r line at (lo + 1) d in
         let one : List Lined = unless_bare (own_place d) place in
         then_own at line (unless_bare (bare_desig d) one) (load_code p tables r lo d ∷ [])
-        (pieces.unless code r 0 at (bare_desig d) one (λ none. pieces.unless code r 0 at (own_place d) place (λ other. desig_fits line at (lo + 1) d good.1 (target_slots (lo + 1) d inner none))))
+        (pieces.unless code r 0 at (bare_desig d) one
+        (λ none. pieces.unless code r 0 at (own_place d) place
+        (λ other. desig_fits line at (lo + 1) d good.1 (target_slots (lo + 1) d inner none))))
         (values.load_needs p tables code checked w r lt lo d good.1 good.0 slots, tt)
     expr_fits line at lo (Chain negated e links) good slots =
         let mine = front lo (expr_slots p r e) (links_slots p r links) slots in
@@ -311,10 +390,14 @@ module _ (p : Program) (tables : Tables) (code : PlainCode) (checked : IsChecked
         let one : List Lined = inner ++ own line (neg_code negated lo) in
         let first : ℕ = slot_or p tables r o lo in
         let good_e = fine_front (expr_phrases e) (links_phrases links) good.1 in
-        let there = as_stays_in (values.BareIs p tables code checked w r lt) negated e links tt (values.bare_value p tables code checked w r lt e good_e) in
+        let there = as_stays_in (values.BareIs p tables code checked w r lt) negated e links tt
+        (values.bare_value p tables code checked w r lt e good_e) in
         row at one (links_code p tables r line (at + length one) first lo (behind_expr p r lo e) links)
-        (then_own at line inner (neg_code negated lo) (pieces.unless code r 0 at o (expr_code p tables r line at lo e) (λ none. expr_fits line at lo e good_e mine)) (values.neg_needs p tables code checked w r lt negated lo n))
-        (links_fit line (at + length one) first lo (behind_expr p r lo e) links (fine_back (expr_phrases e) (links_phrases links) good.1) (values.first_number p tables code checked w r lt o lo there n) n (back lo (expr_slots p r e) (links_slots p r links) slots))
+        (then_own at line inner (neg_code negated lo)
+        (pieces.unless code r 0 at o (expr_code p tables r line at lo e) (λ none. expr_fits line at lo e good_e mine))
+        (values.neg_needs p tables code checked w r lt negated lo n))
+        (links_fit line (at + length one) first lo (behind_expr p r lo e) links (fine_back (expr_phrases e) (links_phrases links) good.1)
+        (values.first_number p tables code checked w r lt o lo there n) n (back lo (expr_slots p r e) (links_slots p r links) slots))
     expr_fits line at lo (Compare how x y) good slots =
         let lo2 : ℕ = behind_expr p r lo x in
         let one : List Lined = unless_bare (stays x y) (expr_code p tables r line at lo x) in
@@ -325,25 +408,38 @@ module _ (p : Program) (tables : Tables) (code : PlainCode) (checked : IsChecked
         let good_y = fine_back (expr_phrases x) (expr_phrases y) good.1 in
         let good_x = fine_front (expr_phrases x) (expr_phrases y) good.1 in
         let n = values.expr_number p tables code checked w r lt lo x mine in
-        let there = as_stays (values.BareIs p tables code checked w r lt) x y tt (values.bare_value p tables code checked w r lt x good_x) in
+        let there = as_stays (values.BareIs p tables code checked w r lt) x y tt
+        (values.bare_value p tables code checked w r lt x good_x) in
         then_own at line (one ++ two) (cmp_code how lo first (value_at p tables r lo2 y))
-        (row at one two (pieces.unless code r 0 at (stays x y) (expr_code p tables r line at lo x) (λ none. expr_fits line at lo x good_x mine)) (once line (at + length one) lo2 y others (expr_fits line (at + length one) lo2 y good_y)))
-        (values.cmp_needs p tables code checked w r lt how lo first (value_at p tables r lo2 y) n (values.first_number p tables code checked w r lt (stays x y) lo there n) (number lo2 y good_y others))
+        (row at one two (pieces.unless code r 0 at (stays x y) (expr_code p tables r line at lo x)
+        (λ none. expr_fits line at lo x good_x mine))
+        (once line (at + length one) lo2 y others (expr_fits line (at + length one) lo2 y good_y)))
+        (values.cmp_needs p tables code checked w r lt how lo first (value_at p tables r lo2 y) n
+        (values.first_number p tables code checked w r lt (stays x y) lo there n) (number lo2 y good_y others))
     expr_fits line at lo (Truth t) good slots =
         let inner = back lo (slot.Number ∷ []) (mark_slots (is_simple t) ++ test_slots p r t) slots in
         let one : List Lined = guarded_code line at (lo + 1) 2 t (λ next. []) in
         let last : List Lined = truth_code line lo (at + length one) in
         pieces.in_two code r 0 at one last
         (pieces.less_spare code r (length last + 0) 2 at one (omega arith)
-        (guards line at (lo + 1) 2 t (λ next. []) inner (λ none out s. jump_fits line at (lo + 1) none t good.1 out s) (λ at lo s. test_fits line at lo t good.1 s) (λ at room. tt)))
-        (pieces.truth_fits code r line lo (at + length one) (first_slot lo slot.Number (mark_slots (is_simple t) ++ test_slots p r t) slots))
+        (guards line at (lo + 1) 2 t (λ next. []) inner (λ none out s. jump_fits line at (lo + 1) none t good.1 out s)
+        (λ at lo s. test_fits line at lo t good.1 s) (λ at room. tt)))
+        (pieces.truth_fits code r line lo (at + length one)
+        (first_slot lo slot.Number (mark_slots (is_simple t) ++ test_slots p r t) slots))
     expr_fits line at lo (Known d) good slots =
         let inner = back lo (slot.Number ∷ []) (desig_slots p r d) slots in
         let place : List Lined = desig_code p tables r line at (lo + 1) d in
-        then_own at line (unless_bare (own_place d) place) (I.Known lo (held_at p tables r (lo + 1) d) ∷ []) (pieces.unless code r 0 at (own_place d) place (λ other. desig_fits line at (lo + 1) d good.1 inner))
-        ((first_slot lo slot.Number (desig_slots p r d) slots, values.held_place p tables code checked w r lt (lo + 1) d good.1 good.0 inner), tt)
+        then_own at line (unless_bare (own_place d) place) (I.Known lo (held_at p tables r (lo + 1) d) ∷ [])
+        (pieces.unless code r 0 at (own_place d) place (λ other. desig_fits line at (lo + 1) d good.1 inner)) (
+          (
+            first_slot lo slot.Number (desig_slots p r d) slots,
+            values.held_place p tables code checked w r lt (lo + 1) d good.1 good.0 inner,
+          ),
+          tt,
+        )
     expr_fits line at lo (Chr e) good slots =
-        then_own at line (expr_code p tables r line at lo e) (I.InRange lo (range_number tables char_range) ∷ []) (expr_fits line at lo e good.1 slots)
+        then_own at line (expr_code p tables r line at lo e) (I.InRange lo (range_number tables char_range) ∷ [])
+        (expr_fits line at lo e good.1 slots)
         ((values.expr_number p tables code checked w r lt lo e slots, values.is_range p tables code checked w r lt char_range good.0), tt)
     expr_fits line at lo (CallExpr called args up) good slots =
         let links = call_links p r called up in
@@ -357,11 +453,19 @@ module _ (p : Program) (tables : Tables) (code : PlainCode) (checked : IsChecked
         let n = first_slot lo slot.Number (slot.Mark ∷ (links ++ rest)) slots in
         let m = first_slot (lo + 1) slot.Mark (links ++ rest) (back lo (slot.Number ∷ []) (slot.Mark ∷ (links ++ rest)) slots) in
         then_own at line (one ++ two) (I.Mark (lo + 1) ∷ call_code p tables r called args up (lo + 2) lo ∷ I.Cut (lo + 1) ∷ [])
-        (row at one two (own_fits at line (call_link_code p tables r called up (lo + 2)) (values.call_link_needs p tables code checked w r lt called up (lo + 2) args good.0.0 (front (lo + 2) links rest inner)))
-        (args_fit line (at + length one) to lo2 args good.1 (front to (handed_slots args) (args_slots p r args) behind_links) (back to (handed_slots args) (args_slots p r args) behind_links)))
-        (m, (values.expr_call_needs p tables code checked w r lt called up (lo + 2) lo args (args_slots p r args) good.0.0 good.0.1 n inner, (m, tt)))
+        (row at one two (own_fits at line (call_link_code p tables r called up (lo + 2))
+        (values.call_link_needs p tables code checked w r lt called up (lo + 2) args good.0.0 (front (lo + 2) links rest inner)))
+        (args_fit line (at + length one) to lo2 args good.1 (front to (handed_slots args) (args_slots p r args) behind_links)
+        (back to (handed_slots args) (args_slots p r args) behind_links))) (
+          m,
+          (
+            values.expr_call_needs p tables code checked w r lt called up (lo + 2) lo args (args_slots p r args) good.0.0 good.0.1 n inner,
+            (m, tt),
+          ),
+        )
 
-    links_fit : (line at first to lo : ℕ) (links : Links) → Fine (links_phrases links) → Number code r first → Number code r to → SlotsOf lo (links_slots p r links) → Here at (links_code p tables r line at first to lo links)
+    links_fit : (line at first to lo : ℕ) (links : Links) → Fine (links_phrases links) → Number code r first → Number code r to
+        → SlotsOf lo (links_slots p r links) → Here at (links_code p tables r line at first to lo links)
     links_fit line at first to lo no_links good f n slots = λ room. tt
     links_fit line at first to lo (more_links how e rest) good f n slots =
         let before : List Lined = unless_bare (bare e) (expr_code p tables r line at lo e) in
@@ -369,47 +473,87 @@ module _ (p : Program) (tables : Tables) (code : PlainCode) (checked : IsChecked
         let mine = front lo (unless_bare (bare e) (expr_slots p r e)) (links_slots p r rest) slots in
         let good_e = fine_front (expr_phrases e) (links_phrases rest) good in
         row at one (links_code p tables r line (at + length one) to to (behind_value p r lo e) rest)
-        (then_own at line before (op_code how to first (value_at p tables r lo e) ∷ []) (once line at lo e mine (expr_fits line at lo e good_e)) (values.op_needs p tables code checked w r lt how to first (value_at p tables r lo e) n f (number lo e good_e mine), tt))
-        (links_fit line (at + length one) to to (behind_value p r lo e) rest (fine_back (expr_phrases e) (links_phrases rest) good) n n (back lo (unless_bare (bare e) (expr_slots p r e)) (links_slots p r rest) slots))
+        (then_own at line before (op_code how to first (value_at p tables r lo e) ∷ [])
+        (once line at lo e mine (expr_fits line at lo e good_e))
+        (values.op_needs p tables code checked w r lt how to first (value_at p tables r lo e) n f (number lo e good_e mine), tt))
+        (links_fit line (at + length one) to to (behind_value p r lo e) rest (fine_back (expr_phrases e) (links_phrases rest) good) n n
+        (back lo (unless_bare (bare e) (expr_slots p r e)) (links_slots p r rest) slots))
 
     -- ---- arguments
 
-    args_fit : (line at to lo : ℕ) (args : Args) → Fine (args_phrases args) → SlotsOf to (handed_slots args) → SlotsOf lo (args_slots p r args) → Here at (args_code p tables r line at to lo args)
+    args_fit : (line at to lo : ℕ) (args : Args) → Fine (args_phrases args) → SlotsOf to (handed_slots args)
+        → SlotsOf lo (args_slots p r args) → Here at (args_code p tables r line at to lo args)
     args_fit line at to lo no_args good places slots = λ room. tt
     args_fit line at to lo (more_args a rest) good places slots =
         let one : List Lined = arg_code p tables r line at to lo a in
         let lo2 : ℕ = lo + length (arg_slots p r a) in
         row at one (args_code p tables r line (at + length one) (to + 1) lo2 rest)
-        (arg_fits line at to lo a (fine_front (arg_phrases a) (args_phrases rest) good) (first_slot to (arg_kind a) (handed_slots rest) places) (front lo (arg_slots p r a) (args_slots p r rest) slots))
-        (args_fit line (at + length one) (to + 1) lo2 rest (fine_back (arg_phrases a) (args_phrases rest) good) (back to (arg_kind a ∷ []) (handed_slots rest) places) (back lo (arg_slots p r a) (args_slots p r rest) slots))
+        (arg_fits line at to lo a (fine_front (arg_phrases a) (args_phrases rest) good)
+        (first_slot to (arg_kind a) (handed_slots rest) places) (front lo (arg_slots p r a) (args_slots p r rest) slots))
+        (args_fit line (at + length one) (to + 1) lo2 rest (fine_back (arg_phrases a) (args_phrases rest) good)
+        (back to (arg_kind a ∷ []) (handed_slots rest) places) (back lo (arg_slots p r a) (args_slots p r rest) slots))
 
-    arg_fits : (line at to lo : ℕ) (a : Arg) → Fine (arg_phrases a) → HasKind code r to (arg_kind a) → SlotsOf lo (arg_slots p r a) → Here at (arg_code p tables r line at to lo a)
+    arg_fits : (line at to lo : ℕ) (a : Arg) → Fine (arg_phrases a) → HasKind code r to (arg_kind a) → SlotsOf lo (arg_slots p r a)
+        → Here at (arg_code p tables r line at to lo a)
     arg_fits line at to lo (ByValue e range) good k slots =
         let v : ℕ = value_at p tables r lo e in
         let n = number lo e good.1 slots in
-        then_own at line (unless_bare (bare e) (expr_code p tables r line at lo e)) (fit_code tables range v ++ (I.Move to v ∷ [])) (once line at lo e slots (expr_fits line at lo e good.1))
-        (each_of_append (Needs code r) (fit_code tables range v) (I.Move to v ∷ []) (values.fit_needs p tables code checked w r lt range v good.0 n) ((k, n), tt))
+        then_own at line (unless_bare (bare e) (expr_code p tables r line at lo e)) (fit_code tables range v ++ (I.Move to v ∷ []))
+        (once line at lo e slots (expr_fits line at lo e good.1))
+        (each_of_append (Needs code r) (fit_code tables range v) (I.Move to v ∷ [])
+        (values.fit_needs p tables code checked w r lt range v good.0 n) ((k, n), tt))
     arg_fits line at to lo (ByCells d) good k slots =
-        then_own at line (desig_code p tables r line at lo d) (I.Same to (place_at p tables r lo d) ∷ []) (desig_fits line at lo d good.1 slots)
-        (record { cells = slots_of.desig_cells d; first = k; second = subst (Place code r (place_at p tables r lo d)) (sym (same_cells d)) (values.desig_place p tables code checked w r lt lo d slots) }, tt)
+        then_own at line (desig_code p tables r line at lo d) (I.Same to (place_at p tables r lo d) ∷ [])
+        (desig_fits line at lo d good.1 slots) (
+          record {
+            cells = slots_of.desig_cells d;
+            first = k;
+            second =
+                subst (Place code r (place_at p tables r lo d)) (sym (same_cells d))
+                (values.desig_place p tables code checked w r lt lo d slots);
+          },
+          tt,
+        )
     arg_fits line at to lo (ByPlace d) good k slots =
-        then_own at line (desig_code p tables r line at lo d) (I.Same to (place_at p tables r lo d) ∷ []) (desig_fits line at lo d good.1 slots)
-        (record { cells = slots_of.desig_cells d; first = k; second = subst (Place code r (place_at p tables r lo d)) (sym (same_cells d)) (values.desig_place p tables code checked w r lt lo d slots) }, tt)
+        then_own at line (desig_code p tables r line at lo d) (I.Same to (place_at p tables r lo d) ∷ [])
+        (desig_fits line at lo d good.1 slots) (
+          record {
+            cells = slots_of.desig_cells d;
+            first = k;
+            second =
+                subst (Place code r (place_at p tables r lo d)) (sym (same_cells d))
+                (values.desig_place p tables code checked w r lt lo d slots);
+          },
+          tt,
+        )
     arg_fits line at to lo (MixValue e range) good k slots =
         let v : ℕ = value_at p tables r lo e in
         let n = number lo e good.1 slots in
-        then_own at line (unless_bare (bare e) (expr_code p tables r line at lo e)) (fit_code tables range v ++ (I.Move to v ∷ [])) (once line at lo e slots (expr_fits line at lo e good.1))
-        (each_of_append (Needs code r) (fit_code tables range v) (I.Move to v ∷ []) (values.fit_needs p tables code checked w r lt range v good.0 n) ((k, n), tt))
+        then_own at line (unless_bare (bare e) (expr_code p tables r line at lo e)) (fit_code tables range v ++ (I.Move to v ∷ []))
+        (once line at lo e slots (expr_fits line at lo e good.1))
+        (each_of_append (Needs code r) (fit_code tables range v) (I.Move to v ∷ [])
+        (values.fit_needs p tables code checked w r lt range v good.0 n) ((k, n), tt))
     arg_fits line at to lo (MixPlace d) good k slots =
-        then_own at line (desig_code p tables r line at lo d) (I.Same to (place_at p tables r lo d) ∷ []) (desig_fits line at lo d good.1 slots)
-        (record { cells = slots_of.desig_cells d; first = k; second = subst (Place code r (place_at p tables r lo d)) (sym (same_cells d)) (values.desig_place p tables code checked w r lt lo d slots) }, tt)
+        then_own at line (desig_code p tables r line at lo d) (I.Same to (place_at p tables r lo d) ∷ [])
+        (desig_fits line at lo d good.1 slots) (
+          record {
+            cells = slots_of.desig_cells d;
+            first = k;
+            second =
+                subst (Place code r (place_at p tables r lo d)) (sym (same_cells d))
+                (values.desig_place p tables code checked w r lt lo d slots);
+          },
+          tt,
+        )
 
     -- ---- tests
 
     -- a simple condition
-    jump_fits : (line at lo none : ℕ) (t : Test) → Fine (test_phrases t) → IsInside code r none → SlotsOf lo (test_slots p r t) → Here at (jump_code p tables r line at lo none t)
+    jump_fits : (line at lo none : ℕ) (t : Test) → Fine (test_phrases t) → IsInside code r none → SlotsOf lo (test_slots p r t)
+        → Here at (jump_code p tables r line at lo none t)
     jump_fits line at lo none (Value e) good out slots =
-        then_own at line (unless_bare (bare e) (expr_code p tables r line at lo e)) (I.JumpZero (value_at p tables r lo e) none ∷ []) (once line at lo e slots (expr_fits line at lo e good.1)) ((number lo e good.1 slots, out), tt)
+        then_own at line (unless_bare (bare e) (expr_code p tables r line at lo e)) (I.JumpZero (value_at p tables r lo e) none ∷ [])
+        (once line at lo e slots (expr_fits line at lo e good.1)) ((number lo e good.1 slots, out), tt)
     jump_fits line at lo none (Bind d e range left) good out slots = λ room. tt
     jump_fits line at lo none (Unify d range e range') good out slots = λ room. tt
     jump_fits line at lo none (SameCells d e) good out slots = λ room. tt
@@ -419,7 +563,8 @@ module _ (p : Program) (tables : Tables) (code : PlainCode) (checked : IsChecked
     jump_fits line at lo none (Not t) good out slots = λ room. tt
     jump_fits line at lo none (CallTest called args up) good out slots = λ room. tt
 
-    test_fits : (line at lo : ℕ) (t : Test) → Fine (test_phrases t) → SlotsOf lo (test_slots p r t) → Here at (test_code p tables r line at lo t)
+    test_fits : (line at lo : ℕ) (t : Test) → Fine (test_phrases t) → SlotsOf lo (test_slots p r t)
+        → Here at (test_code p tables r line at lo t)
     test_fits line at lo (Value e) good slots =
         value_fits line at lo e good.1 slots (once line at lo e slots (expr_fits line at lo e good.1)) (tested p tables r e)
     test_fits line at lo (Bind d e range true) good slots =
@@ -430,8 +575,15 @@ module _ (p : Program) (tables : Tables) (code : PlainCode) (checked : IsChecked
         let others = back lo (desig_slots p r d) (unless_bare (bare e) (expr_slots p r e)) slots in
         let good_e = fine_back (desig_phrases d) (expr_phrases e) good.1 in
         then_own at line (one ++ two) (I.Bind (place_at p tables r lo d) (value_at p tables r lo2 e) (range_number tables range) ∷ [])
-        (row at one two (desig_fits line at lo d (fine_front (desig_phrases d) (expr_phrases e) good.1) mine) (once line (at + length one) lo2 e others (expr_fits line (at + length one) lo2 e good_e)))
-        ((values.one_place p tables code checked w r lt lo d good.0.0 mine, number lo2 e good_e others, values.is_range p tables code checked w r lt range good.0.1), tt)
+        (row at one two (desig_fits line at lo d (fine_front (desig_phrases d) (expr_phrases e) good.1) mine)
+        (once line (at + length one) lo2 e others (expr_fits line (at + length one) lo2 e good_e))) (
+          (
+            values.one_place p tables code checked w r lt lo d good.0.0 mine,
+            number lo2 e good_e others,
+            values.is_range p tables code checked w r lt range good.0.1,
+          ),
+          tt,
+        )
     test_fits line at lo (Bind d e range false) good slots =
         let lo2 : ℕ = behind_expr p r lo e in
         let one : List Lined = expr_code p tables r line at lo e in
@@ -439,16 +591,25 @@ module _ (p : Program) (tables : Tables) (code : PlainCode) (checked : IsChecked
         let mine = front lo (expr_slots p r e) (desig_slots p r d) slots in
         let others = back lo (expr_slots p r e) (desig_slots p r d) slots in
         then_own at line (one ++ two) (I.Bind (place_at p tables r lo2 d) lo (range_number tables range) ∷ [])
-        (row at one two (expr_fits line at lo e (fine_back (desig_phrases d) (expr_phrases e) good.1) mine) (desig_fits line (at + length one) lo2 d (fine_front (desig_phrases d) (expr_phrases e) good.1) others))
-        ((values.one_place p tables code checked w r lt lo2 d good.0.0 others, values.expr_number p tables code checked w r lt lo e mine, values.is_range p tables code checked w r lt range good.0.1), tt)
+        (row at one two (expr_fits line at lo e (fine_back (desig_phrases d) (expr_phrases e) good.1) mine)
+        (desig_fits line (at + length one) lo2 d (fine_front (desig_phrases d) (expr_phrases e) good.1) others)) (
+          (
+            values.one_place p tables code checked w r lt lo2 d good.0.0 others,
+            values.expr_number p tables code checked w r lt lo e mine,
+            values.is_range p tables code checked w r lt range good.0.1,
+          ),
+          tt,
+        )
     test_fits line at lo (Unify d range e range') good slots =
         let lo2 : ℕ = behind_desig p r lo d in
         let one : List Lined = desig_code p tables r line at lo d in
         let two : List Lined = desig_code p tables r line (at + length one) lo2 e in
         let mine = front lo (desig_slots p r d) (desig_slots p r e) slots in
         let others = back lo (desig_slots p r d) (desig_slots p r e) slots in
-        then_own at line (one ++ two) (I.Unify (place_at p tables r lo d) (range_number tables range) (place_at p tables r lo2 e) (range_number tables range') ∷ [])
-        (row at one two (desig_fits line at lo d (fine_front (desig_phrases d) (desig_phrases e) good.1) mine) (desig_fits line (at + length one) lo2 e (fine_back (desig_phrases d) (desig_phrases e) good.1) others)) (
+        then_own at line (one ++ two) (I.Unify (place_at p tables r lo d) (range_number tables range) (place_at p tables r lo2 e)
+        (range_number tables range') ∷ [])
+        (row at one two (desig_fits line at lo d (fine_front (desig_phrases d) (desig_phrases e) good.1) mine)
+        (desig_fits line (at + length one) lo2 e (fine_back (desig_phrases d) (desig_phrases e) good.1) others)) (
           (
             values.one_place p tables code checked w r lt lo d good.0.0 mine,
             values.is_range p tables code checked w r lt range good.0.2,
@@ -464,13 +625,23 @@ module _ (p : Program) (tables : Tables) (code : PlainCode) (checked : IsChecked
         let mine = front lo (desig_slots p r d) (desig_slots p r e) slots in
         let others = back lo (desig_slots p r d) (desig_slots p r e) slots in
         then_own at line (one ++ two) (I.SameCells (place_at p tables r lo d) (place_at p tables r lo2 e) ∷ [])
-        (row at one two (desig_fits line at lo d (fine_front (desig_phrases d) (desig_phrases e) good.1) mine) (desig_fits line (at + length one) lo2 e (fine_back (desig_phrases d) (desig_phrases e) good.1) others))
-        (record { cells = desig_cells d; first = values.desig_place p tables code checked w r lt lo d mine; second = subst (Place code r (place_at p tables r lo2 e)) (sym good.0) (values.desig_place p tables code checked w r lt lo2 e others) }, tt)
+        (row at one two (desig_fits line at lo d (fine_front (desig_phrases d) (desig_phrases e) good.1) mine)
+        (desig_fits line (at + length one) lo2 e (fine_back (desig_phrases d) (desig_phrases e) good.1) others)) (
+          record {
+            cells = desig_cells d;
+            first = values.desig_place p tables code checked w r lt lo d mine;
+            second =
+                subst (Place code r (place_at p tables r lo2 e)) (sym good.0) (values.desig_place p tables code checked w r lt lo2 e others);
+          },
+          tt,
+        )
     test_fits line at lo (Seq x) good slots = stmts_fit at lo x good.1 slots
     test_fits line at lo (And ts) good slots = and_fits line at lo ts good.1 slots
     test_fits line at lo (Or ts) good slots = or_fits line at lo ts good.1 slots
     test_fits line at lo (Not t) good slots =
-        pieces.refused_fits code r line at lo (test_code p tables r line (at + 2) (lo + 1) t) (first_slot lo slot.Mark (test_slots p r t) slots) (test_fits line (at + 2) (lo + 1) t good.1 (back lo (slot.Mark ∷ []) (test_slots p r t) slots))
+        pieces.refused_fits code r line at lo (test_code p tables r line (at + 2) (lo + 1) t)
+        (first_slot lo slot.Mark (test_slots p r t) slots)
+        (test_fits line (at + 2) (lo + 1) t good.1 (back lo (slot.Mark ∷ []) (test_slots p r t) slots))
     test_fits line at lo (CallTest called args up) good slots =
         let links = call_links p r called up in
         let rest = handed_slots args ++ args_slots p r args in
@@ -480,19 +651,26 @@ module _ (p : Program) (tables : Tables) (code : PlainCode) (checked : IsChecked
         let lo2 : ℕ = to + length (handed_slots args) in
         let two : List Lined = args_code p tables r line (at + length one) to lo2 args in
         then_own at line (one ++ two) (call_code p tables r called args up lo 0 ∷ [])
-        (row at one two (own_fits at line (call_link_code p tables r called up lo) (values.call_link_needs p tables code checked w r lt called up lo args good.0.0 (front lo links rest slots)))
-        (args_fit line (at + length one) to lo2 args good.1 (front to (handed_slots args) (args_slots p r args) behind_links) (back to (handed_slots args) (args_slots p r args) behind_links)))
+        (row at one two (own_fits at line (call_link_code p tables r called up lo)
+        (values.call_link_needs p tables code checked w r lt called up lo args good.0.0 (front lo links rest slots)))
+        (args_fit line (at + length one) to lo2 args good.1 (front to (handed_slots args) (args_slots p r args) behind_links)
+        (back to (handed_slots args) (args_slots p r args) behind_links)))
         (values.test_call_needs p tables code checked w r lt called up lo args (args_slots p r args) good.0.0 good.0.1 slots, tt)
 
-    and_fits : (line at lo : ℕ) (ts : Tests) → Fine (tests_phrases ts) → SlotsOf lo (and_slots p r ts) → Here at (and_code p tables r line at lo ts)
+    and_fits : (line at lo : ℕ) (ts : Tests) → Fine (tests_phrases ts) → SlotsOf lo (and_slots p r ts)
+        → Here at (and_code p tables r line at lo ts)
     and_fits line at lo no_tests good slots = λ room. tt
     and_fits line at lo (more_tests t rest) good slots =
         let one : List Lined = test_code p tables r line at lo t in
         let lo2 : ℕ = behind_test p r lo t in
-        row at one (and_code p tables r line (at + length one) lo2 rest) (test_fits line at lo t (fine_front (test_phrases t) (tests_phrases rest) good) (front lo (test_slots p r t) (and_slots p r rest) slots))
-        (and_fits line (at + length one) lo2 rest (fine_back (test_phrases t) (tests_phrases rest) good) (back lo (test_slots p r t) (and_slots p r rest) slots))
+        row at one (and_code p tables r line (at + length one) lo2 rest)
+        (test_fits line at lo t (fine_front (test_phrases t) (tests_phrases rest) good)
+        (front lo (test_slots p r t) (and_slots p r rest) slots))
+        (and_fits line (at + length one) lo2 rest (fine_back (test_phrases t) (tests_phrases rest) good)
+        (back lo (test_slots p r t) (and_slots p r rest) slots))
 
-    or_fits : (line at lo : ℕ) (ts : Tests) → Fine (tests_phrases ts) → SlotsOf lo (or_slots p r ts) → Here at (or_code p tables r line at lo ts)
+    or_fits : (line at lo : ℕ) (ts : Tests) → Fine (tests_phrases ts) → SlotsOf lo (or_slots p r ts)
+        → Here at (or_code p tables r line at lo ts)
     or_fits line at lo no_tests good slots = own_fits at line (I.Fail ∷ []) (tt, tt)
     or_fits line at lo (more_tests t no_tests) good slots = test_fits line at lo t (fine_front (test_phrases t) [] good) slots
     or_fits line at lo (more_tests t (more_tests t2 rest)) good slots =
@@ -502,10 +680,14 @@ module _ (p : Program) (tables : Tables) (code : PlainCode) (checked : IsChecked
         let one : List Lined = first_of_two line (at + 2) lo body in
         let lo2 : ℕ = behind_test p r (lo + 1) t in
         pieces.leaving_fits code r at line one (λ next jump. operands_code p tables r line jump next lo2 (more_tests t2 rest))
-        (pieces.first_of_two_fits code r line at lo body (first_slot lo slot.Mark (test_slots p r t ++ others) slots) (test_fits line (at + 2) (lo + 1) t (fine_front (test_phrases t) (tests_phrases (more_tests t2 rest)) good) (front (lo + 1) (test_slots p r t) others inner)))
-        (λ out. operands_fit line (at + length one) (at + length one + 1) lo2 (more_tests t2 rest) (fine_back (test_phrases t) (tests_phrases (more_tests t2 rest)) good) (back (lo + 1) (test_slots p r t) others inner) out)
+        (pieces.first_of_two_fits code r line at lo body (first_slot lo slot.Mark (test_slots p r t ++ others) slots)
+        (test_fits line (at + 2) (lo + 1) t (fine_front (test_phrases t) (tests_phrases (more_tests t2 rest)) good)
+        (front (lo + 1) (test_slots p r t) others inner)))
+        (λ out. operands_fit line (at + length one) (at + length one + 1) lo2 (more_tests t2 rest)
+        (fine_back (test_phrases t) (tests_phrases (more_tests t2 rest)) good) (back (lo + 1) (test_slots p r t) others inner) out)
 
-    operands_fit : (line jump at lo : ℕ) (ts : Tests) → Fine (tests_phrases ts) → SlotsOf lo (or_slots p r ts) → IsInside code r jump → Here at (operands_code p tables r line jump at lo ts)
+    operands_fit : (line jump at lo : ℕ) (ts : Tests) → Fine (tests_phrases ts) → SlotsOf lo (or_slots p r ts) → IsInside code r jump
+        → Here at (operands_code p tables r line jump at lo ts)
     operands_fit line jump at lo no_tests good slots out = λ room. tt
     operands_fit line jump at lo (more_tests t no_tests) good slots out = test_fits line at lo t (fine_front (test_phrases t) [] good) slots
     operands_fit line jump at lo (more_tests t (more_tests t2 rest)) good slots out =
@@ -516,20 +698,28 @@ module _ (p : Program) (tables : Tables) (code : PlainCode) (checked : IsChecked
         let lo2 : ℕ = behind_test p r (lo + 1) t in
         let next : ℕ = at + length (one ++ own line (I.Jump jump ∷ [])) in
         pieces.by_jump code r at line jump one (λ next. operands_code p tables r line jump next lo2 (more_tests t2 rest)) out
-        (pieces.first_of_two_fits code r line at lo body (first_slot lo slot.Mark (test_slots p r t ++ others) slots) (test_fits line (at + 2) (lo + 1) t (fine_front (test_phrases t) (tests_phrases (more_tests t2 rest)) good) (front (lo + 1) (test_slots p r t) others inner)))
-        (operands_fit line jump next lo2 (more_tests t2 rest) (fine_back (test_phrases t) (tests_phrases (more_tests t2 rest)) good) (back (lo + 1) (test_slots p r t) others inner) out)
+        (pieces.first_of_two_fits code r line at lo body (first_slot lo slot.Mark (test_slots p r t ++ others) slots)
+        (test_fits line (at + 2) (lo + 1) t (fine_front (test_phrases t) (tests_phrases (more_tests t2 rest)) good)
+        (front (lo + 1) (test_slots p r t) others inner)))
+        (operands_fit line jump next lo2 (more_tests t2 rest) (fine_back (test_phrases t) (tests_phrases (more_tests t2 rest)) good)
+        (back (lo + 1) (test_slots p r t) others inner) out)
 
     -- ---- statements
 
-    pub stmts_fit : (at lo : ℕ) (x : Stmts) → Fine (stmts_phrases x) → SlotsOf lo (stmts_slots p r x) → Here at (stmts_code p tables r at lo x)
+    pub stmts_fit : (at lo : ℕ) (x : Stmts) → Fine (stmts_phrases x) → SlotsOf lo (stmts_slots p r x)
+        → Here at (stmts_code p tables r at lo x)
     stmts_fit at lo no_stmts good slots = λ room. tt
     stmts_fit at lo (more_stmts line x rest) good slots =
         let one : List Lined = stmt_code p tables r line at lo x in
         let lo2 : ℕ = behind_stmt p r lo x in
-        row at one (stmts_code p tables r (at + length one) lo2 rest) (stmt_fits line at lo x (fine_front (stmt_phrases x) (stmts_phrases rest) good) (front lo (stmt_slots p r x) (stmts_slots p r rest) slots))
-        (stmts_fit (at + length one) lo2 rest (fine_back (stmt_phrases x) (stmts_phrases rest) good) (back lo (stmt_slots p r x) (stmts_slots p r rest) slots))
+        row at one (stmts_code p tables r (at + length one) lo2 rest)
+        (stmt_fits line at lo x (fine_front (stmt_phrases x) (stmts_phrases rest) good)
+        (front lo (stmt_slots p r x) (stmts_slots p r rest) slots))
+        (stmts_fit (at + length one) lo2 rest (fine_back (stmt_phrases x) (stmts_phrases rest) good)
+        (back lo (stmt_slots p r x) (stmts_slots p r rest) slots))
 
-    stmt_fits : (line at lo : ℕ) (x : Stmt) → Fine (stmt_phrases x) → SlotsOf lo (stmt_slots p r x) → Here at (stmt_code p tables r line at lo x)
+    stmt_fits : (line at lo : ℕ) (x : Stmt) → Fine (stmt_phrases x) → SlotsOf lo (stmt_slots p r x)
+        → Here at (stmt_code p tables r line at lo x)
     stmt_fits line at lo (TestStmt t) good slots = test_fits line at lo t good.1 slots
     stmt_fits line at lo (Assign d e range) good slots =
         let a = unless_bare (bare_desig d) (desig_slots p r d) in
@@ -543,9 +733,13 @@ module _ (p : Program) (tables : Tables) (code : PlainCode) (checked : IsChecked
         let good_d = fine_front (desig_phrases d) (expr_phrases e) good.1 in
         let good_e = fine_back (desig_phrases d) (expr_phrases e) good.1 in
         let n = number lo2 e good_e others in
-        set_fits (goes_straight d e range) at line lo d e range (one ++ two) (fit_code tables range v ++ (set_code p tables r lo v d ∷ [])) refl good_d good.0.0
-        (row at one two (located line at lo d place_slots (desig_fits line at lo d good_d)) (once line (at + length one) lo2 e others (expr_fits line (at + length one) lo2 e good_e)))
-        (each_of_append (Needs code r) (fit_code tables range v) (set_code p tables r lo v d ∷ []) (values.fit_needs p tables code checked w r lt range v good.0.1 n) (values.set_needs p tables code checked w r lt lo v d good_d good.0.0 place_slots n, tt))
+        set_fits (goes_straight d e range) at line lo d e range (one ++ two) (fit_code tables range v ++ (set_code p tables r lo v d ∷ []))
+        refl good_d good.0.0
+        (row at one two (located line at lo d place_slots (desig_fits line at lo d good_d))
+        (once line (at + length one) lo2 e others (expr_fits line (at + length one) lo2 e good_e)))
+        (each_of_append (Needs code r) (fit_code tables range v) (set_code p tables r lo v d ∷ [])
+        (values.fit_needs p tables code checked w r lt range v good.0.1 n)
+        (values.set_needs p tables code checked w r lt lo v d good_d good.0.0 place_slots n, tt))
     stmt_fits line at lo (CopyCells d e) good slots =
         let lo2 : ℕ = behind_desig p r lo d in
         let one : List Lined = desig_code p tables r line at lo d in
@@ -553,10 +747,19 @@ module _ (p : Program) (tables : Tables) (code : PlainCode) (checked : IsChecked
         let mine = front lo (desig_slots p r d) (desig_slots p r e) slots in
         let others = back lo (desig_slots p r d) (desig_slots p r e) slots in
         then_own at line (one ++ two) (I.CopyCells (place_at p tables r lo d) (place_at p tables r lo2 e) ∷ [])
-        (row at one two (desig_fits line at lo d (fine_front (desig_phrases d) (desig_phrases e) good.1) mine) (desig_fits line (at + length one) lo2 e (fine_back (desig_phrases d) (desig_phrases e) good.1) others))
-        (record { cells = desig_cells d; first = values.desig_place p tables code checked w r lt lo d mine; second = subst (Place code r (place_at p tables r lo2 e)) (sym good.0) (values.desig_place p tables code checked w r lt lo2 e others) }, tt)
+        (row at one two (desig_fits line at lo d (fine_front (desig_phrases d) (desig_phrases e) good.1) mine)
+        (desig_fits line (at + length one) lo2 e (fine_back (desig_phrases d) (desig_phrases e) good.1) others)) (
+          record {
+            cells = desig_cells d;
+            first = values.desig_place p tables code checked w r lt lo d mine;
+            second =
+                subst (Place code r (place_at p tables r lo2 e)) (sym good.0) (values.desig_place p tables code checked w r lt lo2 e others);
+          },
+          tt,
+        )
     stmt_fits line at lo (If arms rest) good slots =
-        if_fits line at lo arms (λ next la. stmts_code p tables r next la rest) (stmts_slots p r rest) (fine_front (arms_phrases arms) (stmts_phrases rest) good.1) slots
+        if_fits line at lo arms (λ next la. stmts_code p tables r next la rest) (stmts_slots p r rest)
+        (fine_front (arms_phrases arms) (stmts_phrases rest) good.1) slots
         (λ next la s. stmts_fit next la rest (fine_back (arms_phrases arms) (stmts_phrases rest) good.1) s)
     stmt_fits line at lo (While t body) good slots =
         let parts = condition_slots lo (is_simple t) (test_slots p r t) (stmts_slots p r body) slots in
@@ -568,7 +771,9 @@ module _ (p : Program) (tables : Tables) (code : PlainCode) (checked : IsChecked
         let top : IsInside code r (at + 1) = record { low = omega (arith, room.low); high = omega (arith, room.high) } in
         let rest = pieces.in_two code r 0 (at + 1) inner last
         (pieces.less_spare code r (length last + 0) 1 (at + 1) inner (omega arith)
-        (guards line (at + 1) lo 1 t (λ next. stmts_code p tables r next lo2 body) parts.0 (λ none out s. jump_fits line (at + 1) lo none t good_t out s) (λ at lo s. test_fits line at lo t good_t s) (λ next. stmts_fit next lo2 body (fine_back (test_phrases t) (stmts_phrases body) good.1) parts.1)))
+        (guards line (at + 1) lo 1 t (λ next. stmts_code p tables r next lo2 body) parts.0
+        (λ none out s. jump_fits line (at + 1) lo none t good_t out s) (λ at lo s. test_fits line at lo t good_t s)
+        (λ next. stmts_fit next lo2 body (fine_back (test_phrases t) (stmts_phrases body) good.1) parts.1)))
         (own_fits (at + 1 + length inner) line (I.Jump (at + 1) ∷ []) (top, tt)) in
         (top, rest (record { low = omega (arith, room.low); high = omega (arith, room.high) }))
     stmt_fits line at lo (Repeat body t) good slots =
@@ -577,8 +782,11 @@ module _ (p : Program) (tables : Tables) (code : PlainCode) (checked : IsChecked
         let good_t = fine_back (stmts_phrases body) (test_phrases t) good.1 in
         λ room.
         let top : IsInside code r at = record { low = room.low; high = omega (arith, room.high) } in
-        row at one (condition_code line (at + length one) lo2 at t) (stmts_fit at lo body (fine_front (stmts_phrases body) (test_phrases t) good.1) (front lo (stmts_slots p r body) (mark_slots (is_simple t) ++ test_slots p r t) slots))
-        (decides line (at + length one) lo2 at t (back lo (stmts_slots p r body) (mark_slots (is_simple t) ++ test_slots p r t) slots) (λ s. jump_fits line (at + length one) lo2 at t good_t top s) (λ at lo s. test_fits line at lo t good_t s) top)
+        row at one (condition_code line (at + length one) lo2 at t)
+        (stmts_fit at lo body (fine_front (stmts_phrases body) (test_phrases t) good.1)
+        (front lo (stmts_slots p r body) (mark_slots (is_simple t) ++ test_slots p r t) slots))
+        (decides line (at + length one) lo2 at t (back lo (stmts_slots p r body) (mark_slots (is_simple t) ++ test_slots p r t) slots)
+        (λ s. jump_fits line (at + length one) lo2 at t good_t top s) (λ at lo s. test_fits line at lo t good_t s) top)
         room
     stmt_fits line at lo (ForTo l) good slots = for_fits line at lo l good.0 good.1 slots
     stmt_fits line at lo (SomeOf l) good slots = some_fits line at lo l good.0 good.1 slots
@@ -592,7 +800,8 @@ module _ (p : Program) (tables : Tables) (code : PlainCode) (checked : IsChecked
         let dead : List Lined = dead_code p tables r (next + 1) first arms in
         let over : List Lined = passed_over (has_dead arms) line next dead in
         let begin : ℕ = next + length over in
-        let choice : List Lined = case_code p tables r line lo bound begin (bound + 2) arms (λ next la. else_code p tables r line next la rest) in
+        let choice : List Lined = case_code p tables r line lo bound begin (bound + 2) arms
+        (λ next la. else_code p tables r line next la rest) in
         let mine = front lo (expr_slots p r e) (dead_slots p r arms ++ tried) slots in
         let behind_e = back lo (expr_slots p r e) (dead_slots p r arms ++ tried) slots in
         let others = back first (dead_slots p r arms) tried behind_e in
@@ -600,14 +809,16 @@ module _ (p : Program) (tables : Tables) (code : PlainCode) (checked : IsChecked
         let good_parts = fine_front parts (else_phrases rest) good.1 in
         let good_arms = fine_back (expr_phrases e) (cases_phrases arms) good_parts in
         row at one (over ++ choice) (expr_fits line at lo e (fine_front (expr_phrases e) (cases_phrases arms) good_parts) mine)
-        (row next over choice (pieces.over_fits code r (has_dead arms) line next dead (dead_fits (next + 1) first arms good_arms (front first (dead_slots p r arms) tried behind_e)))
+        (row next over choice (pieces.over_fits code r (has_dead arms) line next dead
+        (dead_fits (next + 1) first arms good_arms (front first (dead_slots p r arms) tried behind_e)))
         (case_fits line lo bound begin (bound + 2) arms (λ next la. else_code p tables r line next la rest) (else_slots p r rest) good_arms
         (record {
           number_at = values.expr_number p tables code checked w r lt lo e mine;
           low = first_slot bound slot.Number (slot.Number ∷ labels) others;
           test = first_slot (bound + 1) slot.Number labels (back bound (slot.Number ∷ []) (slot.Number ∷ labels) others);
         })
-        (back bound (slot.Number ∷ slot.Number ∷ []) labels others) (λ next la s. else_fits line next la rest (fine_back parts (else_phrases rest) good.1) s)))
+        (back bound (slot.Number ∷ slot.Number ∷ []) labels others)
+        (λ next la s. else_fits line next la rest (fine_back parts (else_phrases rest) good.1) s)))
     stmt_fits line at lo (Either x) good slots = either_fits line at lo x good.1 slots
     stmt_fits line at lo (Forall x y) good slots =
         let inner : ℕ = behind_stmts p r (lo + 1) x in
@@ -618,30 +829,47 @@ module _ (p : Program) (tables : Tables) (code : PlainCode) (checked : IsChecked
         let behind_x = back (lo + 1) (stmts_slots p r x) (slot.Mark ∷ stmts_slots p r y) behind_mark in
         let m = first_slot lo slot.Mark (stmts_slots p r x ++ (slot.Mark ∷ stmts_slots p r y)) slots in
         pieces.forall_fits code r line at lo (one ++ each_body line (n + 2) lo inner two) m
-        (pieces.row code r 1 (at + 1) one (each_body line (n + 2) lo inner two) (stmts_fit (at + 1) (lo + 1) x (fine_front (stmts_phrases x) (stmts_phrases y) good.1) (front (lo + 1) (stmts_slots p r x) (slot.Mark ∷ stmts_slots p r y) behind_mark))
-        (pieces.each_fits code r line n lo inner two m (first_slot inner slot.Mark (stmts_slots p r y) behind_x) (stmts_fit (n + 2) (inner + 1) y (fine_back (stmts_phrases x) (stmts_phrases y) good.1) (back inner (slot.Mark ∷ []) (stmts_slots p r y) behind_x))))
+        (pieces.row code r 1 (at + 1) one (each_body line (n + 2) lo inner two)
+        (stmts_fit (at + 1) (lo + 1) x (fine_front (stmts_phrases x) (stmts_phrases y) good.1)
+        (front (lo + 1) (stmts_slots p r x) (slot.Mark ∷ stmts_slots p r y) behind_mark))
+        (pieces.each_fits code r line n lo inner two m (first_slot inner slot.Mark (stmts_slots p r y) behind_x)
+        (stmts_fit (n + 2) (inner + 1) y (fine_back (stmts_phrases x) (stmts_phrases y) good.1)
+        (back inner (slot.Mark ∷ []) (stmts_slots p r y) behind_x))))
     stmt_fits line at lo (Commit x) good slots =
         let m = first_slot lo slot.Mark (stmts_slots p r x) slots in
         let inner : List Lined = stmts_code p tables r (at + 1) (lo + 1) x in
-        row at (own line (I.Mark lo ∷ [])) (inner ++ own line (I.Cut lo ∷ [])) (own_fits at line (I.Mark lo ∷ []) (m, tt)) (then_own (at + 1) line inner (I.Cut lo ∷ []) (stmts_fit (at + 1) (lo + 1) x good.1 (back lo (slot.Mark ∷ []) (stmts_slots p r x) slots)) (m, tt))
+        row at (own line (I.Mark lo ∷ [])) (inner ++ own line (I.Cut lo ∷ [])) (own_fits at line (I.Mark lo ∷ []) (m, tt))
+        (then_own (at + 1) line inner (I.Cut lo ∷ [])
+        (stmts_fit (at + 1) (lo + 1) x good.1 (back lo (slot.Mark ∷ []) (stmts_slots p r x) slots)) (m, tt))
     stmt_fits line at lo (Return no_result) good slots = own_fits at line (I.Return ∷ []) (no_result_is good.0, tt)
     stmt_fits line at lo (Return (some_result e)) good slots =
         let v : ℕ = value_at p tables r lo e in
-        then_own at line (unless_bare (bare e) (expr_code p tables r line at lo e)) (fit_result p tables r (routine_at p r).result v ++ (I.ReturnValue v ∷ [])) (once line at lo e slots (expr_fits line at lo e good.1)) (result_needs v good.0 (number lo e good.1 slots))
+        then_own at line (unless_bare (bare e) (expr_code p tables r line at lo e))
+        (fit_result p tables r (routine_at p r).result v ++ (I.ReturnValue v ∷ []))
+        (once line at lo e slots (expr_fits line at lo e good.1)) (result_needs v good.0 (number lo e good.1 slots))
     stmt_fits line at lo (Read d how range) good slots =
-        then_own at line (desig_code p tables r line at lo d) (read_code how (place_at p tables r lo d) (range_number tables range) ∷ []) (desig_fits line at lo d good.1 slots)
-        (read_needs how (place_at p tables r lo d) (range_number tables range) (values.one_place p tables code checked w r lt lo d good.0.0 slots) (values.is_range p tables code checked w r lt range good.0.1), tt)
+        then_own at line (desig_code p tables r line at lo d) (read_code how (place_at p tables r lo d) (range_number tables range) ∷ [])
+        (desig_fits line at lo d good.1 slots) (
+          read_needs how (place_at p tables r lo d) (range_number tables range)
+              (values.one_place p tables code checked w r lt lo d good.0.0 slots)
+              (values.is_range p tables code checked w r lt range good.0.1),
+          tt,
+        )
     stmt_fits line at lo (WriteExpr e how) good slots =
-        then_own at line (unless_bare (bare e) (expr_code p tables r line at lo e)) (write_code how (value_at p tables r lo e) ∷ []) (once line at lo e slots (expr_fits line at lo e good.1))
+        then_own at line (unless_bare (bare e) (expr_code p tables r line at lo e)) (write_code how (value_at p tables r lo e) ∷ [])
+        (once line at lo e slots (expr_fits line at lo e good.1))
         (values.write_needs p tables code checked w r lt how (value_at p tables r lo e) (number lo e good.1 slots), tt)
     stmt_fits line at lo (WriteText text) good slots =
-        let there : slice_get code.texts (text_number tables text) ≡ Some text = ap (λ ts. slice_get ts (text_number tables text)) w.texts ∙ good.0 in
+        let there : slice_get code.texts (text_number tables text) ≡ Some text = ap (λ ts. slice_get ts (text_number tables text)) w.texts
+        ∙ good.0 in
         own_fits at line (I.WriteText (text_number tables text) ∷ []) (slice_get_within code.texts (text_number tables text) text there, tt)
     stmt_fits line at lo WriteLine good slots = own_fits at line (I.WriteLine ∷ []) (tt, tt)
 
     -- ---- IF
 
-    if_fits : (line at lo : ℕ) (arms : Arms) (otherwise : (at lo : ℕ) → List Lined) (others : List SlotKind) → Fine (arms_phrases arms) → SlotsOf lo (arms_slots p r arms ++ others) → ((at lo : ℕ) → SlotsOf lo others → Here at (otherwise at lo)) → Here at (if_code p tables r line at lo arms otherwise)
+    if_fits : (line at lo : ℕ) (arms : Arms) (otherwise : (at lo : ℕ) → List Lined) (others : List SlotKind) → Fine (arms_phrases arms)
+        → SlotsOf lo (arms_slots p r arms ++ others) → ((at lo : ℕ) → SlotsOf lo others → Here at (otherwise at lo))
+        → Here at (if_code p tables r line at lo arms otherwise)
     if_fits line at lo no_arms otherwise others good slots f = f at lo slots
     if_fits line at lo (more_arms t body rest) otherwise others good slots f =
         let parts = arm_parts lo (mark_slots (is_simple t)) (test_slots p r t) (stmts_slots p r body) (arms_slots p r rest) others slots in
@@ -651,10 +879,15 @@ module _ (p : Program) (tables : Tables) (code : PlainCode) (checked : IsChecked
         let lo3 : ℕ = behind_stmts p r lo2 body in
         let one : List Lined = guarded_code line at lo 1 t (λ next. stmts_code p tables r next lo2 body) in
         pieces.leaving_fits code r at line one (λ next jump. arms_code p tables r line jump next lo3 rest otherwise)
-        (guards line at lo 1 t (λ next. stmts_code p tables r next lo2 body) parts.0 (λ none out s. jump_fits line at lo none t good_t out s) (λ at lo s. test_fits line at lo t good_t s) (λ next. stmts_fit next lo2 body (fine_back (test_phrases t) (stmts_phrases body) two) parts.1))
-        (λ out. arms_fit line (at + length one) (at + length one + 1) lo3 rest otherwise others (fine_back (test_phrases t ++ stmts_phrases body) (arms_phrases rest) good) parts.2 out f)
+        (guards line at lo 1 t (λ next. stmts_code p tables r next lo2 body) parts.0
+        (λ none out s. jump_fits line at lo none t good_t out s) (λ at lo s. test_fits line at lo t good_t s)
+        (λ next. stmts_fit next lo2 body (fine_back (test_phrases t) (stmts_phrases body) two) parts.1))
+        (λ out. arms_fit line (at + length one) (at + length one + 1) lo3 rest otherwise others
+        (fine_back (test_phrases t ++ stmts_phrases body) (arms_phrases rest) good) parts.2 out f)
 
-    arms_fit : (line jump at lo : ℕ) (arms : Arms) (otherwise : (at lo : ℕ) → List Lined) (others : List SlotKind) → Fine (arms_phrases arms) → SlotsOf lo (arms_slots p r arms ++ others) → IsInside code r jump → ((at lo : ℕ) → SlotsOf lo others → Here at (otherwise at lo)) → Here at (arms_code p tables r line jump at lo arms otherwise)
+    arms_fit : (line jump at lo : ℕ) (arms : Arms) (otherwise : (at lo : ℕ) → List Lined) (others : List SlotKind)
+        → Fine (arms_phrases arms) → SlotsOf lo (arms_slots p r arms ++ others) → IsInside code r jump
+        → ((at lo : ℕ) → SlotsOf lo others → Here at (otherwise at lo)) → Here at (arms_code p tables r line jump at lo arms otherwise)
     arms_fit line jump at lo no_arms otherwise others good slots out f = f at lo slots
     arms_fit line jump at lo (more_arms t body rest) otherwise others good slots out f =
         let parts = arm_parts lo (mark_slots (is_simple t)) (test_slots p r t) (stmts_slots p r body) (arms_slots p r rest) others slots in
@@ -665,26 +898,37 @@ module _ (p : Program) (tables : Tables) (code : PlainCode) (checked : IsChecked
         let one : List Lined = guarded_code line at lo 1 t (λ next. stmts_code p tables r next lo2 body) in
         let next : ℕ = at + length (one ++ own line (I.Jump jump ∷ [])) in
         pieces.by_jump code r at line jump one (λ next. arms_code p tables r line jump next lo3 rest otherwise) out
-        (guards line at lo 1 t (λ next. stmts_code p tables r next lo2 body) parts.0 (λ none away s. jump_fits line at lo none t good_t away s) (λ at lo s. test_fits line at lo t good_t s) (λ next. stmts_fit next lo2 body (fine_back (test_phrases t) (stmts_phrases body) two) parts.1))
-        (arms_fit line jump next lo3 rest otherwise others (fine_back (test_phrases t ++ stmts_phrases body) (arms_phrases rest) good) parts.2 out f)
+        (guards line at lo 1 t (λ next. stmts_code p tables r next lo2 body) parts.0
+        (λ none away s. jump_fits line at lo none t good_t away s) (λ at lo s. test_fits line at lo t good_t s)
+        (λ next. stmts_fit next lo2 body (fine_back (test_phrases t) (stmts_phrases body) two) parts.1))
+        (arms_fit line jump next lo3 rest otherwise others (fine_back (test_phrases t ++ stmts_phrases body) (arms_phrases rest) good)
+        parts.2 out f)
 
     -- ---- EITHER
 
-    either_fits : (line at lo : ℕ) (x : Branches) → Fine (branches_phrases x) → SlotsOf lo (branches_slots p r x) → Here at (either_code p tables r line at lo x)
+    either_fits : (line at lo : ℕ) (x : Branches) → Fine (branches_phrases x) → SlotsOf lo (branches_slots p r x)
+        → Here at (either_code p tables r line at lo x)
     either_fits line at lo no_branches good slots = own_fits at line (I.Fail ∷ []) (tt, tt)
-    either_fits line at lo (more_branches body no_branches) good slots = stmts_fit at lo body (fine_front (stmts_phrases body) [] good) (front lo (stmts_slots p r body) [] slots)
+    either_fits line at lo (more_branches body no_branches) good slots =
+        stmts_fit at lo body (fine_front (stmts_phrases body) [] good) (front lo (stmts_slots p r body) [] slots)
     either_fits line at lo (more_branches body (more_branches body2 rest)) good slots =
         let others = branches_slots p r (more_branches body2 rest) in
         let inner : List Lined = stmts_code p tables r (at + 1) lo body in
         let one : List Lined = chosen line (at + 1) inner in
         let lo2 : ℕ = behind_stmts p r lo body in
         pieces.leaving_fits code r at line one (λ next jump. branches_code p tables r line jump next lo2 (more_branches body2 rest))
-        (pieces.chosen_fits code r line at inner (stmts_fit (at + 1) lo body (fine_front (stmts_phrases body) (branches_phrases (more_branches body2 rest)) good) (front lo (stmts_slots p r body) others slots)))
-        (λ out. branches_fit line (at + length one) (at + length one + 1) lo2 (more_branches body2 rest) (fine_back (stmts_phrases body) (branches_phrases (more_branches body2 rest)) good) (back lo (stmts_slots p r body) others slots) out)
+        (pieces.chosen_fits code r line at inner
+        (stmts_fit (at + 1) lo body (fine_front (stmts_phrases body) (branches_phrases (more_branches body2 rest)) good)
+        (front lo (stmts_slots p r body) others slots)))
+        (λ out. branches_fit line (at + length one) (at + length one + 1) lo2 (more_branches body2 rest)
+        (fine_back (stmts_phrases body) (branches_phrases (more_branches body2 rest)) good)
+        (back lo (stmts_slots p r body) others slots) out)
 
-    branches_fit : (line jump at lo : ℕ) (x : Branches) → Fine (branches_phrases x) → SlotsOf lo (branches_slots p r x) → IsInside code r jump → Here at (branches_code p tables r line jump at lo x)
+    branches_fit : (line jump at lo : ℕ) (x : Branches) → Fine (branches_phrases x) → SlotsOf lo (branches_slots p r x)
+        → IsInside code r jump → Here at (branches_code p tables r line jump at lo x)
     branches_fit line jump at lo no_branches good slots out = λ room. tt
-    branches_fit line jump at lo (more_branches body no_branches) good slots out = stmts_fit at lo body (fine_front (stmts_phrases body) [] good) (front lo (stmts_slots p r body) [] slots)
+    branches_fit line jump at lo (more_branches body no_branches) good slots out =
+        stmts_fit at lo body (fine_front (stmts_phrases body) [] good) (front lo (stmts_slots p r body) [] slots)
     branches_fit line jump at lo (more_branches body (more_branches body2 rest)) good slots out =
         let others = branches_slots p r (more_branches body2 rest) in
         let inner : List Lined = stmts_code p tables r (at + 1) lo body in
@@ -692,12 +936,17 @@ module _ (p : Program) (tables : Tables) (code : PlainCode) (checked : IsChecked
         let lo2 : ℕ = behind_stmts p r lo body in
         let next : ℕ = at + length (one ++ own line (I.Jump jump ∷ [])) in
         pieces.by_jump code r at line jump one (λ next. branches_code p tables r line jump next lo2 (more_branches body2 rest)) out
-        (pieces.chosen_fits code r line at inner (stmts_fit (at + 1) lo body (fine_front (stmts_phrases body) (branches_phrases (more_branches body2 rest)) good) (front lo (stmts_slots p r body) others slots)))
-        (branches_fit line jump next lo2 (more_branches body2 rest) (fine_back (stmts_phrases body) (branches_phrases (more_branches body2 rest)) good) (back lo (stmts_slots p r body) others slots) out)
+        (pieces.chosen_fits code r line at inner
+        (stmts_fit (at + 1) lo body (fine_front (stmts_phrases body) (branches_phrases (more_branches body2 rest)) good)
+        (front lo (stmts_slots p r body) others slots)))
+        (branches_fit line jump next lo2 (more_branches body2 rest)
+        (fine_back (stmts_phrases body) (branches_phrases (more_branches body2 rest)) good)
+        (back lo (stmts_slots p r body) others slots) out)
 
     -- ---- loops
 
-    for_fits : (line at lo : ℕ) (l : Loop) → Facts p tables r (StmtPhrase (ForTo l)) → Fine (loop_phrases l) → SlotsOf lo (for_slots p r l) → Here at (for_code p tables r line at lo l)
+    for_fits : (line at lo : ℕ) (l : Loop) → Facts p tables r (StmtPhrase (ForTo l)) → Fine (loop_phrases l) → SlotsOf lo (for_slots p r l)
+        → Here at (for_code p tables r line at lo l)
     for_fits line at lo (a_loop d range counter limit from to by body) facts good slots =
         let a = expr_slots p r from in
         let b = expr_slots p r to in
@@ -717,18 +966,32 @@ module _ (p : Program) (tables : Tables) (code : PlainCode) (checked : IsChecked
         let count : ℕ = own_slot p tables r counter in
         let n = roots.hidden p tables code checked w r lt counter facts.2 in
         let step = first_slot lo slot.Number (a ++ (b ++ (c ++ e))) slots in
-        let one : List Lined = begin_loop line at lo by (λ at. expr_code p tables r line at (lo + 1) from) (λ at. expr_code p tables r line at last to) in
+        let one : List Lined = begin_loop line at lo by (λ at. expr_code p tables r line at (lo + 1) from)
+        (λ at. expr_code p tables r line at last to) in
         let next : ℕ = at + length one in
         let each : List Lined = turn_of line (next + 4) count place d range (λ at. stmts_code p tables r at lo2 body) in
         row at one (for_turns line next by count (own_slot p tables r limit) lo (lo + 1) last each)
-        (pieces.begin_fits code r 0 line at lo by (λ at. expr_code p tables r line at (lo + 1) from) (λ at. expr_code p tables r line at last to) step
-        (λ at. expr_fits line at (lo + 1) from (fine_back (desig_phrases d) (expr_phrases from) bounds1) mine) (λ at. expr_fits line at last to (fine_back (desig_phrases d ++ expr_phrases from) (expr_phrases to) bounds) mine2))
+        (pieces.begin_fits code r 0 line at lo by (λ at. expr_code p tables r line at (lo + 1) from)
+        (λ at. expr_code p tables r line at last to) step
+        (λ at. expr_fits line at (lo + 1) from (fine_back (desig_phrases d) (expr_phrases from) bounds1) mine)
+        (λ at. expr_fits line at last to (fine_back (desig_phrases d ++ expr_phrases from) (expr_phrases to) bounds) mine2))
         (pieces.for_turns_fits code r line next by count (own_slot p tables r limit) lo (lo + 1) last each
-        (record { count = n; bound = roots.hidden p tables code checked w r lt limit facts.3; by = step; from = values.expr_number p tables code checked w r lt (lo + 1) from mine; to = values.expr_number p tables code checked w r lt last to mine2 })
-        (turn line (next + 4) count place d range (λ at. stmts_code p tables r at lo2 body) facts.1 facts.0 good_d n (front place c e slots3) (λ at lo s. desig_fits line at lo d good_d s)
-        (λ at. stmts_fit at lo2 body (fine_back ((desig_phrases d ++ expr_phrases from) ++ expr_phrases to) (stmts_phrases body) good) (back place c e slots3))))
+        (record {
+          count = n;
+          bound = roots.hidden p tables code checked w r lt limit facts.3;
+          by = step;
+          from =
+              values.expr_number p tables code checked w r lt (lo + 1) from mine;
+          to =
+              values.expr_number p tables code checked w r lt last to mine2;
+        })
+        (turn line (next + 4) count place d range (λ at. stmts_code p tables r at lo2 body) facts.1 facts.0 good_d n
+        (front place c e slots3) (λ at lo s. desig_fits line at lo d good_d s)
+        (λ at. stmts_fit at lo2 body (fine_back ((desig_phrases d ++ expr_phrases from) ++ expr_phrases to) (stmts_phrases body) good)
+        (back place c e slots3))))
 
-    some_fits : (line at lo : ℕ) (l : Loop) → Facts p tables r (StmtPhrase (SomeOf l)) → Fine (loop_phrases l) → SlotsOf lo (some_slots p r l) → Here at (some_code p tables r line at lo l)
+    some_fits : (line at lo : ℕ) (l : Loop) → Facts p tables r (StmtPhrase (SomeOf l)) → Fine (loop_phrases l)
+        → SlotsOf lo (some_slots p r l) → Here at (some_code p tables r line at lo l)
     some_fits line at lo (a_loop d range counter limit from to by body) facts good slots =
         let a = expr_slots p r from in
         let b = expr_slots p r to in
@@ -749,46 +1012,72 @@ module _ (p : Program) (tables : Tables) (code : PlainCode) (checked : IsChecked
         let count : ℕ = own_slot p tables r counter in
         let n = roots.hidden p tables code checked w r lt counter facts.2 in
         let step = first_slot lo slot.Number (a ++ (b ++ (slot.Number ∷ (c ++ e)))) slots in
-        let one : List Lined = begin_loop line at lo (pos 1) (λ at. expr_code p tables r line at (lo + 1) from) (λ at. expr_code p tables r line at last to) in
+        let one : List Lined = begin_loop line at lo (pos 1) (λ at. expr_code p tables r line at (lo + 1) from)
+        (λ at. expr_code p tables r line at last to) in
         let next : ℕ = at + length one in
         let each : List Lined = turn_of line (next + 7) count (more + 1) d range (λ at. stmts_code p tables r at lo2 body) in
         row at one (some_turns line next count (own_slot p tables r limit) lo (lo + 1) last more each)
-        (pieces.begin_fits code r 0 line at lo (pos 1) (λ at. expr_code p tables r line at (lo + 1) from) (λ at. expr_code p tables r line at last to) step
-        (λ at. expr_fits line at (lo + 1) from (fine_back (desig_phrases d) (expr_phrases from) bounds1) mine) (λ at. expr_fits line at last to (fine_back (desig_phrases d ++ expr_phrases from) (expr_phrases to) bounds) mine2))
+        (pieces.begin_fits code r 0 line at lo (pos 1) (λ at. expr_code p tables r line at (lo + 1) from)
+        (λ at. expr_code p tables r line at last to) step
+        (λ at. expr_fits line at (lo + 1) from (fine_back (desig_phrases d) (expr_phrases from) bounds1) mine)
+        (λ at. expr_fits line at last to (fine_back (desig_phrases d ++ expr_phrases from) (expr_phrases to) bounds) mine2))
         (pieces.some_turns_fits code r line next count (own_slot p tables r limit) lo (lo + 1) last more each
-        (record { count = n; bound = roots.hidden p tables code checked w r lt limit facts.3; by = step; from = values.expr_number p tables code checked w r lt (lo + 1) from mine; to = values.expr_number p tables code checked w r lt last to mine2 })
+        (record {
+          count = n;
+          bound = roots.hidden p tables code checked w r lt limit facts.3;
+          by = step;
+          from =
+              values.expr_number p tables code checked w r lt (lo + 1) from mine;
+          to =
+              values.expr_number p tables code checked w r lt last to mine2;
+        })
         (first_slot more slot.Number (c ++ e) slots3)
-        (turn line (next + 7) count (more + 1) d range (λ at. stmts_code p tables r at lo2 body) facts.1 facts.0 good_d n (front (more + 1) c e slots4) (λ at lo s. desig_fits line at lo d good_d s)
-        (λ at. stmts_fit at lo2 body (fine_back ((desig_phrases d ++ expr_phrases from) ++ expr_phrases to) (stmts_phrases body) good) (back (more + 1) c e slots4))))
+        (turn line (next + 7) count (more + 1) d range (λ at. stmts_code p tables r at lo2 body) facts.1 facts.0 good_d n
+        (front (more + 1) c e slots4) (λ at lo s. desig_fits line at lo d good_d s)
+        (λ at. stmts_fit at lo2 body (fine_back ((desig_phrases d ++ expr_phrases from) ++ expr_phrases to) (stmts_phrases body) good)
+        (back (more + 1) c e slots4))))
 
     -- ---- CASE
 
-    dead_fits : (at lo : ℕ) (arms : CaseArms) → Fine (cases_phrases arms) → SlotsOf lo (dead_slots p r arms) → Here at (dead_code p tables r at lo arms)
+    dead_fits : (at lo : ℕ) (arms : CaseArms) → Fine (cases_phrases arms) → SlotsOf lo (dead_slots p r arms)
+        → Here at (dead_code p tables r at lo arms)
     dead_fits at lo no_cases good slots = λ room. tt
     dead_fits at lo (more_cases [] body rest) good slots =
         let one : List Lined = stmts_code p tables r at lo body in
         let lo2 : ℕ = behind_stmts p r lo body in
-        row at one (dead_code p tables r (at + length one) lo2 rest) (stmts_fit at lo body (fine_front (stmts_phrases body) (cases_phrases rest) good) (front lo (stmts_slots p r body) (dead_slots p r rest) slots))
-        (dead_fits (at + length one) lo2 rest (fine_back (stmts_phrases body) (cases_phrases rest) good) (back lo (stmts_slots p r body) (dead_slots p r rest) slots))
-    dead_fits at lo (more_cases (label ∷ labels) body rest) good slots = dead_fits at lo rest (fine_back (stmts_phrases body) (cases_phrases rest) good) slots
+        row at one (dead_code p tables r (at + length one) lo2 rest)
+        (stmts_fit at lo body (fine_front (stmts_phrases body) (cases_phrases rest) good)
+        (front lo (stmts_slots p r body) (dead_slots p r rest) slots))
+        (dead_fits (at + length one) lo2 rest (fine_back (stmts_phrases body) (cases_phrases rest) good)
+        (back lo (stmts_slots p r body) (dead_slots p r rest) slots))
+    dead_fits at lo (more_cases (label ∷ labels) body rest) good slots =
+        dead_fits at lo rest (fine_back (stmts_phrases body) (cases_phrases rest) good) slots
 
-    case_fits : (line value bound at lo : ℕ) (arms : CaseArms) (otherwise : (at lo : ℕ) → List Lined) (others : List SlotKind) → Fine (cases_phrases arms) → CaseSlots value bound → SlotsOf lo (cases_slots p r arms ++ others) → ((at lo : ℕ) → SlotsOf lo others → Here at (otherwise at lo))
+    case_fits : (line value bound at lo : ℕ) (arms : CaseArms) (otherwise : (at lo : ℕ) → List Lined) (others : List SlotKind)
+        → Fine (cases_phrases arms) → CaseSlots value bound → SlotsOf lo (cases_slots p r arms ++ others)
+        → ((at lo : ℕ) → SlotsOf lo others → Here at (otherwise at lo))
         → Here at (case_code p tables r line value bound at lo arms otherwise)
     case_fits line value bound at lo no_cases otherwise others good c slots f = f at lo slots
-    case_fits line value bound at lo (more_cases [] body rest) otherwise others good c slots f = case_fits line value bound at lo rest otherwise others (fine_back (stmts_phrases body) (cases_phrases rest) good) c slots f
+    case_fits line value bound at lo (more_cases [] body rest) otherwise others good c slots f =
+        case_fits line value bound at lo rest otherwise others (fine_back (stmts_phrases body) (cases_phrases rest) good) c slots f
     case_fits line value bound at lo (more_cases (label ∷ labels) body rest) otherwise others good c slots f =
         let parts = case_parts lo (stmts_slots p r body) (cases_slots p r rest) others slots in
         let inner : List Lined = stmts_code p tables r (behind_labels at labels) lo body in
         let one : List Lined = case_arm line value bound at label labels inner in
         let lo2 : ℕ = behind_stmts p r lo body in
         pieces.leaving_fits code r at line one (λ next jump. cases_code p tables r line value bound jump next lo2 rest otherwise)
-        (pieces.arm_fits code r line value bound at label labels inner c.number_at c.low c.test (stmts_fit (behind_labels at labels) lo body (fine_front (stmts_phrases body) (cases_phrases rest) good) parts.0))
-        (λ out. cases_fit line value bound (at + length one) (at + length one + 1) lo2 rest otherwise others (fine_back (stmts_phrases body) (cases_phrases rest) good) c parts.1 out f)
+        (pieces.arm_fits code r line value bound at label labels inner c.number_at c.low c.test
+        (stmts_fit (behind_labels at labels) lo body (fine_front (stmts_phrases body) (cases_phrases rest) good) parts.0))
+        (λ out. cases_fit line value bound (at + length one) (at + length one + 1) lo2 rest otherwise others
+        (fine_back (stmts_phrases body) (cases_phrases rest) good) c parts.1 out f)
 
-    cases_fit : (line value bound jump at lo : ℕ) (arms : CaseArms) (otherwise : (at lo : ℕ) → List Lined) (others : List SlotKind) → Fine (cases_phrases arms) → CaseSlots value bound → SlotsOf lo (cases_slots p r arms ++ others) → IsInside code r jump → ((at lo : ℕ) → SlotsOf lo others → Here at (otherwise at lo))
+    cases_fit : (line value bound jump at lo : ℕ) (arms : CaseArms) (otherwise : (at lo : ℕ) → List Lined) (others : List SlotKind)
+        → Fine (cases_phrases arms) → CaseSlots value bound → SlotsOf lo (cases_slots p r arms ++ others) → IsInside code r jump
+        → ((at lo : ℕ) → SlotsOf lo others → Here at (otherwise at lo))
         → Here at (cases_code p tables r line value bound jump at lo arms otherwise)
     cases_fit line value bound jump at lo no_cases otherwise others good c slots out f = f at lo slots
-    cases_fit line value bound jump at lo (more_cases [] body rest) otherwise others good c slots out f = cases_fit line value bound jump at lo rest otherwise others (fine_back (stmts_phrases body) (cases_phrases rest) good) c slots out f
+    cases_fit line value bound jump at lo (more_cases [] body rest) otherwise others good c slots out f =
+        cases_fit line value bound jump at lo rest otherwise others (fine_back (stmts_phrases body) (cases_phrases rest) good) c slots out f
     cases_fit line value bound jump at lo (more_cases (label ∷ labels) body rest) otherwise others good c slots out f =
         let parts = case_parts lo (stmts_slots p r body) (cases_slots p r rest) others slots in
         let inner : List Lined = stmts_code p tables r (behind_labels at labels) lo body in
@@ -796,9 +1085,12 @@ module _ (p : Program) (tables : Tables) (code : PlainCode) (checked : IsChecked
         let lo2 : ℕ = behind_stmts p r lo body in
         let next : ℕ = at + length (one ++ own line (I.Jump jump ∷ [])) in
         pieces.by_jump code r at line jump one (λ next. cases_code p tables r line value bound jump next lo2 rest otherwise) out
-        (pieces.arm_fits code r line value bound at label labels inner c.number_at c.low c.test (stmts_fit (behind_labels at labels) lo body (fine_front (stmts_phrases body) (cases_phrases rest) good) parts.0))
-        (cases_fit line value bound jump next lo2 rest otherwise others (fine_back (stmts_phrases body) (cases_phrases rest) good) c parts.1 out f)
+        (pieces.arm_fits code r line value bound at label labels inner c.number_at c.low c.test
+        (stmts_fit (behind_labels at labels) lo body (fine_front (stmts_phrases body) (cases_phrases rest) good) parts.0))
+        (cases_fit line value bound jump next lo2 rest otherwise others (fine_back (stmts_phrases body) (cases_phrases rest) good) c parts.1
+        out f)
 
-    else_fits : (line at lo : ℕ) (rest : Else) → Fine (else_phrases rest) → SlotsOf lo (else_slots p r rest) → Here at (else_code p tables r line at lo rest)
+    else_fits : (line at lo : ℕ) (rest : Else) → Fine (else_phrases rest) → SlotsOf lo (else_slots p r rest)
+        → Here at (else_code p tables r line at lo rest)
     else_fits line at lo no_else good slots = own_fits at line (I.Fault 5 ∷ []) (refl, tt)
     else_fits line at lo (else_part body) good slots = stmts_fit at lo body good slots

@@ -1,5 +1,6 @@
 -- Code at an address of a routine, each instruction with what it needs: the pieces that phrases share.
-use Rattle.std.proofs.Common.{◌≡◌, ℕ, ◌+◌, ◌*◌, ◌<◌, ◌≤◌, Bool, true, false, List, [], ◌∷◌, ◌++◌, length, Option, Some, None, ℤ, pos, negsuc, refl, arith, subst}
+use Rattle.std.proofs.Common.{◌≡◌, ℕ, ◌+◌, ◌*◌, ◌<◌, ◌≤◌, Bool, true, false, List, [], ◌∷◌, ◌++◌, length, Option, Some, None, ℤ, pos}
+use Rattle.std.proofs.Common.{negsuc, refl, arith, subst}
 use Rattle.std.specs.List.{AllByRecursion}
 use Rattle.std.proofs.lemmas.List.{length-append, length-map}
 use Rattle.alma_base.specs.declared.number.Range.{Range}
@@ -8,7 +9,9 @@ use Rattle.alma_code.specs.declared.instr.Instr.TheVariants as I
 use Rattle.alma_code.specs.Plain.{PlainCode, start_at, end_at}
 use Rattle.alma_ir.proofs.Each.{each_of_append}
 use Rattle.alma_lower_templates.specs.Lined.{Lined, own, in_row, leaving}
-use Rattle.alma_lower_templates.specs.Pieces.{condition, guarded, chosen, first_of_two, refused, truth_code, each_body, forall_code, label_code, labels_code, behind_labels, case_arm, passed_over, entry_code, begin_loop, turn_code, for_turns, some_turns, aim, straight}
+use Rattle.alma_lower_templates.specs.Pieces.{condition, guarded, chosen, first_of_two, refused, truth_code, each_body, forall_code}
+use Rattle.alma_lower_templates.specs.Pieces.{label_code, labels_code, behind_labels, case_arm, passed_over, entry_code, begin_loop}
+use Rattle.alma_lower_templates.specs.Pieces.{turn_code, for_turns, some_turns, aim, straight}
 use Rattle.alma_lower_templates.specs.Slots.{unless_bare}
 use Rattle.alma_lower_sound.proofs.Needs.{IsInside, Needs, Number, Mark}
 use Rattle.alma_lower_templates.proofs.Straight.{straight_long}
@@ -55,7 +58,8 @@ module _ (code : PlainCode) (r : ℕ) where
   pub in_two : (spare at : ℕ) (a b : List Lined) → Fits (length b + spare) at a → Fits spare (at + length a) b → Fits spare at (a ++ b)
   in_two spare at a b f g room =
       let long = length-append a b in
-      both a b (f (record { low = room.low; high = omega (arith, room.high, long) })) (g (record { low = omega (arith, room.low); high = omega (arith, room.high, long) }))
+      both a b (f (record { low = room.low; high = omega (arith, room.high, long) }))
+      (g (record { low = omega (arith, room.low); high = omega (arith, room.high, long) }))
 
   -- a part that needs no more room than it has
   pub first : (spare at : ℕ) (c : List Lined) → Fits 0 at c → Fits spare at c
@@ -88,13 +92,15 @@ module _ (code : PlainCode) (r : ℕ) where
   unless spare at None c f room = f refl room
 
   -- behind a part, instructions of the phrase itself
-  pub then_own : (spare at line : ℕ) (a : List Lined) (xs : List Instr) → Fits 0 at a → AllByRecursion (Needs code r) xs → Fits spare at (a ++ own line xs)
+  pub then_own : (spare at line : ℕ) (a : List Lined) (xs : List Instr) → Fits 0 at a → AllByRecursion (Needs code r) xs
+      → Fits spare at (a ++ own line xs)
   then_own spare at line a xs f h = row spare at a (own line xs) f (own_fits spare (at + length a) line xs h)
 
   -- ---- the first of several, which leaves over all
 
   pub leaving_fits : (at line : ℕ) (a : List Lined) (rest : (at jump : ℕ) → List Lined) → Fits 1 at a
-      → (IsInside code r (at + length a) → Fits 0 (at + length a + 1) (rest (at + length a + 1) (at + length a))) → Fits 0 at (leaving line at a rest)
+      → (IsInside code r (at + length a) → Fits 0 (at + length a + 1) (rest (at + length a + 1) (at + length a)))
+      → Fits 0 at (leaving line at a rest)
   leaving_fits at line a rest f g room =
       let jump : ℕ = at + length a in
       let b : List Lined = rest (jump + 1) jump in
@@ -107,15 +113,20 @@ module _ (code : PlainCode) (r : ℕ) where
 
   -- another, which leaves by the jump of the first
   pub by_jump : (at line jump : ℕ) (a : List Lined) (rest : (at : ℕ) → List Lined) → IsInside code r jump → Fits 1 at a
-      → Fits 0 (at + length (a ++ own line (I.Jump jump ∷ []))) (rest (at + length (a ++ own line (I.Jump jump ∷ [])))) → Fits 0 at (in_row at (a ++ own line (I.Jump jump ∷ [])) rest)
+      → Fits 0 (at + length (a ++ own line (I.Jump jump ∷ []))) (rest (at + length (a ++ own line (I.Jump jump ∷ []))))
+      → Fits 0 at (in_row at (a ++ own line (I.Jump jump ∷ [])) rest)
   by_jump at line jump a rest out f g =
       let last : List Lined = own line (I.Jump jump ∷ []) in
-      row 0 at (a ++ last) (rest (at + length (a ++ last))) (in_two 0 at a last (less_spare (length last + 0) 1 at a (omega arith) f) (own_fits 0 (at + length a) line (I.Jump jump ∷ []) (out, tt))) g
+      row 0 at (a ++ last) (rest (at + length (a ++ last)))
+      (in_two 0 at a last (less_spare (length last + 0) 1 at a (omega arith) f)
+      (own_fits 0 (at + length a) line (I.Jump jump ∷ []) (out, tt))) g
 
   -- ---- conditions
 
   pub condition_fits : (simple : Bool) (spare line at lo none : ℕ) (jump : (at lo none : ℕ) → List Lined) (test : (at lo : ℕ) → List Lined)
-      → (simple ≡ true → Fits 0 at (jump at lo none)) → (simple ≡ false → Mark code r lo) → (simple ≡ false → Fits 0 (at + 2) (test (at + 2) (lo + 1))) → IsInside code r none → Fits spare at (condition simple line at lo none jump test)
+      → (simple ≡ true → Fits 0 at (jump at lo none)) → (simple ≡ false → Mark code r lo)
+      → (simple ≡ false → Fits 0 (at + 2) (test (at + 2) (lo + 1))) → IsInside code r none
+      → Fits spare at (condition simple line at lo none jump test)
   condition_fits true spare line at lo none jump test j mark t out room = first spare at (jump at lo none) (j refl) room
   condition_fits false spare line at lo none jump test j mark t out room =
       let inner : List Lined = test (at + 2) (lo + 1) in
@@ -125,7 +136,8 @@ module _ (code : PlainCode) (r : ℕ) where
       (m, (out, both inner cut (t refl (record { low = omega (arith, room.low); high = omega (arith, room.high, long) })) (m, tt)))
 
   -- a condition, and what is done where it has an alternative
-  pub guarded_fits : (at skipped : ℕ) (cond : (none : ℕ) → List Lined) (body : (at : ℕ) → List Lined) → ((none : ℕ) → length (cond none) ≡ length (cond 0)) → ((none : ℕ) → IsInside code r none → Fits 0 at (cond none))
+  pub guarded_fits : (at skipped : ℕ) (cond : (none : ℕ) → List Lined) (body : (at : ℕ) → List Lined)
+      → ((none : ℕ) → length (cond none) ≡ length (cond 0)) → ((none : ℕ) → IsInside code r none → Fits 0 at (cond none))
       → ((behind : ℕ) → Fits 0 behind (body behind)) → Fits skipped at (guarded at skipped cond body)
   guarded_fits at skipped cond body same c b room =
       let behind : ℕ = at + length (cond 0) in
@@ -134,17 +146,21 @@ module _ (code : PlainCode) (r : ℕ) where
       let long = length-append (cond none) inner in
       let e = same none in
       let out : IsInside code r none = record { low = omega (arith, room.low); high = omega (arith, room.high, long, e) } in
-      both (cond none) inner (c none out (record { low = room.low; high = omega (arith, room.high, long) })) (b behind (record { low = omega (arith, room.low); high = omega (arith, room.high, long, e) }))
+      both (cond none) inner (c none out (record { low = room.low; high = omega (arith, room.high, long) }))
+      (b behind (record { low = omega (arith, room.low); high = omega (arith, room.high, long, e) }))
 
   -- ---- choices
 
   -- an alternative that is not the last
   pub chosen_fits : (line at : ℕ) (a : List Lined) → Fits 0 (at + 1) a → Fits 1 at (chosen line (at + 1) a)
-  chosen_fits line at a f room =
-      (record { low = omega (arith, room.low); high = omega (arith, room.high) }, f (record { low = omega (arith, room.low); high = omega (arith, room.high) }))
+  chosen_fits line at a f room = (
+    record { low = omega (arith, room.low); high = omega (arith, room.high) },
+    f (record { low = omega (arith, room.low); high = omega (arith, room.high) }),
+  )
 
   -- an operand of OR that is not the last
-  pub first_of_two_fits : (line at mark : ℕ) (a : List Lined) → Mark code r mark → Fits 0 (at + 2) a → Fits 1 at (first_of_two line (at + 2) mark a)
+  pub first_of_two_fits : (line at mark : ℕ) (a : List Lined) → Mark code r mark → Fits 0 (at + 2) a
+      → Fits 1 at (first_of_two line (at + 2) mark a)
   first_of_two_fits line at mark a m f room =
       let cut : List Lined = own line (I.Cut mark ∷ []) in
       let long = length-append a cut in
@@ -164,14 +180,23 @@ module _ (code : PlainCode) (r : ℕ) where
 
   -- ---- FORALL
 
-  pub each_fits : (line at mark inner : ℕ) (body : List Lined) → Mark code r mark → Mark code r inner → Fits 0 (at + 2) body → Fits 1 at (each_body line (at + 2) mark inner body)
+  pub each_fits : (line at mark inner : ℕ) (body : List Lined) → Mark code r mark → Mark code r inner → Fits 0 (at + 2) body
+      → Fits 1 at (each_body line (at + 2) mark inner body)
   each_fits line at mark inner body m n f room =
       let last : List Lined = own line (I.Cut inner ∷ I.Keep mark ∷ I.Fail ∷ []) in
       let long = length-append body last in
-      let next : IsInside code r (at + 2 + length body + 2) = record { low = omega (arith, room.low); high = omega (arith, room.high, long) } in
-      ((m, next), (n, both body last (f (record { low = omega (arith, room.low); high = omega (arith, room.high, long) })) (n, (m, (tt, tt)))))
+      let next : IsInside code r (at + 2 + length body + 2) =
+      record { low = omega (arith, room.low); high = omega (arith, room.high, long) } in (
+        (m, next),
+        (
+          n,
+          both body last (f (record { low = omega (arith, room.low); high = omega (arith, room.high, long) }))
+              (n, (m, (tt, tt))),
+        ),
+      )
 
-  pub forall_fits : (line at mark : ℕ) (parts : List Lined) → Mark code r mark → Fits 1 (at + 1) parts → Fits 0 at (forall_code line (at + 1) mark parts)
+  pub forall_fits : (line at mark : ℕ) (parts : List Lined) → Mark code r mark → Fits 1 (at + 1) parts
+      → Fits 0 at (forall_code line (at + 1) mark parts)
   forall_fits line at mark parts m f room =
       let last : List Lined = own line (I.Finish ∷ []) in
       let long = length-append parts last in
@@ -183,16 +208,25 @@ module _ (code : PlainCode) (r : ℕ) where
   -- the jump over code that is never reached
   pub over_fits : (has : Bool) (line at : ℕ) (a : List Lined) → Fits 0 (at + 1) a → Fits 0 at (passed_over has line at a)
   over_fits false line at a f room = tt
-  over_fits true line at a f room =
-      (record { low = omega (arith, room.low); high = omega (arith, room.high) }, f (record { low = omega (arith, room.low); high = omega (arith, room.high) }))
+  over_fits true line at a f room = (
+    record { low = omega (arith, room.low); high = omega (arith, room.high) },
+    f (record { low = omega (arith, room.low); high = omega (arith, room.high) }),
+  )
 
-  pub labels_long : (value bound at hit miss : ℕ) (label : Range) (rest : List Range) → length (labels_code value bound at hit miss label rest) ≡ 7 * length rest + 6
+  pub labels_long : (value bound at hit miss : ℕ) (label : Range) (rest : List Range)
+      → length (labels_code value bound at hit miss label rest) ≡ 7 * length rest + 6
   labels_long value bound at hit miss label [] = refl
   labels_long value bound at hit miss label (label2 ∷ rest) =
-      omega (arith, length-append (label_code value bound at hit label) (labels_code value bound (at + 7) hit miss label2 rest), labels_long value bound (at + 7) hit miss label2 rest)
+      omega (
+        arith,
+        length-append (label_code value bound at hit label) (labels_code value bound (at + 7) hit miss label2 rest),
+        labels_long value bound (at + 7) hit miss label2 rest,
+      )
 
-  labels_need : (value bound at hit miss : ℕ) (label : Range) (rest : List Range) → Number code r value → Number code r bound → Number code r (bound + 1) → IsInside code r hit → IsInside code r miss
-      → start_at code r ≤ at → at + 7 * length rest < end_at code r → AllByRecursion (Needs code r) (labels_code value bound at hit miss label rest)
+  labels_need : (value bound at hit miss : ℕ) (label : Range) (rest : List Range) → Number code r value → Number code r bound
+      → Number code r (bound + 1) → IsInside code r hit → IsInside code r miss
+      → start_at code r ≤ at → at + 7 * length rest < end_at code r
+      → AllByRecursion (Needs code r) (labels_code value bound at hit miss label rest)
   labels_need value bound at hit miss label [] v b c h m low high = (b, ((c, b, v), ((c, m), (b, ((c, v, b), ((c, m), tt))))))
   labels_need value bound at hit miss label (label2 ∷ rest) v b c h m low high =
       let next : IsInside code r (at + 7) = record { low = omega (arith, low); high = omega (arith, high) } in
@@ -201,7 +235,8 @@ module _ (code : PlainCode) (r : ℕ) where
       (labels_need value bound (at + 7) hit miss label2 rest v b c h m (omega (arith, low)) (omega (arith, high)))
 
   -- the labels of an arm and its body, with the jump behind it
-  pub arm_fits : (line value bound at : ℕ) (label : Range) (rest : List Range) (body : List Lined) → Number code r value → Number code r bound → Number code r (bound + 1)
+  pub arm_fits : (line value bound at : ℕ) (label : Range) (rest : List Range) (body : List Lined) → Number code r value
+      → Number code r bound → Number code r (bound + 1)
       → Fits 0 (behind_labels at rest) body → Fits 1 at (case_arm line value bound at label rest body)
   arm_fits line value bound at label rest body v b c f room =
       let hit : ℕ = behind_labels at rest in
@@ -230,7 +265,8 @@ module _ (code : PlainCode) (r : ℕ) where
     pub from : Number code r first
     pub to : Number code r last
 
-  pub for_turns_fits : (line at : ℕ) (by : ℤ) (counter limit step first last : ℕ) (turn : List Lined) → LoopSlots counter limit step first last → Fits 0 (at + 4) turn → Fits 0 at (for_turns line at by counter limit step first last turn)
+  pub for_turns_fits : (line at : ℕ) (by : ℤ) (counter limit step first last : ℕ) (turn : List Lined)
+      → LoopSlots counter limit step first last → Fits 0 (at + 4) turn → Fits 0 at (for_turns line at by counter limit step first last turn)
   for_turns_fits line at by counter limit step start last turn s f room =
       let exit : ℕ = at + 4 + length turn + 2 in
       let end : List Lined = own line (I.Step counter limit step exit ∷ I.Jump (at + 4) ∷ []) in
@@ -238,10 +274,21 @@ module _ (code : PlainCode) (r : ℕ) where
       let out : IsInside code r exit = record { low = omega (arith, room.low); high = omega (arith, room.high, long) } in
       let top : IsInside code r (at + 4) = record { low = omega (arith, room.low); high = omega (arith, room.high, long) } in (
         (s.count, s.from),
-        ((s.bound, s.to), (entry_need by start last s.from s.to, ((s.from, out), both turn end (f (record { low = omega (arith, room.low); high = omega (arith, room.high, long) })) ((s.count, s.bound, s.by, out), (top, tt))))),
+        (
+          (s.bound, s.to),
+          (
+            entry_need by start last s.from s.to,
+            (
+              (s.from, out),
+              both turn end (f (record { low = omega (arith, room.low); high = omega (arith, room.high, long) }))
+                  ((s.count, s.bound, s.by, out), (top, tt)),
+            ),
+          ),
+        ),
       )
 
-  pub some_turns_fits : (line at counter limit step first last more : ℕ) (turn : List Lined) → LoopSlots counter limit step first last → Number code r more → Fits 0 (at + 7) turn → Fits 0 at (some_turns line at counter limit step first last more turn)
+  pub some_turns_fits : (line at counter limit step first last more : ℕ) (turn : List Lined) → LoopSlots counter limit step first last
+      → Number code r more → Fits 0 (at + 7) turn → Fits 0 at (some_turns line at counter limit step first last more turn)
   some_turns_fits line at counter limit step start last more turn s m f room =
       let n : ℕ = at + 7 + length turn in
       let end : List Lined = own line (I.Jump (n + 4) ∷ I.Add counter counter step ∷ I.Jump (at + 4) ∷ I.Fail ∷ []) in
@@ -264,7 +311,8 @@ module _ (code : PlainCode) (r : ℕ) where
                   (m, inner),
                   (
                     again,
-                    both turn end (f (record { low = omega (arith, room.low); high = omega (arith, room.high, long) })) (out, ((s.count, s.count, s.by), (top, (tt, tt)))),
+                    both turn end (f (record { low = omega (arith, room.low); high = omega (arith, room.high, long) }))
+                        (out, ((s.count, s.count, s.by), (top, (tt, tt)))),
                   ),
                 ),
               ),
@@ -274,18 +322,23 @@ module _ (code : PlainCode) (r : ℕ) where
       )
 
   -- a turn: the count is checked, the variable is located and set, and the body follows
-  pub turn_fits : (line at : ℕ) (check : List Instr) (locate : (at : ℕ) → List Lined) (store : Instr) (body : (at : ℕ) → List Lined) → AllByRecursion (Needs code r) check → ((at : ℕ) → Fits 0 at (locate at)) → Needs code r store
+  pub turn_fits : (line at : ℕ) (check : List Instr) (locate : (at : ℕ) → List Lined) (store : Instr) (body : (at : ℕ) → List Lined)
+      → AllByRecursion (Needs code r) check → ((at : ℕ) → Fits 0 at (locate at)) → Needs code r store
       → ((at : ℕ) → Fits 0 at (body at)) → Fits 0 at (turn_code line at check locate store body)
   turn_fits line at check locate store body c l s b =
       let at1 : ℕ = at + length (own line check) in
       let at2 : ℕ = at1 + length (locate at1) in
       let set : List Lined = own line (store ∷ []) in
       row 0 at (own line check) (locate at1 ++ (set ++ body (at2 + 1))) (own_fits 0 at line check c)
-      (row 0 at1 (locate at1) (set ++ body (at2 + 1)) (l at1) (row 0 at2 set (body (at2 + 1)) (own_fits 0 at2 line (store ∷ []) (s, tt)) (b (at2 + 1))))
+      (row 0 at1 (locate at1) (set ++ body (at2 + 1)) (l at1)
+      (row 0 at2 set (body (at2 + 1)) (own_fits 0 at2 line (store ∷ []) (s, tt)) (b (at2 + 1))))
 
   -- the step, and both bounds
-  pub begin_fits : (spare line at step : ℕ) (by : ℤ) (from to : (at : ℕ) → List Lined) → Number code r step → ((at : ℕ) → Fits 0 at (from at)) → ((at : ℕ) → Fits 0 at (to at)) → Fits spare at (begin_loop line at step by from to)
+  pub begin_fits : (spare line at step : ℕ) (by : ℤ) (from to : (at : ℕ) → List Lined) → Number code r step
+      → ((at : ℕ) → Fits 0 at (from at)) → ((at : ℕ) → Fits 0 at (to at)) → Fits spare at (begin_loop line at step by from to)
   begin_fits spare line at step by from to s f g =
       let one : List Lined = from (at + 1) in
       let two : List Lined = to (at + 1 + length one) in
-      first spare at (own line (I.Const step by ∷ []) ++ (one ++ two)) (row 0 at (own line (I.Const step by ∷ [])) (one ++ two) (own_fits 0 at line (I.Const step by ∷ []) (s, tt)) (row 0 (at + 1) one two (f (at + 1)) (g (at + 1 + length one))))
+      first spare at (own line (I.Const step by ∷ []) ++ (one ++ two))
+      (row 0 at (own line (I.Const step by ∷ [])) (one ++ two) (own_fits 0 at line (I.Const step by ∷ []) (s, tt))
+      (row 0 (at + 1) one two (f (at + 1)) (g (at + 1 + length one))))

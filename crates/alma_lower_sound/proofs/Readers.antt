@@ -1,5 +1,6 @@
 -- The code of a phrase has as many instructions that read as the phrase has READs.
-use Rattle.std.proofs.Common.{◌≡◌, ℕ, zero, suc, ◌+◌, Bool, true, false, List, [], ◌∷◌, ◌++◌, length, Option, Some, None, ℤ, pos, negsuc, refl, sym, ap, ◌∙◌, subst, arith}
+use Rattle.std.proofs.Common.{◌≡◌, ℕ, zero, suc, ◌+◌, Bool, true, false, List, [], ◌∷◌, ◌++◌, length, Option, Some, None, ℤ, pos, negsuc}
+use Rattle.std.proofs.Common.{refl, sym, ap, ◌∙◌, subst, arith}
 use Rattle.alma_base.specs.declared.number.Range.{Range}
 use Rattle.alma_code.specs.declared.instr.Instr.{Instr}
 use Rattle.alma_code.specs.declared.instr.Instr.TheVariants as I
@@ -13,12 +14,28 @@ use Rattle.alma_ir.specs.declared.phrase.Root.{Root}
 use Rattle.alma_ir.specs.declared.phrase.Root.TheVariants as root
 use Rattle.alma_ir.specs.declared.phrase.WriteAs.{WriteAs}
 use Rattle.alma_ir.specs.declared.phrase.WriteAs.TheVariants as write_as
-use Rattle.alma_ir.specs.Tree.{Stmts, Stmt, Arms, CaseArms, Else, Branches, Loop, ReturnExpr, Test, Tests, Expr, Links, Args, Arg, Desig, Sels, Sel, Program, routine_at, no_stmts, more_stmts, TestStmt, Assign, CopyCells, If, While, Repeat, ForTo, SomeOf, Case, Either, Forall, Commit, Return, Read, WriteExpr, WriteText, WriteLine, no_arms, more_arms, no_cases, more_cases, no_else, else_part, no_branches, more_branches, a_loop, no_result, some_result, Value, Bind, Unify, SameCells, Seq, And, Or, Not, CallTest, no_tests, more_tests, Const, Load, Chain, Compare, Truth, Known, Chr, CallExpr, no_links, more_links, no_args, more_args, ByValue, ByCells, ByPlace, MixValue, MixPlace, a_desig, no_sels, more_sels, Field, Index}
+use Rattle.alma_ir.specs.Tree.{Stmts, Stmt, Arms, CaseArms, Else, Branches, Loop, ReturnExpr, Test, Tests, Expr, Links, Args, Arg, Desig}
+use Rattle.alma_ir.specs.Tree.{Sels, Sel, Program, routine_at, no_stmts, more_stmts, TestStmt, Assign, CopyCells, If, While, Repeat, ForTo}
+use Rattle.alma_ir.specs.Tree.{SomeOf, Case, Either, Forall, Commit, Return, Read, WriteExpr, WriteText, WriteLine, no_arms, more_arms}
+use Rattle.alma_ir.specs.Tree.{no_cases, more_cases, no_else, else_part, no_branches, more_branches, a_loop, no_result, some_result, Value}
+use Rattle.alma_ir.specs.Tree.{Bind, Unify, SameCells, Seq, And, Or, Not, CallTest, no_tests, more_tests, Const, Load, Chain, Compare}
+use Rattle.alma_ir.specs.Tree.{Truth, Known, Chr, CallExpr, no_links, more_links, no_args, more_args, ByValue, ByCells, ByPlace, MixValue}
+use Rattle.alma_ir.specs.Tree.{MixPlace, a_desig, no_sels, more_sels, Field, Index}
 use Rattle.alma_lower_templates.specs.Lined.{Lined, own, leaving}
 use Rattle.alma_lower_templates.specs.Tables.{Tables, range_number, is_whole}
-use Rattle.alma_lower_templates.specs.Pieces.{condition, guarded, chosen, first_of_two, refused, fit_code, neg_code, op_code, cmp_code, unequal_code, write_code, read_code, case_arm, passed_over, has_dead, behind_labels, labels_code, begin_loop, bounds_code, entry_code, chain_code, link_code, unless_whole, for_turns, some_turns, turn_code, each_body, forall_code, aim, straight}
-use Rattle.alma_lower_templates.specs.Slots.{shift_of, bare, bare_desig, stays, stays_in, unless_bare, is_simple, handed_slots, arg_slots, behind_expr, behind_dead, behind_value, behind_desig, behind_target, behind_variable, behind_test, behind_stmts, behind_stmt, behind_condition, own_place, own_root, goes_straight}
-use Rattle.alma_lower_templates.specs.Templates.{char_range, own_slot, slot_or, outer_slot, link_if, set_by, load_by, value_at, part_slot, behind_root, place_at, root_code, call_link_code, arguments_from, call_code, set_code, load_code, count_at, count_code, fit_result, stmts_code, stmt_code, if_code, arms_code, for_code, some_code, dead_code, case_code, cases_code, else_code, either_code, branches_code, test_code, and_code, or_code, operands_code, jump_code, expr_code, links_code, args_code, arg_code, desig_code, sels_code, sel_code, held_at, set_to}
+use Rattle.alma_lower_templates.specs.Pieces.{condition, guarded, chosen, first_of_two, refused, fit_code, neg_code, op_code, cmp_code}
+use Rattle.alma_lower_templates.specs.Pieces.{unequal_code, write_code, read_code, case_arm, passed_over, has_dead, behind_labels}
+use Rattle.alma_lower_templates.specs.Pieces.{labels_code, begin_loop, bounds_code, entry_code, chain_code, link_code, unless_whole}
+use Rattle.alma_lower_templates.specs.Pieces.{for_turns, some_turns, turn_code, each_body, forall_code, aim, straight}
+use Rattle.alma_lower_templates.specs.Slots.{shift_of, bare, bare_desig, stays, stays_in, unless_bare, is_simple, handed_slots, arg_slots}
+use Rattle.alma_lower_templates.specs.Slots.{behind_expr, behind_dead, behind_value, behind_desig, behind_target, behind_variable}
+use Rattle.alma_lower_templates.specs.Slots.{behind_test, behind_stmts, behind_stmt, behind_condition, own_place, own_root, goes_straight}
+use Rattle.alma_lower_templates.specs.Templates.{char_range, own_slot, slot_or, outer_slot, link_if, set_by, load_by, value_at, part_slot}
+use Rattle.alma_lower_templates.specs.Templates.{behind_root, place_at, root_code, call_link_code, arguments_from, call_code, set_code}
+use Rattle.alma_lower_templates.specs.Templates.{load_code, count_at, count_code, fit_result, stmts_code, stmt_code, if_code, arms_code}
+use Rattle.alma_lower_templates.specs.Templates.{for_code, some_code, dead_code, case_code, cases_code, else_code, either_code}
+use Rattle.alma_lower_templates.specs.Templates.{branches_code, test_code, and_code, or_code, operands_code, jump_code, expr_code}
+use Rattle.alma_lower_templates.specs.Templates.{links_code, args_code, arg_code, desig_code, sels_code, sel_code, held_at, set_to}
 use Rattle.alma_lower_templates.proofs.First.{as_stays, as_stays_in}
 use Rattle.alma_lower_templates.proofs.Tested.{compared_code, Tested, tested, as_value, as_unequal}
 use Rattle.alma_code.specs.Reads.{is_read}
@@ -280,7 +297,8 @@ module _ (line : ℕ) where
   own_then : (xs : List Instr) (a : List Lined) → Quiet xs → reads (own line xs ++ a) ≡ reads a
   own_then xs a q = omega (arith, both (own line xs) a, q line)
 
-  leaving_reads : (at : ℕ) (a : List Lined) (rest : (at jump : ℕ) → List Lined) → reads (leaving line at a rest) ≡ reads a + reads (rest (at + length a + 1) (at + length a))
+  leaving_reads : (at : ℕ) (a : List Lined) (rest : (at jump : ℕ) → List Lined)
+      → reads (leaving line at a rest) ≡ reads a + reads (rest (at + length a + 1) (at + length a))
   leaving_reads at a rest =
       let jump : ℕ = at + length a in
       let b : List Lined = rest (jump + 1) jump in
@@ -290,13 +308,16 @@ module _ (line : ℕ) where
   by_jump_reads : (jump : ℕ) (a b : List Lined) → reads ((a ++ own line (I.Jump jump ∷ [])) ++ b) ≡ reads a + reads b
   by_jump_reads jump a b = omega (arith, both (a ++ own line (I.Jump jump ∷ [])) b, both a (own line (I.Jump jump ∷ [])))
 
-  condition_reads : (simple : Bool) (at lo none : ℕ) (jump : (at lo none : ℕ) → List Lined) (test : (at lo : ℕ) → List Lined) (n : ℕ) → (simple ≡ true → reads (jump at lo none) ≡ n) → reads (test (at + 2) (lo + 1)) ≡ n → reads (condition simple line at lo none jump test) ≡ n
+  condition_reads : (simple : Bool) (at lo none : ℕ) (jump : (at lo none : ℕ) → List Lined) (test : (at lo : ℕ) → List Lined) (n : ℕ)
+      → (simple ≡ true → reads (jump at lo none) ≡ n) → reads (test (at + 2) (lo + 1)) ≡ n
+      → reads (condition simple line at lo none jump test) ≡ n
   condition_reads true at lo none jump test n j t = j refl
   condition_reads false at lo none jump test n j t =
       let inner : List Lined = test (at + 2) (lo + 1) in
       omega (arith, t, both inner (own line (I.Cut lo ∷ [])))
 
-  guarded_reads : (at skipped : ℕ) (cond : (none : ℕ) → List Lined) (body : (at : ℕ) → List Lined) (m n : ℕ) → ((none : ℕ) → reads (cond none) ≡ m) → ((at : ℕ) → reads (body at) ≡ n) → reads (guarded at skipped cond body) ≡ m + n
+  guarded_reads : (at skipped : ℕ) (cond : (none : ℕ) → List Lined) (body : (at : ℕ) → List Lined) (m n : ℕ)
+      → ((none : ℕ) → reads (cond none) ≡ m) → ((at : ℕ) → reads (body at) ≡ n) → reads (guarded at skipped cond body) ≡ m + n
   guarded_reads at skipped cond body m n c b =
       let behind : ℕ = at + length (cond 0) in
       let inner : List Lined = body behind in
@@ -320,12 +341,15 @@ module _ (line : ℕ) where
   forall_reads : (at mark : ℕ) (a : List Lined) → reads (forall_code line at mark a) ≡ reads a
   forall_reads at mark a = omega (arith, both a (own line (I.Finish ∷ [])))
 
-  case_arm_reads : (value bound at : ℕ) (label : Range) (rest : List Range) (a : List Lined) → reads (case_arm line value bound at label rest a) ≡ reads a
+  case_arm_reads : (value bound at : ℕ) (label : Range) (rest : List Range) (a : List Lined)
+      → reads (case_arm line value bound at label rest a) ≡ reads a
   case_arm_reads value bound at label rest a =
       let hit : ℕ = behind_labels at rest in
-      own_then (labels_code value bound at hit (hit + length a + 1) label rest) a (labels_quiet value bound at hit (hit + length a + 1) label rest)
+      own_then (labels_code value bound at hit (hit + length a + 1) label rest) a
+      (labels_quiet value bound at hit (hit + length a + 1) label rest)
 
-  begin_reads : (at step : ℕ) (by : ℤ) (from to : (at : ℕ) → List Lined) (m n : ℕ) → ((at : ℕ) → reads (from at) ≡ m) → ((at : ℕ) → reads (to at) ≡ n) → reads (begin_loop line at step by from to) ≡ m + n
+  begin_reads : (at step : ℕ) (by : ℤ) (from to : (at : ℕ) → List Lined) (m n : ℕ) → ((at : ℕ) → reads (from at) ≡ m)
+      → ((at : ℕ) → reads (to at) ≡ n) → reads (begin_loop line at step by from to) ≡ m + n
   begin_reads at step by from to m n f g =
       let one : List Lined = from (at + 1) in
       let two : List Lined = to (at + 1 + length one) in
@@ -333,7 +357,9 @@ module _ (line : ℕ) where
       let y = g (at + 1 + length one) in
       omega (arith, x, y, both one two)
 
-  turn_reads : (at : ℕ) (check : List Instr) (locate : (at : ℕ) → List Lined) (store : Instr) (body : (at : ℕ) → List Lined) (m n : ℕ) → Quiet check → Quiet (store ∷ []) → ((at : ℕ) → reads (locate at) ≡ m) → ((at : ℕ) → reads (body at) ≡ n) → reads (turn_code line at check locate store body) ≡ m + n
+  turn_reads : (at : ℕ) (check : List Instr) (locate : (at : ℕ) → List Lined) (store : Instr) (body : (at : ℕ) → List Lined) (m n : ℕ)
+      → Quiet check → Quiet (store ∷ []) → ((at : ℕ) → reads (locate at) ≡ m) → ((at : ℕ) → reads (body at) ≡ n)
+      → reads (turn_code line at check locate store body) ≡ m + n
   turn_reads at check locate store body m n c s l b =
       let at1 : ℕ = at + length (own line check) in
       let one : List Lined = locate at1 in
@@ -341,38 +367,60 @@ module _ (line : ℕ) where
       let two : List Lined = body (at2 + 1) in
       let x = l at1 in
       let y = b (at2 + 1) in
-      omega (arith, x, y, own_then check (one ++ (own line (store ∷ []) ++ two)) c, both one (own line (store ∷ []) ++ two), own_then (store ∷ []) two s)
+      omega (
+        arith,
+        x,
+        y,
+        own_then check (one ++ (own line (store ∷ []) ++ two)) c,
+        both one (own line (store ∷ []) ++ two),
+        own_then (store ∷ []) two s,
+      )
 
-  for_turns_reads : (at : ℕ) (by : ℤ) (counter limit step from to : ℕ) (a : List Lined) → reads (for_turns line at by counter limit step from to a) ≡ reads a
+  for_turns_reads : (at : ℕ) (by : ℤ) (counter limit step from to : ℕ) (a : List Lined)
+      → reads (for_turns line at by counter limit step from to a) ≡ reads a
   for_turns_reads at by counter limit step from to a =
       let exit : ℕ = at + 4 + length a + 2 in
       let end : List Instr = I.Step counter limit step exit ∷ I.Jump (at + 4) ∷ [] in
-      omega (arith, own_then (bounds_code by counter limit from to exit) (a ++ own line end) (bounds_quiet by counter limit from to exit), both a (own line end))
+      omega (
+        arith,
+        own_then (bounds_code by counter limit from to exit) (a ++ own line end) (bounds_quiet by counter limit from to exit),
+        both a (own line end),
+      )
 
-  some_turns_reads : (at counter limit step from to more : ℕ) (a : List Lined) → reads (some_turns line at counter limit step from to more a) ≡ reads a
+  some_turns_reads : (at counter limit step from to more : ℕ) (a : List Lined)
+      → reads (some_turns line at counter limit step from to more a) ≡ reads a
   some_turns_reads at counter limit step from to more a =
       let n : ℕ = at + 7 + length a in
       omega (arith, both a (own line (I.Jump (n + 4) ∷ I.Add counter counter step ∷ I.Jump (at + 4) ∷ I.Fail ∷ [])))
 
 module _ (p : Program) (tables : Tables) (r : ℕ) where
   abbrev condition_code : (line at lo none : ℕ) → Test → List Lined
-  condition_code line at lo none t = condition (is_simple t) line at lo none (λ at lo none. jump_code p tables r line at lo none t) (λ at lo. test_code p tables r line at lo t)
+  condition_code line at lo none t = condition (is_simple t) line at lo none (λ at lo none. jump_code p tables r line at lo none t)
+      (λ at lo. test_code p tables r line at lo t)
 
   abbrev guarded_code : (line at lo skipped : ℕ) → Test → ((at : ℕ) → List Lined) → List Lined
   guarded_code line at lo skipped t body = guarded at skipped (λ none. condition_code line at lo none t) body
 
   abbrev turn_of : (line at counter lo : ℕ) → Desig → Range → ((at : ℕ) → List Lined) → List Lined
   turn_of line at counter lo d range body =
-      turn_code line at (count_code p tables r (bare_desig d) range counter lo) (λ at. unless_bare (bare_desig d) (desig_code p tables r line at (lo + 1) d)) (set_code p tables r (lo + 1) (count_at p tables r (bare_desig d) counter lo) d) body
+      turn_code line at (count_code p tables r (bare_desig d) range counter lo)
+      (λ at. unless_bare (bare_desig d) (desig_code p tables r line at (lo + 1) d))
+      (set_code p tables r (lo + 1) (count_at p tables r (bare_desig d) counter lo) d) body
 
   -- ---- forms of several parts, given their parts
 
-  decides : (line at lo none : ℕ) (t : Test) (n : ℕ) → (is_simple t ≡ true → reads (jump_code p tables r line at lo none t) ≡ n) → reads (test_code p tables r line (at + 2) (lo + 1) t) ≡ n → reads (condition_code line at lo none t) ≡ n
-  decides line at lo none t n j f = condition_reads line (is_simple t) at lo none (λ at lo none. jump_code p tables r line at lo none t) (λ at lo. test_code p tables r line at lo t) n j f
+  decides : (line at lo none : ℕ) (t : Test) (n : ℕ) → (is_simple t ≡ true → reads (jump_code p tables r line at lo none t) ≡ n)
+      → reads (test_code p tables r line (at + 2) (lo + 1) t) ≡ n → reads (condition_code line at lo none t) ≡ n
+  decides line at lo none t n j f = condition_reads line (is_simple t) at lo none (λ at lo none. jump_code p tables r line at lo none t)
+      (λ at lo. test_code p tables r line at lo t) n j f
 
-  asked : (line at lo skipped : ℕ) (t : Test) (body : (at : ℕ) → List Lined) (m n : ℕ) → ((none : ℕ) → is_simple t ≡ true → reads (jump_code p tables r line at lo none t) ≡ m) → ((at lo : ℕ) → reads (test_code p tables r line at lo t) ≡ m) → ((at : ℕ) → reads (body at) ≡ n)
+  asked : (line at lo skipped : ℕ) (t : Test) (body : (at : ℕ) → List Lined) (m n : ℕ)
+      → ((none : ℕ) → is_simple t ≡ true → reads (jump_code p tables r line at lo none t) ≡ m)
+      → ((at lo : ℕ) → reads (test_code p tables r line at lo t) ≡ m) → ((at : ℕ) → reads (body at) ≡ n)
       → reads (guarded_code line at lo skipped t body) ≡ m + n
-  asked line at lo skipped t body m n j f b = guarded_reads line at skipped (λ none. condition_code line at lo none t) body m n (λ none. decides line at lo none t m (j none) (f (at + 2) (lo + 1))) b
+  asked line at lo skipped t body m n j f b =
+      guarded_reads line at skipped (λ none. condition_code line at lo none t) body m n
+      (λ none. decides line at lo none t m (j none) (f (at + 2) (lo + 1))) b
 
   fit_quiet : (range : Range) (value : ℕ) → Quiet (fit_code tables range value)
   fit_quiet range value = whole_quiet (is_whole range) (I.InRange value (range_number tables range) ∷ []) (λ l. refl)
@@ -395,8 +443,12 @@ module _ (p : Program) (tables : Tables) (r : ℕ) where
   root_quiet lo (root.Local from) line = refl
   root_quiet lo (root.Global from) line = refl
   root_quiet lo (root.Param from) line = refl
-  root_quiet lo (root.Outer links from) line = quiet_two (link_code (lo + 1) links) (I.Outer lo (lo + 1 + links) (outer_slot p tables r links from) ∷ []) (link_quiet (lo + 1) links) (λ l. refl) line
-  root_quiet lo (root.OuterParam links from) line = quiet_two (link_code (lo + 1) links) (I.OuterSame lo (lo + 1 + links) (outer_slot p tables r links from) ∷ []) (link_quiet (lo + 1) links) (λ l. refl) line
+  root_quiet lo (root.Outer links from) line =
+      quiet_two (link_code (lo + 1) links) (I.Outer lo (lo + 1 + links) (outer_slot p tables r links from) ∷ []) (link_quiet (lo + 1) links)
+      (λ l. refl) line
+  root_quiet lo (root.OuterParam links from) line =
+      quiet_two (link_code (lo + 1) links) (I.OuterSame lo (lo + 1 + links) (outer_slot p tables r links from) ∷ [])
+      (link_quiet (lo + 1) links) (λ l. refl) line
 
   call_link_quiet : (called up lo : ℕ) → Quiet (call_link_code p tables r called up lo)
   call_link_quiet called up lo line = by (shift_of p called)
@@ -413,19 +465,26 @@ module _ (p : Program) (tables : Tables) (r : ℕ) where
   count_quiet (Some to) range counter lo line = fit_quiet range counter line
   count_quiet None range counter lo line = omega (arith, fit_quiet range lo line)
 
-  turn : (line at counter lo : ℕ) (d : Desig) (range : Range) (body : (at : ℕ) → List Lined) (n : ℕ) → ((at : ℕ) → reads (desig_code p tables r line at (lo + 1) d) ≡ desig_reads d) → ((at : ℕ) → reads (body at) ≡ n) → reads (turn_of line at counter lo d range body) ≡ desig_reads d + n
+  turn : (line at counter lo : ℕ) (d : Desig) (range : Range) (body : (at : ℕ) → List Lined) (n : ℕ)
+      → ((at : ℕ) → reads (desig_code p tables r line at (lo + 1) d) ≡ desig_reads d) → ((at : ℕ) → reads (body at) ≡ n)
+      → reads (turn_of line at counter lo d range body) ≡ desig_reads d + n
   turn line at counter lo d range body n f b =
-      turn_reads line at (count_code p tables r (bare_desig d) range counter lo) (λ at. unless_bare (bare_desig d) (desig_code p tables r line at (lo + 1) d)) (set_code p tables r (lo + 1) (count_at p tables r (bare_desig d) counter lo) d) body (desig_reads d) n
-      (count_quiet (bare_desig d) range counter lo) (set_quiet (lo + 1) (count_at p tables r (bare_desig d) counter lo) d) (λ at. located d (desig_code p tables r line at (lo + 1) d) (f at)) b
+      turn_reads line at (count_code p tables r (bare_desig d) range counter lo)
+      (λ at. unless_bare (bare_desig d) (desig_code p tables r line at (lo + 1) d))
+      (set_code p tables r (lo + 1) (count_at p tables r (bare_desig d) counter lo) d) body (desig_reads d) n
+      (count_quiet (bare_desig d) range counter lo) (set_quiet (lo + 1) (count_at p tables r (bare_desig d) counter lo) d)
+      (λ at. located d (desig_code p tables r line at (lo + 1) d) (f at)) b
 
   -- ---- CASE: the jump over the arms that have no label
 
-  over_reads : (line next at lo : ℕ) (x : CaseArms) → reads (passed_over (has_dead x) line next (dead_code p tables r at lo x)) ≡ reads (dead_code p tables r at lo x)
+  over_reads : (line next at lo : ℕ) (x : CaseArms)
+      → reads (passed_over (has_dead x) line next (dead_code p tables r at lo x)) ≡ reads (dead_code p tables r at lo x)
   over_reads line next at lo no_cases = refl
   over_reads line next at lo (more_cases [] body rest) = omega arith
   over_reads line next at lo (more_cases (label ∷ labels) body rest) = over_reads line next at lo rest
 
-  set_reads : (o : Option ℕ) (line : ℕ) (value : List Lined) (set : List Instr) → Quiet set → reads (set_to p tables r o line value set) ≡ reads value
+  set_reads : (o : Option ℕ) (line : ℕ) (value : List Lined) (set : List Instr) → Quiet set
+      → reads (set_to p tables r o line value set) ≡ reads value
   set_reads (Some to) line value set quiet = straight_reads (own_slot p tables r to) value
   set_reads None line value set quiet = then_own line value set quiet
 
@@ -434,19 +493,28 @@ module _ (p : Program) (tables : Tables) (r : ℕ) where
   root_reads None line lo x = root_quiet lo x line
 
   -- a value as a test reads where the value does
-  value_same : (line at lo : ℕ) (e : Expr) → reads (test_code p tables r line at lo (Value e)) ≡ reads (unless_bare (bare e) (expr_code p tables r line at lo e))
+  value_same : (line at lo : ℕ) (e : Expr)
+      → reads (test_code p tables r line at lo (Value e)) ≡ reads (unless_bare (bare e) (expr_code p tables r line at lo e))
   value_same line at lo e = by (tested p tables r e)
     where
-      differ : (x y : Expr) → reads (test_code p tables r line at lo (Value (Compare cmp.Unequal x y))) ≡ reads (expr_code p tables r line at lo (Compare cmp.Unequal x y))
+      differ : (x y : Expr) → reads (test_code p tables r line at lo (Value (Compare cmp.Unequal x y))) ≡ reads
+          (expr_code p tables r line at lo (Compare cmp.Unequal x y))
       differ x y =
           let operand : ℕ = value_at p tables r (behind_expr p r lo x) y in
           let operands : List Lined = compared_code p tables r line at lo x y in
           let first : ℕ = slot_or p tables r (stays x y) lo in
-          omega (arith, then_own line operands (unequal_code lo first operand (at + length operands)) (λ l. refl), then_own line operands (cmp_code cmp.Unequal lo first operand) (λ l. refl))
+          omega (
+            arith,
+            then_own line operands (unequal_code lo first operand (at + length operands)) (λ l. refl),
+            then_own line operands (cmp_code cmp.Unequal lo first operand) (λ l. refl),
+          )
 
-      by : Tested p tables r e → reads (test_code p tables r line at lo (Value e)) ≡ reads (unless_bare (bare e) (expr_code p tables r line at lo e))
-      by (as_value is) = ap reads (is line at lo) ∙ then_own line (unless_bare (bare e) (expr_code p tables r line at lo e)) (I.Check (value_at p tables r lo e) ∷ []) (λ l. refl)
-      by (as_unequal x y same) = subst (λ z. reads (test_code p tables r line at lo (Value z)) ≡ reads (unless_bare (bare z) (expr_code p tables r line at lo z))) (sym same) (differ x y)
+      by : Tested p tables r e → reads (test_code p tables r line at lo (Value e)) ≡ reads
+          (unless_bare (bare e) (expr_code p tables r line at lo e))
+      by (as_value is) = ap reads (is line at lo)
+          ∙ then_own line (unless_bare (bare e) (expr_code p tables r line at lo e)) (I.Check (value_at p tables r lo e) ∷ []) (λ l. refl)
+      by (as_unequal x y same) = subst (λ z. reads (test_code p tables r line at lo (Value z)) ≡ reads
+          (unless_bare (bare z) (expr_code p tables r line at lo z))) (sym same) (differ x y)
 
   mutual
     desig_same : (line at lo : ℕ) (x : Desig) → reads (desig_code p tables r line at lo x) ≡ desig_reads x
@@ -455,26 +523,47 @@ module _ (p : Program) (tables : Tables) (r : ℕ) where
         let one : List Lined = unless_bare o (own line (root_code p tables r lo root)) in
         let from : ℕ = slot_or p tables r o lo in
         let lo2 : ℕ = behind_root p tables r lo root in
-        omega (arith, both one (sels_code p tables r line (at + length one) from lo2 sels), root_reads o line lo root, sels_same line (at + length one) from lo2 sels)
+        omega (
+          arith,
+          both one (sels_code p tables r line (at + length one) from lo2 sels),
+          root_reads o line lo root,
+          sels_same line (at + length one) from lo2 sels,
+        )
 
     sels_same : (line at from lo : ℕ) (x : Sels) → reads (sels_code p tables r line at from lo x) ≡ sels_reads x
     sels_same line at from lo no_sels = omega arith
     sels_same line at from lo (more_sels x rest) =
         let one : List Lined = sel_code p tables r line at from lo x in
         let part : ℕ = part_slot p tables r lo x in
-        omega (arith, both one (sels_code p tables r line (at + length one) part (part + 1) rest), sel_same line at from lo x, sels_same line (at + length one) part (part + 1) rest)
+        omega (
+          arith,
+          both one (sels_code p tables r line (at + length one) part (part + 1) rest),
+          sel_same line at from lo x,
+          sels_same line (at + length one) part (part + 1) rest,
+        )
 
     sel_same : (line at from lo : ℕ) (x : Sel) → reads (sel_code p tables r line at from lo x) ≡ sel_reads x
     sel_same line at from lo (Field offset cells) = omega arith
     sel_same line at from lo (Index e range cells) =
-        omega (arith, then_own line (unless_bare (bare e) (expr_code p tables r line at lo e)) (I.Index (behind_value p r lo e) from (value_at p tables r lo e) (range_number tables range) ∷ []) (λ l. refl), once e (expr_code p tables r line at lo e) (expr_same line at lo e), expr_same line at lo e)
+        omega (
+          arith,
+          then_own line (unless_bare (bare e) (expr_code p tables r line at lo e))
+              (I.Index (behind_value p r lo e) from (value_at p tables r lo e) (range_number tables range) ∷ []) (λ l. refl),
+          once e (expr_code p tables r line at lo e) (expr_same line at lo e),
+          expr_same line at lo e,
+        )
 
     expr_same : (line at lo : ℕ) (x : Expr) → reads (expr_code p tables r line at lo x) ≡ expr_reads x
     expr_same line at lo (Const n) = omega arith
     expr_same line at lo (Load d) =
         let place : List Lined = desig_code p tables r line at (lo + 1) d in
         let one : List Lined = unless_bare (own_place d) place in
-        omega (arith, then_own line (unless_bare (bare_desig d) one) (load_code p tables r lo d ∷ []) (load_quiet lo d), located d one (placed d place (desig_same line at (lo + 1) d)), desig_same line at (lo + 1) d)
+        omega (
+          arith,
+          then_own line (unless_bare (bare_desig d) one) (load_code p tables r lo d ∷ []) (load_quiet lo d),
+          located d one (placed d place (desig_same line at (lo + 1) d)),
+          desig_same line at (lo + 1) d,
+        )
     expr_same line at lo (Chain negated e links) =
         let o : Option ℕ = stays_in negated e links in
         let inner : List Lined = unless_bare o (expr_code p tables r line at lo e) in
@@ -485,7 +574,8 @@ module _ (p : Program) (tables : Tables) (r : ℕ) where
           arith,
           both one (links_code p tables r line (at + length one) first lo lo2 links),
           then_own line inner (neg_code negated lo) (neg_quiet negated lo),
-          unless_reads o (expr_reads e) (expr_code p tables r line at lo e) (as_stays_in (λ o. BareQuiet o (expr_reads e)) negated e links tt (expr_bare e)) (expr_same line at lo e),
+          unless_reads o (expr_reads e) (expr_code p tables r line at lo e)
+              (as_stays_in (λ o. BareQuiet o (expr_reads e)) negated e links tt (expr_bare e)) (expr_same line at lo e),
           links_same line (at + length one) first lo lo2 links,
         )
     expr_same line at lo (Compare how x y) =
@@ -496,28 +586,46 @@ module _ (p : Program) (tables : Tables) (r : ℕ) where
         let first : ℕ = slot_or p tables r (stays x y) lo in
         omega (
           arith,
-          then_own line (one ++ two) (cmp_code how lo first (value_at p tables r lo2 y)) (cmp_quiet how lo first (value_at p tables r lo2 y)),
+          then_own line (one ++ two) (cmp_code how lo first (value_at p tables r lo2 y))
+              (cmp_quiet how lo first (value_at p tables r lo2 y)),
           both one two,
-          unless_reads (stays x y) (expr_reads x) (expr_code p tables r line at lo x) (as_stays (λ o. BareQuiet o (expr_reads x)) x y tt (expr_bare x)) (expr_same line at lo x),
+          unless_reads (stays x y) (expr_reads x) (expr_code p tables r line at lo x)
+              (as_stays (λ o. BareQuiet o (expr_reads x)) x y tt (expr_bare x)) (expr_same line at lo x),
           once y inner (expr_same line (at + length one) lo2 y),
           expr_same line (at + length one) lo2 y,
         )
     expr_same line at lo (Truth t) =
         let one : List Lined = guarded_code line at (lo + 1) 2 t (λ next. []) in
         let end : ℕ = at + length one in
-        let z = asked line at (lo + 1) 2 t (λ next. []) (test_reads t) 0 (λ none. jump_same line at (lo + 1) none t) (λ at lo. test_same line at lo t) (λ next. omega arith) in
+        let z = asked line at (lo + 1) 2 t (λ next. []) (test_reads t) 0 (λ none. jump_same line at (lo + 1) none t)
+        (λ at lo. test_same line at lo t) (λ next. omega arith) in
         omega (arith, z, then_own line one (I.Const lo (pos 1) ∷ I.Jump (end + 3) ∷ I.Const lo (pos 0) ∷ []) (λ l. refl))
     expr_same line at lo (Known d) =
         let place : List Lined = desig_code p tables r line at (lo + 1) d in
-        omega (arith, then_own line (unless_bare (own_place d) place) (I.Known lo (held_at p tables r (lo + 1) d) ∷ []) (λ l. refl), placed d place (desig_same line at (lo + 1) d), desig_same line at (lo + 1) d)
-    expr_same line at lo (Chr e) = omega (arith, then_own line (expr_code p tables r line at lo e) (I.InRange lo (range_number tables char_range) ∷ []) (λ l. refl), expr_same line at lo e)
+        omega (
+          arith,
+          then_own line (unless_bare (own_place d) place) (I.Known lo (held_at p tables r (lo + 1) d) ∷ []) (λ l. refl),
+          placed d place (desig_same line at (lo + 1) d),
+          desig_same line at (lo + 1) d,
+        )
+    expr_same line at lo (Chr e) = omega (
+      arith,
+      then_own line (expr_code p tables r line at lo e) (I.InRange lo (range_number tables char_range) ∷ []) (λ l. refl),
+      expr_same line at lo e,
+    )
     expr_same line at lo (CallExpr called args up) =
         let to : ℕ = arguments_from p tables r called up (lo + 2) in
         let link : List Instr = call_link_code p tables r called up (lo + 2) in
         let next : ℕ = at + length (own line link) in
         let lo2 : ℕ = to + length (handed_slots args) in
         let two : List Lined = args_code p tables r line next to lo2 args in
-        omega (arith, then_own line (own line link ++ two) (I.Mark (lo + 1) ∷ call_code p tables r called args up (lo + 2) lo ∷ I.Cut (lo + 1) ∷ []) (λ l. refl), own_then line link two (call_link_quiet called up (lo + 2)), args_same line next to lo2 args)
+        omega (
+          arith,
+          then_own line (own line link ++ two)
+              (I.Mark (lo + 1) ∷ call_code p tables r called args up (lo + 2) lo ∷ I.Cut (lo + 1) ∷ []) (λ l. refl),
+          own_then line link two (call_link_quiet called up (lo + 2)),
+          args_same line next to lo2 args,
+        )
 
     links_same : (line at first to lo : ℕ) (x : Links) → reads (links_code p tables r line at first to lo x) ≡ links_reads x
     links_same line at first to lo no_links = omega arith
@@ -528,7 +636,8 @@ module _ (p : Program) (tables : Tables) (r : ℕ) where
         omega (
           arith,
           both one (links_code p tables r line (at + length one) to to lo2 rest),
-          then_own line (unless_bare (bare e) inner) (op_code how to first (value_at p tables r lo e) ∷ []) (op_quiet how to first (value_at p tables r lo e)),
+          then_own line (unless_bare (bare e) inner) (op_code how to first (value_at p tables r lo e) ∷ [])
+              (op_quiet how to first (value_at p tables r lo e)),
           once e inner (expr_same line at lo e),
           expr_same line at lo e,
           links_same line (at + length one) to to lo2 rest,
@@ -539,21 +648,59 @@ module _ (p : Program) (tables : Tables) (r : ℕ) where
     args_same line at to lo (more_args a rest) =
         let one : List Lined = arg_code p tables r line at to lo a in
         let lo2 : ℕ = lo + length (arg_slots p r a) in
-        omega (arith, both one (args_code p tables r line (at + length one) (to + 1) lo2 rest), arg_same line at to lo a, args_same line (at + length one) (to + 1) lo2 rest)
+        omega (
+          arith,
+          both one (args_code p tables r line (at + length one) (to + 1) lo2 rest),
+          arg_same line at to lo a,
+          args_same line (at + length one) (to + 1) lo2 rest,
+        )
 
     arg_same : (line at to lo : ℕ) (x : Arg) → reads (arg_code p tables r line at to lo x) ≡ arg_reads x
     arg_same line at to lo (ByValue e range) =
         let v : ℕ = value_at p tables r lo e in
-        omega (arith, then_own line (unless_bare (bare e) (expr_code p tables r line at lo e)) (fit_code tables range v ++ (I.Move to v ∷ [])) (quiet_two (fit_code tables range v) (I.Move to v ∷ []) (fit_quiet range v) (λ l. refl)), once e (expr_code p tables r line at lo e) (expr_same line at lo e), expr_same line at lo e)
-    arg_same line at to lo (ByCells d) = omega (arith, then_own line (desig_code p tables r line at lo d) (I.Same to (place_at p tables r lo d) ∷ []) (λ l. refl), desig_same line at lo d)
-    arg_same line at to lo (ByPlace d) = omega (arith, then_own line (desig_code p tables r line at lo d) (I.Same to (place_at p tables r lo d) ∷ []) (λ l. refl), desig_same line at lo d)
+        omega (
+          arith,
+          then_own line (unless_bare (bare e) (expr_code p tables r line at lo e))
+              (fit_code tables range v ++ (I.Move to v ∷ []))
+              (quiet_two (fit_code tables range v) (I.Move to v ∷ []) (fit_quiet range v) (λ l. refl)),
+          once e (expr_code p tables r line at lo e) (expr_same line at lo e),
+          expr_same line at lo e,
+        )
+    arg_same line at to lo (ByCells d) = omega (
+      arith,
+      then_own line (desig_code p tables r line at lo d) (I.Same to (place_at p tables r lo d) ∷ []) (λ l. refl),
+      desig_same line at lo d,
+    )
+    arg_same line at to lo (ByPlace d) = omega (
+      arith,
+      then_own line (desig_code p tables r line at lo d) (I.Same to (place_at p tables r lo d) ∷ []) (λ l. refl),
+      desig_same line at lo d,
+    )
     arg_same line at to lo (MixValue e range) =
         let v : ℕ = value_at p tables r lo e in
-        omega (arith, then_own line (unless_bare (bare e) (expr_code p tables r line at lo e)) (fit_code tables range v ++ (I.Move to v ∷ [])) (quiet_two (fit_code tables range v) (I.Move to v ∷ []) (fit_quiet range v) (λ l. refl)), once e (expr_code p tables r line at lo e) (expr_same line at lo e), expr_same line at lo e)
-    arg_same line at to lo (MixPlace d) = omega (arith, then_own line (desig_code p tables r line at lo d) (I.Same to (place_at p tables r lo d) ∷ []) (λ l. refl), desig_same line at lo d)
+        omega (
+          arith,
+          then_own line (unless_bare (bare e) (expr_code p tables r line at lo e))
+              (fit_code tables range v ++ (I.Move to v ∷ []))
+              (quiet_two (fit_code tables range v) (I.Move to v ∷ []) (fit_quiet range v) (λ l. refl)),
+          once e (expr_code p tables r line at lo e) (expr_same line at lo e),
+          expr_same line at lo e,
+        )
+    arg_same line at to lo (MixPlace d) = omega (
+      arith,
+      then_own line (desig_code p tables r line at lo d) (I.Same to (place_at p tables r lo d) ∷ []) (λ l. refl),
+      desig_same line at lo d,
+    )
 
     jump_same : (line at lo none : ℕ) (x : Test) → is_simple x ≡ true → reads (jump_code p tables r line at lo none x) ≡ test_reads x
-    jump_same line at lo none (Value e) simple = omega (arith, then_own line (unless_bare (bare e) (expr_code p tables r line at lo e)) (I.JumpZero (value_at p tables r lo e) none ∷ []) (λ l. refl), once e (expr_code p tables r line at lo e) (expr_same line at lo e), expr_same line at lo e)
+    jump_same line at lo none (Value e) simple =
+        omega (
+          arith,
+          then_own line (unless_bare (bare e) (expr_code p tables r line at lo e))
+              (I.JumpZero (value_at p tables r lo e) none ∷ []) (λ l. refl),
+          once e (expr_code p tables r line at lo e) (expr_same line at lo e),
+          expr_same line at lo e,
+        )
     jump_same line at lo none (Bind d e range left) simple = absurd (let bad : false ≡ true = simple in cc)
     jump_same line at lo none (Unify d range e range2) simple = absurd (let bad : false ≡ true = simple in cc)
     jump_same line at lo none (SameCells d e) simple = absurd (let bad : false ≡ true = simple in cc)
@@ -564,25 +711,45 @@ module _ (p : Program) (tables : Tables) (r : ℕ) where
     jump_same line at lo none (CallTest called args up) simple = absurd (let bad : false ≡ true = simple in cc)
 
     test_same : (line at lo : ℕ) (x : Test) → reads (test_code p tables r line at lo x) ≡ test_reads x
-    test_same line at lo (Value e) = omega (arith, value_same line at lo e, once e (expr_code p tables r line at lo e) (expr_same line at lo e), expr_same line at lo e)
+    test_same line at lo (Value e) = omega (
+      arith,
+      value_same line at lo e,
+      once e (expr_code p tables r line at lo e) (expr_same line at lo e),
+      expr_same line at lo e,
+    )
     test_same line at lo (Bind d e range true) =
         let lo2 : ℕ = behind_desig p r lo d in
         let one : List Lined = desig_code p tables r line at lo d in
         let inner : List Lined = expr_code p tables r line (at + length one) lo2 e in
         let two : List Lined = unless_bare (bare e) inner in
-        omega (arith, then_own line (one ++ two) (I.Bind (place_at p tables r lo d) (value_at p tables r lo2 e) (range_number tables range) ∷ []) (λ l. refl), both one two, once e inner (expr_same line (at + length one) lo2 e), desig_same line at lo d, expr_same line (at + length one) lo2 e)
+        omega (
+          arith,
+          then_own line (one ++ two)
+              (I.Bind (place_at p tables r lo d) (value_at p tables r lo2 e) (range_number tables range) ∷ []) (λ l. refl),
+          both one two,
+          once e inner (expr_same line (at + length one) lo2 e),
+          desig_same line at lo d,
+          expr_same line (at + length one) lo2 e,
+        )
     test_same line at lo (Bind d e range false) =
         let lo2 : ℕ = behind_expr p r lo e in
         let one : List Lined = expr_code p tables r line at lo e in
         let two : List Lined = desig_code p tables r line (at + length one) lo2 d in
-        omega (arith, then_own line (one ++ two) (I.Bind (place_at p tables r lo2 d) lo (range_number tables range) ∷ []) (λ l. refl), both one two, expr_same line at lo e, desig_same line (at + length one) lo2 d)
+        omega (
+          arith,
+          then_own line (one ++ two) (I.Bind (place_at p tables r lo2 d) lo (range_number tables range) ∷ []) (λ l. refl),
+          both one two,
+          expr_same line at lo e,
+          desig_same line (at + length one) lo2 d,
+        )
     test_same line at lo (Unify d range e range2) =
         let lo2 : ℕ = behind_desig p r lo d in
         let one : List Lined = desig_code p tables r line at lo d in
         let two : List Lined = desig_code p tables r line (at + length one) lo2 e in
         omega (
           arith,
-          then_own line (one ++ two) (I.Unify (place_at p tables r lo d) (range_number tables range) (place_at p tables r lo2 e) (range_number tables range2) ∷ []) (λ l. refl),
+          then_own line (one ++ two) (I.Unify (place_at p tables r lo d) (range_number tables range) (place_at p tables r lo2 e)
+              (range_number tables range2) ∷ []) (λ l. refl),
           both one two,
           desig_same line at lo d,
           desig_same line (at + length one) lo2 e,
@@ -591,25 +758,45 @@ module _ (p : Program) (tables : Tables) (r : ℕ) where
         let lo2 : ℕ = behind_desig p r lo d in
         let one : List Lined = desig_code p tables r line at lo d in
         let two : List Lined = desig_code p tables r line (at + length one) lo2 e in
-        omega (arith, then_own line (one ++ two) (I.SameCells (place_at p tables r lo d) (place_at p tables r lo2 e) ∷ []) (λ l. refl), both one two, desig_same line at lo d, desig_same line (at + length one) lo2 e)
+        omega (
+          arith,
+          then_own line (one ++ two) (I.SameCells (place_at p tables r lo d) (place_at p tables r lo2 e) ∷ []) (λ l. refl),
+          both one two,
+          desig_same line at lo d,
+          desig_same line (at + length one) lo2 e,
+        )
     test_same line at lo (Seq x) = omega (arith, stmts_same at lo x)
     test_same line at lo (And ts) = omega (arith, and_same line at lo ts)
     test_same line at lo (Or ts) = omega (arith, or_same line at lo ts)
-    test_same line at lo (Not t) = omega (arith, refused_reads line (at + 2) lo (test_code p tables r line (at + 2) (lo + 1) t), test_same line (at + 2) (lo + 1) t)
+    test_same line at lo (Not t) = omega (
+      arith,
+      refused_reads line (at + 2) lo (test_code p tables r line (at + 2) (lo + 1) t),
+      test_same line (at + 2) (lo + 1) t,
+    )
     test_same line at lo (CallTest called args up) =
         let to : ℕ = arguments_from p tables r called up lo in
         let link : List Instr = call_link_code p tables r called up lo in
         let next : ℕ = at + length (own line link) in
         let lo2 : ℕ = to + length (handed_slots args) in
         let two : List Lined = args_code p tables r line next to lo2 args in
-        omega (arith, then_own line (own line link ++ two) (call_code p tables r called args up lo 0 ∷ []) (λ l. refl), own_then line link two (call_link_quiet called up lo), args_same line next to lo2 args)
+        omega (
+          arith,
+          then_own line (own line link ++ two) (call_code p tables r called args up lo 0 ∷ []) (λ l. refl),
+          own_then line link two (call_link_quiet called up lo),
+          args_same line next to lo2 args,
+        )
 
     and_same : (line at lo : ℕ) (x : Tests) → reads (and_code p tables r line at lo x) ≡ tests_reads x
     and_same line at lo no_tests = omega arith
     and_same line at lo (more_tests t rest) =
         let one : List Lined = test_code p tables r line at lo t in
         let lo2 : ℕ = behind_test p r lo t in
-        omega (arith, both one (and_code p tables r line (at + length one) lo2 rest), test_same line at lo t, and_same line (at + length one) lo2 rest)
+        omega (
+          arith,
+          both one (and_code p tables r line (at + length one) lo2 rest),
+          test_same line at lo t,
+          and_same line (at + length one) lo2 rest,
+        )
 
     or_same : (line at lo : ℕ) (x : Tests) → reads (or_code p tables r line at lo x) ≡ tests_reads x
     or_same line at lo no_tests = omega arith
@@ -647,7 +834,12 @@ module _ (p : Program) (tables : Tables) (r : ℕ) where
     stmts_same at lo (more_stmts mine x rest) =
         let one : List Lined = stmt_code p tables r mine at lo x in
         let lo2 : ℕ = behind_stmt p r lo x in
-        omega (arith, both one (stmts_code p tables r (at + length one) lo2 rest), stmt_same mine at lo x, stmts_same (at + length one) lo2 rest)
+        omega (
+          arith,
+          both one (stmts_code p tables r (at + length one) lo2 rest),
+          stmt_same mine at lo x,
+          stmts_same (at + length one) lo2 rest,
+        )
 
     stmt_same : (line at lo : ℕ) (x : Stmt) → reads (stmt_code p tables r line at lo x) ≡ stmt_reads x
     stmt_same line at lo (TestStmt t) = omega (arith, test_same line at lo t)
@@ -660,7 +852,8 @@ module _ (p : Program) (tables : Tables) (r : ℕ) where
         let two : List Lined = unless_bare (bare e) inner in
         omega (
           arith,
-          set_reads (goes_straight d e range) line (one ++ two) (fit_code tables range v ++ (set_code p tables r lo v d ∷ [])) (quiet_two (fit_code tables range v) (set_code p tables r lo v d ∷ []) (fit_quiet range v) (set_quiet lo v d)),
+          set_reads (goes_straight d e range) line (one ++ two) (fit_code tables range v ++ (set_code p tables r lo v d ∷ []))
+              (quiet_two (fit_code tables range v) (set_code p tables r lo v d ∷ []) (fit_quiet range v) (set_quiet lo v d)),
           both one two,
           located d place (desig_same line at lo d),
           once e inner (expr_same line (at + length one) lo2 e),
@@ -671,15 +864,28 @@ module _ (p : Program) (tables : Tables) (r : ℕ) where
         let lo2 : ℕ = behind_desig p r lo d in
         let one : List Lined = desig_code p tables r line at lo d in
         let two : List Lined = desig_code p tables r line (at + length one) lo2 e in
-        omega (arith, then_own line (one ++ two) (I.CopyCells (place_at p tables r lo d) (place_at p tables r lo2 e) ∷ []) (λ l. refl), both one two, desig_same line at lo d, desig_same line (at + length one) lo2 e)
+        omega (
+          arith,
+          then_own line (one ++ two) (I.CopyCells (place_at p tables r lo d) (place_at p tables r lo2 e) ∷ []) (λ l. refl),
+          both one two,
+          desig_same line at lo d,
+          desig_same line (at + length one) lo2 e,
+        )
     stmt_same line at lo (If arms rest) =
-        let z = if_same line at lo arms (λ next la. stmts_code p tables r next la rest) (stmts_reads rest) (λ next la. stmts_same next la rest) in
+        let z = if_same line at lo arms (λ next la. stmts_code p tables r next la rest) (stmts_reads rest)
+        (λ next la. stmts_same next la rest) in
         omega (arith, z)
     stmt_same line at lo (While t body) =
         let lo2 : ℕ = behind_condition p r lo t in
         let inner : List Lined = guarded_code line (at + 1) lo 1 t (λ next. stmts_code p tables r next lo2 body) in
-        let z = asked line (at + 1) lo 1 t (λ next. stmts_code p tables r next lo2 body) (test_reads t) (stmts_reads body) (λ none. jump_same line (at + 1) lo none t) (λ at lo. test_same line at lo t) (λ next. stmts_same next lo2 body) in
-        omega (arith, z, own_then line (I.Jump (at + 1) ∷ []) (inner ++ own line (I.Jump (at + 1) ∷ [])) (λ l. refl), then_own line inner (I.Jump (at + 1) ∷ []) (λ l. refl))
+        let z = asked line (at + 1) lo 1 t (λ next. stmts_code p tables r next lo2 body) (test_reads t) (stmts_reads body)
+        (λ none. jump_same line (at + 1) lo none t) (λ at lo. test_same line at lo t) (λ next. stmts_same next lo2 body) in
+        omega (
+          arith,
+          z,
+          own_then line (I.Jump (at + 1) ∷ []) (inner ++ own line (I.Jump (at + 1) ∷ [])) (λ l. refl),
+          then_own line inner (I.Jump (at + 1) ∷ []) (λ l. refl),
+        )
     stmt_same line at lo (Repeat body t) =
         let lo2 : ℕ = behind_stmts p r lo body in
         let one : List Lined = stmts_code p tables r at lo body in
@@ -696,9 +902,20 @@ module _ (p : Program) (tables : Tables) (r : ℕ) where
         let dead : List Lined = dead_code p tables r (next + 1) first arms in
         let over : List Lined = passed_over (has_dead arms) line next dead in
         let begin : ℕ = next + length over in
-        let tried : List Lined = case_code p tables r line lo bound begin (bound + 2) arms (λ next la. else_code p tables r line next la rest) in
-        let z = case_same line lo bound begin (bound + 2) arms (λ next la. else_code p tables r line next la rest) (else_reads rest) (λ next la. else_same line next la rest) in
-        omega (arith, z, both one (over ++ tried), both over tried, over_reads line next (next + 1) first arms, dead_same (next + 1) first arms, all_reads arms, expr_same line at lo e)
+        let tried : List Lined = case_code p tables r line lo bound begin (bound + 2) arms
+        (λ next la. else_code p tables r line next la rest) in
+        let z = case_same line lo bound begin (bound + 2) arms (λ next la. else_code p tables r line next la rest) (else_reads rest)
+        (λ next la. else_same line next la rest) in
+        omega (
+          arith,
+          z,
+          both one (over ++ tried),
+          both over tried,
+          over_reads line next (next + 1) first arms,
+          dead_same (next + 1) first arms,
+          all_reads arms,
+          expr_same line at lo e,
+        )
     stmt_same line at lo (Either x) = omega (arith, either_same line at lo x)
     stmt_same line at lo (Forall x y) =
         let inner : ℕ = behind_stmts p r (lo + 1) x in
@@ -715,34 +932,64 @@ module _ (p : Program) (tables : Tables) (r : ℕ) where
         )
     stmt_same line at lo (Commit x) =
         let inner : List Lined = stmts_code p tables r (at + 1) (lo + 1) x in
-        omega (arith, own_then line (I.Mark lo ∷ []) (inner ++ own line (I.Cut lo ∷ [])) (λ l. refl), then_own line inner (I.Cut lo ∷ []) (λ l. refl), stmts_same (at + 1) (lo + 1) x)
+        omega (
+          arith,
+          own_then line (I.Mark lo ∷ []) (inner ++ own line (I.Cut lo ∷ [])) (λ l. refl),
+          then_own line inner (I.Cut lo ∷ []) (λ l. refl),
+          stmts_same (at + 1) (lo + 1) x,
+        )
     stmt_same line at lo (Return no_result) = omega arith
     stmt_same line at lo (Return (some_result e)) =
         let v : ℕ = value_at p tables r lo e in
-        omega (arith, then_own line (unless_bare (bare e) (expr_code p tables r line at lo e)) (fit_result p tables r (routine_at p r).result v ++ (I.ReturnValue v ∷ [])) (quiet_two (fit_result p tables r (routine_at p r).result v) (I.ReturnValue v ∷ []) (result_quiet (routine_at p r).result v) (λ l. refl)), once e (expr_code p tables r line at lo e) (expr_same line at lo e), expr_same line at lo e)
-    stmt_same line at lo (Read d how range) = omega (arith, both (desig_code p tables r line at lo d) (own line (read_code how (place_at p tables r lo d) (range_number tables range) ∷ [])), read_one how (place_at p tables r lo d) (range_number tables range) line, desig_same line at lo d)
+        omega (
+          arith,
+          then_own line (unless_bare (bare e) (expr_code p tables r line at lo e))
+              (fit_result p tables r (routine_at p r).result v ++ (I.ReturnValue v ∷ []))
+              (quiet_two (fit_result p tables r (routine_at p r).result v) (I.ReturnValue v ∷ []) (result_quiet (routine_at p r).result v)
+              (λ l. refl)),
+          once e (expr_code p tables r line at lo e) (expr_same line at lo e),
+          expr_same line at lo e,
+        )
+    stmt_same line at lo (Read d how range) =
+        omega (
+          arith,
+          both (desig_code p tables r line at lo d)
+              (own line (read_code how (place_at p tables r lo d) (range_number tables range) ∷ [])),
+          read_one how (place_at p tables r lo d) (range_number tables range) line,
+          desig_same line at lo d,
+        )
     stmt_same line at lo (WriteExpr e how) =
-        omega (arith, then_own line (unless_bare (bare e) (expr_code p tables r line at lo e)) (write_code how (value_at p tables r lo e) ∷ []) (write_quiet how (value_at p tables r lo e)), once e (expr_code p tables r line at lo e) (expr_same line at lo e), expr_same line at lo e)
+        omega (
+          arith,
+          then_own line (unless_bare (bare e) (expr_code p tables r line at lo e))
+              (write_code how (value_at p tables r lo e) ∷ []) (write_quiet how (value_at p tables r lo e)),
+          once e (expr_code p tables r line at lo e) (expr_same line at lo e),
+          expr_same line at lo e,
+        )
     stmt_same line at lo (WriteText text) = omega arith
     stmt_same line at lo WriteLine = omega arith
 
-    if_same : (line at lo : ℕ) (x : Arms) (otherwise : (at lo : ℕ) → List Lined) (n : ℕ) → ((at lo : ℕ) → reads (otherwise at lo) ≡ n) → reads (if_code p tables r line at lo x otherwise) ≡ arms_reads x + n
+    if_same : (line at lo : ℕ) (x : Arms) (otherwise : (at lo : ℕ) → List Lined) (n : ℕ) → ((at lo : ℕ) → reads (otherwise at lo) ≡ n)
+        → reads (if_code p tables r line at lo x otherwise) ≡ arms_reads x + n
     if_same line at lo no_arms otherwise n f = let z = f at lo in omega (arith, z)
     if_same line at lo (more_arms t body rest) otherwise n f =
         let lo2 : ℕ = behind_condition p r lo t in
         let lo3 : ℕ = behind_stmts p r lo2 body in
         let one : List Lined = guarded_code line at lo 1 t (λ next. stmts_code p tables r next lo2 body) in
-        let z = asked line at lo 1 t (λ next. stmts_code p tables r next lo2 body) (test_reads t) (stmts_reads body) (λ none. jump_same line at lo none t) (λ at lo. test_same line at lo t) (λ next. stmts_same next lo2 body) in
+        let z = asked line at lo 1 t (λ next. stmts_code p tables r next lo2 body) (test_reads t) (stmts_reads body)
+        (λ none. jump_same line at lo none t) (λ at lo. test_same line at lo t) (λ next. stmts_same next lo2 body) in
         let others = arms_same line (at + length one) (at + length one + 1) lo3 rest otherwise n f in
         omega (arith, z, others, leaving_reads line at one (λ next jump. arms_code p tables r line jump next lo3 rest otherwise))
 
-    arms_same : (line jump at lo : ℕ) (x : Arms) (otherwise : (at lo : ℕ) → List Lined) (n : ℕ) → ((at lo : ℕ) → reads (otherwise at lo) ≡ n) → reads (arms_code p tables r line jump at lo x otherwise) ≡ arms_reads x + n
+    arms_same : (line jump at lo : ℕ) (x : Arms) (otherwise : (at lo : ℕ) → List Lined) (n : ℕ)
+        → ((at lo : ℕ) → reads (otherwise at lo) ≡ n) → reads (arms_code p tables r line jump at lo x otherwise) ≡ arms_reads x + n
     arms_same line jump at lo no_arms otherwise n f = let z = f at lo in omega (arith, z)
     arms_same line jump at lo (more_arms t body rest) otherwise n f =
         let lo2 : ℕ = behind_condition p r lo t in
         let lo3 : ℕ = behind_stmts p r lo2 body in
         let one : List Lined = guarded_code line at lo 1 t (λ next. stmts_code p tables r next lo2 body) in
-        let z = asked line at lo 1 t (λ next. stmts_code p tables r next lo2 body) (test_reads t) (stmts_reads body) (λ none. jump_same line at lo none t) (λ at lo. test_same line at lo t) (λ next. stmts_same next lo2 body) in
+        let z = asked line at lo 1 t (λ next. stmts_code p tables r next lo2 body) (test_reads t) (stmts_reads body)
+        (λ none. jump_same line at lo none t) (λ at lo. test_same line at lo t) (λ next. stmts_same next lo2 body) in
         let next : ℕ = at + length (one ++ own line (I.Jump jump ∷ [])) in
         let others = arms_same line jump next lo3 rest otherwise n f in
         omega (arith, z, others, by_jump_reads line jump one (arms_code p tables r line jump next lo3 rest otherwise))
@@ -752,29 +999,51 @@ module _ (p : Program) (tables : Tables) (r : ℕ) where
     dead_same at lo (more_cases [] body rest) =
         let one : List Lined = stmts_code p tables r at lo body in
         let lo2 : ℕ = behind_stmts p r lo body in
-        omega (arith, both one (dead_code p tables r (at + length one) lo2 rest), stmts_same at lo body, dead_same (at + length one) lo2 rest)
+        omega (
+          arith,
+          both one (dead_code p tables r (at + length one) lo2 rest),
+          stmts_same at lo body,
+          dead_same (at + length one) lo2 rest,
+        )
     dead_same at lo (more_cases (label ∷ labels) body rest) = dead_same at lo rest
 
-    case_same : (line value bound at lo : ℕ) (x : CaseArms) (otherwise : (at lo : ℕ) → List Lined) (n : ℕ) → ((at lo : ℕ) → reads (otherwise at lo) ≡ n) → reads (case_code p tables r line value bound at lo x otherwise) ≡ live_reads x + n
+    case_same : (line value bound at lo : ℕ) (x : CaseArms) (otherwise : (at lo : ℕ) → List Lined) (n : ℕ)
+        → ((at lo : ℕ) → reads (otherwise at lo) ≡ n) → reads (case_code p tables r line value bound at lo x otherwise) ≡ live_reads x + n
     case_same line value bound at lo no_cases otherwise n f = let z = f at lo in omega (arith, z)
-    case_same line value bound at lo (more_cases [] body rest) otherwise n f = let z = case_same line value bound at lo rest otherwise n f in omega (arith, z)
+    case_same line value bound at lo (more_cases [] body rest) otherwise n f = let z =
+        case_same line value bound at lo rest otherwise n f in omega (arith, z)
     case_same line value bound at lo (more_cases (label ∷ labels) body rest) otherwise n f =
         let inner : List Lined = stmts_code p tables r (behind_labels at labels) lo body in
         let one : List Lined = case_arm line value bound at label labels inner in
         let lo2 : ℕ = behind_stmts p r lo body in
         let others = cases_same line value bound (at + length one) (at + length one + 1) lo2 rest otherwise n f in
-        omega (arith, others, leaving_reads line at one (λ next jump. cases_code p tables r line value bound jump next lo2 rest otherwise), case_arm_reads line value bound at label labels inner, stmts_same (behind_labels at labels) lo body)
+        omega (
+          arith,
+          others,
+          leaving_reads line at one (λ next jump. cases_code p tables r line value bound jump next lo2 rest otherwise),
+          case_arm_reads line value bound at label labels inner,
+          stmts_same (behind_labels at labels) lo body,
+        )
 
-    cases_same : (line value bound jump at lo : ℕ) (x : CaseArms) (otherwise : (at lo : ℕ) → List Lined) (n : ℕ) → ((at lo : ℕ) → reads (otherwise at lo) ≡ n) → reads (cases_code p tables r line value bound jump at lo x otherwise) ≡ live_reads x + n
+    cases_same : (line value bound jump at lo : ℕ) (x : CaseArms) (otherwise : (at lo : ℕ) → List Lined) (n : ℕ)
+        → ((at lo : ℕ) → reads (otherwise at lo) ≡ n)
+        → reads (cases_code p tables r line value bound jump at lo x otherwise) ≡ live_reads x + n
     cases_same line value bound jump at lo no_cases otherwise n f = let z = f at lo in omega (arith, z)
-    cases_same line value bound jump at lo (more_cases [] body rest) otherwise n f = let z = cases_same line value bound jump at lo rest otherwise n f in omega (arith, z)
+    cases_same line value bound jump at lo (more_cases [] body rest) otherwise n f = let z =
+        cases_same line value bound jump at lo rest otherwise n f in omega (arith, z)
     cases_same line value bound jump at lo (more_cases (label ∷ labels) body rest) otherwise n f =
         let inner : List Lined = stmts_code p tables r (behind_labels at labels) lo body in
         let one : List Lined = case_arm line value bound at label labels inner in
         let lo2 : ℕ = behind_stmts p r lo body in
         let next : ℕ = at + length (one ++ own line (I.Jump jump ∷ [])) in
         let others = cases_same line value bound jump next lo2 rest otherwise n f in
-        omega (arith, others, by_jump_reads line jump one (cases_code p tables r line value bound jump next lo2 rest otherwise), case_arm_reads line value bound at label labels inner, stmts_same (behind_labels at labels) lo body)
+        omega (
+          arith,
+          others,
+          by_jump_reads line jump one (cases_code p tables r line value bound jump next lo2 rest otherwise),
+          case_arm_reads line value bound at label labels inner,
+          stmts_same (behind_labels at labels) lo body,
+        )
 
     else_same : (line at lo : ℕ) (x : Else) → reads (else_code p tables r line at lo x) ≡ else_reads x
     else_same line at lo no_else = omega arith
@@ -817,12 +1086,22 @@ module _ (p : Program) (tables : Tables) (r : ℕ) where
         let place : ℕ = behind_expr p r last to in
         let lo2 : ℕ = behind_variable p r place d in
         let count : ℕ = own_slot p tables r counter in
-        let one : List Lined = begin_loop line at lo by (λ at. expr_code p tables r line at (lo + 1) from) (λ at. expr_code p tables r line at last to) in
+        let one : List Lined = begin_loop line at lo by (λ at. expr_code p tables r line at (lo + 1) from)
+        (λ at. expr_code p tables r line at last to) in
         let next : ℕ = at + length one in
         let each : List Lined = turn_of line (next + 4) count place d range (λ at. stmts_code p tables r at lo2 body) in
-        let begin = begin_reads line at lo by (λ at. expr_code p tables r line at (lo + 1) from) (λ at. expr_code p tables r line at last to) (expr_reads from) (expr_reads to) (λ at. expr_same line at (lo + 1) from) (λ at. expr_same line at last to) in
-        let turns = turn line (next + 4) count place d range (λ at. stmts_code p tables r at lo2 body) (stmts_reads body) (λ at. desig_same line at (place + 1) d) (λ at. stmts_same at lo2 body) in
-        omega (arith, begin, turns, both one (for_turns line next by count (own_slot p tables r limit) lo (lo + 1) last each), for_turns_reads line next by count (own_slot p tables r limit) lo (lo + 1) last each)
+        let begin = begin_reads line at lo by (λ at. expr_code p tables r line at (lo + 1) from)
+        (λ at. expr_code p tables r line at last to) (expr_reads from) (expr_reads to) (λ at. expr_same line at (lo + 1) from)
+        (λ at. expr_same line at last to) in
+        let turns = turn line (next + 4) count place d range (λ at. stmts_code p tables r at lo2 body) (stmts_reads body)
+        (λ at. desig_same line at (place + 1) d) (λ at. stmts_same at lo2 body) in
+        omega (
+          arith,
+          begin,
+          turns,
+          both one (for_turns line next by count (own_slot p tables r limit) lo (lo + 1) last each),
+          for_turns_reads line next by count (own_slot p tables r limit) lo (lo + 1) last each,
+        )
 
     some_of_same : (line at lo : ℕ) (x : Loop) → reads (some_code p tables r line at lo x) ≡ loop_reads x
     some_of_same line at lo (a_loop d range counter limit from to by body) =
@@ -830,9 +1109,19 @@ module _ (p : Program) (tables : Tables) (r : ℕ) where
         let more : ℕ = behind_expr p r last to in
         let lo2 : ℕ = behind_variable p r (more + 1) d in
         let count : ℕ = own_slot p tables r counter in
-        let one : List Lined = begin_loop line at lo (pos 1) (λ at. expr_code p tables r line at (lo + 1) from) (λ at. expr_code p tables r line at last to) in
+        let one : List Lined = begin_loop line at lo (pos 1) (λ at. expr_code p tables r line at (lo + 1) from)
+        (λ at. expr_code p tables r line at last to) in
         let next : ℕ = at + length one in
         let each : List Lined = turn_of line (next + 7) count (more + 1) d range (λ at. stmts_code p tables r at lo2 body) in
-        let begin = begin_reads line at lo (pos 1) (λ at. expr_code p tables r line at (lo + 1) from) (λ at. expr_code p tables r line at last to) (expr_reads from) (expr_reads to) (λ at. expr_same line at (lo + 1) from) (λ at. expr_same line at last to) in
-        let turns = turn line (next + 7) count (more + 1) d range (λ at. stmts_code p tables r at lo2 body) (stmts_reads body) (λ at. desig_same line at (more + 1 + 1) d) (λ at. stmts_same at lo2 body) in
-        omega (arith, begin, turns, both one (some_turns line next count (own_slot p tables r limit) lo (lo + 1) last more each), some_turns_reads line next count (own_slot p tables r limit) lo (lo + 1) last more each)
+        let begin = begin_reads line at lo (pos 1) (λ at. expr_code p tables r line at (lo + 1) from)
+        (λ at. expr_code p tables r line at last to) (expr_reads from) (expr_reads to) (λ at. expr_same line at (lo + 1) from)
+        (λ at. expr_same line at last to) in
+        let turns = turn line (next + 7) count (more + 1) d range (λ at. stmts_code p tables r at lo2 body) (stmts_reads body)
+        (λ at. desig_same line at (more + 1 + 1) d) (λ at. stmts_same at lo2 body) in
+        omega (
+          arith,
+          begin,
+          turns,
+          both one (some_turns line next count (own_slot p tables r limit) lo (lo + 1) last more each),
+          some_turns_reads line next count (own_slot p tables r limit) lo (lo + 1) last more each,
+        )

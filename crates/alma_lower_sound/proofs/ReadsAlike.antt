@@ -1,13 +1,22 @@
 -- A code by the templates reads where its program reads.
-use Rattle.std.proofs.Common.{◌≡◌, ℕ, suc, ◌+◌, Bool, true, false, List, [], ◌∷◌, ◌++◌, length, get_or, Option, Some, None, refl, sym, ap, ◌∙◌, arith}
+use Rattle.std.proofs.Common.{◌≡◌, ℕ, suc, ◌+◌, Bool, true, false, List, [], ◌∷◌, ◌++◌, length, get_or, Option, Some, None, refl, sym, ap}
+use Rattle.std.proofs.Common.{◌∙◌, arith}
 use Rattle.std.specs.Prelude.{◌||◌, nat_lt}
 use Rattle.std.specs.List.{list_any}
 use Rattle.std.proofs.lemmas.Bool.{lt-ltb}
 use Rattle.alma_base.specs.declared.number.Range.{Range}
 use Rattle.alma_code.specs.Plain.{PlainCode}
-use Rattle.alma_ir.specs.Tree.{Program, Routine, routine_at, no_routine, Stmts, Stmt, Arms, CaseArms, Else, Branches, Loop, ReturnExpr, Test, Tests, Expr, Links, Args, Arg, Desig, Sels, Sel, no_stmts, more_stmts, TestStmt, Assign, CopyCells, If, While, Repeat, ForTo, SomeOf, Case, Either, Forall, Commit, Return, Read, WriteExpr, WriteText, WriteLine, no_arms, more_arms, no_cases, more_cases, no_else, else_part, no_branches, more_branches, a_loop, no_result, some_result, Value, Bind, Unify, SameCells, Seq, And, Or, Not, CallTest, no_tests, more_tests, Const, Load, Chain, Compare, Truth, Known, Chr, CallExpr, no_links, more_links, no_args, more_args, ByValue, ByCells, ByPlace, MixValue, MixPlace, a_desig, no_sels, more_sels, Field, Index}
+use Rattle.alma_ir.specs.Tree.{Program, Routine, routine_at, no_routine, Stmts, Stmt, Arms, CaseArms, Else, Branches, Loop, ReturnExpr}
+use Rattle.alma_ir.specs.Tree.{Test, Tests, Expr, Links, Args, Arg, Desig, Sels, Sel, no_stmts, more_stmts, TestStmt, Assign, CopyCells, If}
+use Rattle.alma_ir.specs.Tree.{While, Repeat, ForTo, SomeOf, Case, Either, Forall, Commit, Return, Read, WriteExpr, WriteText, WriteLine}
+use Rattle.alma_ir.specs.Tree.{no_arms, more_arms, no_cases, more_cases, no_else, else_part, no_branches, more_branches, a_loop, no_result}
+use Rattle.alma_ir.specs.Tree.{some_result, Value, Bind, Unify, SameCells, Seq, And, Or, Not, CallTest, no_tests, more_tests, Const, Load}
+use Rattle.alma_ir.specs.Tree.{Chain, Compare, Truth, Known, Chr, CallExpr, no_links, more_links, no_args, more_args, ByValue, ByCells}
+use Rattle.alma_ir.specs.Tree.{ByPlace, MixValue, MixPlace, a_desig, no_sels, more_sels, Field, Index}
 use Rattle.alma_ir.specs.Lines.{body_with_lines}
-use Rattle.alma_ir.specs.Phrases.{Phrase, stmts_phrases, stmt_phrases, arms_phrases, cases_phrases, else_phrases, branches_phrases, loop_phrases, return_phrases, test_phrases, tests_phrases, expr_phrases, links_phrases, args_phrases, arg_phrases, desig_phrases, sels_phrases, sel_phrases}
+use Rattle.alma_ir.specs.Phrases.{Phrase, stmts_phrases, stmt_phrases, arms_phrases, cases_phrases, else_phrases, branches_phrases}
+use Rattle.alma_ir.specs.Phrases.{loop_phrases, return_phrases, test_phrases, tests_phrases, expr_phrases, links_phrases, args_phrases}
+use Rattle.alma_ir.specs.Phrases.{arg_phrases, desig_phrases, sels_phrases, sel_phrases}
 use Rattle.alma_lower_templates.specs.Lined.{Lined, own, instrs_of}
 use Rattle.alma_lower_templates.specs.Tables.{Tables}
 use Rattle.alma_lower_templates.specs.Slots.{own_kinds}
@@ -17,7 +26,9 @@ use Rattle.alma_lower_templates.specs.CodeOf.{IsCodeOf}
 use Rattle.alma_lower_sound.specs.Entries.{of_each, program_phrases}
 use Rattle.alma_code.specs.Reads.{is_read, code_reads}
 use Rattle.alma_lower_sound.specs.Reads.{is_read_phrase, program_reads}
-use Rattle.alma_lower_sound.proofs.Readers.{bit_of, reads, both, stmts_same, stmts_reads, stmt_reads, arms_reads, cases_reads, else_reads, branches_reads, loop_reads, return_reads, test_reads, tests_reads, expr_reads, links_reads, args_reads, arg_reads, desig_reads, sels_reads, sel_reads}
+use Rattle.alma_lower_sound.proofs.Readers.{bit_of, reads, both, stmts_same, stmts_reads, stmt_reads, arms_reads, cases_reads, else_reads}
+use Rattle.alma_lower_sound.proofs.Readers.{branches_reads, loop_reads, return_reads, test_reads, tests_reads, expr_reads, links_reads}
+use Rattle.alma_lower_sound.proofs.Readers.{args_reads, arg_reads, desig_reads, sels_reads, sel_reads}
 use Rattle.alma_lower_sound.proofs.ReadersAlike.{stmts_alike}
 
 -- how many of the phrases are READs
@@ -79,7 +90,8 @@ mutual
 
   cases_count : (x : CaseArms) → named (cases_phrases x) ≡ cases_reads x
   cases_count no_cases = refl
-  cases_count (more_cases labels body rest) = omega (arith, two (stmts_phrases body) (cases_phrases rest), stmts_count body, cases_count rest)
+  cases_count (more_cases labels body rest) =
+      omega (arith, two (stmts_phrases body) (cases_phrases rest), stmts_count body, cases_count rest)
 
   else_count : (x : Else) → named (else_phrases x) ≡ else_reads x
   else_count no_else = refl
@@ -165,7 +177,8 @@ some_instr : (xs : List Lined) → list_any is_read (instrs_of xs) ≡ nat_lt 0 
 some_instr [] = refl
 some_instr (x ∷ xs) = by (is_read x.instr) (some_instr xs)
   where
-    by : (t : Bool) → list_any is_read (instrs_of xs) ≡ nat_lt 0 (reads xs) → (t || list_any is_read (instrs_of xs)) ≡ nat_lt 0 (bit_of t + reads xs)
+    by : (t : Bool) → list_any is_read (instrs_of xs) ≡ nat_lt 0 (reads xs)
+        → (t || list_any is_read (instrs_of xs)) ≡ nat_lt 0 (bit_of t + reads xs)
     by true h = sym (lt-ltb 0 (1 + reads xs) (omega arith))
     by false h = let same : reads xs ≡ 0 + reads xs = omega arith in h ∙ ap (nat_lt 0) same
 
@@ -198,7 +211,8 @@ module _ (p : Program) (tables : Tables) where
         stmts_count mine.body,
       )
 
-  routines_count : (xs : List Routine) (r at : ℕ) → ((i : ℕ) → routine_at p (r + i) ≡ get_or xs i no_routine) → reads (routines_code p tables r (length xs) at) ≡ named (of_each (λ x. stmts_phrases x.body) xs)
+  routines_count : (xs : List Routine) (r at : ℕ) → ((i : ℕ) → routine_at p (r + i) ≡ get_or xs i no_routine)
+      → reads (routines_code p tables r (length xs) at) ≡ named (of_each (λ x. stmts_phrases x.body) xs)
   routines_count [] r at same = refl
   routines_count (x ∷ rest) r at same =
       let first : List Lined = routine_code p tables r at in
@@ -206,9 +220,18 @@ module _ (p : Program) (tables : Tables) where
       let here : r ≡ r + 0 = omega arith in
       let is : routine_at p r ≡ x = ap (routine_at p) here ∙ same 0 in
       let mine = routine_count r at in
-      let phrases : named (stmts_phrases (routine_at p r).body) ≡ named (stmts_phrases x.body) = ap (λ y. named (stmts_phrases y.body)) is in
-      let others = routines_count rest (suc r) next (λ i. (let moved : suc r + i ≡ r + suc i = omega arith in ap (routine_at p) moved ∙ same (suc i))) in
-      omega (arith, mine, phrases, others, both first (routines_code p tables (suc r) (length rest) next), two (stmts_phrases x.body) (of_each (λ y. stmts_phrases y.body) rest))
+      let phrases : named (stmts_phrases (routine_at p r).body) ≡ named (stmts_phrases x.body) =
+      ap (λ y. named (stmts_phrases y.body)) is in
+      let others = routines_count rest (suc r) next
+      (λ i. (let moved : suc r + i ≡ r + suc i = omega arith in ap (routine_at p) moved ∙ same (suc i))) in
+      omega (
+        arith,
+        mine,
+        phrases,
+        others,
+        both first (routines_code p tables (suc r) (length rest) next),
+        two (stmts_phrases x.body) (of_each (λ y. stmts_phrases y.body) rest),
+      )
 
 pub reads_alike : (p : Program) (code : PlainCode) → IsCodeOf p code → code_reads code ≡ program_reads p
 reads_alike p code is_code =

@@ -1,5 +1,6 @@
 -- How many runs name the slots of a routine where each is as long as it can be, and that they differ as records are to.
-use Rattle.std.proofs.Common.{◌≡◌, ℕ, zero, suc, ◌+◌, ◌-◌, ◌*◌, ◌<◌, ◌≤◌, Bool, true, false, List, [], ◌∷◌, ◌++◌, length, replicate, refl, ap, subst, arith}
+use Rattle.std.proofs.Common.{◌≡◌, ℕ, zero, suc, ◌+◌, ◌-◌, ◌*◌, ◌<◌, ◌≤◌, Bool, true, false, List, [], ◌∷◌, ◌++◌, length, replicate, refl}
+use Rattle.std.proofs.Common.{ap, subst, arith}
 use Rattle.std.specs.Prelude.{not}
 use Rattle.std.proofs.lemmas.Bool.{and_from, eq-eqb, eqb-true}
 use Rattle.alma_base.specs.Choice.{if_true}
@@ -41,7 +42,8 @@ kinds_differ a b h = by (same_kind a b) refl
 pub differ_is : (runs : List Run) → RunsDiffer runs → runs_differ runs ≡ true
 differ_is [] h = refl
 differ_is (a ∷ []) h = refl
-differ_is (a ∷ (b ∷ rest)) h = and_from (not (same_kind a.kind b.kind)) (runs_differ (b ∷ rest)) (ap not (kinds_differ a.kind b.kind h.0)) (differ_is (b ∷ rest) h.1)
+differ_is (a ∷ (b ∷ rest)) h = and_from (not (same_kind a.kind b.kind)) (runs_differ (b ∷ rest)) (ap not (kinds_differ a.kind b.kind h.0))
+    (differ_is (b ∷ rest) h.1)
 
 -- ---- stretches of slots of one kind
 
@@ -87,7 +89,8 @@ same_stretch (suc zero) k = omega arith
 same_stretch (suc (suc n)) k = omega (arith, step_none k, same_stretch (suc n) k)
 
 -- slots of one kind, and behind them one of another
-new_stretch : (n : ℕ) (k other : SlotKind) (rest : List SlotKind) → 0 < n → (k ≡ other → ⊥) → 1 + stretches (other ∷ rest) ≤ stretches (replicate n k ++ (other ∷ rest))
+new_stretch : (n : ℕ) (k other : SlotKind) (rest : List SlotKind) → 0 < n → (k ≡ other → ⊥)
+    → 1 + stretches (other ∷ rest) ≤ stretches (replicate n k ++ (other ∷ rest))
 new_stretch zero k other rest lt h = absurd (omega (arith, lt))
 new_stretch (suc zero) k other rest lt h = omega (arith, step_one k other h)
 new_stretch (suc (suc n)) k other rest lt h = omega (arith, step_none k, new_stretch (suc n) k other rest (omega arith) h)
@@ -110,9 +113,14 @@ runs_few low top (a ∷ (b ∷ rest)) rise differ =
     let later = runs_few a.end top (b ∷ rest) rise.1 differ.1 in
     by (b.end - a.end) (kinds_of b.end rest) (omega (arith, rise.1.0)) later
   where
-    by : (n : ℕ) (more : List SlotKind) → 0 < n → length (b ∷ rest) ≤ stretches (replicate n b.kind ++ more) → length (a ∷ (b ∷ rest)) ≤ stretches (replicate (a.end - low) a.kind ++ (replicate n b.kind ++ more))
+    by : (n : ℕ) (more : List SlotKind) → 0 < n → length (b ∷ rest) ≤ stretches (replicate n b.kind ++ more)
+        → length (a ∷ (b ∷ rest)) ≤ stretches (replicate (a.end - low) a.kind ++ (replicate n b.kind ++ more))
     by zero more lt le = absurd (omega (arith, lt))
-    by (suc n) more lt le = omega (arith, le, new_stretch (a.end - low) a.kind b.kind (replicate n b.kind ++ more) (omega (arith, rise.0)) differ.0)
+    by (suc n) more lt le = omega (
+      arith,
+      le,
+      new_stretch (a.end - low) a.kind b.kind (replicate n b.kind ++ more) (omega (arith, rise.0)) differ.0,
+    )
 
 -- ---- the slots of a routine
 
@@ -129,16 +137,23 @@ param_stretches kind.Cells n = omega (arith, same_stretch n slot.Number)
 
 params_stretches : (qs : List Param) → stretches (params_kinds qs) ≤ 2 * length qs
 params_stretches [] = omega arith
-params_stretches (q ∷ qs) = omega (arith, stretches_two (param_kinds q.kind q.cells) (params_kinds qs), param_stretches q.kind q.cells, params_stretches qs)
+params_stretches (q ∷ qs) = omega (
+  arith,
+  stretches_two (param_kinds q.kind q.cells) (params_kinds qs),
+  param_stretches q.kind q.cells,
+  params_stretches qs,
+)
 
-pub routine_runs : (p : Program) (r : ℕ) (runs : List Run) → NamesKinds runs (routine_kinds p r) → length runs ≤ 2 + 2 * length (routine_at p r).params + length (stmts_slots p r (body_with_lines (routine_at p r)))
+pub routine_runs : (p : Program) (r : ℕ) (runs : List Run) → NamesKinds runs (routine_kinds p r)
+    → length runs ≤ 2 + 2 * length (routine_at p r).params + length (stmts_slots p r (body_with_lines (routine_at p r)))
 routine_runs p r runs h =
     let own : Routine = routine_at p r in
     let link = link_kinds own.level own.outer in
     let params = params_kinds own.params in
     let others = replicate (own.slots - length params) slot.Number in
     let rest = stmts_slots p r (body_with_lines own) in
-    let all : length runs ≤ stretches (routine_kinds p r) = subst (λ ks. length runs ≤ stretches ks) h.names (runs_few 0 (length (routine_kinds p r)) runs h.ends h.longest) in
+    let all : length runs ≤ stretches (routine_kinds p r) =
+    subst (λ ks. length runs ≤ stretches ks) h.names (runs_few 0 (length (routine_kinds p r)) runs h.ends h.longest) in
     omega (
       arith,
       all,

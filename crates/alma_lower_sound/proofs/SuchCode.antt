@@ -1,5 +1,6 @@
 -- Each program has a code whose runs are the longest and whose tables hold each entry once.
-use Rattle.std.proofs.Common.{◌≡◌, ℕ, zero, suc, ◌+◌, ◌-◌, ◌<◌, Bool, true, false, List, [], ◌∷◌, ◌++◌, length, get_or, replicate, Some, ℤ, pos, negsuc, refl, sym, ap, ◌∙◌, subst, arith}
+use Rattle.std.proofs.Common.{◌≡◌, ℕ, zero, suc, ◌+◌, ◌-◌, ◌<◌, Bool, true, false, List, [], ◌∷◌, ◌++◌, length, get_or, replicate, Some, ℤ}
+use Rattle.std.proofs.Common.{pos, negsuc, refl, sym, ap, ◌∙◌, subst, arith}
 use Rattle.std.specs.Prelude.{slice_get, nat_eq, ◌||◌}
 use Rattle.std.specs.List.{AllByRecursion, Contains, IsDistinct, list_any}
 use Rattle.std.proofs.lemmas.Bool.{and_parts, eqb-true}
@@ -12,7 +13,8 @@ use Rattle.alma_code.specs.declared.head.Run.{Run}
 use Rattle.alma_code.specs.Layout.{RunsRise, kinds_of}
 use Rattle.alma_code.specs.Plain.{PlainCode}
 use Rattle.alma_code.specs.Records.{same_kind}
-use Rattle.alma_ir.specs.Tree.{Program, routine_at, no_routine, Assign, ForTo, SomeOf, Read, WriteText, a_loop, Bind, Unify, Chr, ByValue, MixValue, Index}
+use Rattle.alma_ir.specs.Tree.{Program, routine_at, no_routine, Assign, ForTo, SomeOf, Read, WriteText, a_loop, Bind, Unify, Chr, ByValue}
+use Rattle.alma_ir.specs.Tree.{MixValue, Index}
 use Rattle.alma_ir.specs.Phrases.{Phrase, StmtPhrase, TestPhrase, ExprPhrase, ArgPhrase, SelPhrase, stmts_phrases}
 use Rattle.alma_ir.specs.Checked.{ranges_of}
 use Rattle.alma_lower_templates.specs.Runs.{NamesKinds, RunsDiffer}
@@ -21,7 +23,8 @@ use Rattle.alma_lower_templates.specs.Slots.{routine_kinds}
 use Rattle.alma_lower_templates.specs.Templates.{char_range}
 use Rattle.alma_lower_templates.specs.Compiled.{program_code}
 use Rattle.alma_lower_templates.specs.CodeOf.{HoldsRange, InTables, HoldsAllOf, IsCodeOf}
-use Rattle.alma_lower_sound.specs.Entries.{AreSome, HoldsEachOnce, of_each, program_phrases, program_ranges, program_texts, result_range, texts_of}
+use Rattle.alma_lower_sound.specs.Entries.{AreSome, HoldsEachOnce, of_each, program_phrases, program_ranges, program_texts, result_range}
+use Rattle.alma_lower_sound.specs.Entries.{texts_of}
 use Rattle.alma_lower_sound.specs.Runs.{HasLongRuns}
 use Rattle.alma_lower_sound.proofs.Entries.{range_itself, text_itself}
 use Rattle.alma_lower_sound.proofs.Runs.{kind_itself, kind_is}
@@ -51,8 +54,13 @@ record Names (low : ℕ) (runs : List Run) (kinds : List SlotKind) : Type 0 wher
 one_slot : (low : ℕ) (k : SlotKind) (rest : List SlotKind) → replicate (low + 1 - low) k ++ rest ≡ k ∷ rest
 one_slot low k rest = let one : low + 1 - low ≡ 1 = omega arith in ap (λ n. replicate n k ++ rest) one
 
-names_more : (low : ℕ) (k : SlotKind) (runs : List Run) (ks : List SlotKind) → Names (low + 1) runs ks → Names low (with_slot low k runs) (k ∷ ks)
-names_more low k [] ks h = record { rise = (omega arith, omega (arith, h.rise)); named = one_slot low k [] ∙ ap (λ l. k ∷ l) h.named; differ = tt }
+names_more : (low : ℕ) (k : SlotKind) (runs : List Run) (ks : List SlotKind) → Names (low + 1) runs ks
+    → Names low (with_slot low k runs) (k ∷ ks)
+names_more low k [] ks h = record {
+  rise = (omega arith, omega (arith, h.rise));
+  named = one_slot low k [] ∙ ap (λ l. k ∷ l) h.named;
+  differ = tt;
+}
 names_more low k (run ∷ runs) ks h = by (same_kind k run.kind) refl
   where
     top : low + 1 + length ks ≡ low + length (k ∷ ks)
@@ -64,7 +72,8 @@ names_more low k (run ∷ runs) ks h = by (same_kind k run.kind) refl
         let more : run.end - low ≡ suc (run.end - (low + 1)) = omega (arith, h.rise.0) in
         record {
           rise = (omega (arith, h.rise.0), subst (RunsRise run.end runs) top h.rise.1);
-          named = ap (λ n. replicate n run.kind ++ kinds_of run.end runs) more ∙ ap (λ x. x ∷ (replicate (run.end - (low + 1)) run.kind ++ kinds_of run.end runs)) same ∙ ap (λ l. k ∷ l) h.named;
+          named = ap (λ n. replicate n run.kind ++ kinds_of run.end runs) more
+              ∙ ap (λ x. x ∷ (replicate (run.end - (low + 1)) run.kind ++ kinds_of run.end runs)) same ∙ ap (λ l. k ∷ l) h.named;
           differ = h.differ;
         }
     by false e = record {
@@ -100,7 +109,8 @@ at_index (x ∷ xs) (suc i) d e lt = at_index xs i d e (omega (arith, lt))
 in_row_at : {A : Type 0} (xs : List A) (i : ℕ) (d : A) → i < length xs → Contains xs (get_or xs i d)
 in_row_at xs i d lt = (i, lt, at_index xs i (get_or xs i d) d lt)
 
-in_each_at : {A B : Type 0} (f : A → List B) (b : B) (xs : List A) (k : ℕ) (a : A) → k < length xs → get_or xs k a ≡ a → Contains (f a) b → Contains (of_each f xs) b
+in_each_at : {A B : Type 0} (f : A → List B) (b : B) (xs : List A) (k : ℕ) (a : A) → k < length xs → get_or xs k a ≡ a → Contains (f a) b
+    → Contains (of_each f xs) b
 in_each_at f b [] k a lt e h = absurd (omega (arith, lt))
 in_each_at f b (x ∷ xs) zero a lt e h = Contains-append_left (f x) (of_each f xs) b (subst (λ y. Contains (f y) b) (sym e) h)
 in_each_at f b (x ∷ xs) (suc k) a lt e h = Contains-append_right (f x) (of_each f xs) b (in_each_at f b xs k a (omega (arith, lt)) e h)
@@ -124,7 +134,8 @@ module _ {A : Type 0} (same : A → A → Bool) (is : (a b : A) → same a b ≡
   none_alike x [] e = tt
   none_alike x (y ∷ ys) e = by (same x y) refl (none_alike x ys) e
     where
-      by : (t : Bool) → same x y ≡ t → (list_any (same x) ys ≡ false → AllByRecursion (λ z. same x z ≡ false) ys) → (t || list_any (same x) ys) ≡ false → (same x y ≡ false) × AllByRecursion (λ z. same x z ≡ false) ys
+      by : (t : Bool) → same x y ≡ t → (list_any (same x) ys ≡ false → AllByRecursion (λ z. same x z ≡ false) ys)
+          → (t || list_any (same x) ys) ≡ false → (same x y ≡ false) × AllByRecursion (λ z. same x z ≡ false) ys
       by true e2 later bad = absurd (let no : true ≡ false = bad in cc)
       by false e2 later rest = (e2, later rest)
 
@@ -132,7 +143,8 @@ module _ {A : Type 0} (same : A → A → Bool) (is : (a b : A) → same a b ≡
   one_alike x [] e = absurd (let no : false ≡ true = e in cc)
   one_alike x (y ∷ ys) e = by (same x y) refl (one_alike x ys) e
     where
-      by : (t : Bool) → same x y ≡ t → (list_any (same x) ys ≡ true → Contains ys x) → (t || list_any (same x) ys) ≡ true → Contains (y ∷ ys) x
+      by : (t : Bool) → same x y ≡ t → (list_any (same x) ys ≡ true → Contains ys x) → (t || list_any (same x) ys) ≡ true
+          → Contains (y ∷ ys) x
       by true e2 later rest = (0, omega arith, sym (is x y e2))
       by false e2 later rest = in_more y ys x (later rest)
 
@@ -150,7 +162,8 @@ module _ {A : Type 0} (same : A → A → Bool) (is : (a b : A) → same a b ≡
   once_among [] a h = h
   once_among (x ∷ xs) a h = by (list_any (same x) (once xs)) (once_among xs a) h
     where
-      first : (Contains (once xs) a → Contains xs a) → (k : ℕ) → k < length (x ∷ once xs) → get_or (x ∷ once xs) k a ≡ a → Contains (x ∷ xs) a
+      first : (Contains (once xs) a → Contains xs a) → (k : ℕ) → k < length (x ∷ once xs) → get_or (x ∷ once xs) k a ≡ a
+          → Contains (x ∷ xs) a
       first later zero lt e = (0, omega arith, e)
       first later (suc k) lt e = in_more x xs a (later (k, omega (arith, lt), e))
 
@@ -162,7 +175,8 @@ module _ {A : Type 0} (same : A → A → Bool) (is : (a b : A) → same a b ≡
   once_all [] a h = h
   once_all (x ∷ xs) a h = by (list_any (same x) (once xs)) refl (once_all xs a) h.0 h.1 h.2
     where
-      by : (t : Bool) → list_any (same x) (once xs) ≡ t → (Contains xs a → Contains (once xs) a) → (k : ℕ) → k < length (x ∷ xs) → get_or (x ∷ xs) k a ≡ a → Contains (before t x (once xs)) a
+      by : (t : Bool) → list_any (same x) (once xs) ≡ t → (Contains xs a → Contains (once xs) a) → (k : ℕ) → k < length (x ∷ xs)
+          → get_or (x ∷ xs) k a ≡ a → Contains (before t x (once xs)) a
       by true any later zero lt e = subst (Contains (once xs)) e (one_alike x (once xs) any)
       by true any later (suc k) lt e = later (k, omega (arith, lt), e)
       by false any later zero lt e = (0, omega arith, e)
@@ -176,7 +190,8 @@ module _ {A : Type 0} (same : A → A → Bool) (is : (a b : A) → same a b ≡
   place_of [] k a lt e = absurd (omega (arith, lt))
   place_of (x ∷ xs) k a lt e = by (same x a) refl (λ i. place_of xs i a) k lt e
     where
-      by : (t : Bool) → same x a ≡ t → ((i : ℕ) → i < length xs → get_or xs i a ≡ a → slice_get xs (first_place same xs a) ≡ Some a) → (i : ℕ) → i < length (x ∷ xs) → get_or (x ∷ xs) i a ≡ a
+      by : (t : Bool) → same x a ≡ t → ((i : ℕ) → i < length xs → get_or xs i a ≡ a → slice_get xs (first_place same xs a) ≡ Some a)
+          → (i : ℕ) → i < length (x ∷ xs) → get_or (x ∷ xs) i a ≡ a
           → slice_get (x ∷ xs) (counted t (first_place same xs a)) ≡ Some a
       by true e2 later i small there = ap Some (is x a e2)
       by false e2 later zero small there = absurd (let no : true ≡ false = sym (ap (λ y. same y a) there ∙ itself a) ∙ e2 in cc)
@@ -208,8 +223,10 @@ text_is (a ∷ more) (b ∷ bs) e =
     let z = and_parts (nat_eq a b) (same_text more bs) e in
     ap (λ n. n ∷ more) (eqb-true a b z.0) ∙ ap (λ l. b ∷ l) (text_is more bs z.1)
 
-in_tables : (tables : Tables) (x : Phrase) → HoldsRange tables char_range → ((range : Range) → Contains (ranges_of x) range → HoldsRange tables range)
-    → ((text : List ℕ) → Contains (texts_of x) text → slice_get tables.texts (first_place same_text tables.texts text) ≡ Some text) → InTables tables x
+in_tables : (tables : Tables) (x : Phrase) → HoldsRange tables char_range
+    → ((range : Range) → Contains (ranges_of x) range → HoldsRange tables range)
+    → ((text : List ℕ) → Contains (texts_of x) text → slice_get tables.texts (first_place same_text tables.texts text) ≡ Some text)
+    → InTables tables x
 in_tables tables (StmtPhrase (Assign d e range)) chars h texts = λ part. h range (0, omega arith, refl)
 in_tables tables (StmtPhrase (ForTo (a_loop d range counter limit from to by body))) chars h texts = λ part. h range (0, omega arith, refl)
 in_tables tables (StmtPhrase (SomeOf (a_loop d range counter limit from to by body))) chars h texts = λ part. h range (0, omega arith, refl)
@@ -227,7 +244,11 @@ in_tables tables x chars h texts = tt
 
 module _ (p : Program) where
   abbrev tables : Tables
-  tables = record { ranges = once same_range range_is range_itself (program_ranges p); texts = once same_text text_is text_itself (program_texts p) }
+  tables = record {
+    ranges = once same_range range_is range_itself (program_ranges p);
+    texts =
+        once same_text text_is text_itself (program_texts p);
+  }
 
   has_range : (range : Range) → Contains (program_ranges p) range → HoldsRange tables range
   has_range range h = held_once same_range range_is range_itself (program_ranges p) range h
@@ -242,13 +263,17 @@ module _ (p : Program) where
       record {
         phrases = λ r lt. all_in (InTables tables) (stmts_phrases (routine_at p r).body)
             (λ x there.
-            let here : Contains (program_phrases p) x = in_each (λ y. stmts_phrases y.body) x p.routines (routine_at p r) (routine_in r lt) there in
+            let here : Contains (program_phrases p) x =
+            in_each (λ y. stmts_phrases y.body) x p.routines (routine_at p r) (routine_in r lt) there in
             in_tables tables x (has_range char_range (0, omega arith, refl))
-            (λ range named. has_range range (in_more char_range (phrases ++ results) range (Contains-append_left phrases results range (in_each ranges_of range (program_phrases p) x here named))))
-            (λ text named. held_once same_text text_is text_itself (program_texts p) text (in_each texts_of text (program_phrases p) x here named)));
+            (λ range named. has_range range (in_more char_range (phrases ++ results) range
+            (Contains-append_left phrases results range (in_each ranges_of range (program_phrases p) x here named))))
+            (λ text named. held_once same_text text_is text_itself (program_texts p) text
+            (in_each texts_of text (program_phrases p) x here named)));
         results = λ r range lt is part.
             has_range range (in_more char_range (phrases ++ results) range (Contains-append_right phrases results range
-            (in_each (λ y. result_range y.result) range p.routines (routine_at p r) (routine_in r lt) (subst (λ o. Contains (result_range o) range) (sym is) (0, omega arith, refl)))));
+            (in_each (λ y. result_range y.result) range p.routines (routine_at p r) (routine_in r lt)
+            (subst (λ o. Contains (result_range o) range) (sym is) (0, omega arith, refl)))));
       }
 
   -- of n routines from one on
@@ -262,13 +287,15 @@ module _ (p : Program) where
 
   all_name : (r n k : ℕ) → k < n → NamesKinds (get_or (all_runs r n) k []) (routine_kinds p (r + k))
   all_name r zero k lt = absurd (omega (arith, lt))
-  all_name r (suc n) zero lt = let same : r ≡ r + 0 = omega arith in subst (λ i. NamesKinds (longest 0 (routine_kinds p r)) (routine_kinds p i)) same (names_kinds (routine_kinds p r))
+  all_name r (suc n) zero lt = let same : r ≡ r + 0 = omega arith in
+      subst (λ i. NamesKinds (longest 0 (routine_kinds p r)) (routine_kinds p i)) same (names_kinds (routine_kinds p r))
   all_name r (suc n) (suc k) lt =
       let same : suc r + k ≡ r + suc k = omega arith in
       subst (λ i. NamesKinds (get_or (all_runs (suc r) n) k []) (routine_kinds p i)) same (all_name (suc r) n k (omega (arith, lt)))
 
   each_named : (r : ℕ) → r < length p.routines → NamesKinds (get_or (all_runs 0 (length p.routines)) r []) (routine_kinds p r)
-  each_named r lt = let same : 0 + r ≡ r = omega arith in subst (λ i. NamesKinds (get_or (all_runs 0 (length p.routines)) r []) (routine_kinds p i)) same (all_name 0 (length p.routines) r lt)
+  each_named r lt = let same : 0 + r ≡ r = omega arith in
+      subst (λ i. NamesKinds (get_or (all_runs 0 (length p.routines)) r []) (routine_kinds p i)) same (all_name 0 (length p.routines) r lt)
 
   abbrev code : PlainCode
   code = program_code p tables (all_runs 0 (length p.routines))
@@ -287,7 +314,11 @@ module _ (p : Program) where
   runs_long = long_runs p code is_code each_named
 
   holds_once : HoldsEachOnce p code
-  holds_once = record { ranges = some_once same_range range_is range_itself (program_ranges p); texts = some_once same_text text_is text_itself (program_texts p) }
+  holds_once = record {
+    ranges = some_once same_range range_is range_itself (program_ranges p);
+    texts =
+        some_once same_text text_is text_itself (program_texts p);
+  }
 
 -- each program has such a code
 pub has_such_a_code : (p : Program) → (code : PlainCode) × IsCodeOf p code × HasLongRuns p code × HoldsEachOnce p code

@@ -1,5 +1,6 @@
 -- Where values and places stand, and what is set, read and handed over: each in a slot of its kind.
-use Rattle.std.proofs.Common.{◌≡◌, ℕ, zero, suc, ◌+◌, ◌<◌, Bool, true, false, List, [], ◌∷◌, ◌++◌, length, Option, Some, None, refl, ap, ◌∙◌, subst, arith}
+use Rattle.std.proofs.Common.{◌≡◌, ℕ, zero, suc, ◌+◌, ◌<◌, Bool, true, false, List, [], ◌∷◌, ◌++◌, length, Option, Some, None, refl, ap}
+use Rattle.std.proofs.Common.{◌∙◌, subst, arith}
 use Rattle.std.specs.Prelude.{slice_get, map, ◌&&◌, ◌||◌, IsNone, IsSome}
 use Rattle.std.specs.List.{AllByRecursion}
 use Rattle.std.proofs.lemmas.Bool.{lt-ltb, eq-eqb, and_from}
@@ -23,14 +24,20 @@ use Rattle.alma_ir.specs.declared.phrase.Root.TheVariants as root
 use Rattle.alma_ir.specs.declared.phrase.WriteAs.{WriteAs}
 use Rattle.alma_ir.specs.declared.phrase.WriteAs.TheVariants as write_as
 use Rattle.alma_ir.specs.declared.program.Param.{Param}
-use Rattle.alma_ir.specs.Tree.{Program, Expr, Arg, Args, Desig, Sels, Sel, routine_at, Const, Load, Chain, Compare, Truth, Known, Chr, CallExpr, no_args, more_args, ByValue, ByCells, ByPlace, MixValue, MixPlace, a_desig, no_sels, more_sels, Field, Index}
+use Rattle.alma_ir.specs.Tree.{Program, Expr, Arg, Args, Desig, Sels, Sel, routine_at, Const, Load, Chain, Compare, Truth, Known, Chr}
+use Rattle.alma_ir.specs.Tree.{CallExpr, no_args, more_args, ByValue, ByCells, ByPlace, MixValue, MixPlace, a_desig, no_sels, more_sels}
+use Rattle.alma_ir.specs.Tree.{Field, Index}
 use Rattle.alma_ir.specs.Phrases.{Phrase, DesigPhrase, stmts_phrases, expr_phrases, desig_phrases}
-use Rattle.alma_ir.specs.Checked.{IsChecked, ArgFits, ArgsFit, HasOneCellAs, sel_cells, cells_after, desig_cells, outer_at, link_slots, RootExists}
+use Rattle.alma_ir.specs.Checked.{IsChecked, ArgFits, ArgsFit, HasOneCellAs, sel_cells, cells_after, desig_cells, outer_at, link_slots}
+use Rattle.alma_ir.specs.Checked.{RootExists}
 use Rattle.alma_lower_implements.proofs.ExprRows.{AreVariables}
 use Rattle.alma_lower_templates.specs.Tables.{Tables, range_number, is_whole}
 use Rattle.alma_lower_templates.specs.Pieces.{op_code, cmp_code, neg_code, write_code, fit_code, unless_whole, first_argument}
-use Rattle.alma_lower_templates.specs.Slots.{shift_of, chain_slots, links_if, bare, bare_desig, unless_bare, arg_kind, handed_slots, call_links, root_slots, expr_slots, desig_slots, sels_slots, sel_slots, own_place, own_root}
-use Rattle.alma_lower_templates.specs.Templates.{own_slot, slot_or, value_at, part_slot, part_at, behind_root, place_at, link_if, call_link_code, handed, handed_from, call_code, set_by, set_code, load_by, load_code, held_at}
+use Rattle.alma_lower_templates.specs.Slots.{shift_of, chain_slots, links_if, bare, bare_desig, unless_bare, arg_kind, handed_slots}
+use Rattle.alma_lower_templates.specs.Slots.{call_links, root_slots, expr_slots, desig_slots, sels_slots, sel_slots, own_place, own_root}
+use Rattle.alma_lower_templates.specs.Templates.{own_slot, slot_or, value_at, part_slot, part_at, behind_root, place_at, link_if}
+use Rattle.alma_lower_templates.specs.Templates.{call_link_code, handed, handed_from, call_code, set_by, set_code, load_by, load_code}
+use Rattle.alma_lower_templates.specs.Templates.{held_at}
 use Rattle.alma_lower_templates.specs.CodeOf.{HoldsRange, HoldsChecked}
 use Rattle.alma_lower_templates.specs.Compiled.{link_params, param_kind, param_named, is_function}
 use Rattle.alma_lower_templates.proofs.Args.{same_cells}
@@ -48,7 +55,8 @@ first_is : (all first : ℕ) → 0 < all → first_argument all first ≡ first
 first_is zero first h = absurd (omega (arith, h))
 first_is (suc n) first h = refl
 
-module _ (p : Program) (tables : Tables) (code : PlainCode) (checked : IsChecked p) (w : Compiled p tables code) (r : ℕ) (lt : r < length p.routines) where
+module _ (p : Program) (tables : Tables) (code : PlainCode) (checked : IsChecked p) (w : Compiled p tables code) (r : ℕ)
+    (lt : r < length p.routines) where
   abbrev pub Good : List Phrase → Type 0
   Good xs = AllByRecursion (Facts p tables r) xs
 
@@ -69,7 +77,8 @@ module _ (p : Program) (tables : Tables) (code : PlainCode) (checked : IsChecked
   pub fit_needs : (range : Range) (value : ℕ) → HoldsChecked tables range → Number code r value → AllNeeds (fit_code tables range value)
   fit_needs range value h n = by (is_whole range) h
     where
-      by : (whole : Bool) → (whole ≡ false → HoldsRange tables range) → AllNeeds (unless_whole whole (I.InRange value (range_number tables range) ∷ []))
+      by : (whole : Bool) → (whole ≡ false → HoldsRange tables range)
+          → AllNeeds (unless_whole whole (I.InRange value (range_number tables range) ∷ []))
       by true h = tt
       by false h = ((n, is_range range (h refl)), tt)
 
@@ -81,7 +90,8 @@ module _ (p : Program) (tables : Tables) (code : PlainCode) (checked : IsChecked
   BareIs None = Unit {0}
 
   bare_root : (d : Desig) → Facts p tables r (DesigPhrase d) → desig_cells d ≡ 1 → BareIs (bare_desig d)
-  bare_root (a_desig (root.Local from) cells no_sels) h e = variable p tables code checked w r lt from (subst (AreVariables p code [] r from) e (w.variables r from cells lt h.0.0 h.0.1))
+  bare_root (a_desig (root.Local from) cells no_sels) h e =
+      variable p tables code checked w r lt from (subst (AreVariables p code [] r from) e (w.variables r from cells lt h.0.0 h.0.1))
   bare_root (a_desig (root.Local from) cells (more_sels x rest)) h e = tt
   bare_root (a_desig (root.Global from) cells sels) h e = tt
   bare_root (a_desig (root.Param from) cells sels) h e = tt
@@ -109,7 +119,8 @@ module _ (p : Program) (tables : Tables) (code : PlainCode) (checked : IsChecked
   PlaceIs None = Unit {0}
 
   held_root : (d : Desig) → Facts p tables r (DesigPhrase d) → desig_cells d ≡ 1 → PlaceIs (own_place d)
-  held_root (a_desig (root.Param from) cells no_sels) h e = subst (Place code r (own_slot p tables r from)) e (held p tables code checked w r lt from cells h.0)
+  held_root (a_desig (root.Param from) cells no_sels) h e =
+      subst (Place code r (own_slot p tables r from)) e (held p tables code checked w r lt from cells h.0)
   held_root (a_desig (root.Param from) cells (more_sels x rest)) h e = tt
   held_root (a_desig (root.Local from) cells sels) h e = tt
   held_root (a_desig (root.Global from) cells sels) h e = tt
@@ -121,15 +132,20 @@ module _ (p : Program) (tables : Tables) (code : PlainCode) (checked : IsChecked
   held_variable (a_desig x cells sels) h e = held_root (a_desig x cells sels) h.0 e
 
   -- the slot of which the first selector takes a part
-  pub root_place : (o : Option ℕ) (lo cells : ℕ) (x : Root) (sels : Sels) → own_root x sels ≡ o → RootExists p r (routine_at p r) (DesigPhrase (a_desig x cells no_sels)) → Place code r lo cells → Place code r (slot_or p tables r o lo) cells
-  root_place (Some from) lo cells x sels e h place = held p tables code checked w r lt from cells (subst (λ y. RootExists p r (routine_at p r) (DesigPhrase (a_desig y cells no_sels))) (own_root_is x sels from e) h)
+  pub root_place : (o : Option ℕ) (lo cells : ℕ) (x : Root) (sels : Sels) → own_root x sels ≡ o
+      → RootExists p r (routine_at p r) (DesigPhrase (a_desig x cells no_sels)) → Place code r lo cells
+      → Place code r (slot_or p tables r o lo) cells
+  root_place (Some from) lo cells x sels e h place =
+      held p tables code checked w r lt from cells
+      (subst (λ y. RootExists p r (routine_at p r) (DesigPhrase (a_desig y cells no_sels))) (own_root_is x sels from e) h)
   root_place None lo cells x sels e h place = place
 
   -- the value of an expression
   pub expr_number : (lo : ℕ) (e : Expr) → SlotsOf lo (expr_slots p r e) → Number code r lo
   expr_number lo e h = record { kind = exprs.first_slot p code [] r lo e h; free = free p tables code checked w r lt lo h.behind }
 
-  pub value_number : (lo : ℕ) (e : Expr) → Good (expr_phrases e) → SlotsOf lo (unless_bare (bare e) (expr_slots p r e)) → Number code r (value_at p tables r lo e)
+  pub value_number : (lo : ℕ) (e : Expr) → Good (expr_phrases e) → SlotsOf lo (unless_bare (bare e) (expr_slots p r e))
+      → Number code r (value_at p tables r lo e)
   value_number lo e good slots = by (bare e) (bare_value e good) slots
     where
       by : (o : Option ℕ) → BareIs o → SlotsOf lo (unless_bare o (expr_slots p r e)) → Number code r (slot_or p tables r o lo)
@@ -155,31 +171,42 @@ module _ (p : Program) (tables : Tables) (code : PlainCode) (checked : IsChecked
   part_place lo (Field offset cells) h = first_slot p tables code checked w r lt lo (slot.Place cells) [] h
   part_place lo (Index e range cells) h =
       let before : List SlotKind = unless_bare (bare e) (expr_slots p r e) in
-      first_slot p tables code checked w r lt (lo + length before) (slot.Place cells) [] (back p tables code checked w r lt lo before (slot.Place cells ∷ []) h)
+      first_slot p tables code checked w r lt (lo + length before) (slot.Place cells) []
+      (back p tables code checked w r lt lo before (slot.Place cells ∷ []) h)
 
   -- the slots of the selectors behind one
-  pub behind_part : (lo : ℕ) (x : Sel) (rest : Sels) → SlotsOf lo (sel_slots p r x ++ sels_slots p r rest) → SlotsOf (part_slot p tables r lo x + 1) (sels_slots p r rest)
-  behind_part lo x rest h = subst (λ n. SlotsOf n (sels_slots p r rest)) (part_end lo x) (back p tables code checked w r lt lo (sel_slots p r x) (sels_slots p r rest) h)
+  pub behind_part : (lo : ℕ) (x : Sel) (rest : Sels) → SlotsOf lo (sel_slots p r x ++ sels_slots p r rest)
+      → SlotsOf (part_slot p tables r lo x + 1) (sels_slots p r rest)
+  behind_part lo x rest h = subst (λ n. SlotsOf n (sels_slots p r rest)) (part_end lo x)
+      (back p tables code checked w r lt lo (sel_slots p r x) (sels_slots p r rest) h)
 
-  last_place : (sels : Sels) (from lo size : ℕ) → Place code r from size → SlotsOf lo (sels_slots p r sels) → Place code r (part_at p tables r from lo sels) (cells_after sels size)
+  last_place : (sels : Sels) (from lo size : ℕ) → Place code r from size → SlotsOf lo (sels_slots p r sels)
+      → Place code r (part_at p tables r from lo sels) (cells_after sels size)
   last_place no_sels from lo size h slots = h
   last_place (more_sels x rest) from lo size h slots =
-      last_place rest (part_slot p tables r lo x) (part_slot p tables r lo x + 1) (sel_cells x) (part_place lo x (front p tables code checked w r lt lo (sel_slots p r x) (sels_slots p r rest) slots)) (behind_part lo x rest slots)
+      last_place rest (part_slot p tables r lo x) (part_slot p tables r lo x + 1) (sel_cells x)
+      (part_place lo x (front p tables code checked w r lt lo (sel_slots p r x) (sels_slots p r rest) slots))
+      (behind_part lo x rest slots)
 
   -- the slots of the selectors of a designator
-  pub sels_behind : (lo cells : ℕ) (x : Root) (sels : Sels) → SlotsOf lo (desig_slots p r (a_desig x cells sels)) → SlotsOf (behind_root p tables r lo x) (sels_slots p r sels)
+  pub sels_behind : (lo cells : ℕ) (x : Root) (sels : Sels) → SlotsOf lo (desig_slots p r (a_desig x cells sels))
+      → SlotsOf (behind_root p tables r lo x) (sels_slots p r sels)
   sels_behind lo cells x sels h =
-      back p tables code checked w r lt (lo + 1) (root_slots p r x) (sels_slots p r sels) (back p tables code checked w r lt lo (slot.Place cells ∷ []) (root_slots p r x ++ sels_slots p r sels) h)
+      back p tables code checked w r lt (lo + 1) (root_slots p r x) (sels_slots p r sels)
+      (back p tables code checked w r lt lo (slot.Place cells ∷ []) (root_slots p r x ++ sels_slots p r sels) h)
 
   pub desig_place : (lo : ℕ) (d : Desig) → SlotsOf lo (desig_slots p r d) → Place code r (place_at p tables r lo d) (desig_cells d)
   desig_place lo (a_desig x cells sels) h =
-      last_place sels lo (behind_root p tables r lo x) cells (first_slot p tables code checked w r lt lo (slot.Place cells) (root_slots p r x ++ sels_slots p r sels) h) (sels_behind lo cells x sels h)
+      last_place sels lo (behind_root p tables r lo x) cells
+      (first_slot p tables code checked w r lt lo (slot.Place cells) (root_slots p r x ++ sels_slots p r sels) h)
+      (sels_behind lo cells x sels h)
 
   pub one_place : (lo : ℕ) (d : Desig) → desig_cells d ≡ 1 → SlotsOf lo (desig_slots p r d) → Place code r (place_at p tables r lo d) 1
   one_place lo d e h = subst (λ n. Place code r (place_at p tables r lo d) n) e (desig_place lo d h)
 
   -- where it stands to be read at once
-  pub held_place : (lo : ℕ) (d : Desig) → Good (desig_phrases d) → desig_cells d ≡ 1 → SlotsOf lo (desig_slots p r d) → Place code r (held_at p tables r lo d) 1
+  pub held_place : (lo : ℕ) (d : Desig) → Good (desig_phrases d) → desig_cells d ≡ 1 → SlotsOf lo (desig_slots p r d)
+      → Place code r (held_at p tables r lo d) 1
   held_place lo d good e slots = by (own_place d) (held_variable d good e)
     where
       by : (o : Option ℕ) → PlaceIs o → Place code r (slot_or p tables r o (place_at p tables r lo d)) 1
@@ -188,14 +215,16 @@ module _ (p : Program) (tables : Tables) (code : PlainCode) (checked : IsChecked
 
   -- ---- variables
 
-  pub set_needs : (lo value : ℕ) (d : Desig) → Good (desig_phrases d) → desig_cells d ≡ 1 → (bare_desig d ≡ None → SlotsOf lo (desig_slots p r d)) → Number code r value → Needs code r (set_code p tables r lo value d)
+  pub set_needs : (lo value : ℕ) (d : Desig) → Good (desig_phrases d) → desig_cells d ≡ 1
+      → (bare_desig d ≡ None → SlotsOf lo (desig_slots p r d)) → Number code r value → Needs code r (set_code p tables r lo value d)
   set_needs lo value d good e slots n = by (bare_desig d) refl (bare_variable d good e)
     where
       by : (o : Option ℕ) → bare_desig d ≡ o → BareIs o → Needs code r (set_by p tables r o lo value d)
       by (Some to) is b = (b, n)
       by None is b = (one_place lo d e (slots is), n)
 
-  pub load_needs : (lo : ℕ) (d : Desig) → Good (desig_phrases d) → desig_cells d ≡ 1 → SlotsOf lo (slot.Number ∷ unless_bare (bare_desig d) (desig_slots p r d)) → Needs code r (load_code p tables r lo d)
+  pub load_needs : (lo : ℕ) (d : Desig) → Good (desig_phrases d) → desig_cells d ≡ 1
+      → SlotsOf lo (slot.Number ∷ unless_bare (bare_desig d) (desig_slots p r d)) → Needs code r (load_code p tables r lo d)
   load_needs lo d good e slots = by (bare_desig d) refl (bare_variable d good e)
     where
       n : Number code r lo
@@ -203,18 +232,25 @@ module _ (p : Program) (tables : Tables) (code : PlainCode) (checked : IsChecked
 
       by : (o : Option ℕ) → bare_desig d ≡ o → BareIs o → Needs code r (load_by p tables r o lo d)
       by (Some from) is b = (n, b)
-      by None is b = (n, held_place (lo + 1) d good e (none_slots (bare_desig d) (lo + 1) (desig_slots p r d) is (back p tables code checked w r lt lo (slot.Number ∷ []) (unless_bare (bare_desig d) (desig_slots p r d)) slots)))
+      by None is b = (
+        n,
+        held_place (lo + 1) d good e
+            (none_slots (bare_desig d) (lo + 1) (desig_slots p r d) is
+            (back p tables code checked w r lt lo (slot.Number ∷ []) (unless_bare (bare_desig d) (desig_slots p r d)) slots)),
+      )
 
   -- ---- operators
 
-  pub op_needs : (how : Op) (to first operand : ℕ) → Number code r to → Number code r first → Number code r operand → Needs code r (op_code how to first operand)
+  pub op_needs : (how : Op) (to first operand : ℕ) → Number code r to → Number code r first → Number code r operand
+      → Needs code r (op_code how to first operand)
   op_needs op.Add to first operand a f b = (a, f, b)
   op_needs op.Sub to first operand a f b = (a, f, b)
   op_needs op.Mul to first operand a f b = (a, f, b)
   op_needs op.Div to first operand a f b = (a, f, b)
   op_needs op.Mod to first operand a f b = (a, f, b)
 
-  pub cmp_needs : (how : Cmp) (to first operand : ℕ) → Number code r to → Number code r first → Number code r operand → AllNeeds (cmp_code how to first operand)
+  pub cmp_needs : (how : Cmp) (to first operand : ℕ) → Number code r to → Number code r first → Number code r operand
+      → AllNeeds (cmp_code how to first operand)
   cmp_needs cmp.Equal to first operand a f b = ((a, f, b), tt)
   cmp_needs cmp.Unequal to first operand a f b = ((a, f, b), ((a, a), tt))
   cmp_needs cmp.Less to first operand a f b = ((a, f, b), tt)
@@ -234,7 +270,8 @@ module _ (p : Program) (tables : Tables) (code : PlainCode) (checked : IsChecked
   -- ---- calls
 
   -- the link that is handed over, where there is one
-  link_if_needs : (sh up lo : ℕ) → (0 < sh → up < (routine_at p r).level) → SlotsOf lo (links_if p r sh up) → AllNeeds (link_if p tables r sh up lo) × (0 < sh → Link code r (lo + up) (outer_at p r up))
+  link_if_needs : (sh up lo : ℕ) → (0 < sh → up < (routine_at p r).level) → SlotsOf lo (links_if p r sh up)
+      → AllNeeds (link_if p tables r sh up lo) × (0 < sh → Link code r (lo + up) (outer_at p r up))
   link_if_needs zero up lo deep h = (tt, λ bad. absurd (omega (arith, bad)))
   link_if_needs (suc one) up lo deep h = let z = link_needs p tables code checked w r lt up lo (deep (omega arith)) h in (z.0, λ some. z.1)
 
@@ -246,20 +283,28 @@ module _ (p : Program) (tables : Tables) (code : PlainCode) (checked : IsChecked
       by (suc zero) h = absurd (omega (arith, h))
       by (suc (suc above)) h = omega arith
 
-  pub call_link_needs : (called up lo : ℕ) (args : Args) → CallFacts p tables r called args up → SlotsOf lo (call_links p r called up) → AllNeeds (call_link_code p tables r called up lo)
-  call_link_needs called up lo args h slots = (link_if_needs (shift_of p called) up lo (deep_enough called up (routine_at p r).level h.leads.0) slots).0
+  pub call_link_needs : (called up lo : ℕ) (args : Args) → CallFacts p tables r called args up → SlotsOf lo (call_links p r called up)
+      → AllNeeds (call_link_code p tables r called up lo)
+  call_link_needs called up lo args h slots =
+      (link_if_needs (shift_of p called) up lo (deep_enough called up (routine_at p r).level h.leads.0) slots).0
 
   -- an argument stands in a slot that its parameter takes
-  arg_fits : (q : Param) (a : Arg) (i : ℕ) → ArgFits q a → HasOneCellAs q.kind q.cells → HasKind code r i (arg_kind a) → fits_argument code r (param_kind q.kind) q.cells i ≡ true
+  arg_fits : (q : Param) (a : Arg) (i : ℕ) → ArgFits q a → HasOneCellAs q.kind q.cells → HasKind code r i (arg_kind a)
+      → fits_argument code r (param_kind q.kind) q.cells i ≡ true
   arg_fits q (ByValue e range) i h one k = ap (λ x. fits_argument code r (param_kind x) q.cells i) h ∙ ap is_number k.kind
-  arg_fits q (ByCells d) i h one k = ap (λ x. fits_argument code r (param_kind x) q.cells i) h.0 ∙ ap (is_place_of q.cells) k.kind ∙ eq-eqb _ q.cells (same_cells d ∙ h.1)
-  arg_fits q (ByPlace d) i h one k = ap (λ x. fits_argument code r (param_kind x) q.cells i) h.0 ∙ ap (is_place_of q.cells) k.kind ∙ eq-eqb _ q.cells (same_cells d ∙ h.1)
-  arg_fits q (MixValue e range) i h one k = ap (λ x. fits_argument code r (param_kind x) q.cells i) h ∙ ap (λ o. is_number o || is_place_of 1 o) k.kind
+  arg_fits q (ByCells d) i h one k = ap (λ x. fits_argument code r (param_kind x) q.cells i) h.0 ∙ ap (is_place_of q.cells) k.kind
+      ∙ eq-eqb _ q.cells (same_cells d ∙ h.1)
+  arg_fits q (ByPlace d) i h one k = ap (λ x. fits_argument code r (param_kind x) q.cells i) h.0 ∙ ap (is_place_of q.cells) k.kind
+      ∙ eq-eqb _ q.cells (same_cells d ∙ h.1)
+  arg_fits q (MixValue e range) i h one k = ap (λ x. fits_argument code r (param_kind x) q.cells i) h
+      ∙ ap (λ o. is_number o || is_place_of 1 o) k.kind
   arg_fits q (MixPlace d) i h one k =
       let cell : q.cells ≡ 1 = subst (λ x. HasOneCellAs x q.cells) h.0 one in
-      ap (λ x. fits_argument code r (param_kind x) q.cells i) h.0 ∙ ap (λ o. is_number o || is_place_of 1 o) k.kind ∙ eq-eqb _ 1 (same_cells d ∙ h.1 ∙ cell)
+      ap (λ x. fits_argument code r (param_kind x) q.cells i) h.0 ∙ ap (λ o. is_number o || is_place_of 1 o) k.kind
+      ∙ eq-eqb _ 1 (same_cells d ∙ h.1 ∙ cell)
 
-  args_fit : (qs : List Param) (args : Args) (i : ℕ) → ArgsFit qs args → AllByRecursion (λ q. HasOneCellAs q.kind q.cells) qs → SlotsOf i (handed_slots args) → fit_arguments code r (map param_named qs) i ≡ true
+  args_fit : (qs : List Param) (args : Args) (i : ℕ) → ArgsFit qs args → AllByRecursion (λ q. HasOneCellAs q.kind q.cells) qs
+      → SlotsOf i (handed_slots args) → fit_arguments code r (map param_named qs) i ≡ true
   args_fit [] no_args i h one slots = refl
   args_fit [] (more_args a rest) i h one slots = absurd h
   args_fit (q ∷ qs) no_args i h one slots = absurd h
@@ -267,8 +312,10 @@ module _ (p : Program) (tables : Tables) (code : PlainCode) (checked : IsChecked
       let k = first_slot p tables code checked w r lt i (arg_kind a) (handed_slots rest) slots in
       let next : i + 1 ≡ suc i = omega arith in
       and_from (is_free code r i && fits_argument code r (param_kind q.kind) q.cells i) (fit_arguments code r (map param_named qs) (suc i))
-      (and_from (is_free code r i) (fits_argument code r (param_kind q.kind) q.cells i) (lt-ltb 0 (r + i) k.free) (arg_fits q a i h.0 one.0 k))
-      (args_fit qs rest (suc i) h.1 one.1 (subst (λ n. SlotsOf n (handed_slots rest)) next (back p tables code checked w r lt i (arg_kind a ∷ []) (handed_slots rest) slots)))
+      (and_from (is_free code r i) (fits_argument code r (param_kind q.kind) q.cells i) (lt-ltb 0 (r + i) k.free)
+      (arg_fits q a i h.0 one.0 k))
+      (args_fit qs rest (suc i) h.1 one.1 (subst (λ n. SlotsOf n (handed_slots rest)) next
+      (back p tables code checked w r lt i (arg_kind a ∷ []) (handed_slots rest) slots)))
 
   chain_long : (links s : ℕ) → length (chain_slots p s links) ≡ links + 1
   chain_long zero s = refl
@@ -279,38 +326,55 @@ module _ (p : Program) (tables : Tables) (code : PlainCode) (checked : IsChecked
     fits : fit_arguments code r params first ≡ true
     begins : holds_first params first ≡ true
 
-  takes_own : (qs : List Param) (args : Args) (lo : ℕ) → ArgsFit qs args → AllByRecursion (λ q. HasOneCellAs q.kind q.cells) qs → SlotsOf lo (handed_slots args) → Takes (map param_named qs) (first_argument (0 + length (handed_slots args)) lo)
+  takes_own : (qs : List Param) (args : Args) (lo : ℕ) → ArgsFit qs args → AllByRecursion (λ q. HasOneCellAs q.kind q.cells) qs
+      → SlotsOf lo (handed_slots args) → Takes (map param_named qs) (first_argument (0 + length (handed_slots args)) lo)
   takes_own [] no_args lo h one slots = record { fits = refl; begins = refl }
   takes_own [] (more_args a rest) lo h one slots = absurd h
   takes_own (q ∷ qs) no_args lo h one slots = absurd h
   takes_own (q ∷ qs) (more_args a rest) lo h one slots =
-      let here : first_argument (0 + length (handed_slots (more_args a rest))) lo ≡ lo = first_is (0 + length (handed_slots (more_args a rest))) lo (omega arith) in
-      record { fits = ap (fit_arguments code r (map param_named (q ∷ qs))) here ∙ args_fit (q ∷ qs) (more_args a rest) lo h one slots; begins = refl }
+      let here : first_argument (0 + length (handed_slots (more_args a rest))) lo ≡ lo =
+      first_is (0 + length (handed_slots (more_args a rest))) lo (omega arith) in
+      record {
+        fits = ap (fit_arguments code r (map param_named (q ∷ qs))) here ∙ args_fit (q ∷ qs) (more_args a rest) lo h one slots;
+        begins = refl;
+      }
 
-  takes_all : (level outer up lo : ℕ) (qs : List Param) (args : Args) → ArgsFit qs args → AllByRecursion (λ q. HasOneCellAs q.kind q.cells) qs → (0 < link_slots level → Link code r (lo + up) outer)
+  takes_all : (level outer up lo : ℕ) (qs : List Param) (args : Args) → ArgsFit qs args
+      → AllByRecursion (λ q. HasOneCellAs q.kind q.cells) qs → (0 < link_slots level → Link code r (lo + up) outer)
       → SlotsOf (lo + length (links_if p r (link_slots level) up)) (handed_slots args)
-      → Takes (link_params level outer ++ map param_named qs) (first_argument (link_slots level + length (handed_slots args)) (handed_from p tables r (link_slots level) up lo))
-  takes_all zero outer up lo qs args h one link slots = let here : lo + 0 ≡ lo = omega arith in takes_own qs args lo h one (subst (λ n. SlotsOf n (handed_slots args)) here slots)
-  takes_all (suc zero) outer up lo qs args h one link slots = let here : lo + 0 ≡ lo = omega arith in takes_own qs args lo h one (subst (λ n. SlotsOf n (handed_slots args)) here slots)
+      → Takes (link_params level outer ++ map param_named qs)
+      (first_argument (link_slots level + length (handed_slots args)) (handed_from p tables r (link_slots level) up lo))
+  takes_all zero outer up lo qs args h one link slots = let here : lo + 0 ≡ lo = omega arith in
+      takes_own qs args lo h one (subst (λ n. SlotsOf n (handed_slots args)) here slots)
+  takes_all (suc zero) outer up lo qs args h one link slots = let here : lo + 0 ≡ lo = omega arith in
+      takes_own qs args lo h one (subst (λ n. SlotsOf n (handed_slots args)) here slots)
   takes_all (suc (suc above)) outer up lo qs args h one link slots =
       let k = link (omega arith) in
-      let begin : first_argument (1 + length (handed_slots args)) (lo + up) ≡ lo + up = first_is (1 + length (handed_slots args)) (lo + up) (omega arith) in
+      let begin : first_argument (1 + length (handed_slots args)) (lo + up) ≡ lo + up =
+      first_is (1 + length (handed_slots args)) (lo + up) (omega arith) in
       let next : lo + length (chain_slots p r up) ≡ suc (lo + up) = omega (arith, chain_long up r) in
       record {
         fits = ap (fit_arguments code r (link_params (suc (suc above)) outer ++ map param_named qs)) begin
-            ∙ and_from (is_free code r (lo + up) && is_link_of outer (slice_get (kinds_at code r) (lo + up))) (fit_arguments code r (map param_named qs) (suc (lo + up)))
-            (and_from (is_free code r (lo + up)) (is_link_of outer (slice_get (kinds_at code r) (lo + up))) (lt-ltb 0 (r + (lo + up)) k.free) (ap (is_link_of outer) k.kind ∙ eq-eqb outer outer refl))
+            ∙ and_from (is_free code r (lo + up) && is_link_of outer (slice_get (kinds_at code r) (lo + up)))
+            (fit_arguments code r (map param_named qs) (suc (lo + up)))
+            (and_from (is_free code r (lo + up)) (is_link_of outer (slice_get (kinds_at code r) (lo + up)))
+            (lt-ltb 0 (r + (lo + up)) k.free) (ap (is_link_of outer) k.kind ∙ eq-eqb outer outer refl))
             (args_fit qs args (suc (lo + up)) h one (subst (λ n. SlotsOf n (handed_slots args)) next slots));
         begins = refl;
       }
 
-  call_needs : (called up lo to : ℕ) (args : Args) (rest : List SlotKind) → CallFacts p tables r called args up → SlotsOf lo (call_links p r called up ++ (handed_slots args ++ rest)) → holds_result code r (head_at code called).has_result to ≡ true
+  call_needs : (called up lo to : ℕ) (args : Args) (rest : List SlotKind) → CallFacts p tables r called args up
+      → SlotsOf lo (call_links p r called up ++ (handed_slots args ++ rest))
+      → holds_result code r (head_at code called).has_result to ≡ true
       → Needs code r (call_code p tables r called args up lo to)
   call_needs called up lo to args rest h slots result =
       let links = call_links p r called up in
-      let link = (link_if_needs (shift_of p called) up lo (deep_enough called up (routine_at p r).level h.leads.0) (front p tables code checked w r lt lo links (handed_slots args ++ rest) slots)).1 in
-      let in_place = front p tables code checked w r lt (lo + length links) (handed_slots args) rest (back p tables code checked w r lt lo links (handed_slots args ++ rest) slots) in
-      let z = takes_all (routine_at p called).level (routine_at p called).outer up lo (routine_at p called).params args h.fits (checked.params called h.exists).cells (λ some. subst (Link code r (lo + up)) h.leads.1 (link some)) in_place in
+      let link = (link_if_needs (shift_of p called) up lo (deep_enough called up (routine_at p r).level h.leads.0)
+      (front p tables code checked w r lt lo links (handed_slots args ++ rest) slots)).1 in
+      let in_place = front p tables code checked w r lt (lo + length links) (handed_slots args) rest
+      (back p tables code checked w r lt lo links (handed_slots args ++ rest) slots) in
+      let z = takes_all (routine_at p called).level (routine_at p called).outer up lo (routine_at p called).params args h.fits
+      (checked.params called h.exists).cells (λ some. subst (Link code r (lo + up)) h.leads.1 (link some)) in_place in
       let same = w.params called h.exists in
       let first : ℕ = first_argument (handed p tables r called args) (handed_from p tables r (shift_of p called) up lo) in
       record {
@@ -321,16 +385,25 @@ module _ (p : Program) (tables : Tables) (code : PlainCode) (checked : IsChecked
         result = result;
       }
 
-  pub test_call_needs : (called up lo : ℕ) (args : Args) (rest : List SlotKind) → CallFacts p tables r called args up → IsNone (routine_at p called).result → SlotsOf lo (call_links p r called up ++ (handed_slots args ++ rest)) → Needs code r (call_code p tables r called args up lo 0)
-  test_call_needs called up lo args rest h none slots = call_needs called up lo 0 args rest h slots (ap (λ b. holds_result code r b 0) (w.results called h.exists) ∙ by (routine_at p called).result none)
+  pub test_call_needs : (called up lo : ℕ) (args : Args) (rest : List SlotKind) → CallFacts p tables r called args up
+      → IsNone (routine_at p called).result → SlotsOf lo (call_links p r called up ++ (handed_slots args ++ rest))
+      → Needs code r (call_code p tables r called args up lo 0)
+  test_call_needs called up lo args rest h none slots =
+      call_needs called up lo 0 args rest h slots
+      (ap (λ b. holds_result code r b 0) (w.results called h.exists) ∙ by (routine_at p called).result none)
     where
       by : (o : Option Range) → IsNone o → holds_result code r (is_function o) 0 ≡ true
       by None h = refl
       by (Some range) h = absurd (cc)
 
-  pub expr_call_needs : (called up lo to : ℕ) (args : Args) (rest : List SlotKind) → CallFacts p tables r called args up → IsSome (routine_at p called).result → Number code r to → SlotsOf lo (call_links p r called up ++ (handed_slots args ++ rest)) → Needs code r (call_code p tables r called args up lo to)
-  expr_call_needs called up lo to args rest h some n slots = call_needs called up lo to args rest h slots (ap (λ b. holds_result code r b to) (w.results called h.exists) ∙ by (routine_at p called).result some)
+  pub expr_call_needs : (called up lo to : ℕ) (args : Args) (rest : List SlotKind) → CallFacts p tables r called args up
+      → IsSome (routine_at p called).result → Number code r to → SlotsOf lo (call_links p r called up ++ (handed_slots args ++ rest))
+      → Needs code r (call_code p tables r called args up lo to)
+  expr_call_needs called up lo to args rest h some n slots =
+      call_needs called up lo to args rest h slots
+      (ap (λ b. holds_result code r b to) (w.results called h.exists) ∙ by (routine_at p called).result some)
     where
       by : (o : Option Range) → IsSome o → holds_result code r (is_function o) to ≡ true
       by None h = absurd (cc)
-      by (Some range) h = and_from (is_free code r to) (is_number (slice_get (kinds_at code r) to)) (lt-ltb 0 (r + to) n.free) (ap is_number n.kind)
+      by (Some range) h = and_from (is_free code r to) (is_number (slice_get (kinds_at code r) to)) (lt-ltb 0 (r + to) n.free)
+          (ap is_number n.kind)

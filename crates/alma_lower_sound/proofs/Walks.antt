@@ -1,6 +1,7 @@
 -- The table of lines of a code has at most two records for each node: to walk over the code of a phrase from its line and
 -- back takes at most two steps for each node in it.
-use Rattle.std.proofs.Common.{◌≡◌, ℕ, suc, ◌+◌, ◌*◌, ◌≤◌, Bool, true, false, List, [], ◌∷◌, ◌++◌, length, Option, Some, None, ℤ, pos, refl, sym, ap, ◌∙◌, subst, arith}
+use Rattle.std.proofs.Common.{◌≡◌, ℕ, suc, ◌+◌, ◌*◌, ◌≤◌, Bool, true, false, List, [], ◌∷◌, ◌++◌, length, Option, Some, None, ℤ, pos, refl}
+use Rattle.std.proofs.Common.{sym, ap, ◌∙◌, subst, arith}
 use Rattle.std.specs.Prelude.{nat_eq}
 use Rattle.std.proofs.lemmas.Bool.{eq-eqb, eqb-true}
 use Rattle.alma_base.specs.Choice.{if_true}
@@ -8,14 +9,31 @@ use Rattle.alma_base.specs.declared.number.Range.{Range}
 use Rattle.alma_code.specs.declared.instr.Instr.{Instr}
 use Rattle.alma_code.specs.declared.instr.Instr.TheVariants as I
 use Rattle.alma_ir.specs.declared.phrase.Cmp.TheVariants as cmp
-use Rattle.alma_ir.specs.Tree.{Stmts, Stmt, Arms, CaseArms, Else, Branches, Loop, Test, Tests, Expr, Links, Args, Arg, Desig, Sels, Sel, Program, routine_at, no_stmts, more_stmts, TestStmt, Assign, CopyCells, If, While, Repeat, ForTo, SomeOf, Case, Either, Forall, Commit, Return, Read, WriteExpr, WriteText, WriteLine, no_arms, more_arms, no_cases, more_cases, no_else, else_part, no_branches, more_branches, a_loop, no_result, some_result, Value, Bind, Unify, SameCells, Seq, And, Or, Not, CallTest, no_tests, more_tests, Const, Load, Chain, Compare, Truth, Known, Chr, CallExpr, no_links, more_links, no_args, more_args, ByValue, ByCells, ByPlace, MixValue, MixPlace, a_desig, no_sels, more_sels, Field, Index}
-use Rattle.alma_ir.specs.Count.{stmts_nodes, stmt_nodes, arms_nodes, cases_nodes, else_nodes, branches_nodes, loop_nodes, test_nodes, tests_nodes, expr_nodes, links_nodes, args_nodes, arg_nodes, desig_nodes, sels_nodes, sel_nodes}
+use Rattle.alma_ir.specs.Tree.{Stmts, Stmt, Arms, CaseArms, Else, Branches, Loop, Test, Tests, Expr, Links, Args, Arg, Desig, Sels, Sel}
+use Rattle.alma_ir.specs.Tree.{Program, routine_at, no_stmts, more_stmts, TestStmt, Assign, CopyCells, If, While, Repeat, ForTo, SomeOf}
+use Rattle.alma_ir.specs.Tree.{Case, Either, Forall, Commit, Return, Read, WriteExpr, WriteText, WriteLine, no_arms, more_arms, no_cases}
+use Rattle.alma_ir.specs.Tree.{more_cases, no_else, else_part, no_branches, more_branches, a_loop, no_result, some_result, Value, Bind}
+use Rattle.alma_ir.specs.Tree.{Unify, SameCells, Seq, And, Or, Not, CallTest, no_tests, more_tests, Const, Load, Chain, Compare, Truth}
+use Rattle.alma_ir.specs.Tree.{Known, Chr, CallExpr, no_links, more_links, no_args, more_args, ByValue, ByCells, ByPlace, MixValue}
+use Rattle.alma_ir.specs.Tree.{MixPlace, a_desig, no_sels, more_sels, Field, Index}
+use Rattle.alma_ir.specs.Count.{stmts_nodes, stmt_nodes, arms_nodes, cases_nodes, else_nodes, branches_nodes, loop_nodes, test_nodes}
+use Rattle.alma_ir.specs.Count.{tests_nodes, expr_nodes, links_nodes, args_nodes, arg_nodes, desig_nodes, sels_nodes, sel_nodes}
 use Rattle.alma_lower_templates.proofs.Tested.{compared_code, Tested, tested, as_value, as_unequal}
 use Rattle.alma_lower_templates.specs.Lined.{Lined, own, leaving, line_from, lines_from}
 use Rattle.alma_lower_templates.specs.Tables.{Tables, range_number, text_number}
-use Rattle.alma_lower_templates.specs.Pieces.{condition, guarded, chosen, first_of_two, refused, fit_code, neg_code, op_code, cmp_code, unequal_code, write_code, read_code, case_arm, passed_over, has_dead, behind_labels, labels_code, begin_loop, bounds_code, for_turns, some_turns, turn_code, each_body, forall_code, straight}
-use Rattle.alma_lower_templates.specs.Slots.{bare, bare_desig, stays, stays_in, unless_bare, is_simple, handed_slots, arg_slots, behind_expr, behind_dead, behind_value, behind_desig, behind_target, behind_variable, behind_test, behind_stmts, behind_stmt, behind_condition, own_place, own_root, goes_straight}
-use Rattle.alma_lower_templates.specs.Templates.{char_range, own_slot, slot_or, value_at, part_slot, behind_root, place_at, root_code, call_link_code, arguments_from, call_code, set_code, load_code, count_at, count_code, fit_result, stmts_code, stmt_code, if_code, arms_code, for_code, some_code, dead_code, case_code, cases_code, else_code, either_code, branches_code, test_code, and_code, or_code, operands_code, jump_code, expr_code, links_code, args_code, arg_code, desig_code, sels_code, sel_code, held_at, set_to}
+use Rattle.alma_lower_templates.specs.Pieces.{condition, guarded, chosen, first_of_two, refused, fit_code, neg_code, op_code, cmp_code}
+use Rattle.alma_lower_templates.specs.Pieces.{unequal_code, write_code, read_code, case_arm, passed_over, has_dead, behind_labels}
+use Rattle.alma_lower_templates.specs.Pieces.{labels_code, begin_loop, bounds_code, for_turns, some_turns, turn_code, each_body}
+use Rattle.alma_lower_templates.specs.Pieces.{forall_code, straight}
+use Rattle.alma_lower_templates.specs.Slots.{bare, bare_desig, stays, stays_in, unless_bare, is_simple, handed_slots, arg_slots}
+use Rattle.alma_lower_templates.specs.Slots.{behind_expr, behind_dead, behind_value, behind_desig, behind_target, behind_variable}
+use Rattle.alma_lower_templates.specs.Slots.{behind_test, behind_stmts, behind_stmt, behind_condition, own_place, own_root, goes_straight}
+use Rattle.alma_lower_templates.specs.Templates.{char_range, own_slot, slot_or, value_at, part_slot, behind_root, place_at, root_code}
+use Rattle.alma_lower_templates.specs.Templates.{call_link_code, arguments_from, call_code, set_code, load_code, count_at, count_code}
+use Rattle.alma_lower_templates.specs.Templates.{fit_result, stmts_code, stmt_code, if_code, arms_code, for_code, some_code, dead_code}
+use Rattle.alma_lower_templates.specs.Templates.{case_code, cases_code, else_code, either_code, branches_code, test_code, and_code, or_code}
+use Rattle.alma_lower_templates.specs.Templates.{operands_code, jump_code, expr_code, links_code, args_code, arg_code, desig_code}
+use Rattle.alma_lower_templates.specs.Templates.{sels_code, sel_code, held_at, set_to}
 
 -- ---- walks
 
@@ -115,7 +133,8 @@ module _ (line : ℕ) where
       at_least xs = omega arith
   unless_round None c = omega arith
 
-  leaving_round : (at : ℕ) (a : List Lined) (rest : (at jump : ℕ) → List Lined) → round (leaving line at a rest) ≤ round a + round (rest (at + length a + 1) (at + length a))
+  leaving_round : (at : ℕ) (a : List Lined) (rest : (at jump : ℕ) → List Lined)
+      → round (leaving line at a rest) ≤ round a + round (rest (at + length a + 1) (at + length a))
   leaving_round at a rest =
       let jump : ℕ = at + length a in
       let b : List Lined = rest (jump + 1) jump in
@@ -125,13 +144,15 @@ module _ (line : ℕ) where
   by_jump_round : (jump : ℕ) (a b : List Lined) → round ((a ++ own line (I.Jump jump ∷ [])) ++ b) ≤ round a + round b
   by_jump_round jump a b = omega (arith, both (a ++ own line (I.Jump jump ∷ [])) b, then_own a (I.Jump jump ∷ []))
 
-  condition_round : (simple : Bool) (at lo none : ℕ) (jump : (at lo none : ℕ) → List Lined) (test : (at lo : ℕ) → List Lined) (n : ℕ) → round (jump at lo none) ≤ n → round (test (at + 2) (lo + 1)) ≤ n → round (condition simple line at lo none jump test) ≤ n
+  condition_round : (simple : Bool) (at lo none : ℕ) (jump : (at lo none : ℕ) → List Lined) (test : (at lo : ℕ) → List Lined) (n : ℕ)
+      → round (jump at lo none) ≤ n → round (test (at + 2) (lo + 1)) ≤ n → round (condition simple line at lo none jump test) ≤ n
   condition_round true at lo none jump test n j t = j
   condition_round false at lo none jump test n j t =
       let inner : List Lined = test (at + 2) (lo + 1) in
       omega (arith, t, own_then (I.Mark lo ∷ I.Choose none ∷ []) (inner ++ own line (I.Cut lo ∷ [])), then_own inner (I.Cut lo ∷ []))
 
-  guarded_round : (at skipped : ℕ) (cond : (none : ℕ) → List Lined) (body : (at : ℕ) → List Lined) (m n : ℕ) → ((none : ℕ) → round (cond none) ≤ m) → ((at : ℕ) → round (body at) ≤ n) → round (guarded at skipped cond body) ≤ m + n
+  guarded_round : (at skipped : ℕ) (cond : (none : ℕ) → List Lined) (body : (at : ℕ) → List Lined) (m n : ℕ)
+      → ((none : ℕ) → round (cond none) ≤ m) → ((at : ℕ) → round (body at) ≤ n) → round (guarded at skipped cond body) ≤ m + n
   guarded_round at skipped cond body m n c b =
       let behind : ℕ = at + length (cond 0) in
       let inner : List Lined = body behind in
@@ -144,27 +165,48 @@ module _ (line : ℕ) where
   chosen_round at a = own_then (I.Choose (at + length a + 1) ∷ []) a
 
   first_round : (at mark : ℕ) (a : List Lined) → round (first_of_two line at mark a) ≤ round a
-  first_round at mark a = omega (arith, own_then (I.Mark mark ∷ I.Choose (at + length a + 2) ∷ []) (a ++ own line (I.Cut mark ∷ [])), then_own a (I.Cut mark ∷ []))
+  first_round at mark a = omega (
+    arith,
+    own_then (I.Mark mark ∷ I.Choose (at + length a + 2) ∷ []) (a ++ own line (I.Cut mark ∷ [])),
+    then_own a (I.Cut mark ∷ []),
+  )
 
   refused_round : (at mark : ℕ) (a : List Lined) → round (refused line at mark a) ≤ round a
-  refused_round at mark a = omega (arith, own_then (I.Mark mark ∷ I.Choose (at + length a + 2) ∷ []) (a ++ own line (I.Cut mark ∷ I.Fail ∷ [])), then_own a (I.Cut mark ∷ I.Fail ∷ []))
+  refused_round at mark a = omega (
+    arith,
+    own_then (I.Mark mark ∷ I.Choose (at + length a + 2) ∷ [])
+        (a ++ own line (I.Cut mark ∷ I.Fail ∷ [])),
+    then_own a (I.Cut mark ∷ I.Fail ∷ []),
+  )
 
   each_round : (at mark inner : ℕ) (a : List Lined) → round (each_body line at mark inner a) ≤ round a
   each_round at mark inner a =
-      omega (arith, own_then (I.Overlay mark (at + length a + 2) ∷ I.Mark inner ∷ []) (a ++ own line (I.Cut inner ∷ I.Keep mark ∷ I.Fail ∷ [])), then_own a (I.Cut inner ∷ I.Keep mark ∷ I.Fail ∷ []))
+      omega (
+        arith,
+        own_then (I.Overlay mark (at + length a + 2) ∷ I.Mark inner ∷ [])
+            (a ++ own line (I.Cut inner ∷ I.Keep mark ∷ I.Fail ∷ [])),
+        then_own a (I.Cut inner ∷ I.Keep mark ∷ I.Fail ∷ []),
+      )
 
   forall_round : (at mark : ℕ) (a : List Lined) → round (forall_code line at mark a) ≤ round a
-  forall_round at mark a = omega (arith, own_then (I.Forall mark (at + length a) ∷ []) (a ++ own line (I.Finish ∷ [])), then_own a (I.Finish ∷ []))
+  forall_round at mark a = omega (
+    arith,
+    own_then (I.Forall mark (at + length a) ∷ []) (a ++ own line (I.Finish ∷ [])),
+    then_own a (I.Finish ∷ []),
+  )
 
   -- the jump over code that is never reached
   over_round : (has : Bool) (at : ℕ) (a : List Lined) → round (passed_over has line at a) ≤ round a
   over_round false at a = omega (arith, hop_none line)
   over_round true at a = own_then (I.Jump (at + 1 + length a) ∷ []) a
 
-  arm_round : (value bound at : ℕ) (label : Range) (rest : List Range) (a : List Lined) → round (case_arm line value bound at label rest a) ≤ round a
-  arm_round value bound at label rest a = own_then (labels_code value bound at (behind_labels at rest) (behind_labels at rest + length a + 1) label rest) a
+  arm_round : (value bound at : ℕ) (label : Range) (rest : List Range) (a : List Lined)
+      → round (case_arm line value bound at label rest a) ≤ round a
+  arm_round value bound at label rest a = own_then
+      (labels_code value bound at (behind_labels at rest) (behind_labels at rest + length a + 1) label rest) a
 
-  begin_round : (at step : ℕ) (by : ℤ) (from to : (at : ℕ) → List Lined) (m n : ℕ) → ((at : ℕ) → round (from at) ≤ m) → ((at : ℕ) → round (to at) ≤ n) → round (begin_loop line at step by from to) ≤ m + n
+  begin_round : (at step : ℕ) (by : ℤ) (from to : (at : ℕ) → List Lined) (m n : ℕ) → ((at : ℕ) → round (from at) ≤ m)
+      → ((at : ℕ) → round (to at) ≤ n) → round (begin_loop line at step by from to) ≤ m + n
   begin_round at step by from to m n f g =
       let one : List Lined = from (at + 1) in
       let two : List Lined = to (at + 1 + length one) in
@@ -172,7 +214,8 @@ module _ (line : ℕ) where
       let y = g (at + 1 + length one) in
       omega (arith, x, y, own_then (I.Const step by ∷ []) (one ++ two), both one two)
 
-  turn_round : (at : ℕ) (check : List Instr) (locate : (at : ℕ) → List Lined) (store : Instr) (body : (at : ℕ) → List Lined) (m n : ℕ) → ((at : ℕ) → round (locate at) ≤ m) → ((at : ℕ) → round (body at) ≤ n) → round (turn_code line at check locate store body) ≤ m + n
+  turn_round : (at : ℕ) (check : List Instr) (locate : (at : ℕ) → List Lined) (store : Instr) (body : (at : ℕ) → List Lined) (m n : ℕ)
+      → ((at : ℕ) → round (locate at) ≤ m) → ((at : ℕ) → round (body at) ≤ n) → round (turn_code line at check locate store body) ≤ m + n
   turn_round at check locate store body m n l b =
       let at1 : ℕ = at + length (own line check) in
       let one : List Lined = locate at1 in
@@ -180,20 +223,35 @@ module _ (line : ℕ) where
       let two : List Lined = body (at2 + 1) in
       let x = l at1 in
       let y = b (at2 + 1) in
-      omega (arith, x, y, own_then check (one ++ (own line (store ∷ []) ++ two)), both one (own line (store ∷ []) ++ two), own_then (store ∷ []) two)
+      omega (
+        arith,
+        x,
+        y,
+        own_then check (one ++ (own line (store ∷ []) ++ two)),
+        both one (own line (store ∷ []) ++ two),
+        own_then (store ∷ []) two,
+      )
 
-  for_round : (at : ℕ) (by : ℤ) (counter limit step from to : ℕ) (a : List Lined) → round (for_turns line at by counter limit step from to a) ≤ round a
+  for_round : (at : ℕ) (by : ℤ) (counter limit step from to : ℕ) (a : List Lined)
+      → round (for_turns line at by counter limit step from to a) ≤ round a
   for_round at by counter limit step from to a =
       let exit : ℕ = at + 4 + length a + 2 in
-      omega (arith, own_then (bounds_code by counter limit from to exit) (a ++ own line (I.Step counter limit step exit ∷ I.Jump (at + 4) ∷ [])), then_own a (I.Step counter limit step exit ∷ I.Jump (at + 4) ∷ []))
+      omega (
+        arith,
+        own_then (bounds_code by counter limit from to exit)
+            (a ++ own line (I.Step counter limit step exit ∷ I.Jump (at + 4) ∷ [])),
+        then_own a (I.Step counter limit step exit ∷ I.Jump (at + 4) ∷ []),
+      )
 
-  some_round : (at counter limit step from to more : ℕ) (a : List Lined) → round (some_turns line at counter limit step from to more a) ≤ round a
+  some_round : (at counter limit step from to more : ℕ) (a : List Lined)
+      → round (some_turns line at counter limit step from to more a) ≤ round a
   some_round at counter limit step from to more a =
       let n : ℕ = at + 7 + length a in
       let end : List Instr = I.Jump (n + 4) ∷ I.Add counter counter step ∷ I.Jump (at + 4) ∷ I.Fail ∷ [] in
       omega (
         arith,
-        own_then (bounds_code (pos 1) counter limit from to (n + 3) ++ (I.Less more counter limit ∷ I.JumpZero more (at + 7) ∷ I.Choose (n + 1) ∷ [])) (a ++ own line end),
+        own_then (bounds_code (pos 1) counter limit from to (n + 3)
+            ++ (I.Less more counter limit ∷ I.JumpZero more (at + 7) ∷ I.Choose (n + 1) ∷ [])) (a ++ own line end),
         then_own a end,
       )
 
@@ -218,50 +276,70 @@ all_nodes (more_cases (label ∷ labels) body rest) = omega (arith, all_nodes re
 
 module _ (p : Program) (tables : Tables) (r : ℕ) where
   abbrev condition_code : (line at lo none : ℕ) → Test → List Lined
-  condition_code line at lo none t = condition (is_simple t) line at lo none (λ at lo none. jump_code p tables r line at lo none t) (λ at lo. test_code p tables r line at lo t)
+  condition_code line at lo none t = condition (is_simple t) line at lo none (λ at lo none. jump_code p tables r line at lo none t)
+      (λ at lo. test_code p tables r line at lo t)
 
   abbrev guarded_code : (line at lo skipped : ℕ) → Test → ((at : ℕ) → List Lined) → List Lined
   guarded_code line at lo skipped t body = guarded at skipped (λ none. condition_code line at lo none t) body
 
   abbrev turn_of : (line at counter lo : ℕ) → Desig → Range → ((at : ℕ) → List Lined) → List Lined
   turn_of line at counter lo d range body =
-      turn_code line at (count_code p tables r (bare_desig d) range counter lo) (λ at. unless_bare (bare_desig d) (desig_code p tables r line at (lo + 1) d)) (set_code p tables r (lo + 1) (count_at p tables r (bare_desig d) counter lo) d) body
+      turn_code line at (count_code p tables r (bare_desig d) range counter lo)
+      (λ at. unless_bare (bare_desig d) (desig_code p tables r line at (lo + 1) d))
+      (set_code p tables r (lo + 1) (count_at p tables r (bare_desig d) counter lo) d) body
 
   -- ---- forms of several parts, given their parts
 
-  decides : (line at lo none : ℕ) (t : Test) (n : ℕ) → round line (jump_code p tables r line at lo none t) ≤ n → round line (test_code p tables r line (at + 2) (lo + 1) t) ≤ n → round line (condition_code line at lo none t) ≤ n
-  decides line at lo none t n j f = condition_round line (is_simple t) at lo none (λ at lo none. jump_code p tables r line at lo none t) (λ at lo. test_code p tables r line at lo t) n j f
+  decides : (line at lo none : ℕ) (t : Test) (n : ℕ) → round line (jump_code p tables r line at lo none t) ≤ n
+      → round line (test_code p tables r line (at + 2) (lo + 1) t) ≤ n → round line (condition_code line at lo none t) ≤ n
+  decides line at lo none t n j f = condition_round line (is_simple t) at lo none (λ at lo none. jump_code p tables r line at lo none t)
+      (λ at lo. test_code p tables r line at lo t) n j f
 
-  asked : (line at lo skipped : ℕ) (t : Test) (body : (at : ℕ) → List Lined) (m n : ℕ) → ((none : ℕ) → round line (jump_code p tables r line at lo none t) ≤ m) → ((at lo : ℕ) → round line (test_code p tables r line at lo t) ≤ m) → ((at : ℕ) → round line (body at) ≤ n)
+  asked : (line at lo skipped : ℕ) (t : Test) (body : (at : ℕ) → List Lined) (m n : ℕ)
+      → ((none : ℕ) → round line (jump_code p tables r line at lo none t) ≤ m)
+      → ((at lo : ℕ) → round line (test_code p tables r line at lo t) ≤ m) → ((at : ℕ) → round line (body at) ≤ n)
       → round line (guarded_code line at lo skipped t body) ≤ m + n
-  asked line at lo skipped t body m n j f b = guarded_round line at skipped (λ none. condition_code line at lo none t) body m n (λ none. decides line at lo none t m (j none) (f (at + 2) (lo + 1))) b
+  asked line at lo skipped t body m n j f b =
+      guarded_round line at skipped (λ none. condition_code line at lo none t) body m n
+      (λ none. decides line at lo none t m (j none) (f (at + 2) (lo + 1))) b
 
-  turn : (line at counter lo : ℕ) (d : Desig) (range : Range) (body : (at : ℕ) → List Lined) (m n : ℕ) → ((at : ℕ) → round line (desig_code p tables r line at (lo + 1) d) ≤ m) → ((at : ℕ) → round line (body at) ≤ n) → round line (turn_of line at counter lo d range body) ≤ m + n
+  turn : (line at counter lo : ℕ) (d : Desig) (range : Range) (body : (at : ℕ) → List Lined) (m n : ℕ)
+      → ((at : ℕ) → round line (desig_code p tables r line at (lo + 1) d) ≤ m) → ((at : ℕ) → round line (body at) ≤ n)
+      → round line (turn_of line at counter lo d range body) ≤ m + n
   turn line at counter lo d range body m n f b =
-      turn_round line at (count_code p tables r (bare_desig d) range counter lo) (λ at. unless_bare (bare_desig d) (desig_code p tables r line at (lo + 1) d)) (set_code p tables r (lo + 1) (count_at p tables r (bare_desig d) counter lo) d) body m n located b
+      turn_round line at (count_code p tables r (bare_desig d) range counter lo)
+      (λ at. unless_bare (bare_desig d) (desig_code p tables r line at (lo + 1) d))
+      (set_code p tables r (lo + 1) (count_at p tables r (bare_desig d) counter lo) d) body m n located b
     where
       located : (at : ℕ) → round line (unless_bare (bare_desig d) (desig_code p tables r line at (lo + 1) d)) ≤ m
       located at = let z = f at in omega (arith, z, unless_round line (bare_desig d) (desig_code p tables r line at (lo + 1) d))
 
   -- a value that goes straight into a variable, or what sets the variable
-  set_round : (o : Option ℕ) (line : ℕ) (value : List Lined) (set : List Instr) → round line (set_to p tables r o line value set) ≤ round line value
+  set_round : (o : Option ℕ) (line : ℕ) (value : List Lined) (set : List Instr)
+      → round line (set_to p tables r o line value set) ≤ round line value
   set_round (Some to) line value set = omega (arith, straight_walk line (own_slot p tables r to) line value)
   set_round None line value set = then_own line value set
 
   -- a value as a test goes over the lines of the value
-  value_round : (line at lo : ℕ) (e : Expr) → round line (test_code p tables r line at lo (Value e)) ≡ round line (unless_bare (bare e) (expr_code p tables r line at lo e))
+  value_round : (line at lo : ℕ) (e : Expr)
+      → round line (test_code p tables r line at lo (Value e)) ≡ round line (unless_bare (bare e) (expr_code p tables r line at lo e))
   value_round line at lo e = by (tested p tables r e)
     where
-      differ : (x y : Expr) → round line (test_code p tables r line at lo (Value (Compare cmp.Unequal x y))) ≡ round line (expr_code p tables r line at lo (Compare cmp.Unequal x y))
+      differ : (x y : Expr) → round line (test_code p tables r line at lo (Value (Compare cmp.Unequal x y))) ≡ round line
+          (expr_code p tables r line at lo (Compare cmp.Unequal x y))
       differ x y =
           let operand : ℕ = value_at p tables r (behind_expr p r lo x) y in
           let operands : List Lined = compared_code p tables r line at lo x y in
           let first : ℕ = slot_or p tables r (stays x y) lo in
-          ends_alike line line operands (unequal_code lo first operand (at + length operands)) ∙ sym (ends_alike line line operands (cmp_code cmp.Unequal lo first operand))
+          ends_alike line line operands (unequal_code lo first operand (at + length operands))
+          ∙ sym (ends_alike line line operands (cmp_code cmp.Unequal lo first operand))
 
-      by : Tested p tables r e → round line (test_code p tables r line at lo (Value e)) ≡ round line (unless_bare (bare e) (expr_code p tables r line at lo e))
-      by (as_value is) = ap (round line) (is line at lo) ∙ ends_alike line line (unless_bare (bare e) (expr_code p tables r line at lo e)) (I.Check (value_at p tables r lo e) ∷ [])
-      by (as_unequal x y same) = subst (λ z. round line (test_code p tables r line at lo (Value z)) ≡ round line (unless_bare (bare z) (expr_code p tables r line at lo z))) (sym same) (differ x y)
+      by : Tested p tables r e → round line (test_code p tables r line at lo (Value e)) ≡ round line
+          (unless_bare (bare e) (expr_code p tables r line at lo e))
+      by (as_value is) = ap (round line) (is line at lo)
+          ∙ ends_alike line line (unless_bare (bare e) (expr_code p tables r line at lo e)) (I.Check (value_at p tables r lo e) ∷ [])
+      by (as_unequal x y same) = subst (λ z. round line (test_code p tables r line at lo (Value z)) ≡ round line
+          (unless_bare (bare z) (expr_code p tables r line at lo z))) (sym same) (differ x y)
 
   mutual
     desig_round : (line at lo : ℕ) (x : Desig) → round line (desig_code p tables r line at lo x) ≤ 2 * desig_nodes x
@@ -271,26 +349,49 @@ module _ (p : Program) (tables : Tables) (r : ℕ) where
         let one : List Lined = unless_bare o placed in
         let from : ℕ = slot_or p tables r o lo in
         let lo2 : ℕ = behind_root p tables r lo root in
-        omega (arith, both line one (sels_code p tables r line (at + length one) from lo2 sels), unless_round line o placed, own_round line (root_code p tables r lo root), sels_round line (at + length one) from lo2 sels)
+        omega (
+          arith,
+          both line one (sels_code p tables r line (at + length one) from lo2 sels),
+          unless_round line o placed,
+          own_round line (root_code p tables r lo root),
+          sels_round line (at + length one) from lo2 sels,
+        )
 
     sels_round : (line at from lo : ℕ) (x : Sels) → round line (sels_code p tables r line at from lo x) ≤ 2 * sels_nodes x
     sels_round line at from lo no_sels = omega (arith, hop_none line)
     sels_round line at from lo (more_sels x rest) =
         let one : List Lined = sel_code p tables r line at from lo x in
         let part : ℕ = part_slot p tables r lo x in
-        omega (arith, both line one (sels_code p tables r line (at + length one) part (part + 1) rest), sel_round line at from lo x, sels_round line (at + length one) part (part + 1) rest)
+        omega (
+          arith,
+          both line one (sels_code p tables r line (at + length one) part (part + 1) rest),
+          sel_round line at from lo x,
+          sels_round line (at + length one) part (part + 1) rest,
+        )
 
     sel_round : (line at from lo : ℕ) (x : Sel) → round line (sel_code p tables r line at from lo x) ≤ 2 * sel_nodes x
     sel_round line at from lo (Field offset cells) = omega (arith, own_round line (I.Field lo from offset ∷ []))
     sel_round line at from lo (Index e range cells) =
-        omega (arith, then_own line (unless_bare (bare e) (expr_code p tables r line at lo e)) (I.Index (behind_value p r lo e) from (value_at p tables r lo e) (range_number tables range) ∷ []), unless_round line (bare e) (expr_code p tables r line at lo e), expr_round line at lo e)
+        omega (
+          arith,
+          then_own line (unless_bare (bare e) (expr_code p tables r line at lo e))
+              (I.Index (behind_value p r lo e) from (value_at p tables r lo e) (range_number tables range) ∷ []),
+          unless_round line (bare e) (expr_code p tables r line at lo e),
+          expr_round line at lo e,
+        )
 
     expr_round : (line at lo : ℕ) (x : Expr) → round line (expr_code p tables r line at lo x) ≤ 2 * expr_nodes x
     expr_round line at lo (Const n) = omega (arith, own_round line (I.Const lo n ∷ []))
     expr_round line at lo (Load d) =
         let place : List Lined = desig_code p tables r line at (lo + 1) d in
         let one : List Lined = unless_bare (own_place d) place in
-        omega (arith, then_own line (unless_bare (bare_desig d) one) (load_code p tables r lo d ∷ []), unless_round line (bare_desig d) one, unless_round line (own_place d) place, desig_round line at (lo + 1) d)
+        omega (
+          arith,
+          then_own line (unless_bare (bare_desig d) one) (load_code p tables r lo d ∷ []),
+          unless_round line (bare_desig d) one,
+          unless_round line (own_place d) place,
+          desig_round line at (lo + 1) d,
+        )
     expr_round line at lo (Chain negated e links) =
         let o : Option ℕ = stays_in negated e links in
         let inner : List Lined = unless_bare o (expr_code p tables r line at lo e) in
@@ -322,19 +423,35 @@ module _ (p : Program) (tables : Tables) (r : ℕ) where
     expr_round line at lo (Truth t) =
         let one : List Lined = guarded_code line at (lo + 1) 2 t (λ next. []) in
         let end : ℕ = at + length one in
-        let z = asked line at (lo + 1) 2 t (λ next. []) (2 * test_nodes t) 0 (λ none. jump_round line at (lo + 1) none t) (λ at lo. test_round line at lo t) (λ next. omega (arith, hop_none line)) in
+        let z = asked line at (lo + 1) 2 t (λ next. []) (2 * test_nodes t) 0 (λ none. jump_round line at (lo + 1) none t)
+        (λ at lo. test_round line at lo t) (λ next. omega (arith, hop_none line)) in
         omega (arith, z, then_own line one (I.Const lo (pos 1) ∷ I.Jump (end + 3) ∷ I.Const lo (pos 0) ∷ []))
     expr_round line at lo (Known d) =
         let place : List Lined = desig_code p tables r line at (lo + 1) d in
-        omega (arith, then_own line (unless_bare (own_place d) place) (I.Known lo (held_at p tables r (lo + 1) d) ∷ []), unless_round line (own_place d) place, desig_round line at (lo + 1) d)
-    expr_round line at lo (Chr e) = omega (arith, then_own line (expr_code p tables r line at lo e) (I.InRange lo (range_number tables char_range) ∷ []), expr_round line at lo e)
+        omega (
+          arith,
+          then_own line (unless_bare (own_place d) place) (I.Known lo (held_at p tables r (lo + 1) d) ∷ []),
+          unless_round line (own_place d) place,
+          desig_round line at (lo + 1) d,
+        )
+    expr_round line at lo (Chr e) = omega (
+      arith,
+      then_own line (expr_code p tables r line at lo e) (I.InRange lo (range_number tables char_range) ∷ []),
+      expr_round line at lo e,
+    )
     expr_round line at lo (CallExpr called args up) =
         let to : ℕ = arguments_from p tables r called up (lo + 2) in
         let link : List Instr = call_link_code p tables r called up (lo + 2) in
         let next : ℕ = at + length (own line link) in
         let lo2 : ℕ = to + length (handed_slots args) in
         let two : List Lined = args_code p tables r line next to lo2 args in
-        omega (arith, then_own line (own line link ++ two) (I.Mark (lo + 1) ∷ call_code p tables r called args up (lo + 2) lo ∷ I.Cut (lo + 1) ∷ []), own_then line link two, args_round line next to lo2 args)
+        omega (
+          arith,
+          then_own line (own line link ++ two)
+              (I.Mark (lo + 1) ∷ call_code p tables r called args up (lo + 2) lo ∷ I.Cut (lo + 1) ∷ []),
+          own_then line link two,
+          args_round line next to lo2 args,
+        )
 
     links_round : (line at first to lo : ℕ) (x : Links) → round line (links_code p tables r line at first to lo x) ≤ 2 * links_nodes x
     links_round line at first to lo no_links = omega (arith, hop_none line)
@@ -356,21 +473,58 @@ module _ (p : Program) (tables : Tables) (r : ℕ) where
     args_round line at to lo (more_args a rest) =
         let one : List Lined = arg_code p tables r line at to lo a in
         let lo2 : ℕ = lo + length (arg_slots p r a) in
-        omega (arith, both line one (args_code p tables r line (at + length one) (to + 1) lo2 rest), arg_round_of line at to lo a, args_round line (at + length one) (to + 1) lo2 rest)
+        omega (
+          arith,
+          both line one (args_code p tables r line (at + length one) (to + 1) lo2 rest),
+          arg_round_of line at to lo a,
+          args_round line (at + length one) (to + 1) lo2 rest,
+        )
 
     arg_round_of : (line at to lo : ℕ) (x : Arg) → round line (arg_code p tables r line at to lo x) ≤ 2 * arg_nodes x
     arg_round_of line at to lo (ByValue e range) =
         let v : ℕ = value_at p tables r lo e in
-        omega (arith, then_own line (unless_bare (bare e) (expr_code p tables r line at lo e)) (fit_code tables range v ++ (I.Move to v ∷ [])), unless_round line (bare e) (expr_code p tables r line at lo e), expr_round line at lo e)
-    arg_round_of line at to lo (ByCells d) = omega (arith, then_own line (desig_code p tables r line at lo d) (I.Same to (place_at p tables r lo d) ∷ []), desig_round line at lo d)
-    arg_round_of line at to lo (ByPlace d) = omega (arith, then_own line (desig_code p tables r line at lo d) (I.Same to (place_at p tables r lo d) ∷ []), desig_round line at lo d)
+        omega (
+          arith,
+          then_own line (unless_bare (bare e) (expr_code p tables r line at lo e))
+              (fit_code tables range v ++ (I.Move to v ∷ [])),
+          unless_round line (bare e) (expr_code p tables r line at lo e),
+          expr_round line at lo e,
+        )
+    arg_round_of line at to lo (ByCells d) =
+        omega (
+          arith,
+          then_own line (desig_code p tables r line at lo d) (I.Same to (place_at p tables r lo d) ∷ []),
+          desig_round line at lo d,
+        )
+    arg_round_of line at to lo (ByPlace d) =
+        omega (
+          arith,
+          then_own line (desig_code p tables r line at lo d) (I.Same to (place_at p tables r lo d) ∷ []),
+          desig_round line at lo d,
+        )
     arg_round_of line at to lo (MixValue e range) =
         let v : ℕ = value_at p tables r lo e in
-        omega (arith, then_own line (unless_bare (bare e) (expr_code p tables r line at lo e)) (fit_code tables range v ++ (I.Move to v ∷ [])), unless_round line (bare e) (expr_code p tables r line at lo e), expr_round line at lo e)
-    arg_round_of line at to lo (MixPlace d) = omega (arith, then_own line (desig_code p tables r line at lo d) (I.Same to (place_at p tables r lo d) ∷ []), desig_round line at lo d)
+        omega (
+          arith,
+          then_own line (unless_bare (bare e) (expr_code p tables r line at lo e))
+              (fit_code tables range v ++ (I.Move to v ∷ [])),
+          unless_round line (bare e) (expr_code p tables r line at lo e),
+          expr_round line at lo e,
+        )
+    arg_round_of line at to lo (MixPlace d) =
+        omega (
+          arith,
+          then_own line (desig_code p tables r line at lo d) (I.Same to (place_at p tables r lo d) ∷ []),
+          desig_round line at lo d,
+        )
 
     jump_round : (line at lo none : ℕ) (x : Test) → round line (jump_code p tables r line at lo none x) ≤ 2 * test_nodes x
-    jump_round line at lo none (Value e) = omega (arith, then_own line (unless_bare (bare e) (expr_code p tables r line at lo e)) (I.JumpZero (value_at p tables r lo e) none ∷ []), unless_round line (bare e) (expr_code p tables r line at lo e), expr_round line at lo e)
+    jump_round line at lo none (Value e) = omega (
+      arith,
+      then_own line (unless_bare (bare e) (expr_code p tables r line at lo e)) (I.JumpZero (value_at p tables r lo e) none ∷ []),
+      unless_round line (bare e) (expr_code p tables r line at lo e),
+      expr_round line at lo e,
+    )
     jump_round line at lo none (Bind d e range left) = omega (arith, hop_none line)
     jump_round line at lo none (Unify d range e range2) = omega (arith, hop_none line)
     jump_round line at lo none (SameCells d e) = omega (arith, hop_none line)
@@ -381,25 +535,45 @@ module _ (p : Program) (tables : Tables) (r : ℕ) where
     jump_round line at lo none (CallTest called args up) = omega (arith, hop_none line)
 
     test_round : (line at lo : ℕ) (x : Test) → round line (test_code p tables r line at lo x) ≤ 2 * test_nodes x
-    test_round line at lo (Value e) = omega (arith, value_round line at lo e, unless_round line (bare e) (expr_code p tables r line at lo e), expr_round line at lo e)
+    test_round line at lo (Value e) = omega (
+      arith,
+      value_round line at lo e,
+      unless_round line (bare e) (expr_code p tables r line at lo e),
+      expr_round line at lo e,
+    )
     test_round line at lo (Bind d e range true) =
         let lo2 : ℕ = behind_desig p r lo d in
         let one : List Lined = desig_code p tables r line at lo d in
         let inner : List Lined = expr_code p tables r line (at + length one) lo2 e in
         let two : List Lined = unless_bare (bare e) inner in
-        omega (arith, then_own line (one ++ two) (I.Bind (place_at p tables r lo d) (value_at p tables r lo2 e) (range_number tables range) ∷ []), both line one two, unless_round line (bare e) inner, desig_round line at lo d, expr_round line (at + length one) lo2 e)
+        omega (
+          arith,
+          then_own line (one ++ two)
+              (I.Bind (place_at p tables r lo d) (value_at p tables r lo2 e) (range_number tables range) ∷ []),
+          both line one two,
+          unless_round line (bare e) inner,
+          desig_round line at lo d,
+          expr_round line (at + length one) lo2 e,
+        )
     test_round line at lo (Bind d e range false) =
         let lo2 : ℕ = behind_expr p r lo e in
         let one : List Lined = expr_code p tables r line at lo e in
         let two : List Lined = desig_code p tables r line (at + length one) lo2 d in
-        omega (arith, then_own line (one ++ two) (I.Bind (place_at p tables r lo2 d) lo (range_number tables range) ∷ []), both line one two, expr_round line at lo e, desig_round line (at + length one) lo2 d)
+        omega (
+          arith,
+          then_own line (one ++ two) (I.Bind (place_at p tables r lo2 d) lo (range_number tables range) ∷ []),
+          both line one two,
+          expr_round line at lo e,
+          desig_round line (at + length one) lo2 d,
+        )
     test_round line at lo (Unify d range e range2) =
         let lo2 : ℕ = behind_desig p r lo d in
         let one : List Lined = desig_code p tables r line at lo d in
         let two : List Lined = desig_code p tables r line (at + length one) lo2 e in
         omega (
           arith,
-          then_own line (one ++ two) (I.Unify (place_at p tables r lo d) (range_number tables range) (place_at p tables r lo2 e) (range_number tables range2) ∷ []),
+          then_own line (one ++ two) (I.Unify (place_at p tables r lo d) (range_number tables range) (place_at p tables r lo2 e)
+              (range_number tables range2) ∷ []),
           both line one two,
           desig_round line at lo d,
           desig_round line (at + length one) lo2 e,
@@ -408,25 +582,45 @@ module _ (p : Program) (tables : Tables) (r : ℕ) where
         let lo2 : ℕ = behind_desig p r lo d in
         let one : List Lined = desig_code p tables r line at lo d in
         let two : List Lined = desig_code p tables r line (at + length one) lo2 e in
-        omega (arith, then_own line (one ++ two) (I.SameCells (place_at p tables r lo d) (place_at p tables r lo2 e) ∷ []), both line one two, desig_round line at lo d, desig_round line (at + length one) lo2 e)
+        omega (
+          arith,
+          then_own line (one ++ two) (I.SameCells (place_at p tables r lo d) (place_at p tables r lo2 e) ∷ []),
+          both line one two,
+          desig_round line at lo d,
+          desig_round line (at + length one) lo2 e,
+        )
     test_round line at lo (Seq x) = omega (arith, stmts_round line at lo x)
     test_round line at lo (And ts) = omega (arith, and_round line at lo ts)
     test_round line at lo (Or ts) = omega (arith, or_round line at lo ts)
-    test_round line at lo (Not t) = omega (arith, refused_round line (at + 2) lo (test_code p tables r line (at + 2) (lo + 1) t), test_round line (at + 2) (lo + 1) t)
+    test_round line at lo (Not t) = omega (
+      arith,
+      refused_round line (at + 2) lo (test_code p tables r line (at + 2) (lo + 1) t),
+      test_round line (at + 2) (lo + 1) t,
+    )
     test_round line at lo (CallTest called args up) =
         let to : ℕ = arguments_from p tables r called up lo in
         let link : List Instr = call_link_code p tables r called up lo in
         let next : ℕ = at + length (own line link) in
         let lo2 : ℕ = to + length (handed_slots args) in
         let two : List Lined = args_code p tables r line next to lo2 args in
-        omega (arith, then_own line (own line link ++ two) (call_code p tables r called args up lo 0 ∷ []), own_then line link two, args_round line next to lo2 args)
+        omega (
+          arith,
+          then_own line (own line link ++ two) (call_code p tables r called args up lo 0 ∷ []),
+          own_then line link two,
+          args_round line next to lo2 args,
+        )
 
     and_round : (line at lo : ℕ) (x : Tests) → round line (and_code p tables r line at lo x) ≤ 2 * tests_nodes x
     and_round line at lo no_tests = omega (arith, hop_none line)
     and_round line at lo (more_tests t rest) =
         let one : List Lined = test_code p tables r line at lo t in
         let lo2 : ℕ = behind_test p r lo t in
-        omega (arith, both line one (and_code p tables r line (at + length one) lo2 rest), test_round line at lo t, and_round line (at + length one) lo2 rest)
+        omega (
+          arith,
+          both line one (and_code p tables r line (at + length one) lo2 rest),
+          test_round line at lo t,
+          and_round line (at + length one) lo2 rest,
+        )
 
     or_round : (line at lo : ℕ) (x : Tests) → round line (or_code p tables r line at lo x) ≤ 2 * tests_nodes x
     or_round line at lo no_tests = omega (arith, own_round line (I.Fail ∷ []))
@@ -464,7 +658,13 @@ module _ (p : Program) (tables : Tables) (r : ℕ) where
     stmts_round line at lo (more_stmts mine x rest) =
         let one : List Lined = stmt_code p tables r mine at lo x in
         let lo2 : ℕ = behind_stmt p r lo x in
-        omega (arith, both line one (stmts_code p tables r (at + length one) lo2 rest), around line mine line one, stmt_round mine at lo x, stmts_round line (at + length one) lo2 rest)
+        omega (
+          arith,
+          both line one (stmts_code p tables r (at + length one) lo2 rest),
+          around line mine line one,
+          stmt_round mine at lo x,
+          stmts_round line (at + length one) lo2 rest,
+        )
 
     stmt_round : (line at lo : ℕ) (x : Stmt) → 2 + round line (stmt_code p tables r line at lo x) ≤ 2 * stmt_nodes x
     stmt_round line at lo (TestStmt t) = omega (arith, test_round line at lo t)
@@ -488,15 +688,28 @@ module _ (p : Program) (tables : Tables) (r : ℕ) where
         let lo2 : ℕ = behind_desig p r lo d in
         let one : List Lined = desig_code p tables r line at lo d in
         let two : List Lined = desig_code p tables r line (at + length one) lo2 e in
-        omega (arith, then_own line (one ++ two) (I.CopyCells (place_at p tables r lo d) (place_at p tables r lo2 e) ∷ []), both line one two, desig_round line at lo d, desig_round line (at + length one) lo2 e)
+        omega (
+          arith,
+          then_own line (one ++ two) (I.CopyCells (place_at p tables r lo d) (place_at p tables r lo2 e) ∷ []),
+          both line one two,
+          desig_round line at lo d,
+          desig_round line (at + length one) lo2 e,
+        )
     stmt_round line at lo (If arms rest) =
-        let z = if_round line at lo arms (λ next la. stmts_code p tables r next la rest) (2 * stmts_nodes rest) (λ next la. stmts_round line next la rest) in
+        let z = if_round line at lo arms (λ next la. stmts_code p tables r next la rest) (2 * stmts_nodes rest)
+        (λ next la. stmts_round line next la rest) in
         omega (arith, z)
     stmt_round line at lo (While t body) =
         let lo2 : ℕ = behind_condition p r lo t in
         let inner : List Lined = guarded_code line (at + 1) lo 1 t (λ next. stmts_code p tables r next lo2 body) in
-        let z = asked line (at + 1) lo 1 t (λ next. stmts_code p tables r next lo2 body) (2 * test_nodes t) (2 * stmts_nodes body) (λ none. jump_round line (at + 1) lo none t) (λ at lo. test_round line at lo t) (λ next. stmts_round line next lo2 body) in
-        omega (arith, z, own_then line (I.Jump (at + 1) ∷ []) (inner ++ own line (I.Jump (at + 1) ∷ [])), then_own line inner (I.Jump (at + 1) ∷ []))
+        let z = asked line (at + 1) lo 1 t (λ next. stmts_code p tables r next lo2 body) (2 * test_nodes t) (2 * stmts_nodes body)
+        (λ none. jump_round line (at + 1) lo none t) (λ at lo. test_round line at lo t) (λ next. stmts_round line next lo2 body) in
+        omega (
+          arith,
+          z,
+          own_then line (I.Jump (at + 1) ∷ []) (inner ++ own line (I.Jump (at + 1) ∷ [])),
+          then_own line inner (I.Jump (at + 1) ∷ []),
+        )
     stmt_round line at lo (Repeat body t) =
         let lo2 : ℕ = behind_stmts p r lo body in
         let one : List Lined = stmts_code p tables r at lo body in
@@ -513,9 +726,20 @@ module _ (p : Program) (tables : Tables) (r : ℕ) where
         let dead : List Lined = dead_code p tables r (next + 1) first arms in
         let over : List Lined = passed_over (has_dead arms) line next dead in
         let begin : ℕ = next + length over in
-        let tried : List Lined = case_code p tables r line lo bound begin (bound + 2) arms (λ next la. else_code p tables r line next la rest) in
-        let z = case_round line lo bound begin (bound + 2) arms (λ next la. else_code p tables r line next la rest) (2 * else_nodes rest) (λ next la. else_round line next la rest) in
-        omega (arith, z, both line one (over ++ tried), both line over tried, over_round line (has_dead arms) next dead, dead_round line (next + 1) first arms, all_nodes arms, expr_round line at lo e)
+        let tried : List Lined = case_code p tables r line lo bound begin (bound + 2) arms
+        (λ next la. else_code p tables r line next la rest) in
+        let z = case_round line lo bound begin (bound + 2) arms (λ next la. else_code p tables r line next la rest) (2 * else_nodes rest)
+        (λ next la. else_round line next la rest) in
+        omega (
+          arith,
+          z,
+          both line one (over ++ tried),
+          both line over tried,
+          over_round line (has_dead arms) next dead,
+          dead_round line (next + 1) first arms,
+          all_nodes arms,
+          expr_round line at lo e,
+        )
     stmt_round line at lo (Either x) = omega (arith, either_round line at lo x)
     stmt_round line at lo (Forall x y) =
         let inner : ℕ = behind_stmts p r (lo + 1) x in
@@ -532,34 +756,62 @@ module _ (p : Program) (tables : Tables) (r : ℕ) where
         )
     stmt_round line at lo (Commit x) =
         let inner : List Lined = stmts_code p tables r (at + 1) (lo + 1) x in
-        omega (arith, own_then line (I.Mark lo ∷ []) (inner ++ own line (I.Cut lo ∷ [])), then_own line inner (I.Cut lo ∷ []), stmts_round line (at + 1) (lo + 1) x)
+        omega (
+          arith,
+          own_then line (I.Mark lo ∷ []) (inner ++ own line (I.Cut lo ∷ [])),
+          then_own line inner (I.Cut lo ∷ []),
+          stmts_round line (at + 1) (lo + 1) x,
+        )
     stmt_round line at lo (Return no_result) = omega (arith, own_round line (I.Return ∷ []))
     stmt_round line at lo (Return (some_result e)) =
         let v : ℕ = value_at p tables r lo e in
-        omega (arith, then_own line (unless_bare (bare e) (expr_code p tables r line at lo e)) (fit_result p tables r (routine_at p r).result v ++ (I.ReturnValue v ∷ [])), unless_round line (bare e) (expr_code p tables r line at lo e), expr_round line at lo e)
-    stmt_round line at lo (Read d how range) = omega (arith, then_own line (desig_code p tables r line at lo d) (read_code how (place_at p tables r lo d) (range_number tables range) ∷ []), desig_round line at lo d)
+        omega (
+          arith,
+          then_own line (unless_bare (bare e) (expr_code p tables r line at lo e))
+              (fit_result p tables r (routine_at p r).result v ++ (I.ReturnValue v ∷ [])),
+          unless_round line (bare e) (expr_code p tables r line at lo e),
+          expr_round line at lo e,
+        )
+    stmt_round line at lo (Read d how range) =
+        omega (
+          arith,
+          then_own line (desig_code p tables r line at lo d)
+              (read_code how (place_at p tables r lo d) (range_number tables range) ∷ []),
+          desig_round line at lo d,
+        )
     stmt_round line at lo (WriteExpr e how) =
-        omega (arith, then_own line (unless_bare (bare e) (expr_code p tables r line at lo e)) (write_code how (value_at p tables r lo e) ∷ []), unless_round line (bare e) (expr_code p tables r line at lo e), expr_round line at lo e)
+        omega (
+          arith,
+          then_own line (unless_bare (bare e) (expr_code p tables r line at lo e))
+              (write_code how (value_at p tables r lo e) ∷ []),
+          unless_round line (bare e) (expr_code p tables r line at lo e),
+          expr_round line at lo e,
+        )
     stmt_round line at lo (WriteText text) = omega (arith, own_round line (I.WriteText (text_number tables text) ∷ []))
     stmt_round line at lo WriteLine = omega (arith, own_round line (I.WriteLine ∷ []))
 
-    if_round : (line at lo : ℕ) (x : Arms) (otherwise : (at lo : ℕ) → List Lined) (n : ℕ) → ((at lo : ℕ) → round line (otherwise at lo) ≤ n) → round line (if_code p tables r line at lo x otherwise) ≤ 2 * arms_nodes x + n
+    if_round : (line at lo : ℕ) (x : Arms) (otherwise : (at lo : ℕ) → List Lined) (n : ℕ) → ((at lo : ℕ) → round line (otherwise at lo) ≤ n)
+        → round line (if_code p tables r line at lo x otherwise) ≤ 2 * arms_nodes x + n
     if_round line at lo no_arms otherwise n f = let z = f at lo in omega (arith, z)
     if_round line at lo (more_arms t body rest) otherwise n f =
         let lo2 : ℕ = behind_condition p r lo t in
         let lo3 : ℕ = behind_stmts p r lo2 body in
         let one : List Lined = guarded_code line at lo 1 t (λ next. stmts_code p tables r next lo2 body) in
-        let z = asked line at lo 1 t (λ next. stmts_code p tables r next lo2 body) (2 * test_nodes t) (2 * stmts_nodes body) (λ none. jump_round line at lo none t) (λ at lo. test_round line at lo t) (λ next. stmts_round line next lo2 body) in
+        let z = asked line at lo 1 t (λ next. stmts_code p tables r next lo2 body) (2 * test_nodes t) (2 * stmts_nodes body)
+        (λ none. jump_round line at lo none t) (λ at lo. test_round line at lo t) (λ next. stmts_round line next lo2 body) in
         let others = arms_round line (at + length one) (at + length one + 1) lo3 rest otherwise n f in
         omega (arith, z, others, leaving_round line at one (λ next jump. arms_code p tables r line jump next lo3 rest otherwise))
 
-    arms_round : (line jump at lo : ℕ) (x : Arms) (otherwise : (at lo : ℕ) → List Lined) (n : ℕ) → ((at lo : ℕ) → round line (otherwise at lo) ≤ n) → round line (arms_code p tables r line jump at lo x otherwise) ≤ 2 * arms_nodes x + n
+    arms_round : (line jump at lo : ℕ) (x : Arms) (otherwise : (at lo : ℕ) → List Lined) (n : ℕ)
+        → ((at lo : ℕ) → round line (otherwise at lo) ≤ n)
+        → round line (arms_code p tables r line jump at lo x otherwise) ≤ 2 * arms_nodes x + n
     arms_round line jump at lo no_arms otherwise n f = let z = f at lo in omega (arith, z)
     arms_round line jump at lo (more_arms t body rest) otherwise n f =
         let lo2 : ℕ = behind_condition p r lo t in
         let lo3 : ℕ = behind_stmts p r lo2 body in
         let one : List Lined = guarded_code line at lo 1 t (λ next. stmts_code p tables r next lo2 body) in
-        let z = asked line at lo 1 t (λ next. stmts_code p tables r next lo2 body) (2 * test_nodes t) (2 * stmts_nodes body) (λ none. jump_round line at lo none t) (λ at lo. test_round line at lo t) (λ next. stmts_round line next lo2 body) in
+        let z = asked line at lo 1 t (λ next. stmts_code p tables r next lo2 body) (2 * test_nodes t) (2 * stmts_nodes body)
+        (λ none. jump_round line at lo none t) (λ at lo. test_round line at lo t) (λ next. stmts_round line next lo2 body) in
         let next : ℕ = at + length (one ++ own line (I.Jump jump ∷ [])) in
         let others = arms_round line jump next lo3 rest otherwise n f in
         omega (arith, z, others, by_jump_round line jump one (arms_code p tables r line jump next lo3 rest otherwise))
@@ -569,29 +821,52 @@ module _ (p : Program) (tables : Tables) (r : ℕ) where
     dead_round line at lo (more_cases [] body rest) =
         let one : List Lined = stmts_code p tables r at lo body in
         let lo2 : ℕ = behind_stmts p r lo body in
-        omega (arith, both line one (dead_code p tables r (at + length one) lo2 rest), stmts_round line at lo body, dead_round line (at + length one) lo2 rest)
+        omega (
+          arith,
+          both line one (dead_code p tables r (at + length one) lo2 rest),
+          stmts_round line at lo body,
+          dead_round line (at + length one) lo2 rest,
+        )
     dead_round line at lo (more_cases (label ∷ labels) body rest) = omega (arith, dead_round line at lo rest)
 
-    case_round : (line value bound at lo : ℕ) (x : CaseArms) (otherwise : (at lo : ℕ) → List Lined) (n : ℕ) → ((at lo : ℕ) → round line (otherwise at lo) ≤ n) → round line (case_code p tables r line value bound at lo x otherwise) ≤ 2 * live_nodes x + n
+    case_round : (line value bound at lo : ℕ) (x : CaseArms) (otherwise : (at lo : ℕ) → List Lined) (n : ℕ)
+        → ((at lo : ℕ) → round line (otherwise at lo) ≤ n)
+        → round line (case_code p tables r line value bound at lo x otherwise) ≤ 2 * live_nodes x + n
     case_round line value bound at lo no_cases otherwise n f = let z = f at lo in omega (arith, z)
-    case_round line value bound at lo (more_cases [] body rest) otherwise n f = let z = case_round line value bound at lo rest otherwise n f in omega (arith, z)
+    case_round line value bound at lo (more_cases [] body rest) otherwise n f = let z =
+        case_round line value bound at lo rest otherwise n f in omega (arith, z)
     case_round line value bound at lo (more_cases (label ∷ labels) body rest) otherwise n f =
         let inner : List Lined = stmts_code p tables r (behind_labels at labels) lo body in
         let one : List Lined = case_arm line value bound at label labels inner in
         let lo2 : ℕ = behind_stmts p r lo body in
         let others = cases_round line value bound (at + length one) (at + length one + 1) lo2 rest otherwise n f in
-        omega (arith, others, leaving_round line at one (λ next jump. cases_code p tables r line value bound jump next lo2 rest otherwise), arm_round line value bound at label labels inner, stmts_round line (behind_labels at labels) lo body)
+        omega (
+          arith,
+          others,
+          leaving_round line at one (λ next jump. cases_code p tables r line value bound jump next lo2 rest otherwise),
+          arm_round line value bound at label labels inner,
+          stmts_round line (behind_labels at labels) lo body,
+        )
 
-    cases_round : (line value bound jump at lo : ℕ) (x : CaseArms) (otherwise : (at lo : ℕ) → List Lined) (n : ℕ) → ((at lo : ℕ) → round line (otherwise at lo) ≤ n) → round line (cases_code p tables r line value bound jump at lo x otherwise) ≤ 2 * live_nodes x + n
+    cases_round : (line value bound jump at lo : ℕ) (x : CaseArms) (otherwise : (at lo : ℕ) → List Lined) (n : ℕ)
+        → ((at lo : ℕ) → round line (otherwise at lo) ≤ n)
+        → round line (cases_code p tables r line value bound jump at lo x otherwise) ≤ 2 * live_nodes x + n
     cases_round line value bound jump at lo no_cases otherwise n f = let z = f at lo in omega (arith, z)
-    cases_round line value bound jump at lo (more_cases [] body rest) otherwise n f = let z = cases_round line value bound jump at lo rest otherwise n f in omega (arith, z)
+    cases_round line value bound jump at lo (more_cases [] body rest) otherwise n f = let z =
+        cases_round line value bound jump at lo rest otherwise n f in omega (arith, z)
     cases_round line value bound jump at lo (more_cases (label ∷ labels) body rest) otherwise n f =
         let inner : List Lined = stmts_code p tables r (behind_labels at labels) lo body in
         let one : List Lined = case_arm line value bound at label labels inner in
         let lo2 : ℕ = behind_stmts p r lo body in
         let next : ℕ = at + length (one ++ own line (I.Jump jump ∷ [])) in
         let others = cases_round line value bound jump next lo2 rest otherwise n f in
-        omega (arith, others, by_jump_round line jump one (cases_code p tables r line value bound jump next lo2 rest otherwise), arm_round line value bound at label labels inner, stmts_round line (behind_labels at labels) lo body)
+        omega (
+          arith,
+          others,
+          by_jump_round line jump one (cases_code p tables r line value bound jump next lo2 rest otherwise),
+          arm_round line value bound at label labels inner,
+          stmts_round line (behind_labels at labels) lo body,
+        )
 
     else_round : (line at lo : ℕ) (x : Else) → round line (else_code p tables r line at lo x) ≤ 2 * else_nodes x
     else_round line at lo no_else = omega (arith, own_round line (I.Fault 5 ∷ []))
@@ -634,12 +909,22 @@ module _ (p : Program) (tables : Tables) (r : ℕ) where
         let place : ℕ = behind_expr p r last to in
         let lo2 : ℕ = behind_variable p r place d in
         let count : ℕ = own_slot p tables r counter in
-        let one : List Lined = begin_loop line at lo by (λ at. expr_code p tables r line at (lo + 1) from) (λ at. expr_code p tables r line at last to) in
+        let one : List Lined = begin_loop line at lo by (λ at. expr_code p tables r line at (lo + 1) from)
+        (λ at. expr_code p tables r line at last to) in
         let next : ℕ = at + length one in
         let each : List Lined = turn_of line (next + 4) count place d range (λ at. stmts_code p tables r at lo2 body) in
-        let begin = begin_round line at lo by (λ at. expr_code p tables r line at (lo + 1) from) (λ at. expr_code p tables r line at last to) (2 * expr_nodes from) (2 * expr_nodes to) (λ at. expr_round line at (lo + 1) from) (λ at. expr_round line at last to) in
-        let turns = turn line (next + 4) count place d range (λ at. stmts_code p tables r at lo2 body) (2 * desig_nodes d) (2 * stmts_nodes body) (λ at. desig_round line at (place + 1) d) (λ at. stmts_round line at lo2 body) in
-        omega (arith, begin, turns, both line one (for_turns line next by count (own_slot p tables r limit) lo (lo + 1) last each), for_round line next by count (own_slot p tables r limit) lo (lo + 1) last each)
+        let begin = begin_round line at lo by (λ at. expr_code p tables r line at (lo + 1) from)
+        (λ at. expr_code p tables r line at last to) (2 * expr_nodes from) (2 * expr_nodes to) (λ at. expr_round line at (lo + 1) from)
+        (λ at. expr_round line at last to) in
+        let turns = turn line (next + 4) count place d range (λ at. stmts_code p tables r at lo2 body) (2 * desig_nodes d)
+        (2 * stmts_nodes body) (λ at. desig_round line at (place + 1) d) (λ at. stmts_round line at lo2 body) in
+        omega (
+          arith,
+          begin,
+          turns,
+          both line one (for_turns line next by count (own_slot p tables r limit) lo (lo + 1) last each),
+          for_round line next by count (own_slot p tables r limit) lo (lo + 1) last each,
+        )
 
     some_of_round : (line at lo : ℕ) (x : Loop) → round line (some_code p tables r line at lo x) ≤ 2 * loop_nodes x
     some_of_round line at lo (a_loop d range counter limit from to by body) =
@@ -647,9 +932,19 @@ module _ (p : Program) (tables : Tables) (r : ℕ) where
         let more : ℕ = behind_expr p r last to in
         let lo2 : ℕ = behind_variable p r (more + 1) d in
         let count : ℕ = own_slot p tables r counter in
-        let one : List Lined = begin_loop line at lo (pos 1) (λ at. expr_code p tables r line at (lo + 1) from) (λ at. expr_code p tables r line at last to) in
+        let one : List Lined = begin_loop line at lo (pos 1) (λ at. expr_code p tables r line at (lo + 1) from)
+        (λ at. expr_code p tables r line at last to) in
         let next : ℕ = at + length one in
         let each : List Lined = turn_of line (next + 7) count (more + 1) d range (λ at. stmts_code p tables r at lo2 body) in
-        let begin = begin_round line at lo (pos 1) (λ at. expr_code p tables r line at (lo + 1) from) (λ at. expr_code p tables r line at last to) (2 * expr_nodes from) (2 * expr_nodes to) (λ at. expr_round line at (lo + 1) from) (λ at. expr_round line at last to) in
-        let turns = turn line (next + 7) count (more + 1) d range (λ at. stmts_code p tables r at lo2 body) (2 * desig_nodes d) (2 * stmts_nodes body) (λ at. desig_round line at (more + 1 + 1) d) (λ at. stmts_round line at lo2 body) in
-        omega (arith, begin, turns, both line one (some_turns line next count (own_slot p tables r limit) lo (lo + 1) last more each), some_round line next count (own_slot p tables r limit) lo (lo + 1) last more each)
+        let begin = begin_round line at lo (pos 1) (λ at. expr_code p tables r line at (lo + 1) from)
+        (λ at. expr_code p tables r line at last to) (2 * expr_nodes from) (2 * expr_nodes to) (λ at. expr_round line at (lo + 1) from)
+        (λ at. expr_round line at last to) in
+        let turns = turn line (next + 7) count (more + 1) d range (λ at. stmts_code p tables r at lo2 body) (2 * desig_nodes d)
+        (2 * stmts_nodes body) (λ at. desig_round line at (more + 1 + 1) d) (λ at. stmts_round line at lo2 body) in
+        omega (
+          arith,
+          begin,
+          turns,
+          both line one (some_turns line next count (own_slot p tables r limit) lo (lo + 1) last more each),
+          some_round line next count (own_slot p tables r limit) lo (lo + 1) last more each,
+        )

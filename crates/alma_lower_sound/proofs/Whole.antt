@@ -22,7 +22,8 @@ abbrev start_in : (at : ℕ) → List PlainRoutine → (k : ℕ) → ℕ
 start_in at named zero = at
 start_in at named (suc before) = (get_or named before plain.no_routine).code_end
 
-start_behind : (at : ℕ) (x : PlainRoutine) (named : List PlainRoutine) (k : ℕ) → start_in at (x ∷ named) (suc k) ≡ start_in x.code_end named k
+start_behind : (at : ℕ) (x : PlainRoutine) (named : List PlainRoutine) (k : ℕ)
+    → start_in at (x ∷ named) (suc k) ≡ start_in x.code_end named k
 start_behind at x named zero = refl
 start_behind at x named (suc k) = refl
 
@@ -35,14 +36,16 @@ module _ (p : Program) (tables : Tables) where
   named_long [] r at = refl
   named_long (runs ∷ rest) r at = ap suc (named_long rest (suc r) (at + length (routine_code p tables r at)))
 
-  named_head : (all : List (List Run)) (r at k : ℕ) → k < length all → (get_or (routines_named p tables r at all) k plain.no_routine).head ≡ head_for p (r + k) (get_or all k [])
+  named_head : (all : List (List Run)) (r at k : ℕ) → k < length all
+      → (get_or (routines_named p tables r at all) k plain.no_routine).head ≡ head_for p (r + k) (get_or all k [])
   named_head [] r at k lt = absurd (omega (arith, lt))
   named_head (runs ∷ rest) r at zero lt = let e : r ≡ r + 0 = omega arith in ap (λ n. head_for p n runs) e
   named_head (runs ∷ rest) r at (suc k) lt =
       let e : suc r + k ≡ r + suc k = omega arith in
       named_head rest (suc r) (at + length (routine_code p tables r at)) k (omega (arith, lt)) ∙ ap (λ n. head_for p n (get_or rest k [])) e
 
-  named_name : (all : List (List Run)) (r at k : ℕ) → k < length all → (get_or (routines_named p tables r at all) k plain.no_routine).name ≡ (routine_at p (r + k)).name
+  named_name : (all : List (List Run)) (r at k : ℕ) → k < length all
+      → (get_or (routines_named p tables r at all) k plain.no_routine).name ≡ (routine_at p (r + k)).name
   named_name [] r at k lt = absurd (omega (arith, lt))
   named_name (runs ∷ rest) r at zero lt = let e : r ≡ r + 0 = omega arith in ap (λ n. (routine_at p n).name) e
   named_name (runs ∷ rest) r at (suc k) lt =
@@ -51,7 +54,8 @@ module _ (p : Program) (tables : Tables) where
 
   -- each routine ends behind its code
   named_end : (all : List (List Run)) (r at k : ℕ) → k < length all
-      → (get_or (routines_named p tables r at all) k plain.no_routine).code_end ≡ start_in at (routines_named p tables r at all) k + length (routine_code p tables (r + k) (start_in at (routines_named p tables r at all) k))
+      → (get_or (routines_named p tables r at all) k plain.no_routine).code_end ≡ start_in at (routines_named p tables r at all) k
+      + length (routine_code p tables (r + k) (start_in at (routines_named p tables r at all) k))
   named_end [] r at k lt = absurd (omega (arith, lt))
   named_end (runs ∷ rest) r at zero lt = let e : r ≡ r + 0 = omega arith in ap (λ n. at + length (routine_code p tables n at)) e
   named_end (runs ∷ rest) r at (suc k) lt =
@@ -60,10 +64,12 @@ module _ (p : Program) (tables : Tables) where
       let e : suc r + k ≡ r + suc k = omega arith in
       let z = named_end rest (suc r) next k (omega (arith, lt)) in
       let same = start_behind at (get_or (routines_named p tables r at (runs ∷ rest)) 0 plain.no_routine) named k in
-      z ∙ ap (λ n. start_in next named k + length (routine_code p tables n (start_in next named k))) e ∙ ap (λ a. a + length (routine_code p tables (r + suc k) a)) (sym same)
+      z ∙ ap (λ n. start_in next named k + length (routine_code p tables n (start_in next named k))) e
+      ∙ ap (λ a. a + length (routine_code p tables (r + suc k) a)) (sym same)
 
   -- the last ends behind all code
-  named_last : (all : List (List Run)) (r at : ℕ) → start_in at (routines_named p tables r at all) (length all) ≡ at + length (routines_code p tables r (length all) at)
+  named_last : (all : List (List Run)) (r at : ℕ)
+      → start_in at (routines_named p tables r at all) (length all) ≡ at + length (routines_code p tables r (length all) at)
   named_last [] r at = omega arith
   named_last (runs ∷ rest) r at =
       let one : List Lined = routine_code p tables r at in
@@ -71,7 +77,8 @@ module _ (p : Program) (tables : Tables) where
       let named = routines_named p tables (suc r) next rest in
       let z = named_last rest (suc r) next in
       let long = length-append one (routines_code p tables (suc r) (length rest) next) in
-      let added : next + length (routines_code p tables (suc r) (length rest) next) ≡ at + length (one ++ routines_code p tables (suc r) (length rest) next) = omega (arith, long) in
+      let added : next + length (routines_code p tables (suc r) (length rest) next) ≡ at + length
+      (one ++ routines_code p tables (suc r) (length rest) next) = omega (arith, long) in
       start_behind at (get_or (routines_named p tables r at (runs ∷ rest)) 0 plain.no_routine) named (length rest) ∙ z ∙ added
 
 module _ (p : Program) (code : PlainCode) (is_code : IsCodeOf p code) where
@@ -90,26 +97,33 @@ module _ (p : Program) (code : PlainCode) (is_code : IsCodeOf p code) where
   pub head_is : (r : ℕ) → r < length p.routines → head_at code r ≡ head_for p r (get_or is_code.runs r [])
   head_is r lt =
       let z : 0 + r ≡ r = omega arith in
-      ap (λ x. (get_or x r plain.no_routine).head) routines_are ∙ named_head p is_code.tables is_code.runs 0 0 r (omega (arith, lt, is_code.count)) ∙ ap (λ n. head_for p n (get_or is_code.runs r [])) z
+      ap (λ x. (get_or x r plain.no_routine).head) routines_are
+      ∙ named_head p is_code.tables is_code.runs 0 0 r (omega (arith, lt, is_code.count))
+      ∙ ap (λ n. head_for p n (get_or is_code.runs r [])) z
 
   pub name_is : (r : ℕ) → r < length p.routines → (plain.routine_at code r).name ≡ (routine_at p r).name
   name_is r lt =
       let z : 0 + r ≡ r = omega arith in
-      ap (λ x. (get_or x r plain.no_routine).name) routines_are ∙ named_name p is_code.tables is_code.runs 0 0 r (omega (arith, lt, is_code.count)) ∙ ap (λ n. (routine_at p n).name) z
+      ap (λ x. (get_or x r plain.no_routine).name) routines_are
+      ∙ named_name p is_code.tables is_code.runs 0 0 r (omega (arith, lt, is_code.count)) ∙ ap (λ n. (routine_at p n).name) z
 
   start_named : (r : ℕ) → start_in 0 named r ≡ start_at code r
   start_named r = ap (λ rs. start_in 0 rs r) (sym routines_are) ∙ sym (start_is code r)
 
-  pub end_is : (r : ℕ) → r < length p.routines → end_at code r ≡ start_at code r + length (routine_code p is_code.tables r (start_at code r))
+  pub end_is : (r : ℕ) → r < length p.routines
+      → end_at code r ≡ start_at code r + length (routine_code p is_code.tables r (start_at code r))
   end_is r lt =
       let z : 0 + r ≡ r = omega arith in
-      ap (λ x. (get_or x r plain.no_routine).code_end) routines_are ∙ named_end p is_code.tables is_code.runs 0 0 r (omega (arith, lt, is_code.count))
-      ∙ ap (λ n. start_in 0 named r + length (routine_code p is_code.tables n (start_in 0 named r))) z ∙ ap (λ a. a + length (routine_code p is_code.tables r a)) (start_named r)
+      ap (λ x. (get_or x r plain.no_routine).code_end) routines_are
+      ∙ named_end p is_code.tables is_code.runs 0 0 r (omega (arith, lt, is_code.count))
+      ∙ ap (λ n. start_in 0 named r + length (routine_code p is_code.tables n (start_in 0 named r))) z
+      ∙ ap (λ a. a + length (routine_code p is_code.tables r a)) (start_named r)
 
   pub last_is : start_at code (length code.routines) ≡ length code.instrs
   last_is =
       let all : List Lined = routines_code p is_code.tables 0 (length p.routines) 0 in
-      let long : length (routines_code p is_code.tables 0 (length is_code.runs) 0) ≡ length all = ap (λ n. length (routines_code p is_code.tables 0 n 0)) is_code.count in
+      let long : length (routines_code p is_code.tables 0 (length is_code.runs) 0) ≡ length all =
+      ap (λ n. length (routines_code p is_code.tables 0 n 0)) is_code.count in
       let instrs : length code.instrs ≡ length all = ap (λ c. length c.instrs) is_code.is ∙ length-map all (λ x. x.instr) in
       let z = named_last p is_code.tables is_code.runs 0 0 in
       ap (start_at code) (count ∙ sym is_code.count) ∙ sym (start_named (length is_code.runs)) ∙ omega (arith, z, long, instrs)

@@ -1,5 +1,6 @@
 -- The place of an entry in a table, and what stands there.
-use Rattle.std.proofs.Common.{◌≡◌, ℕ, suc, ◌+◌, ℤ, pos, negsuc, Bool, true, false, not, cond, List, [], ◌∷◌, ◌++◌, length, map, slice_get, Some, None, position, refl, sym, ap, ◌∙◌, arith, if◌then◌else◌}
+use Rattle.std.proofs.Common.{◌≡◌, ℕ, suc, ◌+◌, ℤ, pos, negsuc, Bool, true, false, not, cond, List, [], ◌∷◌, ◌++◌, length, map, slice_get}
+use Rattle.std.proofs.Common.{Some, None, position, refl, sym, ap, ◌∙◌, arith, if◌then◌else◌}
 use Rattle.std.specs.Prelude.{◌&&◌, ◌||◌, nat_eq, nat_lt, Result, Ok, Err, IfOk}
 use Rattle.std.proofs.Common.{int_eq}
 use Rattle.std.specs.Cmp.Lexicographic.{pointwise}
@@ -18,9 +19,11 @@ module _ {K R : Type 0} (f : K → R) (same : R → R → Bool) (a : R) (t : K �
   place_is [] = refl
   place_is (k ∷ ks) = by (same (f k) a) (agrees k) (place_is ks)
     where
-      by : (b : Bool) → t k ≡ b → position_or_len t ks ≡ first_place same (map f ks) a → cond (not (t k)) (1 + position_or_len t ks) 0 ≡ counted b (first_place same (map f ks) a)
+      by : (b : Bool) → t k ≡ b → position_or_len t ks ≡ first_place same (map f ks) a
+          → cond (not (t k)) (1 + position_or_len t ks) 0 ≡ counted b (first_place same (map f ks) a)
       by true e r = ap (λ x. cond (not x) (1 + position_or_len t ks) 0) e
-      by false e r = let more : 1 + position_or_len t ks ≡ suc (first_place same (map f ks) a) = omega (arith, r) in ap (λ x. cond (not x) (1 + position_or_len t ks) 0) e ∙ more
+      by false e r = let more : 1 + position_or_len t ks ≡ suc (first_place same (map f ks) a) = omega (arith, r) in
+          ap (λ x. cond (not x) (1 + position_or_len t ks) 0) e ∙ more
 
   pub some_place : (ks : List K) (i : ℕ) → Some i ≡ position t ks → i ≡ first_place same (map f ks) a
   some_place ks i h = by (nat_lt (position_or_len t ks) (length ks)) h ∙ place_is ks
@@ -32,15 +35,18 @@ module _ {K R : Type 0} (f : K → R) (same : R → R → Bool) (a : R) (t : K �
   pub none_place : (ks : List K) → None ≡ position t ks → length ks ≡ first_place same (map f ks) a
   none_place ks h = by (nat_lt (position_or_len t ks) (length ks)) refl h ∙ place_is ks
     where
-      by : (b : Bool) → nat_lt (position_or_len t ks) (length ks) ≡ b → None ≡ cond b (Some (position_or_len t ks)) None → length ks ≡ position_or_len t ks
+      by : (b : Bool) → nat_lt (position_or_len t ks) (length ks) ≡ b → None ≡ cond b (Some (position_or_len t ks)) None
+          → length ks ≡ position_or_len t ks
       by true e h = absurd (cc)
       by false e h = omega (arith, prefix_len-le-length (λ x. not (t x)) ks, ltb-false (position_or_len t ks) (length ks) e)
 
-  pub held_there : ((r : R) → same r a ≡ true → r ≡ a) → (ks : List K) → list_any t ks ≡ true → slice_get (map f ks) (first_place same (map f ks) a) ≡ Some a
+  pub held_there : ((r : R) → same r a ≡ true → r ≡ a) → (ks : List K) → list_any t ks ≡ true
+      → slice_get (map f ks) (first_place same (map f ks) a) ≡ Some a
   held_there is [] any = absurd (cc)
   held_there is (k ∷ ks) any = by (same (f k) a) refl (agrees k) any (held_there is ks)
     where
-      by : (b : Bool) → same (f k) a ≡ b → t k ≡ same (f k) a → (t k || list_any t ks) ≡ true → (list_any t ks ≡ true → slice_get (map f ks) (first_place same (map f ks) a) ≡ Some a)
+      by : (b : Bool) → same (f k) a ≡ b → t k ≡ same (f k) a → (t k || list_any t ks) ≡ true
+          → (list_any t ks ≡ true → slice_get (map f ks) (first_place same (map f ks) a) ≡ Some a)
           → slice_get (map f (k ∷ ks)) (counted b (first_place same (map f ks) a)) ≡ Some a
       by true e e2 any later = ap Some (is (f k) e)
       by false e e2 any later = later (sym (ap (λ x. x || list_any t ks) (e2 ∙ e)) ∙ any)
@@ -68,7 +74,8 @@ any_last t (x ∷ ks) k e = by (t x) (any_last t ks k e)
     by false h = h
 
 -- a key that was inserted is among the keys
-pub any_inserted : {K : Type 0} (t : K → Bool) (ks : List K) (k : K) → t k ≡ true → list_any t (if list_any t ks then ks else ks ++ k ∷ []) ≡ true
+pub any_inserted : {K : Type 0} (t : K → Bool) (ks : List K) (k : K) → t k ≡ true
+    → list_any t (if list_any t ks then ks else ks ++ k ∷ []) ≡ true
 any_inserted t ks k e = by (list_any t ks) refl
   where
     by : (b : Bool) → list_any t ks ≡ b → list_any t (if b then ks else ks ++ k ∷ []) ≡ true
@@ -80,7 +87,8 @@ abbrev pub inserted : {K : Type 0} → Bool → K → List K
 inserted true k = []
 inserted false k = k ∷ []
 
-pub inserted_is : {K R : Type 0} (f : K → R) (b : Bool) (ks : List K) (k : K) → map f (if b then ks else ks ++ k ∷ []) ≡ map f ks ++ map f (inserted b k)
+pub inserted_is : {K R : Type 0} (f : K → R) (b : Bool) (ks : List K) (k : K)
+    → map f (if b then ks else ks ++ k ∷ []) ≡ map f ks ++ map f (inserted b k)
 inserted_is f true ks k = nil (map f ks)
   where
     nil : {A : Type 0} (xs : List A) → xs ≡ xs ++ []
@@ -119,7 +127,8 @@ int_swap a b =
     (λ e. ap (λ n. alma.int_eq b n) ((Decides-int_eq a b).0 e) ∙ itself b)
     (λ e. (Decides-int_eq a b).1 (sym (same_number b a e)))
 
-pub ends_agree : (range : Range) (low high : ℤ) → low ≡ range.low → high ≡ range.high → (k : ℤ × ℤ) → (int_eq low k.0 && int_eq high k.1) ≡ same_range (range_of k) range
+pub ends_agree : (range : Range) (low high : ℤ) → low ≡ range.low → high ≡ range.high → (k : ℤ × ℤ)
+    → (int_eq low k.0 && int_eq high k.1) ≡ same_range (range_of k) range
 ends_agree range low high is is2 k =
     ap (λ x. x && int_eq high k.1) (int_swap low k.0) ∙ ap (λ x. alma.int_eq k.0 low && x) (int_swap high k.1)
     ∙ ap (λ n. alma.int_eq k.0 n && alma.int_eq k.1 high) is ∙ ap (λ n. alma.int_eq k.0 range.low && alma.int_eq k.1 n) is2

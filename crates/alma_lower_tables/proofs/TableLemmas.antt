@@ -1,5 +1,6 @@
 -- The tables of instructions with lines, said of pairs in memory.
-use Rattle.std.proofs.Common.{◌≡◌, ℕ, suc, ◌+◌, Bool, true, false, List, [], ◌∷◌, ◌++◌, length, map, take, drop, refl, sym, ap, ◌∙◌, append_assoc, add-one, get_or, ◌<◌, ◌≤◌}
+use Rattle.std.proofs.Common.{◌≡◌, ℕ, suc, ◌+◌, Bool, true, false, List, [], ◌∷◌, ◌++◌, length, map, take, drop, refl, sym, ap, ◌∙◌}
+use Rattle.std.proofs.Common.{append_assoc, add-one, get_or, ◌<◌, ◌≤◌}
 use Rattle.std.proofs.Math.ListN.{drop_of_length-le}
 use Rattle.std.proofs.Math.Seq.{take-suc}
 use Rattle.alma_code.specs.declared.cell.SlotKind.{SlotKind}
@@ -24,35 +25,43 @@ pub record Told (lines : List Line) (before i at : ℕ) (placed : List (Instr ×
   pub all : lines ++ lines_from i before (map lined (drop i placed)) ≡ lines_from 0 0 (map lined placed)
   pub here : at ≡ i
 
-from_same : (i before : ℕ) (x : Instr × ℕ) (rest : List (Instr × ℕ)) → x.1 ≡ before → lines_from i before (map lined (x ∷ rest)) ≡ lines_from (i + 1) before (map lined rest)
+from_same : (i before : ℕ) (x : Instr × ℕ) (rest : List (Instr × ℕ)) → x.1 ≡ before
+    → lines_from i before (map lined (x ∷ rest)) ≡ lines_from (i + 1) before (map lined rest)
 from_same i before x rest e =
     ap (λ b. line_from b i x.1 (lines_from (suc i) x.1 (map lined rest))) (eq-eqb x.1 before e)
     ∙ ap (λ n. lines_from n x.1 (map lined rest)) (sym (add-one i))
     ∙ ap (λ n. lines_from (i + 1) n (map lined rest)) e
 
-from_other : (i before : ℕ) (x : Instr × ℕ) (rest : List (Instr × ℕ)) → (x.1 ≡ before → ⊥) → lines_from i before (map lined (x ∷ rest)) ≡ record { at = i; line = x.1 } ∷ lines_from (i + 1) x.1 (map lined rest)
-from_other i before x rest e = by (nat_eq x.1 before) refl ∙ ap (λ n. record { at = i; line = x.1 } ∷ lines_from n x.1 (map lined rest)) (sym (add-one i))
+from_other : (i before : ℕ) (x : Instr × ℕ) (rest : List (Instr × ℕ)) → (x.1 ≡ before → ⊥)
+    → lines_from i before (map lined (x ∷ rest)) ≡ record { at = i; line = x.1 } ∷ lines_from (i + 1) x.1 (map lined rest)
+from_other i before x rest e = by (nat_eq x.1 before) refl
+    ∙ ap (λ n. record { at = i; line = x.1 } ∷ lines_from n x.1 (map lined rest)) (sym (add-one i))
   where
-    by : (b : Bool) → nat_eq x.1 before ≡ b → line_from b i x.1 (lines_from (suc i) x.1 (map lined rest)) ≡ record { at = i; line = x.1 } ∷ lines_from (suc i) x.1 (map lined rest)
+    by : (b : Bool) → nat_eq x.1 before ≡ b → line_from b i x.1 (lines_from (suc i) x.1 (map lined rest))
+        ≡ record { at = i; line = x.1 } ∷ lines_from (suc i) x.1 (map lined rest)
     by true same = absurd (e (eqb-true x.1 before same))
     by false other = refl
 
-pub told_same : (lines : List Line) (before i at : ℕ) (placed : List (Instr × ℕ)) (x : Instr × ℕ) → drop i placed ≡ x ∷ drop (i + 1) placed → x.1 ≡ before → Told lines before i at placed → Told lines before (i + 1) (at + 1) placed
+pub told_same : (lines : List Line) (before i at : ℕ) (placed : List (Instr × ℕ)) (x : Instr × ℕ) → drop i placed ≡ x ∷ drop (i + 1) placed
+    → x.1 ≡ before → Told lines before i at placed → Told lines before (i + 1) (at + 1) placed
 told_same lines before i at placed x one e h = record {
   all = ap (λ s. lines ++ s) (sym (ap (λ l. lines_from i before (map lined l)) one ∙ from_same i before x (drop (i + 1) placed) e)) ∙ h.all;
   here = ap (λ n. n + 1) h.here;
 }
 
-pub told_other : (lines : List Line) (before i at : ℕ) (placed : List (Instr × ℕ)) (x : Instr × ℕ) → drop i placed ≡ x ∷ drop (i + 1) placed → (x.1 ≡ before → ⊥) → Told lines before i at placed
+pub told_other : (lines : List Line) (before i at : ℕ) (placed : List (Instr × ℕ)) (x : Instr × ℕ) → drop i placed ≡ x ∷ drop (i + 1) placed
+    → (x.1 ≡ before → ⊥) → Told lines before i at placed
     → Told (lines ++ record { at = at; line = x.1 } ∷ []) x.1 (i + 1) (at + 1) placed
 told_other lines before i at placed x one e h = record {
   all = append_assoc lines (record { at = at; line = x.1 } ∷ []) (lines_from (i + 1) x.1 (map lined (drop (i + 1) placed)))
       ∙ ap (λ n. lines ++ record { at = n; line = x.1 } ∷ lines_from (i + 1) x.1 (map lined (drop (i + 1) placed))) h.here
-      ∙ ap (λ s. lines ++ s) (sym (ap (λ l. lines_from i before (map lined l)) one ∙ from_other i before x (drop (i + 1) placed) e)) ∙ h.all;
+      ∙ ap (λ s. lines ++ s) (sym (ap (λ l. lines_from i before (map lined l)) one ∙ from_other i before x (drop (i + 1) placed) e))
+      ∙ h.all;
   here = ap (λ n. n + 1) h.here;
 }
 
-pub told_all : (lines : List Line) (before i at : ℕ) (placed : List (Instr × ℕ)) → length placed ≤ i → Told lines before i at placed → lines ≡ lines_from 0 0 (map lined placed)
+pub told_all : (lines : List Line) (before i at : ℕ) (placed : List (Instr × ℕ)) → length placed ≤ i → Told lines before i at placed
+    → lines ≡ lines_from 0 0 (map lined placed)
 told_all lines before i at placed le h =
     sym (append-nil lines) ∙ ap (λ s. lines ++ lines_from i before (map lined s)) (sym (drop_of_length-le placed le)) ∙ h.all
 
@@ -60,10 +69,12 @@ told_all lines before i at placed le h =
 
 pub params_last : (xs : List Param) (x : Param) → params_kinds (xs ++ x ∷ []) ≡ params_kinds xs ++ param_kinds x.kind x.cells
 params_last [] x = append-nil (param_kinds x.kind x.cells)
-params_last (y ∷ xs) x = ap (λ l. param_kinds y.kind y.cells ++ l) (params_last xs x) ∙ sym (append_assoc (param_kinds y.kind y.cells) (params_kinds xs) (param_kinds x.kind x.cells))
+params_last (y ∷ xs) x = ap (λ l. param_kinds y.kind y.cells ++ l) (params_last xs x)
+    ∙ sym (append_assoc (param_kinds y.kind y.cells) (params_kinds xs) (param_kinds x.kind x.cells))
 
 -- one parameter more
-pub params_more : (xs : List Param) (i : ℕ) (d : Param) (before kinds grown : List SlotKind) → i < length xs → kinds ≡ before ++ params_kinds (take i xs)
+pub params_more : (xs : List Param) (i : ℕ) (d : Param) (before kinds grown : List SlotKind) → i < length xs
+    → kinds ≡ before ++ params_kinds (take i xs)
     → grown ≡ kinds ++ param_kinds (get_or xs i d).kind (get_or xs i d).cells → grown ≡ before ++ params_kinds (take (i + 1) xs)
 params_more xs i d before kinds grown lt is more =
     let x = get_or xs i d in

@@ -1,5 +1,6 @@
 -- The arguments of a call: each goes into a slot of its own, where the Call reads it.
-use Rattle.std.proofs.Common.{◌≡◌, ℕ, suc, ◌+◌, ◌<◌, ◌≤◌, Bool, true, false, List, [], ◌∷◌, ◌++◌, length, Some, refl, sym, ap, ◌∙◌, subst, arith, ℤ, pos, negsuc, length-append}
+use Rattle.std.proofs.Common.{◌≡◌, ℕ, suc, ◌+◌, ◌<◌, ◌≤◌, Bool, true, false, List, [], ◌∷◌, ◌++◌, length, Some, refl, sym, ap, ◌∙◌, subst}
+use Rattle.std.proofs.Common.{arith, ℤ, pos, negsuc, length-append}
 use Rattle.std.proofs.lemmas.Int.{ints}
 use Rattle.std.proofs.lemmas.Bool.Decides.{nat_tests}
 use Rattle.std.specs.Prelude.{slice_get}
@@ -20,7 +21,8 @@ use Rattle.alma_code.specs.Machine.{act, put_number}
 use Rattle.alma_ir.specs.declared.program.ArgKind.{ArgKind}
 use Rattle.alma_ir.specs.declared.program.ArgKind.TheVariants as kind
 use Rattle.alma_ir.specs.declared.program.Param.{Param}
-use Rattle.alma_ir.specs.Tree.{Program, Expr, Desig, Sels, Args, Arg, no_args, more_args, ByValue, ByCells, ByPlace, MixValue, MixPlace, a_desig, no_sels, more_sels, Field, Index}
+use Rattle.alma_ir.specs.Tree.{Program, Expr, Desig, Sels, Args, Arg, no_args, more_args, ByValue, ByCells, ByPlace, MixValue, MixPlace}
+use Rattle.alma_ir.specs.Tree.{a_desig, no_sels, more_sels, Field, Index}
 use Rattle.std.specs.List.{AllByRecursion}
 use Rattle.alma_ir.specs.Checked.{ArgFits, ArgsFit, HasOneCellAs, cells_after}
 use Rattle.alma_ir.specs.Checked as checked
@@ -45,7 +47,9 @@ use Rattle.alma_lower_templates.specs.Slots.{bare, unless_bare, handed_slots, ar
 use Rattle.alma_lower_templates.specs.Templates.{expr_code, desig_code, value_at, place_at, arg_code, args_code}
 use Rattle.alma_lower_templates.specs.Stands.{Stands}
 use Rattle.alma_lower_templates.proofs.Stands.{stands_front, stands_back}
-use Rattle.alma_lower_templates.proofs.Parts.{Begins, Left, begins, left_self, left_on, left_temp, holds_temp, has_kind, holds_after, IsValue, PlaceIn, NodeFor, From, from_more, leaving, as_runs, node_runs, then_from, step_from, ends_here}
+use Rattle.alma_lower_templates.proofs.Parts.{Begins, Left, begins, left_self, left_on, left_temp, holds_temp, has_kind, holds_after}
+use Rattle.alma_lower_templates.proofs.Parts.{IsValue, PlaceIn, NodeFor, From, from_more, leaving, as_runs, node_runs, then_from, step_from}
+use Rattle.alma_lower_templates.proofs.Parts.{ends_here}
 use Rattle.alma_lower_templates.proofs.PlaceSteps.{in_range_reads, in_range_passes, in_range_faults, same_step}
 use Rattle.alma_lower_templates.proofs.AtOnce.{AtOnce, at_once}
 use Rattle.alma_lower_templates.proofs.NewFrame.{PlaceAlike, HandedAs, a_value, a_place, mix_value, mix_place, some_cells, AllHanded}
@@ -56,7 +60,8 @@ pub own_both : (line : ℕ) (a b : List Instr) → own line (a ++ b) ≡ own lin
 own_both line a b = map-append _ a b
 
 -- a range of all numbers holds each number of INTEGER
-whole_within : (low high x : ℤ) → is_whole (record { low = low; high = high }) ≡ true → is_integer x ≡ true → within (record { low = low; high = high }) x ≡ true
+whole_within : (low high x : ℤ) → is_whole (record { low = low; high = high }) ≡ true → is_integer x ≡ true
+    → within (record { low = low; high = high }) x ≡ true
 whole_within (pos a) (pos b) (pos x) h fits = grind (arith, ints, nat_tests)
 whole_within (pos a) (pos b) (negsuc x) h fits = grind (arith, ints, nat_tests)
 whole_within (pos a) (negsuc b) (pos x) h fits = grind (arith, ints, nat_tests)
@@ -76,11 +81,14 @@ pub same_cells : (d : Desig) → desig_cells d ≡ checked.desig_cells d
 same_cells (a_desig root cells sels) = cells_agree sels cells
 
 module _ (code : PlainCode) (input : List ℕ) where
-  pub move_reads : (line at to from : ℕ) (now : List PlainFrame) → InstrAt code input line at (I.Move to from) → ReadsFirst code input at from now
+  pub move_reads : (line at to from : ℕ) (now : List PlainFrame) → InstrAt code input line at (I.Move to from)
+      → ReadsFirst code input at from now
   unfolding act
-  move_reads line at to from now i held s is = ((λ v. put_number (passed code input s) to v), does code input line at now held s (I.Move to from) is i)
+  move_reads line at to from now i held s is =
+      ((λ v. put_number (passed code input s) to v), does code input line at now held s (I.Move to from) is i)
 
-  pub in_range_first : (line at a n : ℕ) (range : Range) (now : List PlainFrame) → InstrAt code input line at (I.InRange a n) → slice_get code.ranges n ≡ Some range → ReadsFirst code input at a now
+  pub in_range_first : (line at a n : ℕ) (range : Range) (now : List PlainFrame) → InstrAt code input line at (I.InRange a n)
+      → slice_get code.ranges n ≡ Some range → ReadsFirst code input at a now
   in_range_first line at a n range now i e held s is = (_, in_range_reads code input line at now held s is a n range i e)
 
 module _ (p : Program) (tables : Tables) (code : PlainCode) (input : List ℕ) where
@@ -90,35 +98,53 @@ module _ (p : Program) (tables : Tables) (code : PlainCode) (input : List ℕ) w
 
   -- ---- a number that is checked
 
-  pub fit_from : {A : Type 0} (line c at m exit : ℕ) (now : List PlainFrame) (w : Ways A) (range : Range) (slot : ℕ) (x : ℤ) (e : Events A) (q : ℕ) → RangeFits range → IsValue p code input slot x now → Stands code at (own line (fit_code tables range slot))
-      → m ≡ at + length (own line (fit_code tables range slot)) → From p code input line c m exit now w e q → From p code input line (suc c) at exit now w (check_range range x (λ _. e)) q
+  pub fit_from : {A : Type 0} (line c at m exit : ℕ) (now : List PlainFrame) (w : Ways A) (range : Range) (slot : ℕ) (x : ℤ) (e : Events A)
+      (q : ℕ) → RangeFits range → IsValue p code input slot x now → Stands code at (own line (fit_code tables range slot))
+      → m ≡ at + length (own line (fit_code tables range slot)) → From p code input line c m exit now w e q
+      → From p code input line (suc c) at exit now w (check_range range x (λ _. e)) q
   fit_from line c at m exit now w range slot x e q fits value stands at_m h = by (is_whole range) refl stands at_m
     where
-      checked_by : (b : Bool) → within range x ≡ b → Stands code at (own line (I.InRange slot (range_number tables range) ∷ [])) → slice_get code.ranges (range_number tables range) ≡ Some range → m ≡ at + 1
+      checked_by : (b : Bool) → within range x ≡ b → Stands code at (own line (I.InRange slot (range_number tables range) ∷ []))
+          → slice_get code.ranges (range_number tables range) ≡ Some range → m ≡ at + 1
           → From p code input line (suc c) at exit now w (check_range range x (λ _. e)) q
       checked_by true is there in_table e1 held s is_at =
-          let z = in_range_passes code input line at now held s is_at slot (range_number tables range) range x (record { instr = there.0; on_line = there.1 }) in_table value.holds is in
+          let z = in_range_passes code input line at now held s is_at slot (range_number tables range) range x
+          (record { instr = there.0; on_line = there.1 }) in_table value.holds is in
           subst (λ f. Goes code input line 0 24 (Leaves exit w) held f s (suc c) q) (sym (ap (λ b. fault_unless fault.Range b (λ _. e)) is))
-          (before code input line 0 24 (Leaves exit w) held e s z.to 1 (suc c) c q q z.silently (omega arith) (omega arith) (h held z.to (at_address (at + 1) m now held z.to (sym e1) z.is)))
+          (before code input line 0 24 (Leaves exit w) held e s z.to 1 (suc c) c q q z.silently (omega arith) (omega arith)
+          (h held z.to (at_address (at + 1) m now held z.to (sym e1) z.is)))
       checked_by false is there in_table e1 held s is_at =
-          let z = in_range_faults code input line at now held s is_at slot (range_number tables range) range x (record { instr = there.0; on_line = there.1 }) in_table value.holds is in
-          subst (λ f. Goes code input line 0 24 (Leaves exit w) held f s (suc c) q) (sym (ap (λ b. fault_unless fault.Range b (λ _. e)) is)) (1, z.to, omega arith, z.silently, z.is, z.on_line)
+          let z = in_range_faults code input line at now held s is_at slot (range_number tables range) range x
+          (record { instr = there.0; on_line = there.1 }) in_table value.holds is in
+          subst (λ f. Goes code input line 0 24 (Leaves exit w) held f s (suc c) q) (sym (ap (λ b. fault_unless fault.Range b (λ _. e)) is))
+          (1, z.to, omega arith, z.silently, z.is, z.on_line)
 
-      by : (b : Bool) → is_whole range ≡ b → Stands code at (own line (unless_whole b (I.InRange slot (range_number tables range) ∷ []))) → m ≡ at + length (own line (unless_whole b (I.InRange slot (range_number tables range) ∷ [])))
+      by : (b : Bool) → is_whole range ≡ b → Stands code at (own line (unless_whole b (I.InRange slot (range_number tables range) ∷ [])))
+          → m ≡ at + length (own line (unless_whole b (I.InRange slot (range_number tables range) ∷ [])))
           → From p code input line (suc c) at exit now w (check_range range x (λ _. e)) q
       by true is there e0 held s is_at =
           let z : m ≡ at = omega (arith, e0) in
-          subst (λ f. Goes code input line 0 24 (Leaves exit w) held f s (suc c) q) (sym (ap (λ b. fault_unless fault.Range b (λ _. e)) (whole_within range.low range.high x is value.integer)))
-          (from_more p code input line c (suc c) at exit now w e q (omega arith) (subst (λ n. From p code input line c n exit now w e q) z h) held s is_at)
+          subst (λ f. Goes code input line 0 24 (Leaves exit w) held f s (suc c) q)
+          (sym (ap (λ b. fault_unless fault.Range b (λ _. e)) (whole_within range.low range.high x is value.integer)))
+          (from_more p code input line c (suc c) at exit now w e q (omega arith)
+          (subst (λ n. From p code input line c n exit now w e q) z h) held s is_at)
       by false is there e1 held s is_at = checked_by (within range x) refl there (fits is) e1 held s is_at
 
   -- the check, or what is behind it, reads the number first
-  pub fit_reads : (line at slot : ℕ) (now : List PlainFrame) (range : Range) (next : Instr) → RangeFits range → (InstrAt code input line at next → ReadsFirst code input at slot now) → Stands code at (own line (fit_code tables range slot ++ (next ∷ []))) → (line_at code at ≡ line) × ReadsFirst code input at slot now
+  pub fit_reads : (line at slot : ℕ) (now : List PlainFrame) (range : Range) (next : Instr) → RangeFits range
+      → (InstrAt code input line at next → ReadsFirst code input at slot now)
+      → Stands code at (own line (fit_code tables range slot ++ (next ∷ []))) → (line_at code at ≡ line) × ReadsFirst code input at slot now
   fit_reads line at slot now range next fits reads stands = by (is_whole range) refl stands
     where
-      by : (b : Bool) → is_whole range ≡ b → Stands code at (own line (unless_whole b (I.InRange slot (range_number tables range) ∷ []) ++ (next ∷ []))) → (line_at code at ≡ line) × ReadsFirst code input at slot now
+      by : (b : Bool) → is_whole range ≡ b → Stands code
+          at (own line (unless_whole b (I.InRange slot (range_number tables range) ∷ []) ++ (next ∷ []))) → (line_at code at ≡ line)
+          × ReadsFirst code input at slot now
       by true is there = (there.1, reads (record { instr = there.0; on_line = there.1 }))
-      by false is there = (there.1, in_range_first code input line at slot (range_number tables range) range now (record { instr = there.0; on_line = there.1 }) (fits is))
+      by false is there = (
+        there.1,
+        in_range_first code input line at slot (range_number tables range) range now
+            (record { instr = there.0; on_line = there.1 }) (fits is),
+      )
 
 -- ---- one argument
 
@@ -133,9 +159,12 @@ module _ (p : Program) (tables : Tables) (code : PlainCode) (input : List ℕ) (
   ArgIn to k n v a now = ArgHere to k n v a now
 
   -- a number
-  number_arg : (k : ArgKind) (n : ℕ) (wrap : ℤ → ArgValue) → ((x : ℤ) (v : Store) (now : List PlainFrame) → is_integer x ≡ true → HandedAs p code v now k n (wrap x) (cell.Int x))
-      → (e : Expr) (range : Range) (to la at : ℕ) → to < la → own_end p r ≤ to → slice_get (kinds_at code r) to ≡ Some slot.Number → RangeFits p tables code input range → AtOnce p tables code input below r line q at la e
-      → NodeFor p code input r line at to (unless_bare (bare e) (expr_code p tables r line at la e) ++ own line (fit_code tables range (value_at p tables r la e) ++ (I.Move to (value_at p tables r la e) ∷ [])))
+  number_arg : (k : ArgKind) (n : ℕ) (wrap : ℤ → ArgValue)
+      → ((x : ℤ) (v : Store) (now : List PlainFrame) → is_integer x ≡ true → HandedAs p code v now k n (wrap x) (cell.Int x))
+      → (e : Expr) (range : Range) (to la at : ℕ) → to < la → own_end p r ≤ to → slice_get (kinds_at code r) to ≡ Some slot.Number
+      → RangeFits p tables code input range → AtOnce p tables code input below r line q at la e
+      → NodeFor p code input r line at to (unless_bare (bare e) (expr_code p tables r line at la e)
+      ++ own line (fit_code tables range (value_at p tables r la e) ++ (I.Move to (value_at p tables r la e) ∷ [])))
       (λ v. node (bind (ev_expr p input below e v) (λ t x. check_range range x (λ _. one t (wrap x))))) (ArgIn to k n) q
   number_arg k n wrap made_of e range to la at small own_to kind fits once stands v now b =
       let first : List Lined = unless_bare (bare e) (expr_code p tables r line at la e) in
@@ -149,32 +178,48 @@ module _ (p : Program) (tables : Tables) (code : PlainCode) (input : List ℕ) (
       let split : second ≡ own line fit ++ own line (I.Move to value ∷ []) = own_both line fit (I.Move to value ∷ []) in
       let parts : Stands code m (own line fit ++ own line (I.Move to value ∷ [])) = subst (Stands code m) split behind in
       let fit_there : Stands code m (own line fit) = stands_front code m (own line fit) (own line (I.Move to value ∷ [])) parts in
-      let move_there : Stands code m2 (own line (I.Move to value ∷ [])) = stands_back code m (own line fit) (own line (I.Move to value ∷ [])) parts in
+      let move_there : Stands code m2 (own line (I.Move to value ∷ [])) =
+      stands_back code m (own line fit) (own line (I.Move to value ∷ [])) parts in
       let moves : InstrAt code input line m2 (I.Move to value) = record { instr = move_there.0; on_line = move_there.1 } in
       let whole : length (first ++ second) ≡ length first + length second = length-append first second in
-      let of_second : length second ≡ length (own line fit) + 1 = ap length split ∙ length-append (own line fit) (own line (I.Move to value ∷ [])) in
+      let of_second : length second ≡ length (own line fit) + 1 = ap length split
+      ∙ length-append (own line fit) (own line (I.Move to value ∷ [])) in
       let end : m2 + 1 ≡ exit = omega (arith, whole, of_second) in
-      let reads = fit_reads p tables code input line m value now range (I.Move to value) fits (move_reads code input line m to value now) behind in
-      node_runs p code input line 0 at exit now (leaving p code input to r now (ArgIn to k n)) (bind (ev_expr p input below e v) (λ t x. check_range range x (λ _. one t (wrap x)))) q (omega arith)
-      (at_once p tables code input below r line q exit to la at v now (ArgIn to k n) (λ t x. check_range range x (λ _. one t (wrap x))) (omega (arith, small)) own_to b e once (stands_front code at first second stands) reads.0 reads.1
+      let reads = fit_reads p tables code input line m value now range (I.Move to value) fits (move_reads code input line m to value now)
+      behind in
+      node_runs p code input line 0 at exit now (leaving p code input to r now (ArgIn to k n))
+      (bind (ev_expr p input below e v) (λ t x. check_range range x (λ _. one t (wrap x)))) q (omega arith)
+      (at_once p tables code input below r line q exit to la at v now (ArgIn to k n) (λ t x. check_range range x (λ _. one t (wrap x)))
+      (omega (arith, small)) own_to b e once (stands_front code at first second stands) reads.0 reads.1
       (λ u x t left value_there.
       let bt : Begins p code input r u t = begins p code input la r now u t left in
       let later : List PlainFrame = top_written t to (cell.Int x) in
       let one_more : Left p code input to r t u later = left_temp p code input to r to u t (cell.Int x) (omega arith) own_to bt in
-      fit_from p tables code input line 7 m m2 exit t (leaving p code input to r t (ArgIn to k n)) range value x (one u (wrap x)) q fits value_there fit_there refl
+      fit_from p tables code input line 7 m m2 exit t (leaving p code input to r t (ArgIn to k n)) range value x (one u (wrap x)) q fits
+      value_there fit_there refl
       (step_from p code input line 6 m2 exit exit to r u t later (ArgIn to k n) (one u (wrap x)) q own_to
       (λ held s is.
-      let z = move_step code input line m2 t held s is to value x moves (has_kind p code input r to u t slot.Number kind bt) value_there.holds in
+      let z = move_step code input line m2 t held s is to value x moves (has_kind p code input r to u t slot.Number kind bt)
+      value_there.holds in
       record { to = z.to; silently = z.silently; is = at_address (m2 + 1) exit later held z.to end z.is })
       one_more
       (ends_here p code input line 6 exit to r u later (ArgIn to k n) (wrap x) q (begins p code input to r t u later one_more)
-      (record { cell = cell.Int x; handed = made_of x u later value_there.integer; holds = holds_temp p code input r to u t (cell.Int x) slot.Number kind bt })))))
+      (record {
+        cell = cell.Int x;
+        handed = made_of x u later value_there.integer;
+        holds =
+            holds_temp p code input r to u t (cell.Int x) slot.Number kind bt;
+      })))))
 
   -- a place
-  place_arg : (k : ArgKind) (n cells : ℕ) (wrap : Place → ArgValue) → ((x : Place) (c : CellPlace) (v : Store) (now : List PlainFrame) → PlaceAlike p code v now cells x c → HandedAs p code v now k n (wrap x) (cell.Place c))
+  place_arg : (k : ArgKind) (n cells : ℕ) (wrap : Place → ArgValue)
+      → ((x : Place) (c : CellPlace) (v : Store) (now : List PlainFrame) → PlaceAlike p code v now cells x c
+      → HandedAs p code v now k n (wrap x) (cell.Place c))
       → (d : Desig) (to la at : ℕ) → to < la → own_end p r ≤ to → slice_get (kinds_at code r) to ≡ Some (slot.Place cells)
-      → NodeFor p code input r line at la (desig_code p tables r line at la d) (ev_desig p input below d) (PlaceIn p code input (place_at p tables r la d) cells) q
-      → NodeFor p code input r line at to (desig_code p tables r line at la d ++ own line (I.Same to (place_at p tables r la d) ∷ [])) (λ v. node (bind (ev_desig p input below d v) (λ t x. one t (wrap x)))) (ArgIn to k n) q
+      → NodeFor p code input r line at la (desig_code p tables r line at la d) (ev_desig p input below d)
+      (PlaceIn p code input (place_at p tables r la d) cells) q
+      → NodeFor p code input r line at to (desig_code p tables r line at la d ++ own line (I.Same to (place_at p tables r la d) ∷ []))
+      (λ v. node (bind (ev_desig p input below d v) (λ t x. one t (wrap x)))) (ArgIn to k n) q
   place_arg k n cells wrap made_of d to la at small own_to kind runs stands v now b =
       let first : List Lined = desig_code p tables r line at la d in
       let from : ℕ = place_at p tables r la d in
@@ -184,8 +229,10 @@ module _ (p : Program) (tables : Tables) (code : PlainCode) (input : List ℕ) (
       let behind : Stands code m second = stands_back code at first second stands in
       let whole : length (first ++ second) ≡ length first + 1 = length-append first second in
       let end : m + 1 ≡ exit = omega (arith, whole) in
-      node_runs p code input line 0 at exit now (leaving p code input to r now (ArgIn to k n)) (bind (ev_desig p input below d v) (λ t x. one t (wrap x))) q (omega arith)
-      (then_from p code input line at m exit to la r now (PlaceIn p code input from cells) (ArgIn to k n) (ev_desig p input below d v) (λ t x. one t (wrap x)) q (omega (arith, small)) own_to
+      node_runs p code input line 0 at exit now (leaving p code input to r now (ArgIn to k n))
+      (bind (ev_desig p input below d v) (λ t x. one t (wrap x))) q (omega arith)
+      (then_from p code input line at m exit to la r now (PlaceIn p code input from cells) (ArgIn to k n) (ev_desig p input below d v)
+      (λ t x. one t (wrap x)) q (omega (arith, small)) own_to
       (runs (stands_front code at first second stands) v now b)
       (λ u x t left place.
       let bt : Begins p code input r u t = begins p code input la r now u t left in
@@ -193,65 +240,102 @@ module _ (p : Program) (tables : Tables) (code : PlainCode) (input : List ℕ) (
       let later : List PlainFrame = top_written t to (cell.Place c) in
       let one_more : Left p code input to r t u later = left_temp p code input to r to u t (cell.Place c) (omega arith) own_to bt in
       let same : SamePlace p u x c = record { frame = place.same.frame; slot = place.same.slot; size = place.sized } in
-      let alike : PlaceAlike p code u later cells x c = record { same = same; numbers = numbers_kept p code to x u u t later bt.stand one_more.fits place.numbers; size = place.sized } in
+      let alike : PlaceAlike p code u later cells x c =
+      record { same = same; numbers = numbers_kept p code to x u u t later bt.stand one_more.fits place.numbers; size = place.sized } in
       step_from p code input line 7 m exit exit to r u t later (ArgIn to k n) (one u (wrap x)) q own_to
       (λ held s is.
-      let z = same_step code input line m t held s is to from cells place.place (record { instr = behind.0; on_line = behind.1 }) (has_kind p code input r to u t (slot.Place cells) kind bt) place.holds in
+      let z = same_step code input line m t held s is to from cells place.place (record { instr = behind.0; on_line = behind.1 })
+      (has_kind p code input r to u t (slot.Place cells) kind bt) place.holds in
       record { to = z.to; silently = z.silently; is = at_address (m + 1) exit later held z.to end z.is })
       one_more
       (ends_here p code input line 7 exit to r u later (ArgIn to k n) (wrap x) q (begins p code input to r t u later one_more)
-      (record { cell = cell.Place c; handed = made_of x c u later alike; holds = holds_temp p code input r to u t (cell.Place c) (slot.Place cells) kind bt }))))
+      (record {
+        cell = cell.Place c;
+        handed = made_of x c u later alike;
+        holds =
+            holds_temp p code input r to u t (cell.Place c) (slot.Place cells) kind bt;
+      }))))
 
   -- what an argument asks of its part
   abbrev pub ArgPart : (at la : ℕ) → Arg → Type 0
   ArgPart at la (ByValue e range) = AtOnce p tables code input below r line q at la e × RangeFits p tables code input range
   ArgPart at la (MixValue e range) = AtOnce p tables code input below r line q at la e × RangeFits p tables code input range
-  ArgPart at la (ByPlace d) = NodeFor p code input r line at la (desig_code p tables r line at la d) (ev_desig p input below d) (PlaceIn p code input (place_at p tables r la d) (desig_cells d)) q
-  ArgPart at la (ByCells d) = NodeFor p code input r line at la (desig_code p tables r line at la d) (ev_desig p input below d) (PlaceIn p code input (place_at p tables r la d) (desig_cells d)) q
-  ArgPart at la (MixPlace d) = NodeFor p code input r line at la (desig_code p tables r line at la d) (ev_desig p input below d) (PlaceIn p code input (place_at p tables r la d) (desig_cells d)) q
+  ArgPart at la (ByPlace d) = NodeFor p code input r line at la (desig_code p tables r line at la d) (ev_desig p input below d)
+      (PlaceIn p code input (place_at p tables r la d) (desig_cells d)) q
+  ArgPart at la (ByCells d) = NodeFor p code input r line at la (desig_code p tables r line at la d) (ev_desig p input below d)
+      (PlaceIn p code input (place_at p tables r la d) (desig_cells d)) q
+  ArgPart at la (MixPlace d) = NodeFor p code input r line at la (desig_code p tables r line at la d) (ev_desig p input below d)
+      (PlaceIn p code input (place_at p tables r la d) (desig_cells d)) q
 
-  pub arg_runs : (x : Param) (a : Arg) (to la at : ℕ) → ArgFits x a → HasOneCellAs x.kind x.cells → to < la → own_end p r ≤ to → slice_get (kinds_at code r) to ≡ Some (arg_kind a) → ArgPart at la a
+  pub arg_runs : (x : Param) (a : Arg) (to la at : ℕ) → ArgFits x a → HasOneCellAs x.kind x.cells → to < la → own_end p r ≤ to
+      → slice_get (kinds_at code r) to ≡ Some (arg_kind a) → ArgPart at la a
       → NodeFor p code input r line at to (arg_code p tables r line at to la a) (ev_arg p input below a) (ArgIn to x.kind x.cells) q
   unfolding ev_stmts
   arg_runs x (ByValue e range) to la at fits one_cell small own_to has part =
-      subst (λ k. NodeFor p code input r line at to (arg_code p tables r line at to la (ByValue e range)) (ev_arg p input below (ByValue e range)) (ArgIn to k x.cells) q) (sym fits)
+      subst (λ k. NodeFor p code input r line at to (arg_code p tables r line at to la (ByValue e range))
+      (ev_arg p input below (ByValue e range)) (ArgIn to k x.cells) q) (sym fits)
       (number_arg kind.Value x.cells ArgNumber (λ n v now i. a_value n i) e range to la at small own_to has part.1 part.0)
   arg_runs x (MixValue e range) to la at fits one_cell small own_to has part =
-      subst (λ k. NodeFor p code input r line at to (arg_code p tables r line at to la (MixValue e range)) (ev_arg p input below (MixValue e range)) (ArgIn to k x.cells) q) (sym fits)
+      subst (λ k. NodeFor p code input r line at to (arg_code p tables r line at to la (MixValue e range))
+      (ev_arg p input below (MixValue e range)) (ArgIn to k x.cells) q) (sym fits)
       (number_arg kind.Mix x.cells ArgMix (λ n v now i. mix_value n i) e range to la at small own_to has part.1 part.0)
   arg_runs x (ByPlace d) to la at fits one_cell small own_to has part =
       let cells : desig_cells d ≡ x.cells = same_cells d ∙ fits.1 in
-      subst (λ k. NodeFor p code input r line at to (arg_code p tables r line at to la (ByPlace d)) (ev_arg p input below (ByPlace d)) (ArgIn to k x.cells) q) (sym fits.0)
-      (subst (λ n. NodeFor p code input r line at to (arg_code p tables r line at to la (ByPlace d)) (ev_arg p input below (ByPlace d)) (ArgIn to kind.Place n) q) cells
-      (place_arg kind.Place (desig_cells d) (desig_cells d) ArgPlace (λ y c v now alike. a_place y c alike) d to la at small own_to has part))
+      subst (λ k. NodeFor p code input r line at to (arg_code p tables r line at to la (ByPlace d)) (ev_arg p input below (ByPlace d))
+      (ArgIn to k x.cells) q) (sym fits.0)
+      (subst (λ n. NodeFor p code input r line at to (arg_code p tables r line at to la (ByPlace d)) (ev_arg p input below (ByPlace d))
+      (ArgIn to kind.Place n) q) cells
+      (place_arg kind.Place (desig_cells d) (desig_cells d) ArgPlace (λ y c v now alike. a_place y c alike) d to la at small own_to has
+      part))
   arg_runs x (ByCells d) to la at fits one_cell small own_to has part =
       let cells : desig_cells d ≡ x.cells = same_cells d ∙ fits.1 in
-      subst (λ k. NodeFor p code input r line at to (arg_code p tables r line at to la (ByCells d)) (ev_arg p input below (ByCells d)) (ArgIn to k x.cells) q) (sym fits.0)
-      (subst (λ n. NodeFor p code input r line at to (arg_code p tables r line at to la (ByCells d)) (ev_arg p input below (ByCells d)) (ArgIn to kind.Cells n) q) cells
-      (place_arg kind.Cells (desig_cells d) (desig_cells d) ArgCells (λ y c v now alike. some_cells y c alike) d to la at small own_to has part))
+      subst (λ k. NodeFor p code input r line at to (arg_code p tables r line at to la (ByCells d)) (ev_arg p input below (ByCells d))
+      (ArgIn to k x.cells) q) (sym fits.0)
+      (subst (λ n. NodeFor p code input r line at to (arg_code p tables r line at to la (ByCells d)) (ev_arg p input below (ByCells d))
+      (ArgIn to kind.Cells n) q) cells
+      (place_arg kind.Cells (desig_cells d) (desig_cells d) ArgCells (λ y c v now alike. some_cells y c alike) d to la at small own_to has
+      part))
   arg_runs x (MixPlace d) to la at fits one_cell small own_to has part =
       let of_mix : x.cells ≡ 1 = subst (λ k. HasOneCellAs k x.cells) fits.0 one_cell in
       let cells : desig_cells d ≡ 1 = same_cells d ∙ fits.1 ∙ of_mix in
-      subst (λ k. NodeFor p code input r line at to (arg_code p tables r line at to la (MixPlace d)) (ev_arg p input below (MixPlace d)) (ArgIn to k x.cells) q) (sym fits.0)
-      (place_arg kind.Mix x.cells (desig_cells d) ArgPlace (λ y c v now alike. mix_place y c (subst (λ n. PlaceAlike p code v now n y c) cells alike)) d to la at small own_to has part)
+      subst (λ k. NodeFor p code input r line at to (arg_code p tables r line at to la (MixPlace d)) (ev_arg p input below (MixPlace d))
+      (ArgIn to k x.cells) q) (sym fits.0)
+      (place_arg kind.Mix x.cells (desig_cells d) ArgPlace
+      (λ y c v now alike. mix_place y c (subst (λ n. PlaceAlike p code v now n y c) cells alike)) d to la at small own_to has part)
 
   -- ---- all arguments
 
-  pub handed_after : (lo : ℕ) (k : ArgKind) (n : ℕ) (a : ArgValue) (c : Cell) (v w : Store) (now later : List PlainFrame) → Begins p code input r v now → Left p code input lo r now w later → HandedAs p code v now k n a c → HandedAs p code w later k n a c
+  pub handed_after : (lo : ℕ) (k : ArgKind) (n : ℕ) (a : ArgValue) (c : Cell) (v w : Store) (now later : List PlainFrame)
+      → Begins p code input r v now → Left p code input lo r now w later → HandedAs p code v now k n a c → HandedAs p code w later k n a c
   handed_after lo k n a c v w now later b left (a_value x fits) = a_value x fits
   handed_after lo k n a c v w now later b left (mix_value x fits) = mix_value x fits
   handed_after lo k n a d v w now later b left (a_place y c alike) = a_place y c (alike_after n y c alike)
     where
       alike_after : (n : ℕ) (y : Place) (c : CellPlace) → PlaceAlike p code v now n y c → PlaceAlike p code w later n y c
-      alike_after n y c h = record { same = place_kept p code lo y c v w now later h.numbers.frame b.stand left.fits h.same; numbers = numbers_kept p code lo y v w now later b.stand left.fits h.numbers; size = h.size }
+      alike_after n y c h = record {
+        same = place_kept p code lo y c v w now later h.numbers.frame b.stand left.fits h.same;
+        numbers =
+            numbers_kept p code lo y v w now later b.stand left.fits h.numbers;
+        size = h.size;
+      }
   handed_after lo k n a d v w now later b left (mix_place y c alike) = mix_place y c (alike_after 1 y c alike)
     where
       alike_after : (n : ℕ) (y : Place) (c : CellPlace) → PlaceAlike p code v now n y c → PlaceAlike p code w later n y c
-      alike_after n y c h = record { same = place_kept p code lo y c v w now later h.numbers.frame b.stand left.fits h.same; numbers = numbers_kept p code lo y v w now later b.stand left.fits h.numbers; size = h.size }
+      alike_after n y c h = record {
+        same = place_kept p code lo y c v w now later h.numbers.frame b.stand left.fits h.same;
+        numbers =
+            numbers_kept p code lo y v w now later b.stand left.fits h.numbers;
+        size = h.size;
+      }
   handed_after lo k n a d v w now later b left (some_cells y c alike) = some_cells y c (alike_after n y c alike)
     where
       alike_after : (n : ℕ) (y : Place) (c : CellPlace) → PlaceAlike p code v now n y c → PlaceAlike p code w later n y c
-      alike_after n y c h = record { same = place_kept p code lo y c v w now later h.numbers.frame b.stand left.fits h.same; numbers = numbers_kept p code lo y v w now later b.stand left.fits h.numbers; size = h.size }
+      alike_after n y c h = record {
+        same = place_kept p code lo y c v w now later h.numbers.frame b.stand left.fits h.same;
+        numbers =
+            numbers_kept p code lo y v w now later b.stand left.fits h.numbers;
+        size = h.size;
+      }
 
   -- what stands for arguments, each in a slot of its own
   pub record ArgsHere (to : ℕ) (xs : List Param) (v : Store) (taken : List ArgValue) (now : List PlainFrame) : Type 0 where
@@ -264,16 +348,23 @@ module _ (p : Program) (tables : Tables) (code : PlainCode) (input : List ℕ) (
 
   abbrev pub ArgParts : (at to la : ℕ) → Args → Type 0
   ArgParts at to la no_args = Unit {0}
-  ArgParts at to la (more_args a rest) = ArgPart at la a × ArgParts (at + length (arg_code p tables r line at to la a)) (to + 1) (la + length (arg_slots p r a)) rest
+  ArgParts at to la (more_args a rest) = ArgPart at la a
+      × ArgParts (at + length (arg_code p tables r line at to la a)) (to + 1) (la + length (arg_slots p r a)) rest
 
-  pub args_run : (args : Args) (xs : List Param) (at to la : ℕ) → ArgsFit xs args → AllByRecursion (λ x. HasOneCellAs x.kind x.cells) xs → HasSlots p code r to (handed_slots args) → to + length (handed_slots args) ≤ la → ArgParts at to la args
+  pub args_run : (args : Args) (xs : List Param) (at to la : ℕ) → ArgsFit xs args → AllByRecursion (λ x. HasOneCellAs x.kind x.cells) xs
+      → HasSlots p code r to (handed_slots args) → to + length (handed_slots args) ≤ la → ArgParts at to la args
       → Stands code at (args_code p tables r line at to la args) → (v : Store) (now : List PlainFrame) → Begins p code input r v now
-      → Runs code input line at (at + length (args_code p tables r line at to la args)) now (leaving p code input to r now (ArgsIn to xs)) (ev_args p input below args v) q
+      → Runs code input line at (at + length (args_code p tables r line at to la args)) now (leaving p code input to r now (ArgsIn to xs))
+      (ev_args p input below args v) q
   unfolding ev_stmts
   args_run no_args [] at to la fits ones slots room parts stands v now b c le held s is =
       let e : at ≡ at + 0 = omega arith in
-      one_goes code input line c 0 (Leaves (at + 0) (leaving p code input to r now (ArgsIn to []))) held v [] s c q (omega arith) (record { mode = is.mode; entries = is.entries })
-      (is.here ∙ e, subst (λ t. Left p code input to r now v t × ArgsIn to [] v [] t) (sym is.frames) (left_self p code input to r v now b, record { cells = []; handed = tt; there = tt }))
+      one_goes code input line c 0 (Leaves (at + 0) (leaving p code input to r now (ArgsIn to []))) held v [] s c q (omega arith)
+      (record { mode = is.mode; entries = is.entries }) (
+        is.here ∙ e,
+        subst (λ t. Left p code input to r now v t × ArgsIn to [] v [] t) (sym is.frames)
+            (left_self p code input to r v now b, record { cells = []; handed = tt; there = tt }),
+      )
   args_run no_args (x ∷ xs) at to la fits ones slots room parts stands v now b c le held s is = absurd fits
   args_run (more_args a rest) [] at to la fits ones slots room parts stands v now b c le held s is = absurd fits
   args_run (more_args a rest) (x ∷ xs) at to la fits ones slots room parts stands v now b c le held s is =
@@ -284,13 +375,20 @@ module _ (p : Program) (tables : Tables) (code : PlainCode) (input : List ℕ) (
       let whole : length (first ++ second) ≡ length first + length second = length-append first second in
       let end : m + length second ≡ exit = omega (arith, whole) in
       let w : Ways (List ArgValue) = leaving p code input to r now (ArgsIn to (x ∷ xs)) in
-      bind_goes code input line c c 0 (Leaves m (leaving p code input to r now (ArgIn to x.kind x.cells))) (Leaves exit w) held (ev_arg p input below a v) (λ t taken. bind (ev_args p input below rest t) (λ u others. one u (taken ∷ others))) s c q c (omega arith) (omega arith)
+      bind_goes code input line c c 0 (Leaves m (leaving p code input to r now (ArgIn to x.kind x.cells))) (Leaves exit w) held
+      (ev_arg p input below a v) (λ t taken. bind (ev_args p input below rest t) (λ u others. one u (taken ∷ others))) s c q c
+      (omega arith) (omega arith)
       (as_runs p code input line at m now (leaving p code input to r now (ArgIn to x.kind x.cells)) (ev_arg p input below a v) q
-      (arg_runs x a to la at fits.0 ones.0 (omega (arith, room)) slots.behind (first_kind p code input r to (arg_kind a) (handed_slots rest) slots) parts.0 (stands_front code at first second stands) v now b) c le held s is)
+      (arg_runs x a to la at fits.0 ones.0 (omega (arith, room)) slots.behind
+      (first_kind p code input r to (arg_kind a) (handed_slots rest) slots) parts.0 (stands_front code at first second stands) v now b)
+      c le held s is)
       (λ v1 taken t base going left.
       let b1 : Begins p code input r v1 t.now = begins p code input to r now v1 t.now left.1.0 in
-      bind_goes code input line c c 0 (Leaves (m + length second) (leaving p code input (to + 1) r t.now (ArgsIn (to + 1) xs))) (Leaves exit w) base (ev_args p input below rest v1) (λ u others. one u (taken ∷ others)) t c q c (omega arith) (omega arith)
-      (args_run rest xs m (to + 1) (la + length (arg_slots p r a)) fits.1 ones.1 (slots_behind p code input r to (arg_kind a ∷ []) (handed_slots rest) slots) (omega (arith, room)) parts.1 (stands_back code at first second stands) v1 t.now b1 c le base t
+      bind_goes code input line c c 0 (Leaves (m + length second) (leaving p code input (to + 1) r t.now (ArgsIn (to + 1) xs)))
+      (Leaves exit w) base (ev_args p input below rest v1) (λ u others. one u (taken ∷ others)) t c q c (omega arith) (omega arith)
+      (args_run rest xs m (to + 1) (la + length (arg_slots p r a)) fits.1 ones.1
+      (slots_behind p code input r to (arg_kind a ∷ []) (handed_slots rest) slots) (omega (arith, room)) parts.1
+      (stands_back code at first second stands) v1 t.now b1 c le base t
       (record { mode = going.mode; here = left.0; frames = refl; entries = going.entries }))
       (λ v2 others t2 base2 going2 left2.
       let one_more = left2.1.0 in
@@ -300,8 +398,15 @@ module _ (p : Program) (tables : Tables) (code : PlainCode) (input : List ℕ) (
           left_on p code input to (to + 1) r now v1 v2 t.now t2.now (omega arith) left.1.0 one_more,
           record {
             cells = left.1.1.cell ∷ left2.1.1.cells;
-            handed = (handed_after (to + 1) x.kind x.cells taken left.1.1.cell v1 v2 t.now t2.now b1 one_more left.1.1.handed, left2.1.1.handed);
-            there = (holds_after p code input (to + 1) r to left.1.1.cell v1 v2 t.now t2.now b1 slots.behind (omega arith) one_more left.1.1.holds, let e : to + 1 ≡ suc to = omega arith in subst (λ n. HeldFrom t2.now n left2.1.1.cells) e left2.1.1.there);
+            handed = (
+              handed_after (to + 1) x.kind x.cells taken left.1.1.cell v1 v2 t.now t2.now b1 one_more left.1.1.handed,
+              left2.1.1.handed,
+            );
+            there = (
+              holds_after p code input (to + 1) r to left.1.1.cell v1 v2 t.now t2.now b1 slots.behind (omega arith) one_more
+                  left.1.1.holds,
+              let e : to + 1 ≡ suc to = omega arith in subst (λ n. HeldFrom t2.now n left2.1.1.cells) e left2.1.1.there,
+            );
           },
         ),
       ))

@@ -1,6 +1,7 @@
 -- What the induction over the phrases of a routine is given: what a checked program keeps and what its tables hold, phrase by
 -- phrase, and the lines that are still to be handed out.
-use Rattle.std.proofs.Common.{◌≡◌, ℕ, zero, suc, ◌+◌, ◌<◌, ◌≤◌, Bool, true, false, List, [], ◌∷◌, ◌++◌, length, get_or, drop, Some, None, refl, ap, ◌∙◌, subst, arith, ℤ}
+use Rattle.std.proofs.Common.{◌≡◌, ℕ, zero, suc, ◌+◌, ◌<◌, ◌≤◌, Bool, true, false, List, [], ◌∷◌, ◌++◌, length, get_or, drop, Some, None}
+use Rattle.std.proofs.Common.{refl, ap, ◌∙◌, subst, arith, ℤ}
 use Rattle.std.specs.Prelude.{slice_get}
 use Rattle.std.specs.List.{AllByRecursion}
 use Rattle.alma_base.specs.Numbers.{within, is_integer}
@@ -9,18 +10,25 @@ use Rattle.alma_code.specs.declared.cell.SlotKind.{SlotKind}
 use Rattle.alma_code.specs.declared.cell.SlotKind.TheVariants as slot
 use Rattle.alma_code.specs.Plain.{PlainCode}
 use Rattle.alma_ir.specs.declared.phrase.Cmp.{Cmp}
-use Rattle.alma_ir.specs.Tree.{Program, Stmt, Test, Expr, Arg, Args, Desig, Sels, Sel, routine_at, TestStmt, Assign, CopyCells, If, While, Repeat, ForTo, SomeOf, Case, Either, Forall, Commit, Return, Read, WriteExpr, WriteText, WriteLine, Bind, Unify, Value, Const, Compare, Chr, ByValue, MixValue, Index, a_loop, a_desig, no_sels, more_sels, Field, no_args, more_args, ByCells, ByPlace, MixPlace}
+use Rattle.alma_ir.specs.Tree.{Program, Stmt, Test, Expr, Arg, Args, Desig, Sels, Sel, routine_at, TestStmt, Assign, CopyCells, If, While}
+use Rattle.alma_ir.specs.Tree.{Repeat, ForTo, SomeOf, Case, Either, Forall, Commit, Return, Read, WriteExpr, WriteText, WriteLine, Bind}
+use Rattle.alma_ir.specs.Tree.{Unify, Value, Const, Compare, Chr, ByValue, MixValue, Index, a_loop, a_desig, no_sels, more_sels, Field}
+use Rattle.alma_ir.specs.Tree.{no_args, more_args, ByCells, ByPlace, MixPlace}
 use Rattle.alma_ir.specs.declared.program.Param.{Param}
 use Rattle.alma_ir.specs.Lines.{stmt_count, behind, desig_with, sels_with, sel_with, args_with, arg_with}
-use Rattle.alma_ir.specs.Phrases.{Phrase, StmtPhrase, TestPhrase, ExprPhrase, ArgPhrase, DesigPhrase, SelPhrase, stmt_phrases, arg_phrases, sel_phrases}
-use Rattle.alma_ir.specs.Checked.{RootExists, PartsExist, CellsAgree, LoopIsApart, loops_of, CalleeExists, CallLeads, CallFits, ResultAgrees, HasChoice, ReturnAgrees, ReturnsStay, IsNoReturn, ArgsFit, ArgFits, sel_cells, cells_after, desig_cells}
+use Rattle.alma_ir.specs.Phrases.{Phrase, StmtPhrase, TestPhrase, ExprPhrase, ArgPhrase, DesigPhrase, SelPhrase, stmt_phrases, arg_phrases}
+use Rattle.alma_ir.specs.Phrases.{sel_phrases}
+use Rattle.alma_ir.specs.Checked.{RootExists, PartsExist, CellsAgree, LoopIsApart, loops_of, CalleeExists, CallLeads, CallFits}
+use Rattle.alma_ir.specs.Checked.{ResultAgrees, HasChoice, ReturnAgrees, ReturnsStay, IsNoReturn, ArgsFit, ArgFits, sel_cells, cells_after}
+use Rattle.alma_ir.specs.Checked.{desig_cells}
 use Rattle.alma_ir.proofs.Each.{each_of_front, each_of_back}
 use Rattle.alma_ir.proofs.LinesBack.{count_sum, behind_two}
 use Rattle.alma_mean.specs.Meaning.{Level}
 use Rattle.alma_lower_implements.proofs.Frames.{HasSlots, shift}
 use Rattle.alma_lower_implements.proofs.ExprRows.{AreVariables, slots_behind}
 use Rattle.alma_lower_templates.specs.Tables.{Tables, range_number, text_number, is_whole}
-use Rattle.alma_lower_templates.specs.Slots.{bare, bare_desig, unless_bare, ends_alone, own_place, is_simple, is_simple_expr, mark_slots, expr_slots, desig_slots, test_slots}
+use Rattle.alma_lower_templates.specs.Slots.{bare, bare_desig, unless_bare, ends_alone, own_place, is_simple, is_simple_expr, mark_slots}
+use Rattle.alma_lower_templates.specs.Slots.{expr_slots, desig_slots, test_slots}
 use Rattle.alma_lower_templates.specs.Pieces.{straight}
 use Rattle.alma_lower_templates.specs.Templates.{char_range, expr_code}
 use Rattle.alma_lower_templates.proofs.AtOnce.{BareFits, AtOnce}
@@ -85,7 +93,8 @@ after_with : (sels : Sels) (cells : ℕ) (ls : List ℕ) → cells_after (sels_w
 unfolding sel_with
 after_with no_sels cells ls = refl
 after_with (more_sels x rest) cells ls =
-    ap (cells_after (sels_with rest (behind (sel_phrases x) ls))) (sel_cells_with x ls) ∙ after_with rest (sel_cells x) (behind (sel_phrases x) ls)
+    ap (cells_after (sels_with rest (behind (sel_phrases x) ls))) (sel_cells_with x ls)
+    ∙ after_with rest (sel_cells x) (behind (sel_phrases x) ls)
 
 pub cells_with : (d : Desig) (ls : List ℕ) → desig_cells (desig_with d ls) ≡ desig_cells d
 unfolding sel_with
@@ -150,11 +159,29 @@ module _ (p : Program) (tables : Tables) (code : PlainCode) (input : List ℕ) w
     pub stay : ReturnsStay x
     pub coded : Coded x
 
-  pub asked_all : (r : ℕ) (xs : List Phrase) → AllByRecursion (RootExists p r (routine_at p r)) xs → AllByRecursion PartsExist xs → AllByRecursion CellsAgree xs → AllByRecursion (λ x. AllByRecursion (LoopIsApart p r) (loops_of x)) xs → AllByRecursion (CalleeExists p) xs → AllByRecursion (ResultAgrees p) xs
-      → AllByRecursion (CallLeads p r (routine_at p r)) xs → AllByRecursion (CallFits p) xs → AllByRecursion HasChoice xs → AllByRecursion (ReturnAgrees (routine_at p r)) xs → AllByRecursion ReturnsStay xs → AllByRecursion Coded xs → AllByRecursion (Asked r) xs
+  pub asked_all : (r : ℕ) (xs : List Phrase) → AllByRecursion (RootExists p r (routine_at p r)) xs → AllByRecursion PartsExist xs
+      → AllByRecursion CellsAgree xs → AllByRecursion (λ x. AllByRecursion (LoopIsApart p r) (loops_of x)) xs
+      → AllByRecursion (CalleeExists p) xs → AllByRecursion (ResultAgrees p) xs
+      → AllByRecursion (CallLeads p r (routine_at p r)) xs → AllByRecursion (CallFits p) xs → AllByRecursion HasChoice xs
+      → AllByRecursion (ReturnAgrees (routine_at p r)) xs → AllByRecursion ReturnsStay xs → AllByRecursion Coded xs
+      → AllByRecursion (Asked r) xs
   asked_all r [] a b c d e f g h i j k l = tt
   asked_all r (x ∷ xs) a b c d e f g h i j k l = (
-    record { root = a.0; parts = b.0; cells = c.0; loops = d.0; callee = e.0; result = f.0; leads = g.0; fits = h.0; choice = i.0; return = j.0; stay = k.0; coded = l.0 },
+    record {
+      root = a.0;
+      parts = b.0;
+      cells = c.0;
+      loops = d.0;
+      callee = e.0;
+      result = f.0;
+      leads = g.0;
+      fits = h.0;
+      choice = i.0;
+      return =
+          j.0;
+      stay = k.0;
+      coded = l.0;
+    },
     asked_all r xs a.1 b.1 c.1 d.1 e.1 f.1 g.1 h.1 i.1 j.1 k.1 l.1,
   )
 
@@ -164,22 +191,38 @@ module _ (p : Program) (tables : Tables) (code : PlainCode) (input : List ℕ) w
     pub lines : Known xs ls
 
   pub fine_front : (r : ℕ) (xs ys : List Phrase) (ls : List ℕ) → Fine r (xs ++ ys) ls → Fine r xs ls
-  fine_front r xs ys ls h = record { asked = each_of_front (Asked r) xs ys h.asked; lines = record { positive = h.lines.positive; enough = omega (arith, h.lines.enough, count_sum xs ys) } }
+  fine_front r xs ys ls h = record {
+    asked = each_of_front (Asked r) xs ys h.asked;
+    lines =
+        record { positive = h.lines.positive; enough = omega (arith, h.lines.enough, count_sum xs ys) };
+  }
 
   pub fine_back : (r : ℕ) (xs ys : List Phrase) (ls : List ℕ) → Fine r (xs ++ ys) ls → Fine r ys (behind xs ls)
   fine_back r xs ys ls h = record {
     asked = each_of_back (Asked r) xs ys h.asked;
-    lines = record { positive = each_drop (λ l. 0 < l) (stmt_count xs) ls h.lines.positive; enough = omega (arith, h.lines.enough, count_sum xs ys, drop_long (stmt_count xs) ls) };
+    lines = record {
+      positive = each_drop (λ l. 0 < l) (stmt_count xs) ls h.lines.positive;
+      enough =
+          omega (arith, h.lines.enough, count_sum xs ys, drop_long (stmt_count xs) ls);
+    };
   }
 
   -- where the lines of the second list come first
   pub swapped_first : (r : ℕ) (xs ys : List Phrase) (ls : List ℕ) → Fine r (xs ++ ys) ls → Fine r ys ls
-  swapped_first r xs ys ls h = record { asked = each_of_back (Asked r) xs ys h.asked; lines = record { positive = h.lines.positive; enough = omega (arith, h.lines.enough, count_sum xs ys) } }
+  swapped_first r xs ys ls h = record {
+    asked = each_of_back (Asked r) xs ys h.asked;
+    lines =
+        record { positive = h.lines.positive; enough = omega (arith, h.lines.enough, count_sum xs ys) };
+  }
 
   pub swapped_second : (r : ℕ) (xs ys : List Phrase) (ls : List ℕ) → Fine r (xs ++ ys) ls → Fine r xs (behind ys ls)
   swapped_second r xs ys ls h = record {
     asked = each_of_front (Asked r) xs ys h.asked;
-    lines = record { positive = each_drop (λ l. 0 < l) (stmt_count ys) ls h.lines.positive; enough = omega (arith, h.lines.enough, count_sum xs ys, drop_long (stmt_count ys) ls) };
+    lines = record {
+      positive = each_drop (λ l. 0 < l) (stmt_count ys) ls h.lines.positive;
+      enough =
+          omega (arith, h.lines.enough, count_sum xs ys, drop_long (stmt_count ys) ls);
+    };
   }
 
   -- of three lists, and of four
@@ -192,7 +235,8 @@ module _ (p : Program) (tables : Tables) (code : PlainCode) (input : List ℕ) w
   pub fine_first : (r : ℕ) (xs ys zs : List Phrase) (ls : List ℕ) → Fine r ((xs ++ ys) ++ zs) ls → Fine r xs ls
   fine_first r xs ys zs ls h = fine_front r xs ys ls (fine_front r (xs ++ ys) zs ls h)
 
-  pub fine_fourth : (r : ℕ) (xs ys zs us : List Phrase) (ls : List ℕ) → Fine r (((xs ++ ys) ++ zs) ++ us) ls → Fine r us (behind zs (behind ys (behind xs ls)))
+  pub fine_fourth : (r : ℕ) (xs ys zs us : List Phrase) (ls : List ℕ) → Fine r (((xs ++ ys) ++ zs) ++ us) ls
+      → Fine r us (behind zs (behind ys (behind xs ls)))
   fine_fourth r xs ys zs us ls h = subst (λ l. Fine r us (behind zs l)) (behind_two xs ys ls) (fine_third r (xs ++ ys) zs us ls h)
 
   -- inside of one phrase
@@ -212,7 +256,11 @@ module _ (p : Program) (tables : Tables) (code : PlainCode) (input : List ℕ) w
   fine_sel r x rest ls h = record { asked = h.asked.1; lines = record { positive = h.lines.positive; enough = h.lines.enough } }
 
   pub fine_stmt : (r : ℕ) (x : Stmt) (rest : List Phrase) (ls : List ℕ) → Fine r (StmtPhrase x ∷ rest) ls → Fine r rest (drop 1 ls)
-  fine_stmt r x rest ls h = record { asked = h.asked.1; lines = record { positive = each_drop (λ l. 0 < l) 1 ls h.lines.positive; enough = omega (arith, h.lines.enough, drop_long 1 ls) } }
+  fine_stmt r x rest ls h = record {
+    asked = h.asked.1;
+    lines =
+        record { positive = each_drop (λ l. 0 < l) 1 ls h.lines.positive; enough = omega (arith, h.lines.enough, drop_long 1 ls) };
+  }
 
   pub has_line : (r : ℕ) (x : Stmt) (ls : List ℕ) → Fine r (stmt_phrases x) ls → 1 ≤ get_or ls 0 0
   has_line r x ls h = first_positive ls h.lines.positive (omega (arith, h.lines.enough, some_stmt x))
@@ -239,44 +287,59 @@ module _ (p : Program) (tables : Tables) (code : PlainCode) (input : List ℕ) w
     pub record OperandsGo (a b : Expr) : Type 0 where
       pub fits : BareFits p tables code input below r line q (bare a)
       pub first : (at lo : ℕ) → HasSlots p code r lo (expr_slots p r a) → ExprRuns p tables code input below r line q at lo a
-      pub second : (lo : ℕ) → HasSlots p code r lo (unless_bare (bare b) (expr_slots p r b)) → NextRuns p tables code input below r line q lo b
+      pub second : (lo : ℕ) → HasSlots p code r lo (unless_bare (bare b) (expr_slots p r b))
+          → NextRuns p tables code input below r line q lo b
 
     pub record ExprGoes (x : Expr) : Type 0 where
       pub fits : BareFits p tables code input below r line q (bare x)
       pub constants : ConstantFits p tables code input below r line q x
       pub runs : (at lo : ℕ) → HasSlots p code r lo (expr_slots p r x) → ExprRuns p tables code input below r line q at lo x
       pub operands : (how : Cmp) (a b : Expr) → x ≡ Compare how a b → OperandsGo a b
-      pub straightly : (to at lo : ℕ) → ends_alone x ≡ true → AreVariables p code input r to 1 → HasSlots p code r lo (expr_slots p r x) → RunsTo p tables code input below r line q (into p code input to lo r) at (straight (shift p r + to) (expr_code p tables r line at lo x)) x
+      pub straightly : (to at lo : ℕ) → ends_alone x ≡ true → AreVariables p code input r to 1 → HasSlots p code r lo (expr_slots p r x)
+          → RunsTo p tables code input below r line q (into p code input to lo r)
+          at (straight (shift p r + to) (expr_code p tables r line at lo x)) x
 
     pub record TestGoes (t : Test) : Type 0 where
       pub runs : (at lo : ℕ) → HasSlots p code r lo (test_slots p r t) → TestRuns p tables code input below r line q at lo t
       pub value : (x : Expr) → t ≡ Value x → ExprGoes x
 
-    pub once : (x : Expr) → ExprGoes x → (at lo : ℕ) → HasSlots p code r lo (unless_bare (bare x) (expr_slots p r x)) → AtOnce p tables code input below r line q at lo x
-    once x h at lo slots = record { fits = h.fits; runs = λ none. h.runs at lo (subst (λ o. HasSlots p code r lo (unless_bare o (expr_slots p r x))) none slots) }
+    pub once : (x : Expr) → ExprGoes x → (at lo : ℕ) → HasSlots p code r lo (unless_bare (bare x) (expr_slots p r x))
+        → AtOnce p tables code input below r line q at lo x
+    once x h at lo slots = record {
+      fits = h.fits;
+      runs =
+          λ none. h.runs at lo (subst (λ o. HasSlots p code r lo (unless_bare o (expr_slots p r x))) none slots);
+    }
 
     -- behind a first operand
-    pub behind_first : (x : Expr) → ExprGoes x → (lo : ℕ) → HasSlots p code r lo (unless_bare (bare x) (expr_slots p r x)) → NextRuns p tables code input below r line q lo x
+    pub behind_first : (x : Expr) → ExprGoes x → (lo : ℕ) → HasSlots p code r lo (unless_bare (bare x) (expr_slots p r x))
+        → NextRuns p tables code input below r line q lo x
     behind_first x h lo slots = record { once = λ at. once x h at lo slots; constants = h.constants; slots = slots }
 
-    pub target : (d : Desig) → DesigGoes d → (at lo : ℕ) → HasSlots p code r lo (unless_bare (bare_desig d) (desig_slots p r d)) → bare_desig d ≡ None → DesigRuns p tables code input below r line q at lo d
+    pub target : (d : Desig) → DesigGoes d → (at lo : ℕ) → HasSlots p code r lo (unless_bare (bare_desig d) (desig_slots p r d))
+        → bare_desig d ≡ None → DesigRuns p tables code input below r line q at lo d
     target d h at lo slots none = h.runs at lo (subst (λ o. HasSlots p code r lo (unless_bare o (desig_slots p r d))) none slots)
 
     -- the variable of a loop, behind the slot of its count
-    pub variable : (d : Desig) → DesigGoes d → (at lo : ℕ) → HasSlots p code r lo (unless_bare (bare_desig d) (slot.Number ∷ desig_slots p r d)) → bare_desig d ≡ None → DesigRuns p tables code input below r line q at (lo + 1) d
+    pub variable : (d : Desig) → DesigGoes d → (at lo : ℕ)
+        → HasSlots p code r lo (unless_bare (bare_desig d) (slot.Number ∷ desig_slots p r d)) → bare_desig d ≡ None
+        → DesigRuns p tables code input below r line q at (lo + 1) d
     variable d h at lo slots none =
-        h.runs at (lo + 1) (slots_behind p code input r lo (slot.Number ∷ []) (desig_slots p r d) (subst (λ o. HasSlots p code r lo (unless_bare o (slot.Number ∷ desig_slots p r d))) none slots))
+        h.runs at (lo + 1) (slots_behind p code input r lo (slot.Number ∷ []) (desig_slots p r d)
+        (subst (λ o. HasSlots p code r lo (unless_bare o (slot.Number ∷ desig_slots p r d))) none slots))
 
     simple_slots : (z : Bool) (lo : ℕ) (xs : List SlotKind) → z ≡ true → HasSlots p code r lo (mark_slots z ++ xs) → HasSlots p code r lo xs
     simple_slots true lo xs e h = h
     simple_slots false lo xs e h = absurd (let bad : false ≡ true = e in cc)
 
-    marked_slots : (z : Bool) (lo : ℕ) (xs : List SlotKind) → z ≡ false → HasSlots p code r lo (mark_slots z ++ xs) → HasSlots p code r (lo + 1) xs
+    marked_slots : (z : Bool) (lo : ℕ) (xs : List SlotKind) → z ≡ false → HasSlots p code r lo (mark_slots z ++ xs)
+        → HasSlots p code r (lo + 1) xs
     marked_slots false lo xs e h = slots_behind p code input r lo (slot.Mark ∷ []) xs h
     marked_slots true lo xs e h = absurd (let bad : true ≡ false = e in cc)
 
     -- a test as a condition
-    pub decides : (t : Test) → TestGoes t → (at lo none : ℕ) → HasSlots p code r lo (mark_slots (is_simple t) ++ test_slots p r t) → Decided p tables code input below r line q at lo none t (ev_test p input below t) q
+    pub decides : (t : Test) → TestGoes t → (at lo none : ℕ) → HasSlots p code r lo (mark_slots (is_simple t) ++ test_slots p r t)
+        → Decided p tables code input below r line q at lo none t (ev_test p input below t) q
     decides t h at lo none slots =
         decided p tables code input below r line q at lo none t slots (record {
           value = λ x is simple. once x (h.value x is) at lo (value_slots x is simple);
@@ -284,4 +347,5 @@ module _ (p : Program) (tables : Tables) (code : PlainCode) (input : List ℕ) w
         })
       where
         value_slots : (x : Expr) → t ≡ Value x → is_simple_expr x ≡ true → HasSlots p code r lo (unless_bare (bare x) (expr_slots p r x))
-        value_slots x is simple = simple_slots (is_simple_expr x) lo (unless_bare (bare x) (expr_slots p r x)) simple (subst (λ u. HasSlots p code r lo (mark_slots (is_simple u) ++ test_slots p r u)) is slots)
+        value_slots x is simple = simple_slots (is_simple_expr x) lo (unless_bare (bare x) (expr_slots p r x)) simple
+            (subst (λ u. HasSlots p code r lo (mark_slots (is_simple u) ++ test_slots p r u)) is slots)

@@ -26,9 +26,13 @@ some_is : {A : Type 0} (o : Option A) → IsSome o → (a : A) × (o ≡ Some a)
 some_is None h = absurd (cc)
 some_is (Some a) h = (a, refl)
 
-module _ (p : Program) (tables : Tables) (code : PlainCode) (all : List (List Run)) (is : code ≡ program_code p tables all) (count : length all ≡ length p.routines) (names : (r : ℕ) → r < length p.routines → kinds_of 0 (get_or all r []) ≡ routine_kinds p r) (checked : IsChecked p)
-    (input : List ℕ) (below : Level) (q : ℕ) (routines : (r : ℕ) → r < length p.routines → RoutineRuns p tables code input below r q) (r line : ℕ) (exists : r < length p.routines) where
-  callee_of : (called up : ℕ) → (0 < called) × (called < length p.routines) → LinksAgree p r (routine_at p r) called up → Callee p tables code input below r line (suc q) called up
+module _ (p : Program) (tables : Tables) (code : PlainCode) (all : List (List Run)) (is : code ≡ program_code p tables all)
+    (count : length all ≡ length p.routines) (names : (r : ℕ) → r < length p.routines → kinds_of 0 (get_or all r []) ≡ routine_kinds p r)
+    (checked : IsChecked p)
+    (input : List ℕ) (below : Level) (q : ℕ) (routines : (r : ℕ) → r < length p.routines → RoutineRuns p tables code input below r q)
+    (r line : ℕ) (exists : r < length p.routines) where
+  callee_of : (called up : ℕ) → (0 < called) × (called < length p.routines) → LinksAgree p r (routine_at p r) called up
+      → Callee p tables code input below r line (suc q) called up
   callee_of called up there leads = record {
     named = get_or code.routines called plain.no_routine;
     is = routine_compiled p tables code all is count names called there.1;
@@ -41,16 +45,26 @@ module _ (p : Program) (tables : Tables) (code : PlainCode) (all : List (List Ru
   }
 
   -- a call as a test
-  pub test_call_runs : (called up : ℕ) (args : Args) (at lo : ℕ) → CalleeExists p (TestPhrase (CallTest called args up)) → CallLeads p r (routine_at p r) (TestPhrase (CallTest called args up)) → CallFits p (TestPhrase (CallTest called args up)) → ResultAgrees p (TestPhrase (CallTest called args up))
-      → HasSlots p code r lo (test_slots p r (CallTest called args up)) → ((m first : ℕ) → HasSlots p code r (first + length (handed_slots args)) (args_slots p r args) → ArgParts p tables code input below r line (suc q) m first (first + length (handed_slots args)) args)
+  pub test_call_runs : (called up : ℕ) (args : Args) (at lo : ℕ) → CalleeExists p (TestPhrase (CallTest called args up))
+      → CallLeads p r (routine_at p r) (TestPhrase (CallTest called args up)) → CallFits p (TestPhrase (CallTest called args up))
+      → ResultAgrees p (TestPhrase (CallTest called args up))
+      → HasSlots p code r lo (test_slots p r (CallTest called args up))
+      → ((m first : ℕ) → HasSlots p code r (first + length (handed_slots args)) (args_slots p r args)
+      → ArgParts p tables code input below r line (suc q) m first (first + length (handed_slots args)) args)
       → TestRuns p tables code input below r line (suc q) at lo (CallTest called args up)
   test_call_runs called up args at lo there leads fits result slots parts =
-      call_test_runs p tables code input below r line q called up (callee_of called up there leads) (routines called there.1) (none_is (routine_at p called).result result) args lo at fits slots parts
+      call_test_runs p tables code input below r line q called up (callee_of called up there leads) (routines called there.1)
+      (none_is (routine_at p called).result result) args lo at fits slots parts
 
   -- a call in an expression
-  pub expr_call_runs : (called up : ℕ) (args : Args) (at lo : ℕ) → CalleeExists p (ExprPhrase (CallExpr called args up)) → CallLeads p r (routine_at p r) (ExprPhrase (CallExpr called args up)) → CallFits p (ExprPhrase (CallExpr called args up)) → ResultAgrees p (ExprPhrase (CallExpr called args up))
-      → HasSlots p code r lo (expr_slots p r (CallExpr called args up)) → ((m first : ℕ) → HasSlots p code r (first + length (handed_slots args)) (args_slots p r args) → ArgParts p tables code input below r line (suc q) m first (first + length (handed_slots args)) args)
+  pub expr_call_runs : (called up : ℕ) (args : Args) (at lo : ℕ) → CalleeExists p (ExprPhrase (CallExpr called args up))
+      → CallLeads p r (routine_at p r) (ExprPhrase (CallExpr called args up)) → CallFits p (ExprPhrase (CallExpr called args up))
+      → ResultAgrees p (ExprPhrase (CallExpr called args up))
+      → HasSlots p code r lo (expr_slots p r (CallExpr called args up))
+      → ((m first : ℕ) → HasSlots p code r (first + length (handed_slots args)) (args_slots p r args)
+      → ArgParts p tables code input below r line (suc q) m first (first + length (handed_slots args)) args)
       → ExprRuns p tables code input below r line (suc q) at lo (CallExpr called args up)
   expr_call_runs called up args at lo there leads fits result slots parts =
       let some = some_is (routine_at p called).result result in
-      call_expr_runs p tables code input below r line q called up (callee_of called up there leads) (routines called there.1) some.0 some.1 (checked.lines called there.1).line args lo at fits slots parts
+      call_expr_runs p tables code input below r line q called up (callee_of called up there leads) (routines called there.1) some.0 some.1
+      (checked.lines called there.1).line args lo at fits slots parts

@@ -1,5 +1,6 @@
 -- CASE, from template to run: labels, arms and the ELSE part.
-use Rattle.std.proofs.Common.{◌≡◌, ◌≢◌, ℕ, suc, ◌+◌, ◌*◌, ◌<◌, ◌≤◌, Bool, true, false, List, [], ◌∷◌, ◌++◌, length, Some, refl, sym, ap, ◌∙◌, subst, arith, ℤ}
+use Rattle.std.proofs.Common.{◌≡◌, ◌≢◌, ℕ, suc, ◌+◌, ◌*◌, ◌<◌, ◌≤◌, Bool, true, false, List, [], ◌∷◌, ◌++◌, length, Some, refl, sym, ap}
+use Rattle.std.proofs.Common.{◌∙◌, subst, arith, ℤ}
 use Rattle.std.specs.Prelude.{slice_get, int_le, ◌&&◌}
 use Rattle.std.proofs.lemmas.List.{length-append}
 use Rattle.alma_base.specs.Choice.{if_true}
@@ -23,7 +24,8 @@ use Rattle.alma_lower_implements.proofs.FrameLemmas.{holds_other}
 use Rattle.alma_lower_implements.proofs.ChoiceSteps.{jumps}
 use Rattle.alma_lower_implements.proofs.EitherRow.{inner_goes}
 use Rattle.alma_lower_implements.proofs.ExprRows.{some_frames}
-use Rattle.alma_lower_implements.proofs.Steps.{top_written, Holds, Writes, InstrAt, const_step, less_eq_step, zero_jumps, other_goes_on, fault_step}
+use Rattle.alma_lower_implements.proofs.Steps.{top_written, Holds, Writes, InstrAt, const_step, less_eq_step, zero_jumps, other_goes_on}
+use Rattle.alma_lower_implements.proofs.Steps.{fault_step}
 use Rattle.alma_lower_implements.proofs.Ways.{Ways, Leaves, LeadsTo, leads_nowhere, leads_by_jump, leads_then}
 use Rattle.alma_lower_templates.specs.Lined.{Lined, own}
 use Rattle.alma_lower_templates.specs.Tables.{Tables}
@@ -32,126 +34,196 @@ use Rattle.alma_lower_templates.specs.Pieces.{last_label_code, labels_code, behi
 use Rattle.alma_lower_templates.specs.Templates.{stmts_code, expr_code, dead_code, case_code, cases_code, else_code}
 use Rattle.alma_lower_templates.specs.Stands.{Stands}
 use Rattle.alma_lower_templates.proofs.Stands.{stands_front, stands_back}
-use Rattle.alma_lower_templates.proofs.Parts.{Begins, begins, Left, left_self, left_temp, has_kind, holds_temp, IsValue, ValueIn, From, ending, from_more, from_ending, on_ending, then_ending, as_runs, node_runs, faults_here}
+use Rattle.alma_lower_templates.proofs.Parts.{Begins, begins, Left, left_self, left_temp, has_kind, holds_temp, IsValue, ValueIn, From}
+use Rattle.alma_lower_templates.proofs.Parts.{ending, from_more, from_ending, on_ending, then_ending, as_runs, node_runs, faults_here}
 use Rattle.alma_lower_templates.proofs.RangeChecks.{past_from}
 use Rattle.alma_lower_templates.proofs.FormRuns.{ExprRuns, StatementRuns, ListRuns}
 
 module _ (p : Program) (tables : Tables) (code : PlainCode) (input : List ℕ) (below : Level) (r line q : ℕ) (may : Bool) where
   -- ---- one label; the number stands in the slot lo
 
-  module _ (lo bound exit : ℕ) (v : Store) (n : ℤ) (apart : lo < bound) (behind : own_end p r ≤ lo) (kind : slice_get (kinds_at code r) bound ≡ Some slot.Number) (kind2 : slice_get (kinds_at code r) (bound + 1) ≡ Some slot.Number) where
-    -- what goes on at an address, from any frames with the number in its slot
-    abbrev pub GoesAt : (c at : ℕ) → Events NoYield → Type 0
-    GoesAt c at e = (now : List PlainFrame) → Begins p code input r v now → IsValue p code input lo n now → From p code input line c at exit now (ending p code input may lo r now) e q
+  module _ (lo bound exit : ℕ) (v : Store) (n : ℤ) (apart : lo < bound) (behind : own_end p r ≤ lo)
+      (kind : slice_get (kinds_at code r) bound ≡ Some slot.Number) (kind2 : slice_get (kinds_at code r) (bound + 1) ≡ Some slot.Number)
+    where
+      -- what goes on at an address, from any frames with the number in its slot
+      abbrev pub GoesAt : (c at : ℕ) → Events NoYield → Type 0
+      GoesAt c at e = (now : List PlainFrame) → Begins p code input r v now → IsValue p code input lo n now
+          → From p code input line c at exit now (ending p code input may lo r now) e q
 
-    -- a number goes into one of the two slots of the labels
-    writes_go : (c at m : ℕ) (x : ℤ) (e : Events NoYield) (now : List PlainFrame) → lo < m → slice_get (kinds_at code r) m ≡ Some slot.Number → Begins p code input r v now → IsValue p code input lo n now
-        → ((held : List PlainEntry) (s : State) → IsAt at now held s → Writes code input at now held s m (cell.Int x))
-        → ((t : List PlainFrame) → Begins p code input r v t → IsValue p code input lo n t → Holds t m (cell.Int x) → ((k : ℕ) (y : ℤ) → k ≢ m → Holds now k (cell.Int y) → Holds t k (cell.Int y)) → From p code input line c (at + 1) exit t (ending p code input may lo r t) e q)
-        → From p code input line (suc c) at exit now (ending p code input may lo r now) e q
-    writes_go c at m x e now lt k b value writes later held s is =
-        let t : List PlainFrame = top_written now m (cell.Int x) in
-        let left : Left p code input lo r now v t = left_temp p code input lo r m v now (cell.Int x) (omega (arith, lt)) (omega (arith, lt, behind)) b in
-        let some = some_frames p code input v now r b.stand b.routine in
-        let others : (j : ℕ) (y : ℤ) → j ≢ m → Holds now j (cell.Int y) → Holds t j (cell.Int y) = λ j y ne h. holds_other now m j (cell.Int x) (cell.Int y) some ne h in
-        let w = writes held s is in
-        before code input line 0 24 (Leaves exit (ending p code input may lo r now)) held e s w.to 1 (suc c) c q q w.silently (omega arith) (omega arith)
-        (from_ending p code input may line c (at + 1) exit lo lo r v now t e q (omega arith) behind left
-        (later t (begins p code input lo r now v t left) (record { holds = others lo n (λ same. omega (arith, lt, same)) value.holds; integer = value.integer }) (holds_temp p code input r m v now (cell.Int x) slot.Number k b) others) held w.to w.is)
+      -- a number goes into one of the two slots of the labels
+      writes_go : (c at m : ℕ) (x : ℤ) (e : Events NoYield) (now : List PlainFrame) → lo < m
+          → slice_get (kinds_at code r) m ≡ Some slot.Number → Begins p code input r v now → IsValue p code input lo n now
+          → ((held : List PlainEntry) (s : State) → IsAt at now held s → Writes code input at now held s m (cell.Int x))
+          → ((t : List PlainFrame) → Begins p code input r v t → IsValue p code input lo n t → Holds t m (cell.Int x)
+          → ((k : ℕ) (y : ℤ) → k ≢ m → Holds now k (cell.Int y) → Holds t k (cell.Int y))
+          → From p code input line c (at + 1) exit t (ending p code input may lo r t) e q)
+          → From p code input line (suc c) at exit now (ending p code input may lo r now) e q
+      writes_go c at m x e now lt k b value writes later held s is =
+          let t : List PlainFrame = top_written now m (cell.Int x) in
+          let left : Left p code input lo r now v t =
+          left_temp p code input lo r m v now (cell.Int x) (omega (arith, lt)) (omega (arith, lt, behind)) b in
+          let some = some_frames p code input v now r b.stand b.routine in
+          let others : (j : ℕ) (y : ℤ) → j ≢ m → Holds now j (cell.Int y)
+          → Holds t j (cell.Int y) = λ j y ne h. holds_other now m j (cell.Int x) (cell.Int y) some ne h in
+          let w = writes held s is in
+          before code input line 0 24 (Leaves exit (ending p code input may lo r now)) held e s w.to 1 (suc c) c q q w.silently (omega arith)
+          (omega arith)
+          (from_ending p code input may line c (at + 1) exit lo lo r v now t e q (omega arith) behind left
+          (later t (begins p code input lo r now v t left)
+          (record { holds = others lo n (λ same. omega (arith, lt, same)) value.holds; integer = value.integer })
+          (holds_temp p code input r m v now (cell.Int x) slot.Number k b) others) held w.to w.is)
 
-    -- with one step more
-    with_one : (at : ℕ) (e : Events NoYield) → GoesAt 7 at e → GoesAt 8 at e
-    with_one at e h now b value = from_more p code input line 7 8 at exit now (ending p code input may lo r now) e q (omega arith) (h now b value)
+      -- with one step more
+      with_one : (at : ℕ) (e : Events NoYield) → GoesAt 7 at e → GoesAt 8 at e
+      with_one at e h now b value = from_more p code input line 7 8 at exit now (ending p code input may lo r now) e q (omega arith)
+          (h now b value)
 
-    -- an end of a label is compared with the number, and the slot is tested
-    end_goes : (z : Bool) (at a d miss : ℕ) (x y w : ℤ) (e : Events NoYield) (now : List PlainFrame) → Begins p code input r v now → IsValue p code input lo n now
-        → InstrAt code input line at (I.Const bound x) → InstrAt code input line (at + 1) (I.LessEq (bound + 1) a d) → InstrAt code input line (at + 1 + 1) (I.JumpZero (bound + 1) miss)
-        → ((t : List PlainFrame) → IsValue p code input lo n t → Holds t bound (cell.Int x) → Holds t a (cell.Int y) × Holds t d (cell.Int w)) → int_le y w ≡ z → (c : ℕ)
-        → (z ≡ true → GoesAt c (at + 1 + 1 + 1) e) → (z ≡ false → GoesAt c miss e) → From p code input line (suc (suc (suc c))) at exit now (ending p code input may lo r now) e q
-    end_goes z at a d miss x y w e now b value i j k pick is c on_true on_false =
-        writes_go (suc (suc c)) at bound x e now apart kind b value (λ held s there. const_step code input line at now held s there bound x i (has_kind p code input r bound v now slot.Number kind b))
-        (λ t b1 value1 hx others.
-        let z1 = pick t value1 hx in
-        writes_go (suc c) (at + 1) (bound + 1) (bit (int_le y w)) e t (omega (arith, apart)) kind2 b1 value1
-        (λ held s there. less_eq_step code input line (at + 1) t held s there (bound + 1) a d y w j (has_kind p code input r (bound + 1) v t slot.Number kind2 b1) z1.0 z1.1)
-        (λ t2 b2 value2 hb others2. tested z t2 b2 value2 (subst (λ u. Holds t2 (bound + 1) (cell.Int (bit u))) is hb) on_true on_false))
-      where
-        tested : (z : Bool) (t : List PlainFrame) → Begins p code input r v t → IsValue p code input lo n t → Holds t (bound + 1) (cell.Int (bit z)) → (z ≡ true → GoesAt c (at + 1 + 1 + 1) e) → (z ≡ false → GoesAt c miss e)
-            → From p code input line (suc c) (at + 1 + 1) exit t (ending p code input may lo r t) e q
-        tested true t b2 value2 hb held_so other_so =
-            past_from p tables code input below r line q c (at + 1 + 1) (at + 1 + 1 + 1) exit t (ending p code input may lo r t) e
-            (λ held s there. let m = other_goes_on code input line (at + 1 + 1) t held s there (bound + 1) miss (bit true) k hb refl in record { to = m.to; silently = m.silently; is = m.is }) (held_so refl t b2 value2)
-        tested false t b2 value2 hb held_so other_so =
-            past_from p tables code input below r line q c (at + 1 + 1) miss exit t (ending p code input may lo r t) e
-            (λ held s there. let m = zero_jumps code input line (at + 1 + 1) t held s there (bound + 1) miss (bit false) k hb refl in record { to = m.to; silently = m.silently; is = m.is }) (other_so refl t b2 value2)
+      -- an end of a label is compared with the number, and the slot is tested
+      end_goes : (z : Bool) (at a d miss : ℕ) (x y w : ℤ) (e : Events NoYield) (now : List PlainFrame) → Begins p code input r v now
+          → IsValue p code input lo n now
+          → InstrAt code input line at (I.Const bound x) → InstrAt code input line (at + 1) (I.LessEq (bound + 1) a d)
+          → InstrAt code input line (at + 1 + 1) (I.JumpZero (bound + 1) miss)
+          → ((t : List PlainFrame) → IsValue p code input lo n t → Holds t bound (cell.Int x) → Holds t a (cell.Int y)
+          × Holds t d (cell.Int w)) → int_le y w ≡ z → (c : ℕ)
+          → (z ≡ true → GoesAt c (at + 1 + 1 + 1) e) → (z ≡ false → GoesAt c miss e)
+          → From p code input line (suc (suc (suc c))) at exit now (ending p code input may lo r now) e q
+      end_goes z at a d miss x y w e now b value i j k pick is c on_true on_false =
+          writes_go (suc (suc c)) at bound x e now apart kind b value
+          (λ held s there. const_step code input line at now held s there bound x i
+          (has_kind p code input r bound v now slot.Number kind b))
+          (λ t b1 value1 hx others.
+          let z1 = pick t value1 hx in
+          writes_go (suc c) (at + 1) (bound + 1) (bit (int_le y w)) e t (omega (arith, apart)) kind2 b1 value1
+          (λ held s there. less_eq_step code input line (at + 1) t held s there (bound + 1) a d y w j
+          (has_kind p code input r (bound + 1) v t slot.Number kind2 b1) z1.0 z1.1)
+          (λ t2 b2 value2 hb others2. tested z t2 b2 value2 (subst (λ u. Holds t2 (bound + 1) (cell.Int (bit u))) is hb) on_true on_false))
+        where
+          tested : (z : Bool) (t : List PlainFrame) → Begins p code input r v t → IsValue p code input lo n t
+              → Holds t (bound + 1) (cell.Int (bit z)) → (z ≡ true → GoesAt c (at + 1 + 1 + 1) e) → (z ≡ false → GoesAt c miss e)
+              → From p code input line (suc c) (at + 1 + 1) exit t (ending p code input may lo r t) e q
+          tested true t b2 value2 hb held_so other_so =
+              past_from p tables code input below r line q c (at + 1 + 1) (at + 1 + 1 + 1) exit t (ending p code input may lo r t) e
+              (λ held s there. let m = other_goes_on code input line (at + 1 + 1) t held s there (bound + 1) miss (bit true) k hb refl in
+              record { to = m.to; silently = m.silently; is = m.is }) (held_so refl t b2 value2)
+          tested false t b2 value2 hb held_so other_so =
+              past_from p tables code input below r line q c (at + 1 + 1) miss exit t (ending p code input may lo r t) e
+              (λ held s there. let m = zero_jumps code input line (at + 1 + 1) t held s there (bound + 1) miss (bit false) k hb refl in
+              record { to = m.to; silently = m.silently; is = m.is }) (other_so refl t b2 value2)
 
-    -- both ends
-    ends_go : (at miss c : ℕ) (label : Range) (arm next : Events NoYield) → Stands code at (own line (last_label_code lo bound miss label)) → GoesAt c (at + 6) arm → GoesAt c miss next → GoesAt (suc (suc (suc (suc (suc (suc c)))))) at (if_true (within label n) (λ _. arm) (λ _. next))
-    ends_go at miss c label arm next i on_hit on_miss now b value = low_end (int_le label.low n) refl
-      where
-        six : at + 1 + 1 + 1 + 1 + 1 + 1 ≡ at + 6
-        six = omega arith
+      -- both ends
+      ends_go : (at miss c : ℕ) (label : Range) (arm next : Events NoYield) → Stands code at (own line (last_label_code lo bound miss label))
+          → GoesAt c (at + 6) arm → GoesAt c miss next
+          → GoesAt (suc (suc (suc (suc (suc (suc c)))))) at (if_true (within label n) (λ _. arm) (λ _. next))
+      ends_go at miss c label arm next i on_hit on_miss now b value = low_end (int_le label.low n) refl
+        where
+          six : at + 1 + 1 + 1 + 1 + 1 + 1 ≡ at + 6
+          six = omega arith
 
-        high_end : (z : Bool) → int_le n label.high ≡ z → GoesAt (suc (suc (suc c))) (at + 1 + 1 + 1) (if_true z (λ _. arm) (λ _. next))
-        high_end true is t b1 value1 =
-            end_goes true (at + 1 + 1 + 1) lo bound miss label.high n label.high arm t b1 value1 (record { instr = i.2.2.2.0; on_line = i.2.2.2.1 }) (record { instr = i.2.2.2.2.0; on_line = i.2.2.2.2.1 }) (record { instr = i.2.2.2.2.2.0; on_line = i.2.2.2.2.2.1 })
-            (λ t2 h hx. (h.holds, hx)) is c (λ e. subst (λ m. GoesAt c m arm) (sym six) on_hit) (λ e. absurd (let bad : true ≡ false = e in cc))
-        high_end false is t b1 value1 =
-            end_goes false (at + 1 + 1 + 1) lo bound miss label.high n label.high next t b1 value1 (record { instr = i.2.2.2.0; on_line = i.2.2.2.1 }) (record { instr = i.2.2.2.2.0; on_line = i.2.2.2.2.1 }) (record { instr = i.2.2.2.2.2.0; on_line = i.2.2.2.2.2.1 })
-            (λ t2 h hx. (h.holds, hx)) is c (λ e. absurd (let bad : false ≡ true = e in cc)) (λ e. on_miss)
+          high_end : (z : Bool) → int_le n label.high ≡ z → GoesAt (suc (suc (suc c))) (at + 1 + 1 + 1) (if_true z (λ _. arm) (λ _. next))
+          high_end true is t b1 value1 =
+              end_goes true (at + 1 + 1 + 1) lo bound miss label.high n label.high arm t b1 value1
+              (record { instr = i.2.2.2.0; on_line = i.2.2.2.1 }) (record { instr = i.2.2.2.2.0; on_line = i.2.2.2.2.1 })
+              (record { instr = i.2.2.2.2.2.0; on_line = i.2.2.2.2.2.1 })
+              (λ t2 h hx. (h.holds, hx)) is c (λ e. subst (λ m. GoesAt c m arm) (sym six) on_hit)
+              (λ e. absurd (let bad : true ≡ false = e in cc))
+          high_end false is t b1 value1 =
+              end_goes false (at + 1 + 1 + 1) lo bound miss label.high n label.high next t b1 value1
+              (record { instr = i.2.2.2.0; on_line = i.2.2.2.1 }) (record { instr = i.2.2.2.2.0; on_line = i.2.2.2.2.1 })
+              (record { instr = i.2.2.2.2.2.0; on_line = i.2.2.2.2.2.1 })
+              (λ t2 h hx. (h.holds, hx)) is c (λ e. absurd (let bad : false ≡ true = e in cc)) (λ e. on_miss)
 
-        low_end : (z : Bool) → int_le label.low n ≡ z → From p code input line (suc (suc (suc (suc (suc (suc c)))))) at exit now (ending p code input may lo r now) (if_true (int_le label.low n && int_le n label.high) (λ _. arm) (λ _. next)) q
-        low_end true is =
-            subst (λ z. From p code input line (suc (suc (suc (suc (suc (suc c)))))) at exit now (ending p code input may lo r now) (if_true (z && int_le n label.high) (λ _. arm) (λ _. next)) q) (sym is)
-            (end_goes true at bound lo miss label.low label.low n (if_true (int_le n label.high) (λ _. arm) (λ _. next)) now b value (record { instr = i.0; on_line = i.1 }) (record { instr = i.2.0; on_line = i.2.1 }) (record { instr = i.2.2.0; on_line = i.2.2.1 })
-            (λ t2 h hx. (hx, h.holds)) is (suc (suc (suc c))) (λ e. high_end (int_le n label.high) refl) (λ e. absurd (let bad : true ≡ false = e in cc)))
-        low_end false is =
-            subst (λ z. From p code input line (suc (suc (suc (suc (suc (suc c)))))) at exit now (ending p code input may lo r now) (if_true (z && int_le n label.high) (λ _. arm) (λ _. next)) q) (sym is)
-            (end_goes false at bound lo miss label.low label.low n next now b value (record { instr = i.0; on_line = i.1 }) (record { instr = i.2.0; on_line = i.2.1 }) (record { instr = i.2.2.0; on_line = i.2.2.1 })
-            (λ t2 h hx. (hx, h.holds)) is (suc (suc (suc c))) (λ e. absurd (let bad : false ≡ true = e in cc)) (λ e t b1 value1. from_more p code input line c (suc (suc (suc c))) miss exit t (ending p code input may lo r t) next q (omega arith) (on_miss t b1 value1)))
+          low_end : (z : Bool) → int_le label.low n ≡ z
+              → From p code input line (suc (suc (suc (suc (suc (suc c)))))) at exit now (ending p code input may lo r now)
+              (if_true (int_le label.low n && int_le n label.high) (λ _. arm) (λ _. next)) q
+          low_end true is =
+              subst (λ z. From p code input line (suc (suc (suc (suc (suc (suc c)))))) at exit now (ending p code input may lo r now)
+              (if_true (z && int_le n label.high) (λ _. arm) (λ _. next)) q) (sym is)
+              (end_goes true at bound lo miss label.low label.low n (if_true (int_le n label.high) (λ _. arm) (λ _. next)) now b value
+              (record { instr = i.0; on_line = i.1 }) (record { instr = i.2.0; on_line = i.2.1 })
+              (record { instr = i.2.2.0; on_line = i.2.2.1 })
+              (λ t2 h hx. (hx, h.holds)) is (suc (suc (suc c))) (λ e. high_end (int_le n label.high) refl)
+              (λ e. absurd (let bad : true ≡ false = e in cc)))
+          low_end false is =
+              subst (λ z. From p code input line (suc (suc (suc (suc (suc (suc c)))))) at exit now (ending p code input may lo r now)
+              (if_true (z && int_le n label.high) (λ _. arm) (λ _. next)) q) (sym is)
+              (end_goes false at bound lo miss label.low label.low n next now b value (record { instr = i.0; on_line = i.1 })
+              (record { instr = i.2.0; on_line = i.2.1 }) (record { instr = i.2.2.0; on_line = i.2.2.1 })
+              (λ t2 h hx. (hx, h.holds)) is (suc (suc (suc c))) (λ e. absurd (let bad : false ≡ true = e in cc))
+              (λ e t b1 value1. from_more p code input line c (suc (suc (suc c))) miss exit t (ending p code input may lo r t) next q
+              (omega arith) (on_miss t b1 value1)))
 
-    -- the labels of an arm: the last falls into its body
-    pub labels_go : (at hit miss : ℕ) (label : Range) (rest : List Range) (arm next : Unit {0} → Events NoYield) → hit ≡ behind_labels at rest → Stands code at (own line (labels_code lo bound at hit miss label rest))
-        → GoesAt 8 hit (arm tt) → GoesAt 8 miss (next tt) → GoesAt 0 at (try_labels (label ∷ rest) n arm next)
-    labels_go at hit miss label [] arm next is i on_hit on_miss now b value =
-        let here : hit ≡ at + 6 = omega (arith, is) in
-        λ held s there. weaker code input line 0 24 (Leaves exit (ending p code input may lo r now)) held (if_true (within label n) arm next) s 32 14 q q (omega arith) (omega arith)
-        (ends_go at miss 8 label (arm tt) (next tt) i (subst (λ m. GoesAt 8 m (arm tt)) here on_hit) on_miss now b value held s there)
-    labels_go at hit miss label (label' ∷ rest) arm next is i on_hit on_miss now b value =
-        let seven : at + 1 + 1 + 1 + 1 + 1 + 1 + 1 ≡ at + 7 = omega arith in
-        let six : at + 1 + 1 + 1 + 1 + 1 + 1 ≡ at + 6 = omega arith in
-        let later : hit ≡ behind_labels (at + 7) rest = omega (arith, is) in
-        let jump_at : InstrAt code input line (at + 6) (I.Jump hit) = subst (λ m. InstrAt code input line m (I.Jump hit)) six (record { instr = i.2.2.2.2.2.2.0; on_line = i.2.2.2.2.2.2.1 }) in
-        λ held s there. weaker code input line 0 24 (Leaves exit (ending p code input may lo r now)) held (if_true (within label n) arm (λ _. try_labels (label' ∷ rest) n arm next)) s 32 15 q q (omega arith) (omega arith)
-        (ends_go at (at + 7) 9 label (arm tt) (try_labels (label' ∷ rest) n arm next) (i.0, i.1, (i.2.0, i.2.1, (i.2.2.0, i.2.2.1, (i.2.2.2.0, i.2.2.2.1, (i.2.2.2.2.0, i.2.2.2.2.1, (i.2.2.2.2.2.0, i.2.2.2.2.2.1, tt))))))
-        (λ t b1 value1. past_from p tables code input below r line q 8 (at + 6) hit exit t (ending p code input may lo r t) (arm tt) (λ h s2 is2. jumps code input line (at + 6) hit t h s2 is2 jump_at) (on_hit t b1 value1))
-        (λ t b1 value1. from_more p code input line 0 9 (at + 7) exit t (ending p code input may lo r t) (try_labels (label' ∷ rest) n arm next) q (omega arith)
-        (labels_go (at + 7) hit miss label' rest arm next later (subst (λ m. Stands code m (own line (labels_code lo bound (at + 7) hit miss label' rest))) seven i.2.2.2.2.2.2.2) on_hit on_miss t b1 value1)) now b value held s there)
+      -- the labels of an arm: the last falls into its body
+      pub labels_go : (at hit miss : ℕ) (label : Range) (rest : List Range) (arm next : Unit {0} → Events NoYield)
+          → hit ≡ behind_labels at rest → Stands code at (own line (labels_code lo bound at hit miss label rest))
+          → GoesAt 8 hit (arm tt) → GoesAt 8 miss (next tt) → GoesAt 0 at (try_labels (label ∷ rest) n arm next)
+      labels_go at hit miss label [] arm next is i on_hit on_miss now b value =
+          let here : hit ≡ at + 6 = omega (arith, is) in
+          λ held s there. weaker code input line 0 24 (Leaves exit (ending p code input may lo r now)) held
+          (if_true (within label n) arm next) s 32 14 q q (omega arith) (omega arith)
+          (ends_go at miss 8 label (arm tt) (next tt) i (subst (λ m. GoesAt 8 m (arm tt)) here on_hit) on_miss now b value held s there)
+      labels_go at hit miss label (label' ∷ rest) arm next is i on_hit on_miss now b value =
+          let seven : at + 1 + 1 + 1 + 1 + 1 + 1 + 1 ≡ at + 7 = omega arith in
+          let six : at + 1 + 1 + 1 + 1 + 1 + 1 ≡ at + 6 = omega arith in
+          let later : hit ≡ behind_labels (at + 7) rest = omega (arith, is) in
+          let jump_at : InstrAt code input line (at + 6) (I.Jump hit) =
+          subst (λ m. InstrAt code input line m (I.Jump hit)) six (record { instr = i.2.2.2.2.2.2.0; on_line = i.2.2.2.2.2.2.1 }) in
+          λ held s there. weaker code input line 0 24 (Leaves exit (ending p code input may lo r now)) held
+          (if_true (within label n) arm (λ _. try_labels (label' ∷ rest) n arm next)) s 32 15 q q (omega arith) (omega arith)
+          (ends_go at (at + 7) 9 label (arm tt) (try_labels (label' ∷ rest) n arm next) (
+            i.0,
+            i.1,
+            (
+              i.2.0,
+              i.2.1,
+              (
+                i.2.2.0,
+                i.2.2.1,
+                (i.2.2.2.0, i.2.2.2.1, (i.2.2.2.2.0, i.2.2.2.2.1, (i.2.2.2.2.2.0, i.2.2.2.2.2.1, tt))),
+              ),
+            ),
+          )
+          (λ t b1 value1. past_from p tables code input below r line q 8 (at + 6) hit exit t (ending p code input may lo r t) (arm tt)
+          (λ h s2 is2. jumps code input line (at + 6) hit t h s2 is2 jump_at) (on_hit t b1 value1))
+          (λ t b1 value1. from_more p code input line 0 9 (at + 7) exit t (ending p code input may lo r t)
+          (try_labels (label' ∷ rest) n arm next) q (omega arith)
+          (labels_go (at + 7) hit miss label' rest arm next later
+          (subst (λ m. Stands code m (own line (labels_code lo bound (at + 7) hit miss label' rest))) seven i.2.2.2.2.2.2.2) on_hit
+          on_miss t b1 value1)) now b value held s there)
 
   -- ---- the arms behind the first that has a label
 
-  labels_long : (value bound at hit miss : ℕ) (label : Range) (rest : List Range) → length (own line (labels_code value bound at hit miss label rest)) ≡ 7 * length rest + 6
+  labels_long : (value bound at hit miss : ℕ) (label : Range) (rest : List Range)
+      → length (own line (labels_code value bound at hit miss label rest)) ≡ 7 * length rest + 6
   labels_long value bound at hit miss label [] = refl
-  labels_long value bound at hit miss label (label' ∷ rest) = let z = labels_long value bound (at + 7) hit miss label' rest in omega (arith, z)
+  labels_long value bound at hit miss label (label' ∷ rest) = let z = labels_long value bound (at + 7) hit miss label' rest in
+      omega (arith, z)
 
-  module _ (lo bound : ℕ) (apart : lo < bound) (behind : own_end p r ≤ lo) (kind : slice_get (kinds_at code r) bound ≡ Some slot.Number) (kind2 : slice_get (kinds_at code r) (bound + 1) ≡ Some slot.Number) (els : Else) where
+  module _ (lo bound : ℕ) (apart : lo < bound) (behind : own_end p r ≤ lo) (kind : slice_get (kinds_at code r) bound ≡ Some slot.Number)
+      (kind2 : slice_get (kinds_at code r) (bound + 1) ≡ Some slot.Number) (els : Else) where
     abbrev otherwise : ℕ → ℕ → List Lined
     otherwise next la = else_code p tables r line next la els
 
     abbrev pub CasesRun : (jump at la : ℕ) → CaseArms → Type 0
     CasesRun jump at la arms =
-        Stands code at (cases_code p tables r line lo bound jump at la arms otherwise) → (exit : ℕ) → exit ≡ at + length (cases_code p tables r line lo bound jump at la arms otherwise) → LeadsTo code input 7 jump exit
-        → (v : Store) (n : ℤ) → GoesAt lo bound exit v n apart behind kind kind2 7 at (ev_cases p input below arms n v (ev_else p input below els))
+        Stands code at (cases_code p tables r line lo bound jump at la arms otherwise) → (exit : ℕ)
+        → exit ≡ at + length (cases_code p tables r line lo bound jump at la arms otherwise) → LeadsTo code input 7 jump exit
+        → (v : Store) (n : ℤ) → GoesAt lo bound exit v n apart behind kind kind2 7
+        at (ev_cases p input below arms n v (ev_else p input below els))
 
-    pub unlabelled_run : (jump at la : ℕ) (body : Stmts) (rest : CaseArms) → CasesRun jump at la rest → CasesRun jump at la (more_cases [] body rest)
+    pub unlabelled_run : (jump at la : ℕ) (body : Stmts) (rest : CaseArms) → CasesRun jump at la rest
+        → CasesRun jump at la (more_cases [] body rest)
     unfolding ev_stmts
     unlabelled_run jump at la body rest h = h
 
     -- one arm; it leaves from behind its body
-    arm_goes : (at la exit : ℕ) (label : Range) (labels : List Range) (body : Stmts) (rest : Store → ℤ → Events NoYield) (v : Store) (n : ℤ) → lo ≤ la → Stands code at (case_arm line lo bound at label labels (stmts_code p tables r (behind_labels at labels) la body))
-        → ListRuns p tables code input below r line q may (behind_labels at labels) la body → LeadsTo code input 8 (behind_labels at labels + length (stmts_code p tables r (behind_labels at labels) la body)) exit
-        → GoesAt lo bound exit v n apart behind kind kind2 8 (behind_labels at labels + length (stmts_code p tables r (behind_labels at labels) la body) + 1) (rest v n)
-        → GoesAt lo bound exit v n apart behind kind kind2 0 at (try_labels (label ∷ labels) n (λ _. node (ev_stmts p input below body v)) (λ _. rest v n))
+    arm_goes : (at la exit : ℕ) (label : Range) (labels : List Range) (body : Stmts) (rest : Store → ℤ → Events NoYield) (v : Store) (n : ℤ)
+        → lo ≤ la → Stands code at (case_arm line lo bound at label labels (stmts_code p tables r (behind_labels at labels) la body))
+        → ListRuns p tables code input below r line q may (behind_labels at labels) la body
+        → LeadsTo code input 8 (behind_labels at labels + length (stmts_code p tables r (behind_labels at labels) la body)) exit
+        → GoesAt lo bound exit v n apart behind kind kind2 8
+        (behind_labels at labels + length (stmts_code p tables r (behind_labels at labels) la body) + 1) (rest v n)
+        → GoesAt lo bound exit v n apart behind kind kind2 0
+        at (try_labels (label ∷ labels) n (λ _. node (ev_stmts p input below body v)) (λ _. rest v n))
     arm_goes at la exit label labels body rest v n le stands runs leads later =
         let hit : ℕ = behind_labels at labels in
         let made : List Lined = stmts_code p tables r hit la body in
@@ -159,14 +231,18 @@ module _ (p : Program) (tables : Tables) (code : PlainCode) (input : List ℕ) (
         let front : List Lined = own line (labels_code lo bound at hit miss label labels) in
         let here : at + length front ≡ hit = omega (arith, labels_long lo bound at hit miss label labels) in
         let body_at : Stands code hit made = subst (λ m. Stands code m made) here (stands_back code at front made stands) in
-        labels_go lo bound exit v n apart behind kind kind2 at hit miss label labels (λ _. node (ev_stmts p input below body v)) (λ _. rest v n) refl (stands_front code at front made stands)
+        labels_go lo bound exit v n apart behind kind kind2 at hit miss label labels (λ _. node (ev_stmts p input below body v))
+        (λ _. rest v n) refl (stands_front code at front made stands)
         (λ t b value held s there.
-        weaker code input line 0 24 (Leaves exit (ending p code input may lo r t)) held (visit_each (ev_stmts p input below body v)) s 40 8 q q (omega arith) (omega arith)
+        weaker code input line 0 24 (Leaves exit (ending p code input may lo r t)) held (visit_each (ev_stmts p input below body v)) s 40 8
+        q q (omega arith) (omega arith)
         (inner_goes code input line hit (hit + length made) exit t (ending p code input may lo r t) (ev_stmts p input below body v) q leads
-        (on_ending p code input may line hit (hit + length made) lo la r v t t (ev_stmts p input below body v) q le behind (left_self p code input lo r v t b) (runs body_at v t b)) held s there))
+        (on_ending p code input may line hit (hit + length made) lo la r v t t (ev_stmts p input below body v) q le behind
+        (left_self p code input lo r v t b) (runs body_at v t b)) held s there))
         later
 
-    pub labelled_run : (jump at la : ℕ) (label : Range) (labels : List Range) (body : Stmts) (rest : CaseArms) → lo ≤ la → ((next : ℕ) → ListRuns p tables code input below r line q may next la body)
+    pub labelled_run : (jump at la : ℕ) (label : Range) (labels : List Range) (body : Stmts) (rest : CaseArms) → lo ≤ la
+        → ((next : ℕ) → ListRuns p tables code input below r line q may next la body)
         → ((next : ℕ) → CasesRun jump next (behind_stmts p r la body) rest) → CasesRun jump at la (more_cases (label ∷ labels) body rest)
     unfolding ev_stmts
     labelled_run jump at la label labels body rest le runs others stands exit is leads v n now b value =
@@ -186,20 +262,31 @@ module _ (p : Program) (tables : Tables) (code : PlainCode) (input : List ℕ) (
         let whole : length ((head ++ out) ++ after) ≡ length (head ++ out) + length after = length-append (head ++ out) after in
         let here : next ≡ y + 1 = omega (arith, both, ends) in
         let end : exit ≡ next + length after = omega (arith, is, whole) in
-        let jump_at : InstrAt code input line y (I.Jump jump) = subst (λ m. InstrAt code input line m (I.Jump jump)) ends (record { instr = back.0; on_line = back.1 }) in
-        from_more p code input line 0 7 at exit now (ending p code input may lo r now) (ev_cases p input below (more_cases (label ∷ labels) body rest) n v (ev_else p input below els)) q (omega arith)
-        (arm_goes at la exit label labels body (λ u k. ev_cases p input below rest k u (ev_else p input below els)) v n le (stands_front code at head out front) (runs hit)
+        let jump_at : InstrAt code input line y (I.Jump jump) =
+        subst (λ m. InstrAt code input line m (I.Jump jump)) ends (record { instr = back.0; on_line = back.1 }) in
+        from_more p code input line 0 7 at exit now (ending p code input may lo r now)
+        (ev_cases p input below (more_cases (label ∷ labels) body rest) n v (ev_else p input below els)) q (omega arith)
+        (arm_goes at la exit label labels body (λ u k. ev_cases p input below rest k u (ev_else p input below els)) v n le
+        (stands_front code at head out front) (runs hit)
         (leads_then code input line 7 y jump exit jump_at leads)
         (with_one lo bound exit v n apart behind kind kind2 (y + 1) (ev_cases p input below rest n v (ev_else p input below els))
-        (subst (λ m. GoesAt lo bound exit v n apart behind kind kind2 7 m (ev_cases p input below rest n v (ev_else p input below els))) here (others next (stands_back code at (head ++ out) after stands) exit end leads v n))) now b value)
+        (subst (λ m. GoesAt lo bound exit v n apart behind kind kind2 7 m (ev_cases p input below rest n v (ev_else p input below els)))
+        here (others next (stands_back code at (head ++ out) after stands) exit end leads v n))) now b value)
 
-  pub no_else_run : (lo bound jump at la : ℕ) (apart : lo < bound) (behind : own_end p r ≤ lo) (kind : slice_get (kinds_at code r) bound ≡ Some slot.Number) (kind2 : slice_get (kinds_at code r) (bound + 1) ≡ Some slot.Number) → CasesRun lo bound apart behind kind kind2 no_else jump at la no_cases
+  pub no_else_run : (lo bound jump at la : ℕ) (apart : lo < bound) (behind : own_end p r ≤ lo)
+      (kind : slice_get (kinds_at code r) bound ≡ Some slot.Number) (kind2 : slice_get (kinds_at code r) (bound + 1) ≡ Some slot.Number)
+      → CasesRun lo bound apart behind kind kind2 no_else jump at la no_cases
   unfolding ev_stmts
   no_else_run lo bound jump at la apart behind kind kind2 stands exit is leads v n now b value =
-      faults_here p code input line 6 at exit now (ending p code input may lo r now) fault.NoCase q (λ held s there. fault_step code input line at now held s there 5 fault.NoCase (record { instr = stands.0; on_line = stands.1 }) refl)
+      faults_here p code input line 6 at exit now (ending p code input may lo r now) fault.NoCase q
+      (λ held s there. fault_step code input line at now held s there 5 fault.NoCase (record { instr = stands.0; on_line = stands.1 })
+      refl)
 
-  pub else_run : (lo bound jump at la : ℕ) (apart : lo < bound) (behind : own_end p r ≤ lo) (kind : slice_get (kinds_at code r) bound ≡ Some slot.Number) (kind2 : slice_get (kinds_at code r) (bound + 1) ≡ Some slot.Number) (body : Stmts) → lo ≤ la
-      → ListRuns p tables code input below r line q may at la body → CasesRun lo bound apart behind kind kind2 (else_part body) jump at la no_cases
+  pub else_run : (lo bound jump at la : ℕ) (apart : lo < bound) (behind : own_end p r ≤ lo)
+      (kind : slice_get (kinds_at code r) bound ≡ Some slot.Number) (kind2 : slice_get (kinds_at code r) (bound + 1) ≡ Some slot.Number)
+      (body : Stmts) → lo ≤ la
+      → ListRuns p tables code input below r line q may at la body
+      → CasesRun lo bound apart behind kind kind2 (else_part body) jump at la no_cases
   unfolding ev_stmts
   else_run lo bound jump at la apart behind kind kind2 body le runs stands exit is leads v n now b value =
       let there : ℕ = at + length (stmts_code p tables r at la body) in
@@ -207,36 +294,46 @@ module _ (p : Program) (tables : Tables) (code : PlainCode) (input : List ℕ) (
       let e : Events NoYield = ev_stmts p input below body v in
       subst (λ m. From p code input line 7 at m now (ending p code input may lo r now) e q) (sym is)
       (from_ending p code input may line 7 at there lo la r v now now e q le behind (left_self p code input lo r v now b)
-      (λ held s here. credited code input line 7 0 0 24 (Leaves there w) held e s 7 q (omega arith) (runs stands v now b 7 (omega arith) held s here)))
+      (λ held s here. credited code input line 7 0 0 24 (Leaves there w) held e s 7 q (omega arith)
+      (runs stands v now b 7 (omega arith) held s here)))
 
   -- ---- the arms without labels: a jump leads over them
 
-  over_goes : (z : Bool) (at exit : ℕ) (dead : List Lined) (now : List PlainFrame) (w : Ways NoYield) (e : Events NoYield) → Stands code at (passed_over z line at dead) → From p code input line 7 (at + length (passed_over z line at dead)) exit now w e q → From p code input line 8 at exit now w e q
+  over_goes : (z : Bool) (at exit : ℕ) (dead : List Lined) (now : List PlainFrame) (w : Ways NoYield) (e : Events NoYield)
+      → Stands code at (passed_over z line at dead) → From p code input line 7 (at + length (passed_over z line at dead)) exit now w e q
+      → From p code input line 8 at exit now w e q
   over_goes true at exit dead now w e i h =
       let here : at + suc (length dead) ≡ at + 1 + length dead = omega arith in
       past_from p tables code input below r line q 7 at (at + 1 + length dead) exit now w e
-      (λ held s there. jumps code input line at (at + 1 + length dead) now held s there (record { instr = i.0; on_line = i.1 })) (subst (λ m. From p code input line 7 m exit now w e q) here h)
+      (λ held s there. jumps code input line at (at + 1 + length dead) now held s there (record { instr = i.0; on_line = i.1 }))
+      (subst (λ m. From p code input line 7 m exit now w e q) here h)
   over_goes false at exit dead now w e i h =
       let here : at + 0 ≡ at = omega arith in
       from_more p code input line 7 8 at exit now w e q (omega arith) (subst (λ m. From p code input line 7 m exit now w e q) here h)
 
   -- ---- the whole: the value, and the arms from the first on
 
-  module _ (lo bound : ℕ) (apart : lo < bound) (behind : own_end p r ≤ lo) (kind : slice_get (kinds_at code r) bound ≡ Some slot.Number) (kind2 : slice_get (kinds_at code r) (bound + 1) ≡ Some slot.Number) (els : Else) where
+  module _ (lo bound : ℕ) (apart : lo < bound) (behind : own_end p r ≤ lo) (kind : slice_get (kinds_at code r) bound ≡ Some slot.Number)
+      (kind2 : slice_get (kinds_at code r) (bound + 1) ≡ Some slot.Number) (els : Else) where
     abbrev pub FirstRun : (at la : ℕ) → CaseArms → Type 0
     FirstRun at la arms =
-        Stands code at (case_code p tables r line lo bound at la arms (λ next la. else_code p tables r line next la els)) → (exit : ℕ) → exit ≡ at + length (case_code p tables r line lo bound at la arms (λ next la. else_code p tables r line next la els))
-        → (v : Store) (n : ℤ) → GoesAt lo bound exit v n apart behind kind kind2 7 at (ev_cases p input below arms n v (ev_else p input below els))
+        Stands code at (case_code p tables r line lo bound at la arms (λ next la. else_code p tables r line next la els)) → (exit : ℕ)
+        → exit ≡ at + length (case_code p tables r line lo bound at la arms (λ next la. else_code p tables r line next la els))
+        → (v : Store) (n : ℤ) → GoesAt lo bound exit v n apart behind kind kind2 7
+        at (ev_cases p input below arms n v (ev_else p input below els))
 
-    pub no_first_run : (at la : ℕ) → ((jump : ℕ) → CasesRun lo bound apart behind kind kind2 els jump at la no_cases) → FirstRun at la no_cases
+    pub no_first_run : (at la : ℕ) → ((jump : ℕ) → CasesRun lo bound apart behind kind kind2 els jump at la no_cases)
+        → FirstRun at la no_cases
     no_first_run at la h stands exit is v n = h exit stands exit is (leads_nowhere code input 7 exit) v n
 
     pub unlabelled_first_run : (at la : ℕ) (body : Stmts) (rest : CaseArms) → FirstRun at la rest → FirstRun at la (more_cases [] body rest)
     unfolding ev_stmts
     unlabelled_first_run at la body rest h = h
 
-    pub labelled_first_run : (at la : ℕ) (label : Range) (labels : List Range) (body : Stmts) (rest : CaseArms) → lo ≤ la → ((next : ℕ) → ListRuns p tables code input below r line q may next la body)
-        → ((jump next : ℕ) → CasesRun lo bound apart behind kind kind2 els jump next (behind_stmts p r la body) rest) → FirstRun at la (more_cases (label ∷ labels) body rest)
+    pub labelled_first_run : (at la : ℕ) (label : Range) (labels : List Range) (body : Stmts) (rest : CaseArms) → lo ≤ la
+        → ((next : ℕ) → ListRuns p tables code input below r line q may next la body)
+        → ((jump next : ℕ) → CasesRun lo bound apart behind kind kind2 els jump next (behind_stmts p r la body) rest)
+        → FirstRun at la (more_cases (label ∷ labels) body rest)
     unfolding ev_stmts
     labelled_first_run at la label labels body rest le runs others stands exit is v n now b value =
         let hit : ℕ = behind_labels at labels in
@@ -244,7 +341,8 @@ module _ (p : Program) (tables : Tables) (code : PlainCode) (input : List ℕ) (
         let head : List Lined = case_arm line lo bound at label labels made in
         let jump : ℕ = at + length head in
         let next : ℕ = at + length head + 1 in
-        let after : List Lined = cases_code p tables r line lo bound jump next (behind_stmts p r la body) rest (λ next la. else_code p tables r line next la els) in
+        let after : List Lined = cases_code p tables r line lo bound jump next (behind_stmts p r la body) rest
+        (λ next la. else_code p tables r line next la els) in
         let out : List Lined = own line (I.Jump (jump + 1 + length after) ∷ []) in
         let back = stands_back code at head (out ++ after) stands in
         let labels_part : List Lined = own line (labels_code lo bound at hit (hit + length made + 1) label labels) in
@@ -255,15 +353,22 @@ module _ (p : Program) (tables : Tables) (code : PlainCode) (input : List ℕ) (
         let end : jump + 1 + length after ≡ exit = omega (arith, is, whole) in
         let here : next ≡ y + 1 = omega (arith, ends) in
         let last : exit ≡ next + length after = omega (arith, is, whole) in
-        let i : InstrAt code input line jump (I.Jump exit) = subst (λ m. InstrAt code input line jump (I.Jump m)) end (record { instr = back.0; on_line = back.1 }) in
-        from_more p code input line 0 7 at exit now (ending p code input may lo r now) (ev_cases p input below (more_cases (label ∷ labels) body rest) n v (ev_else p input below els)) q (omega arith)
-        (arm_goes lo bound apart behind kind kind2 els at la exit label labels body (λ u k. ev_cases p input below rest k u (ev_else p input below els)) v n le (stands_front code at head (out ++ after) stands) (runs hit)
+        let i : InstrAt code input line jump (I.Jump exit) =
+        subst (λ m. InstrAt code input line jump (I.Jump m)) end (record { instr = back.0; on_line = back.1 }) in
+        from_more p code input line 0 7 at exit now (ending p code input may lo r now)
+        (ev_cases p input below (more_cases (label ∷ labels) body rest) n v (ev_else p input below els)) q (omega arith)
+        (arm_goes lo bound apart behind kind kind2 els at la exit label labels body
+        (λ u k. ev_cases p input below rest k u (ev_else p input below els)) v n le (stands_front code at head (out ++ after) stands)
+        (runs hit)
         (subst (λ m. LeadsTo code input 8 m exit) ends (leads_by_jump code input line 8 jump exit (omega arith) i))
         (with_one lo bound exit v n apart behind kind kind2 (y + 1) (ev_cases p input below rest n v (ev_else p input below els))
-        (subst (λ m. GoesAt lo bound exit v n apart behind kind kind2 7 m (ev_cases p input below rest n v (ev_else p input below els))) here
+        (subst (λ m. GoesAt lo bound exit v n apart behind kind kind2 7 m (ev_cases p input below rest n v (ev_else p input below els)))
+        here
         (others jump next back.2 exit last (leads_by_jump code input line 7 jump exit (omega arith) i) v n))) now b value)
 
-    pub case_runs : (at la : ℕ) (x : Expr) (arms : CaseArms) → bound ≡ behind_dead p r (behind_expr p r lo x) arms → la ≡ bound + 2 → ExprRuns p tables code input below r line q at lo x → ((next : ℕ) → FirstRun next la arms) → StatementRuns p tables code input below r line q may at lo (Case x arms els)
+    pub case_runs : (at la : ℕ) (x : Expr) (arms : CaseArms) → bound ≡ behind_dead p r (behind_expr p r lo x) arms → la ≡ bound + 2
+        → ExprRuns p tables code input below r line q at lo x → ((next : ℕ) → FirstRun next la arms)
+        → StatementRuns p tables code input below r line q may at lo (Case x arms els)
     unfolding ev_stmts
     case_runs at la x arms is_bound is_la runs first stands v now b =
         let inner : List Lined = expr_code p tables r line at lo x in
@@ -281,9 +386,14 @@ module _ (p : Program) (tables : Tables) (code : PlainCode) (input : List ℕ) (
         let end : exit ≡ next + length (after bound la) = omega (arith, whole, second, ap length same) in
         let w = ending p code input may lo r now in
         let behind_inner = stands_back code at inner (over ++ rest) stands in
-        as_runs p code input line at exit now w (node (bind (ev_expr p input below x v) (λ t n. ev_cases p input below arms n t (ev_else p input below els)))) q
-        (node_runs p code input line 0 at exit now w (bind (ev_expr p input below x v) (λ t n. ev_cases p input below arms n t (ev_else p input below els))) q (omega arith)
-        (then_ending p code input may line at m exit lo lo r now (ValueIn p code input lo) (ev_expr p input below x v) (λ t n. ev_cases p input below arms n t (ev_else p input below els)) q (omega arith) behind
+        as_runs p code input line at exit now w (node
+        (bind (ev_expr p input below x v) (λ t n. ev_cases p input below arms n t (ev_else p input below els)))) q
+        (node_runs p code input line 0 at exit now w
+        (bind (ev_expr p input below x v) (λ t n. ev_cases p input below arms n t (ev_else p input below els))) q (omega arith)
+        (then_ending p code input may line at m exit lo lo r now (ValueIn p code input lo) (ev_expr p input below x v)
+        (λ t n. ev_cases p input below arms n t (ev_else p input below els)) q (omega arith) behind
         (runs (stands_front code at inner (over ++ rest) stands) v now b)
-        (λ u n t left value. over_goes (has_dead arms) m exit dead t (ending p code input may lo r t) (ev_cases p input below arms n u (ev_else p input below els)) (stands_front code m over rest behind_inner)
-        (first next (subst (Stands code next) same (stands_back code m over rest behind_inner)) exit end u n t (begins p code input lo r now u t left) value))))
+        (λ u n t left value. over_goes (has_dead arms) m exit dead t (ending p code input may lo r t)
+        (ev_cases p input below arms n u (ev_else p input below els)) (stands_front code m over rest behind_inner)
+        (first next (subst (Stands code next) same (stands_back code m over rest behind_inner)) exit end u n t
+        (begins p code input lo r now u t left) value))))

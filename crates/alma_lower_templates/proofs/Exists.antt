@@ -1,5 +1,6 @@
 -- Each program has a code: its tables hold what its phrases name, and each slot has a run of its own.
-use Rattle.std.proofs.Common.{◌≡◌, ◌⊎◌, inl, inr, ℕ, zero, suc, ◌+◌, ◌-◌, ◌<◌, Bool, true, false, List, [], ◌∷◌, ◌++◌, length, get_or, replicate, Some, None, Option, ℤ, pos, negsuc, refl, sym, ap, ◌∙◌, subst, arith}
+use Rattle.std.proofs.Common.{◌≡◌, ◌⊎◌, inl, inr, ℕ, zero, suc, ◌+◌, ◌-◌, ◌<◌, Bool, true, false, List, [], ◌∷◌, ◌++◌, length, get_or}
+use Rattle.std.proofs.Common.{replicate, Some, None, Option, ℤ, pos, negsuc, refl, sym, ap, ◌∙◌, subst, arith}
 use Rattle.std.specs.Prelude.{slice_get, nat_eq}
 use Rattle.std.specs.List.{AllByRecursion}
 use Rattle.std.proofs.lemmas.Bool.{and_parts, and_from, eqb-true, eq-eqb}
@@ -9,7 +10,10 @@ use Rattle.alma_code.specs.declared.cell.SlotKind.{SlotKind}
 use Rattle.alma_code.specs.declared.head.Run.{Run}
 use Rattle.alma_code.specs.Layout.{kinds_of}
 use Rattle.alma_code.specs.Plain.{PlainCode}
-use Rattle.alma_ir.specs.Tree.{Program, Routine, routine_at, no_routine, TestStmt, Assign, CopyCells, If, While, Repeat, ForTo, SomeOf, Case, Either, Forall, Commit, Return, Read, WriteExpr, WriteText, WriteLine, a_loop, Value, Bind, Unify, SameCells, Seq, And, Or, Not, CallTest, Const, Load, Chain, Compare, Truth, Known, Chr, CallExpr, ByValue, ByCells, ByPlace, MixValue, MixPlace, Field, Index}
+use Rattle.alma_ir.specs.Tree.{Program, Routine, routine_at, no_routine, TestStmt, Assign, CopyCells, If, While, Repeat, ForTo, SomeOf}
+use Rattle.alma_ir.specs.Tree.{Case, Either, Forall, Commit, Return, Read, WriteExpr, WriteText, WriteLine, a_loop, Value, Bind, Unify}
+use Rattle.alma_ir.specs.Tree.{SameCells, Seq, And, Or, Not, CallTest, Const, Load, Chain, Compare, Truth, Known, Chr, CallExpr, ByValue}
+use Rattle.alma_ir.specs.Tree.{ByCells, ByPlace, MixValue, MixPlace, Field, Index}
 use Rattle.alma_ir.specs.Phrases.{Phrase, StmtPhrase, TestPhrase, ExprPhrase, ArgPhrase, DesigPhrase, SelPhrase, stmts_phrases}
 use Rattle.alma_ir.specs.Checked.{ranges_of}
 use Rattle.alma_lower_templates.specs.Tables.{Tables, same_range, same_text, counted, first_place}
@@ -55,11 +59,13 @@ in_row_at (x ∷ xs) (suc i) d lt = inr (in_row_at xs i d (omega (arith, lt)))
 -- ---- the first place of a member
 
 -- a test of equality finds a member where it first stands
-found : {A : Type 0} (same : A → A → Bool) → ((a b : A) → same a b ≡ true → a ≡ b) → ((a : A) → same a a ≡ true) → (xs : List A) (a : A) → IsIn a xs → slice_get xs (first_place same xs a) ≡ Some a
+found : {A : Type 0} (same : A → A → Bool) → ((a b : A) → same a b ≡ true → a ≡ b) → ((a : A) → same a a ≡ true) → (xs : List A) (a : A)
+    → IsIn a xs → slice_get xs (first_place same xs a) ≡ Some a
 found same is itself [] a h = absurd h
 found same is itself (x ∷ xs) a h = by (same x a) refl h (λ there. found same is itself xs a there)
   where
-    by : (t : Bool) → same x a ≡ t → (x ≡ a) ⊎ IsIn a xs → (IsIn a xs → slice_get xs (first_place same xs a) ≡ Some a) → slice_get (x ∷ xs) (counted t (first_place same xs a)) ≡ Some a
+    by : (t : Bool) → same x a ≡ t → (x ≡ a) ⊎ IsIn a xs → (IsIn a xs → slice_get xs (first_place same xs a) ≡ Some a)
+        → slice_get (x ∷ xs) (counted t (first_place same xs a)) ≡ Some a
     by true e there later = ap Some (is x a e)
     by false e (inr there) later = later there
     by false e (inl here) later = absurd (let bad : true ≡ false = sym (ap (λ y. same y a) here ∙ itself a) ∙ e in cc)
@@ -118,8 +124,10 @@ tables_of p = record {
   texts = flat texts_of (flat phrases_in p.routines);
 }
 
-in_tables : (tables : Tables) (x : Phrase) → HoldsRange tables char_range → ((range : Range) → IsIn range (ranges_of x) → HoldsRange tables range)
-    → ((text : List ℕ) → IsIn text (texts_of x) → slice_get tables.texts (first_place same_text tables.texts text) ≡ Some text) → InTables tables x
+in_tables : (tables : Tables) (x : Phrase) → HoldsRange tables char_range
+    → ((range : Range) → IsIn range (ranges_of x) → HoldsRange tables range)
+    → ((text : List ℕ) → IsIn text (texts_of x) → slice_get tables.texts (first_place same_text tables.texts text) ≡ Some text)
+    → InTables tables x
 in_tables tables (StmtPhrase (TestStmt t)) chars h texts = tt
 in_tables tables (StmtPhrase (Assign d e range)) chars h texts = λ part. h range (inl refl)
 in_tables tables (StmtPhrase (CopyCells d e)) chars h texts = tt
@@ -176,11 +184,15 @@ module _ (p : Program) where
         (λ x there.
         let here : IsIn x (flat phrases_in p.routines) = in_flat phrases_in x (routine_at p r) p.routines (routine_in r lt) there in
         in_tables (tables_of p) x (has_range char_range (inl refl))
-        (λ range named. has_range range (inr (in_front range (flat ranges_of (flat phrases_in p.routines)) (flat results_in p.routines) (in_flat ranges_of range x (flat phrases_in p.routines) here named))))
-        (λ text named. found same_text text_is text_itself (tables_of p).texts text (in_flat texts_of text x (flat phrases_in p.routines) here named)));
+        (λ range named. has_range range (inr
+        (in_front range (flat ranges_of (flat phrases_in p.routines)) (flat results_in p.routines)
+        (in_flat ranges_of range x (flat phrases_in p.routines) here named))))
+        (λ text named. found same_text text_is text_itself (tables_of p).texts text
+        (in_flat texts_of text x (flat phrases_in p.routines) here named)));
     results = λ r range lt is part.
         has_range range (inr (in_back range (flat ranges_of (flat phrases_in p.routines)) (flat results_in p.routines)
-        (in_flat results_in range (routine_at p r) p.routines (routine_in r lt) (subst (λ o. IsIn range (of_result o)) (sym is) (inl refl)))));
+        (in_flat results_in range (routine_at p r) p.routines (routine_in r lt)
+        (subst (λ o. IsIn range (of_result o)) (sym is) (inl refl)))));
   }
 
   -- ---- runs
@@ -194,7 +206,8 @@ module _ (p : Program) where
 
   runs_name : (low : ℕ) (ks : List SlotKind) → kinds_of low (runs_from low ks) ≡ ks
   runs_name low [] = refl
-  runs_name low (k ∷ ks) = ap (λ l. l ++ kinds_of (low + 1) (runs_from (low + 1) ks)) (one_slot low k) ∙ ap (λ l. k ∷ l) (runs_name (low + 1) ks)
+  runs_name low (k ∷ ks) = ap (λ l. l ++ kinds_of (low + 1) (runs_from (low + 1) ks)) (one_slot low k)
+      ∙ ap (λ l. k ∷ l) (runs_name (low + 1) ks)
 
   -- of n routines from one on
   abbrev all_runs : (r n : ℕ) → List (List Run)
@@ -208,7 +221,8 @@ module _ (p : Program) where
   all_name : (r n k : ℕ) → k < n → kinds_of 0 (get_or (all_runs r n) k []) ≡ routine_kinds p (r + k)
   all_name r zero k lt = absurd (omega (arith, lt))
   all_name r (suc n) zero lt = let same : r ≡ r + 0 = omega arith in runs_name 0 (routine_kinds p r) ∙ ap (routine_kinds p) same
-  all_name r (suc n) (suc k) lt = let same : suc r + k ≡ r + suc k = omega arith in all_name (suc r) n k (omega (arith, lt)) ∙ ap (routine_kinds p) same
+  all_name r (suc n) (suc k) lt = let same : suc r + k ≡ r + suc k = omega arith in all_name (suc r) n k (omega (arith, lt))
+      ∙ ap (routine_kinds p) same
 
 -- each program has a code by the templates
 pub has_code : (p : Program) → (code : PlainCode) × IsCodeOf p code

@@ -13,17 +13,21 @@ use Rattle.alma_lower_templates.proofs.Parts.{NodeFor, RunsFor, ValueIn, PlaceIn
 
 module _ (p : Program) (tables : Tables) (code : PlainCode) (input : List ℕ) (below : Level) (r line q : ℕ) where
   abbrev pub ExprRuns : (at lo : ℕ) → Expr → Type 0
-  ExprRuns at lo x = NodeFor p code input r line at lo (expr_code p tables r line at lo x) (ev_expr p input below x) (ValueIn p code input lo) q
+  ExprRuns at lo x = NodeFor p code input r line at lo (expr_code p tables r line at lo x) (ev_expr p input below x)
+      (ValueIn p code input lo) q
 
   abbrev pub DesigRuns : (at lo : ℕ) → Desig → Type 0
-  DesigRuns at lo d = NodeFor p code input r line at lo (desig_code p tables r line at lo d) (ev_desig p input below d) (PlaceIn p code input (place_at p tables r lo d) (desig_cells d)) q
+  DesigRuns at lo d = NodeFor p code input r line at lo (desig_code p tables r line at lo d) (ev_desig p input below d)
+      (PlaceIn p code input (place_at p tables r lo d) (desig_cells d)) q
 
   abbrev pub TestRuns : (at lo : ℕ) → Test → Type 0
-  TestRuns at lo t = NodeFor p code input r line at lo (test_code p tables r line at lo t) (ev_test p input below t) (Nothing p code input) q
+  TestRuns at lo t = NodeFor p code input r line at lo (test_code p tables r line at lo t) (ev_test p input below t) (Nothing p code input)
+      q
 
   -- a statement without RETURN
   abbrev pub StmtRuns : (at lo : ℕ) → Stmt → Type 0
-  StmtRuns at lo x = NodeFor p code input r line at lo (stmt_code p tables r line at lo x) (ev_stmt p input below x) (Nothing p code input) q
+  StmtRuns at lo x = NodeFor p code input r line at lo (stmt_code p tables r line at lo x) (ev_stmt p input below x) (Nothing p code input)
+      q
 
   -- a statement, and a list of statements
   abbrev pub StatementRuns : (may : Bool) → (at lo : ℕ) → Stmt → Type 0

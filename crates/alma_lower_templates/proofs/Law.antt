@@ -1,5 +1,6 @@
 -- The code of a checked program implements it.
-use Rattle.std.proofs.Common.{◌≡◌, ℕ, zero, suc, ◌+◌, ◌<◌, ◌≤◌, ℤ, Bool, true, false, List, [], ◌∷◌, length, get_or, Some, None, Option, refl, sym, ap, ◌∙◌, subst, arith}
+use Rattle.std.proofs.Common.{◌≡◌, ℕ, zero, suc, ◌+◌, ◌<◌, ◌≤◌, ℤ, Bool, true, false, List, [], ◌∷◌, length, get_or, Some, None, Option}
+use Rattle.std.proofs.Common.{refl, sym, ap, ◌∙◌, subst, arith}
 use Rattle.std.specs.Prelude.{slice_get, int_le, IsNone}
 use Rattle.std.specs.List.{AllByRecursion}
 use Rattle.std.proofs.lemmas.Bool.{and_parts, and_from}
@@ -15,7 +16,10 @@ use Rattle.alma_code.specs.Picture.{PlainFrame, PlainEntry}
 use Rattle.alma_code.specs.Plain.{PlainCode, head_at, start_at}
 use Rattle.alma_code.specs.Machine.{Mode, Going, Failing, Ended, Stuck, State, start, step}
 use Rattle.alma_code.specs.declared.step.End.TheVariants as end
-use Rattle.alma_ir.specs.Tree.{Program, routine_at, TestStmt, Assign, CopyCells, If, While, Repeat, ForTo, SomeOf, Case, Either, Forall, Commit, Return, Read, WriteExpr, WriteText, WriteLine, a_loop, Value, Bind, Unify, SameCells, Seq, And, Or, Not, CallTest, Const, Load, Chain, Compare, Truth, Known, Chr, CallExpr, ByValue, ByCells, ByPlace, MixValue, MixPlace, Field, Index}
+use Rattle.alma_ir.specs.Tree.{Program, routine_at, TestStmt, Assign, CopyCells, If, While, Repeat, ForTo, SomeOf, Case, Either, Forall}
+use Rattle.alma_ir.specs.Tree.{Commit, Return, Read, WriteExpr, WriteText, WriteLine, a_loop, Value, Bind, Unify, SameCells, Seq, And, Or}
+use Rattle.alma_ir.specs.Tree.{Not, CallTest, Const, Load, Chain, Compare, Truth, Known, Chr, CallExpr, ByValue, ByCells, ByPlace, MixValue}
+use Rattle.alma_ir.specs.Tree.{MixPlace, Field, Index}
 use Rattle.alma_ir.specs.Phrases.{Phrase, StmtPhrase, TestPhrase, ExprPhrase, ArgPhrase, DesigPhrase, SelPhrase, stmts_phrases}
 use Rattle.alma_ir.specs.Checked.{IsChecked}
 use Rattle.alma_mean.specs.Events.{Events, NoYield, Go, first, end_of}
@@ -54,15 +58,19 @@ at_most a b c e f = by (int_le a c) refl
     by true z = refl
     by false z = absurd (omega (arith, ints))
 
-inside : (range : Range) → is_integer range.low ≡ true → is_integer range.high ≡ true → (n : ℤ) → within range n ≡ true → is_integer n ≡ true
+inside : (range : Range) → is_integer range.low ≡ true → is_integer range.high ≡ true → (n : ℤ) → within range n ≡ true
+    → is_integer n ≡ true
 inside range low high n h =
     let z = and_parts (int_le range.low n) (int_le n range.high) h in
     let l = and_parts (int_le whole_range.low range.low) (int_le range.low whole_range.high) low in
     let u = and_parts (int_le whole_range.low range.high) (int_le range.high whole_range.high) high in
-    and_from (int_le whole_range.low n) (int_le n whole_range.high) (at_most whole_range.low range.low n l.0 z.0) (at_most n range.high whole_range.high z.1 u.1)
+    and_from (int_le whole_range.low n) (int_le n whole_range.high) (at_most whole_range.low range.low n l.0 z.0)
+    (at_most n range.high whole_range.high z.1 u.1)
 
 -- the code itself, whose tables are those that the program was given
-module _ (p : Program) (tables : Tables) (all : List (List Run)) (count : length all ≡ length p.routines) (names : (r : ℕ) → r < length p.routines → kinds_of 0 (get_or all r []) ≡ routine_kinds p r) (checked : IsChecked p) (held : HoldsAllOf p tables) (integers : IsOfIntegers p)
+module _ (p : Program) (tables : Tables) (all : List (List Run)) (count : length all ≡ length p.routines)
+    (names : (r : ℕ) → r < length p.routines → kinds_of 0 (get_or all r []) ≡ routine_kinds p r) (checked : IsChecked p)
+    (held : HoldsAllOf p tables) (integers : IsOfIntegers p)
     (input : List ℕ) (lawful : length input ≤ input_limit) where
   abbrev code : PlainCode
   code = program_code p tables all
@@ -113,7 +121,8 @@ module _ (p : Program) (tables : Tables) (all : List (List Run)) (count : length
   coded (SelPhrase (Field offset cells)) h k = tt
   coded (SelPhrase (Index e range cells)) h k = h
 
-  coded_all : (xs : List Phrase) → AllByRecursion (InTables tables) xs → AllByRecursion HasIntegers xs → AllByRecursion (Coded p tables code input) xs
+  coded_all : (xs : List Phrase) → AllByRecursion (InTables tables) xs → AllByRecursion HasIntegers xs
+      → AllByRecursion (Coded p tables code input) xs
   coded_all [] h k = tt
   coded_all (x ∷ xs) h k = (coded x h.0 k.0, coded_all xs h.1 k.1)
 
@@ -122,7 +131,9 @@ module _ (p : Program) (tables : Tables) (all : List (List Run)) (count : length
   fine_body r lt =
       let xs = stmts_phrases (routine_at p r).body in
       record {
-        asked = asked_all p tables code input r xs (checked.roots r lt) (checked.parts r lt) (checked.cells r lt) (checked.loops r lt) (checked.callees r lt) (checked.results r lt) (checked.links r lt) (checked.arguments r lt) (checked.choices r lt) (checked.returns r lt) (checked.returns_stay r lt)
+        asked = asked_all p tables code input r xs (checked.roots r lt) (checked.parts r lt) (checked.cells r lt) (checked.loops r lt)
+            (checked.callees r lt) (checked.results r lt) (checked.links r lt) (checked.arguments r lt) (checked.choices r lt)
+            (checked.returns r lt) (checked.returns_stay r lt)
             (coded_all xs (held.phrases r lt) (integers r lt));
         lines = record { positive = (checked.lines r lt).lines; enough = omega (arith, (checked.lines r lt).count) };
       }
@@ -139,7 +150,8 @@ module _ (p : Program) (tables : Tables) (all : List (List Run)) (count : length
   known_at : (n : ℕ) → KnownAt n
   known_at zero = record {
     below = below_none p tables code input;
-    routines = λ r lt. routine_cut p tables code input r (start_at code r + length (body_code_of p tables code input r)) (routine_ends p tables code input level_0 r (stands r lt));
+    routines = λ r lt. routine_cut p tables code input r (start_at code r + length (body_code_of p tables code input r))
+        (routine_ends p tables code input level_0 r (stands r lt));
   }
   known_at (suc n) =
       let k = known_at n in
@@ -148,9 +160,12 @@ module _ (p : Program) (tables : Tables) (all : List (List Run)) (count : length
       let flat = flat_body p tables code all refl count names checked input in
       let position = position_kind p tables code all refl count names checked input in
       record {
-        below = level_known p tables code all refl count names checked input lawful flat position held.results variables params (level p input n) n k.routines k.below;
+        below = level_known p tables code all refl count names checked input lawful flat position held.results variables params
+            (level p input n) n k.routines k.below;
         routines = λ r lt. routine_runs p tables code input (level p input n) r (suc n) (checked.params r lt) (stands r lt)
-            (λ line. stmts_go p tables code all refl count names checked input lawful flat position held.results variables params (level p input n) n k.routines k.below true r lt (routine_at p r).body (routine_at p r).lines (fine_body r lt) (λ e. absurd (let bad : true ≡ false = e in cc)) line (start_at code r) (length (own_kinds (routine_at p r)))
+            (λ line. stmts_go p tables code all refl count names checked input lawful flat position held.results variables params
+            (level p input n) n k.routines k.below true r lt (routine_at p r).body (routine_at p r).lines (fine_body r lt)
+            (λ e. absurd (let bad : true ≡ false = e in cc)) line (start_at code r) (length (own_kinds (routine_at p r)))
             (body_slots p tables code all refl count names checked input r lt));
       }
 
@@ -163,8 +178,10 @@ module _ (p : Program) (tables : Tables) (all : List (List Run)) (count : length
   main_ways = ending p code input true (own_end p 0) 0 (start_frame (head_at code 0) ∷ [])
 
   -- the machine ends at a Return of the frame of the module
-  return_here : (t : State) (held : List PlainEntry) → IsGoing held t → slice_get code.instrs t.at ≡ Some I.Return → length t.now ≡ 1 → ((step code input t).state.mode ≡ Ended end.Succeeded) × ((step code input t).printed ≡ [])
-  return_here t held going there one = return_ends code input (line_at code t.at) t.at t.now held t (record { mode = going.mode; here = refl; frames = refl; entries = going.entries }) (record { instr = there; on_line = refl }) one
+  return_here : (t : State) (held : List PlainEntry) → IsGoing held t → slice_get code.instrs t.at ≡ Some I.Return → length t.now ≡ 1
+      → ((step code input t).state.mode ≡ Ended end.Succeeded) × ((step code input t).printed ≡ [])
+  return_here t held going there one = return_ends code input (line_at code t.at) t.at t.now held t
+      (record { mode = going.mode; here = refl; frames = refl; entries = going.entries }) (record { instr = there; on_line = refl }) one
 
   none_is : (o : Option Range) → IsNone o → o ≡ None
   none_is None h = refl
@@ -174,28 +191,36 @@ module _ (p : Program) (tables : Tables) (all : List (List Run)) (count : length
   no_result = none_is (routine_at p 0).result checked.body_takes_nothing.1
 
   ends_well : (exit : ℕ) → slice_get code.instrs exit ≡ Some I.Return → EndsWell code input (Leaves exit main_ways)
-  ends_well exit there v (Go y) t held going left = return_here t held going (ap (slice_get code.instrs) left.0 ∙ there) left.1.fits.same_count
+  ends_well exit there v (Go y) t held going left =
+      return_here t held going (ap (slice_get code.instrs) left.0 ∙ there) left.1.fits.same_count
   ends_well exit there v (events.Return None) t held going left = return_here t held going left.2.there left.1.fits.same_count
-  ends_well exit there v (events.Return (Some m)) t held going left = absurd (subst (λ o. ResultIs p code input o (Some m)) no_result left.2.result)
+  ends_well exit there v (events.Return (Some m)) t held going left =
+      absurd (subst (λ o. ResultIs p code input o (Some m)) no_result left.2.result)
 
-  comes_to : (n : ℕ) (m : Mode) (line : ℕ) (printed : List ℕ) → AgreesFrom {A = NoYield} 0 n (first (ev_program (suc n) p input)) m line printed → ComesTo m line printed p input n
+  comes_to : (n : ℕ) (m : Mode) (line : ℕ) (printed : List ℕ)
+      → AgreesFrom {A = NoYield} 0 n (first (ev_program (suc n) p input)) m line printed → ComesTo m line printed p input n
   comes_to n (Ended x) line printed h = ap (λ b. (b, end_of (first (ev_program (suc n) p input)))) h.1 ∙ ap (λ e. (printed, e)) h.0
   comes_to n Going line printed h = record { visits = h.visits; front = h.front; enough = omega (arith, h.paid, mul-div-le n 32) }
   comes_to n Failing line printed h = record { visits = h.visits; front = h.front; enough = omega (arith, h.paid, mul-div-le n 32) }
   comes_to n Stuck line printed h = record { visits = h.visits; front = h.front; enough = omega (arith, h.paid, mul-div-le n 32) }
 
-  pub all_steps : (n : ℕ) → ComesTo (state_after code input n).mode (line_in code (state_after code input n)) (printed_by code input n) p input n
+  pub all_steps : (n : ℕ) → ComesTo (state_after code input n).mode (line_in code (state_after code input n)) (printed_by code input n) p
+      input n
   all_steps n =
       let main = (known_at (suc n)).routines 0 checked.body.0 in
       let e : Events NoYield = (level p input (suc n)).routine 0 (meaning.start p) in
       let fits = Leaves main.exit main_ways in
       let begun = start_begins p tables code all refl count names checked input in
-      let there : slice_get code.instrs main.exit ≡ Some I.Return = subst (EndsAt p tables code input (level p input (suc n)) 0 main.exit) no_result main.ends in
-      let goes = main.runs 0 (meaning.start p) (start_frame (head_at code 0) ∷ []) begun 8 (omega arith) [] (start code) (record { mode = refl; here = refl; frames = refl; entries = refl }) in
-      let as_node = node_goes code input 0 8 8 0 fits [] e (start code) 0 (suc n) (omega arith) (weaker code input 0 8 0 fits [] e (start code) 32 8 (suc n) (suc n) (omega arith) (omega arith) goes) in
+      let there : slice_get code.instrs main.exit ≡ Some I.Return =
+      subst (EndsAt p tables code input (level p input (suc n)) 0 main.exit) no_result main.ends in
+      let goes = main.runs 0 (meaning.start p) (start_frame (head_at code 0) ∷ []) begun 8 (omega arith) [] (start code)
+      (record { mode = refl; here = refl; frames = refl; entries = refl }) in
+      let as_node = node_goes code input 0 8 8 0 fits [] e (start code) 0 (suc n) (omega arith)
+      (weaker code input 0 8 0 fits [] e (start code) 32 8 (suc n) (suc n) (omega arith) (omega arith) goes) in
       comes_to n (state_after code input n).mode (line_in code (state_after code input n)) (printed_by code input n)
       (follows code input 8 fits (ev_program (suc n) p input) (start code) 0 (suc n) n (omega arith) (ends_well main.exit there) as_node)
 
 pub code_implements : (p : Program) (code : PlainCode) → IsChecked p → IsOfIntegers p → IsCodeOf p code → Implements code p
 code_implements p code checked integers is_code =
-    subst (λ c. Implements c p) (sym is_code.is) (λ input lawful n. all_steps p is_code.tables is_code.runs is_code.count is_code.names checked is_code.held integers input lawful n)
+    subst (λ c. Implements c p) (sym is_code.is)
+    (λ input lawful n. all_steps p is_code.tables is_code.runs is_code.count is_code.names checked is_code.held integers input lawful n)

@@ -22,16 +22,21 @@ use Rattle.alma_lower_templates.specs.Slots.{is_simple, mark_slots, expr_slots, 
 use Rattle.alma_lower_templates.specs.Templates.{stmts_code, stmt_code}
 use Rattle.alma_lower_templates.specs.Stands.{Stands}
 use Rattle.alma_lower_templates.proofs.Stands.{stands_front, stands_back}
-use Rattle.alma_lower_templates.proofs.Parts.{Begins, begins, Left, left_less, left_on, has_kind, ValueIn, NodeRuns, From, RunsFor, leaving, ending, on_ending, on_later, as_runs, node_runs, on_from, ends_here, value_ends, value_goes_on}
+use Rattle.alma_lower_templates.proofs.Parts.{Begins, begins, Left, left_less, left_on, has_kind, ValueIn, NodeRuns, From, RunsFor, leaving}
+use Rattle.alma_lower_templates.proofs.Parts.{ending, on_ending, on_later, as_runs, node_runs, on_from, ends_here, value_ends}
+use Rattle.alma_lower_templates.proofs.Parts.{value_goes_on}
 use Rattle.alma_lower_templates.proofs.RangeChecks.{past_from}
-use Rattle.alma_lower_templates.proofs.GuardedForms.{Decided, behind_test_at, guarded_code, guarded_front, guarded_back, guarded_long, condition_long}
+use Rattle.alma_lower_templates.proofs.GuardedForms.{Decided, behind_test_at, guarded_code, guarded_front, guarded_back, guarded_long}
+use Rattle.alma_lower_templates.proofs.GuardedForms.{condition_long}
 use Rattle.alma_lower_templates.proofs.Conditions.{condition_code}
 use Rattle.alma_lower_templates.proofs.FormRuns.{ExprRuns, StatementRuns, ListRuns}
 
 module _ (p : Program) (tables : Tables) (code : PlainCode) (input : List ℕ) (below : Level) (r line q : ℕ) where
   -- ---- a condition as a number
 
-  pub truth_runs : (at lo : ℕ) (t : Test) → HasSlots p code r lo (expr_slots p r (Truth t)) → ((none : ℕ) → Decided p tables code input below r line q at (lo + 1) none t (ev_test p input below t) q) → ExprRuns p tables code input below r line q at lo (Truth t)
+  pub truth_runs : (at lo : ℕ) (t : Test) → HasSlots p code r lo (expr_slots p r (Truth t))
+      → ((none : ℕ) → Decided p tables code input below r line q at (lo + 1) none t (ev_test p input below t) q)
+      → ExprRuns p tables code input below r line q at lo (Truth t)
   unfolding ev_expr
   truth_runs at lo t slots decides stands v now b =
       let kind = first_kind p code input r lo slot.Number (mark_slots (is_simple t) ++ test_slots p r t) slots in
@@ -47,33 +52,48 @@ module _ (p : Program) (tables : Tables) (code : PlainCode) (input : List ℕ) (
       let whole : length (head ++ last) ≡ length head + 3 = length-append head last in
       let exit : ℕ = m + 3 in
       let end : exit ≡ at + length (head ++ last) = omega (arith, whole, at_m) in
-      let one_at : InstrAt code input line m (I.Const lo (pos 1)) = subst (λ n. InstrAt code input line n (I.Const lo (pos 1))) at_m (record { instr = back.0; on_line = back.1 }) in
-      let jump_there : InstrAt code input line (m + 1) (I.Jump (h + 3)) = subst (λ n. InstrAt code input line (n + 1) (I.Jump (h + 3))) at_m (record { instr = back.2.0; on_line = back.2.1 }) in
+      let one_at : InstrAt code input line m (I.Const lo (pos 1)) =
+      subst (λ n. InstrAt code input line n (I.Const lo (pos 1))) at_m (record { instr = back.0; on_line = back.1 }) in
+      let jump_there : InstrAt code input line (m + 1) (I.Jump (h + 3)) =
+      subst (λ n. InstrAt code input line (n + 1) (I.Jump (h + 3))) at_m (record { instr = back.2.0; on_line = back.2.1 }) in
       let out : h + 3 ≡ exit = omega (arith, at_m) in
-      let jump_at : InstrAt code input line (m + 1) (I.Jump exit) = subst (λ n. InstrAt code input line (m + 1) (I.Jump n)) out jump_there in
+      let jump_at : InstrAt code input line (m + 1) (I.Jump exit) =
+      subst (λ n. InstrAt code input line (m + 1) (I.Jump n)) out jump_there in
       let zero_here : h + 1 + 1 ≡ m + 0 + 2 = omega (arith, at_m) in
-      let zero_at : InstrAt code input line (m + 0 + 2) (I.Const lo (pos 0)) = subst (λ n. InstrAt code input line n (I.Const lo (pos 0))) zero_here (record { instr = back.2.2.0; on_line = back.2.2.1 }) in
+      let zero_at : InstrAt code input line (m + 0 + 2) (I.Const lo (pos 0)) =
+      subst (λ n. InstrAt code input line n (I.Const lo (pos 0))) zero_here (record { instr = back.2.2.0; on_line = back.2.2.1 }) in
       let behind_zero : m + 0 + 2 + 1 ≡ exit = omega arith in
       let w = leaving p code input lo r now (ValueIn p code input lo) in
       subst (λ n. NodeRuns p code input line at n now w (ev_expr p input below (Truth t) v) q) end
-      (node_runs p code input line 19 at exit now w (on_first (ev_test p input below t v) (λ u _. one u (pos 1)) (λ _. one v (pos 0))) q (omega arith)
+      (node_runs p code input line 19 at exit now w (on_first (ev_test p input below t v) (λ u _. one u (pos 1)) (λ _. one v (pos 0))) q
+      (omega arith)
       (λ held s is.
-      decides (m + 0 + 2) v now b (guarded_front p tables code input below r line q at (lo + 1) 2 t nothing front) ℤ 0 24 (Leaves exit w) (λ u _. one u (pos 1)) (λ _. one v (pos 0)) 8 8 (omega arith) held s is
+      decides (m + 0 + 2) v now b (guarded_front p tables code input below r line q at (lo + 1) 2 t nothing front) ℤ 0 24 (Leaves exit w)
+      (λ u _. one u (pos 1)) (λ _. one v (pos 0)) 8 8 (omega arith) held s is
       (λ u t2 there left.
       let left0 = left_less p code input lo (lo + 1) r now u t2.now (omega arith) left in
-      on_from p code input line 16 m exit lo lo r u now t2.now (ValueIn p code input lo) (one u (pos 1)) (q - 1) (omega arith) slots.behind left0
-      (value_goes_on p code input line 15 m exit lo r u t2.now (pos 1) (ValueIn p code input lo) (one u (pos 1)) (q - 1) slots.behind kind refl (begins p code input lo r now u t2.now left0)
-      (λ h s2 is2. const_step code input line m t2.now h s2 is2 lo (pos 1) one_at (has_kind p code input r lo u t2.now slot.Number kind (begins p code input lo r now u t2.now left0)))
+      on_from p code input line 16 m exit lo lo r u now t2.now (ValueIn p code input lo) (one u (pos 1)) (q - 1) (omega arith) slots.behind
+      left0
+      (value_goes_on p code input line 15 m exit lo r u t2.now (pos 1) (ValueIn p code input lo) (one u (pos 1)) (q - 1) slots.behind kind
+      refl (begins p code input lo r now u t2.now left0)
+      (λ h s2 is2. const_step code input line m t2.now h s2 is2 lo (pos 1) one_at
+      (has_kind p code input r lo u t2.now slot.Number kind (begins p code input lo r now u t2.now left0)))
       (λ t3 left3 value.
-      past_from p tables code input below r line (q - 1) 14 (m + 1) exit exit t3 (leaving p code input lo r t3 (ValueIn p code input lo)) (one u (pos 1)) (λ h s2 is2. jumps code input line (m + 1) exit t3 h s2 is2 jump_at)
-      (ends_here p code input line 14 exit lo r u t3 (ValueIn p code input lo) (pos 1) (q - 1) (begins p code input lo r t2.now u t3 left3) value)))
+      past_from p tables code input below r line (q - 1) 14 (m + 1) exit exit t3 (leaving p code input lo r t3 (ValueIn p code input lo))
+      (one u (pos 1)) (λ h s2 is2. jumps code input line (m + 1) exit t3 h s2 is2 jump_at)
+      (ends_here p code input line 14 exit lo r u t3 (ValueIn p code input lo) (pos 1) (q - 1) (begins p code input lo r t2.now u t3 left3)
+      value)))
       held t2 there)
       (λ t2 there left.
       let left0 = left_less p code input lo (lo + 1) r now v t2.now (omega arith) left in
-      on_from p code input line 8 (m + 0 + 2) exit lo lo r v now t2.now (ValueIn p code input lo) (one v (pos 0)) (q - 1) (omega arith) slots.behind left0
-      (subst (λ n. From p code input line 8 (m + 0 + 2) n t2.now (leaving p code input lo r t2.now (ValueIn p code input lo)) (one v (pos 0)) (q - 1)) behind_zero
-      (value_ends p code input line 7 (m + 0 + 2) lo r v t2.now (pos 0) (q - 1) slots.behind kind refl (begins p code input lo r now v t2.now left0)
-      (λ h s2 is2. const_step code input line (m + 0 + 2) t2.now h s2 is2 lo (pos 0) zero_at (has_kind p code input r lo v t2.now slot.Number kind (begins p code input lo r now v t2.now left0)))))
+      on_from p code input line 8 (m + 0 + 2) exit lo lo r v now t2.now (ValueIn p code input lo) (one v (pos 0)) (q - 1) (omega arith)
+      slots.behind left0
+      (subst (λ n. From p code input line 8 (m + 0 + 2) n t2.now (leaving p code input lo r t2.now (ValueIn p code input lo))
+      (one v (pos 0)) (q - 1)) behind_zero
+      (value_ends p code input line 7 (m + 0 + 2) lo r v t2.now (pos 0) (q - 1) slots.behind kind refl
+      (begins p code input lo r now v t2.now left0)
+      (λ h s2 is2. const_step code input line (m + 0 + 2) t2.now h s2 is2 lo (pos 0) zero_at
+      (has_kind p code input r lo v t2.now slot.Number kind (begins p code input lo r now v t2.now left0)))))
       held t2 there)))
 
   -- ---- WHILE
@@ -84,15 +104,20 @@ module _ (p : Program) (tables : Tables) (code : PlainCode) (input : List ℕ) (
 
   -- turns whose events are given
   abbrev pub TurnsRun : (may : Bool) (top exit lo : ℕ) → (Store → Events NoYield) → (d : ℕ) → Type 0
-  TurnsRun may top exit lo f d = (v : Store) (now : List PlainFrame) → Begins p code input r v now → Later code input line top exit now (ending p code input may lo r now) (f v) d
+  TurnsRun may top exit lo f d = (v : Store) (now : List PlainFrame) → Begins p code input r v now
+      → Later code input line top exit now (ending p code input may lo r now) (f v) d
 
   abbrev pub while_exit : (at lo : ℕ) → Test → Stmts → ℕ
   while_exit at lo t body = at + length (stmt_code p tables r line at lo (While t body))
 
   -- a turn, from behind the first jump
-  pub while_turn_runs : (may : Bool) (at lo : ℕ) (t : Test) (body : Stmts) (cond does again : Store → Events NoYield) (d u : ℕ) → own_end p r ≤ lo → d ≤ suc u → ((none : ℕ) → Decided p tables code input below r line q (at + 1) lo none t cond d)
-      → ((next : ℕ) → GivenRuns may next (behind_condition p r lo t) body does (d - 1)) → TurnsRun may (at + 1) (while_exit at lo t body) lo again u → Stands code at (stmt_code p tables r line at lo (While t body))
-      → (v : Store) (now : List PlainFrame) → Begins p code input r v now → Visited code input line (at + 1) (while_exit at lo t body) now (ending p code input may lo r now) (on_first (cond v) (λ x _. bind (does x) (λ y _. again y)) (λ _. one v tt)) d
+  pub while_turn_runs : (may : Bool) (at lo : ℕ) (t : Test) (body : Stmts) (cond does again : Store → Events NoYield) (d u : ℕ)
+      → own_end p r ≤ lo → d ≤ suc u → ((none : ℕ) → Decided p tables code input below r line q (at + 1) lo none t cond d)
+      → ((next : ℕ) → GivenRuns may next (behind_condition p r lo t) body does (d - 1))
+      → TurnsRun may (at + 1) (while_exit at lo t body) lo again u → Stands code at (stmt_code p tables r line at lo (While t body))
+      → (v : Store) (now : List PlainFrame) → Begins p code input r v now
+      → Visited code input line (at + 1) (while_exit at lo t body) now (ending p code input may lo r now)
+      (on_first (cond v) (λ x _. bind (does x) (λ y _. again y)) (λ _. one v tt)) d
   while_turn_runs may at lo t body cond does again d u behind owes decides runs turns stands v now b =
       let made = λ (next : ℕ). stmts_code p tables r next (behind_condition p r lo t) body in
       let top : ℕ = at + 1 in
@@ -103,42 +128,56 @@ module _ (p : Program) (tables : Tables) (code : PlainCode) (input : List ℕ) (
       let front = stands_front code top head out stands.2 in
       let back = stands_back code top head out stands.2 in
       let ends : top + length head ≡ y = guarded_long p tables code input below r line q top lo 1 t made in
-      let jump_at : InstrAt code input line y (I.Jump top) = subst (λ n. InstrAt code input line n (I.Jump top)) ends (record { instr = back.0; on_line = back.1 }) in
+      let jump_at : InstrAt code input line y (I.Jump top) =
+      subst (λ n. InstrAt code input line n (I.Jump top)) ends (record { instr = back.0; on_line = back.1 }) in
       let both : length (head ++ out) ≡ length head + 1 = length-append head out in
       let end : m + length (made m) + 1 ≡ while_exit at lo t body = omega (arith, both, ends) in
       let w = ending p code input may lo r now in
       subst (λ n. Visited code input line top n now w (on_first (cond v) (λ x _. bind (does x) (λ z _. again z)) (λ _. one v tt)) d) end
-      (while_row code input line top m y (m + length (made m) + 1) now w v (cond v) does again (λ x t2. Left p code input lo r now x t2) (λ t2. Left p code input lo r now v t2) (λ x t2. w) d u owes
+      (while_row code input line top m y (m + length (made m) + 1) now w v (cond v) does again (λ x t2. Left p code input lo r now x t2)
+      (λ t2. Left p code input lo r now v t2) (λ x t2. w) d u owes
       (decides (m + length (made m) + 1) v now b (guarded_front p tables code input below r line q top lo 1 t made front)) jump_at
-      (λ x t2 left. on_ending p code input may line m y lo (behind_condition p r lo t) r x now t2 (does x) (d - 1) (omega arith) behind left (runs m (guarded_back p tables code input below r line q top lo 1 t made front) x t2 (begins p code input lo r now x t2 left)))
+      (λ x t2 left. on_ending p code input may line m y lo (behind_condition p r lo t) r x now t2 (does x) (d - 1) (omega arith) behind left
+      (runs m (guarded_back p tables code input below r line q top lo 1 t made front) x t2 (begins p code input lo r now x t2 left)))
       (λ x t2 z t3 left left3.
       subst (λ n. Later code input line top n t3 w (again z) u) (sym end)
-      (on_later p code input may line top (while_exit at lo t body) lo lo r z now t3 (again z) u (omega arith) behind left3 (turns z t3 (begins p code input lo r now z t3 left3))))
+      (on_later p code input may line top (while_exit at lo t body) lo lo r z now t3 (again z) u (omega arith) behind left3
+      (turns z t3 (begins p code input lo r now z t3 left3))))
       (λ x t2 z n a t3 left h. h)
       (λ t2 left. left))
 
-  pub while_runs : (may : Bool) (at lo : ℕ) (t : Test) (body : Stmts) → own_end p r ≤ lo → (u : ℕ) → q - 1 ≤ suc u → ((none : ℕ) → Decided p tables code input below r line q (at + 1) lo none t (below.test t) (q - 1))
-      → ((next : ℕ) → GivenRuns may next (behind_condition p r lo t) body (below.stmts body) (q - 1 - 1)) → TurnsRun may (at + 1) (while_exit at lo t body) lo (below.while t body) u → StatementRuns p tables code input below r line q may at lo (While t body)
+  pub while_runs : (may : Bool) (at lo : ℕ) (t : Test) (body : Stmts) → own_end p r ≤ lo → (u : ℕ) → q - 1 ≤ suc u
+      → ((none : ℕ) → Decided p tables code input below r line q (at + 1) lo none t (below.test t) (q - 1))
+      → ((next : ℕ) → GivenRuns may next (behind_condition p r lo t) body (below.stmts body) (q - 1 - 1))
+      → TurnsRun may (at + 1) (while_exit at lo t body) lo (below.while t body) u
+      → StatementRuns p tables code input below r line q may at lo (While t body)
   unfolding ev_stmts
   while_runs may at lo t body behind u owes decides runs turns stands v now b =
       let exit : ℕ = while_exit at lo t body in
       let w = ending p code input may lo r now in
-      let turn : Events NoYield = on_first (below.test t v) (λ x _. bind (below.stmts body x) (λ y _. below.while t body y)) (λ _. one v tt) in
-      let visited = while_turn_runs may at lo t body (below.test t) (below.stmts body) (below.while t body) (q - 1) u behind owes decides runs turns stands v now b in
+      let turn : Events NoYield = on_first (below.test t v) (λ x _. bind (below.stmts body x) (λ y _. below.while t body y)) (λ _. one v tt)
+      in
+      let visited = while_turn_runs may at lo t body (below.test t) (below.stmts body) (below.while t body) (q - 1) u behind owes decides
+      runs turns stands v now b in
       as_runs p code input line at exit now w (node (Visit turn)) q
       (node_runs p code input line 1 at exit now w (Visit turn) q (omega arith)
       (λ held s is.
       let j = jumps code input line at (at + 1) now held s is (record { instr = stands.0; on_line = stands.1 }) in
-      before code input line 0 24 (Leaves exit w) held turn s j.to 1 33 24 q (q - 1) j.silently (omega arith) (omega arith) (visited held j.to j.is)))
+      before code input line 0 24 (Leaves exit w) held turn s j.to 1 33 24 q (q - 1) j.silently (omega arith) (omega arith)
+      (visited held j.to j.is)))
 
   -- ---- REPEAT
 
   abbrev pub repeat_exit : (at lo : ℕ) → Stmts → Test → ℕ
   repeat_exit at lo body t = at + length (stmt_code p tables r line at lo (Repeat body t))
 
-  pub repeat_turn_runs : (may : Bool) (at lo : ℕ) (body : Stmts) (t : Test) (does cond again : Store → Events NoYield) (u : ℕ) → own_end p r ≤ lo → q ≤ suc u → GivenRuns may at lo body does q
-      → ((next : ℕ) → Decided p tables code input below r line q next (behind_stmts p r lo body) at t cond q) → TurnsRun may at (repeat_exit at lo body t) lo again u → Stands code at (stmt_code p tables r line at lo (Repeat body t))
-      → (v : Store) (now : List PlainFrame) → Begins p code input r v now → Visited code input line at (repeat_exit at lo body t) now (ending p code input may lo r now) (bind (does v) (λ x _. on_first (cond x) (λ y _. one y tt) (λ _. again x))) q
+  pub repeat_turn_runs : (may : Bool) (at lo : ℕ) (body : Stmts) (t : Test) (does cond again : Store → Events NoYield) (u : ℕ)
+      → own_end p r ≤ lo → q ≤ suc u → GivenRuns may at lo body does q
+      → ((next : ℕ) → Decided p tables code input below r line q next (behind_stmts p r lo body) at t cond q)
+      → TurnsRun may at (repeat_exit at lo body t) lo again u → Stands code at (stmt_code p tables r line at lo (Repeat body t))
+      → (v : Store) (now : List PlainFrame) → Begins p code input r v now
+      → Visited code input line at (repeat_exit at lo body t) now (ending p code input may lo r now)
+      (bind (does v) (λ x _. on_first (cond x) (λ y _. one y tt) (λ _. again x))) q
   repeat_turn_runs may at lo body t does cond again u behind owes runs decides turns stands v now b =
       let inner : List Lined = stmts_code p tables r at lo body in
       let m : ℕ = at + length inner in
@@ -149,26 +188,34 @@ module _ (p : Program) (tables : Tables) (code : PlainCode) (input : List ℕ) (
       let end : exit ≡ repeat_exit at lo body t = omega (arith, whole, condition_long p tables code input below r line q m lo2 at t) in
       let w = ending p code input may lo r now in
       subst (λ n. Visited code input line at n now w (bind (does v) (λ x _. on_first (cond x) (λ y _. one y tt) (λ _. again x))) q) end
-      (repeat_row code input line at m exit now w v does cond again w (λ x z t2. Left p code input lo r now z t2) (λ x t2. Left p code input lo r now x t2) q u owes
+      (repeat_row code input line at m exit now w v does cond again w (λ x z t2. Left p code input lo r now z t2)
+      (λ x t2. Left p code input lo r now x t2) q u owes
       (runs (stands_front code at inner last stands) v now b)
       (λ x t2 left B left2 more2 fits2 found none b2 c le held s is on_found on_none.
-      decides m x t2 (begins p code input lo r now x t2 left) (stands_back code at inner last stands) B left2 more2 fits2 found none b2 c le held s is
+      decides m x t2 (begins p code input lo r now x t2 left) (stands_back code at inner last stands) B left2 more2 fits2 found none b2 c le
+      held s is
       (λ z t3 there left3. on_found z t3 there (left_on p code input lo lo2 r now x z t2 t3.now (omega arith) left left3))
       (λ t3 there left3. on_none t3 there (left_on p code input lo lo2 r now x x t2 t3.now (omega arith) left left3)))
       (λ x z t2 left. left)
       (λ x t2 left.
       subst (λ n. Later code input line at n t2 w (again x) u) (sym end)
-      (on_later p code input may line at (repeat_exit at lo body t) lo lo r x now t2 (again x) u (omega arith) behind left (turns x t2 (begins p code input lo r now x t2 left))))
+      (on_later p code input may line at (repeat_exit at lo body t) lo lo r x now t2 (again x) u (omega arith) behind left
+      (turns x t2 (begins p code input lo r now x t2 left))))
       (λ x n a t2 h. h))
 
-  pub repeat_runs : (may : Bool) (at lo : ℕ) (body : Stmts) (t : Test) → own_end p r ≤ lo → (u : ℕ) → q ≤ suc u → ListRuns p tables code input below r line q may at lo body
-      → ((next : ℕ) → Decided p tables code input below r line q next (behind_stmts p r lo body) at t (ev_test p input below t) q) → TurnsRun may at (repeat_exit at lo body t) lo (below.repeat body t) u → StatementRuns p tables code input below r line q may at lo (Repeat body t)
+  pub repeat_runs : (may : Bool) (at lo : ℕ) (body : Stmts) (t : Test) → own_end p r ≤ lo → (u : ℕ) → q ≤ suc u
+      → ListRuns p tables code input below r line q may at lo body
+      → ((next : ℕ) → Decided p tables code input below r line q next (behind_stmts p r lo body) at t (ev_test p input below t) q)
+      → TurnsRun may at (repeat_exit at lo body t) lo (below.repeat body t) u
+      → StatementRuns p tables code input below r line q may at lo (Repeat body t)
   unfolding ev_stmts
   repeat_runs may at lo body t behind u owes runs decides turns stands v now b =
       let exit : ℕ = repeat_exit at lo body t in
       let w = ending p code input may lo r now in
-      let turn : Events NoYield = bind (ev_stmts p input below body v) (λ x _. on_first (ev_test p input below t x) (λ y _. one y tt) (λ _. below.repeat body t x)) in
+      let turn : Events NoYield = bind (ev_stmts p input below body v)
+      (λ x _. on_first (ev_test p input below t x) (λ y _. one y tt) (λ _. below.repeat body t x)) in
       as_runs p code input line at exit now w (node (Visit turn)) q
       (node_runs p code input line 8 at exit now w (Visit turn) q (omega arith)
       (visited_behind code input line at exit now w turn q
-      (repeat_turn_runs may at lo body t (ev_stmts p input below body) (ev_test p input below t) (below.repeat body t) u behind owes runs decides turns stands v now b)))
+      (repeat_turn_runs may at lo body t (ev_stmts p input below body) (ev_test p input below t) (below.repeat body t) u behind owes runs
+      decides turns stands v now b)))

@@ -1,6 +1,7 @@
 -- A parameter whose place is used in its own slot: where it holds none yet, the instruction that uses it faults, and the
 -- fault is the one that the meaning tells.
-use Rattle.std.proofs.Common.{◌≡◌, ℕ, ◌+◌, ◌-◌, ◌<◌, List, length, get_or, Some, None, Option, sym, ap, ◌∙◌, subst, arith, Bool, true, false}
+use Rattle.std.proofs.Common.{◌≡◌, ℕ, ◌+◌, ◌-◌, ◌<◌, List, length, get_or, Some, None, Option, sym, ap, ◌∙◌, subst, arith, Bool, true}
+use Rattle.std.proofs.Common.{false}
 use Rattle.std.specs.Prelude.{slice_get}
 use Rattle.alma_base.specs.declared.fault.RunFault.TheVariants as fault
 use Rattle.alma_code.specs.declared.cell.Cell.TheVariants as cell
@@ -29,7 +30,8 @@ use Rattle.alma_lower_templates.proofs.RootForms.{HeldIs, a_place, no_place, hel
 
 -- the designator is the whole parameter
 pub own_place_is : (d : Desig) (from : ℕ) → own_place d ≡ Some from → (cells : ℕ) × (d ≡ a_desig (root.Param from) cells no_sels)
-own_place_is (a_desig (root.Param n) cells no_sels) from e = (cells, let same : n ≡ from = cc in ap (λ k. a_desig (root.Param k) cells no_sels) same)
+own_place_is (a_desig (root.Param n) cells no_sels) from e =
+    (cells, let same : n ≡ from = cc in ap (λ k. a_desig (root.Param k) cells no_sels) same)
 own_place_is (a_desig (root.Param n) cells (more_sels x rest)) from e = absurd (cc)
 own_place_is (a_desig (root.Local n) cells sels) from e = absurd (cc)
 own_place_is (a_desig (root.Global n) cells sels) from e = absurd (cc)
@@ -53,9 +55,11 @@ own_root_is (root.OuterParam links n) sels from e = absurd (cc)
 module _ (code : PlainCode) (input : List ℕ) where
   -- the instruction at an address begins by reading a place
   abbrev pub ReadsPlace : (at slot : ℕ) → List PlainFrame → Type 0
-  ReadsPlace at slot now = (held : List PlainEntry) (s : State) → IsAt at now held s → (k : CellPlace → Stepped) × (step code input s ≡ place (passed code input s) slot k)
+  ReadsPlace at slot now = (held : List PlainEntry) (s : State) → IsAt at now held s → (k : CellPlace → Stepped)
+      × (step code input s ≡ place (passed code input s) slot k)
 
-  pub reads_unset : (line at slot : ℕ) (now : List PlainFrame) (held : List PlainEntry) (s : State) → ReadsPlace at slot now → IsAt at now held s → line_at code at ≡ line → Holds now slot cell.Unset → Faults code input line s fault.Unknown
+  pub reads_unset : (line at slot : ℕ) (now : List PlainFrame) (held : List PlainEntry) (s : State) → ReadsPlace at slot now
+      → IsAt at now held s → line_at code at ≡ line → Holds now slot cell.Unset → Faults code input line s fault.Unknown
   reads_unset line at slot now held s reads is here there =
       let r = reads held s is in
       faults_now code input line s fault.Unknown (ap (line_at code) is.here ∙ here)
@@ -67,7 +71,8 @@ module _ (p : Program) (code : PlainCode) (input : List ℕ) (r : ℕ) where
     own_held : (a : Place) → top_cell v from ≡ At a → IsPlace p code input (shift p r + from) cells v a now → OwnHeld from cells v now
     none_held : top_cell v from ≡ Unknown → Holds now (shift p r + from) cell.Unset → OwnHeld from cells v now
 
-  pub own_is : (from cells : ℕ) (v : Store) (now : List PlainFrame) → IsParam p code input r from cells → Begins p code input r v now → OwnHeld from cells v now
+  pub own_is : (from cells : ℕ) (v : Store) (now : List PlainFrame) → IsParam p code input r from cells → Begins p code input r v now
+      → OwnHeld from cells v now
   own_is from cells v now h b = by (held_is p code input (top v) r from cells v now b.stand live b.routine h)
     where
       live : top v < length v
@@ -76,7 +81,8 @@ module _ (p : Program) (code : PlainCode) (input : List ℕ) (r : ℕ) where
       at_top : top v ≡ length now - 1
       at_top = ap (λ n. n - 1) (sym b.stand.count)
 
-      kind_there : slice_get (kinds_at code (get_or v (top v) store.no_frame).routine) (shift_in p v (top v) + from) ≡ Some (slot.Place cells)
+      kind_there : slice_get (kinds_at code (get_or v (top v) store.no_frame).routine) (shift_in p v (top v) + from) ≡ Some
+          (slot.Place cells)
       kind_there = subst (λ x. slice_get (kinds_at code x) (shift p x + from) ≡ Some (slot.Place cells)) (sym b.routine) h.kind
 
       by : HeldIs p code input v now (top v) from (shift p r + from) → OwnHeld from cells v now
@@ -88,9 +94,11 @@ module _ (p : Program) (code : PlainCode) (input : List ℕ) (r : ℕ) where
             same = same;
             holds = subst (λ n. slice_get (get_or now n picture.no_frame).cells (shift p r + from) ≡ Some (cell.Place c)) at_top there;
           })
-      by (no_place e there) = none_held e (subst (λ n. slice_get (get_or now n picture.no_frame).cells (shift p r + from) ≡ Some cell.Unset) at_top there)
+      by (no_place e there) = none_held e (subst (λ n. slice_get (get_or now n picture.no_frame).cells (shift p r + from) ≡ Some cell.Unset)
+          at_top there)
 
-  pub unset_there : (from cells : ℕ) (v : Store) (now : List PlainFrame) → IsParam p code input r from cells → Begins p code input r v now → top_cell v from ≡ Unknown → Holds now (shift p r + from) cell.Unset
+  pub unset_there : (from cells : ℕ) (v : Store) (now : List PlainFrame) → IsParam p code input r from cells → Begins p code input r v now
+      → top_cell v from ≡ Unknown → Holds now (shift p r + from) cell.Unset
   unset_there from cells v now h b none = by (own_is from cells v now h b)
     where
       by : OwnHeld from cells v now → Holds now (shift p r + from) cell.Unset
@@ -98,13 +106,16 @@ module _ (p : Program) (code : PlainCode) (input : List ℕ) (r : ℕ) where
       by (own_held a e is) = absurd (let bad : Unknown ≡ At a = sym none ∙ e in cc)
 
   -- the place of the whole parameter, read at once
-  pub own_from : {B : Type 0} (below : Level) (line q at exit from cells : ℕ) (v : Store) (now : List PlainFrame) (w : Ways B) (k : Store → Place → Events B) → IsParam p code input r from cells → Begins p code input r v now → line_at code at ≡ line → ReadsPlace code input at (shift p r + from) now
+  pub own_from : {B : Type 0} (below : Level) (line q at exit from cells : ℕ) (v : Store) (now : List PlainFrame) (w : Ways B)
+      (k : Store → Place → Events B) → IsParam p code input r from cells → Begins p code input r v now → line_at code at ≡ line
+      → ReadsPlace code input at (shift p r + from) now
       → ((a : Place) → IsPlace p code input (shift p r + from) cells v a now → From p code input line 8 at exit now w (k v a) q)
       → From p code input line 0 at exit now w (bind (ev_desig p input below (a_desig (root.Param from) cells no_sels) v) k) q
   unfolding ev_desig
   own_from below line q at exit from cells v now w k h b there reads later = by (own_is from cells v now h b)
     where
-      by : OwnHeld from cells v now → From p code input line 0 at exit now w (bind (node (bind (place_held v (top_cell v from)) (λ t a. one t a))) k) q
+      by : OwnHeld from cells v now → From p code input line 0 at exit now w
+          (bind (node (bind (place_held v (top_cell v from)) (λ t a. one t a))) k) q
       by (own_held a e is) =
           subst (λ c. From p code input line 0 at exit now w (bind (node (bind (place_held v c) (λ t a. one t a))) k) q) (sym e)
           (λ held s here. weaker code input line 0 24 (Leaves exit w) held (join (k v a) Fail) s 64 8 q q (omega arith) (omega arith)
@@ -112,7 +123,8 @@ module _ (p : Program) (code : PlainCode) (input : List ℕ) (r : ℕ) where
       by (none_held e hold) =
           subst (λ c. From p code input line 0 at exit now w (bind (node (bind (place_held v c) (λ t a. one t a))) k) q) (sym e)
           (λ held s here. weaker code input line 0 24 (Leaves exit w) held (Fault fault.Unknown 0) s 32 8 q q (omega arith) (omega arith)
-          (faults_here p code input line 7 at exit now w fault.Unknown q (λ h2 u at_u. reads_unset code input line at (shift p r + from) now h2 u reads at_u there hold) held s here))
+          (faults_here p code input line 7 at exit now w fault.Unknown q
+          (λ h2 u at_u. reads_unset code input line at (shift p r + from) now h2 u reads at_u there hold) held s here))
 
   -- the slot of a whole parameter
   abbrev pub OwnFits : Option ℕ → Type 0

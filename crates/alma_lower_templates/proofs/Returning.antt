@@ -1,5 +1,6 @@
 -- RETURN, and the end of a routine, from template to run.
-use Rattle.std.proofs.Common.{◌≡◌, ℕ, zero, suc, ◌+◌, ◌-◌, ◌<◌, ◌≤◌, Bool, true, false, List, [], ◌∷◌, ◌++◌, length, replicate, Some, None, Option, refl, sym, ap, ◌∙◌, subst, arith, ℤ, length-append, append-nil}
+use Rattle.std.proofs.Common.{◌≡◌, ℕ, zero, suc, ◌+◌, ◌-◌, ◌<◌, ◌≤◌, Bool, true, false, List, [], ◌∷◌, ◌++◌, length, replicate, Some, None}
+use Rattle.std.proofs.Common.{Option, refl, sym, ap, ◌∙◌, subst, arith, ℤ, length-append, append-nil}
 use Rattle.std.specs.Prelude.{slice_get, sum_by}
 use Rattle.std.proofs.lemmas.List.{length-replicate}
 use Rattle.std.proofs.lemmas.List.Sums.{sum_by-cons}
@@ -35,7 +36,8 @@ use Rattle.alma_lower_templates.specs.Slots.{bare, unless_bare, own_kinds, link_
 use Rattle.alma_lower_templates.specs.Templates.{expr_code, stmt_code, stmts_code, value_at, fit_result, routine_code, end_code}
 use Rattle.alma_lower_templates.specs.Stands.{Stands}
 use Rattle.alma_lower_templates.proofs.Stands.{stands_front, stands_back}
-use Rattle.alma_lower_templates.proofs.Parts.{Begins, Left, begins, left_self, left_less, ValueIn, RunsFor, From, leaving, ending, ends_here, as_runs, node_runs, ResultIs}
+use Rattle.alma_lower_templates.proofs.Parts.{Begins, Left, begins, left_self, left_less, ValueIn, RunsFor, From, leaving, ending}
+use Rattle.alma_lower_templates.proofs.Parts.{ends_here, as_runs, node_runs, ResultIs}
 use Rattle.alma_lower_templates.proofs.AtOnce.{AtOnce, at_once}
 use Rattle.alma_lower_templates.proofs.Args.{RangeFits, fit_from, fit_reads, own_both}
 use Rattle.alma_lower_templates.proofs.Calls.{RoutineRuns, EndsAt}
@@ -59,10 +61,12 @@ returned_join Fail f = refl
 returned_join (Fault x l) f = refl
 returned_join Cut f = refl
 
-returned_bind : (e : Events ℤ) (k : Store → ℤ → Events ℤ) (k2 : Store → ℤ → Events NoYield) → ((s : Store) (n : ℤ) → returned (k s n) ≡ k2 s n) → returned (bind e k) ≡ bind e k2
+returned_bind : (e : Events ℤ) (k : Store → ℤ → Events ℤ) (k2 : Store → ℤ → Events NoYield)
+    → ((s : Store) (n : ℤ) → returned (k s n) ≡ k2 s n) → returned (bind e k) ≡ bind e k2
 returned_bind (Visit e) k k2 h = ap Visit (returned_bind e k k2 h)
 returned_bind (Print b e) k k2 h = ap (Print b) (returned_bind e k k2 h)
-returned_bind (Alt s (Go n) e) k k2 h = returned_join (k s n) (bind e k) ∙ ap (λ x. join x (returned (bind e k))) (h s n) ∙ ap (join (k2 s n)) (returned_bind e k k2 h)
+returned_bind (Alt s (Go n) e) k k2 h = returned_join (k s n) (bind e k) ∙ ap (λ x. join x (returned (bind e k))) (h s n)
+    ∙ ap (join (k2 s n)) (returned_bind e k k2 h)
 returned_bind (Alt s (events.Return n) e) k k2 h = ap (Alt s (events.Return n)) (returned_bind e k k2 h)
 returned_bind Fail k k2 h = refl
 returned_bind (Fault x l) k k2 h = refl
@@ -77,37 +81,78 @@ returned_result : (o : Option Range) (s : Store) (n : ℤ) → returned (result_
 returned_result None s n = refl
 returned_result (Some range) s n = by (within range n)
   where
-    by : (b : Bool) → returned (fault_unless fault.Range b (λ _. one s n)) ≡ fault_unless fault.Range b (λ _. Alt s (events.Return (Some n)) Fail)
+    by : (b : Bool) → returned (fault_unless fault.Range b (λ _. one s n)) ≡ fault_unless fault.Range b
+        (λ _. Alt s (events.Return (Some n)) Fail)
     by true = refl
     by false = refl
 
 module _ (p : Program) (tables : Tables) (code : PlainCode) (input : List ℕ) where
   -- ---- RETURN
 
-  returned_goes : (line state_after_leave more m exit : ℕ) (w : Ways ℤ) (w2 : Ways NoYield) (base : List PlainEntry) (e : Events ℤ) (s : State) (r q : ℕ) → ((v : Store) (n : ℤ) (t : List PlainFrame) → w.goes v n t → w2.returns v (Some n) m t)
-      → ((v : Store) (n : Option ℤ) (a : ℕ) (t : List PlainFrame) → w.returns v n a t → w2.returns v n a t) → Goes code input line state_after_leave more (Leaves m w) base e s r q → Goes code input line state_after_leave more (Leaves exit w2) base (returned e) s r q
+  returned_goes : (line state_after_leave more m exit : ℕ) (w : Ways ℤ) (w2 : Ways NoYield) (base : List PlainEntry) (e : Events ℤ)
+      (s : State) (r q : ℕ) → ((v : Store) (n : ℤ) (t : List PlainFrame) → w.goes v n t → w2.returns v (Some n) m t)
+      → ((v : Store) (n : Option ℤ) (a : ℕ) (t : List PlainFrame) → w.returns v n a t → w2.returns v n a t)
+      → Goes code input line state_after_leave more (Leaves m w) base e s r q
+      → Goes code input line state_after_leave more (Leaves exit w2) base (returned e) s r q
   returned_goes line state_after_leave more m exit w w2 base Fail s r q k l h = h
   returned_goes line state_after_leave more m exit w w2 base (Fault x own) s r q k l h = h
   returned_goes line state_after_leave more m exit w w2 base Cut s r q k l h = h
-  returned_goes line state_after_leave more m exit w w2 base (Visit e) s r q k l h = returned_goes line state_after_leave more m exit w w2 base e s (r + 32) q k l h
-  returned_goes line state_after_leave more m exit w w2 base (Print bytes e) s r q k l h =
-      (h.0, h.1, h.2, h.3, h.4, h.5, h.6, returned_goes line state_after_leave more m exit w w2 base e h.4 (r - suc h.0) (q - suc h.0) k l h.7)
-  returned_goes line state_after_leave more m exit w w2 base (Alt v (Go n) e) s r q k l h =
-      (h.0, h.1, h.2, h.3, h.4, h.5, subst (λ a. w2.returns v (Some n) a h.1.now) (sym h.6.0) (k v n h.1.now h.6.1), λ base2 u like failing. returned_goes line state_after_leave more m exit w w2 base2 e u 0 (q - h.0) k l (h.7 base2 u like failing))
-  returned_goes line state_after_leave more m exit w w2 base (Alt v (events.Return n) e) s r q k l h =
-      (h.0, h.1, h.2, h.3, h.4, h.5, l v n h.1.at h.1.now h.6, λ base2 u like failing. returned_goes line state_after_leave more m exit w w2 base2 e u 0 (q - h.0) k l (h.7 base2 u like failing))
+  returned_goes line state_after_leave more m exit w w2 base (Visit e) s r q k l h =
+      returned_goes line state_after_leave more m exit w w2 base e s (r + 32) q k l h
+  returned_goes line state_after_leave more m exit w w2 base (Print bytes e) s r q k l h = (
+    h.0,
+    h.1,
+    h.2,
+    h.3,
+    h.4,
+    h.5,
+    h.6,
+    returned_goes line state_after_leave more m exit w w2 base e h.4 (r - suc h.0) (q - suc h.0) k l
+        h.7,
+  )
+  returned_goes line state_after_leave more m exit w w2 base (Alt v (Go n) e) s r q k l h = (
+    h.0,
+    h.1,
+    h.2,
+    h.3,
+    h.4,
+    h.5,
+    subst (λ a. w2.returns v (Some n) a h.1.now) (sym h.6.0) (k v n h.1.now h.6.1),
+    λ base2 u like failing. returned_goes line state_after_leave more m exit w w2 base2 e u 0 (q - h.0) k l
+        (h.7 base2 u like failing),
+  )
+  returned_goes line state_after_leave more m exit w w2 base (Alt v (events.Return n) e) s r q k l h = (
+    h.0,
+    h.1,
+    h.2,
+    h.3,
+    h.4,
+    h.5,
+    l v n h.1.at h.1.now h.6,
+    λ base2 u like failing. returned_goes line state_after_leave more m exit w w2 base2 e u 0 (q - h.0) k l
+        (h.7 base2 u like failing),
+  )
 
-  pub return_value_reads : (line at from : ℕ) (now : List PlainFrame) → InstrAt code input line at (I.ReturnValue from) → ReadsFirst code input at from now
+  pub return_value_reads : (line at from : ℕ) (now : List PlainFrame) → InstrAt code input line at (I.ReturnValue from)
+      → ReadsFirst code input at from now
   unfolding act
-  return_value_reads line at from now i held s is =
-      ((λ v. result_to (slice_get code.instrs ((last_frame (passed code input s).now).back - 1)) (state_after_leave (passed code input s)) v), does code input line at now held s (I.ReturnValue from) is i)
+  return_value_reads line at from now i held s is = (
+    (λ v. result_to (slice_get code.instrs ((last_frame (passed code input s).now).back - 1)) (state_after_leave (passed code input s))
+        v),
+    does code input line at now held s (I.ReturnValue from) is i,
+  )
 
   module _ (below : Level) (r line q : ℕ) where
     -- a node with statements inside of it, from so many steps
-    ending_node : (lo c at exit : ℕ) (now : List PlainFrame) (e : Events NoYield) → c ≤ 24 → From p code input line c at exit now (ending p code input true lo r now) e q → Runs code input line at exit now (ending p code input true lo r now) (node e) q
-    ending_node lo c at exit now e few h = as_runs p code input line at exit now (ending p code input true lo r now) (node e) q (node_runs p code input line c at exit now (ending p code input true lo r now) e q few h)
+    ending_node : (lo c at exit : ℕ) (now : List PlainFrame) (e : Events NoYield) → c ≤ 24
+        → From p code input line c at exit now (ending p code input true lo r now) e q
+        → Runs code input line at exit now (ending p code input true lo r now) (node e) q
+    ending_node lo c at exit now e few h = as_runs p code input line at exit now (ending p code input true lo r now) (node e) q
+        (node_runs p code input line c at exit now (ending p code input true lo r now) e q few h)
 
-    pub return_runs : (lo at : ℕ) → (routine_at p r).result ≡ None → own_end p r ≤ lo → RunsFor p code input true r line at lo (stmt_code p tables r line at lo (Return no_result)) (ev_stmt p input below (Return no_result)) q
+    pub return_runs : (lo at : ℕ) → (routine_at p r).result ≡ None → own_end p r ≤ lo
+        → RunsFor p code input true r line at lo (stmt_code p tables r line at lo (Return no_result))
+        (ev_stmt p input below (Return no_result)) q
     unfolding ev_stmts
     return_runs lo at none own_lo stands v now b =
         ending_node lo 24 at (at + 1) now (Alt v (events.Return None) Fail) (omega arith)
@@ -118,12 +163,28 @@ module _ (p : Program) (tables : Tables) (code : PlainCode) (input : List ℕ) w
           no_step code input s,
           [],
           record { mode = is.mode; entries = is.entries ∙ sym (append-nil held) },
-          (refl, subst (λ t. Left p code input (own_end p r) r now v t) (sym is.frames) (left_self p code input (own_end p r) r v now b), record { there = ap (slice_get code.instrs) is.here ∙ stands.0; result = subst (λ o. ResultIs p code input o None) (sym none) tt }),
-          λ base2 u like failing. (0, u, omega arith, no_step code input u, record { mode = failing.mode; entries = failing.entries ∙ append-nil base2 }),
+          (
+            refl,
+            subst (λ t. Left p code input (own_end p r) r now v t) (sym is.frames) (left_self p code input (own_end p r) r v now b),
+            record {
+              there = ap (slice_get code.instrs) is.here ∙ stands.0;
+              result =
+                  subst (λ o. ResultIs p code input o None) (sym none) tt;
+            },
+          ),
+          λ base2 u like failing. (
+            0,
+            u,
+            omega arith,
+            no_step code input u,
+            record { mode = failing.mode; entries = failing.entries ∙ append-nil base2 },
+          ),
         ))
 
-    pub return_value_runs : (e : Expr) (range : Range) (lo at : ℕ) → (routine_at p r).result ≡ Some range → own_end p r ≤ lo → RangeFits p tables code input range → AtOnce p tables code input below r line q at lo e
-        → RunsFor p code input true r line at lo (stmt_code p tables r line at lo (Return (some_result e))) (ev_stmt p input below (Return (some_result e))) q
+    pub return_value_runs : (e : Expr) (range : Range) (lo at : ℕ) → (routine_at p r).result ≡ Some range → own_end p r ≤ lo
+        → RangeFits p tables code input range → AtOnce p tables code input below r line q at lo e
+        → RunsFor p code input true r line at lo (stmt_code p tables r line at lo (Return (some_result e)))
+        (ev_stmt p input below (Return (some_result e))) q
     unfolding ev_stmts
     return_value_runs e range lo at some own_lo fits once stands v now b =
         let first : List Lined = unless_bare (bare e) (expr_code p tables r line at lo e) in
@@ -141,25 +202,38 @@ module _ (p : Program) (tables : Tables) (code : PlainCode) (input : List ℕ) w
         let split : second ≡ own line fit ++ own line (I.ReturnValue value ∷ []) = own_both line fit (I.ReturnValue value ∷ []) in
         let parts : Stands code m (own line fit ++ own line (I.ReturnValue value ∷ [])) = subst (Stands code m) split behind in
         let fit_there : Stands code m (own line fit) = stands_front code m (own line fit) (own line (I.ReturnValue value ∷ [])) parts in
-        let last : Stands code m2 (own line (I.ReturnValue value ∷ [])) = stands_back code m (own line fit) (own line (I.ReturnValue value ∷ [])) parts in
-        let reads = fit_reads p tables code input line m value now range (I.ReturnValue value) fits (return_value_reads line m value now) behind in
+        let last : Stands code m2 (own line (I.ReturnValue value ∷ [])) =
+        stands_back code m (own line fit) (own line (I.ReturnValue value ∷ [])) parts in
+        let reads = fit_reads p tables code input line m value now range (I.ReturnValue value) fits (return_value_reads line m value now)
+        behind in
         let w = leaving p code input lo r now (ValueIn p code input value) in
         let k = λ (t : Store) (n : ℤ). result_of (routine_at p (top_frame t).routine).result t n in
         let k2 = λ (t : Store) (n : ℤ). return_within (routine_at p (top_frame t).routine).result t n in
-        let same : returned (bind (ev_expr p input below e v) k) ≡ bind (ev_expr p input below e v) k2 = returned_bind (ev_expr p input below e v) k k2 (λ t n. returned_result (routine_at p (top_frame t).routine).result t n) in
+        let same : returned (bind (ev_expr p input below e v) k) ≡ bind (ev_expr p input below e v) k2 =
+        returned_bind (ev_expr p input below e v) k k2 (λ t n. returned_result (routine_at p (top_frame t).routine).result t n) in
         ending_node lo 0 at exit now (bind (ev_expr p input below e v) k2) (omega arith)
         (λ held s here.
         subst (λ f. Goes code input line 0 24 (Leaves exit (ending p code input true lo r now)) held f s 0 q) same
         (returned_goes line 0 24 m2 exit w (ending p code input true lo r now) held (bind (ev_expr p input below e v) k) s 0 q
-        (λ u n t left_here.
-        (refl, left_less p code input (own_end p r) lo r now u t own_lo left_here.0, record { there = (value, last.0, left_here.1.holds); result = subst (λ o. ResultIs p code input o (Some n)) (sym some) left_here.1.integer }))
+        (λ u n t left_here. (
+          refl,
+          left_less p code input (own_end p r) lo r now u t own_lo left_here.0,
+          record {
+            there = (value, last.0, left_here.1.holds);
+            result =
+                subst (λ o. ResultIs p code input o (Some n)) (sym some) left_here.1.integer;
+          },
+        ))
         (λ u n a t none. absurd none)
-        (at_once p tables code input below r line q m2 lo lo at v now (ValueIn p code input value) k (omega arith) own_lo b e once (stands_front code at first second all) reads.0 reads.1
+        (at_once p tables code input below r line q m2 lo lo at v now (ValueIn p code input value) k (omega arith) own_lo b e once
+        (stands_front code at first second all) reads.0 reads.1
         (λ u n t left_here value_there.
         let bt : Begins p code input r u t = begins p code input lo r now u t left_here in
-        let result : result_of (Some range) u n ≡ result_of (routine_at p (top_frame u).routine).result u n = ap (λ o. result_of o u n) (sym (ap (λ x. (routine_at p x).result) bt.routine ∙ some)) in
+        let result : result_of (Some range) u n ≡ result_of (routine_at p (top_frame u).routine).result u n =
+        ap (λ o. result_of o u n) (sym (ap (λ x. (routine_at p x).result) bt.routine ∙ some)) in
         subst (λ f. From p code input line 8 m m2 t (leaving p code input lo r t (ValueIn p code input value)) f q) result
-        (fit_from p tables code input line 7 m m2 m2 t (leaving p code input lo r t (ValueIn p code input value)) range value n (one u n) q fits value_there fit_there refl
+        (fit_from p tables code input line 7 m m2 m2 t (leaving p code input lo r t (ValueIn p code input value)) range value n (one u n) q
+        fits value_there fit_there refl
         (ends_here p code input line 7 m2 lo r u t (ValueIn p code input value) n q bt value_there)))
         held s here)))
 
@@ -178,7 +252,13 @@ module _ (p : Program) (tables : Tables) (code : PlainCode) (input : List ℕ) w
 
   params_long : (qs : List Param) → length (params_kinds qs) ≡ sum_by param_slots qs
   params_long [] = refl
-  params_long (q ∷ qs) = omega (arith, length-append (param_kinds q.kind q.cells) (params_kinds qs), param_long q.kind q.cells, params_long qs, sum_by-cons param_slots q qs)
+  params_long (q ∷ qs) = omega (
+    arith,
+    length-append (param_kinds q.kind q.cells) (params_kinds qs),
+    param_long q.kind q.cells,
+    params_long qs,
+    sum_by-cons param_slots q qs,
+  )
 
   -- the phrases of a routine begin behind its own slots
   pub own_long : (r : ℕ) → ParamsFirst (routine_at p r) → length (own_kinds (routine_at p r)) ≡ own_end p r
@@ -202,27 +282,37 @@ module _ (p : Program) (tables : Tables) (code : PlainCode) (input : List ℕ) w
   body_code_of r = stmts_code p tables r (start_at code r) (body_slot r) (body_with_lines (routine_at p r))
 
   -- what stands at its end
-  pub routine_ends : (below : Level) (r : ℕ) → Stands code (start_at code r) (routine_code p tables r (start_at code r)) → EndsAt p tables code input below r (start_at code r + length (body_code_of r)) (routine_at p r).result
-  routine_ends below r stands = ends_at (routine_at p r).result (stands_back code (start_at code r) (body_code_of r) (own (routine_at p r).line (end_code p tables r (routine_at p r).result ∷ [])) stands)
+  pub routine_ends : (below : Level) (r : ℕ) → Stands code (start_at code r) (routine_code p tables r (start_at code r))
+      → EndsAt p tables code input below r (start_at code r + length (body_code_of r)) (routine_at p r).result
+  routine_ends below r stands = ends_at (routine_at p r).result
+      (stands_back code (start_at code r) (body_code_of r) (own (routine_at p r).line (end_code p tables r (routine_at p r).result ∷ []))
+      stands)
     where
-      ends_at : (result : Option Range) → Stands code (start_at code r + length (body_code_of r)) (own (routine_at p r).line (end_code p tables r result ∷ [])) → EndsAt p tables code input below r (start_at code r + length (body_code_of r)) result
+      ends_at : (result : Option Range) → Stands code (start_at code r + length (body_code_of r))
+          (own (routine_at p r).line (end_code p tables r result ∷ []))
+          → EndsAt p tables code input below r (start_at code r + length (body_code_of r)) result
       ends_at None h = h.0
       ends_at (Some range) h = record { instr = h.0; on_line = h.1 }
 
   -- a routine whose statements run runs to its end
-  pub routine_runs : (below : Level) (r q : ℕ) → ParamsFirst (routine_at p r) → Stands code (start_at code r) (routine_code p tables r (start_at code r))
-      → ((line : ℕ) → RunsFor p code input true r line (start_at code r) (body_slot r) (body_code_of r) (ev_stmts p input below (body_with_lines (routine_at p r))) q)
+  pub routine_runs : (below : Level) (r q : ℕ) → ParamsFirst (routine_at p r)
+      → Stands code (start_at code r) (routine_code p tables r (start_at code r))
+      → ((line : ℕ) → RunsFor p code input true r line (start_at code r) (body_slot r) (body_code_of r)
+      (ev_stmts p input below (body_with_lines (routine_at p r))) q)
       → RoutineRuns p tables code input (level_above p input below) r q
   routine_runs below r q first stands body = record {
     exit = start_at code r + length (body_code_of r);
     runs = λ line v now b.
-        subst (λ lo. Runs code input line (start_at code r) (start_at code r + length (body_code_of r)) now (ending p code input true lo r now) (ev_stmts p input below (body_with_lines (routine_at p r)) v) q) (own_long r first)
-        (body line (stands_front code (start_at code r) (body_code_of r) (own (routine_at p r).line (end_code p tables r (routine_at p r).result ∷ [])) stands) v now b);
+        subst (λ lo. Runs code input line (start_at code r) (start_at code r + length (body_code_of r)) now
+        (ending p code input true lo r now) (ev_stmts p input below (body_with_lines (routine_at p r)) v) q) (own_long r first)
+        (body line (stands_front code (start_at code r) (body_code_of r)
+        (own (routine_at p r).line (end_code p tables r (routine_at p r).result ∷ [])) stands) v now b);
     ends = routine_ends (level_above p input below) r stands;
   }
 
   -- at level 0 all is cut off
-  pub routine_cut : (r exit : ℕ) → EndsAt p tables code input level_0 r exit (routine_at p r).result → RoutineRuns p tables code input level_0 r 0
+  pub routine_cut : (r exit : ℕ) → EndsAt p tables code input level_0 r exit (routine_at p r).result
+      → RoutineRuns p tables code input level_0 r 0
   routine_cut r exit ends = record {
     exit = exit;
     runs = λ line v now b c le held s is. (0, s, omega arith, no_step code input s, omega arith, subst IsOn (sym is.mode) tt);
@@ -230,10 +320,15 @@ module _ (p : Program) (tables : Tables) (code : PlainCode) (input : List ℕ) w
   }
 
   -- the routines of all levels run: a body at a level runs where routines of the level below do
-  pub routines_run : ((r : ℕ) → r < length p.routines → ParamsFirst (routine_at p r)) → ((r : ℕ) → r < length p.routines → Stands code (start_at code r) (routine_code p tables r (start_at code r)))
-      → ((n : ℕ) → ((r : ℕ) → r < length p.routines → RoutineRuns p tables code input (level p input n) r n) → (r line : ℕ) → r < length p.routines
-      → RunsFor p code input true r line (start_at code r) (body_slot r) (body_code_of r) (ev_stmts p input (level p input n) (body_with_lines (routine_at p r))) (suc n))
+  pub routines_run : ((r : ℕ) → r < length p.routines → ParamsFirst (routine_at p r))
+      → ((r : ℕ) → r < length p.routines → Stands code (start_at code r) (routine_code p tables r (start_at code r)))
+      → ((n : ℕ) → ((r : ℕ) → r < length p.routines → RoutineRuns p tables code input (level p input n) r n) → (r line : ℕ)
+      → r < length p.routines
+      → RunsFor p code input true r line (start_at code r) (body_slot r) (body_code_of r)
+      (ev_stmts p input (level p input n) (body_with_lines (routine_at p r))) (suc n))
       → (n r : ℕ) → r < length p.routines → RoutineRuns p tables code input (level p input n) r n
-  routines_run first stands bodies zero r lt = routine_cut r (start_at code r + length (body_code_of r)) (routine_ends level_0 r (stands r lt))
+  routines_run first stands bodies zero r lt =
+      routine_cut r (start_at code r + length (body_code_of r)) (routine_ends level_0 r (stands r lt))
   routines_run first stands bodies (suc n) r lt =
-      routine_runs (level p input n) r (suc n) (first r lt) (stands r lt) (λ line. bodies n (λ q small. routines_run first stands bodies n q small) r line lt)
+      routine_runs (level p input n) r (suc n) (first r lt) (stands r lt)
+      (λ line. bodies n (λ q small. routines_run first stands bodies n q small) r line lt)

@@ -5,7 +5,8 @@ use Rattle.std.proofs.lemmas.Bool.{and_parts}
 use Rattle.alma_base.specs.declared.fault.RunFault.{RunFault}
 use Rattle.alma_ir.specs.declared.phrase.Root.{Root}
 use Rattle.alma_ir.specs.declared.phrase.Root.TheVariants as root
-use Rattle.alma_ir.specs.Tree.{Program, Expr, Links, Desig, Sels, Sel, Const, Load, Chain, Compare, Truth, Known, Chr, CallExpr, no_links, more_links, a_desig, no_sels, more_sels, Field, Index}
+use Rattle.alma_ir.specs.Tree.{Program, Expr, Links, Desig, Sels, Sel, Const, Load, Chain, Compare, Truth, Known, Chr, CallExpr, no_links}
+use Rattle.alma_ir.specs.Tree.{more_links, a_desig, no_sels, more_sels, Field, Index}
 use Rattle.alma_mean.specs.Store.{Store, Place, Cell, Unknown, Number, At, cell_of, cell_at, top_cell, part, up}
 use Rattle.alma_mean.specs.Events.{one}
 use Rattle.alma_mean.specs.Arithmetic.{fault_unless}
@@ -65,4 +66,5 @@ module _ (p : Program) (input : List ℕ) (below : Level) where
 
     sel_one : (x : Sel) (a : Place) (v : Store) → is_simple_sel x ≡ true → GivesOne Place v (ev_sel p input below x a v)
     sel_one (Field offset cells) a v h = on_visit (on_visit on_one)
-    sel_one (Index x range cells) a v h = one_noded (one_bound _ (expr_one x v h) (λ n. one_checked v _ _ (part a (nat_abs (n -ℤ range.low) * cells) cells)))
+    sel_one (Index x range cells) a v h = one_noded
+        (one_bound _ (expr_one x v h) (λ n. one_checked v _ _ (part a (nat_abs (n -ℤ range.low) * cells) cells)))

@@ -5,7 +5,8 @@ use Rattle.std.proofs.lemmas.List.{length-append, length-map}
 use Rattle.alma_code.specs.declared.head.Run.{Run}
 use Rattle.alma_code.specs.Plain.{PlainCode}
 use Rattle.alma_ir.specs.declared.phrase.Root.TheVariants as root
-use Rattle.alma_ir.specs.Tree.{Program, Routine, no_routine, routine_at, Value, Bind, Unify, SameCells, Seq, And, Or, Not, CallTest, Const, Load, Chain, Compare, Truth, Known, Chr, CallExpr, a_desig}
+use Rattle.alma_ir.specs.Tree.{Program, Routine, no_routine, routine_at, Value, Bind, Unify, SameCells, Seq, And, Or, Not, CallTest, Const}
+use Rattle.alma_ir.specs.Tree.{Load, Chain, Compare, Truth, Known, Chr, CallExpr, a_desig}
 use Rattle.alma_ir.specs.Checked.{IsChecked, RootExists, CallLeads}
 use Rattle.alma_ir.specs.Count.{stmts_nodes, routine_nodes, routines_nodes, nodes}
 use Rattle.alma_ir.specs.Lines.{body_with_lines}
@@ -54,7 +55,8 @@ module _ (p : Program) (r : ℕ) (routine : Routine) (few : routine.level ≤ 8)
 
 module _ (p : Program) (checked : IsChecked p) (r : ℕ) (lt : r < length p.routines) where
   body_short : AreShort (stmts_phrases (routine_at p r).body)
-  body_short = are_short p r (routine_at p r) (checked.nested r lt).few (stmts_phrases (routine_at p r).body) (checked.roots r lt) (checked.links r lt)
+  body_short = are_short p r (routine_at p r) (checked.nested r lt).few (stmts_phrases (routine_at p r).body) (checked.roots r lt)
+      (checked.links r lt)
 
   pub few_slots : length (stmts_slots p r (body_with_lines (routine_at p r))) ≤ 16 * stmts_nodes (routine_at p r).body
   few_slots = slots.stmts_few p r (routine_at p r).body (routine_at p r).lines body_short
@@ -66,7 +68,8 @@ module _ (p : Program) (checked : IsChecked p) (r : ℕ) (lt : r < length p.rout
       omega (
         arith,
         z,
-        length-append (stmts_code p tables r at lo (body_with_lines (routine_at p r))) (own (routine_at p r).line (end_code p tables r (routine_at p r).result ∷ [])),
+        length-append (stmts_code p tables r at lo (body_with_lines (routine_at p r)))
+            (own (routine_at p r).line (end_code p tables r (routine_at p r).result ∷ [])),
       )
 
 module _ (p : Program) (checked : IsChecked p) (tables : Tables) where
@@ -80,7 +83,8 @@ module _ (p : Program) (checked : IsChecked p) (tables : Tables) where
       let here : r ≡ r + 0 = omega arith in
       let is : routine_nodes (routine_at p r) ≡ routine_nodes x = ap routine_nodes (ap (routine_at p) here ∙ same 0) in
       let a = few_instrs p checked r (omega (arith, fit)) tables at in
-      let b = routines_few rest (suc r) next (λ i. (let moved : suc r + i ≡ r + suc i = omega arith in ap (routine_at p) moved ∙ same (suc i))) (omega (arith, fit)) in
+      let b = routines_few rest (suc r) next (λ i.
+      (let moved : suc r + i ≡ r + suc i = omega arith in ap (routine_at p) moved ∙ same (suc i))) (omega (arith, fit)) in
       omega (arith, a, b, is, length-append first (routines_code p tables (suc r) (length rest) next))
 
   -- the instructions of the whole code

@@ -1,5 +1,6 @@
 -- SOME, from template to run: the step and both bounds, and the turns, each with a choice entry but the last.
-use Rattle.std.proofs.Common.{◌≡◌, ◌≢◌, ℕ, suc, ◌+◌, ◌-◌, ◌<◌, ◌≤◌, Bool, true, not, List, [], ◌∷◌, ◌++◌, length, Some, None, Option, refl, sym, ap, ◌∙◌, subst, arith, ℤ, pos, ◌+ℤ◌}
+use Rattle.std.proofs.Common.{◌≡◌, ◌≢◌, ℕ, suc, ◌+◌, ◌-◌, ◌<◌, ◌≤◌, Bool, true, not, List, [], ◌∷◌, ◌++◌, length, Some, None, Option, refl}
+use Rattle.std.proofs.Common.{sym, ap, ◌∙◌, subst, arith, ℤ, pos, ◌+ℤ◌}
 use Rattle.std.specs.Prelude.{slice_get, int_lt}
 use Rattle.std.proofs.lemmas.List.{length-append}
 use Rattle.alma_base.specs.declared.number.Range.{Range}
@@ -28,7 +29,8 @@ use Rattle.alma_lower_implements.proofs.Ways.{Ways, Leaves, Runs, Later, visited
 use Rattle.alma_lower_templates.specs.Lined.{Lined, own}
 use Rattle.alma_lower_templates.specs.Tables.{Tables}
 use Rattle.alma_lower_templates.specs.Pieces.{turn_code, some_turns}
-use Rattle.alma_lower_templates.specs.Slots.{bare_desig, unless_bare, expr_slots, desig_slots, stmts_slots, some_slots, behind_expr, behind_variable}
+use Rattle.alma_lower_templates.specs.Slots.{bare_desig, unless_bare, expr_slots, desig_slots, stmts_slots, some_slots, behind_expr}
+use Rattle.alma_lower_templates.specs.Slots.{behind_variable}
 use Rattle.alma_lower_templates.specs.Stands.{Stands}
 use Rattle.alma_lower_templates.specs.Templates.{set_by, stmt_code, stmts_code, desig_code, count_at, count_code}
 use Rattle.alma_lower_templates.proofs.Stands.{stands_front, stands_back}
@@ -38,7 +40,9 @@ use Rattle.alma_lower_templates.proofs.ExprForms.{some_slots as some_of}
 use Rattle.alma_lower_templates.proofs.FormRuns.{DesigRuns, ExprRuns, StatementRuns, FitsRange}
 use Rattle.alma_lower_templates.proofs.ForForms.{variable_from}
 use Rattle.alma_lower_templates.proofs.ForStatement.{for_front, front_from, bounds_from}
-use Rattle.alma_lower_templates.proofs.Parts.{RunsFor, Begins, begins, Left, left_self, left_on, left_temp, put_position, sound_after, has_kind, holds_temp, holds_after, From, ending, from_more, from_ending, on_later, fails_here, as_runs, node_runs}
+use Rattle.alma_lower_templates.proofs.Parts.{RunsFor, Begins, begins, Left, left_self, left_on, left_temp, put_position, sound_after}
+use Rattle.alma_lower_templates.proofs.Parts.{has_kind, holds_temp, holds_after, From, ending, from_more, from_ending, on_later, fails_here}
+use Rattle.alma_lower_templates.proofs.Parts.{as_runs, node_runs}
 use Rattle.alma_lower_templates.proofs.Targets.{put_places, top_free}
 
 module _ (p : Program) (tables : Tables) (code : PlainCode) (input : List ℕ) (below : Level) (r line q : ℕ) (may : Bool) where
@@ -47,21 +51,28 @@ module _ (p : Program) (tables : Tables) (code : PlainCode) (input : List ℕ) (
   -- turns, from frames with the count and the limit in the store and the step in the slot before `lo`
   abbrev pub TurnsOn : (top exit lo counter limit : ℕ) → (Store → Events NoYield) → (u : ℕ) → Type 0
   TurnsOn top exit lo counter limit again u =
-      (v : Store) (now : List PlainFrame) (n l : ℤ) → Begins p code input r v now → top_cell v counter ≡ Number n → top_cell v limit ≡ Number l → Holds now lo (cell.Int (pos 1))
+      (v : Store) (now : List PlainFrame) (n l : ℤ) → Begins p code input r v now → top_cell v counter ≡ Number n
+      → top_cell v limit ≡ Number l → Holds now lo (cell.Int (pos 1))
       → Later code input line top exit now (ending p code input may (lo + 1) r now) (again v) u
 
   -- statements, and the jump behind them
-  jump_behind : (c at m exit lo la : ℕ) (v : Store) (now : List PlainFrame) (e : Events NoYield) (d : ℕ) → 1 ≤ c → c ≤ 8 → lo ≤ la → own_end p r ≤ lo → Begins p code input r v now → Runs code input line at m now (ending p code input may la r now) e d → InstrAt code input line m (I.Jump exit)
+  jump_behind : (c at m exit lo la : ℕ) (v : Store) (now : List PlainFrame) (e : Events NoYield) (d : ℕ) → 1 ≤ c → c ≤ 8 → lo ≤ la
+      → own_end p r ≤ lo → Begins p code input r v now → Runs code input line at m now (ending p code input may la r now) e d
+      → InstrAt code input line m (I.Jump exit)
       → From p code input line c at exit now (ending p code input may lo r now) e d
   jump_behind c at m exit lo la v now e d some few le behind b runs jump =
       let w = ending p code input may la r now in
       from_ending p code input may line c at exit lo la r v now now e d le behind (left_self p code input lo r v now b)
       (λ held s is. credited code input line 0 0 0 24 (Leaves exit w) held e s c d (omega arith)
-      (then_up_to code input line c 0 0 1 (Leaves m w) (Leaves exit w) held e s c d (omega (arith, some)) (leaves_by code input m exit 1 w (leads_by_jump code input line 1 m exit (omega arith) jump)) (runs c few held s is)))
+      (then_up_to code input line c 0 0 1 (Leaves m w) (Leaves exit w) held e s c d (omega (arith, some))
+      (leaves_by code input m exit 1 w (leads_by_jump code input line 1 m exit (omega arith) jump)) (runs c few held s is)))
 
   -- the slots of a turn
-  turn_holds : (lo more counter limit : ℕ) (v : Store) (now : List PlainFrame) (n l : ℤ) → own_end p r ≤ lo → lo < more → AreVariables p code input r counter 1 → AreVariables p code input r limit 1 → slice_get (kinds_at code r) more ≡ Some slot.Number → Begins p code input r v now
-      → top_cell v counter ≡ Number n → top_cell v limit ≡ Number l → Holds now lo (cell.Int (pos 1)) → HoldsTurn code input (shift p r + counter) (shift p r + limit) lo more n l now
+  turn_holds : (lo more counter limit : ℕ) (v : Store) (now : List PlainFrame) (n l : ℤ) → own_end p r ≤ lo → lo < more
+      → AreVariables p code input r counter 1 → AreVariables p code input r limit 1 → slice_get (kinds_at code r) more ≡ Some slot.Number
+      → Begins p code input r v now
+      → top_cell v counter ≡ Number n → top_cell v limit ≡ Number l → Holds now lo (cell.Int (pos 1))
+      → HoldsTurn code input (shift p r + counter) (shift p r + limit) lo more n l now
   turn_holds lo more counter limit v now n l behind above of_counter of_limit kind b known known_limit step = record {
     count = (number_there p code input r counter of_counter v now b.stand b.routine n known).0;
     last = (number_there p code input r limit of_limit v now b.stand b.routine l known_limit).0;
@@ -84,51 +95,80 @@ module _ (p : Program) (tables : Tables) (code : PlainCode) (input : List ℕ) (
   -- the code of a turn, which begins at `at`; the slots of its variable begin at `place`
   abbrev turn_made : Option ℕ → (at place : ℕ) → Desig → Range → (counter : ℕ) → Stmts → List Lined
   turn_made o at place d range counter body =
-      turn_code line at (count_code p tables r o range (shift p r + counter) place) (λ next. unless_bare o (desig_code p tables r line next (place + 1) d)) (set_by p tables r o (place + 1) (count_at p tables r o (shift p r + counter) place) d)
+      turn_code line at (count_code p tables r o range (shift p r + counter) place)
+      (λ next. unless_bare o (desig_code p tables r line next (place + 1) d))
+      (set_by p tables r o (place + 1) (count_at p tables r o (shift p r + counter) place) d)
       (λ next. stmts_code p tables r next (place + length (unless_bare o (slot.Number ∷ desig_slots p r d))) body)
 
   -- from the test whether it is the last
-  some_turn_of : (o : Option ℕ) (start exit lo more place counter limit u retry : ℕ) (d : Desig) (range : Range) (body : Stmts) (does again : Store → Events NoYield) → bare_desig d ≡ o → BareFits p tables code input below r line q o → desig_cells d ≡ 1
-      → own_end p r ≤ lo → lo < more → more < place → q ≤ suc u → counter ≢ limit → FitsRange p tables code input below r line q range → AreVariables p code input r counter 1 → AreVariables p code input r limit 1 → slice_get (kinds_at code r) more ≡ Some slot.Number
+  some_turn_of : (o : Option ℕ) (start exit lo more place counter limit u retry : ℕ) (d : Desig) (range : Range) (body : Stmts)
+      (does again : Store → Events NoYield) → bare_desig d ≡ o → BareFits p tables code input below r line q o → desig_cells d ≡ 1
+      → own_end p r ≤ lo → lo < more → more < place → q ≤ suc u → counter ≢ limit → FitsRange p tables code input below r line q range
+      → AreVariables p code input r counter 1 → AreVariables p code input r limit 1
+      → slice_get (kinds_at code r) more ≡ Some slot.Number
       → (o ≡ None → slice_get (kinds_at code r) place ≡ Some slot.Number)
       → (o ≡ None → (next : ℕ) → DesigRuns p tables code input below r line q next (place + 1) d)
-      → ((next : ℕ) → RunsFor p code input may r line next (place + length (unless_bare o (slot.Number ∷ desig_slots p r d))) (stmts_code p tables r next (place + length (unless_bare o (slot.Number ∷ desig_slots p r d))) body) does (q - 1))
+      → ((next : ℕ) → RunsFor p code input may r line next (place + length (unless_bare o (slot.Number ∷ desig_slots p r d)))
+      (stmts_code p tables r next (place + length (unless_bare o (slot.Number ∷ desig_slots p r d))) body) does (q - 1))
       → TurnsOn start exit lo counter limit again u
-      → InstrAt code input line start (I.Less more (shift p r + counter) (shift p r + limit)) → InstrAt code input line (start + 1) (I.JumpZero more (start + 3)) → InstrAt code input line (start + 2) (I.Choose retry)
-      → Stands code (start + 3) (turn_made o (start + 3) place d range counter body) → InstrAt code input line (start + 3 + length (turn_made o (start + 3) place d range counter body)) (I.Jump exit)
-      → InstrAt code input line retry (I.Add (shift p r + counter) (shift p r + counter) lo) → InstrAt code input line (retry + 1) (I.Jump start)
-      → (v : Store) (now : List PlainFrame) (n l : ℤ) → Begins p code input r v now → top_cell v counter ≡ Number n → top_cell v limit ≡ Number l → Holds now lo (cell.Int (pos 1))
-      → Later code input line start exit now (ending p code input may (lo + 1) r now) (some_turn (ev_desig p input below d) range counter limit does again v) q
-  some_turn_of o start exit lo more place counter limit u retry d range body does again e fits cells behind above over owes two has of_counter of_limit kind kind_place runs_d runs turns less zero choose stands jump add back v now n l b known known_limit step =
-      visited_later code input line start exit now w (read_cell (top_cell v counter) (λ x. join (set_variable (ev_desig p input below d) range v x does) (next_turn counter limit (pos 1) again v Fail))) q
-      (some_row code input line start retry exit (shift p r + counter) (shift p r + limit) lo more n l v now w (ev_desig p input below d) range counter limit does again q u owes less zero choose add back
-      (turn_holds lo more counter limit v now n l behind above of_counter of_limit kind b known known_limit step) next_fits known known_limit
+      → InstrAt code input line start (I.Less more (shift p r + counter) (shift p r + limit))
+      → InstrAt code input line (start + 1) (I.JumpZero more (start + 3)) → InstrAt code input line (start + 2) (I.Choose retry)
+      → Stands code (start + 3) (turn_made o (start + 3) place d range counter body)
+      → InstrAt code input line (start + 3 + length (turn_made o (start + 3) place d range counter body)) (I.Jump exit)
+      → InstrAt code input line retry (I.Add (shift p r + counter) (shift p r + counter) lo)
+      → InstrAt code input line (retry + 1) (I.Jump start)
+      → (v : Store) (now : List PlainFrame) (n l : ℤ) → Begins p code input r v now → top_cell v counter ≡ Number n
+      → top_cell v limit ≡ Number l → Holds now lo (cell.Int (pos 1))
+      → Later code input line start exit now (ending p code input may (lo + 1) r now)
+      (some_turn (ev_desig p input below d) range counter limit does again v) q
+  some_turn_of o start exit lo more place counter limit u retry d range body does again e fits cells behind above over owes two has
+      of_counter of_limit kind kind_place runs_d runs turns less zero choose stands jump add back v now n l b known known_limit step =
+      visited_later code input line start exit now w
+      (read_cell (top_cell v counter) (λ x. join (set_variable (ev_desig p input below d) range v x does)
+      (next_turn counter limit (pos 1) again v Fail))) q
+      (some_row code input line start retry exit (shift p r + counter) (shift p r + limit) lo more n l v now w (ev_desig p input below d)
+      range counter limit does again q u owes less zero choose add back
+      (turn_holds lo more counter limit v now n l behind above of_counter of_limit kind b known known_limit step) next_fits known
+      known_limit
       (λ x held s is.
       let t : List PlainFrame = top_written now more (cell.Int x) in
-      let left : Left p code input (lo + 1) r now v t = left_temp p code input (lo + 1) r more v now (cell.Int x) (omega (arith, above)) (omega (arith, behind, above)) b in
+      let left : Left p code input (lo + 1) r now v t =
+      left_temp p code input (lo + 1) r more v now (cell.Int x) (omega (arith, above)) (omega (arith, behind, above)) b in
       let b1 = begins p code input (lo + 1) r now v t left in
       let tried : Events NoYield = set_variable (ev_desig p input below d) range v n does in
       from_more p code input line 9 16 (start + 3) exit t w tried q (omega arith)
       (from_ending p code input may line 9 (start + 3) exit (lo + 1) (lo + 1) r v now t tried q (omega arith) (omega (arith, behind)) left
-      (variable_from p tables code input below r line q may o (start + 3) exit (lo + 1) place counter d range v t n does made e fits cells (omega (arith, behind)) (omega (arith, above, over)) has of_counter kind_place runs_d stands b1 known
+      (variable_from p tables code input below r line q may o (start + 3) exit (lo + 1) place counter d range v t n does made e fits cells
+      (omega (arith, behind)) (omega (arith, above, over)) has of_counter kind_place runs_d stands b1 known
       (λ next here there y t2 left2.
       let b2 = begins p code input (lo + 1) r t y t2 left2 in
-      jump_behind 7 next m exit (lo + 1) lb y t2 (does y) (q - 1) (omega arith) (omega arith) (omega (arith, above, over)) (omega (arith, behind)) b2
-      (subst (λ z. Runs code input line next z t2 (ending p code input may lb r t2) (does y) (q - 1)) here (runs next there y t2 b2)) jump)))
+      jump_behind 7 next m exit (lo + 1) lb y t2 (does y) (q - 1) (omega arith) (omega arith) (omega (arith, above, over))
+      (omega (arith, behind)) b2
+      (subst (λ z. Runs code input line next z t2 (ending p code input may lb r t2) (does y) (q - 1)) here (runs next there y t2 b2))
+      jump)))
       held s is)
       (λ lt.
       let y : ℤ = n +ℤ pos 1 in
       let integer : is_integer y ≡ true = next_fits lt in
       let t1 : List PlainFrame = top_written now more (cell.Int (pos 1)) in
-      let left1 : Left p code input (lo + 1) r now v t1 = left_temp p code input (lo + 1) r more v now (cell.Int (pos 1)) (omega (arith, above)) (omega (arith, behind, above)) b in
+      let left1 : Left p code input (lo + 1) r now v t1 =
+      left_temp p code input (lo + 1) r more v now (cell.Int (pos 1)) (omega (arith, above)) (omega (arith, behind, above)) b in
       let b1 = begins p code input (lo + 1) r now v t1 left1 in
       let v2 : Store = put_top v counter (Number y) in
       let t2 : List PlainFrame = top_written t1 (shift p r + counter) (cell.Int y) in
       let live : top v < length v = omega (arith, b.stand.some) in
       let there = slot_within p code input r counter of_counter v t1 b1.stand b1.routine in
       let fit : Fits p code (lo + 1) t1 v2 t2 = fits_top p code input r counter of_counter v t1 b1.stand b1.routine (lo + 1) y integer in
-      let left2 : Left p code input (lo + 1) r t1 v2 t2 = record { fits = fit; routine = put_routine v (top v) counter (Number y) live ∙ b.routine; sound = sound_after p code input (lo + 1) v v2 t1 t2 b1.stand fit (put_places p code input v (top v) counter y live there) (put_position p code input v (top v) counter (Number y) (top_free p code input counter r v t1 of_counter b1)) b1.sound } in
-      let whole : Left p code input (lo + 1) r now v2 t2 = left_on p code input (lo + 1) (lo + 1) r now v v2 t1 t2 (omega arith) left1 left2 in
+      let left2 : Left p code input (lo + 1) r t1 v2 t2 =
+      record {
+        fits = fit;
+        routine = put_routine v (top v) counter (Number y) live ∙ b.routine;
+        sound =
+            sound_after p code input (lo + 1) v v2 t1 t2 b1.stand fit (put_places p code input v (top v) counter y live there)
+            (put_position p code input v (top v) counter (Number y) (top_free p code input counter r v t1 of_counter b1)) b1.sound;
+      } in
+      let whole : Left p code input (lo + 1) r now v2 t2 =
+      left_on p code input (lo + 1) (lo + 1) r now v v2 t1 t2 (omega arith) left1 left2 in
       on_later p code input may line start exit (lo + 1) (lo + 1) r v2 now t2 (again v2) u (omega arith) (omega (arith, behind)) whole
       (turns v2 t2 y l (begins p code input (lo + 1) r t1 v2 t2 left2) (top_put v counter (Number y) b.stand.some there)
       (top_put_other v counter limit (Number y) b.stand.some there (λ same. two (sym same)) ∙ known_limit)
@@ -148,7 +188,8 @@ module _ (p : Program) (tables : Tables) (code : PlainCode) (input : List ℕ) (
 
       next_fits : int_lt n l ≡ true → is_integer (n +ℤ pos 1) ≡ true
       next_fits lt =
-          count_integer (pos 1) n l (number_there p code input r counter of_counter v now b.stand b.routine n known).1 (number_there p code input r limit of_limit v now b.stand b.routine l known_limit).1
+          count_integer (pos 1) n l (number_there p code input r counter of_counter v now b.stand b.routine n known).1
+          (number_there p code input r limit of_limit v now b.stand b.routine l known_limit).1
           (beyond_by_one n l ∙ ap not lt)
 
   -- ---- the whole
@@ -163,7 +204,8 @@ module _ (p : Program) (tables : Tables) (code : PlainCode) (input : List ℕ) (
     zero : InstrAt code input line (next + 4 + 1) (I.JumpZero more (next + 4 + 3))
     choose : InstrAt code input line (next + 4 + 2) (I.Choose retry)
     turn : Stands code (next + 4 + 3) (turn_made (bare_desig d) (next + 4 + 3) (more + 1) d range counter body)
-    out : InstrAt code input line (next + 4 + 3 + length (turn_made (bare_desig d) (next + 4 + 3) (more + 1) d range counter body)) (I.Jump exit)
+    out : InstrAt code input line (next + 4 + 3 + length (turn_made (bare_desig d) (next + 4 + 3) (more + 1) d range counter body))
+        (I.Jump exit)
     add : InstrAt code input line retry (I.Add (shift p r + counter) (shift p r + counter) lo)
     back : InstrAt code input line (retry + 1) (I.Jump (next + 4))
     none : InstrAt code input line empty I.Fail
@@ -171,7 +213,9 @@ module _ (p : Program) (tables : Tables) (code : PlainCode) (input : List ℕ) (
   moved : (a b : ℕ) (i : Instr) → a ≡ b → InstrAt code input line a i → InstrAt code input line b i
   moved a b i e h = subst (λ n. InstrAt code input line n i) e h
 
-  parts_stand : (next exit lo last more counter limit : ℕ) (d : Desig) (range : Range) (body : Stmts) → (turns : List Lined) → turns ≡ some_turns line next (shift p r + counter) (shift p r + limit) lo (lo + 1) last more (turn_made (bare_desig d) (next + 7) (more + 1) d range counter body)
+  parts_stand : (next exit lo last more counter limit : ℕ) (d : Desig) (range : Range) (body : Stmts) → (turns : List Lined)
+      → turns ≡ some_turns line next (shift p r + counter) (shift p r + limit) lo (lo + 1) last more
+      (turn_made (bare_desig d) (next + 7) (more + 1) d range counter body)
       → exit ≡ next + length turns → Stands code next turns
       → (empty retry : ℕ) × PartsStand next exit empty retry lo last more counter limit d range body
   parts_stand next exit lo last more counter limit d range body turns is ends all =
@@ -179,13 +223,16 @@ module _ (p : Program) (tables : Tables) (code : PlainCode) (input : List ℕ) (
       let len : ℕ = length (made (next + 7)) in
       let retry : ℕ = next + 7 + len + 1 in
       let empty : ℕ = next + 7 + len + 3 in
-      let tail : List Lined = own line (I.Jump (next + 7 + len + 4) ∷ I.Add (shift p r + counter) (shift p r + counter) lo ∷ I.Jump (next + 4) ∷ I.Fail ∷ []) in
-      let there : Stands code next (some_turns line next (shift p r + counter) (shift p r + limit) lo (lo + 1) last more (made (next + 7))) = subst (Stands code next) is all in
+      let tail : List Lined = own line (I.Jump (next + 7 + len + 4) ∷ I.Add (shift p r + counter) (shift p r + counter) lo
+      ∷ I.Jump (next + 4) ∷ I.Fail ∷ []) in
+      let there : Stands code next (some_turns line next (shift p r + counter) (shift p r + limit) lo (lo + 1) last more (made (next + 7)))
+      = subst (Stands code next) is all in
       let low : next + 1 + 1 + 1 + 1 ≡ next + 4 = omega arith in
       let seven : next + 1 + 1 + 1 + 1 + 1 + 1 + 1 ≡ next + 7 = omega arith in
       let turn_at : next + 7 ≡ next + 4 + 3 = omega arith in
       let head = there.2.2.2.2 in
-      let inner : Stands code (next + 7) (made (next + 7) ++ tail) = subst (λ m. Stands code m (made (next + 7) ++ tail)) seven head.2.2.2 in
+      let inner : Stands code (next + 7) (made (next + 7) ++ tail) =
+      subst (λ m. Stands code m (made (next + 7) ++ tail)) seven head.2.2.2 in
       let behind = stands_back code (next + 7) (made (next + 7)) tail inner in
       let long : length (made (next + 7) ++ tail) ≡ len + 4 = length-append (made (next + 7)) tail in
       let whole : exit ≡ next + 7 + len + 4 = omega (arith, ends, ap length is, long) in (
@@ -196,15 +243,21 @@ module _ (p : Program) (tables : Tables) (code : PlainCode) (input : List ℕ) (
           second = record { instr = there.2.0; on_line = there.2.1 };
           entry = record { instr = there.2.2.0; on_line = there.2.2.1 };
           skip = record { instr = there.2.2.2.0; on_line = there.2.2.2.1 };
-          less = moved (next + 1 + 1 + 1 + 1) (next + 4) (I.Less more (shift p r + counter) (shift p r + limit)) low (record { instr = head.0; on_line = head.1 });
-          zero = subst (λ m. InstrAt code input line (next + 4 + 1) (I.JumpZero more m)) turn_at (moved (next + 1 + 1 + 1 + 1 + 1) (next + 4 + 1) (I.JumpZero more (next + 7)) (omega arith) (record { instr = head.2.0; on_line = head.2.1 }));
-          choose = moved (next + 1 + 1 + 1 + 1 + 1 + 1) (next + 4 + 2) (I.Choose retry) (omega arith) (record { instr = head.2.2.0; on_line = head.2.2.1 });
+          less = moved (next + 1 + 1 + 1 + 1) (next + 4) (I.Less more (shift p r + counter) (shift p r + limit)) low
+              (record { instr = head.0; on_line = head.1 });
+          zero = subst (λ m. InstrAt code input line (next + 4 + 1) (I.JumpZero more m)) turn_at
+              (moved (next + 1 + 1 + 1 + 1 + 1) (next + 4 + 1) (I.JumpZero more (next + 7)) (omega arith)
+              (record { instr = head.2.0; on_line = head.2.1 }));
+          choose = moved (next + 1 + 1 + 1 + 1 + 1 + 1) (next + 4 + 2) (I.Choose retry) (omega arith)
+              (record { instr = head.2.2.0; on_line = head.2.2.1 });
           turn = subst (λ m. Stands code m (made m)) turn_at (stands_front code (next + 7) (made (next + 7)) tail inner);
           out = subst (λ m. InstrAt code input line (next + 4 + 3 + length (made (next + 4 + 3))) (I.Jump m)) (sym whole)
-              (subst (λ m. InstrAt code input line (m + length (made m)) (I.Jump (next + 7 + len + 4))) turn_at (record { instr = behind.0; on_line = behind.1 }));
+              (subst (λ m. InstrAt code input line (m + length (made m)) (I.Jump (next + 7 + len + 4))) turn_at
+              (record { instr = behind.0; on_line = behind.1 }));
           add = record { instr = behind.2.0; on_line = behind.2.1 };
           back = record { instr = behind.2.2.0; on_line = behind.2.2.1 };
-          none = moved (next + 7 + len + 1 + 1 + 1) empty I.Fail (omega arith) (record { instr = behind.2.2.2.0; on_line = behind.2.2.2.1 });
+          none = moved (next + 7 + len + 1 + 1 + 1) empty I.Fail (omega arith)
+              (record { instr = behind.2.2.2.0; on_line = behind.2.2.2.1 });
         },
       )
 
@@ -215,36 +268,48 @@ module _ (p : Program) (tables : Tables) (code : PlainCode) (input : List ℕ) (
   abbrev pub some_exit : (at lo : ℕ) → Loop → ℕ
   some_exit at lo l = at + length (stmt_code p tables r line at lo (SomeOf l))
 
-  loop_parts : (at lo : ℕ) (d : Desig) (range : Range) (counter limit : ℕ) (from to : Expr) (by : ℤ) (body : Stmts) → Stands code at (stmt_code p tables r line at lo (SomeOf (a_loop d range counter limit from to by body)))
-      → (empty retry : ℕ) × PartsStand (at + length (for_front p tables code input below r line q may at lo from to (pos 1))) (some_exit at lo (a_loop d range counter limit from to by body)) empty retry lo (behind_expr p r (lo + 1) from) (behind_expr p r (behind_expr p r (lo + 1) from) to) counter limit d range body
+  loop_parts : (at lo : ℕ) (d : Desig) (range : Range) (counter limit : ℕ) (from to : Expr) (by : ℤ) (body : Stmts)
+      → Stands code at (stmt_code p tables r line at lo (SomeOf (a_loop d range counter limit from to by body)))
+      → (empty retry : ℕ) × PartsStand (at + length (for_front p tables code input below r line q may at lo from to (pos 1)))
+      (some_exit at lo (a_loop d range counter limit from to by body)) empty retry lo (behind_expr p r (lo + 1) from)
+      (behind_expr p r (behind_expr p r (lo + 1) from) to) counter limit d range body
   loop_parts at lo d range counter limit from to by body stands =
       let last : ℕ = behind_expr p r (lo + 1) from in
       let more : ℕ = behind_expr p r last to in
       let front : List Lined = for_front p tables code input below r line q may at lo from to (pos 1) in
       let next : ℕ = at + length front in
-      let tail : List Lined = some_turns line next (shift p r + counter) (shift p r + limit) lo (lo + 1) last more (turn_made (bare_desig d) (next + 7) (more + 1) d range counter body) in
+      let tail : List Lined = some_turns line next (shift p r + counter) (shift p r + limit) lo (lo + 1) last more
+      (turn_made (bare_desig d) (next + 7) (more + 1) d range counter body) in
       let whole : length (front ++ tail) ≡ length front + length tail = length-append front tail in
-      parts_stand next (at + length (front ++ tail)) lo last more counter limit d range body tail refl (omega (arith, whole)) (stands_back code at front tail stands)
+      parts_stand next (at + length (front ++ tail)) lo last more counter limit d range body tail refl (omega (arith, whole))
+      (stands_back code at front tail stands)
 
-  front_stands : (at lo : ℕ) (d : Desig) (range : Range) (counter limit : ℕ) (from to : Expr) (by : ℤ) (body : Stmts) → Stands code at (stmt_code p tables r line at lo (SomeOf (a_loop d range counter limit from to by body)))
+  front_stands : (at lo : ℕ) (d : Desig) (range : Range) (counter limit : ℕ) (from to : Expr) (by : ℤ) (body : Stmts)
+      → Stands code at (stmt_code p tables r line at lo (SomeOf (a_loop d range counter limit from to by body)))
       → Stands code at (for_front p tables code input below r line q may at lo from to (pos 1))
   front_stands at lo d range counter limit from to by body stands =
       let front : List Lined = for_front p tables code input below r line q may at lo from to (pos 1) in
       let more : ℕ = behind_expr p r (behind_expr p r (lo + 1) from) to in
       let next : ℕ = at + length front in
-      stands_front code at front (some_turns line next (shift p r + counter) (shift p r + limit) lo (lo + 1) (behind_expr p r (lo + 1) from) more (turn_made (bare_desig d) (next + 7) (more + 1) d range counter body)) stands
+      stands_front code at front (some_turns line next (shift p r + counter) (shift p r + limit) lo (lo + 1) (behind_expr p r (lo + 1) from)
+      more (turn_made (bare_desig d) (next + 7) (more + 1) d range counter body)) stands
 
-  pub some_runs : (at lo u : ℕ) (d : Desig) (range : Range) (counter limit : ℕ) (from to : Expr) (by : ℤ) (body : Stmts) → desig_cells d ≡ 1 → q ≤ u → counter ≢ limit
-      → HasSlots p code r lo (some_slots p r (a_loop d range counter limit from to by body)) → AreVariables p code input r counter 1 → AreVariables p code input r limit 1
-      → ExprRuns p tables code input below r line q (at + 1) (lo + 1) from → ((next : ℕ) → ExprRuns p tables code input below r line q next (behind_expr p r (lo + 1) from) to)
-      → TurnsOn (some_top at lo from to) (some_exit at lo (a_loop d range counter limit from to by body)) lo counter limit (turn_some p input below (a_loop d range counter limit from to by body)) u
+  pub some_runs : (at lo u : ℕ) (d : Desig) (range : Range) (counter limit : ℕ) (from to : Expr) (by : ℤ) (body : Stmts) → desig_cells d ≡ 1
+      → q ≤ u → counter ≢ limit
+      → HasSlots p code r lo (some_slots p r (a_loop d range counter limit from to by body)) → AreVariables p code input r counter 1
+      → AreVariables p code input r limit 1
+      → ExprRuns p tables code input below r line q (at + 1) (lo + 1) from
+      → ((next : ℕ) → ExprRuns p tables code input below r line q next (behind_expr p r (lo + 1) from) to)
+      → TurnsOn (some_top at lo from to) (some_exit at lo (a_loop d range counter limit from to by body)) lo counter limit
+      (turn_some p input below (a_loop d range counter limit from to by body)) u
       → StatementRuns p tables code input below r line q may at lo (SomeOf (a_loop d range counter limit from to by body))
   unfolding ev_stmts
   some_runs at lo u d range counter limit from to by body cells owes two slots of_counter of_limit runs_from_ runs_to turns stands v now b =
       let l : Loop = a_loop d range counter limit from to by body in
       let last : ℕ = behind_expr p r (lo + 1) from in
       let others : List SlotKind = slot.Number ∷ (unless_bare (bare_desig d) (slot.Number ∷ desig_slots p r d) ++ stmts_slots p r body) in
-      let from_slots = slots_first p code input r (lo + 1) (expr_slots p r from) (expr_slots p r to ++ others) (slots_behind p code input r lo (slot.Number ∷ []) (expr_slots p r from ++ (expr_slots p r to ++ others)) slots) in
+      let from_slots = slots_first p code input r (lo + 1) (expr_slots p r from) (expr_slots p r to ++ others)
+      (slots_behind p code input r lo (slot.Number ∷ []) (expr_slots p r from ++ (expr_slots p r to ++ others)) slots) in
       let kind1 = first_slot p code input r (lo + 1) from from_slots in
       let above : lo + 1 < last = omega (arith, some_of p code input r from) in
       let front : List Lined = for_front p tables code input below r line q may at lo from to (pos 1) in
@@ -257,23 +322,39 @@ module _ (p : Program) (tables : Tables) (code : PlainCode) (input : List ℕ) (
       let turn_events = turn_some p input below l in
       let rest = λ (t : Store) (n m : ℤ). begin_loop counter limit (pos 1) n m t turn_events (λ y. Fail) in
       let w = ending p code input may lo r now in
-      as_runs p code input line at exit now w (node (bind (ev_expr p input below from v) (λ t n. bind (ev_expr p input below to t) (λ x m. rest x n m)))) q
-      (node_runs p code input line 1 at exit now w (bind (ev_expr p input below from v) (λ t n. bind (ev_expr p input below to t) (λ x m. rest x n m))) q (omega arith)
-      (front_from p tables code input below r line q may at exit lo from to (pos 1) others rest v now slots runs_from_ runs_to (front_stands at lo d range counter limit from to by body stands) b
+      as_runs p code input line at exit now w (node
+      (bind (ev_expr p input below from v) (λ t n. bind (ev_expr p input below to t) (λ x m. rest x n m)))) q
+      (node_runs p code input line 1 at exit now w
+      (bind (ev_expr p input below from v) (λ t n. bind (ev_expr p input below to t) (λ x m. rest x n m))) q (omega arith)
+      (front_from p tables code input below r line q may at exit lo from to (pos 1) others rest v now slots runs_from_ runs_to
+      (front_stands at lo d range counter limit from to by body stands) b
       (λ v2 t2 n m b2 value1 value2 step.
-      bounds_from p tables code input below r line q may next empty exit lo last counter limit u (pos 1) d turn_events (λ y. Fail) v2 t2 n m cells slots.behind above owes of_counter of_limit two kind1 h.first h.second h.entry h.skip b2 value1 value2 step
-      (λ x t b3. fails_here p code input line 3 empty exit t (ending p code input may (lo + 1) r t) q (λ held s is. let z = fail_step code input line empty t held s is h.none in (z.to, z.silently, z.is)))
-      (λ x t b3 known known_limit step3. subst (λ a. Later code input line a exit t (ending p code input may (lo + 1) r t) (turn_events x) u) four (turns x t n m b3 known known_limit step3)))))
+      bounds_from p tables code input below r line q may next empty exit lo last counter limit u (pos 1) d turn_events (λ y. Fail) v2 t2 n m
+      cells slots.behind above owes of_counter of_limit two kind1 h.first h.second h.entry h.skip b2 value1 value2 step
+      (λ x t b3. fails_here p code input line 3 empty exit t (ending p code input may (lo + 1) r t) q
+      (λ held s is. let z = fail_step code input line empty t held s is h.none in (z.to, z.silently, z.is)))
+      (λ x t b3 known known_limit step3. subst
+      (λ a. Later code input line a exit t (ending p code input may (lo + 1) r t) (turn_events x) u) four
+      (turns x t n m b3 known known_limit step3)))))
 
   -- a turn from where the turns begin, given the next
-  pub some_counts : (at lo u : ℕ) (d : Desig) (range : Range) (counter limit : ℕ) (from to : Expr) (by : ℤ) (body : Stmts) → BareFits p tables code input below r line q (bare_desig d) → desig_cells d ≡ 1 → q ≤ suc u → counter ≢ limit → FitsRange p tables code input below r line q range
-      → HasSlots p code r lo (some_slots p r (a_loop d range counter limit from to by body)) → AreVariables p code input r counter 1 → AreVariables p code input r limit 1
-      → (bare_desig d ≡ None → (next : ℕ) → DesigRuns p tables code input below r line q next (behind_expr p r (behind_expr p r (lo + 1) from) to + 1 + 1) d)
-      → ((next : ℕ) → RunsFor p code input may r line next (behind_variable p r (behind_expr p r (behind_expr p r (lo + 1) from) to + 1) d) (stmts_code p tables r next (behind_variable p r (behind_expr p r (behind_expr p r (lo + 1) from) to + 1) d) body) (below.stmts body) (q - 1))
-      → TurnsOn (some_top at lo from to) (some_exit at lo (a_loop d range counter limit from to by body)) lo counter limit (below.some (a_loop d range counter limit from to by body)) u
+  pub some_counts : (at lo u : ℕ) (d : Desig) (range : Range) (counter limit : ℕ) (from to : Expr) (by : ℤ) (body : Stmts)
+      → BareFits p tables code input below r line q (bare_desig d) → desig_cells d ≡ 1 → q ≤ suc u → counter ≢ limit
+      → FitsRange p tables code input below r line q range
+      → HasSlots p code r lo (some_slots p r (a_loop d range counter limit from to by body)) → AreVariables p code input r counter 1
+      → AreVariables p code input r limit 1
+      → (bare_desig d ≡ None → (next : ℕ) → DesigRuns p tables code input below r line q next
+      (behind_expr p r (behind_expr p r (lo + 1) from) to + 1 + 1) d)
+      → ((next : ℕ) → RunsFor p code input may r line next (behind_variable p r (behind_expr p r (behind_expr p r (lo + 1) from) to + 1) d)
+      (stmts_code p tables r next (behind_variable p r (behind_expr p r (behind_expr p r (lo + 1) from) to + 1) d) body)
+      (below.stmts body) (q - 1))
+      → TurnsOn (some_top at lo from to) (some_exit at lo (a_loop d range counter limit from to by body)) lo counter limit
+      (below.some (a_loop d range counter limit from to by body)) u
       → Stands code at (stmt_code p tables r line at lo (SomeOf (a_loop d range counter limit from to by body)))
-      → TurnsOn (some_top at lo from to) (some_exit at lo (a_loop d range counter limit from to by body)) lo counter limit (turn_some p input below (a_loop d range counter limit from to by body)) q
-  some_counts at lo u d range counter limit from to by body fits cells owes two has slots of_counter of_limit runs_d runs turns stands v now n m b known known_limit step =
+      → TurnsOn (some_top at lo from to) (some_exit at lo (a_loop d range counter limit from to by body)) lo counter limit
+      (turn_some p input below (a_loop d range counter limit from to by body)) q
+  some_counts at lo u d range counter limit from to by body fits cells owes two has slots of_counter of_limit runs_d runs turns stands v now
+      n m b known known_limit step =
       let l : Loop = a_loop d range counter limit from to by body in
       let last : ℕ = behind_expr p r (lo + 1) from in
       let more : ℕ = behind_expr p r last to in
@@ -285,7 +366,11 @@ module _ (p : Program) (tables : Tables) (code : PlainCode) (input : List ℕ) (
       let turn_slots = slots_behind p code input r more (slot.Number ∷ []) (variable ++ stmts_slots p r body) more_slots in
       let parts = loop_parts at lo d range counter limit from to by body stands in
       let h = parts.2 in
-      some_turn_of (bare_desig d) (some_top at lo from to) (some_exit at lo l) lo more (more + 1) counter limit u parts.1 d range body (below.stmts body) (below.some l) refl fits cells slots.behind (omega (arith, some_of p code input r from)) (omega arith) owes two has of_counter of_limit
+      some_turn_of (bare_desig d) (some_top at lo from to) (some_exit at lo l) lo more (more + 1) counter limit u parts.1 d range body
+      (below.stmts body) (below.some l) refl fits cells slots.behind (omega (arith, some_of p code input r from)) (omega arith) owes two
+      has of_counter of_limit
       (first_kind p code input r more slot.Number (variable ++ stmts_slots p r body) more_slots)
-      (λ none. first_kind p code input r (more + 1) slot.Number (desig_slots p r d) (subst (λ o. HasSlots p code r (more + 1) (unless_bare o (slot.Number ∷ desig_slots p r d))) none (slots_first p code input r (more + 1) variable (stmts_slots p r body) turn_slots)))
+      (λ none. first_kind p code input r (more + 1) slot.Number (desig_slots p r d)
+      (subst (λ o. HasSlots p code r (more + 1) (unless_bare o (slot.Number ∷ desig_slots p r d))) none
+      (slots_first p code input r (more + 1) variable (stmts_slots p r body) turn_slots)))
       runs_d runs turns h.less h.zero h.choose h.turn h.out h.add h.back v now n m b known known_limit step

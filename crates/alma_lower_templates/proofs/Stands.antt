@@ -24,10 +24,12 @@ stands_back code at (x ∷ a) b h =
 -- ---- the table of lines
 
 -- a record counts from its address on
-record_reached : (at k line other : ℕ) (rest : List Line) → k ≤ at → last_line at other (record { at = k; line = line } ∷ rest) ≡ last_line at line rest
+record_reached : (at k line other : ℕ) (rest : List Line) → k ≤ at
+    → last_line at other (record { at = k; line = line } ∷ rest) ≡ last_line at line rest
 record_reached at k line other rest le = ap (λ b. last_line at (if_true b (λ _. line) (λ _. other)) rest) (le-leb k at le)
 
-record_ahead : (at k line other : ℕ) (rest : List Line) → at < k → last_line at other (record { at = k; line = line } ∷ rest) ≡ last_line at other rest
+record_ahead : (at k line other : ℕ) (rest : List Line) → at < k
+    → last_line at other (record { at = k; line = line } ∷ rest) ≡ last_line at other rest
 record_ahead at k line other rest lt = ap (λ b. last_line at (if_true b (λ _. line) (λ _. other)) rest) (lt-leb k at lt)
 
 -- before the first record nothing is said
@@ -35,19 +37,23 @@ ahead : (at k before other : ℕ) (xs : List Lined) → at < k → last_line at 
 ahead at k before other [] lt = refl
 ahead at k before other (x ∷ xs) lt = by (nat_eq x.line before) (ahead at (suc k) x.line other xs (omega (arith, lt)))
   where
-    by : (b : Bool) → last_line at other (lines_from (suc k) x.line xs) ≡ other → last_line at other (line_from b k x.line (lines_from (suc k) x.line xs)) ≡ other
+    by : (b : Bool) → last_line at other (lines_from (suc k) x.line xs) ≡ other
+        → last_line at other (line_from b k x.line (lines_from (suc k) x.line xs)) ≡ other
     by true later = later
     by false later = record_ahead at k x.line other (lines_from (suc k) x.line xs) lt ∙ later
 
 -- from the address of an instruction on its line counts
-reached : (at k before : ℕ) (x : Lined) (xs : List Lined) → k ≤ at → last_line at before (lines_from k before (x ∷ xs)) ≡ last_line at x.line (lines_from (suc k) x.line xs)
+reached : (at k before : ℕ) (x : Lined) (xs : List Lined) → k ≤ at
+    → last_line at before (lines_from k before (x ∷ xs)) ≡ last_line at x.line (lines_from (suc k) x.line xs)
 reached at k before x xs le = by (nat_eq x.line before) refl
   where
-    by : (b : Bool) → nat_eq x.line before ≡ b → last_line at before (line_from b k x.line (lines_from (suc k) x.line xs)) ≡ last_line at x.line (lines_from (suc k) x.line xs)
+    by : (b : Bool) → nat_eq x.line before ≡ b
+        → last_line at before (line_from b k x.line (lines_from (suc k) x.line xs)) ≡ last_line at x.line (lines_from (suc k) x.line xs)
     by true e = ap (λ n. last_line at n (lines_from (suc k) x.line xs)) (sym (eqb-true x.line before e))
     by false e = record_reached at k x.line before (lines_from (suc k) x.line xs) le
 
-stands_from : (code : PlainCode) (k before : ℕ) (xs : List Lined) → ((at : ℕ) → k ≤ at → line_at code at ≡ last_line at before (lines_from k before xs))
+stands_from : (code : PlainCode) (k before : ℕ) (xs : List Lined)
+    → ((at : ℕ) → k ≤ at → line_at code at ≡ last_line at before (lines_from k before xs))
     → ((i : ℕ) → slice_get code.instrs (k + i) ≡ slice_get (instrs_of xs) i) → Stands code k xs
 stands_from code k before [] lines instrs = tt
 stands_from code k before (x ∷ xs) lines instrs =
@@ -63,4 +69,5 @@ stands_from code k before (x ∷ xs) lines instrs =
 -- a whole code stands at its start
 pub stands_whole : HoldsAll
 stands_whole code xs instrs lines =
-    stands_from code 0 0 xs (λ at le. ap (last_line at 0) lines) (λ i. let e : 0 + i ≡ i = omega arith in ap (slice_get code.instrs) e ∙ ap (λ is. slice_get is i) instrs)
+    stands_from code 0 0 xs (λ at le. ap (last_line at 0) lines)
+    (λ i. let e : 0 + i ≡ i = omega arith in ap (slice_get code.instrs) e ∙ ap (λ is. slice_get is i) instrs)

@@ -1,5 +1,6 @@
 -- Code whose last instruction puts its number into another slot.
-use Rattle.std.proofs.Common.{◌≡◌, ℕ, zero, suc, ◌+◌, ◌<◌, true, false, not, List, [], ◌∷◌, ◌++◌, length, Option, Some, None, refl, sym, ap, ◌∙◌, arith, append-nil, Bool}
+use Rattle.std.proofs.Common.{◌≡◌, ℕ, zero, suc, ◌+◌, ◌<◌, true, false, not, List, [], ◌∷◌, ◌++◌, length, Option, Some, None, refl, sym, ap}
+use Rattle.std.proofs.Common.{◌∙◌, arith, append-nil, Bool}
 use Rattle.std.proofs.lemmas.List.{length-append}
 use Rattle.alma_code.specs.declared.instr.Instr.{Instr}
 use Rattle.alma_ir.specs.declared.phrase.Op.{Op}
@@ -8,7 +9,8 @@ use Rattle.alma_ir.specs.Tree.{Program, Expr, Links, Const, Load, Chain, Compare
 use Rattle.alma_mean.specs.Store.{Store, Cell, put}
 use Rattle.alma_lower_templates.specs.Lined.{Lined, own, in_row}
 use Rattle.alma_lower_templates.specs.Tables.{Tables, is_whole}
-use Rattle.alma_lower_templates.specs.Slots.{bare, bare_desig, is_given, ends_alone, unless_bare, behind_value, if_ready, straight_by, goes_straight}
+use Rattle.alma_lower_templates.specs.Slots.{bare, bare_desig, is_given, ends_alone, unless_bare, behind_value, if_ready, straight_by}
+use Rattle.alma_lower_templates.specs.Slots.{goes_straight}
 use Rattle.alma_lower_templates.specs.Pieces.{op_code, aim, straight}
 use Rattle.alma_lower_templates.specs.Templates.{expr_code, links_code, value_at}
 use Rattle.std.specs.Prelude.{◌&&◌}
@@ -64,8 +66,10 @@ pub record GoesStraight (d : Desig) (x : Expr) (range : Range) (to : ℕ) : Type
 pub straight_is : (d : Desig) (x : Expr) (range : Range) (to : ℕ) → goes_straight d x range ≡ Some to → GoesStraight d x range to
 straight_is d x range to e = by (bare_desig d) refl e
   where
-    by_both : (n : ℕ) (z : Bool) → bare_desig d ≡ Some n → (is_whole range && ends_alone x) ≡ z → if_ready z n ≡ Some to → GoesStraight d x range to
-    by_both n true is both h = let same : n ≡ to = cc in let z = and_parts (is_whole range) (ends_alone x) both in record { variable = is ∙ ap Some same; whole = z.0; alone = z.1 }
+    by_both : (n : ℕ) (z : Bool) → bare_desig d ≡ Some n → (is_whole range && ends_alone x) ≡ z → if_ready z n ≡ Some to
+        → GoesStraight d x range to
+    by_both n true is both h = let same : n ≡ to = cc in let z = and_parts (is_whole range) (ends_alone x) both in
+        record { variable = is ∙ ap Some same; whole = z.0; alone = z.1 }
     by_both n false is both h = absurd (cc)
 
     by : (o : Option ℕ) → bare_desig d ≡ o → straight_by o (is_whole range && ends_alone x) ≡ Some to → GoesStraight d x range to
@@ -91,32 +95,45 @@ module _ (p : Program) (tables : Tables) (r : ℕ) where
   abbrev pub ends_code : (end line at first to lo : ℕ) → Links → List Lined
   ends_code end line at first to lo no_links = []
   ends_code end line at first to lo (more_links how e rest) =
-      in_row at (unless_bare (bare e) (expr_code p tables r line at lo e) ++ own line (op_code how (put_by rest to end) first (value_at p tables r lo e) ∷ []))
+      in_row at (unless_bare (bare e) (expr_code p tables r line at lo e)
+      ++ own line (op_code how (put_by rest to end) first (value_at p tables r lo e) ∷ []))
       (λ next. ends_code end line next to to (behind_value p r lo e) rest)
 
-  pub some_links : (line at first to lo : ℕ) (how : Op) (e : Expr) (rest : Links) → 0 < length (links_code p tables r line at first to lo (more_links how e rest))
+  pub some_links : (line at first to lo : ℕ) (how : Op) (e : Expr) (rest : Links)
+      → 0 < length (links_code p tables r line at first to lo (more_links how e rest))
   some_links line at first to lo how e rest =
       let inner : List Lined = unless_bare (bare e) (expr_code p tables r line at lo e) in
       let one : List Lined = inner ++ own line (op_code how to first (value_at p tables r lo e) ∷ []) in
-      omega (arith, length-append one (links_code p tables r line (at + length one) to to (behind_value p r lo e) rest), length-append inner (own line (op_code how to first (value_at p tables r lo e) ∷ [])))
+      omega (
+        arith,
+        length-append one (links_code p tables r line (at + length one) to to (behind_value p r lo e) rest),
+        length-append inner (own line (op_code how to first (value_at p tables r lo e) ∷ [])),
+      )
 
-  pub ends_same : (line at first to lo : ℕ) (links : Links) → links_code p tables r line at first to lo links ≡ ends_code to line at first to lo links
+  pub ends_same : (line at first to lo : ℕ) (links : Links)
+      → links_code p tables r line at first to lo links ≡ ends_code to line at first to lo links
   ends_same line at first to lo no_links = refl
   ends_same line at first to lo (more_links how e no_links) = refl
   ends_same line at first to lo (more_links how e (more_links how2 e2 rest)) =
-      let one : List Lined = unless_bare (bare e) (expr_code p tables r line at lo e) ++ own line (op_code how to first (value_at p tables r lo e) ∷ []) in
+      let one : List Lined = unless_bare (bare e) (expr_code p tables r line at lo e)
+      ++ own line (op_code how to first (value_at p tables r lo e) ∷ []) in
       ap (λ c. one ++ c) (ends_same line (at + length one) to to (behind_value p r lo e) (more_links how2 e2 rest))
 
-  pub straight_ends : (end line at first to lo : ℕ) (how : Op) (e : Expr) (rest : Links) → straight end (links_code p tables r line at first to lo (more_links how e rest)) ≡ ends_code end line at first to lo (more_links how e rest)
+  pub straight_ends : (end line at first to lo : ℕ) (how : Op) (e : Expr) (rest : Links)
+      → straight end (links_code p tables r line at first to lo (more_links how e rest)) ≡ ends_code end line at first to lo
+      (more_links how e rest)
   straight_ends end line at first to lo how e no_links =
       let inner : List Lined = unless_bare (bare e) (expr_code p tables r line at lo e) in
       let i : Instr = op_code how to first (value_at p tables r lo e) in
       let j : Instr = op_code how end first (value_at p tables r lo e) in
       ap (straight end) (append-nil (inner ++ own line (i ∷ []))) ∙ straight_last end line inner i
-      ∙ ap (λ x. inner ++ own line (x ∷ [])) (aim_op how end to first (value_at p tables r lo e)) ∙ sym (append-nil (inner ++ own line (j ∷ [])))
+      ∙ ap (λ x. inner ++ own line (x ∷ [])) (aim_op how end to first (value_at p tables r lo e))
+      ∙ sym (append-nil (inner ++ own line (j ∷ [])))
   straight_ends end line at first to lo how e (more_links how2 e2 rest) =
-      let one : List Lined = unless_bare (bare e) (expr_code p tables r line at lo e) ++ own line (op_code how to first (value_at p tables r lo e) ∷ []) in
+      let one : List Lined = unless_bare (bare e) (expr_code p tables r line at lo e)
+      ++ own line (op_code how to first (value_at p tables r lo e) ∷ []) in
       let next : ℕ = at + length one in
       let lo2 : ℕ = behind_value p r lo e in
-      straight_behind end one (links_code p tables r line next to to lo2 (more_links how2 e2 rest)) (some_links line next to to lo2 how2 e2 rest)
+      straight_behind end one (links_code p tables r line next to to lo2 (more_links how2 e2 rest))
+      (some_links line next to to lo2 how2 e2 rest)
       ∙ ap (λ c. one ++ c) (straight_ends end line next to to lo2 how2 e2 rest)

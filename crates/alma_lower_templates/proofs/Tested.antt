@@ -13,14 +13,16 @@ use Rattle.alma_lower_templates.specs.Templates.{test_code, expr_code, slot_or, 
 module _ (p : Program) (tables : Tables) (r : ℕ) where
   -- the code of both operands of a comparison, where the first stays or not
   abbrev pub operands_code : Option ℕ → (line at lo : ℕ) → (x y : Expr) → List Lined
-  operands_code o line at lo x y = in_row at (unless_bare o (expr_code p tables r line at lo x)) (λ next. unless_bare (bare y) (expr_code p tables r line next (behind_expr p r lo x) y))
+  operands_code o line at lo x y = in_row at (unless_bare o (expr_code p tables r line at lo x))
+      (λ next. unless_bare (bare y) (expr_code p tables r line next (behind_expr p r lo x) y))
 
   abbrev pub compared_code : (line at lo : ℕ) → (x y : Expr) → List Lined
   compared_code line at lo x y = operands_code (stays x y) line at lo x y
 
   -- the code of a value that is checked
   abbrev pub ChecksValue : Expr → Type 0
-  ChecksValue e = (line at lo : ℕ) → test_code p tables r line at lo (Value e) ≡ unless_bare (bare e) (expr_code p tables r line at lo e) ++ own line (I.Check (value_at p tables r lo e) ∷ [])
+  ChecksValue e = (line at lo : ℕ) → test_code p tables r line at lo (Value e) ≡ unless_bare (bare e) (expr_code p tables r line at lo e)
+      ++ own line (I.Check (value_at p tables r lo e) ∷ [])
 
   pub data Tested (e : Expr) : Type 0 where
     as_value : ChecksValue e → Tested e
@@ -42,16 +44,25 @@ module _ (p : Program) (tables : Tables) (r : ℕ) where
   tested (CallExpr called args up) = as_value (λ line at lo. refl)
 
   -- it is one instruction longer than the value
-  pub tested_long : (line at lo : ℕ) (e : Expr) → length (test_code p tables r line at lo (Value e)) ≡ length (unless_bare (bare e) (expr_code p tables r line at lo e)) + 1
+  pub tested_long : (line at lo : ℕ) (e : Expr)
+      → length (test_code p tables r line at lo (Value e)) ≡ length (unless_bare (bare e) (expr_code p tables r line at lo e)) + 1
   tested_long line at lo e = by (tested e)
     where
-      differ : (x y : Expr) → length (test_code p tables r line at lo (Value (Compare cmp.Unequal x y))) ≡ length (expr_code p tables r line at lo (Compare cmp.Unequal x y)) + 1
+      differ : (x y : Expr) → length (test_code p tables r line at lo (Value (Compare cmp.Unequal x y))) ≡ length
+          (expr_code p tables r line at lo (Compare cmp.Unequal x y)) + 1
       differ x y =
           let operands : List Lined = compared_code line at lo x y in
           let first : ℕ = slot_or p tables r (stays x y) lo in
           let operand : ℕ = value_at p tables r (behind_expr p r lo x) y in
-          omega (arith, length-append operands (own line (unequal_code lo first operand (at + length operands))), length-append operands (own line (cmp_code cmp.Unequal lo first operand)))
+          omega (
+            arith,
+            length-append operands (own line (unequal_code lo first operand (at + length operands))),
+            length-append operands (own line (cmp_code cmp.Unequal lo first operand)),
+          )
 
-      by : Tested e → length (test_code p tables r line at lo (Value e)) ≡ length (unless_bare (bare e) (expr_code p tables r line at lo e)) + 1
-      by (as_value is) = ap length (is line at lo) ∙ length-append (unless_bare (bare e) (expr_code p tables r line at lo e)) (own line (I.Check (value_at p tables r lo e) ∷ []))
-      by (as_unequal x y is) = subst (λ z. length (test_code p tables r line at lo (Value z)) ≡ length (unless_bare (bare z) (expr_code p tables r line at lo z)) + 1) (sym is) (differ x y)
+      by : Tested e → length (test_code p tables r line at lo (Value e)) ≡ length (unless_bare (bare e) (expr_code p tables r line at lo e))
+          + 1
+      by (as_value is) = ap length (is line at lo)
+          ∙ length-append (unless_bare (bare e) (expr_code p tables r line at lo e)) (own line (I.Check (value_at p tables r lo e) ∷ []))
+      by (as_unequal x y is) = subst (λ z. length (test_code p tables r line at lo (Value z)) ≡ length
+          (unless_bare (bare z) (expr_code p tables r line at lo z)) + 1) (sym is) (differ x y)

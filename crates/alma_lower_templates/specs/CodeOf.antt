@@ -5,7 +5,8 @@ use Rattle.alma_base.specs.declared.number.Range.{Range}
 use Rattle.alma_code.specs.declared.head.Run.{Run}
 use Rattle.alma_code.specs.Layout.{kinds_of}
 use Rattle.alma_code.specs.Plain.{PlainCode}
-use Rattle.alma_ir.specs.Tree.{Program, routine_at, Assign, ForTo, SomeOf, Read, WriteText, a_loop, Bind, Unify, Const, Chr, ByValue, MixValue, Index}
+use Rattle.alma_ir.specs.Tree.{Program, routine_at, Assign, ForTo, SomeOf, Read, WriteText, a_loop, Bind, Unify, Const, Chr, ByValue}
+use Rattle.alma_ir.specs.Tree.{MixValue, Index}
 use Rattle.alma_ir.specs.Phrases.{Phrase, StmtPhrase, TestPhrase, ExprPhrase, ArgPhrase, SelPhrase}
 use Rattle.alma_ir.specs.Checked.{EachPhrase}
 use Rattle.alma_lower_templates.specs.Tables.{Tables, range_number, text_number, is_whole}

@@ -95,7 +95,8 @@ abbrev pub begin_first : (line mark none : ℕ) → List Lined
 begin_first line mark none = own line (I.Mark mark ∷ I.Choose none ∷ [])
 
 -- a condition: where it has no alternative the code goes on at `none`. A simple one is tested by a jump
-abbrev pub condition : (simple : Bool) → (line at lo none : ℕ) → (jump : (at lo none : ℕ) → List Lined) → (test : (at lo : ℕ) → List Lined) → List Lined
+abbrev pub condition : (simple : Bool) → (line at lo none : ℕ) → (jump : (at lo none : ℕ) → List Lined) → (test : (at lo : ℕ) → List Lined)
+    → List Lined
 condition true line at lo none jump test = jump at lo none
 condition false line at lo none jump test = begin_first line lo none ++ (test (at + 2) (lo + 1) ++ own line (I.Cut lo ∷ []))
 
@@ -161,10 +162,12 @@ begin_loop line at step by from to = own line (I.Const step by ∷ []) ++ in_row
 
 -- behind the bounds: both are stored, and where there is no turn the code goes on at `empty`
 abbrev pub bounds_code : (by : ℤ) → (counter limit first last empty : ℕ) → List Instr
-bounds_code by counter limit first last empty = I.Move counter first ∷ I.Move limit last ∷ entry_code by first last ∷ I.JumpZero first empty ∷ []
+bounds_code by counter limit first last empty = I.Move counter first ∷ I.Move limit last ∷ entry_code by first last ∷ I.JumpZero first empty
+    ∷ []
 
 -- a turn: the count is checked, the variable is located and set, and the body follows
-abbrev pub turn_code : (line at : ℕ) → (check : List Instr) → (locate : (at : ℕ) → List Lined) → (store : Instr) → (body : (at : ℕ) → List Lined) → List Lined
+abbrev pub turn_code : (line at : ℕ) → (check : List Instr) → (locate : (at : ℕ) → List Lined) → (store : Instr)
+    → (body : (at : ℕ) → List Lined) → List Lined
 turn_code line at check locate store body =
     in_row at (own line check) (λ at. in_row at (locate at) (λ at. own line (store ∷ []) ++ body (at + 1)))
 

@@ -1,6 +1,7 @@
 -- The slots of a routine's frame: the link, its own slots, and a fresh slot for each need of each phrase of its body, in
 -- the order of the phrases. No two phrases share one.
-use Rattle.std.specs.Prelude.{ℕ, zero, suc, ◌+◌, ◌-◌, Bool, true, false, not, ◌&&◌, List, [], ◌∷◌, ◌++◌, length, replicate, Option, Some, None}
+use Rattle.std.specs.Prelude.{ℕ, zero, suc, ◌+◌, ◌-◌, Bool, true, false, not, ◌&&◌, List, [], ◌∷◌, ◌++◌, length, replicate, Option, Some}
+use Rattle.std.specs.Prelude.{None}
 use Rattle.alma_base.specs.declared.number.Range.{Range}
 use Rattle.alma_code.specs.declared.cell.SlotKind.{SlotKind}
 use Rattle.alma_code.specs.declared.cell.SlotKind.TheVariants as slot
@@ -9,7 +10,13 @@ use Rattle.alma_ir.specs.declared.phrase.Root.TheVariants as root
 use Rattle.alma_ir.specs.declared.program.ArgKind.{ArgKind}
 use Rattle.alma_ir.specs.declared.program.ArgKind.TheVariants as kind
 use Rattle.alma_ir.specs.declared.program.Param.{Param}
-use Rattle.alma_ir.specs.Tree.{Stmts, Stmt, Arms, CaseArms, Else, Branches, Loop, ReturnExpr, Test, Tests, Expr, Links, Args, Arg, Desig, Sels, Sel, Routine, Program, routine_at, no_stmts, more_stmts, TestStmt, Assign, CopyCells, If, While, Repeat, ForTo, SomeOf, Case, Either, Forall, Commit, Return, Read, WriteExpr, WriteText, WriteLine, no_arms, more_arms, no_cases, more_cases, no_else, else_part, no_branches, more_branches, a_loop, no_result, some_result, Value, Bind, Unify, SameCells, Seq, And, Or, Not, CallTest, no_tests, more_tests, Const, Load, Chain, Compare, Truth, Known, Chr, CallExpr, no_links, more_links, no_args, more_args, ByValue, ByCells, ByPlace, MixValue, MixPlace, a_desig, no_sels, more_sels, Field, Index}
+use Rattle.alma_ir.specs.Tree.{Stmts, Stmt, Arms, CaseArms, Else, Branches, Loop, ReturnExpr, Test, Tests, Expr, Links, Args, Arg, Desig}
+use Rattle.alma_ir.specs.Tree.{Sels, Sel, Routine, Program, routine_at, no_stmts, more_stmts, TestStmt, Assign, CopyCells, If, While}
+use Rattle.alma_ir.specs.Tree.{Repeat, ForTo, SomeOf, Case, Either, Forall, Commit, Return, Read, WriteExpr, WriteText, WriteLine, no_arms}
+use Rattle.alma_ir.specs.Tree.{more_arms, no_cases, more_cases, no_else, else_part, no_branches, more_branches, a_loop, no_result}
+use Rattle.alma_ir.specs.Tree.{some_result, Value, Bind, Unify, SameCells, Seq, And, Or, Not, CallTest, no_tests, more_tests, Const, Load}
+use Rattle.alma_ir.specs.Tree.{Chain, Compare, Truth, Known, Chr, CallExpr, no_links, more_links, no_args, more_args, ByValue, ByCells}
+use Rattle.alma_ir.specs.Tree.{ByPlace, MixValue, MixPlace, a_desig, no_sels, more_sels, Field, Index}
 use Rattle.alma_ir.specs.Checked.{link_slots}
 use Rattle.alma_ir.specs.Lines.{body_with_lines}
 use Rattle.alma_lower_templates.specs.Tables.{is_whole}
@@ -240,7 +247,8 @@ module _ (p : Program) (r : ℕ) where
     -- and behind the limit whether there are more turns
     pub some_slots : Loop → List SlotKind
     some_slots (a_loop d range counter limit from to by body) =
-        slot.Number ∷ (expr_slots from ++ (expr_slots to ++ (slot.Number ∷ (unless_bare (bare_desig d) (slot.Number ∷ desig_slots d) ++ stmts_slots body))))
+        slot.Number ∷ (expr_slots from ++ (expr_slots to
+        ++ (slot.Number ∷ (unless_bare (bare_desig d) (slot.Number ∷ desig_slots d) ++ stmts_slots body))))
 
     pub return_slots : ReturnExpr → List SlotKind
     return_slots no_result = []

@@ -7,13 +7,25 @@ use Rattle.alma_code.specs.declared.instr.Instr.TheVariants as I
 use Rattle.alma_ir.specs.declared.phrase.Cmp.TheVariants as cmp
 use Rattle.alma_ir.specs.declared.phrase.Root.{Root}
 use Rattle.alma_ir.specs.declared.phrase.Root.TheVariants as root
-use Rattle.alma_ir.specs.Tree.{Stmts, Stmt, Arms, CaseArms, Else, Branches, Loop, ReturnExpr, Test, Tests, Expr, Links, Args, Arg, Desig, Sels, Sel, Program, routine_at, no_stmts, more_stmts, TestStmt, Assign, CopyCells, If, While, Repeat, ForTo, SomeOf, Case, Either, Forall, Commit, Return, Read, WriteExpr, WriteText, WriteLine, no_arms, more_arms, no_cases, more_cases, no_else, else_part, no_branches, more_branches, a_loop, no_result, some_result, Value, Bind, Unify, SameCells, Seq, And, Or, Not, CallTest, no_tests, more_tests, Const, Load, Chain, Compare, Truth, Known, Chr, CallExpr, no_links, more_links, no_args, more_args, ByValue, ByCells, ByPlace, MixValue, MixPlace, a_desig, no_sels, more_sels, Field, Index}
+use Rattle.alma_ir.specs.Tree.{Stmts, Stmt, Arms, CaseArms, Else, Branches, Loop, ReturnExpr, Test, Tests, Expr, Links, Args, Arg, Desig}
+use Rattle.alma_ir.specs.Tree.{Sels, Sel, Program, routine_at, no_stmts, more_stmts, TestStmt, Assign, CopyCells, If, While, Repeat, ForTo}
+use Rattle.alma_ir.specs.Tree.{SomeOf, Case, Either, Forall, Commit, Return, Read, WriteExpr, WriteText, WriteLine, no_arms, more_arms}
+use Rattle.alma_ir.specs.Tree.{no_cases, more_cases, no_else, else_part, no_branches, more_branches, a_loop, no_result, some_result, Value}
+use Rattle.alma_ir.specs.Tree.{Bind, Unify, SameCells, Seq, And, Or, Not, CallTest, no_tests, more_tests, Const, Load, Chain, Compare}
+use Rattle.alma_ir.specs.Tree.{Truth, Known, Chr, CallExpr, no_links, more_links, no_args, more_args, ByValue, ByCells, ByPlace, MixValue}
+use Rattle.alma_ir.specs.Tree.{MixPlace, a_desig, no_sels, more_sels, Field, Index}
 use Rattle.alma_ir.specs.Checked.{outer_at}
 use Rattle.alma_ir.specs.Lines.{body_with_lines}
 use Rattle.alma_lower_templates.specs.Lined.{Lined, own, in_row, leaving}
 use Rattle.alma_lower_templates.specs.Tables.{Tables, range_number, text_number}
-use Rattle.alma_lower_templates.specs.Slots.{shift_of, bare_desig, bare, stays, stays_in, unless_bare, goes_straight, own_place, own_root, is_simple, handed_slots, call_links, root_slots, arg_slots, behind_stmts, behind_stmt, behind_test, behind_condition, behind_expr, behind_dead, behind_value, behind_desig, behind_target, behind_variable, own_kinds}
-use Rattle.alma_lower_templates.specs.Pieces.{op_code, cmp_code, unequal_code, straight, neg_code, write_code, read_code, fit_code, link_code, condition, guarded, chosen, first_of_two, refused, truth_code, each_body, forall_code, begin_loop, turn_code, for_turns, some_turns, behind_labels, case_arm, passed_over, has_dead, first_argument}
+use Rattle.alma_lower_templates.specs.Slots.{shift_of, bare_desig, bare, stays, stays_in, unless_bare, goes_straight, own_place, own_root}
+use Rattle.alma_lower_templates.specs.Slots.{is_simple, handed_slots, call_links, root_slots, arg_slots, behind_stmts, behind_stmt}
+use Rattle.alma_lower_templates.specs.Slots.{behind_test, behind_condition, behind_expr, behind_dead, behind_value, behind_desig}
+use Rattle.alma_lower_templates.specs.Slots.{behind_target, behind_variable, own_kinds}
+use Rattle.alma_lower_templates.specs.Pieces.{op_code, cmp_code, unequal_code, straight, neg_code, write_code, read_code, fit_code}
+use Rattle.alma_lower_templates.specs.Pieces.{link_code, condition, guarded, chosen, first_of_two, refused, truth_code, each_body}
+use Rattle.alma_lower_templates.specs.Pieces.{forall_code, begin_loop, turn_code, for_turns, some_turns, behind_labels, case_arm}
+use Rattle.alma_lower_templates.specs.Pieces.{passed_over, has_dead, first_argument}
 
 -- the numbers of CHAR
 abbrev pub char_range : Range
@@ -148,7 +160,8 @@ module _ (p : Program) (tables : Tables) (r : ℕ) where
     stmt_code line at lo (TestStmt t) = test_code line at lo t
     stmt_code line at lo (Assign d e range) =
         set_to (goes_straight d e range) line
-        (in_row at (unless_bare (bare_desig d) (desig_code line at lo d)) (λ next. unless_bare (bare e) (expr_code line next (behind_target p r lo d) e)))
+        (in_row at (unless_bare (bare_desig d) (desig_code line at lo d))
+        (λ next. unless_bare (bare e) (expr_code line next (behind_target p r lo d) e)))
         (fit_code tables range (value_at (behind_target p r lo d) e) ++ (set_code lo (value_at (behind_target p r lo d) e) d ∷ []))
     stmt_code line at lo (CopyCells d e) =
         in_row at (desig_code line at lo d) (λ next. desig_code line next (behind_desig p r lo d) e)
@@ -157,11 +170,13 @@ module _ (p : Program) (tables : Tables) (r : ℕ) where
     -- the first jump is the one step before the first condition
     stmt_code line at lo (While t body) =
         own line (I.Jump (at + 1) ∷ [])
-        ++ (guarded (at + 1) 1 (λ none. condition (is_simple t) line (at + 1) lo none (λ at lo none. jump_code line at lo none t) (λ at lo. test_code line at lo t))
+        ++ (guarded (at + 1) 1 (λ none. condition (is_simple t) line (at + 1) lo none (λ at lo none. jump_code line at lo none t)
+        (λ at lo. test_code line at lo t))
         (λ next. stmts_code next (behind_condition p r lo t) body)
         ++ own line (I.Jump (at + 1) ∷ []))
     stmt_code line at lo (Repeat body t) =
-        in_row at (stmts_code at lo body) (λ next. condition (is_simple t) line next (behind_stmts p r lo body) at (λ at lo none. jump_code line at lo none t) (λ at lo. test_code line at lo t))
+        in_row at (stmts_code at lo body) (λ next. condition (is_simple t) line next (behind_stmts p r lo body)
+        at (λ at lo none. jump_code line at lo none t) (λ at lo. test_code line at lo t))
     stmt_code line at lo (ForTo l) = for_code line at lo l
     stmt_code line at lo (SomeOf l) = some_code line at lo l
     -- the value, the arms that are never tried, and two slots for the labels
@@ -169,15 +184,18 @@ module _ (p : Program) (tables : Tables) (r : ℕ) where
         let first : ℕ = behind_expr p r lo e in
         let bound : ℕ = behind_dead p r first arms in
         in_row at (expr_code line at lo e)
-        (λ next. in_row next (passed_over (has_dead arms) line next (dead_code (next + 1) first arms)) (λ next. case_code line lo bound next (bound + 2) arms (λ next lo. else_code line next lo rest)))
+        (λ next. in_row next (passed_over (has_dead arms) line next (dead_code (next + 1) first arms))
+        (λ next. case_code line lo bound next (bound + 2) arms (λ next lo. else_code line next lo rest)))
     stmt_code line at lo (Either branches) = either_code line at lo branches
     stmt_code line at lo (Forall x y) =
         let inner : ℕ = behind_stmts p r (lo + 1) x in
         forall_code line (at + 1) lo
-        (in_row (at + 1) (stmts_code (at + 1) (lo + 1) x) (λ next. each_body line (next + 2) lo inner (stmts_code (next + 2) (inner + 1) y)))
+        (in_row (at + 1) (stmts_code (at + 1) (lo + 1) x)
+        (λ next. each_body line (next + 2) lo inner (stmts_code (next + 2) (inner + 1) y)))
     stmt_code line at lo (Commit x) = own line (I.Mark lo ∷ []) ++ (stmts_code (at + 1) (lo + 1) x ++ own line (I.Cut lo ∷ []))
     stmt_code line at lo (Return e) = return_code line at lo e
-    stmt_code line at lo (Read d how range) = desig_code line at lo d ++ own line (read_code how (place_at lo d) (range_number tables range) ∷ [])
+    stmt_code line at lo (Read d how range) = desig_code line at lo d
+        ++ own line (read_code how (place_at lo d) (range_number tables range) ∷ [])
     stmt_code line at lo (WriteExpr e how) = unless_bare (bare e) (expr_code line at lo e) ++ own line (write_code how (value_at lo e) ∷ [])
     stmt_code line at lo (WriteText text) = own line (I.WriteText (text_number tables text) ∷ [])
     stmt_code line at lo WriteLine = own line (I.WriteLine ∷ [])
@@ -187,7 +205,8 @@ module _ (p : Program) (tables : Tables) (r : ℕ) where
     if_code line at lo no_arms otherwise = otherwise at lo
     if_code line at lo (more_arms t body rest) otherwise =
         leaving line at
-        (guarded at 1 (λ none. condition (is_simple t) line at lo none (λ at lo none. jump_code line at lo none t) (λ at lo. test_code line at lo t))
+        (guarded at 1 (λ none. condition (is_simple t) line at lo none (λ at lo none. jump_code line at lo none t)
+        (λ at lo. test_code line at lo t))
         (λ next. stmts_code next (behind_condition p r lo t) body))
         (λ next jump. arms_code line jump next (behind_stmts p r (behind_condition p r lo t) body) rest otherwise)
 
@@ -195,7 +214,8 @@ module _ (p : Program) (tables : Tables) (r : ℕ) where
     arms_code line jump at lo no_arms otherwise = otherwise at lo
     arms_code line jump at lo (more_arms t body rest) otherwise =
         in_row at
-        (guarded at 1 (λ none. condition (is_simple t) line at lo none (λ at lo none. jump_code line at lo none t) (λ at lo. test_code line at lo t))
+        (guarded at 1 (λ none. condition (is_simple t) line at lo none (λ at lo none. jump_code line at lo none t)
+        (λ at lo. test_code line at lo t))
         (λ next. stmts_code next (behind_condition p r lo t) body)
         ++ own line (I.Jump jump ∷ []))
         (λ next. arms_code line jump next (behind_stmts p r (behind_condition p r lo t) body) rest otherwise)
@@ -206,8 +226,10 @@ module _ (p : Program) (tables : Tables) (r : ℕ) where
         let place : ℕ = behind_expr p r last to in
         in_row at (begin_loop line at lo by (λ at. expr_code line at (lo + 1) from) (λ at. expr_code line at last to))
         (λ next. for_turns line next by (own_slot counter) (own_slot limit) lo (lo + 1) last
-        (turn_code line (next + 4) (count_code (bare_desig d) range (own_slot counter) place) (λ at. unless_bare (bare_desig d) (desig_code line at (place + 1) d))
-        (set_code (place + 1) (count_at (bare_desig d) (own_slot counter) place) d) (λ at. stmts_code at (behind_variable p r place d) body)))
+        (turn_code line (next + 4) (count_code (bare_desig d) range (own_slot counter) place)
+        (λ at. unless_bare (bare_desig d) (desig_code line at (place + 1) d))
+        (set_code (place + 1) (count_at (bare_desig d) (own_slot counter) place) d)
+        (λ at. stmts_code at (behind_variable p r place d) body)))
 
     pub some_code : (line at lo : ℕ) → Loop → List Lined
     some_code line at lo (a_loop d range counter limit from to by body) =
@@ -215,8 +237,10 @@ module _ (p : Program) (tables : Tables) (r : ℕ) where
         let more : ℕ = behind_expr p r last to in
         in_row at (begin_loop line at lo (pos 1) (λ at. expr_code line at (lo + 1) from) (λ at. expr_code line at last to))
         (λ next. some_turns line next (own_slot counter) (own_slot limit) lo (lo + 1) last more
-        (turn_code line (next + 7) (count_code (bare_desig d) range (own_slot counter) (more + 1)) (λ at. unless_bare (bare_desig d) (desig_code line at (more + 1 + 1) d))
-        (set_code (more + 1 + 1) (count_at (bare_desig d) (own_slot counter) (more + 1)) d) (λ at. stmts_code at (behind_variable p r (more + 1) d) body)))
+        (turn_code line (next + 7) (count_code (bare_desig d) range (own_slot counter) (more + 1))
+        (λ at. unless_bare (bare_desig d) (desig_code line at (more + 1 + 1) d))
+        (set_code (more + 1 + 1) (count_at (bare_desig d) (own_slot counter) (more + 1)) d)
+        (λ at. stmts_code at (behind_variable p r (more + 1) d) body)))
 
     -- the arms without labels: nothing leads to them
     pub dead_code : (at lo : ℕ) → CaseArms → List Lined
@@ -262,11 +286,13 @@ module _ (p : Program) (tables : Tables) (r : ℕ) where
     pub return_code : (line at lo : ℕ) → ReturnExpr → List Lined
     return_code line at lo no_result = own line (I.Return ∷ [])
     return_code line at lo (some_result e) =
-        unless_bare (bare e) (expr_code line at lo e) ++ own line (fit_result (routine_at p r).result (value_at lo e) ++ (I.ReturnValue (value_at lo e) ∷ []))
+        unless_bare (bare e) (expr_code line at lo e)
+        ++ own line (fit_result (routine_at p r).result (value_at lo e) ++ (I.ReturnValue (value_at lo e) ∷ []))
 
     pub test_code : (line at lo : ℕ) → Test → List Lined
     test_code line at lo (Value (Compare cmp.Unequal x y)) =
-        in_row at (in_row at (unless_bare (stays x y) (expr_code line at lo x)) (λ next. unless_bare (bare y) (expr_code line next (behind_expr p r lo x) y)))
+        in_row at (in_row at (unless_bare (stays x y) (expr_code line at lo x))
+        (λ next. unless_bare (bare y) (expr_code line next (behind_expr p r lo x) y)))
         (λ next. own line (unequal_code lo (slot_or (stays x y) lo) (value_at (behind_expr p r lo x) y) next))
     test_code line at lo (Value e) = unless_bare (bare e) (expr_code line at lo e) ++ own line (I.Check (value_at lo e) ∷ [])
     test_code line at lo (Bind d e range true) =
@@ -277,7 +303,8 @@ module _ (p : Program) (tables : Tables) (r : ℕ) where
         ++ own line (I.Bind (place_at (behind_expr p r lo e) d) lo (range_number tables range) ∷ [])
     test_code line at lo (Unify d range e range') =
         in_row at (desig_code line at lo d) (λ next. desig_code line next (behind_desig p r lo d) e)
-        ++ own line (I.Unify (place_at lo d) (range_number tables range) (place_at (behind_desig p r lo d) e) (range_number tables range') ∷ [])
+        ++ own line (I.Unify (place_at lo d) (range_number tables range) (place_at (behind_desig p r lo d) e) (range_number tables range')
+        ∷ [])
     test_code line at lo (SameCells d e) =
         in_row at (desig_code line at lo d) (λ next. desig_code line next (behind_desig p r lo d) e)
         ++ own line (I.SameCells (place_at lo d) (place_at (behind_desig p r lo d) e) ∷ [])
@@ -325,16 +352,19 @@ module _ (p : Program) (tables : Tables) (r : ℕ) where
     -- a first operand that stays is read by the instruction that takes both. Where it is unknown that one faults: before it stands a
     -- constant at most, and where the next operand is unknown too the fault is the same
     expr_code line at lo (Compare how x y) =
-        in_row at (unless_bare (stays x y) (expr_code line at lo x)) (λ next. unless_bare (bare y) (expr_code line next (behind_expr p r lo x) y))
+        in_row at (unless_bare (stays x y) (expr_code line at lo x))
+        (λ next. unless_bare (bare y) (expr_code line next (behind_expr p r lo x) y))
         ++ own line (cmp_code how lo (slot_or (stays x y) lo) (value_at (behind_expr p r lo x) y))
     expr_code line at lo (Truth t) =
-        in_row at (guarded at 2 (λ none. condition (is_simple t) line at (lo + 1) none (λ at lo none. jump_code line at lo none t) (λ at lo. test_code line at lo t)) (λ next. [])) (λ next. truth_code line lo next)
+        in_row at (guarded at 2 (λ none. condition (is_simple t) line at (lo + 1) none (λ at lo none. jump_code line at lo none t)
+        (λ at lo. test_code line at lo t)) (λ next. [])) (λ next. truth_code line lo next)
     expr_code line at lo (Known d) =
         unless_bare (own_place d) (desig_code line at (lo + 1) d) ++ own line (I.Known lo (held_at (lo + 1) d) ∷ [])
     expr_code line at lo (Chr e) = expr_code line at lo e ++ own line (I.InRange lo (range_number tables char_range) ∷ [])
     expr_code line at lo (CallExpr called args up) =
         let first : ℕ = arguments_from called up (lo + 2) in
-        in_row at (own line (call_link_code called up (lo + 2))) (λ next. args_code line next first (first + length (handed_slots args)) args)
+        in_row at (own line (call_link_code called up (lo + 2)))
+        (λ next. args_code line next first (first + length (handed_slots args)) args)
         ++ own line (I.Mark (lo + 1) ∷ call_code called args up (lo + 2) lo ∷ I.Cut (lo + 1) ∷ [])
 
     -- each operator puts its value into the slot `to` as soon as its operand is there; the first takes the slot `first`
@@ -352,17 +382,20 @@ module _ (p : Program) (tables : Tables) (r : ℕ) where
 
     pub arg_code : (line at to lo : ℕ) → Arg → List Lined
     arg_code line at to lo (ByValue e range) =
-        unless_bare (bare e) (expr_code line at lo e) ++ own line (fit_code tables range (value_at lo e) ++ (I.Move to (value_at lo e) ∷ []))
+        unless_bare (bare e) (expr_code line at lo e)
+        ++ own line (fit_code tables range (value_at lo e) ++ (I.Move to (value_at lo e) ∷ []))
     arg_code line at to lo (ByCells d) = desig_code line at lo d ++ own line (I.Same to (place_at lo d) ∷ [])
     arg_code line at to lo (ByPlace d) = desig_code line at lo d ++ own line (I.Same to (place_at lo d) ∷ [])
     arg_code line at to lo (MixValue e range) =
-        unless_bare (bare e) (expr_code line at lo e) ++ own line (fit_code tables range (value_at lo e) ++ (I.Move to (value_at lo e) ∷ []))
+        unless_bare (bare e) (expr_code line at lo e)
+        ++ own line (fit_code tables range (value_at lo e) ++ (I.Move to (value_at lo e) ∷ []))
     arg_code line at to lo (MixPlace d) = desig_code line at lo d ++ own line (I.Same to (place_at lo d) ∷ [])
 
     -- the place goes into the slot `place_at lo`. Where that of a parameter is no place yet, the instruction that takes the part faults
     pub desig_code : (line at lo : ℕ) → Desig → List Lined
     desig_code line at lo (a_desig root cells sels) =
-        in_row at (unless_bare (own_root root sels) (own line (root_code lo root))) (λ next. sels_code line next (slot_or (own_root root sels) lo) (behind_root lo root) sels)
+        in_row at (unless_bare (own_root root sels) (own line (root_code lo root)))
+        (λ next. sels_code line next (slot_or (own_root root sels) lo) (behind_root lo root) sels)
 
     -- the place to be narrowed stands in the slot `from`
     pub sels_code : (line at from lo : ℕ) → Sels → List Lined
@@ -386,4 +419,5 @@ module _ (p : Program) (tables : Tables) (r : ℕ) where
   -- the body behind the own slots, and the end, which has the line of the routine
   abbrev pub routine_code : (at : ℕ) → List Lined
   routine_code at =
-      stmts_code at (length (own_kinds (routine_at p r))) (body_with_lines (routine_at p r)) ++ own (routine_at p r).line (end_code (routine_at p r).result ∷ [])
+      stmts_code at (length (own_kinds (routine_at p r))) (body_with_lines (routine_at p r))
+      ++ own (routine_at p r).line (end_code (routine_at p r).result ∷ [])

@@ -24,7 +24,8 @@ elsewhere f r cells sels (inr (inr (inl h))) = sym (ap (λ x. option_map f (bare
 elsewhere f r cells sels (inr (inr (inr h))) = sym (ap (λ x. option_map f (bare_desig (a_desig x cells sels))) h.2)
 
 -- a variable of the routine without a selector stands in its own slot
-pub own_alone : (f : ℕ → ℕ) (r : Root) (cells : ℕ) (sels : List L.Sel) (from slot : ℕ) → r ≡ root.Local from → length sels ≡ 0 → slot ≡ f from
+pub own_alone : (f : ℕ → ℕ) (r : Root) (cells : ℕ) (sels : List L.Sel) (from slot : ℕ) → r ≡ root.Local from → length sels ≡ 0
+    → slot ≡ f from
     → Some slot ≡ option_map f (bare_desig (a_desig r cells (sels_list sels)))
 own_alone f r cells [] from slot is none h = ap Some h ∙ sym (ap (λ x. option_map f (bare_desig (a_desig x cells (sels_list [])))) is)
 own_alone f r cells (x ∷ rest) from slot is none h = absurd (omega (arith, none))
@@ -38,7 +39,8 @@ NotLoad e = ((n : _) × (e ≡ E.Const n)) ⊎ (((negated : _) × (first : _) ×
 -- its value stands in no slot yet
 pub not_yet : (f : ℕ → ℕ) (e : E.Expr) → NotLoad e → None ≡ option_map f (bare (expr_of e))
 not_yet f e (inl h) = sym (ap (λ x. option_map f (bare (expr_of x))) h.1 ∙ ap (λ x. option_map f (bare x)) (Views.const_view h.0))
-not_yet f e (inr (inl h)) = sym (ap (λ x. option_map f (bare (expr_of x))) h.3 ∙ ap (λ x. option_map f (bare x)) (Views.chain_view h.0 h.1 h.2))
+not_yet f e (inr (inl h)) = sym (ap (λ x. option_map f (bare (expr_of x))) h.3
+    ∙ ap (λ x. option_map f (bare x)) (Views.chain_view h.0 h.1 h.2))
 not_yet f e (inr (inr (inl h))) =
     sym (ap (λ x. option_map f (bare (expr_of x))) h.3 ∙ ap (λ x. option_map f (bare x)) (Views.compare_view h.0 h.1 h.2))
 not_yet f e (inr (inr (inr (inl h)))) =

@@ -24,8 +24,10 @@ other_comparison e how x y is h = ap is_unequal is ∙ other_is how x y h
 
 -- an expression that is no comparison
 abbrev pub NoComparison : E.Expr → Type 0
-NoComparison e = ((n : _) × (e ≡ E.Const n)) ⊎ (((desig : _) × (e ≡ E.Load desig)) ⊎ (((negated : _) × (first : _) × (links : _) × (e ≡ E.Chain negated first links)) ⊎
-    (((test : _) × (e ≡ E.Truth test)) ⊎ (((desig : _) × (e ≡ E.Known desig)) ⊎ (((inner : _) × (e ≡ E.Chr inner)) ⊎ ((call : _) × (e ≡ E.Call call)))))))
+NoComparison e = ((n : _) × (e ≡ E.Const n))
+    ⊎ (((desig : _) × (e ≡ E.Load desig)) ⊎ (((negated : _) × (first : _) × (links : _) × (e ≡ E.Chain negated first links)) ⊎
+    (((test : _) × (e ≡ E.Truth test)) ⊎ (((desig : _) × (e ≡ E.Known desig))
+    ⊎ (((inner : _) × (e ≡ E.Chr inner)) ⊎ ((call : _) × (e ≡ E.Call call)))))))
 
 pub no_inequality : (e : E.Expr) → NoComparison e → is_unequal (expr_of e) ≡ false
 no_inequality e (inl h) = ap (λ x. is_unequal (expr_of x)) h.1 ∙ ap is_unequal (Views.const_view h.0)

@@ -48,30 +48,41 @@ module _ (s : Around) (line : ℕ) where
   -- the links so far, and one more
   pub links_start : (a b c : Front) (link : ℕ) → Takes a b (slot.Link s.routine) → link ≡ a.next → Codes b c (own line (I.Own link ∷ []))
       → Adds a c (λ at lo ls. own line (link_code lo 0)) (λ ls. chain_slots s.program s.routine 0) (λ ls. ls)
-  links_start a b c link h is j = adds_as a c _ _ _ _ _ _ (slot_adds a b c _ _ _ _ h (only_code b c _ j)) (ap (λ n. own line (I.Own n ∷ [])) is) refl refl
+  links_start a b c link h is j = adds_as a c _ _ _ _ _ _ (slot_adds a b c _ _ _ _ h (only_code b c _ j))
+      (ap (λ n. own line (I.Own n ∷ [])) is) refl refl
 
-  pub links_step : (a b c d : Front) (k link next routine : ℕ) → Adds a b (λ at lo ls. own line (link_code lo k)) (λ ls. chain_slots s.program s.routine k) (λ ls. ls)
-      → link ≡ a.next + k → routine ≡ outer_at s.program s.routine (k + 1) → Takes b c (slot.Link routine) → next ≡ b.next → Codes c d (own line (I.Chain next link 0 ∷ []))
+  pub links_step : (a b c d : Front) (k link next routine : ℕ)
+      → Adds a b (λ at lo ls. own line (link_code lo k)) (λ ls. chain_slots s.program s.routine k) (λ ls. ls)
+      → link ≡ a.next + k → routine ≡ outer_at s.program s.routine (k + 1) → Takes b c (slot.Link routine) → next ≡ b.next
+      → Codes c d (own line (I.Chain next link 0 ∷ []))
       → Adds a d (λ at lo ls. own line (link_code lo (k + 1))) (λ ls. chain_slots s.program s.routine (k + 1)) (λ ls. ls)
   links_step a b c d k link next routine h is out t is2 j =
       let more : suc k ≡ k + 1 = omega arith in
       let all = adds_code a c d _ _ _ _ (adds_slot a b c _ _ _ _ h t) j in
       let there : next ≡ a.next + k + 1 = omega (arith, is2, h.next_slot, slots_long s.program s.routine k) in
       adds_as a d _ _ _ _ _ _ all
-      (ap (λ n. own line (link_code a.next k) ++ own line (I.Chain next n 0 ∷ [])) is ∙ ap (λ n. own line (link_code a.next k) ++ own line (I.Chain n (a.next + k) 0 ∷ [])) there
-      ∙ sym (own_two line (link_code a.next k) (I.Chain (a.next + k + 1) (a.next + k) 0 ∷ [])) ∙ ap (own line) (sym (link_more a.next k)) ∙ ap (λ n. own line (link_code a.next n)) more)
-      (ap (λ n. chain_slots s.program s.routine k ++ (slot.Link n ∷ [])) (out ∙ ap (outer_at s.program s.routine) (sym more)) ∙ sym (slots_more s.program s.routine k) ∙ ap (chain_slots s.program s.routine) more) refl
+      (ap (λ n. own line (link_code a.next k) ++ own line (I.Chain next n 0 ∷ [])) is
+      ∙ ap (λ n. own line (link_code a.next k) ++ own line (I.Chain n (a.next + k) 0 ∷ [])) there
+      ∙ sym (own_two line (link_code a.next k) (I.Chain (a.next + k + 1) (a.next + k) 0 ∷ [])) ∙ ap (own line) (sym (link_more a.next k))
+      ∙ ap (λ n. own line (link_code a.next n)) more)
+      (ap (λ n. chain_slots s.program s.routine k ++ (slot.Link n ∷ [])) (out ∙ ap (outer_at s.program s.routine) (sym more))
+      ∙ sym (slots_more s.program s.routine k) ∙ ap (chain_slots s.program s.routine) more) refl
 
-  pub outer_step : (k routine : ℕ) (outer : ℕ) → routine ≡ outer_at s.program s.routine k → outer ≡ (routine_at s.program routine).outer → outer ≡ outer_at s.program s.routine (k + 1)
-  outer_step k routine outer is h = let more : suc k ≡ k + 1 = omega arith in h ∙ ap (λ n. (routine_at s.program n).outer) is ∙ sym (outer_more s.program s.routine k) ∙ ap (outer_at s.program s.routine) more
+  pub outer_step : (k routine : ℕ) (outer : ℕ) → routine ≡ outer_at s.program s.routine k → outer ≡ (routine_at s.program routine).outer
+      → outer ≡ outer_at s.program s.routine (k + 1)
+  outer_step k routine outer is h = let more : suc k ≡ k + 1 = omega arith in h ∙ ap (λ n. (routine_at s.program n).outer) is
+      ∙ sym (outer_more s.program s.routine k) ∙ ap (outer_at s.program s.routine) more
 
-  pub next_link : (a b : Front) (k next : ℕ) → Adds a b (λ at lo ls. own line (link_code lo k)) (λ ls. chain_slots s.program s.routine k) (λ ls. ls) → next ≡ b.next → next ≡ a.next + (k + 1)
+  pub next_link : (a b : Front) (k next : ℕ)
+      → Adds a b (λ at lo ls. own line (link_code lo k)) (λ ls. chain_slots s.program s.routine k) (λ ls. ls) → next ≡ b.next
+      → next ≡ a.next + (k + 1)
   next_link a b k next h is = omega (arith, is, h.next_slot, slots_long s.program s.routine k)
 
   -- ---- roots
 
   abbrev pub PutsRoot : (to : ℕ) (a b : Front) → Root → Type 0
-  PutsRoot to a b r = Adds a b (λ at lo ls. own line (T.root_code s.program s.tables s.routine to r)) (λ ls. root_slots s.program s.routine r) (λ ls. ls)
+  PutsRoot to a b r = Adds a b (λ at lo ls. own line (T.root_code s.program s.tables s.routine to r))
+      (λ ls. root_slots s.program s.routine r) (λ ls. ls)
 
   -- the place of a root by one instruction
   pub one_root : {U X : Type 0} (res : Result U X) (a b : Front) (to : ℕ) (r known : Root) (i : Instr) → r ≡ known
@@ -82,7 +93,8 @@ module _ (s : Around) (line : ℕ) where
       (slots ∙ ap (root_slots s.program s.routine) (sym is)) refl)
 
   -- the place of a root by links to its frame, and one instruction
-  pub linked_root : {U X : Type 0} (res : Result U X) (a b c : Front) (to links : ℕ) (r known : Root) (i : Instr) → r ≡ known → a.next ≡ to + 1
+  pub linked_root : {U X : Type 0} (res : Result U X) (a b c : Front) (to links : ℕ) (r known : Root) (i : Instr) → r ≡ known
+      → a.next ≡ to + 1
       → link_code (to + 1) links ++ (i ∷ []) ≡ T.root_code s.program s.tables s.routine to known
       → chain_slots s.program s.routine links ≡ root_slots s.program s.routine known
       → Adds a b (λ at lo ls. own line (link_code lo links)) (λ ls. chain_slots s.program s.routine links) (λ ls. ls)
@@ -102,9 +114,11 @@ module _ (s : Around) (line : ℕ) where
   -- the slot of a part is the last of its selector
   pub part_last : (lo : ℕ) (x : Sel) → T.part_slot s.program s.tables s.routine lo x + 1 ≡ lo + length (sel_slots s.program s.routine x)
   part_last lo (Field offset cells) = refl
-  part_last lo (Index e range cells) = omega (arith, length-append (unless_bare (bare e) (expr_slots s.program s.routine e)) (slot.Place cells ∷ []))
+  part_last lo (Index e range cells) = omega
+      (arith, length-append (unless_bare (bare e) (expr_slots s.program s.routine e)) (slot.Place cells ∷ []))
 
-  pub sels_put : (a b c : Front) (from part : ℕ) (x : Sel) (rest : Sels) → PutsSel s line from a b x → part ≡ T.part_slot s.program s.tables s.routine a.next (sel_with x a.lines)
+  pub sels_put : (a b c : Front) (from part : ℕ) (x : Sel) (rest : Sels) → PutsSel s line from a b x
+      → part ≡ T.part_slot s.program s.tables s.routine a.next (sel_with x a.lines)
       → PutsSels s line part b c rest → PutsSels s line from a c (more_sels x rest)
   unfolding stmts_with stmts_phrases
   sels_put a b c from part x rest h is j =
@@ -114,38 +128,54 @@ module _ (s : Around) (line : ℕ) where
       let all = then_adds a b c _ _ _ _ _ _ h.all j.all in
       record {
         all = adds_as a c _ _ _ _ _ _ all
-            (ap (λ n. first ++ T.sels_code s.program s.tables s.routine line (length a.code + length first) n (a.next + length (sel_slots s.program s.routine (sel_with x a.lines))) (sels_with rest ls)) is
-            ∙ ap (λ n. first ++ T.sels_code s.program s.tables s.routine line (length a.code + length first) mine n (sels_with rest ls)) (sym (part_last a.next (sel_with x a.lines))))
+            (ap (λ n. first ++ T.sels_code s.program s.tables s.routine line (length a.code + length first) n
+            (a.next + length (sel_slots s.program s.routine (sel_with x a.lines))) (sels_with rest ls)) is
+            ∙ ap (λ n. first ++ T.sels_code s.program s.tables s.routine line (length a.code + length first) mine n (sels_with rest ls))
+            (sym (part_last a.next (sel_with x a.lines))))
             refl (sym (behind_two (sel_phrases x) (sels_phrases rest) a.lines));
       }
 
   -- the place of the last part
   pub parts_on : (from lo : ℕ) (ls : List ℕ) (x : Sel) (rest : Sels)
       → T.part_at s.program s.tables s.routine from lo (sels_with (more_sels x rest) ls)
-      ≡ T.part_at s.program s.tables s.routine (T.part_slot s.program s.tables s.routine lo (sel_with x ls)) (lo + length (sel_slots s.program s.routine (sel_with x ls))) (sels_with rest (behind (sel_phrases x) ls))
+      ≡ T.part_at s.program s.tables s.routine (T.part_slot s.program s.tables s.routine lo (sel_with x ls))
+      (lo + length (sel_slots s.program s.routine (sel_with x ls))) (sels_with rest (behind (sel_phrases x) ls))
   unfolding stmts_with
-  parts_on from lo ls x rest = ap (λ n. T.part_at s.program s.tables s.routine (T.part_slot s.program s.tables s.routine lo (sel_with x ls)) n (sels_with rest (behind (sel_phrases x) ls))) (part_last lo (sel_with x ls))
+  parts_on from lo ls x rest = ap (λ n. T.part_at s.program s.tables s.routine (T.part_slot s.program s.tables s.routine lo (sel_with x ls))
+      n (sels_with rest (behind (sel_phrases x) ls))) (part_last lo (sel_with x ls))
 
-  pub field_put : (a b c : Front) (from to offset cells : ℕ) → Takes a b (slot.Place cells) → to ≡ a.next → Codes b c (own line (I.Field to from offset ∷ [])) → PutsSel s line from a c (Field offset cells)
+  pub field_put : (a b c : Front) (from to offset cells : ℕ) → Takes a b (slot.Place cells) → to ≡ a.next
+      → Codes b c (own line (I.Field to from offset ∷ [])) → PutsSel s line from a c (Field offset cells)
   unfolding stmts_with stmts_phrases
-  field_put a b c from to offset cells h is j = record { all = adds_as a c _ _ _ _ _ _ (slot_adds a b c _ _ _ _ h (only_code b c _ j)) (ap (λ n. own line (I.Field n from offset ∷ [])) is) refl refl }
+  field_put a b c from to offset cells h is j =
+      record {
+        all = adds_as a c _ _ _ _ _ _ (slot_adds a b c _ _ _ _ h (only_code b c _ j))
+            (ap (λ n. own line (I.Field n from offset ∷ [])) is) refl refl;
+      }
 
-  pub field_part : (lo : ℕ) (ls : List ℕ) (offset cells : ℕ) → T.part_slot s.program s.tables s.routine lo (sel_with (Field offset cells) ls) ≡ lo
+  pub field_part : (lo : ℕ) (ls : List ℕ) (offset cells : ℕ)
+      → T.part_slot s.program s.tables s.routine lo (sel_with (Field offset cells) ls) ≡ lo
   unfolding stmts_with
   field_part lo ls offset cells = refl
 
-  pub index_put : (a b c d : Front) (from index to number : ℕ) (e : Expr) (range : Range) (cells : ℕ) → PutsValue s line a b e → index ≡ value_slot s a.next (expr_with e a.lines)
-      → Takes b c (slot.Place cells) → to ≡ b.next → number ≡ range_number s.tables range → Codes c d (own line (I.Index to from index number ∷ [])) → PutsSel s line from a d (Index e range cells)
+  pub index_put : (a b c d : Front) (from index to number : ℕ) (e : Expr) (range : Range) (cells : ℕ) → PutsValue s line a b e
+      → index ≡ value_slot s a.next (expr_with e a.lines)
+      → Takes b c (slot.Place cells) → to ≡ b.next → number ≡ range_number s.tables range
+      → Codes c d (own line (I.Index to from index number ∷ [])) → PutsSel s line from a d (Index e range cells)
   unfolding stmts_with stmts_phrases
   index_put a b c d from index to number e range cells h is t is2 is3 j =
       let y = expr_with e a.lines in
       let code = unless_bare (bare y) (T.expr_code s.program s.tables s.routine line (length a.code) a.next y) in
       record {
         all = adds_as a d _ _ _ _ _ _ (adds_code a c d _ _ _ _ (adds_slot a b c _ _ _ _ h.all t) j)
-            (ap (λ n. code ++ own line (I.Index n from index number ∷ [])) (is2 ∙ h.all.next_slot) ∙ ap (λ n. code ++ own line (I.Index (a.next + length (unless_bare (bare y) (expr_slots s.program s.routine y))) from n number ∷ [])) is
-            ∙ ap (λ n. code ++ own line (I.Index (a.next + length (unless_bare (bare y) (expr_slots s.program s.routine y))) from (value_slot s a.next y) n ∷ [])) is3) refl refl;
+            (ap (λ n. code ++ own line (I.Index n from index number ∷ [])) (is2 ∙ h.all.next_slot)
+            ∙ ap (λ n. code ++ own line (I.Index (a.next + length (unless_bare (bare y) (expr_slots s.program s.routine y))) from n
+            number ∷ [])) is
+            ∙ ap (λ n. code ++ own line (I.Index (a.next + length (unless_bare (bare y) (expr_slots s.program s.routine y))) from
+            (value_slot s a.next y) n ∷ [])) is3) refl refl;
       }
 
-  pub index_part : (a b : Front) (e : Expr) (range : Range) (cells to : ℕ) → PutsValue s line a b e → to ≡ b.next → to ≡ T.part_slot s.program s.tables s.routine a.next (sel_with (Index e range cells) a.lines)
+  pub index_part : (a b : Front) (e : Expr) (range : Range) (cells to : ℕ) → PutsValue s line a b e → to ≡ b.next
+      → to ≡ T.part_slot s.program s.tables s.routine a.next (sel_with (Index e range cells) a.lines)
   unfolding stmts_with
   index_part a b e range cells to h is = is ∙ h.all.next_slot

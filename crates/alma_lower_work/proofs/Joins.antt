@@ -30,10 +30,18 @@ abbrev Pass : Type 0
 Pass = (ls : List ℕ) → List ℕ
 
 pub nothing : (a : Front) → Adds a a (λ at lo ls. []) (λ ls. []) (λ ls. ls)
-nothing a = record { instrs = sym (append-nil a.code); taken = sym (append-nil a.kinds); next_slot = omega arith; left = refl; whole = refl }
+nothing a = record {
+  instrs = sym (append-nil a.code);
+  taken = sym (append-nil a.kinds);
+  next_slot = omega arith;
+  left = refl;
+  whole =
+      refl;
+}
 
 pub then_adds : (a b c : Front) (f g : Code) (k l : Slots) (p q : Pass) → Adds a b f k p → Adds b c g l q
-    → Adds a c (λ at lo ls. f at lo ls ++ g (at + length (f at lo ls)) (lo + length (k ls)) (p ls)) (λ ls. k ls ++ l (p ls)) (λ ls. q (p ls))
+    → Adds a c (λ at lo ls. f at lo ls ++ g (at + length (f at lo ls)) (lo + length (k ls)) (p ls)) (λ ls. k ls ++ l (p ls))
+    (λ ls. q (p ls))
 then_adds a b c f g k l p q h j =
     let at = length a.code in
     let lo = a.next in
@@ -46,7 +54,8 @@ then_adds a b c f g k l p q h j =
           ∙ ap (λ n. (a.code ++ f at lo ls) ++ g (at + length (f at lo ls)) n b.lines) h.next_slot
           ∙ ap (λ n. (a.code ++ f at lo ls) ++ g (at + length (f at lo ls)) (lo + length (k ls)) n) h.left
           ∙ append_assoc a.code (f at lo ls) (g (at + length (f at lo ls)) (lo + length (k ls)) (p ls));
-      taken = j.taken ∙ ap (λ y. y ++ l b.lines) h.taken ∙ ap (λ n. (a.kinds ++ k ls) ++ l n) h.left ∙ append_assoc a.kinds (k ls) (l (p ls));
+      taken = j.taken ∙ ap (λ y. y ++ l b.lines) h.taken ∙ ap (λ n. (a.kinds ++ k ls) ++ l n) h.left
+          ∙ append_assoc a.kinds (k ls) (l (p ls));
       next_slot = omega (arith, j.next_slot, h.next_slot, ap (λ n. length (l n)) h.left, length-append (k ls) (l (p ls)));
       left = j.left ∙ ap q h.left;
       whole = j.whole ∙ h.whole;
@@ -85,7 +94,8 @@ code_code a b c xs ys h j = record {
 }
 
 -- code behind what was done before
-pub then_code : {A B X : Type 0} (q : Result A X) (r : Result B X) (a b c : Front) (xs ys : List Lined) → OnOk r (IsOk q) → OnOk q (Codes a b xs)
+pub then_code : {A B X : Type 0} (q : Result A X) (r : Result B X) (a b c : Front) (xs ys : List Lined) → OnOk r (IsOk q)
+    → OnOk q (Codes a b xs)
     → OnOk r (Codes b c ys) → OnOk r (Codes a c (xs ++ ys))
 then_code (Ok y) (Ok x) a b c xs ys done h j = code_code a b c xs ys h j
 then_code (Err e) (Ok x) a b c xs ys done h j = absurd (false≢true done)
@@ -93,9 +103,16 @@ then_code q (Err e) a b c xs ys done h j = j
 
 -- the same code, said in another way
 pub codes_as : (a b : Front) (xs ys : List Lined) → xs ≡ ys → Codes a b xs → Codes a b ys
-codes_as a b xs ys e h = record { instrs = h.instrs ∙ ap (λ y. a.code ++ y) e; taken = h.taken; next_slot = h.next_slot; left = h.left; whole = h.whole }
+codes_as a b xs ys e h = record {
+  instrs = h.instrs ∙ ap (λ y. a.code ++ y) e;
+  taken = h.taken;
+  next_slot = h.next_slot;
+  left = h.left;
+  whole = h.whole;
+}
 
-pub code_adds : (a b c : Front) (xs : List Lined) (g : Code) (l : Slots) (q : Pass) → Codes a b xs → Adds b c g l q → Adds a c (λ at lo ls. xs ++ g (at + length xs) lo ls) l q
+pub code_adds : (a b c : Front) (xs : List Lined) (g : Code) (l : Slots) (q : Pass) → Codes a b xs → Adds b c g l q
+    → Adds a c (λ at lo ls. xs ++ g (at + length xs) lo ls) l q
 code_adds a b c xs g l q h j =
     let at = length a.code in
     let len : length b.code ≡ at + length xs = ap length h.instrs ∙ length-append a.code xs in
@@ -112,7 +129,8 @@ code_adds a b c xs g l q h j =
       whole = j.whole ∙ h.whole;
     }
 
-pub adds_code : (a b c : Front) (f : Code) (k : Slots) (p : Pass) (xs : List Lined) → Adds a b f k p → Codes b c xs → Adds a c (λ at lo ls. f at lo ls ++ xs) k p
+pub adds_code : (a b c : Front) (f : Code) (k : Slots) (p : Pass) (xs : List Lined) → Adds a b f k p → Codes b c xs
+    → Adds a c (λ at lo ls. f at lo ls ++ xs) k p
 adds_code a b c f k p xs h j = record {
   instrs = j.instrs ∙ ap (λ y. y ++ xs) h.instrs ∙ append_assoc a.code (f (length a.code) a.next a.lines) xs;
   taken = j.taken ∙ h.taken;
@@ -122,22 +140,32 @@ adds_code a b c f k p xs h j = record {
 }
 
 pub only_code : (a b : Front) (xs : List Lined) → Codes a b xs → Adds a b (λ at lo ls. xs) (λ ls. []) (λ ls. ls)
-only_code a b xs h = record { instrs = h.instrs; taken = h.taken ∙ sym (append-nil a.kinds); next_slot = omega (arith, h.next_slot); left = h.left; whole = h.whole }
+only_code a b xs h = record {
+  instrs = h.instrs;
+  taken = h.taken ∙ sym (append-nil a.kinds);
+  next_slot = omega (arith, h.next_slot);
+  left =
+      h.left;
+  whole = h.whole;
+}
 
-pub slot_adds : (a b c : Front) (kind : SlotKind) (g : Code) (l : Slots) (q : Pass) → Takes a b kind → Adds b c g l q → Adds a c (λ at lo ls. g at (lo + 1) ls) (λ ls. kind ∷ l ls) q
+pub slot_adds : (a b c : Front) (kind : SlotKind) (g : Code) (l : Slots) (q : Pass) → Takes a b kind → Adds b c g l q
+    → Adds a c (λ at lo ls. g at (lo + 1) ls) (λ ls. kind ∷ l ls) q
 slot_adds a b c kind g l q h j = record {
   instrs = j.instrs
       ∙ ap (λ y. y ++ g (length b.code) b.next b.lines) h.instrs
       ∙ ap (λ n. a.code ++ g n b.next b.lines) (ap length h.instrs)
       ∙ ap (λ n. a.code ++ g (length a.code) n b.lines) h.next_slot
       ∙ ap (λ n. a.code ++ g (length a.code) (a.next + 1) n) h.left;
-  taken = j.taken ∙ ap (λ y. y ++ l b.lines) h.taken ∙ ap (λ n. (a.kinds ++ kind ∷ []) ++ l n) h.left ∙ append_assoc a.kinds (kind ∷ []) (l a.lines);
+  taken = j.taken ∙ ap (λ y. y ++ l b.lines) h.taken ∙ ap (λ n. (a.kinds ++ kind ∷ []) ++ l n) h.left
+      ∙ append_assoc a.kinds (kind ∷ []) (l a.lines);
   next_slot = omega (arith, j.next_slot, h.next_slot, ap (λ n. length (l n)) h.left);
   left = j.left ∙ ap q h.left;
   whole = j.whole ∙ h.whole;
 }
 
-pub adds_slot : (a b c : Front) (f : Code) (k : Slots) (p : Pass) (kind : SlotKind) → Adds a b f k p → Takes b c kind → Adds a c f (λ ls. k ls ++ kind ∷ []) p
+pub adds_slot : (a b c : Front) (f : Code) (k : Slots) (p : Pass) (kind : SlotKind) → Adds a b f k p → Takes b c kind
+    → Adds a c f (λ ls. k ls ++ kind ∷ []) p
 adds_slot a b c f k p kind h j = record {
   instrs = j.instrs ∙ h.instrs;
   taken = j.taken ∙ ap (λ y. y ++ kind ∷ []) h.taken ∙ append_assoc a.kinds (k a.lines) (kind ∷ []);
@@ -147,10 +175,17 @@ adds_slot a b c f k p kind h j = record {
 }
 
 pub only_slot : (a b : Front) (kind : SlotKind) → Takes a b kind → Adds a b (λ at lo ls. []) (λ ls. kind ∷ []) (λ ls. ls)
-only_slot a b kind h = record { instrs = h.instrs ∙ sym (append-nil a.code); taken = h.taken; next_slot = h.next_slot; left = h.left; whole = h.whole }
+only_slot a b kind h = record {
+  instrs = h.instrs ∙ sym (append-nil a.code);
+  taken = h.taken;
+  next_slot = h.next_slot;
+  left = h.left;
+  whole = h.whole;
+}
 
 -- the address and the slot behind
-pub address_behind : (a b : Front) (f : Code) (k : Slots) (p : Pass) → Adds a b f k p → length b.code ≡ length a.code + length (f (length a.code) a.next a.lines)
+pub address_behind : (a b : Front) (f : Code) (k : Slots) (p : Pass) → Adds a b f k p
+    → length b.code ≡ length a.code + length (f (length a.code) a.next a.lines)
 address_behind a b f k p h = ap length h.instrs ∙ length-append a.code (f (length a.code) a.next a.lines)
 
 pub address_after : (a b : Front) (xs : List Lined) → Codes a b xs → length b.code ≡ length a.code + length xs
@@ -171,8 +206,10 @@ hole_put a b line at i here same h = record {
       ∙ sym (append_assoc a.code (own line (with_target i to ∷ [])) ys);
 }
 
-pub adds_holes : (a b c : Front) (f : Code) (k l : Slots) (p q : Pass) (aim : ℕ → List Lined → List Lined) (h : ℕ → Code) → Adds a b f k p → Holes b c aim h l q
-    → Holes a c aim (λ none at lo ls. f at lo ls ++ h none (at + length (f at lo ls)) (lo + length (k ls)) (p ls)) (λ ls. k ls ++ l (p ls)) (λ ls. q (p ls))
+pub adds_holes : (a b c : Front) (f : Code) (k l : Slots) (p q : Pass) (aim : ℕ → List Lined → List Lined) (h : ℕ → Code) → Adds a b f k p
+    → Holes b c aim h l q
+    → Holes a c aim (λ none at lo ls. f at lo ls ++ h none (at + length (f at lo ls)) (lo + length (k ls)) (p ls)) (λ ls. k ls ++ l (p ls))
+    (λ ls. q (p ls))
 adds_holes a b c f k l p q aim h x y =
     let at = length a.code in
     let lo = a.next in
@@ -188,7 +225,8 @@ adds_holes a b c f k l p q aim h x y =
           ∙ append_assoc a.code (f at lo ls) (h to (at + length (f at lo ls)) (lo + length (k ls)) (p ls)));
     }
 
-pub code_holes : (a b c : Front) (xs : List Lined) (l : Slots) (q : Pass) (aim : ℕ → List Lined → List Lined) (h : ℕ → Code) → Codes a b xs → Holes b c aim h l q
+pub code_holes : (a b c : Front) (xs : List Lined) (l : Slots) (q : Pass) (aim : ℕ → List Lined → List Lined) (h : ℕ → Code) → Codes a b xs
+    → Holes b c aim h l q
     → Holes a c aim (λ none at lo ls. xs ++ h none (at + length xs) lo ls) l q
 code_holes a b c xs l q aim h x y =
     let at = length a.code in
@@ -203,7 +241,8 @@ code_holes a b c xs l q aim h x y =
           ∙ append_assoc a.code xs (h to (at + length xs) a.next a.lines));
     }
 
-pub slot_holes : (a b c : Front) (kind : SlotKind) (l : Slots) (q : Pass) (aim : ℕ → List Lined → List Lined) (h : ℕ → Code) → Takes a b kind → Holes b c aim h l q
+pub slot_holes : (a b c : Front) (kind : SlotKind) (l : Slots) (q : Pass) (aim : ℕ → List Lined → List Lined) (h : ℕ → Code)
+    → Takes a b kind → Holes b c aim h l q
     → Holes a c aim (λ none at lo ls. h none at (lo + 1) ls) (λ ls. kind ∷ l ls) q
 slot_holes a b c kind l q aim h x y = record {
   all = slot_adds a b c kind (h 0) l q x y.all;
@@ -215,15 +254,18 @@ slot_holes a b c kind l q aim h x y = record {
 }
 
 -- what stands behind the target, where the code before it is as long whatever the target
-pub holes_adds : (a b c : Front) (k l : Slots) (p q : Pass) (aim : ℕ → List Lined → List Lined) (h : ℕ → Code) (g : Code) → Holes a b aim h k p → Adds b c g l q
-    → Holes a c aim (λ none at lo ls. h none at lo ls ++ g (at + length (h 0 at lo ls)) (lo + length (k ls)) (p ls)) (λ ls. k ls ++ l (p ls)) (λ ls. q (p ls))
+pub holes_adds : (a b c : Front) (k l : Slots) (p q : Pass) (aim : ℕ → List Lined → List Lined) (h : ℕ → Code) (g : Code)
+    → Holes a b aim h k p → Adds b c g l q
+    → Holes a c aim (λ none at lo ls. h none at lo ls ++ g (at + length (h 0 at lo ls)) (lo + length (k ls)) (p ls))
+    (λ ls. k ls ++ l (p ls)) (λ ls. q (p ls))
 holes_adds a b c k l p q aim h g x y =
     let at = length a.code in
     let lo = a.next in
     let ls = a.lines in
     let len : length b.code ≡ at + length (h 0 at lo ls) = address_behind a b _ _ _ x.all in
     let mine : g (length b.code) b.next b.lines ≡ g (at + length (h 0 at lo ls)) (lo + length (k ls)) (p ls) =
-    ap (λ n. g n b.next b.lines) len ∙ ap (λ n. g (at + length (h 0 at lo ls)) n b.lines) x.all.next_slot ∙ ap (g (at + length (h 0 at lo ls)) (lo + length (k ls))) x.all.left in
+    ap (λ n. g n b.next b.lines) len ∙ ap (λ n. g (at + length (h 0 at lo ls)) n b.lines) x.all.next_slot
+    ∙ ap (g (at + length (h 0 at lo ls)) (lo + length (k ls))) x.all.left in
     record {
       all = then_adds a b c (h 0) g k l p q x.all y;
       fills = λ to ys.
@@ -235,7 +277,8 @@ holes_adds a b c k l p q aim h g x y =
           ∙ ap (λ z. z ++ ys) (append_assoc a.code (h to at lo ls) (g (at + length (h 0 at lo ls)) (lo + length (k ls)) (p ls)));
     }
 
-pub holes_code : (a b c : Front) (k : Slots) (p : Pass) (aim : ℕ → List Lined → List Lined) (h : ℕ → Code) (xs : List Lined) → Holes a b aim h k p → Codes b c xs
+pub holes_code : (a b c : Front) (k : Slots) (p : Pass) (aim : ℕ → List Lined → List Lined) (h : ℕ → Code) (xs : List Lined)
+    → Holes a b aim h k p → Codes b c xs
     → Holes a c aim (λ none at lo ls. h none at lo ls ++ xs) k p
 holes_code a b c k p aim h xs x y =
     let at = length a.code in
@@ -250,16 +293,19 @@ holes_code a b c k p aim h xs x y =
     }
 
 pub holes_as : (a b : Front) (k l : Slots) (p q : Pass) (aim : ℕ → List Lined → List Lined) (h g : ℕ → Code) → Holes a b aim h k p
-    → ((to : ℕ) → h to (length a.code) a.next a.lines ≡ g to (length a.code) a.next a.lines) → k a.lines ≡ l a.lines → p a.lines ≡ q a.lines → Holes a b aim g l q
+    → ((to : ℕ) → h to (length a.code) a.next a.lines ≡ g to (length a.code) a.next a.lines) → k a.lines ≡ l a.lines → p a.lines ≡ q a.lines
+    → Holes a b aim g l q
 holes_as a b k l p q aim h g x e d c = record {
   all = adds_as a b _ _ _ _ _ _ x.all (e 0) d c;
   fills = λ to ys. x.fills to ys ∙ ap (λ z. (a.code ++ z) ++ ys) (e to);
 }
 
 -- what stands behind, and then the target, as far behind as is said
-pub filled : (a b c d : Front) (k l : Slots) (p q : Pass) (aim : ℕ → List Lined → List Lined) (h : ℕ → Code) (g : Code) (target : ℕ) (beyond : ℕ → ℕ)
+pub filled : (a b c d : Front) (k l : Slots) (p q : Pass) (aim : ℕ → List Lined → List Lined) (h : ℕ → Code) (g : Code) (target : ℕ)
+    (beyond : ℕ → ℕ)
     → Holes a b aim h k p → Adds b c g l q → Changes c d (aim target) → target ≡ beyond (length c.code)
-    → Adds a d (λ at lo ls. h (beyond (at + length (h 0 at lo ls) + length (g (at + length (h 0 at lo ls)) (lo + length (k ls)) (p ls)))) at lo ls ++ g (at + length (h 0 at lo ls)) (lo + length (k ls)) (p ls))
+    → Adds a d (λ at lo ls. h (beyond (at + length (h 0 at lo ls) + length (g (at + length (h 0 at lo ls)) (lo + length (k ls)) (p ls))))
+    at lo ls ++ g (at + length (h 0 at lo ls)) (lo + length (k ls)) (p ls))
     (λ ls. k ls ++ l (p ls)) (λ ls. q (p ls))
 filled a b c d k l p q aim h g target beyond x y z is =
     let at = length a.code in
@@ -269,7 +315,8 @@ filled a b c d k l p q aim h g target beyond x y z is =
     let len : length b.code ≡ at + length (h 0 at lo ls) = address_behind a b _ _ _ x.all in
     let inner = g (at + length (h 0 at lo ls)) (lo + length (k ls)) (p ls) in
     let mine : g (length b.code) b.next b.lines ≡ inner =
-    ap (λ n. g n b.next b.lines) len ∙ ap (λ n. g (at + length (h 0 at lo ls)) n b.lines) x.all.next_slot ∙ ap (g (at + length (h 0 at lo ls)) (lo + length (k ls))) x.all.left in
+    ap (λ n. g n b.next b.lines) len ∙ ap (λ n. g (at + length (h 0 at lo ls)) n b.lines) x.all.next_slot
+    ∙ ap (g (at + length (h 0 at lo ls)) (lo + length (k ls))) x.all.left in
     let ends : length c.code ≡ at + length (h 0 at lo ls) + length inner = omega (arith, address_behind b c _ _ _ y, len, ap length mine) in
     record {
       instrs = z.instrs ∙ ap (aim target) y.instrs ∙ x.fills target (g (length b.code) b.next b.lines)
@@ -283,9 +330,11 @@ filled a b c d k l p q aim h g target beyond x y z is =
     }
 
 -- a target that is aimed with nothing behind
-pub closed : (a b c : Front) (k : Slots) (p : Pass) (aim : ℕ → List Lined → List Lined) (h : ℕ → Code) (target : ℕ) → Holes a b aim h k p → Changes b c (aim target) → Adds a c (h target) k p
+pub closed : (a b c : Front) (k : Slots) (p : Pass) (aim : ℕ → List Lined → List Lined) (h : ℕ → Code) (target : ℕ) → Holes a b aim h k p
+    → Changes b c (aim target) → Adds a c (h target) k p
 closed a b c k p aim h target x y = record {
-  instrs = y.instrs ∙ ap (aim target) (sym (append-nil b.code)) ∙ x.fills target [] ∙ append-nil (a.code ++ h target (length a.code) a.next a.lines);
+  instrs = y.instrs ∙ ap (aim target) (sym (append-nil b.code)) ∙ x.fills target []
+      ∙ append-nil (a.code ++ h target (length a.code) a.next a.lines);
   taken = y.taken ∙ x.all.taken;
   next_slot = y.next_slot ∙ x.all.next_slot;
   left = y.left ∙ x.all.left;
@@ -293,10 +342,12 @@ closed a b c k p aim h target x y = record {
 }
 
 -- one instruction whose target is aimed behind what follows
-pub over : (a b c d : Front) (line at target : ℕ) (i : Instr) (g : Code) (l : Slots) (q : Pass) (beyond : ℕ → ℕ) → at ≡ length a.code → with_target i 0 ≡ i → Codes a b (own line (i ∷ []))
+pub over : (a b c d : Front) (line at target : ℕ) (i : Instr) (g : Code) (l : Slots) (q : Pass) (beyond : ℕ → ℕ) → at ≡ length a.code
+    → with_target i 0 ≡ i → Codes a b (own line (i ∷ []))
     → Adds b c g l q → Changes c d (λ xs. aimed xs at target) → target ≡ beyond (length c.code)
     → Adds a d (λ at lo ls. own line (with_target i (beyond (at + 1 + length (g (at + 1) lo ls))) ∷ []) ++ g (at + 1) lo ls) l q
 over a b c d line at target i g l q beyond here same h j k is =
     let same_slot : a.next + 0 ≡ a.next = omega arith in
     adds_as a d _ _ _ _ _ _ (filled a b c d _ _ _ _ (λ to xs. aimed xs at to) _ g target beyond (hole_put a b line at i here same h) j k is)
-    (ap (λ n. own line (with_target i (beyond (length a.code + 1 + length (g (length a.code + 1) n a.lines))) ∷ []) ++ g (length a.code + 1) n a.lines) same_slot) refl refl
+    (ap (λ n. own line (with_target i (beyond (length a.code + 1 + length (g (length a.code + 1) n a.lines))) ∷ [])
+    ++ g (length a.code + 1) n a.lines) same_slot) refl refl

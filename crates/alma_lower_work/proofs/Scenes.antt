@@ -8,7 +8,8 @@ use Rattle.alma_lower_work.specs.declared.scene.Scene.{Scene}
 use Rattle.alma_lower_work.specs.Front.{around}
 
 -- a routine that the program has
-pub routine_found : (s : Scene) (rs : List Routine) (r : ℕ) (x : Routine) → rs ≡ s.program.now.routines.items → r < length rs → x ≡ get_or rs r x
+pub routine_found : (s : Scene) (rs : List Routine) (r : ℕ) (x : Routine) → rs ≡ s.program.now.routines.items → r < length rs
+    → x ≡ get_or rs r x
     → routine_of x ≡ routine_at (around s).program r
 unfolding around
 routine_found s rs r x are lt is =

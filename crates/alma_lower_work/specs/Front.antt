@@ -30,11 +30,19 @@ pub record Front : Type 0 where
   pub all_lines : List ℕ
 
 unfoldable pub front : Work → Front
-front w = record { code = made w.emit; next = w.emit.next; kinds = w.emit.kinds.items; lines = drop w.handed w.lines.items; all_lines = w.lines.items }
+front w = record {
+  code = made w.emit;
+  next = w.emit.next;
+  kinds = w.emit.kinds.items;
+  lines = drop w.handed w.lines.items;
+  all_lines =
+      w.lines.items;
+}
 
 -- b is a with this code behind its own, given its address, the next slot and the lines; with these slots; and
 -- with the lines that are left
-pub record Adds (a b : Front) (code : (at lo : ℕ) → (ls : List ℕ) → List Lined) (slots : (ls : List ℕ) → List SlotKind) (pass : (ls : List ℕ) → List ℕ) : Type 0 where
+pub record Adds (a b : Front) (code : (at lo : ℕ) → (ls : List ℕ) → List Lined) (slots : (ls : List ℕ) → List SlotKind)
+    (pass : (ls : List ℕ) → List ℕ) : Type 0 where
   pub instrs : b.code ≡ a.code ++ code (length a.code) a.next a.lines
   pub taken : b.kinds ≡ a.kinds ++ slots a.lines
   pub next_slot : b.next ≡ a.next + length (slots a.lines)
@@ -66,7 +74,8 @@ pub record Changes (a b : Front) (change : List Lined → List Lined) : Type 0 w
   pub whole : b.all_lines ≡ a.all_lines
 
 -- Code with a target that is still to be aimed, which is 0 until then; whatever stands behind, the change aims it.
-pub record Holes (a b : Front) (aim : (to : ℕ) → List Lined → List Lined) (code : (none at lo : ℕ) → (ls : List ℕ) → List Lined) (slots : (ls : List ℕ) → List SlotKind) (pass : (ls : List ℕ) → List ℕ) : Type 0 where
+pub record Holes (a b : Front) (aim : (to : ℕ) → List Lined → List Lined) (code : (none at lo : ℕ) → (ls : List ℕ) → List Lined)
+    (slots : (ls : List ℕ) → List SlotKind) (pass : (ls : List ℕ) → List ℕ) : Type 0 where
   pub all : Adds a b (code 0) slots pass
   pub fills : (to : ℕ) (ys : List Lined) → aim to (b.code ++ ys) ≡ (a.code ++ code to (length a.code) a.next a.lines) ++ ys
 

@@ -105,23 +105,30 @@ decreases-test::emit_not g l = 16 * (test_nodes (test_of l.test.now)) + 1
 
 abbrev pub invariant-call::emit_args-loop-arg : goal.invariant-call::emit_args-loop-arg
 invariant-call::emit_args-loop-arg g l =
-    (c : Front) → PutsArgs (around l.scene) l.line l.slot (front l.work) c (args_list (drop l.arg-index l.args)) → PutsArgs (around l.scene) l.line l.to (front l.fn.work) c (args_list l.args)
+    (c : Front) → PutsArgs (around l.scene) l.line l.slot (front l.work) c (args_list (drop l.arg-index l.args))
+    → PutsArgs (around l.scene) l.line l.to (front l.fn.work) c (args_list l.args)
 
 abbrev pub invariant-designator::emit_sels-loop-sel : goal.invariant-designator::emit_sels-loop-sel
 invariant-designator::emit_sels-loop-sel g l = record {
-  part : part_at (around l.scene).program (around l.scene).tables (around l.scene).routine l.from (front l.fn.work).next (sels_with (sels_list l.sels) (front l.fn.work).lines)
-      ≡ part_at (around l.scene).program (around l.scene).tables (around l.scene).routine l.place (front l.work).next (sels_with (sels_list (drop l.sel-index l.sels)) (front l.work).lines);
-  completes : (c : Front) → PutsSels (around l.scene) l.line l.place (front l.work) c (sels_list (drop l.sel-index l.sels)) → PutsSels (around l.scene) l.line l.from (front l.fn.work) c (sels_list l.sels);
+  part : part_at (around l.scene).program (around l.scene).tables (around l.scene).routine l.from (front l.fn.work).next
+      (sels_with (sels_list l.sels) (front l.fn.work).lines)
+      ≡ part_at (around l.scene).program (around l.scene).tables (around l.scene).routine l.place (front l.work).next
+      (sels_with (sels_list (drop l.sel-index l.sels)) (front l.work).lines);
+  completes : (c : Front) → PutsSels (around l.scene) l.line l.place (front l.work) c (sels_list (drop l.sel-index l.sels))
+      → PutsSels (around l.scene) l.line l.from (front l.fn.work) c (sels_list l.sels);
 }
 
 abbrev pub invariant-expression::emit_links-loop-link : goal.invariant-expression::emit_links-loop-link
 invariant-expression::emit_links-loop-link g l =
-    (c : Front) → PutsLinks (around l.scene) l.line l.left l.first.to (front l.work) c (links_list (drop l.link-index l.links)) → PutsLinks (around l.scene) l.line l.first.from l.first.to (front l.fn.work) c (links_list l.links)
+    (c : Front) → PutsLinks (around l.scene) l.line l.left l.first.to (front l.work) c (links_list (drop l.link-index l.links))
+    → PutsLinks (around l.scene) l.line l.first.from l.first.to (front l.fn.work) c (links_list l.links)
 
 abbrev pub invariant-test::emit_and-loop-test : goal.invariant-test::emit_and-loop-test
 invariant-test::emit_and-loop-test g l =
-    (c : Front) → PutsAnd (around l.scene) l.line (front l.work) c (tests_list (drop l.test-index l.tests)) → PutsAnd (around l.scene) l.line (front l.fn.work) c (tests_list l.tests)
+    (c : Front) → PutsAnd (around l.scene) l.line (front l.work) c (tests_list (drop l.test-index l.tests))
+    → PutsAnd (around l.scene) l.line (front l.fn.work) c (tests_list l.tests)
 
 abbrev pub invariant-test::emit_operands-loop-i : goal.invariant-test::emit_operands-loop-i
 invariant-test::emit_operands-loop-i g l =
-    (c : Front) → PutsOperands (around l.scene) l.line l.exit (front l.work) c (tests_list (drop l.i l.tests)) → PutsOperands (around l.scene) l.line l.exit (front l.fn.work) c (tests_list (drop 1 l.tests))
+    (c : Front) → PutsOperands (around l.scene) l.line l.exit (front l.work) c (tests_list (drop l.i l.tests))
+    → PutsOperands (around l.scene) l.line l.exit (front l.fn.work) c (tests_list (drop 1 l.tests))

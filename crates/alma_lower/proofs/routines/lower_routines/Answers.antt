@@ -12,13 +12,15 @@ use Rattle.alma_lower.proofs.routines.lower_routines.Goals as goal
 
 pub lower_routine-requires : goal.lower_routine-requires
 lower_routine-requires c =
-    let lt : c.loop-i.i < length (map routine_of c.args.program.now.routines.items) = omega (arith, c.loop-i-test.true, length-map c.args.program.now.routines.items routine_of) in
+    let lt : c.loop-i.i < length (map routine_of c.args.program.now.routines.items) =
+    omega (arith, c.loop-i-test.true, length-map c.args.program.now.routines.items routine_of) in
     record { exists = scene_exists _ (program_of c.args.program.now) (tables_of c.args.numbers.now) c.loop-i.i c.in_ok-scene.ensures lt }
 
 pub loop-i-preserved : goal.loop-i-preserved
 loop-i-preserved c =
     let one = c.in_ok-lower_routine.ensures in
-    routine_made _ (program_of c.args.program.now) (tables_of c.args.numbers.now) c.loop-i.i _ _ _ _ _ c.in_ok-scene.ensures c.in_ok-push.ensures.items c.loop-i.invariant one.code one.names one.head
+    routine_made _ (program_of c.args.program.now) (tables_of c.args.numbers.now) c.loop-i.i _ _ _ _ _ c.in_ok-scene.ensures
+    c.in_ok-push.ensures.items c.loop-i.invariant one.code one.names one.head
 
 pub loop-i-init : goal.loop-i-init
 unfolding front
@@ -29,11 +31,28 @@ unfolding front
 returns-clause-code c =
     let p = program_of c.args.program.now in
     let items = c.args.program.now.routines.items in
-    let whole : c.loop-i.i ≡ length (map routine_of items) = omega (arith, c.loop-i-test.false, c.loop-i.auto.i-end, c.len-i-end.ensures, c.args.program.now.routines.ok.0, length-map items routine_of) in
+    let whole : c.loop-i.i ≡ length (map routine_of items) =
+    omega (
+      arith,
+      c.loop-i-test.false,
+      c.loop-i.auto.i-end,
+      c.len-i-end.ensures,
+      c.args.program.now.routines.ok.0,
+      length-map items routine_of,
+    ) in
     c.loop-i.invariant.code_is ∙ ap (λ n. routines_code p (tables_of c.args.numbers.now) 0 n 0) whole
 
 pub returns-clause-heads : goal.returns-clause-heads
 returns-clause-heads c =
     let items = c.args.program.now.routines.items in
-    let whole : c.loop-i.i ≡ length (map routine_of items) = omega (arith, c.loop-i-test.false, c.loop-i.auto.i-end, c.len-i-end.ensures, c.args.program.now.routines.ok.0, length-map items routine_of) in
-    subst (λ n. AreHeads (program_of c.args.program.now) (tables_of c.args.numbers.now) n (map code.routine_of c.loop-i.heads.items)) whole c.loop-i.invariant.heads
+    let whole : c.loop-i.i ≡ length (map routine_of items) =
+    omega (
+      arith,
+      c.loop-i-test.false,
+      c.loop-i.auto.i-end,
+      c.len-i-end.ensures,
+      c.args.program.now.routines.ok.0,
+      length-map items routine_of,
+    ) in
+    subst (λ n. AreHeads (program_of c.args.program.now) (tables_of c.args.numbers.now) n (map code.routine_of c.loop-i.heads.items)) whole
+    c.loop-i.invariant.heads

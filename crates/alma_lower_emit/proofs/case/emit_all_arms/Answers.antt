@@ -7,7 +7,18 @@ use Rattle.alma_lower_parts.proofs.Arms.{all_none}
 use Rattle.alma_lower_emit.proofs.case.emit_all_arms.Goals as goal
 
 pub returns-then-first-arms : goal.returns-then-first-arms
-returns-then-first-arms g c = record { puts = λ test. on_ok c.emit_else.result (λ h. c.in_ok-first.ensures (around c.args.scene.now) c.args.line _ _ _ _ (all_is (around c.args.scene.now) c.args.line _ _ _ _ _ _ _ (ap cases_list (sym (drop_of_length-le c.args.arms.now c.if-first-arms.true))) (all_none (around c.args.scene.now) c.args.line _ _ _ _ _ h))) c.emit_else.ensures.puts }
+returns-then-first-arms g c = record {
+  puts =
+      λ test. on_ok c.emit_else.result (λ h. c.in_ok-first.ensures (around c.args.scene.now) c.args.line _ _ _ _
+      (all_is (around c.args.scene.now) c.args.line _ _ _ _ _ _ _
+      (ap cases_list (sym (drop_of_length-le c.args.arms.now c.if-first-arms.true)))
+      (all_none (around c.args.scene.now) c.args.line _ _ _ _ _ h))) c.emit_else.ensures.puts;
+}
 
 pub returns : goal.returns
-returns g c = record { puts = λ test. on_ok c.emit_labelled.result (λ h. c.in_ok-first.ensures (around c.args.scene.now) c.args.line _ _ _ _ (all_is (around c.args.scene.now) c.args.line _ _ _ _ _ _ _ (ap cases_list (slice_rest c.args.arms.now c.in_ok-first.first)) h)) (c.emit_labelled.ensures.puts test) }
+returns g c = record {
+  puts = λ test. on_ok c.emit_labelled.result
+      (λ h. c.in_ok-first.ensures (around c.args.scene.now) c.args.line _ _ _ _
+      (all_is (around c.args.scene.now) c.args.line _ _ _ _ _ _ _ (ap cases_list (slice_rest c.args.arms.now c.in_ok-first.first)) h))
+      (c.emit_labelled.ensures.puts test);
+}

@@ -11,6 +11,8 @@ returns-then-not-has_dead g c = record { puts = no_dead_put (around c.args.scene
 pub returns : goal.returns
 returns g c =
     record {
-      puts = from_both c.end_dead.result c.end_dead.ensures.done c.end_dead.ensures.ends (λ ok e. dead_joined (around c.args.scene.now) c.args.line _ _ _ _ _ _ _ _ (sym c.if-not-has_dead.ensures) c.position-before.ensures c.in_ok-over.ensures.address c.in_ok-over.ensures.codes
+      puts = from_both c.end_dead.result c.end_dead.ensures.done c.end_dead.ensures.ends
+          (λ ok e. dead_joined (around c.args.scene.now) c.args.line _ _ _ _ _ _ _ _ (sym c.if-not-has_dead.ensures)
+          c.position-before.ensures c.in_ok-over.ensures.address c.in_ok-over.ensures.codes
           (said c.emit_dead_bodies-done.result ok c.emit_dead_bodies-done.ensures.puts) e.code e.kinds e.next e.lines e.whole e.aims);
     }

@@ -13,8 +13,15 @@ loop-arm-init g c = λ e h. h
 pub loop-arm-preserved : goal.loop-arm-preserved
 loop-arm-preserved g c =
     let l = c.loop-arm in
-    let one : cases_list (drop l.arm-index c.args.arms.now) ≡ tree.more_cases c.arm-item.result.labels.items (stmts_list c.arm-item.result.body.items) (cases_list (drop (l.arm-index + 1) c.args.arms.now)) = ap cases_list (drop_one c.args.arms.now l.arm-index c.arm-item.result c.loop-arm-test.true c.arm-item.is) in
+    let one : cases_list (drop l.arm-index c.args.arms.now) ≡ tree.more_cases c.arm-item.result.labels.items
+    (stmts_list c.arm-item.result.body.items) (cases_list (drop (l.arm-index + 1) c.args.arms.now)) =
+    ap cases_list (drop_one c.args.arms.now l.arm-index c.arm-item.result c.loop-arm-test.true c.arm-item.is) in
     λ e h. l.invariant e (bodies_is (around c.args.scene.now) 0 _ _ _ _ (sym one) (c.in_ok-emit_dead_body.ensures.puts e _ h))
 
 pub returns : goal.returns
-returns g c = record { puts = c.loop-arm.invariant _ (bodies_is (around c.args.scene.now) 0 _ _ _ _ (ap cases_list (sym (drop_of_length-le c.args.arms.now (omega (arith, c.loop-arm-test.false))))) (no_bodies_put (around c.args.scene.now) 0 _)) }
+returns g c = record {
+  puts = c.loop-arm.invariant _
+      (bodies_is (around c.args.scene.now) 0 _ _ _ _
+      (ap cases_list (sym (drop_of_length-le c.args.arms.now (omega (arith, c.loop-arm-test.false)))))
+      (no_bodies_put (around c.args.scene.now) 0 _));
+}

@@ -8,8 +8,15 @@ use Rattle.alma_lower_emit.proofs.case.emit_else.Goals as goal
 
 pub returns-in-Some : goal.returns-in-Some
 returns-in-Some g c =
-    let view : else_option c.args.rest.now ≡ tree.else_part (stmts_list c.deref.result.now) = ap else_option c.in-Some.is ∙ ap (λ x. tree.else_part (stmts_list x)) (sym c.deref.ensures.value) in
-    record { puts = else_as c.emit_inside.result (around c.args.scene.now) c.args.line _ _ _ _ view (on_ok c.emit_inside.result (else_put (around c.args.scene.now) c.args.line _ _ _) c.emit_inside.ensures.puts) }
+    let view : else_option c.args.rest.now ≡ tree.else_part (stmts_list c.deref.result.now) = ap else_option c.in-Some.is
+    ∙ ap (λ x. tree.else_part (stmts_list x)) (sym c.deref.ensures.value) in
+    record {
+      puts = else_as c.emit_inside.result (around c.args.scene.now) c.args.line _ _ _ _ view
+          (on_ok c.emit_inside.result (else_put (around c.args.scene.now) c.args.line _ _ _) c.emit_inside.ensures.puts);
+    }
 
 pub returns-in-None : goal.returns-in-None
-returns-in-None g c = record { puts = else_as c.add.result (around c.args.scene.now) c.args.line _ _ _ _ (ap else_option c.in-None.is) (on_ok c.add.result (no_else_put (around c.args.scene.now) c.args.line _ _) c.add.ensures) }
+returns-in-None g c = record {
+  puts = else_as c.add.result (around c.args.scene.now) c.args.line _ _ _ _ (ap else_option c.in-None.is)
+      (on_ok c.add.result (no_else_put (around c.args.scene.now) c.args.line _ _) c.add.ensures);
+}

@@ -6,4 +6,5 @@ use Rattle.alma_lower_emit.proofs.choice.emit_branches.Given as goal
 
 abbrev pub invariant-loop-i : goal.invariant-loop-i
 invariant-loop-i g l =
-    (c : Front) → PutsBranches (around l.scene) l.line l.exit (front l.work) c (branches_list (drop l.i l.branches)) → PutsBranches (around l.scene) l.line l.exit (front l.fn.work) c (branches_list (drop 1 l.branches))
+    (c : Front) → PutsBranches (around l.scene) l.line l.exit (front l.work) c (branches_list (drop l.i l.branches))
+    → PutsBranches (around l.scene) l.line l.exit (front l.fn.work) c (branches_list (drop 1 l.branches))

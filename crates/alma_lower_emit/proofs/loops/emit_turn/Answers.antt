@@ -15,8 +15,10 @@ returns g c =
         e = _;
         count = _;
         stand = _;
-        checked = count_lined (around c.args.scene.now) c.args.line _ _ c.args.each.now.range c.args.counter (desig_of c.args.each.now.var) c.in_ok-count.ensures.puts;
-        count_slot = count_at_lined (around c.args.scene.now) c.args.line (front c.args.work.now) c.args.counter _ (desig_of c.args.each.now.var) c.in_ok-count.ensures.count;
+        checked = count_lined (around c.args.scene.now) c.args.line _ _ c.args.each.now.range c.args.counter (desig_of c.args.each.now.var)
+            c.in_ok-count.ensures.puts;
+        count_slot = count_at_lined (around c.args.scene.now) c.args.line (front c.args.work.now) c.args.counter _
+            (desig_of c.args.each.now.var) c.in_ok-count.ensures.count;
         located = c.in_ok-stand.ensures.puts;
         stands = c.in_ok-stand.ensures.stand;
         set = codes_is _ _ c.args.line _ _ c.set.ensures c.in_ok-add.ensures;

@@ -11,4 +11,10 @@ returns-clause-first c =
     ∙ first_is (around c.args.scene.now) c.args.called c.args.up _ _ _ (c.in_ok-to.ensures.first ∙ c.in_ok-link.ensures.puts.next_slot)
 
 pub returns-clause-begins : goal.returns-clause-begins
-returns-clause-begins c = record { b = _; link = c.in_ok-link.ensures.puts; slots = c.in_ok-to.ensures.puts; to_slot = c.in_ok-to.ensures.first }
+returns-clause-begins c = record {
+  b = _;
+  link = c.in_ok-link.ensures.puts;
+  slots = c.in_ok-to.ensures.puts;
+  to_slot =
+      c.in_ok-to.ensures.first;
+}

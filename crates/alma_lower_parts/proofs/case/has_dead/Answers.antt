@@ -16,12 +16,15 @@ some n h = grind (arith, nat_tests)
 pub returns-then-is_empty : goal.returns-then-is_empty
 returns-then-is_empty c =
     let arm = c.arm-item.result in
-    sym (dead_here c.args.arms.now c.loop-arm.arm-index arm c.loop-arm-test.true c.arm-item.is (omega (arith, none _ c.if-is_empty.ensures, arm.labels.ok.0))) ∙ c.loop-arm.invariant
+    sym (dead_here c.args.arms.now c.loop-arm.arm-index arm c.loop-arm-test.true c.arm-item.is
+    (omega (arith, none _ c.if-is_empty.ensures, arm.labels.ok.0))) ∙ c.loop-arm.invariant
 
 pub loop-arm-preserved : goal.loop-arm-preserved
 loop-arm-preserved c =
     let arm = c.arm-item.result in
-    dead_behind c.args.arms.now c.loop-arm.arm-index arm c.loop-arm-test.true c.arm-item.is (omega (arith, some _ c.if-is_empty.ensures, arm.labels.ok.0)) ∙ c.loop-arm.invariant
+    dead_behind c.args.arms.now c.loop-arm.arm-index arm c.loop-arm-test.true c.arm-item.is
+    (omega (arith, some _ c.if-is_empty.ensures, arm.labels.ok.0)) ∙ c.loop-arm.invariant
 
 pub returns : goal.returns
-returns c = sym (ap (λ xs. has_dead (cases_list xs)) (drop_of_length-le c.args.arms.now (omega (arith, c.loop-arm-test.false)))) ∙ c.loop-arm.invariant
+returns c = sym (ap (λ xs. has_dead (cases_list xs)) (drop_of_length-le c.args.arms.now (omega (arith, c.loop-arm-test.false))))
+    ∙ c.loop-arm.invariant

@@ -8,5 +8,7 @@ use Rattle.alma_lower_parts.proofs.choice.begin_first.Goals as goal
 pub returns-clause-holes : goal.returns-clause-holes
 unfolding front
 returns-clause-holes c =
-    both_ok c.begin_first.result (λ r h j. hole_among (front c.args.work.now) (front (record { emit = c.begin_first.new.self; lines = c.args.work.now.lines; handed = c.args.work.now.handed })) c.args.line r.1 (λ lo. I.Mark lo ∷ []) (λ lo. []) (λ lo. I.Choose 0) (slot.Mark ∷ [])
+    both_ok c.begin_first.result (λ r h j. hole_among (front c.args.work.now)
+    (front (record { emit = c.begin_first.new.self; lines = c.args.work.now.lines; handed = c.args.work.now.handed })) c.args.line r.1
+    (λ lo. I.Mark lo ∷ []) (λ lo. []) (λ lo. I.Choose 0) (slot.Mark ∷ [])
     j.instrs j.kinds j.next refl refl (h) refl) c.begin_first.ensures.choice c.begin_first.ensures.puts

@@ -8,5 +8,7 @@ use Rattle.alma_lower_parts.proofs.choice.begin_forall.Goals as goal
 pub returns-clause-holes : goal.returns-clause-holes
 unfolding front
 returns-clause-holes c =
-    both_ok c.begin_forall.result (λ r h j. hole_among (front c.args.work.now) (front (record { emit = c.begin_forall.new.self; lines = c.args.work.now.lines; handed = c.args.work.now.handed })) c.args.line r.1 (λ lo. []) (λ lo. []) (λ lo. I.Forall lo 0) (slot.Mark ∷ [])
+    both_ok c.begin_forall.result (λ r h j. hole_among (front c.args.work.now)
+    (front (record { emit = c.begin_forall.new.self; lines = c.args.work.now.lines; handed = c.args.work.now.handed })) c.args.line r.1
+    (λ lo. []) (λ lo. []) (λ lo. I.Forall lo 0) (slot.Mark ∷ [])
     j.instrs j.kinds j.next refl refl (h ∙ sym (add-zero _)) refl) c.begin_forall.ensures.forall c.begin_forall.ensures.puts

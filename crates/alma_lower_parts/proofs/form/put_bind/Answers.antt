@@ -5,4 +5,5 @@ use Rattle.alma_lower_work.proofs.Joins.{on_ok_map}
 use Rattle.alma_lower_parts.proofs.form.put_bind.Goals as goal
 
 pub returns : goal.returns
-returns c = on_ok_map c.add.result (codes_is _ _ c.args.line _ _ (ap (I.Bind c.args.place c.args.value) c.in_ok-range.ensures)) c.add.ensures
+returns c = on_ok_map c.add.result (codes_is _ _ c.args.line _ _ (ap (I.Bind c.args.place c.args.value) c.in_ok-range.ensures))
+    c.add.ensures

@@ -7,5 +7,6 @@ pub returns-clause-puts : goal.returns-clause-puts
 returns-clause-puts c = record {
   b = _;
   takes = c.in_ok-to.ensures.takes;
-  codes = codes_is _ _ c.args.line _ _ (ap (I.Index c.in_ok-to.to c.args.from c.args.index) c.in_ok-range.ensures) c.in_ok-put.ensures.codes;
+  codes = codes_is _ _ c.args.line _ _ (ap (I.Index c.in_ok-to.to c.args.from c.args.index) c.in_ok-range.ensures)
+      c.in_ok-put.ensures.codes;
 }

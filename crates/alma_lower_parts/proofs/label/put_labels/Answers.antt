@@ -1,4 +1,5 @@
-use Rattle.std.proofs.Common.{◌≡◌, ◌∙◌, suc, ◌+◌, ◌-◌, ◌<◌, ◌≤◌, [], ◌∷◌, pos, length, drop, get_or, refl, ap, sym, subst, arith, length-drop, drop-cons, add-one}
+use Rattle.std.proofs.Common.{◌≡◌, ◌∙◌, suc, ◌+◌, ◌-◌, ◌<◌, ◌≤◌, [], ◌∷◌, pos, length, drop, get_or, refl, ap, sym, subst, arith}
+use Rattle.std.proofs.Common.{length-drop, drop-cons, add-one}
 use Rattle.std.proofs.Math.ListN.{drop_of_length-le}
 use Rattle.alma_base.specs.declared.number.Range.{Range}
 use Rattle.alma_choice.specs.Emitted.{aimed}
@@ -20,8 +21,11 @@ loop-i-preserved c = λ test e aim h.
     let xs = c.args.ranges.now in
     let lt : l.i < length xs = omega (arith, c.loop-i-test.true) in
     let some : 0 < length (drop (l.i + 1) xs) = omega (arith, c.loop-i-test.true, length-drop (l.i + 1) xs) in
-    let one : drop l.i xs ≡ get_or xs l.i no_range ∷ drop (l.i + 1) xs = drop-cons xs l.i no_range lt ∙ ap (λ n. get_or xs l.i no_range ∷ drop n xs) (sym (add-one l.i)) in
-    l.invariant test e aim (subst (λ z. Holes (front l.work) e aim (λ none at lo ls. own c.args.line (all_labels c.args.labels.value c.args.labels.bound at c.in_ok-hit.hit none z)) (λ ls. []) (λ ls. ls)) (sym one)
+    let one : drop l.i xs ≡ get_or xs l.i no_range ∷ drop (l.i + 1) xs = drop-cons xs l.i no_range lt
+    ∙ ap (λ n. get_or xs l.i no_range ∷ drop n xs) (sym (add-one l.i)) in
+    l.invariant test e aim (subst
+    (λ z. Holes (front l.work) e aim (λ none at lo ls. own c.args.line
+    (all_labels c.args.labels.value c.args.labels.bound at c.in_ok-hit.hit none z)) (λ ls. []) (λ ls. ls)) (sym one)
     (more_labels _ _ _ c.args.line _ _ _ aim (get_or xs l.i no_range) (drop (l.i + 1) xs) some (c.in_ok-put_label.ensures test) h))
 
 pub returns-clause-holes : goal.returns-clause-holes
@@ -33,7 +37,12 @@ returns-clause-holes c = λ test.
     let lt : length xs - 1 < length xs = omega (arith, some_elements _ c.if-is_empty.ensures) in
     let le : length xs ≤ suc (length xs - 1) = omega arith in
     let none : drop (suc (length xs - 1)) xs ≡ [] = drop_of_length-le xs le in
-    let one : drop l.i xs ≡ get_or xs (length xs - 1) no_range ∷ [] = ap (λ n. drop n xs) at ∙ drop-cons xs (length xs - 1) no_range lt ∙ ap (λ ys. get_or xs (length xs - 1) no_range ∷ ys) none in
+    let one : drop l.i xs ≡ get_or xs (length xs - 1) no_range ∷ [] = ap (λ n. drop n xs) at ∙ drop-cons xs (length xs - 1) no_range lt
+    ∙ ap (λ ys. get_or xs (length xs - 1) no_range ∷ ys) none in
     if_ok c.put_last_label.result (λ miss h. holes_as _ _ _ _ _ _ (λ to xs. aimed (aimed xs miss.low to) miss.high to) _ _
-    (l.invariant test _ (λ to xs. aimed (aimed xs miss.low to) miss.high to) (subst (λ z. Holes (front l.work) (front c.put_last_label.new.work) (λ to xs. aimed (aimed xs miss.low to) miss.high to) (λ none at lo ls. own c.args.line (all_labels c.args.labels.value c.args.labels.bound at c.in_ok-hit.hit none z)) (λ ls. []) (λ ls. ls)) (sym one) h))
-    (λ to. ap (λ n. own c.args.line (all_labels c.args.labels.value c.args.labels.bound (length (front c.args.work.now).code) n to xs)) c.in_ok-hit.ensures) refl refl) (c.put_last_label.ensures test)
+    (l.invariant test _ (λ to xs. aimed (aimed xs miss.low to) miss.high to)
+    (subst (λ z. Holes (front l.work) (front c.put_last_label.new.work) (λ to xs. aimed (aimed xs miss.low to) miss.high to)
+    (λ none at lo ls. own c.args.line (all_labels c.args.labels.value c.args.labels.bound at c.in_ok-hit.hit none z)) (λ ls. [])
+    (λ ls. ls)) (sym one) h))
+    (λ to. ap (λ n. own c.args.line (all_labels c.args.labels.value c.args.labels.bound (length (front c.args.work.now).code) n to xs))
+    c.in_ok-hit.ensures) refl refl) (c.put_last_label.ensures test)

@@ -11,5 +11,7 @@ returns c =
     let same : to_z w64 (of_z w64 c.args.value) ≡ c.args.value = to_z-of_z w64 c.args.value (search rules) in
     record {
       slot = c.in_ok-to.ensures.slot;
-      puts = expr_is (around c.args.scene.now) c.args.line _ _ _ _ (ap tree.Const same) (const_put (around c.args.scene.now) c.args.line _ _ _ _ _ c.in_ok-to.ensures.takes c.in_ok-to.ensures.slot c.in_ok-put.ensures.codes);
+      puts = expr_is (around c.args.scene.now) c.args.line _ _ _ _ (ap tree.Const same)
+          (const_put (around c.args.scene.now) c.args.line _ _ _ _ _ c.in_ok-to.ensures.takes c.in_ok-to.ensures.slot
+          c.in_ok-put.ensures.codes);
     }

@@ -9,4 +9,5 @@ pub returns-clause-holes : goal.returns-clause-holes
 returns-clause-holes c =
     let bounds = c.args.bounds in
     let same : to_z w64 (of_z w64 c.args.by) ≡ c.args.by = to_z-of_z w64 c.args.by (search rules) in
-    holes_as _ _ _ _ _ _ _ _ _ c.in_ok-jump.ensures (λ to. ap (λ b. own c.args.line (bounds_code b bounds.counter bounds.limit bounds.first bounds.last to)) same) refl refl
+    holes_as _ _ _ _ _ _ _ _ _ c.in_ok-jump.ensures
+    (λ to. ap (λ b. own c.args.line (bounds_code b bounds.counter bounds.limit bounds.first bounds.last to)) same) refl refl

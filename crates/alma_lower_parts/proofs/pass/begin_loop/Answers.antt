@@ -12,5 +12,10 @@ returns-clause-begins c =
       b = _;
       passed = c.in_ok-pass_desig.ensures;
       step_slot = c.in_ok-counts.ensures.step;
-      puts = record { b = puts.b; takes = puts.takes; codes = codes_is _ _ c.args.line _ _ (ap (I.Const c.in_ok-counts.counts.step) same) puts.codes };
+      puts = record {
+        b = puts.b;
+        takes = puts.takes;
+        codes =
+            codes_is _ _ c.args.line _ _ (ap (I.Const c.in_ok-counts.counts.step) same) puts.codes;
+      };
     }

@@ -9,5 +9,7 @@ use Rattle.alma_lower_parts.proofs.pass.pass_unlabelled.Given as goal
 abbrev pub invariant-loop-arm : goal.invariant-loop-arm
 invariant-loop-arm l = record {
   count : l.first ≡ l.arm-index;
-  completes : (s : Around) (line value bound : ℕ) (c : Front) (rest : Else) → PutsAllArms s line value bound (front l.work) c (cases_list (drop l.arm-index l.arms)) rest → PutsAllArms s line value bound (front l.fn.work) c (cases_list l.arms) rest;
+  completes : (s : Around) (line value bound : ℕ) (c : Front) (rest : Else)
+      → PutsAllArms s line value bound (front l.work) c (cases_list (drop l.arm-index l.arms)) rest
+      → PutsAllArms s line value bound (front l.fn.work) c (cases_list l.arms) rest;
 }

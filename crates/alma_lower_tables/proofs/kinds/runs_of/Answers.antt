@@ -20,9 +20,11 @@ loop-i-preserved c =
     let more = front_one [] c.args.kinds.now l.i slot.Number lt in
     elim c.if-is_same.branch [
       | then-is_same w ↦
-          moved _ _ _ _ _ _ (ap (λ (v : Vec Run Global). v.items) w.runs-is) w.latest-is more (opens_same l.runs.items l.latest _ x l.invariant (c.is_same.ensures.same w.if-is_same.true))
+          moved _ _ _ _ _ _ (ap (λ (v : Vec Run Global). v.items) w.runs-is) w.latest-is more
+          (opens_same l.runs.items l.latest _ x l.invariant (c.is_same.ensures.same w.if-is_same.true))
       | else-is_same+in_ok-push w ↦
-          moved _ _ _ _ _ _ (ap (λ (v : Vec Run Global). v.items) w.runs-is ∙ w.in_ok-push.ensures.items) w.latest-is more (opens_other l.runs.items l.latest _ x l.invariant (c.is_same.ensures.different w.if-is_same.false))
+          moved _ _ _ _ _ _ (ap (λ (v : Vec Run Global). v.items) w.runs-is ∙ w.in_ok-push.ensures.items) w.latest-is more
+          (opens_other l.runs.items l.latest _ x l.invariant (c.is_same.ensures.different w.if-is_same.false))
     ]
 
 pub returns : goal.returns

@@ -9,4 +9,5 @@ use Rattle.alma_lower_tables.specs.Walked.{Walked}
 use Rattle.alma_lower_tables.proofs.program.add_bodies.Given as goal
 
 abbrev pub invariant-loop-routine : goal.invariant-loop-routine
-invariant-loop-routine l = Walked (tables_of l.fn.numbers) (tables_of l.numbers) (of_each (λ r. stmts_phrases r.body) (map routine_of (take l.routine-index l.routine-items)))
+invariant-loop-routine l = Walked (tables_of l.fn.numbers) (tables_of l.numbers)
+    (of_each (λ r. stmts_phrases r.body) (map routine_of (take l.routine-index l.routine-items)))

@@ -8,4 +8,5 @@ use Rattle.alma_lower_tables.specs.Walked.{Names, checked_result}
 use Rattle.alma_lower_tables.proofs.program.add_results.Given as goal
 
 abbrev pub invariant-loop-routine : goal.invariant-loop-routine
-invariant-loop-routine l = Names (tables_of l.fn.numbers) (tables_of l.numbers) (of_each (λ r. checked_result r.result) (map routine_of (take l.routine-index l.routine-items))) []
+invariant-loop-routine l = Names (tables_of l.fn.numbers) (tables_of l.numbers)
+    (of_each (λ r. checked_result r.result) (map routine_of (take l.routine-index l.routine-items))) []

@@ -7,4 +7,10 @@ returns c =
     let p = program_of c.args.program.now in
     let ranges = all_ranges_are p _ _ _ c.new-numbers.ensures.ranges c.in_ok-add_bodies.ensures c.in_ok-add_results.ensures in
     let texts = all_texts_are p _ _ _ c.new-numbers.ensures.texts c.in_ok-add_bodies.ensures c.in_ok-add_results.ensures in
-    record { holds = holds_all p _ ranges texts; ranges = some_ranges p _ ranges texts; texts = some_texts p _ ranges texts; integers = all_integers p _ _ c.in_ok-add_bodies.ensures }
+    record {
+      holds = holds_all p _ ranges texts;
+      ranges = some_ranges p _ ranges texts;
+      texts = some_texts p _ ranges texts;
+      integers =
+          all_integers p _ _ c.in_ok-add_bodies.ensures;
+    }

@@ -16,7 +16,8 @@ loop-one-preserved c =
       | then-line-before+in_ok-push w ↦
           subst (λ v. Told v.items c.if-line-before.before (l.one-index + 1) (l.at + 1) placed) (sym w.lines-is)
           (subst (λ s. Told s c.if-line-before.before (l.one-index + 1) (l.at + 1) placed) (sym w.in_ok-push.ensures.items)
-          (subst (λ n. Told (l.lines.items ++ record { at = l.at; line = x.1 } ∷ []) n (l.one-index + 1) (l.at + 1) placed) (sym w.before-is)
+          (subst (λ n. Told (l.lines.items ++ record { at = l.at; line = x.1 } ∷ []) n (l.one-index + 1) (l.at + 1) placed)
+          (sym w.before-is)
           (told_other l.lines.items l.before l.one-index l.at placed x one w.if-line-before.true l.invariant)))
       | else-line-before w ↦
           subst (λ v. Told v.items c.if-line-before.before (l.one-index + 1) (l.at + 1) placed) (sym w.lines-is)
@@ -25,4 +26,5 @@ loop-one-preserved c =
     ]
 
 pub returns : goal.returns
-returns c = told_all c.loop-one.lines.items c.loop-one.before c.loop-one.one-index c.loop-one.at c.args.placed.now c.loop-one-test.false c.loop-one.invariant
+returns c = told_all c.loop-one.lines.items c.loop-one.before c.loop-one.one-index c.loop-one.at c.args.placed.now c.loop-one-test.false
+    c.loop-one.invariant

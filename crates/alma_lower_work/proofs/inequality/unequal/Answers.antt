@@ -8,7 +8,8 @@ use Rattle.alma_lower_work.proofs.inequality.unequal.Goals as goal
 
 pub returns-in-Unequal : goal.returns-in-Unequal
 returns-in-Unequal c =
-    ap expr_of c.in-Compare.is ∙ Views.compare_view _ _ _ ∙ ap (λ how. Compare how (expr_of c.in-Compare.left.value) (expr_of c.in-Compare.right.value)) c.in-Unequal.is
+    ap expr_of c.in-Compare.is ∙ Views.compare_view _ _ _
+    ∙ ap (λ how. Compare how (expr_of c.in-Compare.left.value) (expr_of c.in-Compare.right.value)) c.in-Unequal.is
     ∙ ap (λ x. Compare cmp.Unequal (expr_of x) (expr_of c.in-Compare.right.value)) (sym c.deref.ensures)
     ∙ ap (λ x. Compare cmp.Unequal (expr_of c.deref.result.now) (expr_of x)) (sym c.deref-in-Unequal.ensures)
 

@@ -8,7 +8,8 @@ unfolding around
 loop-init c = record {
   routine = refl;
   link = c.in_ok-link.ensures.slot ∙ sym (add-zero _);
-  puts = links_start (around c.args.scene.now) c.args.line _ _ _ _ c.in_ok-link.ensures.takes c.in_ok-link.ensures.slot c.in_ok-put.ensures.codes;
+  puts = links_start (around c.args.scene.now) c.args.line _ _ _ _ c.in_ok-link.ensures.takes c.in_ok-link.ensures.slot
+      c.in_ok-put.ensures.codes;
 }
 
 pub loop-preserved : goal.loop-preserved
@@ -19,5 +20,6 @@ loop-preserved c =
     record {
       routine = out;
       link = next_link s c.args.line _ _ l.counter _ l.invariant.puts c.in_ok-next.ensures.slot;
-      puts = links_step s c.args.line _ _ _ _ l.counter l.link _ _ l.invariant.puts l.invariant.link out c.in_ok-next.ensures.takes c.in_ok-next.ensures.slot c.in_ok-put-2.ensures.codes;
+      puts = links_step s c.args.line _ _ _ _ l.counter l.link _ _ l.invariant.puts l.invariant.link out c.in_ok-next.ensures.takes
+          c.in_ok-next.ensures.slot c.in_ok-put-2.ensures.codes;
     }

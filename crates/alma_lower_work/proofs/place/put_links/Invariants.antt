@@ -10,5 +10,6 @@ abbrev pub invariant-loop : goal.invariant-loop
 invariant-loop l = record {
   routine : l.routine ≡ outer_at (around l.scene).program (around l.scene).routine l.counter;
   link : l.link ≡ (front l.fn.work).next + l.counter;
-  puts : Adds (front l.fn.work) (front l.work) (λ at lo ls. own l.line (link_code lo l.counter)) (λ ls. chain_slots (around l.scene).program (around l.scene).routine l.counter) (λ ls. ls);
+  puts : Adds (front l.fn.work) (front l.work) (λ at lo ls. own l.line (link_code lo l.counter))
+      (λ ls. chain_slots (around l.scene).program (around l.scene).routine l.counter) (λ ls. ls);
 }

@@ -14,7 +14,8 @@ use Rattle.alma_lower_work.proofs.simple.+simple.Goals as goal
 links_from : (xs : List Link) (i : ℕ) (x : Link) (b : Bool) → i < length xs → x ≡ get_or xs i x → b ≡ is_simple_expr (expr_of x.operand)
     → (b && are_simple_links (links_list (drop (i + 1) xs))) ≡ are_simple_links (links_list (drop i xs))
 links_from xs i x b lt is h =
-    ap (λ y. y && are_simple_links (links_list (drop (i + 1) xs))) h ∙ sym (ap (λ l. are_simple_links (links_list l)) (drop_one xs i x lt is))
+    ap (λ y. y && are_simple_links (links_list (drop (i + 1) xs))) h
+    ∙ sym (ap (λ l. are_simple_links (links_list l)) (drop_one xs i x lt is))
 
 -- the selectors from one on: that one, and those behind it
 sels_from : (xs : List Sel) (i : ℕ) (x : Sel) (b : Bool) → i < length xs → x ≡ get_or xs i x → b ≡ is_simple_sel (sel_of x)
@@ -41,11 +42,13 @@ are_simple_sels-loop-sel-init t c = refl
 
 pub are_simple_sels-returns-then-not-is_simple_sel : goal.are_simple_sels-returns-then-not-is_simple_sel
 are_simple_sels-returns-then-not-is_simple_sel t c =
-    sels_from _ _ _ false c.loop-sel-test.true c.sel-item.is (sym c.if-not-is_simple_sel.true ∙ c.is_simple_sel.ensures) ∙ c.loop-sel.invariant
+    sels_from _ _ _ false c.loop-sel-test.true c.sel-item.is (sym c.if-not-is_simple_sel.true ∙ c.is_simple_sel.ensures)
+    ∙ c.loop-sel.invariant
 
 pub are_simple_sels-loop-sel-preserved : goal.are_simple_sels-loop-sel-preserved
 are_simple_sels-loop-sel-preserved t c =
-    sels_from _ _ _ true c.loop-sel-test.true c.sel-item.is (sym c.if-not-is_simple_sel.false ∙ c.is_simple_sel.ensures) ∙ c.loop-sel.invariant
+    sels_from _ _ _ true c.loop-sel-test.true c.sel-item.is (sym c.if-not-is_simple_sel.false ∙ c.is_simple_sel.ensures)
+    ∙ c.loop-sel.invariant
 
 pub are_simple_sels-returns : goal.are_simple_sels-returns
 are_simple_sels-returns t c = sym (ap (λ l. are_simple_sels (sels_list l)) (drop_all _ _ c.loop-sel-test.false)) ∙ c.loop-sel.invariant
@@ -84,23 +87,31 @@ is_simple_sel-returns-in-Index t c =
 pub is_simple-returns-then-is_simple : goal.is_simple-returns-then-is_simple
 is_simple-returns-then-is_simple t c =
     let view = ap (λ e. is_simple_expr (expr_of e)) c.in-Chain.is ∙ ap is_simple_expr (Views.chain_view _ _ _) in
-    let first : is_simple_expr (expr_of c.in-Chain.first.value) ≡ true = ap (λ x. is_simple_expr (expr_of x)) (sym c.deref-in-Chain.ensures) ∙ sym c.is_simple.ensures ∙ c.if-is_simple.true in
-    c.are_simple_links.ensures ∙ ap (λ x. are_simple_links (links_list x)) c.deref-then-is_simple.ensures.value ∙ sym (view ∙ ap (λ b. b && are_simple_links (links_list c.in-Chain.links.items)) first)
+    let first : is_simple_expr (expr_of c.in-Chain.first.value) ≡ true = ap (λ x. is_simple_expr (expr_of x)) (sym c.deref-in-Chain.ensures)
+    ∙ sym c.is_simple.ensures ∙ c.if-is_simple.true in
+    c.are_simple_links.ensures ∙ ap (λ x. are_simple_links (links_list x)) c.deref-then-is_simple.ensures.value
+    ∙ sym (view ∙ ap (λ b. b && are_simple_links (links_list c.in-Chain.links.items)) first)
 
 pub is_simple-returns-else-is_simple : goal.is_simple-returns-else-is_simple
 is_simple-returns-else-is_simple t c =
     let view = ap (λ e. is_simple_expr (expr_of e)) c.in-Chain.is ∙ ap is_simple_expr (Views.chain_view _ _ _) in
-    let first : is_simple_expr (expr_of c.in-Chain.first.value) ≡ false = ap (λ x. is_simple_expr (expr_of x)) (sym c.deref-in-Chain.ensures) ∙ sym c.is_simple.ensures ∙ c.if-is_simple.false in
+    let first : is_simple_expr (expr_of c.in-Chain.first.value) ≡ false =
+    ap (λ x. is_simple_expr (expr_of x)) (sym c.deref-in-Chain.ensures) ∙ sym c.is_simple.ensures ∙ c.if-is_simple.false in
     c.if-is_simple.false ∙ sym (view ∙ ap (λ b. b && are_simple_links (links_list c.in-Chain.links.items)) first)
 
 pub is_simple-returns-then-is_simple-2 : goal.is_simple-returns-then-is_simple-2
 is_simple-returns-then-is_simple-2 t c =
     let view = ap (λ e. is_simple_expr (expr_of e)) c.in-Compare.is ∙ ap is_simple_expr (Views.compare_view _ _ _) in
-    let first : is_simple_expr (expr_of c.in-Compare.left.value) ≡ true = ap (λ x. is_simple_expr (expr_of x)) (sym c.deref-in-Compare.ensures) ∙ sym c.is_simple-in-Compare.ensures ∙ c.if-is_simple-2.true in
-    c.is_simple-then-is_simple-2.ensures ∙ ap (λ x. is_simple_expr (expr_of x)) c.deref-then-is_simple-2.ensures ∙ sym (view ∙ ap (λ b. b && is_simple_expr (expr_of c.in-Compare.right.value)) first)
+    let first : is_simple_expr (expr_of c.in-Compare.left.value) ≡ true =
+    ap (λ x. is_simple_expr (expr_of x)) (sym c.deref-in-Compare.ensures) ∙ sym c.is_simple-in-Compare.ensures
+    ∙ c.if-is_simple-2.true in
+    c.is_simple-then-is_simple-2.ensures ∙ ap (λ x. is_simple_expr (expr_of x)) c.deref-then-is_simple-2.ensures
+    ∙ sym (view ∙ ap (λ b. b && is_simple_expr (expr_of c.in-Compare.right.value)) first)
 
 pub is_simple-returns-else-is_simple-2 : goal.is_simple-returns-else-is_simple-2
 is_simple-returns-else-is_simple-2 t c =
     let view = ap (λ e. is_simple_expr (expr_of e)) c.in-Compare.is ∙ ap is_simple_expr (Views.compare_view _ _ _) in
-    let first : is_simple_expr (expr_of c.in-Compare.left.value) ≡ false = ap (λ x. is_simple_expr (expr_of x)) (sym c.deref-in-Compare.ensures) ∙ sym c.is_simple-in-Compare.ensures ∙ c.if-is_simple-2.false in
+    let first : is_simple_expr (expr_of c.in-Compare.left.value) ≡ false =
+    ap (λ x. is_simple_expr (expr_of x)) (sym c.deref-in-Compare.ensures) ∙ sym c.is_simple-in-Compare.ensures
+    ∙ c.if-is_simple-2.false in
     c.if-is_simple-2.false ∙ sym (view ∙ ap (λ b. b && is_simple_expr (expr_of c.in-Compare.right.value)) first)

@@ -8,7 +8,8 @@ returns-then-not-is_empty c = selected _ c.args.desig.now.root c.args.desig.now.
 
 pub returns-in_ok-own_slot-in-Local : goal.returns-in_ok-own_slot-in-Local
 returns-in_ok-own_slot-in-Local c =
-    own_alone _ c.args.desig.now.root c.args.desig.now.cells c.args.desig.now.sels.items _ _ c.in-Local.is (search rules) c.in_ok-own_slot-in-Local.ensures
+    own_alone _ c.args.desig.now.root c.args.desig.now.cells c.args.desig.now.sels.items _ _ c.in-Local.is (search rules)
+    c.in_ok-own_slot-in-Local.ensures
 
 pub returns-in-Global : goal.returns-in-Global
 returns-in-Global c = elsewhere _ c.args.desig.now.root _ _ c.in-Global.is

@@ -13,7 +13,8 @@ pub returns-in-Load : goal.returns-in-Load
 returns-in-Load c = ap not c.is_own.ensures ∙ sym (ap (λ e. ends_alone (expr_of e)) c.in-Load.is ∙ ap ends_alone (Views.load_view _))
 
 pub returns-in-Chain : goal.returns-in-Chain
-returns-in-Chain c = operator _ _ _ (omega (arith, c.in-Chain.links.ok)) c.is_empty.ensures ∙ sym (ap (λ e. ends_alone (expr_of e)) c.in-Chain.is ∙ ap ends_alone (Views.chain_view _ _ _))
+returns-in-Chain c = operator _ _ _ (omega (arith, c.in-Chain.links.ok)) c.is_empty.ensures
+    ∙ sym (ap (λ e. ends_alone (expr_of e)) c.in-Chain.is ∙ ap ends_alone (Views.chain_view _ _ _))
 
 pub returns-in-Compare : goal.returns-in-Compare
 returns-in-Compare c = ends_not _ c.in-Compare.is

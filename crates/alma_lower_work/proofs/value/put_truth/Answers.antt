@@ -7,7 +7,8 @@ use Rattle.alma_lower_work.proofs.value.put_truth.Goals as goal
 
 pub returns : goal.returns
 returns c =
-    on_ok_map c.then_add.result (codes_as _ _ _ _ (ap (λ at. own c.args.line (I.Const c.args.to (pos 1) ∷ I.Jump at ∷ I.Const c.args.to (pos 0) ∷ []))
+    on_ok_map c.then_add.result (codes_as _ _ _ _
+    (ap (λ at. own c.args.line (I.Const c.args.to (pos 1) ∷ I.Jump at ∷ I.Const c.args.to (pos 0) ∷ []))
     c.in_ok-behind.ensures))
     (then_code _ c.then_add.result _ _ _ _ _ c.then_add.ensures.done
     (then_code _ c.then_add-past.result _ _ _ _ _ c.then_add-past.ensures.done c.add-yes.ensures c.then_add-past.ensures.codes)

@@ -7,7 +7,8 @@ use Rattle.alma_choice.proofs.emit.Emit.aim.Goals as goal
 pub returns-then-at-len : goal.returns-then-at-len
 returns-then-at-len c = record {
   aims = record {
-    instrs = sym (aimed_out (made c.args.self.now) c.args.at c.args.target (omega (arith, made_long c.args.self.now, c.if-at-len.true, c.len.ensures)));
+    instrs = sym (aimed_out (made c.args.self.now) c.args.at c.args.target
+        (omega (arith, made_long c.args.self.now, c.if-at-len.true, c.len.ensures)));
     kinds = refl;
     next = refl;
   };

@@ -10,4 +10,5 @@ returns-clause-puts c =
     let line = c.args.line in
     let all = take_all l.i c.args.instrs.now (omega (arith, c.loop-i-test.false)) in
     puts_all c.args.self.now l.self line c.args.instrs.now
-    (subst (λ (instrs : List Instr). l.self.code.items ≡ c.args.self.now.code.items ++ map (λ i. (i, line)) instrs) all l.invariant.code) l.invariant.kinds l.invariant.next
+    (subst (λ (instrs : List Instr). l.self.code.items ≡ c.args.self.now.code.items ++ map (λ i. (i, line)) instrs) all l.invariant.code)
+    l.invariant.kinds l.invariant.next

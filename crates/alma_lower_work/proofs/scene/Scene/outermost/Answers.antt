@@ -8,4 +8,5 @@ unfolding around
 loop-init c = refl
 
 pub loop-preserved : goal.loop-preserved
-loop-preserved c = outer_step (around c.args.self.now) 0 c.loop.counter c.loop.routine c.outer-routine.result c.loop.invariant c.outer-routine.ensures
+loop-preserved c = outer_step (around c.args.self.now) 0 c.loop.counter c.loop.routine c.outer-routine.result c.loop.invariant
+    c.outer-routine.ensures

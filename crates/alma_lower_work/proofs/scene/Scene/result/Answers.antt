@@ -8,7 +8,8 @@ pub returns-in-Some : goal.returns-in-Some
 unfolding around
 returns-in-Some c =
     let found = c.in-Some.ensures.lookup in
-    ap (λ (x : Routine). x.result) (routine_found c.args.self.now _ c.args.self.now.routine c.in-Some.routine.now c.deref.ensures.value found.3.0 found.1)
+    ap (λ (x : Routine). x.result) (routine_found c.args.self.now _ c.args.self.now.routine c.in-Some.routine.now c.deref.ensures.value
+    found.3.0 found.1)
 
 pub returns-in-None : goal.returns-in-None
 unfolding around

@@ -7,4 +7,11 @@ pub returns : goal.returns
 unfolding front
 returns c =
     let all = c.args.self.now.lines.items in
-    record { instrs = refl; taken = refl; next_slot = refl; left = ap (λ n. drop n all) (search rules) ∙ drop_two c.args.self.now.handed c.args.count all; whole = refl }
+    record {
+      instrs = refl;
+      taken = refl;
+      next_slot = refl;
+      left = ap (λ n. drop n all) (search rules)
+          ∙ drop_two c.args.self.now.handed c.args.count all;
+      whole = refl;
+    }
