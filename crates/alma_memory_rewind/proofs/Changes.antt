@@ -1,6 +1,6 @@
 -- What each call keeps.
 use Rattle.std.proofs.Common.{◌≡◌, ◌⊎◌, inl, inr, ℕ, suc, zero, ◌≤◌, ◌<◌, ◌+◌, ◌-◌, Bool, true, false, ◌||◌, nat_lt, nat_le, List, [], ◌∷◌, ◌++◌, length, take, drop, get_or, set, refl, sym, ap, subst, ◌∙◌, arith, min}
-use Rattle.std.proofs.lemmas.List.{set-set, set-get_or, length-set, length_push, map-append, take-append-le, length-take-le, length-take, take-take, take-set-le, drop-append-le, take-map, drop_all, get_or-set_same, get_or-set_other, get_or_past, get_or_push, get_or_append_left, get_or-take}
+use Rattle.std.proofs.lemmas.List.{get_or_read, set-set, set-get_or, length-set, length_push, map-append, take-append-le, length-take-le, length-take, take-take, take-set-le, drop-append-le, take-map, drop_all, get_or-set_same, get_or-set_other, get_or_past, get_or_push, get_or_append_left, get_or-take}
 use Rattle.std.proofs.lemmas.Bool.{cases_eq, cases_lt, false≢true}
 use Rattle.std.proofs.lemmas.Bool.Decides.{nat_tests}
 use Rattle.alma_memory_rewind.specs.declared.rewind.Note.{Note}
@@ -71,6 +71,13 @@ flag-within ms stamps k h = by_cases (cases_lt k (length stamps))
     by_cases : (k < length stamps) ⊎ (length stamps ≤ k) → k < length stamps
     by_cases (inl l) = l
     by_cases (inr g) = absurd (false≢true (sym (get_or_past (free_from ms 0 stamps) k false (rw (length-free ms 0 stamps) g)) ∙ h))
+
+-- a place that is noted is seen to be so by its stamp
+pub free-read : (ms shown : List Mark) (stamps : List ℕ) (k s : ℕ) → shown ≡ ms → s ≡ get_or stamps k s → get_or (free_from ms 0 stamps) k false ≡ true → is_free shown k s ≡ true
+free-read ms shown stamps k s e g h =
+    let l : k < length stamps = flag-within ms stamps k h in
+    let st : s ≡ get_or stamps k 0 = get_or_read stamps k s l g 0 in
+    ap (λ ns. is_free ns k s) e ∙ (ap (is_free ms k) st ∙ (sym (flag ms stamps k l) ∙ h))
 
 pub adds-free : (ms : List Mark) (stamps : List ℕ) (k : ℕ) → k < length stamps → is_free ms k (get_or stamps k 0) ≡ true → AddsNoted ms stamps stamps k
 adds-free ms stamps k l f = record { noted = flag ms stamps k l ∙ f; kept = λ p h. h }
