@@ -168,7 +168,7 @@ fn note_old<T: Copy>(
     ensures keeps { (counter : ℕ)
         → IsSound marks.now trail.old.items items.now stamps.old.items counter
         → Keeps marks.now trail.old.items trail.new.items items.now items.now stamps.new.items
-            counter }
+        counter }
     ensures noted { AddsNoted marks.now stamps.old.items stamps.new.items at }
     ensures len { vec_len trail.new ≡ vec_len trail.old + (if free then 0 else 1) }
     ensures capacity { vec_capacity trail.new ≡ vec_capacity trail.old }
