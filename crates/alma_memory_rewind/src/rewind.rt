@@ -1,5 +1,5 @@
 // A list, its copies as marks, and the trail.
-ghost use Rattle.std.specs.Prelude.{◌≡◌, ℕ, ◌+◌, ◌-◌, ◌<◌, ◌≤◌, [], ◌∷◌, ◌++◌, length, take, drop, set, slice_get, slice_index_or, Some, true, false, is_ok, IsOk, OnOk, OnErr, IfOk, IsTrue, if◌then◌else◌, vec_len, vec_capacity};
+ghost use Rattle.std.specs.Prelude.{◌≡◌, ℕ, ◌+◌, ◌-◌, ◌<◌, ◌≤◌, [], ◌∷◌, ◌++◌, length, take, drop, set, replicate, slice_get, slice_index_or, Some, true, false, is_ok, IsOk, OnOk, OnErr, IfOk, IsTrue, if◌then◌else◌, vec_len, vec_capacity};
 ghost use Rattle.std.specs.BTreeMap.{get};
 ghost use Rattle.std.specs.Ordering.{nat_cmp};
 ghost use Rattle.alma_memory_rewind.specs.Rewound.{IsOlds, needed, top_copy};
@@ -330,6 +330,25 @@ fn push_both<T: Copy>(items: &mut Vec<T>, stamps: &mut Vec<usize>, value: T)
     stamps.push_reserved(0);
 }
 
+// Pushes items and their stamps, for which there is room.
+#[inline(always)]
+fn push_all<T: Copy>(items: &mut Vec<T>, stamps: &mut Vec<usize>, more: &[T])
+    requires wide { length stamps.old.items ≡ length items.old.items }
+    requires items { vec_len items.old + length more.now ≤ vec_capacity items.old }
+    requires stamps { vec_len stamps.old + length more.now ≤ vec_capacity stamps.old }
+    ensures items { items.new.items ≡ items.old.items ++ more.now }
+    ensures stamps { stamps.new.items ≡ stamps.old.items ++ replicate (length more.now) 0 }
+{
+    match items.extend_from_slice(more) {
+        Ok(()) => (),
+        Err(_) => unreachable!(),
+    }
+    match stamps.resize(items.len(), 0) {
+        Ok(()) => (),
+        Err(_) => unreachable!(),
+    }
+}
+
 impl<T: Copy> Rewind<T> {
     /// No item and no copy.
     pub fn new(alloc: Global) -> Rewind<T>
@@ -519,6 +538,22 @@ impl<T: Copy> Rewind<T> {
         room_for_one(&mut self.items)?;
         room_for_one(&mut self.stamps)?;
         push_both(&mut self.items, &mut self.stamps, value);
+        Ok(())
+    }
+
+    /// Pushes items, which need no note until a copy is made.
+    pub fn extend(&mut self, more: &[T]) -> Result<(), NoMemory>
+        ensures now { self.new.now
+            ≡ (if is_ok result then self.old.now ++ more.now else self.old.now) }
+        ensures held { self.new.held ≡ self.old.held }
+        ensures noted { self.new.noted ≡ (if is_ok result
+            then self.old.noted ++ replicate (length more.now) true else self.old.noted) }
+        ensures choice_room { self.new.choice_room ≡ self.old.choice_room }
+        ensures trail_room { self.new.trail_room ≡ self.old.trail_room }
+    {
+        self.items.reserve(more.len())?;
+        self.stamps.reserve(more.len())?;
+        push_all(&mut self.items, &mut self.stamps, more);
         Ok(())
     }
 
