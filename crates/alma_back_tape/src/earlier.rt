@@ -2,12 +2,12 @@
 ghost use Rattle.std.specs.Prelude.{◌≡◌, ◌+◌, ◌<◌, ◌≤◌, ◌∷◌, [], ◌++◌, length, drop, true, IfOk, slice_index_or};
 ghost use Rattle.alma_base.specs.Limits.{frame_limit};
 ghost use Rattle.alma_code.specs.Picture.{no_frame, frames_with_cell, without_last};
-ghost use Rattle.alma_code.specs.Carries.{diffs, diff_at, slot_diffs, same_cell};
+ghost use Rattle.alma_code.specs.Carries.{diffs, diff_at, slot_diffs};
 ghost use Rattle.alma_memory_store.specs.Carries.{carry_of_entries};
 ghost use Rattle.alma_memory_store.specs.Frames.{AreLive, AreWhole};
 ghost use Rattle.alma_back_tape.specs.Inner.Past.{Fits, Undoes};
 ghost use Rattle.alma_memory_store.specs.Numbers.{number_of};
-ghost use Rattle.alma_memory_store.specs.Past.{SameGain, change_between};
+ghost use Rattle.alma_memory_store.specs.Past.{SameGain};
 ghost use Rattle.alma_back_tape.specs.Inner.Earlier.{over, diffs_at, diffs_between};
 ghost use Rattle.alma_back_tape.specs.Inner.Reel.{undo, unwind};
 
@@ -16,7 +16,7 @@ use crate::frame::Frame;
 use crate::frames::Frames;
 use alma_base::NoMemory;
 use alma_code::Cell;
-use alma_memory_store::{Carry, SlotPlace};
+use alma_memory_store::{Carry, SlotPlace, changed_to};
 use std::alloc::Global;
 use std::marker::Model;
 
@@ -236,23 +236,6 @@ fn laid_over(number: Option<Cell>, cell: Option<Cell>) -> Option<Cell>
     match (number, cell) {
         (Some(_), Some(laid)) => Some(laid),
         (number, _) => number,
-    }
-}
-
-// Whether two cells are equal.
-fn is_same_cell(a: Cell, b: Cell) -> bool
-    ensures { result ≡ same_cell a b }
-{
-    a == b
-}
-
-// What a number slot changed to.
-fn changed_to(before: Option<Cell>, now: Option<Cell>) -> Option<Cell>
-    ensures { result ≡ change_between before now }
-{
-    match (before, now) {
-        (Some(old), Some(new)) if !is_same_cell(old, new) => Some(new),
-        _ => None,
     }
 }
 

@@ -1,3 +1,4 @@
 -- Definitions of contracts between the functions of this crate; no reader above it has to believe them.
 pub mod Gain
+pub mod Late
 pub mod Stack

@@ -1,6 +1,7 @@
 //! The memory of the machine: a stack of whole copies of the frames, kept as one store that goes back.
 #![tactic(auto)]
 
+mod late_carry;
 pub mod laws;
 mod machine_memory;
 mod memory;

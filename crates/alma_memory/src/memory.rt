@@ -12,7 +12,7 @@ ghost use Rattle.alma_memory.specs.Refusals.{HasFrameRoom, RefusesFor};
 use crate::stack::{Entry, cut_to, keep_top, lay, lay_top, pop_entry, push_entry};
 use alma_base::{CELL_LIMIT, FRAME_LIMIT, NoMemory};
 use alma_code::{Cell, ChoiceKind, Head, SlotKind};
-use alma_memory_store::{Store, put_call, put_start};
+use alma_memory_store::{Slot, Store, put_call, put_start};
 use std::alloc::Global;
 use std::marker::Model;
 
@@ -40,8 +40,8 @@ pub struct Memory {
     alloc: Global,
     store: Store,
     entries: Vec<Entry>,
-    // For the frame that is entered.
-    kinds: Vec<SlotKind>,
+    // For the frame that is entered, and for its arguments.
+    slots: Vec<Slot>,
     cells: Vec<Cell>,
 }
 
@@ -74,16 +74,15 @@ impl Memory {
         ensures now { IfOk result (λ memory. memory.now ≡ start_frame (H.head head.now) ∷ []) }
         ensures held { IfOk result (λ memory. memory.held ≡ []) }
     {
-        let mut kinds = Vec::new(alloc);
-        let mut cells = Vec::new(alloc);
-        put_start(&mut kinds, &mut cells, head)?;
-        let store = Store::start(alloc, head.declared(), kinds.as_slice(), cells.as_slice())?;
+        let mut slots = Vec::new(alloc);
+        put_start(&mut slots, head)?;
+        let store = Store::start(alloc, head.declared(), slots.as_slice())?;
         Ok(Memory {
             alloc,
             store,
             entries: Vec::new(alloc),
-            kinds,
-            cells,
+            slots: Vec::new(alloc),
+            cells: Vec::new(alloc),
         })
     }
 
@@ -201,6 +200,30 @@ impl Memory {
         self.store.write_top(slot as usize, cell)
     }
 
+    /// Writes a cell, if that takes no memory. Else it answers false, and nothing has happened.
+    #[inline(always)]
+    pub fn write_within(&mut self, frame: u32, slot: u32, cell: Cell) -> bool
+        requires live { frame < length self.old.now }
+        requires slot_of { slot < length (slice_index_or self.old.now frame no_frame).cells }
+        ensures now { self.new.now ≡ (if result then frames_with_cell self.old.now frame slot cell
+            else self.old.now) }
+        ensures held { self.new.held ≡ self.old.held }
+    {
+        self.store.write_within(frame as usize, slot as usize, cell)
+    }
+
+    /// Writes into a slot of the top frame, if that takes no memory. Else it answers false, and nothing has happened.
+    #[inline(always)]
+    pub fn put_within(&mut self, slot: u32, cell: Cell) -> bool
+        requires { slot < length (last_frame self.old.now).cells }
+        ensures now { self.new.now ≡ (if result then frames_with_cell self.old.now
+            (length self.old.now - 1) slot cell else
+            self.old.now) }
+        ensures held { self.new.held ≡ self.old.held }
+    {
+        self.store.write_top_within(slot as usize, cell)
+    }
+
     /// Pushes a frame, laid out by its head and its arguments.
     pub fn enter<H: Head>(
         &mut self,
@@ -235,19 +258,13 @@ impl Memory {
         if head.declared() > CELL_LIMIT - self.store.declared() {
             return Err(EnterError::CellsFull);
         }
-        if put_call(&mut self.kinds, &mut self.cells, &self.store, head, args).is_err() {
+        if put_call(&mut self.slots, &mut self.cells, &self.store, head, args).is_err() {
             return Err(EnterError::Memory);
         }
-        let declared = head.declared();
+        let slots = self.slots.as_slice();
         if self
             .store
-            .enter(
-                routine,
-                ret,
-                declared,
-                self.kinds.as_slice(),
-                self.cells.as_slice(),
-            )
+            .enter(routine, ret, head.declared(), slots)
             .is_err()
         {
             return Err(EnterError::Memory);
@@ -290,7 +307,7 @@ impl Memory {
         ensures call { Makes (if is_ok result then Choose kind resume else Nothing) self.old
             self.new }
     {
-        push_entry(self.alloc, &mut self.entries, &mut self.store, kind, resume)
+        push_entry(&mut self.entries, &mut self.store, kind, resume)
     }
 
     /// Goes back to the top entry: its copy becomes the frames, and the entry is dropped, but a Forall stays as a Done.

@@ -6,6 +6,7 @@ ghost use Rattle.alma_memory_store.specs.Carries.{IsRising, carry_of_entries, ch
 ghost use Rattle.alma_memory.specs.Inner.Gain.{no_saved, entry_with_changes};
 ghost use Rattle.alma_memory.specs.Inner.Stack.{stack_of};
 
+use crate::late_carry::LateCarry;
 use alma_base::NoMemory;
 use alma_code::{Cell, ChoiceKind};
 use alma_memory_store::{Carry, SlotPlace, Store};
@@ -16,12 +17,11 @@ use std::alloc::Global;
 pub struct Entry {
     pub kind: ChoiceKind,
     pub resume: u32,
-    pub carry: Carry,
+    pub carry: LateCarry,
 }
 
 /// Pushes an entry with an empty carry, and makes its copy.
 pub fn push_entry(
-    alloc: Global,
     entries: &mut Vec<Entry>,
     store: &mut Store,
     kind: ChoiceKind,
@@ -50,7 +50,7 @@ pub fn push_entry(
     entries.push_reserved(Entry {
         kind,
         resume,
-        carry: Carry::new(alloc),
+        carry: LateCarry::new(),
     });
     Ok(())
 }
@@ -139,8 +139,8 @@ fn lay_one(store: &mut Store, place: SlotPlace, cell: Cell)
     }
 }
 
-/// Lays a carry over the frames.
-pub fn lay(store: &mut Store, carry: &Carry)
+// Lays cells over the frames.
+fn lay_cells(store: &mut Store, carry: &Carry)
     requires { length carry.now ≤ store.old.trail_room }
     ensures now { store.new.now ≡ frames_with_carry store.old.now carry.now }
     ensures held { store.new.held ≡ store.old.held }
@@ -149,6 +149,19 @@ pub fn lay(store: &mut Store, carry: &Carry)
 {
     for (place, cell) in &carry.cells {
         lay_one(store, *place, *cell);
+    }
+}
+
+/// Lays a carry over the frames.
+pub fn lay(store: &mut Store, carry: &LateCarry)
+    requires { length carry.now ≤ store.old.trail_room }
+    ensures now { store.new.now ≡ frames_with_carry store.old.now carry.now }
+    ensures held { store.new.held ≡ store.old.held }
+    ensures choice_room { store.old.choice_room ≤ store.new.choice_room }
+    ensures trail_room { store.old.trail_room ≤ store.new.trail_room + length carry.now }
+{
+    if let Some(made) = carry.get() {
+        lay_cells(store, made);
     }
 }
 
@@ -194,8 +207,7 @@ fn gain(
     ensures capacity { vec_capacity entries.new ≡ vec_capacity entries.old }
 {
     let entry = &mut entries[at];
-    let _ = entry.carry.set_all(alloc, changes)?;
-    Ok(())
+    entry.carry.set_all(alloc, changes)
 }
 
 /// Drops the top entry; what differs from its copy enters the carry of the entry at the height.

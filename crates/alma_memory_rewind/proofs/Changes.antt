@@ -1,6 +1,6 @@
 -- What each call keeps.
-use Rattle.std.proofs.Common.{◌≡◌, ◌⊎◌, inl, inr, ℕ, suc, zero, ◌≤◌, ◌<◌, ◌+◌, ◌-◌, Bool, true, false, ◌||◌, nat_lt, nat_le, List, [], ◌∷◌, ◌++◌, length, take, drop, get_or, set, refl, sym, ap, subst, ◌∙◌, arith, min}
-use Rattle.std.proofs.lemmas.List.{set-set, set-get_or, length-set, length_push, map-append, take-append-le, length-take-le, length-take, take-take, take-set-le, drop-append-le, take-map, drop_all, get_or-set_same, get_or-set_other, get_or_past, get_or_push, get_or_append_left, get_or-take}
+use Rattle.std.proofs.Common.{◌≡◌, ◌⊎◌, inl, inr, ℕ, suc, zero, ◌≤◌, ◌<◌, ◌+◌, ◌-◌, Bool, true, false, ◌||◌, nat_lt, nat_le, List, [], ◌∷◌, ◌++◌, length, take, drop, get_or, set, replicate, refl, sym, ap, subst, ◌∙◌, arith, min}
+use Rattle.std.proofs.lemmas.List.{append-nil, append_assoc, get_or_read, set-set, set-get_or, length-set, length_push, map-append, take-append-le, length-take-le, length-take, take-take, take-set-le, drop-append-le, take-map, drop_all, get_or-set_same, get_or-set_other, get_or_past, get_or_push, get_or_append_left, get_or-take}
 use Rattle.std.proofs.lemmas.Bool.{cases_eq, cases_lt, false≢true}
 use Rattle.std.proofs.lemmas.Bool.Decides.{nat_tests}
 use Rattle.alma_memory_rewind.specs.declared.rewind.Note.{Note}
@@ -71,6 +71,13 @@ flag-within ms stamps k h = by_cases (cases_lt k (length stamps))
     by_cases : (k < length stamps) ⊎ (length stamps ≤ k) → k < length stamps
     by_cases (inl l) = l
     by_cases (inr g) = absurd (false≢true (sym (get_or_past (free_from ms 0 stamps) k false (rw (length-free ms 0 stamps) g)) ∙ h))
+
+-- a place that is noted is seen to be so by its stamp
+pub free-read : (ms shown : List Mark) (stamps : List ℕ) (k s : ℕ) → shown ≡ ms → s ≡ get_or stamps k s → get_or (free_from ms 0 stamps) k false ≡ true → is_free shown k s ≡ true
+free-read ms shown stamps k s e g h =
+    let l : k < length stamps = flag-within ms stamps k h in
+    let st : s ≡ get_or stamps k 0 = get_or_read stamps k s l g 0 in
+    ap (λ ns. is_free ns k s) e ∙ (ap (is_free ms k) st ∙ (sym (flag ms stamps k l) ∙ h))
 
 pub adds-free : (ms : List Mark) (stamps : List ℕ) (k : ℕ) → k < length stamps → is_free ms k (get_or stamps k 0) ≡ true → AddsNoted ms stamps stamps k
 adds-free ms stamps k l f = record { noted = flag ms stamps k l ∙ f; kept = λ p h. h }
@@ -228,6 +235,25 @@ push-keeps ms trail xs stamps counter x s =
         idle = s.idle;
       };
     }
+
+pub extend-keeps : {T : Type 0} (ms : List Mark) (trail : List (Note T)) (xs : List T) (stamps : List ℕ) (counter : ℕ) (more : List T) →
+    IsSound ms trail xs stamps counter → Keeps ms trail trail xs (xs ++ more) (stamps ++ replicate (length more) 0) counter
+extend-keeps ms trail xs stamps counter [] s = rw (append-nil xs, append-nil stamps) (record { held = refl; sound = s })
+extend-keeps ms trail xs stamps counter (x ∷ more) s =
+    let one = push-keeps ms trail xs stamps counter x s in
+    let rest = extend-keeps ms trail (xs ++ x ∷ []) (stamps ++ 0 ∷ []) counter more one.sound in
+    let items : (xs ++ x ∷ []) ++ more ≡ xs ++ x ∷ more = append_assoc xs (x ∷ []) more in
+    let zeros : (stamps ++ 0 ∷ []) ++ replicate (length more) 0 ≡ stamps ++ 0 ∷ replicate (length more) 0 = append_assoc stamps (0 ∷ []) (replicate (length more) 0) in
+    let sound = rw (items, zeros) at rest.sound in
+    record { held = sym (ap (λ v. held_of trail v ms) items) ∙ (rest.held ∙ one.held); sound = sound }
+
+-- new places above the top need no note
+pub free-extend : (ms : List Mark) (k n : ℕ) (stamps : List ℕ) → (last_mark ms).top ≤ k + length stamps →
+    free_from ms k (stamps ++ replicate n 0) ≡ free_from ms k stamps ++ replicate n true
+free-extend ms k zero [] l = refl
+free-extend ms k (suc n) [] l =
+    ap (λ b. b ∷ free_from ms (suc k) (replicate n 0)) (free-above ms k 0 (omega (arith, l))) ∙ ap (λ bs. true ∷ bs) (free-extend ms (suc k) n [] (omega (arith, l)))
+free-extend ms k n (s ∷ stamps) l = ap (λ bs. is_free ms k s ∷ bs) (free-extend ms (suc k) n stamps (omega (arith, l)))
 
 -- ---- a new copy
 

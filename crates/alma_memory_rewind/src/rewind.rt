@@ -1,5 +1,5 @@
 // A list, its copies as marks, and the trail.
-ghost use Rattle.std.specs.Prelude.{◌≡◌, ℕ, ◌+◌, ◌-◌, ◌<◌, ◌≤◌, [], ◌∷◌, ◌++◌, length, take, drop, set, slice_get, slice_index_or, Some, true, false, is_ok, IsOk, OnOk, OnErr, IfOk, IsTrue, if◌then◌else◌, vec_len, vec_capacity};
+ghost use Rattle.std.specs.Prelude.{◌≡◌, ℕ, ◌+◌, ◌-◌, ◌<◌, ◌≤◌, [], ◌∷◌, ◌++◌, length, take, drop, set, replicate, slice_get, slice_index_or, Some, true, false, is_ok, IsOk, OnOk, OnErr, IfOk, IsTrue, if◌then◌else◌, vec_len, vec_capacity};
 ghost use Rattle.std.specs.BTreeMap.{get};
 ghost use Rattle.std.specs.Ordering.{nat_cmp};
 ghost use Rattle.alma_memory_rewind.specs.Rewound.{IsOlds, needed, top_copy};
@@ -113,6 +113,22 @@ fn top_serial(marks: &[Mark]) -> usize
     marks[marks.len() - 1].serial
 }
 
+// Room for a note, where one is needed.
+#[inline(always)]
+fn room_for_note<T>(free: bool, trail: &mut Vec<Note<T>>) -> Result<(), NoMemory>
+    ensures trail { trail.new.items ≡ trail.old.items }
+    ensures len { vec_len trail.new ≡ vec_len trail.old }
+    ensures room { OnOk result (free ≡ false → vec_len trail.new < vec_capacity trail.new) }
+    ensures free { free ≡ true → IsOk result × (vec_capacity trail.new ≡ vec_capacity trail.old) }
+    ensures capacity { vec_capacity trail.old ≤ vec_capacity trail.new }
+    ensures succeeds { vec_len trail.old < vec_capacity trail.old → IsOk result }
+{
+    if free {
+        return Ok(());
+    }
+    room_for_one(trail)
+}
+
 // Notes what stood at a place, and stamps the place.
 #[inline(always)]
 fn add_note<T: Copy>(
@@ -121,21 +137,18 @@ fn add_note<T: Copy>(
     at: usize,
     old: T,
     serial: usize,
-) -> Result<(), NoMemory>
+)
     requires wide { at < length stamps.old.items }
-    ensures stamps { OnOk result (stamps.new.items ≡ set stamps.old.items at serial) }
-    ensures trail { OnOk result (trail.new.items ≡ trail.old.items
-        ++ (record { at = at; stamp = slice_index_or stamps.old.items at 0; old = old }) ∷ []) }
-    ensures same { OnErr result ((stamps.new.items ≡ stamps.old.items) × (trail.new.items ≡ trail.old.items)) }
-    ensures len { vec_len trail.new ≤ vec_len trail.old + (if is_ok result then 1 else 0) }
-    ensures capacity { vec_capacity trail.old ≤ vec_capacity trail.new }
-    ensures succeeds { vec_len trail.old + 1 ≤ vec_capacity trail.old → IsOk result }
+    requires room { vec_len trail.old < vec_capacity trail.old }
+    ensures stamps { stamps.new.items ≡ set stamps.old.items at serial }
+    ensures trail { trail.new.items ≡ trail.old.items
+        ++ (record { at = at; stamp = slice_index_or stamps.old.items at 0; old = old }) ∷ [] }
+    ensures len { vec_len trail.new ≡ vec_len trail.old + 1 }
+    ensures capacity { vec_capacity trail.new ≡ vec_capacity trail.old }
 {
     let stamp = stamps[at];
-    room_for_one(trail)?;
     trail.push_reserved(Note { at, stamp, old });
     stamps[at] = serial;
-    Ok(())
 }
 
 // Notes what stands at a place, where a note is needed.
@@ -147,24 +160,23 @@ fn note_old<T: Copy>(
     stamps: &mut Vec<usize>,
     trail: &mut Vec<Note<T>>,
     at: usize,
-) -> Result<(), NoMemory>
+)
     requires inside { at < length items.now }
     requires wide { at < length stamps.old.items }
     requires free { free ≡ is_free marks.now at (slice_index_or stamps.old.items at 0) }
-    ensures keeps { OnOk result ((counter : ℕ) → IsSound marks.now trail.old.items items.now stamps.old.items counter
-        → Keeps marks.now trail.old.items trail.new.items items.now items.now stamps.new.items counter) }
-    ensures noted { OnOk result (AddsNoted marks.now stamps.old.items stamps.new.items at) }
-    ensures same { OnErr result ((stamps.new.items ≡ stamps.old.items) × (trail.new.items ≡ trail.old.items)) }
-    ensures free { free ≡ true → IsOk result × (vec_len trail.new ≡ vec_len trail.old) × (vec_capacity trail.new ≡ vec_capacity trail.old) }
-    ensures len { vec_len trail.new ≤ vec_len trail.old + (if is_ok result then 1 else 0) }
-    ensures capacity { vec_capacity trail.old ≤ vec_capacity trail.new }
-    ensures succeeds { vec_len trail.old + 1 ≤ vec_capacity trail.old → IsOk result }
+    requires room { free ≡ false → vec_len trail.old < vec_capacity trail.old }
+    ensures keeps { (counter : ℕ)
+        → IsSound marks.now trail.old.items items.now stamps.old.items counter
+        → Keeps marks.now trail.old.items trail.new.items items.now items.now stamps.new.items
+        counter }
+    ensures noted { AddsNoted marks.now stamps.old.items stamps.new.items at }
+    ensures len { vec_len trail.new ≡ vec_len trail.old + (if free then 0 else 1) }
+    ensures capacity { vec_capacity trail.new ≡ vec_capacity trail.old }
 {
     if !free {
         let old = items[at];
-        add_note(stamps, trail, at, old, top_serial(marks))?;
+        add_note(stamps, trail, at, old, top_serial(marks));
     }
-    Ok(())
 }
 
 // Puts back what a note holds.
@@ -318,6 +330,25 @@ fn push_both<T: Copy>(items: &mut Vec<T>, stamps: &mut Vec<usize>, value: T)
     stamps.push_reserved(0);
 }
 
+// Pushes items and their stamps, for which there is room.
+#[inline(always)]
+fn push_all<T: Copy>(items: &mut Vec<T>, stamps: &mut Vec<usize>, more: &[T])
+    requires wide { length stamps.old.items ≡ length items.old.items }
+    requires items { vec_len items.old + length more.now ≤ vec_capacity items.old }
+    requires stamps { vec_len stamps.old + length more.now ≤ vec_capacity stamps.old }
+    ensures items { items.new.items ≡ items.old.items ++ more.now }
+    ensures stamps { stamps.new.items ≡ stamps.old.items ++ replicate (length more.now) 0 }
+{
+    match items.extend_from_slice(more) {
+        Ok(()) => (),
+        Err(_) => unreachable!(),
+    }
+    match stamps.resize(items.len(), 0) {
+        Ok(()) => (),
+        Err(_) => unreachable!(),
+    }
+}
+
 impl<T: Copy> Rewind<T> {
     /// No item and no copy.
     pub fn new(alloc: Global) -> Rewind<T>
@@ -417,6 +448,7 @@ impl<T: Copy> Rewind<T> {
         ensures trail_room { self.old.trail_room ≤ self.new.trail_room + (if is_ok result then 1 else 0) }
     {
         let free = needs_no_note(self.marks.as_slice(), at, self.stamps[at]);
+        room_for_note(free, &mut self.trail)?;
         note_old(
             free,
             self.marks.as_slice(),
@@ -424,8 +456,31 @@ impl<T: Copy> Rewind<T> {
             &mut self.stamps,
             &mut self.trail,
             at,
-        )?;
+        );
         Ok(())
+    }
+
+    /// Notes what stands at a place, if that takes no memory. Else it answers false, and nothing has happened.
+    #[inline(always)]
+    pub fn note_within(&mut self, at: usize) -> bool
+        requires { at < length self.old.now }
+        ensures now { self.new.now ≡ self.old.now }
+        ensures held { self.new.held ≡ self.old.held }
+        ensures noted { result ≡ true → slice_index_or self.new.noted at false ≡ true }
+    {
+        let free = needs_no_note(self.marks.as_slice(), at, self.stamps[at]);
+        if !free && self.trail.len() == self.trail.capacity() {
+            return false;
+        }
+        note_old(
+            free,
+            self.marks.as_slice(),
+            self.items.as_slice(),
+            &mut self.stamps,
+            &mut self.trail,
+            at,
+        );
+        true
     }
 
     /// Writes an item at a place that is noted.
@@ -483,6 +538,22 @@ impl<T: Copy> Rewind<T> {
         room_for_one(&mut self.items)?;
         room_for_one(&mut self.stamps)?;
         push_both(&mut self.items, &mut self.stamps, value);
+        Ok(())
+    }
+
+    /// Pushes items, which need no note until a copy is made.
+    pub fn extend(&mut self, more: &[T]) -> Result<(), NoMemory>
+        ensures now { self.new.now
+            ≡ (if is_ok result then self.old.now ++ more.now else self.old.now) }
+        ensures held { self.new.held ≡ self.old.held }
+        ensures noted { self.new.noted ≡ (if is_ok result
+            then self.old.noted ++ replicate (length more.now) true else self.old.noted) }
+        ensures choice_room { self.new.choice_room ≡ self.old.choice_room }
+        ensures trail_room { self.new.trail_room ≡ self.old.trail_room }
+    {
+        self.items.reserve(more.len())?;
+        self.stamps.reserve(more.len())?;
+        push_all(&mut self.items, &mut self.stamps, more);
         Ok(())
     }
 

@@ -2,13 +2,11 @@
 use Rattle.std.proofs.Common.{◌≡◌, ℕ, suc, zero, ◌≤◌, ◌<◌, ◌+◌, ◌-◌, List, [], ◌∷◌, ◌++◌, length, map, take, drop, get_or, set, refl, sym, ap, ◌∙◌, arith}
 use Rattle.std.proofs.lemmas.List.{take-set-le, take-take, length-take-le, length-drop, length-map, map-set, get_or-take, get_or-drop}
 use Rattle.std.proofs.Math.Seq.{map-set_same}
-use Rattle.alma_code.specs.declared.cell.Cell.{Cell}
-use Rattle.alma_code.specs.declared.cell.SlotKind.{SlotKind}
 use Rattle.alma_code.specs.Picture.{frame_with, frames_with_cell}
 use Rattle.alma_memory_store.specs.declared.store.Region.{Region}
 use Rattle.alma_memory_store.specs.declared.store.Slot.{Slot}
 use Rattle.alma_memory_store.specs.Frames.{AreWhole}
-use Rattle.alma_memory_store.specs.Regions.{frame_of, frame_with_slots, frames_of, part_of, no_region, no_slot, AreLaid, end_of, slots_of}
+use Rattle.alma_memory_store.specs.Regions.{frame_of, frame_with_slots, frames_of, part_of, no_region, no_slot, AreLaid, end_of}
 
 -- ---- parts of a list
 
@@ -170,33 +168,3 @@ length-kinds r xs l = length-map (part_of xs r) (λ (s : Slot). s.kind) ∙ leng
 pub whole-frames : (xs : List Slot) (rs : List Region) → AreWhole (frames_of xs rs)
 whole-frames xs [] = tt
 whole-frames xs (r ∷ rs) = (record { kinds = length-map (part_of xs r) (λ (s : Slot). s.kind) ∙ sym (length-map (part_of xs r) (λ (s : Slot). s.cell)) }, whole-frames xs rs)
-
--- ---- slots of kinds and cells
-
-pub kinds-back : (ks : List SlotKind) (cs : List Cell) → length ks ≡ length cs → map (λ (s : Slot). s.kind) (slots_of ks cs) ≡ ks
-kinds-back [] cs e = refl
-kinds-back (k ∷ ks) [] e = absurd (omega (arith, e))
-kinds-back (k ∷ ks) (c ∷ cs) e = ap (λ v. k ∷ v) (kinds-back ks cs (omega (arith, e)))
-
-pub cells-back : (ks : List SlotKind) (cs : List Cell) → length ks ≡ length cs → map (λ (s : Slot). s.cell) (slots_of ks cs) ≡ cs
-cells-back [] [] e = refl
-cells-back [] (c ∷ cs) e = absurd (omega (arith, e))
-cells-back (k ∷ ks) [] e = absurd (omega (arith, e))
-cells-back (k ∷ ks) (c ∷ cs) e = ap (λ v. c ∷ v) (cells-back ks cs (omega (arith, e)))
-
-pub slots-length : (ks : List SlotKind) (cs : List Cell) → length ks ≡ length cs → length (slots_of ks cs) ≡ length cs
-slots-length [] [] e = refl
-slots-length [] (c ∷ cs) e = absurd (omega (arith, e))
-slots-length (k ∷ ks) [] e = absurd (omega (arith, e))
-slots-length (k ∷ ks) (c ∷ cs) e = ap suc (slots-length ks cs (omega (arith, e)))
-
--- one more slot
-pub slots-more : (ks : List SlotKind) (cs : List Cell) (i : ℕ) (k : SlotKind) (c : Cell) → i < length ks → i < length cs →
-    slots_of (take i ks) (take i cs) ++ (record { kind = get_or ks i k; cell = get_or cs i c }) ∷ [] ≡ slots_of (take (i + 1) ks) (take (i + 1) cs)
-slots-more [] cs i k c l m = absurd (omega (arith, l))
-slots-more (a ∷ ks) [] i k c l m = absurd (omega (arith, m))
-slots-more (a ∷ ks) (b ∷ cs) zero k c l m = refl
-slots-more (a ∷ ks) (b ∷ cs) (suc i) k c l m =
-    let up : suc i + 1 ≡ suc (i + 1) = omega arith in
-    ap (λ v. (record { kind = a; cell = b }) ∷ v) (slots-more ks cs i k c (omega (arith, l)) (omega (arith, m)))
-    ∙ sym (ap (λ j. slots_of (take j (a ∷ ks)) (take j (b ∷ cs))) up)

@@ -1,7 +1,6 @@
 -- Lemmas on the layout of a new frame: how many slots the arguments and the blanks fill.
-use Rattle.std.proofs.Common.{◌≡◌, ℕ, ◌≤◌, ◌<◌, ◌+◌, ◌-◌, List, [], ◌∷◌, ◌++◌, length, map, get_or, take, drop, replicate, suc, zero, true, refl, sym, ap, ◌∙◌, arith, append_assoc}
-use Rattle.std.proofs.lemmas.List.{take_more, length-take-le, length-take, length-map, length-append, length-replicate, length-drop, drop-append-le, append-nil, get_or-drop}
-use Rattle.std.proofs.Math.ListN.{get_or-map}
+use Rattle.std.proofs.Common.{◌≡◌, ℕ, ◌≤◌, ◌<◌, ◌+◌, ◌-◌, List, [], ◌∷◌, ◌++◌, length, map, get_or, set, take, drop, replicate, suc, zero, true, refl, sym, ap, subst, ◌∙◌, arith, append_assoc}
+use Rattle.std.proofs.lemmas.List.{length_push, map-append, take_more, length-take-le, length-take, length-append, length-replicate, length-drop, append-nil, get_or-drop}
 use Rattle.alma_code.specs.declared.cell.Cell.{Cell}
 use Rattle.alma_code.specs.declared.cell.CellPlace.{CellPlace}
 use Rattle.alma_code.specs.declared.cell.SlotKind.{SlotKind}
@@ -13,26 +12,15 @@ use Rattle.alma_code.specs.declared.head.ParamKind.TheVariants as param
 use Rattle.alma_code.specs.declared.head.CodeParam.{CodeParam}
 use Rattle.alma_code.specs.Head.{PlainHead}
 use Rattle.alma_code.specs.Picture.{PlainFrame, no_frame}
-use Rattle.alma_code.specs.Layout.{RunsRise, kinds_of, blank_of, no_param, args_cells, arg_cells, mix_cells, cells_behind_argument, cells_at, FitsParam, FitsParams, FitsMix, FitsPlace, IsHead, blank_cells, cells_of_call}
+use Rattle.alma_code.specs.Layout.{RunsRise, kinds_of, blank_of, no_param, args_cells, arg_cells, mix_cells, cells_behind_argument, cells_at, FitsParam, FitsParams, FitsMix, FitsPlace, IsHead}
 use Rattle.alma_code.specs.Carries.{IsLive, number_at}
 use Rattle.alma_code.proofs.Heads.{param_kinds, params_kinds, first-kinds}
 use Rattle.alma_memory_store.specs.Frames.{AreWhole}
+use Rattle.alma_memory_store.specs.declared.store.Slot.{Slot}
+use Rattle.alma_memory_store.specs.Regions.{blank_slot, cells_in, kinds_in, no_slot}
 use Rattle.std.specs.Prelude.{Some, slice_get}
 use Rattle.alma_memory_store.proofs.Indexed.{read-drop}
 use Rattle.alma_memory_store.proofs.Stores.{number-cell}
-
--- one more blank cell
-pub blank-more : (start cells : List Cell) (kinds : List SlotKind) (i : ℕ) (d : SlotKind) →
-    cells ≡ start ++ drop (length start) (take i (map blank_of kinds)) → length start ≤ i → i < length kinds →
-    cells ++ blank_of (get_or kinds i d) ∷ [] ≡ start ++ drop (length start) (take (i + 1) (map blank_of kinds))
-blank-more start cells kinds i d p l m =
-    let wide : length (map blank_of kinds) ≡ length kinds = length-map kinds blank_of in
-    let lt : i < length (map blank_of kinds) = omega arith in
-    let up : length start ≤ length (take i (map blank_of kinds)) = rw (length-take-le i (map blank_of kinds) (omega arith)) l in
-    let here : get_or (map blank_of kinds) i (blank_of d) ≡ blank_of (get_or kinds i d) = get_or-map blank_of kinds i d in
-    let more : take (i + 1) (map blank_of kinds) ≡ take i (map blank_of kinds) ++ blank_of (get_or kinds i d) ∷ [] =
-    take_more (map blank_of kinds) i (blank_of d) lt ∙ ap (λ x. take i (map blank_of kinds) ++ x ∷ []) here in
-    rw (p, append_assoc) (ap (λ xs. start ++ xs) (sym (ap (drop (length start)) more ∙ drop-append-le (length start) (take i (map blank_of kinds)) (blank_of (get_or kinds i d) ∷ []) up)))
 
 -- the runs fill the slots
 pub kinds-length : (low top : ℕ) (rs : List Run) → RunsRise low rs top → length (kinds_of low rs) + low ≡ top
@@ -143,13 +131,6 @@ mix-room fs h args n i w f l m =
     let d = head-room h i in
     omega (arith, a, b, two, c, d)
 
--- blanks fill all slots
-pub blanks-length : (start cells : List Cell) (kinds : List SlotKind) → start ≡ [] →
-    cells ≡ start ++ drop (length start) (map blank_of kinds) → length cells ≡ length kinds
-blanks-length start cells kinds e p =
-    let q : cells ≡ map blank_of kinds = rw e at p in
-    ap length q ∙ length-map kinds blank_of
-
 -- the parameters stand within the kinds
 pub head-fits : (h : PlainHead) → IsHead h → length (params_kinds h.params) ≤ length (kinds_of 0 h.runs)
 head-fits h i =
@@ -157,38 +138,97 @@ head-fits h i =
     let c = length-take (length (params_kinds h.params)) (kinds_of 0 h.runs) in
     omega (arith, b, c)
 
--- an entered frame has a cell for each kind
-pub entered-length : (fs : List PlainFrame) (h : PlainHead) (args : List Cell) → IsHead h → AreWhole fs → FitsParams (IsLive fs) (λ routine. IsLive fs) h.params args →
-    length (kinds_of 0 h.runs) ≡ length (cells_of_call fs h args)
-entered-length fs h args i w f =
-    let first : List Cell = args_cells fs h.params args (length h.params) in
-    let a : length first ≡ length (params_kinds (take (length h.params) h.params)) = args-length fs h.params args (length h.params) w f (omega arith) in
+-- the arguments stand within the slots
+pub args-fit : (fs : List PlainFrame) (h : PlainHead) (args : List Cell) → IsHead h → AreWhole fs → FitsParams (IsLive fs) (λ routine. IsLive fs) h.params args →
+    length (args_cells fs h.params args (length h.params)) ≤ length (kinds_of 0 h.runs)
+args-fit fs h args i w f =
+    let a = args-length fs h.params args (length h.params) w f (omega arith) in
     let b = params-take-le (length h.params) h.params in
     let c = head-fits h i in
-    let d : length (first ++ drop (length first) (blank_cells h)) ≡ length first + length (drop (length first) (blank_cells h)) = length-append first (drop (length first) (blank_cells h)) in
-    let e : length (drop (length first) (blank_cells h)) ≡ length (blank_cells h) - length first = length-drop (length first) (blank_cells h) in
-    let k : length (blank_cells h) ≡ length (kinds_of 0 h.runs) = length-map (kinds_of 0 h.runs) blank_of in
-    omega (arith, a, b, c, d, e, k)
+    omega (arith, a, b, c)
 
--- the kinds of one more run
-pub runs-step : (runs : List Run) (i low top : ℕ) (run : Run) (kinds kinds' all : List SlotKind) → slice_get runs i ≡ Some run →
-    kinds' ≡ kinds ++ replicate (run.end - low) run.kind → kinds ++ kinds_of low (drop i runs) ≡ all → RunsRise low (drop i runs) top →
-    (kinds' ++ kinds_of run.end (drop (i + 1) runs) ≡ all) × RunsRise run.end (drop (i + 1) runs) top
-runs-step runs i low top run kinds kinds' all e p k r =
+-- ---- slots before anything is written
+
+pub kinds-blank : (ks : List SlotKind) → kinds_in (map blank_slot ks) ≡ ks
+kinds-blank [] = refl
+kinds-blank (k ∷ ks) = ap (λ v. k ∷ v) (kinds-blank ks)
+
+pub cells-blank : (ks : List SlotKind) → cells_in (map blank_slot ks) ≡ map blank_of ks
+cells-blank [] = refl
+cells-blank (k ∷ ks) = ap (λ v. blank_of k ∷ v) (cells-blank ks)
+
+blank-replicate : (n : ℕ) (k : SlotKind) → map blank_slot (replicate n k) ≡ replicate n (blank_slot k)
+blank-replicate zero k = refl
+blank-replicate (suc n) k = ap (λ v. blank_slot k ∷ v) (blank-replicate n k)
+
+-- one slot more of a run
+pub run-more : (slots : List Slot) (end : ℕ) (x : Slot) → length slots < end →
+    (slots ++ x ∷ []) ++ replicate (end - length (slots ++ x ∷ [])) x ≡ slots ++ replicate (end - length slots) x
+run-more slots end x l =
+    let wide : length (slots ++ x ∷ []) ≡ length slots + 1 = length_push slots x in
+    let up : end - length slots ≡ suc (end - length (slots ++ x ∷ [])) = omega (arith, wide, l) in
+    append_assoc slots (x ∷ []) (replicate (end - length (slots ++ x ∷ [])) x) ∙ sym (ap (λ n. slots ++ replicate n x) up)
+
+-- no slot more
+pub run-full : (slots : List Slot) (end : ℕ) (x : Slot) → end ≤ length slots → slots ++ replicate (end - length slots) x ≡ slots
+run-full slots end x l =
+    let none : end - length slots ≡ 0 = omega (arith, l) in
+    ap (λ n. slots ++ replicate n x) none ∙ append-nil slots
+
+-- the runs end within the slots
+runs-within : (low top : ℕ) (rs : List Run) → RunsRise low rs top → low ≤ top
+runs-within low top [] h = rw h (omega arith)
+runs-within low top (r ∷ rs) h = let rest = runs-within r.end top rs h.1 in omega (arith, h.0, rest)
+
+pub run-within : (runs : List Run) (i low top : ℕ) (run : Run) → slice_get runs i ≡ Some run → RunsRise low (drop i runs) top → run.end ≤ top
+run-within runs i low top run e r =
     let split : drop i runs ≡ run ∷ drop (i + 1) runs = read-drop run runs i e in
     let rise : RunsRise low (run ∷ drop (i + 1) runs) top = rw split at r in
-    let more : kinds ++ (replicate (run.end - low) run.kind ++ kinds_of run.end (drop (i + 1) runs)) ≡ all = rw split at k in (
-      ap (λ ks. ks ++ kinds_of run.end (drop (i + 1) runs)) p
-          ∙ (append_assoc kinds (replicate (run.end - low) run.kind) (kinds_of run.end (drop (i + 1) runs)) ∙ more),
-      rise.1,
+    runs-within run.end top (drop (i + 1) runs) rise.1
+
+-- the slots of one more run
+pub blanks-step : (runs : List Run) (i top : ℕ) (run : Run) (slots slots' all : List Slot) → slice_get runs i ≡ Some run →
+    slots' ≡ slots ++ replicate (run.end - length slots) (blank_slot run.kind) →
+    slots ++ map blank_slot (kinds_of (length slots) (drop i runs)) ≡ all → RunsRise (length slots) (drop i runs) top →
+    (slots' ++ map blank_slot (kinds_of (length slots') (drop (i + 1) runs)) ≡ all) × RunsRise (length slots') (drop (i + 1) runs) top
+blanks-step runs i top run slots slots' all e same k r =
+    let rest : List Run = drop (i + 1) runs in
+    let low : ℕ = length slots in
+    let new : List Slot = replicate (run.end - low) (blank_slot run.kind) in
+    let tail : List Slot = map blank_slot (kinds_of run.end rest) in
+    let split : drop i runs ≡ run ∷ rest = read-drop run runs i e in
+    let rise : RunsRise low (run ∷ rest) top = rw split at r in
+    let wide : length slots' ≡ run.end =
+    ap length same ∙ (length-append slots new ∙ (ap (λ n. low + n) (length-replicate (run.end - low) (blank_slot run.kind)) ∙ omega (arith, rise.0))) in
+    let more : slots ++ map blank_slot (replicate (run.end - low) run.kind ++ kinds_of run.end rest) ≡ all = rw split at k in
+    let part : map blank_slot (replicate (run.end - low) run.kind ++ kinds_of run.end rest) ≡ new ++ tail =
+    map-append blank_slot (replicate (run.end - low) run.kind) (kinds_of run.end rest) ∙ ap (λ v. v ++ tail) (blank-replicate (run.end - low) run.kind) in
+    let one : slots' ++ tail ≡ all = ap (λ v. v ++ tail) same ∙ (append_assoc slots new tail ∙ (ap (λ v. slots ++ v) (sym part) ∙ more)) in (
+      ap (λ n. slots' ++ map blank_slot (kinds_of n rest)) wide ∙ one,
+      subst (λ n. RunsRise n rest top) (sym wide) rise.1,
     )
 
--- the run that comes next ends above the slots so far
-pub run-rises : (runs : List Run) (i low top : ℕ) (run : Run) → slice_get runs i ≡ Some run → RunsRise low (drop i runs) top → low < run.end
-run-rises runs i low top run e r =
-    let split : drop i runs ≡ run ∷ drop (i + 1) runs = read-drop run runs i e in
-    let rise : RunsRise low (run ∷ drop (i + 1) runs) top = rw split at r in
-    rise.0
+-- ---- cells that are written into slots
+
+pub kinds-set : (slots : List Slot) (i : ℕ) (x : Slot) → x.kind ≡ (get_or slots i no_slot).kind → kinds_in (set slots i x) ≡ kinds_in slots
+kinds-set [] i x e = refl
+kinds-set (s ∷ slots) zero x e = ap (λ k. k ∷ kinds_in slots) e
+kinds-set (s ∷ slots) (suc i) x e = ap (λ v. s.kind ∷ v) (kinds-set slots i x e)
+
+pub cells-set : (slots : List Slot) (i : ℕ) (x : Slot) → cells_in (set slots i x) ≡ set (cells_in slots) i x.cell
+cells-set [] i x = refl
+cells-set (s ∷ slots) zero x = refl
+cells-set (s ∷ slots) (suc i) x = ap (λ v. s.cell ∷ v) (cells-set slots i x)
+
+-- one cell more over those of before
+pub over-more : (cells old : List Cell) (i : ℕ) (d : Cell) → i < length cells → i < length old →
+    set (take i cells ++ drop i old) i (get_or cells i d) ≡ take (i + 1) cells ++ drop (i + 1) old
+over-more [] old i d l m = absurd (omega (arith, l))
+over-more (c ∷ cells) [] i d l m = absurd (omega (arith, m))
+over-more (c ∷ cells) (o ∷ old) zero d l m = refl
+over-more (c ∷ cells) (o ∷ old) (suc i) d l m =
+    let up : suc i + 1 ≡ suc (i + 1) = omega arith in
+    ap (λ v. c ∷ v) (over-more cells old i d (omega (arith, l)) (omega (arith, m))) ∙ sym (ap (λ j. take j (c ∷ cells) ++ drop j (o ∷ old)) up)
 
 -- a head has so many kinds as slots
 pub head-kinds : (h : PlainHead) (kinds : List SlotKind) → IsHead h → kinds ≡ kinds_of 0 h.runs → length kinds ≡ h.slots

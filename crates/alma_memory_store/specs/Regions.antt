@@ -5,6 +5,7 @@ use Rattle.alma_code.specs.declared.cell.Cell.TheVariants.{Unknown}
 use Rattle.alma_code.specs.declared.cell.SlotKind.{SlotKind}
 use Rattle.alma_code.specs.declared.cell.SlotKind.TheVariants.{Number}
 use Rattle.alma_code.specs.Kinds.{is_number}
+use Rattle.alma_code.specs.Layout.{blank_of}
 use Rattle.alma_code.specs.Picture.{PlainFrame}
 use Rattle.alma_memory_store.specs.declared.store.Region.{Region}
 use Rattle.alma_memory_store.specs.declared.store.Slot.{Slot}
@@ -21,14 +22,22 @@ no_slot = record { kind = Number; cell = Unknown }
 abbrev pub part_of : List Slot → Region → List Slot
 part_of slots r = take r.slots (drop r.base slots)
 
+-- the kinds of slots
+abbrev pub kinds_in : List Slot → List SlotKind
+kinds_in slots = map (λ (s : Slot). s.kind) slots
+
+-- what slots hold
+abbrev pub cells_in : List Slot → List Cell
+cells_in slots = map (λ (s : Slot). s.cell) slots
+
 -- the frame of a region with these slots
 abbrev pub frame_with_slots : Region → List Slot → PlainFrame
 frame_with_slots r slots = record {
   routine = r.routine;
   back = r.back;
   declared = r.declared;
-  kinds = map (λ (s : Slot). s.kind) slots;
-  cells = map (λ (s : Slot). s.cell) slots;
+  kinds = kinds_in slots;
+  cells = cells_in slots;
 }
 
 -- the frame of a region
@@ -56,11 +65,9 @@ declared_in regions = sum (map (λ (r : Region). r.declared) regions)
 pub record AreTotaled (regions : List Region) : Type 0 where
   pub total : (k : ℕ) → k < length regions → (get_or regions k no_region).total ≡ declared_in (take (k + 1) regions)
 
--- slots with these kinds and cells
-abbrev pub slots_of : List SlotKind → List Cell → List Slot
-slots_of [] cells = []
-slots_of (kind ∷ kinds) [] = []
-slots_of (kind ∷ kinds) (cell ∷ cells) = (record { kind = kind; cell = cell }) ∷ slots_of kinds cells
+-- a slot of this kind before anything is written
+abbrev pub blank_slot : SlotKind → Slot
+blank_slot kind = record { kind = kind; cell = blank_of kind }
 
 -- the cell of a slot that is a number slot
 abbrev pub slot_number : Option Slot → Option Cell

@@ -1,62 +1,69 @@
 // How the slots of a new frame are laid out.
-ghost use Rattle.std.specs.Prelude.{◌≡◌, ℕ, ◌+◌, ◌-◌, ◌^◌, ◌<◌, ◌≤◌, [], ◌∷◌, ◌++◌, length, map, drop, replicate, slice_index_or, IfOk, OnOk};
-ghost use Rattle.alma_code.specs.Layout.{RunsRise, kinds_of, blank_of, arg_cells, FitsParam, FitsParams, FitsPlace, mix_cells, cells_behind_argument, IsHead, cells_at, cells_of_call, start_frame};
+ghost use Rattle.std.specs.Prelude.{◌≡◌, ℕ, ◌+◌, ◌-◌, ◌^◌, ◌<◌, ◌≤◌, [], ◌∷◌, ◌++◌, length, map, drop, replicate, slice_index_or, IfOk, OnOk, vec_capacity};
+ghost use Rattle.alma_code.specs.Layout.{RunsRise, kinds_of, arg_cells, args_cells, FitsParam, FitsParams, FitsPlace, mix_cells, cells_behind_argument, IsHead, cells_at, cells_of_call, start_frame};
 ghost use Rattle.alma_code.specs.Picture.{no_frame};
 ghost use Rattle.alma_code.specs.Carries.{IsLive};
 ghost use Rattle.alma_memory_store.specs.Frames.{AreWhole};
+ghost use Rattle.alma_memory_store.specs.Regions.{blank_slot, cells_in, kinds_in};
 
 use crate::live_frames::LiveFrames;
+use crate::store::Slot;
 use alma_base::NoMemory;
 use alma_code::{Cell, CellPlace, CodeParam, Head, ParamKind, SlotKind};
-use std::alloc::Global;
 
-fn push_run(kinds: &mut Vec<SlotKind>, count: u32, kind: SlotKind) -> Result<(), NoMemory>
-    ensures { IfOk result (λ _. kinds.new.items ≡ kinds.old.items ++ replicate count kind) }
+// A slot before anything is written.
+#[inline(always)]
+fn blank(kind: SlotKind) -> Slot
+    ensures { result ≡ blank_slot kind }
 {
-    for _ in 0..count {
-        kinds.push(kind)?;
-    }
-    Ok(())
-}
-
-// The kinds of the slots of a head, in place of what stood there.
-fn put_kinds<H: Head>(kinds: &mut Vec<SlotKind>, head: &H) -> Result<(), NoMemory>
-    requires { RunsRise 0 (H.head head.now).runs (H.head head.now).slots }
-    ensures kinds { OnOk result (kinds.new.items ≡ kinds_of 0 (H.head head.now).runs) }
-    ensures few { OnOk result ((H.head head.now).slots < 2 ^ 32) }
-{
-    kinds.clear();
-    kinds.reserve(head.slots() as usize)?;
-    let mut low = 0;
-    for i in 0..head.run_count() {
-        let run = head.run(i);
-        push_run(kinds, run.end - low, run.kind)?;
-        low = run.end;
-    }
-    Ok(())
-}
-
-// What a slot holds at first.
-fn blank(kind: SlotKind) -> Cell
-    ensures { result ≡ blank_of kind }
-{
-    match kind {
+    let cell = match kind {
         SlotKind::Number => Cell::Unknown,
         SlotKind::Place(_) | SlotKind::Mark | SlotKind::Link(_) => Cell::Unset,
+    };
+    Slot { kind, cell }
+}
+
+// Pushes a slot again and again, up to an end.
+#[inline(always)]
+fn push_run(slots: &mut Vec<Slot>, end: usize, slot: Slot)
+    requires { end ≤ vec_capacity slots.old }
+    ensures items { slots.new.items ≡ slots.old.items
+        ++ replicate (end - length slots.old.items) slot }
+    ensures capacity { vec_capacity slots.new ≡ vec_capacity slots.old }
+{
+    while slots.len() < end {
+        slots.push_reserved(slot);
     }
 }
 
-// Blank cells for the slots that have none yet.
-fn push_blanks(cells: &mut Vec<Cell>, kinds: &[SlotKind]) -> Result<(), NoMemory>
-    ensures { IfOk result (λ _. cells.new.items ≡ cells.old.items ++ drop (length cells.old.items)
-        (map blank_of kinds.now)) }
+// The slots of a head before anything is written, in place of what stood there.
+fn put_blanks<H: Head>(slots: &mut Vec<Slot>, head: &H) -> Result<(), NoMemory>
+    requires { RunsRise 0 (H.head head.now).runs (H.head head.now).slots }
+    ensures slots { OnOk result (slots.new.items
+        ≡ map blank_slot (kinds_of 0 (H.head head.now).runs)) }
+    ensures few { OnOk result ((H.head head.now).slots < 2 ^ 32) }
 {
-    let from = cells.len();
-    for i in from..kinds.len() {
-        let kind = kinds[i];
-        cells.push(blank(kind))?;
+    slots.clear();
+    slots.reserve(head.slots() as usize)?;
+    for i in 0..head.run_count() {
+        let run = head.run(i);
+        push_run(slots, run.end as usize, blank(run.kind));
     }
     Ok(())
+}
+
+// Writes cells into the first slots.
+fn put_cells(slots: &mut Vec<Slot>, cells: &[Cell])
+    requires { length cells.now ≤ length slots.old.items }
+    ensures kinds { kinds_in slots.new.items ≡ kinds_in slots.old.items }
+    ensures cells { cells_in slots.new.items
+        ≡ cells.now ++ drop (length cells.now) (cells_in slots.old.items) }
+{
+    for i in 0..cells.len() {
+        let kind = slots[i].kind;
+        let cell = cells[i];
+        slots[i] = Slot { kind, cell };
+    }
 }
 
 fn push_arg<F: LiveFrames>(
@@ -144,54 +151,48 @@ fn push_copies<F: LiveFrames>(
     }
 }
 
-// The cells of a call, in place of what stood there.
-fn put_cells<F: LiveFrames, H: Head>(
+// What the arguments put into the first slots, in place of what stood there.
+fn push_args<F: LiveFrames, H: Head>(
     cells: &mut Vec<Cell>,
     frames: &F,
     head: &H,
-    kinds: &[SlotKind],
     args: &[Cell],
 ) -> Result<(), NoMemory>
     requires head { IsHead (H.head head.now) }
     requires whole { AreWhole (F.live frames.now) }
-    requires kinds { kinds.now ≡ kinds_of 0 (H.head head.now).runs }
     requires args { FitsParams (IsLive (F.live frames.now)) (λ routine. IsLive (F.live frames.now))
         (H.head head.now).params args.now }
-    ensures { OnOk result (cells.new.items ≡ cells_of_call (F.live frames.now)
-        (H.head head.now) args.now) }
+    ensures { OnOk result (cells.new.items ≡ args_cells (F.live frames.now)
+        (H.head head.now).params args.now (length (H.head head.now).params)) }
 {
+    let _ = head.slots();
     cells.clear();
-    cells.reserve(head.slots() as usize)?;
     for i in 0..head.param_count() {
         push_arg(cells, frames, head.param(i), args[i as usize])?;
     }
-    push_blanks(cells, kinds)?;
     Ok(())
 }
 
-/// The kinds and cells of the frame of a start, in place of what stood there.
-pub fn put_start<H: Head>(
-    kinds: &mut Vec<SlotKind>,
-    cells: &mut Vec<Cell>,
-    head: &H,
-) -> Result<(), NoMemory>
+/// The slots of the frame of a start, in place of what stood there.
+pub fn put_start<H: Head>(slots: &mut Vec<Slot>, head: &H) -> Result<(), NoMemory>
     requires head { IsHead (H.head head.now) }
     requires some { 1 ≤ (H.head head.now).slots }
-    ensures kinds { OnOk result (kinds.new.items ≡ kinds_of 0 (H.head head.now).runs) }
-    ensures cells { OnOk result (cells.new.items ≡ (start_frame (H.head head.now)).cells) }
-    ensures same { OnOk result (length kinds.new.items ≡ length cells.new.items) }
-    ensures few { OnOk result (length cells.new.items < 2 ^ 32) }
+    ensures kinds { OnOk result (kinds_in slots.new.items ≡ kinds_of 0 (H.head head.now).runs) }
+    ensures cells { OnOk result (cells_in slots.new.items ≡ (start_frame (H.head head.now)).cells) }
+    ensures few { OnOk result (length slots.new.items < 2 ^ 32) }
 {
-    put_kinds(kinds, head)?;
-    cells.clear();
-    push_blanks(cells, kinds.as_slice())?;
-    cells[0] = Cell::Int(0);
+    put_blanks(slots, head)?;
+    let kind = slots[0].kind;
+    slots[0] = Slot {
+        kind,
+        cell: Cell::Int(0),
+    };
     Ok(())
 }
 
-/// The kinds and cells of the frame that a call enters, in place of what stood there.
+/// The slots of the frame that a call enters, in place of what stood there; `cells` is for the arguments.
 pub fn put_call<F: LiveFrames, H: Head>(
-    kinds: &mut Vec<SlotKind>,
+    slots: &mut Vec<Slot>,
     cells: &mut Vec<Cell>,
     frames: &F,
     head: &H,
@@ -201,12 +202,13 @@ pub fn put_call<F: LiveFrames, H: Head>(
     requires whole { AreWhole (F.live frames.now) }
     requires args { FitsParams (IsLive (F.live frames.now)) (λ routine. IsLive (F.live frames.now))
         (H.head head.now).params args.now }
-    ensures kinds { OnOk result (kinds.new.items ≡ kinds_of 0 (H.head head.now).runs) }
-    ensures cells { OnOk result (cells.new.items ≡ cells_of_call (F.live frames.now)
+    ensures kinds { OnOk result (kinds_in slots.new.items ≡ kinds_of 0 (H.head head.now).runs) }
+    ensures cells { OnOk result (cells_in slots.new.items ≡ cells_of_call (F.live frames.now)
         (H.head head.now) args.now) }
-    ensures same { OnOk result (length kinds.new.items ≡ length cells.new.items) }
-    ensures few { OnOk result (length cells.new.items < 2 ^ 32) }
+    ensures few { OnOk result (length slots.new.items < 2 ^ 32) }
 {
-    put_kinds(kinds, head)?;
-    put_cells(cells, frames, head, kinds.as_slice(), args)
+    put_blanks(slots, head)?;
+    push_args(cells, frames, head, args)?;
+    put_cells(slots, cells.as_slice());
+    Ok(())
 }

@@ -10,4 +10,5 @@ mod store;
 pub use carry::{Carry, SlotPlace};
 pub use layout::{put_call, put_start};
 pub use live_frames::LiveFrames;
+pub use past::changed_to;
 pub use store::{Region, Slot, Store};

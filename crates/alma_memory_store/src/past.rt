@@ -256,8 +256,8 @@ fn is_same_cell(a: Cell, b: Cell) -> bool
     a == b
 }
 
-// What a number slot changed to.
-fn changed_to(before: Option<Cell>, now: Option<Cell>) -> Option<Cell>
+/// What a number slot changed to.
+pub fn changed_to(before: Option<Cell>, now: Option<Cell>) -> Option<Cell>
     ensures { result ≡ change_between before now }
 {
     match (before, now) {

@@ -9,7 +9,7 @@ ghost use Rattle.alma_memory_store.specs.Carries.{carry_of_entries};
 ghost use Rattle.alma_memory_store.specs.Frames.{AreLive, AreWhole};
 ghost use Rattle.alma_memory_store.specs.Numbers.{number_of};
 ghost use Rattle.alma_memory_store.specs.Past.{SameGain};
-ghost use Rattle.alma_memory_store.specs.Regions.{AreLaid, end_of, no_slot, slot_number, slots_of};
+ghost use Rattle.alma_memory_store.specs.Regions.{AreLaid, cells_in, end_of, kinds_in, no_slot, slot_number};
 ghost use Rattle.alma_memory_store.specs.Stored.{IsNoted};
 
 use crate::carry::SlotPlace;
@@ -100,6 +100,24 @@ pub fn place_of(region: Region, slot: usize, limit: usize) -> usize
     region.base + slot
 }
 
+// Writes the cell of a slot that is noted, and leaves its kind.
+#[inline(always)]
+fn put_cell(slots: &mut Rewind<Slot>, at: usize, cell: Cell)
+    requires inside { at < length slots.old.now }
+    requires noted { slice_index_or slots.old.noted at false ≡ true }
+    ensures now { slots.new.now ≡ set slots.old.now at (record {
+      kind = (slice_index_or slots.old.now at no_slot).kind;
+      cell = cell;
+    }) }
+    ensures held { slots.new.held ≡ slots.old.held }
+    ensures noted { slots.new.noted ≡ slots.old.noted }
+    ensures choice_room { slots.new.choice_room ≡ slots.old.choice_room }
+    ensures trail_room { slots.new.trail_room ≡ slots.old.trail_room }
+{
+    let kind = slots.get(at).kind;
+    slots.put(at, Slot { kind, cell });
+}
+
 // Writes the cell of a slot, and leaves its kind.
 #[inline(always)]
 fn write_cell(slots: &mut Rewind<Slot>, at: usize, cell: Cell) -> Result<(), NoMemory>
@@ -120,41 +138,51 @@ fn write_cell(slots: &mut Rewind<Slot>, at: usize, cell: Cell) -> Result<(), NoM
         + (if is_ok result then 1 else 0) }
 {
     slots.note(at)?;
-    let kind = slots.get(at).kind;
-    slots.put(at, Slot { kind, cell });
+    put_cell(slots, at, cell);
     Ok(())
+}
+
+// Writes the cell of a slot, if that takes no memory, and leaves its kind.
+#[inline(always)]
+fn write_cell_within(slots: &mut Rewind<Slot>, at: usize, cell: Cell) -> bool
+    requires { at < length slots.old.now }
+    ensures now { slots.new.now ≡ (if result then set slots.old.now at (record {
+      kind = (slice_index_or slots.old.now at no_slot).kind;
+      cell = cell;
+    }) else slots.old.now) }
+    ensures held { slots.new.held ≡ slots.old.held }
+{
+    if !slots.note_within(at) {
+        return false;
+    }
+    put_cell(slots, at, cell);
+    true
 }
 
 impl Store {
     /// One frame of routine 0, and no copy.
-    pub fn start(
-        alloc: Global,
-        declared: u32,
-        kinds: &[SlotKind],
-        cells: &[Cell],
-    ) -> Result<Store, NoMemory>
-        requires same { length kinds.now ≡ length cells.now }
-        requires few { length cells.now < 2 ^ 32 }
+    pub fn start(alloc: Global, declared: u32, of_start: &[Slot]) -> Result<Store, NoMemory>
+        requires few { length of_start.now < 2 ^ 32 }
         requires limit { declared ≤ cell_limit }
         ensures now { IfOk result (λ store. store.now ≡ (record {
           routine = 0;
           back = 0;
           declared = declared;
-          kinds = kinds.now;
-          cells = cells.now;
+          kinds = kinds_in of_start.now;
+          cells = cells_in of_start.now;
         }) ∷ []) }
         ensures held { IfOk result (λ store. store.held ≡ []) }
     {
         let mut slots = Rewind::new(alloc);
         let mut regions = Rewind::new(alloc);
-        lay(&mut slots, 0, kinds, cells)?;
+        lay(&mut slots, 0, of_start)?;
         let top = Region {
             routine: 0,
             back: 0,
             declared,
             total: declared,
             base: 0,
-            slots: cells.len() as u32,
+            slots: of_start.len() as u32,
         };
         regions.push(top)?;
         let lives = Vec::new(alloc);
@@ -337,25 +365,50 @@ impl Store {
         write_cell(&mut self.slots, at, cell)
     }
 
+    /// Writes a cell, if that takes no memory. Else it answers false, and nothing has happened.
+    #[inline(always)]
+    pub fn write_within(&mut self, frame: usize, slot: usize, cell: Cell) -> bool
+        requires live { frame < length self.old.now }
+        requires slot_of { slot < length (slice_index_or self.old.now frame no_frame).cells }
+        ensures now { self.new.now ≡ (if result
+            then frames_with_cell self.old.now frame slot cell else self.old.now) }
+        ensures held { self.new.held ≡ self.old.held }
+    {
+        let region = self.regions.get(frame);
+        let at = place_of(region, slot, self.slots.len());
+        write_cell_within(&mut self.slots, at, cell)
+    }
+
+    /// Writes into a slot of the top frame, if that takes no memory. Else it answers false, and nothing has happened.
+    #[inline(always)]
+    pub fn write_top_within(&mut self, slot: usize, cell: Cell) -> bool
+        requires { slot < length (last_frame self.old.now).cells }
+        ensures now { self.new.now ≡ (if result
+            then frames_with_cell self.old.now (length self.old.now - 1) slot cell
+            else self.old.now) }
+        ensures held { self.new.held ≡ self.old.held }
+    {
+        let at = place_of(self.top, slot, self.slots.len());
+        write_cell_within(&mut self.slots, at, cell)
+    }
+
     /// Pushes a frame with these slots. Its region stands above the live frames and above all that a copy needs.
     pub fn enter(
         &mut self,
         routine: u32,
         back: u32,
         declared: u32,
-        kinds: &[SlotKind],
-        cells: &[Cell],
+        slots: &[Slot],
     ) -> Result<(), NoMemory>
-        requires same { length kinds.now ≡ length cells.now }
-        requires few { length cells.now < 2 ^ 32 }
+        requires few { length slots.now < 2 ^ 32 }
         requires depth { length self.old.now < frame_limit }
         requires limit { live_cells self.old.now + declared ≤ cell_limit }
         ensures now { self.new.now ≡ (if is_ok result then self.old.now ++ (record {
           routine = routine;
           back = back;
           declared = declared;
-          kinds = kinds.now;
-          cells = cells.now;
+          kinds = kinds_in slots.now;
+          cells = cells_in slots.now;
         }) ∷ [] else self.old.now) }
         ensures held { self.new.held ≡ self.old.held }
         ensures kept { (f s : ℕ) → IsNoted self.old.noted f s → IsNoted self.new.noted f s }
@@ -365,14 +418,14 @@ impl Store {
         let total = self.declared() + declared;
         let end = end_of_live(&self.regions, self.live, self.slots.len());
         let base = higher(end, self.slots.needed());
-        lay(&mut self.slots, base, kinds, cells)?;
+        lay(&mut self.slots, base, slots)?;
         let region = Region {
             routine,
             back,
             declared,
             total,
             base,
-            slots: cells.len() as u32,
+            slots: slots.len() as u32,
         };
         put(&mut self.regions, self.live, region)?;
         self.live += 1;
@@ -508,19 +561,12 @@ fn choose_all(
 }
 
 // Drops the slots from `base` on, and pushes these.
-fn lay(
-    slots: &mut Rewind<Slot>,
-    base: usize,
-    kinds: &[SlotKind],
-    cells: &[Cell],
-) -> Result<(), NoMemory>
+fn lay(slots: &mut Rewind<Slot>, base: usize, more: &[Slot]) -> Result<(), NoMemory>
     requires needed { needed slots.old.held ≤ base }
     requires base { base ≤ length slots.old.now }
-    requires same { length kinds.now ≡ length cells.now }
     ensures agrees { take base slots.new.now ≡ take base slots.old.now }
     ensures wide { base ≤ length slots.new.now }
-    ensures all { OnOk result (slots.new.now
-        ≡ take base slots.old.now ++ slots_of kinds.now cells.now) }
+    ensures all { OnOk result (slots.new.now ≡ take base slots.old.now ++ more.now) }
     ensures held { slots.new.held ≡ slots.old.held }
     ensures kept { (p : ℕ) → slice_index_or (take base slots.old.noted) p false ≡ true
         → slice_index_or slots.new.noted p false ≡ true }
@@ -528,11 +574,7 @@ fn lay(
     ensures trail_room { slots.new.trail_room ≡ slots.old.trail_room }
 {
     slots.truncate(base);
-    for i in 0..cells.len() {
-        let kind = kinds[i];
-        let cell = cells[i];
-        slots.push(Slot { kind, cell })?;
-    }
+    slots.extend(more)?;
     Ok(())
 }
 

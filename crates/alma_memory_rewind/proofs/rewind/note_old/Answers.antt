@@ -3,18 +3,18 @@ use Rattle.alma_memory_rewind.specs.Trail.{is_free, last_mark}
 use Rattle.alma_memory_rewind.proofs.Changes.{note-stays, adds-set, adds-free, free-new}
 use Rattle.alma_memory_rewind.proofs.rewind.note_old.Goals as goal
 
-pub returns-in_ok-add_note-clause-keeps : goal.returns-in_ok-add_note-clause-keeps
-returns-in_ok-add_note-clause-keeps g c = λ counter s.
+pub returns-then-not-free-clause-keeps : goal.returns-then-not-free-clause-keeps
+returns-then-not-free-clause-keeps g c = λ counter s.
     let l : c.args.at < length c.args.stamps.now.items = c.requires.wide in
     let f : is_free c.args.marks.now c.args.at (get_or c.args.stamps.now.items c.args.at 0) ≡ false = sym c.requires.free ∙ c.if-not-free.true in
-    rw (c.in_ok-add_note.ensures.trail, c.in_ok-add_note.ensures.stamps, c.top_serial.ensures)
+    rw (c.add_note.ensures.trail, c.add_note.ensures.stamps, c.top_serial.ensures)
     (note-stays c.args.marks.now c.args.trail.now.items c.args.items.now c.args.stamps.now.items counter c.args.at
     c.index-items-at.result f l c.index-items-at.is s)
 
-pub returns-in_ok-add_note-clause-noted : goal.returns-in_ok-add_note-clause-noted
-returns-in_ok-add_note-clause-noted g c =
+pub returns-then-not-free-clause-noted : goal.returns-then-not-free-clause-noted
+returns-then-not-free-clause-noted g c =
     let l : c.args.at < length c.args.stamps.now.items = c.requires.wide in
-    rw (c.in_ok-add_note.ensures.stamps, c.top_serial.ensures)
+    rw (c.add_note.ensures.stamps, c.top_serial.ensures)
     (adds-set c.args.marks.now c.args.stamps.now.items c.args.at (last_mark c.args.marks.now).serial l
     (free-new c.args.marks.now c.args.at))
 

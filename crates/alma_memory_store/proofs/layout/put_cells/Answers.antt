@@ -1,17 +1,25 @@
-use Rattle.std.proofs.Common.{◌≡◌, ◌<◌, ◌∙◌, arith, length, get_or, ap}
-use Rattle.alma_code.specs.Layout.{args_cells, no_param}
-use Rattle.alma_code.specs.declared.head.CodeParam.{CodeParam}
-use Rattle.alma_code.specs.declared.head.ParamKind.TheVariants.{Mix}
-use Rattle.alma_memory_store.proofs.Layouts.{mix-room}
-use Rattle.alma_memory_store.proofs.Indexed.{read-at}
+use Rattle.std.proofs.Common.{◌≡◌, ◌<◌, get_or, set, length, ap, sym, ◌∙◌, arith}
+use Rattle.std.proofs.lemmas.List.{get_or_read, length-map}
+use Rattle.alma_code.specs.declared.cell.Cell.TheVariants.{Unknown}
+use Rattle.alma_memory_store.specs.declared.store.Slot.{Slot}
+use Rattle.alma_memory_store.specs.Regions.{cells_in, no_slot}
+use Rattle.alma_memory_store.proofs.Layouts.{kinds-set, cells-set, over-more}
 use Rattle.alma_memory_store.proofs.layout.put_cells.Goals as goal
 
-pub push_arg-requires-clause-room : goal.push_arg-requires-clause-room
-push_arg-requires-clause-room g c = λ m.
-    let h = g.H.Head.head c.args.head.now in
-    let l : c.loop-i.i < length h.params = omega arith in
-    let k : (get_or h.params c.loop-i.i no_param).kind ≡ Mix =
-    ap (λ (q : CodeParam). q.kind) (read-at c.param.result no_param h.params c.loop-i.i c.param.ensures) ∙ m in
-    let room = mix-room (g.F.LiveFrames.live c.args.frames.now) h c.args.args.now c.loop-i.i c.requires.head c.requires.whole c.requires.args l k in
-    let e : length c.loop-i.cells.items ≡ length (args_cells (g.F.LiveFrames.live c.args.frames.now) h.params c.args.args.now c.loop-i.i) = ap length c.loop-i.invariant in
-    omega (arith, room, e, c.slots.ensures)
+pub loop-i-preserved : goal.loop-i-preserved
+loop-i-preserved c =
+    let slots = c.loop-i.slots.items in
+    let first = c.args.slots.now.items in
+    let cells = c.args.cells.now in
+    let i = c.loop-i.i in
+    let x : Slot = record { kind = c.index.result.now.kind; cell = get_or cells i Unknown } in
+    let wide : length slots ≡ length first =
+    sym (length-map slots (λ (s : Slot). s.kind)) ∙ (ap length c.loop-i.invariant.0 ∙ length-map first (λ (s : Slot). s.kind)) in
+    let l : i < length cells = omega arith in
+    let m : i < length first = omega (arith, l, c.requires) in
+    let n : i < length (cells_in first) = rw (length-map first (λ (s : Slot). s.cell)) m in
+    let own : x.kind ≡ (get_or slots i no_slot).kind =
+    ap (λ (s : Slot). s.kind) (get_or_read slots i c.index.result.now (omega (arith, wide, m)) c.index.ensures no_slot) in (
+      kinds-set slots i x own ∙ c.loop-i.invariant.0,
+      cells-set slots i x ∙ (ap (λ v. set v i x.cell) c.loop-i.invariant.1 ∙ over-more cells (cells_in first) i Unknown l n),
+    )

@@ -1,30 +1,55 @@
-use Rattle.std.proofs.Common.{◌≡◌, List, length, map, drop, ◌++◌, arith, ◌∙◌, ap, []}
-use Rattle.std.proofs.lemmas.List.{length-set}
+use Rattle.std.proofs.Common.{◌≡◌, length, get_or, set, refl, ap, ◌∙◌, arith}
+use Rattle.std.proofs.lemmas.List.{get_or_read, length-map, length-set}
 use Rattle.std.specs.Prelude.{pos}
-use Rattle.alma_code.specs.Layout.{blank_of}
-use Rattle.alma_code.specs.declared.cell.Cell.{Cell}
+use Rattle.alma_code.specs.Layout.{kinds_of}
 use Rattle.alma_code.specs.declared.cell.Cell.TheVariants.{Int}
-use Rattle.alma_code.specs.declared.cell.SlotKind.{SlotKind}
-use Rattle.alma_memory_store.proofs.Layouts.{head-kinds, blanks-length}
+use Rattle.alma_memory_store.specs.declared.store.Slot.{Slot}
+use Rattle.alma_memory_store.specs.Regions.{blank_slot, cells_in, kinds_in, no_slot}
+use Rattle.alma_memory_store.proofs.Layouts.{head-kinds, kinds-blank, cells-blank, kinds-set, cells-set}
 use Rattle.alma_memory_store.proofs.layout.put_start.Goals as goal
 
--- as many blank cells as kinds
-as-many : (start cells : List Cell) (kinds shown : List SlotKind) → start ≡ [] → shown ≡ kinds →
-    cells ≡ start ++ drop (length start) (map blank_of shown) → length cells ≡ length kinds
-as-many start cells kinds shown e s p =
-    blanks-length start cells kinds e (p ∙ ap (λ ks. start ++ drop (length start) (map blank_of ks)) s)
+pub index-requires : goal.index-requires
+index-requires g c =
+    let h = g.H.Head.head c.args.head.now in
+    let kinds = head-kinds h (kinds_of 0 h.runs) c.requires.head refl in
+    let blanks = length-map (kinds_of 0 h.runs) blank_slot in
+    let all = ap length c.in_ok-put_blanks.ensures.slots in
+    omega (arith, kinds, blanks, all, c.requires.some, c.put_blanks.new.slots.ok.0)
 
 pub index_mut-requires : goal.index_mut-requires
 index_mut-requires g c =
-    let kinds = head-kinds (g.H.Head.head c.args.head.now) c.put_kinds.new.kinds.items c.requires.head c.in_ok-put_kinds.ensures.kinds in
-    let cells = as-many c.clear.new.self.items c.push_blanks.new.cells.items c.put_kinds.new.kinds.items c.as_slice.result.now
-    c.clear.ensures.items c.as_slice.ensures.value c.in_ok-push_blanks.ensures in
-    omega (arith, kinds, cells, c.requires.some, c.push_blanks.new.cells.ok.0)
+    let h = g.H.Head.head c.args.head.now in
+    let kinds = head-kinds h (kinds_of 0 h.runs) c.requires.head refl in
+    let blanks = length-map (kinds_of 0 h.runs) blank_slot in
+    let all = ap length c.in_ok-put_blanks.ensures.slots in
+    omega (arith, kinds, blanks, all, c.requires.some, c.put_blanks.new.slots.ok.0)
+
+pub returns-clause-kinds : goal.returns-clause-kinds
+returns-clause-kinds g c =
+    let h = g.H.Head.head c.args.head.now in
+    let slots = c.put_blanks.new.slots.items in
+    let x : Slot = record { kind = c.index.result.now.kind; cell = Int (pos 0) } in
+    let kinds = head-kinds h (kinds_of 0 h.runs) c.requires.head refl in
+    let blanks = length-map (kinds_of 0 h.runs) blank_slot in
+    let all = ap length c.in_ok-put_blanks.ensures.slots in
+    let own : x.kind ≡ (get_or slots 0 no_slot).kind =
+    ap (λ (s : Slot). s.kind) (get_or_read slots 0 c.index.result.now (omega (arith, kinds, blanks, all, c.requires.some)) c.index.ensures no_slot) in
+    kinds-set slots 0 x own ∙ (ap kinds_in c.in_ok-put_blanks.ensures.slots ∙ kinds-blank (kinds_of 0 h.runs))
+
+pub returns-clause-cells : goal.returns-clause-cells
+returns-clause-cells g c =
+    let h = g.H.Head.head c.args.head.now in
+    let slots = c.put_blanks.new.slots.items in
+    let x : Slot = record { kind = c.index.result.now.kind; cell = Int (pos 0) } in
+    cells-set slots 0 x ∙ ap (λ v. set v 0 (Int (pos 0))) (ap cells_in c.in_ok-put_blanks.ensures.slots ∙ cells-blank (kinds_of 0 h.runs))
 
 pub returns-clause-few : goal.returns-clause-few
 returns-clause-few g c =
-    let kinds = head-kinds (g.H.Head.head c.args.head.now) c.put_kinds.new.kinds.items c.requires.head c.in_ok-put_kinds.ensures.kinds in
-    let cells = as-many c.clear.new.self.items c.push_blanks.new.cells.items c.put_kinds.new.kinds.items c.as_slice.result.now
-    c.clear.ensures.items c.as_slice.ensures.value c.in_ok-push_blanks.ensures in
-    let put = length-set c.push_blanks.new.cells.items 0 (Int (pos 0)) in
-    omega (arith, kinds, cells, put, c.in_ok-put_kinds.ensures.few)
+    let h = g.H.Head.head c.args.head.now in
+    let slots = c.put_blanks.new.slots.items in
+    let x : Slot = record { kind = c.index.result.now.kind; cell = Int (pos 0) } in
+    let kinds = head-kinds h (kinds_of 0 h.runs) c.requires.head refl in
+    let blanks = length-map (kinds_of 0 h.runs) blank_slot in
+    let all = ap length c.in_ok-put_blanks.ensures.slots in
+    let same = length-set slots 0 x in
+    omega (arith, kinds, blanks, all, same, c.in_ok-put_blanks.ensures.few)

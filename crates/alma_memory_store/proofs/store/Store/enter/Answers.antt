@@ -2,10 +2,10 @@ use Rattle.std.proofs.Common.{◌≡◌, ◌≤◌, ◌+◌, ◌-◌, ◌++◌, 
 use Rattle.alma_code.specs.Picture.{live_cells}
 use Rattle.alma_memory_store.specs.declared.store.Region.{Region}
 use Rattle.alma_memory_store.specs.declared.store.Slot.{Slot}
-use Rattle.alma_memory_store.specs.Regions.{end_of, frames_of, frame_with_slots, slots_of, declared_in}
+use Rattle.alma_memory_store.specs.Regions.{end_of, frames_of, frame_with_slots, declared_in}
 use Rattle.alma_memory_store.specs.Stored.{Stored, IsState, AreStates, flags_of}
 use Rattle.alma_base.specs.Limits.{cell_limit}
-use Rattle.alma_memory_store.proofs.Frames.{laid-end, slots-length, kinds-back, cells-back}
+use Rattle.alma_memory_store.proofs.Frames.{laid-end}
 use Rattle.alma_memory_store.proofs.Totals.{declared-frames}
 use Rattle.std.specs.Prelude.{slice_get, Some}
 use Rattle.alma_memory_store.proofs.Finds.{if-err, live-length, put-last}
@@ -117,8 +117,8 @@ invariant_of-self-2 c =
     let low = (laid-end 0 (take n regions) (length slots) c.self.invariant.0.laid).1 in
     let up : end_of 0 (take n regions) ≤ c.higher-base.result = omega (arith, c.higher-base.ensures, c.end_of_live-end.ensures) in
     let inn : c.higher-base.result ≤ length slots = omega (arith, c.higher-base.ensures, c.end_of_live-end.ensures, low, c.needed.ensures.within) in
-    let more : List Slot = slots_of c.args.kinds.now c.args.cells.now in
-    let r : Region = record { routine = c.args.routine; back = c.args.back; declared = c.args.declared; total = c.declared.result + c.args.declared; base = c.higher-base.result; slots = length c.args.cells.now } in
+    let more : List Slot = c.args.slots.now in
+    let r : Region = record { routine = c.args.routine; back = c.args.back; declared = c.args.declared; total = c.declared.result + c.args.declared; base = c.higher-base.result; slots = length c.args.slots.now } in
     let vn : frames_of slots (take n regions) ≡ c.args.self.now.now = ap (λ (p : Stored). p.now) c.self.view_is in
     let wide : length c.args.self.now.now ≡ n = sym (ap length vn) ∙ live-length slots regions n c.self.invariant.0.live in
     let laid : c.lay.new.slots.now ≡ take c.higher-base.result slots ++ more = c.in_ok-lay.ensures.all in
@@ -126,8 +126,7 @@ invariant_of-self-2 c =
     let sum : live_cells c.args.self.now.now ≡ declared_in (take n regions) = sym (ap live_cells vn) ∙ declared-frames slots (take n regions) in
     let total : c.declared.result + c.args.declared ≡ declared_in (take n regions) + c.args.declared = omega (arith, c.declared.ensures.value, sum) in
     let limit : c.declared.result + c.args.declared ≤ cell_limit = omega (arith, c.declared.ensures.value, c.requires.limit) in
-    let e = enters slots c.lay.new.slots.now more regions c.put.new.regions.now n c.higher-base.result r up inn c.self.invariant.0 laid (omega (arith, wide, c.requires.depth)) total limit refl
-    (sym (slots-length c.args.kinds.now c.args.cells.now c.requires.same)) c.in_ok-put.ensures.wide put in (
+    let e = enters slots c.lay.new.slots.now more regions c.put.new.regions.now n c.higher-base.result r up inn c.self.invariant.0 laid (omega (arith, wide, c.requires.depth)) total limit refl refl c.in_ok-put.ensures.wide put in (
       e.state,
       subst (λ v. AreStates v c.put.new.regions.held c.self.inside.lives.items) (sym c.lay.ensures.held) (subst (λ v. AreStates c.self.inside.slots.held v c.self.inside.lives.items) (sym c.put.ensures.held) c.self.invariant.1),
       put-last c.put.new.regions.now regions n r c.self.invariant.0.live put,
@@ -141,8 +140,8 @@ returns-clause-now c =
     let low = (laid-end 0 (take n regions) (length slots) c.self.invariant.0.laid).1 in
     let up : end_of 0 (take n regions) ≤ c.higher-base.result = omega (arith, c.higher-base.ensures, c.end_of_live-end.ensures) in
     let inn : c.higher-base.result ≤ length slots = omega (arith, c.higher-base.ensures, c.end_of_live-end.ensures, low, c.needed.ensures.within) in
-    let more : List Slot = slots_of c.args.kinds.now c.args.cells.now in
-    let r : Region = record { routine = c.args.routine; back = c.args.back; declared = c.args.declared; total = c.declared.result + c.args.declared; base = c.higher-base.result; slots = length c.args.cells.now } in
+    let more : List Slot = c.args.slots.now in
+    let r : Region = record { routine = c.args.routine; back = c.args.back; declared = c.args.declared; total = c.declared.result + c.args.declared; base = c.higher-base.result; slots = length c.args.slots.now } in
     let vn : frames_of slots (take n regions) ≡ c.args.self.now.now = ap (λ (p : Stored). p.now) c.self.view_is in
     let wide : length c.args.self.now.now ≡ n = sym (ap length vn) ∙ live-length slots regions n c.self.invariant.0.live in
     let laid : c.lay.new.slots.now ≡ take c.higher-base.result slots ++ more = c.in_ok-lay.ensures.all in
@@ -150,14 +149,8 @@ returns-clause-now c =
     let sum : live_cells c.args.self.now.now ≡ declared_in (take n regions) = sym (ap live_cells vn) ∙ declared-frames slots (take n regions) in
     let total : c.declared.result + c.args.declared ≡ declared_in (take n regions) + c.args.declared = omega (arith, c.declared.ensures.value, sum) in
     let limit : c.declared.result + c.args.declared ≤ cell_limit = omega (arith, c.declared.ensures.value, c.requires.limit) in
-    let e = enters slots c.lay.new.slots.now more regions c.put.new.regions.now n c.higher-base.result r up inn c.self.invariant.0 laid (omega (arith, wide, c.requires.depth)) total limit refl
-    (sym (slots-length c.args.kinds.now c.args.cells.now c.requires.same)) c.in_ok-put.ensures.wide put in
-    let ks = kinds-back c.args.kinds.now c.args.cells.now c.requires.same in
-    let cs = cells-back c.args.kinds.now c.args.cells.now c.requires.same in
-    e.frames
-    ∙ (ap (λ fs. fs ++ frame_with_slots r more ∷ []) vn
-    ∙ (ap (λ k. c.args.self.now.now ++ (record (frame_with_slots r more) { kinds = k }) ∷ []) ks
-    ∙ ap (λ v. c.args.self.now.now ++ (record { routine = c.args.routine; back = c.args.back; declared = c.args.declared; kinds = c.args.kinds.now; cells = v }) ∷ []) cs))
+    let e = enters slots c.lay.new.slots.now more regions c.put.new.regions.now n c.higher-base.result r up inn c.self.invariant.0 laid (omega (arith, wide, c.requires.depth)) total limit refl refl c.in_ok-put.ensures.wide put in
+    e.frames ∙ ap (λ fs. fs ++ frame_with_slots r more ∷ []) vn
 
 pub returns-clause-kept : goal.returns-clause-kept
 returns-clause-kept c = λ f s h.
@@ -167,7 +160,7 @@ returns-clause-kept c = λ f s h.
     let low = (laid-end 0 (take n regions) (length slots) c.self.invariant.0.laid).1 in
     let up : end_of 0 (take n regions) ≤ c.higher-base.result = omega (arith, c.higher-base.ensures, c.end_of_live-end.ensures) in
     let inn : c.higher-base.result ≤ length slots = omega (arith, c.higher-base.ensures, c.end_of_live-end.ensures, low, c.needed.ensures.within) in
-    let r : Region = record { routine = c.args.routine; back = c.args.back; declared = c.args.declared; total = c.declared.result + c.args.declared; base = c.higher-base.result; slots = length c.args.cells.now } in
+    let r : Region = record { routine = c.args.routine; back = c.args.back; declared = c.args.declared; total = c.declared.result + c.args.declared; base = c.higher-base.result; slots = length c.args.slots.now } in
     let put : take (n + 1) c.put.new.regions.now ≡ take n regions ++ r ∷ [] = c.in_ok-put.ensures.now in
     let vf : flags_of c.self.inside.slots.noted (take n regions) ≡ c.args.self.now.noted = ap (λ (p : Stored). p.noted) c.self.view_is in
     ap (λ v. get_or (get_or (flags_of c.lay.new.slots.noted v) f []) s false) put

@@ -1,18 +1,16 @@
-use Rattle.std.proofs.Common.{◌≡◌, ◌++◌, ◌∷◌, [], List, length, sym, ap, refl, ◌∙◌}
+use Rattle.std.proofs.Common.{◌≡◌, ◌++◌, ◌∷◌, [], List, length, ap, refl, ◌∙◌}
 use Rattle.alma_memory_store.specs.declared.store.Region.{Region}
 use Rattle.alma_memory_store.specs.declared.store.Slot.{Slot}
-use Rattle.alma_memory_store.specs.Regions.{frame_with_slots, slots_of}
-use Rattle.alma_memory_store.proofs.Frames.{slots-length, kinds-back, cells-back}
 use Rattle.alma_memory_store.proofs.Copies.{starts}
 use Rattle.std.specs.Prelude.{slice_get}
 use Rattle.alma_memory_store.proofs.store.Store.start.Goals as goal
 
 pub invariant_of-result : goal.invariant_of-result
 invariant_of-result c =
-    let more : List Slot = slots_of c.args.kinds.now c.args.cells.now in
-    let r : Region = record { routine = 0; back = 0; declared = c.args.declared; total = c.args.declared; base = 0; slots = length c.args.cells.now } in
+    let more : List Slot = c.args.of_start.now in
+    let r : Region = record { routine = 0; back = 0; declared = c.args.declared; total = c.args.declared; base = 0; slots = length c.args.of_start.now } in
     let regions : c.push.new.self.now ≡ r ∷ [] = c.in_ok-push.ensures.now ∙ ap (λ v. v ++ r ∷ []) c.new-regions.ensures.now in
-    let e = starts c.lay.new.slots.now more c.push.new.self.now r c.in_ok-lay.ensures.all regions refl c.requires.limit refl (sym (slots-length c.args.kinds.now c.args.cells.now c.requires.same)) in (
+    let e = starts c.lay.new.slots.now more c.push.new.self.now r c.in_ok-lay.ensures.all regions refl c.requires.limit refl refl in (
       e.state,
       rw (c.lay.ensures.held ∙ c.new-slots.ensures.held, c.push.ensures.held ∙ c.new-regions.ensures.held, c.new-lives.ensures.items) tt,
       ap (λ v. slice_get v 0) regions,
@@ -20,12 +18,8 @@ invariant_of-result c =
 
 pub returns-clause-now : goal.returns-clause-now
 returns-clause-now c =
-    let more : List Slot = slots_of c.args.kinds.now c.args.cells.now in
-    let r : Region = record { routine = 0; back = 0; declared = c.args.declared; total = c.args.declared; base = 0; slots = length c.args.cells.now } in
+    let more : List Slot = c.args.of_start.now in
+    let r : Region = record { routine = 0; back = 0; declared = c.args.declared; total = c.args.declared; base = 0; slots = length c.args.of_start.now } in
     let regions : c.push.new.self.now ≡ r ∷ [] = c.in_ok-push.ensures.now ∙ ap (λ v. v ++ r ∷ []) c.new-regions.ensures.now in
-    let e = starts c.lay.new.slots.now more c.push.new.self.now r c.in_ok-lay.ensures.all regions refl c.requires.limit refl (sym (slots-length c.args.kinds.now c.args.cells.now c.requires.same)) in
-    let ks = kinds-back c.args.kinds.now c.args.cells.now c.requires.same in
-    let cs = cells-back c.args.kinds.now c.args.cells.now c.requires.same in
+    let e = starts c.lay.new.slots.now more c.push.new.self.now r c.in_ok-lay.ensures.all regions refl c.requires.limit refl refl in
     e.frames
-    ∙ (ap (λ k. (record (frame_with_slots r more) { kinds = k }) ∷ []) ks
-    ∙ ap (λ v. (record { routine = 0; back = 0; declared = c.args.declared; kinds = c.args.kinds.now; cells = v }) ∷ []) cs)

@@ -3,7 +3,7 @@ use Rattle.std.proofs.lemmas.List.{length-map}
 use Rattle.alma_code.specs.Carries.{frames_with_carry}
 use Rattle.alma_memory_store.specs.Carries.{carry_of_entries, change_of}
 use Rattle.alma_memory.proofs.Lays.{lays-more, lays-none}
-use Rattle.alma_memory.proofs.stack.lay.Goals as goal
+use Rattle.alma_memory.proofs.stack.lay_cells.Goals as goal
 
 pub loop-place-init : goal.loop-place-init
 loop-place-init c =

@@ -1,7 +1,7 @@
 use Rattle.std.proofs.Common.{◌≡◌, ◌+◌, ◌≤◌, length}
 use Rattle.alma_code.specs.Carries.{frames_with_carry}
 use Rattle.alma_memory_store.specs.Carries.{carry_of_entries}
-use Rattle.alma_memory.proofs.stack.lay.Given as goal
+use Rattle.alma_memory.proofs.stack.lay_cells.Given as goal
 
 abbrev pub invariant-loop-place : goal.invariant-loop-place
 invariant-loop-place l =
