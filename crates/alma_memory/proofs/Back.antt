@@ -1,11 +1,13 @@
 -- The entry of a choice keeps its copy under all calls that leave it.
-use Rattle.std.proofs.Common.{◌≡◌, ℕ, ◌≤◌, ◌<◌, ◌+◌, ◌-◌, List, [], ◌∷◌, ◌++◌, length, take, get_or, set, suc, zero, refl, sym, ap, ◌∙◌, arith}
+use Rattle.std.proofs.Common.{◌≡◌, ℕ, ◌≤◌, ◌<◌, ◌+◌, ◌-◌, List, [], ◌∷◌, ◌++◌, length, take, get_or, set, suc, zero, refl, sym, ap, ◌∙◌}
+use Rattle.std.proofs.Common.{arith}
 use Rattle.std.proofs.Common.{inl, inr}
 use Rattle.std.proofs.lemmas.List.{length_push, length-take, length-take-le, length-append, get_or_at, get_or-take, get_or-append_right}
 use Rattle.std.proofs.Math.ListN.{get_or-append}
 use Rattle.alma_code.specs.declared.cell.ChoiceKind.{ChoiceKind}
 use Rattle.alma_code.specs.declared.cell.ChoiceKind.TheVariants.{Branch, Forall, Body, Done}
-use Rattle.alma_code.specs.Picture.{PlainFrame, PlainEntry, no_entry, top_of, entry_at, stack_after_pop, entry_after_pop, entry_of_kind_after_pop}
+use Rattle.alma_code.specs.Picture.{PlainFrame, PlainEntry, no_entry, top_of, entry_at, stack_after_pop, entry_after_pop}
+use Rattle.alma_code.specs.Picture.{entry_of_kind_after_pop}
 use Rattle.alma_base.specs.Carry.{with_changes}
 use Rattle.alma_code.specs.Carries.{with_carry, diffs}
 use Rattle.std.proofs.lemmas.Bool.{cases_lt}
@@ -33,14 +35,16 @@ copy-set (x ∷ held) (suc j) e zero h = refl
 copy-set (x ∷ held) (suc j) e (suc i) h = copy-set held j e i h
 
 -- what a pop leaves of the top entry has its copy
-copy-left : (kind : ChoiceKind) (e : PlainEntry) → 1 ≤ length (entry_of_kind_after_pop kind e) → copy_at (entry_of_kind_after_pop kind e) 0 ≡ e.frames
+copy-left : (kind : ChoiceKind) (e : PlainEntry) → 1 ≤ length (entry_of_kind_after_pop kind e)
+    → copy_at (entry_of_kind_after_pop kind e) 0 ≡ e.frames
 copy-left Forall e l = refl
 copy-left Branch e l = absurd (omega arith)
 copy-left Body e l = absurd (omega arith)
 copy-left Done e l = absurd (omega arith)
 
 -- a pop leaves the copies below the top, and the copy of the top where it stays
-copy-stack_after_pop : (held : List PlainEntry) (i : ℕ) → i < length (stack_after_pop held) → i < length held → copy_at (stack_after_pop held) i ≡ copy_at held i
+copy-stack_after_pop : (held : List PlainEntry) (i : ℕ) → i < length (stack_after_pop held) → i < length held
+    → copy_at (stack_after_pop held) i ≡ copy_at held i
 copy-stack_after_pop held i l m =
     let n : ℕ = length held - 1 in
     let less : n ≤ length held = omega arith in
@@ -53,11 +57,13 @@ copy-stack_after_pop held i l m =
           let some : 1 ≤ length (entry_after_pop (top_of held)) = omega (arith, l, sum, len, here) in
           let z : i - n ≡ 0 = omega arith in
           ap (λ (e : PlainEntry). e.frames) (get_or-append_right (take n held) (entry_after_pop (top_of held)) n i no_entry len le)
-          ∙ (ap (copy_at (entry_after_pop (top_of held))) z ∙ (copy-left (top_of held).kind (top_of held) some ∙ ap (copy_at held) (sym here))))
+          ∙ (ap (copy_at (entry_after_pop (top_of held))) z
+          ∙ (copy-left (top_of held).kind (top_of held) some ∙ ap (copy_at held) (sym here))))
     ]
 
 -- a call that leaves an entry leaves its copy
-copy-kept : (call : Call) (old new : Picture) (i : ℕ) → Makes call old new → i < length old.held → i < length new.held → copy_at new.held i ≡ copy_at old.held i
+copy-kept : (call : Call) (old new : Picture) (i : ℕ) → Makes call old new → i < length old.held → i < length new.held
+    → copy_at new.held i ≡ copy_at old.held i
 copy-kept Nothing old new i m l k = ap (λ h. copy_at h i) m.held
 copy-kept (Write f s c) old new i m l k = ap (λ h. copy_at h i) m.held
 copy-kept (Enter g) old new i m l k = ap (λ h. copy_at h i) m.held
@@ -72,7 +78,8 @@ copy-kept (Cut h) old new i m l k =
     ap (λ hs. copy_at hs i) m.held ∙ copy-take h old.held i lt
 copy-kept (Overlay h) old new i m l k = ap (λ hs. copy_at hs i) m.held
 copy-kept (Keep h) old new i m l k =
-    let e : PlainEntry = with_carry (entry_at old.held h) (with_changes (diffs (top_of old.held).frames old.now) (entry_at old.held h).carry) in
+    let e : PlainEntry = with_carry (entry_at old.held h)
+    (with_changes (diffs (top_of old.held).frames old.now) (entry_at old.held h).carry) in
     let len = length-take (length old.held - 1) (set old.held (h - 1) e) in
     let same = ap length m.held in
     let lt : i < length old.held - 1 = omega (arith, k, len, same) in

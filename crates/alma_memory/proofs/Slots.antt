@@ -16,7 +16,8 @@ abbrev CopyHasSlots : ℕ → PlainEntry → Type 0
 CopyHasSlots slots entry = HasSlots slots entry.frames
 
 -- what a pop leaves of an entry has its copy
-left-slots : (slots : ℕ) (kind : ChoiceKind) (e : PlainEntry) → CopyHasSlots slots e → All (CopyHasSlots slots) (entry_of_kind_after_pop kind e)
+left-slots : (slots : ℕ) (kind : ChoiceKind) (e : PlainEntry) → CopyHasSlots slots e
+    → All (CopyHasSlots slots) (entry_of_kind_after_pop kind e)
 left-slots slots Forall e h = All-cons (CopyHasSlots slots) (record e { kind = Done }) [] h (All-nil (CopyHasSlots slots))
 left-slots slots Branch e h = All-nil (CopyHasSlots slots)
 left-slots slots Body e h = All-nil (CopyHasSlots slots)
@@ -35,7 +36,8 @@ fail-slots slots p q m some h =
     }
 
 -- and so does a pop that may find no entry
-pub stack_after_pop-slots : {A : Type 0} (stack_after_pop : Option A) (slots : ℕ) (p q : Picture) → (IsNone stack_after_pop ↔ (p.held ≡ [])) →
+pub stack_after_pop-slots : {A : Type 0} (stack_after_pop : Option A) (slots : ℕ) (p q : Picture) → (IsNone stack_after_pop ↔ (p.held ≡ []))
+    →
     Makes (if is_some stack_after_pop then Fail else Nothing) p q → KeepsSlots slots p → KeepsSlots slots q
 stack_after_pop-slots None slots p q none m h = record { now = rw m.now h.now; held = rw m.held h.held }
 stack_after_pop-slots (Some r) slots p q none m h = fail-slots slots p q m (λ e. let no : true ≡ false = none.1 e in absurd (cc)) h

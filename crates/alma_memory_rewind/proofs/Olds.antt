@@ -1,5 +1,6 @@
 -- What the first note of each place holds is what stood there before the notes.
-use Rattle.std.proofs.Common.{Result, Ok, Err, ◌≡◌, ℕ, suc, zero, ◌≤◌, ◌<◌, Bool, true, false, List, [], ◌∷◌, length, take, drop, set, refl, sym, ap, ◌∙◌, arith}
+use Rattle.std.proofs.Common.{Result, Ok, Err, ◌≡◌, ℕ, suc, zero, ◌≤◌, ◌<◌, Bool, true, false, List, [], ◌∷◌, length, take, drop, set, refl}
+use Rattle.std.proofs.Common.{sym, ap, ◌∙◌, arith}
 use Rattle.std.specs.Prelude.{IfOk, Option, Some, None, slice_get, nat_eq, if◌then◌else◌}
 use Rattle.std.proofs.lemmas.Bool.{eqb-true, false≢true}
 use Rattle.std.proofs.lemmas.Bool.Decides.{nat_tests}
@@ -25,15 +26,18 @@ get-other (y ∷ xs) (suc k) x (suc at) d = get-other xs k x at (λ e. d (ap suc
 eq-test : (k at : ℕ) → k ≡ at → nat_eq k at ≡ true
 eq-test k at e = grind (arith, nat_tests)
 
-get-set : {T : Type 0} (xs : List T) (k : ℕ) (x : T) (at : ℕ) (b : Bool) → b ≡ nat_eq k at → at < length xs → slice_get (set xs k x) at ≡ first_or (if b then Some x else None) (slice_get xs at)
+get-set : {T : Type 0} (xs : List T) (k : ℕ) (x : T) (at : ℕ) (b : Bool) → b ≡ nat_eq k at → at < length xs
+    → slice_get (set xs k x) at ≡ first_or (if b then Some x else None) (slice_get xs at)
 get-set xs k x at true e l = let q : k ≡ at = eqb-true k at (sym e) in ap (λ j. slice_get (set xs j x) at) q ∙ get-same xs at x l
 get-set xs k x at false e l = get-other xs k x at (λ q. false≢true (e ∙ eq-test k at q))
 
-first-step : {T : Type 0} (b : Bool) (x : T) (o other : Option T) → first_or (if b then Some x else None) (first_or o other) ≡ first_or (if b then Some x else o) other
+first-step : {T : Type 0} (b : Bool) (x : T) (o other : Option T)
+    → first_or (if b then Some x else None) (first_or o other) ≡ first_or (if b then Some x else o) other
 first-step true x o other = refl
 first-step false x o other = refl
 
-pub first-before : {T : Type 0} (ns : List (Note T)) (xs : List T) (at : ℕ) → at < length xs → slice_get (before ns xs) at ≡ first_or (first_of ns at) (slice_get xs at)
+pub first-before : {T : Type 0} (ns : List (Note T)) (xs : List T) (at : ℕ) → at < length xs
+    → slice_get (before ns xs) at ≡ first_or (first_of ns at) (slice_get xs at)
 first-before [] xs at l = refl
 first-before (n ∷ ns) xs at l =
     get-set (before ns xs) n.at n.old at (nat_eq n.at at) refl (rw (length-before ns xs) l)
@@ -46,7 +50,8 @@ get-take (suc n) [] at l = refl
 get-take (suc n) (x ∷ xs) zero l = refl
 get-take (suc n) (x ∷ xs) (suc at) l = get-take n xs at (omega (arith, l))
 
-pub olds-are : {T : Type 0} (ms : List Mark) (trail : List (Note T)) (xs : List T) (olds : ℕ → Option T) → 1 ≤ length ms → Rises 0 0 ms (length trail) (length xs) →
+pub olds-are : {T : Type 0} (ms : List Mark) (trail : List (Note T)) (xs : List T) (olds : ℕ → Option T) → 1 ≤ length ms
+    → Rises 0 0 ms (length trail) (length xs) →
     ((at : ℕ) → olds at ≡ first_of (drop (last_mark ms).mark trail) at) → IsOlds xs (held_of trail xs ms) olds
 olds-are [] trail xs olds some r h = absurd (omega (arith, some))
 olds-are {T} (m ∷ ms) trail xs olds some r h = record { within = deep; is = by_place }
@@ -58,7 +63,8 @@ olds-are {T} (m ∷ ms) trail xs olds some r h = record { within = deep; is = by
         let long = length-copy trail xs (last_mark (m ∷ ms)) s.2 in
         omega (arith, top, long, s.2)
 
-    by_place : (at : ℕ) → at < needed (held_of trail xs (m ∷ ms)) → slice_get (top_copy (held_of trail xs (m ∷ ms))) at ≡ first_or (olds at) (slice_get xs at)
+    by_place : (at : ℕ) → at < needed (held_of trail xs (m ∷ ms))
+        → slice_get (top_copy (held_of trail xs (m ∷ ms))) at ≡ first_or (olds at) (slice_get xs at)
     by_place at l =
         let last : Mark = last_mark (m ∷ ms) in
         let s = rises-last 0 0 m ms (length trail) (length xs) r in

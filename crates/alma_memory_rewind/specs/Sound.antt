@@ -21,7 +21,8 @@ module _ {T : Type 0} where
   -- has a note of it
   abbrev pub IsStamp : List Mark → List (Note T) → (n at stamp : ℕ) → Type 0
   IsStamp marks trail n at stamp =
-      (i : ℕ) → i < length marks → (get_or marks i no_mark).mark ≤ n → (get_or marks i no_mark).serial ≤ stamp → at < (get_or marks i no_mark).top →
+      (i : ℕ) → i < length marks → (get_or marks i no_mark).mark ≤ n → (get_or marks i no_mark).serial ≤ stamp
+      → at < (get_or marks i no_mark).top →
       HasNote trail (get_or marks i no_mark).mark n at
 
   -- each stamp is right, that of an item and that which a note holds
@@ -44,13 +45,15 @@ module _ {T : Type 0} where
     pub idle : length marks ≡ 0 → trail ≡ []
 
   -- what a change keeps: all copies, and soundness
-  pub record Keeps (marks : List Mark) (trail trail' : List (Note T)) (items items' : List T) (stamps' : List ℕ) (counter : ℕ) : Type 0 where
-    pub held : held_of trail' items' marks ≡ held_of trail items marks
-    pub sound : IsSound marks trail' items' stamps' counter
+  pub record Keeps (marks : List Mark) (trail trail' : List (Note T)) (items items' : List T) (stamps' : List ℕ) (counter : ℕ) : Type 0
+    where
+      pub held : held_of trail' items' marks ≡ held_of trail items marks
+      pub sound : IsSound marks trail' items' stamps' counter
 
   -- a trail with fewer notes that does as well
   pub record Sweeps (marks : List Mark) (trail trail' : List (Note T)) : Type 0 where
-    pub keeps : (items : List T) (stamps : List ℕ) (counter : ℕ) → IsSound marks trail items stamps counter → Keeps marks trail trail' items items stamps counter
+    pub keeps : (items : List T) (stamps : List ℕ) (counter : ℕ) → IsSound marks trail items stamps counter
+        → Keeps marks trail trail' items items stamps counter
 
   -- what does as well as the first does as well as the second
   pub record SweepsOn (marks : List Mark) (old new : List (Note T)) : Type 0 where

@@ -1,5 +1,6 @@
 -- The trail: notes of what was written, from which each copy follows.
-use Rattle.std.specs.Prelude.{ℕ, suc, ◌-◌, Bool, true, nat_le, nat_eq, ◌||◌, Option, None, Some, if◌then◌else◌, List, [], ◌∷◌, map, take, drop, length, get_or, set}
+use Rattle.std.specs.Prelude.{ℕ, suc, ◌-◌, Bool, true, nat_le, nat_eq, ◌||◌, Option, None, Some, if◌then◌else◌, List, [], ◌∷◌, map, take}
+use Rattle.std.specs.Prelude.{drop, length, get_or, set}
 use Rattle.alma_memory_rewind.specs.declared.rewind.Note.{Note}
 use Rattle.alma_memory_rewind.specs.declared.rewind.Mark.{Mark}
 

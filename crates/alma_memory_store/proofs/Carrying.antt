@@ -44,7 +44,8 @@ tied-by false false below' same' h k = refl
 
 -- a slot that is less comes before
 less-by : (below same below' same' : Bool) →
-    ordering_then (cond below Less (cond same Equal Greater)) (cond below' Less (cond same' Equal Greater)) ≡ Less → below || (same && below') ≡ true
+    ordering_then (cond below Less (cond same Equal Greater)) (cond below' Less (cond same' Equal Greater)) ≡ Less
+    → below || (same && below') ≡ true
 less-by true same below' same' e = refl
 less-by false true true same' e = refl
 less-by false true false true e = absurd (cc)
@@ -66,20 +67,24 @@ same-place-is a b c d e = let both = and_parts (nat_eq a c) (nat_eq b d) e in (e
 -- a look-up meets the key of its own place
 at-same : (k e : SlotPlace) → is_at (slot_cmp k) e ≡ is_same_place e.frame e.slot k.frame k.slot
 at-same k e =
-    tied-by (nat_lt k.frame e.frame) (nat_eq k.frame e.frame) (nat_lt k.slot e.slot) (nat_eq k.slot e.slot) (not-same k.frame e.frame) (not-same k.slot e.slot)
+    tied-by (nat_lt k.frame e.frame) (nat_eq k.frame e.frame) (nat_lt k.slot e.slot) (nat_eq k.slot e.slot) (not-same k.frame e.frame)
+    (not-same k.slot e.slot)
     ∙ same-place-swap k.frame k.slot e.frame e.slot
 
 -- ---- the entries of a map
 
 -- a choice of entries, as a choice of carries
-chosen-listed : (b s : Bool) (x y z : List (SlotPlace × Cell)) (y' z' : Carry Cell) → (s ≡ true → carry_of_entries y ≡ y') → carry_of_entries z ≡ z' →
-    carry_of_entries (if_true b (λ _. x) (λ _. if_true s (λ _. y) (λ _. z))) ≡ if_true b (λ _. carry_of_entries x) (λ _. if_true s (λ _. y') (λ _. z'))
+chosen-listed : (b s : Bool) (x y z : List (SlotPlace × Cell)) (y' z' : Carry Cell) → (s ≡ true → carry_of_entries y ≡ y')
+    → carry_of_entries z ≡ z' →
+    carry_of_entries (if_true b (λ _. x) (λ _. if_true s (λ _. y) (λ _. z))) ≡ if_true b (λ _. carry_of_entries x)
+    (λ _. if_true s (λ _. y') (λ _. z'))
 chosen-listed true s x y z y' z' h e = refl
 chosen-listed false true x y z y' z' h e = h refl
 chosen-listed false false x y z y' z' h e = e
 
 -- an insertion sets the cell of a place
-pub insert-listed : (es : List (SlotPlace × Cell)) (k : SlotPlace) (v : Cell) → carry_of_entries (insert_entry slot_cmp es k v) ≡ with_change (change_of k v) (carry_of_entries es)
+pub insert-listed : (es : List (SlotPlace × Cell)) (k : SlotPlace) (v : Cell)
+    → carry_of_entries (insert_entry slot_cmp es k v) ≡ with_change (change_of k v) (carry_of_entries es)
 insert-listed [] k v = refl
 insert-listed (e ∷ es) k v =
     let order = ordered-by (nat_lt k.frame e.0.frame) (nat_eq k.frame e.0.frame) (nat_lt k.slot e.0.slot) (nat_eq k.slot e.0.slot)
@@ -97,36 +102,46 @@ by-test t true x y y' h e = rw h refl
 by-test t false x y y' h e = rw h e
 
 -- the same choice in a carry
-by-test-listed : (t b : Bool) (x y : List (SlotPlace × Cell)) (y' : Carry Cell) → t ≡ b → carry_of_entries y ≡ y' → carry_of_entries (cond t x y) ≡ if_true b (λ _. carry_of_entries x) (λ _. y')
+by-test-listed : (t b : Bool) (x y : List (SlotPlace × Cell)) (y' : Carry Cell) → t ≡ b → carry_of_entries y ≡ y'
+    → carry_of_entries (cond t x y) ≡ if_true b (λ _. carry_of_entries x) (λ _. y')
 by-test-listed t true x y y' h e = rw h refl
 by-test-listed t false x y y' h e = rw h e
 
 -- a look-up finds the cell of a place
-pub lookup-listed : (es : List (SlotPlace × Cell)) (k : SlotPlace) → lookup (is_at (slot_cmp k)) es ≡ carried_at k.frame k.slot (carry_of_entries es)
+pub lookup-listed : (es : List (SlotPlace × Cell)) (k : SlotPlace)
+    → lookup (is_at (slot_cmp k)) es ≡ carried_at k.frame k.slot (carry_of_entries es)
 lookup-listed [] k = refl
 lookup-listed (e ∷ es) k =
     by-test (is_at (slot_cmp k) e.0) (is_same_place e.0.frame e.0.slot k.frame k.slot) (Some e.1) (lookup (is_at (slot_cmp k)) es)
     (carried_at k.frame k.slot (carry_of_entries es)) (at-same k e.0) (lookup-listed es k)
 
 -- a removal takes a place away
-pub remove-listed : (es : List (SlotPlace × Cell)) (k : SlotPlace) → carry_of_entries (remove_entry (is_at (slot_cmp k)) es) ≡ without_place k.frame k.slot (carry_of_entries es)
+pub remove-listed : (es : List (SlotPlace × Cell)) (k : SlotPlace)
+    → carry_of_entries (remove_entry (is_at (slot_cmp k)) es) ≡ without_place k.frame k.slot (carry_of_entries es)
 remove-listed [] k = refl
 remove-listed (e ∷ es) k =
     by-test-listed (is_at (slot_cmp k) e.0) (is_same_place e.0.frame e.0.slot k.frame k.slot) es (e ∷ remove_entry (is_at (slot_cmp k)) es)
-    (change_of e.0 e.1 ∷ without_place k.frame k.slot (carry_of_entries es)) (at-same k e.0) (ap (λ rest. change_of e.0 e.1 ∷ rest) (remove-listed es k))
+    (change_of e.0 e.1 ∷ without_place k.frame k.slot (carry_of_entries es)) (at-same k e.0)
+    (ap (λ rest. change_of e.0 e.1 ∷ rest) (remove-listed es k))
 
 -- a write through the map changes the cell of a place
-pub set-listed : (es : List (SlotPlace × Cell)) (k : SlotPlace) (v : Cell) → carry_of_entries (set_value (is_at (slot_cmp k)) es v) ≡ with_cell k.frame k.slot v (carry_of_entries es)
+pub set-listed : (es : List (SlotPlace × Cell)) (k : SlotPlace) (v : Cell)
+    → carry_of_entries (set_value (is_at (slot_cmp k)) es v) ≡ with_cell k.frame k.slot v (carry_of_entries es)
 set-listed [] k v = refl
 set-listed (e ∷ es) k v =
-    by-test-listed (is_at (slot_cmp k) e.0) (is_same_place e.0.frame e.0.slot k.frame k.slot) ((e.0, v) ∷ es) (e ∷ set_value (is_at (slot_cmp k)) es v)
-    (change_of e.0 e.1 ∷ with_cell k.frame k.slot v (carry_of_entries es)) (at-same k e.0) (ap (λ rest. change_of e.0 e.1 ∷ rest) (set-listed es k v))
+    by-test-listed (is_at (slot_cmp k) e.0) (is_same_place e.0.frame e.0.slot k.frame k.slot) ((e.0, v) ∷ es)
+    (e ∷ set_value (is_at (slot_cmp k)) es v)
+    (change_of e.0 e.1 ∷ with_cell k.frame k.slot v (carry_of_entries es)) (at-same k e.0)
+    (ap (λ rest. change_of e.0 e.1 ∷ rest) (set-listed es k v))
 
 -- the keys above a key come after its place
-above-listed : (k : SlotPlace) (es : List (SlotPlace × Cell)) → AllByRecursion (λ y. slot_cmp k y ≡ Less) (keys_of es) → IsAbove k.frame k.slot (carry_of_entries es)
+above-listed : (k : SlotPlace) (es : List (SlotPlace × Cell)) → AllByRecursion (λ y. slot_cmp k y ≡ Less) (keys_of es)
+    → IsAbove k.frame k.slot (carry_of_entries es)
 above-listed k [] h = tt
-above-listed k (e ∷ es) h =
-    (less-by (nat_lt k.frame e.0.frame) (nat_eq k.frame e.0.frame) (nat_lt k.slot e.0.slot) (nat_eq k.slot e.0.slot) h.0, above-listed k es h.1)
+above-listed k (e ∷ es) h = (
+  less-by (nat_lt k.frame e.0.frame) (nat_eq k.frame e.0.frame) (nat_lt k.slot e.0.slot) (nat_eq k.slot e.0.slot) h.0,
+  above-listed k es h.1,
+)
 
 -- the entries of an ordered map rise
 pub rising-listed : (es : List (SlotPlace × Cell)) → IsStrictlySortedBy slot_cmp (keys_of es) → IsRising (carry_of_entries es)
@@ -139,7 +154,8 @@ pub with-absent : (f s : ℕ) (v : Cell) (cs : Carry Cell) → carried_at f s cs
 with-absent f s v [] e = refl
 with-absent f s v (x ∷ cs) e = choose (is_same_place x.frame x.slot f s) (with-absent f s v cs) e
   where
-    choose : (b : Bool) → (carried_at f s cs ≡ None → with_cell f s v cs ≡ cs) → if_true b (λ _. Some x.cell) (λ _. carried_at f s cs) ≡ None →
+    choose : (b : Bool) → (carried_at f s cs ≡ None → with_cell f s v cs ≡ cs)
+        → if_true b (λ _. Some x.cell) (λ _. carried_at f s cs) ≡ None →
         if_true b (λ _. record x { cell = v } ∷ cs) (λ _. x ∷ with_cell f s v cs) ≡ x ∷ cs
     choose true ih h = absurd (cc)
     choose false ih h = ap (λ rest. x ∷ rest) (ih h)

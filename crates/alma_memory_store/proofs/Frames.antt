@@ -1,5 +1,6 @@
 -- Lemmas on frames that are regions of one list of slots.
-use Rattle.std.proofs.Common.{◌≡◌, ℕ, suc, zero, ◌≤◌, ◌<◌, ◌+◌, ◌-◌, List, [], ◌∷◌, ◌++◌, length, map, take, drop, get_or, set, refl, sym, ap, ◌∙◌, arith}
+use Rattle.std.proofs.Common.{◌≡◌, ℕ, suc, zero, ◌≤◌, ◌<◌, ◌+◌, ◌-◌, List, [], ◌∷◌, ◌++◌, length, map, take, drop, get_or, set, refl, sym}
+use Rattle.std.proofs.Common.{ap, ◌∙◌, arith}
 use Rattle.std.proofs.lemmas.List.{take-set-le, take-take, length-take-le, length-drop, length-map, map-set, get_or-take, get_or-drop}
 use Rattle.std.proofs.Math.Seq.{map-set_same}
 use Rattle.alma_code.specs.Picture.{frame_with, frames_with_cell}
@@ -68,7 +69,8 @@ pub laid-end : (low : ℕ) (rs : List Region) (top : ℕ) → AreLaid low rs top
 laid-end low [] top h = (omega arith, h)
 laid-end low (r ∷ rs) top h = let e = laid-end (r.base + r.slots) rs top h.1 in ((h.0, e.0), e.1)
 
-pub laid-push : (low : ℕ) (rs : List Region) (r : Region) (top : ℕ) → AreLaid low rs r.base → r.base + r.slots ≤ top → AreLaid low (rs ++ r ∷ []) top
+pub laid-push : (low : ℕ) (rs : List Region) (r : Region) (top : ℕ) → AreLaid low rs r.base → r.base + r.slots ≤ top
+    → AreLaid low (rs ++ r ∷ []) top
 laid-push low [] r top h l = (h, l)
 laid-push low (d ∷ rs) r top h l = (h.0, laid-push (d.base + d.slots) rs r top h.1 l)
 
@@ -77,14 +79,16 @@ laid-take zero low rs top h = laid-le low rs top h
 laid-take (suc k) low [] top h = h
 laid-take (suc k) low (r ∷ rs) top h = (h.0, laid-take k (r.base + r.slots) rs top h.1)
 
-pub laid-at : (low : ℕ) (rs : List Region) (top f : ℕ) → AreLaid low rs top → f < length rs → (low ≤ (get_or rs f no_region).base) × ((get_or rs f no_region).base + (get_or rs f no_region).slots ≤ top)
+pub laid-at : (low : ℕ) (rs : List Region) (top f : ℕ) → AreLaid low rs top → f < length rs → (low ≤ (get_or rs f no_region).base)
+    × ((get_or rs f no_region).base + (get_or rs f no_region).slots ≤ top)
 laid-at low [] top f h l = absurd (omega (arith, l))
 laid-at low (r ∷ rs) top zero h l = (h.0, laid-le (r.base + r.slots) rs top h.1)
 laid-at low (r ∷ rs) top (suc f) h l =
     let a = laid-at (r.base + r.slots) rs top f h.1 (omega (arith, l)) in (omega (arith, h.0, a.0), a.1)
 
 -- the end of the last region
-pub end-last : (low : ℕ) (rs : List Region) → 1 ≤ length rs → end_of low rs ≡ (get_or rs (length rs - 1) no_region).base + (get_or rs (length rs - 1) no_region).slots
+pub end-last : (low : ℕ) (rs : List Region) → 1 ≤ length rs
+    → end_of low rs ≡ (get_or rs (length rs - 1) no_region).base + (get_or rs (length rs - 1) no_region).slots
 end-last low [] l = absurd (omega (arith, l))
 end-last low (r ∷ []) l = refl
 end-last low (r ∷ d ∷ rs) l =
@@ -93,7 +97,8 @@ end-last low (r ∷ d ∷ rs) l =
 
 -- ---- frames
 
-frame-part : (r : Region) (xs ys : List Slot) → take r.slots (drop r.base xs) ≡ take r.slots (drop r.base ys) → frame_of xs r ≡ frame_of ys r
+frame-part : (r : Region) (xs ys : List Slot) → take r.slots (drop r.base xs) ≡ take r.slots (drop r.base ys)
+    → frame_of xs r ≡ frame_of ys r
 frame-part r xs ys e = ap (frame_with_slots r) e
 
 -- frames of a list that is cut above them
@@ -106,11 +111,13 @@ frames-take low (r ∷ rs) t xs h =
     cc
 
 -- frames of lists that agree below t
-pub frames-agree : (low : ℕ) (rs : List Region) (t : ℕ) (xs ys : List Slot) → AreLaid low rs t → take t xs ≡ take t ys → frames_of xs rs ≡ frames_of ys rs
+pub frames-agree : (low : ℕ) (rs : List Region) (t : ℕ) (xs ys : List Slot) → AreLaid low rs t → take t xs ≡ take t ys
+    → frames_of xs rs ≡ frames_of ys rs
 frames-agree low rs t xs ys h e =
     sym (frames-take low rs t xs h) ∙ (ap (λ v. frames_of v rs) e ∙ frames-take low rs t ys h)
 
-frames-below : (low : ℕ) (rs : List Region) (top : ℕ) (xs : List Slot) (k : ℕ) (x : Slot) → AreLaid low rs top → k < low → frames_of (set xs k x) rs ≡ frames_of xs rs
+frames-below : (low : ℕ) (rs : List Region) (top : ℕ) (xs : List Slot) (k : ℕ) (x : Slot) → AreLaid low rs top → k < low
+    → frames_of (set xs k x) rs ≡ frames_of xs rs
 frames-below low [] top xs k x h l = refl
 frames-below low (r ∷ rs) top xs k x h l =
     let lt : k < r.base = omega (arith, h.0, l) in
@@ -119,37 +126,53 @@ frames-below low (r ∷ rs) top xs k x h l =
     cc
 
 -- a slot that keeps its kind in some slots
-kept-kinds : (part : List Slot) (s : ℕ) (x : Slot) → x.kind ≡ (get_or part s no_slot).kind → map (λ (v : Slot). v.kind) (set part s x) ≡ map (λ (v : Slot). v.kind) part
+kept-kinds : (part : List Slot) (s : ℕ) (x : Slot) → x.kind ≡ (get_or part s no_slot).kind
+    → map (λ (v : Slot). v.kind) (set part s x) ≡ map (λ (v : Slot). v.kind) part
 kept-kinds part s x e = map-set_same (λ (v : Slot). v.kind) part s x no_slot e
 
 -- a write of a cell to a slot of a region
-frame-write : (r : Region) (xs : List Slot) (s : ℕ) (x : Slot) → s < r.slots → x.kind ≡ (get_or xs (r.base + s) no_slot).kind → frame_of (set xs (r.base + s) x) r ≡ frame_with (frame_of xs r) s x.cell
+frame-write : (r : Region) (xs : List Slot) (s : ℕ) (x : Slot) → s < r.slots → x.kind ≡ (get_or xs (r.base + s) no_slot).kind
+    → frame_of (set xs (r.base + s) x) r ≡ frame_with (frame_of xs r) s x.cell
 frame-write r xs s x l e =
     let part : List Slot = part_of xs r in
-    let here : get_or part s no_slot ≡ get_or xs (r.base + s) no_slot = get_or-take r.slots (drop r.base xs) s no_slot l ∙ get_or-drop r.base xs s no_slot in
+    let here : get_or part s no_slot ≡ get_or xs (r.base + s) no_slot = get_or-take r.slots (drop r.base xs) s no_slot l
+    ∙ get_or-drop r.base xs s no_slot in
     let put : part_of (set xs (r.base + s) x) r ≡ set part s x = part-in r.slots r.base s xs x in
-    let kinds : map (λ (v : Slot). v.kind) (set part s x) ≡ map (λ (v : Slot). v.kind) part = kept-kinds part s x (e ∙ ap (λ (v : Slot). v.kind) (sym here)) in
-    let cells : map (λ (v : Slot). v.cell) (set part s x) ≡ set (map (λ (v : Slot). v.cell) part) s x.cell = map-set (λ (v : Slot). v.cell) part s x in
+    let kinds : map (λ (v : Slot). v.kind) (set part s x) ≡ map (λ (v : Slot). v.kind) part =
+    kept-kinds part s x (e ∙ ap (λ (v : Slot). v.kind) (sym here)) in
+    let cells : map (λ (v : Slot). v.cell) (set part s x) ≡ set (map (λ (v : Slot). v.cell) part) s x.cell =
+    map-set (λ (v : Slot). v.cell) part s x in
     ap (frame_with_slots r) put
-    ∙ (ap (λ ks. record { routine = r.routine; back = r.back; declared = r.declared; kinds = ks; cells = map (λ (v : Slot). v.cell) (set part s x) }) kinds
-    ∙ ap (λ cs. record { routine = r.routine; back = r.back; declared = r.declared; kinds = map (λ (v : Slot). v.kind) part; cells = cs }) cells)
+    ∙ (ap (λ ks. record {
+      routine = r.routine;
+      back = r.back;
+      declared = r.declared;
+      kinds = ks;
+      cells =
+          map (λ (v : Slot). v.cell) (set part s x);
+    }) kinds
+    ∙ ap (λ cs. record { routine = r.routine; back = r.back; declared = r.declared; kinds = map (λ (v : Slot). v.kind) part; cells = cs })
+    cells)
 
 -- a write to a slot of a frame changes that frame alone
-pub frames-write : (low : ℕ) (rs : List Region) (top : ℕ) (xs : List Slot) (f slot : ℕ) (x : Slot) → AreLaid low rs top → f < length rs → slot < (get_or rs f no_region).slots →
+pub frames-write : (low : ℕ) (rs : List Region) (top : ℕ) (xs : List Slot) (f slot : ℕ) (x : Slot) → AreLaid low rs top → f < length rs
+    → slot < (get_or rs f no_region).slots →
     x.kind ≡ (get_or xs ((get_or rs f no_region).base + slot) no_slot).kind →
     frames_of (set xs ((get_or rs f no_region).base + slot) x) rs ≡ frames_with_cell (frames_of xs rs) f slot x.cell
 frames-write low [] top xs f slot x h l s q = absurd (omega (arith, l))
 frames-write low (r ∷ rs) top xs zero slot x h l s q =
     let k : r.base + slot < r.base + r.slots = omega (arith, s) in
     let one : frame_of (set xs (r.base + slot) x) r ≡ frame_with (frame_of xs r) slot x.cell = frame-write r xs slot x s q in
-    let rest : frames_of (set xs (r.base + slot) x) rs ≡ frames_of xs rs = frames-below (r.base + r.slots) rs top xs (r.base + slot) x h.1 k in
+    let rest : frames_of (set xs (r.base + slot) x) rs ≡ frames_of xs rs =
+    frames-below (r.base + r.slots) rs top xs (r.base + slot) x h.1 k in
     cc
 frames-write low (r ∷ rs) top xs (suc f) slot x h l s q =
     let lt : f < length rs = omega (arith, l) in
     let a = laid-at (r.base + r.slots) rs top f h.1 lt in
     let above : r.base + r.slots ≤ (get_or rs f no_region).base + slot = omega (arith, a.0) in
     let one : frame_of (set xs ((get_or rs f no_region).base + slot) x) r ≡ frame_of xs r =
-    frame-part r (set xs ((get_or rs f no_region).base + slot) x) xs (part-above r.slots r.base ((get_or rs f no_region).base + slot) xs x above) in
+    frame-part r (set xs ((get_or rs f no_region).base + slot) x) xs
+    (part-above r.slots r.base ((get_or rs f no_region).base + slot) xs x above) in
     let rest : frames_of (set xs ((get_or rs f no_region).base + slot) x) rs ≡ frames_with_cell (frames_of xs rs) f slot x.cell =
     frames-write (r.base + r.slots) rs top xs f slot x h.1 lt s q in
     cc
@@ -167,4 +190,8 @@ length-kinds r xs l = length-map (part_of xs r) (λ (s : Slot). s.kind) ∙ leng
 -- each frame has a kind for each cell
 pub whole-frames : (xs : List Slot) (rs : List Region) → AreWhole (frames_of xs rs)
 whole-frames xs [] = tt
-whole-frames xs (r ∷ rs) = (record { kinds = length-map (part_of xs r) (λ (s : Slot). s.kind) ∙ sym (length-map (part_of xs r) (λ (s : Slot). s.cell)) }, whole-frames xs rs)
+whole-frames xs (r ∷ rs) = (
+  record
+      { kinds = length-map (part_of xs r) (λ (s : Slot). s.kind) ∙ sym (length-map (part_of xs r) (λ (s : Slot). s.cell)) },
+  whole-frames xs rs,
+)

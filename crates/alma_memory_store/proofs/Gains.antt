@@ -1,5 +1,6 @@
 -- Lemmas on lists of changes: two that name the same places give a carry the same.
-use Rattle.std.proofs.Common.{Result, Ok, Err, ◌≡◌, ℕ, ◌≤◌, ◌<◌, Bool, true, false, not, ◌&&◌, cond, List, [], ◌∷◌, ◌++◌, length, get_or, suc, zero, inl, inr, refl, sym, ap, ◌∙◌, arith}
+use Rattle.std.proofs.Common.{Result, Ok, Err, ◌≡◌, ℕ, ◌≤◌, ◌<◌, Bool, true, false, not, ◌&&◌, cond, List, [], ◌∷◌, ◌++◌, length, get_or}
+use Rattle.std.proofs.Common.{suc, zero, inl, inr, refl, sym, ap, ◌∙◌, arith}
 use Rattle.std.specs.Prelude.{IfOk, ◌⊎◌, ◌||◌, nat_lt, nat_eq, Option, Some, None, IsSome, if◌then◌else◌}
 use Rattle.std.specs.BTreeMap.{is_at}
 use Rattle.std.specs.Map.{lookup}
@@ -38,7 +39,8 @@ diff-by true true true f s a b e = rw e refl
 diff-by true true false f s a b e = rw e refl
 
 -- the change at a place is what its number slot changed to
-pub diff-changed : (before now : List PlainFrame) (f s : ℕ) → diff_at before now f s ≡ change_at f s (change_between (number_of before f s) (number_of now f s))
+pub diff-changed : (before now : List PlainFrame) (f s : ℕ)
+    → diff_at before now f s ≡ change_at f s (change_between (number_of before f s) (number_of now f s))
 diff-changed before now f s =
     diff-by (number_at before f s) (number_at now f s) (same_cell (cell_at before f s Unknown) (cell_at now f s Unknown)) f s
     (cell_at before f s Unknown) (cell_at now f s Unknown) refl
@@ -156,11 +158,13 @@ module _ (before now : List PlainFrame) where
       ]
 
   -- a place that differs is among the changes of the frames
-  pub has-frames : (f s n : ℕ) → differs before now f s ≡ true → f < n → s < length (get_or now f no_frame).cells → has_place f s (frame_diffs before now n) ≡ true
+  pub has-frames : (f s n : ℕ) → differs before now f s ≡ true → f < n → s < length (get_or now f no_frame).cells
+      → has_place f s (frame_diffs before now n) ≡ true
   has-frames f s zero d l w = absurd (omega arith)
   has-frames f s (suc n) d l w =
       elim (below-suc f n l) [
-        | inl lt ↦ has-left f s (frame_diffs before now n) (slot_diffs before now n (length (get_or now n no_frame).cells)) (has-frames f s n d lt w)
+        | inl lt ↦ has-left f s (frame_diffs before now n) (slot_diffs before now n (length (get_or now n no_frame).cells))
+            (has-frames f s n d lt w)
         | inr e ↦ has-right f s (frame_diffs before now n) (slot_diffs before now n (length (get_or now n no_frame).cells))
             (ap (λ g. has_place f s (slot_diffs before now g (length (get_or now g no_frame).cells))) (sym e)
             ∙ has-slots f s (length (get_or now f no_frame).cells) d w)
@@ -177,7 +181,8 @@ module _ (before now : List PlainFrame) where
   pick false false v w r e = refl
 
   -- the cell of now at the place of a change
-  cell-same : (f s : ℕ) (x : Change Cell) → x.cell ≡ cell_at now x.frame x.slot Unknown → is_same_place x.frame x.slot f s ≡ true → Some x.cell ≡ Some (cell_at now f s Unknown)
+  cell-same : (f s : ℕ) (x : Change Cell) → x.cell ≡ cell_at now x.frame x.slot Unknown → is_same_place x.frame x.slot f s ≡ true
+      → Some x.cell ≡ Some (cell_at now f s Unknown)
   cell-same f s x e q =
       let one = same-place-is x.frame x.slot f s q in
       ap Some (e ∙ (ap (λ g. cell_at now g x.slot Unknown) one.0 ∙ ap (λ t. cell_at now f t Unknown) one.1))
@@ -189,11 +194,13 @@ module _ (before now : List PlainFrame) where
   carried-changes f s (x ∷ xs) cs h =
       carried-changes f s xs (with_change x cs) h.1
       ∙ (ap (λ o. if_true (has_place f s xs) (λ _. Some (cell_at now f s Unknown)) (λ _. o)) (carried-with f s x cs)
-      ∙ pick (is_same_place x.frame x.slot f s) (has_place f s xs) (Some (cell_at now f s Unknown)) (Some x.cell) (carried_at f s cs) (cell-same f s x h.0.1))
+      ∙ pick (is_same_place x.frame x.slot f s) (has_place f s xs) (Some (cell_at now f s Unknown)) (Some x.cell) (carried_at f s cs)
+      (cell-same f s x h.0.1))
 
   -- two lists of changes of which each names all places that differ give the same
   pub same-gain : (xs ys : List (Change Cell)) → AllChanged before now xs → AllChanged before now ys →
-      ((f s : ℕ) → differs before now f s ≡ true → has_place f s xs ≡ true) → ((f s : ℕ) → differs before now f s ≡ true → has_place f s ys ≡ true) → SameGain xs ys
+      ((f s : ℕ) → differs before now f s ≡ true → has_place f s xs ≡ true)
+      → ((f s : ℕ) → differs before now f s ≡ true → has_place f s ys ≡ true) → SameGain xs ys
   same-gain xs ys h k cx cy = λ cs r.
       same-carry (with_changes xs cs) (with_changes ys cs) (rising-all xs cs r) (rising-all ys cs r)
       (λ f s. carried-changes f s xs cs h
@@ -204,7 +211,8 @@ module _ (before now : List PlainFrame) where
 -- ---- the places that are looked at
 
 -- a place that differs is a live number slot in both
-pub parts : (before now : List PlainFrame) (f s : ℕ) → differs before now f s ≡ true → (number_at before f s ≡ true) × (number_at now f s ≡ true)
+pub parts : (before now : List PlainFrame) (f s : ℕ) → differs before now f s ≡ true → (number_at before f s ≡ true)
+    × (number_at now f s ≡ true)
 parts before now f s d =
     let one = and_parts (number_at before f s) _ d in
     let two = and_parts (number_at now f s) _ one.1 in
@@ -218,7 +226,8 @@ same-number (Some c) = rw (same_itself c) refl
 -- a place that differs is not as before
 pub not-same : (before now : List PlainFrame) (f s : ℕ) → differs before now f s ≡ true → number_of before f s ≡ number_of now f s → ⊥
 not-same before now f s d e =
-    let none : diff_at before now f s ≡ [] = diff-changed before now f s ∙ ap (change_at f s) (ap (λ o. change_between o (number_of now f s)) e ∙ same-number (number_of now f s)) in
+    let none : diff_at before now f s ≡ [] = diff-changed before now f s
+    ∙ ap (change_at f s) (ap (λ o. change_between o (number_of now f s)) e ∙ same-number (number_of now f s)) in
     let no : true ≡ false = sym (has-diff before now f s d) ∙ ap (has_place f s) none in
     absurd (cc)
 
@@ -227,22 +236,27 @@ pub found-gain : (before now : List PlainFrame) (found : List (Change Cell)) →
     ((f s : ℕ) → differs before now f s ≡ true → has_place f s found ≡ true) → SameGain found (diffs before now)
 found-gain before now found w all cover =
     same-gain before now found (diffs before now) all (all-frames before now (length now)) cover
-    (λ f s d. has-frames before now f s (length now) d (number-frame now f s (parts before now f s d).1) (number-cell now f s w (parts before now f s d).1))
+    (λ f s d. has-frames before now f s (length now) d (number-frame now f s (parts before now f s d).1)
+    (number-cell now f s w (parts before now f s d).1))
 
 -- ---- one more step
 
 -- the change at a place
-pub gains-diff : (before now : List PlainFrame) (named : ℕ → ℕ → Type 0) (f s : ℕ) (old new : List (Change Cell)) → new ≡ old ++ diff_at before now f s →
+pub gains-diff : (before now : List PlainFrame) (named : ℕ → ℕ → Type 0) (f s : ℕ) (old new : List (Change Cell))
+    → new ≡ old ++ diff_at before now f s →
     ((g t : ℕ) → named g t → (g ≡ f) × (t ≡ s)) → Gains before now named IsNone old new
 gains-diff before now named f s old new e one = record {
   changed = λ h. rw e (all-append before now old (diff_at before now f s) h (all-diff before now f s));
   kept = λ g t h. rw e (has-left g t old (diff_at before now f s) h);
   all = λ g t h d. (let o = one g t h in
-      inr (rw e (has-right g t old (diff_at before now f s) (ap (λ k. has_place g t (diff_at before now k s)) (sym o.0) ∙ (ap (λ k. has_place g t (diff_at before now g k)) (sym o.1) ∙ has-diff before now g t d)))));
+      inr (rw e (has-right g t old (diff_at before now f s)
+      (ap (λ k. has_place g t (diff_at before now k s)) (sym o.0)
+      ∙ (ap (λ k. has_place g t (diff_at before now g k)) (sym o.1) ∙ has-diff before now g t d)))));
 }
 
 -- the changes in a frame
-pub gains-frame : (before now : List PlainFrame) (f n : ℕ) (old new : List (Change Cell)) → new ≡ old ++ slot_diffs before now f n → AreWhole now → length (get_or now f no_frame).cells ≤ n →
+pub gains-frame : (before now : List PlainFrame) (f n : ℕ) (old new : List (Change Cell)) → new ≡ old ++ slot_diffs before now f n
+    → AreWhole now → length (get_or now f no_frame).cells ≤ n →
     Gains before now (λ g t. g ≡ f) IsNone old new
 gains-frame before now f n old new e w l = record {
   changed = λ h. rw e (all-append before now old (slot_diffs before now f n) h (all-slots before now f n));
@@ -255,7 +269,8 @@ gains-frame before now f n old new e w l = record {
 }
 
 -- nothing, where nothing is named
-pub gains-none : (before now : List PlainFrame) (named : ℕ → ℕ → Type 0) (old : List (Change Cell)) → ((f s : ℕ) → named f s → differs before now f s ≡ true → ⊥) → Gains before now named IsNone old old
+pub gains-none : (before now : List PlainFrame) (named : ℕ → ℕ → Type 0) (old : List (Change Cell))
+    → ((f s : ℕ) → named f s → differs before now f s ≡ true → ⊥) → Gains before now named IsNone old old
 gains-none before now named old never = record { changed = λ h. h; kept = λ f s h. h; all = λ f s h d. absurd (never f s h d) }
 
 -- nothing yet
@@ -263,7 +278,8 @@ pub gains-start : (before now : List PlainFrame) (named : ℕ → ℕ → Type 0
 gains-start before now named old = record { changed = λ h. h; kept = λ f s h. h; all = λ f s h d. inl h }
 
 -- one more of what was left
-pub gains-step : (before now : List PlainFrame) (named left here rest : ℕ → ℕ → Type 0) (old new more : List (Change Cell)) → Gains before now named left old new → Gains before now here IsNone new more →
+pub gains-step : (before now : List PlainFrame) (named left here rest : ℕ → ℕ → Type 0) (old new more : List (Change Cell))
+    → Gains before now named left old new → Gains before now here IsNone new more →
     ((f s : ℕ) → left f s → here f s ⊎ rest f s) → Gains before now named rest old more
 gains-step before now named left here rest old new more g h split = record {
   changed = λ x. h.changed (g.changed x);
@@ -283,7 +299,8 @@ gains-step before now named left here rest old new more g h split = record {
     by_left f s d (inl l) = by_split f s d (split f s l)
 
 -- nothing is left
-pub gains-end : (before now : List PlainFrame) (named left : ℕ → ℕ → Type 0) (old new : List (Change Cell)) → Gains before now named left old new → ((f s : ℕ) → left f s → ⊥) → Gains before now named IsNone old new
+pub gains-end : (before now : List PlainFrame) (named left : ℕ → ℕ → Type 0) (old new : List (Change Cell))
+    → Gains before now named left old new → ((f s : ℕ) → left f s → ⊥) → Gains before now named IsNone old new
 gains-end before now named left old new g never = record {
   changed = g.changed;
   kept = g.kept;
@@ -296,18 +313,22 @@ gains-end before now named left old new g never = record {
 -- ---- keys
 
 -- a key is the first or one of the rest
-pub key-split : {X : Type 0} (k : ℕ) (e : ℕ × X) (es : List (ℕ × X)) → IsSome (lookup (is_at (nat_cmp k)) (e ∷ es)) → (e.0 ≡ k) ⊎ IsSome (lookup (is_at (nat_cmp k)) es)
+pub key-split : {X : Type 0} (k : ℕ) (e : ℕ × X) (es : List (ℕ × X)) → IsSome (lookup (is_at (nat_cmp k)) (e ∷ es)) → (e.0 ≡ k)
+    ⊎ IsSome (lookup (is_at (nat_cmp k)) es)
 key-split {X} k e es h = choose (is_at (nat_cmp k) e.0) refl h
   where
-    choose : (b : Bool) → is_at (nat_cmp k) e.0 ≡ b → IsSome (cond b (Some e.1) (lookup (is_at (nat_cmp k)) es)) → (e.0 ≡ k) ⊎ IsSome (lookup (is_at (nat_cmp k)) es)
+    choose : (b : Bool) → is_at (nat_cmp k) e.0 ≡ b → IsSome (cond b (Some e.1) (lookup (is_at (nat_cmp k)) es)) → (e.0 ≡ k)
+        ⊎ IsSome (lookup (is_at (nat_cmp k)) es)
     choose true q s = inl (at-key k e.0 q)
     choose false q s = inr s
 
 -- two steps from nothing, of which one or the other finds each place that differs
-pub gained-all : (before now : List PlainFrame) (kept replaced : ℕ → ℕ → Type 0) (start middle found : List (Change Cell)) → start ≡ [] → Gains before now kept IsNone start middle →
+pub gained-all : (before now : List PlainFrame) (kept replaced : ℕ → ℕ → Type 0) (start middle found : List (Change Cell)) → start ≡ []
+    → Gains before now kept IsNone start middle →
     Gains before now replaced IsNone middle found → ((f s : ℕ) → differs before now f s ≡ true → replaced f s ⊎ kept f s) →
     AllChanged before now found × ((f s : ℕ) → differs before now f s ≡ true → has_place f s found ≡ true)
-gained-all before now kept replaced start middle found e g h cover = (h.changed (g.changed (rw e tt)), λ f s d. by_place f s d (cover f s d))
+gained-all before now kept replaced start middle found e g h cover =
+    (h.changed (g.changed (rw e tt)), λ f s d. by_place f s d (cover f s d))
   where
     by_place : (f s : ℕ) → differs before now f s ≡ true → replaced f s ⊎ kept f s → has_place f s found ≡ true
     by_place f s d (inl r) = elim (h.all f s r d) [

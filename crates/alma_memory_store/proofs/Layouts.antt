@@ -1,6 +1,8 @@
 -- Lemmas on the layout of a new frame: how many slots the arguments and the blanks fill.
-use Rattle.std.proofs.Common.{◌≡◌, ℕ, ◌≤◌, ◌<◌, ◌+◌, ◌-◌, List, [], ◌∷◌, ◌++◌, length, map, get_or, set, take, drop, replicate, suc, zero, true, refl, sym, ap, subst, ◌∙◌, arith, append_assoc}
-use Rattle.std.proofs.lemmas.List.{length_push, map-append, take_more, length-take-le, length-take, length-append, length-replicate, length-drop, append-nil, get_or-drop}
+use Rattle.std.proofs.Common.{◌≡◌, ℕ, ◌≤◌, ◌<◌, ◌+◌, ◌-◌, List, [], ◌∷◌, ◌++◌, length, map, get_or, set, take, drop, replicate, suc, zero}
+use Rattle.std.proofs.Common.{true, refl, sym, ap, subst, ◌∙◌, arith, append_assoc}
+use Rattle.std.proofs.lemmas.List.{length_push, map-append, take_more, length-take-le, length-take, length-append, length-replicate}
+use Rattle.std.proofs.lemmas.List.{length-drop, append-nil, get_or-drop}
 use Rattle.alma_code.specs.declared.cell.Cell.{Cell}
 use Rattle.alma_code.specs.declared.cell.CellPlace.{CellPlace}
 use Rattle.alma_code.specs.declared.cell.SlotKind.{SlotKind}
@@ -12,7 +14,8 @@ use Rattle.alma_code.specs.declared.head.ParamKind.TheVariants as param
 use Rattle.alma_code.specs.declared.head.CodeParam.{CodeParam}
 use Rattle.alma_code.specs.Head.{PlainHead}
 use Rattle.alma_code.specs.Picture.{PlainFrame, no_frame}
-use Rattle.alma_code.specs.Layout.{RunsRise, kinds_of, blank_of, no_param, args_cells, arg_cells, mix_cells, cells_behind_argument, cells_at, FitsParam, FitsParams, FitsMix, FitsPlace, IsHead}
+use Rattle.alma_code.specs.Layout.{RunsRise, kinds_of, blank_of, no_param, args_cells, arg_cells, mix_cells, cells_behind_argument}
+use Rattle.alma_code.specs.Layout.{cells_at, FitsParam, FitsParams, FitsMix, FitsPlace, IsHead}
 use Rattle.alma_code.specs.Carries.{IsLive, number_at}
 use Rattle.alma_code.proofs.Heads.{param_kinds, params_kinds, first-kinds}
 use Rattle.alma_memory_store.specs.Frames.{AreWhole}
@@ -28,7 +31,8 @@ kinds-length low top [] h = rw h (omega arith)
 kinds-length low top (r ∷ rs) h =
     let rest : length (kinds_of r.end rs) + r.end ≡ top = kinds-length r.end top rs h.1 in
     let len : length (replicate (r.end - low) r.kind ++ kinds_of r.end rs) ≡ (r.end - low) + length (kinds_of r.end rs) =
-    length-append (replicate (r.end - low) r.kind) (kinds_of r.end rs) ∙ ap (λ n. n + length (kinds_of r.end rs)) (length-replicate (r.end - low) r.kind) in
+    length-append (replicate (r.end - low) r.kind) (kinds_of r.end rs)
+    ∙ ap (λ n. n + length (kinds_of r.end rs)) (length-replicate (r.end - low) r.kind) in
     omega (arith, h.0)
 
 -- a Mix fills two slots
@@ -40,7 +44,8 @@ mix-length fs me at cell.Unset h = absurd h
 mix-length fs me at (cell.Mark m) h = absurd h
 
 -- the cells of a live place stand in its frame
-pub place-end : (fs : List PlainFrame) (p : CellPlace) → AreWhole fs → IsLive fs p → 1 ≤ p.len → p.slot + p.len ≤ length (get_or fs p.frame no_frame).cells
+pub place-end : (fs : List PlainFrame) (p : CellPlace) → AreWhole fs → IsLive fs p → 1 ≤ p.len
+    → p.slot + p.len ≤ length (get_or fs p.frame no_frame).cells
 place-end fs p w live some =
     let n : number_at fs p.frame (p.slot + (p.len - 1)) ≡ true = live.cells (p.len - 1) (omega arith) in
     let lt = number-cell fs p.frame (p.slot + (p.len - 1)) w n in
@@ -57,7 +62,8 @@ taken-length fs (suc n) p w live e =
     length-take-le p.len (drop p.slot (get_or fs p.frame no_frame).cells) le ∙ e
 
 -- copied cells fill their parameter
-pub copied-length : (fs : List PlainFrame) (n : ℕ) (c : Cell) → AreWhole fs → FitsPlace (IsLive fs) n c → length (cells_behind_argument fs c) ≡ n
+pub copied-length : (fs : List PlainFrame) (n : ℕ) (c : Cell) → AreWhole fs → FitsPlace (IsLive fs) n c
+    → length (cells_behind_argument fs c) ≡ n
 copied-length fs n (cell.Place p) w h = taken-length fs n p w h.1 h.0
 copied-length fs n (cell.Int i) w h = absurd h
 copied-length fs n cell.Unknown w h = absurd h
@@ -65,7 +71,8 @@ copied-length fs n cell.Unset w h = absurd h
 copied-length fs n (cell.Mark m) w h = absurd h
 
 -- an argument fills the slots of its parameter
-pub arg-length : (fs : List PlainFrame) (me at n : ℕ) (k : ParamKind) (c : Cell) → AreWhole fs → FitsParam (IsLive fs) (λ routine. IsLive fs) k n c → length (arg_cells fs me at k c) ≡ length (param_kinds k n)
+pub arg-length : (fs : List PlainFrame) (me at n : ℕ) (k : ParamKind) (c : Cell) → AreWhole fs
+    → FitsParam (IsLive fs) (λ routine. IsLive fs) k n c → length (arg_cells fs me at k c) ≡ length (param_kinds k n)
 arg-length fs me at n param.Value c w h = refl
 arg-length fs me at n param.Place c w h = refl
 arg-length fs me at n param.Mix c w h = mix-length fs me at c h
@@ -73,7 +80,8 @@ arg-length fs me at n param.Cells c w h = copied-length fs n c w h ∙ sym (leng
 arg-length fs me at n param.Link c w h = refl
 
 -- the slots of one more parameter
-pub params-push : (ps : List CodeParam) (p : CodeParam) → length (params_kinds (ps ++ p ∷ [])) ≡ length (params_kinds ps) + length (param_kinds p.kind p.cells)
+pub params-push : (ps : List CodeParam) (p : CodeParam)
+    → length (params_kinds (ps ++ p ∷ [])) ≡ length (params_kinds ps) + length (param_kinds p.kind p.cells)
 params-push [] p = rw append-nil (omega arith)
 params-push (q ∷ ps) p =
     let rest = params-push ps p in
@@ -93,19 +101,24 @@ params-take-le (suc n) (q ∷ ps) =
 
 -- the slots of the next parameter
 pub params-more : (n : ℕ) (ps : List CodeParam) → n < length ps →
-    length (params_kinds (take (n + 1) ps)) ≡ length (params_kinds (take n ps)) + length (param_kinds (get_or ps n no_param).kind (get_or ps n no_param).cells)
+    length (params_kinds (take (n + 1) ps)) ≡ length (params_kinds (take n ps))
+    + length (param_kinds (get_or ps n no_param).kind (get_or ps n no_param).cells)
 params-more n ps l = ap (λ qs. length (params_kinds qs)) (take_more ps n no_param l) ∙ params-push (take n ps) (get_or ps n no_param)
 
 -- arguments fill the slots of their parameters
-pub args-length : (fs : List PlainFrame) (ps : List CodeParam) (args : List Cell) (n : ℕ) → AreWhole fs → FitsParams (IsLive fs) (λ routine. IsLive fs) ps args → n ≤ length ps →
+pub args-length : (fs : List PlainFrame) (ps : List CodeParam) (args : List Cell) (n : ℕ) → AreWhole fs
+    → FitsParams (IsLive fs) (λ routine. IsLive fs) ps args → n ≤ length ps →
     length (args_cells fs ps args n) ≡ length (params_kinds (take n ps))
 args-length fs ps args zero w f l = refl
 args-length fs ps args (suc n) w f l =
     let lt : n < length ps = omega arith in
     let rest = args-length fs ps args n w f (omega arith) in
-    let one = arg-length fs (length fs) (length (args_cells fs ps args n)) (get_or ps n no_param).cells (get_or ps n no_param).kind (get_or args n cell.Unknown) w (f.each n lt) in
-    let a = length-append (args_cells fs ps args n) (arg_cells fs (length fs) (length (args_cells fs ps args n)) (get_or ps n no_param).kind (get_or args n cell.Unknown)) in
-    let b : length (params_kinds (take (n + 1) ps)) ≡ length (params_kinds (take n ps)) + length (param_kinds (get_or ps n no_param).kind (get_or ps n no_param).cells) = params-more n ps lt in
+    let one = arg-length fs (length fs) (length (args_cells fs ps args n)) (get_or ps n no_param).cells (get_or ps n no_param).kind
+    (get_or args n cell.Unknown) w (f.each n lt) in
+    let a = length-append (args_cells fs ps args n)
+    (arg_cells fs (length fs) (length (args_cells fs ps args n)) (get_or ps n no_param).kind (get_or args n cell.Unknown)) in
+    let b : length (params_kinds (take (n + 1) ps)) ≡ length (params_kinds (take n ps))
+    + length (param_kinds (get_or ps n no_param).kind (get_or ps n no_param).cells) = params-more n ps lt in
     let up : n + 1 ≡ suc n = omega arith in
     let c : take (n + 1) ps ≡ take (suc n) ps = ap (λ k. take k ps) up in
     let d : length (args_cells fs ps args (suc n)) ≡ length (params_kinds (take (n + 1) ps)) = omega (arith, a, rest, one, b) in
@@ -120,7 +133,8 @@ head-room h i =
     omega (arith, a, b, c)
 
 -- a Mix parameter has room for its two slots
-pub mix-room : (fs : List PlainFrame) (h : PlainHead) (args : List Cell) (n : ℕ) → IsHead h → AreWhole fs → FitsParams (IsLive fs) (λ routine. IsLive fs) h.params args → n < length h.params →
+pub mix-room : (fs : List PlainFrame) (h : PlainHead) (args : List Cell) (n : ℕ) → IsHead h → AreWhole fs
+    → FitsParams (IsLive fs) (λ routine. IsLive fs) h.params args → n < length h.params →
     (get_or h.params n no_param).kind ≡ param.Mix → length (args_cells fs h.params args n) + 2 ≤ h.slots
 mix-room fs h args n i w f l m =
     let a = args-length fs h.params args n w f (omega arith) in
@@ -139,7 +153,8 @@ head-fits h i =
     omega (arith, b, c)
 
 -- the arguments stand within the slots
-pub args-fit : (fs : List PlainFrame) (h : PlainHead) (args : List Cell) → IsHead h → AreWhole fs → FitsParams (IsLive fs) (λ routine. IsLive fs) h.params args →
+pub args-fit : (fs : List PlainFrame) (h : PlainHead) (args : List Cell) → IsHead h → AreWhole fs
+    → FitsParams (IsLive fs) (λ routine. IsLive fs) h.params args →
     length (args_cells fs h.params args (length h.params)) ≤ length (kinds_of 0 h.runs)
 args-fit fs h args i w f =
     let a = args-length fs h.params args (length h.params) w f (omega arith) in
@@ -180,7 +195,8 @@ runs-within : (low top : ℕ) (rs : List Run) → RunsRise low rs top → low �
 runs-within low top [] h = rw h (omega arith)
 runs-within low top (r ∷ rs) h = let rest = runs-within r.end top rs h.1 in omega (arith, h.0, rest)
 
-pub run-within : (runs : List Run) (i low top : ℕ) (run : Run) → slice_get runs i ≡ Some run → RunsRise low (drop i runs) top → run.end ≤ top
+pub run-within : (runs : List Run) (i low top : ℕ) (run : Run) → slice_get runs i ≡ Some run → RunsRise low (drop i runs) top
+    → run.end ≤ top
 run-within runs i low top run e r =
     let split : drop i runs ≡ run ∷ drop (i + 1) runs = read-drop run runs i e in
     let rise : RunsRise low (run ∷ drop (i + 1) runs) top = rw split at r in
@@ -199,10 +215,12 @@ blanks-step runs i top run slots slots' all e same k r =
     let split : drop i runs ≡ run ∷ rest = read-drop run runs i e in
     let rise : RunsRise low (run ∷ rest) top = rw split at r in
     let wide : length slots' ≡ run.end =
-    ap length same ∙ (length-append slots new ∙ (ap (λ n. low + n) (length-replicate (run.end - low) (blank_slot run.kind)) ∙ omega (arith, rise.0))) in
+    ap length same ∙ (length-append slots new
+    ∙ (ap (λ n. low + n) (length-replicate (run.end - low) (blank_slot run.kind)) ∙ omega (arith, rise.0))) in
     let more : slots ++ map blank_slot (replicate (run.end - low) run.kind ++ kinds_of run.end rest) ≡ all = rw split at k in
     let part : map blank_slot (replicate (run.end - low) run.kind ++ kinds_of run.end rest) ≡ new ++ tail =
-    map-append blank_slot (replicate (run.end - low) run.kind) (kinds_of run.end rest) ∙ ap (λ v. v ++ tail) (blank-replicate (run.end - low) run.kind) in
+    map-append blank_slot (replicate (run.end - low) run.kind) (kinds_of run.end rest)
+    ∙ ap (λ v. v ++ tail) (blank-replicate (run.end - low) run.kind) in
     let one : slots' ++ tail ≡ all = ap (λ v. v ++ tail) same ∙ (append_assoc slots new tail ∙ (ap (λ v. slots ++ v) (sym part) ∙ more)) in (
       ap (λ n. slots' ++ map blank_slot (kinds_of n rest)) wide ∙ one,
       subst (λ n. RunsRise n rest top) (sym wide) rise.1,
@@ -228,7 +246,8 @@ over-more (c ∷ cells) [] i d l m = absurd (omega (arith, m))
 over-more (c ∷ cells) (o ∷ old) zero d l m = refl
 over-more (c ∷ cells) (o ∷ old) (suc i) d l m =
     let up : suc i + 1 ≡ suc (i + 1) = omega arith in
-    ap (λ v. c ∷ v) (over-more cells old i d (omega (arith, l)) (omega (arith, m))) ∙ sym (ap (λ j. take j (c ∷ cells) ++ drop j (o ∷ old)) up)
+    ap (λ v. c ∷ v) (over-more cells old i d (omega (arith, l)) (omega (arith, m)))
+    ∙ sym (ap (λ j. take j (c ∷ cells) ++ drop j (o ∷ old)) up)
 
 -- a head has so many kinds as slots
 pub head-kinds : (h : PlainHead) (kinds : List SlotKind) → IsHead h → kinds ≡ kinds_of 0 h.runs → length kinds ≡ h.slots
@@ -238,10 +257,12 @@ head-kinds h kinds i e =
     omega (arith, all, same)
 
 -- one more of the cells at a place
-pub cell-more : (start cells more all : List Cell) (slot k : ℕ) (x : Cell) → cells ≡ start ++ take k (drop slot all) → more ≡ cells ++ x ∷ [] → x ≡ get_or all (slot + k) cell.Unknown →
+pub cell-more : (start cells more all : List Cell) (slot k : ℕ) (x : Cell) → cells ≡ start ++ take k (drop slot all)
+    → more ≡ cells ++ x ∷ [] → x ≡ get_or all (slot + k) cell.Unknown →
     slot + k < length all → more ≡ start ++ take (k + 1) (drop slot all)
 cell-more start cells more all slot k x p q e l =
     let wide : k < length (drop slot all) = rw (length-drop slot all) (omega (arith, l)) in
     let here : get_or (drop slot all) k cell.Unknown ≡ x = get_or-drop slot all k cell.Unknown ∙ sym e in
-    let split : take (k + 1) (drop slot all) ≡ take k (drop slot all) ++ x ∷ [] = take_more (drop slot all) k cell.Unknown wide ∙ ap (λ y. take k (drop slot all) ++ y ∷ []) here in
+    let split : take (k + 1) (drop slot all) ≡ take k (drop slot all) ++ x ∷ [] = take_more (drop slot all) k cell.Unknown wide
+    ∙ ap (λ y. take k (drop slot all) ++ y ∷ []) here in
     q ∙ (ap (λ v. v ++ x ∷ []) p ∙ (append_assoc start (take k (drop slot all)) (x ∷ []) ∙ ap (λ v. start ++ v) (sym split)))

@@ -9,7 +9,8 @@ use Rattle.alma_base.specs.Choice.{if_true}
 use Rattle.alma_code.specs.declared.cell.Cell.{Cell}
 use Rattle.alma_code.specs.declared.cell.Cell.TheVariants.{Unknown}
 use Rattle.alma_memory_store.specs.declared.carry.SlotPlace.{SlotPlace}
-use Rattle.alma_memory_store.specs.Carries.{change_of, carry_of_entries, IsAbove, IsRising, without_place, with_cell, put_back, all_put_back, cells_before_setting}
+use Rattle.alma_memory_store.specs.Carries.{change_of, carry_of_entries, IsAbove, IsRising, without_place, with_cell, put_back}
+use Rattle.alma_memory_store.specs.Carries.{all_put_back, cells_before_setting}
 use Rattle.alma_memory_store.proofs.Carrying.{same-place-is, same-place-swap}
 
 -- ---- a choice
@@ -25,7 +26,8 @@ if-false true f g e = absurd (cc)
 if-false false f g e = refl
 
 -- what holds of both choices holds of the one that is taken
-pub if-keeps : {A : Type 0} (P : A → Type 0) (b : Bool) (f g : Unit {0} → A) → (b ≡ true → P (f tt)) → (b ≡ false → P (g tt)) → P (if_true b f g)
+pub if-keeps : {A : Type 0} (P : A → Type 0) (b : Bool) (f g : Unit {0} → A) → (b ≡ true → P (f tt)) → (b ≡ false → P (g tt))
+    → P (if_true b f g)
 if-keeps P true f g p q = p refl
 if-keeps P false f g p q = q refl
 
@@ -97,7 +99,8 @@ above-trans a b c d [] e h = tt
 above-trans a b c d (x ∷ cs) e h = (before-trans a b c d x.frame x.slot e h.0, above-trans a b c d cs e h.1)
 
 -- a change above a place
-above-with : (f s : ℕ) (x : Change Cell) (cs : Carry Cell) → IsAbove f s cs → is_before f s x.frame x.slot ≡ true → IsAbove f s (with_change x cs)
+above-with : (f s : ℕ) (x : Change Cell) (cs : Carry Cell) → IsAbove f s cs → is_before f s x.frame x.slot ≡ true
+    → IsAbove f s (with_change x cs)
 above-with f s x [] h e = (e, tt)
 above-with f s x (y ∷ cs) h e =
     if-keeps (IsAbove f s) (is_before x.frame x.slot y.frame y.slot) (λ _. x ∷ y ∷ cs)
@@ -128,14 +131,17 @@ rising-all (x ∷ xs) cs r = rising-all xs (with_change x cs) (rising-with x cs 
 pub absent-below : (f s : ℕ) (cs : Carry Cell) → IsAbove f s cs → carried_at f s cs ≡ None
 absent-below f s [] h = refl
 absent-below f s (x ∷ cs) h =
-    if-false (is_same_place x.frame x.slot f s) (λ _. Some x.cell) (λ _. carried_at f s cs) (before-not-same f s x.frame x.slot h.0) ∙ absent-below f s cs h.1
+    if-false (is_same_place x.frame x.slot f s) (λ _. Some x.cell) (λ _. carried_at f s cs) (before-not-same f s x.frame x.slot h.0)
+    ∙ absent-below f s cs h.1
 
 -- the first place has its cell
 first-carried : (x : Change Cell) (cs : Carry Cell) → carried_at x.frame x.slot (x ∷ cs) ≡ Some x.cell
-first-carried x cs = if-true (is_same_place x.frame x.slot x.frame x.slot) (λ _. Some x.cell) (λ _. carried_at x.frame x.slot cs) (same-itself x.frame x.slot)
+first-carried x cs = if-true (is_same_place x.frame x.slot x.frame x.slot) (λ _. Some x.cell) (λ _. carried_at x.frame x.slot cs)
+    (same-itself x.frame x.slot)
 
 -- the first place of one carry is not before all places of the other
-no-lower : (x y : Change Cell) (xs ys : Carry Cell) → IsRising (y ∷ ys) → carried_at x.frame x.slot (x ∷ xs) ≡ carried_at x.frame x.slot (y ∷ ys) →
+no-lower : (x y : Change Cell) (xs ys : Carry Cell) → IsRising (y ∷ ys)
+    → carried_at x.frame x.slot (x ∷ xs) ≡ carried_at x.frame x.slot (y ∷ ys) →
     is_before x.frame x.slot y.frame y.slot ≡ true → ⊥
 no-lower x y xs ys r e b =
     let none = absent-below x.frame x.slot (y ∷ ys) (b, above-trans x.frame x.slot y.frame y.slot ys b r.0) in
@@ -184,8 +190,10 @@ same-carry (x ∷ xs) (y ∷ ys) rx ry h =
     let first : x ≡ y = change-same x y one.0 one.1 (cc) in
     let agree : (f s : ℕ) → carried_at f s xs ≡ carried_at f s ys = (λ f s.
     rest-agrees (is_same_place y.frame y.slot f s) y.cell (carried_at f s xs) (carried_at f s ys)
-    (λ q. let at = same-place-is y.frame y.slot f s q in
-    (rw (← at.0, ← at.1, ← one.0, ← one.1) (absent-below x.frame x.slot xs rx.0), rw (← at.0, ← at.1) (absent-below y.frame y.slot ys ry.0)))
+    (λ q. let at = same-place-is y.frame y.slot f s q in (
+      rw (← at.0, ← at.1, ← one.0, ← one.1) (absent-below x.frame x.slot xs rx.0),
+      rw (← at.0, ← at.1) (absent-below y.frame y.slot ys ry.0),
+    ))
     (rw first at (h f s))) in
     let rest : xs ≡ ys = same-carry xs ys rx.1 ry.1 agree in
     cc
@@ -206,14 +214,17 @@ back-none x (y ∷ cs) e =
     let none = not-found (is_same_place y.frame y.slot x.frame x.slot) y.cell (carried_at x.frame x.slot cs) e in
     let apart : q ≡ false = same-place-swap x.frame x.slot y.frame y.slot ∙ none.0 in
     if-keeps P (is_before x.frame x.slot y.frame y.slot) (λ _. x ∷ y ∷ cs) (λ _. if_true q (λ _. x ∷ cs) (λ _. y ∷ with_change x cs))
-    (λ _. if-true (is_same_place x.frame x.slot x.frame x.slot) (λ _. y ∷ cs) (λ _. x ∷ without_place x.frame x.slot (y ∷ cs)) (same-itself x.frame x.slot))
+    (λ _. if-true (is_same_place x.frame x.slot x.frame x.slot) (λ _. y ∷ cs) (λ _. x ∷ without_place x.frame x.slot (y ∷ cs))
+    (same-itself x.frame x.slot))
     (λ _. if-keeps P q (λ _. x ∷ cs) (λ _. y ∷ with_change x cs)
     (λ s. let no : true ≡ false = sym s ∙ apart in absurd (cc))
-    (λ _. if-false (is_same_place y.frame y.slot x.frame x.slot) (λ _. with_change x cs) (λ _. y ∷ without_place x.frame x.slot (with_change x cs)) none.0
+    (λ _. if-false (is_same_place y.frame y.slot x.frame x.slot) (λ _. with_change x cs)
+    (λ _. y ∷ without_place x.frame x.slot (with_change x cs)) none.0
     ∙ ap (λ rest. y ∷ rest) (back-none x cs none.1)))
 
 -- a place that had a cell has it again
-back-some : (x : Change Cell) (v : Cell) (cs : Carry Cell) → IsRising cs → carried_at x.frame x.slot cs ≡ Some v → with_cell x.frame x.slot v (with_change x cs) ≡ cs
+back-some : (x : Change Cell) (v : Cell) (cs : Carry Cell) → IsRising cs → carried_at x.frame x.slot cs ≡ Some v
+    → with_cell x.frame x.slot v (with_change x cs) ≡ cs
 back-some x v [] r e = absurd (cc)
 back-some x v (y ∷ cs) r e =
     let P : Carry Cell → Type 0 = (λ zs. with_cell x.frame x.slot v zs ≡ y ∷ cs) in
@@ -228,7 +239,8 @@ back-some x v (y ∷ cs) r e =
     let there : Some y.cell ≡ Some v = sym (if-true u (λ _. Some y.cell) (λ _. carried_at x.frame x.slot cs) (swap ∙ s)) ∙ e in
     let cell : v ≡ y.cell = cc in
     let x' : Change Cell = record x { cell = v } in
-    if-true (is_same_place x.frame x.slot x.frame x.slot) (λ _. x' ∷ cs) (λ _. x ∷ with_cell x.frame x.slot v cs) (same-itself x.frame x.slot)
+    if-true (is_same_place x.frame x.slot x.frame x.slot) (λ _. x' ∷ cs) (λ _. x ∷ with_cell x.frame x.slot v cs)
+    (same-itself x.frame x.slot)
     ∙ ap (λ z. z ∷ cs) (change-same x' y one.0 one.1 cell))
     (λ ns. let apart : u ≡ false = swap ∙ ns in
     if-false u (λ _. record y { cell = v } ∷ with_change x cs) (λ _. y ∷ with_cell x.frame x.slot v (with_change x cs)) apart
@@ -246,10 +258,12 @@ none-back [] cs = refl
 none-back (x ∷ xs) cs = refl
 
 -- changes of which some first ones were made are all taken back
-pub all-back : (xs ys : List (SlotPlace × Cell)) (cs : Carry Cell) → IsRising cs → all_put_back (xs ++ ys) (cells_before_setting xs cs) (with_changes (carry_of_entries xs) cs) ≡ cs
+pub all-back : (xs ys : List (SlotPlace × Cell)) (cs : Carry Cell) → IsRising cs
+    → all_put_back (xs ++ ys) (cells_before_setting xs cs) (with_changes (carry_of_entries xs) cs) ≡ cs
 all-back [] ys cs r = none-back ys cs
 all-back (x ∷ xs) ys cs r =
-    ap (put_back x.0 (carried_at x.0.frame x.0.slot cs)) (all-back xs ys (with_change (change_of x.0 x.1) cs) (rising-with (change_of x.0 x.1) cs r))
+    ap (put_back x.0 (carried_at x.0.frame x.0.slot cs))
+    (all-back xs ys (with_change (change_of x.0 x.1) cs) (rising-with (change_of x.0 x.1) cs r))
     ∙ back x.0 x.1 cs (carried_at x.0.frame x.0.slot cs) r refl
 
 -- what stands for a change that is not there
@@ -264,15 +278,18 @@ put-last (x ∷ xs) [] o cs l = ap (put_back x.0 o) (none-back xs cs)
 put-last (x ∷ xs) (h ∷ had) o cs l = ap (put_back x.0 h) (put-last xs had o cs (omega arith))
 
 -- one more change
-pub changes-push : (xs : List (Change Cell)) (x : Change Cell) (cs : Carry Cell) → with_changes (xs ++ x ∷ []) cs ≡ with_change x (with_changes xs cs)
+pub changes-push : (xs : List (Change Cell)) (x : Change Cell) (cs : Carry Cell)
+    → with_changes (xs ++ x ∷ []) cs ≡ with_change x (with_changes xs cs)
 changes-push [] x cs = refl
 changes-push (y ∷ xs) x cs = changes-push xs x (with_change y cs)
 
 -- what the place of one more change had
 pub cells_before_setting-push : (xs : List (SlotPlace × Cell)) (x : SlotPlace × Cell) (cs : Carry Cell) →
-    cells_before_setting (xs ++ x ∷ []) cs ≡ cells_before_setting xs cs ++ carried_at x.0.frame x.0.slot (with_changes (carry_of_entries xs) cs) ∷ []
+    cells_before_setting (xs ++ x ∷ []) cs ≡ cells_before_setting xs cs
+    ++ carried_at x.0.frame x.0.slot (with_changes (carry_of_entries xs) cs) ∷ []
 cells_before_setting-push [] x cs = refl
-cells_before_setting-push (y ∷ xs) x cs = ap (λ os. carried_at y.0.frame y.0.slot cs ∷ os) (cells_before_setting-push xs x (with_change (change_of y.0 y.1) cs))
+cells_before_setting-push (y ∷ xs) x cs =
+    ap (λ os. carried_at y.0.frame y.0.slot cs ∷ os) (cells_before_setting-push xs x (with_change (change_of y.0 y.1) cs))
 
 -- the first i of the changes are made, and what their places had is noted
 pub record IsSet (xs : List (SlotPlace × Cell)) (i : ℕ) (before now : Carry Cell) (had : List (Option Cell)) : Type 0 where
@@ -282,14 +299,16 @@ pub record IsSet (xs : List (SlotPlace × Cell)) (i : ℕ) (before now : Carry C
 -- one more change is made
 pub set-more : (xs : List (SlotPlace × Cell)) (i : ℕ) (before now now' : Carry Cell) (had had' : List (Option Cell)) (o : Option Cell) →
     IsSet xs i before now had → i < length xs → now' ≡ with_change (change_of (get_or xs i no_change).0 (get_or xs i no_change).1) now →
-    o ≡ carried_at (get_or xs i no_change).0.frame (get_or xs i no_change).0.slot now → had' ≡ had ++ o ∷ [] → IsSet xs (i + 1) before now' had'
+    o ≡ carried_at (get_or xs i no_change).0.frame (get_or xs i no_change).0.slot now → had' ≡ had ++ o ∷ []
+    → IsSet xs (i + 1) before now' had'
 set-more xs i before now now' had had' o s l p q r =
     let x : SlotPlace × Cell = get_or xs i no_change in
     let more : take (i + 1) xs ≡ take i xs ++ x ∷ [] = take_more xs i no_change l in
     record {
       carry = p ∙ (ap (with_change (change_of x.0 x.1)) s.carry
           ∙ (sym (changes-push (carry_of_entries (take i xs)) (change_of x.0 x.1) before)
-          ∙ ap (λ ys. with_changes ys before) (sym (map-append (λ (y : SlotPlace × Cell). change_of y.0 y.1) (take i xs) (x ∷ [])) ∙ ap carry_of_entries (sym more))));
+          ∙ ap (λ ys. with_changes ys before) (sym (map-append (λ (y : SlotPlace × Cell). change_of y.0 y.1) (take i xs) (x ∷ []))
+          ∙ ap carry_of_entries (sym more))));
       noted = r ∙ (ap (λ os. os ++ o ∷ []) s.noted
           ∙ (ap (λ y. cells_before_setting (take i xs) before ++ y ∷ []) (q ∙ ap (carried_at x.0.frame x.0.slot) s.carry)
           ∙ (sym (cells_before_setting-push (take i xs) x before) ∙ ap (λ ys. cells_before_setting ys before) (sym more))));
@@ -300,5 +319,6 @@ pub set-back : (xs : List (SlotPlace × Cell)) (i : ℕ) (before now after : Car
     IsSet xs i before now had → after ≡ all_put_back xs had now → after ≡ before
 set-back xs i before now after had r s p =
     p ∙ (ap (λ os. all_put_back xs os now) s.noted ∙ (ap (all_put_back xs (cells_before_setting (take i xs) before)) s.carry
-    ∙ (ap (λ ys. all_put_back ys (cells_before_setting (take i xs) before) (with_changes (carry_of_entries (take i xs)) before)) (sym (take-append-drop i xs))
+    ∙ (ap (λ ys. all_put_back ys (cells_before_setting (take i xs) before) (with_changes (carry_of_entries (take i xs)) before))
+    (sym (take-append-drop i xs))
     ∙ all-back (take i xs) (drop i xs) before r)))

@@ -10,7 +10,8 @@ use Rattle.alma_memory_store.specs.Frames.{IsWhole, AreWhole}
 
 -- a push declares the cells of its frame
 pub live-push : (fs : List PlainFrame) (g : PlainFrame) → live_cells (fs ++ g ∷ []) ≡ live_cells fs + g.declared
-live-push fs g = sum-map (λ h. h.declared) (fs ++ g ∷ []) ∙ (sum_by_push (λ h. h.declared) fs g ∙ ap (λ n. n + g.declared) (sym (sum-map (λ h. h.declared) fs)))
+live-push fs g = sum-map (λ h. h.declared) (fs ++ g ∷ [])
+    ∙ (sum_by_push (λ h. h.declared) fs g ∙ ap (λ n. n + g.declared) (sym (sum-map (λ h. h.declared) fs)))
 
 -- each of whole frames is whole, and so is no frame
 pub whole-at : (fs : List PlainFrame) (f : ℕ) → AreWhole fs → IsWhole (get_or fs f no_frame)

@@ -49,4 +49,5 @@ all_put_back (entry ∷ entries) (cell ∷ had) carry = put_back entry.0 cell (a
 -- what the places of these changes had, each before it was set
 abbrev pub cells_before_setting : List (SlotPlace × Cell) → Carry Cell → List (Option Cell)
 cells_before_setting [] carry = []
-cells_before_setting (entry ∷ entries) carry = carried_at entry.0.frame entry.0.slot carry ∷ cells_before_setting entries (with_change (change_of entry.0 entry.1) carry)
+cells_before_setting (entry ∷ entries) carry = carried_at entry.0.frame entry.0.slot carry
+    ∷ cells_before_setting entries (with_change (change_of entry.0 entry.1) carry)

@@ -1,5 +1,6 @@
 -- The frames of now and those of the top copy, and lists of changes between them.
-use Rattle.std.specs.Prelude.{◌≡◌, ◌⊎◌, ◌+◌, ◌<◌, ◌||◌, ℕ, Bool, true, false, List, [], ◌∷◌, length, get_or, Option, Some, None, IsSome, if◌then◌else◌}
+use Rattle.std.specs.Prelude.{◌≡◌, ◌⊎◌, ◌+◌, ◌<◌, ◌||◌, ℕ, Bool, true, false, List, [], ◌∷◌, length, get_or, Option, Some, None, IsSome}
+use Rattle.std.specs.Prelude.{if◌then◌else◌}
 use Rattle.std.specs.BTreeMap.{get, is_at}
 use Rattle.std.specs.Map.{lookup}
 use Rattle.std.specs.Ordering.{nat_cmp}
@@ -46,7 +47,8 @@ has_place f s (x ∷ xs) = is_same_place x.frame x.slot f s || has_place f s xs
 -- each of the changes is at a place that differs, and has its cell of now
 abbrev pub AllChanged : (before now : List PlainFrame) → List (Change Cell) → Type 0
 AllChanged before now [] = Unit {0}
-AllChanged before now (x ∷ xs) = ((differs before now x.frame x.slot ≡ true) × (x.cell ≡ cell_at now x.frame x.slot Unknown)) × AllChanged before now xs
+AllChanged before now (x ∷ xs) = ((differs before now x.frame x.slot ≡ true) × (x.cell ≡ cell_at now x.frame x.slot Unknown))
+    × AllChanged before now xs
 
 -- more changes: each is one, none is lost, and of the places that are named each that differs is there or left
 pub record Gains (before now : List PlainFrame) (named left : ℕ → ℕ → Type 0) (old new : List (Change Cell)) : Type 0 where

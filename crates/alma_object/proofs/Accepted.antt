@@ -1,5 +1,6 @@
 -- An object is accepted: its header.
-use Rattle.std.proofs.Common.{◌≡◌, ◌⊎◌, ℕ, zero, suc, ◌+◌, ◌*◌, ◌^◌, ◌<◌, ◌≤◌, Bool, true, false, Option, None, List, [], ◌∷◌, ◌++◌, length, get_or, take, drop, refl, sym, ap, subst, ◌∙◌, arith, inl, inr}
+use Rattle.std.proofs.Common.{◌≡◌, ◌⊎◌, ℕ, zero, suc, ◌+◌, ◌*◌, ◌^◌, ◌<◌, ◌≤◌, Bool, true, false, Option, None, List, [], ◌∷◌, ◌++◌, length}
+use Rattle.std.proofs.Common.{get_or, take, drop, refl, sym, ap, subst, ◌∙◌, arith, inl, inr}
 use Rattle.std.specs.Prelude.{nat_eq, nat_le, ◌||◌, if◌then◌else◌, sum_by}
 use Rattle.std.specs.List.{starts_with}
 use Rattle.alma_code.specs.Plain.{PlainCode}
@@ -13,7 +14,8 @@ use Rattle.alma_object_format.specs.Fault.{or_else}
 use Rattle.alma_object_format.specs.Header.{magic, header_of, count_fault, counts_fault, header_fault}
 use Rattle.alma_object_format.specs.Object.{IsObject, counts_of, header_bytes, object_bytes}
 use Rattle.alma_object.proofs.Slices.{words_from}
-use Rattle.alma_object.proofs.Stands.{Stands, AreWords, no_words, more_words, stands_all, stands_first, stands_second, stands_slice, stands_within, words_length, whole_true, unless_true, le_test, words_stand, u16_stands, u16_length}
+use Rattle.alma_object.proofs.Stands.{Stands, AreWords, no_words, more_words, stands_all, stands_first, stands_second, stands_slice}
+use Rattle.alma_object.proofs.Stands.{stands_within, words_length, whole_true, unless_true, le_test, words_stand, u16_stands, u16_length}
 
 -- the header that the object of a code has
 abbrev pub header_for : PlainCode → Header
@@ -54,7 +56,8 @@ some_text : (texts : List (List ℕ)) → (nat_eq (sum_by length texts) 0 || nat
 some_text [] = refl
 some_text (t ∷ ts) = or_right (nat_eq (sum_by length (t ∷ ts)) 0) (nat_le 1 (length (t ∷ ts))) (le_test 1 (length (t ∷ ts)) (omega arith))
 
-pub word_at : (bytes : List ℕ) (at : ℕ) (ns : List ℕ) → words_from bytes at (length ns) ≡ ns → (k : ℕ) → k < length ns → u32_at bytes (at + 4 * k) ≡ get_or ns k 0
+pub word_at : (bytes : List ℕ) (at : ℕ) (ns : List ℕ) → words_from bytes at (length ns) ≡ ns → (k : ℕ) → k < length ns
+    → u32_at bytes (at + 4 * k) ≡ get_or ns k 0
 word_at bytes at [] e k lt = absurd (omega arith)
 word_at bytes at (n ∷ ns) e zero lt = (let z : at + 4 * 0 ≡ at = omega arith in ap (u32_at bytes) z ∙ ap (λ (t : List ℕ). get_or t 0 0) e)
 word_at bytes at (n ∷ ns) e (suc k) lt =
@@ -82,15 +85,18 @@ module _ (code : PlainCode) (bytes : List ℕ) (object : IsObject code bytes) wh
   counts_fit : AreWords (counts_of code)
   counts_fit =
       let c = object.counts in
-      more_words _ _ (omega (arith, c.routines)) (more_words _ _ (omega (arith, c.globals)) (more_words _ _ (omega (arith, c.params)) (more_words _ _ (omega (arith, c.runs))
-      (more_words _ _ (omega (arith, c.ranges)) (more_words _ _ (omega (arith, c.texts)) (more_words _ _ (omega (arith, c.names)) (more_words _ _ (omega (arith, c.text_bytes))
+      more_words _ _ (omega (arith, c.routines))
+      (more_words _ _ (omega (arith, c.globals)) (more_words _ _ (omega (arith, c.params)) (more_words _ _ (omega (arith, c.runs))
+      (more_words _ _ (omega (arith, c.ranges))
+      (more_words _ _ (omega (arith, c.texts)) (more_words _ _ (omega (arith, c.names)) (more_words _ _ (omega (arith, c.text_bytes))
       (more_words _ _ (omega (arith, c.instrs)) (last_fits (nat_eq code.version 2) (length code.lines) (omega (arith, c.lines)))))))))))
 
   pub counts_are : words_from bytes 10 (length (counts_of code)) ≡ counts_of code
   unfolding header_bytes
   counts_are =
       let rest = stands_second bytes 0 8 magic (u16_bytes code.version ++ words_bytes (counts_of code)) refl header_stands in
-      let counts = stands_second bytes 8 10 (u16_bytes code.version) (words_bytes (counts_of code)) (omega (arith, u16_length code.version)) rest in
+      let counts = stands_second bytes 8 10 (u16_bytes code.version) (words_bytes (counts_of code)) (omega (arith, u16_length code.version))
+      rest in
       words_stand bytes 10 (counts_of code) counts_fit counts
 
   count_at : (k n : ℕ) → 10 + 4 * k ≡ n → k < length (counts_of code) → u32_at bytes n ≡ get_or (counts_of code) k 0
@@ -99,11 +105,14 @@ module _ (code : PlainCode) (bytes : List ℕ) (object : IsObject code bytes) wh
   lines_by : (two : Bool) → nat_eq code.version 2 ≡ two → (if nat_eq (u16_at bytes 8) 2 then u32_at bytes 46 else 0) ≡ length code.lines
   lines_by true e =
       let there : nat_eq (u16_at bytes 8) 2 ≡ true = ap (λ v. nat_eq v 2) version_is ∙ e in
-      let last : (if nat_eq code.version 2 then length code.lines ∷ [] else []) ≡ length code.lines ∷ [] = ap (λ b. if b then length code.lines ∷ [] else []) e in
-      ap (λ b. if b then u32_at bytes 46 else 0) there ∙ count_at 9 46 refl (omega (arith, ap length last)) ∙ ap (λ (t : List ℕ). get_or t 0 0) last
+      let last : (if nat_eq code.version 2 then length code.lines ∷ [] else []) ≡ length code.lines ∷ [] =
+      ap (λ b. if b then length code.lines ∷ [] else []) e in
+      ap (λ b. if b then u32_at bytes 46 else 0) there ∙ count_at 9 46 refl (omega (arith, ap length last))
+      ∙ ap (λ (t : List ℕ). get_or t 0 0) last
   lines_by false e =
       let there : nat_eq (u16_at bytes 8) 2 ≡ false = ap (λ v. nat_eq v 2) version_is ∙ e in
-      ap (λ b. if b then u32_at bytes 46 else 0) there ∙ sym (ap length (object.version.first (first_version code.version object.version.version e)).lines)
+      ap (λ b. if b then u32_at bytes 46 else 0) there
+      ∙ sym (ap length (object.version.first (first_version code.version object.version.version e)).lines)
 
   pub header_is : header_of bytes ≡ header_for code
   header_is =
@@ -124,20 +133,25 @@ module _ (code : PlainCode) (bytes : List ℕ) (object : IsObject code bytes) wh
   unfolding header_bytes
   header_whole =
       let rest = stands_second bytes 0 8 magic (u16_bytes code.version ++ words_bytes (counts_of code)) refl header_stands in
-      let counts = stands_second bytes 8 10 (u16_bytes code.version) (words_bytes (counts_of code)) (omega (arith, u16_length code.version)) rest in
+      let counts = stands_second bytes 8 10 (u16_bytes code.version) (words_bytes (counts_of code)) (omega (arith, u16_length code.version))
+      rest in
       omega (arith, stands_within bytes 10 (words_bytes (counts_of code)) counts, words_length (counts_of code))
 
   count_clean : (at greatest n : ℕ) → at + 4 ≤ length bytes → u32_at bytes at ≡ n → n ≤ greatest → count_fault bytes at greatest ≡ None
   unfolding count_fault
   count_clean at greatest n le e low =
-      whole_true bytes (at + 4) _ le (unless_true (nat_le (u32_at bytes at) greatest) (fault.BadCount at) None (ap (λ k. nat_le k greatest) e ∙ le_test n greatest low) refl)
+      whole_true bytes (at + 4) _ le (unless_true (nat_le (u32_at bytes at) greatest) (fault.BadCount at) None
+      (ap (λ k. nat_le k greatest) e ∙ le_test n greatest low) refl)
 
-  lines_clean : (two : Bool) → nat_eq code.version 2 ≡ two → (if nat_eq (u16_at bytes 8) 2 then count_fault bytes 46 1048576 else None) ≡ None
+  lines_clean : (two : Bool) → nat_eq code.version 2 ≡ two
+      → (if nat_eq (u16_at bytes 8) 2 then count_fault bytes 46 1048576 else None) ≡ None
   lines_clean true e =
       let there : nat_eq (u16_at bytes 8) 2 ≡ true = ap (λ v. nat_eq v 2) version_is ∙ e in
-      let last : (if nat_eq code.version 2 then length code.lines ∷ [] else []) ≡ length code.lines ∷ [] = ap (λ b. if b then length code.lines ∷ [] else []) e in
+      let last : (if nat_eq code.version 2 then length code.lines ∷ [] else []) ≡ length code.lines ∷ [] =
+      ap (λ b. if b then length code.lines ∷ [] else []) e in
       ap (λ b. if b then count_fault bytes 46 1048576 else None) there
-      ∙ count_clean 46 1048576 (length code.lines) (omega (arith, header_whole, ap length last)) (count_at 9 46 refl (omega (arith, ap length last)) ∙ ap (λ (t : List ℕ). get_or t 0 0) last) object.counts.lines
+      ∙ count_clean 46 1048576 (length code.lines) (omega (arith, header_whole, ap length last))
+      (count_at 9 46 refl (omega (arith, ap length last)) ∙ ap (λ (t : List ℕ). get_or t 0 0) last) object.counts.lines
   lines_clean false e =
       let there : nat_eq (u16_at bytes 8) 2 ≡ false = ap (λ v. nat_eq v 2) version_is ∙ e in
       ap (λ b. if b then count_fault bytes 46 1048576 else None) there
@@ -150,7 +164,8 @@ module _ (code : PlainCode) (bytes : List ℕ) (object : IsObject code bytes) wh
       let c7 = count_at 7 38 refl (omega arith) in
       let c = object.counts in
       or_clean (count_clean 10 262144 (length code.routines) (omega (arith, header_whole)) c0 c.routines)
-      (unless_true (nat_le 1 (u32_at bytes 10)) (fault.BadCount 10) _ (ap (nat_le 1) c0 ∙ le_test 1 (length code.routines) object.table.some)
+      (unless_true (nat_le 1 (u32_at bytes 10)) (fault.BadCount 10) _
+      (ap (nat_le 1) c0 ∙ le_test 1 (length code.routines) object.table.some)
       (or_clean (count_clean 14 1048576 (length code.globals) (omega (arith, header_whole)) (count_at 1 14 refl (omega arith)) c.globals)
       (or_clean (count_clean 18 1048576 (param_count code) (omega (arith, header_whole)) (count_at 2 18 refl (omega arith)) c.params)
       (or_clean (count_clean 22 8388608 (run_count code) (omega (arith, header_whole)) (count_at 3 22 refl (omega arith)) c.runs)
@@ -158,7 +173,9 @@ module _ (code : PlainCode) (bytes : List ℕ) (object : IsObject code bytes) wh
       (or_clean (count_clean 30 1048576 (length code.texts) (omega (arith, header_whole)) c5 c.texts)
       (or_clean (count_clean 34 16777216 (name_count code) (omega (arith, header_whole)) (count_at 6 34 refl (omega arith)) c.names)
       (or_clean (count_clean 38 16777216 (text_count code) (omega (arith, header_whole)) c7 c.text_bytes)
-      (unless_true (nat_eq (u32_at bytes 38) 0 || nat_le 1 (u32_at bytes 30)) (fault.BadCount 38) _ (ap (λ k. nat_eq k 0 || nat_le 1 (u32_at bytes 30)) c7 ∙ ap (λ k. nat_eq (text_count code) 0 || nat_le 1 k) c5 ∙ some_text code.texts)
+      (unless_true (nat_eq (u32_at bytes 38) 0 || nat_le 1 (u32_at bytes 30)) (fault.BadCount 38) _
+      (ap (λ k. nat_eq k 0 || nat_le 1 (u32_at bytes 30)) c7 ∙ ap (λ k. nat_eq (text_count code) 0 || nat_le 1 k) c5
+      ∙ some_text code.texts)
       (or_clean (count_clean 42 4194304 (length code.instrs) (omega (arith, header_whole)) (count_at 8 42 refl (omega arith)) c.instrs)
       (lines_clean (nat_eq code.version 2) refl)))))))))))
 
@@ -168,7 +185,9 @@ module _ (code : PlainCode) (bytes : List ℕ) (object : IsObject code bytes) wh
   header_clean =
       let first = stands_first bytes 0 magic (u16_bytes code.version ++ words_bytes (counts_of code)) header_stands in
       let is : take 8 bytes ≡ magic = stands_slice bytes 0 8 magic refl first in
-      or_clean (whole_true bytes 8 _ (omega (arith, header_whole)) (unless_true (starts_with nat_eq bytes magic) fault.Magic None (ap (pointwise nat_eq magic) is) refl))
-      (or_clean (whole_true bytes 10 _ (omega (arith, header_whole)) (unless_true (nat_eq (u16_at bytes 8) 1 || nat_eq (u16_at bytes 8) 2) (fault.Version (u16_at bytes 8)) None
+      or_clean (whole_true bytes 8 _ (omega (arith, header_whole))
+      (unless_true (starts_with nat_eq bytes magic) fault.Magic None (ap (pointwise nat_eq magic) is) refl))
+      (or_clean (whole_true bytes 10 _ (omega (arith, header_whole))
+      (unless_true (nat_eq (u16_at bytes 8) 1 || nat_eq (u16_at bytes 8) 2) (fault.Version (u16_at bytes 8)) None
       (ap (λ v. nat_eq v 1 || nat_eq v 2) version_is ∙ known_version code.version object.version.version) refl))
       counts_clean)

@@ -1,5 +1,6 @@
 -- An object has no fault: its sections.
-use Rattle.std.proofs.Common.{◌≡◌, ℕ, zero, suc, ◌+◌, ◌-◌, ◌*◌, ◌^◌, ◌<◌, ◌≤◌, pos, Bool, true, false, ◌&&◌, not, None, List, [], ◌∷◌, length, get_or, take, map, refl, sym, ap, subst, ◌∙◌, arith, inl, inr}
+use Rattle.std.proofs.Common.{◌≡◌, ℕ, zero, suc, ◌+◌, ◌-◌, ◌*◌, ◌^◌, ◌<◌, ◌≤◌, pos, Bool, true, false, ◌&&◌, not, None, List, [], ◌∷◌}
+use Rattle.std.proofs.Common.{length, get_or, take, map, refl, sym, ap, subst, ◌∙◌, arith, inl, inr}
 use Rattle.std.specs.Prelude.{nat_eq, nat_lt, nat_le, int_le, ◌||◌, if◌then◌else◌, sum_by, slice_index}
 use Rattle.std.specs.List.{flat_map, list_all}
 use Rattle.std.proofs.lemmas.Bool.{cases_lt}
@@ -16,26 +17,36 @@ use Rattle.alma_code.specs.declared.head.Run.{Run}
 use Rattle.alma_code.specs.declared.instr.Instr.TheVariants as I
 use Rattle.alma_code.specs.Layout.{RunsRise}
 use Rattle.alma_code.specs.Plain.{PlainCode, PlainRoutine, PlainGlobal, routine_at, head_at, start_at, end_at, no_routine}
-use Rattle.alma_code.specs.Records.{param_count, run_count, name_count, text_count, is_name, has_cells, same_kind, runs_differ, is_routine_record, is_first_kind, is_first_param, is_first_form, is_first_routine, IsFirst}
+use Rattle.alma_code.specs.Records.{param_count, run_count, name_count, text_count, is_name, has_cells, same_kind, runs_differ}
+use Rattle.alma_code.specs.Records.{is_routine_record, is_first_kind, is_first_param, is_first_form, is_first_routine, IsFirst}
 use Rattle.alma_code.proofs.Tables.{end_inside}
 use Rattle.alma_object_format.specs.declared.fault.ObjectFault.TheVariants as fault
 use Rattle.alma_object_format.specs.declared.header.Header.{Header}
 use Rattle.alma_object_format.specs.Bytes.{i64_bytes, u32_at, i64_at}
 use Rattle.alma_object_format.specs.Fault.{unless}
 use Rattle.alma_object.specs.Fields.{FitsFields}
-use Rattle.alma_object_format.specs.Header.{routines_at, globals_at, params_at, runs_at, ranges_at, texts_at, name_pool_at, text_pool_at, instrs_at, lines_at, end_at as end_offset}
+use Rattle.alma_object_format.specs.Header.{routines_at, globals_at, params_at, runs_at, ranges_at, texts_at, name_pool_at, text_pool_at}
+use Rattle.alma_object_format.specs.Header.{instrs_at, lines_at, end_at as end_offset}
 use Rattle.alma_object_format.specs.Instrs.{instr_bytes, is_instr}
-use Rattle.alma_object_format.specs.Object.{IsObject, end_of, no_global, param_number, slot_number, slot_size, routine_bytes, global_bytes, text_end_bytes, param_bytes, run_bytes, range_bytes, line_bytes}
+use Rattle.alma_object_format.specs.Object.{IsObject, end_of, no_global, param_number, slot_number, slot_size, routine_bytes, global_bytes}
+use Rattle.alma_object_format.specs.Object.{text_end_bytes, param_bytes, run_bytes, range_bytes, line_bytes}
 use Rattle.alma_object.specs.View.{no_line}
-use Rattle.alma_object_format.specs.Walk.{start_of, is_end, is_name_end, routine_field, params_end, runs_end, code_end, text_end, name_end, name_count as names_count, routine_fault, global_fault, param_fault, run_fault, routine_runs_fault, range_fault, text_fault, name_fault, pools_fault, instr_fault, line_fault, end_fault, sections_fault, object_fault, can_stand}
+use Rattle.alma_object_format.specs.Walk.{start_of, is_end, is_name_end, routine_field, params_end, runs_end, code_end, text_end, name_end}
+use Rattle.alma_object_format.specs.Walk.{name_count as names_count, routine_fault, global_fault, param_fault, run_fault}
+use Rattle.alma_object_format.specs.Walk.{routine_runs_fault, range_fault, text_fault, name_fault, pools_fault, instr_fault, line_fault}
+use Rattle.alma_object_format.specs.Walk.{end_fault, sections_fault, object_fault, can_stand}
 use Rattle.alma_object.proofs.Accepted.{header_for, header_is, header_clean, or_clean}
-use Rattle.alma_object.proofs.Ends.{both, end_more, end_within, start_is, is_end_good, end_good, name_end_good, sum_map, end_first, end_second, section_nth, stands_part, flat_at, byte_stands, all_flat, all_at, name_stands, name_some}
+use Rattle.alma_object.proofs.Ends.{both, end_more, end_within, start_is, is_end_good, end_good, name_end_good, sum_map, end_first}
+use Rattle.alma_object.proofs.Ends.{end_second, section_nth, stands_part, flat_at, byte_stands, all_flat, all_at, name_stands, name_some}
 use Rattle.alma_object.proofs.Fields.{IsRead, field, instr_read}
 use Rattle.alma_object_format.proofs.Kept.{and_parts}
 use Rattle.alma_object.proofs.LineOrder.{below_from, next_line}
-use Rattle.alma_object.proofs.Places.{object_length, SectionsStand, sections_stand, names_of, instr_length, routine_length, global_length, text_length, param_length, run_length, range_length, line_length}
+use Rattle.alma_object.proofs.Places.{object_length, SectionsStand, sections_stand, names_of, instr_length, routine_length, global_length}
+use Rattle.alma_object.proofs.Places.{text_length, param_length, run_length, range_length, line_length}
 use Rattle.alma_object.proofs.Sections.{name_end_routine, name_end_global}
-use Rattle.alma_object.proofs.Stands.{Stands, AreWords, no_words, more_words, stands_first, stands_second, stands_as, stands_within, stands_nth, i64_stands, i64_length, first_clean, unless_true, whole_true, le_test, lt_test, eq_test, ne_test}
+use Rattle.alma_object.proofs.Stands.{Stands, AreWords, no_words, more_words, stands_first, stands_second, stands_as, stands_within}
+use Rattle.alma_object.proofs.Stands.{stands_nth, i64_stands, i64_length, first_clean, unless_true, whole_true, le_test, lt_test, eq_test}
+use Rattle.alma_object.proofs.Stands.{ne_test}
 
 abbrev pub no_param : CodeParam
 no_param = record { kind = param.Value; cells = 0 }
@@ -82,9 +93,12 @@ module _ (code : PlainCode) (bytes : List ℕ) (object : IsObject code bytes) (f
       let params = end_within (λ (x : PlainRoutine). length x.head.params) code.routines r in
       let runs = end_within (λ (x : PlainRoutine). length x.head.runs) code.routines r in
       let last = end_inside code object.table r lt in
-      let ns = end_of (λ (x : PlainRoutine). length x.name) code.routines r ∷ end_of (λ (x : PlainRoutine). length x.head.params) code.routines r ∷ end_of (λ (x : PlainRoutine). length x.head.runs) code.routines r
+      let ns = end_of (λ (x : PlainRoutine). length x.name) code.routines r
+      ∷ end_of (λ (x : PlainRoutine). length x.head.params) code.routines r
+      ∷ end_of (λ (x : PlainRoutine). length x.head.runs) code.routines r
       ∷ x.code_end ∷ x.head.slots ∷ x.head.declared ∷ (if x.head.has_result then 1 else 0) ∷ [] in
-      let fit : AreWords ns = more_words _ _ (omega (arith, c.names)) (more_words _ _ (omega (arith, c.params)) (more_words _ _ (omega (arith, c.runs)) (more_words _ _ (omega (arith, c.instrs))
+      let fit : AreWords ns = more_words _ _ (omega (arith, c.names))
+      (more_words _ _ (omega (arith, c.params)) (more_words _ _ (omega (arith, c.runs)) (more_words _ _ (omega (arith, c.instrs))
       (more_words _ _ one.slots (more_words _ _ one.declared (more_words _ _ (small_result x.head.has_result) no_words)))))) in
       record {
         is_whole = omega (arith, stands_within bytes (routines_at h + 28 * r) (routine_bytes code r) s, routine_length code r);
@@ -100,7 +114,8 @@ module _ (code : PlainCode) (bytes : List ℕ) (object : IsObject code bytes) (f
   -- the fields of a global
   pub record GlobalStands (g : ℕ) : Type 0 where
     pub is_whole : globals_at (header_for code) + 12 * g + 12 ≤ length bytes
-    pub name : u32_at bytes (globals_at (header_for code) + 12 * g) ≡ sum_by (λ x. length x.name) code.routines + end_of (λ x. length x.name) code.globals g
+    pub name : u32_at bytes (globals_at (header_for code) + 12 * g) ≡ sum_by (λ x. length x.name) code.routines
+        + end_of (λ x. length x.name) code.globals g
     pub slot : u32_at bytes (globals_at (header_for code) + 12 * g + 4) ≡ (get_or code.globals g no_global).slot
     pub cells : u32_at bytes (globals_at (header_for code) + 12 * g + 8) ≡ (get_or code.globals g no_global).cells
 
@@ -113,8 +128,10 @@ module _ (code : PlainCode) (bytes : List ℕ) (object : IsObject code bytes) (f
       let x = get_or code.globals g no_global in
       let one = fits.globals g no_global lt in
       let names = end_within (λ (x : PlainGlobal). length x.name) code.globals g in
-      let ns = (sum_by (λ (x : PlainRoutine). length x.name) code.routines + end_of (λ (x : PlainGlobal). length x.name) code.globals g) ∷ x.slot ∷ x.cells ∷ [] in
-      let fit : AreWords ns = more_words _ _ (omega (arith, object.counts.names)) (more_words _ _ one.slot (more_words _ _ one.cells no_words)) in
+      let ns = (sum_by (λ (x : PlainRoutine). length x.name) code.routines + end_of (λ (x : PlainGlobal). length x.name) code.globals g)
+      ∷ x.slot ∷ x.cells ∷ [] in
+      let fit : AreWords ns = more_words _ _ (omega (arith, object.counts.names))
+      (more_words _ _ one.slot (more_words _ _ one.cells no_words)) in
       record {
         is_whole = omega (arith, stands_within bytes at (global_bytes code g) s, global_length code g);
         name = (let z : at + 0 ≡ at = omega arith in ap (u32_at bytes) (sym z) ∙ field bytes at 0 ns fit s (omega arith));
@@ -200,20 +217,26 @@ module _ (code : PlainCode) (bytes : List ℕ) (object : IsObject code bytes) (f
       record {
         is_whole = omega (arith, stands_within bytes at (range_bytes x) s, range_length x);
         low = i64_stands bytes at x.low one.low (stands_first bytes at (i64_bytes x.low) (i64_bytes x.high) s);
-        high = i64_stands bytes (at + 8) x.high one.high (stands_second bytes at (at + 8) (i64_bytes x.low) (i64_bytes x.high) (omega (arith, i64_length x.low)) s);
+        high = i64_stands bytes (at + 8) x.high one.high
+            (stands_second bytes at (at + 8) (i64_bytes x.low) (i64_bytes x.high) (omega (arith, i64_length x.low)) s);
       }
 
   -- the end of a text
-  pub text_end_is : (t : ℕ) → t < length code.texts → (texts_at (header_for code) + 4 * t + 4 ≤ length bytes) × (text_end bytes (header_for code) t ≡ end_of length code.texts t)
+  pub text_end_is : (t : ℕ) → t < length code.texts → (texts_at (header_for code) + 4 * t + 4 ≤ length bytes)
+      × (text_end bytes (header_for code) t ≡ end_of length code.texts t)
   unfolding text_end_bytes text_end
   text_end_is t lt =
       let at = texts_at (header_for code) + 4 * t in
-      let s = section_nth bytes (texts_at (header_for code)) 4 (text_end_bytes code) (length code.texts) (text_length code) stand.texts t lt in
+      let s = section_nth bytes (texts_at (header_for code)) 4 (text_end_bytes code) (length code.texts) (text_length code) stand.texts t
+      lt in
       let ns = end_of length code.texts t ∷ [] in
       let within = end_within length code.texts t in
       let fit : AreWords ns = more_words _ _ (omega (arith, object.counts.text_bytes)) no_words in
-      let z : at + 0 ≡ at = omega arith in
-      (omega (arith, stands_within bytes at (text_end_bytes code t) s, text_length code t), ap (u32_at bytes) (sym z) ∙ field bytes at 0 ns fit s (omega arith))
+      let z : at + 0 ≡ at = omega arith in (
+        omega (arith, stands_within bytes at (text_end_bytes code t) s, text_length code t),
+        ap (u32_at bytes) (sym z)
+            ∙ field bytes at 0 ns fit s (omega arith),
+      )
 
   -- the address and the line of a line
   pub line_below : (k : ℕ) → k < length code.lines → (get_or code.lines k no_line).at < length code.instrs
@@ -231,7 +254,8 @@ module _ (code : PlainCode) (bytes : List ℕ) (object : IsObject code bytes) (f
       let x = get_or code.lines k no_line in
       let s = stands_nth bytes (lines_at (header_for code)) 8 line_bytes code.lines line_length stand.lines k no_line lt in
       let ns = x.at ∷ x.line ∷ [] in
-      let fit : AreWords ns = more_words _ _ (omega (arith, line_below k lt, object.counts.instrs)) (more_words _ _ (fits.lines k no_line lt) no_words) in
+      let fit : AreWords ns = more_words _ _ (omega (arith, line_below k lt, object.counts.instrs))
+      (more_words _ _ (fits.lines k no_line lt) no_words) in
       record {
         is_whole = omega (arith, stands_within bytes at (line_bytes x) s, line_length x);
         at_is = (let z : at + 0 ≡ at = omega arith in ap (u32_at bytes) (sym z) ∙ field bytes at 0 ns fit s (omega arith));
@@ -239,7 +263,8 @@ module _ (code : PlainCode) (bytes : List ℕ) (object : IsObject code bytes) (f
       }
 
   -- an instruction
-  pub instr_stands : (k : ℕ) → k < length code.instrs → (instrs_at (header_for code) + 17 * k + 17 ≤ length bytes) × IsRead bytes (instrs_at (header_for code) + 17 * k) (get_or code.instrs k I.Fail)
+  pub instr_stands : (k : ℕ) → k < length code.instrs → (instrs_at (header_for code) + 17 * k + 17 ≤ length bytes)
+      × IsRead bytes (instrs_at (header_for code) + 17 * k) (get_or code.instrs k I.Fail)
   instr_stands k lt =
       let at = instrs_at (header_for code) + 17 * k in
       let x = get_or code.instrs k I.Fail in
@@ -251,7 +276,8 @@ module _ (code : PlainCode) (bytes : List ℕ) (object : IsObject code bytes) (f
   pub names_total : sum_by length (names_of code) ≡ name_count code
   names_total =
       sum_by-append length (map (λ (r : PlainRoutine). r.name) code.routines) (map (λ (g : PlainGlobal). g.name) code.globals)
-      ∙ ap (λ n. n + sum_by length (map (λ (g : PlainGlobal). g.name) code.globals)) (sum_map length (λ (r : PlainRoutine). r.name) code.routines)
+      ∙ ap (λ n. n + sum_by length (map (λ (g : PlainGlobal). g.name) code.globals))
+      (sum_map length (λ (r : PlainRoutine). r.name) code.routines)
       ∙ ap (λ n. sum_by (λ (r : PlainRoutine). length r.name) code.routines + n) (sum_map length (λ (g : PlainGlobal). g.name) code.globals)
 
   pub names_length : length (names_of code) ≡ length code.routines + length code.globals
@@ -260,18 +286,22 @@ module _ (code : PlainCode) (bytes : List ℕ) (object : IsObject code bytes) (f
       ∙ omega (arith, length-map code.routines (λ (r : PlainRoutine). r.name), length-map code.globals (λ (g : PlainGlobal). g.name))
 
   -- a name is that of a routine or of a global
-  by_name : (P : ℕ → Type 0) → ((r : ℕ) → r < length code.routines → P r) → ((g : ℕ) → g < length code.globals → P (length code.routines + g)) → (n : ℕ) → n < length code.routines + length code.globals → P n
+  by_name : (P : ℕ → Type 0) → ((r : ℕ) → r < length code.routines → P r)
+      → ((g : ℕ) → g < length code.globals → P (length code.routines + g)) → (n : ℕ) → n < length code.routines + length code.globals → P n
   by_name P routine global n lt = elim (cases_lt n (length code.routines)) [
     | inl below ↦ routine n below
-    | inr above ↦ (let e : length code.routines + (n - length code.routines) ≡ n = omega arith in subst P e (global (n - length code.routines) (omega arith)))
+    | inr above ↦ (let e : length code.routines + (n - length code.routines) ≡ n = omega arith in
+        subst P e (global (n - length code.routines) (omega arith)))
   ]
 
   pub name_of_routine : (r : ℕ) → r < length code.routines → get_or (names_of code) r [] ≡ (routine_at code r).name
   name_of_routine r lt =
-      get_or_append_left (map (λ (r : PlainRoutine). r.name) code.routines) (map (λ (g : PlainGlobal). g.name) code.globals) [] r (omega (arith, length-map code.routines (λ (r : PlainRoutine). r.name)))
+      get_or_append_left (map (λ (r : PlainRoutine). r.name) code.routines) (map (λ (g : PlainGlobal). g.name) code.globals) [] r
+      (omega (arith, length-map code.routines (λ (r : PlainRoutine). r.name)))
       ∙ get_or-map (λ (r : PlainRoutine). r.name) code.routines r no_routine [] lt
 
-  pub name_of_global : (g : ℕ) → g < length code.globals → get_or (names_of code) (length code.routines + g) [] ≡ (get_or code.globals g no_global).name
+  pub name_of_global : (g : ℕ) → g < length code.globals
+      → get_or (names_of code) (length code.routines + g) [] ≡ (get_or code.globals g no_global).name
   name_of_global g lt =
       ap (λ n. get_or (names_of code) (n + g) []) (sym (length-map code.routines (λ (r : PlainRoutine). r.name)))
       ∙ get_or-append-add (map (λ (r : PlainRoutine). r.name) code.routines) (map (λ (g : PlainGlobal). g.name) code.globals) g []
@@ -294,11 +324,15 @@ module _ (code : PlainCode) (bytes : List ℕ) (object : IsObject code bytes) (f
   named n lt =
       by_name (λ n. is_name (get_or (names_of code) n []) ≡ true)
       (λ r below. ap is_name (name_of_routine r below) ∙ (and_parts (is_name (routine_at code r).name) _ (routine_kept r below)).0)
-      (λ g below. ap is_name (name_of_global g below) ∙ all_at (λ (g : PlainGlobal). is_name g.name) code.globals object.records.globals g no_global below)
+      (λ g below. ap is_name (name_of_global g below)
+      ∙ all_at (λ (g : PlainGlobal). is_name g.name) code.globals object.records.globals g no_global below)
       n (omega (arith, names_length))
 
-  name_is_good : (n : ℕ) → n < length (names_of code) → is_name_end (start_of (name_end bytes (header_for code)) n) (name_end bytes (header_for code) n) (name_count code) (nat_eq (n + 1) (length code.routines + length code.globals)) ≡ true
-  name_is_good n lt = name_end_good (names_of code) (name_end bytes (header_for code)) (name_count code) (length code.routines + length code.globals) name_end_is names_total names_length n lt (name_some _ (named n lt))
+  name_is_good : (n : ℕ) → n < length (names_of code)
+      → is_name_end (start_of (name_end bytes (header_for code)) n) (name_end bytes (header_for code) n) (name_count code)
+      (nat_eq (n + 1) (length code.routines + length code.globals)) ≡ true
+  name_is_good n lt = name_end_good (names_of code) (name_end bytes (header_for code)) (name_count code)
+      (length code.routines + length code.globals) name_end_is names_total names_length n lt (name_some _ (named n lt))
 
   -- ---- no fault, section by section
 
@@ -319,23 +353,33 @@ module _ (code : PlainCode) (bytes : List ℕ) (object : IsObject code bytes) (f
       let rise = object.table.rise r lt in
       let within = end_inside code object.table r lt in
       let start = start_is_at r (omega arith) in
-      let last : r + 1 ≡ length code.routines → routine_field bytes h 12 r ≡ length code.instrs = λ e. (let f : suc r ≡ length code.routines = omega arith in s.code_end ∙ ap (start_at code) f ∙ object.table.last) in
+      let last : r + 1 ≡ length code.routines → routine_field bytes h 12 r ≡ length code.instrs = λ e.
+      (let f : suc r ≡ length code.routines = omega arith in s.code_end ∙ ap (start_at code) f ∙ object.table.last) in
       whole_true bytes (routines_at h + 28 * r + 28) _ s.is_whole
-      (unless_true (is_name_end (start_of (name_end bytes h) r) (name_end bytes h r) h.name_bytes (nat_eq (r + 1) (names_count bytes h))) (fault.BadName (routines_at h + 28 * r)) _ (name_is_good r (omega (arith, names_length)))
-      (unless_true (is_end (start_of (params_end bytes h) r) (params_end bytes h r) h.params (nat_eq (r + 1) h.routines)) (fault.BadCount (routines_at h + 28 * r + 4)) _
-      (end_good (λ (x : PlainRoutine). length x.head.params) code.routines (params_end bytes h) (param_count code) (length code.routines) (λ k low. (routine_stands k low).params) refl refl r no_routine lt)
-      (unless_true (is_end (start_of (runs_end bytes h) r) (runs_end bytes h r) h.runs (nat_eq (r + 1) h.routines)) (fault.BadCount (routines_at h + 28 * r + 8)) _
-      (end_good (λ (x : PlainRoutine). length x.head.runs) code.routines (runs_end bytes h) (run_count code) (length code.routines) (λ k low. (routine_stands k low).runs) refl refl r no_routine lt)
-      (unless_true (is_end (start_of (code_end bytes h) r) (code_end bytes h r) h.instrs (nat_eq (r + 1) h.routines)) (fault.BadCount (routines_at h + 28 * r + 12)) _
-      (is_end_good (start_of (code_end bytes h) r) (code_end bytes h r) (length code.instrs) (r + 1) (length code.routines) (omega (arith, s.code_end)) (omega (arith, s.code_end)) last)
-      (unless_true (nat_le (routine_field bytes h 24 r) 1) (fault.BadCount (routines_at h + 28 * r + 24)) None (ap (λ n. nat_le n 1) s.result ∙ le_test _ 1 (one_bit (head_at code r).has_result)) refl)))))
+      (unless_true (is_name_end (start_of (name_end bytes h) r) (name_end bytes h r) h.name_bytes (nat_eq (r + 1) (names_count bytes h)))
+      (fault.BadName (routines_at h + 28 * r)) _ (name_is_good r (omega (arith, names_length)))
+      (unless_true (is_end (start_of (params_end bytes h) r) (params_end bytes h r) h.params (nat_eq (r + 1) h.routines))
+      (fault.BadCount (routines_at h + 28 * r + 4)) _
+      (end_good (λ (x : PlainRoutine). length x.head.params) code.routines (params_end bytes h) (param_count code) (length code.routines)
+      (λ k low. (routine_stands k low).params) refl refl r no_routine lt)
+      (unless_true (is_end (start_of (runs_end bytes h) r) (runs_end bytes h r) h.runs (nat_eq (r + 1) h.routines))
+      (fault.BadCount (routines_at h + 28 * r + 8)) _
+      (end_good (λ (x : PlainRoutine). length x.head.runs) code.routines (runs_end bytes h) (run_count code) (length code.routines)
+      (λ k low. (routine_stands k low).runs) refl refl r no_routine lt)
+      (unless_true (is_end (start_of (code_end bytes h) r) (code_end bytes h r) h.instrs (nat_eq (r + 1) h.routines))
+      (fault.BadCount (routines_at h + 28 * r + 12)) _
+      (is_end_good (start_of (code_end bytes h) r) (code_end bytes h r) (length code.instrs) (r + 1) (length code.routines)
+      (omega (arith, s.code_end)) (omega (arith, s.code_end)) last)
+      (unless_true (nat_le (routine_field bytes h 24 r) 1) (fault.BadCount (routines_at h + 28 * r + 24)) None
+      (ap (λ n. nat_le n 1) s.result ∙ le_test _ 1 (one_bit (head_at code r).has_result)) refl)))))
 
   global_clean : (g : ℕ) → g < length code.globals → global_fault bytes (header_for code) g ≡ None
   unfolding global_fault
   global_clean g lt =
       let h = header_for code in
       whole_true bytes (globals_at h + 12 * g + 12) _ (global_stands g lt).is_whole
-      (unless_true (is_name_end (start_of (name_end bytes h) (length code.routines + g)) (name_end bytes h (length code.routines + g)) h.name_bytes (nat_eq (length code.routines + g + 1) (names_count bytes h))) (fault.BadName (globals_at h + 12 * g)) None
+      (unless_true (is_name_end (start_of (name_end bytes h) (length code.routines + g)) (name_end bytes h (length code.routines + g))
+      h.name_bytes (nat_eq (length code.routines + g + 1) (names_count bytes h))) (fault.BadName (globals_at h + 12 * g)) None
       (name_is_good (length code.routines + g) (omega (arith, names_length))) refl)
 
   -- a version that is not 2 has no link
@@ -375,7 +419,8 @@ module _ (code : PlainCode) (bytes : List ℕ) (object : IsObject code bytes) (f
   by_version true n a b high low = le_test n a high
   by_version false n a b high low = le_test n b (low refl)
 
-  cells_good : (k : ParamKind) (n : ℕ) → has_cells k n ≡ true → (not (nat_eq (param_number k) 0 || nat_eq (param_number k) 2) || nat_eq n 1) ≡ true
+  cells_good : (k : ParamKind) (n : ℕ) → has_cells k n ≡ true
+      → (not (nat_eq (param_number k) 0 || nat_eq (param_number k) 2) || nat_eq n 1) ≡ true
   cells_good param.Value n e = e
   cells_good param.Place n e = refl
   cells_good param.Mix n e = e
@@ -384,7 +429,8 @@ module _ (code : PlainCode) (bytes : List ℕ) (object : IsObject code bytes) (f
 
   params_have : list_all (λ (p : CodeParam). has_cells p.kind p.cells) params_all ≡ true
   params_have = all_flat (λ (p : CodeParam). has_cells p.kind p.cells) is_routine_record (λ (r : PlainRoutine). r.head.params)
-      (λ r e. (and_parts (list_all (λ p. has_cells p.kind p.cells) r.head.params) _ (and_parts (is_name r.name) _ e).1).0) code.routines object.records.routines
+      (λ r e. (and_parts (list_all (λ p. has_cells p.kind p.cells) r.head.params) _ (and_parts (is_name r.name) _ e).1).0) code.routines
+      object.records.routines
 
   params_first : nat_eq code.version 2 ≡ false → list_all (λ (p : CodeParam). is_first_param p.kind) params_all ≡ true
   params_first two = all_flat (λ (p : CodeParam). is_first_param p.kind) is_first_routine (λ (r : PlainRoutine). r.head.params)
@@ -410,22 +456,35 @@ module _ (code : PlainCode) (bytes : List ℕ) (object : IsObject code bytes) (f
       let at = params_at h + 8 * p in
       whole_true bytes (at + 8) _ s.is_whole
       (unless_true (nat_le (u32_at bytes at) (if nat_eq h.version 2 then 4 else 3)) (fault.BadCount at) _
-      (ap (λ n. nat_le n (if nat_eq h.version 2 then 4 else 3)) s.kind ∙ by_version (nat_eq code.version 2) (param_number x.kind) 4 3 (param_any x.kind) (λ two. param_first x.kind (all_at (λ (p : CodeParam). is_first_param p.kind) params_all (params_first two) p no_param lt)))
-      (unless_true (not (nat_eq (u32_at bytes at) 0 || nat_eq (u32_at bytes at) 2) || nat_eq (u32_at bytes (at + 4)) 1) (fault.BadCount (at + 4)) None
-      (ap (λ n. not (nat_eq n 0 || nat_eq n 2) || nat_eq (u32_at bytes (at + 4)) 1) s.kind ∙ ap (λ n. not (nat_eq (param_number x.kind) 0 || nat_eq (param_number x.kind) 2) || nat_eq n 1) s.cells
+      (ap (λ n. nat_le n (if nat_eq h.version 2 then 4 else 3)) s.kind
+      ∙ by_version (nat_eq code.version 2) (param_number x.kind) 4 3 (param_any x.kind)
+      (λ two. param_first x.kind (all_at (λ (p : CodeParam). is_first_param p.kind) params_all (params_first two) p no_param lt)))
+      (unless_true (not (nat_eq (u32_at bytes at) 0 || nat_eq (u32_at bytes at) 2) || nat_eq (u32_at bytes (at + 4)) 1)
+      (fault.BadCount (at + 4)) None
+      (ap (λ n. not (nat_eq n 0 || nat_eq n 2) || nat_eq (u32_at bytes (at + 4)) 1) s.kind
+      ∙ ap (λ n. not (nat_eq (param_number x.kind) 0 || nat_eq (param_number x.kind) 2) || nat_eq n 1) s.cells
       ∙ cells_good x.kind x.cells (all_at (λ (p : CodeParam). has_cells p.kind p.cells) params_all params_have p no_param lt)) refl))
 
   -- ---- runs
 
-  pub runs_start : (r : ℕ) → r ≤ length code.routines → start_of (runs_end bytes (header_for code)) r ≡ sum_by (λ x. length x.head.runs) (take r code.routines)
+  pub runs_start : (r : ℕ) → r ≤ length code.routines
+      → start_of (runs_end bytes (header_for code)) r ≡ sum_by (λ x. length x.head.runs) (take r code.routines)
   unfolding runs_end
-  runs_start r le = start_is (λ (x : PlainRoutine). length x.head.runs) code.routines (runs_end bytes (header_for code)) (λ k low. (routine_stands k low).runs) r le
+  runs_start r le = start_is (λ (x : PlainRoutine). length x.head.runs) code.routines (runs_end bytes (header_for code))
+      (λ k low. (routine_stands k low).runs) r le
 
-  run_of : (r j : ℕ) → r < length code.routines → j < length (head_at code r).runs → get_or runs_all (sum_by (λ x. length x.head.runs) (take r code.routines) + j) no_run ≡ get_or (head_at code r).runs j no_run
+  run_of : (r j : ℕ) → r < length code.routines → j < length (head_at code r).runs
+      → get_or runs_all (sum_by (λ x. length x.head.runs) (take r code.routines) + j) no_run ≡ get_or (head_at code r).runs j no_run
   run_of r j lt low = flat_at (λ (x : PlainRoutine). x.head.runs) code.routines r j no_routine no_run lt low
 
-  run_inside : (r j : ℕ) → r < length code.routines → j < length (head_at code r).runs → sum_by (λ x. length x.head.runs) (take r code.routines) + j < length runs_all
-  run_inside r j lt low = omega (arith, end_within (λ (x : PlainRoutine). length x.head.runs) code.routines r, end_more (λ (x : PlainRoutine). length x.head.runs) code.routines r no_routine lt, runs_length)
+  run_inside : (r j : ℕ) → r < length code.routines → j < length (head_at code r).runs
+      → sum_by (λ x. length x.head.runs) (take r code.routines) + j < length runs_all
+  run_inside r j lt low = omega (
+    arith,
+    end_within (λ (x : PlainRoutine). length x.head.runs) code.routines r,
+    end_more (λ (x : PlainRoutine). length x.head.runs) code.routines r no_routine lt,
+    runs_length,
+  )
 
   size_good : (k : SlotKind) → (nat_eq (slot_number k) 1 || (nat_eq (slot_number k) 3 || nat_eq (slot_size k) 0)) ≡ true
   size_good slot.Number = refl
@@ -434,7 +493,8 @@ module _ (code : PlainCode) (bytes : List ℕ) (object : IsObject code bytes) (f
   size_good (slot.Link n) = refl
 
   -- kinds that differ do so in their numbers
-  numbers_differ : (a b : SlotKind) → not (same_kind a b) ≡ true → not (nat_eq (slot_number a) (slot_number b) && nat_eq (slot_size a) (slot_size b)) ≡ true
+  numbers_differ : (a b : SlotKind) → not (same_kind a b) ≡ true
+      → not (nat_eq (slot_number a) (slot_number b) && nat_eq (slot_size a) (slot_size b)) ≡ true
   numbers_differ slot.Number slot.Number e = absurd cc
   numbers_differ slot.Number (slot.Place n) e = refl
   numbers_differ slot.Number slot.Mark e = refl
@@ -452,17 +512,20 @@ module _ (code : PlainCode) (bytes : List ℕ) (object : IsObject code bytes) (f
   numbers_differ (slot.Link m) slot.Mark e = refl
   numbers_differ (slot.Link m) (slot.Link n) e = e
 
-  differ_at : (runs : List Run) → runs_differ runs ≡ true → (i : ℕ) → suc i < length runs → not (same_kind (get_or runs i no_run).kind (get_or runs (suc i) no_run).kind) ≡ true
+  differ_at : (runs : List Run) → runs_differ runs ≡ true → (i : ℕ) → suc i < length runs
+      → not (same_kind (get_or runs i no_run).kind (get_or runs (suc i) no_run).kind) ≡ true
   differ_at [] e i lt = absurd (omega arith)
   differ_at (a ∷ []) e i lt = absurd (omega arith)
   differ_at (a ∷ (b ∷ rest)) e zero lt = (and_parts (not (same_kind a.kind b.kind)) _ e).0
-  differ_at (a ∷ (b ∷ rest)) e (suc i) lt = differ_at (b ∷ rest) (and_parts (not (same_kind a.kind b.kind)) (runs_differ (b ∷ rest)) e).1 i (omega arith)
+  differ_at (a ∷ (b ∷ rest)) e (suc i) lt =
+      differ_at (b ∷ rest) (and_parts (not (same_kind a.kind b.kind)) (runs_differ (b ∷ rest)) e).1 i (omega arith)
 
   rise_first : (low : ℕ) (runs : List Run) (top : ℕ) → RunsRise low runs top → 0 < length runs → low < (get_or runs 0 no_run).end
   rise_first low [] top rise lt = absurd (omega arith)
   rise_first low (x ∷ rest) top rise lt = rise.0
 
-  rise_at : (low : ℕ) (runs : List Run) (top : ℕ) → RunsRise low runs top → (i : ℕ) → suc i < length runs → (get_or runs i no_run).end < (get_or runs (suc i) no_run).end
+  rise_at : (low : ℕ) (runs : List Run) (top : ℕ) → RunsRise low runs top → (i : ℕ) → suc i < length runs
+      → (get_or runs i no_run).end < (get_or runs (suc i) no_run).end
   rise_at low [] top rise i lt = absurd (omega arith)
   rise_at low (x ∷ rest) top rise zero lt = rise_first x.end rest top rise.1 (omega arith)
   rise_at low (x ∷ rest) top rise (suc i) lt = rise_at x.end rest top rise.1 i (omega arith)
@@ -476,8 +539,11 @@ module _ (code : PlainCode) (bytes : List ℕ) (object : IsObject code bytes) (f
 
   -- a run without fault, from what stands in it and before it
   run_good : (first : Bool) (k : ℕ) (x : Run) → RunStands k → get_or runs_all k no_run ≡ x → k < length runs_all →
-      (first || not (nat_eq (u32_at bytes (runs_at (header_for code) + 12 * k - 12)) (u32_at bytes (runs_at (header_for code) + 12 * k)) && nat_eq (u32_at bytes (runs_at (header_for code) + 12 * k - 8)) (u32_at bytes (runs_at (header_for code) + 12 * k + 4)))) ≡ true →
-      (if first then 0 else u32_at bytes (runs_at (header_for code) + 12 * k - 4)) < x.end → run_fault bytes (header_for code) first k ≡ None
+      (first || not (nat_eq (u32_at bytes (runs_at (header_for code) + 12 * k - 12)) (u32_at bytes (runs_at (header_for code) + 12 * k))
+      && nat_eq (u32_at bytes (runs_at (header_for code) + 12 * k - 8)) (u32_at bytes (runs_at (header_for code) + 12 * k + 4)))) ≡ true
+      →
+      (if first then 0 else u32_at bytes (runs_at (header_for code) + 12 * k - 4)) < x.end
+      → run_fault bytes (header_for code) first k ≡ None
   unfolding run_fault
   run_good first k x s is lt differs above =
       let h = header_for code in
@@ -485,21 +551,28 @@ module _ (code : PlainCode) (bytes : List ℕ) (object : IsObject code bytes) (f
       let kind = get_or runs_all k no_run in
       whole_true bytes (at + 12) _ s.is_whole
       (unless_true (nat_le (u32_at bytes at) (if nat_eq h.version 2 then 3 else 2)) (fault.BadCount at) _
-      (ap (λ n. nat_le n (if nat_eq h.version 2 then 3 else 2)) s.kind ∙ by_version (nat_eq code.version 2) (slot_number kind.kind) 3 2 (slot_any kind.kind) (λ two. slot_first kind.kind (all_at (λ (x : Run). is_first_kind x.kind) runs_all (runs_first two) k no_run lt)))
-      (unless_true (nat_eq (u32_at bytes at) 1 || (nat_eq (u32_at bytes at) 3 || nat_eq (u32_at bytes (at + 4)) 0)) (fault.BadCount (at + 4)) _
-      (ap (λ n. nat_eq n 1 || (nat_eq n 3 || nat_eq (u32_at bytes (at + 4)) 0)) s.kind ∙ ap (λ n. nat_eq (slot_number kind.kind) 1 || (nat_eq (slot_number kind.kind) 3 || nat_eq n 0)) s.size ∙ size_good kind.kind)
-      (unless_true (first || not (nat_eq (u32_at bytes (at - 12)) (u32_at bytes at) && nat_eq (u32_at bytes (at - 8)) (u32_at bytes (at + 4)))) (fault.BadCount (at + 4)) _ differs
+      (ap (λ n. nat_le n (if nat_eq h.version 2 then 3 else 2)) s.kind
+      ∙ by_version (nat_eq code.version 2) (slot_number kind.kind) 3 2 (slot_any kind.kind)
+      (λ two. slot_first kind.kind (all_at (λ (x : Run). is_first_kind x.kind) runs_all (runs_first two) k no_run lt)))
+      (unless_true (nat_eq (u32_at bytes at) 1 || (nat_eq (u32_at bytes at) 3 || nat_eq (u32_at bytes (at + 4)) 0))
+      (fault.BadCount (at + 4)) _
+      (ap (λ n. nat_eq n 1 || (nat_eq n 3 || nat_eq (u32_at bytes (at + 4)) 0)) s.kind
+      ∙ ap (λ n. nat_eq (slot_number kind.kind) 1 || (nat_eq (slot_number kind.kind) 3 || nat_eq n 0)) s.size ∙ size_good kind.kind)
+      (unless_true (first || not (nat_eq (u32_at bytes (at - 12)) (u32_at bytes at)
+      && nat_eq (u32_at bytes (at - 8)) (u32_at bytes (at + 4)))) (fault.BadCount (at + 4)) _ differs
       (unless_true (nat_lt (if first then 0 else u32_at bytes (at - 4)) (u32_at bytes (at + 8))) (fault.BadCount (at + 8)) None
       (lt_test _ _ (omega (arith, above, s.end, ap (λ (y : Run). y.end) is))) refl))))
 
   run_clean : (r j : ℕ) → r < length code.routines → j < length (head_at code r).runs →
-      run_fault bytes (header_for code) (nat_eq (sum_by (λ x. length x.head.runs) (take r code.routines) + j) (sum_by (λ x. length x.head.runs) (take r code.routines))) (sum_by (λ x. length x.head.runs) (take r code.routines) + j) ≡ None
+      run_fault bytes (header_for code) (nat_eq (sum_by (λ x. length x.head.runs) (take r code.routines) + j)
+      (sum_by (λ x. length x.head.runs) (take r code.routines))) (sum_by (λ x. length x.head.runs) (take r code.routines) + j) ≡ None
   run_clean r zero lt low =
       let start = sum_by (λ (x : PlainRoutine). length x.head.runs) (take r code.routines) in
       let t : nat_eq (start + 0) start ≡ true = eq_test _ _ (omega arith) in
       let inside = run_inside r 0 lt low in
       ap (λ b. run_fault bytes (header_for code) b (start + 0)) t
-      ∙ run_good true (start + 0) (get_or (head_at code r).runs 0 no_run) (run_stands (start + 0) inside) (run_of r 0 lt low) inside refl (rise_first 0 (head_at code r).runs _ (object.table.runs r lt) low)
+      ∙ run_good true (start + 0) (get_or (head_at code r).runs 0 no_run) (run_stands (start + 0) inside) (run_of r 0 lt low) inside refl
+      (rise_first 0 (head_at code r).runs _ (object.table.runs r lt) low)
   run_clean r (suc i) lt low =
       let start = sum_by (λ (x : PlainRoutine). length x.head.runs) (take r code.routines) in
       let t : nat_eq (start + suc i) start ≡ false = ne_test _ _ (λ same. (let clash : suc i ≡ 0 = omega arith in omega arith)) in
@@ -512,14 +585,21 @@ module _ (code : PlainCode) (bytes : List ℕ) (object : IsObject code bytes) (f
       let o : runs_at h + 12 * (start + suc i) - 12 ≡ runs_at h + 12 * (start + i) = omega arith in
       let p : runs_at h + 12 * (start + suc i) - 8 ≡ runs_at h + 12 * (start + i) + 4 = omega arith in
       let q : runs_at h + 12 * (start + suc i) - 4 ≡ runs_at h + 12 * (start + i) + 8 = omega arith in
-      let k0 : u32_at bytes (runs_at h + 12 * (start + suc i) - 12) ≡ slot_number (get_or (head_at code r).runs i no_run).kind = ap (u32_at bytes) o ∙ before.kind ∙ ap (λ (x : Run). slot_number x.kind) a in
-      let s0 : u32_at bytes (runs_at h + 12 * (start + suc i) - 8) ≡ slot_size (get_or (head_at code r).runs i no_run).kind = ap (u32_at bytes) p ∙ before.size ∙ ap (λ (x : Run). slot_size x.kind) a in
+      let k0 : u32_at bytes (runs_at h + 12 * (start + suc i) - 12) ≡ slot_number (get_or (head_at code r).runs i no_run).kind =
+      ap (u32_at bytes) o ∙ before.kind ∙ ap (λ (x : Run). slot_number x.kind) a in
+      let s0 : u32_at bytes (runs_at h + 12 * (start + suc i) - 8) ≡ slot_size (get_or (head_at code r).runs i no_run).kind =
+      ap (u32_at bytes) p ∙ before.size ∙ ap (λ (x : Run). slot_size x.kind) a in
       let k1 = here.kind ∙ ap (λ (x : Run). slot_number x.kind) b in
       let s1 = here.size ∙ ap (λ (x : Run). slot_size x.kind) b in
       let e0 = ap (u32_at bytes) q ∙ before.end ∙ ap (λ (x : Run). x.end) a in
-      let differ = numbers_differ (get_or (head_at code r).runs i no_run).kind (get_or (head_at code r).runs (suc i) no_run).kind (differ_at (head_at code r).runs (and_parts (list_all (λ p. has_cells p.kind p.cells) (head_at code r).params) _ (and_parts (is_name (routine_at code r).name) _ (routine_kept r lt)).1).1 i low) in
-      let same : (nat_eq (u32_at bytes (runs_at h + 12 * (start + suc i) - 12)) (u32_at bytes (runs_at h + 12 * (start + suc i))) && nat_eq (u32_at bytes (runs_at h + 12 * (start + suc i) - 8)) (u32_at bytes (runs_at h + 12 * (start + suc i) + 4)))
-      ≡ (nat_eq (slot_number (get_or (head_at code r).runs i no_run).kind) (slot_number (get_or (head_at code r).runs (suc i) no_run).kind) && nat_eq (slot_size (get_or (head_at code r).runs i no_run).kind) (slot_size (get_or (head_at code r).runs (suc i) no_run).kind)) = cc in
+      let differ = numbers_differ (get_or (head_at code r).runs i no_run).kind (get_or (head_at code r).runs (suc i) no_run).kind
+      (differ_at (head_at code r).runs (and_parts (list_all (λ p. has_cells p.kind p.cells) (head_at code r).params) _
+      (and_parts (is_name (routine_at code r).name) _ (routine_kept r lt)).1).1 i low) in
+      let same : (nat_eq (u32_at bytes (runs_at h + 12 * (start + suc i) - 12)) (u32_at bytes (runs_at h + 12 * (start + suc i)))
+      && nat_eq (u32_at bytes (runs_at h + 12 * (start + suc i) - 8)) (u32_at bytes (runs_at h + 12 * (start + suc i) + 4)))
+      ≡ (nat_eq (slot_number (get_or (head_at code r).runs i no_run).kind) (slot_number (get_or (head_at code r).runs (suc i) no_run).kind)
+      && nat_eq (slot_size (get_or (head_at code r).runs i no_run).kind) (slot_size (get_or (head_at code r).runs (suc i) no_run).kind))
+      = cc in
       ap (λ b. run_fault bytes h b (start + suc i)) t
       ∙ run_good false (start + suc i) (get_or (head_at code r).runs (suc i) no_run) here b inside (ap not same ∙ differ)
       (omega (arith, e0, rise_at 0 (head_at code r).runs _ (object.table.runs r lt) i low))
@@ -532,9 +612,11 @@ module _ (code : PlainCode) (bytes : List ℕ) (object : IsObject code bytes) (f
       let s = runs_start r (omega arith) in
       let e = (routine_stands r lt).runs in
       let more = end_more (λ (x : PlainRoutine). length x.head.runs) code.routines r no_routine lt in
-      first_clean (λ run. run_fault bytes h (nat_eq run (start_of (runs_end bytes h) r)) run) (start_of (runs_end bytes h) r) (runs_end bytes h r - start_of (runs_end bytes h) r)
+      first_clean (λ run. run_fault bytes h (nat_eq run (start_of (runs_end bytes h) r)) run) (start_of (runs_end bytes h) r)
+      (runs_end bytes h r - start_of (runs_end bytes h) r)
       (λ k low high. (let j : start + (k - start) ≡ k = omega arith in
-      ap (λ n. run_fault bytes h (nat_eq k n) k) s ∙ subst (λ n. run_fault bytes h (nat_eq n start) n ≡ None) j (run_clean r (k - start) lt (omega arith))))
+      ap (λ n. run_fault bytes h (nat_eq k n) k) s
+      ∙ subst (λ n. run_fault bytes h (nat_eq n start) n ≡ None) j (run_clean r (k - start) lt (omega arith))))
 
   -- ---- ranges, texts, pools, code, lines
 
@@ -545,23 +627,29 @@ module _ (code : PlainCode) (bytes : List ℕ) (object : IsObject code bytes) (f
       let at = ranges_at (header_for code) + 16 * k in
       whole_true bytes (at + 16) _ s.is_whole
       (unless_true (int_le (i64_at bytes at) (i64_at bytes (at + 8))) (fault.BadCount (at + 8)) None
-      (ap (λ n. int_le n (i64_at bytes (at + 8))) s.low ∙ ap (int_le (get_or code.ranges k no_range).low) s.high ∙ all_at (λ (t : Range). int_le t.low t.high) code.ranges object.records.ranges k no_range lt) refl)
+      (ap (λ n. int_le n (i64_at bytes (at + 8))) s.low ∙ ap (int_le (get_or code.ranges k no_range).low) s.high
+      ∙ all_at (λ (t : Range). int_le t.low t.high) code.ranges object.records.ranges k no_range lt) refl)
 
   text_clean : (t : ℕ) → t < length code.texts → text_fault bytes (header_for code) t ≡ None
   unfolding text_fault
   text_clean t lt =
       let h = header_for code in
       whole_true bytes (texts_at h + 4 * t + 4) _ (text_end_is t lt).0
-      (unless_true (is_end (start_of (text_end bytes h) t) (text_end bytes h t) h.text_bytes (nat_eq (t + 1) h.texts)) (fault.BadCount (texts_at h + 4 * t)) None
-      (end_good length code.texts (text_end bytes h) (text_count code) (length code.texts) (λ k low. (text_end_is k low).1) refl refl t [] lt) refl)
+      (unless_true (is_end (start_of (text_end bytes h) t) (text_end bytes h t) h.text_bytes (nat_eq (t + 1) h.texts))
+      (fault.BadCount (texts_at h + 4 * t)) None
+      (end_good length code.texts (text_end bytes h) (text_count code) (length code.texts) (λ k low. (text_end_is k low).1) refl refl t []
+      lt) refl)
 
   -- a name stands in the pool
-  pub name_in_pool : (n : ℕ) → n < length (names_of code) → Stands bytes (name_pool_at (header_for code) + start_of (name_end bytes (header_for code)) n) (get_or (names_of code) n [])
+  pub name_in_pool : (n : ℕ) → n < length (names_of code)
+      → Stands bytes (name_pool_at (header_for code) + start_of (name_end bytes (header_for code)) n) (get_or (names_of code) n [])
   name_in_pool n lt =
       let s = start_is length (names_of code) (name_end bytes (header_for code)) name_end_is n (omega arith) in
-      stands_as bytes _ _ (get_or (names_of code) n []) (ap (λ k. name_pool_at (header_for code) + k) (sym s)) (stands_part bytes (name_pool_at (header_for code)) (λ (x : List ℕ). x) (names_of code) stand.names n [] lt)
+      stands_as bytes _ _ (get_or (names_of code) n []) (ap (λ k. name_pool_at (header_for code) + k) (sym s))
+      (stands_part bytes (name_pool_at (header_for code)) (λ (x : List ℕ). x) (names_of code) stand.names n [] lt)
 
-  pub name_end_at : (n : ℕ) → n < length (names_of code) → start_of (name_end bytes (header_for code)) n + length (get_or (names_of code) n []) ≡ name_end bytes (header_for code) n
+  pub name_end_at : (n : ℕ) → n < length (names_of code)
+      → start_of (name_end bytes (header_for code)) n + length (get_or (names_of code) n []) ≡ name_end bytes (header_for code) n
   name_end_at n lt =
       let s = start_is length (names_of code) (name_end bytes (header_for code)) name_end_is n (omega arith) in
       omega (arith, s, name_end_is n lt, end_more length (names_of code) n [] lt)
@@ -574,10 +662,13 @@ module _ (code : PlainCode) (bytes : List ℕ) (object : IsObject code bytes) (f
       let start = start_of (name_end bytes h) n in
       let s = name_in_pool n lt in
       let e = name_end_at n lt in
-      first_clean (λ i. unless (can_stand (nat_eq i start) (slice_index bytes (name_pool_at h + i))) (fault.BadName (name_pool_at h + i)) None) start (name_end bytes h n - start)
+      first_clean (λ i. unless (can_stand (nat_eq i start) (slice_index bytes (name_pool_at h + i))) (fault.BadName (name_pool_at h + i))
+      None) start (name_end bytes h n - start)
       (λ i a b. (let j : name_pool_at h + start + (i - start) ≡ name_pool_at h + i = omega arith in
       unless_true (can_stand (nat_eq i start) (slice_index bytes (name_pool_at h + i))) (fault.BadName (name_pool_at h + i)) None
-      (ap (λ k. can_stand (nat_eq i start) (slice_index bytes k)) (sym j) ∙ ap (can_stand (nat_eq i start)) (byte_stands bytes (name_pool_at h + start) (get_or (names_of code) n []) s (i - start) (omega arith))
+      (ap (λ k. can_stand (nat_eq i start) (slice_index bytes k)) (sym j)
+      ∙ ap (can_stand (nat_eq i start)) (byte_stands bytes (name_pool_at h + start) (get_or (names_of code) n []) s (i - start)
+      (omega arith))
       ∙ name_stands (get_or (names_of code) n []) start i (i - start) (omega arith) (named n lt) (omega arith)) refl))
 
   pools_clean : pools_fault bytes (header_for code) ≡ None
@@ -588,7 +679,8 @@ module _ (code : PlainCode) (bytes : List ℕ) (object : IsObject code bytes) (f
       let m = length-flat_map (λ (x : List ℕ). x) (names_of code) in
       let n = length-flat_map (λ (t : List ℕ). t) code.texts in
       whole_true bytes (text_pool_at h) _ (omega (arith, names_total))
-      (or_clean (first_clean (name_fault bytes h) 0 (length code.routines + length code.globals) (λ k low high. name_clean k (omega arith))) (whole_true bytes (instrs_at h) None (omega arith) refl))
+      (or_clean (first_clean (name_fault bytes h) 0 (length code.routines + length code.globals) (λ k low high. name_clean k (omega arith)))
+      (whole_true bytes (instrs_at h) None (omega arith) refl))
 
   instr_clean : (k : ℕ) → k < length code.instrs → instr_fault bytes (header_for code) k ≡ None
   unfolding instr_fault
@@ -599,12 +691,21 @@ module _ (code : PlainCode) (bytes : List ℕ) (object : IsObject code bytes) (f
       (unless_true (is_instr h.version bytes (instrs_at h + 17 * k)) (fault.BadOpcode (instrs_at h + 17 * k)) None
       (s.1.good code.version (λ two. all_at is_first_form code.instrs (first_of two).forms k I.Fail lt)) refl)
 
-  line_rises : (k : ℕ) → k < length code.lines → (nat_eq k 0 || nat_lt (u32_at bytes (lines_at (header_for code) + 8 * k - 8)) (u32_at bytes (lines_at (header_for code) + 8 * k))) ≡ true
+  line_rises : (k : ℕ) → k < length code.lines
+      → (nat_eq k 0 || nat_lt (u32_at bytes (lines_at (header_for code) + 8 * k - 8)) (u32_at bytes (lines_at (header_for code) + 8 * k)))
+      ≡ true
   line_rises zero lt = refl
   line_rises (suc k) lt =
       let h = header_for code in
       let o : lines_at h + 8 * suc k - 8 ≡ lines_at h + 8 * k = omega arith in
-      or_right (nat_eq (suc k) 0) _ (lt_test _ _ (omega (arith, ap (u32_at bytes) o, (line_stands k (omega arith)).at_is, (line_stands (suc k) lt).at_is, next_line 0 (length code.instrs) code.lines object.records.lines k lt)))
+      or_right (nat_eq (suc k) 0) _ (lt_test _ _
+      (omega (
+        arith,
+        ap (u32_at bytes) o,
+        (line_stands k (omega arith)).at_is,
+        (line_stands (suc k) lt).at_is,
+        next_line 0 (length code.instrs) code.lines object.records.lines k lt,
+      )))
 
   line_clean : (k : ℕ) → k < length code.lines → line_fault bytes (header_for code) k ≡ None
   unfolding line_fault
@@ -613,13 +714,16 @@ module _ (code : PlainCode) (bytes : List ℕ) (object : IsObject code bytes) (f
       let at = lines_at h + 8 * k in
       let s = line_stands k lt in
       whole_true bytes (at + 8) _ s.is_whole
-      (unless_true ((nat_eq k 0 || nat_lt (u32_at bytes (at - 8)) (u32_at bytes at)) && nat_lt (u32_at bytes at) h.instrs) (fault.BadCount at) None
-      (both (nat_eq k 0 || nat_lt (u32_at bytes (at - 8)) (u32_at bytes at)) _ (line_rises k lt) (lt_test _ _ (omega (arith, s.at_is, line_below k lt)))) refl)
+      (unless_true ((nat_eq k 0 || nat_lt (u32_at bytes (at - 8)) (u32_at bytes at)) && nat_lt (u32_at bytes at) h.instrs)
+      (fault.BadCount at) None
+      (both (nat_eq k 0 || nat_lt (u32_at bytes (at - 8)) (u32_at bytes at)) _ (line_rises k lt)
+      (lt_test _ _ (omega (arith, s.at_is, line_below k lt)))) refl)
 
   end_clean : end_fault bytes (header_for code) ≡ None
   end_clean =
       let n = object_length code bytes object in
-      unless_true (nat_le (length bytes) (end_offset (header_for code))) (fault.Trailing (end_offset (header_for code))) None (le_test _ _ (omega arith)) refl
+      unless_true (nat_le (length bytes) (end_offset (header_for code))) (fault.Trailing (end_offset (header_for code))) None
+      (le_test _ _ (omega arith)) refl
 
   -- no section of an object has a fault
   sections_clean : sections_fault bytes (header_for code) ≡ None
@@ -640,4 +744,5 @@ module _ (code : PlainCode) (bytes : List ℕ) (object : IsObject code bytes) (f
 pub object_clean : (code : PlainCode) (bytes : List ℕ) → IsObject code bytes → FitsFields code → object_fault bytes ≡ None
 unfolding object_fault
 object_clean code bytes object fits =
-    or_clean (header_clean code bytes object) (ap (sections_fault bytes) (header_is code bytes object) ∙ sections_clean code bytes object fits)
+    or_clean (header_clean code bytes object)
+    (ap (sections_fault bytes) (header_is code bytes object) ∙ sections_clean code bytes object fits)

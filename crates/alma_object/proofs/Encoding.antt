@@ -1,5 +1,6 @@
 -- One record more of a code that is written.
-use Rattle.std.proofs.Common.{◌≡◌, ℕ, zero, suc, ◌+◌, ◌<◌, ◌≤◌, List, [], ◌∷◌, ◌++◌, length, get_or, take, map, refl, sym, ap, subst, ◌∙◌, append_assoc, arith}
+use Rattle.std.proofs.Common.{◌≡◌, ℕ, zero, suc, ◌+◌, ◌<◌, ◌≤◌, List, [], ◌∷◌, ◌++◌, length, get_or, take, map, refl, sym, ap, subst, ◌∙◌}
+use Rattle.std.proofs.Common.{append_assoc, arith}
 use Rattle.std.specs.Prelude.{sum_by, if◌then◌else◌}
 use Rattle.std.specs.List.{flat_map, range_with_len}
 use Rattle.std.proofs.lemmas.List.{get_or-map, length-map, append-nil}
@@ -28,24 +29,30 @@ section_more each n =
     ∙ flat_map-append each (range_with_len 0 n) (n ∷ []) ∙ ap (λ (t : List ℕ). section each n ++ t) (append-nil (each n))
 
 -- the next record is written
-pub section_next : (each : ℕ → List ℕ) (n : ℕ) (first was now part : List ℕ) → was ≡ first ++ section each n → now ≡ was ++ part → each n ≡ part → now ≡ first ++ section each (n + 1)
+pub section_next : (each : ℕ → List ℕ) (n : ℕ) (first was now part : List ℕ) → was ≡ first ++ section each n → now ≡ was ++ part
+    → each n ≡ part → now ≡ first ++ section each (n + 1)
 section_next each n first was now part p q r =
     q ∙ ap (λ (t : List ℕ). t ++ part) p ∙ append_assoc first (section each n) part
     ∙ ap (λ (t : List ℕ). first ++ t) (sym (section_more each n ∙ ap (λ (t : List ℕ). section each n ++ t) r))
 
 -- the ends of one routine further
 pub record RoutineStep (code : PlainCode) (i : ℕ) (x : RoutineHead) : Type 0 where
-  pub names : sum_by (λ y. length y.name) (take i code.routines) + length x.name.items ≡ sum_by (λ y. length y.name) (take (i + 1) code.routines)
-  pub params : sum_by (λ y. length y.head.params) (take i code.routines) + length x.params.items ≡ sum_by (λ y. length y.head.params) (take (i + 1) code.routines)
-  pub runs : sum_by (λ y. length y.head.runs) (take i code.routines) + length x.kinds.items ≡ sum_by (λ y. length y.head.runs) (take (i + 1) code.routines)
+  pub names : sum_by (λ y. length y.name) (take i code.routines)
+      + length x.name.items ≡ sum_by (λ y. length y.name) (take (i + 1) code.routines)
+  pub params : sum_by (λ y. length y.head.params) (take i code.routines)
+      + length x.params.items ≡ sum_by (λ y. length y.head.params) (take (i + 1) code.routines)
+  pub runs : sum_by (λ y. length y.head.runs) (take i code.routines)
+      + length x.kinds.items ≡ sum_by (λ y. length y.head.runs) (take (i + 1) code.routines)
   pub names_within : sum_by (λ y. length y.name) (take (i + 1) code.routines) ≤ name_count code
   pub params_within : sum_by (λ y. length y.head.params) (take (i + 1) code.routines) ≤ param_count code
   pub runs_within : sum_by (λ y. length y.head.runs) (take (i + 1) code.routines) ≤ run_count code
   pub bytes : routine_bytes code i ≡ words_bytes (
       sum_by (λ y. length y.name) (take (i + 1) code.routines) ∷ sum_by (λ y. length y.head.params) (take (i + 1) code.routines)
-      ∷ sum_by (λ y. length y.head.runs) (take (i + 1) code.routines) ∷ x.code_end ∷ x.slots ∷ x.declared ∷ (if x.result then 1 else 0) ∷ [])
+      ∷ sum_by (λ y. length y.head.runs) (take (i + 1) code.routines) ∷ x.code_end ∷ x.slots ∷ x.declared ∷ (if x.result then 1 else 0)
+      ∷ [])
 
-pub routine_step : (code : Code) (ys : List RoutineHead) (i : ℕ) (x : RoutineHead) → ys ≡ code.routines.items → i < length ys → x ≡ get_or ys i x → RoutineStep (code_of code) i x
+pub routine_step : (code : Code) (ys : List RoutineHead) (i : ℕ) (x : RoutineHead) → ys ≡ code.routines.items → i < length ys
+    → x ≡ get_or ys i x → RoutineStep (code_of code) i x
 unfolding routine_bytes
 routine_step code ys i x same lt is =
     let rs = code.routines.items in
@@ -72,22 +79,28 @@ pub record RoutineWritten (code : PlainCode) (i : ℕ) (x : RoutineHead) (names 
   pub names_are : names ≡ sum_by (λ y. length y.name) (take (i + 1) code.routines)
   pub params_are : params ≡ sum_by (λ y. length y.head.params) (take (i + 1) code.routines)
   pub runs_are : runs ≡ sum_by (λ y. length y.head.runs) (take (i + 1) code.routines)
-  pub bytes : routine_bytes code i ≡ words_bytes (names ∷ params ∷ runs ∷ x.code_end ∷ x.slots ∷ x.declared ∷ (if x.result then 1 else 0) ∷ [])
+  pub bytes : routine_bytes code i ≡ words_bytes
+      (names ∷ params ∷ runs ∷ x.code_end ∷ x.slots ∷ x.declared ∷ (if x.result then 1 else 0) ∷ [])
 
 pub routine_written : (code : PlainCode) (i : ℕ) (x : RoutineHead) → RoutineStep code i x → (a b d p q r : ℕ) →
-    a ≡ sum_by (λ y. length y.name) (take i code.routines) → b ≡ sum_by (λ y. length y.head.params) (take i code.routines) → d ≡ sum_by (λ y. length y.head.runs) (take i code.routines) →
+    a ≡ sum_by (λ y. length y.name) (take i code.routines) → b ≡ sum_by (λ y. length y.head.params) (take i code.routines)
+    → d ≡ sum_by (λ y. length y.head.runs) (take i code.routines) →
     p ≡ length x.name.items → q ≡ length x.params.items → r ≡ length x.kinds.items → RoutineWritten code i x (a + p) (b + q) (d + r)
 routine_written code i x step a b d p q r ea eb ed ep eq er =
-    let names : a + p ≡ sum_by (λ y. length y.name) (take (i + 1) code.routines) = ap (λ k. k + p) ea ∙ ap (λ k. sum_by (λ y. length y.name) (take i code.routines) + k) ep ∙ step.names in
-    let params : b + q ≡ sum_by (λ y. length y.head.params) (take (i + 1) code.routines) = ap (λ k. k + q) eb ∙ ap (λ k. sum_by (λ y. length y.head.params) (take i code.routines) + k) eq ∙ step.params in
-    let runs : d + r ≡ sum_by (λ y. length y.head.runs) (take (i + 1) code.routines) = ap (λ k. k + r) ed ∙ ap (λ k. sum_by (λ y. length y.head.runs) (take i code.routines) + k) er ∙ step.runs in
+    let names : a + p ≡ sum_by (λ y. length y.name) (take (i + 1) code.routines) = ap (λ k. k + p) ea
+    ∙ ap (λ k. sum_by (λ y. length y.name) (take i code.routines) + k) ep ∙ step.names in
+    let params : b + q ≡ sum_by (λ y. length y.head.params) (take (i + 1) code.routines) = ap (λ k. k + q) eb
+    ∙ ap (λ k. sum_by (λ y. length y.head.params) (take i code.routines) + k) eq ∙ step.params in
+    let runs : d + r ≡ sum_by (λ y. length y.head.runs) (take (i + 1) code.routines) = ap (λ k. k + r) ed
+    ∙ ap (λ k. sum_by (λ y. length y.head.runs) (take i code.routines) + k) er ∙ step.runs in
     let rest = x.code_end ∷ x.slots ∷ x.declared ∷ (if x.result then 1 else 0) ∷ [] in
     record {
       names_are = names;
       params_are = params;
       runs_are = runs;
       bytes = step.bytes
-          ∙ ap (λ k. words_bytes (k ∷ sum_by (λ y. length y.head.params) (take (i + 1) code.routines) ∷ sum_by (λ y. length y.head.runs) (take (i + 1) code.routines) ∷ rest)) (sym names)
+          ∙ ap (λ k. words_bytes (k ∷ sum_by (λ y. length y.head.params) (take (i + 1) code.routines)
+          ∷ sum_by (λ y. length y.head.runs) (take (i + 1) code.routines) ∷ rest)) (sym names)
           ∙ ap (λ k. words_bytes ((a + p) ∷ k ∷ sum_by (λ y. length y.head.runs) (take (i + 1) code.routines) ∷ rest)) (sym params)
           ∙ ap (λ k. words_bytes ((a + p) ∷ (b + q) ∷ k ∷ rest)) (sym runs);
     }
@@ -104,8 +117,10 @@ pub record GlobalWritten (code : PlainCode) (i : ℕ) (x : CodeGlobal) (end : �
   pub within : end ≤ name_count code
   pub bytes : global_bytes code i ≡ words_bytes (end ∷ x.slot ∷ x.cells ∷ [])
 
-pub global_written : (code : Code) (ys : List CodeGlobal) (i : ℕ) (x : CodeGlobal) (a p : ℕ) → ys ≡ code.globals.items → i < length ys → x ≡ get_or ys i x →
-    a ≡ sum_by (λ y. length y.name) (code_of code).routines + sum_by (λ y. length y.name) (take i (code_of code).globals) → p ≡ length x.name.items → GlobalWritten (code_of code) i x (a + p)
+pub global_written : (code : Code) (ys : List CodeGlobal) (i : ℕ) (x : CodeGlobal) (a p : ℕ) → ys ≡ code.globals.items → i < length ys
+    → x ≡ get_or ys i x →
+    a ≡ sum_by (λ y. length y.name) (code_of code).routines + sum_by (λ y. length y.name) (take i (code_of code).globals)
+    → p ≡ length x.name.items → GlobalWritten (code_of code) i x (a + p)
 unfolding global_bytes
 global_written code ys i x a p same lt is ea ep =
     let gs = code.globals.items in
@@ -115,13 +130,18 @@ global_written code ys i x a p same lt is ea ep =
     let is' : x ≡ get_or gs i x = subst (λ (t : List CodeGlobal). x ≡ get_or t i x) same is in
     let there : get_or plain i no_global ≡ global_of x = get_or-map global_of gs i x no_global lt' ∙ ap global_of (sym is') in
     let within : i < length plain = omega (arith, length-map gs global_of) in
-    let more : sum_by (λ (y : PlainGlobal). length y.name) (take (i + 1) plain) ≡ sum_by (λ (y : PlainGlobal). length y.name) (take i plain) + length x.name.items =
-    sum_by_more (λ (y : PlainGlobal). length y.name) plain i no_global within ∙ ap (λ (y : PlainGlobal). sum_by (λ (z : PlainGlobal). length z.name) (take i plain) + length y.name) there in
-    let sum : a + p ≡ sum_by (λ (y : PlainRoutine). length y.name) routines + sum_by (λ (y : PlainGlobal). length y.name) (take (i + 1) plain) = omega arith in
+    let more : sum_by (λ (y : PlainGlobal). length y.name) (take (i + 1) plain) ≡ sum_by (λ (y : PlainGlobal). length y.name) (take i plain)
+    + length x.name.items =
+    sum_by_more (λ (y : PlainGlobal). length y.name) plain i no_global within
+    ∙ ap (λ (y : PlainGlobal). sum_by (λ (z : PlainGlobal). length z.name) (take i plain) + length y.name) there in
+    let sum : a + p ≡ sum_by (λ (y : PlainRoutine). length y.name) routines
+    + sum_by (λ (y : PlainGlobal). length y.name) (take (i + 1) plain) = omega arith in
     record {
       names = sum;
       within = omega (arith, sum_by-take-le (λ (y : PlainGlobal). length y.name) plain (i + 1));
-      bytes = ap (λ (y : PlainGlobal). words_bytes ((sum_by (λ (z : PlainRoutine). length z.name) routines + end_of (λ (z : PlainGlobal). length z.name) plain i) ∷ y.slot ∷ y.cells ∷ [])) there
+      bytes = ap (λ (y : PlainGlobal). words_bytes
+          ((sum_by (λ (z : PlainRoutine). length z.name) routines + end_of (λ (z : PlainGlobal). length z.name) plain i) ∷ y.slot ∷ y.cells
+          ∷ [])) there
           ∙ ap (λ k. words_bytes (k ∷ x.slot ∷ x.cells ∷ [])) (sym sum);
     }
 
@@ -131,13 +151,15 @@ pub record TextWritten (code : PlainCode) (i : ℕ) (end : ℕ) : Type 0 where
   pub within : end ≤ text_count code
   pub bytes : text_end_bytes code i ≡ words_bytes (end ∷ [])
 
-pub text_written : {V : Type 0} (code : PlainCode) (bytes_of : V → List ℕ) (rows ys : List V) (i : ℕ) (x : V) (a p : ℕ) → code.texts ≡ map bytes_of rows → ys ≡ rows → i < length ys → x ≡ get_or ys i x →
+pub text_written : {V : Type 0} (code : PlainCode) (bytes_of : V → List ℕ) (rows ys : List V) (i : ℕ) (x : V) (a p : ℕ)
+    → code.texts ≡ map bytes_of rows → ys ≡ rows → i < length ys → x ≡ get_or ys i x →
     a ≡ sum_by length (take i code.texts) → p ≡ length (bytes_of x) → TextWritten code i (a + p)
 unfolding text_end_bytes
 text_written {V = V} code bytes_of rows ys i x a p texts same lt is ea ep =
     let lt' : i < length rows = subst (λ (t : List V). i < length t) same lt in
     let is' : x ≡ get_or rows i x = subst (λ (t : List V). x ≡ get_or t i x) same is in
-    let there : get_or code.texts i [] ≡ bytes_of x = ap (λ (t : List (List ℕ)). get_or t i []) texts ∙ get_or-map bytes_of rows i x [] lt' ∙ ap bytes_of (sym is') in
+    let there : get_or code.texts i [] ≡ bytes_of x = ap (λ (t : List (List ℕ)). get_or t i []) texts ∙ get_or-map bytes_of rows i x [] lt'
+    ∙ ap bytes_of (sym is') in
     let within : i < length code.texts = omega (arith, length-map rows bytes_of, ap length texts) in
     let more : sum_by length (take (i + 1) code.texts) ≡ sum_by length (take i code.texts) + length (bytes_of x) =
     sum_by_more length code.texts i [] within ∙ ap (λ (y : List ℕ). sum_by length (take i code.texts) + length y) there in
@@ -149,14 +171,17 @@ text_written {V = V} code bytes_of rows ys i x a p texts same lt is ea ep =
     }
 
 -- three parts, each appended to what was there
-pub three_parts : (o n1 n2 n3 a b d x y z : List ℕ) → n1 ≡ o ++ a → n2 ≡ n1 ++ b → n3 ≡ n2 ++ d → a ≡ x → b ≡ y → d ≡ z → n3 ≡ o ++ (x ++ (y ++ z))
+pub three_parts : (o n1 n2 n3 a b d x y z : List ℕ) → n1 ≡ o ++ a → n2 ≡ n1 ++ b → n3 ≡ n2 ++ d → a ≡ x → b ≡ y → d ≡ z
+    → n3 ≡ o ++ (x ++ (y ++ z))
 three_parts o n1 n2 n3 a b d x y z p q r ea eb ed =
     r ∙ ap (λ (t : List ℕ). t ++ d) (q ∙ ap (λ (t : List ℕ). t ++ b) p)
     ∙ append_assoc (o ++ a) b d ∙ append_assoc o a (b ++ d)
-    ∙ ap (λ (t : List ℕ). o ++ (t ++ (b ++ d))) ea ∙ ap (λ (t : List ℕ). o ++ (x ++ (t ++ d))) eb ∙ ap (λ (t : List ℕ). o ++ (x ++ (y ++ t))) ed
+    ∙ ap (λ (t : List ℕ). o ++ (t ++ (b ++ d))) ea ∙ ap (λ (t : List ℕ). o ++ (x ++ (t ++ d))) eb
+    ∙ ap (λ (t : List ℕ). o ++ (x ++ (y ++ t))) ed
 
 -- ten parts, each appended to what was there
-pub ten_parts : (n0 n1 n2 n3 n4 n5 n6 n7 n8 n9 n10 h a b c d e f p i l : List ℕ) → n0 ≡ [] → n1 ≡ n0 ++ h → n2 ≡ n1 ++ a → n3 ≡ n2 ++ b → n4 ≡ n3 ++ c → n5 ≡ n4 ++ d → n6 ≡ n5 ++ e → n7 ≡ n6 ++ f →
+pub ten_parts : (n0 n1 n2 n3 n4 n5 n6 n7 n8 n9 n10 h a b c d e f p i l : List ℕ) → n0 ≡ [] → n1 ≡ n0 ++ h → n2 ≡ n1 ++ a → n3 ≡ n2 ++ b
+    → n4 ≡ n3 ++ c → n5 ≡ n4 ++ d → n6 ≡ n5 ++ e → n7 ≡ n6 ++ f →
     n8 ≡ n7 ++ p → n9 ≡ n8 ++ i → n10 ≡ n9 ++ l → n10 ≡ h ++ ((a ++ (b ++ (c ++ (d ++ (e ++ f))))) ++ (p ++ (i ++ l)))
 ten_parts n0 n1 n2 n3 n4 n5 n6 n7 n8 n9 n10 h a b c d e f p i l e0 e1 e2 e3 e4 e5 e6 e7 e8 e9 e10 =
     let s1 : n1 ≡ h = e1 ∙ ap (λ (t : List ℕ). t ++ h) e0 in

@@ -13,7 +13,8 @@ pub item_at : {A : Type 0} (of : ℕ → A) (n k : ℕ) (d : A) → k < n → ge
 item_at of n k d lt = get_or-map-range_with_len of 0 n k k d lt (omega arith)
 
 pub get_item : {A : Type 0} (of : ℕ → A) (n k : ℕ) → k < n → slice_get (items of n) k ≡ Some (of k)
-get_item of n k lt = let within : k < length (items of n) = omega (arith, length_items of n) in slice_get-get_or (items of n) k (of k) within ∙ ap (λ x. Some x) (item_at of n k (of k) lt)
+get_item of n k lt = let within : k < length (items of n) = omega (arith, length_items of n) in
+    slice_get-get_or (items of n) k (of k) within ∙ ap (λ x. Some x) (item_at of n k (of k) lt)
 
 pub get_no_item : {A : Type 0} (of : ℕ → A) (n k : ℕ) → n ≤ k → slice_get (items of n) k ≡ None
 get_no_item of n k le = slice_get_past (items of n) k (omega (arith, length_items of n))
@@ -30,13 +31,17 @@ take_items of n = take_all n (items of n) (omega (arith, length_items of n))
 pub ruleset take_steps = (length_items, take_next, take_items)
 
 -- a list whose items stand for others, one item more
-pub copied : {A B : Type 0} (f : A → B) (of : ℕ → B) (n i : ℕ) (xs new : List A) (y : A) → i < n → map f xs ≡ take i (items of n) → new ≡ xs ++ (y ∷ []) → f y ≡ of i → map f new ≡ take (i + 1) (items of n)
+pub copied : {A B : Type 0} (f : A → B) (of : ℕ → B) (n i : ℕ) (xs new : List A) (y : A) → i < n → map f xs ≡ take i (items of n)
+    → new ≡ xs ++ (y ∷ []) → f y ≡ of i → map f new ≡ take (i + 1) (items of n)
 copied {A = A} {B = B} f of n i xs new y lt was is same =
-    ap (map f) is ∙ map_push f xs y ∙ ap (λ (t : List B). t ++ (f y ∷ [])) was ∙ ap (λ (z : B). take i (items of n) ++ (z ∷ [])) same ∙ sym (take_next (items of n) i (of i) (get_item of n i lt))
+    ap (map f) is ∙ map_push f xs y ∙ ap (λ (t : List B). t ++ (f y ∷ [])) was ∙ ap (λ (z : B). take i (items of n) ++ (z ∷ [])) same
+    ∙ sym (take_next (items of n) i (of i) (get_item of n i lt))
 
-pub copied_plain : {A : Type 0} (of : ℕ → A) (n i : ℕ) (xs new : List A) (y : A) → i < n → xs ≡ take i (items of n) → new ≡ xs ++ (y ∷ []) → y ≡ of i → new ≡ take (i + 1) (items of n)
+pub copied_plain : {A : Type 0} (of : ℕ → A) (n i : ℕ) (xs new : List A) (y : A) → i < n → xs ≡ take i (items of n) → new ≡ xs ++ (y ∷ [])
+    → y ≡ of i → new ≡ take (i + 1) (items of n)
 copied_plain {A = A} of n i xs new y lt was is same =
-    is ∙ ap (λ (t : List A). t ++ (y ∷ [])) was ∙ ap (λ (z : A). take i (items of n) ++ (z ∷ [])) same ∙ sym (take_next (items of n) i (of i) (get_item of n i lt))
+    is ∙ ap (λ (t : List A). t ++ (y ∷ [])) was ∙ ap (λ (z : A). take i (items of n) ++ (z ∷ [])) same
+    ∙ sym (take_next (items of n) i (of i) (get_item of n i lt))
 
 pub take_past : {A : Type 0} (of : ℕ → A) (n i : ℕ) → n ≤ i → take i (items of n) ≡ items of n
 take_past of n i le = take_all i (items of n) (omega (arith, length_items of n))

@@ -1,5 +1,6 @@
 -- Where the sections of an object stand.
-use Rattle.std.proofs.Common.{◌≡◌, ℕ, suc, ◌+◌, ◌*◌, Bool, true, false, List, [], ◌∷◌, ◌++◌, length, get_or, map, refl, sym, ap, subst, ◌∙◌, append_assoc, arith}
+use Rattle.std.proofs.Common.{◌≡◌, ℕ, suc, ◌+◌, ◌*◌, Bool, true, false, List, [], ◌∷◌, ◌++◌, length, get_or, map, refl, sym, ap, subst, ◌∙◌}
+use Rattle.std.proofs.Common.{append_assoc, arith}
 use Rattle.std.specs.Prelude.{nat_eq, if◌then◌else◌, sum_by}
 use Rattle.std.specs.List.{flat_map, range_with_len}
 use Rattle.std.proofs.lemmas.List.{length-append}
@@ -14,8 +15,11 @@ use Rattle.alma_code.specs.declared.instr.Instr.TheVariants as I
 use Rattle.alma_code.specs.Plain.{PlainCode, PlainRoutine, PlainGlobal, routine_at}
 use Rattle.alma_object_format.specs.Bytes.{u16_bytes, words_bytes, i64_bytes}
 use Rattle.alma_object_format.specs.Instrs.{instr_bytes, record_bytes}
-use Rattle.alma_object_format.specs.Header.{magic, routines_at, globals_at, params_at, runs_at, ranges_at, texts_at, name_pool_at, text_pool_at, instrs_at, lines_at, end_at}
-use Rattle.alma_object_format.specs.Object.{IsObject, end_of, no_global, param_number, slot_number, slot_size, section, counts_of, header_bytes, table_bytes, pool_bytes, object_bytes, routine_bytes, global_bytes, param_bytes, run_bytes, range_bytes, text_end_bytes, line_bytes}
+use Rattle.alma_object_format.specs.Header.{magic, routines_at, globals_at, params_at, runs_at, ranges_at, texts_at, name_pool_at}
+use Rattle.alma_object_format.specs.Header.{text_pool_at, instrs_at, lines_at, end_at}
+use Rattle.alma_object_format.specs.Object.{IsObject, end_of, no_global, param_number, slot_number, slot_size, section, counts_of}
+use Rattle.alma_object_format.specs.Object.{header_bytes, table_bytes, pool_bytes, object_bytes, routine_bytes, global_bytes, param_bytes}
+use Rattle.alma_object_format.specs.Object.{run_bytes, range_bytes, text_end_bytes, line_bytes}
 use Rattle.alma_object.proofs.Accepted.{header_for}
 use Rattle.alma_object.proofs.Encoding.{flat_map-map}
 use Rattle.alma_object.proofs.Stands.{Stands, stands_all, stands_first, stands_second, words_length, u16_length, i64_length, each_length}
@@ -26,7 +30,8 @@ record_length opcode a b c d = ap suc (words_length (a ∷ b ∷ c ∷ d ∷ [])
 pub instr_length : (i : Instr) → length (instr_bytes i) ≡ 17
 unfolding instr_bytes
 instr_length (I.Const a v) =
-    ap suc (length-append (words_bytes (a ∷ [])) (i64_bytes v ++ words_bytes (0 ∷ [])) ∙ omega (arith, words_length (a ∷ []), length-append (i64_bytes v) (words_bytes (0 ∷ [])), i64_length v, words_length (0 ∷ [])))
+    ap suc (length-append (words_bytes (a ∷ [])) (i64_bytes v ++ words_bytes (0 ∷ []))
+    ∙ omega (arith, words_length (a ∷ []), length-append (i64_bytes v) (words_bytes (0 ∷ [])), i64_length v, words_length (0 ∷ [])))
 instr_length (I.Move a b) = record_length 2 a b 0 0
 instr_length (I.Add a b c) = record_length 3 a b c 0
 instr_length (I.Sub a b c) = record_length 4 a b c 0
@@ -82,12 +87,15 @@ instr_length (I.OuterSame a b c) = record_length 52 a b c 0
 pub routine_length : (code : PlainCode) (r : ℕ) → length (routine_bytes code r) ≡ 28
 unfolding routine_bytes
 routine_length code r = words_length (
-    end_of (λ x. length x.name) code.routines r ∷ end_of (λ x. length x.head.params) code.routines r ∷ end_of (λ x. length x.head.runs) code.routines r
-    ∷ (routine_at code r).code_end ∷ (routine_at code r).head.slots ∷ (routine_at code r).head.declared ∷ (if (routine_at code r).head.has_result then 1 else 0) ∷ [])
+    end_of (λ x. length x.name) code.routines r ∷ end_of (λ x. length x.head.params) code.routines r
+    ∷ end_of (λ x. length x.head.runs) code.routines r
+    ∷ (routine_at code r).code_end ∷ (routine_at code r).head.slots ∷ (routine_at code r).head.declared
+    ∷ (if (routine_at code r).head.has_result then 1 else 0) ∷ [])
 
 pub global_length : (code : PlainCode) (g : ℕ) → length (global_bytes code g) ≡ 12
 unfolding global_bytes
-global_length code g = words_length ((sum_by (λ x. length x.name) code.routines + end_of (λ x. length x.name) code.globals g) ∷ (get_or code.globals g no_global).slot ∷ (get_or code.globals g no_global).cells ∷ [])
+global_length code g = words_length ((sum_by (λ x. length x.name) code.routines + end_of (λ x. length x.name) code.globals g)
+    ∷ (get_or code.globals g no_global).slot ∷ (get_or code.globals g no_global).cells ∷ [])
 
 pub text_length : (code : PlainCode) (t : ℕ) → length (text_end_bytes code t) ≡ 4
 unfolding text_end_bytes
@@ -111,7 +119,8 @@ line_length l = words_length (l.at ∷ l.line ∷ [])
 
 by_two : (code : PlainCode) (two : Bool) → nat_eq code.version 2 ≡ two → 10 + 4 * length (counts_of code) ≡ routines_at (header_for code)
 by_two code true e =
-    let last : (if nat_eq code.version 2 then length code.lines ∷ [] else []) ≡ length code.lines ∷ [] = ap (λ b. if b then length code.lines ∷ [] else []) e in
+    let last : (if nat_eq code.version 2 then length code.lines ∷ [] else []) ≡ length code.lines ∷ [] =
+    ap (λ b. if b then length code.lines ∷ [] else []) e in
     let at : routines_at (header_for code) ≡ 50 = ap (λ b. if b then 50 else 46) e in
     omega (arith, ap length last, at)
 by_two code false e =
@@ -124,17 +133,26 @@ unfolding header_bytes
 header_length code two e =
     let last = by_two code two e in
     length-append magic (u16_bytes code.version ++ words_bytes (counts_of code))
-    ∙ omega (arith, length-append (u16_bytes code.version) (words_bytes (counts_of code)), u16_length code.version, words_length (counts_of code), last)
+    ∙ omega (
+      arith,
+      length-append (u16_bytes code.version) (words_bytes (counts_of code)),
+      u16_length code.version,
+      words_length (counts_of code),
+      last,
+    )
 
 -- the names of routines, and behind them those of globals
 abbrev pub names_of : PlainCode → List (List ℕ)
 names_of code = map (λ r. r.name) code.routines ++ map (λ g. g.name) code.globals
 
-names_pool : (code : PlainCode) → flat_map (λ (n : List ℕ). n) (names_of code) ≡ flat_map (λ (r : PlainRoutine). r.name) code.routines ++ flat_map (λ (g : PlainGlobal). g.name) code.globals
+names_pool : (code : PlainCode) → flat_map (λ (n : List ℕ). n) (names_of code) ≡ flat_map (λ (r : PlainRoutine). r.name) code.routines
+    ++ flat_map (λ (g : PlainGlobal). g.name) code.globals
 names_pool code =
     flat_map-append (λ (n : List ℕ). n) (map (λ (r : PlainRoutine). r.name) code.routines) (map (λ (g : PlainGlobal). g.name) code.globals)
-    ∙ ap (λ (t : List ℕ). t ++ flat_map (λ (n : List ℕ). n) (map (λ (g : PlainGlobal). g.name) code.globals)) (flat_map-map (λ (n : List ℕ). n) (λ (r : PlainRoutine). r.name) code.routines)
-    ∙ ap (λ (t : List ℕ). flat_map (λ (r : PlainRoutine). r.name) code.routines ++ t) (flat_map-map (λ (n : List ℕ). n) (λ (g : PlainGlobal). g.name) code.globals)
+    ∙ ap (λ (t : List ℕ). t ++ flat_map (λ (n : List ℕ). n) (map (λ (g : PlainGlobal). g.name) code.globals))
+    (flat_map-map (λ (n : List ℕ). n) (λ (r : PlainRoutine). r.name) code.routines)
+    ∙ ap (λ (t : List ℕ). flat_map (λ (r : PlainRoutine). r.name) code.routines ++ t)
+    (flat_map-map (λ (n : List ℕ). n) (λ (g : PlainGlobal). g.name) code.globals)
 
 -- the sections of an object, each at its offset
 pub record SectionsStand (code : PlainCode) (bytes : List ℕ) : Type 0 where
@@ -171,35 +189,50 @@ table_length code =
 pool_length : (code : PlainCode) → name_pool_at (header_for code) + length (pool_bytes code) ≡ instrs_at (header_for code)
 unfolding pool_bytes
 pool_length code =
-    omega (arith, length-append {A = ℕ}, length-flat_map (λ (r : PlainRoutine). r.name) code.routines, length-flat_map (λ (g : PlainGlobal). g.name) code.globals, length-flat_map (λ (t : List ℕ). t) code.texts)
+    omega (
+      arith,
+      length-append {A = ℕ},
+      length-flat_map (λ (r : PlainRoutine). r.name) code.routines,
+      length-flat_map (λ (g : PlainGlobal). g.name) code.globals,
+      length-flat_map (λ (t : List ℕ). t) code.texts,
+    )
 
 pub sections_stand : (code : PlainCode) (bytes : List ℕ) → IsObject code bytes → SectionsStand code bytes
 unfolding object_bytes table_bytes pool_bytes
 sections_stand code bytes object =
     let P : List ℕ → Type 0 = λ t. Stands t 0 (object_bytes code) in
     let whole = subst P object.spelled (stands_all (object_bytes code)) in
-    let a = stands_second bytes 0 (routines_at (header_for code)) (header_bytes code) _ (omega (arith, header_length code (nat_eq code.version 2) refl)) whole in
+    let a = stands_second bytes 0 (routines_at (header_for code)) (header_bytes code) _
+    (omega (arith, header_length code (nat_eq code.version 2) refl)) whole in
     let tables = stands_first bytes (routines_at (header_for code)) (table_bytes code) _ a in
     let params_size = each_length param_bytes 8 (flat_map (λ r. r.head.params) code.routines) param_length in
     let runs_size = each_length run_bytes 12 (flat_map (λ r. r.head.runs) code.routines) run_length in
     let params_count = length-flat_map (λ (r : PlainRoutine). r.head.params) code.routines in
     let runs_count = length-flat_map (λ (r : PlainRoutine). r.head.runs) code.routines in
-    let globals = stands_second bytes (routines_at (header_for code)) (globals_at (header_for code)) (section (routine_bytes code) (length code.routines)) _
+    let globals = stands_second bytes (routines_at (header_for code)) (globals_at (header_for code))
+    (section (routine_bytes code) (length code.routines)) _
     (omega (arith, sections_length (routine_bytes code) 28 (length code.routines) (routine_length code))) tables in
-    let params = stands_second bytes (globals_at (header_for code)) (params_at (header_for code)) (section (global_bytes code) (length code.globals)) _
+    let params = stands_second bytes (globals_at (header_for code)) (params_at (header_for code))
+    (section (global_bytes code) (length code.globals)) _
     (omega (arith, sections_length (global_bytes code) 12 (length code.globals) (global_length code))) globals in
-    let runs = stands_second bytes (params_at (header_for code)) (runs_at (header_for code)) (flat_map param_bytes (flat_map (λ r. r.head.params) code.routines)) _ (omega (arith, params_size, params_count)) params in
-    let ranges = stands_second bytes (runs_at (header_for code)) (ranges_at (header_for code)) (flat_map run_bytes (flat_map (λ r. r.head.runs) code.routines)) _ (omega (arith, runs_size, runs_count)) runs in
+    let runs = stands_second bytes (params_at (header_for code)) (runs_at (header_for code))
+    (flat_map param_bytes (flat_map (λ r. r.head.params) code.routines)) _ (omega (arith, params_size, params_count)) params in
+    let ranges = stands_second bytes (runs_at (header_for code)) (ranges_at (header_for code))
+    (flat_map run_bytes (flat_map (λ r. r.head.runs) code.routines)) _ (omega (arith, runs_size, runs_count)) runs in
     let h = header_for code in
-    let texts = stands_second bytes (ranges_at h) (texts_at h) (flat_map range_bytes code.ranges) _ (omega (arith, each_length range_bytes 16 code.ranges range_length)) ranges in
+    let texts = stands_second bytes (ranges_at h) (texts_at h) (flat_map range_bytes code.ranges) _
+    (omega (arith, each_length range_bytes 16 code.ranges range_length)) ranges in
     let pools = stands_second bytes (routines_at h) (name_pool_at h) (table_bytes code) _ (omega (arith, table_length code)) a in
     let pool = stands_first bytes (name_pool_at h) (pool_bytes code) _ pools in
     let names_size = length-flat_map (λ (r : PlainRoutine). r.name) code.routines in
     let globals_size = length-flat_map (λ (g : PlainGlobal). g.name) code.globals in
-    let after_names = stands_second bytes (name_pool_at h) (name_pool_at h + length (flat_map (λ (r : PlainRoutine). r.name) code.routines)) (flat_map (λ r. r.name) code.routines) _ refl pool in
-    let text_pool = stands_second bytes (name_pool_at h + length (flat_map (λ (r : PlainRoutine). r.name) code.routines)) (text_pool_at h) (flat_map (λ g. g.name) code.globals) _ (omega (arith, names_size, globals_size)) after_names in
+    let after_names = stands_second bytes (name_pool_at h) (name_pool_at h + length (flat_map (λ (r : PlainRoutine). r.name) code.routines))
+    (flat_map (λ r. r.name) code.routines) _ refl pool in
+    let text_pool = stands_second bytes (name_pool_at h + length (flat_map (λ (r : PlainRoutine). r.name) code.routines)) (text_pool_at h)
+    (flat_map (λ g. g.name) code.globals) _ (omega (arith, names_size, globals_size)) after_names in
     let instrs = stands_second bytes (name_pool_at h) (instrs_at h) (pool_bytes code) _ (omega (arith, pool_length code)) pools in
-    let lines = stands_second bytes (instrs_at h) (lines_at h) (flat_map instr_bytes code.instrs) _ (omega (arith, each_length instr_bytes 17 code.instrs instr_length)) instrs in
+    let lines = stands_second bytes (instrs_at h) (lines_at h) (flat_map instr_bytes code.instrs) _
+    (omega (arith, each_length instr_bytes 17 code.instrs instr_length)) instrs in
     record {
       routines = stands_first _ _ _ _ tables;
       globals = stands_first _ _ _ _ globals;
@@ -208,8 +241,11 @@ sections_stand code bytes object =
       ranges = stands_first _ _ _ _ ranges;
       texts = texts;
       names = subst (Stands bytes (name_pool_at h)) (sym (names_pool code))
-          (stands_first bytes (name_pool_at h) (flat_map (λ r. r.name) code.routines ++ flat_map (λ g. g.name) code.globals) (flat_map (λ t. t) code.texts)
-          (subst (Stands bytes (name_pool_at h)) (sym (append_assoc (flat_map (λ (r : PlainRoutine). r.name) code.routines) (flat_map (λ (g : PlainGlobal). g.name) code.globals) (flat_map (λ (t : List ℕ). t) code.texts))) pool));
+          (stands_first bytes (name_pool_at h) (flat_map (λ r. r.name) code.routines ++ flat_map (λ g. g.name) code.globals)
+          (flat_map (λ t. t) code.texts)
+          (subst (Stands bytes (name_pool_at h)) (sym
+          (append_assoc (flat_map (λ (r : PlainRoutine). r.name) code.routines) (flat_map (λ (g : PlainGlobal). g.name) code.globals)
+          (flat_map (λ (t : List ℕ). t) code.texts))) pool));
       text_pool = text_pool;
       instrs = stands_first _ _ _ _ instrs;
       lines = lines;

@@ -9,7 +9,8 @@ use Rattle.alma_object_format.specs.Instrs.{instr_at, instrs_with}
 -- the instruction of a record whose opcode is n, by the record's words
 abbrev pub form_of : InstrRecord → ℕ → Instr
 form_of r n =
-    get_or (I.Fail ∷ instrs_with (word_of_record r 1) (word_of_record r 5) (word_of_record r 9) (word_of_record r 13) (value_of_record r)) n I.Fail
+    get_or (I.Fail ∷ instrs_with (word_of_record r 1) (word_of_record r 5) (word_of_record r 9) (word_of_record r 13) (value_of_record r)) n
+    I.Fail
 
 -- is the record's instruction
 pub form_is : (r : InstrRecord) (n : ℕ) → opcode_of_record r ≡ n → instr_of_record r ≡ form_of r n

@@ -1,5 +1,6 @@
 -- What a view has of the code that it stands for.
-use Rattle.std.proofs.Common.{◌≡◌, ℕ, zero, suc, ◌+◌, ◌≤◌, Bool, true, false, ◌||◌, List, ◌∷◌, length, get_or, take, drop, None, Some, refl, sym, ap, ◌∙◌, arith}
+use Rattle.std.proofs.Common.{◌≡◌, ℕ, zero, suc, ◌+◌, ◌≤◌, Bool, true, false, ◌||◌, List, ◌∷◌, length, get_or, take, drop, None, Some, refl}
+use Rattle.std.proofs.Common.{sym, ap, ◌∙◌, arith}
 use Rattle.std.specs.Prelude.{slice_get}
 use Rattle.std.specs.List.{list_any}
 use Rattle.std.proofs.lemmas.List.Folds.{list_any_more, list_any_at}
@@ -18,20 +19,25 @@ use Rattle.alma_object.proofs.Items.{item_at}
 pub code_start_is : (bytes : List ℕ) (h : Header) (r : ℕ) → r ≤ h.routines → start_of (code_end bytes h) r ≡ start_at (code_in bytes h) r
 unfolding routine_in
 code_start_is bytes h zero le = refl
-code_start_is bytes h (suc r) le = ap (λ (x : PlainRoutine). x.code_end) (sym (item_at (routine_in bytes h) h.routines r no_routine (omega arith)))
+code_start_is bytes h (suc r) le = ap (λ (x : PlainRoutine). x.code_end)
+    (sym (item_at (routine_in bytes h) h.routines r no_routine (omega arith)))
 
 -- no item so far passes the test, and the next does not
-pub none_more : {A : Type 0} (p : A → Bool) (xs : List A) (i : ℕ) (x : A) → slice_get xs i ≡ Some x → p x ≡ false → list_any p (take i xs) ≡ false → list_any p (take (i + 1) xs) ≡ false
+pub none_more : {A : Type 0} (p : A → Bool) (xs : List A) (i : ℕ) (x : A) → slice_get xs i ≡ Some x → p x ≡ false
+    → list_any p (take i xs) ≡ false → list_any p (take (i + 1) xs) ≡ false
 none_more {A = A} p xs i x e fails before =
-    list_any_more p xs i x (slice_get_within xs i x e) ∙ ap (λ (b : Bool). b || p (get_or xs i x)) before ∙ ap p (get_or_from_slice_get xs i x x e) ∙ fails
+    list_any_more p xs i x (slice_get_within xs i x e) ∙ ap (λ (b : Bool). b || p (get_or xs i x)) before
+    ∙ ap p (get_or_from_slice_get xs i x x e) ∙ fails
 
 -- an item that passes the test
 pub one_passes : {A : Type 0} (p : A → Bool) (xs : List A) (i : ℕ) (x : A) → slice_get xs i ≡ Some x → p x ≡ true → list_any p xs ≡ true
 one_passes p xs i x e passes = list_any_at p xs i x (slice_get_within xs i x e) (ap p (get_or_from_slice_get xs i x x e) ∙ passes)
 
 -- the lines, one record further
-pub line_more : (at found : ℕ) (xs : List Line) (k : ℕ) (x : Line) → slice_get xs k ≡ Some x → last_line at (if_true (nat_le x.at at) (λ _. x.line) (λ _. found)) (drop (k + 1) xs) ≡ last_line at found (drop k xs)
-line_more at found xs k x e = sym (at_drop_more (last_line at found) xs k x (slice_get_within xs k x e) ∙ ap (λ y. last_line at found (y ∷ drop (k + 1) xs)) (get_or_from_slice_get xs k x x e))
+pub line_more : (at found : ℕ) (xs : List Line) (k : ℕ) (x : Line) → slice_get xs k ≡ Some x
+    → last_line at (if_true (nat_le x.at at) (λ _. x.line) (λ _. found)) (drop (k + 1) xs) ≡ last_line at found (drop k xs)
+line_more at found xs k x e = sym (at_drop_more (last_line at found) xs k x (slice_get_within xs k x e)
+    ∙ ap (λ y. last_line at found (y ∷ drop (k + 1) xs)) (get_or_from_slice_get xs k x x e))
 
 pub line_all : (at found : ℕ) (xs : List Line) (k : ℕ) → length xs ≤ k → last_line at found (drop k xs) ≡ found
 line_all at found xs k le = at_drop_all (last_line at found) xs k le

@@ -29,7 +29,8 @@ loop-place-preserved c =
     let n : length c.loop-place.place-iterator ≡ length c.next.new.self + 1 = omega (arith, ap length step) in (
       tt,
       tt,
-      lays-more c.args.carry.now c.loop-place.place-iterator c.next.new.self c.in-Some.place.now c.in-Some.cell.now c.args.store.now.now c.loop-place.store.now c.lay_one.new.store.now
+      lays-more c.args.carry.now c.loop-place.place-iterator c.next.new.self c.in-Some.place.now c.in-Some.cell.now c.args.store.now.now
+          c.loop-place.store.now c.lay_one.new.store.now
           c.loop-place.invariant.2 step c.lay_one.ensures.now,
       c.lay_one.ensures.held ∙ c.loop-place.invariant.3,
       omega (arith, c.loop-place.invariant.4, c.lay_one.ensures.choice_room),
@@ -39,7 +40,8 @@ loop-place-preserved c =
 
 pub returns-clause-now : goal.returns-clause-now
 returns-clause-now c =
-    lays-none c.args.carry.now c.loop-place.place-iterator c.args.store.now.now c.loop-place.store.now c.loop-place.invariant.2 c.in-None.ensures.steps.0
+    lays-none c.args.carry.now c.loop-place.place-iterator c.args.store.now.now c.loop-place.store.now c.loop-place.invariant.2
+    c.in-None.ensures.steps.0
 
 pub returns-clause-held : goal.returns-clause-held
 returns-clause-held c = c.loop-place.invariant.3

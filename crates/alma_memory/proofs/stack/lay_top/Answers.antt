@@ -1,4 +1,5 @@
-use Rattle.std.proofs.Common.{◌≡◌, ◌<◌, ◌≤◌, ◌+◌, ◌-◌, ◌++◌, ◌∷◌, [], ℕ, List, length, get_or, take, set, ap, sym, refl, ◌∙◌, arith, false, true}
+use Rattle.std.proofs.Common.{◌≡◌, ◌<◌, ◌≤◌, ◌+◌, ◌-◌, ◌++◌, ◌∷◌, [], ℕ, List, length, get_or, take, set, ap, sym, refl, ◌∙◌, arith, false}
+use Rattle.std.proofs.Common.{true}
 use Rattle.std.proofs.lemmas.List.{get_or_read}
 use Rattle.std.proofs.lemmas.Bool.{false≢true}
 use Rattle.alma_code.specs.Picture.{PlainFrame, PlainEntry, entry_at, top_of}
@@ -16,7 +17,8 @@ lay-requires c =
     let es = c.args.entries.now.items in
     let hs = c.args.store.now.held in
     let x = c.in-Some.entry in
-    let top : top_of (stack_of es hs) ≡ entry_with x (top_copy hs) = stack-last es c.pop.new.self.items x hs c.in-Some.ensures.items c.requires.same in
+    let top : top_of (stack_of es hs) ≡ entry_with x (top_copy hs) =
+    stack-last es c.pop.new.self.items x hs c.in-Some.ensures.items c.requires.same in
     let carry : (top_of (stack_of es hs)).carry ≡ x.carry = ap (λ (y : PlainEntry). y.carry) top in
     let size : length (top_of (stack_of es hs)).carry ≡ length x.carry = ap length carry in
     omega (arith, size, c.requires.room, c.cut.ensures.trail_room)
@@ -26,23 +28,27 @@ returns-clause-now c =
     let es = c.args.entries.now.items in
     let hs = c.args.store.now.held in
     let x = c.in-Some.entry in
-    let top : top_of (stack_of es hs) ≡ entry_with x (top_copy hs) = stack-last es c.pop.new.self.items x hs c.in-Some.ensures.items c.requires.same in
+    let top : top_of (stack_of es hs) ≡ entry_with x (top_copy hs) =
+    stack-last es c.pop.new.self.items x hs c.in-Some.ensures.items c.requires.same in
     let carry : (top_of (stack_of es hs)).carry ≡ x.carry = ap (λ (y : PlainEntry). y.carry) top in
     let size : length (top_of (stack_of es hs)).carry ≡ length x.carry = ap length carry in
-    c.lay.ensures.now ∙ (ap (λ fs. frames_with_carry fs x.carry) c.cut.ensures.now ∙ ap (frames_with_carry c.args.store.now.now) (sym carry))
+    c.lay.ensures.now ∙ (ap (λ fs. frames_with_carry fs x.carry) c.cut.ensures.now
+    ∙ ap (frames_with_carry c.args.store.now.now) (sym carry))
 
 pub returns-clause-held : goal.returns-clause-held
 returns-clause-held c =
     let es = c.args.entries.now.items in
     let hs = c.args.store.now.held in
-    stack-rest es c.pop.new.self.items c.in-Some.entry hs c.lay.new.store.held c.len.result c.in-Some.ensures.items c.requires.same (c.len.ensures ∙ c.pop.new.self.ok.0) (c.lay.ensures.held ∙ c.cut.ensures.held)
+    stack-rest es c.pop.new.self.items c.in-Some.entry hs c.lay.new.store.held c.len.result c.in-Some.ensures.items c.requires.same
+    (c.len.ensures ∙ c.pop.new.self.ok.0) (c.lay.ensures.held ∙ c.cut.ensures.held)
 
 pub returns-clause-trail_room : goal.returns-clause-trail_room
 returns-clause-trail_room c =
     let es = c.args.entries.now.items in
     let hs = c.args.store.now.held in
     let x = c.in-Some.entry in
-    let top : top_of (stack_of es hs) ≡ entry_with x (top_copy hs) = stack-last es c.pop.new.self.items x hs c.in-Some.ensures.items c.requires.same in
+    let top : top_of (stack_of es hs) ≡ entry_with x (top_copy hs) =
+    stack-last es c.pop.new.self.items x hs c.in-Some.ensures.items c.requires.same in
     let carry : (top_of (stack_of es hs)).carry ≡ x.carry = ap (λ (y : PlainEntry). y.carry) top in
     let size : length (top_of (stack_of es hs)).carry ≡ length x.carry = ap length carry in
     omega (arith, size, c.lay.ensures.trail_room, c.cut.ensures.trail_room)

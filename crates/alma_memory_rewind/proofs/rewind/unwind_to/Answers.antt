@@ -7,8 +7,10 @@ pub loop-trail-preserved-in-Some : goal.loop-trail-preserved-in-Some
 loop-trail-preserved-in-Some g c =
     let inv = c.loop-trail.invariant in
     let s = inv.0.stamped in (
-      unwinds-more c.args.marks.now c.args.counter c.args.mark c.args.trail.now.items c.args.items.now.items _ c.loop-trail.trail.items c.loop-trail.items.items c.loop-trail.stamps.items
+      unwinds-more c.args.marks.now c.args.counter c.args.mark c.args.trail.now.items c.args.items.now.items _ c.loop-trail.trail.items
+          c.loop-trail.items.items c.loop-trail.stamps.items
           c.pop.new.self.items c.in-Some.note _ _ c.in-Some.ensures.items c.put_back.ensures.items c.put_back.ensures.stamps (omega arith)
-          (stamp-before c.args.marks.now c.pop.new.self.items c.in-Some.note c.loop-trail.stamps.items (rw c.in-Some.ensures.items at s)) inv.0,
+          (stamp-before c.args.marks.now c.pop.new.self.items c.in-Some.note c.loop-trail.stamps.items (rw c.in-Some.ensures.items at s))
+          inv.0,
       c.in-Some.ensures.capacity ∙ inv.1,
     )

@@ -12,6 +12,8 @@ push_arg-requires-clause-room g c = λ m.
     let l : c.loop-i.i < length h.params = omega arith in
     let k : (get_or h.params c.loop-i.i no_param).kind ≡ Mix =
     ap (λ (q : CodeParam). q.kind) (read-at c.param.result no_param h.params c.loop-i.i c.param.ensures) ∙ m in
-    let room = mix-room (g.F.LiveFrames.live c.args.frames.now) h c.args.args.now c.loop-i.i c.requires.head c.requires.whole c.requires.args l k in
-    let e : length c.loop-i.cells.items ≡ length (args_cells (g.F.LiveFrames.live c.args.frames.now) h.params c.args.args.now c.loop-i.i) = ap length c.loop-i.invariant in
+    let room = mix-room (g.F.LiveFrames.live c.args.frames.now) h c.args.args.now c.loop-i.i c.requires.head c.requires.whole
+    c.requires.args l k in
+    let e : length c.loop-i.cells.items ≡ length (args_cells (g.F.LiveFrames.live c.args.frames.now) h.params c.args.args.now c.loop-i.i) =
+    ap length c.loop-i.invariant in
     omega (arith, room, e, c.slots.ensures)

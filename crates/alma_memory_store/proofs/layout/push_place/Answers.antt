@@ -9,5 +9,6 @@ loop-k-preserved g c =
     let cells = (get_or (g.F.LiveFrames.live c.args.frames.now) c.args.place.frame no_frame).cells in
     let pushed : c.push.new.self.items ≡ c.loop-k.cells.items ++ c.read-cell.result ∷ [] = grind (arith, common_steps) in
     let lt : c.loop-k.k < c.args.place.len = omega arith in
-    cell-more c.args.cells.now.items c.loop-k.cells.items c.push.new.self.items cells c.args.place.slot c.loop-k.k c.read-cell.result c.loop-k.invariant pushed
+    cell-more c.args.cells.now.items c.loop-k.cells.items c.push.new.self.items cells c.args.place.slot c.loop-k.k c.read-cell.result
+    c.loop-k.invariant pushed
     c.read-cell.ensures (omega (arith, lt, c.requires.end))

@@ -5,6 +5,7 @@ use Rattle.alma_memory_store.proofs.layout.put_blanks.Given as goal
 
 abbrev pub invariant-loop-i : goal.invariant-loop-i
 invariant-loop-i g l =
-    (l.slots.items ++ map blank_slot (kinds_of (length l.slots.items) (drop l.i (g.H.Head.head l.head).runs)) ≡ map blank_slot (kinds_of 0 (g.H.Head.head l.head).runs))
+    (l.slots.items ++ map blank_slot (kinds_of (length l.slots.items) (drop l.i (g.H.Head.head l.head).runs)) ≡ map blank_slot
+    (kinds_of 0 (g.H.Head.head l.head).runs))
     × RunsRise (length l.slots.items) (drop l.i (g.H.Head.head l.head).runs) (g.H.Head.head l.head).slots
     × ((g.H.Head.head l.head).slots ≤ vec_capacity l.slots)

@@ -33,7 +33,8 @@ returns-clause-kinds g c =
     let blanks = length-map (kinds_of 0 h.runs) blank_slot in
     let all = ap length c.in_ok-put_blanks.ensures.slots in
     let own : x.kind ≡ (get_or slots 0 no_slot).kind =
-    ap (λ (s : Slot). s.kind) (get_or_read slots 0 c.index.result.now (omega (arith, kinds, blanks, all, c.requires.some)) c.index.ensures no_slot) in
+    ap (λ (s : Slot). s.kind) (get_or_read slots 0 c.index.result.now (omega (arith, kinds, blanks, all, c.requires.some)) c.index.ensures
+    no_slot) in
     kinds-set slots 0 x own ∙ (ap kinds_in c.in_ok-put_blanks.ensures.slots ∙ kinds-blank (kinds_of 0 h.runs))
 
 pub returns-clause-cells : goal.returns-clause-cells

@@ -5,6 +5,7 @@ use Rattle.alma_object.proofs.writing.push_globals.Given as goal
 
 abbrev pub invariant-loop-global : goal.invariant-loop-global
 invariant-loop-global l = record {
-  names : l.name_end ≡ sum_by (λ x. length x.name) (code_of l.code).routines + sum_by (λ x. length x.name) (take l.global-index (code_of l.code).globals);
+  names : l.name_end ≡ sum_by (λ x. length x.name) (code_of l.code).routines
+      + sum_by (λ x. length x.name) (take l.global-index (code_of l.code).globals);
   written : l.out.items ≡ l.initial.out.items ++ section (global_bytes (code_of l.code)) l.global-index;
 }

@@ -1,4 +1,5 @@
-use Rattle.std.proofs.Common.{◌≡◌, ◌<◌, ◌≤◌, ◌+◌, ◌-◌, ◌++◌, ◌∷◌, [], ℕ, List, length, get_or, take, set, ap, sym, refl, ◌∙◌, arith, false, true}
+use Rattle.std.proofs.Common.{◌≡◌, ◌<◌, ◌≤◌, ◌+◌, ◌-◌, ◌++◌, ◌∷◌, [], ℕ, List, length, get_or, take, set, ap, sym, refl, ◌∙◌, arith, false}
+use Rattle.std.proofs.Common.{true}
 use Rattle.std.proofs.lemmas.List.{get_or_read}
 use Rattle.std.proofs.lemmas.Bool.{false≢true}
 use Rattle.alma_code.specs.Picture.{PlainFrame, PlainEntry, entry_at, top_of}
@@ -20,8 +21,10 @@ returns-clause-kind c =
     let n : c.len.result ≡ length es = c.len.ensures ∙ c.self.inside.entries.ok.0 in
     let some : 1 ≤ length es = grind (arith, nat_tests) in
     let lt : c.len.result - 1 < length es = omega (arith, n, some) in
-    let is : x ≡ get_or es (length es - 1) no_saved = get_or_read es (c.len.result - 1) x lt c.index-entry.ensures no_saved ∙ ap (λ k. get_or es (k - 1) no_saved) n in
-    let top : top_of (stack_of es hs) ≡ entry_with (get_or es (length es - 1) no_saved) (top_copy hs) = stack-top es hs c.self.invariant (omega (arith, n, lt)) in
+    let is : x ≡ get_or es (length es - 1) no_saved = get_or_read es (c.len.result - 1) x lt c.index-entry.ensures no_saved
+    ∙ ap (λ k. get_or es (k - 1) no_saved) n in
+    let top : top_of (stack_of es hs) ≡ entry_with (get_or es (length es - 1) no_saved) (top_copy hs) =
+    stack-top es hs c.self.invariant (omega (arith, n, lt)) in
     ap (λ (y : Entry). y.kind) is ∙ (sym (ap (λ (y : PlainEntry). y.kind) top) ∙ ap (λ (p : Picture). (top_of p.held).kind) c.self.view_is)
 
 pub returns-clause-resume : goal.returns-clause-resume
@@ -32,6 +35,9 @@ returns-clause-resume c =
     let n : c.len.result ≡ length es = c.len.ensures ∙ c.self.inside.entries.ok.0 in
     let some : 1 ≤ length es = grind (arith, nat_tests) in
     let lt : c.len.result - 1 < length es = omega (arith, n, some) in
-    let is : x ≡ get_or es (length es - 1) no_saved = get_or_read es (c.len.result - 1) x lt c.index-entry.ensures no_saved ∙ ap (λ k. get_or es (k - 1) no_saved) n in
-    let top : top_of (stack_of es hs) ≡ entry_with (get_or es (length es - 1) no_saved) (top_copy hs) = stack-top es hs c.self.invariant (omega (arith, n, lt)) in
-    ap (λ (y : Entry). y.resume) is ∙ (sym (ap (λ (y : PlainEntry). y.resume) top) ∙ ap (λ (p : Picture). (top_of p.held).resume) c.self.view_is)
+    let is : x ≡ get_or es (length es - 1) no_saved = get_or_read es (c.len.result - 1) x lt c.index-entry.ensures no_saved
+    ∙ ap (λ k. get_or es (k - 1) no_saved) n in
+    let top : top_of (stack_of es hs) ≡ entry_with (get_or es (length es - 1) no_saved) (top_copy hs) =
+    stack-top es hs c.self.invariant (omega (arith, n, lt)) in
+    ap (λ (y : Entry). y.resume) is ∙ (sym (ap (λ (y : PlainEntry). y.resume) top)
+    ∙ ap (λ (p : Picture). (top_of p.held).resume) c.self.view_is)

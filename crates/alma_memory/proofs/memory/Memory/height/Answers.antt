@@ -5,4 +5,6 @@ use Rattle.alma_memory.proofs.memory.Memory.height.Goals as goal
 
 pub returns : goal.returns
 returns c =
-    c.len.ensures ∙ (c.self.inside.entries.ok.0 ∙ (sym (stack-length c.self.inside.entries.items c.self.inside.store.held c.self.invariant) ∙ ap (λ (p : Picture). length p.held) c.self.view_is))
+    c.len.ensures ∙ (c.self.inside.entries.ok.0
+    ∙ (sym (stack-length c.self.inside.entries.items c.self.inside.store.held c.self.invariant)
+    ∙ ap (λ (p : Picture). length p.held) c.self.view_is))

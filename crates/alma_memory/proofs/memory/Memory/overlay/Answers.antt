@@ -1,4 +1,5 @@
-use Rattle.std.proofs.Common.{◌≡◌, ◌<◌, ◌≤◌, ◌+◌, ◌-◌, ◌++◌, ◌∷◌, [], ℕ, List, length, get_or, take, set, ap, sym, refl, ◌∙◌, arith, false, true}
+use Rattle.std.proofs.Common.{◌≡◌, ◌<◌, ◌≤◌, ◌+◌, ◌-◌, ◌++◌, ◌∷◌, [], ℕ, List, length, get_or, take, set, ap, sym, refl, ◌∙◌, arith, false}
+use Rattle.std.proofs.Common.{true}
 use Rattle.std.proofs.lemmas.List.{get_or_read}
 use Rattle.std.proofs.lemmas.Bool.{false≢true}
 use Rattle.alma_code.specs.Picture.{PlainFrame, PlainEntry, entry_at, top_of}
@@ -16,7 +17,8 @@ index-requires c =
     let es = c.self.inside.entries.items in
     let hs = c.self.inside.store.held in
     let h = c.args.height in
-    let wide : length c.args.self.now.held ≡ length es = sym (ap (λ (p : Picture). length p.held) c.self.view_is) ∙ stack-length es hs c.self.invariant in
+    let wide : length c.args.self.now.held ≡ length es = sym (ap (λ (p : Picture). length p.held) c.self.view_is)
+    ∙ stack-length es hs c.self.invariant in
     omega (arith, wide, c.requires.some, c.requires.below, c.self.inside.entries.ok.0)
 
 pub returns-in_err-reserve-clause-succeeds : goal.returns-in_err-reserve-clause-succeeds
@@ -24,12 +26,15 @@ returns-in_err-reserve-clause-succeeds c = λ l.
     let es = c.self.inside.entries.items in
     let hs = c.self.inside.store.held in
     let h = c.args.height in
-    let wide : length c.args.self.now.held ≡ length es = sym (ap (λ (p : Picture). length p.held) c.self.view_is) ∙ stack-length es hs c.self.invariant in
+    let wide : length c.args.self.now.held ≡ length es = sym (ap (λ (p : Picture). length p.held) c.self.view_is)
+    ∙ stack-length es hs c.self.invariant in
     let x = c.index.result.now in
     let lt : h - 1 < length es = omega (arith, wide, c.requires.some, c.requires.below) in
     let is : x ≡ get_or es (h - 1) no_saved = get_or_read es (h - 1) x lt c.index.ensures no_saved in
     let carry : (entry_at c.args.self.now.held h).carry ≡ x.carry =
-    sym (ap (λ (p : Picture). (entry_at p.held h).carry) c.self.view_is) ∙ ap (λ (y : PlainEntry). y.carry) (stack-entry es hs h x c.self.invariant c.requires.some (omega (arith, wide, c.requires.below)) is) in
+    sym (ap (λ (p : Picture). (entry_at p.held h).carry) c.self.view_is)
+    ∙ ap (λ (y : PlainEntry). y.carry) (stack-entry es hs h x c.self.invariant c.requires.some (omega (arith, wide, c.requires.below))
+    is) in
     let size : length (entry_at c.args.self.now.held h).carry ≡ length x.carry = ap length carry in
     let room : c.self.inside.store.trail_room ≡ c.args.self.now.trail_room = ap (λ (p : Picture). p.trail_room) c.self.view_is in
     absurd (false≢true (c.in_err-reserve.ensures.succeeds (omega arith) (omega (arith, l, size, room, c.len.ensures))))
@@ -39,16 +44,20 @@ returns-clause-now c =
     let es = c.self.inside.entries.items in
     let hs = c.self.inside.store.held in
     let h = c.args.height in
-    let wide : length c.args.self.now.held ≡ length es = sym (ap (λ (p : Picture). length p.held) c.self.view_is) ∙ stack-length es hs c.self.invariant in
+    let wide : length c.args.self.now.held ≡ length es = sym (ap (λ (p : Picture). length p.held) c.self.view_is)
+    ∙ stack-length es hs c.self.invariant in
     let x = c.index.result.now in
     let lt : h - 1 < length es = omega (arith, wide, c.requires.some, c.requires.below) in
     let is : x ≡ get_or es (h - 1) no_saved = get_or_read es (h - 1) x lt c.index.ensures no_saved in
     let carry : (entry_at c.args.self.now.held h).carry ≡ x.carry =
-    sym (ap (λ (p : Picture). (entry_at p.held h).carry) c.self.view_is) ∙ ap (λ (y : PlainEntry). y.carry) (stack-entry es hs h x c.self.invariant c.requires.some (omega (arith, wide, c.requires.below)) is) in
+    sym (ap (λ (p : Picture). (entry_at p.held h).carry) c.self.view_is)
+    ∙ ap (λ (y : PlainEntry). y.carry) (stack-entry es hs h x c.self.invariant c.requires.some (omega (arith, wide, c.requires.below))
+    is) in
     let size : length (entry_at c.args.self.now.held h).carry ≡ length x.carry = ap length carry in
     let room : c.self.inside.store.trail_room ≡ c.args.self.now.trail_room = ap (λ (p : Picture). p.trail_room) c.self.view_is in
     let now : c.lay.new.store.now ≡ frames_with_carry c.args.self.now.now (entry_at c.args.self.now.held h).carry =
-    c.lay.ensures.now ∙ (ap (λ fs. frames_with_carry fs x.carry) (c.reserve.ensures.now ∙ ap (λ (p : Picture). p.now) c.self.view_is) ∙ ap (frames_with_carry c.args.self.now.now) (sym carry)) in
+    c.lay.ensures.now ∙ (ap (λ fs. frames_with_carry fs x.carry) (c.reserve.ensures.now ∙ ap (λ (p : Picture). p.now) c.self.view_is)
+    ∙ ap (frames_with_carry c.args.self.now.now) (sym carry)) in
     now
 
 pub returns-clause-trail_room : goal.returns-clause-trail_room
@@ -56,12 +65,15 @@ returns-clause-trail_room c =
     let es = c.self.inside.entries.items in
     let hs = c.self.inside.store.held in
     let h = c.args.height in
-    let wide : length c.args.self.now.held ≡ length es = sym (ap (λ (p : Picture). length p.held) c.self.view_is) ∙ stack-length es hs c.self.invariant in
+    let wide : length c.args.self.now.held ≡ length es = sym (ap (λ (p : Picture). length p.held) c.self.view_is)
+    ∙ stack-length es hs c.self.invariant in
     let x = c.index.result.now in
     let lt : h - 1 < length es = omega (arith, wide, c.requires.some, c.requires.below) in
     let is : x ≡ get_or es (h - 1) no_saved = get_or_read es (h - 1) x lt c.index.ensures no_saved in
     let carry : (entry_at c.args.self.now.held h).carry ≡ x.carry =
-    sym (ap (λ (p : Picture). (entry_at p.held h).carry) c.self.view_is) ∙ ap (λ (y : PlainEntry). y.carry) (stack-entry es hs h x c.self.invariant c.requires.some (omega (arith, wide, c.requires.below)) is) in
+    sym (ap (λ (p : Picture). (entry_at p.held h).carry) c.self.view_is)
+    ∙ ap (λ (y : PlainEntry). y.carry) (stack-entry es hs h x c.self.invariant c.requires.some (omega (arith, wide, c.requires.below))
+    is) in
     let size : length (entry_at c.args.self.now.held h).carry ≡ length x.carry = ap length carry in
     let room : c.self.inside.store.trail_room ≡ c.args.self.now.trail_room = ap (λ (p : Picture). p.trail_room) c.self.view_is in
     omega (arith, c.lay.ensures.trail_room, c.in_ok-reserve.ensures.no_less.1, room, size)
@@ -71,14 +83,22 @@ returns-clause-call c =
     let es = c.self.inside.entries.items in
     let hs = c.self.inside.store.held in
     let h = c.args.height in
-    let wide : length c.args.self.now.held ≡ length es = sym (ap (λ (p : Picture). length p.held) c.self.view_is) ∙ stack-length es hs c.self.invariant in
+    let wide : length c.args.self.now.held ≡ length es = sym (ap (λ (p : Picture). length p.held) c.self.view_is)
+    ∙ stack-length es hs c.self.invariant in
     let x = c.index.result.now in
     let lt : h - 1 < length es = omega (arith, wide, c.requires.some, c.requires.below) in
     let is : x ≡ get_or es (h - 1) no_saved = get_or_read es (h - 1) x lt c.index.ensures no_saved in
     let carry : (entry_at c.args.self.now.held h).carry ≡ x.carry =
-    sym (ap (λ (p : Picture). (entry_at p.held h).carry) c.self.view_is) ∙ ap (λ (y : PlainEntry). y.carry) (stack-entry es hs h x c.self.invariant c.requires.some (omega (arith, wide, c.requires.below)) is) in
+    sym (ap (λ (p : Picture). (entry_at p.held h).carry) c.self.view_is)
+    ∙ ap (λ (y : PlainEntry). y.carry) (stack-entry es hs h x c.self.invariant c.requires.some (omega (arith, wide, c.requires.below))
+    is) in
     let size : length (entry_at c.args.self.now.held h).carry ≡ length x.carry = ap length carry in
     let room : c.self.inside.store.trail_room ≡ c.args.self.now.trail_room = ap (λ (p : Picture). p.trail_room) c.self.view_is in
     let now : c.lay.new.store.now ≡ frames_with_carry c.args.self.now.now (entry_at c.args.self.now.held h).carry =
-    c.lay.ensures.now ∙ (ap (λ fs. frames_with_carry fs x.carry) (c.reserve.ensures.now ∙ ap (λ (p : Picture). p.now) c.self.view_is) ∙ ap (frames_with_carry c.args.self.now.now) (sym carry)) in
-    record { now = now; held = ap (stack_of es) (c.lay.ensures.held ∙ c.reserve.ensures.held) ∙ ap (λ (p : Picture). p.held) c.self.view_is }
+    c.lay.ensures.now ∙ (ap (λ fs. frames_with_carry fs x.carry) (c.reserve.ensures.now ∙ ap (λ (p : Picture). p.now) c.self.view_is)
+    ∙ ap (frames_with_carry c.args.self.now.now) (sym carry)) in
+    record {
+      now = now;
+      held = ap (stack_of es) (c.lay.ensures.held ∙ c.reserve.ensures.held)
+          ∙ ap (λ (p : Picture). p.held) c.self.view_is;
+    }

@@ -14,10 +14,12 @@ olds_of-requires g c =
     let trail = c.self.inside.trail.items in
     let items = c.self.inside.items.items in
     let marks = c.self.inside.marks.items in
-    let wide : length marks ≡ length c.args.self.now.held = sym (length-map marks (copy_of trail items)) ∙ ap (λ (p : Rewound g.row.T.Denot). length p.held) c.self.view_is in
+    let wide : length marks ≡ length c.args.self.now.held = sym (length-map marks (copy_of trail items))
+    ∙ ap (λ (p : Rewound g.row.T.Denot). length p.held) c.self.view_is in
     let n : c.len.result ≡ length marks = c.len.ensures ∙ c.self.inside.marks.ok.0 in
     let lt : c.len.result - 1 < length marks = omega (arith, n, wide, c.requires) in
-    let is : c.index-mark.result.now ≡ get_or marks (c.len.result - 1) no_mark = get_or_read marks (c.len.result - 1) c.index-mark.result.now lt c.index-mark.ensures no_mark in
+    let is : c.index-mark.result.now ≡ get_or marks (c.len.result - 1) no_mark =
+    get_or_read marks (c.len.result - 1) c.index-mark.result.now lt c.index-mark.ensures no_mark in
     rw (is, c.as_slice.ensures.value) (mark-le 0 0 marks (length trail) (length items) c.self.invariant.rises (c.len.result - 1) lt)
 
 pub returns : goal.returns
@@ -25,13 +27,17 @@ returns g c =
     let trail = c.self.inside.trail.items in
     let items = c.self.inside.items.items in
     let marks = c.self.inside.marks.items in
-    let wide : length marks ≡ length c.args.self.now.held = sym (length-map marks (copy_of trail items)) ∙ ap (λ (p : Rewound g.row.T.Denot). length p.held) c.self.view_is in
+    let wide : length marks ≡ length c.args.self.now.held = sym (length-map marks (copy_of trail items))
+    ∙ ap (λ (p : Rewound g.row.T.Denot). length p.held) c.self.view_is in
     let n : c.len.result ≡ length marks = c.len.ensures ∙ c.self.inside.marks.ok.0 in
     let lt : c.len.result - 1 < length marks = omega (arith, n, wide, c.requires) in
     let some : 1 ≤ length marks = omega (arith, n, lt) in
-    let is : c.index-mark.result.now ≡ last_mark marks = get_or_read marks (c.len.result - 1) c.index-mark.result.now lt c.index-mark.ensures no_mark ∙ ap (λ k. get_or marks (k - 1) no_mark) n in
+    let is : c.index-mark.result.now ≡ last_mark marks =
+    get_or_read marks (c.len.result - 1) c.index-mark.result.now lt c.index-mark.ensures no_mark
+    ∙ ap (λ k. get_or marks (k - 1) no_mark) n in
     if-ok c.olds_of.result _ _
     (λ olds h. subst (λ (p : Rewound g.row.T.Denot). IsOlds p.now p.held (get nat_cmp olds)) c.self.view_is
     (olds-are marks trail items (get nat_cmp olds) some c.self.invariant.rises
-    (λ at. h at ∙ (ap (λ (m : Mark). first_of (drop m.mark c.as_slice.result.now) at) is ∙ ap (λ ns. first_of (drop (last_mark marks).mark ns) at) c.as_slice.ensures.value))))
+    (λ at. h at ∙ (ap (λ (m : Mark). first_of (drop m.mark c.as_slice.result.now) at) is
+    ∙ ap (λ ns. first_of (drop (last_mark marks).mark ns) at) c.as_slice.ensures.value))))
     c.olds_of.ensures

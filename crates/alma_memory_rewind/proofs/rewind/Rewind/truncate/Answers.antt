@@ -7,20 +7,35 @@ use Rattle.alma_memory_rewind.proofs.rewind.Rewind.truncate.Goals as goal
 
 pub invariant_of-self : goal.invariant_of-self
 invariant_of-self g c =
-    let e : needed (held_of c.self.inside.trail.items c.self.inside.items.items c.self.inside.marks.items) ≡ (last_mark c.self.inside.marks.items).top = needed-top c.self.inside.trail.items c.self.inside.items.items c.self.inside.marks.items (length c.self.inside.trail.items) c.self.invariant.rises in
-    let v : needed (held_of c.self.inside.trail.items c.self.inside.items.items c.self.inside.marks.items) ≡ needed c.args.self.now.held = ap (λ (p : Rewound g.row.T.Denot). needed p.held) c.self.view_is in
+    let e : needed (held_of c.self.inside.trail.items c.self.inside.items.items c.self.inside.marks.items)
+    ≡ (last_mark c.self.inside.marks.items).top =
+    needed-top c.self.inside.trail.items c.self.inside.items.items c.self.inside.marks.items (length c.self.inside.trail.items)
+    c.self.invariant.rises in
+    let v : needed (held_of c.self.inside.trail.items c.self.inside.items.items c.self.inside.marks.items) ≡ needed c.args.self.now.held =
+    ap (λ (p : Rewound g.row.T.Denot). needed p.held) c.self.view_is in
     let low : (last_mark c.self.inside.marks.items).top ≤ c.args.len = rw (sym e ∙ v) c.requires in
-    rw (c.truncate.ensures.items, c.truncate-2.ensures.items) (cut-keeps c.self.inside.marks.items c.self.inside.trail.items c.self.inside.items.items c.self.inside.stamps.items c.self.inside.counter c.args.len low c.self.invariant).sound
+    rw (c.truncate.ensures.items, c.truncate-2.ensures.items)
+    (cut-keeps c.self.inside.marks.items c.self.inside.trail.items c.self.inside.items.items c.self.inside.stamps.items
+    c.self.inside.counter c.args.len low c.self.invariant).sound
 
 pub returns-clause-held : goal.returns-clause-held
 returns-clause-held g c =
-    let e : needed (held_of c.self.inside.trail.items c.self.inside.items.items c.self.inside.marks.items) ≡ (last_mark c.self.inside.marks.items).top = needed-top c.self.inside.trail.items c.self.inside.items.items c.self.inside.marks.items (length c.self.inside.trail.items) c.self.invariant.rises in
-    let v : needed (held_of c.self.inside.trail.items c.self.inside.items.items c.self.inside.marks.items) ≡ needed c.args.self.now.held = ap (λ (p : Rewound g.row.T.Denot). needed p.held) c.self.view_is in
+    let e : needed (held_of c.self.inside.trail.items c.self.inside.items.items c.self.inside.marks.items)
+    ≡ (last_mark c.self.inside.marks.items).top =
+    needed-top c.self.inside.trail.items c.self.inside.items.items c.self.inside.marks.items (length c.self.inside.trail.items)
+    c.self.invariant.rises in
+    let v : needed (held_of c.self.inside.trail.items c.self.inside.items.items c.self.inside.marks.items) ≡ needed c.args.self.now.held =
+    ap (λ (p : Rewound g.row.T.Denot). needed p.held) c.self.view_is in
     let low : (last_mark c.self.inside.marks.items).top ≤ c.args.len = rw (sym e ∙ v) c.requires in
-    let vh : held_of c.self.inside.trail.items c.self.inside.items.items c.self.inside.marks.items ≡ c.args.self.now.held = ap (λ (p : Rewound g.row.T.Denot). p.held) c.self.view_is in
-    ap (λ xs. held_of c.self.inside.trail.items xs c.self.inside.marks.items) c.truncate.ensures.items ∙ ((cut-keeps c.self.inside.marks.items c.self.inside.trail.items c.self.inside.items.items c.self.inside.stamps.items c.self.inside.counter c.args.len low c.self.invariant).held ∙ vh)
+    let vh : held_of c.self.inside.trail.items c.self.inside.items.items c.self.inside.marks.items ≡ c.args.self.now.held =
+    ap (λ (p : Rewound g.row.T.Denot). p.held) c.self.view_is in
+    ap (λ xs. held_of c.self.inside.trail.items xs c.self.inside.marks.items) c.truncate.ensures.items
+    ∙ ((cut-keeps c.self.inside.marks.items c.self.inside.trail.items c.self.inside.items.items c.self.inside.stamps.items
+    c.self.inside.counter c.args.len low c.self.invariant).held ∙ vh)
 
 pub returns-clause-noted : goal.returns-clause-noted
 returns-clause-noted g c =
-    let vn : free_from c.self.inside.marks.items 0 c.self.inside.stamps.items ≡ c.args.self.now.noted = ap (λ (p : Rewound g.row.T.Denot). p.noted) c.self.view_is in
-    ap (free_from c.self.inside.marks.items 0) c.truncate-2.ensures.items ∙ (free-take c.self.inside.marks.items c.args.len 0 c.self.inside.stamps.items ∙ ap (take c.args.len) vn)
+    let vn : free_from c.self.inside.marks.items 0 c.self.inside.stamps.items ≡ c.args.self.now.noted =
+    ap (λ (p : Rewound g.row.T.Denot). p.noted) c.self.view_is in
+    ap (free_from c.self.inside.marks.items 0) c.truncate-2.ensures.items
+    ∙ (free-take c.self.inside.marks.items c.args.len 0 c.self.inside.stamps.items ∙ ap (take c.args.len) vn)

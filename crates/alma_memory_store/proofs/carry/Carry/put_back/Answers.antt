@@ -8,13 +8,15 @@ use Rattle.alma_memory_store.proofs.carry.Carry.put_back.Goals as goal
 
 pub returns-in-Some-get_mut : goal.returns-in-Some-get_mut
 returns-in-Some-get_mut c =
-    let one = ap carry_of_entries (c.get_mut.follows.holds c.in-Some.old).0 ∙ set-listed c.self.inside.cells.entries c.args.place c.in-Some.old in
+    let one = ap carry_of_entries (c.get_mut.follows.holds c.in-Some.old).0
+    ∙ set-listed c.self.inside.cells.entries c.args.place c.in-Some.old in
     rw (c.in-Some.is, ← c.self.view_is) one
 
 pub returns-in_default : goal.returns-in_default
 returns-in_default c =
     let none : carried_at c.args.place.frame c.args.place.slot (carry_of_entries c.self.inside.cells.entries) ≡ None =
-    sym (lookup-listed c.self.inside.cells.entries c.args.place) ∙ (sym c.get_mut.ensures.value ∙ ap (λ r. option_copied_mut r) c.in_default.is) in
+    sym (lookup-listed c.self.inside.cells.entries c.args.place)
+    ∙ (sym c.get_mut.ensures.value ∙ ap (λ r. option_copied_mut r) c.in_default.is) in
     rw (c.in-Some.is, c.get_mut.follows.holds-at-none, ← c.self.view_is)
     (sym (with-absent c.args.place.frame c.args.place.slot c.in-Some.old (carry_of_entries c.self.inside.cells.entries) none))
 

@@ -14,7 +14,9 @@ returns c =
     let p = c.self.inside in
     let whole : AreWhole v.now = subst (λ (q : PlainPast). AreWhole q.now) c.self.view_is (whole-frames _ _) in
     let cover : (f s : ℕ) → differs v.before v.now f s ≡ true → IsReplaced v.old_regions f s ⊎ IsKept v.regions v.old_slots f s =
-    subst (λ (q : PlainPast). (f s : ℕ) → differs q.before q.now f s ≡ true → IsReplaced q.old_regions f s ⊎ IsKept q.regions q.old_slots f s) c.self.view_is (λ f s d. covers p f s c.self.invariant d) in
+    subst (λ (q : PlainPast). (f s : ℕ) → differs q.before q.now f s ≡ true → IsReplaced q.old_regions f s
+    ⊎ IsKept q.regions q.old_slots f s) c.self.view_is (λ f s d. covers p f s c.self.invariant d) in
     let none : carry_of_entries c.new-found.result.items ≡ [] = ap carry_of_entries c.new-found.ensures.items in
-    let all = gained-all v.before v.now (IsKept v.regions v.old_slots) (IsReplaced v.old_regions) _ _ _ none c.in_ok-push_written.ensures c.in_ok-push_replaced.ensures cover in
+    let all = gained-all v.before v.now (IsKept v.regions v.old_slots) (IsReplaced v.old_regions) _ _ _ none c.in_ok-push_written.ensures
+    c.in_ok-push_replaced.ensures cover in
     found-gain v.before v.now _ whole all.0 all.1

@@ -12,7 +12,8 @@ place_of-at-requires c =
     let h = c.self.invariant in
     let f = c.args.place.frame in
     let s = c.args.place.slot in
-    let end = slot-end p.slots.now.now p.regions.now.now p.live f s c.get-region.result h.now (omega arith) c.get-region.ensures (omega arith) in
+    let end = slot-end p.slots.now.now p.regions.now.now p.live f s c.get-region.result h.now (omega arith) c.get-region.ensures
+    (omega arith) in
     omega (arith, end, c.len.ensures)
 
 pub get-requires : goal.get-requires
@@ -21,7 +22,8 @@ get-requires c =
     let h = c.self.invariant in
     let f = c.args.place.frame in
     let s = c.args.place.slot in
-    let end = slot-end p.slots.now.now p.regions.now.now p.live f s c.get-region.result h.now (omega arith) c.get-region.ensures (omega arith) in
+    let end = slot-end p.slots.now.now p.regions.now.now p.live f s c.get-region.result h.now (omega arith) c.get-region.ensures
+    (omega arith) in
     omega (arith, end, c.place_of-at.ensures)
 
 pub returns : goal.returns
@@ -31,5 +33,6 @@ returns c =
     let f = c.args.place.frame in
     let s = c.args.place.slot in
     c.number_in.ensures ∙ (ap slot_number (sym c.get.ensures) ∙ (ap (λ k. slot_number (slice_get p.slots.now.now k)) c.place_of-at.ensures
-    ∙ (sym (number-live p.slots.now.now p.regions.now.now p.live f s c.get-region.result h.now.live (omega arith) c.get-region.ensures (omega arith))
+    ∙ (sym (number-live p.slots.now.now p.regions.now.now p.live f s c.get-region.result h.now.live (omega arith) c.get-region.ensures
+    (omega arith))
     ∙ ap (λ (q : PlainPast). number_of q.now f s) c.self.view_is)))

@@ -26,7 +26,8 @@ place_of-at-requires c =
     let low : f < needed p.regions.now.held = omega (arith, h.before.live) in
     let was : slice_get (top_copy p.regions.now.held) f ≡ Some c.old_or-region.result =
     h.regions.is f low ∙ (ap (first_or (get nat_cmp p.old_regions f)) c.get.ensures ∙ sym c.old_or-region.ensures) in
-    let end = slot-end (top_copy p.slots.now.held) (top_copy p.regions.now.held) p.old_live f s c.old_or-region.result h.before (omega arith) was (omega arith) in
+    let end = slot-end (top_copy p.slots.now.held) (top_copy p.regions.now.held) p.old_live f s c.old_or-region.result h.before
+    (omega arith) was (omega arith) in
     omega (arith, end, c.len.ensures, h.slots.within)
 
 pub get-requires-2 : goal.get-requires-2
@@ -38,7 +39,8 @@ get-requires-2 c =
     let low : f < needed p.regions.now.held = omega (arith, h.before.live) in
     let was : slice_get (top_copy p.regions.now.held) f ≡ Some c.old_or-region.result =
     h.regions.is f low ∙ (ap (first_or (get nat_cmp p.old_regions f)) c.get.ensures ∙ sym c.old_or-region.ensures) in
-    let end = slot-end (top_copy p.slots.now.held) (top_copy p.regions.now.held) p.old_live f s c.old_or-region.result h.before (omega arith) was (omega arith) in
+    let end = slot-end (top_copy p.slots.now.held) (top_copy p.regions.now.held) p.old_live f s c.old_or-region.result h.before
+    (omega arith) was (omega arith) in
     omega (arith, end, c.place_of-at.ensures, h.slots.within)
 
 pub returns : goal.returns
@@ -50,13 +52,15 @@ returns c =
     let low : f < needed p.regions.now.held = omega (arith, h.before.live) in
     let was : slice_get (top_copy p.regions.now.held) f ≡ Some c.old_or-region.result =
     h.regions.is f low ∙ (ap (first_or (get nat_cmp p.old_regions f)) c.get.ensures ∙ sym c.old_or-region.ensures) in
-    let end = slot-end (top_copy p.slots.now.held) (top_copy p.regions.now.held) p.old_live f s c.old_or-region.result h.before (omega arith) was (omega arith) in
+    let end = slot-end (top_copy p.slots.now.held) (top_copy p.regions.now.held) p.old_live f s c.old_or-region.result h.before
+    (omega arith) was (omega arith) in
     let slot : slice_get (top_copy p.slots.now.held) (c.old_or-region.result.base + s) ≡ Some c.old_or.result =
     h.slots.is (c.old_or-region.result.base + s) end
     ∙ (ap (λ k. first_or (get nat_cmp p.old_slots k) (slice_get p.slots.now.now k)) (sym c.place_of-at.ensures)
     ∙ (ap (first_or (get nat_cmp p.old_slots c.place_of-at.result)) c.get-2.ensures ∙ sym c.old_or.ensures)) in
     c.number_in.ensures ∙ (ap slot_number (sym slot)
-    ∙ (sym (number-live (top_copy p.slots.now.held) (top_copy p.regions.now.held) p.old_live f s c.old_or-region.result h.before.live (omega arith) was (omega arith))
+    ∙ (sym (number-live (top_copy p.slots.now.held) (top_copy p.regions.now.held) p.old_live f s c.old_or-region.result h.before.live
+    (omega arith) was (omega arith))
     ∙ ap (λ (q : PlainPast). number_of q.before f s) c.self.view_is))
 
 pub returns-then-place-region : goal.returns-then-place-region
@@ -68,5 +72,6 @@ returns-then-place-region c =
     let low : f < needed p.regions.now.held = omega (arith, h.before.live) in
     let was : slice_get (top_copy p.regions.now.held) f ≡ Some c.old_or-region.result =
     h.regions.is f low ∙ (ap (first_or (get nat_cmp p.old_regions f)) c.get.ensures ∙ sym c.old_or-region.ensures) in
-    sym (number-past (top_copy p.slots.now.held) (top_copy p.regions.now.held) p.old_live f s c.old_or-region.result h.before.live (omega arith) was (omega arith))
+    sym (number-past (top_copy p.slots.now.held) (top_copy p.regions.now.held) p.old_live f s c.old_or-region.result h.before.live
+    (omega arith) was (omega arith))
     ∙ ap (λ (q : PlainPast). number_of q.before f s) c.self.view_is

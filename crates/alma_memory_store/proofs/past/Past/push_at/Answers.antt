@@ -14,13 +14,15 @@ returns-then-at-region c =
     let p = c.self.inside in
     let h = c.self.invariant in
     let rs = take p.live p.regions.now.now in
-    let at : get_or rs c.find-frame.result no_region ≡ c.get-region.result = region-at p.regions.now.now p.live c.find-frame.result c.get-region.result c.find-frame.ensures.inside c.get-region.ensures in
+    let at : get_or rs c.find-frame.result no_region ≡ c.get-region.result =
+    region-at p.regions.now.now p.live c.find-frame.result c.get-region.result c.find-frame.ensures.inside c.get-region.ensures in
     let vr : rs ≡ c.args.self.now.regions = ap (λ (q : PlainPast). q.regions) c.self.view_is in
     gains-none c.args.self.now.before c.args.self.now.now (IsAt c.args.self.now.regions c.args.at) _
     (λ f s a d. (
     let b : IsAt rs c.args.at f s = subst (λ xs. IsAt xs c.args.at f s) (sym vr) a in
     let same : c.find-frame.result ≡ f = c.find-frame.ensures.is f s b in
-    let base : (get_or rs f no_region).base ≡ c.get-region.result.base = ap (λ (r : Region). r.base) (ap (λ k. get_or rs k no_region) (sym same) ∙ at) in
+    let base : (get_or rs f no_region).base ≡ c.get-region.result.base =
+    ap (λ (r : Region). r.base) (ap (λ k. get_or rs k no_region) (sym same) ∙ at) in
     let there = b.there in
     omega (arith, base, there)))
 
@@ -29,7 +31,8 @@ returns-then-slot-region c =
     let p = c.self.inside in
     let h = c.self.invariant in
     let rs = take p.live p.regions.now.now in
-    let at : get_or rs c.find-frame.result no_region ≡ c.get-region.result = region-at p.regions.now.now p.live c.find-frame.result c.get-region.result c.find-frame.ensures.inside c.get-region.ensures in
+    let at : get_or rs c.find-frame.result no_region ≡ c.get-region.result =
+    region-at p.regions.now.now p.live c.find-frame.result c.get-region.result c.find-frame.ensures.inside c.get-region.ensures in
     let vr : rs ≡ c.args.self.now.regions = ap (λ (q : PlainPast). q.regions) c.self.view_is in
     gains-none c.args.self.now.before c.args.self.now.now (IsAt c.args.self.now.regions c.args.at) _
     (λ f s a d. (
@@ -47,14 +50,16 @@ returns c =
     let p = c.self.inside in
     let h = c.self.invariant in
     let rs = take p.live p.regions.now.now in
-    let at : get_or rs c.find-frame.result no_region ≡ c.get-region.result = region-at p.regions.now.now p.live c.find-frame.result c.get-region.result c.find-frame.ensures.inside c.get-region.ensures in
+    let at : get_or rs c.find-frame.result no_region ≡ c.get-region.result =
+    region-at p.regions.now.now p.live c.find-frame.result c.get-region.result c.find-frame.ensures.inside c.get-region.ensures in
     let vr : rs ≡ c.args.self.now.regions = ap (λ (q : PlainPast). q.regions) c.self.view_is in
     if-ok c.push_change.result _ _
     (λ u e. gains-diff c.args.self.now.before c.args.self.now.now (IsAt c.args.self.now.regions c.args.at) _ _ _ _ e
     (λ f s a. (
     let b : IsAt rs c.args.at f s = subst (λ xs. IsAt xs c.args.at f s) (sym vr) a in
     let same : c.find-frame.result ≡ f = c.find-frame.ensures.is f s b in
-    let base : (get_or rs f no_region).base ≡ c.get-region.result.base = ap (λ (r : Region). r.base) (ap (λ k. get_or rs k no_region) (sym same) ∙ at) in
+    let base : (get_or rs f no_region).base ≡ c.get-region.result.base =
+    ap (λ (r : Region). r.base) (ap (λ k. get_or rs k no_region) (sym same) ∙ at) in
     let there = b.there in
     (sym same, omega (arith, base, there)))))
     c.push_change.ensures

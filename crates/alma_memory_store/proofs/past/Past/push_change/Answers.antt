@@ -19,4 +19,5 @@ returns-in_ok-push c =
     ∙ ap (change_between (number_of before p.frame p.slot)) c.number.ensures) in
     ap carry_of_entries c.in_ok-push.ensures.items
     ∙ (map-append (λ (e : SlotPlace × Cell). change_of e.0 e.1) c.args.found.now.items ((p, c.in-Some.cell) ∷ [])
-    ∙ ap (λ xs. carry_of_entries c.args.found.now.items ++ xs) (ap (change_at p.frame p.slot) here ∙ sym (diff-changed before now p.frame p.slot)))
+    ∙ ap (λ xs. carry_of_entries c.args.found.now.items ++ xs)
+    (ap (change_at p.frame p.slot) here ∙ sym (diff-changed before now p.frame p.slot)))

@@ -23,11 +23,14 @@ loop-frame-preserved c =
     let v = c.args.self.now in (
       tt,
       tt,
-      gains-step v.before v.now (IsReplaced v.old_regions) (IsReplaced c.loop-frame.frame-iterator) (λ f s. f ≡ c.in-Some.frame.now) (IsReplaced c.next.new.self) _ _ _
-          c.loop-frame.invariant.2 c.in_ok-push_frame.ensures (replaced-split c.loop-frame.frame-iterator _ c.next.new.self c.in-Some.ensures.steps),
+      gains-step v.before v.now (IsReplaced v.old_regions) (IsReplaced c.loop-frame.frame-iterator) (λ f s. f ≡ c.in-Some.frame.now)
+          (IsReplaced c.next.new.self) _ _ _
+          c.loop-frame.invariant.2 c.in_ok-push_frame.ensures
+          (replaced-split c.loop-frame.frame-iterator _ c.next.new.self c.in-Some.ensures.steps),
     )
 
 pub returns : goal.returns
 returns c =
     let v = c.args.self.now in
-    gains-end v.before v.now (IsReplaced v.old_regions) (IsReplaced c.loop-frame.frame-iterator) _ _ c.loop-frame.invariant.2 (replaced-none c.loop-frame.frame-iterator c.in-None.ensures.steps.0)
+    gains-end v.before v.now (IsReplaced v.old_regions) (IsReplaced c.loop-frame.frame-iterator) _ _ c.loop-frame.invariant.2
+    (replaced-none c.loop-frame.frame-iterator c.in-None.ensures.steps.0)

@@ -23,11 +23,14 @@ loop-at-preserved c =
     let v = c.args.self.now in (
       tt,
       tt,
-      gains-step v.before v.now (IsKept v.regions v.old_slots) (IsKept v.regions c.loop-at.at-iterator) (IsAt v.regions c.in-Some.at.now) (IsKept v.regions c.next.new.self) _ _ _
-          c.loop-at.invariant.2 c.in_ok-push_at.ensures (kept-split v.regions c.loop-at.at-iterator _ c.next.new.self c.in-Some.ensures.steps),
+      gains-step v.before v.now (IsKept v.regions v.old_slots) (IsKept v.regions c.loop-at.at-iterator) (IsAt v.regions c.in-Some.at.now)
+          (IsKept v.regions c.next.new.self) _ _ _
+          c.loop-at.invariant.2 c.in_ok-push_at.ensures
+          (kept-split v.regions c.loop-at.at-iterator _ c.next.new.self c.in-Some.ensures.steps),
     )
 
 pub returns : goal.returns
 returns c =
     let v = c.args.self.now in
-    gains-end v.before v.now (IsKept v.regions v.old_slots) (IsKept v.regions c.loop-at.at-iterator) _ _ c.loop-at.invariant.2 (kept-none v.regions c.loop-at.at-iterator c.in-None.ensures.steps.0)
+    gains-end v.before v.now (IsKept v.regions v.old_slots) (IsKept v.regions c.loop-at.at-iterator) _ _ c.loop-at.invariant.2
+    (kept-none v.regions c.loop-at.at-iterator c.in-None.ensures.steps.0)

@@ -37,7 +37,8 @@ back-requires c =
     let some : 1 ≤ length ls = omega (arith, many, c.requires) in
     let len : c.len.result ≡ length ls = c.len.ensures ∙ c.self.inside.lives.ok.0 in
     let lt : c.len.result - 1 < length ls = omega (arith, len, some) in
-    let last : c.index-live.result.now ≡ get_or ls (length ls - 1) 0 = get_or_read ls (c.len.result - 1) c.index-live.result.now lt c.index-live.ensures 0 ∙ ap (λ k. get_or ls (k - 1) 0) len in
+    let last : c.index-live.result.now ≡ get_or ls (length ls - 1) 0 =
+    get_or_read ls (c.len.result - 1) c.index-live.result.now lt c.index-live.ensures 0 ∙ ap (λ k. get_or ls (k - 1) 0) len in
     let wide = states-length cs rs ls c.self.invariant.1 in
     omega (arith, wide.0, some)
 
@@ -51,7 +52,8 @@ back-requires-2 c =
     let some : 1 ≤ length ls = omega (arith, many, c.requires) in
     let len : c.len.result ≡ length ls = c.len.ensures ∙ c.self.inside.lives.ok.0 in
     let lt : c.len.result - 1 < length ls = omega (arith, len, some) in
-    let last : c.index-live.result.now ≡ get_or ls (length ls - 1) 0 = get_or_read ls (c.len.result - 1) c.index-live.result.now lt c.index-live.ensures 0 ∙ ap (λ k. get_or ls (k - 1) 0) len in
+    let last : c.index-live.result.now ≡ get_or ls (length ls - 1) 0 =
+    get_or_read ls (c.len.result - 1) c.index-live.result.now lt c.index-live.ensures 0 ∙ ap (λ k. get_or ls (k - 1) 0) len in
     let wide = states-length cs rs ls c.self.invariant.1 in
     omega (arith, wide.1, some)
 
@@ -65,7 +67,8 @@ overflow_sub-live c =
     let some : 1 ≤ length ls = omega (arith, many, c.requires) in
     let len : c.len.result ≡ length ls = c.len.ensures ∙ c.self.inside.lives.ok.0 in
     let lt : c.len.result - 1 < length ls = omega (arith, len, some) in
-    let last : c.index-live.result.now ≡ get_or ls (length ls - 1) 0 = get_or_read ls (c.len.result - 1) c.index-live.result.now lt c.index-live.ensures 0 ∙ ap (λ k. get_or ls (k - 1) 0) len in
+    let last : c.index-live.result.now ≡ get_or ls (length ls - 1) 0 =
+    get_or_read ls (c.len.result - 1) c.index-live.result.now lt c.index-live.ensures 0 ∙ ap (λ k. get_or ls (k - 1) 0) len in
     let wide = states-length cs rs ls c.self.invariant.1 in
     let top = top-at cs rs ls c.index-live.result.now c.self.invariant.1 some last in
     omega (arith, top.state.some)
@@ -80,10 +83,12 @@ get-self-inside-requires c =
     let some : 1 ≤ length ls = omega (arith, many, c.requires) in
     let len : c.len.result ≡ length ls = c.len.ensures ∙ c.self.inside.lives.ok.0 in
     let lt : c.len.result - 1 < length ls = omega (arith, len, some) in
-    let last : c.index-live.result.now ≡ get_or ls (length ls - 1) 0 = get_or_read ls (c.len.result - 1) c.index-live.result.now lt c.index-live.ensures 0 ∙ ap (λ k. get_or ls (k - 1) 0) len in
+    let last : c.index-live.result.now ≡ get_or ls (length ls - 1) 0 =
+    get_or_read ls (c.len.result - 1) c.index-live.result.now lt c.index-live.ensures 0 ∙ ap (λ k. get_or ls (k - 1) 0) len in
     let wide = states-length cs rs ls c.self.invariant.1 in
     let top = top-at cs rs ls c.index-live.result.now c.self.invariant.1 some last in
-    let b = backs-to (top_copy cs) c.back.new.self.now (top_copy rs) c.back-2.new.self.now c.index-live.result.now c.back.ensures.now c.back-2.ensures.now top.state in
+    let b = backs-to (top_copy cs) c.back.new.self.now (top_copy rs) c.back-2.new.self.now c.index-live.result.now c.back.ensures.now
+    c.back-2.ensures.now top.state in
     omega (arith, b.state.some, b.state.live)
 
 pub invariant_of-self : goal.invariant_of-self
@@ -96,10 +101,12 @@ invariant_of-self c =
     let some : 1 ≤ length ls = omega (arith, many, c.requires) in
     let len : c.len.result ≡ length ls = c.len.ensures ∙ c.self.inside.lives.ok.0 in
     let lt : c.len.result - 1 < length ls = omega (arith, len, some) in
-    let last : c.index-live.result.now ≡ get_or ls (length ls - 1) 0 = get_or_read ls (c.len.result - 1) c.index-live.result.now lt c.index-live.ensures 0 ∙ ap (λ k. get_or ls (k - 1) 0) len in
+    let last : c.index-live.result.now ≡ get_or ls (length ls - 1) 0 =
+    get_or_read ls (c.len.result - 1) c.index-live.result.now lt c.index-live.ensures 0 ∙ ap (λ k. get_or ls (k - 1) 0) len in
     let wide = states-length cs rs ls c.self.invariant.1 in
     let top = top-at cs rs ls c.index-live.result.now c.self.invariant.1 some last in
-    let b = backs-to (top_copy cs) c.back.new.self.now (top_copy rs) c.back-2.new.self.now c.index-live.result.now c.back.ensures.now c.back-2.ensures.now top.state in
+    let b = backs-to (top_copy cs) c.back.new.self.now (top_copy rs) c.back-2.new.self.now c.index-live.result.now c.back.ensures.now
+    c.back-2.ensures.now top.state in
     (b.state, rw (c.back.ensures.held, c.back-2.ensures.held) c.self.invariant.1, c.get-self-inside.ensures)
 
 pub returns-clause-now : goal.returns-clause-now
@@ -112,13 +119,16 @@ returns-clause-now c =
     let some : 1 ≤ length ls = omega (arith, many, c.requires) in
     let len : c.len.result ≡ length ls = c.len.ensures ∙ c.self.inside.lives.ok.0 in
     let lt : c.len.result - 1 < length ls = omega (arith, len, some) in
-    let last : c.index-live.result.now ≡ get_or ls (length ls - 1) 0 = get_or_read ls (c.len.result - 1) c.index-live.result.now lt c.index-live.ensures 0 ∙ ap (λ k. get_or ls (k - 1) 0) len in
+    let last : c.index-live.result.now ≡ get_or ls (length ls - 1) 0 =
+    get_or_read ls (c.len.result - 1) c.index-live.result.now lt c.index-live.ensures 0 ∙ ap (λ k. get_or ls (k - 1) 0) len in
     let wide = states-length cs rs ls c.self.invariant.1 in
     let top = top-at cs rs ls c.index-live.result.now c.self.invariant.1 some last in
-    let b = backs-to (top_copy cs) c.back.new.self.now (top_copy rs) c.back-2.new.self.now c.index-live.result.now c.back.ensures.now c.back-2.ensures.now top.state in
+    let b = backs-to (top_copy cs) c.back.new.self.now (top_copy rs) c.back-2.new.self.now c.index-live.result.now c.back.ensures.now
+    c.back-2.ensures.now top.state in
     b.frames ∙ (sym top.frames ∙ ap top_copy vh)
 
 pub returns-clause-held : goal.returns-clause-held
 returns-clause-held c =
-    let vh : copies_of c.self.inside.slots.held c.self.inside.regions.held c.self.inside.lives.items ≡ c.args.self.now.held = ap (λ (p : Stored). p.held) c.self.view_is in
+    let vh : copies_of c.self.inside.slots.held c.self.inside.regions.held c.self.inside.lives.items ≡ c.args.self.now.held =
+    ap (λ (p : Stored). p.held) c.self.view_is in
     rw (c.back.ensures.held, c.back-2.ensures.held) vh

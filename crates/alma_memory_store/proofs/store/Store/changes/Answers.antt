@@ -41,7 +41,8 @@ of-requires-clause-slots c =
     let some : 1 ≤ length ls = omega (arith, many, c.requires) in
     let len : c.len.result ≡ length ls = c.len.ensures ∙ c.self.inside.lives.ok.0 in
     let lt : c.len.result - 1 < length ls = omega (arith, len, some) in
-    let last : c.index-live.result.now ≡ get_or ls (length ls - 1) 0 = get_or_read ls (c.len.result - 1) c.index-live.result.now lt c.index-live.ensures 0 ∙ ap (λ k. get_or ls (k - 1) 0) len in
+    let last : c.index-live.result.now ≡ get_or ls (length ls - 1) 0 =
+    get_or_read ls (c.len.result - 1) c.index-live.result.now lt c.index-live.ensures 0 ∙ ap (λ k. get_or ls (k - 1) 0) len in
     let wide = states-length cs rs ls c.self.invariant.1 in
     let top = top-at cs rs ls c.index-live.result.now c.self.invariant.1 some last in
     omega (arith, wide.0, some)
@@ -56,7 +57,8 @@ of-requires-clause-regions c =
     let some : 1 ≤ length ls = omega (arith, many, c.requires) in
     let len : c.len.result ≡ length ls = c.len.ensures ∙ c.self.inside.lives.ok.0 in
     let lt : c.len.result - 1 < length ls = omega (arith, len, some) in
-    let last : c.index-live.result.now ≡ get_or ls (length ls - 1) 0 = get_or_read ls (c.len.result - 1) c.index-live.result.now lt c.index-live.ensures 0 ∙ ap (λ k. get_or ls (k - 1) 0) len in
+    let last : c.index-live.result.now ≡ get_or ls (length ls - 1) 0 =
+    get_or_read ls (c.len.result - 1) c.index-live.result.now lt c.index-live.ensures 0 ∙ ap (λ k. get_or ls (k - 1) 0) len in
     let wide = states-length cs rs ls c.self.invariant.1 in
     let top = top-at cs rs ls c.index-live.result.now c.self.invariant.1 some last in
     omega (arith, wide.1, some)
@@ -71,7 +73,8 @@ of-requires-clause-before c =
     let some : 1 ≤ length ls = omega (arith, many, c.requires) in
     let len : c.len.result ≡ length ls = c.len.ensures ∙ c.self.inside.lives.ok.0 in
     let lt : c.len.result - 1 < length ls = omega (arith, len, some) in
-    let last : c.index-live.result.now ≡ get_or ls (length ls - 1) 0 = get_or_read ls (c.len.result - 1) c.index-live.result.now lt c.index-live.ensures 0 ∙ ap (λ k. get_or ls (k - 1) 0) len in
+    let last : c.index-live.result.now ≡ get_or ls (length ls - 1) 0 =
+    get_or_read ls (c.len.result - 1) c.index-live.result.now lt c.index-live.ensures 0 ∙ ap (λ k. get_or ls (k - 1) 0) len in
     let wide = states-length cs rs ls c.self.invariant.1 in
     let top = top-at cs rs ls c.index-live.result.now c.self.invariant.1 some last in
     top.state
@@ -86,9 +89,12 @@ returns c =
     let some : 1 ≤ length ls = omega (arith, many, c.requires) in
     let len : c.len.result ≡ length ls = c.len.ensures ∙ c.self.inside.lives.ok.0 in
     let lt : c.len.result - 1 < length ls = omega (arith, len, some) in
-    let last : c.index-live.result.now ≡ get_or ls (length ls - 1) 0 = get_or_read ls (c.len.result - 1) c.index-live.result.now lt c.index-live.ensures 0 ∙ ap (λ k. get_or ls (k - 1) 0) len in
+    let last : c.index-live.result.now ≡ get_or ls (length ls - 1) 0 =
+    get_or_read ls (c.len.result - 1) c.index-live.result.now lt c.index-live.ensures 0 ∙ ap (λ k. get_or ls (k - 1) 0) len in
     let wide = states-length cs rs ls c.self.invariant.1 in
     let top = top-at cs rs ls c.index-live.result.now c.self.invariant.1 some last in
     let now : c.in_ok-past.past.now ≡ c.args.self.now.now = c.in_ok-past.ensures.now ∙ ap (λ (p : Stored). p.now) c.self.view_is in
-    let before : c.in_ok-past.past.before ≡ top_copy c.args.self.now.held = c.in_ok-past.ensures.before ∙ (sym top.frames ∙ ap top_copy vh) in
-    if-ok c.changes.result _ _ (λ found g. subst (λ b. SameGain (carry_of_entries found.items) (diffs b c.args.self.now.now)) before (subst (λ n. SameGain (carry_of_entries found.items) (diffs c.in_ok-past.past.before n)) now g)) c.changes.ensures
+    let before : c.in_ok-past.past.before ≡ top_copy c.args.self.now.held = c.in_ok-past.ensures.before
+    ∙ (sym top.frames ∙ ap top_copy vh) in
+    if-ok c.changes.result _ _ (λ found g. subst (λ b. SameGain (carry_of_entries found.items) (diffs b c.args.self.now.now)) before
+    (subst (λ n. SameGain (carry_of_entries found.items) (diffs c.in_ok-past.past.before n)) now g)) c.changes.ensures

@@ -5,4 +5,5 @@ use Rattle.alma_memory_store.proofs.Frames.{whole-frames}
 use Rattle.alma_memory_store.proofs.store.Store.has_number.Goals as goal
 
 pub returns-clause-whole : goal.returns-clause-whole
-returns-clause-whole c = subst (λ (p : Stored). AreWhole p.now) c.self.view_is (whole-frames c.self.inside.slots.now (take c.self.inside.live c.self.inside.regions.now))
+returns-clause-whole c = subst (λ (p : Stored). AreWhole p.now) c.self.view_is
+    (whole-frames c.self.inside.slots.now (take c.self.inside.live c.self.inside.regions.now))

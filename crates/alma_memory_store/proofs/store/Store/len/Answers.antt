@@ -25,4 +25,9 @@ returns-clause-live c =
     let vn : frames_of slots (take n regions) ≡ c.args.self.now.now = ap (λ (p : Stored). p.now) c.self.view_is in
     let wide : length (frames_of slots (take n regions)) ≡ n = live-length slots regions n s.live in
     let sum : live_cells (frames_of slots (take n regions)) ≡ declared_in (take n regions) = declared-frames slots (take n regions) in
-    subst AreLive vn (record { some = omega (arith, wide, s.some); few = omega (arith, wide, s.few); declared = omega (arith, sum, s.limit); whole = whole-frames slots (take n regions) })
+    subst AreLive vn (record {
+      some = omega (arith, wide, s.some);
+      few = omega (arith, wide, s.few);
+      declared = omega (arith, sum, s.limit);
+      whole = whole-frames slots (take n regions);
+    })

@@ -12,7 +12,8 @@ place_of-at-requires c =
     let regions = c.self.inside.regions.now in
     let n = c.self.inside.live in
     let vn : frames_of slots (take n regions) ≡ c.args.self.now.now = ap (λ (p : Stored). p.now) c.self.view_is in
-    let f = finds slots regions n c.args.frame c.args.slot c.get-region.result c.args.self.now.now c.self.invariant.0 vn c.requires.live c.requires.slot_of c.get-region.ensures in
+    let f = finds slots regions n c.args.frame c.args.slot c.get-region.result c.args.self.now.now c.self.invariant.0 vn c.requires.live
+    c.requires.slot_of c.get-region.ensures in
     omega (arith, f.inside, c.len.ensures)
 
 pub get-requires : goal.get-requires
@@ -21,7 +22,8 @@ get-requires c =
     let regions = c.self.inside.regions.now in
     let n = c.self.inside.live in
     let vn : frames_of slots (take n regions) ≡ c.args.self.now.now = ap (λ (p : Stored). p.now) c.self.view_is in
-    let f = finds slots regions n c.args.frame c.args.slot c.get-region.result c.args.self.now.now c.self.invariant.0 vn c.requires.live c.requires.slot_of c.get-region.ensures in
+    let f = finds slots regions n c.args.frame c.args.slot c.get-region.result c.args.self.now.now c.self.invariant.0 vn c.requires.live
+    c.requires.slot_of c.get-region.ensures in
     omega (arith, f.inside, c.place_of-at.ensures)
 
 pub returns : goal.returns
@@ -30,7 +32,10 @@ returns c =
     let regions = c.self.inside.regions.now in
     let n = c.self.inside.live in
     let vn : frames_of slots (take n regions) ≡ c.args.self.now.now = ap (λ (p : Stored). p.now) c.self.view_is in
-    let f = finds slots regions n c.args.frame c.args.slot c.get-region.result c.args.self.now.now c.self.invariant.0 vn c.requires.live c.requires.slot_of c.get-region.ensures in
-    let got : get_or slots c.place_of-at.result no_slot ≡ c.get.result = get_or_from_slice_get slots c.place_of-at.result c.get.result no_slot c.get.ensures in
-    let here : get_or slots (c.get-region.result.base + c.args.slot) no_slot ≡ c.get.result = ap (λ k. get_or slots k no_slot) (sym c.place_of-at.ensures) ∙ got in
+    let f = finds slots regions n c.args.frame c.args.slot c.get-region.result c.args.self.now.now c.self.invariant.0 vn c.requires.live
+    c.requires.slot_of c.get-region.ensures in
+    let got : get_or slots c.place_of-at.result no_slot ≡ c.get.result =
+    get_or_from_slice_get slots c.place_of-at.result c.get.result no_slot c.get.ensures in
+    let here : get_or slots (c.get-region.result.base + c.args.slot) no_slot ≡ c.get.result =
+    ap (λ k. get_or slots k no_slot) (sym c.place_of-at.ensures) ∙ got in
     sym (ap (λ (x : Slot). x.cell) here) ∙ f.read

@@ -8,7 +8,15 @@ use Rattle.alma_memory_store.proofs.store.Store.start.Goals as goal
 pub invariant_of-result : goal.invariant_of-result
 invariant_of-result c =
     let more : List Slot = c.args.of_start.now in
-    let r : Region = record { routine = 0; back = 0; declared = c.args.declared; total = c.args.declared; base = 0; slots = length c.args.of_start.now } in
+    let r : Region = record {
+      routine = 0;
+      back = 0;
+      declared = c.args.declared;
+      total = c.args.declared;
+      base = 0;
+      slots =
+          length c.args.of_start.now;
+    } in
     let regions : c.push.new.self.now ≡ r ∷ [] = c.in_ok-push.ensures.now ∙ ap (λ v. v ++ r ∷ []) c.new-regions.ensures.now in
     let e = starts c.lay.new.slots.now more c.push.new.self.now r c.in_ok-lay.ensures.all regions refl c.requires.limit refl refl in (
       e.state,
@@ -19,7 +27,15 @@ invariant_of-result c =
 pub returns-clause-now : goal.returns-clause-now
 returns-clause-now c =
     let more : List Slot = c.args.of_start.now in
-    let r : Region = record { routine = 0; back = 0; declared = c.args.declared; total = c.args.declared; base = 0; slots = length c.args.of_start.now } in
+    let r : Region = record {
+      routine = 0;
+      back = 0;
+      declared = c.args.declared;
+      total = c.args.declared;
+      base = 0;
+      slots =
+          length c.args.of_start.now;
+    } in
     let regions : c.push.new.self.now ≡ r ∷ [] = c.in_ok-push.ensures.now ∙ ap (λ v. v ++ r ∷ []) c.new-regions.ensures.now in
     let e = starts c.lay.new.slots.now more c.push.new.self.now r c.in_ok-lay.ensures.all regions refl c.requires.limit refl refl in
     e.frames

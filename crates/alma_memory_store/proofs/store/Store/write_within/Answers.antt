@@ -12,7 +12,8 @@ place_of-at-requires c =
     let regions = c.self.inside.regions.now in
     let n = c.self.inside.live in
     let vn : frames_of slots (take n regions) ≡ c.args.self.now.now = ap (λ (p : Stored). p.now) c.self.view_is in
-    let f = finds slots regions n c.args.frame c.args.slot c.get-region.result c.args.self.now.now c.self.invariant.0 vn c.requires.live c.requires.slot_of c.get-region.ensures in
+    let f = finds slots regions n c.args.frame c.args.slot c.get-region.result c.args.self.now.now c.self.invariant.0 vn c.requires.live
+    c.requires.slot_of c.get-region.ensures in
     omega (arith, f.inside, c.len.ensures)
 
 pub write_cell_within-requires : goal.write_cell_within-requires
@@ -21,7 +22,8 @@ write_cell_within-requires c =
     let regions = c.self.inside.regions.now in
     let n = c.self.inside.live in
     let vn : frames_of slots (take n regions) ≡ c.args.self.now.now = ap (λ (p : Stored). p.now) c.self.view_is in
-    let f = finds slots regions n c.args.frame c.args.slot c.get-region.result c.args.self.now.now c.self.invariant.0 vn c.requires.live c.requires.slot_of c.get-region.ensures in
+    let f = finds slots regions n c.args.frame c.args.slot c.get-region.result c.args.self.now.now c.self.invariant.0 vn c.requires.live
+    c.requires.slot_of c.get-region.ensures in
     omega (arith, f.inside, c.place_of-at.ensures)
 
 pub returns-clause-now : goal.returns-clause-now
@@ -30,7 +32,8 @@ returns-clause-now c =
     let regions = c.self.inside.regions.now in
     let n = c.self.inside.live in
     let vn : frames_of slots (take n regions) ≡ c.args.self.now.now = ap (λ (p : Stored). p.now) c.self.view_is in
-    let f = finds slots regions n c.args.frame c.args.slot c.get-region.result c.args.self.now.now c.self.invariant.0 vn c.requires.live c.requires.slot_of c.get-region.ensures in
+    let f = finds slots regions n c.args.frame c.args.slot c.get-region.result c.args.self.now.now c.self.invariant.0 vn c.requires.live
+    c.requires.slot_of c.get-region.ensures in
     let at = c.place_of-at.ensures in
     let e = c.write_cell_within.ensures.now in
     let x : Slot = record { kind = (get_or slots (c.get-region.result.base + c.args.slot) no_slot).kind; cell = c.args.cell } in

@@ -20,4 +20,5 @@ returns-else-count-eq0 c =
     let more : count ≡ suc (count - 1) = omega arith in
     let split = subst (IsSplit c.args.at code.lines) more c.lines_until-count.ensures in
     let last = get_or_from_slice_get code.lines (count - 1) c.line.result no_line c.line.ensures in
-    c.known_line.ensures ∙ ap known_line (ap (λ (x : Line). x.line) (sym last) ∙ sym (line_split c.args.at 0 0 (length code.instrs) code.lines (suc (count - 1)) c.keeps_object.ensures.records.lines split))
+    c.known_line.ensures ∙ ap known_line (ap (λ (x : Line). x.line) (sym last)
+    ∙ sym (line_split c.args.at 0 0 (length code.instrs) code.lines (suc (count - 1)) c.keeps_object.ensures.records.lines split))

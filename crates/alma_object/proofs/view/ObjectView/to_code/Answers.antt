@@ -6,5 +6,6 @@ pub returns-clause-counts : goal.returns-clause-counts
 returns-clause-counts c =
     let view = c.args.self.now in
     keeps_counts_of _ (code_of_view view) view.bytes.now
-    (code_same (code_of_view view) _ _ _ _ _ _ c.in_ok-copy_routines.ensures c.in_ok-copy_globals.ensures c.in_ok-copy_ranges.ensures c.in_ok-copy_texts.ensures c.in_ok-copy_instrs.ensures c.in_ok-copy_lines.ensures)
+    (code_same (code_of_view view) _ _ _ _ _ _ c.in_ok-copy_routines.ensures c.in_ok-copy_globals.ensures c.in_ok-copy_ranges.ensures
+    c.in_ok-copy_texts.ensures c.in_ok-copy_instrs.ensures c.in_ok-copy_lines.ensures)
     (is_object view.bytes.now view.header view.cells view.read view.within view.clean view.none view.whole)
