@@ -29,12 +29,15 @@ back_inside code now h =
     omega (arith, back_at code now h)
 
 -- it is the Call
-pub back_call : (code : PlainCode) (now : List PlainFrame) (h : CallsBack code now) → slice_get code.instrs ((last_frame now).back - 1) ≡ Some (I.Call h.routine h.first h.to)
+pub back_call : (code : PlainCode) (now : List PlainFrame) (h : CallsBack code now)
+    → slice_get code.instrs ((last_frame now).back - 1) ≡ Some (I.Call h.routine h.first h.to)
 back_call code now h = ap (slice_get code.instrs) (back_at code now h) ∙ h.call
 
 -- a Call's slot that is a number slot gets the number
-pub back_is : (o : Option Instr) (s : State) (r first to : ℕ) (v : ℤ) → o ≡ Some (I.Call r first to) → HasNumber s.now to → result_to o s v ≡ answers_return (with_slot s to (cell.Int v))
-back_is o s r first to v is h = ap (λ o. result_to o s v) is ∙ ap (λ o. to_number o s (λ _. answers_return (with_slot s to (cell.Int v)))) h.kind
+pub back_is : (o : Option Instr) (s : State) (r first to : ℕ) (v : ℤ) → o ≡ Some (I.Call r first to) → HasNumber s.now to
+    → result_to o s v ≡ answers_return (with_slot s to (cell.Int v))
+back_is o s r first to v is h = ap (λ o. result_to o s v) is
+    ∙ ap (λ o. to_number o s (λ _. answers_return (with_slot s to (cell.Int v)))) h.kind
 
 -- as many frames after a write
 pub same_frames : (now : List PlainFrame) (f n : ℕ) (c : Cell) → length (frames_with_cell now f n c) ≡ length now
@@ -47,6 +50,8 @@ one_less now = length-take-le (length now - 1) now (omega arith)
 pub ruleset backs = (back_some, back_inside, same_frames, one_less)
 
 -- what a word gives is returned, or ends the run
-pub gives_back : (now : List PlainFrame) (word : State → (ℤ → Stepped) → Stepped) (s : State) (o : Option Instr) (result : Result ℤ RunFault) → s.now ≡ now → Gives now word result → word s (λ v. result_to o (state_after_leave s) v) ≡ back_or_fault o s result
+pub gives_back : (now : List PlainFrame) (word : State → (ℤ → Stepped) → Stepped) (s : State) (o : Option Instr)
+    (result : Result ℤ RunFault) → s.now ≡ now → Gives now word result
+    → word s (λ v. result_to o (state_after_leave s) v) ≡ back_or_fault o s result
 gives_back now word s o (Ok v) same h = h s (λ v. result_to o (state_after_leave s) v) same
 gives_back now word s o (Err f) same h = h s (λ v. result_to o (state_after_leave s) v) same

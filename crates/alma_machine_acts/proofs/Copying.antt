@@ -1,5 +1,6 @@
 -- Copies of cells: all are read, and then laid down.
-use Rattle.std.proofs.Common.{◌≡◌, ℕ, zero, suc, ◌+◌, ◌<◌, ◌≤◌, Bool, true, false, ◌&&◌, List, [], ◌∷◌, ◌++◌, length, get_or, map, drop, refl, sym, ap, ◌∙◌, subst, arith}
+use Rattle.std.proofs.Common.{◌≡◌, ℕ, zero, suc, ◌+◌, ◌<◌, ◌≤◌, Bool, true, false, ◌&&◌, List, [], ◌∷◌, ◌++◌, length, get_or, map, drop}
+use Rattle.std.proofs.Common.{refl, sym, ap, ◌∙◌, subst, arith}
 use Rattle.std.specs.Prelude.{All}
 use Rattle.std.specs.List.{range_with_len}
 use Rattle.std.proofs.lemmas.List.{drop_more}
@@ -37,21 +38,25 @@ copied_from (suc n) a before s f i g j there =
     let t = with_cell s f i (cell_at before g (j + a) cell.Unknown) in
     if_both (number_at s.now f i) (number_at before g (j + a)) _ _ (gets_stuck s) (ap (number_at before g) (sym z) ∙ there 0 (omega arith))
     (ap (copies_cells n before t f (suc i) g) next
-    ∙ copied_from n (a + 1) before t f (suc i) g j (λ k lt. (let e : j + (a + 1 + k) ≡ j + (a + suc k) = omega arith in ap (number_at before g) e ∙ there (suc k) (omega arith))))
+    ∙ copied_from n (a + 1) before t f (suc i) g j
+    (λ k lt. (let e : j + (a + 1 + k) ≡ j + (a + suc k) = omega arith in ap (number_at before g) e ∙ there (suc k) (omega arith))))
 
 -- cells that are read and then laid down are copied
-pub copied_is : (n : ℕ) (before : List PlainFrame) (s : State) (f i g j : ℕ) → AreNumbers before g j n → copies_cells n before s f i g j ≡ laid (cells_from before g j n) s f i
+pub copied_is : (n : ℕ) (before : List PlainFrame) (s : State) (f i g j : ℕ) → AreNumbers before g j n
+    → copies_cells n before s f i g j ≡ laid (cells_from before g j n) s f i
 copied_is n before s f i g j numbers =
     let z : j ≡ j + 0 = omega arith in
     ap (copies_cells n before s f i g) z
-    ∙ copied_from n 0 before s f i g j (λ k lt. (let e : j + (0 + k) ≡ j + k = omega arith in ap (number_at before g) e ∙ number_there before g (j + k) (numbers.each k lt)))
+    ∙ copied_from n 0 before s f i g j (λ k lt.
+    (let e : j + (0 + k) ≡ j + k = omega arith in ap (number_at before g) e ∙ number_there before g (j + k) (numbers.each k lt)))
 
 -- they are contents
 pub contents_of : (now : List PlainFrame) (f i n : ℕ) → AreNumbers now f i n → All IsContent (cells_from now f i n)
 contents_of now f i n numbers =
     All-from_get_or IsContent (cells_from now f i n) cell.Unset
     (λ k lt. (let low : k < n = omega (arith, length-map-range_with_len (λ k. cell_at now f (i + k) cell.Unknown) 0 n) in
-    let there : get_or (cells_from now f i n) k cell.Unset ≡ cell_at now f (i + k) cell.Unknown = get_or-map-range_with_len (λ k. cell_at now f (i + k) cell.Unknown) 0 n k k cell.Unset low (omega arith) in
+    let there : get_or (cells_from now f i n) k cell.Unset ≡ cell_at now f (i + k) cell.Unknown =
+    get_or-map-range_with_len (λ k. cell_at now f (i + k) cell.Unknown) 0 n k k cell.Unset low (omega arith) in
     subst IsContent (sym there) (content_held now f (i + k) (cell_at now f (i + k) cell.Unknown) (numbers.each k low) refl)))
 
 -- as far as the first k cells are laid down
@@ -61,10 +66,12 @@ pub record Laid (cells : List Cell) (s t : State) (f i k : ℕ) : Type 0 where
   pub kept : GoesOn s t
 
 pub laid_none : (cells : List Cell) (s : State) (f i : ℕ) → Laid cells s s f i 0
-laid_none cells s f i = (let z : i ≡ i + 0 = omega arith in record { rest = ap (laid cells s f) z; numbers = λ f n h. h; kept = (refl, λ h. h, refl, refl) })
+laid_none cells s f i = (let z : i ≡ i + 0 = omega arith in
+    record { rest = ap (laid cells s f) z; numbers = λ f n h. h; kept = (refl, λ h. h, refl, refl) })
 
 -- one more
-pub laid_more : (cells : List Cell) (s t : State) (f i k : ℕ) (c : Cell) → k < length cells → c ≡ get_or cells k cell.Unknown → IsContent c → AreNumbers s.now f i (length cells) → Laid cells s t f i k
+pub laid_more : (cells : List Cell) (s t : State) (f i k : ℕ) (c : Cell) → k < length cells → c ≡ get_or cells k cell.Unknown → IsContent c
+    → AreNumbers s.now f i (length cells) → Laid cells s t f i k
     → Laid cells s (with_cell t f (i + k) c) f i (k + 1)
 laid_more cells s t f i k c lt is content numbers so =
     let here = so.numbers f (i + k) (numbers.each k lt) in
@@ -79,14 +86,18 @@ laid_more cells s t f i k c lt is content numbers so =
     }
 
 -- all
-pub laid_all : (cells : List Cell) (s t : State) (f i k : ℕ) → length cells ≤ k → Laid cells s t f i k → stepped answer.Went [] t ≡ laid cells s f i
+pub laid_all : (cells : List Cell) (s t : State) (f i k : ℕ) → length cells ≤ k → Laid cells s t f i k
+    → stepped answer.Went [] t ≡ laid cells s f i
 laid_all cells s t f i k le so = sym (so.rest ∙ ap (λ cs. laid cs t f (i + k)) (drop_of_length-le cells le))
 
 -- the cells that are read, one more
-pub read_more : (now : List PlainFrame) (f i k : ℕ) → cells_from now f i k ++ (cell_at now f (i + k) cell.Unknown ∷ []) ≡ cells_from now f i (k + 1)
-read_more now f i k = (let z : i + k ≡ i + (0 + k) = omega arith in ap (λ j. cells_from now f i k ++ (cell_at now f j cell.Unknown ∷ [])) z ∙ from 0 k)
+pub read_more : (now : List PlainFrame) (f i k : ℕ)
+    → cells_from now f i k ++ (cell_at now f (i + k) cell.Unknown ∷ []) ≡ cells_from now f i (k + 1)
+read_more now f i k = (let z : i + k ≡ i + (0 + k) = omega arith in ap (λ j. cells_from now f i k ++ (cell_at now f j cell.Unknown ∷ [])) z
+    ∙ from 0 k)
   where
-    from : (a k : ℕ) → map (λ j. cell_at now f (i + j) cell.Unknown) (range_with_len a k) ++ (cell_at now f (i + (a + k)) cell.Unknown ∷ []) ≡ map (λ j. cell_at now f (i + j) cell.Unknown) (range_with_len a (k + 1))
+    from : (a k : ℕ) → map (λ j. cell_at now f (i + j) cell.Unknown) (range_with_len a k)
+        ++ (cell_at now f (i + (a + k)) cell.Unknown ∷ []) ≡ map (λ j. cell_at now f (i + j) cell.Unknown) (range_with_len a (k + 1))
     from a zero = (let z : i + (a + 0) ≡ i + a = omega arith in ap (λ j. cell_at now f j cell.Unknown ∷ []) z)
     from a (suc k) =
         let one : suc (k + 1) ≡ suc k + 1 = omega arith in

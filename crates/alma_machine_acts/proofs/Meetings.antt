@@ -14,16 +14,19 @@ use Rattle.alma_code.specs.declared.step.Step.{Step}
 use Rattle.alma_code.specs.declared.step.Step.TheVariants as answer
 
 -- what a word gives another gives that is equal to it
-meets_as : (met : Met) (w w' : (State → Stepped) → Stepped) (new : State) → ((k : State → Stepped) → w' k ≡ w k) → Meets met w new → Meets met w' new
+meets_as : (met : Met) (w w' : (State → Stepped) → Stepped) (new : State) → ((k : State → Stepped) → w' k ≡ w k) → Meets met w new
+    → Meets met w' new
 meets_as Holds w w' new e h = λ k. e k ∙ h k
 meets_as (Ends step) w w' new e h = λ k. e k ∙ h k
 
-pub ok_meets : {E : Type 0} (r : Result Met E) (w w' : (State → Stepped) → Stepped) (new : State) → IfOk r (λ met. Meets met w new) → ((k : State → Stepped) → w' k ≡ w k) → IfOk r (λ met. Meets met w' new)
+pub ok_meets : {E : Type 0} (r : Result Met E) (w w' : (State → Stepped) → Stepped) (new : State) → IfOk r (λ met. Meets met w new)
+    → ((k : State → Stepped) → w' k ≡ w k) → IfOk r (λ met. Meets met w' new)
 ok_meets (Ok met) w w' new h e = meets_as met w w' new e h
 ok_meets (Err f) w w' new h e = tt
 
 -- where the first cell knows nothing it is given what the second knows
-pub equated_first : (s : State) (f i : ℕ) (r : Option Range) (g j : ℕ) (t : Option Range) (v : Option ℤ) (k : State → Stepped) → equation_of_contents s f i r None g j t v k ≡ given s f i r v k
+pub equated_first : (s : State) (f i : ℕ) (r : Option Range) (g j : ℕ) (t : Option Range) (v : Option ℤ) (k : State → Stepped)
+    → equation_of_contents s f i r None g j t v k ≡ given s f i r v k
 equated_first s f i r g j t None k = refl
 equated_first s f i r g j t (Some v) k = refl
 
@@ -33,7 +36,11 @@ cell_of old now f i n k h keeps lt = keeps f (i + k) (h.each k lt)
 
 -- the cells of a place
 pub numbers_of : (now : List PlainFrame) (l n : ℕ) (p : CellPlace) → IsCells now l p → n ≡ l → AreNumbers now p.frame p.slot n
-numbers_of now l n p h e = record { few = λ some. subst (λ m. p.slot + m < 2 ^ 32) (sym e) (h.few (omega arith)); each = λ k lt. h.each k (omega arith) }
+numbers_of now l n p h e = record {
+  few = λ some. subst (λ m. p.slot + m < 2 ^ 32) (sym e) (h.few (omega arith));
+  each =
+      λ k lt. h.each k (omega arith);
+}
 
 -- where one equation holds the rest follows
 pub equations_more : (n k : ℕ) (s t : State) (f i g j : ℕ) → k < n → Meets Holds (λ q. equation s f (i + k) None g (j + k) None q) t
@@ -49,7 +56,8 @@ equations_more n k s t f i g j lt holds =
     ∙ ap (λ x. equations m t f (i + (k + 1)) g x) b
 
 -- where one ends the run all do
-pub equations_end : (n k : ℕ) (s t : State) (step : Step) (f i g j : ℕ) → k < n → Meets (Ends step) (λ q. equation s f (i + k) None g (j + k) None q) t
+pub equations_end : (n k : ℕ) (s t : State) (step : Step) (f i g j : ℕ) → k < n
+    → Meets (Ends step) (λ q. equation s f (i + k) None g (j + k) None q) t
     → equations (n - k) s f (i + k) g (j + k) ≡ stepped step [] t
 equations_end n k s t step f i g j lt ends =
     let m = n - (k + 1) in
@@ -79,7 +87,8 @@ equated_none n s f i g j =
     }
 
 -- and the next one holds
-pub equated_more : (n k : ℕ) (s t u : State) (f i g j : ℕ) → k < n → Equated n s t f i g j k → Meets Holds (λ q. equation t f (i + k) None g (j + k) None q) u → KeepsNumbers t.now u.now → MeetsOn Holds t u
+pub equated_more : (n k : ℕ) (s t u : State) (f i g j : ℕ) → k < n → Equated n s t f i g j k
+    → Meets Holds (λ q. equation t f (i + k) None g (j + k) None q) u → KeepsNumbers t.now u.now → MeetsOn Holds t u
     → Equated n s u f i g j (k + 1)
 equated_more n k s t u f i g j lt e holds numbers kept = record {
   rest = e.rest ∙ equations_more n k t u f i g j lt holds;

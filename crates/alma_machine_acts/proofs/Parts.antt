@@ -24,7 +24,8 @@ width_is now n l is = ap place_length is
 
 -- a place slot has a kind
 pub place_there : (now : List PlainFrame) (n : ℕ) → HasPlace now n → n < length (last_frame now).kinds
-place_there now n h = let ks = (last_frame now).kinds in slice_get_within ks n (slot.Place (place_length (slice_get ks n))) (place_is (slice_get ks n) h.kind)
+place_there now n h = let ks = (last_frame now).kinds in
+    slice_get_within ks n (slot.Place (place_length (slice_get ks n))) (place_is (slice_get ks n) h.kind)
 
 -- a place slot is a slot
 pub place_is_slot : (now : List PlainFrame) (n : ℕ) → HasPlace now n → HasSlot now n
@@ -45,16 +46,20 @@ part_inside r v l e =
     omega (arith, mul-le-mul_right l le)
 
 -- a range that is there has room for its parts
-pub room_is : (rs : List Range) (n part all : ℕ) (r : Range) → n < length rs → r ≡ get_or rs n r → has_room (slice_get rs n) part all ≡ true → range_size r * part ≤ all
+pub room_is : (rs : List Range) (n part all : ℕ) (r : Range) → n < length rs → r ≡ get_or rs n r → has_room (slice_get rs n) part all ≡ true
+    → range_size r * part ≤ all
 room_is rs n part all r lt is room =
     leb-true (range_size r * part) all (sym (ap (λ o. has_room o part all) (slice_get-get_or rs n r lt ∙ ap Some (sym is))) ∙ room)
 
 -- a place goes into a place slot of its length
-pub put_place_is : (s : State) (n frame first l : ℕ) → slice_get (last_frame s.now).kinds n ≡ Some (slot.Place l) → put_place s n frame (λ _. first) ≡ quiet_step (with_slot s n (cell.Place (record { frame = frame; slot = first; len = l })))
-put_place_is s n frame first l is = ap (λ o. to_place o s (λ l. quiet_step (with_slot s n (cell.Place (record { frame = frame; slot = first; len = l }))))) is
+pub put_place_is : (s : State) (n frame first l : ℕ) → slice_get (last_frame s.now).kinds n ≡ Some (slot.Place l)
+    → put_place s n frame (λ _. first) ≡ quiet_step (with_slot s n (cell.Place (record { frame = frame; slot = first; len = l })))
+put_place_is s n frame first l is = ap (λ o. to_place o s
+    (λ l. quiet_step (with_slot s n (cell.Place (record { frame = frame; slot = first; len = l }))))) is
 
 -- a place whose first cell depends on the length of its slot
-pub put_place_at : (now : List PlainFrame) (s : State) (n frame l : ℕ) (first : ℕ → ℕ) → s.now ≡ now → slice_get (last_frame now).kinds n ≡ Some (slot.Place l) → put_place s n frame first ≡ put_place s n frame (λ _. first l)
+pub put_place_at : (now : List PlainFrame) (s : State) (n frame l : ℕ) (first : ℕ → ℕ) → s.now ≡ now
+    → slice_get (last_frame now).kinds n ≡ Some (slot.Place l) → put_place s n frame first ≡ put_place s n frame (λ _. first l)
 put_place_at now s n frame l first same is =
     let put = λ (g : ℕ → ℕ) (l : ℕ). quiet_step (with_slot s n (cell.Place (record { frame = frame; slot = g l; len = l }))) in
     let kind : slice_get (last_frame s.now).kinds n ≡ Some (slot.Place l) = ap (λ fs. slice_get (last_frame fs).kinds n) same ∙ is in

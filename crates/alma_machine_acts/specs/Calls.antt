@@ -1,5 +1,6 @@
 -- What calls need and give.
-use Rattle.std.specs.Prelude.{◌≡◌, ℕ, suc, ◌+◌, ◌^◌, ◌<◌, ◌≤◌, true, List, Option, None, length, get_or, Some, slice_get, ℤ, Result, Ok, Err, MatchResult}
+use Rattle.std.specs.Prelude.{◌≡◌, ℕ, suc, ◌+◌, ◌^◌, ◌<◌, ◌≤◌, true, List, Option, None, length, get_or, Some, slice_get, ℤ, Result, Ok}
+use Rattle.std.specs.Prelude.{Err, MatchResult}
 use Rattle.alma_base.specs.declared.fault.RunFault.{RunFault}
 use Rattle.alma_code.specs.declared.cell.Cell.{Cell}
 use Rattle.alma_code.specs.declared.cell.Cell.TheVariants as cell
@@ -11,7 +12,8 @@ use Rattle.alma_code.specs.declared.instr.Instr.{Instr}
 use Rattle.alma_code.specs.declared.instr.Instr.TheVariants as I
 use Rattle.alma_code.specs.Carries.{IsLive}
 use Rattle.alma_code.specs.Layout.{FitsParam, FitsParams, no_param}
-use Rattle.alma_code.specs.Machine.{State, Stepped, slot_of, as_argument, arguments, numbers_at, ends_in_fault, state_after_leave, result_to}
+use Rattle.alma_code.specs.Machine.{State, Stepped, slot_of, as_argument, arguments, numbers_at, ends_in_fault, state_after_leave}
+use Rattle.alma_code.specs.Machine.{result_to}
 use Rattle.alma_code.specs.Picture.{PlainFrame, last_frame, without_last}
 use Rattle.alma_code.specs.Plain.{PlainCode}
 use Rattle.alma_machine_acts.specs.Rows.{HasNumber}
@@ -62,8 +64,10 @@ GivesArgument now p n result = MatchResult result
 -- reading all arguments goes on with cells that fit their parameters, or ends in the fault
 abbrev pub GivesArguments : List PlainFrame → List CodeParam → (first : ℕ) → Option RunFault → List Cell → Type 0
 GivesArguments now params first None args =
-    FitsParams (IsLive now) (λ _. IsLive now) params args × ((s : State) (k : List Cell → Stepped) → s.now ≡ now → arguments params s first k ≡ k args)
-GivesArguments now params first (Some f) args = (s : State) (k : List Cell → Stepped) → s.now ≡ now → arguments params s first k ≡ ends_in_fault f s
+    FitsParams (IsLive now) (λ _. IsLive now) params args
+    × ((s : State) (k : List Cell → Stepped) → s.now ≡ now → arguments params s first k ≡ k args)
+GivesArguments now params first (Some f) args = (s : State) (k : List Cell → Stepped) → s.now ≡ now
+    → arguments params s first k ≡ ends_in_fault f s
 
 -- the top frame can return a number: it was called, and the caller has a slot for it
 pub record CallsBack (code : PlainCode) (now : List PlainFrame) : Type 0 where

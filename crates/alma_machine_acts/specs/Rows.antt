@@ -1,5 +1,6 @@
 -- What the parts of a step need and give.
-use Rattle.std.specs.Prelude.{◌≡◌, ◌+◌, ◌-◌, ◌^◌, ◌<◌, ◌≤◌, ◌||◌, ◌+ℤ◌, nat_eq, ℕ, ℤ, true, List, length, get_or, slice_get, Option, Some, None, Result, Ok, Err, MatchResult}
+use Rattle.std.specs.Prelude.{◌≡◌, ◌+◌, ◌-◌, ◌^◌, ◌<◌, ◌≤◌, ◌||◌, ◌+ℤ◌, nat_eq, ℕ, ℤ, true, List, length, get_or, slice_get, Option, Some}
+use Rattle.std.specs.Prelude.{None, Result, Ok, Err, MatchResult}
 use Rattle.alma_base.specs.Choice.{if_true}
 use Rattle.alma_base.specs.Numbers.{is_beyond}
 use Rattle.alma_base.specs.declared.fault.RunFault.{RunFault}
@@ -10,7 +11,8 @@ use Rattle.alma_code.specs.declared.cell.SlotKind.TheVariants as slot
 use Rattle.alma_code.specs.declared.step.Step.{Step}
 use Rattle.alma_code.specs.Fits.{IsContent}
 use Rattle.alma_code.specs.Kinds.{is_place, is_link}
-use Rattle.alma_code.specs.Machine.{Mode, Going, Failing, Ended, State, Stepped, number, place, content, link, mark, slot_in, as_place, put_number, put_place, put_link, ends_in_fault}
+use Rattle.alma_code.specs.Machine.{Mode, Going, Failing, Ended, State, Stepped, number, place, content, link, mark, slot_in, as_place}
+use Rattle.alma_code.specs.Machine.{put_number, put_place, put_link, ends_in_fault}
 use Rattle.alma_code.specs.Picture.{PlainFrame, no_frame, last_frame}
 use Rattle.alma_code.specs.Rules.{place_length}
 use Rattle.alma_memory.specs.Machine.{MachinePicture}

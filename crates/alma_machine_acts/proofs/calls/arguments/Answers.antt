@@ -6,14 +6,16 @@ pub returns-in-Err : goal.returns-in-Err
 returns-in-Err g c =
     let ps = (g.H.Head.head c.args.head.now).params in
     let lt : c.loop-i.i < length ps = omega (arith, c.loop-i-test.true, c.param_count-i-end.ensures) in
-    fails_at (g.M.MachineMemory.picture c.args.memory.now).now ps c.args.first c.loop-i.i c.param.result c.loop-i.args.items c.loop-i.args.items c.in-Err.fault lt c.param.ensures c.loop-i.invariant c.in-Err.ensures
+    fails_at (g.M.MachineMemory.picture c.args.memory.now).now ps c.args.first c.loop-i.i c.param.result c.loop-i.args.items
+    c.loop-i.args.items c.in-Err.fault lt c.param.ensures c.loop-i.invariant c.in-Err.ensures
 
 pub loop-i-preserved : goal.loop-i-preserved
 loop-i-preserved g c =
     let ps = (g.H.Head.head c.args.head.now).params in
     let now = (g.M.MachineMemory.picture c.args.memory.now).now in
     subst (λ xs. ReadSo now ps c.args.first (c.loop-i.i + 1) xs) (sym c.in_ok-push-in-Ok.ensures.items)
-    (reads_more now ps c.args.first c.loop-i.i c.param.result c.in-Ok.cell c.loop-i.args.items c.param.ensures c.loop-i.invariant c.in-Ok.ensures)
+    (reads_more now ps c.args.first c.loop-i.i c.param.result c.in-Ok.cell c.loop-i.args.items c.param.ensures c.loop-i.invariant
+    c.in-Ok.ensures)
 
 pub returns : goal.returns
 returns g c =

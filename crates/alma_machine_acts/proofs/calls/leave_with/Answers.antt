@@ -12,5 +12,6 @@ pub returns-clause-ok : goal.returns-clause-ok
 returns-clause-ok g c =
     let s = state_of g.M.MachineMemory.picture c.args.registers.now in
     let o = slice_get (g.V.CodeView.code c.args.view.now).instrs ((last_frame s.now).back - 1) in
-    ok_is c.give_back.result [] (state_of g.M.MachineMemory.picture c.give_back.new.registers) (back_or_fault o s c.number-number.result) (number s c.args.value (λ v. result_to o (state_after_leave s) v)) c.give_back.ensures.ok
+    ok_is c.give_back.result [] (state_of g.M.MachineMemory.picture c.give_back.new.registers) (back_or_fault o s c.number-number.result)
+    (number s c.args.value (λ v. result_to o (state_after_leave s) v)) c.give_back.ensures.ok
     (sym (gives_back s.now (λ s k. number s c.args.value k) s o c.number-number.result refl c.number-number.ensures))

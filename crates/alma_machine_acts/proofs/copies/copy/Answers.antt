@@ -10,11 +10,14 @@ lay-requires-clause-to g c =
     let f = c.args.to.frame in
     let i = c.args.to.slot in
     let many : length c.as_slice.result.now ≡ c.args.count = ap length (c.as_slice.ensures.value ∙ c.in_ok-cells.ensures)
-    ∙ length-map-range_with_len (λ k. cell_at (g.M.MachineMemory.picture c.args.registers.now.memory).now c.args.from.frame (c.args.from.slot + k) cell.Unknown) 0 c.args.count in
-    subst (λ n. AreNumbers (g.M.MachineMemory.picture c.reserve.new.self).now f i n) (sym many) (subst (λ now. AreNumbers now f i c.args.count) (sym c.reserve.ensures.now) c.requires.to)
+    ∙ length-map-range_with_len (λ k. cell_at (g.M.MachineMemory.picture c.args.registers.now.memory).now c.args.from.frame
+    (c.args.from.slot + k) cell.Unknown) 0 c.args.count in
+    subst (λ n. AreNumbers (g.M.MachineMemory.picture c.reserve.new.self).now f i n) (sym many)
+    (subst (λ now. AreNumbers now f i c.args.count) (sym c.reserve.ensures.now) c.requires.to)
 
 pub lay-requires-clause-room : goal.lay-requires-clause-room
 lay-requires-clause-room g c =
     let many : length c.as_slice.result.now ≡ c.args.count = ap length (c.as_slice.ensures.value ∙ c.in_ok-cells.ensures)
-    ∙ length-map-range_with_len (λ k. cell_at (g.M.MachineMemory.picture c.args.registers.now.memory).now c.args.from.frame (c.args.from.slot + k) cell.Unknown) 0 c.args.count in
+    ∙ length-map-range_with_len (λ k. cell_at (g.M.MachineMemory.picture c.args.registers.now.memory).now c.args.from.frame
+    (c.args.from.slot + k) cell.Unknown) 0 c.args.count in
     omega (arith, c.in_ok-reserve.ensures.trail_room)

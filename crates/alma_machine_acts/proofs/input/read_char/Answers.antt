@@ -18,4 +18,5 @@ returns-in-Ok-clause-ok g c =
 pub returns-in-Err-clause-ok : goal.returns-in-Err-clause-ok
 returns-in-Err-clause-ok g c =
     let s = state_of g.M.MachineMemory.picture c.args.registers.now in
-    c.end.ensures.step ∙ sym (c.in-Err.ensures s (λ p. position s (λ n. byte_or_failure s c.args.range.now p n (slice_get c.args.input.now n))) refl)
+    c.end.ensures.step ∙ sym (c.in-Err.ensures s
+    (λ p. position s (λ n. byte_or_failure s c.args.range.now p n (slice_get c.args.input.now n))) refl)

@@ -7,4 +7,5 @@ use Rattle.alma_machine_acts.proofs.input.read_number.Goals as goal
 pub returns-in-Err-clause-ok : goal.returns-in-Err-clause-ok
 returns-in-Err-clause-ok g c =
     let s = state_of g.M.MachineMemory.picture c.args.registers.now in
-    c.end.ensures.step ∙ sym (c.in-Err.ensures s (λ p. position s (λ n. takes_read s c.args.range.now p (number_from c.args.input.now n))) refl)
+    c.end.ensures.step ∙ sym (c.in-Err.ensures s (λ p. position s (λ n. takes_read s c.args.range.now p (number_from c.args.input.now n)))
+    refl)

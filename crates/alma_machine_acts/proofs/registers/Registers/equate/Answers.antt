@@ -14,5 +14,7 @@ returns-clause-ok g c =
     let j = c.args.right.slot in
     let t = c.args.right_range in
     let u = c.content-left_known.result in
-    ok_meets c.settle.result (λ k. equation_of_contents s f i r u b j t c.content-right_known.result k) (λ k. equation s f i r b j t k) (state_of g.M.MachineMemory.picture c.settle.new.self) c.settle.ensures.ok
-    (λ k. c.content-left_known.ensures s (λ u. content s b j (λ v. equation_of_contents s f i r u b j t v k)) refl ∙ c.content-right_known.ensures s (λ v. equation_of_contents s f i r u b j t v k) refl)
+    ok_meets c.settle.result (λ k. equation_of_contents s f i r u b j t c.content-right_known.result k) (λ k. equation s f i r b j t k)
+    (state_of g.M.MachineMemory.picture c.settle.new.self) c.settle.ensures.ok
+    (λ k. c.content-left_known.ensures s (λ u. content s b j (λ v. equation_of_contents s f i r u b j t v k)) refl
+    ∙ c.content-right_known.ensures s (λ v. equation_of_contents s f i r u b j t v k) refl)

@@ -34,7 +34,8 @@ loop-k-preserved g c =
     subst (λ met. Meets met (λ q. equation t f (i + k) None b (j + k) None q) u) c.in-Ok-Holds.field-0-is c.in-Ok-Holds.ensures.ok in
     let kept : MeetsOn Holds t u = subst (λ met. MeetsOn met t u) c.in-Ok-Holds.field-0-is c.in-Ok-Holds.ensures.kept in
     record {
-      equation_of_contents = equated_more c.args.count k s t u f i b j c.loop-k-test.true c.loop-k.invariant.equation_of_contents holds c.in-Ok-Holds.ensures.stays kept;
+      equation_of_contents = equated_more c.args.count k s t u f i b j c.loop-k-test.true c.loop-k.invariant.equation_of_contents holds
+          c.in-Ok-Holds.ensures.stays kept;
       room = omega (arith, c.loop-k.invariant.room, c.in-Ok-Holds.ensures.room);
       past = c.in-Ok-Holds.ensures.past ∙ c.loop-k.invariant.past;
     }

@@ -9,7 +9,9 @@ pub returns-in_err-number : goal.returns-in_err-number
 returns-in_err-number g c s same =
     let p = c.in_ok-place.place in
     let low = c.args.range.now.low in
-    let given = c.in_ok-place.ensures.1 s (λ a. number s c.args.index (λ v. range_check c.args.range.now fault.Index s v (λ _. put_place s c.args.to a.frame (λ l. a.slot + nat_abs (v -ℤ low) * l)))) same
+    let given = c.in_ok-place.ensures.1 s (λ a. number s c.args.index
+    (λ v. range_check c.args.range.now fault.Index s v (λ _. put_place s c.args.to a.frame (λ l. a.slot + nat_abs (v -ℤ low) * l))))
+    same
     ∙ c.in_err-number.ensures.number s (λ v. put_place s c.args.to p.frame (λ l. p.slot + nat_abs (v -ℤ low) * l)) same in
     search (rules, given)
 
@@ -20,7 +22,9 @@ returns g c s same =
     let low = c.args.range.now.low in
     let to = c.args.to in
     let before : c.cells_before-before.result ≡ nat_abs (n -ℤ low) * c.place_length-part.result = search rules in
-    c.in_ok-place.ensures.1 s (λ a. number s c.args.index (λ v. range_check c.args.range.now fault.Index s v (λ _. put_place s to a.frame (λ l. a.slot + nat_abs (v -ℤ low) * l)))) same
+    c.in_ok-place.ensures.1 s (λ a. number s c.args.index
+    (λ v. range_check c.args.range.now fault.Index s v (λ _. put_place s to a.frame (λ l. a.slot + nat_abs (v -ℤ low) * l)))) same
     ∙ c.in_ok-number.ensures.number s (λ v. put_place s to p.frame (λ l. p.slot + nat_abs (v -ℤ low) * l)) same
-    ∙ put_place_at (g.M.MachineMemory.picture c.args.self.now.memory).now s to p.frame c.place_length-part.result (λ l. p.slot + nat_abs (n -ℤ low) * l) same c.place_length-part.ensures
+    ∙ put_place_at (g.M.MachineMemory.picture c.args.self.now.memory).now s to p.frame c.place_length-part.result
+    (λ l. p.slot + nat_abs (n -ℤ low) * l) same c.place_length-part.ensures
     ∙ ap (λ before. put_place s to p.frame (λ _. p.slot + before)) (sym before)

@@ -10,5 +10,6 @@ returns-in-Some-None-clause-ok g c =
     let s = state_of g.M.MachineMemory.picture c.args.self.now in
     let a = c.args in
     ok_meets c.give.result (λ k. given s a.right.frame a.right.slot a.right_range a.left_known k)
-    (λ k. equation_of_contents s a.left.frame a.left.slot a.left_range a.left_known a.right.frame a.right.slot a.right_range a.right_known k)
+    (λ k. equation_of_contents s a.left.frame a.left.slot a.left_range a.left_known a.right.frame a.right.slot a.right_range a.right_known
+    k)
     (state_of g.M.MachineMemory.picture c.give.new.self) c.give.ensures.ok (λ k. rw (c.in-Some-None.is-0, c.in-Some-None.is-1) refl)
