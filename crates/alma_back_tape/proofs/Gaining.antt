@@ -1,6 +1,8 @@
 -- Lemmas on a body that is kept: the carry below it gains what differs, and the body is dropped.
-use Rattle.std.proofs.Common.{◌≡◌, ◌≤◌, ◌<◌, ◌+◌, ◌-◌, ◌++◌, ℕ, suc, zero, List, [], ◌∷◌, length, take, drop, get_or, set, reverse, refl, sym, subst, ap, ◌∙◌, arith}
-use Rattle.std.proofs.lemmas.List.{take-map, map-set, get_or-map, get_or-set_same, length-map, length-set, length_push, set-set, set-get_or, append-nil}
+use Rattle.std.proofs.Common.{◌≡◌, ◌≤◌, ◌<◌, ◌+◌, ◌-◌, ◌++◌, ℕ, suc, zero, List, [], ◌∷◌, length, take, drop, get_or, set, reverse, refl}
+use Rattle.std.proofs.Common.{sym, subst, ap, ◌∙◌, arith}
+use Rattle.std.proofs.lemmas.List.{take-map, map-set, get_or-map, get_or-set_same, length-map, length-set, length_push, set-set, set-get_or}
+use Rattle.std.proofs.lemmas.List.{append-nil}
 use Rattle.alma_base.specs.Carry.{Change, Carry, with_changes}
 use Rattle.alma_code.specs.declared.cell.Cell.{Cell}
 use Rattle.alma_code.specs.Picture.{PlainFrame, PlainEntry, no_entry as no_plain, top_of, entry_at}
@@ -15,7 +17,8 @@ use Rattle.alma_back_tape.specs.declared.change.Change.{Change as Made}
 use Rattle.alma_back_tape.specs.declared.change.Change.TheVariants.{Kept}
 use Rattle.alma_back_tape.specs.Inner.Gained.{Gained}
 use Rattle.alma_back_tape.specs.Inner.Keeping.{entry_with_changes, entries_with_changes, gained}
-use Rattle.alma_back_tape.specs.Inner.Reel.{Reel, entry_of, held_of, unwind, front, last_or, no_entry, no_gain, entries_without, without_gain}
+use Rattle.alma_back_tape.specs.Inner.Reel.{Reel, entry_of, held_of, unwind, front, last_or, no_entry, no_gain, entries_without}
+use Rattle.alma_back_tape.specs.Inner.Reel.{without_gain}
 use Rattle.alma_back_tape.specs.Inner.Past.{IsGood, Rises, all_finishes, finishes}
 use Rattle.alma_back_tape.proofs.Rooms.{same_reel}
 use Rattle.alma_back_tape.proofs.Winding.{Moves, moved, good_wound, front-push, last-push}

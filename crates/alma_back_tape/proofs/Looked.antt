@@ -1,5 +1,6 @@
 -- Lemmas on the places that are looked at: each place that differs from before some notes is among them.
-use Rattle.std.proofs.Common.{◌≡◌, ℕ, ◌≤◌, ◌<◌, ◌+◌, ◌-◌, Bool, true, false, List, [], ◌∷◌, ◌++◌, length, take, get_or, min, suc, zero, inl, inr, refl, sym, ap, ◌∙◌, arith}
+use Rattle.std.proofs.Common.{◌≡◌, ℕ, ◌≤◌, ◌<◌, ◌+◌, ◌-◌, Bool, true, false, List, [], ◌∷◌, ◌++◌, length, take, get_or, min, suc, zero, inl}
+use Rattle.std.proofs.Common.{inr, refl, sym, ap, ◌∙◌, arith}
 use Rattle.std.specs.Prelude.{◌⊎◌, ◌||◌, nat_lt, Some, None}
 use Rattle.std.proofs.lemmas.Bool.{ltb-true}
 use Rattle.std.proofs.lemmas.Bool.Decides.{nat_tests}
@@ -14,7 +15,8 @@ use Rattle.alma_memory_store.specs.Numbers.{number_of}
 use Rattle.alma_memory_store.specs.Past.{has_place, AllChanged, SameGain}
 use Rattle.alma_memory_store.proofs.Carrying.{same-place-is}
 use Rattle.alma_memory_store.proofs.Stores.{number-cell, number-frame}
-use Rattle.alma_memory_store.proofs.Gains.{has-left, has-right, all-append, all-diff, all-slots, has-diff, has-slots, parts, not-same, found-gain}
+use Rattle.alma_memory_store.proofs.Gains.{has-left, has-right, all-append, all-diff, all-slots, has-diff, has-slots, parts, not-same}
+use Rattle.alma_memory_store.proofs.Gains.{found-gain}
 use Rattle.alma_back_tape.specs.Inner.Earlier.{frames_with_old_cells, over, diffs_at, diffs_between}
 use Rattle.alma_back_tape.proofs.Pasts.{shared-length}
 use Rattle.alma_back_tape.proofs.Contents.{over-none, number-frames_with_old_cells, number-shared}

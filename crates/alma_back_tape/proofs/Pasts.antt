@@ -1,5 +1,6 @@
 -- Lemmas on the frames from before some notes: what one more note changes in them.
-use Rattle.std.proofs.Common.{◌≡◌, ℕ, ◌≤◌, ◌<◌, ◌+◌, ◌-◌, List, [], ◌∷◌, ◌++◌, length, take, set, get_or, suc, zero, true, false, refl, sym, ap, ◌∙◌, arith}
+use Rattle.std.proofs.Common.{◌≡◌, ℕ, ◌≤◌, ◌<◌, ◌+◌, ◌-◌, List, [], ◌∷◌, ◌++◌, length, take, set, get_or, suc, zero, true, false, refl, sym}
+use Rattle.std.proofs.Common.{ap, ◌∙◌, arith}
 use Rattle.std.proofs.lemmas.List.{get_or_read, length-append, length-set, length-take-le, set-set, append-nil, get_or-append_right}
 use Rattle.alma_base.specs.Carry.{Change, Carry, is_before, is_same_place, with_change}
 use Rattle.alma_base.specs.Choice.{if_true}

@@ -1,11 +1,14 @@
 -- Lemmas on the trail: notes that are added and undone leave each whole copy as it was.
 use Rattle.std.specs.Prelude.{Some, None, slice_get}
-use Rattle.std.proofs.Common.{◌≡◌, ℕ, ◌≤◌, ◌<◌, ◌+◌, ◌-◌, List, [], ◌∷◌, ◌++◌, length, take, drop, map, get_or, suc, zero, refl, sym, ap, ◌∙◌, arith}
-use Rattle.std.proofs.lemmas.List.{map-append, get_or_at, take_at, drop_all, take-map, length-take-le, length_push, length-set, get_or-set_same, drop-append-le, take-append-drop, append-nil, take-append-le}
+use Rattle.std.proofs.Common.{◌≡◌, ℕ, ◌≤◌, ◌<◌, ◌+◌, ◌-◌, List, [], ◌∷◌, ◌++◌, length, take, drop, map, get_or, suc, zero, refl, sym, ap}
+use Rattle.std.proofs.Common.{◌∙◌, arith}
+use Rattle.std.proofs.lemmas.List.{map-append, get_or_at, take_at, drop_all, take-map, length-take-le, length_push, length-set}
+use Rattle.std.proofs.lemmas.List.{get_or-set_same, drop-append-le, take-append-drop, append-nil, take-append-le}
 use Rattle.alma_code.specs.declared.cell.Cell.{Cell}
 use Rattle.alma_code.specs.declared.cell.ChoiceKind.{ChoiceKind}
 use Rattle.alma_code.specs.declared.cell.ChoiceKind.TheVariants.{Branch, Forall, Body, Done}
-use Rattle.alma_code.specs.Picture.{PlainFrame, PlainEntry, no_frame, no_entry, frame_with, frames_with_cell, top_of, kind_at, stack_after_pop, entry_after_pop, entry_of_kind_after_pop}
+use Rattle.alma_code.specs.Picture.{PlainFrame, PlainEntry, no_frame, no_entry, frame_with, frames_with_cell, top_of, kind_at}
+use Rattle.alma_code.specs.Picture.{stack_after_pop, entry_after_pop, entry_of_kind_after_pop}
 use Rattle.alma_memory_store.specs.declared.carry.SlotPlace.{SlotPlace}
 use Rattle.alma_memory_store.specs.Frames.{AreLive}
 use Rattle.alma_back_tape.specs.declared.change.Note.{Note}

@@ -1,6 +1,8 @@
 -- Changes, and what they leave to be taken back.
-use Rattle.std.proofs.Common.{◌≡◌, ◌≤◌, ◌<◌, ◌+◌, ◌-◌, ◌∙◌, ℕ, List, [], ◌∷◌, ◌++◌, length, take, drop, get_or, reverse, refl, sym, ap, subst, arith}
-use Rattle.std.proofs.lemmas.List.{length_push, get_or_at, take_at, reverse-append, map-append, drop_all, get_or-set_same, take_more, take_all}
+use Rattle.std.proofs.Common.{◌≡◌, ◌≤◌, ◌<◌, ◌+◌, ◌-◌, ◌∙◌, ℕ, List, [], ◌∷◌, ◌++◌, length, take, drop, get_or, reverse, refl, sym, ap}
+use Rattle.std.proofs.Common.{subst, arith}
+use Rattle.std.proofs.lemmas.List.{length_push, get_or_at, take_at, reverse-append, map-append, drop_all, get_or-set_same, take_more}
+use Rattle.std.proofs.lemmas.List.{take_all}
 use Rattle.alma_base.specs.Limits.{cell_limit, frame_limit}
 use Rattle.alma_code.specs.declared.cell.Cell.{Cell}
 use Rattle.alma_code.specs.declared.cell.Cell.TheVariants.{Unknown}
@@ -13,7 +15,8 @@ use Rattle.alma_back_tape.specs.declared.change.Note.TheVariants.{Wrote, Entered
 use Rattle.alma_back_tape.specs.declared.change.Entry.{Entry}
 use Rattle.alma_back_tape.specs.declared.change.Change.{Change}
 use Rattle.alma_back_tape.specs.declared.change.Change.TheVariants.{Began, Noted, Pushed, Undone, Dropped, Finished, Kept}
-use Rattle.alma_back_tape.specs.Inner.Reel.{Reel, scene_of, front, last_or, no_note, no_entry, before, past, flip, undo, unwind, held_of, entry_of}
+use Rattle.alma_back_tape.specs.Inner.Reel.{Reel, scene_of, front, last_or, no_note, no_entry, before, past, flip, undo, unwind, held_of}
+use Rattle.alma_back_tape.specs.Inner.Reel.{entry_of}
 use Rattle.alma_back_tape.specs.Inner.Past.{IsWound, CanBack, IsGood, Fits, Rises, Undoes}
 use Rattle.alma_back_tape.proofs.Lives.{undo-written, live-after-write, without-push, last-and-rest, live-push, whole-push, whole-take}
 use Rattle.alma_back_tape.proofs.Rooms.{same_reel}
