@@ -1,5 +1,6 @@
 -- Runs of the copying code machine, step after step.
-use Rattle.std.proofs.Common.{◌≡◌, ℕ, zero, suc, ◌+◌, ◌-◌, ◌<◌, ◌≤◌, List, [], ◌++◌, refl, sym, ap, ◌∙◌, subst, arith, append_assoc, zero-add}
+use Rattle.std.proofs.Common.{◌≡◌, ℕ, zero, suc, ◌+◌, ◌-◌, ◌<◌, ◌≤◌, List, [], ◌++◌, refl, sym, ap, ◌∙◌, subst, arith, append_assoc}
+use Rattle.std.proofs.Common.{zero-add}
 use Rattle.std.specs.Prelude.{Option, Result, Ok, Err, OnOk, OnErr, is_err, true, false}
 use Rattle.std.specs.Io.KnownBytes.{Appends}
 use Rattle.std.proofs.lemmas.List.{append-nil}
@@ -26,7 +27,8 @@ module _ (code : PlainCode) (input : List ℕ) where
       ap (λ k. after code input k s) e ∙ after_more n (step code input s).state
 
   -- its print comes last
-  pub prints_more : (n : ℕ) (s : State) → prints code input (n + 1) s ≡ prints code input n s ++ (step code input (after code input n s)).printed
+  pub prints_more : (n : ℕ) (s : State) → prints code input (n + 1) s ≡ prints code input n s
+      ++ (step code input (after code input n s)).printed
   prints_more zero s = append-nil (step code input s).printed
   prints_more (suc n) s =
       let e : suc n + 1 ≡ suc (n + 1) = omega arith in
@@ -51,7 +53,8 @@ module _ (code : PlainCode) (input : List ℕ) where
       ∙ sym (append_assoc (step code input s).printed (prints code input m next) (prints code input n (after code input m next)))
 
   -- the last print of steps after others
-  pub last_sum : (m n : ℕ) (s : State) (shown : List ℕ) → last_print code input (m + n) s shown ≡ last_print code input n (after code input m s) (last_print code input m s shown)
+  pub last_sum : (m n : ℕ) (s : State) (shown : List ℕ)
+      → last_print code input (m + n) s shown ≡ last_print code input n (after code input m s) (last_print code input m s shown)
   last_sum m zero s shown =
       let e : m + zero ≡ m = omega arith in
       ap (λ k. last_print code input k s shown) e
@@ -71,19 +74,24 @@ module _ (code : PlainCode) (input : List ℕ) where
   silent zero s e h = refl
   silent (suc n) s e h =
       let same : (step code input s).state ≡ s = ap (λ m. (step_in code input m s).state) h in
-      ap (λ m. (step_in code input m s).printed ++ prints code input n (step code input s).state) h ∙ ap (prints code input n) same ∙ silent n s e h
+      ap (λ m. (step_in code input m s).printed ++ prints code input n (step code input s).state) h ∙ ap (prints code input n) same
+      ∙ silent n s e h
 
   -- a machine that has ended within a budget is so at its end
-  pub ended_after : (m budget : ℕ) (s : State) (e : End) → m ≤ budget → (after code input m s).mode ≡ Ended e → after code input budget s ≡ after code input m s
+  pub ended_after : (m budget : ℕ) (s : State) (e : End) → m ≤ budget → (after code input m s).mode ≡ Ended e
+      → after code input budget s ≡ after code input m s
   ended_after m budget s e le h =
       let sum : budget ≡ m + (budget - m) = omega arith in
       ap (λ k. after code input k s) sum ∙ after_sum m (budget - m) s ∙ stays (budget - m) (after code input m s) e h
 
   -- and has printed all
-  pub ended_prints : (m budget : ℕ) (s : State) (e : End) → m ≤ budget → (after code input m s).mode ≡ Ended e → prints code input budget s ≡ prints code input m s
+  pub ended_prints : (m budget : ℕ) (s : State) (e : End) → m ≤ budget → (after code input m s).mode ≡ Ended e
+      → prints code input budget s ≡ prints code input m s
   ended_prints m budget s e le h =
       let sum : budget ≡ m + (budget - m) = omega arith in
-      ap (λ k. prints code input k s) sum ∙ prints_sum m (budget - m) s ∙ ap (λ bytes. prints code input m s ++ bytes) (silent (budget - m) (after code input m s) e h) ∙ append-nil (prints code input m s)
+      ap (λ k. prints code input k s) sum ∙ prints_sum m (budget - m) s
+      ∙ ap (λ bytes. prints code input m s ++ bytes) (silent (budget - m) (after code input m s) e h)
+      ∙ append-nil (prints code input m s)
 
 -- m steps were made from one moment to another
 pub record Progress (old new : MachineView) (m : ℕ) : Type 0 where
@@ -98,12 +106,15 @@ pub progress_none : (old : MachineView) → Progress old old 0
 progress_none old = record { state = refl; steps = omega arith; code = refl; input = refl; shown = refl }
 
 -- what a step of this machine is for the machine at first
-step_is : (old now : MachineView) (m : ℕ) → Progress old now m → step now.code now.input now.state ≡ step old.code old.input (after old.code old.input m old.state)
+step_is : (old now : MachineView) (m : ℕ) → Progress old now m
+    → step now.code now.input now.state ≡ step old.code old.input (after old.code old.input m old.state)
 step_is old now m h =
-    ap (λ code. step code now.input now.state) h.code ∙ ap (λ input. step old.code input now.state) h.input ∙ ap (step old.code old.input) h.state
+    ap (λ code. step code now.input now.state) h.code ∙ ap (λ input. step old.code input now.state) h.input
+    ∙ ap (step old.code old.input) h.state
 
 -- one more step was made
-pub progress_more : (old now new : MachineView) (m : ℕ) (a : Step) → Progress old now m → stepped a new.printed new.state ≡ step now.code now.input now.state
+pub progress_more : (old now new : MachineView) (m : ℕ) (a : Step) → Progress old now m
+    → stepped a new.printed new.state ≡ step now.code now.input now.state
     → new.state.steps ≡ now.state.steps + 1 → (new.code ≡ now.code) × (new.input ≡ now.input) → Progress old new (m + 1)
 progress_more old now new m a h done counted same = record {
   state = ap (λ x. x.state) (done ∙ step_is old now m h) ∙ sym (after_more old.code old.input m old.state);
@@ -116,10 +127,12 @@ progress_more old now new m a h done counted same = record {
 }
 
 -- what was printed with one more step
-pub prints_then : (old now new : MachineView) (m : ℕ) (a : Step) → Progress old now m → stepped a new.printed new.state ≡ step now.code now.input now.state
+pub prints_then : (old now new : MachineView) (m : ℕ) (a : Step) → Progress old now m
+    → stepped a new.printed new.state ≡ step now.code now.input now.state
     → prints old.code old.input (m + 1) old.state ≡ prints old.code old.input m old.state ++ new.printed
 prints_then old now new m a h done =
-    prints_more old.code old.input m old.state ∙ ap (λ bytes. prints old.code old.input m old.state ++ bytes) (sym (ap (λ x. x.printed) (done ∙ step_is old now m h)))
+    prints_more old.code old.input m old.state
+    ∙ ap (λ bytes. prints old.code old.input m old.state ++ bytes) (sym (ap (λ x. x.printed) (done ∙ step_is old now m h)))
 
 -- the steps that were made are counted
 pub made_is : (old new : MachineView) (m : ℕ) → Progress old new m → made old new ≡ m
@@ -161,7 +174,8 @@ on_ok (Ok done) P e h = h
 on_ok (Err fault) P e h = absurd (cc)
 
 -- the steps of a machine that only stopped are those that were made
-pub progress_stopped : (old new stopped : MachineView) (m : ℕ) → stopped.state ≡ new.state → stopped.code ≡ new.code → stopped.input ≡ new.input → stopped.printed ≡ new.printed
+pub progress_stopped : (old new stopped : MachineView) (m : ℕ) → stopped.state ≡ new.state → stopped.code ≡ new.code
+    → stopped.input ≡ new.input → stopped.printed ≡ new.printed
     → Progress old new m → Progress old stopped m
 progress_stopped old new stopped m state code input printed h = record {
   state = state ∙ h.state;
@@ -172,7 +186,8 @@ progress_stopped old new stopped m state code input printed h = record {
 }
 
 -- what a machine shows after the steps that were made, by their count
-pub shows : (old new : MachineView) (m : ℕ) → Progress old new m → new.printed ≡ last_print old.code old.input (made old new) old.state old.printed
+pub shows : (old new : MachineView) (m : ℕ) → Progress old new m
+    → new.printed ≡ last_print old.code old.input (made old new) old.state old.printed
 shows old new m h = h.shown ∙ ap (λ k. last_print old.code old.input k old.state old.printed) (sym (made_is old new m h))
 
 -- so says each answer but want of memory
@@ -208,7 +223,8 @@ pub record Finished (old new : MachineView) (m budget : ℕ) (e : End) : Type 0 
   pub printed : prints old.code old.input m old.state ≡ prints old.code old.input budget old.state
 
 -- so it has where its last step said so
-pub finished : (old now new : MachineView) (m budget : ℕ) (a : Step) (e : End) → Progress old now m → Progress old new (m + 1) → stepped a new.printed new.state ≡ step now.code now.input now.state
+pub finished : (old now new : MachineView) (m budget : ℕ) (a : Step) (e : End) → Progress old now m → Progress old new (m + 1)
+    → stepped a new.printed new.state ≡ step now.code now.input now.state
     → a ≡ answer.Done e → ModeAfter a new.state.mode → PrintsOnly a new.printed → m < budget → Finished old new m budget e
 finished old now new m budget a e h p done is mode quiet lt =
     let le : m + 1 ≤ budget = omega arith in

@@ -18,7 +18,8 @@ length_kinds low top [] h = rw h (omega arith)
 length_kinds low top (run ∷ runs) h =
     let rest : length (kinds_of run.end runs) + run.end ≡ top = length_kinds run.end top runs h.1 in
     let all : length (replicate (run.end - low) run.kind ++ kinds_of run.end runs) ≡ (run.end - low) + length (kinds_of run.end runs) =
-    length-append (replicate (run.end - low) run.kind) (kinds_of run.end runs) ∙ ap (λ n. n + length (kinds_of run.end runs)) (length-replicate (run.end - low) run.kind) in
+    length-append (replicate (run.end - low) run.kind) (kinds_of run.end runs)
+    ∙ ap (λ n. n + length (kinds_of run.end runs)) (length-replicate (run.end - low) run.kind) in
     omega (arith, h.0)
 
 -- a routine has few slots
@@ -26,7 +27,8 @@ pub few_kinds : (code : PlainCode) → IsSound code → (r : ℕ) → r < length
 few_kinds code sound r lt =
     let h = head_at code r in
     let named = list_all (λ run. names_routine code run.kind) h.runs in
-    let two = and_parts (nat_eq (last_end 0 h.runs) h.slots && (nat_le h.slots 8388608 && named)) (nat_le h.declared h.slots && nat_le h.declared 1048576) (sound.heads r lt).1 in
+    let two = and_parts (nat_eq (last_end 0 h.runs) h.slots && (nat_le h.slots 8388608 && named))
+    (nat_le h.declared h.slots && nat_le h.declared 1048576) (sound.heads r lt).1 in
     let parts = and_parts (nat_eq (last_end 0 h.runs) h.slots) (nat_le h.slots 8388608 && named) two.0 in
     let last = eqb-true (last_end 0 h.runs) h.slots parts.0 in
     let low = leb-true h.slots 8388608 (and_parts (nat_le h.slots 8388608) named parts.1).0 in
@@ -38,7 +40,8 @@ pub few_declared : (code : PlainCode) → IsSound code → (r : ℕ) → r < len
 few_declared code sound r lt =
     let h = head_at code r in
     let named = list_all (λ run. names_routine code run.kind) h.runs in
-    let two = and_parts (nat_eq (last_end 0 h.runs) h.slots && (nat_le h.slots 8388608 && named)) (nat_le h.declared h.slots && nat_le h.declared 1048576) (sound.heads r lt).1 in
+    let two = and_parts (nat_eq (last_end 0 h.runs) h.slots && (nat_le h.slots 8388608 && named))
+    (nat_le h.declared h.slots && nat_le h.declared 1048576) (sound.heads r lt).1 in
     leb-true h.declared 1048576 (and_parts (nat_le h.declared h.slots) (nat_le h.declared 1048576) two.1).1
 
 -- the module body has the slot of the input position
@@ -47,8 +50,10 @@ some_slots code sound =
     let h = head_at code 0 in
     let lt = sound.table.some in
     let named = list_all (λ run. names_routine code run.kind) h.runs in
-    let two = and_parts (nat_eq (last_end 0 h.runs) h.slots && (nat_le h.slots 8388608 && named)) (nat_le h.declared h.slots && nat_le h.declared 1048576) (sound.heads 0 lt).1 in
-    let last = eqb-true (last_end 0 h.runs) h.slots (and_parts (nat_eq (last_end 0 h.runs) h.slots) (nat_le h.slots 8388608 && named) two.0).0 in
+    let two = and_parts (nat_eq (last_end 0 h.runs) h.slots && (nat_le h.slots 8388608 && named))
+    (nat_le h.declared h.slots && nat_le h.declared 1048576) (sound.heads 0 lt).1 in
+    let last = eqb-true (last_end 0 h.runs) h.slots
+    (and_parts (nat_eq (last_end 0 h.runs) h.slots) (nat_le h.slots 8388608 && named) two.0).0 in
     let all = length_kinds 0 (last_end 0 h.runs) h.runs (sound.table.runs 0 lt) in
     let first = slice_get_within (kinds_at code 0) 0 slot.Number (first_number code sound) in
     omega arith

@@ -47,7 +47,8 @@ dashed_none code input s stands = record { state = refl; silent = refl; steps = 
 -- one more of them
 pub dashed_more : (code : PlainCode) (input : List ℕ) (m : ℕ) (old now new : State) → Dashed code input m old now
     → (new ≡ (step code input now).state) × ((step code input now).printed ≡ [])
-    → IsLive new.mode → new.steps ≡ now.steps + 1 → new.choices ≤ now.choices + 1 → new.fails ≤ now.fails + 1 → Dashed code input (m + 1) old new
+    → IsLive new.mode → new.steps ≡ now.steps + 1 → new.choices ≤ now.choices + 1 → new.fails ≤ now.fails + 1
+    → Dashed code input (m + 1) old new
 dashed_more code input m old now new h done live steps choices fails = record {
   state = done.0 ∙ ap (λ s. (step code input s).state) h.state ∙ sym (after_more code input m old);
   silent =
@@ -64,7 +65,8 @@ dashed_more code input m old now new h done live steps choices fails = record {
 }
 
 -- as many where a step was not made
-pub dashed_left : (code : PlainCode) (input : List ℕ) (m : ℕ) (old now new : State) → Dashed code input m old now → new ≡ now → Dashed code input m old new
+pub dashed_left : (code : PlainCode) (input : List ℕ) (m : ℕ) (old now new : State) → Dashed code input m old now → new ≡ now
+    → Dashed code input m old new
 dashed_left code input m old now new h same = subst (λ s. Dashed code input m old s) (sym same) h
 
 -- the last part of nothing is nothing
@@ -73,26 +75,31 @@ last_is_none [] ys h = h
 last_is_none (x ∷ xs) ys h = absurd (cc)
 
 -- what a machine shows after steps that printed nothing
-pub shown_after : (code : PlainCode) (input : List ℕ) (m : ℕ) (s : State) (old new : List ℕ) → prints code input m s ≡ [] → (m ≡ 0 → new ≡ old) → (1 ≤ m → new ≡ [])
+pub shown_after : (code : PlainCode) (input : List ℕ) (m : ℕ) (s : State) (old new : List ℕ) → prints code input m s ≡ []
+    → (m ≡ 0 → new ≡ old) → (1 ≤ m → new ≡ [])
     → new ≡ last_print code input m s old
 shown_after code input zero s old new silent none some = none refl
 shown_after code input (suc n) s old new silent none some =
     let one : suc n ≡ n + 1 = omega arith in
     let last : List ℕ = (step code input (after code input n s)).printed in
-    some (omega arith) ∙ sym (last_is_none (prints code input n s) last (sym (prints_more code input n s) ∙ ap (λ k. prints code input k s) (sym one) ∙ silent))
+    some (omega arith) ∙ sym (last_is_none (prints code input n s) last
+    (sym (prints_more code input n s) ∙ ap (λ k. prints code input k s) (sym one) ∙ silent))
 
 -- those steps come after others
 pub progress_dash : (old now new : MachineView) (m k : ℕ) → Progress old now m → new.state ≡ after now.code now.input k now.state
     → new.printed ≡ last_print now.code now.input k now.state now.printed → new.state.steps ≡ now.state.steps + k
     → (new.code ≡ now.code) × (new.input ≡ now.input) → Progress old new (m + k)
 progress_dash old now new m k h state shown steps same = record {
-  state = state ∙ ap (λ c. after c now.input k now.state) h.code ∙ ap (λ i. after old.code i k now.state) h.input ∙ ap (after old.code old.input k) h.state ∙ sym (after_sum old.code old.input m k old.state);
+  state = state ∙ ap (λ c. after c now.input k now.state) h.code ∙ ap (λ i. after old.code i k now.state) h.input
+      ∙ ap (after old.code old.input k) h.state ∙ sym (after_sum old.code old.input m k old.state);
   steps = omega (arith, steps, h.steps);
   code = same.0 ∙ h.code;
   input = same.1 ∙ h.input;
   shown =
-      shown ∙ ap (λ c. last_print c now.input k now.state now.printed) h.code ∙ ap (λ i. last_print old.code i k now.state now.printed) h.input
-      ∙ ap (λ s. last_print old.code old.input k s now.printed) h.state ∙ ap (last_print old.code old.input k (after old.code old.input m old.state)) h.shown
+      shown ∙ ap (λ c. last_print c now.input k now.state now.printed) h.code
+      ∙ ap (λ i. last_print old.code i k now.state now.printed) h.input
+      ∙ ap (λ s. last_print old.code old.input k s now.printed) h.state
+      ∙ ap (last_print old.code old.input k (after old.code old.input m old.state)) h.shown
       ∙ sym (last_sum old.code old.input m k old.state old.printed);
 }
 
@@ -101,5 +108,7 @@ pub prints_dash : (old now : MachineView) (m k : ℕ) → Progress old now m →
     → prints old.code old.input (m + k) old.state ≡ prints old.code old.input m old.state
 prints_dash old now m k h silent =
     let none : prints old.code old.input k (after old.code old.input m old.state) ≡ [] =
-    ap (prints old.code old.input k) (sym h.state) ∙ ap (λ i. prints old.code i k now.state) (sym h.input) ∙ ap (λ c. prints c now.input k now.state) (sym h.code) ∙ silent in
-    prints_sum old.code old.input m k old.state ∙ ap (λ bytes. prints old.code old.input m old.state ++ bytes) none ∙ append-nil (prints old.code old.input m old.state)
+    ap (prints old.code old.input k) (sym h.state) ∙ ap (λ i. prints old.code i k now.state) (sym h.input)
+    ∙ ap (λ c. prints c now.input k now.state) (sym h.code) ∙ silent in
+    prints_sum old.code old.input m k old.state ∙ ap (λ bytes. prints old.code old.input m old.state ++ bytes) none
+    ∙ append-nil (prints old.code old.input m old.state)

@@ -19,7 +19,8 @@ use Rattle.alma_code_laws.proofs.Acts.{number_word, place_word, mark_word, frame
 use Rattle.alma_code_laws.proofs.Links.{link_word}
 use Rattle.alma_code.proofs.Heads.{number_is}
 use Rattle.alma_machine_acts.specs.Inputs.{HasPosition}
-use Rattle.alma_machine_acts.specs.Rows.{HasNumber, HasNumberIn, HasCells, HasOneCell, HasPlace, HasMark, HasLink, HasLinkTo, HoldsCells, HoldsMark, HoldsPlace, IsCells, width}
+use Rattle.alma_machine_acts.specs.Rows.{HasNumber, HasNumberIn, HasCells, HasOneCell, HasPlace, HasMark, HasLink, HasLinkTo, HoldsCells}
+use Rattle.alma_machine_acts.specs.Rows.{HoldsMark, HoldsPlace, IsCells, width}
 use Rattle.alma_machine.proofs.Counting.{few_kinds}
 
 module _ (code : PlainCode) (sound : IsSound code) (r : ℕ) (s : State) (h : Ready code r s) where
@@ -69,7 +70,8 @@ module _ (code : PlainCode) (sound : IsSound code) (r : ℕ) (s : State) (h : Re
             let there = number_there code r s p.frame (p.slot + (l - 1)) h lf (fits.cells (l - 1) last) in
             let ff = h.frames.each p.frame lf in
             let all = few_kinds code sound (get_or s.now p.frame no_frame).routine ff.routine in
-            let same : length (get_or s.now p.frame no_frame).kinds ≡ length (kinds_at code (get_or s.now p.frame no_frame).routine) = ap length ff.kinds in
+            let same : length (get_or s.now p.frame no_frame).kinds ≡ length (kinds_at code (get_or s.now p.frame no_frame).routine) =
+            ap length ff.kinds in
             omega (arith, there.0);
         each = λ k lt. cell_has p.frame (p.slot + k) lf (fits.cells k (omega arith));
       }
@@ -162,9 +164,11 @@ module _ (code : PlainCode) (sound : IsSound code) (r : ℕ) (s : State) (h : Re
   pub position_there : slice_get (kinds_at code 0) 0 ≡ Some slot.Number → HasPosition s.now
   position_there first =
       let ff = h.frames.each 0 h.frames.some in
-      let ks : slice_get (get_or s.now 0 no_frame).kinds 0 ≡ Some slot.Number = ap (λ k. slice_get k 0) (ff.kinds ∙ ap (kinds_at code) (ff.main refl)) ∙ first in
+      let ks : slice_get (get_or s.now 0 no_frame).kinds 0 ≡ Some slot.Number =
+      ap (λ k. slice_get k 0) (ff.kinds ∙ ap (kinds_at code) (ff.main refl)) ∙ first in
       let lt : 0 < length (get_or s.now 0 no_frame).kinds = slice_get_within (get_or s.now 0 no_frame).kinds 0 slot.Number ks in
-      let got : get_or (get_or s.now 0 no_frame).kinds 0 slot.Mark ≡ slot.Number = get_or_from_slice_get (get_or s.now 0 no_frame).kinds 0 slot.Number slot.Mark ks in
+      let got : get_or (get_or s.now 0 no_frame).kinds 0 slot.Mark ≡ slot.Number =
+      get_or_from_slice_get (get_or s.now 0 no_frame).kinds 0 slot.Number slot.Mark ks in
       record {
         number = record {
           live = h.frames.some;

@@ -21,7 +21,8 @@ pub const_is : (r : InstrRecord) (a : ℕ) (v : ℤ) → instr_of_record r ≡ I
 const_is r a v is p q = is ∙ ap (λ x. I.Const x (value_of_record r)) (sym p) ∙ ap (I.Const a) (sym q)
 
 -- forms of one word, of two, three and four
-pub by_one : (form : ℕ → Instr) (r : InstrRecord) (a : ℕ) → instr_of_record r ≡ form (word_of_record r 1) → a ≡ word_of_record r 1 → instr_of_record r ≡ form a
+pub by_one : (form : ℕ → Instr) (r : InstrRecord) (a : ℕ) → instr_of_record r ≡ form (word_of_record r 1) → a ≡ word_of_record r 1
+    → instr_of_record r ≡ form a
 by_one form r a is p = is ∙ ap form (sym p)
 
 pub by_two : (form : ℕ → ℕ → Instr) (r : InstrRecord) (a b : ℕ) → instr_of_record r ≡ form (word_of_record r 1) (word_of_record r 5)
@@ -39,7 +40,8 @@ pub by_four : (form : ℕ → ℕ → ℕ → ℕ → Instr) (r : InstrRecord) (
 by_four form r a b c d is p q t u = by_three (λ x y z. form x y z (word_of_record r 13)) r a b c is p q t ∙ ap (form a b c) (sym u)
 
 -- what the record needs, its instruction needs
-pub needs_of : (code : PlainCode) (now : List PlainFrame) (r : InstrRecord) (i : Instr) → instr_of_record r ≡ i → Needs code now (instr_of_record r) → Needs code now i
+pub needs_of : (code : PlainCode) (now : List PlainFrame) (r : InstrRecord) (i : Instr) → instr_of_record r ≡ i
+    → Needs code now (instr_of_record r) → Needs code now i
 needs_of code now r i is h = subst (Needs code now) is h
 
 -- what its instruction does, the record does

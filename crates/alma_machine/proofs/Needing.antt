@@ -1,5 +1,6 @@
 -- What a sound code gives to each instruction.
-use Rattle.std.proofs.Common.{inl, inr, ◌≡◌, ℕ, zero, suc, ◌+◌, ◌-◌, ◌<◌, ◌≤◌, List, [], ◌∷◌, length, get_or, refl, sym, ap, ◌∙◌, subst, arith, Some}
+use Rattle.std.proofs.Common.{inl, inr, ◌≡◌, ℕ, zero, suc, ◌+◌, ◌-◌, ◌<◌, ◌≤◌, List, [], ◌∷◌, length, get_or, refl, sym, ap, ◌∙◌, subst}
+use Rattle.std.proofs.Common.{arith, Some}
 use Rattle.std.specs.Prelude.{slice_get, None, true, false, not, ◌&&◌, nat_eq, nat_le, nat_lt}
 use Rattle.std.specs.List.{list_all}
 use Rattle.std.proofs.lemmas.Bool.{and_parts, and_from, or_cases, not-true, eqb-true, leb-true, ltb-true, false≢true, cases_eq}
@@ -23,7 +24,9 @@ use Rattle.alma_code.specs.Machine.{Going, State, top, numbers_at, state_after_l
 use Rattle.alma_code.specs.Carries.{number_at}
 use Rattle.alma_code.specs.Picture.{PlainFrame, no_frame, last_frame}
 use Rattle.alma_code.specs.Plain.{PlainCode, head_at, kinds_at, start_at, end_at}
-use Rattle.alma_code.specs.Rules.{IsSound, is_main, is_global, last_end, names_routine, kind_in, length_in, link_in, names_slot, fit_arguments, fits_argument, is_free, has_position, has_room, can_call, holds_first, holds_result, rule_5, rule_6, rule_7, rule_10, rule_12}
+use Rattle.alma_code.specs.Rules.{IsSound, is_main, is_global, last_end, names_routine, kind_in, length_in, link_in, names_slot}
+use Rattle.alma_code.specs.Rules.{fit_arguments, fits_argument, is_free, has_position, has_room, can_call, holds_first, holds_result}
+use Rattle.alma_code.specs.Rules.{rule_5, rule_6, rule_7, rule_10, rule_12}
 use Rattle.alma_code_laws.proofs.Acts.{obeys}
 use Rattle.alma_code_laws.proofs.Runs.{first_number}
 use Rattle.alma_code.proofs.Tables.{end_inside}
@@ -38,7 +41,8 @@ use Rattle.alma_machine_acts.specs.Calls.{IsSpot, HoldsArgument, HasArgument, Ha
 use Rattle.alma_machine.specs.Needs.{Needs, Computes}
 use Rattle.alma_machine_acts.specs.Rows.{HasNumber, HasPlace, HasMark, width, HoldsPlace, LeadsTo}
 use Rattle.alma_machine.proofs.Counting.{few_kinds}
-use Rattle.alma_machine.proofs.Fitting.{number_has, below_of, cell_of, has_number, width_in, has_cells, has_one_cell, has_place, has_mark, holds_link, has_link, has_link_to, position_there}
+use Rattle.alma_machine.proofs.Fitting.{number_has, below_of, cell_of, has_number, width_in, has_cells, has_one_cell, has_place, has_mark}
+use Rattle.alma_machine.proofs.Fitting.{holds_link, has_link, has_link_to, position_there}
 
 -- a content is the argument of a parameter for numbers
 value_holds : (now : List PlainFrame) (n : ℕ) (c : Cell) → IsContent c → HoldsArgument now param.Value n c
@@ -61,8 +65,10 @@ head_is code sound c lt =
     let hd = head_at code c in
     let rules = sound.heads c lt in
     let named = list_all (λ run. names_routine code run.kind) hd.runs in
-    let two = and_parts (nat_eq (last_end 0 hd.runs) hd.slots && (nat_le hd.slots 8388608 && named)) (nat_le hd.declared hd.slots && nat_le hd.declared 1048576) rules.1 in
-    let last = eqb-true (last_end 0 hd.runs) hd.slots (and_parts (nat_eq (last_end 0 hd.runs) hd.slots) (nat_le hd.slots 8388608 && named) two.0).0 in
+    let two = and_parts (nat_eq (last_end 0 hd.runs) hd.slots && (nat_le hd.slots 8388608 && named))
+    (nat_le hd.declared hd.slots && nat_le hd.declared 1048576) rules.1 in
+    let last = eqb-true (last_end 0 hd.runs) hd.slots
+    (and_parts (nat_eq (last_end 0 hd.runs) hd.slots) (nat_le hd.slots 8388608 && named) two.0).0 in
     record {
       rise = subst (λ n. RunsRise 0 hd.runs n) last (sound.table.runs c lt);
       first = (and_parts (hold_params (kinds_at code c) hd.params 0) (has_position code c) rules.2).0;
@@ -72,12 +78,15 @@ module _ (code : PlainCode) (sound : IsSound code) (r : ℕ) (s : State) (h : Re
   -- ---- arguments
 
   -- number slots, one after another
-  numbers_are : (n f i : ℕ) → f < length s.now → ((k : ℕ) → k < n → IsCell code (routines_of s.now) f (i + k)) → numbers_at n s.now f i ≡ true
+  numbers_are : (n f i : ℕ) → f < length s.now → ((k : ℕ) → k < n → IsCell code (routines_of s.now) f (i + k))
+      → numbers_at n s.now f i ≡ true
   numbers_are zero f i lf c = refl
   numbers_are (suc n) f i lf c =
       let z : i + 0 ≡ i = omega arith in
-      and_from (number_at s.now f i) (numbers_at n s.now f (suc i)) (number_at_is code r s f i h lf (subst (λ m. IsCell code (routines_of s.now) f m) z (c 0 (omega arith))))
-      (numbers_are n f (suc i) lf (λ k lt. let x : i + suc k ≡ suc i + k = omega arith in subst (λ m. IsCell code (routines_of s.now) f m) x (c (suc k) (omega arith))))
+      and_from (number_at s.now f i) (numbers_at n s.now f (suc i))
+      (number_at_is code r s f i h lf (subst (λ m. IsCell code (routines_of s.now) f m) z (c 0 (omega arith))))
+      (numbers_are n f (suc i) lf (λ k lt. let x : i + suc k ≡ suc i + k = omega arith in
+      subst (λ m. IsCell code (routines_of s.now) f m) x (c (suc k) (omega arith))))
 
   -- a place that fits
   spot_of : (n : ℕ) (p : CellPlace) → p.len ≡ n → IsPlace code (routines_of s.now) (top s) p → IsSpot s.now n p
@@ -111,14 +120,19 @@ module _ (code : PlainCode) (sound : IsSound code) (r : ℕ) (s : State) (h : Re
   mix_place_holds n (cell.Mark m) f = absurd f
 
   link_holds : (n : ℕ) (c : Cell) → FitsSlot code (routines_of s.now) (top s) (slot.Link n) c → HoldsArgument s.now param.Link n c
-  link_holds n (cell.Place p) f = (f.slot, f.len, record { frame = omega (arith, h.frames.some, f.frame); cells = λ k lt. absurd (omega (arith, f.len)) })
+  link_holds n (cell.Place p) f = (
+    f.slot,
+    f.len,
+    record { frame = omega (arith, h.frames.some, f.frame); cells = λ k lt. absurd (omega (arith, f.len)) },
+  )
   link_holds n cell.Unset f = tt
   link_holds n cell.Unknown f = absurd f
   link_holds n (cell.Int v) f = absurd f
   link_holds n (cell.Mark m) f = absurd f
 
   -- a slot with a cell of a kind
-  given_by : (p : CodeParam) (i : ℕ) (kind : SlotKind) → kind_in code r i ≡ Some kind → ((c : Cell) → FitsSlot code (routines_of s.now) (top s) kind c → HoldsArgument s.now p.kind p.cells c) → HasArgument s.now p i
+  given_by : (p : CodeParam) (i : ℕ) (kind : SlotKind) → kind_in code r i ≡ Some kind
+      → ((c : Cell) → FitsSlot code (routines_of s.now) (top s) kind c → HoldsArgument s.now p.kind p.cells c) → HasArgument s.now p i
   given_by p i kind e holds =
       let has = has_slot code r s i kind h e in
       let lt = below_of code sound r s h i has.cell has.is in
@@ -132,15 +146,22 @@ module _ (code : PlainCode) (sound : IsSound code) (r : ℕ) (s : State) (h : Re
       }
 
   -- a slot that can be an argument holds one
-  one_argument : (kind : ParamKind) (n i : ℕ) → fits_argument code r kind n i ≡ true → HasArgument s.now (record { kind = kind; cells = n }) i
-  one_argument param.Value n i e = given_by (record { kind = param.Value; cells = n }) i slot.Number (number_is (kind_in code r i) e) (λ c f. value_holds s.now n c f)
-  one_argument param.Place n i e = given_by (record { kind = param.Place; cells = n }) i (slot.Place n) (place_of_is n (kind_in code r i) e) (λ c f. place_holds n c f)
-  one_argument param.Cells n i e = given_by (record { kind = param.Cells; cells = n }) i (slot.Place n) (place_of_is n (kind_in code r i) e) (λ c f. cells_holds n c f)
-  one_argument param.Link n i e = given_by (record { kind = param.Link; cells = n }) i (slot.Link n) (link_of_is n (kind_in code r i) e) (λ c f. link_holds n c f)
+  one_argument : (kind : ParamKind) (n i : ℕ) → fits_argument code r kind n i ≡ true
+      → HasArgument s.now (record { kind = kind; cells = n }) i
+  one_argument param.Value n i e = given_by (record { kind = param.Value; cells = n }) i slot.Number (number_is (kind_in code r i) e)
+      (λ c f. value_holds s.now n c f)
+  one_argument param.Place n i e = given_by (record { kind = param.Place; cells = n }) i (slot.Place n) (place_of_is n (kind_in code r i) e)
+      (λ c f. place_holds n c f)
+  one_argument param.Cells n i e = given_by (record { kind = param.Cells; cells = n }) i (slot.Place n) (place_of_is n (kind_in code r i) e)
+      (λ c f. cells_holds n c f)
+  one_argument param.Link n i e = given_by (record { kind = param.Link; cells = n }) i (slot.Link n) (link_of_is n (kind_in code r i) e)
+      (λ c f. link_holds n c f)
   one_argument param.Mix n i e =
       elim (or_cases (is_number (kind_in code r i)) (is_place_of 1 (kind_in code r i)) e) [
-        | inl a ↦ given_by (record { kind = param.Mix; cells = n }) i slot.Number (number_is (kind_in code r i) a) (λ c f. mix_holds s.now n c f)
-        | inr a ↦ given_by (record { kind = param.Mix; cells = n }) i (slot.Place 1) (place_of_is 1 (kind_in code r i) a) (λ c f. mix_place_holds n c f)
+        | inl a ↦ given_by (record { kind = param.Mix; cells = n }) i slot.Number (number_is (kind_in code r i) a)
+            (λ c f. mix_holds s.now n c f)
+        | inr a ↦ given_by (record { kind = param.Mix; cells = n }) i (slot.Place 1) (place_of_is 1 (kind_in code r i) a)
+            (λ c f. mix_place_holds n c f)
       ]
 
   -- slots that can be the arguments hold them
@@ -172,8 +193,10 @@ module _ (code : PlainCode) (sound : IsSound code) (r : ℕ) (s : State) (h : Re
   leads b c kind w e holds = λ p is.
       let q = link_in code r b in
       let has = has_slot code r s b (slot.Link q) h (link_word code r b w).1 in
-      let same : has.cell ≡ cell.Place p = sym (cell_of code sound r s h b has.cell has.is) ∙ cell_of code sound r s h b (cell.Place p) is in
-      let fits : IsLink code (routines_of s.now) (top s) q p = subst (λ x. FitsSlot code (routines_of s.now) (top s) (slot.Link q) x) same has.fits in
+      let same : has.cell ≡ cell.Place p = sym (cell_of code sound r s h b has.cell has.is)
+      ∙ cell_of code sound r s h b (cell.Place p) is in
+      let fits : IsLink code (routines_of s.now) (top s) q p =
+      subst (λ x. FitsSlot code (routines_of s.now) (top s) (slot.Link q) x) same has.fits in
       let lf : p.frame < length s.now = omega (arith, h.frames.some, fits.frame) in
       let fr = get_or s.now p.frame no_frame in
       let ff = h.frames.each p.frame lf in
@@ -184,15 +207,20 @@ module _ (code : PlainCode) (sound : IsSound code) (r : ℕ) (s : State) (h : Re
       record {
         live = lf;
         below = omega (arith, ff.full);
-        content = holds p.frame (get_or fr.cells c cell.Unset) (subst (λ k. FitsSlot code (routines_of s.now) p.frame k (get_or fr.cells c cell.Unset)) got (ff.cells c lt));
+        content = holds p.frame (get_or fr.cells c cell.Unset)
+            (subst (λ k. FitsSlot code (routines_of s.now) p.frame k (get_or fr.cells c cell.Unset)) got (ff.cells c lt));
       }
 
   -- a slot of a link that leads to a link slot, and to a place slot
-  leads_link : (a b c : ℕ) → names_slot code r (W.Link b) ≡ true → is_link_of (link_in code r a) (kind_in code (link_in code r b) c) ≡ true → LeadsTo s.now b c
-  leads_link a b c w e = leads b c (slot.Link (link_in code r a)) w (link_of_is (link_in code r a) (kind_in code (link_in code r b) c) e) (λ f x. holds_link code sound r s h f (link_in code r a) x)
+  leads_link : (a b c : ℕ) → names_slot code r (W.Link b) ≡ true → is_link_of (link_in code r a) (kind_in code (link_in code r b) c) ≡ true
+      → LeadsTo s.now b c
+  leads_link a b c w e = leads b c (slot.Link (link_in code r a)) w (link_of_is (link_in code r a) (kind_in code (link_in code r b) c) e)
+      (λ f x. holds_link code sound r s h f (link_in code r a) x)
 
-  leads_place : (a b c : ℕ) → names_slot code r (W.Link b) ≡ true → is_place_of (length_in code r a) (kind_in code (link_in code r b) c) ≡ true → LeadsTo s.now b c
-  leads_place a b c w e = leads b c (slot.Place (length_in code r a)) w (place_of_is (length_in code r a) (kind_in code (link_in code r b) c) e) (λ f x. holds_placed f (length_in code r a) x)
+  leads_place : (a b c : ℕ) → names_slot code r (W.Link b) ≡ true
+      → is_place_of (length_in code r a) (kind_in code (link_in code r b) c) ≡ true → LeadsTo s.now b c
+  leads_place a b c w e = leads b c (slot.Place (length_in code r a)) w
+      (place_of_is (length_in code r a) (kind_in code (link_in code r b) c) e) (λ f x. holds_placed f (length_in code r a) x)
 
   -- ---- returns with a number
 
@@ -201,7 +229,8 @@ module _ (code : PlainCode) (sound : IsSound code) (r : ℕ) (s : State) (h : Re
   main_has_no_result =
       let one = (sound.heads 0 sound.table.some).0 in
       let x = (and_parts (nat_lt (start_at code 0) (end_at code 0)) (is_main code 0) one).1 in
-      let y = (and_parts (nat_eq (length (head_at code 0).params) 0) (not (head_at code 0).has_result && list_all (is_global code) code.globals) x).1 in
+      let y = (and_parts (nat_eq (length (head_at code 0).params) 0)
+      (not (head_at code 0).has_result && list_all (is_global code) code.globals) x).1 in
       not-true (head_at code 0).has_result (and_parts (not (head_at code 0).has_result) (list_all (is_global code) code.globals) y).0
 
   -- a routine with a result was called, and its caller has a slot for that
@@ -210,15 +239,18 @@ module _ (code : PlainCode) (sound : IsSound code) (r : ℕ) (s : State) (h : Re
       let ff = h.frames.each (top s) (omega (arith, h.frames.some)) in
       let many : 1 ≤ top s =
       elim (cases_eq (top s) 0) [
-        | inl e ↦ let r0 : r ≡ 0 = sym h.routine ∙ ff.main e in absurd (false≢true (sym main_has_no_result ∙ ap (λ q. (head_at code q).has_result) (sym r0) ∙ has))
+        | inl e ↦ let r0 : r ≡ 0 = sym h.routine ∙ ff.main e in
+            absurd (false≢true (sym main_has_no_result ∙ ap (λ q. (head_at code q).has_result) (sym r0) ∙ has))
         | inr ne ↦ omega arith
       ] in
       let l = left_ready code r s h (omega arith) in
       let ret = l.called in
-      let rule = call_rule code sound l.caller ret.at (last_frame s.now).routine ret.first ret.to l.routine ret.low (omega (arith, ret.high, ret.behind)) ret.call in
+      let rule = call_rule code sound l.caller ret.at (last_frame s.now).routine ret.first ret.to l.routine ret.low
+      (omega (arith, ret.high, ret.behind)) ret.call in
       let holds = holds_of_call code sound l.caller ret.at (last_frame s.now).routine ret.first ret.to rule in
       let yes : (head_at code (last_frame s.now).routine).has_result ≡ true = ap (λ q. (head_at code q).has_result) h.routine ∙ has in
-      let both = and_parts (is_free code l.caller ret.to) (is_number (kind_in code l.caller ret.to)) (subst (λ b. holds_result code l.caller b ret.to ≡ true) yes holds) in
+      let both = and_parts (is_free code l.caller ret.to) (is_number (kind_in code l.caller ret.to))
+      (subst (λ b. holds_result code l.caller b ret.to ≡ true) yes holds) in
       record {
         some = omega arith;
         routine = (last_frame s.now).routine;
@@ -233,12 +265,14 @@ module _ (code : PlainCode) (sound : IsSound code) (r : ℕ) (s : State) (h : Re
   -- ---- the instructions
 
   -- three number slots
-  three : (i : Instr) (at a b c : ℕ) → words i ≡ four (W.Number a) (W.Number b) (W.Number c) W.Free → Obeys code r at i → HasNumber s.now a × HasNumber s.now b × HasNumber s.now c
+  three : (i : Instr) (at a b c : ℕ) → words i ≡ four (W.Number a) (W.Number b) (W.Number c) W.Free → Obeys code r at i → HasNumber s.now a
+      × HasNumber s.now b × HasNumber s.now c
   three i at a b c e o = let w = slots code r at i (W.Number a) (W.Number b) (W.Number c) W.Free e o in
       (has_number code sound r s h a w.0, has_number code sound r s h b w.1, has_number code sound r s h c w.2)
 
   -- two
-  two : (i : Instr) (at a b : ℕ) → words i ≡ four (W.Number a) (W.Number b) W.Free W.Free → Obeys code r at i → HasNumber s.now a × HasNumber s.now b
+  two : (i : Instr) (at a b : ℕ) → words i ≡ four (W.Number a) (W.Number b) W.Free W.Free → Obeys code r at i → HasNumber s.now a
+      × HasNumber s.now b
   two i at a b e o = let w = slots code r at i (W.Number a) (W.Number b) W.Free W.Free e o in
       (has_number code sound r s h a w.0, has_number code sound r s h b w.1)
 
@@ -269,8 +303,10 @@ module _ (code : PlainCode) (sound : IsSound code) (r : ℕ) (s : State) (h : Re
   needed (I.Less a b c) at f o = three (I.Less a b c) at a b c refl o
   needed (I.LessEq a b c) at f o = three (I.LessEq a b c) at a b c refl o
   needed (I.Flip a b) at f o = two (I.Flip a b) at a b refl o
-  needed (I.InRange a t) at f o =
-      (one (I.InRange a t) at a (W.Range t) refl o, ltb-true t (length code.ranges) (entries code r at (I.InRange a t) (W.Number a) (W.Range t) W.Free W.Free refl o).1)
+  needed (I.InRange a t) at f o = (
+    one (I.InRange a t) at a (W.Range t) refl o,
+    ltb-true t (length code.ranges) (entries code r at (I.InRange a t) (W.Number a) (W.Range t) W.Free W.Free refl o).1,
+  )
   needed (I.Local a b) at f o = point (I.Local a b) at a (W.Slot b) W.Free W.Free refl o
   needed (I.Global a b) at f o = point (I.Global a b) at a W.Free W.Free W.Free refl o
   needed (I.Same a b) at f o =
@@ -285,8 +321,13 @@ module _ (code : PlainCode) (sound : IsSound code) (r : ℕ) (s : State) (h : Re
       let w = slots code r at (I.Index a b c d) (W.Place a) (W.Place b) (W.Number c) (W.Range d) refl o in
       let e = entries code r at (I.Index a b c d) (W.Place a) (W.Place b) (W.Number c) (W.Range d) refl o in
       let part = ap (λ l. has_room (slice_get code.ranges d) l (width s.now b)) (width_in code sound r s h a w.0) in
-      let all = ap (λ l. has_room (slice_get code.ranges d) (length_in code r a) l) (width_in code sound r s h b w.1) in
-      (has_place code sound r s h a w.0, has_cells code sound r s h b w.1, has_number code sound r s h c w.2, ltb-true d (length code.ranges) e.3, part ∙ all ∙ o.r6)
+      let all = ap (λ l. has_room (slice_get code.ranges d) (length_in code r a) l) (width_in code sound r s h b w.1) in (
+        has_place code sound r s h a w.0,
+        has_cells code sound r s h b w.1,
+        has_number code sound r s h c w.2,
+        ltb-true d (length code.ranges) e.3,
+        part ∙ all ∙ o.r6,
+      )
   needed (I.Load a b) at f o =
       let w = slots code r at (I.Load a b) (W.Number a) (W.Place b) W.Free W.Free refl o in
       (has_number code sound r s h a w.0, has_one_cell code sound r s h b w.1 o.r7)
@@ -303,8 +344,12 @@ module _ (code : PlainCode) (sound : IsSound code) (r : ℕ) (s : State) (h : Re
   needed (I.Unify a b c d) at f o =
       let w = slots code r at (I.Unify a b c d) (W.Place a) (W.Range b) (W.Place c) (W.Range d) refl o in
       let e = entries code r at (I.Unify a b c d) (W.Place a) (W.Range b) (W.Place c) (W.Range d) refl o in
-      let ones = and_parts (nat_eq (length_in code r a) 1) (nat_eq (length_in code r c) 1) o.r7 in
-      (has_one_cell code sound r s h a w.0 ones.0, ltb-true b (length code.ranges) e.1, has_one_cell code sound r s h c w.2 ones.1, ltb-true d (length code.ranges) e.3)
+      let ones = and_parts (nat_eq (length_in code r a) 1) (nat_eq (length_in code r c) 1) o.r7 in (
+        has_one_cell code sound r s h a w.0 ones.0,
+        ltb-true b (length code.ranges) e.1,
+        has_one_cell code sound r s h c w.2 ones.1,
+        ltb-true d (length code.ranges) e.3,
+      )
   needed (I.SameCells a b) at f o =
       let w = slots code r at (I.SameCells a b) (W.Place a) (W.Place b) W.Free W.Free refl o in (
         has_cells code sound r s h a w.0,
@@ -326,8 +371,13 @@ module _ (code : PlainCode) (sound : IsSound code) (r : ℕ) (s : State) (h : Re
       let x = and_parts (nat_lt 0 c && nat_lt c (length code.routines)) (can_call code r at (head_at code c) first to) o.r10 in
       let lt = ltb-true c (length code.routines) (and_parts (nat_lt 0 c) (nat_lt c (length code.routines)) x.0).1 in
       let hd = head_at code c in
-      let y = (and_parts (fit_arguments code r hd.params first && holds_first hd.params first) (holds_result code r hd.has_result to && nat_lt (suc at) (end_at code r)) x.1).0 in
-      (lt, head_is code sound c lt, all_arguments hd.params first (and_parts (fit_arguments code r hd.params first) (holds_first hd.params first) y).0)
+      let y = (and_parts (fit_arguments code r hd.params first && holds_first hd.params first)
+      (holds_result code r hd.has_result to && nat_lt (suc at) (end_at code r)) x.1).0 in (
+        lt,
+        head_is code sound c lt,
+        all_arguments hd.params first
+            (and_parts (fit_arguments code r hd.params first) (holds_first hd.params first) y).0,
+      )
   needed I.Return at f o = h.frames.some
   needed (I.ReadInt a t) at f o =
       let w = slots code r at (I.ReadInt a t) (W.Place a) (W.Range t) W.Free W.Free refl o in
@@ -340,7 +390,8 @@ module _ (code : PlainCode) (sound : IsSound code) (r : ℕ) (s : State) (h : Re
   needed (I.WriteInt a) at f o = one (I.WriteInt a) at a W.Free refl o
   needed (I.WriteChar a) at f o = one (I.WriteChar a) at a W.Free refl o
   needed (I.WriteBool a) at f o = one (I.WriteBool a) at a W.Free refl o
-  needed (I.WriteText t) at f o = ltb-true t (length code.texts) (entries code r at (I.WriteText t) (W.Text t) W.Free W.Free W.Free refl o).0
+  needed (I.WriteText t) at f o = ltb-true t (length code.texts)
+      (entries code r at (I.WriteText t) (W.Text t) W.Free W.Free W.Free refl o).0
   needed I.WriteLine at f o = tt
   needed (I.Fault n) at f o = o.r12
   needed (I.Step a b c d) at f o =
@@ -365,7 +416,8 @@ module _ (code : PlainCode) (sound : IsSound code) (r : ℕ) (s : State) (h : Re
       )
 
 -- the same at the address of a state that fits
-pub needs_at : (code : PlainCode) (s : State) (t : State) (i : Instr) → IsSound code → Fits code s → s.mode ≡ Going → slice_get code.instrs s.at ≡ Some i → t.now ≡ s.now → Needs code t.now i
+pub needs_at : (code : PlainCode) (s : State) (t : State) (i : Instr) → IsSound code → Fits code s → s.mode ≡ Going
+    → slice_get code.instrs s.at ≡ Some i → t.now ≡ s.now → Needs code t.now i
 needs_at code s t i sound fits going is same =
     let r = (last_frame s.now).routine in
     let ff = fits.frames.each (length s.now - 1) (omega (arith, fits.frames.some)) in
@@ -375,7 +427,8 @@ needs_at code s t i sound fits going is same =
     let low = leb-true (start_at code r) s.at parts.0 in
     let high = ltb-true s.at (end_at code r) parts.1 in
     let got : get_or code.instrs s.at I.Fail ≡ i = get_or_from_slice_get code.instrs s.at i I.Fail is in
-    let o : Obeys code r s.at i = obeys code r s.at i (subst (λ j. instr_fault code r s.at j ≡ None) got (sound.instrs r s.at ff.routine low high)) in
+    let o : Obeys code r s.at i = obeys code r s.at i
+    (subst (λ j. instr_fault code r s.at j ≡ None) got (sound.instrs r s.at ff.routine low high)) in
     subst (λ fs. Needs code fs i) (sym same) (needed code sound r s ready i s.at (first_number code sound) o)
 
 -- a machine that goes on is at an instruction

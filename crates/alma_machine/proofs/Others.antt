@@ -3,10 +3,12 @@ use Rattle.std.proofs.Common.{◌≡◌, ℕ, ℤ, refl}
 use Rattle.std.specs.Prelude.{false}
 use Rattle.alma_code.specs.declared.instr.Instr.{Instr}
 use Rattle.alma_code.specs.declared.instr.Instr.TheVariants as I
-use Rattle.alma_machine.specs.Needs.{is_first_form, is_control_form, is_place_form, is_cell_form, is_choice_form, is_call_form, is_read_form, is_link_form}
+use Rattle.alma_machine.specs.Needs.{is_first_form, is_control_form, is_place_form, is_cell_form, is_choice_form, is_call_form}
+use Rattle.alma_machine.specs.Needs.{is_read_form, is_link_form}
 
 -- each instruction is of some form
-pub form_is_some : (i : Instr) → is_first_form i ≡ false → is_control_form i ≡ false → is_place_form i ≡ false → is_cell_form i ≡ false → is_choice_form i ≡ false → is_call_form i ≡ false → is_read_form i ≡ false → is_link_form i ≡ false → ⊥
+pub form_is_some : (i : Instr) → is_first_form i ≡ false → is_control_form i ≡ false → is_place_form i ≡ false → is_cell_form i ≡ false
+    → is_choice_form i ≡ false → is_call_form i ≡ false → is_read_form i ≡ false → is_link_form i ≡ false → ⊥
 unfolding is_first_form is_control_form is_place_form is_cell_form is_choice_form is_call_form is_read_form is_link_form
 form_is_some (I.Const a v) h h1 h2 h3 h4 h5 h6 h7 = absurd (cc)
 form_is_some (I.Move a b) h h1 h2 h3 h4 h5 h6 h7 = absurd (cc)
@@ -62,7 +64,12 @@ form_is_some (I.WriteText a) h h1 h2 h3 h4 h5 h6 h7 = absurd (cc)
 form_is_some I.WriteLine h h1 h2 h3 h4 h5 h6 h7 = absurd (cc)
 
 -- an instruction that does not print, and is none of numbers
-pub later_else : (i : Instr) → ((a : ℕ) → i ≡ I.WriteInt a → ⊥) → ((a : ℕ) → i ≡ I.WriteChar a → ⊥) → ((a : ℕ) → i ≡ I.WriteBool a → ⊥) → ((a : ℕ) → i ≡ I.WriteText a → ⊥) → (i ≡ I.WriteLine → ⊥) → ((a : ℕ) (v : ℤ) → i ≡ I.Const a v → ⊥) → ((a b : ℕ) → i ≡ I.Move a b → ⊥) → ((a b c : ℕ) → i ≡ I.Add a b c → ⊥) → ((a b c : ℕ) → i ≡ I.Sub a b c → ⊥) → ((a b c : ℕ) → i ≡ I.Mul a b c → ⊥) → ((a b c : ℕ) → i ≡ I.Div a b c → ⊥) → ((a b c : ℕ) → i ≡ I.Mod a b c → ⊥) → ((a b : ℕ) → i ≡ I.Neg a b → ⊥) → ((a b c : ℕ) → i ≡ I.Equal a b c → ⊥) → ((a b c : ℕ) → i ≡ I.Less a b c → ⊥) → ((a b c : ℕ) → i ≡ I.LessEq a b c → ⊥) → ((a b : ℕ) → i ≡ I.Flip a b → ⊥) → ((a b : ℕ) → i ≡ I.Load a b → ⊥) → ((a b : ℕ) → i ≡ I.Known a b → ⊥) → is_first_form i ≡ false
+pub later_else : (i : Instr) → ((a : ℕ) → i ≡ I.WriteInt a → ⊥) → ((a : ℕ) → i ≡ I.WriteChar a → ⊥) → ((a : ℕ) → i ≡ I.WriteBool a → ⊥)
+    → ((a : ℕ) → i ≡ I.WriteText a → ⊥) → (i ≡ I.WriteLine → ⊥) → ((a : ℕ) (v : ℤ) → i ≡ I.Const a v → ⊥) → ((a b : ℕ) → i ≡ I.Move a b → ⊥)
+    → ((a b c : ℕ) → i ≡ I.Add a b c → ⊥) → ((a b c : ℕ) → i ≡ I.Sub a b c → ⊥) → ((a b c : ℕ) → i ≡ I.Mul a b c → ⊥)
+    → ((a b c : ℕ) → i ≡ I.Div a b c → ⊥) → ((a b c : ℕ) → i ≡ I.Mod a b c → ⊥) → ((a b : ℕ) → i ≡ I.Neg a b → ⊥)
+    → ((a b c : ℕ) → i ≡ I.Equal a b c → ⊥) → ((a b c : ℕ) → i ≡ I.Less a b c → ⊥) → ((a b c : ℕ) → i ≡ I.LessEq a b c → ⊥)
+    → ((a b : ℕ) → i ≡ I.Flip a b → ⊥) → ((a b : ℕ) → i ≡ I.Load a b → ⊥) → ((a b : ℕ) → i ≡ I.Known a b → ⊥) → is_first_form i ≡ false
 unfolding is_first_form
 later_else (I.WriteInt a) not _ _ _ _ _ _ _ _ _ _ _ _ _ _ _ _ _ _ = absurd (not a refl)
 later_else (I.WriteChar a) _ not _ _ _ _ _ _ _ _ _ _ _ _ _ _ _ _ _ = absurd (not a refl)
@@ -86,7 +93,10 @@ later_else (I.Known a b) _ _ _ _ _ _ _ _ _ _ _ _ _ _ _ _ _ _ not = absurd (not a
 later_else i _ _ _ _ _ _ _ _ _ _ _ _ _ _ _ _ _ _ _ = refl
 
 -- an instruction of no form of a room
-pub control_else : (i : Instr) → ((value range : ℕ) → i ≡ I.InRange value range → ⊥) → ((to : ℕ) → i ≡ I.Jump to → ⊥) → ((value to : ℕ) → i ≡ I.JumpZero value to → ⊥) → ((value : ℕ) → i ≡ I.Check value → ⊥) → (i ≡ I.Fail → ⊥) → ((number : ℕ) → i ≡ I.Fault number → ⊥) → ((counter limit by out : ℕ) → i ≡ I.Step counter limit by out → ⊥) → is_control_form i ≡ false
+pub control_else : (i : Instr) → ((value range : ℕ) → i ≡ I.InRange value range → ⊥) → ((to : ℕ) → i ≡ I.Jump to → ⊥)
+    → ((value to : ℕ) → i ≡ I.JumpZero value to → ⊥) → ((value : ℕ) → i ≡ I.Check value → ⊥) → (i ≡ I.Fail → ⊥)
+    → ((number : ℕ) → i ≡ I.Fault number → ⊥) → ((counter limit by out : ℕ) → i ≡ I.Step counter limit by out → ⊥)
+    → is_control_form i ≡ false
 unfolding is_control_form
 control_else (I.InRange value range) not _ _ _ _ _ _ = absurd (not value range refl)
 control_else (I.Jump to) _ not _ _ _ _ _ = absurd (not to refl)
@@ -97,7 +107,9 @@ control_else (I.Fault number) _ _ _ _ _ not _ = absurd (not number refl)
 control_else (I.Step counter limit by out) _ _ _ _ _ _ not = absurd (not counter limit by out refl)
 control_else i _ _ _ _ _ _ _ = refl
 
-pub place_else : (i : Instr) → ((to first : ℕ) → i ≡ I.Local to first → ⊥) → ((to first : ℕ) → i ≡ I.Global to first → ⊥) → ((to from : ℕ) → i ≡ I.Same to from → ⊥) → ((to from offset : ℕ) → i ≡ I.Field to from offset → ⊥) → ((to from index range : ℕ) → i ≡ I.Index to from index range → ⊥) → is_place_form i ≡ false
+pub place_else : (i : Instr) → ((to first : ℕ) → i ≡ I.Local to first → ⊥) → ((to first : ℕ) → i ≡ I.Global to first → ⊥)
+    → ((to from : ℕ) → i ≡ I.Same to from → ⊥) → ((to from offset : ℕ) → i ≡ I.Field to from offset → ⊥)
+    → ((to from index range : ℕ) → i ≡ I.Index to from index range → ⊥) → is_place_form i ≡ false
 unfolding is_place_form
 place_else (I.Local to first) not _ _ _ _ = absurd (not to first refl)
 place_else (I.Global to first) _ not _ _ _ = absurd (not to first refl)
@@ -106,7 +118,9 @@ place_else (I.Field to from offset) _ _ _ not _ = absurd (not to from offset ref
 place_else (I.Index to from index range) _ _ _ _ not = absurd (not to from index range refl)
 place_else i _ _ _ _ _ = refl
 
-pub cell_else : (i : Instr) → ((to from : ℕ) → i ≡ I.Store to from → ⊥) → ((to value range : ℕ) → i ≡ I.Bind to value range → ⊥) → ((left first right second : ℕ) → i ≡ I.Unify left first right second → ⊥) → ((to from : ℕ) → i ≡ I.CopyCells to from → ⊥) → ((left right : ℕ) → i ≡ I.SameCells left right → ⊥) → is_cell_form i ≡ false
+pub cell_else : (i : Instr) → ((to from : ℕ) → i ≡ I.Store to from → ⊥) → ((to value range : ℕ) → i ≡ I.Bind to value range → ⊥)
+    → ((left first right second : ℕ) → i ≡ I.Unify left first right second → ⊥) → ((to from : ℕ) → i ≡ I.CopyCells to from → ⊥)
+    → ((left right : ℕ) → i ≡ I.SameCells left right → ⊥) → is_cell_form i ≡ false
 unfolding is_cell_form
 cell_else (I.Store to from) not _ _ _ _ = absurd (not to from refl)
 cell_else (I.Bind to value range) _ not _ _ _ = absurd (not to value range refl)
@@ -115,7 +129,10 @@ cell_else (I.CopyCells to from) _ _ _ not _ = absurd (not to from refl)
 cell_else (I.SameCells left right) _ _ _ _ not = absurd (not left right refl)
 cell_else i _ _ _ _ _ = refl
 
-pub choice_else : (i : Instr) → ((to : ℕ) → i ≡ I.Mark to → ⊥) → ((mark : ℕ) → i ≡ I.Cut mark → ⊥) → ((resume : ℕ) → i ≡ I.Choose resume → ⊥) → ((mark resume : ℕ) → i ≡ I.Forall mark resume → ⊥) → ((mark resume : ℕ) → i ≡ I.Overlay mark resume → ⊥) → ((mark : ℕ) → i ≡ I.Keep mark → ⊥) → (i ≡ I.Finish → ⊥) → is_choice_form i ≡ false
+pub choice_else : (i : Instr) → ((to : ℕ) → i ≡ I.Mark to → ⊥) → ((mark : ℕ) → i ≡ I.Cut mark → ⊥)
+    → ((resume : ℕ) → i ≡ I.Choose resume → ⊥) → ((mark resume : ℕ) → i ≡ I.Forall mark resume → ⊥)
+    → ((mark resume : ℕ) → i ≡ I.Overlay mark resume → ⊥) → ((mark : ℕ) → i ≡ I.Keep mark → ⊥) → (i ≡ I.Finish → ⊥)
+    → is_choice_form i ≡ false
 unfolding is_choice_form
 choice_else (I.Mark to) not _ _ _ _ _ _ = absurd (not to refl)
 choice_else (I.Cut mark) _ not _ _ _ _ _ = absurd (not mark refl)
@@ -126,20 +143,24 @@ choice_else (I.Keep mark) _ _ _ _ _ not _ = absurd (not mark refl)
 choice_else I.Finish _ _ _ _ _ _ not = absurd (not refl)
 choice_else i _ _ _ _ _ _ _ = refl
 
-pub call_else : (i : Instr) → ((routine first to : ℕ) → i ≡ I.Call routine first to → ⊥) → (i ≡ I.Return → ⊥) → ((value : ℕ) → i ≡ I.ReturnValue value → ⊥) → is_call_form i ≡ false
+pub call_else : (i : Instr) → ((routine first to : ℕ) → i ≡ I.Call routine first to → ⊥) → (i ≡ I.Return → ⊥)
+    → ((value : ℕ) → i ≡ I.ReturnValue value → ⊥) → is_call_form i ≡ false
 unfolding is_call_form
 call_else (I.Call routine first to) not _ _ = absurd (not routine first to refl)
 call_else I.Return _ not _ = absurd (not refl)
 call_else (I.ReturnValue value) _ _ not = absurd (not value refl)
 call_else i _ _ _ = refl
 
-pub read_else : (i : Instr) → ((place range : ℕ) → i ≡ I.ReadInt place range → ⊥) → ((place range : ℕ) → i ≡ I.ReadChar place range → ⊥) → is_read_form i ≡ false
+pub read_else : (i : Instr) → ((place range : ℕ) → i ≡ I.ReadInt place range → ⊥) → ((place range : ℕ) → i ≡ I.ReadChar place range → ⊥)
+    → is_read_form i ≡ false
 unfolding is_read_form
 read_else (I.ReadInt place range) not _ = absurd (not place range refl)
 read_else (I.ReadChar place range) _ not = absurd (not place range refl)
 read_else i _ _ = refl
 
-pub link_else : (i : Instr) → ((to : ℕ) → i ≡ I.Own to → ⊥) → ((to link slot : ℕ) → i ≡ I.Chain to link slot → ⊥) → ((to link first : ℕ) → i ≡ I.Outer to link first → ⊥) → ((to link slot : ℕ) → i ≡ I.OuterSame to link slot → ⊥) → is_link_form i ≡ false
+pub link_else : (i : Instr) → ((to : ℕ) → i ≡ I.Own to → ⊥) → ((to link slot : ℕ) → i ≡ I.Chain to link slot → ⊥)
+    → ((to link first : ℕ) → i ≡ I.Outer to link first → ⊥) → ((to link slot : ℕ) → i ≡ I.OuterSame to link slot → ⊥)
+    → is_link_form i ≡ false
 unfolding is_link_form
 link_else (I.Own to) not _ _ _ = absurd (not to refl)
 link_else (I.Chain to link slot) _ not _ _ = absurd (not to link slot refl)

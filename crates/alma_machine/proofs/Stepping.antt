@@ -22,7 +22,8 @@ pub inside : (code : PlainCode) (s : State) → Stands code s → s.mode ≡ Goi
 inside code s keeps going = in_code code s keeps.sound keeps.fits going
 
 -- which finds what it needs
-pub finds : (code : PlainCode) (s : State) (i : Instr) → Stands code s → s.mode ≡ Going → slice_get code.instrs s.at ≡ Some i → Needs code s.now i
+pub finds : (code : PlainCode) (s : State) (i : Instr) → Stands code s → s.mode ≡ Going → slice_get code.instrs s.at ≡ Some i
+    → Needs code s.now i
 finds code s i keeps going is =
     needs_at code s s i keeps.sound keeps.fits going is refl
 
@@ -32,7 +33,8 @@ pub step_fetched : (code : PlainCode) (input : List ℕ) (s : State) (i : Instr)
 step_fetched code input s i going is = sym (ap (λ m. step_in code input m s) going ∙ ap (λ o. fetch_and_act code input o s) is)
 
 -- a step whose instruction is done is that step of the copying code machine
-pub done_is : {E : Type 0} (result : Result Step E) (bytes : List ℕ) (new : State) (code : PlainCode) (input : List ℕ) (s : State) (i : Instr) → s.mode ≡ Going → slice_get code.instrs s.at ≡ Some i
+pub done_is : {E : Type 0} (result : Result Step E) (bytes : List ℕ) (new : State) (code : PlainCode) (input : List ℕ) (s : State)
+    (i : Instr) → s.mode ≡ Going → slice_get code.instrs s.at ≡ Some i
     → IfOk result (λ answer. stepped answer bytes new ≡ act code input i (record s { at = s.at + 1; last = s.at; steps = s.steps + 1 }))
     → IfOk result (λ answer. stepped answer bytes new ≡ step code input s)
 done_is (Ok answer) bytes new code input s i going is h = h ∙ step_fetched code input s i going is
@@ -41,7 +43,8 @@ done_is (Err fault) bytes new code input s i going is h = tt
 pub ruleset taken = (inside, finds)
 
 -- a step of a failing machine is a pop
-pub step_failing : (code : PlainCode) (input : List ℕ) (s : State) → s.mode ≡ Failing → step code input s ≡ pop (with_step_counted code input s)
+pub step_failing : (code : PlainCode) (input : List ℕ) (s : State) → s.mode ≡ Failing
+    → step code input s ≡ pop (with_step_counted code input s)
 step_failing code input s failing = ap (λ m. step_in code input m s) failing
 
 pub ruleset steps = (step_failing)
@@ -58,7 +61,8 @@ live_after (answer.Returned frames) m e h = h
 live_after answer.Printed m e h = h
 
 -- a machine keeps after a step what it must, where it goes on
-pub stands_after : {E : Type 0} (result : Result Step E) (code : PlainCode) (input : List ℕ) (old new : State) (bytes : List ℕ) → Stands code old
+pub stands_after : {E : Type 0} (result : Result Step E) (code : PlainCode) (input : List ℕ) (old new : State) (bytes : List ℕ)
+    → Stands code old
     → IfOk result (λ answer. stepped answer bytes new ≡ step code input old)
     → IfOk result (λ answer. ModeAfter answer new.mode)
     → OnOk result (new.steps ≡ old.steps + 1) → OnOk result (new.choices ≤ old.choices + 1) → OnOk result (new.fails ≤ old.fails + 1)
@@ -77,11 +81,13 @@ abbrev pub first_state : List PlainFrame → List PlainEntry → State
 first_state now held = record { at = 0; last = 0; mode = Going; now = now; held = held; steps = 0; choices = 0; fails = 0 }
 
 -- is the start
-pub first_is : (code : PlainCode) (now : List PlainFrame) (held : List PlainEntry) → now ≡ start_frame (head_at code 0) ∷ [] → held ≡ [] → first_state now held ≡ start code
+pub first_is : (code : PlainCode) (now : List PlainFrame) (held : List PlainEntry) → now ≡ start_frame (head_at code 0) ∷ [] → held ≡ []
+    → first_state now held ≡ start code
 first_is code now held a b = ap (λ x. first_state x held) a ∙ ap (λ y. first_state (start_frame (head_at code 0) ∷ []) y) b
 
 -- and keeps what it must
-pub stands_first : (code : PlainCode) (now : List PlainFrame) (held : List PlainEntry) → IsSound code → now ≡ start_frame (head_at code 0) ∷ [] → held ≡ [] → Stands code (first_state now held)
+pub stands_first : (code : PlainCode) (now : List PlainFrame) (held : List PlainEntry) → IsSound code
+    → now ≡ start_frame (head_at code 0) ∷ [] → held ≡ [] → Stands code (first_state now held)
 stands_first code now held sound a b = record {
   sound = sound;
   fits = subst (λ s. Fits code s) (sym (first_is code now held a b)) (start_fits code sound);

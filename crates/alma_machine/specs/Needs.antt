@@ -36,10 +36,12 @@ Needs code f (I.Global to first) = HasPlace f to
 Needs code f (I.Same to from) = HasPlace f to × HasCells f from
 Needs code f (I.Field to from offset) = HasPlace f to × HasCells f from × (offset ≤ width f from)
 Needs code f (I.Index to from index range) =
-    HasPlace f to × HasCells f from × HasNumber f index × (range < length code.ranges) × (has_room (slice_get code.ranges range) (width f to) (width f from) ≡ true)
+    HasPlace f to × HasCells f from × HasNumber f index × (range < length code.ranges)
+    × (has_room (slice_get code.ranges range) (width f to) (width f from) ≡ true)
 Needs code f (I.Store to from) = HasOneCell f to × HasNumber f from
 Needs code f (I.Bind to value range) = HasOneCell f to × HasNumber f value × (range < length code.ranges)
-Needs code f (I.Unify left first right second) = HasOneCell f left × (first < length code.ranges) × HasOneCell f right × (second < length code.ranges)
+Needs code f (I.Unify left first right second) = HasOneCell f left × (first < length code.ranges) × HasOneCell f right
+    × (second < length code.ranges)
 Needs code f (I.SameCells left right) = HasCells f left × HasCells f right × (width f left ≡ width f right)
 Needs code f (I.Jump to) = Unit {0}
 Needs code f (I.JumpZero value to) = HasNumber f value
@@ -52,7 +54,8 @@ Needs code f (I.Forall mark resume) = HasMark f mark
 Needs code f (I.Overlay mark resume) = HasMark f mark
 Needs code f (I.Keep mark) = HasMark f mark
 Needs code f I.Finish = Unit {0}
-Needs code f (I.Call routine first to) = (routine < length code.routines) × IsHead (head_at code routine) × HasArguments f (head_at code routine).params first
+Needs code f (I.Call routine first to) = (routine < length code.routines) × IsHead (head_at code routine)
+    × HasArguments f (head_at code routine).params first
 Needs code f I.Return = 1 ≤ length f
 Needs code f (I.ReturnValue value) = HasNumber f value × CallsBack code f
 Needs code f (I.ReadInt place range) = HasOneCell f place × (range < length code.ranges) × HasPosition f

@@ -312,8 +312,8 @@ fn act_calls<M: MachineMemory, V: CodeView>(
     ensures past { (M.picture registers.new.memory).past ≡ (M.picture registers.old.memory).past }
 {
     match instr {
-        Instr::Call { routine, first, .. } => match view.entry(routine) {
-            Some((head, start)) => call(registers, &head, routine, start, first),
+        Instr::Call { routine, first, .. } => match view.routine(routine) {
+            Some(head) => call(registers, &head, routine, view.start(routine), first),
             None => unreachable!(),
         },
         Instr::Return => leave(registers),

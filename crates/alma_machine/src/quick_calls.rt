@@ -158,8 +158,8 @@ pub(crate) fn call_quickly<V: CodeView>(
     ensures kept { KeepsLive (run_state registers.old) (run_state registers.new) }
 {
     match instr {
-        Instr::Call { routine, first, .. } => match view.entry(routine) {
-            Some((head, start)) => call_with(registers, &head, routine, start, first),
+        Instr::Call { routine, first, .. } => match view.routine(routine) {
+            Some(head) => call_with(registers, &head, routine, view.start(routine), first),
             None => false,
         },
         Instr::Return => leave_quickly(registers),

@@ -32,11 +32,15 @@ pub trait CodeView {
     fn text(&self, i: u32) -> Option<&[u8]>
         ensures { option_map (λ text. text.now) result ≡ slice_get (code self.now).texts i };
 
-    /// The head of a routine, and the address of its first instruction.
-    fn entry(&self, i: u32) -> Option<(Self::Routine, u32)>
-        ensures head { option_map (λ entry. Self.Routine.head entry.0) result ≡ slice_get (map
-            (λ r. r.head) (code self.now).routines) i }
-        ensures start { IfSome result (λ entry. entry.1 ≡ start_at (code self.now) i) };
+    /// The head of a routine.
+    fn routine(&self, i: u32) -> Option<Self::Routine>
+        ensures { option_map Self.Routine.head result ≡ slice_get (map
+            (λ r. r.head) (code self.now).routines) i };
+
+    /// The address of the first instruction of a routine.
+    fn start(&self, i: u32) -> u32
+        requires { i < length (code self.now).routines }
+        ensures { result ≡ start_at (code self.now) i };
 }
 
 impl<'b> CodeView for Verified<'b> {
@@ -72,11 +76,17 @@ impl<'b> CodeView for Verified<'b> {
     // The machine's loop keeps its view in registers of the processor, as long as nothing that is called knows where it is:
     // so a copy is looked at.
     #[inline(always)]
-    fn entry(&self, i: u32) -> Option<(RoutineView<'b>, u32)> {
+    fn routine(&self, i: u32) -> Option<RoutineView<'b>> {
+        let view = *self.view();
+        view.routine(i)
+    }
+
+    #[inline(always)]
+    fn start(&self, i: u32) -> u32 {
         let view = *self.view();
         match view.routine(i) {
-            Some(routine) => Some((routine, routine.code_start())),
-            None => None,
+            Some(routine) => routine.code_start(),
+            None => unreachable!(),
         }
     }
 }

@@ -28,7 +28,9 @@ returns-in-Some-clause-ok g c =
     let head = g.V.Routine.Head.head c.in-Some.head in
     let r = c.in-Call.routine in
     let first = c.in-Call.first in
-    ok_is c.call.result [] (state_of g.M.MachineMemory.picture c.call.new.registers) (arguments head.params s first (λ args. enters_routine s r c.start.result head args)) (act code c.args.input.now c.args.instr s) c.call.ensures.ok
+    ok_is c.call.result [] (state_of g.M.MachineMemory.picture c.call.new.registers)
+    (arguments head.params s first (λ args. enters_routine s r c.start.result head args)) (act code c.args.input.now c.args.instr s)
+    c.call.ensures.ok
     (ap (λ start. arguments head.params s first (λ args. enters_routine s r start head args)) c.start.ensures
     ∙ call_is code c.args.input.now r first c.in-Call.to s head c.in-Some.ensures
     ∙ sym (ap (λ i. act code c.args.input.now i s) c.in-Call.is))

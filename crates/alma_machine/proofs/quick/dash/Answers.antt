@@ -28,7 +28,8 @@ loop-made-preserved g c =
       within = omega (arith, c.loop-made-test.true);
       dashed = dashed_more code input c.loop-made.made old now new c.loop-made.invariant.dashed
           (is_made c.step_quickly.result now new (step code input now) made c.step_quickly.ensures.step) c.step_quickly.ensures.live
-          (is_counted c.step_quickly.result new.steps now.steps made c.step_quickly.ensures.counted) c.step_quickly.ensures.choices c.step_quickly.ensures.fails;
+          (is_counted c.step_quickly.result new.steps now.steps made c.step_quickly.ensures.counted) c.step_quickly.ensures.choices
+          c.step_quickly.ensures.fails;
     }
 
 pub returns-then-not-step_quickly-clause-state : goal.returns-then-not-step_quickly-clause-state
@@ -36,7 +37,8 @@ returns-then-not-step_quickly-clause-state g c =
     let code = g.V.CodeView.code c.args.view in
     let now = run_state c.loop-made.registers in
     let new = run_state c.step_quickly.new.registers in
-    let same = is_left c.step_quickly.result now new (step code c.args.input.now now) c.if-not-step_quickly.true c.step_quickly.ensures.step in
+    let same = is_left c.step_quickly.result now new (step code c.args.input.now now) c.if-not-step_quickly.true
+    c.step_quickly.ensures.step in
     (dashed_left code c.args.input.now c.loop-made.made (run_state c.args.registers.now) now new c.loop-made.invariant.dashed same).state
 
 pub returns-then-not-step_quickly-clause-silent : goal.returns-then-not-step_quickly-clause-silent
@@ -47,7 +49,8 @@ returns-then-not-step_quickly-clause-counted g c =
     let code = g.V.CodeView.code c.args.view in
     let now = run_state c.loop-made.registers in
     let new = run_state c.step_quickly.new.registers in
-    let same = is_left c.step_quickly.result now new (step code c.args.input.now now) c.if-not-step_quickly.true c.step_quickly.ensures.step in
+    let same = is_left c.step_quickly.result now new (step code c.args.input.now now) c.if-not-step_quickly.true
+    c.step_quickly.ensures.step in
     (dashed_left code c.args.input.now c.loop-made.made (run_state c.args.registers.now) now new c.loop-made.invariant.dashed same).steps
 
 pub returns-then-not-step_quickly-clause-stands : goal.returns-then-not-step_quickly-clause-stands
@@ -55,7 +58,8 @@ returns-then-not-step_quickly-clause-stands g c =
     let code = g.V.CodeView.code c.args.view in
     let now = run_state c.loop-made.registers in
     let new = run_state c.step_quickly.new.registers in
-    let same = is_left c.step_quickly.result now new (step code c.args.input.now now) c.if-not-step_quickly.true c.step_quickly.ensures.step in
+    let same = is_left c.step_quickly.result now new (step code c.args.input.now now) c.if-not-step_quickly.true
+    c.step_quickly.ensures.step in
     (dashed_left code c.args.input.now c.loop-made.made (run_state c.args.registers.now) now new c.loop-made.invariant.dashed same).stands
 
 pub returns-clause-few : goal.returns-clause-few

@@ -9,5 +9,6 @@ pub returns-then-made-gt0-clause-shown : goal.returns-then-made-gt0-clause-shown
 returns-then-made-gt0-clause-shown c =
     let inside = c.self.inside in
     subst (λ (m : MachineView). c.clear.new.self.items ≡ last_print m.code m.input c.dash-made.result m.state m.printed) c.self.view_is
-    (shown_after (code_of_verified inside.code) inside.input.now c.dash-made.result (run_state inside.registers) inside.printed.items c.clear.new.self.items c.dash-made.ensures.silent
+    (shown_after (code_of_verified inside.code) inside.input.now c.dash-made.result (run_state inside.registers) inside.printed.items
+    c.clear.new.self.items c.dash-made.ensures.silent
     (λ e. absurd (omega (arith, e, c.if-made-gt0.true))) (λ some. c.clear.ensures.items))

@@ -6,7 +6,8 @@ use Rattle.alma_code.specs.Machine.{State, after, prints}
 use Rattle.alma_machine.specs.Runs.{run_end_of, made}
 use Rattle.alma_machine.specs.View.{run_state, MachineView}
 use Rattle.alma_machine.proofs.Dashing.{progress_dash, prints_dash}
-use Rattle.alma_machine.proofs.Budget.{progress_more, progress_stopped, shows, shows_last, end_is_whole, prints_then, made_is, on_whole, finished, goes_unless, out_more, out_front, on_ok, on_err}
+use Rattle.alma_machine.proofs.Budget.{progress_more, progress_stopped, shows, shows_last, end_is_whole, prints_then, made_is, on_whole}
+use Rattle.alma_machine.proofs.Budget.{finished, goes_unless, out_more, out_front, on_ok, on_err}
 use Rattle.alma_verify.specs.Verified.{code_of_verified}
 use Rattle.alma_machine.proofs.machine.Machine.run.Goals as goal
 
@@ -16,10 +17,14 @@ returns-in-Done-clause-answer g c =
     let before = c.loop-made.invariant.progress in
     let d = c.dash-quick in
     let m = c.loop-made.made + d.result in
-    let now = progress_dash old c.loop-made.self d.new.self c.loop-made.made d.result before d.ensures.state d.ensures.shown d.ensures.counted d.ensures.same in
-    let p = progress_more old d.new.self c.step.new.self m c.in-Ok.step now c.in-Ok.ensures.step c.in-Ok.ensures.counted c.in-Ok.ensures.same in
-    let h = finished old d.new.self c.step.new.self m c.args.budget c.in-Ok.step c.in-Done.end now p c.in-Ok.ensures.step c.in-Done.is c.in-Ok.ensures.mode c.in-Ok.ensures.quiet c.if-made-budget.true in
-    on_whole c.from.result (c.from.result ≡ run_end_of (after old.code old.input c.args.budget old.state).mode) (c.from.ensures ∙ sym (ap run_end_of h.mode))
+    let now = progress_dash old c.loop-made.self d.new.self c.loop-made.made d.result before d.ensures.state d.ensures.shown
+    d.ensures.counted d.ensures.same in
+    let p = progress_more old d.new.self c.step.new.self m c.in-Ok.step now c.in-Ok.ensures.step c.in-Ok.ensures.counted
+    c.in-Ok.ensures.same in
+    let h = finished old d.new.self c.step.new.self m c.args.budget c.in-Ok.step c.in-Done.end now p c.in-Ok.ensures.step c.in-Done.is
+    c.in-Ok.ensures.mode c.in-Ok.ensures.quiet c.if-made-budget.true in
+    on_whole c.from.result (c.from.result ≡ run_end_of (after old.code old.input c.args.budget old.state).mode)
+    (c.from.ensures ∙ sym (ap run_end_of h.mode))
 
 pub returns-in-Done-clause-state : goal.returns-in-Done-clause-state
 returns-in-Done-clause-state g c =
@@ -27,9 +32,12 @@ returns-in-Done-clause-state g c =
     let before = c.loop-made.invariant.progress in
     let d = c.dash-quick in
     let m = c.loop-made.made + d.result in
-    let now = progress_dash old c.loop-made.self d.new.self c.loop-made.made d.result before d.ensures.state d.ensures.shown d.ensures.counted d.ensures.same in
-    let p = progress_more old d.new.self c.step.new.self m c.in-Ok.step now c.in-Ok.ensures.step c.in-Ok.ensures.counted c.in-Ok.ensures.same in
-    let h = finished old d.new.self c.step.new.self m c.args.budget c.in-Ok.step c.in-Done.end now p c.in-Ok.ensures.step c.in-Done.is c.in-Ok.ensures.mode c.in-Ok.ensures.quiet c.if-made-budget.true in
+    let now = progress_dash old c.loop-made.self d.new.self c.loop-made.made d.result before d.ensures.state d.ensures.shown
+    d.ensures.counted d.ensures.same in
+    let p = progress_more old d.new.self c.step.new.self m c.in-Ok.step now c.in-Ok.ensures.step c.in-Ok.ensures.counted
+    c.in-Ok.ensures.same in
+    let h = finished old d.new.self c.step.new.self m c.args.budget c.in-Ok.step c.in-Done.end now p c.in-Ok.ensures.step c.in-Done.is
+    c.in-Ok.ensures.mode c.in-Ok.ensures.quiet c.if-made-budget.true in
     on_whole c.from.result (c.step.new.self.state ≡ after old.code old.input c.args.budget old.state) h.state
 
 pub returns-in-Done-clause-out : goal.returns-in-Done-clause-out
@@ -38,11 +46,17 @@ returns-in-Done-clause-out g c =
     let before = c.loop-made.invariant.progress in
     let d = c.dash-quick in
     let m = c.loop-made.made + d.result in
-    let now = progress_dash old c.loop-made.self d.new.self c.loop-made.made d.result before d.ensures.state d.ensures.shown d.ensures.counted d.ensures.same in
-    let p = progress_more old d.new.self c.step.new.self m c.in-Ok.step now c.in-Ok.ensures.step c.in-Ok.ensures.counted c.in-Ok.ensures.same in
-    let h = finished old d.new.self c.step.new.self m c.args.budget c.in-Ok.step c.in-Done.end now p c.in-Ok.ensures.step c.in-Done.is c.in-Ok.ensures.mode c.in-Ok.ensures.quiet c.if-made-budget.true in
-    on_whole c.from.result (Appends (g.K.Sink.side c.args.out.now).written (g.K.Sink.side c.loop-made.out).written (prints old.code old.input c.args.budget old.state))
-    (subst (λ (bytes : List ℕ). Appends (g.K.Sink.side c.args.out.now).written (g.K.Sink.side c.loop-made.out).written bytes) h.printed (subst (λ (bytes : List ℕ). Appends (g.K.Sink.side c.args.out.now).written (g.K.Sink.side c.loop-made.out).written bytes) (sym (prints_dash old c.loop-made.self c.loop-made.made d.result before d.ensures.silent)) c.loop-made.invariant.out))
+    let now = progress_dash old c.loop-made.self d.new.self c.loop-made.made d.result before d.ensures.state d.ensures.shown
+    d.ensures.counted d.ensures.same in
+    let p = progress_more old d.new.self c.step.new.self m c.in-Ok.step now c.in-Ok.ensures.step c.in-Ok.ensures.counted
+    c.in-Ok.ensures.same in
+    let h = finished old d.new.self c.step.new.self m c.args.budget c.in-Ok.step c.in-Done.end now p c.in-Ok.ensures.step c.in-Done.is
+    c.in-Ok.ensures.mode c.in-Ok.ensures.quiet c.if-made-budget.true in
+    on_whole c.from.result (Appends (g.K.Sink.side c.args.out.now).written (g.K.Sink.side c.loop-made.out).written
+    (prints old.code old.input c.args.budget old.state))
+    (subst (λ (bytes : List ℕ). Appends (g.K.Sink.side c.args.out.now).written (g.K.Sink.side c.loop-made.out).written bytes) h.printed
+    (subst (λ (bytes : List ℕ). Appends (g.K.Sink.side c.args.out.now).written (g.K.Sink.side c.loop-made.out).written bytes)
+    (sym (prints_dash old c.loop-made.self c.loop-made.made d.result before d.ensures.silent)) c.loop-made.invariant.out))
 
 pub returns-in-Done-clause-made : goal.returns-in-Done-clause-made
 returns-in-Done-clause-made g c =
@@ -50,8 +64,10 @@ returns-in-Done-clause-made g c =
     let before = c.loop-made.invariant.progress in
     let d = c.dash-quick in
     let m = c.loop-made.made + d.result in
-    let now = progress_dash old c.loop-made.self d.new.self c.loop-made.made d.result before d.ensures.state d.ensures.shown d.ensures.counted d.ensures.same in
-    let p = progress_more old d.new.self c.step.new.self m c.in-Ok.step now c.in-Ok.ensures.step c.in-Ok.ensures.counted c.in-Ok.ensures.same in
+    let now = progress_dash old c.loop-made.self d.new.self c.loop-made.made d.result before d.ensures.state d.ensures.shown
+    d.ensures.counted d.ensures.same in
+    let p = progress_more old d.new.self c.step.new.self m c.in-Ok.step now c.in-Ok.ensures.step c.in-Ok.ensures.counted
+    c.in-Ok.ensures.same in
     p.state ∙ ap (λ k. after old.code old.input k old.state) (sym (made_is old c.step.new.self (m + 1) p))
 
 pub returns-then-is_err-clause-made : goal.returns-then-is_err-clause-made
@@ -60,11 +76,20 @@ returns-then-is_err-clause-made g c =
     let before = c.loop-made.invariant.progress in
     let d = c.dash-quick in
     let m = c.loop-made.made + d.result in
-    let now = progress_dash old c.loop-made.self d.new.self c.loop-made.made d.result before d.ensures.state d.ensures.shown d.ensures.counted d.ensures.same in
+    let now = progress_dash old c.loop-made.self d.new.self c.loop-made.made d.result before d.ensures.state d.ensures.shown
+    d.ensures.counted d.ensures.same in
     let inside = c.self.inside in
-    let stopped : MachineView = record { code = code_of_verified inside.code; input = inside.input.now; state = run_state inside.registers; running = false; printed = inside.printed.items } in
-    let p = progress_more old d.new.self c.step.new.self m c.in-Ok.step now c.in-Ok.ensures.step c.in-Ok.ensures.counted c.in-Ok.ensures.same in
-    let q = progress_stopped old c.step.new.self stopped (m + 1) (ap (λ x. x.state) c.self.view_is) (ap (λ x. x.code) c.self.view_is) (ap (λ x. x.input) c.self.view_is) (ap (λ x. x.printed) c.self.view_is) p in
+    let stopped : MachineView = record {
+      code = code_of_verified inside.code;
+      input = inside.input.now;
+      state = run_state inside.registers;
+      running = false;
+      printed = inside.printed.items;
+    } in
+    let p = progress_more old d.new.self c.step.new.self m c.in-Ok.step now c.in-Ok.ensures.step c.in-Ok.ensures.counted
+    c.in-Ok.ensures.same in
+    let q = progress_stopped old c.step.new.self stopped (m + 1) (ap (λ x. x.state) c.self.view_is) (ap (λ x. x.code) c.self.view_is)
+    (ap (λ x. x.input) c.self.view_is) (ap (λ x. x.printed) c.self.view_is) p in
     q.state ∙ ap (λ k. after old.code old.input k old.state) (sym (made_is old stopped (m + 1) q))
 
 pub returns-then-is_err-clause-write_fault : goal.returns-then-is_err-clause-write_fault
@@ -73,15 +98,29 @@ returns-then-is_err-clause-write_fault g c =
     let before = c.loop-made.invariant.progress in
     let d = c.dash-quick in
     let m = c.loop-made.made + d.result in
-    let now = progress_dash old c.loop-made.self d.new.self c.loop-made.made d.result before d.ensures.state d.ensures.shown d.ensures.counted d.ensures.same in
+    let now = progress_dash old c.loop-made.self d.new.self c.loop-made.made d.result before d.ensures.state d.ensures.shown
+    d.ensures.counted d.ensures.same in
     let inside = c.self.inside in
-    let stopped : MachineView = record { code = code_of_verified inside.code; input = inside.input.now; state = run_state inside.registers; running = false; printed = inside.printed.items } in
-    let p = progress_more old d.new.self c.step.new.self m c.in-Ok.step now c.in-Ok.ensures.step c.in-Ok.ensures.counted c.in-Ok.ensures.same in
-    let q = progress_stopped old c.step.new.self stopped (m + 1) (ap (λ x. x.state) c.self.view_is) (ap (λ x. x.code) c.self.view_is) (ap (λ x. x.input) c.self.view_is) (ap (λ x. x.printed) c.self.view_is) p in
+    let stopped : MachineView = record {
+      code = code_of_verified inside.code;
+      input = inside.input.now;
+      state = run_state inside.registers;
+      running = false;
+      printed = inside.printed.items;
+    } in
+    let p = progress_more old d.new.self c.step.new.self m c.in-Ok.step now c.in-Ok.ensures.step c.in-Ok.ensures.counted
+    c.in-Ok.ensures.same in
+    let q = progress_stopped old c.step.new.self stopped (m + 1) (ap (λ x. x.state) c.self.view_is) (ap (λ x. x.code) c.self.view_is)
+    (ap (λ x. x.input) c.self.view_is) (ap (λ x. x.printed) c.self.view_is) p in
     let failed : is_err c.write_printed.result ≡ true = search rules in
-    let front = on_err c.write_printed.result (AppendsFront (g.K.Sink.side c.loop-made.out).written (g.K.Sink.side c.write_printed.new.out).written c.printed.result.now) failed c.write_printed.ensures.front in
-    out_front (g.K.Sink.side c.args.out.now).written (g.K.Sink.side c.loop-made.out).written (g.K.Sink.side c.write_printed.new.out).written (prints old.code old.input m old.state) c.printed.result.now
-    (prints old.code old.input (made old stopped) old.state) (subst (λ (bytes : List ℕ). Appends (g.K.Sink.side c.args.out.now).written (g.K.Sink.side c.loop-made.out).written bytes) (sym (prints_dash old c.loop-made.self c.loop-made.made d.result before d.ensures.silent)) c.loop-made.invariant.out) front
+    let front = on_err c.write_printed.result
+    (AppendsFront (g.K.Sink.side c.loop-made.out).written (g.K.Sink.side c.write_printed.new.out).written c.printed.result.now) failed
+    c.write_printed.ensures.front in
+    out_front (g.K.Sink.side c.args.out.now).written (g.K.Sink.side c.loop-made.out).written (g.K.Sink.side c.write_printed.new.out).written
+    (prints old.code old.input m old.state) c.printed.result.now
+    (prints old.code old.input (made old stopped) old.state)
+    (subst (λ (bytes : List ℕ). Appends (g.K.Sink.side c.args.out.now).written (g.K.Sink.side c.loop-made.out).written bytes)
+    (sym (prints_dash old c.loop-made.self c.loop-made.made d.result before d.ensures.silent)) c.loop-made.invariant.out) front
     (ap (λ k. prints old.code old.input k old.state) (made_is old stopped (m + 1) q)
     ∙ prints_then old d.new.self c.step.new.self m c.in-Ok.step now c.in-Ok.ensures.step
     ∙ ap (λ bytes. prints old.code old.input m old.state ++ bytes) (sym c.printed.ensures))
@@ -92,11 +131,13 @@ loop-made-preserved g c =
     let before = c.loop-made.invariant.progress in
     let d = c.dash-quick in
     let m = c.loop-made.made + d.result in
-    let now = progress_dash old c.loop-made.self d.new.self c.loop-made.made d.result before d.ensures.state d.ensures.shown d.ensures.counted d.ensures.same in
+    let now = progress_dash old c.loop-made.self d.new.self c.loop-made.made d.result before d.ensures.state d.ensures.shown
+    d.ensures.counted d.ensures.same in
     record {
       within = omega (arith, d.ensures.few, c.loop-made-test.true);
       progress = now;
-      out = (subst (λ (bytes : List ℕ). Appends (g.K.Sink.side c.args.out.now).written (g.K.Sink.side c.loop-made.out).written bytes) (sym (prints_dash old c.loop-made.self c.loop-made.made d.result before d.ensures.silent)) c.loop-made.invariant.out);
+      out = (subst (λ (bytes : List ℕ). Appends (g.K.Sink.side c.args.out.now).written (g.K.Sink.side c.loop-made.out).written bytes)
+          (sym (prints_dash old c.loop-made.self c.loop-made.made d.result before d.ensures.silent)) c.loop-made.invariant.out);
       quiet = c.loop-made.invariant.quiet;
       running = d.ensures.running;
     }
@@ -107,9 +148,11 @@ returns-in_default-clause-made g c =
     let before = c.loop-made.invariant.progress in
     let d = c.dash-quick in
     let m = c.loop-made.made + d.result in
-    let now = progress_dash old c.loop-made.self d.new.self c.loop-made.made d.result before d.ensures.state d.ensures.shown d.ensures.counted d.ensures.same in
+    let now = progress_dash old c.loop-made.self d.new.self c.loop-made.made d.result before d.ensures.state d.ensures.shown
+    d.ensures.counted d.ensures.same in
     let failed : is_err c.step.result ≡ true = search rules in
-    let refused = on_err c.step.result ((c.step.new.self.state ≡ d.new.self.state) × (c.step.new.self.printed ≡ [])) failed c.step.ensures.refused in
+    let refused = on_err c.step.result ((c.step.new.self.state ≡ d.new.self.state) × (c.step.new.self.printed ≡ [])) failed
+    c.step.ensures.refused in
     let count : made old c.step.new.self ≡ m = omega (arith, now.steps, ap (λ (s : State). s.steps) refused.0) in
     refused.0 ∙ now.state ∙ ap (λ k. after old.code old.input k old.state) (sym count)
 
@@ -119,12 +162,16 @@ returns-in_default-clause-memory g c =
     let before = c.loop-made.invariant.progress in
     let d = c.dash-quick in
     let m = c.loop-made.made + d.result in
-    let now = progress_dash old c.loop-made.self d.new.self c.loop-made.made d.result before d.ensures.state d.ensures.shown d.ensures.counted d.ensures.same in
+    let now = progress_dash old c.loop-made.self d.new.self c.loop-made.made d.result before d.ensures.state d.ensures.shown
+    d.ensures.counted d.ensures.same in
     let failed : is_err c.step.result ≡ true = search rules in
-    let refused = on_err c.step.result ((c.step.new.self.state ≡ d.new.self.state) × (c.step.new.self.printed ≡ [])) failed c.step.ensures.refused in
+    let refused = on_err c.step.result ((c.step.new.self.state ≡ d.new.self.state) × (c.step.new.self.printed ≡ [])) failed
+    c.step.ensures.refused in
     let count : made old c.step.new.self ≡ m = omega (arith, now.steps, ap (λ (s : State). s.steps) refused.0) in
-    subst (λ k. Appends (g.K.Sink.side c.args.out.now).written (g.K.Sink.side c.loop-made.out).written (prints old.code old.input k old.state)) (sym count)
-    (subst (λ (bytes : List ℕ). Appends (g.K.Sink.side c.args.out.now).written (g.K.Sink.side c.loop-made.out).written bytes) (sym (prints_dash old c.loop-made.self c.loop-made.made d.result before d.ensures.silent)) c.loop-made.invariant.out)
+    subst (λ k. Appends (g.K.Sink.side c.args.out.now).written (g.K.Sink.side c.loop-made.out).written
+    (prints old.code old.input k old.state)) (sym count)
+    (subst (λ (bytes : List ℕ). Appends (g.K.Sink.side c.args.out.now).written (g.K.Sink.side c.loop-made.out).written bytes)
+    (sym (prints_dash old c.loop-made.self c.loop-made.made d.result before d.ensures.silent)) c.loop-made.invariant.out)
 
 pub loop-made-preserved-then-made-budget : goal.loop-made-preserved-then-made-budget
 loop-made-preserved-then-made-budget g c =
@@ -132,16 +179,23 @@ loop-made-preserved-then-made-budget g c =
     let before = c.loop-made.invariant.progress in
     let d = c.dash-quick in
     let m = c.loop-made.made + d.result in
-    let now = progress_dash old c.loop-made.self d.new.self c.loop-made.made d.result before d.ensures.state d.ensures.shown d.ensures.counted d.ensures.same in
-    let p = progress_more old d.new.self c.step.new.self m c.in-Ok.step now c.in-Ok.ensures.step c.in-Ok.ensures.counted c.in-Ok.ensures.same in
+    let now = progress_dash old c.loop-made.self d.new.self c.loop-made.made d.result before d.ensures.state d.ensures.shown
+    d.ensures.counted d.ensures.same in
+    let p = progress_more old d.new.self c.step.new.self m c.in-Ok.step now c.in-Ok.ensures.step c.in-Ok.ensures.counted
+    c.in-Ok.ensures.same in
     let written : is_err c.write_printed.result ≡ false = search rules in
-    let out = on_ok c.write_printed.result (Appends (g.K.Sink.side c.loop-made.out).written (g.K.Sink.side c.write_printed.new.out).written c.printed.result.now) written c.write_printed.ensures.ok in
-    let quiet = on_ok c.write_printed.result ((g.K.Sink.side c.write_printed.new.out).faults ≡ (g.K.Sink.side c.loop-made.out).faults) written c.write_printed.ensures.cause.ok in
+    let out = on_ok c.write_printed.result (Appends (g.K.Sink.side c.loop-made.out).written (g.K.Sink.side c.write_printed.new.out).written
+    c.printed.result.now) written c.write_printed.ensures.ok in
+    let quiet = on_ok c.write_printed.result ((g.K.Sink.side c.write_printed.new.out).faults ≡ (g.K.Sink.side c.loop-made.out).faults)
+    written c.write_printed.ensures.cause.ok in
     record {
       within = omega (arith, c.if-made-budget.true);
       progress = p;
-      out = out_more (g.K.Sink.side c.args.out.now).written (g.K.Sink.side c.loop-made.out).written (g.K.Sink.side c.write_printed.new.out).written (prints old.code old.input m old.state) c.printed.result.now
-          (prints old.code old.input (m + 1) old.state) (subst (λ (bytes : List ℕ). Appends (g.K.Sink.side c.args.out.now).written (g.K.Sink.side c.loop-made.out).written bytes) (sym (prints_dash old c.loop-made.self c.loop-made.made d.result before d.ensures.silent)) c.loop-made.invariant.out) out
+      out = out_more (g.K.Sink.side c.args.out.now).written (g.K.Sink.side c.loop-made.out).written
+          (g.K.Sink.side c.write_printed.new.out).written (prints old.code old.input m old.state) c.printed.result.now
+          (prints old.code old.input (m + 1) old.state)
+          (subst (λ (bytes : List ℕ). Appends (g.K.Sink.side c.args.out.now).written (g.K.Sink.side c.loop-made.out).written bytes)
+          (sym (prints_dash old c.loop-made.self c.loop-made.made d.result before d.ensures.silent)) c.loop-made.invariant.out) out
           (prints_then old d.new.self c.step.new.self m c.in-Ok.step now c.in-Ok.ensures.step
           ∙ ap (λ bytes. prints old.code old.input m old.state ++ bytes) (sym c.printed.ensures));
       quiet = quiet ∙ c.loop-made.invariant.quiet;
@@ -154,8 +208,10 @@ returns-in-Done-clause-printed g c =
     let before = c.loop-made.invariant.progress in
     let d = c.dash-quick in
     let m = c.loop-made.made + d.result in
-    let now = progress_dash old c.loop-made.self d.new.self c.loop-made.made d.result before d.ensures.state d.ensures.shown d.ensures.counted d.ensures.same in
-    let p = progress_more old d.new.self c.step.new.self m c.in-Ok.step now c.in-Ok.ensures.step c.in-Ok.ensures.counted c.in-Ok.ensures.same in
+    let now = progress_dash old c.loop-made.self d.new.self c.loop-made.made d.result before d.ensures.state d.ensures.shown
+    d.ensures.counted d.ensures.same in
+    let p = progress_more old d.new.self c.step.new.self m c.in-Ok.step now c.in-Ok.ensures.step c.in-Ok.ensures.counted
+    c.in-Ok.ensures.same in
     shows_last c.from.result _ _ (λ e. end_is_whole c.in-Done.end (sym c.from.ensures ∙ e)) (shows old c.step.new.self (m + 1) p)
 
 pub returns-then-is_err-clause-printed : goal.returns-then-is_err-clause-printed
@@ -164,9 +220,18 @@ returns-then-is_err-clause-printed g c =
     let before = c.loop-made.invariant.progress in
     let d = c.dash-quick in
     let m = c.loop-made.made + d.result in
-    let now = progress_dash old c.loop-made.self d.new.self c.loop-made.made d.result before d.ensures.state d.ensures.shown d.ensures.counted d.ensures.same in
+    let now = progress_dash old c.loop-made.self d.new.self c.loop-made.made d.result before d.ensures.state d.ensures.shown
+    d.ensures.counted d.ensures.same in
     let inside = c.self.inside in
-    let stopped : MachineView = record { code = code_of_verified inside.code; input = inside.input.now; state = run_state inside.registers; running = false; printed = inside.printed.items } in
-    let p = progress_more old d.new.self c.step.new.self m c.in-Ok.step now c.in-Ok.ensures.step c.in-Ok.ensures.counted c.in-Ok.ensures.same in
-    let q = progress_stopped old c.step.new.self stopped (m + 1) (ap (λ x. x.state) c.self.view_is) (ap (λ x. x.code) c.self.view_is) (ap (λ x. x.input) c.self.view_is) (ap (λ x. x.printed) c.self.view_is) p in
+    let stopped : MachineView = record {
+      code = code_of_verified inside.code;
+      input = inside.input.now;
+      state = run_state inside.registers;
+      running = false;
+      printed = inside.printed.items;
+    } in
+    let p = progress_more old d.new.self c.step.new.self m c.in-Ok.step now c.in-Ok.ensures.step c.in-Ok.ensures.counted
+    c.in-Ok.ensures.same in
+    let q = progress_stopped old c.step.new.self stopped (m + 1) (ap (λ x. x.state) c.self.view_is) (ap (λ x. x.code) c.self.view_is)
+    (ap (λ x. x.input) c.self.view_is) (ap (λ x. x.printed) c.self.view_is) p in
     shows old stopped (m + 1) q

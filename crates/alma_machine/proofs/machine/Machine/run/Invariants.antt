@@ -9,7 +9,8 @@ abbrev pub invariant-loop-made : goal.invariant-loop-made
 invariant-loop-made g l = record {
   within : l.made ≤ l.budget;
   progress : Progress l.fn.self l.self l.made;
-  out : Appends (g.K.Sink.side l.fn.out).written (g.K.Sink.side l.out).written (prints l.fn.self.code l.fn.self.input l.made l.fn.self.state);
+  out : Appends (g.K.Sink.side l.fn.out).written (g.K.Sink.side l.out).written
+      (prints l.fn.self.code l.fn.self.input l.made l.fn.self.state);
   quiet : (g.K.Sink.side l.out).faults ≡ (g.K.Sink.side l.fn.out).faults;
   running : l.self.running ≡ true;
 }

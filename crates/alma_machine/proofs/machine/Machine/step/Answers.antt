@@ -13,12 +13,15 @@ invariant_of-self c =
     let new = run_state c.advance-step.new.registers in
     let running : c.self.inside.running ≡ true = search rules in (
       c.self.invariant.0,
-      λ on. stands_after c.advance-step.result code c.self.inside.input.now old new c.advance-step.new.printed.items (c.self.invariant.1 running)
-          c.advance-step.ensures.step c.advance-step.ensures.mode c.advance-step.ensures.counted c.advance-step.ensures.choices c.advance-step.ensures.fails (sym c.goes_on-self-inside.ensures ∙ on),
+      λ on. stands_after c.advance-step.result code c.self.inside.input.now old new c.advance-step.new.printed.items
+          (c.self.invariant.1 running)
+          c.advance-step.ensures.step c.advance-step.ensures.mode c.advance-step.ensures.counted c.advance-step.ensures.choices
+          c.advance-step.ensures.fails (sym c.goes_on-self-inside.ensures ∙ on),
     )
 
 pub returns-clause-step : goal.returns-clause-step
 returns-clause-step c =
     let bytes = c.advance-step.new.printed.items in
     let new = run_state c.advance-step.new.registers in
-    subst (λ m. IfOk c.advance-step.result (λ answer. stepped answer bytes new ≡ step m.code m.input m.state)) c.self.view_is c.advance-step.ensures.step
+    subst (λ m. IfOk c.advance-step.result (λ answer. stepped answer bytes new ≡ step m.code m.input m.state)) c.self.view_is
+    c.advance-step.ensures.step
