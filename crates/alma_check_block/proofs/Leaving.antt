@@ -1,5 +1,6 @@
 -- A heading is read in a block of its own: behind that block the scene is as it was.
-use Rattle.std.proofs.Common.{◌≡◌, ℕ, suc, ◌+◌, ◌-◌, ◌<◌, Bool, true, false, List, [], ◌∷◌, ◌++◌, Option, None, Some, length, take, get_or, set, refl, sym, ap, subst, ◌∙◌, arith}
+use Rattle.std.proofs.Common.{◌≡◌, ℕ, suc, ◌+◌, ◌-◌, ◌<◌, Bool, true, false, List, [], ◌∷◌, ◌++◌, Option, None, Some, length, take, get_or}
+use Rattle.std.proofs.Common.{set, refl, sym, ap, subst, ◌∙◌, arith}
 use Rattle.std.specs.Prelude.{if◌then◌else◌}
 use Rattle.std.proofs.lemmas.List.{take_at}
 use Rattle.alma_base.specs.Choice.{if_true}
@@ -17,6 +18,7 @@ use Rattle.alma_rules.specs.Decls as rules
 use Rattle.alma_check_type.specs.Around.{Outer, outer_of, left}
 use Rattle.alma_check_type.specs.Told.{fault_of}
 use Rattle.alma_rules.specs.Answers.{first}
+use Rattle.alma_rules.proofs.Limited.{limited_scene}
 use Rattle.alma_check_block.specs.declared.frame.Frame.{Frame}
 use Rattle.alma_check_block.specs.Shown.{ToldFrame, told_frame, shown}
 use Rattle.alma_check_block.proofs.Frames.{moved, scene_is}
@@ -28,21 +30,29 @@ outside t = record t { blocks = record { below = t.blocks.below; top = [] }; dec
 declared_out : (s : Scene) (name : tree.Name) (from : ℕ) (e : Entry) → outside (types.declared s name from e) ≡ outside s
 declared_out s name from e = by (is_first s name)
   where
-    by : (b : Bool) → outside (if b then record s { blocks = with_declared s.blocks (record { name = text_at s name.token; from = from; entry = e }) } else s) ≡ outside s
+    by : (b : Bool) → outside (if b then record s
+        { blocks = with_declared s.blocks (record { name = text_at s name.token; from = from; entry = e }) } else s) ≡ outside s
     by true = refl
     by false = refl
 
-param_out : (f : rules.Frame) (from : ℕ) (mode : Option Mode) (o : Option ℕ) (name : tree.Name) → outside (rules.param_in f from mode o name).scene ≡ outside f.scene
+param_out : (f : rules.Frame) (from : ℕ) (mode : Option Mode) (o : Option ℕ) (name : tree.Name)
+    → outside (rules.param_in f from mode o name).scene ≡ outside f.scene
 param_out f from mode None name = declared_out f.scene name from entry.Bad
-param_out f from mode (Some shape) name = by (is_first f.scene name) (declared_out f.scene name from (entry.Variable (shape_id shape) (rules.param_access mode f.slots)))
+param_out f from mode (Some shape) name =
+    by (is_first f.scene name) (declared_out f.scene name from (entry.Variable (shape_id shape) (rules.param_access mode f.slots)))
   where
-    by : (b : Bool) → outside (types.declared f.scene name from (entry.Variable (shape_id shape) (rules.param_access mode f.slots))) ≡ outside f.scene
-        → outside (if_true b (λ u. rules.limited name (rules.with_param f name from mode shape (rules.param_kind (is_structured f.scene shape) mode))) (λ u. rules.with_faults f (broken_at name.node (types.redeclared f.scene name)))).scene
+    by : (b : Bool) → outside (types.declared f.scene name from (entry.Variable (shape_id shape) (rules.param_access mode f.slots)))
         ≡ outside f.scene
-    by true e = e
+        → outside (if_true b (λ u. rules.limited name f
+        (rules.with_param f name from mode shape (rules.param_kind (is_structured f.scene shape) mode)))
+        (λ u. rules.with_faults f (broken_at name.node (types.redeclared f.scene name)))).scene
+        ≡ outside f.scene
+    by true e = ap outside (limited_scene name f
+        (rules.with_param f name from mode shape (rules.param_kind (is_structured f.scene shape) mode))) ∙ e
     by false e = refl
 
-params_out : (f : rules.Frame) (from : ℕ) (mode : Option Mode) (o : Option ℕ) (xs : List tree.Name) → outside (rules.params_in f from mode o xs).scene ≡ outside f.scene
+params_out : (f : rules.Frame) (from : ℕ) (mode : Option Mode) (o : Option ℕ) (xs : List tree.Name)
+    → outside (rules.params_in f from mode o xs).scene ≡ outside f.scene
 params_out f from mode o [] = refl
 params_out f from mode o (x ∷ xs) = params_out (rules.param_in f from mode o x) from mode o xs ∙ param_out f from mode o x
 
@@ -66,17 +76,26 @@ routines_out s r (tree.more_decl d rest) = routines_out (rules.with_routine s r 
 abbrev opened : Scene → Scene
 opened s = record s { blocks = with_new_block s.blocks }
 
-block_out : (s : Scene) (r : ℕ) (returns : Returns) (names : List tree.Name) (b : tree.Block) → outside (rules.with_block s r returns names b) ≡ outside (opened s)
+block_out : (s : Scene) (r : ℕ) (returns : Returns) (names : List tree.Name) (b : tree.Block)
+    → outside (rules.with_block s r returns names b) ≡ outside (opened s)
 block_out s r returns names (tree.block n ds body) =
-    routines_out (let i : Scene = record s { blocks = with_new_block s.blocks; declares = rules.with_texts s (names ++ rules.block_names (tree.block n ds body)); routine = r; returns = returns } in i) (r + 1) ds
+    routines_out (let i : Scene = record s {
+      blocks = with_new_block s.blocks;
+      declares =
+          rules.with_texts s (names ++ rules.block_names (tree.block n ds body));
+      routine = r;
+      returns = returns;
+    } in i) (r + 1) ds
 
 headed_out : (f : rules.Frame) (o : Option tree.Name) → outside (rules.headed f o).frame.scene ≡ outside f.scene
 headed_out f None = refl
 headed_out f (Some name) = refl
 
-head_out : (s : Scene) (r n : ℕ) (params : Option tree.Params) (result : Option tree.Name) (b : tree.Block) → outside (rules.read_heading s r n params result b).frame.scene ≡ outside (opened s)
+head_out : (s : Scene) (r n : ℕ) (params : Option tree.Params) (result : Option tree.Name) (b : tree.Block)
+    → outside (rules.read_heading s r n params result b).frame.scene ≡ outside (opened s)
 head_out s r n params result b =
-    by (rules.too_deep s) ∙ headed_out read result ∙ formals_out begun (rules.formals_of params) ∙ block_out s r nothing (rules.formal_names (rules.formals_of params)) b
+    by (rules.too_deep s) ∙ headed_out read result ∙ formals_out begun (rules.formals_of params)
+    ∙ block_out s r nothing (rules.formal_names (rules.formals_of params)) b
   where
     begun : rules.Frame
     begun = rules.new_frame (rules.with_block s r nothing (rules.formal_names (rules.formals_of params)) b) 0
@@ -84,7 +103,8 @@ head_out s r n params result b =
     read : rules.Frame
     read = rules.read_formals begun (rules.formals_of params)
 
-    by : (d : List CheckFault) → outside (rules.with_depth d n (rules.headed read result)).frame.scene ≡ outside (rules.headed read result).frame.scene
+    by : (d : List CheckFault) → outside (rules.with_depth d n (rules.headed read result)).frame.scene ≡ outside
+        (rules.headed read result).frame.scene
     by [] = refl
     by (x ∷ xs) = refl
 
@@ -101,12 +121,15 @@ length_less xs x = omega (arith, length_more xs x)
 
 closed : (b : Blocks) → without_top_block (with_new_block b) ≡ b
 closed b =
-    ap (λ n. let c : Blocks = record { below = take n (b.below ++ b.top ∷ []); top = get_or (b.below ++ b.top ∷ []) n [] } in c) (length_less b.below b.top)
-    ∙ ap (λ xs. let c : Blocks = record { below = xs; top = get_or (b.below ++ b.top ∷ []) (length b.below) [] } in c) (take_at b.below (b.top ∷ []) (length b.below) refl)
+    ap (λ n. let c : Blocks = record { below = take n (b.below ++ b.top ∷ []); top = get_or (b.below ++ b.top ∷ []) n [] } in c)
+    (length_less b.below b.top)
+    ∙ ap (λ xs. let c : Blocks = record { below = xs; top = get_or (b.below ++ b.top ∷ []) (length b.below) [] } in c)
+    (take_at b.below (b.top ∷ []) (length b.below) refl)
     ∙ ap (λ x. let c : Blocks = record { below = b.below; top = x } in c) (last_of b.below b.top [])
 
 -- behind the block of a heading
-pub head_left : (s : Scene) (r n : ℕ) (params : Option tree.Params) (result : Option tree.Name) (b : tree.Block) → left (rules.read_heading s r n params result b).frame.scene (outer_of s) ≡ s
+pub head_left : (s : Scene) (r n : ℕ) (params : Option tree.Params) (result : Option tree.Name) (b : tree.Block)
+    → left (rules.read_heading s r n params result b).frame.scene (outer_of s) ≡ s
 head_left s r n params result b =
     ap (λ i. left i (outer_of s)) (head_out s r n params result b)
     ∙ ap (λ x. let i : Scene = record s { blocks = x } in i) (closed s.blocks)
@@ -115,12 +138,15 @@ more_than_none : {A : Type 0} (xs : List A) (x : A) → 0 < length (xs ++ x ∷ 
 more_than_none xs x = omega (arith, length_more xs x)
 
 -- there is a block round it
-pub head_inside : (s : Scene) (r n : ℕ) (params : Option tree.Params) (result : Option tree.Name) (b : tree.Block) → 0 < length (rules.read_heading s r n params result b).frame.scene.blocks.below
-head_inside s r n params result b = subst (λ i. 0 < length i.blocks.below) (sym (head_out s r n params result b)) (more_than_none s.blocks.below s.blocks.top)
+pub head_inside : (s : Scene) (r n : ℕ) (params : Option tree.Params) (result : Option tree.Name) (b : tree.Block)
+    → 0 < length (rules.read_heading s r n params result b).frame.scene.blocks.below
+head_inside s r n params result b = subst (λ i. 0 < length i.blocks.below) (sym (head_out s r n params result b))
+    (more_than_none s.blocks.below s.blocks.top)
 
 -- ---- a procedure among declarations
 
-module _ (s : Scene) (f : rules.Frame) (r n : ℕ) (name : tree.Name) (params : Option tree.Params) (result : Option tree.Name) (b : tree.Block) where
+module _ (s : Scene) (f : rules.Frame) (r n : ℕ) (name : tree.Name) (params : Option tree.Params) (result : Option tree.Name)
+    (b : tree.Block) where
   abbrev head : rules.Headed
   head = rules.read_heading s r n params result b
 
@@ -139,16 +165,19 @@ module _ (s : Scene) (f : rules.Frame) (r n : ℕ) (name : tree.Name) (params : 
   heading_inside t y h = subst (λ i. 0 < length i.blocks.below) (sym (scene_is t y head.frame h)) (head_inside s r n params result b)
 
   behind_heading : (t j : Scene) (y : Frame) (o : Outer) → shown t y ≡ told_frame head.frame → o ≡ outer_of s → j ≡ left t o → j ≡ s
-  behind_heading t j y o h e d = d ∙ ap (λ i. left i o) (scene_is t y head.frame h) ∙ ap (λ x. left head.frame.scene x) e ∙ head_left s r n params result b
+  behind_heading t j y o h e d = d ∙ ap (λ i. left i o) (scene_is t y head.frame h) ∙ ap (λ x. left head.frame.scene x) e
+      ∙ head_left s r n params result b
 
   pub procedure_read : (t j k : Scene) (x y z : Frame) (o : Outer) (v : Option Heading) → shown s x ≡ told_frame f
       → shown s z ≡ told_frame (rules.with_faults (rules.with_faults f (broken_at name.node (types.redeclared s name))) head.frame.faults)
-      → shown t y ≡ told_frame head.frame → o ≡ outer_of s → j ≡ left t o → v ≡ head.heading → k ≡ record j { headings = set j.headings r v }
+      → shown t y ≡ told_frame head.frame → o ≡ outer_of s → j ≡ left t o → v ≡ head.heading
+      → k ≡ record j { headings = set j.headings r v }
       → shown k z ≡ told_frame (rules.heading_in f r name (rules.read_heading f.scene r n params result b))
   procedure_read t j k x y z o v h g q e d u m =
       let same : k ≡ record s { headings = set s.headings r head.heading } =
       m ∙ ap (λ i. let w : Scene = record i { headings = set i.headings r v } in w) (behind_heading t j y o q e d)
       ∙ ap (λ hd. let w : Scene = record s { headings = set s.headings r hd } in w) u in
       ap (λ w. moved w k) g
-      ∙ ap (λ i. moved (told_frame (rules.with_faults (rules.with_faults f (broken_at name.node (types.redeclared s name))) head.frame.faults)) i) same
+      ∙ ap (λ i. moved (told_frame (rules.with_faults (rules.with_faults f (broken_at name.node (types.redeclared s name)))
+      head.frame.faults)) i) same
       ∙ ap (λ i. told_frame (noted i)) (scene_is s x f h)

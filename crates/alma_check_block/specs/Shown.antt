@@ -60,5 +60,5 @@ shown s x = record {
 -- a parameter whose type is not Bad, apart from its formal
 abbrev pub param_shaped : rules.Frame → (from : ℕ) → Option Mode → (shape : ℕ) → tree.Name → rules.Frame
 param_shaped f from mode shape name = if_true (is_first f.scene name)
-    (λ _. rules.limited name (rules.with_param f name from mode shape (rules.param_kind (is_structured f.scene shape) mode)))
+    (λ _. rules.limited name f (rules.with_param f name from mode shape (rules.param_kind (is_structured f.scene shape) mode)))
     (λ _. rules.with_faults f (broken_at name.node (redeclared f.scene name)))

@@ -1,6 +1,7 @@
 // Parameters.
-ghost use Rattle.std.specs.Prelude.{◌≡◌, Some, None, OnOk};
-ghost use Rattle.alma_rules.specs.Scene.{is_structured};
+ghost use Rattle.std.specs.Prelude.{◌≡◌, ◌+◌, ◌≤◌, Some, None, OnOk};
+ghost use Rattle.alma_base.specs.Limits.{cell_limit};
+ghost use Rattle.alma_rules.specs.Scene.{is_structured, cells};
 ghost use Rattle.alma_rules.specs.Types as types;
 ghost use Rattle.alma_rules.specs.Decls as rules;
 ghost use Rattle.alma_rules.specs.View as view;
@@ -68,7 +69,7 @@ fn param_access(mode: Option<Mode>, slot: u32) -> Access
     }
 }
 
-// One more parameter in the frame.
+// One more parameter in the frame, which it fits.
 fn push_param(
     alloc: Global,
     reader: &mut Reader,
@@ -78,6 +79,8 @@ fn push_param(
     mode: Option<Mode>,
     shape: u32,
 ) -> Result<(), NoMemory>
+    requires fits { frame.old.declared + rules.declared_cells mode (cells reader.old shape)
+        ≤ cell_limit }
     ensures { (f : rules.Frame) → shown reader.old frame.old ≡ told_frame f
         → OnOk result (shown reader.new frame.new ≡ told_frame (rules.with_param f
         (view.view_name name.now) from mode shape (rules.param_kind (is_structured f.scene shape)
@@ -87,9 +90,8 @@ fn push_param(
     let cells = reader.env().cells(shape);
     let range = reader.env().range(shape);
     let kind = param_kind(reader.env().is_structured(shape), mode);
-    let own = declared_cells(mode, cells);
     frame.slots = slot.checked_add(param_slots(kind, cells)).ok_or(NoMemory)?;
-    frame.declared = frame.declared.checked_add(own).ok_or(NoMemory)?;
+    frame.declared += declared_cells(mode, cells);
     frame.params.push(Param {
         kind,
         slot,
@@ -97,6 +99,29 @@ fn push_param(
         range,
     })?;
     let access = param_access(mode, slot);
+    reader.declare(alloc, name, from, Entry::Variable(ShapeId(shape), access))
+}
+
+// A parameter that is the first of its name, and whose type is not Bad.
+fn take_param(
+    alloc: Global,
+    reader: &mut Reader,
+    frame: &mut Frame,
+    name: &Name,
+    from: u32,
+    mode: Option<Mode>,
+    shape: u32,
+) -> Result<(), NoMemory>
+    ensures { (f : rules.Frame) → shown reader.old frame.old ≡ told_frame f
+        → OnOk result (shown reader.new frame.new ≡ told_frame (rules.limited
+        (view.view_name name.now) f (rules.with_param f (view.view_name name.now) from mode shape
+        (rules.param_kind (is_structured f.scene shape) mode)))) }
+{
+    if frame.fits(declared_cells(mode, reader.env().cells(shape))) {
+        return push_param(alloc, reader, frame, name, from, mode, shape);
+    }
+    let access = param_access(mode, frame.slots);
+    frame.refuse(name);
     reader.declare(alloc, name, from, Entry::Variable(ShapeId(shape), access))
 }
 
@@ -115,11 +140,9 @@ fn place_param(
         (view.view_name name.now))) }
 {
     if reader.is_first(name) {
-        push_param(alloc, reader, frame, name, from, mode, shape)?;
-        frame.limit(name);
-    } else {
-        frame.add_fault(redeclared(reader, name));
+        return take_param(alloc, reader, frame, name, from, mode, shape);
     }
+    frame.add_fault(redeclared(reader, name));
     Ok(())
 }
 

@@ -1,6 +1,7 @@
 // The frame of a routine, as far as its declarations are read.
-ghost use Rattle.std.specs.Prelude.{◌≡◌, List};
-ghost use Rattle.alma_rules.specs.Judged.{Broken as RuleBroken, broken_at};
+ghost use Rattle.std.specs.Prelude.{◌≡◌, ◌+◌, List, nat_le};
+ghost use Rattle.alma_base.specs.Limits.{cell_limit};
+ghost use Rattle.alma_rules.specs.Judged.{Broken as RuleBroken};
 ghost use Rattle.alma_rules.specs.Scene.{Scene};
 ghost use Rattle.alma_rules.specs.Answers.{first};
 ghost use Rattle.alma_rules.specs.Decls as rules;
@@ -54,26 +55,21 @@ impl Frame {
         self.fault = earlier(self.fault, fault);
     }
 
-    // The fault of a name with which the declared cells pass the limit.
-    fn over_limit(&self, name: &Name) -> Option<Broken>
-        ensures { (s : Scene) (f : rules.Frame) → shown s self.now ≡ told_frame f
-            → fault_of result ≡ first (broken_at name.now.node (rules.passes_limit f)) }
+    /// Whether the declared cells are within the limit with so many more.
+    pub fn fits(&self, cells: u32) -> bool
+        ensures { result ≡ nat_le (self.now.declared + cells) cell_limit }
     {
-        if self.declared <= CELL_LIMIT {
-            return None;
-        }
-        Some(Broken {
-            node: name.node,
-            fault: CheckFault::TooLarge,
-        })
+        self.declared.saturating_add(cells) <= CELL_LIMIT
     }
 
-    /// Notes whether the declared cells pass the limit with a name.
-    pub fn limit(&mut self, name: &Name)
-        ensures { (s : Scene) (f : rules.Frame) → shown s self.old ≡ told_frame f
-            → shown s self.new ≡ told_frame (rules.limited (view_name name.now) f) }
+    /// Notes that a name does not fit; the scene is the one behind it.
+    pub fn refuse(&mut self, name: &Name)
+        ensures { (s t : Scene) (f : rules.Frame) → shown s self.old ≡ told_frame f
+            → shown t self.new ≡ told_frame (rules.too_large f (view_name name.now) t) }
     {
-        let fault = self.over_limit(name);
-        self.add_fault(fault);
+        self.add_fault(Some(Broken {
+            node: name.node,
+            fault: CheckFault::TooLarge,
+        }));
     }
 }

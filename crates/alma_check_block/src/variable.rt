@@ -1,5 +1,7 @@
 // Variables.
-ghost use Rattle.std.specs.Prelude.{◌≡◌, Some, OnOk};
+ghost use Rattle.std.specs.Prelude.{◌≡◌, ◌+◌, ◌≤◌, Some, OnOk};
+ghost use Rattle.alma_base.specs.Limits.{cell_limit};
+ghost use Rattle.alma_rules.specs.Scene.{cells};
 ghost use Rattle.alma_rules.specs.Types as types;
 ghost use Rattle.alma_rules.specs.Decls as rules;
 ghost use Rattle.alma_rules.specs.View as view;
@@ -24,7 +26,7 @@ fn variable_access(reader: &Reader, slot: u32) -> Access
     Access::Local(slot)
 }
 
-// One more variable in the frame.
+// One more variable in the frame, which it fits.
 fn push_variable(
     alloc: Global,
     reader: &mut Reader,
@@ -33,6 +35,7 @@ fn push_variable(
     from: u32,
     shape: u32,
 ) -> Result<(), NoMemory>
+    requires fits { frame.old.declared + cells reader.old shape ≤ cell_limit }
     ensures { (f : rules.Frame) → shown reader.old frame.old ≡ told_frame f
         → OnOk result (shown reader.new frame.new ≡ told_frame (rules.with_variable f
         (view.view_name name.now) from shape)) }
@@ -42,12 +45,34 @@ fn push_variable(
     let access = variable_access(reader, slot);
     let text = reader.env().text(name.token).to_vec(alloc)?;
     frame.slots = slot.checked_add(cells).ok_or(NoMemory)?;
-    frame.declared = frame.declared.checked_add(cells).ok_or(NoMemory)?;
+    frame.declared += cells;
     frame.variables.push(alma_ir::Global {
         name: text,
         slot,
         cells,
     })?;
+    reader.declare(alloc, name, from, Entry::Variable(ShapeId(shape), access))
+}
+
+// A variable that is the first of its name, and whose type is not Bad.
+fn place_variable(
+    alloc: Global,
+    reader: &mut Reader,
+    frame: &mut Frame,
+    name: &Name,
+    from: u32,
+    shape: u32,
+) -> Result<(), NoMemory>
+    ensures { (f : rules.Frame) → shown reader.old frame.old ≡ told_frame f
+        → OnOk result (shown reader.new frame.new ≡ told_frame (rules.limited
+        (view.view_name name.now) f (rules.with_variable f (view.view_name name.now) from
+        shape))) }
+{
+    if frame.fits(reader.env().cells(shape)) {
+        return push_variable(alloc, reader, frame, name, from, shape);
+    }
+    let access = variable_access(reader, frame.slots);
+    frame.refuse(name);
     reader.declare(alloc, name, from, Entry::Variable(ShapeId(shape), access))
 }
 
@@ -65,11 +90,9 @@ fn declare_shaped(
         (Some shape) (view.view_name name.now))) }
 {
     if reader.is_first(name) {
-        push_variable(alloc, reader, frame, name, from, shape)?;
-        frame.limit(name);
-    } else {
-        frame.add_fault(redeclared(reader, name));
+        return place_variable(alloc, reader, frame, name, from, shape);
     }
+    frame.add_fault(redeclared(reader, name));
     Ok(())
 }
 

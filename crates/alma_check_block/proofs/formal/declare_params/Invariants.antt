@@ -6,4 +6,5 @@ use Rattle.alma_check_block.proofs.formal.declare_params.Given as goal
 
 abbrev pub invariant-loop-name : goal.invariant-loop-name
 invariant-loop-name l =
-    (f : rules.Frame) → shown l.fn.reader l.fn.frame ≡ told_frame f → shown l.reader l.frame ≡ told_frame (rules.params_in f l.from l.mode l.shape (view.names_of (take l.name-index l.names)))
+    (f : rules.Frame) → shown l.fn.reader l.fn.frame ≡ told_frame f
+    → shown l.reader l.frame ≡ told_frame (rules.params_in f l.from l.mode l.shape (view.names_of (take l.name-index l.names)))

@@ -1,22 +1,24 @@
 use Rattle.std.proofs.Common.{true, false, ap, sym, ◌∙◌}
 use Rattle.alma_rules.specs.Judged.{broken_at}
-use Rattle.alma_rules.specs.Scene.{is_first, is_structured}
+use Rattle.alma_rules.specs.Scene.{is_first}
 use Rattle.alma_rules.specs.Types.{redeclared}
-use Rattle.alma_rules.specs.Decls as rules
 use Rattle.alma_rules.specs.View as view
 use Rattle.alma_check_block.specs.Shown.{told_frame}
+use Rattle.alma_check_block.proofs.Texts.{ok_eq}
 use Rattle.alma_check_block.proofs.Frames.{scene_is, scene_in, twice_at, param_first, param_later}
 use Rattle.alma_check_block.proofs.formal.place_param.Goals as goal
 
-pub returns-in_ok-push_param : goal.returns-in_ok-push_param
-returns-in_ok-push_param c f h =
-    c.limit.ensures _ (rules.with_param f (view.view_name c.args.name.now) c.args.from c.args.mode c.args.shape (rules.param_kind (is_structured f.scene c.args.shape) c.args.mode)) (c.in_ok-push_param.ensures f h)
-    ∙ ap (λ g. told_frame g) (sym (param_first f c.args.from c.args.mode c.args.shape (view.view_name c.args.name.now)
-    (scene_in (λ i. is_first i (view.view_name c.args.name.now)) c.args.reader.now f.scene true (scene_is c.args.reader.now c.args.frame.now f h) (sym c.is_first.ensures ∙ c.if-is_first.true))))
+pub returns-then-is_first : goal.returns-then-is_first
+returns-then-is_first c f h =
+    ok_eq _ _ _ _ (ap (λ g. told_frame g) (sym (param_first f c.args.from c.args.mode c.args.shape (view.view_name c.args.name.now)
+    (scene_in (λ i. is_first i (view.view_name c.args.name.now)) c.args.reader.now f.scene true
+    (scene_is c.args.reader.now c.args.frame.now f h) (sym c.is_first.ensures ∙ c.if-is_first.true))))) (c.take_param.ensures f h)
 
-pub returns-else-is_first : goal.returns-else-is_first
-returns-else-is_first c f h =
+pub returns : goal.returns
+returns c f h =
     c.add_fault.ensures c.args.reader.now f (broken_at c.args.name.now.node (redeclared f.scene (view.view_name c.args.name.now))) h
-    (twice_at c.args.reader.now f.scene (view.view_name c.args.name.now) _ (scene_is c.args.reader.now c.args.frame.now f h) c.redeclared.ensures)
+    (twice_at c.args.reader.now f.scene (view.view_name c.args.name.now) _ (scene_is c.args.reader.now c.args.frame.now f h)
+    c.redeclared.ensures)
     ∙ ap (λ g. told_frame g) (sym (param_later f c.args.from c.args.mode c.args.shape (view.view_name c.args.name.now)
-    (scene_in (λ i. is_first i (view.view_name c.args.name.now)) c.args.reader.now f.scene false (scene_is c.args.reader.now c.args.frame.now f h) (sym c.is_first.ensures ∙ c.if-is_first.false))))
+    (scene_in (λ i. is_first i (view.view_name c.args.name.now)) c.args.reader.now f.scene false
+    (scene_is c.args.reader.now c.args.frame.now f h) (sym c.is_first.ensures ∙ c.if-is_first.false))))

@@ -6,4 +6,5 @@ use Rattle.alma_check_block.proofs.formal.read_formals.Given as goal
 
 abbrev pub invariant-loop-formal : goal.invariant-loop-formal
 invariant-loop-formal l =
-    (f : rules.Frame) → shown l.fn.reader l.fn.frame ≡ told_frame f → shown l.reader l.frame ≡ told_frame (rules.read_formals f (view.more_formals_of (take l.formal-index l.formals)))
+    (f : rules.Frame) → shown l.fn.reader l.fn.frame ≡ told_frame f
+    → shown l.reader l.frame ≡ told_frame (rules.read_formals f (view.more_formals_of (take l.formal-index l.formals)))

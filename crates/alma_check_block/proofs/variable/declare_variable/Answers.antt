@@ -6,4 +6,6 @@ use Rattle.alma_check_block.proofs.variable.declare_variable.Goals as goal
 
 pub returns-in-None : goal.returns-in-None
 returns-in-None c f h =
-    rw c.in-None.is (ok_eq _ _ _ _ (bad_entered c.args.reader.now f c.args.from (view.view_name c.args.name.now) (scene_is c.args.reader.now c.args.frame.now f h)) (c.enter_name.ensures f [] (at_scene c.args.reader.now c.args.frame.now f h) refl))
+    rw c.in-None.is (ok_eq _ _ _ _ (bad_entered c.args.reader.now f c.args.from (view.view_name c.args.name.now)
+    (scene_is c.args.reader.now c.args.frame.now f h))
+    (c.enter_name.ensures f [] (at_scene c.args.reader.now c.args.frame.now f h) refl))

@@ -12,9 +12,13 @@ loop-name-init c f h = h
 
 pub loop-name-preserved : goal.loop-name-preserved
 loop-name-preserved c f h =
-    c.in_ok-declare_variable.ensures (rules.variables_in f c.args.from c.args.shape (view.names_of (take c.loop-name.name-index c.args.names.now))) (c.loop-name.invariant f h)
-    ∙ ap (λ g. told_frame g) (variables_next c.args.from c.args.shape f c.args.names.now c.loop-name.name-index (name_at c.args.names.now c.loop-name.name-index) c.loop-name-test.true (name_is c.args.names.now c.loop-name.name-index c.loop-name-test.true))
+    c.in_ok-declare_variable.ensures (rules.variables_in f c.args.from c.args.shape
+    (view.names_of (take c.loop-name.name-index c.args.names.now))) (c.loop-name.invariant f h)
+    ∙ ap (λ g. told_frame g) (variables_next c.args.from c.args.shape f c.args.names.now c.loop-name.name-index
+    (name_at c.args.names.now c.loop-name.name-index) c.loop-name-test.true
+    (name_is c.args.names.now c.loop-name.name-index c.loop-name-test.true))
 
 pub returns : goal.returns
 returns c f h =
-    c.loop-name.invariant f h ∙ ap (λ xs. told_frame (rules.variables_in f c.args.from c.args.shape (view.names_of xs))) (take_all c.loop-name.name-index c.args.names.now c.loop-name-test.false)
+    c.loop-name.invariant f h ∙ ap (λ xs. told_frame (rules.variables_in f c.args.from c.args.shape (view.names_of xs)))
+    (take_all c.loop-name.name-index c.args.names.now c.loop-name-test.false)

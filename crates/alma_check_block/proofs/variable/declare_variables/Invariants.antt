@@ -6,4 +6,5 @@ use Rattle.alma_check_block.proofs.variable.declare_variables.Given as goal
 
 abbrev pub invariant-loop-name : goal.invariant-loop-name
 invariant-loop-name l =
-    (f : rules.Frame) → shown l.fn.reader l.fn.frame ≡ told_frame f → shown l.reader l.frame ≡ told_frame (rules.variables_in f l.from l.shape (view.names_of (take l.name-index l.names)))
+    (f : rules.Frame) → shown l.fn.reader l.fn.frame ≡ told_frame f
+    → shown l.reader l.frame ≡ told_frame (rules.variables_in f l.from l.shape (view.names_of (take l.name-index l.names)))
