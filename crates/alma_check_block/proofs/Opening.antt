@@ -18,7 +18,8 @@ use Rattle.alma_check_block.proofs.Frames.{none_counted, more_counted}
 -- ---- counts
 
 pub count_on : (all : List dh.Decl) (i : ℕ) (x : dh.Decl) → i < length all → x ≡ get_or all i x
-    → rules.decls_routines (view.decls_of (drop i all)) ≡ rules.decl_routines (view.view_decl x) + rules.decls_routines (view.decls_of (drop (i + 1) all))
+    → rules.decls_routines (view.decls_of (drop i all)) ≡ rules.decl_routines (view.view_decl x)
+    + rules.decls_routines (view.decls_of (drop (i + 1) all))
 count_on all i x lt is = ap (λ xs. rules.decls_routines (view.decls_of xs)) (next_of all i x lt is) ∙ more_counted x (drop (i + 1) all)
 
 pub count_end : (all : List dh.Decl) (i : ℕ) → length all ≤ i → rules.decls_routines (view.decls_of (drop i all)) ≡ 0
@@ -48,7 +49,8 @@ procedure_at n name params result b e = refl
 pub procedure_count : (n : ℕ) (l : Name) (p : Option Params) (r : Option Name) (b : db.Block) (e : Name)
     → rules.decl_routines (view.view_decl (dh.Procedure n l p r b e)) ≡ 1 + rules.block_routines (view.view_block b)
 procedure_count n l p r b e =
-    ap rules.decl_routines (procedure_is n l p r b e) ∙ procedure_at n (view.view_name l) (view.params_of p) (view.result_of r) (view.view_block b) (view.view_name e)
+    ap rules.decl_routines (procedure_is n l p r b e)
+    ∙ procedure_at n (view.view_name l) (view.params_of p) (view.result_of r) (view.view_block b) (view.view_name e)
 
 pub some_to : (r : Option ℕ) (a b : ℕ) → a ≡ b → IfSome r (λ n. n ≡ a) → IfSome r (λ n. n ≡ b)
 some_to (Some n) a b e h = h ∙ e
@@ -64,14 +66,16 @@ routines_next s j n m i all x lt is h e =
     ∙ ap (λ k. rules.with_routines k (n + rules.decl_routines (view.view_decl x)) (view.decls_of (drop (i + 1) all))) (sym h)
     ∙ ap (λ k. rules.with_routines j k (view.decls_of (drop (i + 1) all))) (sym e)
 
-pub routines_end : (s : Scene) (n : ℕ) (i : ℕ) (all : List dh.Decl) → length all ≤ i → rules.with_routines s n (view.decls_of (drop i all)) ≡ s
+pub routines_end : (s : Scene) (n : ℕ) (i : ℕ) (all : List dh.Decl) → length all ≤ i
+    → rules.with_routines s n (view.decls_of (drop i all)) ≡ s
 routines_end s n i all h = ap (λ xs. rules.with_routines s n (view.decls_of xs)) (drop_all i all h)
 
 -- ---- the block
 
 pub opened_by : (s j k : Scene) (r first : ℕ) (ds : List (List ℕ × ℕ)) (ps : Option tree.Params) (b : db.Block) → first ≡ r + 1
     → ds ≡ rules.with_texts s (rules.formal_names (rules.formals_of ps) ++ rules.block_names (view.view_block b)) → j ≡ entered s ds r
-    → k ≡ rules.with_routines j first (view.decls_of b.decls.items) → k ≡ rules.with_block s r nothing (rules.formal_names (rules.formals_of ps)) (view.view_block b)
+    → k ≡ rules.with_routines j first (view.decls_of b.decls.items)
+    → k ≡ rules.with_block s r nothing (rules.formal_names (rules.formals_of ps)) (view.view_block b)
 opened_by s j k r first ds ps b e d h g =
     g ∙ ap (λ i. rules.with_routines i first (view.decls_of b.decls.items)) h
     ∙ ap (λ n. rules.with_routines (entered s ds r) n (view.decls_of b.decls.items)) e

@@ -1,5 +1,6 @@
 -- The names of a block, part by part.
-use Rattle.std.proofs.Common.{◌≡◌, ℕ, ◌<◌, List, [], ◌∷◌, ◌++◌, Option, None, Some, length, get_or, map, refl, sym, ap, ◌∙◌, Vec, Global, Box, Result, Ok, Err, arith}
+use Rattle.std.proofs.Common.{◌≡◌, ℕ, ◌<◌, List, [], ◌∷◌, ◌++◌, Option, None, Some, length, get_or, map, refl, sym, ap, ◌∙◌, Vec, Global}
+use Rattle.std.proofs.Common.{Box, Result, Ok, Err, arith}
 use Rattle.std.specs.Prelude.{OnOk}
 use Rattle.std.proofs.lemmas.List.{get_or_default}
 use Rattle.alma_tree.specs.declared.leaf.Name.{Name}
@@ -20,19 +21,23 @@ use Rattle.alma_rules.proofs.TypeRows.{type_is, record_is}
 
 -- ---- a list of names, and another behind it
 
-pub texts_joined : (s : Scene) (ds : List (List ℕ × ℕ)) (xs ys : List tree.Name) → rules.texts_behind s ds (xs ++ ys) ≡ rules.texts_behind s (rules.texts_behind s ds xs) ys
+pub texts_joined : (s : Scene) (ds : List (List ℕ × ℕ)) (xs ys : List tree.Name)
+    → rules.texts_behind s ds (xs ++ ys) ≡ rules.texts_behind s (rules.texts_behind s ds xs) ys
 texts_joined s ds [] ys = refl
 texts_joined s ds (x ∷ xs) ys = texts_joined s (rules.with_text ds (text_at s x.token) x.token) xs ys
 
 -- the names of one part, and then those of the rest
-pub joined_by : (s : Scene) (a b : List (List ℕ × ℕ)) (xs ys all : List tree.Name) → b ≡ rules.texts_behind s a xs → all ≡ xs ++ ys → rules.texts_behind s b ys ≡ rules.texts_behind s a all
+pub joined_by : (s : Scene) (a b : List (List ℕ × ℕ)) (xs ys all : List tree.Name) → b ≡ rules.texts_behind s a xs → all ≡ xs ++ ys
+    → rules.texts_behind s b ys ≡ rules.texts_behind s a all
 joined_by s a b xs ys all h e = ap (λ d. rules.texts_behind s d ys) h ∙ sym (texts_joined s a xs ys) ∙ ap (rules.texts_behind s a) (sym e)
 
 -- one more part of a list that is gone through
-pub names_on : (s : Scene) (a b start : List (List ℕ × ℕ)) (xs ys all : List tree.Name) → b ≡ rules.texts_behind s a xs → all ≡ xs ++ ys → rules.texts_behind s a all ≡ start → rules.texts_behind s b ys ≡ start
+pub names_on : (s : Scene) (a b start : List (List ℕ × ℕ)) (xs ys all : List tree.Name) → b ≡ rules.texts_behind s a xs → all ≡ xs ++ ys
+    → rules.texts_behind s a all ≡ start → rules.texts_behind s b ys ≡ start
 names_on s a b start xs ys all h e inv = joined_by s a b xs ys all h e ∙ inv
 
-pub names_end : (s : Scene) (a start : List (List ℕ × ℕ)) (rest : List tree.Name) → rest ≡ [] → rules.texts_behind s a rest ≡ start → a ≡ start
+pub names_end : (s : Scene) (a start : List (List ℕ × ℕ)) (rest : List tree.Name) → rest ≡ [] → rules.texts_behind s a rest ≡ start
+    → a ≡ start
 names_end s a start rest e inv = ap (rules.texts_behind s a) (sym e) ∙ inv
 
 -- what a last call gives, said of the whole
@@ -40,7 +45,8 @@ pub ok_eq : {A E : Type 0} (r : Result (Unit {0}) E) (x a b : A) → a ≡ b →
 ok_eq (Ok u) x a b e h = h ∙ e
 ok_eq (Err u) x a b e h = tt
 
-pub two_parts : {E : Type 0} (r : Result (Unit {0}) E) (s : Scene) (a b c : List (List ℕ × ℕ)) (xs ys all : List tree.Name) → b ≡ rules.texts_behind s a xs → all ≡ xs ++ ys
+pub two_parts : {E : Type 0} (r : Result (Unit {0}) E) (s : Scene) (a b c : List (List ℕ × ℕ)) (xs ys all : List tree.Name)
+    → b ≡ rules.texts_behind s a xs → all ≡ xs ++ ys
     → OnOk r (c ≡ rules.texts_behind s b ys) → OnOk r (c ≡ rules.texts_behind s a all)
 two_parts r s a b c xs ys all h e k = ok_eq r c (rules.texts_behind s b ys) (rules.texts_behind s a all) (joined_by s a b xs ys all h e) k
 
@@ -50,20 +56,23 @@ same_names r s a c xs all e k = ok_eq r c (rules.texts_behind s a xs) (rules.tex
 
 -- ---- the names of types
 
-type_at : (n : ℕ) (dims : tree.Arrays) (p : tree.PlainType) → types.type_names (tree.type_node n dims p) ≡ types.arrays_names dims ++ types.plain_names p
+type_at : (n : ℕ) (dims : tree.Arrays) (p : tree.PlainType)
+    → types.type_names (tree.type_node n dims p) ≡ types.arrays_names dims ++ types.plain_names p
 unfolding types.type_names
 type_at n dims p = refl
 
 pub type_parts : (t : dy.TypeNode) → types.type_names (view.view_type_node t)
     ≡ types.arrays_names (view.arrays_of (dy.out-TypeNode t).arrays) ++ types.plain_names (view.view_plain_type (dy.out-TypeNode t).element)
-type_parts t = ap types.type_names (type_is t) ∙ type_at (dy.out-TypeNode t).node (view.arrays_of (dy.out-TypeNode t).arrays) (view.view_plain_type (dy.out-TypeNode t).element)
+type_parts t = ap types.type_names (type_is t)
+    ∙ type_at (dy.out-TypeNode t).node (view.arrays_of (dy.out-TypeNode t).arrays) (view.view_plain_type (dy.out-TypeNode t).element)
 
 pub no_arrays : [] ≡ types.arrays_names (view.arrays_of None)
 unfolding types.type_names
 no_arrays = refl
 
 pub arrays_parts : (a : dz.Arrays) → types.arrays_names (view.arrays_of (Some a))
-    ≡ types.dimensions_names (view.view_dimension (dz.out-Arrays a).first) ++ types.dimension_tail_names (view.dimensions_of (dz.out-Arrays a).more.items)
+    ≡ types.dimensions_names (view.view_dimension (dz.out-Arrays a).first)
+    ++ types.dimension_tail_names (view.dimensions_of (dz.out-Arrays a).more.items)
 unfolding types.type_names
 arrays_parts a = refl
 
@@ -105,13 +114,16 @@ subrange_at n low high = refl
 pub subrange_plain : (n : ℕ) (low high : _) → [] ≡ types.plain_names (view.view_plain_type (dq.Subrange n low high))
 subrange_plain n low high = subrange_at n (view.view_expr low) (view.view_expr high)
 
-record_at : (n : ℕ) (f : tree.FieldList) (rest : tree.FieldListTail) → types.plain_names (tree.record_type n f rest) ≡ types.fields_names f ++ types.field_tail_names rest
+record_at : (n : ℕ) (f : tree.FieldList) (rest : tree.FieldListTail)
+    → types.plain_names (tree.record_type n f rest) ≡ types.fields_names f ++ types.field_tail_names rest
 unfolding types.type_names
 record_at n f rest = refl
 
-pub record_parts : (n : ℕ) (f : Box dw.FieldList Global) (more : Vec dw.FieldList Global) → types.plain_names (view.view_plain_type (dq.Record n f more))
+pub record_parts : (n : ℕ) (f : Box dw.FieldList Global) (more : Vec dw.FieldList Global)
+    → types.plain_names (view.view_plain_type (dq.Record n f more))
     ≡ types.fields_names (view.view_field_list f.value) ++ types.field_tail_names (view.field_lists_of more.items)
-record_parts n f more = ap types.plain_names (record_is n f more) ∙ record_at n (view.view_field_list f.value) (view.field_lists_of more.items)
+record_parts n f more = ap types.plain_names (record_is n f more)
+    ∙ record_at n (view.view_field_list f.value) (view.field_lists_of more.items)
 
 pub empty_list : (n : ℕ) → [] ≡ types.fields_names (view.view_field_list (dw.Empty n))
 unfolding types.type_names
@@ -121,7 +133,8 @@ fields_at : (n : ℕ) (names : tree.Names) (t : tree.TypeNode) → types.type_na
 unfolding types.type_names
 fields_at n names t = refl
 
-pub fields_list : (n : ℕ) (l : Names) (t : dy.TypeNode) → types.type_names (view.view_type_node t) ≡ types.fields_names (view.view_field_list (dw.Fields n l t))
+pub fields_list : (n : ℕ) (l : Names) (t : dy.TypeNode)
+    → types.type_names (view.view_type_node t) ≡ types.fields_names (view.view_field_list (dw.Fields n l t))
 fields_list n l t = fields_at n (view.view_names l) (view.view_type_node t)
 
 pub field_tail_parts : (x : dw.FieldList) (rest : List dw.FieldList) → types.field_tail_names (view.field_lists_of (x ∷ rest))
@@ -144,9 +157,11 @@ name_is all i lt = get_or_default all i (record { node = 0; token = 0 }) (name_a
 -- ---- parameters, and the whole block
 
 pub params_parts : (ps : Option Params) (p : Params) (fs : Formals) → ps ≡ Some p → p.formals ≡ Some fs
-    → rules.formal_names (rules.formals_of (view.params_of ps)) ≡ types.all_names (view.view_names fs.first.names) ++ rules.formal_names (view.more_formals_of fs.more.items)
+    → rules.formal_names (rules.formals_of (view.params_of ps)) ≡ types.all_names (view.view_names fs.first.names)
+    ++ rules.formal_names (view.more_formals_of fs.more.items)
 params_parts ps p fs e h =
-    ap (λ x. rules.formal_names (rules.formals_of (view.params_of x))) e ∙ ap (λ x. rules.formal_names (rules.formals_in (view.formals_in x))) h
+    ap (λ x. rules.formal_names (rules.formals_of (view.params_of x))) e
+    ∙ ap (λ x. rules.formal_names (rules.formals_in (view.formals_in x))) h
 
 pub params_are : (ps : Option Params) (p : Params) (fs : Formals) → ps ≡ Some p → p.formals ≡ Some fs
     → rules.formals_of (view.params_of ps) ≡ view.view_formal fs.first ∷ view.more_formals_of fs.more.items
@@ -159,5 +174,6 @@ pub none_named : (es : List (Vec ℕ Global × ℕ)) → length es ≡ 0 → map
 none_named [] h = refl
 none_named (e ∷ es) h = absurd (omega (arith, h))
 
-pub whole_names : (s : Scene) (a b d : List (List ℕ × ℕ)) (xs ys : List tree.Name) → a ≡ [] → b ≡ rules.texts_behind s a xs → d ≡ rules.texts_behind s b ys → d ≡ rules.with_texts s (xs ++ ys)
+pub whole_names : (s : Scene) (a b d : List (List ℕ × ℕ)) (xs ys : List tree.Name) → a ≡ [] → b ≡ rules.texts_behind s a xs
+    → d ≡ rules.texts_behind s b ys → d ≡ rules.with_texts s (xs ++ ys)
 whole_names s a b d xs ys e h k = k ∙ joined_by s a b xs ys (xs ++ ys) h refl ∙ ap (λ z. rules.texts_behind s z (xs ++ ys)) e

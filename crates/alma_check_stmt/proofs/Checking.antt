@@ -27,7 +27,15 @@ on_ok (Err e) f h = h
 
 -- a frame in which no rule is broken, of what is told of one
 abbrev frame_from : ToldFrame → Frame
-frame_from t = record { faults = []; scene = t.scene; slots = t.slots; declared = t.declared; params = t.params; formals = t.formals; variables = t.variables }
+frame_from t = record {
+  faults = [];
+  scene = t.scene;
+  slots = t.slots;
+  declared = t.declared;
+  params = t.params;
+  formals = t.formals;
+  variables = t.variables;
+}
 
 pub shown_in : (s : Scene) (x : CodeFrame) → x.fault ≡ None → shown s x ≡ told_frame (frame_in s x)
 shown_in s x e = rw e refl
@@ -39,31 +47,41 @@ no_fault (Some b) e = absurd (cc)
 pub frame_told : (s : Scene) (x : CodeFrame) (g : Frame) → shown s x ≡ told_frame g → frame_in s x ≡ quiet g
 frame_told s x g e = ap frame_from e
 
-stage_read : (f o : Option Broken) (v : Option (List Rattle.alma_ir.specs.Tree.Routine)) (n : ℕ) (s0 s1 : Scene) (g : Frame) → o ≡ least g.faults → s1 ≡ g.scene → with_fault (stage f v n s1) o ≡ read_stage (stage f v n s0) g
+stage_read : (f o : Option Broken) (v : Option (List Rattle.alma_ir.specs.Tree.Routine)) (n : ℕ) (s0 s1 : Scene) (g : Frame)
+    → o ≡ least g.faults → s1 ≡ g.scene → with_fault (stage f v n s1) o ≡ read_stage (stage f v n s0) g
 stage_read f o v n s0 s1 g a b = rw (a, b) refl
 
-pub block_checked : (x x1 : Checked) (s0 s1 : Scene) (f1 : CodeFrame) (g : Frame) (u : Stage) (name : tree.Name) (outer end : ℕ) (decls : tree.DeclTail) (body : Option tree.Stmts)
-    → shown s1 f1 ≡ told_frame g → least g.faults ≡ first g.faults → stand x1 s1 ≡ with_fault (stand x s1) (fault_of f1.fault) → through_block (stand x1 s1) (frame_in s1 f1) name outer end decls body ≡ u
+pub block_checked : (x x1 : Checked) (s0 s1 : Scene) (f1 : CodeFrame) (g : Frame) (u : Stage) (name : tree.Name) (outer end : ℕ)
+    (decls : tree.DeclTail) (body : Option tree.Stmts)
+    → shown s1 f1 ≡ told_frame g → least g.faults ≡ first g.faults → stand x1 s1 ≡ with_fault (stand x s1) (fault_of f1.fault)
+    → through_block (stand x1 s1) (frame_in s1 f1) name outer end decls body ≡ u
     → through_read (stand x s0) g name outer end decls body ≡ u
 block_checked x x1 s0 s1 f1 g u name outer end decls body told l a e =
     read_by (stand x s0) (stand x1 s1) u g (frame_in s1 f1) name outer end decls body
-    (a ∙ stage_read (fault_of x.fault) (fault_of f1.fault) (routines_in x) x.next s0 s1 g (ap (λ (t : ToldFrame). t.fault) told ∙ sym l) (ap (λ (t : ToldFrame). t.scene) told))
+    (a ∙ stage_read (fault_of x.fault) (fault_of f1.fault) (routines_in x) x.next s0 s1 g (ap (λ (t : ToldFrame). t.fault) told ∙ sym l)
+    (ap (λ (t : ToldFrame). t.scene) told))
     (frame_told s1 f1 g told) e
 
 -- ---- procedures
 
-pub inner_read : (x0 x1 : Checked) (s0 s1 : Scene) (f1 : CodeFrame) (k : ℕ) (params : Option tree.Params) (result : Option tree.Name) (m : ℕ) (decls : tree.DeclTail) (body : Option tree.Stmts) (name : tree.Name) (outer outer' end end' : ℕ) (u : Stage)
-    → ((s : Scene) → stand x1 s ≡ counted (stand x0 s)) → frame_in s1 f1 ≡ frame_of (read_heading s0 x0.next k params result (tree.block m decls body)) → outer ≡ outer' → end ≡ end'
+pub inner_read : (x0 x1 : Checked) (s0 s1 : Scene) (f1 : CodeFrame) (k : ℕ) (params : Option tree.Params) (result : Option tree.Name)
+    (m : ℕ) (decls : tree.DeclTail) (body : Option tree.Stmts) (name : tree.Name) (outer outer' end end' : ℕ) (u : Stage)
+    → ((s : Scene) → stand x1 s ≡ counted (stand x0 s))
+    → frame_in s1 f1 ≡ frame_of (read_heading s0 x0.next k params result (tree.block m decls body)) → outer ≡ outer' → end ≡ end'
     → through_read (stand x1 s1) (read_decls (frame_in s1 f1) x1.next decls) name outer end decls body ≡ u
     → through_read (counted (stand x0 s0)) (inner_frame s0 x0.next k params result m decls body) name outer' end' decls body ≡ u
 inner_read x0 x1 s0 s1 f1 k params result m decls body name outer outer' end end' u c e o d h =
     let n : x1.next ≡ x0.next + 1 = ap (λ (y : Stage). y.next) (c s1) in
     let h1 = subst (λ (y : Stage). through_read y (read_decls (frame_in s1 f1) x1.next decls) name outer end decls body ≡ u) (c s1) h in
     let h2 = subst (λ i. through_read (counted (stand x0 s1)) (read_decls (frame_in s1 f1) i decls) name outer end decls body ≡ u) n h1 in
-    let h3 = subst (λ (f : Frame). through_read (counted (stand x0 s1)) (read_decls f (x0.next + 1) decls) name outer end decls body ≡ u) e h2 in
-    let h4 = subst (λ i. through_read (counted (stand x0 s1)) (inner_frame s0 x0.next k params result m decls body) name i end decls body ≡ u) o h3 in
-    subst (λ i. through_read (counted (stand x0 s1)) (inner_frame s0 x0.next k params result m decls body) name outer' i decls body ≡ u) d h4
+    let h3 = subst (λ (f : Frame). through_read (counted (stand x0 s1)) (read_decls f (x0.next + 1) decls) name outer end decls body ≡ u) e
+    h2 in
+    let h4 = subst (λ i. through_read (counted (stand x0 s1)) (inner_frame s0 x0.next k params result m decls body) name i end decls
+    body ≡ u) o h3 in
+    subst (λ i. through_read (counted (stand x0 s1)) (inner_frame s0 x0.next k params result m decls body) name outer' i decls body ≡ u) d
+    h4
 
-pub cleared_by : (s0 s2 s3 s4 : Scene) (a : Outer) (from n n2 : ℕ) → s3 ≡ left s2 a → a ≡ outer_of s0 → from ≡ n + 1 → s4 ≡ record s3 { headings = cleared from (n2 - from) s3.headings }
+pub cleared_by : (s0 s2 s3 s4 : Scene) (a : Outer) (from n n2 : ℕ) → s3 ≡ left s2 a → a ≡ outer_of s0 → from ≡ n + 1
+    → s4 ≡ record s3 { headings = cleared from (n2 - from) s3.headings }
     → s4 ≡ record (left s2 (outer_of s0)) { headings = cleared (n + 1) (n2 - (n + 1)) s2.headings }
 cleared_by s0 s2 s3 s4 a from n n2 l o f e = e ∙ rw (l, o, f) refl

@@ -1,9 +1,11 @@
 -- The headings that the declarations of a block read, and those that its end forgets.
-use Rattle.std.proofs.Common.{◌≡◌, ◌≢◌, ℕ, zero, suc, ◌+◌, ◌-◌, ◌<◌, ◌≤◌, ◌⊎◌, inl, inr, Bool, true, false, List, [], ◌∷◌, ◌++◌, length, get_or, set, Option, None, refl, sym, ap, subst, ◌∙◌, arith}
+use Rattle.std.proofs.Common.{◌≡◌, ◌≢◌, ℕ, zero, suc, ◌+◌, ◌-◌, ◌<◌, ◌≤◌, ◌⊎◌, inl, inr, Bool, true, false, List, [], ◌∷◌, ◌++◌, length}
+use Rattle.std.proofs.Common.{get_or, set, Option, None, refl, sym, ap, subst, ◌∙◌, arith}
 use Rattle.std.specs.Prelude.{nat_eq, nat_lt}
 use Rattle.std.proofs.lemmas.Bool.{ltb-true, ltb-false}
 use Rattle.std.proofs.lemmas.Bool.Decides.{eqb_tells}
-use Rattle.std.proofs.lemmas.List.{get_or-set_same, get_or-set_other, length-set, ext_get_or, take_at, get_or_at, length_push, set_past, get_or_past}
+use Rattle.std.proofs.lemmas.List.{get_or-set_same, get_or-set_other, length-set, ext_get_or, take_at, get_or_at, length_push, set_past}
+use Rattle.std.proofs.lemmas.List.{get_or_past}
 use Rattle.alma_names.specs.Scopes.{Blocks, without_top_block}
 use Rattle.alma_names.specs.Shapes.{PlainShape}
 use Rattle.alma_rules.specs.Numbered as tree
@@ -40,17 +42,20 @@ proc_in r tree.no_decl q h = absurd h
 proc_in r (tree.more_decl d rest) q (inl h) = let e = here_in r d q h in (e.0, omega (arith, e.1))
 proc_in r (tree.more_decl d rest) q (inr h) = let e = proc_in (r + decl_routines d) rest q h in (omega (arith, e.0), omega (arith, e.1))
 
-decl_heads : (f : Frame) (r : ℕ) (d : tree.Decl) (i : ℕ) → (IsProcHere r d i → ⊥) → get_or (read_decl f r d).scene.headings i None ≡ get_or f.scene.headings i None
+decl_heads : (f : Frame) (r : ℕ) (d : tree.Decl) (i : ℕ) → (IsProcHere r d i → ⊥)
+    → get_or (read_decl f r d).scene.headings i None ≡ get_or f.scene.headings i None
 decl_heads f r (tree.const_decl n xs) i away = ap (λ hs. get_or hs i None) (consts_same (λ (s : Scene). s.headings) headings_steady f xs)
 decl_heads f r (tree.type_decl n xs) i away = ap (λ hs. get_or hs i None) (types_same (λ (s : Scene). s.headings) headings_steady f xs)
 decl_heads f r (tree.var_decl n xs) i away = ap (λ hs. get_or hs i None) (vars_same (λ (s : Scene). s.headings) headings_steady f xs)
-decl_heads f r (tree.procedure n name params result b end_name) i away = get_or-set_other f.scene.headings r i (read_heading f.scene r n params result b).heading None away
+decl_heads f r (tree.procedure n name params result b end_name) i away =
+    get_or-set_other f.scene.headings r i (read_heading f.scene r n params result b).heading None away
 
 decl_long : (f : Frame) (r : ℕ) (d : tree.Decl) → length (read_decl f r d).scene.headings ≡ length f.scene.headings
 decl_long f r (tree.const_decl n xs) = ap length (consts_same (λ (s : Scene). s.headings) headings_steady f xs)
 decl_long f r (tree.type_decl n xs) = ap length (types_same (λ (s : Scene). s.headings) headings_steady f xs)
 decl_long f r (tree.var_decl n xs) = ap length (vars_same (λ (s : Scene). s.headings) headings_steady f xs)
-decl_long f r (tree.procedure n name params result b end_name) = length-set f.scene.headings r (read_heading f.scene r n params result b).heading
+decl_long f r (tree.procedure n name params result b end_name) =
+    length-set f.scene.headings r (read_heading f.scene r n params result b).heading
 
 decl_ground : (f : Frame) (r : ℕ) (d : tree.Decl) → ground (read_decl f r d).scene ≡ ground f.scene
 decl_ground f r (tree.const_decl n xs) = consts_same ground ground_steady f xs
@@ -58,10 +63,12 @@ decl_ground f r (tree.type_decl n xs) = types_same ground ground_steady f xs
 decl_ground f r (tree.var_decl n xs) = vars_same ground ground_steady f xs
 decl_ground f r (tree.procedure n name params result b end_name) = refl
 
-decls_heads : (f : Frame) (r : ℕ) (x : tree.DeclTail) (i : ℕ) → (IsProc r x i → ⊥) → get_or (read_decls f r x).scene.headings i None ≡ get_or f.scene.headings i None
+decls_heads : (f : Frame) (r : ℕ) (x : tree.DeclTail) (i : ℕ) → (IsProc r x i → ⊥)
+    → get_or (read_decls f r x).scene.headings i None ≡ get_or f.scene.headings i None
 unfolding IsProc
 decls_heads f r tree.no_decl i away = refl
-decls_heads f r (tree.more_decl d rest) i away = decls_heads (read_decl f r d) (r + decl_routines d) rest i (λ h. away (inr h)) ∙ decl_heads f r d i (λ h. away (inl h))
+decls_heads f r (tree.more_decl d rest) i away = decls_heads (read_decl f r d) (r + decl_routines d) rest i (λ h. away (inr h))
+    ∙ decl_heads f r d i (λ h. away (inl h))
 
 decls_long : (f : Frame) (r : ℕ) (x : tree.DeclTail) → length (read_decls f r x).scene.headings ≡ length f.scene.headings
 decls_long f r tree.no_decl = refl
@@ -73,7 +80,8 @@ decls_ground f r (tree.more_decl d rest) = decls_ground (read_decl f r d) (r + d
 
 -- ---- no routine inside a procedure has a heading
 
-inside_by : (hs : List (Option Heading)) (r : ℕ) (d : tree.Decl) → ((i : ℕ) → r < i → i < r + decl_routines d → get_or hs i None ≡ None) → IsEmptyInside hs r d
+inside_by : (hs : List (Option Heading)) (r : ℕ) (d : tree.Decl) → ((i : ℕ) → r < i → i < r + decl_routines d → get_or hs i None ≡ None)
+    → IsEmptyInside hs r d
 unfolding decls_routines
 inside_by hs r (tree.const_decl n xs) h = tt
 inside_by hs r (tree.type_decl n xs) h = tt
@@ -86,7 +94,8 @@ here_first r (tree.type_decl n xs) q h = absurd h
 here_first r (tree.var_decl n xs) q h = absurd h
 here_first r (tree.procedure n name params result b end_name) q h = h
 
-all_inside : (hs : List (Option Heading)) (r : ℕ) (x : tree.DeclTail) → ((i : ℕ) → r ≤ i → i < r + decls_routines x → (IsProc r x i → ⊥) → get_or hs i None ≡ None) → AreEmptyInside hs r x
+all_inside : (hs : List (Option Heading)) (r : ℕ) (x : tree.DeclTail)
+    → ((i : ℕ) → r ≤ i → i < r + decls_routines x → (IsProc r x i → ⊥) → get_or hs i None ≡ None) → AreEmptyInside hs r x
 unfolding decls_routines IsProc AreEmptyInside
 all_inside hs r tree.no_decl h = tt
 all_inside hs r (tree.more_decl d rest) h = (
@@ -98,12 +107,14 @@ all_inside hs r (tree.more_decl d rest) h = (
     first i lt le (inl p) = let e = here_first r d i p in omega (arith, e, lt)
     first i lt le (inr p) = let e = proc_in (r + decl_routines d) rest i p in omega (arith, e.0, le)
 
-    later : (i : ℕ) → r + decl_routines d ≤ i → (IsProc (r + decl_routines d) rest i → ⊥) → IsProcHere r d i ⊎ IsProc (r + decl_routines d) rest i → ⊥
+    later : (i : ℕ) → r + decl_routines d ≤ i → (IsProc (r + decl_routines d) rest i → ⊥) → IsProcHere r d i
+        ⊎ IsProc (r + decl_routines d) rest i → ⊥
     later i le away (inl p) = let e = here_in r d i p in omega (arith, e.1, le)
     later i le away (inr p) = away p
 
 -- the declarations of a block read no heading of a routine inside a procedure
-pub read_inside : (f : Frame) (r : ℕ) (x : tree.DeclTail) → AreEmpty f.scene.headings r (decls_routines x) → AreEmptyInside (read_decls f r x).scene.headings r x
+pub read_inside : (f : Frame) (r : ℕ) (x : tree.DeclTail) → AreEmpty f.scene.headings r (decls_routines x)
+    → AreEmptyInside (read_decls f r x).scene.headings r x
 read_inside f r x h = all_inside (read_decls f r x).scene.headings r x (λ i le lt away. decls_heads f r x i away ∙ h i le lt)
 
 -- ---- headings that are forgotten
@@ -125,7 +136,8 @@ cleared_inside : (a n i : ℕ) (hs : List (Option Heading)) → a ≤ i → i < 
 cleared_inside a zero i hs le lt = absurd (let bad : ⊥ = omega (arith, le, lt) in bad)
 cleared_inside a (suc n) i hs le lt = by (eqb_tells i (a + n)) (cleared_inside a n i hs le)
   where
-    by : ((nat_eq i (a + n) ≡ true) × (i ≡ a + n)) ⊎ ((nat_eq i (a + n) ≡ false) × (i ≢ a + n)) → (i < a + n → get_or (cleared a n hs) i None ≡ None) → get_or (set (cleared a n hs) (a + n) None) i None ≡ None
+    by : ((nat_eq i (a + n) ≡ true) × (i ≡ a + n)) ⊎ ((nat_eq i (a + n) ≡ false) × (i ≢ a + n))
+        → (i < a + n → get_or (cleared a n hs) i None ≡ None) → get_or (set (cleared a n hs) (a + n) None) i None ≡ None
     by (inl e) h = subst (λ j. get_or (set (cleared a n hs) (a + n) None) j None ≡ None) (sym e.1) (set_none (cleared a n hs) (a + n))
     by (inr e) h = get_or-set_other (cleared a n hs) (a + n) i None None e.1 ∙ h (omega (arith, lt, e.1))
 
@@ -142,21 +154,26 @@ cleared_outside a (suc n) i hs h = get_or-set_other (cleared a n hs) (a + n) i N
     less (inr l) = inr (omega (arith, l))
 
 -- as they were before the declarations
-pub decls_cleared : (f : Frame) (r : ℕ) (x : tree.DeclTail) → AreEmpty f.scene.headings r (decls_routines x) → cleared r (decls_routines x) (read_decls f r x).scene.headings ≡ f.scene.headings
+pub decls_cleared : (f : Frame) (r : ℕ) (x : tree.DeclTail) → AreEmpty f.scene.headings r (decls_routines x)
+    → cleared r (decls_routines x) (read_decls f r x).scene.headings ≡ f.scene.headings
 decls_cleared f r x h =
-    ext_get_or None (cleared r n (read_decls f r x).scene.headings) f.scene.headings (cleared_long r n (read_decls f r x).scene.headings ∙ decls_long f r x) (λ i lt. by i (nat_lt i r) refl (nat_lt i (r + n)) refl)
+    ext_get_or None (cleared r n (read_decls f r x).scene.headings) f.scene.headings
+    (cleared_long r n (read_decls f r x).scene.headings ∙ decls_long f r x) (λ i lt. by i (nat_lt i r) refl (nat_lt i (r + n)) refl)
   where
     n : ℕ
     n = decls_routines x
 
-    outside : (i : ℕ) → (i < r) ⊎ (r + decls_routines x ≤ i) → get_or (cleared r (decls_routines x) (read_decls f r x).scene.headings) i None ≡ get_or f.scene.headings i None
-    outside i p = cleared_outside r (decls_routines x) i (read_decls f r x).scene.headings p ∙ decls_heads f r x i (λ q. far p (proc_in r x i q))
+    outside : (i : ℕ) → (i < r) ⊎ (r + decls_routines x ≤ i)
+        → get_or (cleared r (decls_routines x) (read_decls f r x).scene.headings) i None ≡ get_or f.scene.headings i None
+    outside i p = cleared_outside r (decls_routines x) i (read_decls f r x).scene.headings p
+        ∙ decls_heads f r x i (λ q. far p (proc_in r x i q))
       where
         far : (i < r) ⊎ (r + decls_routines x ≤ i) → (r ≤ i) × (i < r + decls_routines x) → ⊥
         far (inl l) e = omega (arith, l, e.0)
         far (inr l) e = omega (arith, l, e.1)
 
-    by : (i : ℕ) (b : Bool) → nat_lt i r ≡ b → (c : Bool) → nat_lt i (r + decls_routines x) ≡ c → get_or (cleared r (decls_routines x) (read_decls f r x).scene.headings) i None ≡ get_or f.scene.headings i None
+    by : (i : ℕ) (b : Bool) → nat_lt i r ≡ b → (c : Bool) → nat_lt i (r + decls_routines x) ≡ c
+        → get_or (cleared r (decls_routines x) (read_decls f r x).scene.headings) i None ≡ get_or f.scene.headings i None
     by i true p c q = outside i (inl (ltb-true i r p))
     by i false p false q = outside i (inr (ltb-false i (r + decls_routines x) q))
     by i false p true q =
@@ -171,37 +188,59 @@ closed_blocks b t e =
     let k : length (b.below ++ b.top ∷ []) - 1 ≡ length b.below = omega (arith, length_push b.below b.top) in
     rw (e, k, take_at b.below (b.top ∷ []) (length b.below) refl, get_or_at b.below b.top [] [] (length b.below) refl) refl
 
-closed_by : (s t : Scene) (shapes : List PlainShape) (hs : List (Option Heading)) → ground t ≡ record (ground s) { below = s.blocks.below ++ s.blocks.top ∷ [] } → hs ≡ s.headings
+closed_by : (s t : Scene) (shapes : List PlainShape) (hs : List (Option Heading))
+    → ground t ≡ record (ground s) { below = s.blocks.below ++ s.blocks.top ∷ [] } → hs ≡ s.headings
     → record (left (with_shapes t shapes) (outer_of s)) { headings = hs } ≡ with_shapes s shapes
 closed_by s t shapes hs g h =
-    rw (h, closed_blocks s.blocks t.blocks (ap (λ x. x.below) g), ap (λ x. x.source) g, ap (λ x. x.tokens) g, ap (λ x. x.constant) g, ap (λ x. x.inside) g) refl
+    rw (
+      h,
+      closed_blocks s.blocks t.blocks (ap (λ x. x.below) g),
+      ap (λ x. x.source) g,
+      ap (λ x. x.tokens) g,
+      ap (λ x. x.constant) g,
+      ap (λ x. x.inside) g,
+    ) refl
 
 -- the frame of a procedure behind its declarations
 abbrev pub inner_frame : Scene → (r n : ℕ) → Option tree.Params → Option tree.Name → (m : ℕ) → tree.DeclTail → Option tree.Stmts → Frame
-inner_frame s r n params result m decls body = read_decls (frame_of (read_heading s r n params result (tree.block m decls body))) (r + 1) decls
+inner_frame s r n params result m decls body =
+    read_decls (frame_of (read_heading s r n params result (tree.block m decls body))) (r + 1) decls
 
-pub heading_ground : (s : Scene) (r n : ℕ) (params : Option tree.Params) (result : Option tree.Name) (b : tree.Block) → ground (read_heading s r n params result b).frame.scene ≡ record (ground s) { below = s.blocks.below ++ s.blocks.top ∷ [] }
+pub heading_ground : (s : Scene) (r n : ℕ) (params : Option tree.Params) (result : Option tree.Name) (b : tree.Block)
+    → ground (read_heading s r n params result b).frame.scene ≡ record (ground s) { below = s.blocks.below ++ s.blocks.top ∷ [] }
 heading_ground s r n params result b = head_same ground ground_steady s r n params result b
 
-pub heading_empty : (s : Scene) (r n : ℕ) (params : Option tree.Params) (result : Option tree.Name) (b : tree.Block) (a k : ℕ) → AreEmpty s.headings a k → AreEmpty (read_heading s r n params result b).frame.scene.headings a k
-heading_empty s r n params result b a k h = subst (λ hs. AreEmpty hs a k) (sym (head_same (λ (x : Scene). x.headings) headings_steady s r n params result b)) h
+pub heading_empty : (s : Scene) (r n : ℕ) (params : Option tree.Params) (result : Option tree.Name) (b : tree.Block) (a k : ℕ)
+    → AreEmpty s.headings a k → AreEmpty (read_heading s r n params result b).frame.scene.headings a k
+heading_empty s r n params result b a k h =
+    subst (λ hs. AreEmpty hs a k) (sym (head_same (λ (x : Scene). x.headings) headings_steady s r n params result b)) h
 
-pub inner_ground : (s : Scene) (r n : ℕ) (params : Option tree.Params) (result : Option tree.Name) (m : ℕ) (decls : tree.DeclTail) (body : Option tree.Stmts)
+pub inner_ground : (s : Scene) (r n : ℕ) (params : Option tree.Params) (result : Option tree.Name) (m : ℕ) (decls : tree.DeclTail)
+    (body : Option tree.Stmts)
     → ground (inner_frame s r n params result m decls body).scene ≡ record (ground s) { below = s.blocks.below ++ s.blocks.top ∷ [] }
 inner_ground s r n params result m decls body =
-    decls_ground (frame_of (read_heading s r n params result (tree.block m decls body))) (r + 1) decls ∙ heading_ground s r n params result (tree.block m decls body)
+    decls_ground (frame_of (read_heading s r n params result (tree.block m decls body))) (r + 1) decls
+    ∙ heading_ground s r n params result (tree.block m decls body)
 
-pub scene_closed : (s : Scene) (r n : ℕ) (params : Option tree.Params) (result : Option tree.Name) (m : ℕ) (decls : tree.DeclTail) (body : Option tree.Stmts) (shapes : List PlainShape)
+pub scene_closed : (s : Scene) (r n : ℕ) (params : Option tree.Params) (result : Option tree.Name) (m : ℕ) (decls : tree.DeclTail)
+    (body : Option tree.Stmts) (shapes : List PlainShape)
     → AreEmpty s.headings (r + 1) (decls_routines decls)
-    → record (left (with_shapes (inner_frame s r n params result m decls body).scene shapes) (outer_of s)) { headings = cleared (r + 1) (decls_routines decls) (inner_frame s r n params result m decls body).scene.headings } ≡ with_shapes s shapes
+    → record (left (with_shapes (inner_frame s r n params result m decls body).scene shapes) (outer_of s))
+    { headings = cleared (r + 1) (decls_routines decls) (inner_frame s r n params result m decls body).scene.headings } ≡ with_shapes s
+    shapes
 scene_closed s r n params result m decls body shapes e =
     let h = frame_of (read_heading s r n params result (tree.block m decls body)) in
-    closed_by s (inner_frame s r n params result m decls body).scene shapes (cleared (r + 1) (decls_routines decls) (inner_frame s r n params result m decls body).scene.headings)
+    closed_by s (inner_frame s r n params result m decls body).scene shapes
+    (cleared (r + 1) (decls_routines decls) (inner_frame s r n params result m decls body).scene.headings)
     (inner_ground s r n params result m decls body)
-    (decls_cleared (frame_of (read_heading s r n params result (tree.block m decls body))) (r + 1) decls (heading_empty s r n params result (tree.block m decls body) (r + 1) (decls_routines decls) e)
+    (decls_cleared (frame_of (read_heading s r n params result (tree.block m decls body))) (r + 1) decls
+    (heading_empty s r n params result (tree.block m decls body) (r + 1) (decls_routines decls) e)
     ∙ head_same (λ (x : Scene). x.headings) headings_steady s r n params result (tree.block m decls body))
 
-pub inner_inside : (s : Scene) (r n : ℕ) (params : Option tree.Params) (result : Option tree.Name) (m : ℕ) (decls : tree.DeclTail) (body : Option tree.Stmts)
-    → AreEmpty s.headings (r + 1) (decls_routines decls) → AreEmptyInside (inner_frame s r n params result m decls body).scene.headings (r + 1) decls
+pub inner_inside : (s : Scene) (r n : ℕ) (params : Option tree.Params) (result : Option tree.Name) (m : ℕ) (decls : tree.DeclTail)
+    (body : Option tree.Stmts)
+    → AreEmpty s.headings (r + 1) (decls_routines decls)
+    → AreEmptyInside (inner_frame s r n params result m decls body).scene.headings (r + 1) decls
 inner_inside s r n params result m decls body e =
-    read_inside (frame_of (read_heading s r n params result (tree.block m decls body))) (r + 1) decls (heading_empty s r n params result (tree.block m decls body) (r + 1) (decls_routines decls) e)
+    read_inside (frame_of (read_heading s r n params result (tree.block m decls body))) (r + 1) decls
+    (heading_empty s r n params result (tree.block m decls body) (r + 1) (decls_routines decls) e)

@@ -14,9 +14,11 @@ use Rattle.alma_check_rules.specs.Views.{stmts_of}
 use Rattle.alma_check_block.specs.declared.frame.Frame.{Frame}
 use Rattle.alma_check_stmt.specs.Inner.Framed.{frame_in}
 
-own_same : (s : Scene) (x : Frame) (n : ℕ) (b : Option tree.Stmts) → n ≡ x.slots → judge_body (new_frame s n) b ≡ judge_body (frame_in s x) b
+own_same : (s : Scene) (x : Frame) (n : ℕ) (b : Option tree.Stmts) → n ≡ x.slots
+    → judge_body (new_frame s n) b ≡ judge_body (frame_in s x) b
 own_same s x n None e = rw e refl
 own_same s x n (Some b) e = ap (λ k. judge_stmts s k b) e
 
-pub own_answers : (s : Scene) (x : Frame) (n m : ℕ) (b : Option tree.Stmts) (r : Result (Option (Vec Stmt Global)) Stop) → n ≡ x.slots → Answers (judge_body (new_frame s n) b) stmts_of m r → Answers (judge_body (frame_in s x) b) stmts_of m r
+pub own_answers : (s : Scene) (x : Frame) (n m : ℕ) (b : Option tree.Stmts) (r : Result (Option (Vec Stmt Global)) Stop) → n ≡ x.slots
+    → Answers (judge_body (new_frame s n) b) stmts_of m r → Answers (judge_body (frame_in s x) b) stmts_of m r
 own_answers s x n m b r e h = subst (λ (j : Judged ir.Stmts). Answers j stmts_of m r) (own_same s x n b e) h

@@ -125,6 +125,7 @@ abbrev pub joined_lists : Option (List ir.Routine) → Option (List ir.Routine) 
 joined_lists a b = option_map joined_routines (both_of a b)
 
 -- a routine is added to others, where no rule is broken in its body, and that is not Bad
-pub record Adds (j : Judged ir.Stmts) (routine : ℕ → ir.Stmts → ir.Routine) (fault : Option Broken) (before after : Option (List ir.Routine)) : Type 0 where
+pub record Adds (j : Judged ir.Stmts) (routine : ℕ → ir.Stmts → ir.Routine) (fault : Option Broken)
+    (before after : Option (List ir.Routine)) : Type 0 where
   pub broken : fault ≡ first j.faults
   pub added : unless_broken fault after ≡ unless_broken fault (joined_lists before (option_map (λ b. routine j.next b ∷ []) j.value))

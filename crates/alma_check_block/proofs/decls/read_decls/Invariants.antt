@@ -8,5 +8,6 @@ abbrev pub invariant-loop-decl : goal.invariant-loop-decl
 invariant-loop-decl l =
     record {
       number : l.next ≡ l.first + rules.decls_routines (view.decls_of (take l.decl-index l.decls));
-      read : (f : rules.Frame) → shown l.fn.reader l.fn.frame ≡ told_frame f → shown l.reader l.frame ≡ told_frame (rules.read_decls f l.first (view.decls_of (take l.decl-index l.decls)));
+      read : (f : rules.Frame) → shown l.fn.reader l.fn.frame ≡ told_frame f
+          → shown l.reader l.frame ≡ told_frame (rules.read_decls f l.first (view.decls_of (take l.decl-index l.decls)));
     }

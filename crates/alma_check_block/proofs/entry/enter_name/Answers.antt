@@ -7,7 +7,10 @@ use Rattle.alma_check_block.proofs.entry.enter_name.Goals as goal
 
 pub returns : goal.returns
 returns c f faults h k =
-    entered_by c.args.reader.now c.declare.new.self c.add_fault-2.new.self f (view.view_name c.args.name.now) c.args.from faults c.args.entry
-    (c.add_fault-2.ensures f.scene (rules.with_faults f (broken_at c.args.name.now.node (redeclared c.args.reader.now (view.view_name c.args.name.now)))) faults
-    (c.add_fault.ensures f.scene f (broken_at c.args.name.now.node (redeclared c.args.reader.now (view.view_name c.args.name.now))) h c.redeclared-twice.ensures) k)
+    entered_by c.args.reader.now c.declare.new.self c.add_fault-2.new.self f (view.view_name c.args.name.now) c.args.from faults
+    c.args.entry
+    (c.add_fault-2.ensures f.scene (rules.with_faults f
+    (broken_at c.args.name.now.node (redeclared c.args.reader.now (view.view_name c.args.name.now)))) faults
+    (c.add_fault.ensures f.scene f (broken_at c.args.name.now.node (redeclared c.args.reader.now (view.view_name c.args.name.now))) h
+    c.redeclared-twice.ensures) k)
     c.in_ok-declare.ensures

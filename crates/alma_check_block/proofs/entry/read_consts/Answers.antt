@@ -11,9 +11,12 @@ loop-entry-init c f h = h
 
 pub loop-entry-preserved : goal.loop-entry-preserved
 loop-entry-preserved c f h =
-    c.in_ok-read_const.ensures (rules.read_consts f (view.consts_of (take c.loop-entry.entry-index c.args.entries.now))) (c.loop-entry.invariant f h)
-    ∙ ap (λ g. told_frame g) (consts_next f c.args.entries.now c.loop-entry.entry-index c.entry-item.result c.loop-entry-test.true c.entry-item.is)
+    c.in_ok-read_const.ensures (rules.read_consts f (view.consts_of (take c.loop-entry.entry-index c.args.entries.now)))
+    (c.loop-entry.invariant f h)
+    ∙ ap (λ g. told_frame g) (consts_next f c.args.entries.now c.loop-entry.entry-index c.entry-item.result c.loop-entry-test.true
+    c.entry-item.is)
 
 pub returns : goal.returns
 returns c f h =
-    c.loop-entry.invariant f h ∙ ap (λ xs. told_frame (rules.read_consts f (view.consts_of xs))) (take_all c.loop-entry.entry-index c.args.entries.now c.loop-entry-test.false)
+    c.loop-entry.invariant f h ∙ ap (λ xs. told_frame (rules.read_consts f (view.consts_of xs)))
+    (take_all c.loop-entry.entry-index c.args.entries.now c.loop-entry-test.false)

@@ -6,4 +6,5 @@ use Rattle.alma_check_block.proofs.entry.read_consts.Given as goal
 
 abbrev pub invariant-loop-entry : goal.invariant-loop-entry
 invariant-loop-entry l =
-    (f : rules.Frame) → shown l.fn.reader l.fn.frame ≡ told_frame f → shown l.reader l.frame ≡ told_frame (rules.read_consts f (view.consts_of (take l.entry-index l.entries)))
+    (f : rules.Frame) → shown l.fn.reader l.fn.frame ≡ told_frame f
+    → shown l.reader l.frame ≡ told_frame (rules.read_consts f (view.consts_of (take l.entry-index l.entries)))

@@ -7,4 +7,5 @@ use Rattle.alma_check_block.proofs.heading.all_formals.Given as goal
 
 abbrev pub invariant-loop-formal : goal.invariant-loop-formal
 invariant-loop-formal l =
-    rules.all_formals (formals_view l.formals) ≡ behind (map formal_view l.all.items) (rules.all_formals (formals_view (drop l.formal-index l.formals)))
+    rules.all_formals (formals_view l.formals) ≡ behind (map formal_view l.all.items)
+    (rules.all_formals (formals_view (drop l.formal-index l.formals)))

@@ -16,5 +16,6 @@ returns-in-Some c = record {
   frame = λ s h faults node g e.
       c.add_fault.ensures s h.frame (broken_at node faults) g (fault_in c.args.deep c.in-Some.broken node faults c.in-Some.is e)
       ∙ depth_frame faults node h c.in-Some.broken (fault_in c.args.deep c.in-Some.broken node faults c.in-Some.is e);
-  heading = λ h faults node g e. depth_heading faults node h c.in-Some.broken (fault_in c.args.deep c.in-Some.broken node faults c.in-Some.is e);
+  heading = λ h faults node g e. depth_heading faults node h c.in-Some.broken
+      (fault_in c.args.deep c.in-Some.broken node faults c.in-Some.is e);
 }

@@ -10,9 +10,14 @@ use Rattle.alma_check_block.proofs.names.add_formals.Goals as goal
 
 pub loop-formal-preserved : goal.loop-formal-preserved
 loop-formal-preserved c =
-    names_on c.args.reader.now (declares_view c.loop-formal.names) _ _ (types.all_names (view.view_names c.formal-item.result.names)) (rules.formal_names (view.more_formals_of (drop (c.loop-formal.formal-index + 1) c.args.more.now))) _
+    names_on c.args.reader.now (declares_view c.loop-formal.names) _ _ (types.all_names (view.view_names c.formal-item.result.names))
+    (rules.formal_names (view.more_formals_of (drop (c.loop-formal.formal-index + 1) c.args.more.now))) _
     c.in_ok-add_names.ensures
-    (ap (λ xs. rules.formal_names (view.more_formals_of xs)) (next_of c.args.more.now c.loop-formal.formal-index c.formal-item.result c.loop-formal-test.true c.formal-item.is)) c.loop-formal.invariant
+    (ap (λ xs. rules.formal_names (view.more_formals_of xs))
+    (next_of c.args.more.now c.loop-formal.formal-index c.formal-item.result c.loop-formal-test.true c.formal-item.is))
+    c.loop-formal.invariant
 
 pub returns : goal.returns
-returns c = names_end c.args.reader.now _ _ _ (ap (λ xs. rules.formal_names (view.more_formals_of xs)) (drop_all c.loop-formal.formal-index c.args.more.now c.loop-formal-test.false)) c.loop-formal.invariant
+returns c = names_end c.args.reader.now _ _ _
+    (ap (λ xs. rules.formal_names (view.more_formals_of xs)) (drop_all c.loop-formal.formal-index c.args.more.now c.loop-formal-test.false))
+    c.loop-formal.invariant

@@ -6,4 +6,6 @@ use Rattle.alma_check_block.proofs.names.add_formals.Given as goal
 
 abbrev pub invariant-loop-formal : goal.invariant-loop-formal
 invariant-loop-formal l =
-    rules.texts_behind l.reader (declares_view l.names) (rules.formal_names (view.more_formals_of (drop l.formal-index l.more))) ≡ rules.texts_behind l.reader (declares_view l.fn.names) (rules.formal_names (view.more_formals_of l.more))
+    rules.texts_behind l.reader (declares_view l.names)
+    (rules.formal_names (view.more_formals_of (drop l.formal-index l.more))) ≡ rules.texts_behind l.reader (declares_view l.fn.names)
+    (rules.formal_names (view.more_formals_of l.more))

@@ -6,4 +6,6 @@ use Rattle.alma_check_block.proofs.names.add_types.Given as goal
 
 abbrev pub invariant-loop-entry : goal.invariant-loop-entry
 invariant-loop-entry l =
-    rules.texts_behind l.reader (declares_view l.names) (rules.type_entry_names (view.types_of (drop l.entry-index l.entries))) ≡ rules.texts_behind l.reader (declares_view l.fn.names) (rules.type_entry_names (view.types_of l.entries))
+    rules.texts_behind l.reader (declares_view l.names)
+    (rules.type_entry_names (view.types_of (drop l.entry-index l.entries))) ≡ rules.texts_behind l.reader (declares_view l.fn.names)
+    (rules.type_entry_names (view.types_of l.entries))

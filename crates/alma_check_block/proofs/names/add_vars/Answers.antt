@@ -10,9 +10,18 @@ use Rattle.alma_check_block.proofs.names.add_vars.Goals as goal
 
 pub loop-entry-preserved : goal.loop-entry-preserved
 loop-entry-preserved c =
-    names_on c.args.reader.now (declares_view c.loop-entry.names) _ _ (types.all_names (view.view_names c.entry-item.result.names) ++ types.type_names (view.view_type_node c.entry-item.result.type_node)) (rules.var_names (view.vars_of (drop (c.loop-entry.entry-index + 1) c.args.entries.now))) _
-    (c.in_ok-add_type.ensures ∙ joined_by c.args.reader.now (declares_view c.loop-entry.names) _ (types.all_names (view.view_names c.entry-item.result.names)) (types.type_names (view.view_type_node c.entry-item.result.type_node)) _ c.in_ok-add_names.ensures refl)
-    (ap (λ xs. rules.var_names (view.vars_of xs)) (next_of c.args.entries.now c.loop-entry.entry-index c.entry-item.result c.loop-entry-test.true c.entry-item.is)) c.loop-entry.invariant
+    names_on c.args.reader.now (declares_view c.loop-entry.names) _ _
+    (types.all_names (view.view_names c.entry-item.result.names)
+    ++ types.type_names (view.view_type_node c.entry-item.result.type_node))
+    (rules.var_names (view.vars_of (drop (c.loop-entry.entry-index + 1) c.args.entries.now))) _
+    (c.in_ok-add_type.ensures ∙ joined_by c.args.reader.now (declares_view c.loop-entry.names) _
+    (types.all_names (view.view_names c.entry-item.result.names)) (types.type_names (view.view_type_node c.entry-item.result.type_node))
+    _ c.in_ok-add_names.ensures refl)
+    (ap (λ xs. rules.var_names (view.vars_of xs))
+    (next_of c.args.entries.now c.loop-entry.entry-index c.entry-item.result c.loop-entry-test.true c.entry-item.is))
+    c.loop-entry.invariant
 
 pub returns : goal.returns
-returns c = names_end c.args.reader.now _ _ _ (ap (λ xs. rules.var_names (view.vars_of xs)) (drop_all c.loop-entry.entry-index c.args.entries.now c.loop-entry-test.false)) c.loop-entry.invariant
+returns c = names_end c.args.reader.now _ _ _
+    (ap (λ xs. rules.var_names (view.vars_of xs)) (drop_all c.loop-entry.entry-index c.args.entries.now c.loop-entry-test.false))
+    c.loop-entry.invariant

@@ -6,4 +6,5 @@ use Rattle.alma_check_block.proofs.names.add_vars.Given as goal
 
 abbrev pub invariant-loop-entry : goal.invariant-loop-entry
 invariant-loop-entry l =
-    rules.texts_behind l.reader (declares_view l.names) (rules.var_names (view.vars_of (drop l.entry-index l.entries))) ≡ rules.texts_behind l.reader (declares_view l.fn.names) (rules.var_names (view.vars_of l.entries))
+    rules.texts_behind l.reader (declares_view l.names) (rules.var_names (view.vars_of (drop l.entry-index l.entries))) ≡ rules.texts_behind
+    l.reader (declares_view l.fn.names) (rules.var_names (view.vars_of l.entries))

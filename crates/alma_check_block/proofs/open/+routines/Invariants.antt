@@ -5,4 +5,5 @@ use Rattle.alma_check_block.proofs.open.+routines.Given as goal
 
 abbrev pub invariant-count_routines-loop-decl : goal.invariant-count_routines-loop-decl
 invariant-count_routines-loop-decl l =
-    l.count + rules.decls_routines (view.decls_of (drop l.decl-index l.block.decls.items)) ≡ rules.decls_routines (view.decls_of l.block.decls.items)
+    l.count + rules.decls_routines (view.decls_of (drop l.decl-index l.block.decls.items)) ≡ rules.decls_routines
+    (view.decls_of l.block.decls.items)

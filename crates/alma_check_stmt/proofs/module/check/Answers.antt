@@ -13,13 +13,16 @@ pub returns-in-Ok-clause-checked : goal.returns-in-Ok-clause-checked
 returns-in-Ok-clause-checked c =
     resolved_checked c.args.source.now (lexemes c.args.tokens.now) (view_module c.args.module.now) c.finish.result
     (c.finish.ensures c.args.source.now (lexemes c.args.tokens.now) c.in-Ok.ensures)
-    (λ p e. c.a_resolved_program_of_a_short_source_is_checked.ensures c.args.source.now (lexemes c.args.tokens.now) c.args.module.now p c.requires.short c.requires.tree e)
+    (λ p e. c.a_resolved_program_of_a_short_source_is_checked.ensures c.args.source.now (lexemes c.args.tokens.now) c.args.module.now p
+    c.requires.short c.requires.tree e)
 
 pub finish-requires : goal.finish-requires
 finish-requires c =
     let w = c.in-Ok.whole in
     record {
-      fine = never_bad c.args.source.now (lexemes c.args.tokens.now) (view_module c.args.module.now) w.checked.fault w.checked.is_bad (map routine_of w.checked.routines.items) w.name.items (map global_of w.globals.items)
-          c.in-Ok.ensures (c.unbroken_trees_have_a_program.ensures c.args.source.now (lexemes c.args.tokens.now) (view_module c.args.module.now)
+      fine = never_bad c.args.source.now (lexemes c.args.tokens.now) (view_module c.args.module.now) w.checked.fault w.checked.is_bad
+          (map routine_of w.checked.routines.items) w.name.items (map global_of w.globals.items)
+          c.in-Ok.ensures (c.unbroken_trees_have_a_program.ensures c.args.source.now (lexemes c.args.tokens.now)
+          (view_module c.args.module.now)
           (c.trees_of_the_parser_stand_so.ensures c.args.module.now (length (lexemes c.args.tokens.now)) c.requires.tree.numbered));
     }

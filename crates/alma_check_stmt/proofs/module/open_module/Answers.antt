@@ -6,4 +6,5 @@ use Rattle.alma_check_stmt.proofs.module.open_module.Goals as goal
 
 pub returns : goal.returns
 returns c =
-    c.in_ok-open_block.ensures.opened ∙ ap (λ (s : Scene). with_block s 0 nothing [] (view.view_block c.args.module.now.block)) c.in_ok-reader.ensures
+    c.in_ok-open_block.ensures.opened ∙ ap (λ (s : Scene). with_block s 0 nothing [] (view.view_block c.args.module.now.block))
+    c.in_ok-reader.ensures

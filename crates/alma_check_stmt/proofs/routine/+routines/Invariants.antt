@@ -26,6 +26,7 @@ decreases-check_decls l = 4 * (most dh.size-Decl l.decls.now) + 1
 
 abbrev pub invariant-check_decls-loop-decl : goal.invariant-check_decls-loop-decl
 invariant-check_decls-loop-decl l = record {
-  stands : through_decls (stand l.fn.checked l.fn.reader) (view.decls_of l.decls) ≡ through_decls (stand l.checked l.reader) (view.decls_of (drop l.decl-index l.decls));
+  stands : through_decls (stand l.fn.checked l.fn.reader) (view.decls_of l.decls) ≡ through_decls (stand l.checked l.reader)
+      (view.decls_of (drop l.decl-index l.decls));
   ready : AreReady l.lines l.reader l.checked.next (view.decls_of (drop l.decl-index l.decls));
 }
