@@ -14,7 +14,8 @@ use Rattle.alma_check_type.proofs.Tells.{told_as}
 use Rattle.alma_check_type.proofs.SubSteps.{sub_told}
 use Rattle.alma_check_decl.proofs.Whole.{Whole, whole_gives, expr_whole}
 
-pub constant_fine : (a s : Scene) (e : tree.Expr) (n : ℕ) (v : Option Typing) → a ≡ s → judge_expr (in_constant a) 0 e ≡ record { faults = []; next = n; value = v }
+pub constant_fine : (a s : Scene) (e : tree.Expr) (n : ℕ) (v : Option Typing) → a ≡ s
+    → judge_expr (in_constant a) 0 e ≡ record { faults = []; next = n; value = v }
     → told (reading_with bound_of (read_constant s e)) ≡ a_told None s (option_map bound_of v)
 constant_fine a s e n v same h = rw (← same, h) refl
 
@@ -41,7 +42,10 @@ ok_as a b f (Ok x) h e = h ∙ e
 ok_as a b f (Err x) h e = tt
 
 -- a subrange of its bounds
-pub sub_by : (s : Scene) (n : ℕ) (low high : tree.Expr) (a b : Told Bound) → told (reading_with bound_of (read_constant s low)) ≡ a → told (reading_with bound_of (read_constant s high)) ≡ b
-    → told (reading_change subrange_of (reading_at n (subrange_rules s) (reading_then (read_constant s low) (λ i. read_constant i high)))) ≡ told_sub n (told_both a b)
+pub sub_by : (s : Scene) (n : ℕ) (low high : tree.Expr) (a b : Told Bound) → told (reading_with bound_of (read_constant s low)) ≡ a
+    → told (reading_with bound_of (read_constant s high)) ≡ b
+    → told (reading_change subrange_of (reading_at n (subrange_rules s) (reading_then (read_constant s low) (λ i. read_constant i high))))
+    ≡ told_sub n (told_both a b)
 sub_by s n low high a b h k =
-    sub_told s n low high ∙ ap (λ x. told_sub n (told_both x (told (reading_with bound_of (read_constant s high))))) h ∙ ap (λ y. told_sub n (told_both a y)) k
+    sub_told s n low high ∙ ap (λ x. told_sub n (told_both x (told (reading_with bound_of (read_constant s high))))) h
+    ∙ ap (λ y. told_sub n (told_both a y)) k

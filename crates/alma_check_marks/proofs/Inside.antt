@@ -13,7 +13,8 @@ counted : (v : Vec dt.Stmt Global) → length v.items ≡ vec_len v
 counted v = omega (arith, v.ok)
 
 -- more than one statement
-more_by : (n : ℕ) (xs : List dt.Stmt) (f : Option Step) (g : Step) → (length xs == 0) ≡ false → places.first_step (places.only_step n (view.stmts_of xs) f) g ≡ g
+more_by : (n : ℕ) (xs : List dt.Stmt) (f : Option Step) (g : Step) → (length xs == 0) ≡ false
+    → places.first_step (places.only_step n (view.stmts_of xs) f) g ≡ g
 more_by n [] f g h = absurd (cc)
 more_by n (x ∷ xs) f g h = refl
 
@@ -22,12 +23,14 @@ unfolding places.mark_expr
 inside_more s g h = more_by s.node s.more.items (places.mark_value (view.view_stmt s.first.value)) g (ap (λ k. k == 0) (counted s.more) ∙ h)
 
 -- one statement, by what it is
-one_by : (n : ℕ) (xs : List dt.Stmt) (f : Step) (g : Step) → (length xs == 0) ≡ true → places.first_step (places.only_step n (view.stmts_of xs) (Some f)) g ≡ places.whole n f
+one_by : (n : ℕ) (xs : List dt.Stmt) (f : Step) (g : Step) → (length xs == 0) ≡ true
+    → places.first_step (places.only_step n (view.stmts_of xs) (Some f)) g ≡ places.whole n f
 one_by n [] f g h = refl
 one_by n (x ∷ xs) f g h = absurd (grind (arith, h))
 
 pub inside_value : (s : ds.Stmts) (g : Step) (m : ℕ) (e : de.Expr) → (vec_len s.more == 0) ≡ true → s.first.value ≡ dt.Value m e
-    → places.first_step (places.mark_only (view.view_stmts s)) g ≡ places.whole s.node (places.whole m (places.mark_expr (view.view_expr e)))
+    → places.first_step (places.mark_only (view.view_stmts s)) g ≡ places.whole s.node
+    (places.whole m (places.mark_expr (view.view_expr e)))
 unfolding places.mark_expr
 inside_value s g m e h is =
     ap (λ x. places.first_step (places.only_step s.node (view.stmts_of s.more.items) (places.mark_value (view.view_stmt x))) g) is
@@ -56,7 +59,8 @@ not_by : (n : ℕ) (xs : List dt.Stmt) (g : Step) → places.first_step (places.
 not_by n [] g = refl
 not_by n (x ∷ xs) g = refl
 
-pub inside_other : (s : ds.Stmts) (g : Step) → ((m : ℕ) (e : de.Expr) → s.first.value ≡ dt.Value m e → ⊥) → places.first_step (places.mark_only (view.view_stmts s)) g ≡ g
+pub inside_other : (s : ds.Stmts) (g : Step) → ((m : ℕ) (e : de.Expr) → s.first.value ≡ dt.Value m e → ⊥)
+    → places.first_step (places.mark_only (view.view_stmts s)) g ≡ g
 unfolding places.mark_expr
 inside_other s g h =
     ap (λ f. places.first_step (places.only_step s.node (view.stmts_of s.more.items) f) g) (value_not s.first.value h)

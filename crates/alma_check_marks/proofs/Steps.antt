@@ -1,11 +1,14 @@
 -- Phrases walked one behind another.
-use Rattle.std.proofs.Common.{◌≡◌, ℕ, ◌+◌, ◌<◌, ◌≤◌, List, [], ◌∷◌, length, get_or, drop, Result, Ok, Err, IsOk, OnOk, refl, ap, sym, subst, ◌∙◌, append_assoc, append-nil}
+use Rattle.std.proofs.Common.{◌≡◌, ℕ, ◌+◌, ◌<◌, ◌≤◌, List, [], ◌∷◌, length, get_or, drop, Result, Ok, Err, IsOk, OnOk, refl, ap, sym, subst}
+use Rattle.std.proofs.Common.{◌∙◌, append_assoc, append-nil}
 use Rattle.std.proofs.lemmas.List.{drop_more, drop_all}
-use Rattle.alma_rules.specs.Places.{Marked, Step, stay, followed, ◌>>◌, whole, token, statement, statement_of, from_here, marked_node, node_at}
+use Rattle.alma_rules.specs.Places.{Marked, Step, stay, followed, ◌>>◌, whole, token, statement, statement_of, from_here, marked_node}
+use Rattle.alma_rules.specs.Places.{node_at}
 use Rattle.alma_check_marks.specs.Marking.{begun, opened, two_words, one_more, Goes, Noted}
 
 followed_on : (a : Marked) (f g : Step) → followed (followed a f) g ≡ followed a (f >> g)
-followed_on a f g = ap (λ xs. record { marks = xs; end = (g (f a.end).end).end }) (append_assoc a.marks (f a.end).marks (g (f a.end).end).marks)
+followed_on a f g = ap (λ xs. record { marks = xs; end = (g (f a.end).end).end })
+    (append_assoc a.marks (f a.end).marks (g (f a.end).end).marks)
 
 followed_stay : (a : Marked) → followed a stay ≡ a
 followed_stay a = ap (λ xs. record { marks = xs; end = a.end }) (append-nil a.marks)
@@ -27,11 +30,13 @@ wholly {a} {m} {r} {f} {n} x y =
     }
 
 -- the same, where memory may run out
-pub ends : {T E : Type 0} {a m : Marked} {f : Step} (r : Result T E) (new : Marked) (n : ℕ) → Goes a m f → OnOk r (Noted m new n a.end) → OnOk r (Goes a new (whole n f))
+pub ends : {T E : Type 0} {a m : Marked} {f : Step} (r : Result T E) (new : Marked) (n : ℕ) → Goes a m f → OnOk r (Noted m new n a.end)
+    → OnOk r (Goes a new (whole n f))
 ends (Ok x) new n g h = wholly g h
 ends (Err x) new n g h = tt
 
-pub ends_in : {T E : Type 0} {a m : Marked} {f : Step} (r : Result T E) (new : Marked) (g : Step) → Goes a m f → OnOk r (Goes m new g) → OnOk r (Goes a new (f >> g))
+pub ends_in : {T E : Type 0} {a m : Marked} {f : Step} (r : Result T E) (new : Marked) (g : Step) → Goes a m f → OnOk r (Goes m new g)
+    → OnOk r (Goes a new (f >> g))
 ends_in (Ok x) new g e h = e ▹ h
 ends_in (Err x) new g e h = tt
 
@@ -51,7 +56,8 @@ next_of : (k : Marked) (f : Step) → Goes k (followed k f) f
 next_of k f = record { same = refl }
 
 -- the same, with a token behind the part
-pub closes_in : {T E U F : Type 0} {a m : Marked} {f : Step} (r : Result T E) (w : Result U F) (new : Marked) (n : ℕ) (k : Marked) (g : Step)
+pub closes_in : {T E U F : Type 0} {a m : Marked} {f : Step} (r : Result T E) (w : Result U F) (new : Marked) (n : ℕ) (k : Marked)
+    (g : Step)
     → OnOk w (Goes m k g) → OnOk r (IsOk w) → OnOk r (Noted (followed k token) new n a.end)
     → (Goes m (followed k token) (g >> token) → Goes a (followed k token) f) → OnOk r (Goes a new (whole n f))
 closes_in (Ok x) w new n k g h is noted last = wholly (last (went w is h ▹ next_of k token)) noted
@@ -114,7 +120,8 @@ pub next_at : {X : Type 0} {start now : Marked} {all : Step} (p : List X → Ste
     → Rests start now all (p (drop i xs)) → Rests start now all (p (get_or xs i d ∷ drop (i + 1) xs))
 next_at {start = start} {now = now} {all = all} p i xs d lt h = subst (λ ys. Rests start now all (p ys)) (drop_more xs i d lt) h
 
-pub next : {X : Type 0} {start now : Marked} {all : Step} (p : List X → Step) (i : ℕ) (xs : List X) (x : X) → i < length xs → x ≡ get_or xs i x
+pub next : {X : Type 0} {start now : Marked} {all : Step} (p : List X → Step) (i : ℕ) (xs : List X) (x : X) → i < length xs
+    → x ≡ get_or xs i x
     → Rests start now all (p (drop i xs)) → Rests start now all (p (x ∷ drop (i + 1) xs))
 next {start = start} {now = now} {all = all} p i xs x lt is h =
     subst (λ y. Rests start now all (p (y ∷ drop (i + 1) xs))) (sym is) (next_at p i xs x lt h)
@@ -126,4 +133,8 @@ finish {start = start} {now = now} {all = all} p i xs le e h =
 
 -- a statement with its first word, and the rest of it
 pub begins : {a m r : Marked} {g : Step} → Goes a m begun → Goes m r g → Goes a r (statement >> token >> g)
-begins {a} {m} {r} {g} x y = record { same = (x ▹ y).same ∙ sym (followed_on a statement (token >> g)) ∙ sym (followed_on (followed a statement) token g) ∙ ap (λ u. followed u g) (followed_on a statement token) ∙ followed_on a (statement >> token) g }
+begins {a} {m} {r} {g} x y = record {
+  same = (x ▹ y).same ∙ sym (followed_on a statement (token >> g))
+      ∙ sym (followed_on (followed a statement) token g) ∙ ap (λ u. followed u g) (followed_on a statement token)
+      ∙ followed_on a (statement >> token) g;
+}

@@ -75,7 +75,8 @@ module _ (m n : BTreeMap (ℕ × ℤ) ℤ) (base : ℕ) (low high y : ℤ) (c : 
 
 -- ---- one is put in
 
-module _ (m n : BTreeMap (ℕ × ℤ) ℤ) (base : ℕ) (low high : ℤ) (c : IsChanged m n base low (Some high)) (r : Rises m) (f : IsReached m base low high false) where
+module _ (m n : BTreeMap (ℕ × ℤ) ℤ) (base : ℕ) (low high : ℤ) (c : IsChanged m n base low (Some high)) (r : Rises m)
+    (f : IsReached m base low high false) where
   before_by : (x v : ℤ) → end_at n base x ≡ Some v → x <ℤ low → Spot m n base low (Some high) c base x → v <ℤ high
   before_by x v e l (at p q) = absurd (grind (arith, q, l))
   before_by x v e l (off k) = f x v (sym k ∙ e) (grind (arith, l))
@@ -98,7 +99,10 @@ module _ (m n : BTreeMap (ℕ × ℤ) ℤ) (base : ℕ) (low high : ℤ) (c : Is
   topped_insert = record {
     noted = changed_here m n base low (Some high) c;
     before = before;
-    but = record { rises = λ b x z v w ex ez l k. but_by b x z v w ex ez l k (spot m n base low (Some high) c b x) (spot m n base low (Some high) c b z) };
+    but = record {
+      rises = λ b x z v w ex ez l k. but_by b x z v w ex ez l k (spot m n base low (Some high) c b x)
+          (spot m n base low (Some high) c b z);
+    };
   }
 
   put_by : (b : ℕ) (l h : ℤ) (k : Covers m b l h) → Spot m n base low (Some high) c b k.start → Covers n b l h
@@ -120,7 +124,8 @@ module _ (m n : BTreeMap (ℕ × ℤ) ℤ) (base : ℕ) (low high : ℤ) (c : Is
 -- ---- nothing is left to leave out
 
 module _ (m : BTreeMap (ℕ × ℤ) ℤ) (base : ℕ) (low high : ℤ) (t : IsTopped m base low high) where
-  rises_by : IsNextWithin m base low high None → (b : ℕ) (x y v w : ℤ) → end_at m b x ≡ Some v → end_at m b y ≡ Some w → x <ℤ y → Either base b low x → v <ℤ w
+  rises_by : IsNextWithin m base low high None → (b : ℕ) (x y v w : ℤ) → end_at m b x ≡ Some v → end_at m b y ≡ Some w → x <ℤ y
+      → Either base b low x → v <ℤ w
   rises_by h b x y v w ex ey l (one p q) =
       let e : Some v ≡ Some high = sym ex ∙ (rw (p, q) t.noted) in
       let same : v ≡ high = cc in
@@ -129,7 +134,10 @@ module _ (m : BTreeMap (ℕ × ℤ) ℤ) (base : ℕ) (low high : ℤ) (t : IsTo
   rises_by h b x y v w ex ey l (two k) = t.but.rises b x y v w ex ey l k
 
   pub topped_done : IsNextWithin m base low high None → Rises m
-  topped_done h = record { rises = λ b x y v w ex ey l. rises_by h b x y v w ex ey l (either_by base b low x (is_eq (start_cmp (base, low) (b, x))) refl) }
+  topped_done h = record {
+    rises = λ b x y v w ex ey l. rises_by h b x y v w ex ey l
+        (either_by base b low x (is_eq (start_cmp (base, low) (b, x))) refl);
+  }
 
   pub topped_covers : Covers m base low high
   topped_covers = record { start = low; end = high; noted = t.noted; begins = grind arith; reaches = grind arith }

@@ -1,5 +1,6 @@
 -- Spans that are covered.
-use Rattle.std.proofs.Common.{◌≡◌, ℕ, ℤ, ◌+◌, ◌<◌, ◌≤◌, ◌<ℤ◌, true, false, List, [], ◌∷◌, ◌++◌, length, take, drop, get_or, None, Some, suc, zero, refl, arith}
+use Rattle.std.proofs.Common.{◌≡◌, ℕ, ℤ, ◌+◌, ◌<◌, ◌≤◌, ◌<ℤ◌, true, false, List, [], ◌∷◌, ◌++◌, length, take, drop, get_or, None, Some, suc}
+use Rattle.std.proofs.Common.{zero, refl, arith}
 use Rattle.std.proofs.lemmas.List.{take_more}
 use Rattle.std.specs.Prelude.{Bool, ◌&&◌, ◌||◌, nat_eq, int_le}
 use Rattle.std.specs.BTreeMap.{BTreeMap}
@@ -16,10 +17,12 @@ neither a b p q = rw (p, q) refl
 module _ (m : BTreeMap (ℕ × ℤ) ℤ) (x : parts.Span) where
   -- nothing that is covered shares a value with x
   abbrev pub SharesNothing : Type 0
-  SharesNothing = (y : parts.Span) → Covers m y.base y.range.low y.range.high → (nat_eq x.base y.base && share_value x.range y.range) ≡ false
+  SharesNothing = (y : parts.Span) → Covers m y.base y.range.low y.range.high
+      → (nat_eq x.base y.base && share_value x.range y.range) ≡ false
 
   apart : (y : parts.Span) → IsReached m x.base x.range.high x.range.low false → Covers m y.base y.range.low y.range.high
-      → (t u v : Bool) → t ≡ nat_eq x.base y.base → u ≡ int_le x.range.low y.range.high → v ≡ int_le y.range.low x.range.high → (t && (u && v)) ≡ false
+      → (t u v : Bool) → t ≡ nat_eq x.base y.base → u ≡ int_le x.range.low y.range.high → v ≡ int_le y.range.low x.range.high
+      → (t && (u && v)) ≡ false
   apart y f c false u v a b d = refl
   apart y f c true false v a b d = refl
   apart y f c true true false a b d = refl
@@ -49,7 +52,8 @@ second_of : (a b : Bool) → (a || b) ≡ false → b ≡ false
 second_of false b h = h
 second_of true b h = absurd (cc)
 
-pub none_in_parts : (n : ℕ) (xs : List Span) (x : parts.Span) → shares_value x (spans_view (take n xs)) ≡ false → shares_value x (spans_view (drop n xs)) ≡ false → shares_value x (spans_view xs) ≡ false
+pub none_in_parts : (n : ℕ) (xs : List Span) (x : parts.Span) → shares_value x (spans_view (take n xs)) ≡ false
+    → shares_value x (spans_view (drop n xs)) ≡ false → shares_value x (spans_view xs) ≡ false
 none_in_parts n [] x h k = refl
 none_in_parts zero (y ∷ ys) x h k = k
 none_in_parts (suc n) (y ∷ ys) x h k =
@@ -126,4 +130,5 @@ empty_rises m h = record { rises = λ b x y v w e f l. absurd (nothing_at m b x 
 -- one more of a list is covered
 pub covers_more : (m n : BTreeMap (ℕ × ℤ) ℤ) (i : ℕ) (xs : List Span) (d : Span) → Keeps m n → i < length xs → CoversAll m (take i xs)
     → Covers n (get_or xs i d).base (get_or xs i d).range.low (get_or xs i d).range.high → CoversAll n (take (i + 1) xs)
-covers_more m n i xs d k h a c = rw (take_more xs i d h) (covers_append n (take i xs) (get_or xs i d ∷ []) (covers_kept m n (take i xs) k a) (c, tt))
+covers_more m n i xs d k h a c = rw (take_more xs i d h)
+    (covers_append n (take i xs) (get_or xs i d ∷ []) (covers_kept m n (take i xs) k a) (c, tt))

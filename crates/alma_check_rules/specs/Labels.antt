@@ -21,4 +21,5 @@ pub record IsIndexed (spans : List Span) (settled : ℕ) (before arm : BTreeMap 
 
 -- where it is false, no span that is covered shares a value with x
 abbrev pub SharesNone : BTreeMap (ℕ × ℤ) ℤ → parts.Span → Bool → Type 0
-SharesNone m x may = may ≡ false → (y : parts.Span) → Covers m y.base y.range.low y.range.high → (nat_eq x.base y.base && share_value x.range y.range) ≡ false
+SharesNone m x may = may ≡ false → (y : parts.Span) → Covers m y.base y.range.low y.range.high
+    → (nat_eq x.base y.base && share_value x.range y.range) ≡ false

@@ -10,7 +10,8 @@ use Rattle.alma_ir.specs.Tree as ir
 use Rattle.alma_ir.specs.declared.phrase.Arg.{Arg}
 use Rattle.alma_ir.specs.declared.phrase.Stmt.{Stmt}
 use Rattle.alma_ir.specs.View.{desig_of, expr_of, test_of, sels_list, args_list, stmts_list}
-use Rattle.alma_rules.specs.Scene.{Scene, Returns as RuleReturns, nothing, a_value, Heading as RuleHeading, FormalOf, Found as RuleFound, absent, bad, constant, named, variable, routine}
+use Rattle.alma_rules.specs.Scene.{Scene, Returns as RuleReturns, nothing, a_value, Heading as RuleHeading, FormalOf, Found as RuleFound}
+use Rattle.alma_rules.specs.Scene.{absent, bad, constant, named, variable, routine}
 use Rattle.alma_rules.specs.Parts as parts
 use Rattle.alma_rules.specs.ExprRules as rules
 use Rattle.alma_check_rules.specs.declared.env.Env.{Env}

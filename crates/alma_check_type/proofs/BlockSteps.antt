@@ -1,5 +1,6 @@
 -- What goes on as blocks begin and end, and what a look-up in the names of a block says.
-use Rattle.std.proofs.Common.{◌≡◌, ℕ, suc, ◌+◌, ◌-◌, ◌<◌, ◌≤◌, List, [], ◌∷◌, ◌++◌, Option, None, Some, Bool, true, false, cond, Vec, Global, length, get_or, take, map, set, refl, sym, ap, ◌∙◌, arith, eq-eqb, true≢false}
+use Rattle.std.proofs.Common.{◌≡◌, ℕ, suc, ◌+◌, ◌-◌, ◌<◌, ◌≤◌, List, [], ◌∷◌, ◌++◌, Option, None, Some, Bool, true, false, cond, Vec}
+use Rattle.std.proofs.Common.{Global, length, get_or, take, map, set, refl, sym, ap, ◌∙◌, arith, eq-eqb, true≢false}
 use Rattle.std.specs.Prelude.{bytes_eq, is_some, ◌||◌, nat_eq, ◌≢◌, map}
 use Rattle.std.specs.Map.{lookup}
 use Rattle.std.proofs.lemmas.List.{map-append, length-map, length_push, take_more, take_all}
@@ -23,10 +24,12 @@ entries_last : (bs : List (List DeclaredName)) (b : List DeclaredName) → entri
 entries_last [] b = omega arith
 entries_last (x ∷ bs) b = omega (arith, entries_last bs b)
 
-pub counted_new : (below counts : List ℕ) (top all : ℕ) (s t : Blocks) → IsCounted below top all s → counts ≡ below ++ top ∷ [] → t ≡ with_new_block s → IsCounted counts 0 all t
+pub counted_new : (below counts : List ℕ) (top all : ℕ) (s t : Blocks) → IsCounted below top all s → counts ≡ below ++ top ∷ []
+    → t ≡ with_new_block s → IsCounted counts 0 all t
 counted_new below counts top all s t is c n =
     rw (c, n) (record {
-      counts = map-append length s.below (s.top ∷ []) ∙ ap (λ xs. xs ++ length s.top ∷ []) is.counts ∙ ap (λ x. below ++ x ∷ []) (sym is.highest);
+      counts = map-append length s.below (s.top ∷ []) ∙ ap (λ xs. xs ++ length s.top ∷ []) is.counts
+          ∙ ap (λ x. below ++ x ∷ []) (sym is.highest);
       highest = refl;
       sum = is.sum ∙ omega (arith, entries_last s.below s.top);
     })
@@ -46,17 +49,28 @@ same_last (w ∷ ws) (z ∷ zs) x y h =
 
 -- the last of some lists is taken off as the last of their lengths is
 last_taken : (bs : List (List DeclaredName)) (ns : List ℕ) (n : ℕ) → map length bs ≡ ns ++ n ∷ []
-    → record { front : map length (take (length bs - 1) bs) ≡ ns; last : length (get_or bs (length bs - 1) []) ≡ n; sum : entries_of bs ≡ entries_of (take (length bs - 1) bs) + n }
+    → record {
+      front : map length (take (length bs - 1) bs) ≡ ns;
+      last : length (get_or bs (length bs - 1) []) ≡ n;
+      sum : entries_of bs ≡ entries_of (take (length bs - 1) bs) + n;
+    }
 last_taken bs ns n h =
     let k : ℕ = length bs - 1 in
     let len : length bs ≡ length ns + 1 = sym (length-map bs length) ∙ ap length h ∙ length_push ns n in
     let lt : k < length bs = omega arith in
     let le : length bs ≤ k + 1 = omega arith in
     let all : take k bs ++ get_or bs k [] ∷ [] ≡ bs = sym (take_more bs k [] lt) ∙ take_all (k + 1) bs le in
-    let e = same_last (map length (take k bs)) ns (length (get_or bs k [])) n (sym (map-append length (take k bs) (get_or bs k [] ∷ [])) ∙ ap (map length) all ∙ h) in
-    record { front = e.front; last = e.last; sum = ap entries_of (sym all) ∙ omega (arith, entries_last (take k bs) (get_or bs k []), e.last) }
+    let e = same_last (map length (take k bs)) ns (length (get_or bs k [])) n
+    (sym (map-append length (take k bs) (get_or bs k [] ∷ [])) ∙ ap (map length) all ∙ h) in
+    record {
+      front = e.front;
+      last = e.last;
+      sum = ap entries_of (sym all)
+          ∙ omega (arith, entries_last (take k bs) (get_or bs k []), e.last);
+    }
 
-pub counted_left : (below counts : List ℕ) (top all count : ℕ) (s t : Blocks) → IsCounted below top all s → below ≡ counts ++ count ∷ [] → t ≡ without_top_block s
+pub counted_left : (below counts : List ℕ) (top all count : ℕ) (s t : Blocks) → IsCounted below top all s → below ≡ counts ++ count ∷ []
+    → t ≡ without_top_block s
     → IsCounted counts count (all - top) t
 counted_left below counts top all count s t is c n =
     let e = last_taken s.below counts count (is.counts ∙ c) in
@@ -70,30 +84,36 @@ abbrev pub key_view : Vec ℕ Global × ℕ → List ℕ × ℕ
 key_view e = (e.0.items, e.1)
 
 module _ (text : List ℕ) (token : ℕ) where
-  first_some : (es : List (Vec ℕ Global × ℕ)) (t : ℕ) → Some t ≡ lookup (λ k. bytes_eq text k.items) es → first_token text (map key_view es) token ≡ t
+  first_some : (es : List (Vec ℕ Global × ℕ)) (t : ℕ) → Some t ≡ lookup (λ k. bytes_eq text k.items) es
+      → first_token text (map key_view es) token ≡ t
   first_some [] t h = absurd (cc)
   first_some (e ∷ es) t h = go (bytes_eq text e.0.items) h (first_some es t)
     where
       go : (b : Bool) → Some t ≡ cond b (Some e.1) (lookup (λ k. bytes_eq text k.items) es)
-          → (Some t ≡ lookup (λ k. bytes_eq text k.items) es → first_token text (map key_view es) token ≡ t) → cond b e.1 (first_token text (map key_view es) token) ≡ t
+          → (Some t ≡ lookup (λ k. bytes_eq text k.items) es → first_token text (map key_view es) token ≡ t)
+          → cond b e.1 (first_token text (map key_view es) token) ≡ t
       go true h f = cc
       go false h f = f h
 
-  first_none : (es : List (Vec ℕ Global × ℕ)) → None ≡ lookup (λ k. bytes_eq text k.items) es → first_token text (map key_view es) token ≡ token
+  first_none : (es : List (Vec ℕ Global × ℕ)) → None ≡ lookup (λ k. bytes_eq text k.items) es
+      → first_token text (map key_view es) token ≡ token
   first_none [] h = refl
   first_none (e ∷ es) h = go (bytes_eq text e.0.items) h (first_none es)
     where
       go : (b : Bool) → None ≡ cond b (Some e.1) (lookup (λ k. bytes_eq text k.items) es)
-          → (None ≡ lookup (λ k. bytes_eq text k.items) es → first_token text (map key_view es) token ≡ token) → cond b e.1 (first_token text (map key_view es) token) ≡ token
+          → (None ≡ lookup (λ k. bytes_eq text k.items) es → first_token text (map key_view es) token ≡ token)
+          → cond b e.1 (first_token text (map key_view es) token) ≡ token
       go true h f = absurd (cc)
       go false h f = f h
 
 same_token : (n : ℕ) → true ≡ nat_eq n n
 same_token n = sym (eq-eqb n n refl)
 
-module _ (s : Scene) (name : tree.Name) (es : List (Vec ℕ Global × ℕ)) (text : List ℕ) (v : map key_view es ≡ s.declares) (t : text ≡ text_at s name.token) where
+module _ (s : Scene) (name : tree.Name) (es : List (Vec ℕ Global × ℕ)) (text : List ℕ) (v : map key_view es ≡ s.declares)
+    (t : text ≡ text_at s name.token) where
   first_is : (k : ℕ) → first_token text (map key_view es) name.token ≡ k → nat_eq k name.token ≡ is_first s name
-  first_is k h = ap (λ n. nat_eq n name.token) (sym h ∙ ap (λ x. first_token x (map key_view es) name.token) t ∙ ap (λ d. first_token (text_at s name.token) d name.token) v)
+  first_is k h = ap (λ n. nat_eq n name.token)
+      (sym h ∙ ap (λ x. first_token x (map key_view es) name.token) t ∙ ap (λ d. first_token (text_at s name.token) d name.token) v)
 
   pub found_first : (k : ℕ) → Some k ≡ lookup (λ i. bytes_eq text i.items) es → nat_eq k name.token ≡ is_first s name
   found_first k h = first_is k (first_some text name.token es k h)
@@ -102,20 +122,23 @@ module _ (s : Scene) (name : tree.Name) (es : List (Vec ℕ Global × ℕ)) (tex
   absent_first h = same_token name.token ∙ first_is name.token (first_none text name.token es h)
 
 -- a name that is not there is entered last
-pub inserted : (key : Vec ℕ Global) (shape : ℕ) (es : List (Vec ℕ Global × ℕ)) → is_some (lookup (λ k. bytes_eq key.items k.items) es) ≡ false
+pub inserted : (key : Vec ℕ Global) (shape : ℕ) (es : List (Vec ℕ Global × ℕ))
+    → is_some (lookup (λ k. bytes_eq key.items k.items) es) ≡ false
     → insert_entry (λ x y. bytes_eq x.items y.items) es key shape ≡ es ++ (key, shape) ∷ []
 inserted key shape [] h = refl
 inserted key shape (e ∷ es) h = go (bytes_eq key.items e.0.items) h (inserted key shape es)
   where
     go : (b : Bool) → is_some (cond b (Some e.1) (lookup (λ k. bytes_eq key.items k.items) es)) ≡ false
-        → (is_some (lookup (λ k. bytes_eq key.items k.items) es) ≡ false → insert_entry (λ x y. bytes_eq x.items y.items) es key shape ≡ es ++ (key, shape) ∷ [])
+        → (is_some (lookup (λ k. bytes_eq key.items k.items) es) ≡ false
+        → insert_entry (λ x y. bytes_eq x.items y.items) es key shape ≡ es ++ (key, shape) ∷ [])
         → cond b ((e.0, shape) ∷ es) (e ∷ insert_entry (λ x y. bytes_eq x.items y.items) es key shape) ≡ e ∷ (es ++ (key, shape) ∷ [])
     go true n f = absurd (true≢false n)
     go false n f = ap (λ x. e ∷ x) (f n)
 
 -- ---- names of a block
 
-has_text_is : (text : List ℕ) (es : List (Vec ℕ Global × ℕ)) → has_text text (map key_view es) ≡ is_some (lookup (λ k. bytes_eq text k.items) es)
+has_text_is : (text : List ℕ) (es : List (Vec ℕ Global × ℕ))
+    → has_text text (map key_view es) ≡ is_some (lookup (λ k. bytes_eq text k.items) es)
 has_text_is text [] = refl
 has_text_is text (e ∷ es) = go (bytes_eq text e.0.items) (has_text_is text es)
   where
@@ -129,15 +152,18 @@ pub name_there : (text : List ℕ) (token : ℕ) (es : List (Vec ℕ Global × �
 name_there text token es h = rw (has_text_is text es ∙ h) refl
 
 pub name_new : (text : List ℕ) (token : ℕ) (es : List (Vec ℕ Global × ℕ)) (key : Vec ℕ Global) (new : List (Vec ℕ Global × ℕ))
-    → is_some (lookup (λ k. bytes_eq text k.items) es) ≡ false → key.items ≡ text → new ≡ insert_entry (λ x y. bytes_eq x.items y.items) es key token
+    → is_some (lookup (λ k. bytes_eq text k.items) es) ≡ false → key.items ≡ text
+    → new ≡ insert_entry (λ x y. bytes_eq x.items y.items) es key token
     → map key_view new ≡ with_text (map key_view es) text token
 name_new text token es key new h k n =
     let same : is_some (lookup (λ i. bytes_eq key.items i.items) es) ≡ false = rw k h in
-    ap (map key_view) (n ∙ inserted key token es same) ∙ map-append key_view es ((key, token) ∷ []) ∙ rw k (rw (has_text_is text es ∙ h) refl)
+    ap (map key_view) (n ∙ inserted key token es same) ∙ map-append key_view es ((key, token) ∷ [])
+    ∙ rw k (rw (has_text_is text es ∙ h) refl)
 
 -- ---- headings
 
-pub cleared_next : (first r : ℕ) (hs : List (Option Heading)) → first ≤ r → cleared first (r + 1 - first) hs ≡ set (cleared first (r - first) hs) r None
+pub cleared_next : (first r : ℕ) (hs : List (Option Heading)) → first ≤ r
+    → cleared first (r + 1 - first) hs ≡ set (cleared first (r - first) hs) r None
 cleared_next first r hs le =
     let n : r + 1 - first ≡ suc (r - first) = omega arith in
     let m : first + (r - first) ≡ r = omega arith in
@@ -145,5 +171,6 @@ cleared_next first r hs le =
 
 -- ---- the outermost scene is that in which a module is judged
 
-pub first_outermost : (source : List ℕ) (tokens : List Lexeme) (m : tree.Module) → outermost source tokens (1 + block_routines m.block) ≡ first_scene source tokens m
+pub first_outermost : (source : List ℕ) (tokens : List Lexeme) (m : tree.Module)
+    → outermost source tokens (1 + block_routines m.block) ≡ first_scene source tokens m
 first_outermost source tokens m = refl

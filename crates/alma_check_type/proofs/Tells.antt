@@ -6,8 +6,10 @@ use Rattle.alma_rules.specs.Judged.{Broken, both_of, broken_at, unless}
 use Rattle.alma_rules.specs.Numbered as tree
 use Rattle.alma_rules.specs.Scene.{Scene, Found, found}
 use Rattle.alma_rules.specs.Answers.{first}
-use Rattle.alma_rules.specs.Types.{Reading, reading_then, reading_at, reading_change, changed, type_name_rules, shape_in, read_type_name, Formed, cons_index}
-use Rattle.alma_check_type.specs.Told.{Told, told, told_both, told_with, told_at, told_changed, told_change, earlier, onward, join, alone, a_told}
+use Rattle.alma_rules.specs.Types.{Reading, reading_then, reading_at, reading_change, changed, type_name_rules, shape_in, read_type_name}
+use Rattle.alma_rules.specs.Types.{Formed, cons_index}
+use Rattle.alma_check_type.specs.Told.{Told, told, told_both, told_with, told_at, told_changed, told_change, earlier, onward, join, alone}
+use Rattle.alma_check_type.specs.Told.{a_told}
 
 -- ---- told of parts
 
@@ -29,10 +31,12 @@ told_as a b s v w p q = rw (p, q) refl
 pub then_told : {A B : Type 0} (a : Reading A) (f : Scene → Reading B) → told (reading_then a f) ≡ told_both (told a) (told (f a.scene))
 then_told a f = ap (λ x. a_told x (f a.scene).scene (both_of a.value (f a.scene).value)) (first_joined a.faults (f a.scene).faults)
 
-pub at_told : {A : Type 0} (n : ℕ) (rules : Option A → List CheckFault) (r : Reading A) → told (reading_at n rules r) ≡ told_at n rules (told r)
+pub at_told : {A : Type 0} (n : ℕ) (rules : Option A → List CheckFault) (r : Reading A)
+    → told (reading_at n rules r) ≡ told_at n rules (told r)
 at_told n rules r = ap (λ x. a_told x r.scene (unless (rules r.value) r.value)) (first_joined r.faults (broken_at n (rules r.value)))
 
-changed_told : {B : Type 0} (s : Scene) (faults : List Broken) (v : Option (Scene × B)) → told (changed s faults v) ≡ told_changed (first faults) s v
+changed_told : {B : Type 0} (s : Scene) (faults : List Broken) (v : Option (Scene × B))
+    → told (changed s faults v) ≡ told_changed (first faults) s v
 changed_told s faults None = refl
 changed_told s faults (Some p) = refl
 
@@ -48,7 +52,8 @@ onward_begin t = ap (λ v. a_told t.fault t.scene v) (go t.value)
     go None = refl
     go (Some xs) = refl
 
-joined_three : {A : Type 0} (u v w : Option (List A)) → option_map join (both_of u (option_map join (both_of v w))) ≡ option_map join (both_of (option_map join (both_of u v)) w)
+joined_three : {A : Type 0} (u v w : Option (List A))
+    → option_map join (both_of u (option_map join (both_of v w))) ≡ option_map join (both_of (option_map join (both_of u v)) w)
 joined_three None v w = refl
 joined_three (Some x) None w = refl
 joined_three (Some x) (Some y) None = refl
@@ -59,13 +64,15 @@ pub onward_both : {A : Type 0} (f : Option Broken) (v : Option (List A)) (a b : 
     → onward f v (told_with join (told_both a b)) ≡ onward (onward f v a).fault (onward f v a).value b
 onward_both f v a b = told_as _ _ b.scene _ _ (earlier_assoc f a.fault b.fault) (joined_three v a.value b.value)
 
-cons_alone : (v : Option Formed) (w : Option (List ℕ)) → option_map cons_index (both_of v w) ≡ option_map join (both_of (option_map alone v) w)
+cons_alone : (v : Option Formed) (w : Option (List ℕ))
+    → option_map cons_index (both_of v w) ≡ option_map join (both_of (option_map alone v) w)
 cons_alone None w = refl
 cons_alone (Some x) None = refl
 cons_alone (Some x) (Some ys) = refl
 
 pub onward_cons : (f : Option Broken) (v : Option (List ℕ)) (a : Told Formed) (b : Told (List ℕ))
-    → onward f v (told_with cons_index (told_both a b)) ≡ onward (onward f v (told_with alone a)).fault (onward f v (told_with alone a)).value b
+    → onward f v (told_with cons_index (told_both a b)) ≡ onward (onward f v (told_with alone a)).fault
+    (onward f v (told_with alone a)).value b
 onward_cons f v a b =
     ap (λ w. onward f v (a_told (earlier a.fault b.fault) b.scene w)) (cons_alone a.value b.value)
     ∙ onward_both f v (told_with alone a) b
@@ -73,7 +80,8 @@ onward_cons f v a b =
 -- ---- the names of types
 
 pub name_told : (s : Scene) (name : tree.Name) (f : Found) → f ≡ found s name
-    → told (read_type_name s name) ≡ a_told (first (broken_at name.node (type_name_rules f (shape_in f)))) s (unless (type_name_rules f (shape_in f)) (shape_in f))
+    → told (read_type_name s name) ≡ a_told (first (broken_at name.node (type_name_rules f (shape_in f)))) s
+    (unless (type_name_rules f (shape_in f)) (shape_in f))
 name_told s name f h = rw h refl
 
 -- for tactics

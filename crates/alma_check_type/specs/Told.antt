@@ -9,7 +9,8 @@ use Rattle.alma_rules.specs.Scene.{Scene, base}
 use Rattle.alma_rules.specs.Parts.{Typing}
 use Rattle.alma_rules.specs.StmtRules.{is_above}
 use Rattle.alma_rules.specs.Answers.{first}
-use Rattle.alma_rules.specs.Types.{Reading, Formed as RuleFormed, formed, too_large, number_in, index_type_rules, size_rules, rows_of, subrange_from}
+use Rattle.alma_rules.specs.Types.{Reading, Formed as RuleFormed, formed, too_large, number_in, index_type_rules, size_rules, rows_of}
+use Rattle.alma_rules.specs.Types.{subrange_from}
 use Rattle.alma_check_type.specs.declared.reading.Broken.{Broken as CodeBroken}
 use Rattle.alma_check_type.specs.declared.reading.Reading.{Reading as CodeReading}
 use Rattle.alma_check_type.specs.declared.reading.Formed.{Formed}
@@ -51,7 +52,12 @@ earlier (Some a) b = Some a
 
 -- the rules of a node, two phrases, and a value made of another
 abbrev pub told_at : {A : Type 0} → ℕ → (Option A → List CheckFault) → Told A → Told A
-told_at n rules t = record { fault = earlier t.fault (first (broken_at n (rules t.value))); scene = t.scene; value = unless (rules t.value) t.value }
+told_at n rules t = record {
+  fault = earlier t.fault (first (broken_at n (rules t.value)));
+  scene = t.scene;
+  value =
+      unless (rules t.value) t.value;
+}
 
 abbrev pub told_both : {A B : Type 0} → Told A → Told B → Told (A × B)
 told_both a b = record { fault = earlier a.fault b.fault; scene = b.scene; value = both_of a.value b.value }

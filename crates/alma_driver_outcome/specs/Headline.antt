@@ -88,7 +88,8 @@ pub data RunEnds (words : List (List ℕ)) (source input : List ℕ) (steps : �
         → Shows before after [] (text_of (file_of words) (TooMuchCode (size_of p)))
         → RunEnds words source input steps stats before after status
     -- the source is a program: its result, or a front of its prints
-    ended : (p : Program) → IsProgramOf source p → size_of p ≤ size_limit → ShowsResult stats (result (suc steps) p input) before after status
+    ended : (p : Program) → IsProgramOf source p → size_of p ≤ size_limit
+        → ShowsResult stats (result (suc steps) p input) before after status
         → RunEnds words source input steps stats before after status
     ran_out : (p : Program) → IsProgramOf source p → size_of p ≤ size_limit → ShowsFront words stats p input steps before after status
         → RunEnds words source input steps stats before after status

@@ -631,7 +631,8 @@ module _ (p : Program) (tables : Tables) (code : PlainCode) (checked : IsChecked
             cells = desig_cells d;
             first = values.desig_place p tables code checked w r lt lo d mine;
             second =
-                subst (Place code r (place_at p tables r lo2 e)) (sym good.0) (values.desig_place p tables code checked w r lt lo2 e others);
+                subst (Place code r (place_at p tables r lo2 e)) (sym good.0)
+                    (values.desig_place p tables code checked w r lt lo2 e others);
           },
           tt,
         )
@@ -753,7 +754,8 @@ module _ (p : Program) (tables : Tables) (code : PlainCode) (checked : IsChecked
             cells = desig_cells d;
             first = values.desig_place p tables code checked w r lt lo d mine;
             second =
-                subst (Place code r (place_at p tables r lo2 e)) (sym good.0) (values.desig_place p tables code checked w r lt lo2 e others);
+                subst (Place code r (place_at p tables r lo2 e)) (sym good.0)
+                    (values.desig_place p tables code checked w r lt lo2 e others);
           },
           tt,
         )

@@ -605,7 +605,8 @@ module _ (p : Program) (tables : Tables) (code : PlainCode) (input : List ℕ) (
                   number = left.2.there.2;
                   back = back.back_at;
                   kind = has_kind p code input r lo (without_top x) (without_last z.now) slot.Number result_kind bx;
-                  mark = holds_other (without_last z.now) lo (lo + 1) (cell.Int n) (cell.Mark h) some_now (λ e. omega (arith, e)) mark_there;
+                  mark = holds_other (without_last z.now) lo (lo + 1) (cell.Int n) (cell.Mark h) some_now (λ e. omega (arith, e))
+                      mark_there;
                   goes = (
                     left_on p code input lo lo r t (without_top x) (without_top x) (without_last z.now) last (omega arith) from_t put,
                     record {

@@ -66,7 +66,8 @@ module _ (p : Program) (tables : Tables) (code : PlainCode) (input : List ℕ) (
           let others : (j : ℕ) (y : ℤ) → j ≢ m → Holds now j (cell.Int y)
           → Holds t j (cell.Int y) = λ j y ne h. holds_other now m j (cell.Int x) (cell.Int y) some ne h in
           let w = writes held s is in
-          before code input line 0 24 (Leaves exit (ending p code input may lo r now)) held e s w.to 1 (suc c) c q q w.silently (omega arith)
+          before code input line 0 24 (Leaves exit (ending p code input may lo r now)) held e s w.to 1 (suc c) c q q w.silently
+              (omega arith)
           (omega arith)
           (from_ending p code input may line c (at + 1) exit lo lo r v now t e q (omega arith) behind left
           (later t (begins p code input lo r now v t left)
@@ -111,7 +112,8 @@ module _ (p : Program) (tables : Tables) (code : PlainCode) (input : List ℕ) (
               record { to = m.to; silently = m.silently; is = m.is }) (other_so refl t b2 value2)
 
       -- both ends
-      ends_go : (at miss c : ℕ) (label : Range) (arm next : Events NoYield) → Stands code at (own line (last_label_code lo bound miss label))
+      ends_go : (at miss c : ℕ) (label : Range) (arm next : Events NoYield)
+          → Stands code at (own line (last_label_code lo bound miss label))
           → GoesAt c (at + 6) arm → GoesAt c miss next
           → GoesAt (suc (suc (suc (suc (suc (suc c)))))) at (if_true (within label n) (λ _. arm) (λ _. next))
       ends_go at miss c label arm next i on_hit on_miss now b value = low_end (int_le label.low n) refl

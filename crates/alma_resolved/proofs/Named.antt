@@ -184,7 +184,13 @@ reserved_other = (
                                                                       λ e. absurd (cc),
                                                                       (
                                                                         λ e. absurd (cc),
-                                                                        (λ e. absurd (cc), (λ e. absurd (cc), (λ e. absurd (cc), (λ e. absurd (cc), tt)))),
+                                                                        (
+                                                                          λ e. absurd (cc),
+                                                                          (
+                                                                            λ e. absurd (cc),
+                                                                            (λ e. absurd (cc), (λ e. absurd (cc), tt)),
+                                                                          ),
+                                                                        ),
                                                                       ),
                                                                     ),
                                                                   ),

@@ -39,7 +39,8 @@ abbrev pub decreases-expression::mark_primary : goal.decreases-expression::mark_
 decreases-expression::mark_primary l = 3 * goal.size-expression::mark_primary l
 
 abbrev pub decreases-expression::mark_named : goal.decreases-expression::mark_named
-decreases-expression::mark_named l = 3 * (max (dd.size-Desig l.desig.now) (shapes.weighed-Primary-Desig-2.weight _ dg.size-Args l.args.now)) + 2
+decreases-expression::mark_named l = 3 * (max (dd.size-Desig l.desig.now) (shapes.weighed-Primary-Desig-2.weight _ dg.size-Args l.args.now))
+    + 2
 
 abbrev pub decreases-expression::mark_paren : goal.decreases-expression::mark_paren
 decreases-expression::mark_paren l = 3 * goal.size-expression::mark_paren l + 2
@@ -123,7 +124,8 @@ abbrev pub decreases-statement::mark_item_tail : goal.decreases-statement::mark_
 decreases-statement::mark_item_tail l = 3 * goal.size-statement::mark_item_tail l + 1
 
 abbrev pub decreases-form::mark_if : goal.decreases-form::mark_if
-decreases-form::mark_if l = 3 * (max (max (de.size-Expr l.test.now) (ds.size-Stmts l.then.now)) (max (most df.size-Elsif l.elsifs.now) (shapes.weighed-Stmt-If-4.weight _ ds.size-Stmts l.otherwise.now))) + 2
+decreases-form::mark_if l = 3 * (max (max (de.size-Expr l.test.now) (ds.size-Stmts l.then.now))
+    (max (most df.size-Elsif l.elsifs.now) (shapes.weighed-Stmt-If-4.weight _ ds.size-Stmts l.otherwise.now))) + 2
 
 abbrev pub decreases-form::mark_elsifs : goal.decreases-form::mark_elsifs
 decreases-form::mark_elsifs l = 3 * goal.size-form::mark_elsifs l + 1
@@ -138,7 +140,8 @@ abbrev pub decreases-form::mark_repeat : goal.decreases-form::mark_repeat
 decreases-form::mark_repeat l = 3 * (max (ds.size-Stmts l.body.now) (de.size-Expr l.test.now)) + 2
 
 abbrev pub decreases-form::mark_for : goal.decreases-form::mark_for
-decreases-form::mark_for l = 3 * (max (max (de.size-Expr l.from.now) (de.size-Expr l.to.now)) (max (shapes.weighed-Stmt-For-4.weight _ de.size-Expr l.by.now) (ds.size-Stmts l.body.now))) + 2
+decreases-form::mark_for l = 3 * (max (max (de.size-Expr l.from.now) (de.size-Expr l.to.now))
+    (max (shapes.weighed-Stmt-For-4.weight _ de.size-Expr l.by.now) (ds.size-Stmts l.body.now))) + 2
 
 abbrev pub decreases-form::mark_by : goal.decreases-form::mark_by
 decreases-form::mark_by l = 3 * goal.size-form::mark_by l + 1
@@ -147,7 +150,8 @@ abbrev pub decreases-form::mark_some : goal.decreases-form::mark_some
 decreases-form::mark_some l = 3 * (max (max (de.size-Expr l.from.now) (de.size-Expr l.to.now)) (ds.size-Stmts l.body.now)) + 2
 
 abbrev pub decreases-form::mark_case : goal.decreases-form::mark_case
-decreases-form::mark_case l = 3 * (max (max (de.size-Expr l.value.now) (da.size-Arm l.first.now)) (max (most da.size-Arm l.more.now) (shapes.weighed-Stmt-If-4.weight _ ds.size-Stmts l.otherwise.now))) + 2
+decreases-form::mark_case l = 3 * (max (max (de.size-Expr l.value.now) (da.size-Arm l.first.now))
+    (max (most da.size-Arm l.more.now) (shapes.weighed-Stmt-If-4.weight _ ds.size-Stmts l.otherwise.now))) + 2
 
 abbrev pub decreases-form::mark_arms : goal.decreases-form::mark_arms
 decreases-form::mark_arms l = 3 * goal.size-form::mark_arms l + 1
@@ -181,44 +185,55 @@ decreases-form::mark_commit l = 3 * goal.size-form::mark_commit l + 2
 
 abbrev pub invariant-expression::mark_terms-loop-link : goal.invariant-expression::mark_terms-loop-link
 invariant-expression::mark_terms-loop-link l =
-    Rests (marked l.fn.marks) (marked l.marks) (places.mark_terms (view.terms_of l.more)) (places.mark_terms (view.terms_of (drop l.link-index l.more)))
+    Rests (marked l.fn.marks) (marked l.marks) (places.mark_terms (view.terms_of l.more))
+    (places.mark_terms (view.terms_of (drop l.link-index l.more)))
 
 abbrev pub invariant-expression::mark_factors-loop-link : goal.invariant-expression::mark_factors-loop-link
 invariant-expression::mark_factors-loop-link l =
-    Rests (marked l.fn.marks) (marked l.marks) (places.mark_factors (view.factors_of l.more)) (places.mark_factors (view.factors_of (drop l.link-index l.more)))
+    Rests (marked l.fn.marks) (marked l.marks) (places.mark_factors (view.factors_of l.more))
+    (places.mark_factors (view.factors_of (drop l.link-index l.more)))
 
 abbrev pub invariant-expression::mark_expr_tail-loop-expr : goal.invariant-expression::mark_expr_tail-loop-expr
 invariant-expression::mark_expr_tail-loop-expr l =
-    Rests (marked l.fn.marks) (marked l.marks) (places.mark_expr_tail (view.exprs_of l.more)) (places.mark_expr_tail (view.exprs_of (drop l.expr-index l.more)))
+    Rests (marked l.fn.marks) (marked l.marks) (places.mark_expr_tail (view.exprs_of l.more))
+    (places.mark_expr_tail (view.exprs_of (drop l.expr-index l.more)))
 
 abbrev pub invariant-expression::mark_selectors-loop-selector : goal.invariant-expression::mark_selectors-loop-selector
 invariant-expression::mark_selectors-loop-selector l =
-    Rests (marked l.fn.marks) (marked l.marks) (places.mark_selectors (view.selectors_of l.more)) (places.mark_selectors (view.selectors_of (drop l.selector-index l.more)))
+    Rests (marked l.fn.marks) (marked l.marks) (places.mark_selectors (view.selectors_of l.more))
+    (places.mark_selectors (view.selectors_of (drop l.selector-index l.more)))
 
 abbrev pub invariant-statement::mark_stmt_tail-loop-stmt : goal.invariant-statement::mark_stmt_tail-loop-stmt
 invariant-statement::mark_stmt_tail-loop-stmt l =
-    Rests (marked l.fn.marks) (marked l.marks) (places.mark_stmt_tail (view.stmts_of l.more)) (places.mark_stmt_tail (view.stmts_of (drop l.stmt-index l.more)))
+    Rests (marked l.fn.marks) (marked l.marks) (places.mark_stmt_tail (view.stmts_of l.more))
+    (places.mark_stmt_tail (view.stmts_of (drop l.stmt-index l.more)))
 
 abbrev pub invariant-statement::mark_desigs-loop-desig : goal.invariant-statement::mark_desigs-loop-desig
 invariant-statement::mark_desigs-loop-desig l =
-    Rests (marked l.fn.marks) (marked l.marks) (places.mark_desigs l.at (view.desigs_of l.more)) (places.mark_desigs l.at (view.desigs_of (drop l.desig-index l.more)))
+    Rests (marked l.fn.marks) (marked l.marks) (places.mark_desigs l.at (view.desigs_of l.more))
+    (places.mark_desigs l.at (view.desigs_of (drop l.desig-index l.more)))
 
 abbrev pub invariant-statement::mark_item_tail-loop-item : goal.invariant-statement::mark_item_tail-loop-item
 invariant-statement::mark_item_tail-loop-item l =
-    Rests (marked l.fn.marks) (marked l.marks) (places.mark_item_tail l.at (view.exprs_of l.more)) (places.mark_item_tail l.at (view.exprs_of (drop l.item-index l.more)))
+    Rests (marked l.fn.marks) (marked l.marks) (places.mark_item_tail l.at (view.exprs_of l.more))
+    (places.mark_item_tail l.at (view.exprs_of (drop l.item-index l.more)))
 
 abbrev pub invariant-form::mark_elsifs-loop-elsif : goal.invariant-form::mark_elsifs-loop-elsif
 invariant-form::mark_elsifs-loop-elsif l =
-    Rests (marked l.fn.marks) (marked l.marks) (places.mark_elsifs (view.elsifs_of l.elsifs)) (places.mark_elsifs (view.elsifs_of (drop l.elsif-index l.elsifs)))
+    Rests (marked l.fn.marks) (marked l.marks) (places.mark_elsifs (view.elsifs_of l.elsifs))
+    (places.mark_elsifs (view.elsifs_of (drop l.elsif-index l.elsifs)))
 
 abbrev pub invariant-form::mark_arms-loop-arm : goal.invariant-form::mark_arms-loop-arm
 invariant-form::mark_arms-loop-arm l =
-    Rests (marked l.fn.marks) (marked l.marks) (places.mark_arms (view.arms_of l.more)) (places.mark_arms (view.arms_of (drop l.arm-index l.more)))
+    Rests (marked l.fn.marks) (marked l.marks) (places.mark_arms (view.arms_of l.more))
+    (places.mark_arms (view.arms_of (drop l.arm-index l.more)))
 
 abbrev pub invariant-form::mark_labels-loop-label : goal.invariant-form::mark_labels-loop-label
 invariant-form::mark_labels-loop-label l =
-    Rests (marked l.fn.marks) (marked l.marks) (places.mark_labels (view.labels_of l.more)) (places.mark_labels (view.labels_of (drop l.label-index l.more)))
+    Rests (marked l.fn.marks) (marked l.marks) (places.mark_labels (view.labels_of l.more))
+    (places.mark_labels (view.labels_of (drop l.label-index l.more)))
 
 abbrev pub invariant-form::mark_orelses-loop-body : goal.invariant-form::mark_orelses-loop-body
 invariant-form::mark_orelses-loop-body l =
-    Rests (marked l.fn.marks) (marked l.marks) (places.mark_orelses (view.orelses_of l.more)) (places.mark_orelses (view.orelses_of (drop l.body-index l.more)))
+    Rests (marked l.fn.marks) (marked l.marks) (places.mark_orelses (view.orelses_of l.more))
+    (places.mark_orelses (view.orelses_of (drop l.body-index l.more)))

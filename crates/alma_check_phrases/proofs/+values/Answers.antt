@@ -281,7 +281,8 @@ designator::check_selector-returns-in-Field g t c =
     rw (
       c.in-Field.is,
       desigs.field_at_is (scene_of c.args.env.now c.args.place)
-          (of_value c.args.slot.now (denoted_in (headings_in c.args.env.now) c.args.found)) c.in-Field.node (view.view_name c.in-Field.name),
+          (of_value c.args.slot.now (denoted_in (headings_in c.args.env.now) c.args.found)) c.in-Field.node
+          (view.view_name c.in-Field.name),
     )
     (rw c.text.ensures at (c.join_field.ensures c.args.slot.now))
 

@@ -7,4 +7,5 @@ use Rattle.alma_check_marks.proofs.declaration.+blocks.Given as goal
 
 abbrev pub invariant-mark_decls-loop-decl : goal.invariant-mark_decls-loop-decl
 invariant-mark_decls-loop-decl l =
-    Rests (marked l.fn.marks) (marked l.marks) (places.mark_decls (view.decls_of l.decls)) (places.mark_decls (view.decls_of (drop l.decl-index l.decls)))
+    Rests (marked l.fn.marks) (marked l.marks) (places.mark_decls (view.decls_of l.decls))
+    (places.mark_decls (view.decls_of (drop l.decl-index l.decls)))

@@ -5,7 +5,10 @@ use Rattle.alma_check_marks.proofs.Steps.{◌▸◌, next, finish}
 use Rattle.alma_check_marks.proofs.declaration.mark_consts.Goals as goal
 
 pub loop-entry-preserved : goal.loop-entry-preserved
-loop-entry-preserved c = next (λ xs. places.mark_consts (view.consts_of xs)) c.loop-entry.entry-index c.args.entries.now c.entry-item.result c.loop-entry-test.true c.entry-item.is c.loop-entry.invariant ▸ c.in_ok-leaf.ensures ▸ c.in_ok-token.ensures ▸ c.in_ok-mark_expr.ensures ▸ c.in_ok-token-2.ensures
+loop-entry-preserved c = next (λ xs. places.mark_consts (view.consts_of xs)) c.loop-entry.entry-index c.args.entries.now c.entry-item.result
+    c.loop-entry-test.true c.entry-item.is c.loop-entry.invariant ▸ c.in_ok-leaf.ensures ▸ c.in_ok-token.ensures ▸ c.in_ok-mark_expr.ensures
+    ▸ c.in_ok-token-2.ensures
 
 pub returns : goal.returns
-returns c = finish (λ xs. places.mark_consts (view.consts_of xs)) c.loop-entry.entry-index c.args.entries.now c.loop-entry-test.false refl c.loop-entry.invariant
+returns c = finish (λ xs. places.mark_consts (view.consts_of xs)) c.loop-entry.entry-index c.args.entries.now c.loop-entry-test.false refl
+    c.loop-entry.invariant

@@ -7,4 +7,5 @@ use Rattle.alma_check_marks.proofs.declaration.mark_more_formals.Given as goal
 
 abbrev pub invariant-loop-formal : goal.invariant-loop-formal
 invariant-loop-formal l =
-    Rests (marked l.fn.marks) (marked l.marks) (places.mark_more_formals (view.more_formals_of l.more)) (places.mark_more_formals (view.more_formals_of (drop l.formal-index l.more)))
+    Rests (marked l.fn.marks) (marked l.marks) (places.mark_more_formals (view.more_formals_of l.more))
+    (places.mark_more_formals (view.more_formals_of (drop l.formal-index l.more)))

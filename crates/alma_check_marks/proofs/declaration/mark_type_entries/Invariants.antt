@@ -7,4 +7,5 @@ use Rattle.alma_check_marks.proofs.declaration.mark_type_entries.Given as goal
 
 abbrev pub invariant-loop-entry : goal.invariant-loop-entry
 invariant-loop-entry l =
-    Rests (marked l.fn.marks) (marked l.marks) (places.mark_type_entries (view.types_of l.entries)) (places.mark_type_entries (view.types_of (drop l.entry-index l.entries)))
+    Rests (marked l.fn.marks) (marked l.marks) (places.mark_type_entries (view.types_of l.entries))
+    (places.mark_type_entries (view.types_of (drop l.entry-index l.entries)))

@@ -7,4 +7,5 @@ use Rattle.alma_check_marks.proofs.declaration.mark_vars.Given as goal
 
 abbrev pub invariant-loop-entry : goal.invariant-loop-entry
 invariant-loop-entry l =
-    Rests (marked l.fn.marks) (marked l.marks) (places.mark_vars (view.vars_of l.entries)) (places.mark_vars (view.vars_of (drop l.entry-index l.entries)))
+    Rests (marked l.fn.marks) (marked l.marks) (places.mark_vars (view.vars_of l.entries))
+    (places.mark_vars (view.vars_of (drop l.entry-index l.entries)))

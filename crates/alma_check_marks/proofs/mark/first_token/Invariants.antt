@@ -5,4 +5,5 @@ use Rattle.alma_check_marks.proofs.mark.first_token.Given as goal
 
 abbrev pub invariant-loop-mark : goal.invariant-loop-mark
 invariant-loop-mark l =
-    places.node_token l.node (map mark_of l.marks.marks.items) ≡ places.node_token l.node (map mark_of (drop l.mark-index l.marks.marks.items))
+    places.node_token l.node (map mark_of l.marks.marks.items) ≡ places.node_token l.node
+    (map mark_of (drop l.mark-index l.marks.marks.items))

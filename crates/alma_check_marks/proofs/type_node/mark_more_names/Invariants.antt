@@ -7,4 +7,5 @@ use Rattle.alma_check_marks.proofs.type_node.mark_more_names.Given as goal
 
 abbrev pub invariant-loop-name : goal.invariant-loop-name
 invariant-loop-name l =
-    Rests (marked l.fn.marks) (marked l.marks) (places.mark_more_names (view.names_of l.more)) (places.mark_more_names (view.names_of (drop l.name-index l.more)))
+    Rests (marked l.fn.marks) (marked l.marks) (places.mark_more_names (view.names_of l.more))
+    (places.mark_more_names (view.names_of (drop l.name-index l.more)))

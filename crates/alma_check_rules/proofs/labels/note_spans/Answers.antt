@@ -13,9 +13,13 @@ returns-in_err-note_end-clause-stay c = covers_kept _ _ _ c.note_end.ensures.kee
 pub loop-i-preserved : goal.loop-i-preserved
 unfolding no_span
 loop-i-preserved c =
-    let covers = rw (to_z-of_z w64 (get_or c.args.spans.now c.loop-i.i no_span).range.low (search rules), to_z-of_z w64 (get_or c.args.spans.now c.loop-i.i no_span).range.high (search rules)) at c.in_ok-note_end.ensures.covers in
+    let covers = rw (
+      to_z-of_z w64 (get_or c.args.spans.now c.loop-i.i no_span).range.low (search rules),
+      to_z-of_z w64 (get_or c.args.spans.now c.loop-i.i no_span).range.high (search rules),
+    ) at c.in_ok-note_end.ensures.covers in
     record {
       rises = c.note_end.ensures.rises;
       stay = covers_kept _ _ _ c.note_end.ensures.keeps c.loop-i.invariant.stay;
-      covers = covers_more c.loop-i.ends c.note_end.new.ends c.loop-i.i c.args.spans.now no_span c.note_end.ensures.keeps c.loop-i-test.true c.loop-i.invariant.covers covers;
+      covers = covers_more c.loop-i.ends c.note_end.new.ends c.loop-i.i c.args.spans.now no_span c.note_end.ensures.keeps c.loop-i-test.true
+          c.loop-i.invariant.covers covers;
     }

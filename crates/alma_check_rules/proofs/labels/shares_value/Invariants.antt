@@ -4,4 +4,5 @@ use Rattle.alma_check_rules.specs.Views.{span_view, spans_view}
 use Rattle.alma_check_rules.proofs.labels.shares_value.Given as goal
 
 abbrev pub invariant-loop-other : goal.invariant-loop-other
-invariant-loop-other l = shares_value (span_view l.span) (spans_view (drop l.other-index l.earlier)) ≡ shares_value (span_view l.span) (spans_view l.earlier)
+invariant-loop-other l = shares_value (span_view l.span) (spans_view (drop l.other-index l.earlier)) ≡ shares_value (span_view l.span)
+    (spans_view l.earlier)

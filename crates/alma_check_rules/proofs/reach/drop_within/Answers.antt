@@ -14,11 +14,14 @@ pub loop-start-preserved : goal.loop-start-preserved
 loop-start-preserved c =
     let within = rw (to_z-of_z w64 c.args.low (search rules), to_z-of_z w64 c.args.high (search rules)) at c.in-Some.ensures in
     let changed : IsChanged c.loop-start.ends c.remove.new.self c.args.base c.in-Some.start None =
-    subst (λ (z : ℤ). IsChanged c.loop-start.ends c.remove.new.self c.args.base z None) (to_z-of_z w64 c.in-Some.start (search rules)) (record { now = λ q. c.remove.ensures.updates.0 q }) in
+    subst (λ (z : ℤ). IsChanged c.loop-start.ends c.remove.new.self c.args.base z None) (to_z-of_z w64 c.in-Some.start (search rules))
+    (record { now = λ q. c.remove.ensures.updates.0 q }) in
     let top = rw (to_z-of_z w64 c.args.low (search rules), to_z-of_z w64 c.args.high (search rules)) at c.loop-start.invariant.topped in
     record {
-      topped = rw (to_z-of_z w64 c.args.low (search rules), to_z-of_z w64 c.args.high (search rules)) (topped_drop _ _ c.args.base c.args.low c.args.high c.in-Some.start changed top within.behind);
-      keeps = keeps_on _ _ _ c.loop-start.invariant.keeps (keeps_drop _ _ c.args.base c.args.low c.args.high c.in-Some.start changed top within);
+      topped = rw (to_z-of_z w64 c.args.low (search rules), to_z-of_z w64 c.args.high (search rules))
+          (topped_drop _ _ c.args.base c.args.low c.args.high c.in-Some.start changed top within.behind);
+      keeps = keeps_on _ _ _ c.loop-start.invariant.keeps
+          (keeps_drop _ _ c.args.base c.args.low c.args.high c.in-Some.start changed top within);
     }
 
 pub returns-clause-rises : goal.returns-clause-rises

@@ -8,7 +8,9 @@ loop-done-init c = rows_begin c.args.reader.now (formed_of c.args.element) c.arg
 
 pub loop-done-preserved : goal.loop-done-preserved
 loop-done-preserved c =
-    c.loop-done.invariant ∙ rows_next c.loop-done.reader (formed_of c.loop-done.formed) c.args.indices.now (length c.args.indices.now) c.loop-done.done _ refl c.loop-done-test.true c.in_ok-formed.ensures
+    c.loop-done.invariant ∙ rows_next c.loop-done.reader (formed_of c.loop-done.formed) c.args.indices.now (length c.args.indices.now)
+    c.loop-done.done _ refl c.loop-done-test.true c.in_ok-formed.ensures
 
 pub returns : goal.returns
-returns c = sym (c.loop-done.invariant ∙ rows_end c.loop-done.reader (formed_of c.loop-done.formed) c.args.indices.now (length c.args.indices.now) c.loop-done.done c.loop-done-test.false)
+returns c = sym (c.loop-done.invariant ∙ rows_end c.loop-done.reader (formed_of c.loop-done.formed) c.args.indices.now
+    (length c.args.indices.now) c.loop-done.done c.loop-done-test.false)

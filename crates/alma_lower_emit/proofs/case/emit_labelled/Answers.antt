@@ -19,6 +19,7 @@ returns g c =
           (λ ok h. all_is (around c.args.scene.now) c.args.line _ _ _ _ _ _ _ whole
           (all_first (around c.args.scene.now) c.args.line _ _ _ _ _ _ _ _ _ _ _ _ _ _
           (said c.emit_case_arm-done.result c.in_ok-exit.ensures.done (c.emit_case_arm-done.ensures.puts test)) c.in_ok-exit.ensures.address
-          c.in_ok-exit.ensures.codes (c.in_ok-emit_cases.ensures.puts test) (said c.emit_else-done.result ok c.emit_else-done.ensures.puts) h
+          c.in_ok-exit.ensures.codes (c.in_ok-emit_cases.ensures.puts test) (said c.emit_else-done.result ok c.emit_else-done.ensures.puts)
+              h
           (add-zero _)));
     }

@@ -87,7 +87,8 @@ pub compared-returns : goal.compared-returns
 compared-returns g t c = record {
   read =
       becoming_gives (λ v. spell_compared (compared_of v)) numbers_of_compared (λ o. compared_part ∷ o)
-      (λ o. one (relation_kind c.in-Some.relation) ∷ simple_parts o) _ _ _ (heads.begins_relation c.in-Some.relation c.in-Some.ensures.passes)
+      (λ o. one (relation_kind c.in-Some.relation) ∷ simple_parts o) _ _ _
+      (heads.begins_relation c.in-Some.relation c.in-Some.ensures.passes)
       c.relation_of.result (made_or_gives (λ v ks. relation_kind c.in-Some.relation ∷ a_simple v ks) (λ v. token >> number_simple v)
       (λ v. spell_compared (compared_of v)) numbers_of_compared _ _ _ _ (ComparedWith c.in-Some.relation) (λ v u h. ap spell_compared h.0)
       (λ v u h. h.1) c.simple.result c.relation_of.result c.relation_of.ensures.made
@@ -107,7 +108,8 @@ terms-returns-in_err-at g t c = record {
       stopped _ _ _ _ c.from_residual.ensures.1
       (broken_turn lists.terms term_tail (λ o. one (add_kind c.in-Some.operator) ∷ term_parts o) _ _ _ _ _ c.loop-operator.invariant
       (heads.begins_add c.in-Some.operator c.in-Some.ensures.passes) c.add_link.result _ c.in_err-at.ensures.pushed
-      (term_linked c.in-Some.operator _ c.in-Some.ensures.passes c.term.result c.add_link.result c.add_link.ensures.made c.term.ensures.read));
+      (term_linked c.in-Some.operator _ c.in-Some.ensures.passes c.term.result c.add_link.result c.add_link.ensures.made
+      c.term.ensures.read));
 }
 
 pub terms-loop-operator-smaller : goal.terms-loop-operator-smaller
@@ -188,7 +190,8 @@ factor-returns g t c = record {
       (heads.no_not _ c.in_default.ensures.passes) c.plain_of.result
       (made_gives (λ v. a_primary v.0) (λ v. number_primary v.0 >> node v.1) a_factor number_factor _ _ _ _ (λ v. dr.Plain v.1 v.0)
       (λ v. refl) (λ v. refl) c.numbered-2.result c.plain_of.result c.plain_of.ensures.made
-      (ended a_primary number_primary _ _ _ _ c.primary-2.result c.numbered-2.result c.numbered-2.ensures.numbered c.primary-2.ensures.read));
+      (ended a_primary number_primary _ _ _ _ c.primary-2.result c.numbered-2.result c.numbered-2.ensures.numbered
+      c.primary-2.ensures.read));
 }
 
 pub known-returns-in_err-at : goal.known-returns-in_err-at
@@ -205,7 +208,8 @@ known-returns g t c = record {
       (behind_front (λ v ks. a_desig v.0 (kinds.CloseParen ∷ ks)) (λ v. number_desig v.0 >> token >> node v.1)
       (opened refl c.in_ok-at.ensures.opened.opens_behind) (λ o. desig_parts (one kinds.CloseParen ∷ o)) _ c.numbered.result
       (ended_behind a_desig number_desig _ _ _ _ _ _ (matching kinds.CloseParen refl refl c.in_ok-at.ensures.opened.opens_behind)
-      c.desig.result c.followed_by.result c.followed_by.ensures.followed c.desig.ensures.read c.numbered.result c.numbered.ensures.numbered)));
+      c.desig.result c.followed_by.result c.followed_by.ensures.followed c.desig.ensures.read c.numbered.result
+      c.numbered.ensures.numbered)));
 }
 
 pub known-desig-requires : goal.known-desig-requires
@@ -282,7 +286,8 @@ args-returns-then-is_at g t c = record {
       becoming_gives (λ v. spell_args (args_of v)) numbers_of_args (λ o. args_part ∷ o) (λ o. one kinds.OpenParen ∷ args_inside ∷ o) _ _ _
       (heads.at_args _ (sym c.is_at.ensures.starts ∙ c.if-is_at.true)) c.arguments_of.result
       (lists.args_given _ _ _ _ c.args_values.result c.arguments_of.result c.arguments_of.ensures.made
-      (behind_front (λ v. spell_inside_args (inside_of v)) number_inside_args (opened refl c.in_ok-at.ensures.opened) (λ o. args_inside ∷ o) _
+      (behind_front (λ v. spell_inside_args (inside_of v)) number_inside_args (opened refl c.in_ok-at.ensures.opened) (λ o. args_inside ∷ o)
+      _
       c.args_values.result (shallower_gives (λ v. spell_inside_args (inside_of v)) number_inside_args (λ o. args_inside ∷ o)
       c.in_ok-at.ensures.opened _ c.args_values.result c.args_values.ensures.read)));
 }

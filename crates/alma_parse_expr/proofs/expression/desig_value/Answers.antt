@@ -23,7 +23,8 @@ pub returns-in_err-first : goal.returns-in_err-first
 returns-in_err-first g c = record {
   read =
       stopped _ _ _ _ c.from_residual-in_err-first.ensures.1
-      (beyond (ended_extending a_primary number_primary _ _ _ _ _ c.named.result (Ok _) c.in_ok-primary.ensures.numbered c.named.ensures.read)
+      (beyond (ended_extending a_primary number_primary _ _ _ _ _ c.named.result (Ok _) c.in_ok-primary.ensures.numbered
+      c.named.ensures.read)
       (first c.in_err-first.ensures.read));
 }
 
@@ -38,6 +39,7 @@ returns-in_err-left g c = record {
 pub returns : goal.returns
 returns g c = record {
   read = extended_twice c.expr_from.result (λ v. spell_expr (view_expr v)) number_expr (λ o. compared_part ∷ o)
-      (twice (ended_extending a_primary number_primary _ _ _ _ _ c.named.result (Ok _) c.in_ok-primary.ensures.numbered c.named.ensures.read)
+      (twice (ended_extending a_primary number_primary _ _ _ _ _ c.named.result (Ok _) c.in_ok-primary.ensures.numbered
+      c.named.ensures.read)
       (twice c.in_ok-first.ensures.read c.in_ok-left.ensures.read)) c.expr_from.ensures.read;
 }

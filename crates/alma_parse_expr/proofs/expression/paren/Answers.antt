@@ -22,9 +22,11 @@ returns g c = record {
       (λ v. token >> number_stmts v.0.value >> token >> node v.1) a_primary number_primary _ _ _ _ (λ v. dp.Paren v.1 v.0)
       (λ v. ap spell_primary (rows.paren_laid v.1 v.0)) (λ v. numbers.paren_laid v.1 v.0) c.numbered.result c.paren_of.result
       c.paren_of.ensures.made (behind_front (λ v ks. some_stmts v.0.value (kinds.CloseParen ∷ ks))
-      (λ v. number_stmts v.0.value >> token >> node v.1) (opened refl c.in_ok-at.ensures.opened) (λ o. stmts_parts (one kinds.CloseParen ∷ o))
+      (λ v. number_stmts v.0.value >> token >> node v.1) (opened refl c.in_ok-at.ensures.opened)
+      (λ o. stmts_parts (one kinds.CloseParen ∷ o))
       _ c.numbered.result (ended_behind (λ v. some_stmts v.value) (λ v. number_stmts v.value) _ _ _ _ _ _
-      (matching kinds.CloseParen refl refl c.in_ok-at.ensures.opened) c.boxed-body.result c.followed_by.result c.followed_by.ensures.followed
+      (matching kinds.CloseParen refl refl c.in_ok-at.ensures.opened) c.boxed-body.result c.followed_by.result
+      c.followed_by.ensures.followed
       (in_box some_stmts number_stmts _ _ _ _ c.inside.result c.boxed-body.result c.boxed-body.ensures.boxed
       (c.requires.reads.each_call _ _ _ _ c.inside.ensures)) c.numbered.result c.numbered.ensures.numbered));
 }

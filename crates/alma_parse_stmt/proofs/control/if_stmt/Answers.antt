@@ -42,7 +42,8 @@ returns g c = record {
   read = whole (λ v ks. spell_else (else_of v.0) (kinds.End ∷ ks)) (λ v. numbers_of_else v.0 >> token >> node v.1)
       a_stmt number_stmt (and_then (part (opened refl c.in_ok-at.ensures.opened))
       (and_then (part_and an_expr number_expr kinds.Then _ _ _ _ _ (plain kinds.Then _ refl refl) c.expr.result _
-      c.in_ok-test.ensures.followed c.expr.ensures.read) (and_then (part c.in_ok-then.ensures.read) (part c.in_ok-elsifs.ensures.read)))) _ _
+      c.in_ok-test.ensures.followed c.expr.ensures.read) (and_then (part c.in_ok-then.ensures.read) (part c.in_ok-elsifs.ensures.read)))) _
+      _
       _ (λ v. ap spell_stmt (rows.if_laid v.1 c.in_ok-test.test c.in_ok-then.then c.in_ok-elsifs.elsifs v.0))
       (λ v. numbers.if_laid v.1 c.in_ok-test.test c.in_ok-then.then c.in_ok-elsifs.elsifs v.0) c.numbered.result _ c.if_of.ensures.made
       (ended_behind (λ v. spell_else (else_of v)) numbers_of_else _ _ _ _ _ _ (matching kinds.End refl refl c.in_ok-at.ensures.opened)

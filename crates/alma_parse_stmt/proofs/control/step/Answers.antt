@@ -15,6 +15,7 @@ returns-in_default g c = record { read = skipped (heads.skips_by _ c.in_default.
 pub returns : goal.returns
 returns g c = record {
   read = becoming_gives (λ v. spell_by (by_of v)) numbers_of_by _ _ _ _ _ (heads.begins_by c.in-Some.ensures.passes)
-      c.present.result (whole an_expr number_expr (λ v. spell_by (by_of v)) numbers_of_by (part (passed refl refl c.in-Some.ensures.passes)) _
+      c.present.result (whole an_expr number_expr (λ v. spell_by (by_of v)) numbers_of_by (part (passed refl refl c.in-Some.ensures.passes))
+      _
       _ (λ v. Some v) (λ v. refl) (λ v. refl) c.expr.result _ c.present.ensures.made c.expr.ensures.read);
 }

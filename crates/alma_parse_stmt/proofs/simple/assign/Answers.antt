@@ -23,7 +23,8 @@ returns g c = record {
   read = made_extends (λ v ks. kinds.Assign ∷ an_expr v.0 ks) (λ v. token >> number_expr v.0 >> node v.1) a_stmt
       number_stmt (spell_desig (view_desig c.args.target)) (number_desig c.args.target) _ _ _ (λ v. dt.Assign v.1 c.args.target v.0)
       (λ v. ap spell_stmt (rows.assign_laid v.1 c.args.target v.0)) (λ v. numbers.assign_laid v.1 c.args.target v.0) c.numbered.result _
-      c.assign_of.ensures.made (both (λ v. an_expr v.0) (λ v. number_expr v.0 >> node v.1) (part (passed refl refl c.in_ok-at.ensures.passes))
+      c.assign_of.ensures.made (both (λ v. an_expr v.0) (λ v. number_expr v.0 >> node v.1)
+      (part (passed refl refl c.in_ok-at.ensures.passes))
       _ _ c.numbered.result (ended an_expr number_expr _ _ _ _ c.expr.result c.numbered.result c.numbered.ensures.numbered
       c.expr.ensures.read));
 }

@@ -20,7 +20,8 @@ pub returns-in_err-first : goal.returns-in_err-first
 returns-in_err-first g c = record {
   read =
       stopped _ _ _ _ c.from_residual-in_err-first.ensures.1
-      ((and_then (part (passed refl refl c.in_ok-at.ensures.opened.passes)) (part (opened refl c.in_ok-at.ensures.opened.opens_behind))).fails
+      ((and_then (part (passed refl refl c.in_ok-at.ensures.opened.passes))
+      (part (opened refl c.in_ok-at.ensures.opened.opens_behind))).fails
       _ _ (first c.in_err-first.ensures.read));
 }
 
@@ -29,7 +30,8 @@ returns g c = record {
   read = whole (λ v ks. more_desigs v.0 (kinds.CloseParen ∷ ks)) (λ v. count_desigs v.0 >> token >> node v.1) a_stmt
       number_stmt (and_then (part (passed refl refl c.in_ok-at.ensures.opened.passes))
       (and_then (part (opened refl c.in_ok-at.ensures.opened.opens_behind)) (part c.in_ok-first.ensures.read))) _ _ _
-      (λ v. ap spell_stmt (rows.read_laid v.1 c.in_ok-first.first v.0)) (λ v. numbers.read_laid v.1 c.in_ok-first.first v.0) c.numbered.result
+      (λ v. ap spell_stmt (rows.read_laid v.1 c.in_ok-first.first v.0)) (λ v. numbers.read_laid v.1 c.in_ok-first.first v.0)
+      c.numbered.result
       _ c.read_of.ensures.made (ended_behind more_desigs count_desigs _ _ _ _ _ _
       (matching kinds.CloseParen refl refl c.in_ok-at.ensures.opened.opens_behind) c.desig_list.result c.followed_by-more.result
       c.followed_by-more.ensures.followed c.desig_list.ensures.read c.numbered.result c.numbered.ensures.numbered);

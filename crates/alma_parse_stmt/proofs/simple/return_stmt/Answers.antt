@@ -21,6 +21,7 @@ returns g c = record {
   read = whole (λ v. spell_returned (returned_of v.0)) (λ v. numbers_of_returned v.0 >> node v.1) a_stmt number_stmt
       (part (passed refl refl c.in_ok-at.ensures.passes)) _ _ _ (λ v. ap spell_stmt (rows.return_laid v.1 v.0))
       (λ v. numbers.return_laid v.1 v.0) c.numbered.result _ c.return_of.ensures.made
-      (ended (λ v. spell_returned (returned_of v)) numbers_of_returned _ _ _ _ c.returned.result c.numbered.result c.numbered.ensures.numbered
+      (ended (λ v. spell_returned (returned_of v)) numbers_of_returned _ _ _ _ c.returned.result c.numbered.result
+      c.numbered.ensures.numbered
       c.returned.ensures.read);
 }

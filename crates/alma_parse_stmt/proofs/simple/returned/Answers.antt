@@ -13,7 +13,8 @@ returns-then-begins_expr g c = record {
   read =
       becoming_gives (λ v. spell_returned (returned_of v)) numbers_of_returned _ _ _ _ _
       (rw c.if-begins_expr.true at c.begins_expr.ensures.value) c.present.result
-      (made_gives an_expr number_expr (λ v. spell_returned (returned_of v)) numbers_of_returned _ _ _ _ (λ v. Some v) (λ v. refl) (λ v. refl)
+      (made_gives an_expr number_expr (λ v. spell_returned (returned_of v)) numbers_of_returned _ _ _ _ (λ v. Some v) (λ v. refl)
+      (λ v. refl)
       c.expr.result _ c.present.ensures.made c.expr.ensures.read);
 }
 

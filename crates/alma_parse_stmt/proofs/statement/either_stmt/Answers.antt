@@ -27,7 +27,8 @@ returns g c = record {
       (λ v. ap spell_stmt (rows.either_laid v.1 c.in_ok-first.first v.0)) (λ v. numbers.either_laid v.1 c.in_ok-first.first v.0)
       c.numbered.result _ c.either_of.ensures.made
       (ended_behind more_orelses count_orelses _ _ _ _ _ _ (matching kinds.End refl refl c.in_ok-at.ensures.opened) c.orelse_list.result
-      c.followed_by-more.result c.followed_by-more.ensures.followed c.orelse_list.ensures.read c.numbered.result c.numbered.ensures.numbered);
+      c.followed_by-more.result c.followed_by-more.ensures.followed c.orelse_list.ensures.read c.numbered.result
+      c.numbered.ensures.numbered);
 }
 
 pub open-requires : goal.open-requires

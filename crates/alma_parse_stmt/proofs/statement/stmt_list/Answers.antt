@@ -25,7 +25,8 @@ returns g c = record { read = loops.ended c.loop-after.invariant (heads.skips_st
 pub returns-in_err-at : goal.returns-in_err-at
 returns-in_err-at g c = record {
   read = stopped _ _ _ _ c.from_residual.ensures.1
-      (no_more lists.stmts (λ o. one kinds.Semicolon ∷ stmt_part ∷ o) _ _ c.loop-after.invariant (heads.begins_stmts c.in-Some.ensures.passes)
+      (no_more lists.stmts (λ o. one kinds.Semicolon ∷ stmt_part ∷ o) _ _ c.loop-after.invariant
+      (heads.begins_stmts c.in-Some.ensures.passes)
       c.stmt.result _ c.in_err-at.ensures.pushed
       (both a_stmt number_stmt (part (passed refl refl c.in-Some.ensures.passes)) _ _ c.stmt.result c.stmt.ensures.read));
 }

@@ -23,11 +23,14 @@ invariant_of-self-in_err-push c = rw c.in_err-push.ensures.items (record {
 
 pub invariant_of-self-2 : goal.invariant_of-self-2
 invariant_of-self-2 c =
-    let covered = rw (to_z-of_z w64 c.args.span.range.low (search rules), to_z-of_z w64 c.args.span.range.high (search rules)) at c.in_ok-note_end.ensures.covers in
+    let covered = rw (to_z-of_z w64 c.args.span.range.low (search rules), to_z-of_z w64 c.args.span.range.high (search rules))
+    at c.in_ok-note_end.ensures.covers in
     rw c.in_ok-push.ensures.items (record {
       before_rises = c.self.invariant.before_rises;
       arm_rises = c.note_end.ensures.rises;
-      before_covers = covers_take_push c.self.inside.before c.self.inside.settled c.self.inside.spans.items (c.args.span ∷ []) c.self.invariant.within c.self.invariant.before_covers;
-      arm_covers = covers_drop_push c.note_end.new.ends c.self.inside.settled c.self.inside.spans.items (c.args.span ∷ []) (covers_kept _ _ _ c.note_end.ensures.keeps c.self.invariant.arm_covers) (covered, tt);
+      before_covers = covers_take_push c.self.inside.before c.self.inside.settled c.self.inside.spans.items (c.args.span ∷ [])
+          c.self.invariant.within c.self.invariant.before_covers;
+      arm_covers = covers_drop_push c.note_end.new.ends c.self.inside.settled c.self.inside.spans.items (c.args.span ∷ [])
+          (covers_kept _ _ _ c.note_end.ensures.keeps c.self.invariant.arm_covers) (covered, tt);
       within = rw (length-append c.self.inside.spans.items (c.args.span ∷ [])) (omega (arith, c.self.invariant.within));
     })
