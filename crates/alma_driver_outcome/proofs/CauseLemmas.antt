@@ -338,7 +338,7 @@ read_fault_of words before after status x e = by_parts (ways words before after 
 
   by_parts : Ways words before after x.end → ReportOf words before after x.end status → ReadFaultIs words before after
   by_parts p (inr r) = absurd (omega (arith, e, r.0))
-  by_parts (no_fetch p) (inl r) = (inl (p.0.1.1, p.0.4), p.0.3.0, p.0.2)
+  by_parts (no_fetch p) (inl r) = (inl (p.0.1.0, p.0.1.2, p.0.1.1.1), p.0.3.0, p.0.2)
   by_parts (no_read f p) (inl r) = (inr (inl (p.1.3.1, p.1.1)), p.1.4.0, p.0)
   by_parts (works f i p) (inl r) = by_course p (read_status x.end (sym r.0 ∙ e))
 
@@ -500,7 +500,7 @@ reads_shown_of words before after status x grew = by_parts grew (ways words befo
   by_parts g p (inr r) = inl (inr (inl r.1.1.1))
   by_parts g (no_fetch p) (inl r) = inr (inl (r.0 ∙ ap status_of p.0.0))
   by_parts g (no_read f p) (inl r) = inr (inl (r.0 ∙ ap status_of p.1.0))
-  by_parts (inl h) (works f i p) (inl r) = absurd (omega (arith, h, f))
+  by_parts (inl h) (works f i p) (inl r) = absurd (omega (arith, h.1, ap (λ (c : List ℕ → ℕ). c h.0) f))
   by_parts (inr h) (works f i p) (inl r) = absurd (omega (arith, h, input_quiet (DueOf words before) before.input after.input i))
 
 input_of : (words : List (List ℕ)) (before after : Outside) (status : ℕ) → Answers words before after status

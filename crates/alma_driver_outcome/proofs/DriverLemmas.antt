@@ -669,9 +669,9 @@ limit_small (Trace name steps watch) = omega arith
 limit_small (Sample lines) = omega arith
 
 -- a fetch with this limit is that of the request
-pub fetch_of : (told : Told) (limit : ℕ) (r : Request) (before now : ℕ) (fault : Fetch) → limit ≡ limit_of r
-    → IsFetched told limit before now (Err fault) → IsFetched told (limit_of r) before now (Err fault)
-fetch_of told limit r before now fault l h = subst (λ (k : ℕ). IsFetched told k before now (Err fault)) l h
+pub fetch_of : (told : Told) (name : List ℕ) (limit : ℕ) (r : Request) (before now : List ℕ → ℕ) (fault : Fetch) → limit ≡ limit_of r
+    → IsFetched told name limit before now (Err fault) → IsFetched told name (limit_of r) before now (Err fault)
+fetch_of told name limit r before now fault l h = subst (λ (k : ℕ). IsFetched told name k before now (Err fault)) l h
 
 -- a request without a print or a store, where the input stays
 serves_silent : (P : Due → Type 0) (f f' : FilesSide) (i : SourceSide) (a : SinkSide) (end : End) → FilesStay f f'
@@ -682,7 +682,7 @@ serves_silent P f f' i a end s g = inr (inl refl, inl (s, g))
 -- a file that was not fetched
 pub performs_unfetched : (f f' : FilesSide) (r : Request) (name : List ℕ) (fault : Fetch) (i : SourceSide) (a : SinkSide)
     → read_by r ≡ Some name → FilesStay f f'
-    → IsFetched (f.told name) (limit_of r) f.fetch_faults f'.fetch_faults (Err fault)
+    → IsFetched (f.told name) name (limit_of r) f.fetch_faults f'.fetch_faults (Err fault)
     → Performs (IsReadBy r) (RequestOutcome f.told i.left r) f f' i i a a (fetch_end fault)
 performs_unfetched f f' r name fetch.Absent i a is s h =
     inr (
@@ -691,7 +691,7 @@ performs_unfetched f f' r name fetch.Absent i a is s h =
           (silent ReadFault, refl, (moves_silent (RequestOutcome f.told i.left r) i ReadFault (absent name is h.0 refl), refl),
               gains_none a),
     )
-performs_unfetched f f' r name fetch.Failed i a is s h = inl ((refl, (h.0, h.1), s, gains_none a, (name, is)), refl)
+performs_unfetched f f' r name fetch.Failed i a is s h = inl ((refl, (name, (h.0, h.1), is), s, gains_none a), refl)
 performs_unfetched f f' r name fetch.TooLong i a is s h =
     inr (
       h.1,
@@ -761,7 +761,7 @@ pub performs_asked : (words : List (List ℕ)) (request : Request) (f f' : Files
     → Performs (AskToRead words) (Outcome words f.told i.left) f f' i j a b end
 performs_asked words request f f' i j a b end h (inl p) =
     let fetch = p.0 in
-    inl ((fetch.0, fetch.1, fetch.2, fetch.3, (fetch.4.0, (request, h, fetch.4.1))), p.1)
+    inl ((fetch.0, (fetch.1.0, fetch.1.1, (request, h, fetch.1.2)), fetch.2, fetch.3), p.1)
 performs_asked words request f f' i j a b end h (inr p) =
     inr (
       p.0,

@@ -210,7 +210,7 @@ not_lacking words before source input steps stats a l =
 nothing_unread : (words : List (List ℕ)) (source input : List ℕ) (steps : ℕ) (stats : Bool) (before after : Outside) (status : ℕ)
     → AsksToRun words before source input steps stats → IsUndisturbed before after status
     → FetchFailed words before after ⊎ (InputFailed words before after ⊎ Lacks words before.files.told) → ⊥
-nothing_unread words source input steps stats before after status a u (inl failed) = u.no_read_failed (inl failed.0)
+nothing_unread words source input steps stats before after status a u (inl failed) = u.no_read_failed (inl (failed.0, failed.2))
 nothing_unread words source input steps stats before after status a u (inr (inl failed)) = u.no_read_failed (inr failed.0)
 nothing_unread words source input steps stats before after status a u (inr (inr lacks)) =
     not_lacking words before source input steps stats a lacks

@@ -7,7 +7,7 @@ use Rattle.alma_io.specs.Sides.{FilesSide}
 use Rattle.alma_driver_outcome.specs.Outside.{FilesStay, Outside}
 use Rattle.alma_driver_outcome.specs.Ends.{status_of, text_of}
 use Rattle.alma_driver_outcome.specs.Outcome.{Due, Stored, Outcome, AskToRead, Lacks}
-use Rattle.alma_driver_outcome.specs.Course.{Gains, GainsPrefix, HasStored, OthersStay, Takes, ReadsWhole, MayRead, ReadsFile}
+use Rattle.alma_driver_outcome.specs.Course.{Gains, GainsPrefix, HasStored, OthersStay, Takes, ReadsWhole, MayRead}
 
 -- a write or a store failed in the call
 abbrev pub WriteFailed : Outside → Outside → Type 0
@@ -23,11 +23,14 @@ WritesGrew before after =
 
 -- a fetch or a read of the input failed in the call
 abbrev pub ReadFailed : Outside → Outside → Type 0
-ReadFailed before after = Rose before.files.fetch_faults after.files.fetch_faults ⊎ Rose before.input.faults after.input.faults
+ReadFailed before after =
+    ((name : List ℕ) × Rose (before.files.fetch_faults name) (after.files.fetch_faults name))
+    ⊎ Rose before.input.faults after.input.faults
 
--- a fetch failed in the call, and the words ask to read a file
+-- the fetch of a file that the words ask to read failed in the call
 abbrev pub FetchFailed : (words : List (List ℕ)) → Outside → Outside → Type 0
-FetchFailed words before after = Rose before.files.fetch_faults after.files.fetch_faults × ReadsFile (AskToRead words)
+FetchFailed words before after =
+    (name : List ℕ) × AskToRead words name × Rose (before.files.fetch_faults name) (after.files.fetch_faults name)
 
 -- a read of the input failed in the call, and what the words ask may read it
 abbrev pub InputFailed : (words : List (List ℕ)) → Outside → Outside → Type 0
@@ -36,7 +39,8 @@ InputFailed words before after =
 
 -- a count of failed fetches or reads is greater now
 abbrev pub ReadsGrew : Outside → Outside → Type 0
-ReadsGrew before after = (before.files.fetch_faults < after.files.fetch_faults) ⊎ (before.input.faults < after.input.faults)
+ReadsGrew before after =
+    ((name : List ℕ) × (before.files.fetch_faults name < after.files.fetch_faults name)) ⊎ (before.input.faults < after.input.faults)
 
 -- the files are what they become where this is to be stored
 abbrev pub Become : FilesSide → FilesSide → Option Stored → Type 0
@@ -49,8 +53,8 @@ IsStoredName outcome name = (due : Due) × (stored : Stored) × outcome due × (
 
 -- What each status says of the call, and what a call shows that met a fault.
 pub record Causes (words : List (List ℕ)) (before after : Outside) (status : ℕ) : Type 0 where
-  -- a read fault comes only where a fetch failed and the words ask to read a file, where a read of the input failed that what they
-  -- ask may read, or where their file is told to be missing
+  -- a read fault comes only where the fetch of a file failed that the words ask to read, where a read of the input failed that what
+  -- they ask may read, or where their file is told to be missing
   pub read_fault : status ≡ 6 → FetchFailed words before after ⊎ (InputFailed words before after ⊎ Lacks words before.files.told)
   -- at a read fault nothing was written to out
   pub nothing : status ≡ 6 → Appends before.out.written after.out.written []

@@ -109,14 +109,14 @@ Works outcome files files' out out' end = (FilesStay files files' × Goes (Keeps
 
 -- ---- the call
 
--- there is a file that is to be read
-abbrev pub ReadsFile : (to_read : List ℕ → Type 0) → Type 0
-ReadsFile to_read = (name : List ℕ) × to_read name
+-- the fetch of a file that is to be read failed
+abbrev pub FetchFails : (to_read : List ℕ → Type 0) → FilesSide → FilesSide → Type 0
+FetchFails to_read files files' = (name : List ℕ) × HasRisen (files.fetch_faults name) (files'.fetch_faults name) × to_read name
 
--- there is a file that is to be read, and a fetch failed; nothing was written, and the files stay
+-- the fetch of a file that is to be read failed; nothing was written, and the files stay
 abbrev pub FailsToFetch : (to_read : List ℕ → Type 0) → FilesSide → FilesSide → SinkSide → SinkSide → End → Type 0
 FailsToFetch to_read files files' out out' end =
-    (end ≡ ReadFault) × HasRisen files.fetch_faults files'.fetch_faults × FilesStay files files' × Gains out out' [] × ReadsFile to_read
+    (end ≡ ReadFault) × FetchFails to_read files files' × FilesStay files files' × Gains out out' []
 
 -- How a call may come to this end where no fetch failed: the input failed, and the files stay; or it did not.
 abbrev pub Serves : (Due → Type 0) → FilesSide → FilesSide → SourceSide → SourceSide → SinkSide → SinkSide → End → Type 0

@@ -12,8 +12,12 @@ pub record SourceSide : Type 0 where
   pub left : Option (List ℕ)
   pub faults : ℕ
 
--- files: what they tell of each name, and how often a fetch and a store have failed
+-- files: what they tell of each name, a count for each name that rises when its fetch fails, and how often a store has failed
 pub record FilesSide : Type 0 where
   pub told : List ℕ → Told
-  pub fetch_faults : ℕ
+  pub fetch_faults : (name : List ℕ) → ℕ
   pub store_faults : ℕ
+
+-- one count for all names
+abbrev pub for_all_names : ℕ → (name : List ℕ) → ℕ
+for_all_names count name = count

@@ -124,7 +124,7 @@ module _ {V L : Type 0} (sense : Sense V L) (program : List ℕ) (plan : Plan V 
 
   read_fault_of : (end : Ending) → CourseTo end → ReportOf end → status ≡ 6 → ReadFaultIs
   read_fault_of end course (unsaid s f) e = absurd (omega (arith, s, e))
-  read_fault_of end (unfetched name asks q risen files input out) (said s g) e = (inl (risen.1, (name, asks)), out.bytes_are, files)
+  read_fault_of end (unfetched name asks q risen files input out) (said s g) e = (inl (name, asks, risen.1), out.bytes_are, files)
   read_fault_of end (unread q fetches files reads lost risen out) (said s g) e = (inr (inl (risen.1, reads)), out.bytes_are, files)
   read_fault_of end (unwritten r due may q fetches files takes out) (said s g) e = absurd (omega (arith, s, e, of_status end _ q))
   read_fault_of end (unstored r due stored may is q fetches files risen takes out) (said s g) e =
@@ -240,7 +240,7 @@ module _ {V L : Type 0} (sense : Sense V L) (program : List ℕ) (plan : Plan V 
 
   -- where a failed fetch or read is not shown by the end, none failed
   quiet_reads : after.files.fetch_faults ≡ before.files.fetch_faults → after.input.faults ≡ before.input.faults → ReadsGrew before after → ⊥
-  quiet_reads fetches input (inl h) = omega (arith, h, fetches)
+  quiet_reads fetches input (inl h) = omega (arith, h.1, ap (λ (c : List ℕ → ℕ). c h.0) fetches)
   quiet_reads fetches input (inr h) = omega (arith, h, input)
 
   reads_shown_of : (end : Ending) → CourseTo end → ReportOf end → ReadsGrew before after → WriteFailed before after

@@ -95,7 +95,8 @@ module _ (program : List ℕ) (A B : List ℕ → Type 0) (P Q : Reading → Due
       → (f g h : FilesSide) (i j : SourceSide) (o p : SinkSide) (end : Ending) → FilesStay f g → g.fetch_faults ≡ f.fetch_faults
       → Course program A P g h i j o p end → Course program B Q f h i j o p end
   course_map asked map f g h i j o p end stay quiet (unfetched name asks e risen files input out) =
-      unfetched name (asked name asks) e (risen_behind f.fetch_faults g.fetch_faults h.fetch_faults quiet risen)
+      unfetched name (asked name asks) e
+      (risen_behind (f.fetch_faults name) (g.fetch_faults name) (h.fetch_faults name) (ap (λ (c : List ℕ → ℕ). c name) quiet) risen)
       (stay_twice f g h stay files) input out
   course_map asked map f g h i j o p end stay quiet (unread e fetches files reads lost risen out) =
       unread e (fetches ∙ quiet) (stay_twice f g h stay files) (read_map P Q map reads) lost risen out
@@ -134,7 +135,7 @@ module _ {V L : Type 0} (sense : Sense V L) (program : List ℕ) where
   -- a file was not fetched
   pub course_unfetched : (name : List ℕ) (limit : ℕ) (next : List ℕ → Plan V L) (fault : Fetch) (f g : FilesSide) (i : SourceSide)
       (o : SinkSide)
-      → FilesStay f g → IsFetched (f.told name) limit f.fetch_faults g.fetch_faults (Err fault)
+      → FilesStay f g → IsFetched (f.told name) name limit f.fetch_faults g.fetch_faults (Err fault)
       → Follows sense program (Fetches name limit next) f g i i o o (stop_end program (fetch_stop fault))
   course_unfetched name limit next fetch.Absent f g i o stay is =
       done Kept (silent (read_fault program)) (inl (is.0, refl, refl)) refl is.1 stay refl (gains_none o)

@@ -23,12 +23,13 @@ WritesGrew before after =
 
 -- a count of failed fetches or reads is greater now
 abbrev pub ReadsGrew : Outside → Outside → Type 0
-ReadsGrew before after = (before.files.fetch_faults < after.files.fetch_faults) ⊎ (before.input.faults < after.input.faults)
+ReadsGrew before after =
+    ((name : List ℕ) × (before.files.fetch_faults name < after.files.fetch_faults name)) ⊎ (before.input.faults < after.input.faults)
 
--- a fetch failed in the call, and the plan may ask for a file
+-- the fetch of a file that the plan may ask for failed in the call
 abbrev pub FetchFailed : {V L : Type 0} → Sense V L → Plan V L → Outside → Outside → Type 0
-FetchFailed sense plan before after = Rose before.files.fetch_faults after.files.fetch_faults
-    × ((name : List ℕ) × Asks sense before.files.told plan name)
+FetchFailed sense plan before after =
+    (name : List ℕ) × Asks sense before.files.told plan name × Rose (before.files.fetch_faults name) (after.files.fetch_faults name)
 
 -- a read of the input failed in the call, and what may come reads it
 abbrev pub InputFailed : (may : Reading → Due → Type 0) → Outside → Outside → Type 0
@@ -73,8 +74,8 @@ HaveOneVerdict {V} sense = (source : List ℕ) (one other : V) → sense.judged 
 -- What each status says of a call with a plan, and what a call shows that met a fault.
 pub record Causes {V L : Type 0} (sense : Sense V L) (program : List ℕ) (plan : Plan V L) (before after : Outside) (status : ℕ) : Type 0
   where
-    -- a read fault comes only where a fetch failed and the plan may ask for a file, where a read of the input failed that what may
-    -- come reads, or where a file that it may ask for is told to be missing
+    -- a read fault comes only where the fetch of a file failed that the plan may ask for, where a read of the input failed that what
+    -- may come reads, or where a file that it may ask for is told to be missing
     pub read_fault_is : status ≡ 6 → FetchFailed sense plan before after
         ⊎ (InputFailed (MayCome sense program plan before) before after ⊎ MayLack sense before.files.told plan)
     -- at a read fault nothing was written to out

@@ -84,7 +84,7 @@ pub data Course (program : List ℕ) (asks : List ℕ → Type 0) (may : Reading
     (input input' : SourceSide)
     (out out' : SinkSide) (end : Ending) : Type 0 where
   -- the fetch of a file that may be asked for failed, and nothing was written
-  unfetched : (name : List ℕ) → asks name → end ≡ read_fault program → HasRisen files.fetch_faults files'.fetch_faults
+  unfetched : (name : List ℕ) → asks name → end ≡ read_fault program → HasRisen (files.fetch_faults name) (files'.fetch_faults name)
       → FilesStay files files'
       → input' ≡ input → Gains out out' [] → Course program asks may files files' input input' out out' end
   -- the input failed, and nothing was written

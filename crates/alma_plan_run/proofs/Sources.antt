@@ -42,7 +42,7 @@ module _ (program : List ℕ) (failed : Ending) (file : List ℕ) (next : tree.P
 
   -- the file holds a program
   pub course_read_source : (p : Program) (f g h : FilesSide) (i j : SourceSide) (o q : SinkSide) (end : Ending)
-      → FilesStay f g → IsUnit (f.told file) f.fetch_faults g.fetch_faults (read p)
+      → FilesStay f g → IsUnit (f.told file) file f.fetch_faults g.fetch_faults (read p)
       → Follows (sense program failed) program (next (program_of p)) g h i j o q end
       → Follows (sense program failed) program (read_source file next) f h i j o q end
   course_read_source p f g h i j o q end stay is course = course_verdict (Accepted (program_of p)) f g h i j o q end stay is course
@@ -58,7 +58,7 @@ module _ (program : List ℕ) (failed : Ending) (file : List ℕ) (next : tree.P
 
   -- the file gives no program
   pub course_unread_source : (error : UnitError) (f g : FilesSide) (i : SourceSide) (o : SinkSide)
-      → FilesStay f g → IsUnit (f.told file) f.fetch_faults g.fetch_faults (not_read error)
+      → FilesStay f g → IsUnit (f.told file) file f.fetch_faults g.fetch_faults (not_read error)
       → Follows (sense program failed) program (read_source file next) f g i i o o (file_end program file (unit_stop error))
   course_unread_source (Lex fault place) f g i o stay is = course_refused (source_fault.Lex fault) place f g i o stay is
   course_unread_source (Syntax fault place) f g i o stay is = course_refused (source_fault.Syntax fault) place f g i o stay is

@@ -33,22 +33,23 @@ unit_refused source (source_fault.Syntax fault) offset place is at = (offset, is
 unit_refused source (source_fault.Check fault) offset place is at = (offset, is, at)
 
 -- what comes of the bytes of a file
-pub unit_fetched : (told : Told) (before now : ℕ) (source : List ℕ) (r : Result Program UnitError) → MayHave told source
+pub unit_fetched : (told : Told) (name : List ℕ) (before now : List ℕ → ℕ) (source : List ℕ) (r : Result Program UnitError) → MayHave told source
     → length source ≤ source_limit
-    → now ≡ before → IsUnitOf source r → IsUnit told before now r
-unit_fetched told before now source (Ok p) has short quiet is = ((source, has, short, is), quiet)
-unit_fetched told before now source (Err (Lex fault place)) has short quiet is = ((source, has, short, is), quiet)
-unit_fetched told before now source (Err (Syntax fault place)) has short quiet is = ((source, has, short, is), quiet)
-unit_fetched told before now source (Err (Check fault place)) has short quiet is = ((source, has, short, is), quiet)
-unit_fetched told before now source (Err Memory) has short quiet is = quiet
-unit_fetched told before now source (Err Absent) has short quiet is = absurd is
-unit_fetched told before now source (Err Failed) has short quiet is = absurd is
-unit_fetched told before now source (Err TooLong) has short quiet is = absurd is
+    → now ≡ before → IsUnitOf source r → IsUnit told name before now r
+unit_fetched told name before now source (Ok p) has short quiet is = ((source, has, short, is), quiet)
+unit_fetched told name before now source (Err (Lex fault place)) has short quiet is = ((source, has, short, is), quiet)
+unit_fetched told name before now source (Err (Syntax fault place)) has short quiet is = ((source, has, short, is), quiet)
+unit_fetched told name before now source (Err (Check fault place)) has short quiet is = ((source, has, short, is), quiet)
+unit_fetched told name before now source (Err Memory) has short quiet is = quiet
+unit_fetched told name before now source (Err Absent) has short quiet is = absurd is
+unit_fetched told name before now source (Err Failed) has short quiet is = absurd is
+unit_fetched told name before now source (Err TooLong) has short quiet is = absurd is
 
 -- and of none
-pub unit_unfetched : (told : Told) (before now : ℕ) (fault : Fetch) → IsFetched told source_limit before now (Err fault)
-    → IsUnit told before now (failed (fetch_error fault))
-unit_unfetched told before now fetch.Absent h = h
-unit_unfetched told before now fetch.Failed h = h
-unit_unfetched told before now fetch.TooLong h = h
-unit_unfetched told before now fetch.Memory h = h
+pub unit_unfetched : (told : Told) (name : List ℕ) (before now : List ℕ → ℕ) (fault : Fetch)
+    → IsFetched told name source_limit before now (Err fault)
+    → IsUnit told name before now (failed (fetch_error fault))
+unit_unfetched told name before now fetch.Absent h = h
+unit_unfetched told name before now fetch.Failed h = h
+unit_unfetched told name before now fetch.TooLong h = h
+unit_unfetched told name before now fetch.Memory h = h

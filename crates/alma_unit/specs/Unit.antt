@@ -35,16 +35,16 @@ IsUnitOf source (Err TooLong) = ⊥
 abbrev pub MayComeTo : Told → Verdict → Type 0
 MayComeTo told verdict = (source : List ℕ) × MayHave told source × (length source ≤ source_limit) × IsVerdict source verdict
 
--- what reading a file of which this is told may answer, and what that leaves of the fetch count
-abbrev pub IsUnit : Told → (before now : ℕ) → Result Program UnitError → Type 0
-IsUnit told before now (Ok p) = MayComeTo told (Accepted (program_of p)) × (now ≡ before)
-IsUnit told before now (Err (Lex fault place)) = MayComeTo told (Rejected (source_fault.Lex fault) place) × (now ≡ before)
-IsUnit told before now (Err (Syntax fault place)) = MayComeTo told (Rejected (source_fault.Syntax fault) place) × (now ≡ before)
-IsUnit told before now (Err (Check fault place)) = MayComeTo told (Rejected (source_fault.Check fault) place) × (now ≡ before)
-IsUnit told before now (Err Absent) = (told ≡ Missing) × (now ≡ before)
-IsUnit told before now (Err TooLong) = MayPass told source_limit × (now ≡ before)
-IsUnit told before now (Err Failed) = (before ≤ now) × Rose before now
-IsUnit told before now (Err Memory) = now ≡ before
+-- what reading a file of which this is told may answer, and what that leaves of the fetch counts
+abbrev pub IsUnit : Told → (name : List ℕ) → (before now : List ℕ → ℕ) → Result Program UnitError → Type 0
+IsUnit told name before now (Ok p) = MayComeTo told (Accepted (program_of p)) × (now ≡ before)
+IsUnit told name before now (Err (Lex fault place)) = MayComeTo told (Rejected (source_fault.Lex fault) place) × (now ≡ before)
+IsUnit told name before now (Err (Syntax fault place)) = MayComeTo told (Rejected (source_fault.Syntax fault) place) × (now ≡ before)
+IsUnit told name before now (Err (Check fault place)) = MayComeTo told (Rejected (source_fault.Check fault) place) × (now ≡ before)
+IsUnit told name before now (Err Absent) = (told ≡ Missing) × (now ≡ before)
+IsUnit told name before now (Err TooLong) = MayPass told source_limit × (now ≡ before)
+IsUnit told name before now (Err Failed) = (before name ≤ now name) × Rose (before name) (now name)
+IsUnit told name before now (Err Memory) = now ≡ before
 
 -- ---- inner
 

@@ -4,6 +4,7 @@ ghost use Rattle.std.specs.FinMap as map;
 ghost use Rattle.alma_io.specs.Files.{MayPass, IsFetched, IsStored};
 ghost use Rattle.alma_io.specs.Memory.{told_by, FailsNext, after_fetch, after_store};
 ghost use Rattle.alma_io.specs.Named.{named_bytes};
+ghost use Rattle.alma_io.specs.Sides.{for_all_names};
 
 use crate::memory::schedule::Schedule;
 use crate::{Fetch, Files, StoreFault};
@@ -53,6 +54,7 @@ pub struct MemFiles {
 impl Model for MemFiles {
     ghost use Rattle.alma_io.specs.Memory.{FilesState, files_code};
     ghost use Rattle.alma_io.specs.Named.{named_bytes};
+    ghost use Rattle.alma_io.specs.Sides.{for_all_names};
 
     ghost Value = { FilesState };
 
@@ -100,7 +102,7 @@ impl MemFiles {
 impl Files for MemFiles {
     ghost side = { λ f. record {
       told = λ name. told_by (map.get f.files name);
-      fetch_faults = f.fetch_faults;
+      fetch_faults = for_all_names f.fetch_faults;
       store_faults = f.store_faults;
     } };
 
@@ -108,8 +110,8 @@ impl Files for MemFiles {
         requires { limit < 2 ^ 62 }
         ensures same { (other : List ℕ) → told_by (map.get self.new.files other) ≡ told_by
             (map.get self.old.files other) }
-        ensures answer { IsFetched (told_by (map.get self.old.files name.now)) limit
-            self.old.fetch_faults self.new.fetch_faults result }
+        ensures answer { IsFetched (told_by (map.get self.old.files name.now)) name.now limit
+            (for_all_names self.old.fetch_faults) (for_all_names self.new.fetch_faults) result }
         ensures store_count { self.new.store_faults ≡ self.old.store_faults }
 
         // Which calls fail, and what stays.
@@ -139,7 +141,7 @@ impl Files for MemFiles {
     fn store(&mut self, alloc: Global, name: &str, bytes: &[u8]) -> Result<(), StoreFault>
         ensures others { (other : List ℕ) → other ≢ name.now →
             told_by (map.get self.new.files other) ≡ told_by (map.get self.old.files other) }
-        ensures fetch_count { self.new.fetch_faults ≡ self.old.fetch_faults }
+        ensures fetch_count { for_all_names self.new.fetch_faults ≡ for_all_names self.old.fetch_faults }
         ensures answer { IsStored (told_by (map.get self.old.files name.now))
             (told_by (map.get self.new.files name.now))
             bytes.now self.old.store_faults self.new.store_faults result }

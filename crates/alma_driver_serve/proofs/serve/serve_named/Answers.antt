@@ -27,6 +27,6 @@ returns-in-Err g c =
     (asked c.args.request.now) c.args.file.now c.in-Err.fault (g.I.Source.side c.args.input.now) (g.O.Sink.side c.args.out.now)
     c.requires.read
     (c.in-Err.ensures.same, c.in-Err.ensures.store_count)
-    (fetch_of ((g.F.Files.side c.args.files.now).told c.args.file.now) c.read_limit.result (asked c.args.request.now)
+    (fetch_of ((g.F.Files.side c.args.files.now).told c.args.file.now) c.args.file.now c.read_limit.result (asked c.args.request.now)
     (g.F.Files.side c.args.files.now).fetch_faults
     (g.F.Files.side c.fetch.new.self).fetch_faults c.in-Err.fault c.read_limit.ensures c.in-Err.ensures.answer))
