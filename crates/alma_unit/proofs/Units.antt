@@ -33,7 +33,8 @@ unit_refused source (source_fault.Syntax fault) offset place is at = (offset, is
 unit_refused source (source_fault.Check fault) offset place is at = (offset, is, at)
 
 -- what comes of the bytes of a file
-pub unit_fetched : (told : Told) (name : List ℕ) (before now : List ℕ → ℕ) (source : List ℕ) (r : Result Program UnitError) → MayHave told source
+pub unit_fetched : (told : Told) (name : List ℕ) (before now : List ℕ → ℕ) (source : List ℕ) (r : Result Program UnitError)
+    → MayHave told source
     → length source ≤ source_limit
     → now ≡ before → IsUnitOf source r → IsUnit told name before now r
 unit_fetched told name before now source (Ok p) has short quiet is = ((source, has, short, is), quiet)
