@@ -76,7 +76,7 @@ impl Memory {
     {
         let mut slots = Vec::new(alloc);
         put_start(&mut slots, head)?;
-        let store = Store::start(alloc, head.declared(), slots.as_slice())?;
+        let store = Store::start(alloc, head.declared(), slots)?;
         Ok(Memory {
             alloc,
             store,
@@ -198,30 +198,6 @@ impl Memory {
         ensures held { self.new.held ≡ self.old.held }
     {
         self.store.write_top(slot as usize, cell)
-    }
-
-    /// Writes a cell, if that takes no memory. Else it answers false, and nothing has happened.
-    #[inline(always)]
-    pub fn write_within(&mut self, frame: u32, slot: u32, cell: Cell) -> bool
-        requires live { frame < length self.old.now }
-        requires slot_of { slot < length (slice_index_or self.old.now frame no_frame).cells }
-        ensures now { self.new.now ≡ (if result then frames_with_cell self.old.now frame slot cell
-            else self.old.now) }
-        ensures held { self.new.held ≡ self.old.held }
-    {
-        self.store.write_within(frame as usize, slot as usize, cell)
-    }
-
-    /// Writes into a slot of the top frame, if that takes no memory. Else it answers false, and nothing has happened.
-    #[inline(always)]
-    pub fn put_within(&mut self, slot: u32, cell: Cell) -> bool
-        requires { slot < length (last_frame self.old.now).cells }
-        ensures now { self.new.now ≡ (if result then frames_with_cell self.old.now
-            (length self.old.now - 1) slot cell else
-            self.old.now) }
-        ensures held { self.new.held ≡ self.old.held }
-    {
-        self.store.write_top_within(slot as usize, cell)
     }
 
     /// Pushes a frame, laid out by its head and its arguments.

@@ -1,10 +1,15 @@
 // A list, its copies as marks, and the trail.
-ghost use Rattle.std.specs.Prelude.{◌≡◌, ℕ, ◌+◌, ◌-◌, ◌<◌, ◌≤◌, [], ◌∷◌, ◌++◌, length, take, drop, set, replicate, slice_get, slice_index_or, Some, true, false, is_ok, IsOk, OnOk, OnErr, IfOk, IsTrue, if◌then◌else◌, vec_len, vec_capacity};
+ghost use Rattle.std.specs.Prelude.{◌≡◌, ℕ, ◌+◌, ◌-◌, ◌<◌, ◌≤◌, [], ◌∷◌, ◌++◌, length, take, drop};
+ghost use Rattle.std.specs.Prelude.{set, replicate, slice_get, slice_index_or, Some, true, false};
+ghost use Rattle.std.specs.Prelude.{is_ok, IsOk, OnOk, OnErr, IfOk, IsTrue, if◌then◌else◌};
+ghost use Rattle.std.specs.Prelude.{vec_len, vec_capacity};
 ghost use Rattle.std.specs.BTreeMap.{get};
 ghost use Rattle.std.specs.Ordering.{nat_cmp};
 ghost use Rattle.alma_memory_rewind.specs.Rewound.{IsOlds, needed, top_copy};
-ghost use Rattle.alma_memory_rewind.specs.Trail.{before, first_of, held_of, is_free, last_mark, free_from, trail_for};
-ghost use Rattle.alma_memory_rewind.specs.Sound.{AddsNoted, AreOld, AreStamps, IsSound, Keeps, Sweeps, SweepsOn};
+ghost use Rattle.alma_memory_rewind.specs.Trail.{before, first_of, held_of, is_free, last_mark};
+ghost use Rattle.alma_memory_rewind.specs.Trail.{free_from, trail_for};
+ghost use Rattle.alma_memory_rewind.specs.Sound.{AddsNoted, AreOld, AreStamps, IsSound, Keeps};
+ghost use Rattle.alma_memory_rewind.specs.Sound.{Sweeps, SweepsOn};
 
 use alma_base::NoMemory;
 use std::alloc::Global;
@@ -22,7 +27,8 @@ pub struct Note<T> {
     pub old: T,
 }
 
-/// A copy: the length of the trail when it was made, how many items it has, and its number among all copies so far.
+/// A copy: the length of the trail when it was made, how many items it has, and its number among all
+/// copies so far.
 #[derive(Clone, Copy)]
 pub struct Mark {
     pub mark: usize,
@@ -63,7 +69,8 @@ impl<T> Model for Rewind<T> {
       trail_room = vec_capacity r.trail - vec_len r.trail;
     } };
 
-    ghost invariant = { λ r. IsSound r.marks.items r.trail.items r.items.items r.stamps.items r.counter };
+    ghost invariant = { λ r.
+        IsSound r.marks.items r.trail.items r.items.items r.stamps.items r.counter };
 }
 
 // Whether a write at a place with this stamp needs no note.
@@ -365,6 +372,23 @@ impl<T: Copy> Rewind<T> {
         }
     }
 
+    /// These items and no copy. The vector is taken over, and none of it is copied.
+    pub fn of(alloc: Global, items: Vec<T>) -> Result<Rewind<T>, NoMemory>
+        ensures now { IfOk result (λ list. list.now ≡ items.items) }
+        ensures held { IfOk result (λ list. list.held ≡ []) }
+    {
+        let mut stamps = Vec::new(alloc);
+        stamps.resize(items.len(), 0)?;
+        Ok(Rewind {
+            items,
+            stamps,
+            trail: Vec::new(alloc),
+            marks: Vec::new(alloc),
+            counter: 0,
+            limit: FIRST_LIMIT,
+        })
+    }
+
     #[inline(always)]
     pub fn len(&self) -> usize
         ensures { result ≡ length self.now.now }
@@ -421,10 +445,12 @@ impl<T: Copy> Rewind<T> {
         ensures now { self.new.now ≡ self.old.now }
         ensures held { self.new.held ≡ self.old.held }
         ensures noted { self.new.noted ≡ self.old.noted }
-        ensures succeeds { choices ≤ self.old.choice_room → trail ≤ self.old.trail_room → IsOk result }
+        ensures succeeds { choices ≤ self.old.choice_room → trail ≤ self.old.trail_room
+            → IsOk result }
         ensures choice_room { OnOk result (choices ≤ self.new.choice_room) }
         ensures trail_room { OnOk result (trail ≤ self.new.trail_room) }
-        ensures no_less { (self.old.choice_room ≤ self.new.choice_room) × (self.old.trail_room ≤ self.new.trail_room) }
+        ensures no_less { (self.old.choice_room ≤ self.new.choice_room)
+            × (self.old.trail_room ≤ self.new.trail_room) }
     {
         if usize::MAX - self.counter < choices {
             return Err(NoMemory);
@@ -441,11 +467,14 @@ impl<T: Copy> Rewind<T> {
         ensures now { self.new.now ≡ self.old.now }
         ensures held { self.new.held ≡ self.old.held }
         ensures succeeds { 1 ≤ self.old.trail_room → IsOk result }
-        ensures free { slice_index_or self.old.noted at false ≡ true → IsOk result × (self.new.trail_room ≡ self.old.trail_room) }
+        ensures free { slice_index_or self.old.noted at false ≡ true
+            → IsOk result × (self.new.trail_room ≡ self.old.trail_room) }
         ensures noted { OnOk result (slice_index_or self.new.noted at false ≡ true) }
-        ensures kept { (p : ℕ) → slice_index_or self.old.noted p false ≡ true → slice_index_or self.new.noted p false ≡ true }
+        ensures kept { (p : ℕ) → slice_index_or self.old.noted p false ≡ true
+            → slice_index_or self.new.noted p false ≡ true }
         ensures choice_room { self.new.choice_room ≡ self.old.choice_room }
-        ensures trail_room { self.old.trail_room ≤ self.new.trail_room + (if is_ok result then 1 else 0) }
+        ensures trail_room { self.old.trail_room ≤ self.new.trail_room
+            + (if is_ok result then 1 else 0) }
     {
         let free = needs_no_note(self.marks.as_slice(), at, self.stamps[at]);
         room_for_note(free, &mut self.trail)?;
@@ -458,29 +487,6 @@ impl<T: Copy> Rewind<T> {
             at,
         );
         Ok(())
-    }
-
-    /// Notes what stands at a place, if that takes no memory. Else it answers false, and nothing has happened.
-    #[inline(always)]
-    pub fn note_within(&mut self, at: usize) -> bool
-        requires { at < length self.old.now }
-        ensures now { self.new.now ≡ self.old.now }
-        ensures held { self.new.held ≡ self.old.held }
-        ensures noted { result ≡ true → slice_index_or self.new.noted at false ≡ true }
-    {
-        let free = needs_no_note(self.marks.as_slice(), at, self.stamps[at]);
-        if !free && self.trail.len() == self.trail.capacity() {
-            return false;
-        }
-        note_old(
-            free,
-            self.marks.as_slice(),
-            self.items.as_slice(),
-            &mut self.stamps,
-            &mut self.trail,
-            at,
-        );
-        true
     }
 
     /// Writes an item at a place that is noted.
@@ -500,14 +506,18 @@ impl<T: Copy> Rewind<T> {
     #[inline(always)]
     pub fn write(&mut self, at: usize, value: T) -> Result<(), NoMemory>
         requires { at < length self.old.now }
-        ensures now { self.new.now ≡ (if is_ok result then set self.old.now at value else self.old.now) }
+        ensures now { self.new.now
+            ≡ (if is_ok result then set self.old.now at value else self.old.now) }
         ensures held { self.new.held ≡ self.old.held }
         ensures succeeds { 1 ≤ self.old.trail_room → IsOk result }
-        ensures free { slice_index_or self.old.noted at false ≡ true → IsOk result × (self.new.trail_room ≡ self.old.trail_room) }
+        ensures free { slice_index_or self.old.noted at false ≡ true
+            → IsOk result × (self.new.trail_room ≡ self.old.trail_room) }
         ensures noted { OnOk result (slice_index_or self.new.noted at false ≡ true) }
-        ensures kept { (p : ℕ) → slice_index_or self.old.noted p false ≡ true → slice_index_or self.new.noted p false ≡ true }
+        ensures kept { (p : ℕ) → slice_index_or self.old.noted p false ≡ true
+            → slice_index_or self.new.noted p false ≡ true }
         ensures choice_room { self.new.choice_room ≡ self.old.choice_room }
-        ensures trail_room { self.old.trail_room ≤ self.new.trail_room + (if is_ok result then 1 else 0) }
+        ensures trail_room { self.old.trail_room ≤ self.new.trail_room
+            + (if is_ok result then 1 else 0) }
     {
         self.note(at)?;
         self.put(at, value);
@@ -529,9 +539,11 @@ impl<T: Copy> Rewind<T> {
 
     /// Pushes an item, which needs no note until a copy is made.
     pub fn push(&mut self, value: T) -> Result<(), NoMemory>
-        ensures now { self.new.now ≡ (if is_ok result then self.old.now ++ value ∷ [] else self.old.now) }
+        ensures now { self.new.now
+            ≡ (if is_ok result then self.old.now ++ value ∷ [] else self.old.now) }
         ensures held { self.new.held ≡ self.old.held }
-        ensures noted { self.new.noted ≡ (if is_ok result then self.old.noted ++ true ∷ [] else self.old.noted) }
+        ensures noted { self.new.noted
+            ≡ (if is_ok result then self.old.noted ++ true ∷ [] else self.old.noted) }
         ensures choice_room { self.new.choice_room ≡ self.old.choice_room }
         ensures trail_room { self.new.trail_room ≡ self.old.trail_room }
     {
@@ -562,9 +574,11 @@ impl<T: Copy> Rewind<T> {
         requires low { needed self.old.held ≤ top }
         requires high { top ≤ length self.old.now }
         ensures now { self.new.now ≡ self.old.now }
-        ensures held { self.new.held ≡ (if is_ok result then self.old.held ++ take top self.old.now ∷ [] else self.old.held) }
+        ensures held { self.new.held ≡ (if is_ok result
+            then self.old.held ++ take top self.old.now ∷ [] else self.old.held) }
         ensures succeeds { 1 ≤ self.old.choice_room → IsOk result }
-        ensures choice_room { self.old.choice_room ≤ self.new.choice_room + (if is_ok result then 1 else 0) }
+        ensures choice_room { self.old.choice_room ≤ self.new.choice_room
+            + (if is_ok result then 1 else 0) }
         ensures trail_room { self.new.trail_room ≡ self.old.trail_room }
     {
         if self.counter == usize::MAX {
@@ -612,7 +626,8 @@ impl<T: Copy> Rewind<T> {
     pub fn cut(&mut self, height: usize)
         ensures now { self.new.now ≡ self.old.now }
         ensures held { self.new.held ≡ take height self.old.held }
-        ensures rooms { (self.old.choice_room ≤ self.new.choice_room) × (self.old.trail_room ≤ self.new.trail_room) }
+        ensures rooms { (self.old.choice_room ≤ self.new.choice_room)
+            × (self.old.trail_room ≤ self.new.trail_room) }
     {
         self.marks.truncate(height);
         settle(self.marks.as_slice(), &mut self.trail);

@@ -142,48 +142,30 @@ fn write_cell(slots: &mut Rewind<Slot>, at: usize, cell: Cell) -> Result<(), NoM
     Ok(())
 }
 
-// Writes the cell of a slot, if that takes no memory, and leaves its kind.
-#[inline(always)]
-fn write_cell_within(slots: &mut Rewind<Slot>, at: usize, cell: Cell) -> bool
-    requires { at < length slots.old.now }
-    ensures now { slots.new.now ≡ (if result then set slots.old.now at (record {
-      kind = (slice_index_or slots.old.now at no_slot).kind;
-      cell = cell;
-    }) else slots.old.now) }
-    ensures held { slots.new.held ≡ slots.old.held }
-{
-    if !slots.note_within(at) {
-        return false;
-    }
-    put_cell(slots, at, cell);
-    true
-}
-
 impl Store {
-    /// One frame of routine 0, and no copy.
-    pub fn start(alloc: Global, declared: u32, of_start: &[Slot]) -> Result<Store, NoMemory>
-        requires few { length of_start.now < 2 ^ 32 }
+    /// One frame of routine 0 with these slots, and no copy. The vector is taken over.
+    pub fn start(alloc: Global, declared: u32, slots: Vec<Slot>) -> Result<Store, NoMemory>
+        requires few { length slots.items < 2 ^ 32 }
         requires limit { declared ≤ cell_limit }
         ensures now { IfOk result (λ store. store.now ≡ (record {
           routine = 0;
           back = 0;
           declared = declared;
-          kinds = kinds_in of_start.now;
-          cells = cells_in of_start.now;
+          kinds = kinds_in slots.items;
+          cells = cells_in slots.items;
         }) ∷ []) }
         ensures held { IfOk result (λ store. store.held ≡ []) }
     {
-        let mut slots = Rewind::new(alloc);
-        let mut regions = Rewind::new(alloc);
-        lay(&mut slots, 0, of_start)?;
         let top = Region {
             routine: 0,
             back: 0,
             declared,
             total: declared,
             base: 0,
-            slots: of_start.len() as u32,
+            slots: slots.len() as u32,
         };
+        let slots = Rewind::of(alloc, slots)?;
+        let mut regions = Rewind::new(alloc);
         regions.push(top)?;
         let lives = Vec::new(alloc);
         Ok(Store {
@@ -363,33 +345,6 @@ impl Store {
     {
         let at = place_of(self.top, slot, self.slots.len());
         write_cell(&mut self.slots, at, cell)
-    }
-
-    /// Writes a cell, if that takes no memory. Else it answers false, and nothing has happened.
-    #[inline(always)]
-    pub fn write_within(&mut self, frame: usize, slot: usize, cell: Cell) -> bool
-        requires live { frame < length self.old.now }
-        requires slot_of { slot < length (slice_index_or self.old.now frame no_frame).cells }
-        ensures now { self.new.now ≡ (if result
-            then frames_with_cell self.old.now frame slot cell else self.old.now) }
-        ensures held { self.new.held ≡ self.old.held }
-    {
-        let region = self.regions.get(frame);
-        let at = place_of(region, slot, self.slots.len());
-        write_cell_within(&mut self.slots, at, cell)
-    }
-
-    /// Writes into a slot of the top frame, if that takes no memory. Else it answers false, and nothing has happened.
-    #[inline(always)]
-    pub fn write_top_within(&mut self, slot: usize, cell: Cell) -> bool
-        requires { slot < length (last_frame self.old.now).cells }
-        ensures now { self.new.now ≡ (if result
-            then frames_with_cell self.old.now (length self.old.now - 1) slot cell
-            else self.old.now) }
-        ensures held { self.new.held ≡ self.old.held }
-    {
-        let at = place_of(self.top, slot, self.slots.len());
-        write_cell_within(&mut self.slots, at, cell)
     }
 
     /// Pushes a frame with these slots. Its region stands above the live frames and above all that a copy needs.
