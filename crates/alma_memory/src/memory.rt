@@ -16,6 +16,12 @@ use alma_memory_store::{Slot, Store, put_call, put_start};
 use std::alloc::Global;
 use std::marker::Model;
 
+// Room for so many entries and notes is made at the start. It costs nothing before it is used, and lists
+// that grow from little leave holes behind them.
+const FIRST_ENTRIES: usize = 32_768;
+
+const FIRST_NOTES: usize = 65_536;
+
 /// What a pop gives: the kind of the entry, as it was before, and where to go on.
 #[derive(Clone, Copy, Debug, PartialEq, Eq)]
 pub struct Resumed {
@@ -76,14 +82,15 @@ impl Memory {
     {
         let mut slots = Vec::new(alloc);
         put_start(&mut slots, head)?;
-        let store = Store::start(alloc, head.declared(), slots)?;
-        Ok(Memory {
+        let mut memory = Memory {
             alloc,
-            store,
+            store: Store::start(alloc, head.declared(), slots)?,
             entries: Vec::new(alloc),
             slots: Vec::new(alloc),
             cells: Vec::new(alloc),
-        })
+        };
+        memory.reserve(FIRST_ENTRIES, FIRST_NOTES)?;
+        Ok(memory)
     }
 
     /// Makes room for so many more entries and notes.

@@ -23,6 +23,18 @@ one_place = record {
   has_result = false;
 }
 
+-- a head of one parameter, a number, whose kinds change from run to run
+abbrev pub striped : PlainHead
+striped = record {
+  slots = 8;
+  declared = 5;
+  params = (record { kind = param.Value; cells = 1 }) ∷ [];
+  runs = record { kind = slot.Number; end = 1 } ∷ record { kind = slot.Place 1; end = 2 } ∷ record { kind = slot.Number; end = 3 }
+      ∷ record { kind = slot.Mark; end = 4 } ∷ record { kind = slot.Number; end = 5 } ∷ record { kind = slot.Place 2; end = 6 }
+      ∷ record { kind = slot.Number; end = 8 } ∷ [];
+  has_result = false;
+}
+
 -- an entry that nothing was kept in
 abbrev pub entry : ChoiceKind → ℕ → List PlainFrame → PlainEntry
 entry kind resume frames = record { kind = kind; resume = resume; frames = frames; carry = [] }
@@ -43,3 +55,7 @@ body_kept =
     let frames = start_frame (numbers 2) ∷ [] in
     (record { kind = choice.Forall; resume = 3; frames = frames; carry = (record { frame = 0; slot = 1; cell = cell.Int (pos 9) }) ∷ [] })
     ∷ entry choice.Branch 5 frames ∷ []
+
+-- the entries after the body changed nothing and was kept
+abbrev pub nothing_kept : List PlainEntry
+nothing_kept = let frames = start_frame (numbers 2) ∷ [] in entry choice.Forall 3 frames ∷ entry choice.Branch 5 frames ∷ []

@@ -1,9 +1,11 @@
 // Rows on calls alone.
 ghost use Rattle.std.specs.Prelude.{ℕ, ◌≡◌, ◌≢◌, ◌<◌, ◌≤◌, ◌∷◌, ◌++◌, [], length, slice_index_or, IfOk, OnOk};
 ghost use Rattle.alma_code.specs.Layout.{start_frame};
-ghost use Rattle.alma_code.specs.Picture.{no_frame, frames_with_cell, top_of, stack_after_pop};
+ghost use Rattle.alma_code.specs.Picture.{no_frame, frames_with_cell, last_frame, top_of};
+ghost use Rattle.alma_code.specs.Picture.{stack_after_pop};
 ghost use Rattle.alma_memory.specs.Slots.{KeepsSlots};
 ghost use Rattle.alma_tests_machine.specs.Rows.{numbers, entry, frames_of_two, in_body, body_kept};
+ghost use Rattle.alma_tests_machine.specs.Rows.{nothing_kept, striped};
 ghost use Rattle.alma_code.specs.declared.cell.Cell.TheVariants as cell;
 ghost use Rattle.alma_code.specs.declared.cell.ChoiceKind.TheVariants as choice;
 
@@ -255,6 +257,185 @@ fn a_forall_carries_what_its_bodies_changed(rt: HostRuntime) -> Result<(), Fail>
     );
     memory.finish()?;
     assert_eq!(rt; (memory.read(0, 1), memory.height()), (Cell::Int(9), 0));
+    Ok(())
+}
+
+// Keeps a body that changed nothing.
+fn keep_nothing(memory: &mut Memory) -> Result<(), NoMemory>
+    requires now { memory.old.now ≡ start_frame (numbers 2) ∷ [] }
+    requires held { memory.old.held ≡ in_body memory.old.now }
+    ensures { OnOk result (memory.new.held ≡ nothing_kept) }
+{
+    memory.keep(1)
+}
+
+// A memory of two number slots, in which a forall carries nothing.
+fn carrying_nothing(alloc: Global) -> Result<Memory, NoMemory>
+    ensures { IfOk result (λ memory. memory.held ≡ nothing_kept) }
+{
+    let mut memory = start(alloc, 2)?;
+    enter_body(&mut memory)?;
+    keep_nothing(&mut memory)?;
+    Ok(memory)
+}
+
+#[test]
+fn a_forall_of_which_nothing_was_kept_lays_nothing(rt: HostRuntime) -> Result<(), Fail> {
+    let mut memory = carrying_nothing(rt.alloc())?;
+    let has_branch = go_back(&mut memory).is_some();
+    memory.overlay(1)?;
+    let laid = memory.read(0, 1);
+    let has_forall = go_back(&mut memory).is_some();
+    memory.finish()?;
+    assert_eq!(rt;
+        (
+            has_branch,
+            laid,
+            has_forall,
+            memory.read(0, 1),
+            memory.height()
+        ),
+        (true, Cell::Unknown, true, Cell::Unknown, 0)
+    );
+    Ok(())
+}
+
+// Eight slots, whose kinds change from run to run; the first is a parameter.
+const STRIPES: [Run; 7] = [
+    Run {
+        kind: SlotKind::Number,
+        end: 1,
+    },
+    Run {
+        kind: SlotKind::Place(1),
+        end: 2,
+    },
+    Run {
+        kind: SlotKind::Number,
+        end: 3,
+    },
+    Run {
+        kind: SlotKind::Mark,
+        end: 4,
+    },
+    Run {
+        kind: SlotKind::Number,
+        end: 5,
+    },
+    Run {
+        kind: SlotKind::Place(2),
+        end: 6,
+    },
+    Run {
+        kind: SlotKind::Number,
+        end: 8,
+    },
+];
+
+// A head of short runs.
+#[derive(Drop)]
+struct Striped {}
+
+impl Head for Striped {
+    ghost use Rattle.alma_tests_machine.specs.Rows.{striped};
+
+    ghost head = { λ h. striped };
+
+    fn slots(&self) -> u32 {
+        8
+    }
+
+    fn declared(&self) -> u32 {
+        5
+    }
+
+    fn param_count(&self) -> u32 {
+        1
+    }
+
+    fn param(&self, _i: u32) -> CodeParam {
+        CodeParam {
+            kind: ParamKind::Value,
+            cells: 1,
+        }
+    }
+
+    fn run_count(&self) -> u32 {
+        7
+    }
+
+    fn run(&self, i: u32) -> Run {
+        STRIPES[i as usize]
+    }
+
+    fn has_result(&self) -> bool {
+        false
+    }
+}
+
+// A memory with a frame of short runs.
+fn start_striped(alloc: Global) -> Result<Memory, NoMemory>
+    ensures { IfOk result (λ memory. memory.now ≡ start_frame striped ∷ []) }
+{
+    Memory::new(alloc, &Striped {})
+}
+
+// What eight slots of the top frame hold.
+fn cells_on_top(memory: &Memory) -> [Cell; 8]
+    requires { 8 ≤ length (last_frame memory.now.now).cells }
+{
+    [
+        memory.top(0),
+        memory.top(1),
+        memory.top(2),
+        memory.top(3),
+        memory.top(4),
+        memory.top(5),
+        memory.top(6),
+        memory.top(7),
+    ]
+}
+
+// The kinds of four slots of the top frame.
+fn kinds_on_top(memory: &Memory) -> [SlotKind; 4]
+    requires { 8 ≤ length (last_frame memory.now.now).kinds }
+{
+    [
+        memory.top_kind(0),
+        memory.top_kind(3),
+        memory.top_kind(5),
+        memory.top_kind(7),
+    ]
+}
+
+// What the eight slots hold, where the first holds this.
+fn stripes_with(first: Cell) -> [Cell; 8] {
+    [
+        first,
+        Cell::Unset,
+        Cell::Unknown,
+        Cell::Unset,
+        Cell::Unknown,
+        Cell::Unset,
+        Cell::Unknown,
+        Cell::Unknown,
+    ]
+}
+
+const KINDS: [SlotKind; 4] = [
+    SlotKind::Number,
+    SlotKind::Mark,
+    SlotKind::Place(2),
+    SlotKind::Number,
+];
+
+#[test]
+fn a_frame_of_short_runs_is_laid_slot_by_slot(rt: HostRuntime) -> Result<(), Fail> {
+    let mut memory = start_striped(rt.alloc())?;
+    assert_eq!(rt; cells_on_top(&memory), stripes_with(Cell::Int(0)));
+    memory.enter(&Striped {}, 1, 9, &[Cell::Int(5)])?;
+    assert_eq!(rt; cells_on_top(&memory), stripes_with(Cell::Int(5)));
+    assert_eq!(rt; kinds_on_top(&memory), KINDS);
     Ok(())
 }
 
