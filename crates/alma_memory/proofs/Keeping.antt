@@ -1,8 +1,8 @@
 -- Lemmas on a body that is kept: the carry below it gains what differs, and the body is dropped.
-use Rattle.std.proofs.Common.{◌≡◌, ◌≤◌, ◌<◌, ◌-◌, ℕ, suc, zero, List, [], ◌∷◌, length, take, get_or, set, refl, sym, ap, ◌∙◌, arith}
+use Rattle.std.proofs.Common.{◌≡◌, ◌≤◌, ◌<◌, ◌-◌, ℕ, List, [], length, take, get_or, set, sym, ap, ◌∙◌, arith}
 use Rattle.alma_base.specs.Carry.{Change, with_changes}
 use Rattle.alma_code.specs.declared.cell.Cell.{Cell}
-use Rattle.alma_code.specs.Picture.{PlainFrame, PlainEntry, no_entry, top_of, entry_at}
+use Rattle.alma_code.specs.Picture.{PlainFrame, PlainEntry, top_of, entry_at}
 use Rattle.alma_code.specs.Carries.{diffs, with_carry, held_after_keep}
 use Rattle.alma_memory_rewind.specs.Rewound.{top_copy}
 use Rattle.alma_memory_store.specs.Carries.{IsRising}

@@ -1,4 +1,4 @@
-use Rattle.std.proofs.Common.{◌≡◌, length, take, min, ap, sym, ◌∙◌, arith}
+use Rattle.std.proofs.Common.{length, take, min, ap, sym, ◌∙◌}
 use Rattle.std.proofs.lemmas.List.{length-take}
 use Rattle.alma_memory.specs.Inner.Stack.{stack_of}
 use Rattle.alma_memory.proofs.Stacks.{stack-take}

@@ -1,4 +1,4 @@
-use Rattle.std.proofs.Common.{◌≡◌, ◌-◌, length, set, get_or, ap, ◌∙◌, arith}
+use Rattle.std.proofs.Common.{◌≡◌, ◌-◌, length, set, get_or, ap, ◌∙◌}
 use Rattle.alma_code.specs.Carries.{diffs}
 use Rattle.alma_memory_rewind.specs.Rewound.{top_copy}
 use Rattle.alma_memory_store.specs.Carries.{carry_of_entries}

@@ -1,4 +1,4 @@
-use Rattle.std.proofs.Common.{◌≡◌, ◌≤◌, ◌+◌, length, ap, ◌∙◌, refl, sym, arith, rules}
+use Rattle.std.proofs.Common.{◌≡◌, ◌+◌, length, ap, ◌∙◌, refl, sym, arith, rules}
 use Rattle.std.proofs.lemmas.List.{length-map}
 use Rattle.alma_code.specs.Carries.{frames_with_carry}
 use Rattle.alma_memory_store.specs.Carries.{carry_of_entries, change_of}

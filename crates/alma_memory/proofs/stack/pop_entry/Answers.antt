@@ -1,15 +1,9 @@
-use Rattle.std.proofs.Common.{◌≡◌, ◌<◌, ◌≤◌, ◌+◌, ◌-◌, ◌++◌, ◌∷◌, [], ℕ, List, length, get_or, take, set, ap, sym, refl, ◌∙◌, arith, false}
-use Rattle.std.proofs.Common.{true}
-use Rattle.std.proofs.lemmas.List.{get_or_read}
-use Rattle.std.proofs.lemmas.Bool.{false≢true}
-use Rattle.alma_code.specs.Picture.{PlainFrame, PlainEntry, entry_at, top_of}
-use Rattle.alma_code.specs.Carries.{frames_with_carry}
+use Rattle.std.proofs.Common.{◌≡◌, ◌-◌, length, get_or, take, ap, sym, refl, ◌∙◌}
+use Rattle.alma_code.specs.Picture.{PlainEntry, top_of}
 use Rattle.alma_memory_rewind.specs.Rewound.{top_copy}
-use Rattle.alma_memory.specs.Picture.{Picture}
-use Rattle.alma_memory.specs.declared.stack.Entry.{Entry}
 use Rattle.alma_memory.specs.Inner.Gain.{no_saved}
 use Rattle.alma_memory.specs.Inner.Stack.{entry_with, stack_of}
-use Rattle.alma_memory.proofs.Stacks.{stack-length, stack-entry, stack-top, stack-last, stack-rest, stack-push, pops-forall, pops-other}
+use Rattle.alma_memory.proofs.Stacks.{stack-top, pops-forall, pops-other}
 use Rattle.alma_memory.proofs.stack.pop_entry.Goals as goal
 
 pub returns-then-is_forall-clause-now : goal.returns-then-is_forall-clause-now

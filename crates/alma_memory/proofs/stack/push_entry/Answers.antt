@@ -1,8 +1,7 @@
-use Rattle.std.proofs.Common.{◌≡◌, ◌++◌, ◌∷◌, [], ◌+◌, length, List, ap, sym, ◌∙◌, arith}
+use Rattle.std.proofs.Common.{◌≡◌, ◌++◌, ◌∷◌, [], ap, ◌∙◌, arith}
 use Rattle.std.proofs.lemmas.Grind.{common_steps}
-use Rattle.alma_code.specs.Picture.{PlainFrame, PlainEntry}
 use Rattle.alma_memory.specs.declared.stack.Entry.{Entry}
-use Rattle.alma_memory.specs.Inner.Stack.{entry_with, stack_of}
+use Rattle.alma_memory.specs.Inner.Stack.{stack_of}
 use Rattle.alma_memory.proofs.Stacks.{stack-push}
 use Rattle.alma_memory.proofs.stack.push_entry.Goals as goal
 
