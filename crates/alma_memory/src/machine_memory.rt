@@ -37,7 +37,8 @@ pub trait MachineMemory: Drop {
 
     fn read(&self, frame: u32, slot: u32) -> Cell
         requires live { frame < length (picture self.now).now }
-        requires slot_of { slot < length (slice_index_or (picture self.now).now frame no_frame).cells }
+        requires slot_of { slot
+            < length (slice_index_or (picture self.now).now frame no_frame).cells }
         ensures { result ≡ cell_at (picture self.now).now frame slot cell.Unknown };
 
     /// What a slot of the top frame holds.
@@ -52,7 +53,8 @@ pub trait MachineMemory: Drop {
 
     fn write(&mut self, frame: u32, slot: u32, cell: Cell) -> Result<(), NoMemory>
         requires live { frame < length (picture self.old).now }
-        requires slot_of { slot < length (slice_index_or (picture self.old).now frame no_frame).cells }
+        requires slot_of { slot
+            < length (slice_index_or (picture self.old).now frame no_frame).cells }
         ensures now { (picture self.new).now ≡ (if is_ok result then frames_with_cell
             (picture self.old).now frame slot cell else (picture self.old).now) }
         ensures held { (picture self.new).held ≡ (picture self.old).held }

@@ -72,8 +72,8 @@ fn push_arg<F: LiveFrames>(
     param: CodeParam,
     arg: Cell,
 ) -> Result<(), NoMemory>
-    requires fits { FitsParam (IsLive (F.live frames.now)) (λ routine. IsLive (F.live frames.now)) param.kind
-        param.cells arg }
+    requires fits { FitsParam (IsLive (F.live frames.now)) (λ routine. IsLive (F.live frames.now))
+        param.kind param.cells arg }
     requires whole { AreWhole (F.live frames.now) }
     requires room { param.kind ≡ ParamKind.Mix → length cells.old.items + 1 < 2 ^ 32 }
     ensures { IfOk result (λ _. cells.new.items ≡ cells.old.items ++ arg_cells (F.live frames.now)
