@@ -1,7 +1,7 @@
 -- The slots of a routine's frame: the link, its own slots, and a fresh slot for each need of each phrase of its body, in
 -- the order of the phrases. No two phrases share one.
 use Rattle.std.specs.Prelude.{ℕ, zero, suc, ◌+◌, ◌-◌, Bool, true, false, not, ◌&&◌, List, [], ◌∷◌, ◌++◌, length, replicate, Option, Some}
-use Rattle.std.specs.Prelude.{None}
+use Rattle.std.specs.Prelude.{None, ℤ}
 use Rattle.alma_base.specs.declared.number.Range.{Range}
 use Rattle.alma_code.specs.declared.cell.SlotKind.{SlotKind}
 use Rattle.alma_code.specs.declared.cell.SlotKind.TheVariants as slot
@@ -97,6 +97,13 @@ straight_by None alone = None
 -- the variable of the routine into which an assigned value goes straight: one of all INTEGERs, since no check stands between
 abbrev pub goes_straight : Desig → Expr → Range → Option ℕ
 goes_straight d e range = straight_by (bare_desig d) (is_whole range && ends_alone e)
+
+-- ---- bounds of loops
+
+-- the number of a first count that is a constant
+abbrev pub constant : Expr → Option ℤ
+constant (Const n) = Some n
+constant _ = None
 
 -- ---- parameters whose place is used in their own slot
 
