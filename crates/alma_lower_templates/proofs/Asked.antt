@@ -33,6 +33,7 @@ use Rattle.alma_lower_templates.specs.Pieces.{straight}
 use Rattle.alma_lower_templates.specs.Templates.{char_range, expr_code}
 use Rattle.alma_lower_templates.proofs.AtOnce.{BareFits, AtOnce}
 use Rattle.alma_lower_templates.proofs.First.{ConstantFits}
+use Rattle.alma_lower_templates.proofs.Bounds.{LimitRuns}
 use Rattle.alma_lower_templates.proofs.Destinations.{into}
 use Rattle.alma_lower_templates.proofs.ExprForms.{RunsTo, NextRuns}
 use Rattle.alma_lower_templates.proofs.OwnPlace.{OwnFits}
@@ -327,6 +328,14 @@ module _ (p : Program) (tables : Tables) (code : PlainCode) (input : List ℕ) w
     variable d h at lo slots none =
         h.runs at (lo + 1) (slots_behind p code input r lo (slot.Number ∷ []) (desig_slots p r d)
         (subst (λ o. HasSlots p code r lo (unless_bare o (slot.Number ∷ desig_slots p r d))) none slots))
+
+    -- the limit of a loop, in its slot
+    pub limit_goes : (may : Bool) (x : Expr) → ExprGoes x → (at lo limit : ℕ) → AreVariables p code input r limit 1
+        → HasSlots p code r lo (expr_slots p r x) → LimitRuns p tables code input below r line q may at lo limit x
+    limit_goes may x h at lo limit of_limit slots = record {
+      once = record { fits = h.fits; runs = λ none. h.runs at lo slots };
+      straightly = λ alone. h.straightly limit at lo alone of_limit slots;
+    }
 
     simple_slots : (z : Bool) (lo : ℕ) (xs : List SlotKind) → z ≡ true → HasSlots p code r lo (mark_slots z ++ xs) → HasSlots p code r lo xs
     simple_slots true lo xs e h = h

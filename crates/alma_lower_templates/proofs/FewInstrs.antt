@@ -1,6 +1,6 @@
 -- The instructions of the phrases of a routine are at most 16 for each node.
 use Rattle.std.proofs.Common.{◌≡◌, ℕ, zero, suc, ◌+◌, ◌*◌, ◌≤◌, Bool, true, false, List, [], ◌∷◌, ◌++◌, length, drop, get_or, Option, Some}
-use Rattle.std.proofs.Common.{None, refl, arith, pos}
+use Rattle.std.proofs.Common.{None, refl, arith, ℤ, pos}
 use Rattle.std.proofs.lemmas.List.{length-append, length-map}
 use Rattle.alma_base.specs.declared.number.Range.{Range}
 use Rattle.alma_code.specs.declared.instr.Instr.{Instr}
@@ -27,10 +27,11 @@ use Rattle.alma_lower_templates.specs.Lined.{Lined, own, in_row}
 use Rattle.alma_lower_templates.specs.Pieces.{cmp_code, op_code, neg_code, fit_code, unless_whole, link_code, chain_code, condition}
 use Rattle.alma_lower_templates.specs.Pieces.{guarded, read_code, write_code, truth_code, first_of_two, chosen, passed_over, has_dead}
 use Rattle.alma_lower_templates.specs.Pieces.{case_arm, behind_labels, labels_code, label_code, begin_loop, for_turns, some_turns}
-use Rattle.alma_lower_templates.specs.Pieces.{turn_code}
+use Rattle.alma_lower_templates.specs.Pieces.{turn_code, unless_constant, limit_code}
 use Rattle.alma_lower_templates.specs.Slots.{shift_of, bare, bare_desig, stays, stays_in, unless_bare, is_simple, handed_slots, arg_slots}
 use Rattle.alma_lower_templates.specs.Slots.{behind_stmts, behind_stmt, behind_test, behind_condition, behind_expr, behind_dead}
 use Rattle.alma_lower_templates.specs.Slots.{behind_value, behind_desig, behind_target, behind_variable, own_place, own_root, goes_straight}
+use Rattle.alma_lower_templates.specs.Slots.{constant, ends_alone}
 use Rattle.alma_lower_templates.specs.Tables.{Tables, range_number, is_whole}
 use Rattle.alma_lower_templates.specs.Templates
 use Rattle.alma_lower_templates.proofs.Straight.{straight_long}
@@ -222,6 +223,15 @@ module _ (p : Program) (tables : Tables) (r : ℕ) where
         own_long line tests,
         labels_few value bound at here (here + length x + 1) label labels,
       )
+
+  -- a first count and a limit
+  constant_few : (o : Option ℤ) (value : List Lined) → length (unless_constant o value) ≤ length value
+  constant_few (Some n) value = omega arith
+  constant_few None value = omega arith
+
+  limit_few : (z : Bool) (line limit from : ℕ) (value : List Lined) → length (limit_code z line limit from value) ≤ length value + 1
+  limit_few true line limit from value = omega (arith, straight_long limit value)
+  limit_few false line limit from value = omega (arith, length-append value (own line (I.Move limit from ∷ [])))
 
   -- the count of a loop, the variable set to it, and the body
   turn_few :
@@ -1025,29 +1035,37 @@ module _ (p : Program) (tables : Tables) (r : ℕ) where
         let b : Expr = expr_with to ls3 in
         let last : ℕ = behind_expr p r (lo + 1) a in
         let place : ℕ = behind_expr p r last b in
-        let one : List Lined = Templates.expr_code p tables r line (at + 1) (lo + 1) a in
+        let value : List Lined = Templates.expr_code p tables r line (at + 1) (lo + 1) a in
+        let one : List Lined = unless_constant (constant a) value in
         let at2 : ℕ = at + 1 + length one in
-        let both : List Lined = Templates.expr_code p tables r line at2 last b in
-        let begin : List Lined = begin_loop line at lo by (λ at. Templates.expr_code p tables r line at (lo + 1) a)
-        (λ at. Templates.expr_code p tables r line at last b) in
-        let next : ℕ = at + length begin in
-        let lo2 : ℕ = behind_variable p r place y in
+        let limit_value : List Lined = Templates.expr_code p tables r line at2 last b in
         let c : ℕ = Templates.own_slot p tables r counter in
         let l : ℕ = Templates.own_slot p tables r limit in
-        let turn : List Lined = turn_code line (next + 4) (Templates.count_code p tables r (bare_desig y) range c place)
+        let both : List Lined = limit_code (ends_alone b) line l (Templates.value_at p tables r last b) (unless_bare (bare b) limit_value)
+        in
+        let begin : List Lined = begin_loop line at lo by
+        (λ at. unless_constant (constant a) (Templates.expr_code p tables r line at (lo + 1) a))
+        (λ at. limit_code (ends_alone b) line l (Templates.value_at p tables r last b)
+        (unless_bare (bare b) (Templates.expr_code p tables r line at last b))) in
+        let next : ℕ = at + length begin in
+        let lo2 : ℕ = behind_variable p r place y in
+        let turn : List Lined = turn_code line (next + 3) (Templates.count_code p tables r (bare_desig y) range c place)
         (λ at. unless_bare (bare_desig y) (Templates.desig_code p tables r line at (place + 1) y))
         (Templates.set_code p tables r (place + 1) (Templates.count_at p tables r (bare_desig y) c place) y)
         (λ at. Templates.stmts_code p tables r at lo2 (stmts_with body ls4)) in
-        let out : ℕ = next + 4 + length turn + 2 in
-        let end : List Lined = own line (I.Step c l lo out ∷ I.Jump (next + 4) ∷ []) in
+        let out : ℕ = next + 3 + length turn + 2 in
+        let end : List Lined = own line (I.Step c l lo out ∷ I.Jump (next + 3) ∷ []) in
         omega (
           arith,
-          length-append begin (for_turns line next by c l lo (lo + 1) last turn),
+          length-append begin (for_turns line next by (constant a) c l lo (lo + 1) turn),
           length-append one both,
+          constant_few (constant a) value,
+          limit_few (ends_alone b) line l (Templates.value_at p tables r last b) (unless_bare (bare b) limit_value),
+          unless_few (bare b) limit_value,
           length-append turn end,
           expr_few line (at + 1) (lo + 1) from ls2 (short_back (desig_phrases d) (expr_phrases from) two),
           expr_few line at2 last to ls3 (short_back (desig_phrases d ++ expr_phrases from) (expr_phrases to) three),
-          turn_few line (next + 4) c place y range (λ at. Templates.stmts_code p tables r at lo2 (stmts_with body ls4)) (16 * desig_nodes d)
+          turn_few line (next + 3) c place y range (λ at. Templates.stmts_code p tables r at lo2 (stmts_with body ls4)) (16 * desig_nodes d)
               (16 * stmts_nodes body) (λ at. desig_few line at (place + 1) d ls (short_front (desig_phrases d) (expr_phrases from) two))
               (λ at. stmts_few at lo2 body ls4 (short_back bounds (stmts_phrases body) h)),
         )
@@ -1066,28 +1084,34 @@ module _ (p : Program) (tables : Tables) (r : ℕ) where
         let b : Expr = expr_with to ls3 in
         let last : ℕ = behind_expr p r (lo + 1) a in
         let more : ℕ = behind_expr p r last b in
-        let one : List Lined = Templates.expr_code p tables r line (at + 1) (lo + 1) a in
+        let value : List Lined = Templates.expr_code p tables r line (at + 1) (lo + 1) a in
+        let one : List Lined = unless_constant (constant a) value in
         let at2 : ℕ = at + 1 + length one in
-        let both : List Lined = Templates.expr_code p tables r line at2 last b in
-        let begin : List Lined = begin_loop line at lo (pos 1) (λ at. Templates.expr_code p tables r line at (lo + 1) a)
-        (λ at. Templates.expr_code p tables r line at last b) in
-        let next : ℕ = at + length begin in
-        let lo2 : ℕ = behind_variable p r (more + 1) y in
+        let limit_value : List Lined = Templates.expr_code p tables r line at2 last b in
         let c : ℕ = Templates.own_slot p tables r counter in
         let l : ℕ = Templates.own_slot p tables r limit in
-        let turn : List Lined = turn_code line (next + 7) (Templates.count_code p tables r (bare_desig y) range c (more + 1))
+        let both : List Lined = limit_code (ends_alone b) line l (Templates.value_at p tables r last b) (unless_bare (bare b) limit_value)
+        in
+        let begin : List Lined = begin_loop line at lo (pos 1)
+        (λ at. unless_constant (constant a) (Templates.expr_code p tables r line at (lo + 1) a))
+        (λ at. limit_code (ends_alone b) line l (Templates.value_at p tables r last b)
+        (unless_bare (bare b) (Templates.expr_code p tables r line at last b))) in
+        let next : ℕ = at + length begin in
+        let lo2 : ℕ = behind_variable p r (more + 1) y in
+        let turn : List Lined = turn_code line (next + 8) (Templates.count_code p tables r (bare_desig y) range c (more + 1))
         (λ at. unless_bare (bare_desig y) (Templates.desig_code p tables r line at (more + 1 + 1) y))
         (Templates.set_code p tables r (more + 1 + 1) (Templates.count_at p tables r (bare_desig y) c (more + 1)) y)
         (λ at. Templates.stmts_code p tables r at lo2 (stmts_with body ls4)) in
-        let end : List Lined = own line (I.Jump (next + 7 + length turn + 4) ∷ I.Add c c lo ∷ I.Jump (next + 4) ∷ I.Fail ∷ []) in
         omega (
           arith,
-          length-append begin (some_turns line next c l lo (lo + 1) last more turn),
+          length-append begin (some_turns line next (constant a) c l lo (lo + 1) more turn),
           length-append one both,
-          length-append turn end,
+          constant_few (constant a) value,
+          limit_few (ends_alone b) line l (Templates.value_at p tables r last b) (unless_bare (bare b) limit_value),
+          unless_few (bare b) limit_value,
           expr_few line (at + 1) (lo + 1) from ls2 (short_back (desig_phrases d) (expr_phrases from) two),
           expr_few line at2 last to ls3 (short_back (desig_phrases d ++ expr_phrases from) (expr_phrases to) three),
-          turn_few line (next + 7) c (more + 1) y range (λ at. Templates.stmts_code p tables r at lo2 (stmts_with body ls4))
+          turn_few line (next + 8) c (more + 1) y range (λ at. Templates.stmts_code p tables r at lo2 (stmts_with body ls4))
               (16 * desig_nodes d) (16 * stmts_nodes body)
               (λ at. desig_few line at (more + 1 + 1) d ls (short_front (desig_phrases d) (expr_phrases from) two))
               (λ at. stmts_few at lo2 body ls4 (short_back bounds (stmts_phrases body) h)),

@@ -55,7 +55,7 @@ use Rattle.alma_lower_templates.proofs.Asked.{HasUnlessWhole, Asked, Fine, fine_
 use Rattle.alma_lower_templates.proofs.Asked.{fine_fourth, fine_test, fine_expr, fine_arg, fine_desig, fine_sel, fine_stmt, has_line}
 use Rattle.alma_lower_templates.proofs.Asked.{swapped_first, swapped_second, cells_with, args_with_fit, DesigGoes, OperandsGo, ExprGoes}
 use Rattle.alma_lower_templates.proofs.Asked.{TestGoes, once, behind_first, target, variable, decides, Stays, stays_front, stays_back}
-use Rattle.alma_lower_templates.proofs.Asked.{sel_cells_with}
+use Rattle.alma_lower_templates.proofs.Asked.{sel_cells_with, limit_goes}
 use Rattle.alma_lower_templates.proofs.BarrierForms.{no_stmts_run, more_stmts_run, AndRun, no_and_run, more_and_run, and_runs, seq_runs}
 use Rattle.alma_lower_templates.proofs.BarrierForms.{not_runs, commit_runs}
 use Rattle.alma_lower_templates.proofs.Calls.{RoutineRuns}
@@ -977,8 +977,9 @@ module _ (p : Program) (tables : Tables) (code : PlainCode) (all : List (List Ru
             λ stands v now b.
             for_runs p tables code input below r line (suc n) may at lo (suc n) y range counter limit x1 x2 by x one_cell (omega arith)
             apart.two slots of_counter of_limit
-            (g1.runs (at + 1) (lo + 1) (slots_first p code input r (lo + 1) (expr_slots p r x1) (expr_slots p r x2 ++ rest) s1))
-            (λ next. g2.runs next last (slots_first p code input r last (expr_slots p r x2) rest s2))
+            g1.constants (g1.runs (at + 1) (lo + 1) (slots_first p code input r (lo + 1) (expr_slots p r x1) (expr_slots p r x2 ++ rest) s1))
+            (λ next. limit_goes p tables code input below r line (suc n) may x2 g2 next last limit of_limit
+            (slots_first p code input r last (expr_slots p r x2) rest s2))
             (for_counts p tables code input below r line (suc n) may at lo n y range counter limit x1 x2 by x (g.fits one_cell) one_cell
             (omega arith) h.asked.0.coded slots of_counter of_limit
             (λ none next. variable p tables code input below r line (suc n) y g next place
@@ -1026,8 +1027,9 @@ module _ (p : Program) (tables : Tables) (code : PlainCode) (all : List (List Ru
             λ stands v now b.
             some_runs p tables code input below r line (suc n) may at lo (suc n) y range counter limit x1 x2 by x one_cell (omega arith)
             apart.two slots of_counter of_limit
-            (g1.runs (at + 1) (lo + 1) (slots_first p code input r (lo + 1) (expr_slots p r x1) (expr_slots p r x2 ++ rest) s1))
-            (λ next. g2.runs next last (slots_first p code input r last (expr_slots p r x2) rest s2))
+            g1.constants (g1.runs (at + 1) (lo + 1) (slots_first p code input r (lo + 1) (expr_slots p r x1) (expr_slots p r x2 ++ rest) s1))
+            (λ next. limit_goes p tables code input below r line (suc n) may x2 g2 next last limit of_limit
+            (slots_first p code input r last (expr_slots p r x2) rest s2))
             (some_counts p tables code input below r line (suc n) may at lo n y range counter limit x1 x2 by x (g.fits one_cell) one_cell
             (omega arith) apart.two h.asked.0.coded slots of_counter of_limit
             (λ none next. variable p tables code input below r line (suc n) y g next (more + 1)

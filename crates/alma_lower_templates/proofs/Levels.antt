@@ -37,13 +37,13 @@ module _ (p : Program) (tables : Tables) (code : PlainCode) (input : List ℕ) w
   -- the turns of a loop, given the loop with its lines
   abbrev pub ForTurns : (below : Level) (may : Bool) (r line at lo : ℕ) → Loop → (q : ℕ) → Type 0
   ForTurns below may r line at lo (a_loop d range counter limit from to by body) q =
-      CountsOn p tables code input below r line q may (for_top p tables code input below r line q may at lo from to by)
+      CountsOn p tables code input below r line q may (for_top p tables code input below r line q may at lo limit from to by)
       (at + length (stmt_code p tables r line at lo (ForTo (a_loop d range counter limit from to by body)))) lo
       counter by (below.for (a_loop d range counter limit from to by body)) q
 
   abbrev pub SomeTurns : (below : Level) (may : Bool) (r line at lo : ℕ) → Loop → (q : ℕ) → Type 0
   SomeTurns below may r line at lo (a_loop d range counter limit from to by body) q =
-      TurnsOn p tables code input below r line q may (some_top p tables code input below r line q may at lo from to)
+      TurnsOn p tables code input below r line q may (some_top p tables code input below r line q may at lo limit from to)
       (some_exit p tables code input below r line q may at lo (a_loop d range counter limit from to by body)) lo counter limit
       (below.some (a_loop d range counter limit from to by body)) q
 

@@ -35,6 +35,7 @@ pub mod CallForms
 pub mod CaseForms
 pub mod Starting
 pub mod ForForms
+pub mod Bounds
 pub mod ForStatement
 pub mod Sizes
 pub mod SomeForms
