@@ -30,13 +30,14 @@ use Rattle.alma_lower_templates.specs.Lined.{Lined, own}
 use Rattle.alma_lower_templates.specs.Tables.{Tables, range_number, text_number}
 use Rattle.alma_lower_templates.specs.Pieces.{condition, guarded, chosen, first_of_two, truth_code, fit_code, neg_code, op_code, cmp_code}
 use Rattle.alma_lower_templates.specs.Pieces.{unequal_code, write_code, read_code, case_arm, passed_over, has_dead, behind_labels}
-use Rattle.alma_lower_templates.specs.Pieces.{begin_loop, for_turns, some_turns, turn_code, each_body}
+use Rattle.alma_lower_templates.specs.Pieces.{begin_loop, for_turns, some_turns, turn_code, each_body, unless_constant, limit_code}
 use Rattle.alma_lower_templates.specs.Slots.{bare, bare_desig, stays, stays_in, unless_bare, is_simple, mark_slots, handed_slots}
 use Rattle.alma_lower_templates.specs.Slots.{call_links, root_slots, arg_kind, stmts_slots, stmt_slots, arms_slots, dead_slots, cases_slots}
 use Rattle.alma_lower_templates.specs.Slots.{else_slots, branches_slots, for_slots, some_slots, test_slots, and_slots, or_slots, expr_slots}
 use Rattle.alma_lower_templates.specs.Slots.{links_slots, args_slots, arg_slots, desig_slots, sels_slots, sel_slots, behind_expr}
 use Rattle.alma_lower_templates.specs.Slots.{behind_dead, behind_value, behind_desig, behind_target, behind_variable, behind_test}
 use Rattle.alma_lower_templates.specs.Slots.{behind_stmts, behind_stmt, behind_condition, own_place, own_root, goes_straight}
+use Rattle.alma_lower_templates.specs.Slots.{constant, ends_alone}
 use Rattle.alma_lower_templates.specs.Slots as slots_of
 use Rattle.alma_lower_templates.specs.Templates.{char_range, own_slot, slot_or, value_at, part_slot, behind_root, place_at, root_code}
 use Rattle.alma_lower_templates.specs.Templates.{call_link_code, arguments_from, call_code, set_code, load_code, count_at, count_code}
@@ -278,6 +279,21 @@ module _ (p : Program) (tables : Tables) (code : PlainCode) (checked : IsChecked
       (subst (values.BareIs p tables code checked w r lt) (straight_variable d e range to is)
       (values.bare_variable p tables code checked w r lt d good cell)) f
   set_fits None at line lo d e range value set is good cell f needs = then_own at line value set f needs
+
+  -- ---- the limit of a loop
+
+  abbrev limit_of : (line at lo limit : ℕ) → Expr → List Lined
+  limit_of line at lo limit e =
+      limit_code (ends_alone e) line limit (value_at p tables r lo e) (unless_bare (bare e) (expr_code p tables r line at lo e))
+
+  limit_here : (line at lo limit : ℕ) (e : Expr) → Fine (expr_phrases e) → SlotsOf lo (expr_slots p r e) → Number code r limit
+      → Here at (expr_code p tables r line at lo e) → Here at (limit_of line at lo limit e)
+  limit_here line at lo limit e good slots there f =
+      let value : List Lined = expr_code p tables r line at lo e in
+      pieces.limit_fits code r (ends_alone e) line at limit (value_at p tables r lo e) (unless_bare (bare e) value) there
+      (values.first_number p tables code checked w r lt (bare e) lo (values.bare_value p tables code checked w r lt e good)
+      (values.expr_number p tables code checked w r lt lo e slots))
+      (pieces.unless code r 0 at (bare e) value (λ none. f))
 
   -- ---- the count of a turn
 
@@ -968,26 +984,22 @@ module _ (p : Program) (tables : Tables) (code : PlainCode) (checked : IsChecked
         let count : ℕ = own_slot p tables r counter in
         let n = roots.hidden p tables code checked w r lt counter facts.2 in
         let step = first_slot lo slot.Number (a ++ (b ++ (c ++ e))) slots in
-        let one : List Lined = begin_loop line at lo by (λ at. expr_code p tables r line at (lo + 1) from)
-        (λ at. expr_code p tables r line at last to) in
+        let l : ℕ = own_slot p tables r limit in
+        let m = roots.hidden p tables code checked w r lt limit facts.3 in
+        let good_to = fine_back (desig_phrases d ++ expr_phrases from) (expr_phrases to) bounds in
+        let one : List Lined = begin_loop line at lo by (λ at. unless_constant (constant from) (expr_code p tables r line at (lo + 1) from))
+        (λ at. limit_of line at last l to) in
         let next : ℕ = at + length one in
-        let each : List Lined = turn_of line (next + 4) count place d range (λ at. stmts_code p tables r at lo2 body) in
-        row at one (for_turns line next by count (own_slot p tables r limit) lo (lo + 1) last each)
-        (pieces.begin_fits code r 0 line at lo by (λ at. expr_code p tables r line at (lo + 1) from)
-        (λ at. expr_code p tables r line at last to) step
-        (λ at. expr_fits line at (lo + 1) from (fine_back (desig_phrases d) (expr_phrases from) bounds1) mine)
-        (λ at. expr_fits line at last to (fine_back (desig_phrases d ++ expr_phrases from) (expr_phrases to) bounds) mine2))
-        (pieces.for_turns_fits code r line next by count (own_slot p tables r limit) lo (lo + 1) last each
-        (record {
-          count = n;
-          bound = roots.hidden p tables code checked w r lt limit facts.3;
-          by = step;
-          from =
-              values.expr_number p tables code checked w r lt (lo + 1) from mine;
-          to =
-              values.expr_number p tables code checked w r lt last to mine2;
-        })
-        (turn line (next + 4) count place d range (λ at. stmts_code p tables r at lo2 body) facts.1 facts.0 good_d n
+        let each : List Lined = turn_of line (next + 3) count place d range (λ at. stmts_code p tables r at lo2 body) in
+        row at one (for_turns line next by (constant from) count l lo (lo + 1) each)
+        (pieces.begin_fits code r 0 line at lo by (λ at. unless_constant (constant from) (expr_code p tables r line at (lo + 1) from))
+        (λ at. limit_of line at last l to) step
+        (λ at. pieces.constant_fits code r (constant from) at (expr_code p tables r line at (lo + 1) from)
+        (expr_fits line at (lo + 1) from (fine_back (desig_phrases d) (expr_phrases from) bounds1) mine))
+        (λ at. limit_here line at last l to good_to mine2 m (expr_fits line at last to good_to mine2)))
+        (pieces.for_turns_fits code r line next by (constant from) count l lo (lo + 1) each
+        (record { count = n; bound = m; by = step; from = values.expr_number p tables code checked w r lt (lo + 1) from mine })
+        (turn line (next + 3) count place d range (λ at. stmts_code p tables r at lo2 body) facts.1 facts.0 good_d n
         (front place c e slots3) (λ at lo s. desig_fits line at lo d good_d s)
         (λ at. stmts_fit at lo2 body (fine_back ((desig_phrases d ++ expr_phrases from) ++ expr_phrases to) (stmts_phrases body) good)
         (back place c e slots3))))
@@ -1014,27 +1026,24 @@ module _ (p : Program) (tables : Tables) (code : PlainCode) (checked : IsChecked
         let count : ℕ = own_slot p tables r counter in
         let n = roots.hidden p tables code checked w r lt counter facts.2 in
         let step = first_slot lo slot.Number (a ++ (b ++ (slot.Number ∷ (c ++ e)))) slots in
-        let one : List Lined = begin_loop line at lo (pos 1) (λ at. expr_code p tables r line at (lo + 1) from)
-        (λ at. expr_code p tables r line at last to) in
+        let l : ℕ = own_slot p tables r limit in
+        let m = roots.hidden p tables code checked w r lt limit facts.3 in
+        let good_to = fine_back (desig_phrases d ++ expr_phrases from) (expr_phrases to) bounds in
+        let one : List Lined = begin_loop line at lo (pos 1)
+        (λ at. unless_constant (constant from) (expr_code p tables r line at (lo + 1) from))
+        (λ at. limit_of line at last l to) in
         let next : ℕ = at + length one in
-        let each : List Lined = turn_of line (next + 7) count (more + 1) d range (λ at. stmts_code p tables r at lo2 body) in
-        row at one (some_turns line next count (own_slot p tables r limit) lo (lo + 1) last more each)
-        (pieces.begin_fits code r 0 line at lo (pos 1) (λ at. expr_code p tables r line at (lo + 1) from)
-        (λ at. expr_code p tables r line at last to) step
-        (λ at. expr_fits line at (lo + 1) from (fine_back (desig_phrases d) (expr_phrases from) bounds1) mine)
-        (λ at. expr_fits line at last to (fine_back (desig_phrases d ++ expr_phrases from) (expr_phrases to) bounds) mine2))
-        (pieces.some_turns_fits code r line next count (own_slot p tables r limit) lo (lo + 1) last more each
-        (record {
-          count = n;
-          bound = roots.hidden p tables code checked w r lt limit facts.3;
-          by = step;
-          from =
-              values.expr_number p tables code checked w r lt (lo + 1) from mine;
-          to =
-              values.expr_number p tables code checked w r lt last to mine2;
-        })
+        let each : List Lined = turn_of line (next + 8) count (more + 1) d range (λ at. stmts_code p tables r at lo2 body) in
+        row at one (some_turns line next (constant from) count l lo (lo + 1) more each)
+        (pieces.begin_fits code r 0 line at lo (pos 1) (λ at. unless_constant (constant from) (expr_code p tables r line at (lo + 1) from))
+        (λ at. limit_of line at last l to) step
+        (λ at. pieces.constant_fits code r (constant from) at (expr_code p tables r line at (lo + 1) from)
+        (expr_fits line at (lo + 1) from (fine_back (desig_phrases d) (expr_phrases from) bounds1) mine))
+        (λ at. limit_here line at last l to good_to mine2 m (expr_fits line at last to good_to mine2)))
+        (pieces.some_turns_fits code r line next (constant from) count l lo (lo + 1) more each
+        (record { count = n; bound = m; by = step; from = values.expr_number p tables code checked w r lt (lo + 1) from mine })
         (first_slot more slot.Number (c ++ e) slots3)
-        (turn line (next + 7) count (more + 1) d range (λ at. stmts_code p tables r at lo2 body) facts.1 facts.0 good_d n
+        (turn line (next + 8) count (more + 1) d range (λ at. stmts_code p tables r at lo2 body) facts.1 facts.0 good_d n
         (front (more + 1) c e slots4) (λ at lo s. desig_fits line at lo d good_d s)
         (λ at. stmts_fit at lo2 body (fine_back ((desig_phrases d ++ expr_phrases from) ++ expr_phrases to) (stmts_phrases body) good)
         (back (more + 1) c e slots4))))

@@ -1,6 +1,6 @@
 -- The bounds of a loop: the step, the limit in its slot, and then the first count, so that both are set at one point.
-use Rattle.std.proofs.Common.{◌≡◌, ◌≢◌, ℕ, zero, suc, ◌+◌, ◌-◌, ◌<◌, ◌≤◌, Bool, true, false, List, [], ◌∷◌, ◌++◌, length, get_or, Option, Some, None}
-use Rattle.std.proofs.Common.{refl, sym, ap, ◌∙◌, subst, arith, ℤ, pos, negsuc}
+use Rattle.std.proofs.Common.{◌≡◌, ◌≢◌, ℕ, zero, suc, ◌+◌, ◌-◌, ◌<◌, ◌≤◌, Bool, true, false, List, [], ◌∷◌, ◌++◌, length, get_or, Option}
+use Rattle.std.proofs.Common.{Some, None, refl, sym, ap, ◌∙◌, subst, arith, ℤ, pos, negsuc}
 use Rattle.std.specs.Prelude.{slice_get}
 use Rattle.std.proofs.lemmas.List.{length-append, set_comm}
 use Rattle.alma_base.specs.Choice.{if_true}
@@ -133,9 +133,9 @@ module _ (p : Program) (tables : Tables) (code : PlainCode) (input : List ℕ) (
       (later v m now (left_self p code input lo r v now b) (refl, fits m is)))))
 
   -- it goes to the counter by one step
-  count_step : (o : Option ℤ) (at counter place : ℕ) (n : ℤ) (now : List PlainFrame) → InstrAt code input line at (count_from o counter place)
-      → HasKind now counter slot.Number → FirstIs o place n now → (held : List PlainEntry) (s : State) → IsAt at now held s
-      → Writes code input at now held s counter (cell.Int n)
+  count_step : (o : Option ℤ) (at counter place : ℕ) (n : ℤ) (now : List PlainFrame)
+      → InstrAt code input line at (count_from o counter place) → HasKind now counter slot.Number → FirstIs o place n now
+      → (held : List PlainEntry) (s : State) → IsAt at now held s → Writes code input at now held s counter (cell.Int n)
   count_step (Some m) at counter place n now i kind h held s is =
       const_step code input line at now held s is counter n (subst (λ x. InstrAt code input line at (I.Const counter x)) (sym h.0) i) kind
   count_step None at counter place n now i kind h held s is = move_step code input line at now held s is counter place n i kind h.holds
@@ -293,7 +293,8 @@ module _ (p : Program) (tables : Tables) (code : PlainCode) (input : List ℕ) (
       → Holds t lo (cell.Int by) → (x : ℤ) → Holds t (lo + 1) (cell.Int x) → is_zero x ≡ false
       → From p code input line 5 (at + 1 + 1) exit t (ending p code input may (lo + 1) r t) (turn w) q)
       → From p code input line 7 at exit now (ending p code input may (lo + 1) r now) (begin_loop counter limit by n l v turn none) q
-  bounds_from o at exit lo counter limit by turn none v now n l behind of_counter of_limit two kind count entry b first step none_runs turns =
+  bounds_from o at exit lo counter limit by turn none v now n l behind of_counter of_limit two kind count entry b first step none_runs
+      turns =
       let v1 : Store = put_top v limit (Number l) in
       let v2 : Store = put_top v1 counter (Number n) in
       let to : ℕ = shift p r + counter in
@@ -335,8 +336,9 @@ module _ (p : Program) (tables : Tables) (code : PlainCode) (input : List ℕ) (
       chosen : Store → Bool → Events NoYield
       chosen x z = if_true z (λ _. none x) (λ _. turn x)
 
-      by_beyond : (w : Store) (t : List PlainFrame) → Begins p code input r w t → top_cell w counter ≡ Number n → top_cell w limit ≡ Number l
-          → Holds t lo (cell.Int by) → Holds t (lo + 1) (cell.Int (entered by n l)) → (z : Bool) → is_zero (entered by n l) ≡ z
+      by_beyond : (w : Store) (t : List PlainFrame) → Begins p code input r w t → top_cell w counter ≡ Number n
+          → top_cell w limit ≡ Number l → Holds t lo (cell.Int by) → Holds t (lo + 1) (cell.Int (entered by n l)) → (z : Bool)
+          → is_zero (entered by n l) ≡ z
           → From p code input line 5 (at + 1 + 1) exit t (ending p code input may (lo + 1) r t) (chosen w z) q
       by_beyond w t b2 known known_limit step2 there true e = none_runs w t b2 (entered by n l) there e
       by_beyond w t b2 known known_limit step2 there false e = turns w t b2 known known_limit step2 (entered by n l) there e

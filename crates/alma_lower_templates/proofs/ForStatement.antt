@@ -88,8 +88,8 @@ module _ (p : Program) (tables : Tables) (code : PlainCode) (input : List ℕ) (
       (bind (ev_expr p input below from v) (λ t n. bind (ev_expr p input below to t) (λ x l. rest x n l)))) q
       (node_runs p code input line 1 at exit now w
       (bind (ev_expr p input below from v) (λ t n. bind (ev_expr p input below to t) (λ x l. rest x n l))) q (omega arith)
-      (front_from p tables code input below r line q may at exit lo limit from to by others rest v now slots of_limit fits runs_from_ runs_to
-      (stands_front code at front tail stands) b
+      (front_from p tables code input below r line q may at exit lo limit from to by others rest v now slots of_limit fits runs_from_
+      runs_to (stands_front code at front tail stands) b
       (λ v2 t2 n l b2 first step.
       bounds_from p tables code input below r line q may (constant from) next exit lo counter limit by turn_events (λ y. one y tt) v2 t2 n l
       slots.behind of_counter of_limit two kind1 (record { instr = back.0; on_line = back.1 })
@@ -153,8 +153,8 @@ module _ (p : Program) (tables : Tables) (code : PlainCode) (input : List ℕ) (
       (subst (λ m. Stands code m (turn ++ step_part)) three back.2.2.2) in
       let w = ending p code input may (lo + 1) r now in
       let e : Events NoYield = turn_for_events v in
-      subst (λ m. Later code input line m exit now w (turn_for p input below (a_loop d range counter limit from to by body) v) q) (sym three)
-      (visited_later code input line (next + 3) exit now w e q
+      subst (λ m. Later code input line m exit now w (turn_for p input below (a_loop d range counter limit from to by body) v) q)
+      (sym three) (visited_later code input line (next + 3) exit now w e q
       (λ held s is.
       from_more p code input line 9 24 (next + 3) exit now w e q (omega arith)
       (for_turn_of p tables code input below r line q may (bare_desig d) (next + 3) exit lo place counter limit u by d range body

@@ -976,8 +976,8 @@ module _ (p : Program) (tables : Tables) (code : PlainCode) (all : List (List Ru
             let s3 = slots_behind p code input r last (expr_slots p r x2) rest s2 in
             λ stands v now b.
             for_runs p tables code input below r line (suc n) may at lo (suc n) y range counter limit x1 x2 by x one_cell (omega arith)
-            apart.two slots of_counter of_limit
-            g1.constants (g1.runs (at + 1) (lo + 1) (slots_first p code input r (lo + 1) (expr_slots p r x1) (expr_slots p r x2 ++ rest) s1))
+            apart.two slots of_counter of_limit g1.constants
+            (g1.runs (at + 1) (lo + 1) (slots_first p code input r (lo + 1) (expr_slots p r x1) (expr_slots p r x2 ++ rest) s1))
             (λ next. limit_goes p tables code input below r line (suc n) may x2 g2 next last limit of_limit
             (slots_first p code input r last (expr_slots p r x2) rest s2))
             (for_counts p tables code input below r line (suc n) may at lo n y range counter limit x1 x2 by x (g.fits one_cell) one_cell
@@ -1026,8 +1026,8 @@ module _ (p : Program) (tables : Tables) (code : PlainCode) (all : List (List Ru
             (slots_behind p code input r last (expr_slots p r x2) rest s2) in
             λ stands v now b.
             some_runs p tables code input below r line (suc n) may at lo (suc n) y range counter limit x1 x2 by x one_cell (omega arith)
-            apart.two slots of_counter of_limit
-            g1.constants (g1.runs (at + 1) (lo + 1) (slots_first p code input r (lo + 1) (expr_slots p r x1) (expr_slots p r x2 ++ rest) s1))
+            apart.two slots of_counter of_limit g1.constants
+            (g1.runs (at + 1) (lo + 1) (slots_first p code input r (lo + 1) (expr_slots p r x1) (expr_slots p r x2 ++ rest) s1))
             (λ next. limit_goes p tables code input below r line (suc n) may x2 g2 next last limit of_limit
             (slots_first p code input r last (expr_slots p r x2) rest s2))
             (some_counts p tables code input below r line (suc n) may at lo n y range counter limit x1 x2 by x (g.fits one_cell) one_cell

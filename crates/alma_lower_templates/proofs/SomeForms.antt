@@ -299,10 +299,11 @@ module _ (p : Program) (tables : Tables) (code : PlainCode) (input : List ℕ) (
       (front_from p tables code input below r line q may at exit lo limit from to (pos 1) others rest v now slots of_limit fits runs_from_
       runs_to (front_stands at lo d range counter limit from to by body stands) b
       (λ v2 t2 n m b2 first step.
-      bounds_from p tables code input below r line q may (constant from) next exit lo counter limit (pos 1) turn_events (λ y. Fail) v2 t2 n m
-      slots.behind of_counter of_limit two kind1 h.first h.entry b2 first step
+      bounds_from p tables code input below r line q may (constant from) next exit lo counter limit (pos 1) turn_events (λ y. Fail) v2 t2 n
+      m slots.behind of_counter of_limit two kind1 h.first h.entry b2 first step
       (λ x t b3 z there zero. fails_here p code input line 4 (next + 1 + 1) exit t (ending p code input may (lo + 1) r t) q
-      (λ held s is. let f = check_fails code input line (next + 1 + 1) t held s is (lo + 1) z h.check there zero in (f.to, f.silently, f.is)))
+      (λ held s is. let f = check_fails code input line (next + 1 + 1) t held s is (lo + 1) z h.check there zero in
+      (f.to, f.silently, f.is)))
       (λ x t b3 known known_limit step3 z there other held s is.
       let g = check_passes code input line (next + 1 + 1) t held s is (lo + 1) z h.check there other in
       let j = jumps code input line (next + 1 + 1 + 1) (next + 5) t held g.to g.is h.over in
@@ -340,9 +341,9 @@ module _ (p : Program) (tables : Tables) (code : PlainCode) (input : List ℕ) (
       let turn_slots = slots_behind p code input r more (slot.Number ∷ []) (variable ++ stmts_slots p r body) more_slots in
       let next : ℕ = at + length (loop_front p tables code input below r line q may at lo limit from to (pos 1)) in
       let h = loop_parts at lo d range counter limit from to by body stands in
-      some_turn_of (bare_desig d) (some_top at lo limit from to) (some_exit at lo l) lo more (more + 1) counter limit u (next + 4) d range body
-      (below.stmts body) (below.some l) refl fits cells slots.behind (omega (arith, some_of p code input r from)) (omega arith) owes two
-      has of_counter of_limit
+      some_turn_of (bare_desig d) (some_top at lo limit from to) (some_exit at lo l) lo more (more + 1) counter limit u (next + 4) d range
+      body (below.stmts body) (below.some l) refl fits cells slots.behind (omega (arith, some_of p code input r from)) (omega arith) owes
+      two has of_counter of_limit
       (first_kind p code input r more slot.Number (variable ++ stmts_slots p r body) more_slots)
       (λ none. first_kind p code input r (more + 1) slot.Number (desig_slots p r d)
       (subst (λ o. HasSlots p code r (more + 1) (unless_bare o (slot.Number ∷ desig_slots p r d))) none

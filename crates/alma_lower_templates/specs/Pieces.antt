@@ -174,10 +174,11 @@ entry_code (negsuc step) to counter limit = I.LessEq to limit counter
 abbrev pub begin_loop : (line at step : ℕ) → (by : ℤ) → (from to : (at : ℕ) → List Lined) → List Lined
 begin_loop line at step by from to = own line (I.Const step by ∷ []) ++ in_row (at + 1) (from (at + 1)) to
 
--- behind the limit: the first count is set, so both bounds are there at one point, and where there is no turn the code goes on at `empty`
+-- behind the limit: the first count is set, so both bounds are there at one point, and where there is no turn the code goes
+-- on at `empty`
 abbrev pub bounds_code : (by : ℤ) → (constant : Option ℤ) → (counter limit first empty : ℕ) → List Instr
-bounds_code by constant counter limit first empty = count_from constant counter first ∷ entry_code by first counter limit ∷ I.JumpZero first empty
-    ∷ []
+bounds_code by constant counter limit first empty =
+    count_from constant counter first ∷ entry_code by first counter limit ∷ I.JumpZero first empty ∷ []
 
 -- a turn: the count is checked, the variable is located and set, and the body follows
 abbrev pub turn_code : (line at : ℕ) → (check : List Instr) → (locate : (at : ℕ) → List Lined) → (store : Instr)
