@@ -687,17 +687,23 @@ pub performs_unfetched : (f f' : FilesSide) (r : Request) (name : List ℕ) (fau
 performs_unfetched f f' r name fetch.Absent i a is s h =
     inr (
       h.1,
-      serves_silent (RequestOutcome f.told i.left r) f f' i a ReadFault s
-          (silent ReadFault, refl, (moves_silent (RequestOutcome f.told i.left r) i ReadFault (absent name is h.0 refl), refl),
-              gains_none a),
+      serves_silent (RequestOutcome f.told i.left r) f f' i a ReadFault s (
+        silent ReadFault,
+        refl,
+        (moves_silent (RequestOutcome f.told i.left r) i ReadFault (absent name is h.0 refl), refl),
+        gains_none a,
+      ),
     )
 performs_unfetched f f' r name fetch.Failed i a is s h = inl ((refl, (h.0, h.1), s, gains_none a, (name, is)), refl)
 performs_unfetched f f' r name fetch.TooLong i a is s h =
     inr (
       h.1,
-      serves_silent (RequestOutcome f.told i.left r) f f' i a TooLong s
-          (silent TooLong, refl, (moves_silent (RequestOutcome f.told i.left r) i TooLong (past_limit name is h.0 refl), refl),
-              gains_none a),
+      serves_silent (RequestOutcome f.told i.left r) f f' i a TooLong s (
+        silent TooLong,
+        refl,
+        (moves_silent (RequestOutcome f.told i.left r) i TooLong (past_limit name is h.0 refl), refl),
+        gains_none a,
+      ),
     )
 performs_unfetched f f' r name fetch.Memory i a is s h =
     inr (

@@ -632,7 +632,7 @@ module _ (p : Program) (tables : Tables) (code : PlainCode) (checked : IsChecked
             first = values.desig_place p tables code checked w r lt lo d mine;
             second =
                 subst (Place code r (place_at p tables r lo2 e)) (sym good.0)
-                    (values.desig_place p tables code checked w r lt lo2 e others);
+                (values.desig_place p tables code checked w r lt lo2 e others);
           },
           tt,
         )
@@ -755,7 +755,7 @@ module _ (p : Program) (tables : Tables) (code : PlainCode) (checked : IsChecked
             first = values.desig_place p tables code checked w r lt lo d mine;
             second =
                 subst (Place code r (place_at p tables r lo2 e)) (sym good.0)
-                    (values.desig_place p tables code checked w r lt lo2 e others);
+                (values.desig_place p tables code checked w r lt lo2 e others);
           },
           tt,
         )

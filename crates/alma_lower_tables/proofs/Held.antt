@@ -184,7 +184,7 @@ module _ (p : Program) where
       some_ranges = subst (AreSome same_range (program_ranges p)) (sym ranges) (record {
         among = among same_range range_is range_itself (program_ranges p) [] all_ranges tt
             (each_of_append (λ x. Contains (program_ranges p) x) (of_each named_ranges (program_phrases p)) (checked_results p)
-                named_phrases
+            named_phrases
             named_results);
         distinct = distinct same_range range_is range_itself [] all_ranges (none_distinct same_range);
       })

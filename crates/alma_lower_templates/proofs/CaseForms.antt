@@ -67,7 +67,7 @@ module _ (p : Program) (tables : Tables) (code : PlainCode) (input : List ℕ) (
           → Holds t j (cell.Int y) = λ j y ne h. holds_other now m j (cell.Int x) (cell.Int y) some ne h in
           let w = writes held s is in
           before code input line 0 24 (Leaves exit (ending p code input may lo r now)) held e s w.to 1 (suc c) c q q w.silently
-              (omega arith)
+          (omega arith)
           (omega arith)
           (from_ending p code input may line c (at + 1) exit lo lo r v now t e q (omega arith) behind left
           (later t (begins p code input lo r now v t left)

@@ -192,7 +192,7 @@ module _ (p : Program) (tables : Tables) (code : PlainCode) (all : List (List Ru
           exist = omega (arith, h.exists);
           kinds =
               each_follows (λ x. IsOutside x.slot (param_slots x) n) (λ x. HoldsPlace x.kind → IsOutside n 1 x.slot) outside
-                  (routine_at p r).params
+              (routine_at p r).params
               h.params;
         }) h.position
       where
@@ -231,7 +231,7 @@ module _ (p : Program) (tables : Tables) (code : PlainCode) (all : List (List Ru
       -- a value as a test
       value_goes : (r line : ℕ) (x : Expr) → GoodExpr r line x → Tested p tables r x → (at lo : ℕ)
           → HasSlots p code r lo (unless_bare (bare x) (expr_slots p r x))
-              → TestRuns p tables code input below r line (suc n) at lo (Value x)
+          → TestRuns p tables code input below r line (suc n) at lo (Value x)
       value_goes r line x g (as_value is) at lo slots =
           value_runs p tables code input below r line (suc n) at lo x is slots.behind
           (once p tables code input below r line (suc n) x g at lo slots)
@@ -279,7 +279,7 @@ module _ (p : Program) (tables : Tables) (code : PlainCode) (all : List (List Ru
           → StatementRuns p tables code input below r line (suc n) may at lo x
       plain may r line at lo x runs stands v now b =
           as_statement p code input may line at (at + length (stmt_code p tables r line at lo x)) lo r now (ev_stmt p input below x v)
-              (suc n)
+          (suc n)
           (runs stands v now b)
 
       may_return : (may : Bool) (r line at lo : ℕ) (x : Stmt) → (may ≡ false → ⊥)
@@ -298,10 +298,10 @@ module _ (p : Program) (tables : Tables) (code : PlainCode) (all : List (List Ru
       turn_list : (may : Bool) (r line : ℕ) → r < length p.routines → (x : Stmts) (ls : List ℕ) → FineIn r (stmts_phrases x) ls
           → Stays p tables code input may (stmts_phrases x) → (at lo : ℕ) → HasSlots p code r lo (stmts_slots p r (stmts_with x ls))
           → RunsFor p code input may r line at lo (stmts_code p tables r at lo (stmts_with x ls)) (below.stmts (stmts_with x ls))
-              (suc n - 1)
+          (suc n - 1)
       turn_list may r line lt x ls fine stays at lo slots =
           subst (λ k. RunsFor p code input may r line at lo (stmts_code p tables r at lo (stmts_with x ls)) (below.stmts (stmts_with x ls))
-              k)
+          k)
           less_one (know.lists may r line lt x ls fine stays at lo slots)
 
       -- an ELSE list, wherever it stands
@@ -400,7 +400,7 @@ module _ (p : Program) (tables : Tables) (code : PlainCode) (all : List (List Ru
                   let fits = root_fits r cells sels x lt asked.root in
                   desig_runs p tables code input below r line (suc n) at lo cells x (sels_with sels ls) fits checked.nested slots
                   (λ next. sels_go r line lt sels ls inner cells asked.parts next lo (behind_root p tables r lo x) (omega arith) own_lo
-                      rest)
+                  rest)
                   (λ from is. own_sels_go r line lt sels ls inner cells asked.parts x from is fits (behind_root p tables r lo x)
                   (omega (arith, own_lo)) rest);
             }
@@ -526,7 +526,7 @@ module _ (p : Program) (tables : Tables) (code : PlainCode) (all : List (List Ru
                   let first = slots_first p code input r lo (expr_slots p r x) (links_slots p r (links_with links ls2)) slots in
                   let kind = first_slot p code input r lo x first in
                   chain_runs p tables code input below r line (suc n) at lo negated x (links_with links ls2) slots (g.runs at lo first)
-                      g.fits
+                  g.fits
                   (others_go r line lt links ls2 behind_e in_first lo (behind_expr p r lo x) tt (omega (arith, some_slots p code input r x))
                   slots.behind kind
                   (slots_behind p code input r lo (expr_slots p r x) (links_slots p r (links_with links ls2)) slots));
@@ -726,7 +726,7 @@ module _ (p : Program) (tables : Tables) (code : PlainCode) (all : List (List Ru
                   (cells_with d ls2 ∙ h.asked.0.cells) h.asked.0.coded
                   (g2.runs at lo (slots_first p code input r lo (expr_slots p r x) (desig_slots p r y) slots))
                   (λ next. g.runs next (behind_expr p r lo x)
-                      (slots_behind p code input r lo (expr_slots p r x) (desig_slots p r y) slots));
+                  (slots_behind p code input r lo (expr_slots p r x) (desig_slots p r y) slots));
               value = λ z same. absurd (cc);
             }
         test_go r line lt (Unify d range e range2) ls h =
@@ -955,12 +955,12 @@ module _ (p : Program) (tables : Tables) (code : PlainCode) (all : List (List Ru
             let g = desig_go r line lt d ls (fine_first p tables code input r (desig_phrases d) (expr_phrases from) (expr_phrases to) ls
             before_body) in
             let g1 = expr_go r line lt from ls2 (fine_second p tables code input r (desig_phrases d) (expr_phrases from) (expr_phrases to)
-                ls
+            ls
             before_body) in
             let g2 = expr_go r line lt to ls3 (fine_third p tables code input r (desig_phrases d) (expr_phrases from) (expr_phrases to) ls
             before_body) in
             let fine_body = fine_fourth p tables code input r (desig_phrases d) (expr_phrases from) (expr_phrases to) (stmts_phrases body)
-                ls
+            ls
             inner in
             let body_stays = stays_back p tables code input may bounds (stmts_phrases body) inner_stays in
             let apart = h.asked.0.loops.0 in
@@ -1003,12 +1003,12 @@ module _ (p : Program) (tables : Tables) (code : PlainCode) (all : List (List Ru
             let g = desig_go r line lt d ls (fine_first p tables code input r (desig_phrases d) (expr_phrases from) (expr_phrases to) ls
             before_body) in
             let g1 = expr_go r line lt from ls2 (fine_second p tables code input r (desig_phrases d) (expr_phrases from) (expr_phrases to)
-                ls
+            ls
             before_body) in
             let g2 = expr_go r line lt to ls3 (fine_third p tables code input r (desig_phrases d) (expr_phrases from) (expr_phrases to) ls
             before_body) in
             let fine_body = fine_fourth p tables code input r (desig_phrases d) (expr_phrases from) (expr_phrases to) (stmts_phrases body)
-                ls
+            ls
             inner in
             let body_stays = stays_back p tables code input may bounds (stmts_phrases body) inner_stays in
             let apart = h.asked.0.loops.0 in
@@ -1154,7 +1154,7 @@ module _ (p : Program) (tables : Tables) (code : PlainCode) (all : List (List Ru
             let u : Test = test_with t ls in
             let x : Stmts = stmts_with body ls2 in
             let parts = arm_slots r lo (mark_slots (is_simple u)) (test_slots p r u) (stmts_slots p r x)
-                (arms_slots p r (arms_with rest ls3))
+            (arms_slots p r (arms_with rest ls3))
             (stmts_slots p r els) slots in
             let g = test_go r line lt t ls (fine_first p tables code input r (test_phrases t) (stmts_phrases body) (arms_phrases rest) ls h)
             in
@@ -1179,7 +1179,7 @@ module _ (p : Program) (tables : Tables) (code : PlainCode) (all : List (List Ru
             let u : Test = test_with t ls in
             let x : Stmts = stmts_with body ls2 in
             let parts = arm_slots r lo (mark_slots (is_simple u)) (test_slots p r u) (stmts_slots p r x)
-                (arms_slots p r (arms_with rest ls3))
+            (arms_slots p r (arms_with rest ls3))
             (stmts_slots p r els) slots in
             let g = test_go r line lt t ls (fine_first p tables code input r (test_phrases t) (stmts_phrases body) (arms_phrases rest) ls h)
             in
@@ -1189,7 +1189,7 @@ module _ (p : Program) (tables : Tables) (code : PlainCode) (all : List (List Ru
             ls h) (stays_second may (test_phrases t) (stmts_phrases body) (arms_phrases rest) stays) line next (behind_condition p r lo u)
             parts.1)
             (λ next. arms_go may r lt rest ls3 (fine_third p tables code input r (test_phrases t) (stmts_phrases body) (arms_phrases rest)
-                ls
+            ls
             h) (stays_back p tables code input may (test_phrases t ++ stmts_phrases body) (arms_phrases rest) stays) els others line jump
             next (behind_stmts p r (behind_condition p r lo u) x) parts.2)
 
@@ -1215,7 +1215,7 @@ module _ (p : Program) (tables : Tables) (code : PlainCode) (all : List (List Ru
             let x : Stmts = stmts_with body ls in
             let split = case_slots r la (stmts_slots p r x) (cases_slots p r (cases_with rest ls2)) (else_slots p r els) slots in
             labelled_first_run p tables code input below r line (suc n) may lo bound c.apart c.behind c.kind c.kind2 els at la label labels
-                x
+            x
             (cases_with rest ls2) le
             (λ next. stmts_go may r lt body ls (fine_front p tables code input r (stmts_phrases body) (cases_phrases rest) ls h)
             (stays_front p tables code input may (stmts_phrases body) (cases_phrases rest) stays) line next la split.0)
@@ -1258,14 +1258,14 @@ module _ (p : Program) (tables : Tables) (code : PlainCode) (all : List (List Ru
             no_else_run p tables code input below r line (suc n) may lo bound jump at la c.apart c.behind c.kind c.kind2
         else_go may r lt (else_part body) ls h stays line lo bound c jump at la le slots =
             else_run p tables code input below r line (suc n) may lo bound jump at la c.apart c.behind c.kind c.kind2 (stmts_with body ls)
-                le
+            le
             (stmts_go may r lt body ls h stays line at la slots)
 
       -- ---- the turns at this level
 
       for_go : (may : Bool) (r line : ℕ) → r < length p.routines → (l : Loop) (ls : List ℕ)
           → Asked p tables code input r (StmtPhrase (ForTo l)) → FineIn r (loop_phrases l) ls
-              → Stays p tables code input may (loop_phrases l)
+          → Stays p tables code input may (loop_phrases l)
           → (at lo : ℕ) → HasSlots p code r lo (stmt_slots p r (ForTo (loop_with l ls)))
           → Stands code at (stmt_code p tables r line at lo (ForTo (loop_with l ls)))
           → ForTurns p tables code input (level_above p input below) may r line at lo (loop_with l ls) (suc n)

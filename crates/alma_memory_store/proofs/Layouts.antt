@@ -221,8 +221,7 @@ blanks-step runs i top run slots slots' all e same k r =
     let part : map blank_slot (replicate (run.end - low) run.kind ++ kinds_of run.end rest) ≡ new ++ tail =
     map-append blank_slot (replicate (run.end - low) run.kind) (kinds_of run.end rest)
     ∙ ap (λ v. v ++ tail) (blank-replicate (run.end - low) run.kind) in
-    let one : slots' ++ tail ≡ all = ap (λ v. v ++ tail) same ∙ (append_assoc slots new tail ∙ (ap (λ v. slots ++ v) (sym part) ∙ more)) in
-        (
+    let one : slots' ++ tail ≡ all = ap (λ v. v ++ tail) same ∙ (append_assoc slots new tail ∙ (ap (λ v. slots ++ v) (sym part) ∙ more)) in (
       ap (λ n. slots' ++ map blank_slot (kinds_of n rest)) wide ∙ one,
       subst (λ n. RunsRise n rest top) (sym wide) rise.1,
     )

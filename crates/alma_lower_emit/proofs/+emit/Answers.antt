@@ -247,7 +247,7 @@ pub test::emit_same_cells-returns : goal.test::emit_same_cells-returns
 test::emit_same_cells-returns g t c = record {
   puts =
       on_ok c.add.result (same_put (around c.args.scene.now) c.args.line _ _ _ _ _ _ _ _ c.in_ok-left.ensures.puts
-          c.in_ok-left.ensures.place
+      c.in_ok-left.ensures.place
       c.in_ok-right.ensures.puts c.in_ok-right.ensures.place) c.add.ensures;
 }
 
@@ -688,7 +688,7 @@ expression::emit_value-returns-in-None g t c =
     record {
       value = if_ok c.emit_expr.result
           (λ slot h. made_at (around c.args.scene.now) c.args.line _ _ _ _ (sym c.in-None.is ∙ c.in_ok-slot.ensures) h)
-              c.emit_expr.ensures.slot;
+          c.emit_expr.ensures.slot;
       puts = on_ok c.emit_expr.result (made_value (around c.args.scene.now) c.args.line _ _ _ (sym c.in-None.is ∙ c.in_ok-slot.ensures))
           c.emit_expr.ensures.puts;
     }
@@ -705,7 +705,7 @@ test::emit_bind-returns-else-left g t c =
     record {
       puts = test_as c.emit_bind_right.result (around c.args.scene.now) c.args.line _ _ _ _
           (ap (tree.Bind (desig_of c.args.desig.now) (expr_of c.args.value.now) c.args.range) c.if-left.false)
-              c.emit_bind_right.ensures.puts;
+          c.emit_bind_right.ensures.puts;
     }
 
 pub test::emit_operands-returns : goal.test::emit_operands-returns

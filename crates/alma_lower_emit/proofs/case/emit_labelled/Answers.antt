@@ -20,6 +20,6 @@ returns g c =
           (all_first (around c.args.scene.now) c.args.line _ _ _ _ _ _ _ _ _ _ _ _ _ _
           (said c.emit_case_arm-done.result c.in_ok-exit.ensures.done (c.emit_case_arm-done.ensures.puts test)) c.in_ok-exit.ensures.address
           c.in_ok-exit.ensures.codes (c.in_ok-emit_cases.ensures.puts test) (said c.emit_else-done.result ok c.emit_else-done.ensures.puts)
-              h
+          h
           (add-zero _)));
     }

@@ -10,7 +10,7 @@ pub returns-in-Some : goal.returns-in-Some
 returns-in-Some c = record {
   number = if_ok_to c.number_of.result _ _
       (some_place text_of same_text c.args.text.now (λ k. pointwise nat_eq c.args.text.now k.items)
-          (λ k. bytes_agree c.args.text.now k.items)
+      (λ k. bytes_agree c.args.text.now k.items)
       c.args.self.now.texts.keys _ (sym c.in-Some.is ∙ c.get_index_of.ensures.index)) c.number_of.ensures;
 }
 
