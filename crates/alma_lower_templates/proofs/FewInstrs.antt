@@ -27,8 +27,8 @@ use Rattle.alma_lower_templates.specs.Lined.{Lined, own, in_row}
 use Rattle.alma_lower_templates.specs.Pieces.{cmp_code, op_code, neg_code, fit_code, unless_whole, link_code, chain_code, condition}
 use Rattle.alma_lower_templates.specs.Pieces.{guarded, read_code, write_code, truth_code, first_of_two, chosen, passed_over, has_dead}
 use Rattle.alma_lower_templates.specs.Pieces.{case_arm, behind_labels, labels_code, label_code, begin_loop, for_turns, some_turns}
-use Rattle.alma_lower_templates.specs.Pieces.{turn_code, turned_loop, opposite_code}
-use Rattle.alma_lower_templates.specs.Slots.{shift_of, bare, bare_desig, stays, stays_in, unless_bare, is_simple, is_turned, by_turn, handed_slots}
+use Rattle.alma_lower_templates.specs.Pieces.{turn_code, opposite_code}
+use Rattle.alma_lower_templates.specs.Slots.{shift_of, bare, bare_desig, stays, stays_in, unless_bare, is_simple, is_turned, handed_slots}
 use Rattle.alma_lower_templates.specs.Slots.{arg_slots}
 use Rattle.alma_lower_templates.specs.Slots.{behind_stmts, behind_stmt, behind_test, behind_condition, behind_expr, behind_dead}
 use Rattle.alma_lower_templates.specs.Slots.{behind_value, behind_desig, behind_target, behind_variable, own_place, own_root, goes_straight}
@@ -37,6 +37,7 @@ use Rattle.alma_lower_templates.specs.Templates
 use Rattle.alma_lower_templates.proofs.Straight.{straight_long}
 use Rattle.alma_lower_templates.proofs.FewSlots.{Short, AreShort, short_front, short_back, unless_few}
 use Rattle.alma_lower_templates.proofs.Tested.{compared_code, tested_long}
+use Rattle.alma_lower_templates.proofs.Turned.{while_code}
 
 own_long : (line : ℕ) (xs : List Instr) → length (own line xs) ≡ length xs
 own_long line xs = length-map xs (λ i. record { line = line; instr = i })
@@ -237,11 +238,7 @@ module _ (p : Program) (tables : Tables) (r : ℕ) where
       → ((at lo none : ℕ) → 4 + length (Templates.jump_code p tables r line at lo none u) ≤ m)
       → ((at lo : ℕ) → 4 + length (Templates.test_code p tables r line at lo u) ≤ m)
       → ((at lo : ℕ) → length (Templates.stmts_code p tables r at lo y) ≤ n)
-      → length (by_turn behind (turned_loop line at (Templates.stmts_code p tables r (at + 1) lo y)
-      (λ next. Templates.back_code p tables r line next (behind_stmts p r lo y) (at + 1) u))
-      (own line (I.Jump (at + 1) ∷ []) ++ (guarded (at + 1) 1 (λ none. condition (is_simple u) line (at + 1) lo none
-      (λ at lo none. Templates.jump_code p tables r line at lo none u) (λ at lo. Templates.test_code p tables r line at lo u))
-      (λ next. Templates.stmts_code p tables r next (behind_condition p r lo u) y) ++ own line (I.Jump (at + 1) ∷ [])))) ≤ 1 + m + n
+      → length (while_code p tables r behind line at lo u y) ≤ 1 + m + n
   while_few true line at lo u y m n j t b =
       let body : List Lined = Templates.stmts_code p tables r (at + 1) lo y in
       let next : ℕ = at + 1 + length body in

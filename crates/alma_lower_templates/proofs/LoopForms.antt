@@ -20,7 +20,6 @@ use Rattle.alma_lower_templates.specs.Lined.{Lined, own}
 use Rattle.alma_lower_templates.specs.Tables.{Tables}
 use Rattle.alma_lower_templates.specs.Slots.{is_simple, is_turned, by_turn, mark_slots, expr_slots, test_slots, behind_stmts}
 use Rattle.alma_lower_templates.specs.Slots.{behind_condition}
-use Rattle.alma_lower_templates.specs.Pieces.{turned_loop}
 use Rattle.alma_lower_templates.specs.Templates.{stmts_code, stmt_code, back_code}
 use Rattle.alma_lower_templates.specs.Stands.{Stands}
 use Rattle.alma_lower_templates.proofs.Stands.{stands_front, stands_back}
@@ -31,7 +30,7 @@ use Rattle.alma_lower_templates.proofs.RangeChecks.{past_from}
 use Rattle.alma_lower_templates.proofs.GuardedForms.{Decided, behind_test_at, guarded_code, guarded_front, guarded_back, guarded_long}
 use Rattle.alma_lower_templates.proofs.GuardedForms.{condition_long}
 use Rattle.alma_lower_templates.proofs.Conditions.{condition_code}
-use Rattle.alma_lower_templates.proofs.Turned.{GoesBack}
+use Rattle.alma_lower_templates.proofs.Turned.{while_code, GoesBack}
 use Rattle.alma_lower_templates.proofs.FormRuns.{ExprRuns, StatementRuns, ListRuns}
 
 module _ (p : Program) (tables : Tables) (code : PlainCode) (input : List ℕ) (below : Level) (r line q : ℕ) where
@@ -113,15 +112,6 @@ module _ (p : Program) (tables : Tables) (code : PlainCode) (input : List ℕ) (
   abbrev pub while_exit : (at lo : ℕ) → Test → Stmts → ℕ
   while_exit at lo t body = at + length (stmt_code p tables r line at lo (While t body))
 
-  -- the code of WHILE, by where its condition stands
-  abbrev while_code : (behind : Bool) (at lo : ℕ) → Test → Stmts → List Lined
-  while_code behind at lo t body = by_turn behind
-      (turned_loop line at (stmts_code p tables r (at + 1) lo body)
-      (λ next. back_code p tables r line next (behind_stmts p r lo body) (at + 1) t))
-      (own line (I.Jump (at + 1) ∷ [])
-      ++ (guarded_code p tables code input below r line q (at + 1) lo 1 t (λ next. stmts_code p tables r next (behind_condition p r lo t) body)
-      ++ own line (I.Jump (at + 1) ∷ [])))
-
   -- the address of the condition
   abbrev pub turn_top : (behind : Bool) (at lo : ℕ) → Stmts → ℕ
   turn_top behind at lo body = by_turn behind (at + 1 + length (stmts_code p tables r (at + 1) lo body)) (at + 1)
@@ -143,10 +133,10 @@ module _ (p : Program) (tables : Tables) (code : PlainCode) (input : List ℕ) (
   -- a turn, from its condition on
   turn_by : (z : Bool) (may : Bool) (at lo : ℕ) (t : Test) (body : Stmts) (cond does again : Store → Events NoYield) (d u : ℕ)
       → own_end p r ≤ lo → d ≤ suc u → TurnKnown z may at lo t body cond does d
-      → TurnsRun may (turn_top z at lo body) (at + length (while_code z at lo t body)) lo again u
-      → Stands code at (while_code z at lo t body)
+      → TurnsRun may (turn_top z at lo body) (at + length (while_code p tables r z line at lo t body)) lo again u
+      → Stands code at (while_code p tables r z line at lo t body)
       → (v : Store) (now : List PlainFrame) → Begins p code input r v now
-      → Visited code input line (turn_top z at lo body) (at + length (while_code z at lo t body)) now (ending p code input may lo r now)
+      → Visited code input line (turn_top z at lo body) (at + length (while_code p tables r z line at lo t body)) now (ending p code input may lo r now)
       (on_first (cond v) (λ x _. bind (does x) (λ y _. again y)) (λ _. one v tt)) d
   turn_by true may at lo t body cond does again d u behind owes known turns stands v now b =
       let inner : List Lined = stmts_code p tables r (at + 1) lo body in
@@ -154,7 +144,7 @@ module _ (p : Program) (tables : Tables) (code : PlainCode) (input : List ℕ) (
       let lo2 : ℕ = behind_stmts p r lo body in
       let last : List Lined = back_code p tables r line top lo2 (at + 1) t in
       let both : length (inner ++ last) ≡ length inner + length last = length-append inner last in
-      let end : top + length last ≡ at + length (while_code true at lo t body) = omega (arith, both) in
+      let end : top + length last ≡ at + length (while_code p tables r true line at lo t body) = omega (arith, both) in
       let w = ending p code input may lo r now in
       subst (λ n. Visited code input line top n now w (on_first (cond v) (λ x _. bind (does x) (λ z _. again z)) (λ _. one v tt)) d) end
       (while_row code input line top (at + 1) top (top + length last) now w v (cond v) does again (λ x t2. Left p code input lo2 r now x t2)
@@ -166,7 +156,7 @@ module _ (p : Program) (tables : Tables) (code : PlainCode) (input : List ℕ) (
       (known.runs (stands_front code (at + 1) inner last stands.2) x t2 (begins p code input lo r now x t2 left0)))
       (λ x t2 z t3 left left3.
       subst (λ n. Later code input line top n t3 w (again z) u) (sym end)
-      (on_later p code input may line top (at + length (while_code true at lo t body)) lo lo r z now t3 (again z) u (omega arith) behind left3
+      (on_later p code input may line top (at + length (while_code p tables r true line at lo t body)) lo lo r z now t3 (again z) u (omega arith) behind left3
       (turns z t3 (begins p code input lo r now z t3 left3))))
       (λ x t2 z n a t3 left h. h)
       (λ t2 left. left_less p code input lo lo2 r now v t2 (omega arith) left))
@@ -183,7 +173,7 @@ module _ (p : Program) (tables : Tables) (code : PlainCode) (input : List ℕ) (
       let jump_at : InstrAt code input line y (I.Jump top) =
       subst (λ n. InstrAt code input line n (I.Jump top)) ends (record { instr = back.0; on_line = back.1 }) in
       let both : length (head ++ out) ≡ length head + 1 = length-append head out in
-      let end : m + length (made m) + 1 ≡ at + length (while_code false at lo t body) = omega (arith, both, ends) in
+      let end : m + length (made m) + 1 ≡ at + length (while_code p tables r false line at lo t body) = omega (arith, both, ends) in
       let w = ending p code input may lo r now in
       subst (λ n. Visited code input line top n now w (on_first (cond v) (λ x _. bind (does x) (λ z _. again z)) (λ _. one v tt)) d) end
       (while_row code input line top m y (m + length (made m) + 1) now w v (cond v) does again (λ x t2. Left p code input lo r now x t2)
@@ -194,13 +184,13 @@ module _ (p : Program) (tables : Tables) (code : PlainCode) (input : List ℕ) (
       (known.runs m (guarded_back p tables code input below r line q top lo 1 t made front) x t2 (begins p code input lo r now x t2 left)))
       (λ x t2 z t3 left left3.
       subst (λ n. Later code input line top n t3 w (again z) u) (sym end)
-      (on_later p code input may line top (at + length (while_code false at lo t body)) lo lo r z now t3 (again z) u (omega arith) behind
+      (on_later p code input may line top (at + length (while_code p tables r false line at lo t body)) lo lo r z now t3 (again z) u (omega arith) behind
       left3 (turns z t3 (begins p code input lo r now z t3 left3))))
       (λ x t2 z n a t3 left h. h)
       (λ t2 left. left))
 
   -- the first jump leads to the condition
-  first_jump : (z : Bool) (at lo : ℕ) (t : Test) (body : Stmts) → Stands code at (while_code z at lo t body)
+  first_jump : (z : Bool) (at lo : ℕ) (t : Test) (body : Stmts) → Stands code at (while_code p tables r z line at lo t body)
       → InstrAt code input line at (I.Jump (turn_top z at lo body))
   first_jump true at lo t body stands = record { instr = stands.0; on_line = stands.1 }
   first_jump false at lo t body stands = record { instr = stands.0; on_line = stands.1 }

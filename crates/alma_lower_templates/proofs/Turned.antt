@@ -15,7 +15,7 @@ use Rattle.alma_code.specs.Plain.{PlainCode, kinds_at}
 use Rattle.alma_code.specs.Machine.{State}
 use Rattle.alma_ir.specs.declared.phrase.Cmp.{Cmp}
 use Rattle.alma_ir.specs.declared.phrase.Cmp.TheVariants as cmp
-use Rattle.alma_ir.specs.Tree.{Program, Expr, Test, Const, Load, Chain, Compare, Truth, Known, Chr, CallExpr, Value, Bind, Unify, SameCells}
+use Rattle.alma_ir.specs.Tree.{Program, Stmts, Expr, Test, Const, Load, Chain, Compare, Truth, Known, Chr, CallExpr, Value, Bind, Unify, SameCells}
 use Rattle.alma_ir.specs.Tree.{Seq, And, Or, Not, CallTest}
 use Rattle.alma_mean.specs.Store.{Store}
 use Rattle.alma_mean.specs.Events.{Events, NoYield, one}
@@ -27,9 +27,10 @@ use Rattle.alma_lower_implements.proofs.Steps.{Holds, HasKind, Writes, InstrAt, 
 use Rattle.alma_lower_implements.proofs.TurnRow.{Decides, turned_decides}
 use Rattle.alma_lower_templates.specs.Lined.{Lined, own}
 use Rattle.alma_lower_templates.specs.Tables.{Tables}
-use Rattle.alma_lower_templates.specs.Slots.{bare, stays, is_simple, is_simple_expr, is_turned, has_opposite, expr_slots, behind_expr}
-use Rattle.alma_lower_templates.specs.Pieces.{opposite_code}
-use Rattle.alma_lower_templates.specs.Templates.{back_code, slot_or, value_at}
+use Rattle.alma_lower_templates.specs.Slots.{bare, stays, is_simple, is_simple_expr, is_turned, by_turn, has_opposite, expr_slots}
+use Rattle.alma_lower_templates.specs.Slots.{behind_expr, behind_stmts, behind_condition}
+use Rattle.alma_lower_templates.specs.Pieces.{condition, guarded, turned_loop, opposite_code}
+use Rattle.alma_lower_templates.specs.Templates.{stmts_code, test_code, jump_code, back_code, slot_or, value_at}
 use Rattle.alma_lower_templates.specs.Stands.{Stands}
 use Rattle.alma_lower_templates.proofs.Stands.{stands_front, stands_back}
 use Rattle.alma_lower_templates.proofs.Parts.{Begins, begins, Left, has_kind, IsValue, From, leaving, as_runs, ends_here, value_goes_on}
@@ -64,6 +65,17 @@ turned (And ts) e = absurd (let bad : false ≡ true = e in cc)
 turned (Or ts) e = absurd (let bad : false ≡ true = e in cc)
 turned (Not t) e = absurd (let bad : false ≡ true = e in cc)
 turned (CallTest called args up) e = absurd (let bad : false ≡ true = e in cc)
+
+module _ (p : Program) (tables : Tables) (r : ℕ) where
+  -- the code of WHILE, by where its condition stands
+  abbrev pub while_code : (behind : Bool) → (line at lo : ℕ) → Test → Stmts → List Lined
+  while_code behind line at lo t body = by_turn behind
+      (turned_loop line at (stmts_code p tables r (at + 1) lo body)
+      (λ next. back_code p tables r line next (behind_stmts p r lo body) (at + 1) t))
+      (own line (I.Jump (at + 1) ∷ []) ++ (guarded (at + 1) 1
+      (λ none. condition (is_simple t) line (at + 1) lo none (λ at lo none. jump_code p tables r line at lo none t)
+      (λ at lo. test_code p tables r line at lo t)) (λ next. stmts_code p tables r next (behind_condition p r lo t) body)
+      ++ own line (I.Jump (at + 1) ∷ [])))
 
 -- ---- the opposite of a comparison
 
