@@ -22,8 +22,10 @@ use Rattle.alma_ir.specs.Phrases.{Phrase, TestPhrase, ExprPhrase, DesigPhrase, s
 use Rattle.alma_ir.specs.Phrases.{else_phrases, branches_phrases, loop_phrases, test_phrases, tests_phrases, expr_phrases, links_phrases}
 use Rattle.alma_ir.specs.Phrases.{args_phrases, arg_phrases, desig_phrases, sels_phrases, sel_phrases}
 use Rattle.alma_ir.proofs.Each.{each_of_front, each_of_back}
-use Rattle.alma_lower_templates.specs.Slots.{shift_of, chain_slots, bare, bare_desig, unless_bare, is_simple, is_turned, by_turn, mark_slots}
-use Rattle.alma_lower_templates.specs.Slots.{handed_slots, links_if, root_slots, stmts_slots, stmt_slots, arms_slots, dead_slots, cases_slots, else_slots}
+use Rattle.alma_lower_templates.specs.Slots.{shift_of, chain_slots, bare, bare_desig, unless_bare, is_simple, is_turned, by_turn}
+use Rattle.alma_lower_templates.specs.Slots.{mark_slots}
+use Rattle.alma_lower_templates.specs.Slots.{handed_slots, links_if, root_slots, stmts_slots, stmt_slots, arms_slots, dead_slots}
+use Rattle.alma_lower_templates.specs.Slots.{cases_slots, else_slots}
 use Rattle.alma_lower_templates.specs.Slots.{branches_slots, for_slots, some_slots, test_slots, and_slots, or_slots, expr_slots}
 use Rattle.alma_lower_templates.specs.Slots.{links_slots, args_slots, arg_slots, desig_slots, sels_slots, sel_slots}
 

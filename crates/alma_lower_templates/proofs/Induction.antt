@@ -46,7 +46,8 @@ use Rattle.alma_lower_templates.specs.Slots.{routine_kinds, bare, bare_desig, ow
 use Rattle.alma_lower_templates.specs.Slots.{handed_slots, root_slots, stmts_slots, stmt_slots, test_slots, and_slots, or_slots, expr_slots}
 use Rattle.alma_lower_templates.specs.Slots.{links_slots, args_slots, arg_slots, desig_slots, sels_slots, sel_slots, behind_expr}
 use Rattle.alma_lower_templates.specs.Slots.{behind_dead, behind_value, behind_desig, behind_test, behind_stmts, behind_stmt}
-use Rattle.alma_lower_templates.specs.Slots.{behind_condition, behind_variable, is_turned, by_turn, arms_slots, dead_slots, cases_slots, else_slots}
+use Rattle.alma_lower_templates.specs.Slots.{behind_condition, behind_variable, is_turned, by_turn, arms_slots, dead_slots, cases_slots}
+use Rattle.alma_lower_templates.specs.Slots.{else_slots}
 use Rattle.alma_lower_templates.specs.Compiled.{program_code}
 use Rattle.alma_lower_templates.specs.Templates.{part_slot, behind_root, arg_code, desig_code, place_at, stmts_code, stmt_code}
 use Rattle.alma_lower_templates.proofs.AtOnce.{BareFits}
@@ -80,7 +81,7 @@ use Rattle.alma_lower_templates.proofs.ExprForms.{some_slots}
 use Rattle.alma_lower_templates.proofs.Tested.{Tested, tested, as_value, as_unequal}
 use Rattle.alma_lower_templates.proofs.FormRuns.{TestRuns, ListRuns, StmtRuns, StatementRuns}
 use Rattle.alma_lower_templates.proofs.ForallRuns.{forall_runs}
-use Rattle.alma_lower_templates.proofs.GuardedForms.{Decided, ArmsRun, no_arms_run, more_arms_run, no_arms_if, if_runs}
+use Rattle.alma_lower_templates.proofs.GuardedForms.{ArmsRun, no_arms_run, more_arms_run, no_arms_if, if_runs}
 use Rattle.alma_lower_templates.proofs.Levels.{Below, ForTurns, SomeTurns, owes_less}
 use Rattle.alma_lower_templates.proofs.ReadForms.{read_runs}
 use Rattle.alma_lower_templates.proofs.Returning.{return_runs, return_value_runs}
@@ -329,7 +330,8 @@ module _ (p : Program) (tables : Tables) (code : PlainCode) (all : List (List Ru
       turn_known : (z : Bool) (may : Bool) (r line : ℕ) → r < length p.routines → (t : Test) (body : Stmts) (ls : List ℕ)
           → FineIn r (test_phrases t ++ stmts_phrases body) ls → Stays p tables code input may (test_phrases t ++ stmts_phrases body)
           → (at lo : ℕ) → is_turned (test_with t ls) ≡ z
-          → HasSlots p code r lo (by_turn z (stmts_slots p r (stmts_with body (behind (test_phrases t) ls)) ++ test_slots p r (test_with t ls))
+          → HasSlots p code r lo (by_turn z
+          (stmts_slots p r (stmts_with body (behind (test_phrases t) ls)) ++ test_slots p r (test_with t ls))
           (mark_slots (is_simple (test_with t ls))
           ++ (test_slots p r (test_with t ls) ++ stmts_slots p r (stmts_with body (behind (test_phrases t) ls)))))
           → TurnKnown p tables code input below r line (suc n) z may at lo (test_with t ls) (stmts_with body (behind (test_phrases t) ls))

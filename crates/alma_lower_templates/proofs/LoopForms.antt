@@ -136,7 +136,8 @@ module _ (p : Program) (tables : Tables) (code : PlainCode) (input : List ℕ) (
       → TurnsRun may (turn_top z at lo body) (at + length (while_code p tables r z line at lo t body)) lo again u
       → Stands code at (while_code p tables r z line at lo t body)
       → (v : Store) (now : List PlainFrame) → Begins p code input r v now
-      → Visited code input line (turn_top z at lo body) (at + length (while_code p tables r z line at lo t body)) now (ending p code input may lo r now)
+      → Visited code input line (turn_top z at lo body) (at + length (while_code p tables r z line at lo t body)) now
+      (ending p code input may lo r now)
       (on_first (cond v) (λ x _. bind (does x) (λ y _. again y)) (λ _. one v tt)) d
   turn_by true may at lo t body cond does again d u behind owes known turns stands v now b =
       let inner : List Lined = stmts_code p tables r (at + 1) lo body in
@@ -156,7 +157,8 @@ module _ (p : Program) (tables : Tables) (code : PlainCode) (input : List ℕ) (
       (known.runs (stands_front code (at + 1) inner last stands.2) x t2 (begins p code input lo r now x t2 left0)))
       (λ x t2 z t3 left left3.
       subst (λ n. Later code input line top n t3 w (again z) u) (sym end)
-      (on_later p code input may line top (at + length (while_code p tables r true line at lo t body)) lo lo r z now t3 (again z) u (omega arith) behind left3
+      (on_later p code input may line top (at + length (while_code p tables r true line at lo t body)) lo lo r z now t3 (again z) u
+      (omega arith) behind left3
       (turns z t3 (begins p code input lo r now z t3 left3))))
       (λ x t2 z n a t3 left h. h)
       (λ t2 left. left_less p code input lo lo2 r now v t2 (omega arith) left))
@@ -184,7 +186,8 @@ module _ (p : Program) (tables : Tables) (code : PlainCode) (input : List ℕ) (
       (known.runs m (guarded_back p tables code input below r line q top lo 1 t made front) x t2 (begins p code input lo r now x t2 left)))
       (λ x t2 z t3 left left3.
       subst (λ n. Later code input line top n t3 w (again z) u) (sym end)
-      (on_later p code input may line top (at + length (while_code p tables r false line at lo t body)) lo lo r z now t3 (again z) u (omega arith) behind
+      (on_later p code input may line top (at + length (while_code p tables r false line at lo t body)) lo lo r z now t3 (again z) u
+      (omega arith) behind
       left3 (turns z t3 (begins p code input lo r now z t3 left3))))
       (λ x t2 z n a t3 left h. h)
       (λ t2 left. left))
@@ -219,7 +222,8 @@ module _ (p : Program) (tables : Tables) (code : PlainCode) (input : List ℕ) (
       let w = ending p code input may lo r now in
       let turn : Events NoYield = on_first (below.test t v) (λ x _. bind (below.stmts body x) (λ y _. below.while t body y)) (λ _. one v tt)
       in
-      let visited = while_turn_runs may at lo t body (below.test t) (below.stmts body) (below.while t body) (q - 1) u behind owes known turns
+      let visited = while_turn_runs may at lo t body (below.test t) (below.stmts body) (below.while t body) (q - 1) u behind owes known
+      turns
       stands v now b in
       as_runs p code input line at exit now w (node (Visit turn)) q
       (node_runs p code input line 1 at exit now w (Visit turn) q (omega arith)

@@ -1,5 +1,6 @@
 -- The condition of WHILE that stands behind the body: a simple comparison, whose opposite is tested by a jump back to the body.
-use Rattle.std.proofs.Common.{◌≡◌, ℕ, ◌+◌, ◌≤◌, Bool, true, false, not, ◌&&◌, List, [], ◌∷◌, ◌++◌, inl, inr, length, Some, refl, sym, ap, ◌∙◌, subst}
+use Rattle.std.proofs.Common.{◌≡◌, ℕ, ◌+◌, ◌≤◌, Bool, true, false, not, ◌&&◌, List, [], ◌∷◌, ◌++◌, inl, inr, length, Some, refl, sym, ap}
+use Rattle.std.proofs.Common.{◌∙◌, subst}
 use Rattle.std.proofs.Common.{arith, ℤ, append_assoc}
 use Rattle.std.specs.Prelude.{slice_get, int_lt, int_le}
 use Rattle.std.proofs.lemmas.Bool.{and_parts}
@@ -9,13 +10,13 @@ use Rattle.alma_base.specs.Numbers.{is_zero, int_eq, bit}
 use Rattle.alma_code.specs.declared.cell.Cell.TheVariants as cell
 use Rattle.alma_code.specs.declared.cell.SlotKind.TheVariants as slot
 use Rattle.alma_code.specs.declared.instr.Instr.TheVariants as I
-use Rattle.alma_code.specs.Lines.{line_at}
 use Rattle.alma_code.specs.Picture.{PlainFrame, PlainEntry}
 use Rattle.alma_code.specs.Plain.{PlainCode, kinds_at}
 use Rattle.alma_code.specs.Machine.{State}
 use Rattle.alma_ir.specs.declared.phrase.Cmp.{Cmp}
 use Rattle.alma_ir.specs.declared.phrase.Cmp.TheVariants as cmp
-use Rattle.alma_ir.specs.Tree.{Program, Stmts, Expr, Test, Const, Load, Chain, Compare, Truth, Known, Chr, CallExpr, Value, Bind, Unify, SameCells}
+use Rattle.alma_ir.specs.Tree.{Program, Stmts, Expr, Test, Const, Load, Chain, Compare, Truth, Known, Chr, CallExpr, Value, Bind, Unify}
+use Rattle.alma_ir.specs.Tree.{SameCells}
 use Rattle.alma_ir.specs.Tree.{Seq, And, Or, Not, CallTest}
 use Rattle.alma_mean.specs.Store.{Store}
 use Rattle.alma_mean.specs.Events.{Events, NoYield, one}
@@ -23,7 +24,7 @@ use Rattle.alma_mean.specs.Arithmetic.{compares}
 use Rattle.alma_mean.specs.Meaning.{Level, ev_test, ev_expr}
 use Rattle.alma_lower_implements.proofs.Frames.{own_end, HasSlots, IsAt}
 use Rattle.alma_lower_implements.proofs.Numbers.{bit_integer, zero_bit}
-use Rattle.alma_lower_implements.proofs.Steps.{Holds, HasKind, Writes, InstrAt, equal_step, less_step, less_eq_step}
+use Rattle.alma_lower_implements.proofs.Steps.{Holds, Writes, InstrAt, equal_step, less_step, less_eq_step}
 use Rattle.alma_lower_implements.proofs.TurnRow.{Decides, turned_decides}
 use Rattle.alma_lower_templates.specs.Lined.{Lined, own}
 use Rattle.alma_lower_templates.specs.Tables.{Tables}
@@ -117,13 +118,15 @@ module _ (p : Program) (tables : Tables) (code : PlainCode) (input : List ℕ) (
         (one v (bit said)) q
     contrary_ends z said is writes =
         let same : bit z ≡ bit (is_zero (bit said)) = ap bit (is ∙ sym (zero_bit said)) in
-        value_goes_on p code input line 7 at (at + 1) lo r v now (bit z) (ContraryIn p tables code input below r line q lo) (one v (bit said))
+        value_goes_on p code input line 7 at (at + 1) lo r v now (bit z) (ContraryIn p tables code input below r line q lo)
+        (one v (bit said))
         q behind kind (bit_integer z) b writes
         (λ t left value. ends_here p code input line 7 (at + 1) lo r v t (ContraryIn p tables code input below r line q lo) (bit said) q
         (begins p code input lo r now v t left) (subst (λ c. IsValue p code input lo c t) same value))
 
     opposite_ends : (how : Cmp) (first operand : ℕ) (x y : ℤ) → has_opposite how ≡ true
-        → Stands code at (own line (opposite_code how lo first operand ∷ [])) → Holds now first (cell.Int x) → Holds now operand (cell.Int y)
+        → Stands code at (own line (opposite_code how lo first operand ∷ [])) → Holds now first (cell.Int x)
+        → Holds now operand (cell.Int y)
         → From p code input line 8 at (at + 1) now (leaving p code input lo r now (ContraryIn p tables code input below r line q lo))
         (one v (bit (compares how x y))) q
     opposite_ends cmp.Equal a o x y e i hx hy = absurd (let bad : false ≡ true = e in cc)
