@@ -1,5 +1,6 @@
 -- The code of each phrase of a routine of a checked program: each instruction has what it needs, by induction over the phrases.
-use Rattle.std.proofs.Common.{◌≡◌, ℕ, ◌+◌, ◌<◌, ◌≤◌, Bool, true, false, List, [], ◌∷◌, ◌++◌, length, Option, Some, None, pos, refl, sym, ap, ◌∙◌}
+use Rattle.std.proofs.Common.{◌≡◌, ℕ, ◌+◌, ◌<◌, ◌≤◌, Bool, true, false, List, [], ◌∷◌, ◌++◌, length, Option, Some, None, pos, refl, sym, ap}
+use Rattle.std.proofs.Common.{◌∙◌}
 use Rattle.std.proofs.Common.{subst, arith, append_assoc}
 use Rattle.std.specs.Prelude.{slice_get, IsNone, IsSome}
 use Rattle.std.specs.List.{AllByRecursion}
@@ -30,7 +31,8 @@ use Rattle.alma_ir.proofs.Each.{each_of_front, each_of_back, each_of_append}
 use Rattle.alma_lower_templates.specs.Lined.{Lined, own}
 use Rattle.alma_lower_templates.specs.Tables.{Tables, range_number, text_number}
 use Rattle.alma_lower_templates.specs.Pieces.{condition, guarded, chosen, first_of_two, truth_code, fit_code, neg_code, op_code, cmp_code}
-use Rattle.alma_lower_templates.specs.Pieces.{unequal_code, opposite_code, write_code, read_code, case_arm, passed_over, has_dead, behind_labels}
+use Rattle.alma_lower_templates.specs.Pieces.{unequal_code, opposite_code, write_code, read_code, case_arm, passed_over, has_dead}
+use Rattle.alma_lower_templates.specs.Pieces.{behind_labels}
 use Rattle.alma_lower_templates.specs.Pieces.{begin_loop, for_turns, some_turns, turn_code, each_body}
 use Rattle.alma_lower_templates.specs.Slots.{bare, bare_desig, stays, stays_in, unless_bare, is_simple, is_turned, by_turn, mark_slots}
 use Rattle.alma_lower_templates.specs.Slots.{handed_slots}
@@ -44,7 +46,8 @@ use Rattle.alma_lower_templates.specs.Templates.{char_range, own_slot, slot_or, 
 use Rattle.alma_lower_templates.specs.Templates.{call_link_code, arguments_from, call_code, set_code, load_code, count_at, count_code}
 use Rattle.alma_lower_templates.specs.Templates.{fit_result, stmts_code, stmt_code, if_code, arms_code, for_code, some_code, dead_code}
 use Rattle.alma_lower_templates.specs.Templates.{case_code, cases_code, else_code, either_code, branches_code, test_code, and_code, or_code}
-use Rattle.alma_lower_templates.specs.Templates.{operands_code, jump_code, back_code, expr_code, links_code, args_code, arg_code, desig_code}
+use Rattle.alma_lower_templates.specs.Templates.{operands_code, jump_code, back_code, expr_code, links_code, args_code, arg_code}
+use Rattle.alma_lower_templates.specs.Templates.{desig_code}
 use Rattle.alma_lower_templates.specs.Templates.{sels_code, sel_code, held_at, set_to}
 use Rattle.alma_lower_templates.specs.CodeOf.{HoldsChecked}
 use Rattle.alma_lower_templates.specs.Compiled.{is_function}
@@ -248,7 +251,8 @@ module _ (p : Program) (tables : Tables) (code : PlainCode) (checked : IsChecked
   -- ---- WHILE
 
   -- the opposite of a comparison needs what the comparison does
-  back_needs : (how : Cmp) (line to first other top : ℕ) → IsInside code r top → pieces.AllNeed code r (own line (cmp_code how to first other))
+  back_needs : (how : Cmp) (line to first other top : ℕ) → IsInside code r top
+      → pieces.AllNeed code r (own line (cmp_code how to first other))
       → pieces.AllNeed code r (own line (opposite_code how to first other ∷ I.JumpZero to top ∷ []))
   back_needs cmp.Equal line to first other top out h = (h.0, ((h.0.0, out), tt))
   back_needs cmp.Unequal line to first other top out h = (h.0, ((h.0.0, out), tt))
@@ -272,7 +276,8 @@ module _ (p : Program) (tables : Tables) (code : PlainCode) (checked : IsChecked
   turned_fits : (line at lo top : ℕ) (e : Expr) → IsInside code r top → Turned (Value e)
       → Here at (unless_bare (bare e) (expr_code p tables r line at lo e)) → Here at (back_code p tables r line at lo top (Value e))
   turned_fits line at lo top e out (compares_two how x y is opposite simple) =
-      subst (λ z. Here at (unless_bare (bare z) (expr_code p tables r line at lo z)) → Here at (back_code p tables r line at lo top (Value z)))
+      subst (λ z. Here at (unless_bare (bare z) (expr_code p tables r line at lo z))
+      → Here at (back_code p tables r line at lo top (Value z)))
       (sym (same_value e (Compare how x y) is)) back
     where
       back : Here at (expr_code p tables r line at lo (Compare how x y))

@@ -24,7 +24,8 @@ use Rattle.alma_ir.specs.Tree.{MixPlace, a_desig, no_sels, more_sels, Field, Ind
 use Rattle.alma_lower_templates.specs.Lined.{Lined, own, leaving}
 use Rattle.alma_lower_templates.specs.Tables.{Tables, range_number, is_whole}
 use Rattle.alma_lower_templates.specs.Pieces.{condition, guarded, chosen, first_of_two, refused, fit_code, neg_code, op_code, cmp_code}
-use Rattle.alma_lower_templates.specs.Pieces.{unequal_code, opposite_code, write_code, read_code, case_arm, passed_over, has_dead, behind_labels}
+use Rattle.alma_lower_templates.specs.Pieces.{unequal_code, opposite_code, write_code, read_code, case_arm, passed_over, has_dead}
+use Rattle.alma_lower_templates.specs.Pieces.{behind_labels}
 use Rattle.alma_lower_templates.specs.Pieces.{labels_code, begin_loop, bounds_code, entry_code, chain_code, link_code, unless_whole}
 use Rattle.alma_lower_templates.specs.Pieces.{for_turns, some_turns, turn_code, each_body, forall_code, aim, straight}
 use Rattle.alma_lower_templates.specs.Slots.{shift_of, bare, bare_desig, stays, stays_in, unless_bare, is_simple, is_turned, handed_slots}
@@ -35,7 +36,8 @@ use Rattle.alma_lower_templates.specs.Templates.{char_range, own_slot, slot_or, 
 use Rattle.alma_lower_templates.specs.Templates.{behind_root, place_at, root_code, call_link_code, arguments_from, call_code, set_code}
 use Rattle.alma_lower_templates.specs.Templates.{load_code, count_at, count_code, fit_result, stmts_code, stmt_code, if_code, arms_code}
 use Rattle.alma_lower_templates.specs.Templates.{for_code, some_code, dead_code, case_code, cases_code, else_code, either_code}
-use Rattle.alma_lower_templates.specs.Templates.{branches_code, test_code, and_code, or_code, operands_code, jump_code, back_code, expr_code}
+use Rattle.alma_lower_templates.specs.Templates.{branches_code, test_code, and_code, or_code, operands_code, jump_code, back_code}
+use Rattle.alma_lower_templates.specs.Templates.{expr_code}
 use Rattle.alma_lower_templates.specs.Templates.{links_code, args_code, arg_code, desig_code, sels_code, sel_code, held_at, set_to}
 use Rattle.alma_lower_templates.proofs.First.{as_stays, as_stays_in}
 use Rattle.alma_lower_templates.proofs.Tested.{compared_code, Tested, tested, as_value, as_unequal}

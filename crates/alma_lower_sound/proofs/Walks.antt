@@ -23,7 +23,8 @@ use Rattle.alma_lower_templates.proofs.Turned.{Turned, compares_two, turned, whi
 use Rattle.alma_lower_templates.specs.Lined.{Lined, own, leaving, line_from, lines_from}
 use Rattle.alma_lower_templates.specs.Tables.{Tables, range_number, text_number}
 use Rattle.alma_lower_templates.specs.Pieces.{condition, guarded, chosen, first_of_two, refused, fit_code, neg_code, op_code, cmp_code}
-use Rattle.alma_lower_templates.specs.Pieces.{unequal_code, opposite_code, write_code, read_code, case_arm, passed_over, has_dead, behind_labels}
+use Rattle.alma_lower_templates.specs.Pieces.{unequal_code, opposite_code, write_code, read_code, case_arm, passed_over, has_dead}
+use Rattle.alma_lower_templates.specs.Pieces.{behind_labels}
 use Rattle.alma_lower_templates.specs.Pieces.{labels_code, begin_loop, bounds_code, for_turns, some_turns, turn_code, each_body}
 use Rattle.alma_lower_templates.specs.Pieces.{forall_code, straight}
 use Rattle.alma_lower_templates.specs.Slots.{bare, bare_desig, stays, stays_in, unless_bare, is_simple, is_turned, handed_slots, arg_slots}
@@ -359,7 +360,8 @@ module _ (p : Program) (tables : Tables) (r : ℕ) where
   while_round : (behind : Bool) (line at lo : ℕ) (t : Test) (body : Stmts) (m n : ℕ) → is_turned t ≡ behind
       → ((none : ℕ) → round line (jump_code p tables r line (at + 1) lo none t) ≤ m)
       → ((at lo : ℕ) → round line (test_code p tables r line at lo t) ≤ m)
-      → ((at lo : ℕ) → round line (stmts_code p tables r at lo body) ≤ n) → round line (while_code p tables r behind line at lo t body) ≤ m + n
+      → ((at lo : ℕ) → round line (stmts_code p tables r at lo body) ≤ n)
+      → round line (while_code p tables r behind line at lo t body) ≤ m + n
   while_round true line at lo t body m n e j f g =
       let inner : List Lined = stmts_code p tables r (at + 1) lo body in
       let top : ℕ = at + 1 + length inner in
