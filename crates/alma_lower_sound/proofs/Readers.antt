@@ -24,11 +24,13 @@ use Rattle.alma_ir.specs.Tree.{MixPlace, a_desig, no_sels, more_sels, Field, Ind
 use Rattle.alma_lower_templates.specs.Lined.{Lined, own, leaving}
 use Rattle.alma_lower_templates.specs.Tables.{Tables, range_number, is_whole}
 use Rattle.alma_lower_templates.specs.Pieces.{condition, guarded, chosen, first_of_two, refused, fit_code, neg_code, op_code, cmp_code}
-use Rattle.alma_lower_templates.specs.Pieces.{unequal_code, write_code, read_code, case_arm, passed_over, has_dead, behind_labels}
+use Rattle.alma_lower_templates.specs.Pieces.{unequal_code, opposite_code, write_code, read_code, case_arm, passed_over, has_dead}
+use Rattle.alma_lower_templates.specs.Pieces.{behind_labels}
 use Rattle.alma_lower_templates.specs.Pieces.{labels_code, begin_loop, bounds_code, entry_code, chain_code, link_code, unless_whole}
 use Rattle.alma_lower_templates.specs.Pieces.{for_turns, some_turns, turn_code, each_body, forall_code, aim, straight}
 use Rattle.alma_lower_templates.specs.Pieces.{count_from, unless_constant, limit_code}
-use Rattle.alma_lower_templates.specs.Slots.{shift_of, bare, bare_desig, stays, stays_in, unless_bare, is_simple, handed_slots, arg_slots}
+use Rattle.alma_lower_templates.specs.Slots.{shift_of, bare, bare_desig, stays, stays_in, unless_bare, is_simple, is_turned, handed_slots}
+use Rattle.alma_lower_templates.specs.Slots.{arg_slots}
 use Rattle.alma_lower_templates.specs.Slots.{behind_expr, behind_dead, behind_value, behind_desig, behind_target, behind_variable}
 use Rattle.alma_lower_templates.specs.Slots.{behind_test, behind_stmts, behind_stmt, behind_condition, own_place, own_root, goes_straight}
 use Rattle.alma_lower_templates.specs.Slots.{constant, ends_alone}
@@ -36,10 +38,12 @@ use Rattle.alma_lower_templates.specs.Templates.{char_range, own_slot, slot_or, 
 use Rattle.alma_lower_templates.specs.Templates.{behind_root, place_at, root_code, call_link_code, arguments_from, call_code, set_code}
 use Rattle.alma_lower_templates.specs.Templates.{load_code, count_at, count_code, fit_result, stmts_code, stmt_code, if_code, arms_code}
 use Rattle.alma_lower_templates.specs.Templates.{for_code, some_code, dead_code, case_code, cases_code, else_code, either_code}
-use Rattle.alma_lower_templates.specs.Templates.{branches_code, test_code, and_code, or_code, operands_code, jump_code, expr_code}
+use Rattle.alma_lower_templates.specs.Templates.{branches_code, test_code, and_code, or_code, operands_code, jump_code, back_code}
+use Rattle.alma_lower_templates.specs.Templates.{expr_code}
 use Rattle.alma_lower_templates.specs.Templates.{links_code, args_code, arg_code, desig_code, sels_code, sel_code, held_at, set_to}
 use Rattle.alma_lower_templates.proofs.First.{as_stays, as_stays_in}
 use Rattle.alma_lower_templates.proofs.Tested.{compared_code, Tested, tested, as_value, as_unequal}
+use Rattle.alma_lower_templates.proofs.Turned.{Turned, compares_two, turned, while_code}
 use Rattle.alma_code.specs.Reads.{is_read}
 
 -- ---- READs of phrases
@@ -207,6 +211,14 @@ cmp_quiet cmp.Less to first other line = refl
 cmp_quiet cmp.LessEq to first other line = refl
 cmp_quiet cmp.Greater to first other line = refl
 cmp_quiet cmp.GreaterEq to first other line = refl
+
+opposite_quiet : (how : Cmp) (to first other top : ℕ) → Quiet (opposite_code how to first other ∷ I.JumpZero to top ∷ [])
+opposite_quiet cmp.Equal to first other top line = refl
+opposite_quiet cmp.Unequal to first other top line = refl
+opposite_quiet cmp.Less to first other top line = refl
+opposite_quiet cmp.LessEq to first other top line = refl
+opposite_quiet cmp.Greater to first other top line = refl
+opposite_quiet cmp.GreaterEq to first other top line = refl
 
 neg_quiet : (negated : Bool) (to : ℕ) → Quiet (neg_code negated to)
 neg_quiet true to line = refl
@@ -539,6 +551,48 @@ module _ (p : Program) (tables : Tables) (r : ℕ) where
           ∙ then_own line (unless_bare (bare e) (expr_code p tables r line at lo e)) (I.Check (value_at p tables r lo e) ∷ []) (λ l. refl)
       by (as_unequal x y same) = subst (λ z. reads (test_code p tables r line at lo (Value z)) ≡ reads
           (unless_bare (bare z) (expr_code p tables r line at lo z))) (sym same) (differ x y)
+
+  -- a comparison that goes back reads where the test of it does
+  back_same : (line at lo top : ℕ) (t : Test) → is_turned t ≡ true
+      → reads (back_code p tables r line at lo top t) ≡ reads (test_code p tables r line at lo t)
+  back_same line at lo top t e = by (turned t e)
+    where
+      by : Turned t → reads (back_code p tables r line at lo top t) ≡ reads (test_code p tables r line at lo t)
+      by (compares_two how x y is opposite simple) =
+          let operand : ℕ = value_at p tables r (behind_expr p r lo x) y in
+          let operands : List Lined = compared_code p tables r line at lo x y in
+          let first : ℕ = slot_or p tables r (stays x y) lo in
+          subst (λ u. reads (back_code p tables r line at lo top u) ≡ reads (test_code p tables r line at lo u)) (sym is)
+          (then_own line operands (opposite_code how lo first operand ∷ I.JumpZero lo top ∷ []) (opposite_quiet how lo first operand top)
+          ∙ sym (then_own line operands (cmp_code how lo first operand) (cmp_quiet how lo first operand))
+          ∙ sym (value_same line at lo (Compare how x y)))
+
+  while_same : (behind : Bool) (line at lo : ℕ) (t : Test) (body : Stmts) (m n : ℕ) → is_turned t ≡ behind
+      → ((none : ℕ) → is_simple t ≡ true → reads (jump_code p tables r line (at + 1) lo none t) ≡ m)
+      → ((at lo : ℕ) → reads (test_code p tables r line at lo t) ≡ m) → ((at lo : ℕ) → reads (stmts_code p tables r at lo body) ≡ n)
+      → reads (while_code p tables r behind line at lo t body) ≡ m + n
+  while_same true line at lo t body m n e j f g =
+      let inner : List Lined = stmts_code p tables r (at + 1) lo body in
+      let top : ℕ = at + 1 + length inner in
+      let lo2 : ℕ = behind_stmts p r lo body in
+      let last : List Lined = back_code p tables r line top lo2 (at + 1) t in
+      omega (
+        arith,
+        own_then line (I.Jump top ∷ []) (inner ++ last) (λ l. refl),
+        both inner last,
+        back_same line top lo2 (at + 1) t e,
+        f top lo2,
+        g (at + 1) lo,
+      )
+  while_same false line at lo t body m n e j f g =
+      let lo2 : ℕ = behind_condition p r lo t in
+      let inner : List Lined = guarded_code line (at + 1) lo 1 t (λ next. stmts_code p tables r next lo2 body) in
+      omega (
+        arith,
+        asked line (at + 1) lo 1 t (λ next. stmts_code p tables r next lo2 body) m n j f (λ next. g next lo2),
+        own_then line (I.Jump (at + 1) ∷ []) (inner ++ own line (I.Jump (at + 1) ∷ [])) (λ l. refl),
+        then_own line inner (I.Jump (at + 1) ∷ []) (λ l. refl),
+      )
 
   mutual
     desig_same : (line at lo : ℕ) (x : Desig) → reads (desig_code p tables r line at lo x) ≡ desig_reads x
@@ -900,16 +954,9 @@ module _ (p : Program) (tables : Tables) (r : ℕ) where
         (λ next la. stmts_same next la rest) in
         omega (arith, z)
     stmt_same line at lo (While t body) =
-        let lo2 : ℕ = behind_condition p r lo t in
-        let inner : List Lined = guarded_code line (at + 1) lo 1 t (λ next. stmts_code p tables r next lo2 body) in
-        let z = asked line (at + 1) lo 1 t (λ next. stmts_code p tables r next lo2 body) (test_reads t) (stmts_reads body)
-        (λ none. jump_same line (at + 1) lo none t) (λ at lo. test_same line at lo t) (λ next. stmts_same next lo2 body) in
-        omega (
-          arith,
-          z,
-          own_then line (I.Jump (at + 1) ∷ []) (inner ++ own line (I.Jump (at + 1) ∷ [])) (λ l. refl),
-          then_own line inner (I.Jump (at + 1) ∷ []) (λ l. refl),
-        )
+        let z = while_same (is_turned t) line at lo t body (test_reads t) (stmts_reads body) refl
+        (λ none. jump_same line (at + 1) lo none t) (λ at lo. test_same line at lo t) (λ next lo. stmts_same next lo body) in
+        omega (arith, z)
     stmt_same line at lo (Repeat body t) =
         let lo2 : ℕ = behind_stmts p r lo body in
         let one : List Lined = stmts_code p tables r at lo body in

@@ -19,13 +19,15 @@ use Rattle.alma_ir.specs.Tree.{MixPlace, a_desig, no_sels, more_sels, Field, Ind
 use Rattle.alma_ir.specs.Count.{stmts_nodes, stmt_nodes, arms_nodes, cases_nodes, else_nodes, branches_nodes, loop_nodes, test_nodes}
 use Rattle.alma_ir.specs.Count.{tests_nodes, expr_nodes, links_nodes, args_nodes, arg_nodes, desig_nodes, sels_nodes, sel_nodes}
 use Rattle.alma_lower_templates.proofs.Tested.{compared_code, Tested, tested, as_value, as_unequal}
+use Rattle.alma_lower_templates.proofs.Turned.{Turned, compares_two, turned, while_code}
 use Rattle.alma_lower_templates.specs.Lined.{Lined, own, leaving, line_from, lines_from}
 use Rattle.alma_lower_templates.specs.Tables.{Tables, range_number, text_number}
 use Rattle.alma_lower_templates.specs.Pieces.{condition, guarded, chosen, first_of_two, refused, fit_code, neg_code, op_code, cmp_code}
-use Rattle.alma_lower_templates.specs.Pieces.{unequal_code, write_code, read_code, case_arm, passed_over, has_dead, behind_labels}
+use Rattle.alma_lower_templates.specs.Pieces.{unequal_code, opposite_code, write_code, read_code, case_arm, passed_over, has_dead}
+use Rattle.alma_lower_templates.specs.Pieces.{behind_labels}
 use Rattle.alma_lower_templates.specs.Pieces.{labels_code, begin_loop, bounds_code, for_turns, some_turns, turn_code, each_body}
 use Rattle.alma_lower_templates.specs.Pieces.{forall_code, straight, count_from, unless_constant, limit_code}
-use Rattle.alma_lower_templates.specs.Slots.{bare, bare_desig, stays, stays_in, unless_bare, is_simple, handed_slots, arg_slots}
+use Rattle.alma_lower_templates.specs.Slots.{bare, bare_desig, stays, stays_in, unless_bare, is_simple, is_turned, handed_slots, arg_slots}
 use Rattle.alma_lower_templates.specs.Slots.{behind_expr, behind_dead, behind_value, behind_desig, behind_target, behind_variable}
 use Rattle.alma_lower_templates.specs.Slots.{behind_test, behind_stmts, behind_stmt, behind_condition, own_place, own_root, goes_straight}
 use Rattle.alma_lower_templates.specs.Slots.{constant, ends_alone}
@@ -34,7 +36,7 @@ use Rattle.alma_lower_templates.specs.Templates.{call_link_code, arguments_from,
 use Rattle.alma_lower_templates.specs.Templates.{fit_result, stmts_code, stmt_code, if_code, arms_code, for_code, some_code, dead_code}
 use Rattle.alma_lower_templates.specs.Templates.{case_code, cases_code, else_code, either_code, branches_code, test_code, and_code, or_code}
 use Rattle.alma_lower_templates.specs.Templates.{operands_code, jump_code, expr_code, links_code, args_code, arg_code, desig_code}
-use Rattle.alma_lower_templates.specs.Templates.{sels_code, sel_code, held_at, set_to}
+use Rattle.alma_lower_templates.specs.Templates.{sels_code, sel_code, held_at, set_to, back_code}
 
 -- ---- walks
 
@@ -362,6 +364,48 @@ module _ (p : Program) (tables : Tables) (r : ℕ) where
           ∙ ends_alike line line (unless_bare (bare e) (expr_code p tables r line at lo e)) (I.Check (value_at p tables r lo e) ∷ [])
       by (as_unequal x y same) = subst (λ z. round line (test_code p tables r line at lo (Value z)) ≡ round line
           (unless_bare (bare z) (expr_code p tables r line at lo z))) (sym same) (differ x y)
+
+  -- a comparison that goes back goes over the lines of the test of it
+  back_round : (line at lo top : ℕ) (t : Test) → is_turned t ≡ true
+      → round line (back_code p tables r line at lo top t) ≡ round line (test_code p tables r line at lo t)
+  back_round line at lo top t e = by (turned t e)
+    where
+      by : Turned t → round line (back_code p tables r line at lo top t) ≡ round line (test_code p tables r line at lo t)
+      by (compares_two how x y is opposite simple) =
+          let operand : ℕ = value_at p tables r (behind_expr p r lo x) y in
+          let operands : List Lined = compared_code p tables r line at lo x y in
+          let first : ℕ = slot_or p tables r (stays x y) lo in
+          subst (λ u. round line (back_code p tables r line at lo top u) ≡ round line (test_code p tables r line at lo u)) (sym is)
+          (ends_alike line line operands (opposite_code how lo first operand ∷ I.JumpZero lo top ∷ [])
+          ∙ sym (ends_alike line line operands (cmp_code how lo first operand)) ∙ sym (value_round line at lo (Compare how x y)))
+
+  while_round : (behind : Bool) (line at lo : ℕ) (t : Test) (body : Stmts) (m n : ℕ) → is_turned t ≡ behind
+      → ((none : ℕ) → round line (jump_code p tables r line (at + 1) lo none t) ≤ m)
+      → ((at lo : ℕ) → round line (test_code p tables r line at lo t) ≤ m)
+      → ((at lo : ℕ) → round line (stmts_code p tables r at lo body) ≤ n)
+      → round line (while_code p tables r behind line at lo t body) ≤ m + n
+  while_round true line at lo t body m n e j f g =
+      let inner : List Lined = stmts_code p tables r (at + 1) lo body in
+      let top : ℕ = at + 1 + length inner in
+      let lo2 : ℕ = behind_stmts p r lo body in
+      let last : List Lined = back_code p tables r line top lo2 (at + 1) t in
+      omega (
+        arith,
+        own_then line (I.Jump top ∷ []) (inner ++ last),
+        both line inner last,
+        back_round line top lo2 (at + 1) t e,
+        f top lo2,
+        g (at + 1) lo,
+      )
+  while_round false line at lo t body m n e j f g =
+      let lo2 : ℕ = behind_condition p r lo t in
+      let inner : List Lined = guarded_code line (at + 1) lo 1 t (λ next. stmts_code p tables r next lo2 body) in
+      omega (
+        arith,
+        asked line (at + 1) lo 1 t (λ next. stmts_code p tables r next lo2 body) m n j f (λ next. g next lo2),
+        own_then line (I.Jump (at + 1) ∷ []) (inner ++ own line (I.Jump (at + 1) ∷ [])),
+        then_own line inner (I.Jump (at + 1) ∷ []),
+      )
 
   mutual
     desig_round : (line at lo : ℕ) (x : Desig) → round line (desig_code p tables r line at lo x) ≤ 2 * desig_nodes x
@@ -722,16 +766,9 @@ module _ (p : Program) (tables : Tables) (r : ℕ) where
         (λ next la. stmts_round line next la rest) in
         omega (arith, z)
     stmt_round line at lo (While t body) =
-        let lo2 : ℕ = behind_condition p r lo t in
-        let inner : List Lined = guarded_code line (at + 1) lo 1 t (λ next. stmts_code p tables r next lo2 body) in
-        let z = asked line (at + 1) lo 1 t (λ next. stmts_code p tables r next lo2 body) (2 * test_nodes t) (2 * stmts_nodes body)
-        (λ none. jump_round line (at + 1) lo none t) (λ at lo. test_round line at lo t) (λ next. stmts_round line next lo2 body) in
-        omega (
-          arith,
-          z,
-          own_then line (I.Jump (at + 1) ∷ []) (inner ++ own line (I.Jump (at + 1) ∷ [])),
-          then_own line inner (I.Jump (at + 1) ∷ []),
-        )
+        let z = while_round (is_turned t) line at lo t body (2 * test_nodes t) (2 * stmts_nodes body) refl
+        (λ none. jump_round line (at + 1) lo none t) (λ at lo. test_round line at lo t) (λ next lo. stmts_round line next lo body) in
+        omega (arith, z)
     stmt_round line at lo (Repeat body t) =
         let lo2 : ℕ = behind_stmts p r lo body in
         let one : List Lined = stmts_code p tables r at lo body in

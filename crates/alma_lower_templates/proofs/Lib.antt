@@ -24,6 +24,7 @@ pub mod RangeChecks
 pub mod StmtForms
 pub mod SimpleOne
 pub mod Conditions
+pub mod Turned
 pub mod BarrierForms
 pub mod GuardedForms
 pub mod LoopForms

@@ -34,6 +34,15 @@ cmp_code cmp.LessEq to first other = I.LessEq to first other ∷ []
 cmp_code cmp.Greater to first other = I.Less to other first ∷ []
 cmp_code cmp.GreaterEq to first other = I.LessEq to other first ∷ []
 
+-- 0 goes into the slot `to` where that is said of the first value and the other; not asked of equality, whose opposite takes one more
+abbrev pub opposite_code : Cmp → (to first other : ℕ) → Instr
+opposite_code cmp.Equal to first other = I.Equal to first other
+opposite_code cmp.Unequal to first other = I.Equal to first other
+opposite_code cmp.Less to first other = I.LessEq to other first
+opposite_code cmp.LessEq to first other = I.Less to other first
+opposite_code cmp.Greater to first other = I.LessEq to first other
+opposite_code cmp.GreaterEq to first other = I.Less to first other
+
 -- the end of a test of inequality, at an address: it fails where the numbers are equal, and else goes over the failure
 abbrev pub unequal_code : (to first other at : ℕ) → List Instr
 unequal_code to first other at = I.Equal to first other ∷ I.JumpZero to (at + 3) ∷ I.Fail ∷ []
@@ -149,6 +158,11 @@ abbrev pub forall_code : (line at mark : ℕ) → (parts : List Lined) → List 
 forall_code line at mark parts = begin_forall line mark (at + length parts) ++ (parts ++ end_forall line)
 
 -- ---- loops
+
+-- WHILE whose condition stands behind its body: the first jump leads there, and while the condition holds its end leads back to the body
+abbrev pub turned_loop : (line at : ℕ) → (body : List Lined) → (condition : (at : ℕ) → List Lined) → List Lined
+turned_loop line at body condition =
+    own line (I.Jump (at + 1 + length body) ∷ []) ++ (body ++ condition (at + 1 + length body))
 
 -- the first count goes to its slot: a constant itself, and another value from where it stands
 abbrev pub count_from : (constant : Option ℤ) → (counter first : ℕ) → Instr

@@ -21,11 +21,12 @@ use Rattle.alma_lower_templates.specs.Tables.{Tables, range_number, text_number}
 use Rattle.alma_lower_templates.specs.Slots.{shift_of, bare_desig, bare, stays, stays_in, unless_bare, goes_straight, own_place, own_root}
 use Rattle.alma_lower_templates.specs.Slots.{is_simple, handed_slots, call_links, root_slots, arg_slots, behind_stmts, behind_stmt}
 use Rattle.alma_lower_templates.specs.Slots.{behind_test, behind_condition, behind_expr, behind_dead, behind_value, behind_desig}
-use Rattle.alma_lower_templates.specs.Slots.{behind_target, behind_variable, own_kinds, constant, ends_alone}
+use Rattle.alma_lower_templates.specs.Slots.{behind_target, behind_variable, own_kinds, is_turned, by_turn, constant, ends_alone}
 use Rattle.alma_lower_templates.specs.Pieces.{op_code, cmp_code, unequal_code, straight, neg_code, write_code, read_code, fit_code}
 use Rattle.alma_lower_templates.specs.Pieces.{link_code, condition, guarded, chosen, first_of_two, refused, truth_code, each_body}
 use Rattle.alma_lower_templates.specs.Pieces.{forall_code, begin_loop, turn_code, for_turns, some_turns, behind_labels, case_arm}
-use Rattle.alma_lower_templates.specs.Pieces.{passed_over, has_dead, first_argument, unless_constant, limit_code}
+use Rattle.alma_lower_templates.specs.Pieces.{passed_over, has_dead, first_argument, turned_loop, opposite_code, unless_constant}
+use Rattle.alma_lower_templates.specs.Pieces.{limit_code}
 
 -- the numbers of CHAR
 abbrev pub char_range : Range
@@ -169,11 +170,13 @@ module _ (p : Program) (tables : Tables) (r : ℕ) where
     stmt_code line at lo (If arms rest) = if_code line at lo arms (λ next lo. stmts_code next lo rest)
     -- the first jump is the one step before the first condition
     stmt_code line at lo (While t body) =
-        own line (I.Jump (at + 1) ∷ [])
+        by_turn (is_turned t)
+        (turned_loop line at (stmts_code (at + 1) lo body) (λ next. back_code line next (behind_stmts p r lo body) (at + 1) t))
+        (own line (I.Jump (at + 1) ∷ [])
         ++ (guarded (at + 1) 1 (λ none. condition (is_simple t) line (at + 1) lo none (λ at lo none. jump_code line at lo none t)
         (λ at lo. test_code line at lo t))
         (λ next. stmts_code next (behind_condition p r lo t) body)
-        ++ own line (I.Jump (at + 1) ∷ []))
+        ++ own line (I.Jump (at + 1) ∷ [])))
     stmt_code line at lo (Repeat body t) =
         in_row at (stmts_code at lo body) (λ next. condition (is_simple t) line next (behind_stmts p r lo body)
         at (λ at lo none. jump_code line at lo none t) (λ at lo. test_code line at lo t))
@@ -342,6 +345,14 @@ module _ (p : Program) (tables : Tables) (r : ℕ) where
     pub jump_code : (line at lo none : ℕ) → Test → List Lined
     jump_code line at lo none (Value e) = unless_bare (bare e) (expr_code line at lo e) ++ own line (I.JumpZero (value_at lo e) none ∷ [])
     jump_code line at lo none _ = []
+
+    -- a comparison goes to `top` while it holds
+    pub back_code : (line at lo top : ℕ) → Test → List Lined
+    back_code line at lo top (Value (Compare how x y)) =
+        in_row at (unless_bare (stays x y) (expr_code line at lo x))
+        (λ next. unless_bare (bare y) (expr_code line next (behind_expr p r lo x) y))
+        ++ own line (opposite_code how lo (slot_or (stays x y) lo) (value_at (behind_expr p r lo x) y) ∷ I.JumpZero lo top ∷ [])
+    back_code line at lo top _ = []
 
     -- the value goes into the slot `lo`
     pub expr_code : (line at lo : ℕ) → Expr → List Lined
