@@ -134,7 +134,7 @@ place_put v f n k i x q lt there e = by (cases_eq k f) (cases_eq i n)
         sym is ∙ moved
 
 -- and no frame becomes longer
-put_long : (v : Store) (f n k : ℕ) (c : store.Cell) → f < length v
+pub put_long : (v : Store) (f n k : ℕ) (c : store.Cell) → f < length v
     → length (get_or (put v f n c) k store.no_frame).cells ≡ length (get_or v k store.no_frame).cells
 put_long v f n k c lt = ap (λ z. length (get_or z k store.no_frame).cells) (put_is v f n c lt) ∙ by (cases_eq k f)
   where

@@ -19,7 +19,7 @@ use Rattle.alma_lower_implements.proofs.Address.{at_address}
 use Rattle.alma_lower_implements.proofs.Frames.{IsAt}
 use Rattle.alma_lower_implements.proofs.Steps.{InstrAt, top_written, Holds, HasKind, less_step, zero_jumps, other_goes_on, add_does}
 use Rattle.alma_lower_implements.proofs.Steps.{fits_step}
-use Rattle.alma_lower_implements.proofs.ChoiceSteps.{branch_entry, choose_step, pop_step, jumps}
+use Rattle.alma_lower_implements.proofs.ChoiceSteps.{branch_entry, choose_step, pop_step}
 use Rattle.alma_lower_implements.proofs.Ways.{Ways, Leaves, Later, Visited}
 
 -- a number is below another where the next one is not beyond it
@@ -48,7 +48,7 @@ module _ (code : PlainCode) (input : List ℕ) where
       → q ≤ suc u
       → InstrAt code input line top (I.Less more counter limit) → InstrAt code input line (top + 1) (I.JumpZero more (top + 3))
       → InstrAt code input line (top + 2) (I.Choose retry)
-      → InstrAt code input line retry (I.Add counter counter step) → InstrAt code input line (retry + 1) (I.Jump top)
+      → InstrAt code input line retry (I.Add counter counter step) → retry + 1 ≡ top
       → HoldsTurn counter limit step more n l now → (int_lt n l ≡ true → is_integer (n +ℤ pos 1) ≡ true)
       → top_cell v own_counter ≡ Number n → top_cell v own_limit ≡ Number l
       -- the variable is set, and the body runs
@@ -108,9 +108,8 @@ module _ (code : PlainCode) (input : List ℕ) where
           let z = fits_step code input line retry now1 base2 y.to y.is counter (n +ℤ pos 1) (holds.kind' (pos 1)) (fits e)
           (add_does code input line retry now1 base2 y.to y.is counter counter step n (pos 1) add (holds.count' (pos 1))
           (holds.by_one (pos 1))) in
-          let t = jumps code input line (retry + 1) top (top_written now1 counter (cell.Int (n +ℤ pos 1))) base2 z.to z.is back in
-          later e 3 (q - 3) (omega arith) (omega (arith, owes)) base2 x t.to
-          (and_then code input (and_then code input y.silently z.silently) t.silently) t.is)))
+          later e 2 (q - 3) (omega arith) (omega (arith, owes)) base2 x z.to (and_then code input y.silently z.silently)
+          (at_address (retry + 1) top (top_written now1 counter (cell.Int (n +ℤ pos 1))) base2 z.to back z.is))))
       by false e =
           let now0 : List PlainFrame = top_written now more (cell.Int (pos 0)) in
           let a = less_step code input line top now held s is more counter limit n l less holds.kind holds.count holds.last in

@@ -1,9 +1,9 @@
 -- Conditions of every form, and the loops and the arms that they decide.
 use Rattle.std.proofs.Common.{ℕ, suc, ◌+◌, ◌-◌, ◌≤◌, List, length, arith, ℤ, Option, refl, sym, subst, ◌≡◌, [], ◌∷◌, ◌++◌, ◌∙◌, ap}
-use Rattle.std.proofs.Common.{append-nil, Bool, true, false}
+use Rattle.std.proofs.Common.{append-nil, Bool, true, false, not}
 use Rattle.std.proofs.lemmas.List.{length-append}
 use Rattle.alma_base.specs.Choice.{if_true}
-use Rattle.alma_base.specs.Numbers.{is_zero}
+use Rattle.alma_base.specs.Numbers.{is_zero, bit}
 use Rattle.alma_code.specs.declared.cell.Cell.TheVariants as cell
 use Rattle.alma_code.specs.declared.cell.SlotKind.TheVariants as slot
 use Rattle.alma_code.specs.declared.instr.Instr.TheVariants as I
@@ -14,8 +14,8 @@ use Rattle.alma_mean.specs.Store.{Store}
 use Rattle.alma_mean.specs.Events.{Events, NoYield, Flow, Go, one, bind, visit_each, on_first, Fail, join, node}
 use Rattle.alma_lower_implements.proofs.Goes.{Goes, before, no_step, weaker, bind_goes, one_goes, like_self, and_then}
 use Rattle.alma_lower_implements.proofs.Frames.{IsAt}
-use Rattle.alma_lower_implements.proofs.Steps.{InstrAt, top_written, HasKind, Holds, zero_jumps, other_goes_on}
-use Rattle.alma_lower_implements.proofs.ChoiceSteps.{jumps}
+use Rattle.alma_lower_implements.proofs.Steps.{InstrAt, Moves, top_written, HasKind, Holds, zero_jumps, other_goes_on}
+use Rattle.alma_lower_implements.proofs.Numbers.{zero_bit}
 use Rattle.alma_lower_implements.proofs.Simple.{GivesOne, on_visit, on_one, at_fault, at_cut}
 use Rattle.alma_lower_implements.proofs.Ways.{Ways, Leaves, Runs, Later, Visited, LeadsTo, Behind}
 use Rattle.alma_lower_implements.proofs.EitherRow.{inner_goes}
@@ -56,11 +56,11 @@ module _ (code : PlainCode) (input : List ℕ) where
       (λ t there. on_none t (record { mode = there.mode; here = there.here; frames = refl; entries = there.entries })
       (subst none_ok (sym there.frames) (is_none (length held))))
 
-  -- WHILE: a turn from behind the first jump
+  -- WHILE: a turn from its condition on, to which the body leads back
   pub while_row : (line top m y exit : ℕ) (now : List PlainFrame) (w : Ways NoYield) (v : Store) (cond : Events NoYield)
       (body again : Store → Events NoYield) (found_ok : Store → List PlainFrame → Type 0) (none_ok : List PlainFrame → Type 0)
       (wb : Store → List PlainFrame → Ways NoYield) (q u : ℕ) → q ≤ suc u
-      → Decides line top m exit now cond found_ok none_ok q → InstrAt code input line y (I.Jump top)
+      → Decides line top m exit now cond found_ok none_ok q → LeadsTo code input 1 y top
       → ((x : Store) (t : List PlainFrame) → found_ok x t → Runs code input line m y t (wb x t) (body x) (q - 1))
       → ((x : Store) (t : List PlainFrame) (z : Store) (t2 : List PlainFrame) → found_ok x t → (wb x t).goes z tt t2
       → Later code input line top exit t2 w (again z) u)
@@ -76,10 +76,9 @@ module _ (code : PlainCode) (input : List ℕ) where
       (weaker code input line 8 0 (Leaves y (wb x t.now)) held (body x) t 21 8 (q - 1) (q - 1) (omega arith) (omega arith)
       (runs x t.now ok 8 (omega arith) held t there))
       (λ z yield t2 base going left.
-      let j = jumps code input line y top t2.now base t2
-      (record { mode = going.mode; here = left.0; frames = refl; entries = going.entries }) back in
+      let j = back t2.now base t2 (record { mode = going.mode; here = left.0; frames = refl; entries = going.entries }) in
       weaker code input line 0 24 (Leaves exit w) base (again z) t2 8 0 (q - 1) (q - 1) (omega arith) (omega arith)
-      (later x t.now z t2.now ok left.1 1 (q - 1) (omega arith) (omega (arith, owes)) base t2 j.to j.silently j.is))
+      (later x t.now z t2.now ok left.1 j.0 (q - 1) (omega (arith, j.2)) (omega (arith, owes)) base t2 j.1 j.3 j.4))
       (λ z n t2 left. returns x t.now z n t2.at t2.now ok left))
       (λ t there ok. one_goes code input line 0 24 (Leaves exit w) held v tt t 13 (q - 1) (omega arith)
       (record { mode = there.mode; entries = there.entries }) (there.here, ends t.now ok))
@@ -122,13 +121,16 @@ module _ (code : PlainCode) (input : List ℕ) where
       (λ t there ok. weaker code input line 0 24 (Leaves exit w) held rest t 13 8 (q - 1) q (omega arith) (omega arith)
       (later t.now ok held t there))
 
-  -- a simple condition: the value of an expression that has one alternative at most, in the store on entry, is tested by a jump
-  module _ (line m none_at slot b : ℕ) (v : Store) (wv : Ways ℤ) (held : List PlainEntry) (q : ℕ)
-      (zero : InstrAt code input line m (I.JumpZero slot none_at))
-      (holds : (x : Store) (n : ℤ) (t : List PlainFrame) → wv.goes x n t → Holds t slot (cell.Int n))
+  -- a simple condition: the value of an expression that has one alternative at most, in the store on entry, is tested by a jump,
+  -- which leads on where it is 0 and where it is another number
+  module _ (line m found_at none_at b : ℕ) (v : Store) (wv : Ways ℤ) (held : List PlainEntry) (q : ℕ)
+      (zero : (n : ℤ) (t : State) (there : IsAt m t.now held t) → wv.goes v n t.now → is_zero n ≡ true
+      → Moves code input line m t.now held t there none_at)
+      (other : (n : ℤ) (t : State) (there : IsAt m t.now held t) → wv.goes v n t.now → is_zero n ≡ false
+      → Moves code input line m t.now held t there found_at)
       (B : Type 0) (left2 more2 : ℕ) (fits2 : Store → Flow B → State → Type 0) (found : Store → Flow NoYield → Events B)
       (none : Unit {0} → Events B) (c : ℕ)
-      (on_found : (t : State) (n : ℤ) → IsAt (m + 1) t.now held t → wv.goes v n t.now
+      (on_found : (t : State) (n : ℤ) → IsAt found_at t.now held t → wv.goes v n t.now
       → Goes code input line left2 more2 fits2 held (found v (Go tt)) t (b + c) (q - 1))
       (on_none : (t : State) (n : ℤ) → IsAt none_at t.now held t → wv.goes v n t.now
       → Goes code input line left2 more2 fits2 held (none tt) t c (q - 1)) where
@@ -166,30 +168,56 @@ module _ (code : PlainCode) (input : List ℕ) where
         by : (z : Bool) → is_zero n ≡ z → Goes code input line left2 more2 fits2 held
             (on_first (visit_each (join (if_true z (λ _. Fail) (λ _. one v tt)) Fail)) found none) s (r + x) d
         by true e =
-            let w = zero_jumps code input line m goes.1.now held goes.1 there slot none_at n zero (holds v n goes.1.now goes.6.1) e in
+            let w = zero n goes.1 there goes.6.1 e in
             before code input line left2 more2 fits2 held (none tt) s w.to (goes.0 + 1) (r + x) c d (q - 1)
             (and_then code input goes.3 w.silently) (omega (arith, goes.2, le)) (omega (arith, owes))
             (on_none w.to n (record { mode = w.is.mode; here = w.is.here; frames = refl; entries = w.is.entries })
             (subst (wv.goes v n) (sym w.is.frames) goes.6.1))
         by false e =
-            let w = other_goes_on code input line m goes.1.now held goes.1 there slot none_at n zero (holds v n goes.1.now goes.6.1) e in
+            let w = other n goes.1 there goes.6.1 e in
             before code input line left2 more2 fits2 held (found v (Go tt)) s w.to (goes.0 + 1) (r + x + 32) (b + c) d (q - 1)
             (and_then code input goes.3 w.silently) (omega (arith, goes.2, le)) (omega (arith, owes))
             (on_found w.to n (record { mode = w.is.mode; here = w.is.here; frames = refl; entries = w.is.entries })
             (subst (wv.goes v n) (sym w.is.frames) goes.6.1))
 
+  -- the slot holds its value, and the jump leads to where the code goes on with none
   pub simple_decides : (line at m none_at slot : ℕ) (now : List PlainFrame) (v : Store) (value : Events ℤ) (wv : Ways ℤ)
       (found_ok : Store → List PlainFrame → Type 0) (none_ok : List PlainFrame → Type 0) (q : ℕ)
       → GivesOne ℤ v value → Runs code input line at m now wv value q → InstrAt code input line m (I.JumpZero slot none_at)
       → ((x : Store) (n : ℤ) (t : List PlainFrame) → wv.goes x n t → Holds t slot (cell.Int n))
       → ((n : ℤ) (t : List PlainFrame) → wv.goes v n t → found_ok v t) → ((n : ℤ) (t : List PlainFrame) → wv.goes v n t → none_ok t)
       → Decides line at (m + 1) none_at now (node (bind value (λ t n. if_true (is_zero n) (λ _. Fail) (λ _. one t tt)))) found_ok none_ok q
-  simple_decides line at m none_at slot now v value wv found_ok none_ok q gives runs zero holds is_found is_none B left2 more2 fits2 found
+  simple_decides line at m none_at slot now v value wv found_ok none_ok q gives runs i holds is_found is_none B left2 more2 fits2 found
       none b c le held s is on_found on_none =
       weaker code input line left2 more2 fits2 held
       (on_first (visit_each (bind value (λ t n. if_true (is_zero n) (λ _. Fail) (λ _. one t tt)))) found none) s (3 + b + c + 32)
       (b + (c + 35)) q q (omega arith) (omega arith)
-      (value_decides line m none_at slot b v wv held q zero holds B left2 more2 fits2 found none c
+      (value_decides line m (m + 1) none_at b v wv held q
+      (λ n t there fit e. zero_jumps code input line m t.now held t there slot none_at n i (holds v n t.now fit) e)
+      (λ n t there fit e. other_goes_on code input line m t.now held t there slot none_at n i (holds v n t.now fit) e)
+      B left2 more2 fits2 found none c
+      (λ t n there fit. on_found v t there (is_found n t.now fit))
+      (λ t n there fit. on_none t there (is_none n t.now fit))
+      gives s b (c + 35) q (omega arith) (omega arith) (runs b le held s is))
+
+  -- the slot holds the opposite of its value, and the jump leads to where the code goes on with an alternative
+  pub turned_decides : (line at m found_at slot : ℕ) (now : List PlainFrame) (v : Store) (value : Events ℤ) (wv : Ways ℤ)
+      (found_ok : Store → List PlainFrame → Type 0) (none_ok : List PlainFrame → Type 0) (q : ℕ)
+      → GivesOne ℤ v value → Runs code input line at m now wv value q → InstrAt code input line m (I.JumpZero slot found_at)
+      → ((x : Store) (n : ℤ) (t : List PlainFrame) → wv.goes x n t → Holds t slot (cell.Int (bit (is_zero n))))
+      → ((n : ℤ) (t : List PlainFrame) → wv.goes v n t → found_ok v t) → ((n : ℤ) (t : List PlainFrame) → wv.goes v n t → none_ok t)
+      → Decides line at found_at (m + 1) now (node (bind value (λ t n. if_true (is_zero n) (λ _. Fail) (λ _. one t tt)))) found_ok none_ok q
+  turned_decides line at m found_at slot now v value wv found_ok none_ok q gives runs i holds is_found is_none B left2 more2 fits2 found
+      none b c le held s is on_found on_none =
+      weaker code input line left2 more2 fits2 held
+      (on_first (visit_each (bind value (λ t n. if_true (is_zero n) (λ _. Fail) (λ _. one t tt)))) found none) s (3 + b + c + 32)
+      (b + (c + 35)) q q (omega arith) (omega arith)
+      (value_decides line m found_at (m + 1) b v wv held q
+      (λ n t there fit e. other_goes_on code input line m t.now held t there slot found_at (bit (is_zero n)) i (holds v n t.now fit)
+      (zero_bit (is_zero n) ∙ ap not e))
+      (λ n t there fit e. zero_jumps code input line m t.now held t there slot found_at (bit (is_zero n)) i (holds v n t.now fit)
+      (zero_bit (is_zero n) ∙ ap not e))
+      B left2 more2 fits2 found none c
       (λ t n there fit. on_found v t there (is_found n t.now fit))
       (λ t n there fit. on_none t there (is_none n t.now fit))
       gives s b (c + 35) q (omega arith) (omega arith) (runs b le held s is))

@@ -30,6 +30,7 @@ use Rattle.alma_ir.specs.Checked.{IsChecked, RootExists, link_slots}
 use Rattle.alma_ir.proofs.Each.{each_of_front, each_of_back, each_of_append}
 use Rattle.alma_lower_templates.specs.Tables.{Tables}
 use Rattle.alma_lower_templates.specs.Slots.{shift_of, chain_slots, links_if, bare, bare_desig, unless_bare, is_simple, mark_slots}
+use Rattle.alma_lower_templates.specs.Slots.{is_turned, by_turn}
 use Rattle.alma_lower_templates.specs.Slots.{handed_slots, arg_kind, call_links, root_slots, stmts_slots, stmt_slots, arms_slots}
 use Rattle.alma_lower_templates.specs.Slots.{dead_slots, cases_slots, else_slots, branches_slots, for_slots, some_slots, test_slots}
 use Rattle.alma_lower_templates.specs.Slots.{and_slots, or_slots, expr_slots, links_slots, args_slots, arg_slots, desig_slots, sels_slots}
@@ -98,6 +99,12 @@ module _ (p : Program) where
   mark_named : (z : Bool) → AllNamed (mark_slots z)
   mark_named true = tt
   mark_named false = (tt, tt)
+
+  -- the slots of WHILE, wherever its condition stands
+  turn_named : (behind simple : Bool) (xs ys : List SlotKind) → AllNamed xs → AllNamed ys
+      → AllNamed (by_turn behind (ys ++ xs) (mark_slots simple ++ (xs ++ ys)))
+  turn_named true simple xs ys h k = both ys xs k h
+  turn_named false simple xs ys h k = both (mark_slots simple) (xs ++ ys) (mark_named simple) (both xs ys h k)
 
   arg_named : (a : Arg) → IsNamed (arg_kind a)
   arg_named (ByValue e range) = tt
@@ -275,9 +282,9 @@ module _ (p : Program) where
             (arms_named arms (fine_front (arms_phrases arms) (stmts_phrases rest) h.1))
             (stmts_named rest (fine_back (arms_phrases arms) (stmts_phrases rest) h.1))
         stmt_named (While t body) h =
-            both (mark_slots (is_simple t)) (test_slots p r t ++ stmts_slots p r body) (mark_named (is_simple t))
-            (both (test_slots p r t) (stmts_slots p r body) (test_named t (fine_front (test_phrases t) (stmts_phrases body) h.1))
-            (stmts_named body (fine_back (test_phrases t) (stmts_phrases body) h.1)))
+            turn_named (is_turned t) (is_simple t) (test_slots p r t) (stmts_slots p r body)
+            (test_named t (fine_front (test_phrases t) (stmts_phrases body) h.1))
+            (stmts_named body (fine_back (test_phrases t) (stmts_phrases body) h.1))
         stmt_named (Repeat body t) h =
             both (stmts_slots p r body) (mark_slots (is_simple t) ++ test_slots p r t)
             (stmts_named body (fine_front (stmts_phrases body) (test_phrases t) h.1))

@@ -1,5 +1,6 @@
 -- The code of each phrase of a routine of a checked program: each instruction has what it needs, by induction over the phrases.
-use Rattle.std.proofs.Common.{◌≡◌, ℕ, ◌+◌, ◌<◌, Bool, true, false, List, [], ◌∷◌, ◌++◌, length, Option, Some, None, pos, refl, sym, ap, ◌∙◌}
+use Rattle.std.proofs.Common.{◌≡◌, ℕ, ◌+◌, ◌<◌, ◌≤◌, Bool, true, false, List, [], ◌∷◌, ◌++◌, length, Option, Some, None, pos, refl, sym, ap}
+use Rattle.std.proofs.Common.{◌∙◌}
 use Rattle.std.proofs.Common.{subst, arith, append_assoc}
 use Rattle.std.specs.Prelude.{slice_get, IsNone, IsSome}
 use Rattle.std.specs.List.{AllByRecursion}
@@ -11,6 +12,7 @@ use Rattle.alma_code.specs.declared.cell.SlotKind.TheVariants as slot
 use Rattle.alma_code.specs.declared.instr.Instr.{Instr}
 use Rattle.alma_code.specs.declared.instr.Instr.TheVariants as I
 use Rattle.alma_code.specs.Plain.{PlainCode, head_at}
+use Rattle.alma_ir.specs.declared.phrase.Cmp.{Cmp}
 use Rattle.alma_ir.specs.declared.phrase.Cmp.TheVariants as cmp
 use Rattle.alma_ir.specs.declared.phrase.ReadAs.{ReadAs}
 use Rattle.alma_ir.specs.declared.phrase.ReadAs.TheVariants as read_as
@@ -29,26 +31,31 @@ use Rattle.alma_ir.proofs.Each.{each_of_front, each_of_back, each_of_append}
 use Rattle.alma_lower_templates.specs.Lined.{Lined, own}
 use Rattle.alma_lower_templates.specs.Tables.{Tables, range_number, text_number}
 use Rattle.alma_lower_templates.specs.Pieces.{condition, guarded, chosen, first_of_two, truth_code, fit_code, neg_code, op_code, cmp_code}
-use Rattle.alma_lower_templates.specs.Pieces.{unequal_code, write_code, read_code, case_arm, passed_over, has_dead, behind_labels}
-use Rattle.alma_lower_templates.specs.Pieces.{begin_loop, for_turns, some_turns, turn_code, each_body}
-use Rattle.alma_lower_templates.specs.Slots.{bare, bare_desig, stays, stays_in, unless_bare, is_simple, mark_slots, handed_slots}
+use Rattle.alma_lower_templates.specs.Pieces.{unequal_code, opposite_code, write_code, read_code, case_arm, passed_over, has_dead}
+use Rattle.alma_lower_templates.specs.Pieces.{behind_labels}
+use Rattle.alma_lower_templates.specs.Pieces.{begin_loop, for_turns, some_turns, turn_code, each_body, unless_constant, limit_code}
+use Rattle.alma_lower_templates.specs.Slots.{bare, bare_desig, stays, stays_in, unless_bare, is_simple, is_turned, by_turn, mark_slots}
+use Rattle.alma_lower_templates.specs.Slots.{handed_slots}
 use Rattle.alma_lower_templates.specs.Slots.{call_links, root_slots, arg_kind, stmts_slots, stmt_slots, arms_slots, dead_slots, cases_slots}
 use Rattle.alma_lower_templates.specs.Slots.{else_slots, branches_slots, for_slots, some_slots, test_slots, and_slots, or_slots, expr_slots}
 use Rattle.alma_lower_templates.specs.Slots.{links_slots, args_slots, arg_slots, desig_slots, sels_slots, sel_slots, behind_expr}
 use Rattle.alma_lower_templates.specs.Slots.{behind_dead, behind_value, behind_desig, behind_target, behind_variable, behind_test}
 use Rattle.alma_lower_templates.specs.Slots.{behind_stmts, behind_stmt, behind_condition, own_place, own_root, goes_straight}
+use Rattle.alma_lower_templates.specs.Slots.{constant, ends_alone}
 use Rattle.alma_lower_templates.specs.Slots as slots_of
 use Rattle.alma_lower_templates.specs.Templates.{char_range, own_slot, slot_or, value_at, part_slot, behind_root, place_at, root_code}
 use Rattle.alma_lower_templates.specs.Templates.{call_link_code, arguments_from, call_code, set_code, load_code, count_at, count_code}
 use Rattle.alma_lower_templates.specs.Templates.{fit_result, stmts_code, stmt_code, if_code, arms_code, for_code, some_code, dead_code}
 use Rattle.alma_lower_templates.specs.Templates.{case_code, cases_code, else_code, either_code, branches_code, test_code, and_code, or_code}
-use Rattle.alma_lower_templates.specs.Templates.{operands_code, jump_code, expr_code, links_code, args_code, arg_code, desig_code}
+use Rattle.alma_lower_templates.specs.Templates.{operands_code, jump_code, back_code, expr_code, links_code, args_code, arg_code}
+use Rattle.alma_lower_templates.specs.Templates.{desig_code}
 use Rattle.alma_lower_templates.specs.Templates.{sels_code, sel_code, held_at, set_to}
 use Rattle.alma_lower_templates.specs.CodeOf.{HoldsChecked}
 use Rattle.alma_lower_templates.specs.Compiled.{is_function}
 use Rattle.alma_lower_templates.proofs.Args.{same_cells}
 use Rattle.alma_lower_templates.proofs.First.{as_stays, as_stays_in}
 use Rattle.alma_lower_templates.proofs.Tested.{compared_code, Tested, tested, as_value, as_unequal}
+use Rattle.alma_lower_templates.proofs.Turned.{Turned, compares_two, turned, while_code}
 use Rattle.alma_lower_sound.proofs.Facts.{Facts}
 use Rattle.alma_lower_sound.proofs.Needs.{HasKind, IsInside, Needs, IsRange, Number, Place, Mark}
 use Rattle.alma_lower_sound.proofs.Pieces as pieces
@@ -242,6 +249,86 @@ module _ (p : Program) (tables : Tables) (code : PlainCode) (checked : IsChecked
       subst (λ z. Here at (test_code p tables r line at lo (Value z))) (sym same)
       (unequal_fits line at lo x y (subst (λ z. Here at (unless_bare (bare z) (expr_code p tables r line at lo z))) same f))
 
+  -- ---- WHILE
+
+  -- the opposite of a comparison needs what the comparison does
+  back_needs : (how : Cmp) (line to first other top : ℕ) → IsInside code r top
+      → pieces.AllNeed code r (own line (cmp_code how to first other))
+      → pieces.AllNeed code r (own line (opposite_code how to first other ∷ I.JumpZero to top ∷ []))
+  back_needs cmp.Equal line to first other top out h = (h.0, ((h.0.0, out), tt))
+  back_needs cmp.Unequal line to first other top out h = (h.0, ((h.0.0, out), tt))
+  back_needs cmp.Less line to first other top out h = ((h.0.0, h.0.2, h.0.1), ((h.0.0, out), tt))
+  back_needs cmp.LessEq line to first other top out h = ((h.0.0, h.0.2, h.0.1), ((h.0.0, out), tt))
+  back_needs cmp.Greater line to first other top out h = ((h.0.0, h.0.2, h.0.1), ((h.0.0, out), tt))
+  back_needs cmp.GreaterEq line to first other top out h = ((h.0.0, h.0.2, h.0.1), ((h.0.0, out), tt))
+
+  cmp_few : (line : ℕ) (how : Cmp) (to first other : ℕ) → length (own line (cmp_code how to first other)) ≤ 2
+  cmp_few line cmp.Equal to first other = omega arith
+  cmp_few line cmp.Unequal to first other = omega arith
+  cmp_few line cmp.Less to first other = omega arith
+  cmp_few line cmp.LessEq to first other = omega arith
+  cmp_few line cmp.Greater to first other = omega arith
+  cmp_few line cmp.GreaterEq to first other = omega arith
+
+  same_value : (a b : Expr) → Value a ≡ Value b → a ≡ b
+  same_value a b e = cc
+
+  -- a comparison that goes back, given its value
+  turned_fits : (line at lo top : ℕ) (e : Expr) → IsInside code r top → Turned (Value e)
+      → Here at (unless_bare (bare e) (expr_code p tables r line at lo e)) → Here at (back_code p tables r line at lo top (Value e))
+  turned_fits line at lo top e out (compares_two how x y is opposite simple) =
+      subst (λ z. Here at (unless_bare (bare z) (expr_code p tables r line at lo z))
+      → Here at (back_code p tables r line at lo top (Value z)))
+      (sym (same_value e (Compare how x y) is)) back
+    where
+      back : Here at (expr_code p tables r line at lo (Compare how x y))
+          → Here at (back_code p tables r line at lo top (Value (Compare how x y)))
+      back f room =
+          let operand : ℕ = value_at p tables r (behind_expr p r lo x) y in
+          let operands : List Lined = compared_code p tables r line at lo x y in
+          let first : ℕ = slot_or p tables r (stays x y) lo in
+          let end : List Lined = own line (opposite_code how lo first operand ∷ I.JumpZero lo top ∷ []) in
+          let value : List Lined = own line (cmp_code how lo first operand) in
+          let long = length-append operands end in
+          let all = f (record {
+            low = room.low;
+            high = omega (arith, room.high, long, length-append operands value, cmp_few line how lo first operand);
+          }) in
+          each_of_append (pieces.NeedsOf code r) operands end (each_of_front (pieces.NeedsOf code r) operands value all)
+          (back_needs how line lo first operand top out (each_of_back (pieces.NeedsOf code r) operands value all))
+
+  while_fits : (behind : Bool) (line at lo : ℕ) (t : Test) (body : Stmts) → is_turned t ≡ behind
+      → SlotsOf lo (by_turn behind (stmts_slots p r body ++ test_slots p r t)
+      (mark_slots (is_simple t) ++ (test_slots p r t ++ stmts_slots p r body)))
+      → ((none : ℕ) → IsInside code r none → SlotsOf lo (test_slots p r t) → Here (at + 1) (jump_code p tables r line (at + 1) lo none t))
+      → ((at lo : ℕ) → SlotsOf lo (test_slots p r t) → Here at (test_code p tables r line at lo t))
+      → ((at lo top : ℕ) → is_turned t ≡ true → IsInside code r top → SlotsOf lo (test_slots p r t)
+      → Here at (back_code p tables r line at lo top t))
+      → ((at lo : ℕ) → SlotsOf lo (stmts_slots p r body) → Here at (stmts_code p tables r at lo body))
+      → Here at (while_code p tables r behind line at lo t body)
+  while_fits true line at lo t body e slots j f g b room =
+      let inner : List Lined = stmts_code p tables r (at + 1) lo body in
+      let next : ℕ = at + 1 + length inner in
+      let lo2 : ℕ = behind_stmts p r lo body in
+      let last : List Lined = back_code p tables r line next lo2 (at + 1) t in
+      let long = length-append inner last in
+      let there : IsInside code r next = record { low = omega (arith, room.low); high = omega (arith, room.high, long) } in
+      let top : IsInside code r (at + 1) = record { low = omega (arith, room.low); high = omega (arith, room.high, long) } in
+      let all = row (at + 1) inner last (b (at + 1) lo (front lo (stmts_slots p r body) (test_slots p r t) slots))
+      (g next lo2 (at + 1) e top (back lo (stmts_slots p r body) (test_slots p r t) slots)) in
+      (there, all (record { low = omega (arith, room.low); high = omega (arith, room.high) }))
+  while_fits false line at lo t body e slots j f g b room =
+      let parts = condition_slots lo (is_simple t) (test_slots p r t) (stmts_slots p r body) slots in
+      let lo2 : ℕ = behind_condition p r lo t in
+      let inner : List Lined = guarded_code line (at + 1) lo 1 t (λ next. stmts_code p tables r next lo2 body) in
+      let last : List Lined = own line (I.Jump (at + 1) ∷ []) in
+      let top : IsInside code r (at + 1) = record { low = omega (arith, room.low); high = omega (arith, room.high) } in
+      let rest = pieces.in_two code r 0 (at + 1) inner last
+      (pieces.less_spare code r (length last + 0) 1 (at + 1) inner (omega arith)
+      (guards line (at + 1) lo 1 t (λ next. stmts_code p tables r next lo2 body) parts.0 j f (λ next. b next lo2 parts.1)))
+      (own_fits (at + 1 + length inner) line (I.Jump (at + 1) ∷ []) (top, tt)) in
+      (top, rest (record { low = omega (arith, room.low); high = omega (arith, room.high) }))
+
   -- ---- READ and RETURN
 
   read_needs : (how : ReadAs) (place range : ℕ) → Place code r place 1 → IsRange code r range → Needs code r (read_code how place range)
@@ -278,6 +365,21 @@ module _ (p : Program) (tables : Tables) (code : PlainCode) (checked : IsChecked
       (subst (values.BareIs p tables code checked w r lt) (straight_variable d e range to is)
       (values.bare_variable p tables code checked w r lt d good cell)) f
   set_fits None at line lo d e range value set is good cell f needs = then_own at line value set f needs
+
+  -- ---- the limit of a loop
+
+  abbrev limit_of : (line at lo limit : ℕ) → Expr → List Lined
+  limit_of line at lo limit e =
+      limit_code (ends_alone e) line limit (value_at p tables r lo e) (unless_bare (bare e) (expr_code p tables r line at lo e))
+
+  limit_here : (line at lo limit : ℕ) (e : Expr) → Fine (expr_phrases e) → SlotsOf lo (expr_slots p r e) → Number code r limit
+      → Here at (expr_code p tables r line at lo e) → Here at (limit_of line at lo limit e)
+  limit_here line at lo limit e good slots there f =
+      let value : List Lined = expr_code p tables r line at lo e in
+      pieces.limit_fits code r (ends_alone e) line at limit (value_at p tables r lo e) (unless_bare (bare e) value) there
+      (values.first_number p tables code checked w r lt (bare e) lo (values.bare_value p tables code checked w r lt e good)
+      (values.expr_number p tables code checked w r lt lo e slots))
+      (pieces.unless code r 0 at (bare e) value (λ none. f))
 
   -- ---- the count of a turn
 
@@ -563,6 +665,19 @@ module _ (p : Program) (tables : Tables) (code : PlainCode) (checked : IsChecked
     jump_fits line at lo none (Not t) good out slots = λ room. tt
     jump_fits line at lo none (CallTest called args up) good out slots = λ room. tt
 
+    back_fits : (line at lo top : ℕ) (t : Test) → Fine (test_phrases t) → is_turned t ≡ true → IsInside code r top
+        → SlotsOf lo (test_slots p r t) → Here at (back_code p tables r line at lo top t)
+    back_fits line at lo top (Value e) good behind out slots =
+        turned_fits line at lo top e out (turned (Value e) behind) (once line at lo e slots (expr_fits line at lo e good.1))
+    back_fits line at lo top (Bind d e range left) good behind out slots = λ room. tt
+    back_fits line at lo top (Unify d range e range') good behind out slots = λ room. tt
+    back_fits line at lo top (SameCells d e) good behind out slots = λ room. tt
+    back_fits line at lo top (Seq x) good behind out slots = λ room. tt
+    back_fits line at lo top (And ts) good behind out slots = λ room. tt
+    back_fits line at lo top (Or ts) good behind out slots = λ room. tt
+    back_fits line at lo top (Not t) good behind out slots = λ room. tt
+    back_fits line at lo top (CallTest called args up) good behind out slots = λ room. tt
+
     test_fits : (line at lo : ℕ) (t : Test) → Fine (test_phrases t) → SlotsOf lo (test_slots p r t)
         → Here at (test_code p tables r line at lo t)
     test_fits line at lo (Value e) good slots =
@@ -764,20 +879,10 @@ module _ (p : Program) (tables : Tables) (code : PlainCode) (checked : IsChecked
         (fine_front (arms_phrases arms) (stmts_phrases rest) good.1) slots
         (λ next la s. stmts_fit next la rest (fine_back (arms_phrases arms) (stmts_phrases rest) good.1) s)
     stmt_fits line at lo (While t body) good slots =
-        let parts = condition_slots lo (is_simple t) (test_slots p r t) (stmts_slots p r body) slots in
-        let lo2 : ℕ = behind_condition p r lo t in
-        let inner : List Lined = guarded_code line (at + 1) lo 1 t (λ next. stmts_code p tables r next lo2 body) in
-        let last : List Lined = own line (I.Jump (at + 1) ∷ []) in
         let good_t = fine_front (test_phrases t) (stmts_phrases body) good.1 in
-        λ room.
-        let top : IsInside code r (at + 1) = record { low = omega (arith, room.low); high = omega (arith, room.high) } in
-        let rest = pieces.in_two code r 0 (at + 1) inner last
-        (pieces.less_spare code r (length last + 0) 1 (at + 1) inner (omega arith)
-        (guards line (at + 1) lo 1 t (λ next. stmts_code p tables r next lo2 body) parts.0
-        (λ none out s. jump_fits line (at + 1) lo none t good_t out s) (λ at lo s. test_fits line at lo t good_t s)
-        (λ next. stmts_fit next lo2 body (fine_back (test_phrases t) (stmts_phrases body) good.1) parts.1)))
-        (own_fits (at + 1 + length inner) line (I.Jump (at + 1) ∷ []) (top, tt)) in
-        (top, rest (record { low = omega (arith, room.low); high = omega (arith, room.high) }))
+        while_fits (is_turned t) line at lo t body refl slots (λ none out s. jump_fits line (at + 1) lo none t good_t out s)
+        (λ at lo s. test_fits line at lo t good_t s) (λ at lo top e out s. back_fits line at lo top t good_t e out s)
+        (λ next lo s. stmts_fit next lo body (fine_back (test_phrases t) (stmts_phrases body) good.1) s)
     stmt_fits line at lo (Repeat body t) good slots =
         let lo2 : ℕ = behind_stmts p r lo body in
         let one : List Lined = stmts_code p tables r at lo body in
@@ -968,26 +1073,22 @@ module _ (p : Program) (tables : Tables) (code : PlainCode) (checked : IsChecked
         let count : ℕ = own_slot p tables r counter in
         let n = roots.hidden p tables code checked w r lt counter facts.2 in
         let step = first_slot lo slot.Number (a ++ (b ++ (c ++ e))) slots in
-        let one : List Lined = begin_loop line at lo by (λ at. expr_code p tables r line at (lo + 1) from)
-        (λ at. expr_code p tables r line at last to) in
+        let l : ℕ = own_slot p tables r limit in
+        let m = roots.hidden p tables code checked w r lt limit facts.3 in
+        let good_to = fine_back (desig_phrases d ++ expr_phrases from) (expr_phrases to) bounds in
+        let one : List Lined = begin_loop line at lo by (λ at. unless_constant (constant from) (expr_code p tables r line at (lo + 1) from))
+        (λ at. limit_of line at last l to) in
         let next : ℕ = at + length one in
-        let each : List Lined = turn_of line (next + 4) count place d range (λ at. stmts_code p tables r at lo2 body) in
-        row at one (for_turns line next by count (own_slot p tables r limit) lo (lo + 1) last each)
-        (pieces.begin_fits code r 0 line at lo by (λ at. expr_code p tables r line at (lo + 1) from)
-        (λ at. expr_code p tables r line at last to) step
-        (λ at. expr_fits line at (lo + 1) from (fine_back (desig_phrases d) (expr_phrases from) bounds1) mine)
-        (λ at. expr_fits line at last to (fine_back (desig_phrases d ++ expr_phrases from) (expr_phrases to) bounds) mine2))
-        (pieces.for_turns_fits code r line next by count (own_slot p tables r limit) lo (lo + 1) last each
-        (record {
-          count = n;
-          bound = roots.hidden p tables code checked w r lt limit facts.3;
-          by = step;
-          from =
-              values.expr_number p tables code checked w r lt (lo + 1) from mine;
-          to =
-              values.expr_number p tables code checked w r lt last to mine2;
-        })
-        (turn line (next + 4) count place d range (λ at. stmts_code p tables r at lo2 body) facts.1 facts.0 good_d n
+        let each : List Lined = turn_of line (next + 3) count place d range (λ at. stmts_code p tables r at lo2 body) in
+        row at one (for_turns line next by (constant from) count l lo (lo + 1) each)
+        (pieces.begin_fits code r 0 line at lo by (λ at. unless_constant (constant from) (expr_code p tables r line at (lo + 1) from))
+        (λ at. limit_of line at last l to) step
+        (λ at. pieces.constant_fits code r (constant from) at (expr_code p tables r line at (lo + 1) from)
+        (expr_fits line at (lo + 1) from (fine_back (desig_phrases d) (expr_phrases from) bounds1) mine))
+        (λ at. limit_here line at last l to good_to mine2 m (expr_fits line at last to good_to mine2)))
+        (pieces.for_turns_fits code r line next by (constant from) count l lo (lo + 1) each
+        (record { count = n; bound = m; by = step; from = values.expr_number p tables code checked w r lt (lo + 1) from mine })
+        (turn line (next + 3) count place d range (λ at. stmts_code p tables r at lo2 body) facts.1 facts.0 good_d n
         (front place c e slots3) (λ at lo s. desig_fits line at lo d good_d s)
         (λ at. stmts_fit at lo2 body (fine_back ((desig_phrases d ++ expr_phrases from) ++ expr_phrases to) (stmts_phrases body) good)
         (back place c e slots3))))
@@ -1014,27 +1115,24 @@ module _ (p : Program) (tables : Tables) (code : PlainCode) (checked : IsChecked
         let count : ℕ = own_slot p tables r counter in
         let n = roots.hidden p tables code checked w r lt counter facts.2 in
         let step = first_slot lo slot.Number (a ++ (b ++ (slot.Number ∷ (c ++ e)))) slots in
-        let one : List Lined = begin_loop line at lo (pos 1) (λ at. expr_code p tables r line at (lo + 1) from)
-        (λ at. expr_code p tables r line at last to) in
+        let l : ℕ = own_slot p tables r limit in
+        let m = roots.hidden p tables code checked w r lt limit facts.3 in
+        let good_to = fine_back (desig_phrases d ++ expr_phrases from) (expr_phrases to) bounds in
+        let one : List Lined = begin_loop line at lo (pos 1)
+        (λ at. unless_constant (constant from) (expr_code p tables r line at (lo + 1) from))
+        (λ at. limit_of line at last l to) in
         let next : ℕ = at + length one in
-        let each : List Lined = turn_of line (next + 7) count (more + 1) d range (λ at. stmts_code p tables r at lo2 body) in
-        row at one (some_turns line next count (own_slot p tables r limit) lo (lo + 1) last more each)
-        (pieces.begin_fits code r 0 line at lo (pos 1) (λ at. expr_code p tables r line at (lo + 1) from)
-        (λ at. expr_code p tables r line at last to) step
-        (λ at. expr_fits line at (lo + 1) from (fine_back (desig_phrases d) (expr_phrases from) bounds1) mine)
-        (λ at. expr_fits line at last to (fine_back (desig_phrases d ++ expr_phrases from) (expr_phrases to) bounds) mine2))
-        (pieces.some_turns_fits code r line next count (own_slot p tables r limit) lo (lo + 1) last more each
-        (record {
-          count = n;
-          bound = roots.hidden p tables code checked w r lt limit facts.3;
-          by = step;
-          from =
-              values.expr_number p tables code checked w r lt (lo + 1) from mine;
-          to =
-              values.expr_number p tables code checked w r lt last to mine2;
-        })
+        let each : List Lined = turn_of line (next + 8) count (more + 1) d range (λ at. stmts_code p tables r at lo2 body) in
+        row at one (some_turns line next (constant from) count l lo (lo + 1) more each)
+        (pieces.begin_fits code r 0 line at lo (pos 1) (λ at. unless_constant (constant from) (expr_code p tables r line at (lo + 1) from))
+        (λ at. limit_of line at last l to) step
+        (λ at. pieces.constant_fits code r (constant from) at (expr_code p tables r line at (lo + 1) from)
+        (expr_fits line at (lo + 1) from (fine_back (desig_phrases d) (expr_phrases from) bounds1) mine))
+        (λ at. limit_here line at last l to good_to mine2 m (expr_fits line at last to good_to mine2)))
+        (pieces.some_turns_fits code r line next (constant from) count l lo (lo + 1) more each
+        (record { count = n; bound = m; by = step; from = values.expr_number p tables code checked w r lt (lo + 1) from mine })
         (first_slot more slot.Number (c ++ e) slots3)
-        (turn line (next + 7) count (more + 1) d range (λ at. stmts_code p tables r at lo2 body) facts.1 facts.0 good_d n
+        (turn line (next + 8) count (more + 1) d range (λ at. stmts_code p tables r at lo2 body) facts.1 facts.0 good_d n
         (front (more + 1) c e slots4) (λ at lo s. desig_fits line at lo d good_d s)
         (λ at. stmts_fit at lo2 body (fine_back ((desig_phrases d ++ expr_phrases from) ++ expr_phrases to) (stmts_phrases body) good)
         (back (more + 1) c e slots4))))

@@ -11,7 +11,7 @@ use Rattle.alma_ir.proofs.Each.{each_of_append}
 use Rattle.alma_lower_templates.specs.Lined.{Lined, own, in_row, leaving}
 use Rattle.alma_lower_templates.specs.Pieces.{condition, guarded, chosen, first_of_two, refused, truth_code, each_body, forall_code}
 use Rattle.alma_lower_templates.specs.Pieces.{label_code, labels_code, behind_labels, case_arm, passed_over, entry_code, begin_loop}
-use Rattle.alma_lower_templates.specs.Pieces.{turn_code, for_turns, some_turns, aim, straight}
+use Rattle.alma_lower_templates.specs.Pieces.{turn_code, for_turns, some_turns, aim, straight, count_from, unless_constant, limit_code}
 use Rattle.alma_lower_templates.specs.Slots.{unless_bare}
 use Rattle.alma_lower_sound.proofs.Needs.{IsInside, Needs, Number, Mark}
 use Rattle.alma_lower_templates.proofs.Straight.{straight_long}
@@ -253,67 +253,71 @@ module _ (code : PlainCode) (r : ℕ) where
 
   -- ---- loops
 
-  entry_need : (by : ℤ) (from to : ℕ) → Number code r from → Number code r to → Needs code r (entry_code by from to)
-  entry_need (pos step) from to a b = (a, a, b)
-  entry_need (negsuc step) from to a b = (a, b, a)
+  entry_need : (by : ℤ) (to counter limit : ℕ) → Number code r to → Number code r counter → Number code r limit
+      → Needs code r (entry_code by to counter limit)
+  entry_need (pos step) to counter limit a b c = (a, b, c)
+  entry_need (negsuc step) to counter limit a b c = (a, c, b)
 
-  -- the slots of a loop: counter, limit, step, and both bounds
-  pub record LoopSlots (counter limit step first last : ℕ) : Type 0 where
+  count_need : (o : Option ℤ) (counter first : ℕ) → Number code r counter → Number code r first → Needs code r (count_from o counter first)
+  count_need (Some n) counter first a b = a
+  count_need None counter first a b = (a, b)
+
+  -- a first count has no code where it is a constant
+  pub constant_fits : (o : Option ℤ) (at : ℕ) (c : List Lined) → Fits 0 at c → Fits 0 at (unless_constant o c)
+  constant_fits (Some n) at c f room = tt
+  constant_fits None at c f room = f room
+
+  -- a limit, which goes to its slot
+  pub limit_fits : (z : Bool) (line at limit value : ℕ) (c : List Lined) → Number code r limit → Number code r value → Fits 0 at c
+      → Fits 0 at (limit_code z line limit value c)
+  limit_fits true line at limit value c there from f = straight_fits limit at c there f
+  limit_fits false line at limit value c there from f = then_own 0 at line c (I.Move limit value ∷ []) f ((there, from), tt)
+
+  -- the slots of a loop: counter, limit, step, and the first count
+  pub record LoopSlots (counter limit step first : ℕ) : Type 0 where
     pub count : Number code r counter
     pub bound : Number code r limit
     pub by : Number code r step
     pub from : Number code r first
-    pub to : Number code r last
 
-  pub for_turns_fits : (line at : ℕ) (by : ℤ) (counter limit step first last : ℕ) (turn : List Lined)
-      → LoopSlots counter limit step first last → Fits 0 (at + 4) turn → Fits 0 at (for_turns line at by counter limit step first last turn)
-  for_turns_fits line at by counter limit step start last turn s f room =
-      let exit : ℕ = at + 4 + length turn + 2 in
-      let end : List Lined = own line (I.Step counter limit step exit ∷ I.Jump (at + 4) ∷ []) in
+  pub for_turns_fits : (line at : ℕ) (by : ℤ) (o : Option ℤ) (counter limit step first : ℕ) (turn : List Lined)
+      → LoopSlots counter limit step first → Fits 0 (at + 3) turn → Fits 0 at (for_turns line at by o counter limit step first turn)
+  for_turns_fits line at by o counter limit step start turn s f room =
+      let exit : ℕ = at + 3 + length turn + 2 in
+      let end : List Lined = own line (I.Step counter limit step exit ∷ I.Jump (at + 3) ∷ []) in
       let long = length-append turn end in
       let out : IsInside code r exit = record { low = omega (arith, room.low); high = omega (arith, room.high, long) } in
-      let top : IsInside code r (at + 4) = record { low = omega (arith, room.low); high = omega (arith, room.high, long) } in (
-        (s.count, s.from),
+      let top : IsInside code r (at + 3) = record { low = omega (arith, room.low); high = omega (arith, room.high, long) } in (
+        count_need o counter start s.count s.from,
         (
-          (s.bound, s.to),
+          entry_need by start counter limit s.from s.count s.bound,
           (
-            entry_need by start last s.from s.to,
-            (
-              (s.from, out),
-              both turn end (f (record { low = omega (arith, room.low); high = omega (arith, room.high, long) }))
-                  ((s.count, s.bound, s.by, out), (top, tt)),
-            ),
+            (s.from, out),
+            both turn end (f (record { low = omega (arith, room.low); high = omega (arith, room.high, long) }))
+                ((s.count, s.bound, s.by, out), (top, tt)),
           ),
         ),
       )
 
-  pub some_turns_fits : (line at counter limit step first last more : ℕ) (turn : List Lined) → LoopSlots counter limit step first last
-      → Number code r more → Fits 0 (at + 7) turn → Fits 0 at (some_turns line at counter limit step first last more turn)
-  some_turns_fits line at counter limit step start last more turn s m f room =
-      let n : ℕ = at + 7 + length turn in
-      let end : List Lined = own line (I.Jump (n + 4) ∷ I.Add counter counter step ∷ I.Jump (at + 4) ∷ I.Fail ∷ []) in
-      let long = length-append turn end in
-      let out : IsInside code r (n + 4) = record { low = omega (arith, room.low); high = omega (arith, room.high, long) } in
-      let none : IsInside code r (n + 3) = record { low = omega (arith, room.low); high = omega (arith, room.high, long) } in
-      let again : IsInside code r (n + 1) = record { low = omega (arith, room.low); high = omega (arith, room.high, long) } in
-      let inner : IsInside code r (at + 7) = record { low = omega (arith, room.low); high = omega (arith, room.high, long) } in
-      let top : IsInside code r (at + 4) = record { low = omega (arith, room.low); high = omega (arith, room.high, long) } in (
-        (s.count, s.from),
+  pub some_turns_fits : (line at : ℕ) (o : Option ℤ) (counter limit step first more : ℕ) (turn : List Lined)
+      → LoopSlots counter limit step first → Number code r more → Fits 0 (at + 8) turn
+      → Fits 0 at (some_turns line at o counter limit step first more turn)
+  some_turns_fits line at o counter limit step start more turn s m f room =
+      let over : IsInside code r (at + 5) = record { low = omega (arith, room.low); high = omega (arith, room.high) } in
+      let again : IsInside code r (at + 4) = record { low = omega (arith, room.low); high = omega (arith, room.high) } in
+      let inner : IsInside code r (at + 8) = record { low = omega (arith, room.low); high = omega (arith, room.high) } in (
+        count_need o counter start s.count s.from,
         (
-          (s.bound, s.to),
+          entry_need (pos 1) start counter limit s.from s.count s.bound,
           (
-            entry_need (pos 1) start last s.from s.to,
+            s.from,
             (
-              (s.from, none),
+              over,
               (
-                (m, s.count, s.bound),
+                (s.count, s.count, s.by),
                 (
-                  (m, inner),
-                  (
-                    again,
-                    both turn end (f (record { low = omega (arith, room.low); high = omega (arith, room.high, long) }))
-                        (out, ((s.count, s.count, s.by), (top, (tt, tt)))),
-                  ),
+                  (m, s.count, s.bound),
+                  ((m, inner), (again, f (record { low = omega (arith, room.low); high = omega (arith, room.high) }))),
                 ),
               ),
             ),

@@ -24,20 +24,26 @@ use Rattle.alma_ir.specs.Tree.{MixPlace, a_desig, no_sels, more_sels, Field, Ind
 use Rattle.alma_lower_templates.specs.Lined.{Lined, own, leaving}
 use Rattle.alma_lower_templates.specs.Tables.{Tables, range_number, is_whole}
 use Rattle.alma_lower_templates.specs.Pieces.{condition, guarded, chosen, first_of_two, refused, fit_code, neg_code, op_code, cmp_code}
-use Rattle.alma_lower_templates.specs.Pieces.{unequal_code, write_code, read_code, case_arm, passed_over, has_dead, behind_labels}
+use Rattle.alma_lower_templates.specs.Pieces.{unequal_code, opposite_code, write_code, read_code, case_arm, passed_over, has_dead}
+use Rattle.alma_lower_templates.specs.Pieces.{behind_labels}
 use Rattle.alma_lower_templates.specs.Pieces.{labels_code, begin_loop, bounds_code, entry_code, chain_code, link_code, unless_whole}
 use Rattle.alma_lower_templates.specs.Pieces.{for_turns, some_turns, turn_code, each_body, forall_code, aim, straight}
-use Rattle.alma_lower_templates.specs.Slots.{shift_of, bare, bare_desig, stays, stays_in, unless_bare, is_simple, handed_slots, arg_slots}
+use Rattle.alma_lower_templates.specs.Pieces.{count_from, unless_constant, limit_code}
+use Rattle.alma_lower_templates.specs.Slots.{shift_of, bare, bare_desig, stays, stays_in, unless_bare, is_simple, is_turned, handed_slots}
+use Rattle.alma_lower_templates.specs.Slots.{arg_slots}
 use Rattle.alma_lower_templates.specs.Slots.{behind_expr, behind_dead, behind_value, behind_desig, behind_target, behind_variable}
 use Rattle.alma_lower_templates.specs.Slots.{behind_test, behind_stmts, behind_stmt, behind_condition, own_place, own_root, goes_straight}
+use Rattle.alma_lower_templates.specs.Slots.{constant, ends_alone}
 use Rattle.alma_lower_templates.specs.Templates.{char_range, own_slot, slot_or, outer_slot, link_if, set_by, load_by, value_at, part_slot}
 use Rattle.alma_lower_templates.specs.Templates.{behind_root, place_at, root_code, call_link_code, arguments_from, call_code, set_code}
 use Rattle.alma_lower_templates.specs.Templates.{load_code, count_at, count_code, fit_result, stmts_code, stmt_code, if_code, arms_code}
 use Rattle.alma_lower_templates.specs.Templates.{for_code, some_code, dead_code, case_code, cases_code, else_code, either_code}
-use Rattle.alma_lower_templates.specs.Templates.{branches_code, test_code, and_code, or_code, operands_code, jump_code, expr_code}
+use Rattle.alma_lower_templates.specs.Templates.{branches_code, test_code, and_code, or_code, operands_code, jump_code, back_code}
+use Rattle.alma_lower_templates.specs.Templates.{expr_code}
 use Rattle.alma_lower_templates.specs.Templates.{links_code, args_code, arg_code, desig_code, sels_code, sel_code, held_at, set_to}
 use Rattle.alma_lower_templates.proofs.First.{as_stays, as_stays_in}
 use Rattle.alma_lower_templates.proofs.Tested.{compared_code, Tested, tested, as_value, as_unequal}
+use Rattle.alma_lower_templates.proofs.Turned.{Turned, compares_two, turned, while_code}
 use Rattle.alma_code.specs.Reads.{is_read}
 
 -- ---- READs of phrases
@@ -206,6 +212,14 @@ cmp_quiet cmp.LessEq to first other line = refl
 cmp_quiet cmp.Greater to first other line = refl
 cmp_quiet cmp.GreaterEq to first other line = refl
 
+opposite_quiet : (how : Cmp) (to first other top : ℕ) → Quiet (opposite_code how to first other ∷ I.JumpZero to top ∷ [])
+opposite_quiet cmp.Equal to first other top line = refl
+opposite_quiet cmp.Unequal to first other top line = refl
+opposite_quiet cmp.Less to first other top line = refl
+opposite_quiet cmp.LessEq to first other top line = refl
+opposite_quiet cmp.Greater to first other top line = refl
+opposite_quiet cmp.GreaterEq to first other top line = refl
+
 neg_quiet : (negated : Bool) (to : ℕ) → Quiet (neg_code negated to)
 neg_quiet true to line = refl
 neg_quiet false to line = refl
@@ -231,12 +245,17 @@ chain_quiet from (suc links) line = omega (arith, chain_quiet (from + 1) links l
 link_quiet : (lo links : ℕ) → Quiet (link_code lo links)
 link_quiet lo links line = omega (arith, chain_quiet lo links line)
 
-entry_quiet : (by : ℤ) (from to : ℕ) → Quiet (entry_code by from to ∷ [])
-entry_quiet (pos up) from to line = refl
-entry_quiet (negsuc down) from to line = refl
+entry_quiet : (by : ℤ) (to counter limit : ℕ) → Quiet (entry_code by to counter limit ∷ [])
+entry_quiet (pos up) to counter limit line = refl
+entry_quiet (negsuc down) to counter limit line = refl
 
-bounds_quiet : (by : ℤ) (counter limit first last empty : ℕ) → Quiet (bounds_code by counter limit first last empty)
-bounds_quiet by counter limit first last empty line = omega (arith, entry_quiet by first last line)
+count_quiet_from : (o : Option ℤ) (counter first : ℕ) → Quiet (count_from o counter first ∷ [])
+count_quiet_from (Some n) counter first line = refl
+count_quiet_from None counter first line = refl
+
+bounds_quiet : (by : ℤ) (o : Option ℤ) (counter limit first empty : ℕ) → Quiet (bounds_code by o counter limit first empty)
+bounds_quiet by o counter limit first empty line =
+    omega (arith, count_quiet_from o counter first line, entry_quiet by first counter limit line)
 
 labels_quiet : (value bound at hit miss : ℕ) (label : Range) (rest : List Range) → Quiet (labels_code value bound at hit miss label rest)
 labels_quiet value bound at hit miss label [] line = refl
@@ -280,6 +299,17 @@ unless_reads None n c quiet e = e
 
 once : (e : Expr) (c : List Lined) → reads c ≡ expr_reads e → reads (unless_bare (bare e) c) ≡ expr_reads e
 once e c h = unless_reads (bare e) (expr_reads e) c (expr_bare e) h
+
+-- a first count that is a constant has no code
+constant_once : (e : Expr) (c : List Lined) → reads c ≡ expr_reads e → reads (unless_constant (constant e) c) ≡ expr_reads e
+constant_once (Const n) c h = refl
+constant_once (Load d) c h = h
+constant_once (Chain negated e links) c h = h
+constant_once (Compare how x y) c h = h
+constant_once (Truth t) c h = h
+constant_once (Known d) c h = h
+constant_once (Chr e) c h = h
+constant_once (CallExpr called args up) c h = h
 
 located : (d : Desig) (c : List Lined) → reads c ≡ desig_reads d → reads (unless_bare (bare_desig d) c) ≡ desig_reads d
 located d c h = unless_reads (bare_desig d) (desig_reads d) c (desig_bare d) h
@@ -376,22 +406,28 @@ module _ (line : ℕ) where
         own_then (store ∷ []) two s,
       )
 
-  for_turns_reads : (at : ℕ) (by : ℤ) (counter limit step from to : ℕ) (a : List Lined)
-      → reads (for_turns line at by counter limit step from to a) ≡ reads a
-  for_turns_reads at by counter limit step from to a =
-      let exit : ℕ = at + 4 + length a + 2 in
-      let end : List Instr = I.Step counter limit step exit ∷ I.Jump (at + 4) ∷ [] in
+  for_turns_reads : (at : ℕ) (by : ℤ) (o : Option ℤ) (counter limit step first : ℕ) (a : List Lined)
+      → reads (for_turns line at by o counter limit step first a) ≡ reads a
+  for_turns_reads at by o counter limit step first a =
+      let exit : ℕ = at + 3 + length a + 2 in
+      let end : List Instr = I.Step counter limit step exit ∷ I.Jump (at + 3) ∷ [] in
       omega (
         arith,
-        own_then (bounds_code by counter limit from to exit) (a ++ own line end) (bounds_quiet by counter limit from to exit),
+        own_then (bounds_code by o counter limit first exit) (a ++ own line end) (bounds_quiet by o counter limit first exit),
         both a (own line end),
       )
 
-  some_turns_reads : (at counter limit step from to more : ℕ) (a : List Lined)
-      → reads (some_turns line at counter limit step from to more a) ≡ reads a
-  some_turns_reads at counter limit step from to more a =
-      let n : ℕ = at + 7 + length a in
-      omega (arith, both a (own line (I.Jump (n + 4) ∷ I.Add counter counter step ∷ I.Jump (at + 4) ∷ I.Fail ∷ [])))
+  some_turns_reads : (at : ℕ) (o : Option ℤ) (counter limit step first more : ℕ) (a : List Lined)
+      → reads (some_turns line at o counter limit step first more a) ≡ reads a
+  some_turns_reads at o counter limit step first more a = omega (arith, count_quiet_from o counter first line)
+
+  limit_reads : (z : Bool) (limit value : ℕ) (a : List Lined) → reads (limit_code z line limit value a) ≡ reads a
+  limit_reads true limit value a = straight_reads limit a
+  limit_reads false limit value a = then_own a (I.Move limit value ∷ []) (λ l. refl)
+
+  limit_once : (e : Expr) (limit value : ℕ) (c : List Lined) → reads c ≡ expr_reads e
+      → reads (limit_code (ends_alone e) line limit value (unless_bare (bare e) c)) ≡ expr_reads e
+  limit_once e limit value c h = limit_reads (ends_alone e) limit value (unless_bare (bare e) c) ∙ once e c h
 
 module _ (p : Program) (tables : Tables) (r : ℕ) where
   abbrev condition_code : (line at lo none : ℕ) → Test → List Lined
@@ -515,6 +551,48 @@ module _ (p : Program) (tables : Tables) (r : ℕ) where
           ∙ then_own line (unless_bare (bare e) (expr_code p tables r line at lo e)) (I.Check (value_at p tables r lo e) ∷ []) (λ l. refl)
       by (as_unequal x y same) = subst (λ z. reads (test_code p tables r line at lo (Value z)) ≡ reads
           (unless_bare (bare z) (expr_code p tables r line at lo z))) (sym same) (differ x y)
+
+  -- a comparison that goes back reads where the test of it does
+  back_same : (line at lo top : ℕ) (t : Test) → is_turned t ≡ true
+      → reads (back_code p tables r line at lo top t) ≡ reads (test_code p tables r line at lo t)
+  back_same line at lo top t e = by (turned t e)
+    where
+      by : Turned t → reads (back_code p tables r line at lo top t) ≡ reads (test_code p tables r line at lo t)
+      by (compares_two how x y is opposite simple) =
+          let operand : ℕ = value_at p tables r (behind_expr p r lo x) y in
+          let operands : List Lined = compared_code p tables r line at lo x y in
+          let first : ℕ = slot_or p tables r (stays x y) lo in
+          subst (λ u. reads (back_code p tables r line at lo top u) ≡ reads (test_code p tables r line at lo u)) (sym is)
+          (then_own line operands (opposite_code how lo first operand ∷ I.JumpZero lo top ∷ []) (opposite_quiet how lo first operand top)
+          ∙ sym (then_own line operands (cmp_code how lo first operand) (cmp_quiet how lo first operand))
+          ∙ sym (value_same line at lo (Compare how x y)))
+
+  while_same : (behind : Bool) (line at lo : ℕ) (t : Test) (body : Stmts) (m n : ℕ) → is_turned t ≡ behind
+      → ((none : ℕ) → is_simple t ≡ true → reads (jump_code p tables r line (at + 1) lo none t) ≡ m)
+      → ((at lo : ℕ) → reads (test_code p tables r line at lo t) ≡ m) → ((at lo : ℕ) → reads (stmts_code p tables r at lo body) ≡ n)
+      → reads (while_code p tables r behind line at lo t body) ≡ m + n
+  while_same true line at lo t body m n e j f g =
+      let inner : List Lined = stmts_code p tables r (at + 1) lo body in
+      let top : ℕ = at + 1 + length inner in
+      let lo2 : ℕ = behind_stmts p r lo body in
+      let last : List Lined = back_code p tables r line top lo2 (at + 1) t in
+      omega (
+        arith,
+        own_then line (I.Jump top ∷ []) (inner ++ last) (λ l. refl),
+        both inner last,
+        back_same line top lo2 (at + 1) t e,
+        f top lo2,
+        g (at + 1) lo,
+      )
+  while_same false line at lo t body m n e j f g =
+      let lo2 : ℕ = behind_condition p r lo t in
+      let inner : List Lined = guarded_code line (at + 1) lo 1 t (λ next. stmts_code p tables r next lo2 body) in
+      omega (
+        arith,
+        asked line (at + 1) lo 1 t (λ next. stmts_code p tables r next lo2 body) m n j f (λ next. g next lo2),
+        own_then line (I.Jump (at + 1) ∷ []) (inner ++ own line (I.Jump (at + 1) ∷ [])) (λ l. refl),
+        then_own line inner (I.Jump (at + 1) ∷ []) (λ l. refl),
+      )
 
   mutual
     desig_same : (line at lo : ℕ) (x : Desig) → reads (desig_code p tables r line at lo x) ≡ desig_reads x
@@ -876,16 +954,9 @@ module _ (p : Program) (tables : Tables) (r : ℕ) where
         (λ next la. stmts_same next la rest) in
         omega (arith, z)
     stmt_same line at lo (While t body) =
-        let lo2 : ℕ = behind_condition p r lo t in
-        let inner : List Lined = guarded_code line (at + 1) lo 1 t (λ next. stmts_code p tables r next lo2 body) in
-        let z = asked line (at + 1) lo 1 t (λ next. stmts_code p tables r next lo2 body) (test_reads t) (stmts_reads body)
-        (λ none. jump_same line (at + 1) lo none t) (λ at lo. test_same line at lo t) (λ next. stmts_same next lo2 body) in
-        omega (
-          arith,
-          z,
-          own_then line (I.Jump (at + 1) ∷ []) (inner ++ own line (I.Jump (at + 1) ∷ [])) (λ l. refl),
-          then_own line inner (I.Jump (at + 1) ∷ []) (λ l. refl),
-        )
+        let z = while_same (is_turned t) line at lo t body (test_reads t) (stmts_reads body) refl
+        (λ none. jump_same line (at + 1) lo none t) (λ at lo. test_same line at lo t) (λ next lo. stmts_same next lo body) in
+        omega (arith, z)
     stmt_same line at lo (Repeat body t) =
         let lo2 : ℕ = behind_stmts p r lo body in
         let one : List Lined = stmts_code p tables r at lo body in
@@ -1086,21 +1157,24 @@ module _ (p : Program) (tables : Tables) (r : ℕ) where
         let place : ℕ = behind_expr p r last to in
         let lo2 : ℕ = behind_variable p r place d in
         let count : ℕ = own_slot p tables r counter in
-        let one : List Lined = begin_loop line at lo by (λ at. expr_code p tables r line at (lo + 1) from)
-        (λ at. expr_code p tables r line at last to) in
+        let l : ℕ = own_slot p tables r limit in
+        let v : ℕ = value_at p tables r last to in
+        let one : List Lined = begin_loop line at lo by (λ at. unless_constant (constant from) (expr_code p tables r line at (lo + 1) from))
+        (λ at. limit_code (ends_alone to) line l v (unless_bare (bare to) (expr_code p tables r line at last to))) in
         let next : ℕ = at + length one in
-        let each : List Lined = turn_of line (next + 4) count place d range (λ at. stmts_code p tables r at lo2 body) in
-        let begin = begin_reads line at lo by (λ at. expr_code p tables r line at (lo + 1) from)
-        (λ at. expr_code p tables r line at last to) (expr_reads from) (expr_reads to) (λ at. expr_same line at (lo + 1) from)
-        (λ at. expr_same line at last to) in
-        let turns = turn line (next + 4) count place d range (λ at. stmts_code p tables r at lo2 body) (stmts_reads body)
+        let each : List Lined = turn_of line (next + 3) count place d range (λ at. stmts_code p tables r at lo2 body) in
+        let begin = begin_reads line at lo by (λ at. unless_constant (constant from) (expr_code p tables r line at (lo + 1) from))
+        (λ at. limit_code (ends_alone to) line l v (unless_bare (bare to) (expr_code p tables r line at last to))) (expr_reads from)
+        (expr_reads to) (λ at. constant_once from (expr_code p tables r line at (lo + 1) from) (expr_same line at (lo + 1) from))
+        (λ at. limit_once line to l v (expr_code p tables r line at last to) (expr_same line at last to)) in
+        let turns = turn line (next + 3) count place d range (λ at. stmts_code p tables r at lo2 body) (stmts_reads body)
         (λ at. desig_same line at (place + 1) d) (λ at. stmts_same at lo2 body) in
         omega (
           arith,
           begin,
           turns,
-          both one (for_turns line next by count (own_slot p tables r limit) lo (lo + 1) last each),
-          for_turns_reads line next by count (own_slot p tables r limit) lo (lo + 1) last each,
+          both one (for_turns line next by (constant from) count l lo (lo + 1) each),
+          for_turns_reads line next by (constant from) count l lo (lo + 1) each,
         )
 
     some_of_same : (line at lo : ℕ) (x : Loop) → reads (some_code p tables r line at lo x) ≡ loop_reads x
@@ -1109,19 +1183,23 @@ module _ (p : Program) (tables : Tables) (r : ℕ) where
         let more : ℕ = behind_expr p r last to in
         let lo2 : ℕ = behind_variable p r (more + 1) d in
         let count : ℕ = own_slot p tables r counter in
-        let one : List Lined = begin_loop line at lo (pos 1) (λ at. expr_code p tables r line at (lo + 1) from)
-        (λ at. expr_code p tables r line at last to) in
+        let l : ℕ = own_slot p tables r limit in
+        let v : ℕ = value_at p tables r last to in
+        let one : List Lined = begin_loop line at lo (pos 1)
+        (λ at. unless_constant (constant from) (expr_code p tables r line at (lo + 1) from))
+        (λ at. limit_code (ends_alone to) line l v (unless_bare (bare to) (expr_code p tables r line at last to))) in
         let next : ℕ = at + length one in
-        let each : List Lined = turn_of line (next + 7) count (more + 1) d range (λ at. stmts_code p tables r at lo2 body) in
-        let begin = begin_reads line at lo (pos 1) (λ at. expr_code p tables r line at (lo + 1) from)
-        (λ at. expr_code p tables r line at last to) (expr_reads from) (expr_reads to) (λ at. expr_same line at (lo + 1) from)
-        (λ at. expr_same line at last to) in
-        let turns = turn line (next + 7) count (more + 1) d range (λ at. stmts_code p tables r at lo2 body) (stmts_reads body)
+        let each : List Lined = turn_of line (next + 8) count (more + 1) d range (λ at. stmts_code p tables r at lo2 body) in
+        let begin = begin_reads line at lo (pos 1) (λ at. unless_constant (constant from) (expr_code p tables r line at (lo + 1) from))
+        (λ at. limit_code (ends_alone to) line l v (unless_bare (bare to) (expr_code p tables r line at last to))) (expr_reads from)
+        (expr_reads to) (λ at. constant_once from (expr_code p tables r line at (lo + 1) from) (expr_same line at (lo + 1) from))
+        (λ at. limit_once line to l v (expr_code p tables r line at last to) (expr_same line at last to)) in
+        let turns = turn line (next + 8) count (more + 1) d range (λ at. stmts_code p tables r at lo2 body) (stmts_reads body)
         (λ at. desig_same line at (more + 1 + 1) d) (λ at. stmts_same at lo2 body) in
         omega (
           arith,
           begin,
           turns,
-          both one (some_turns line next count (own_slot p tables r limit) lo (lo + 1) last more each),
-          some_turns_reads line next count (own_slot p tables r limit) lo (lo + 1) last more each,
+          both one (some_turns line next (constant from) count l lo (lo + 1) more each),
+          some_turns_reads line next (constant from) count l lo (lo + 1) more each,
         )

@@ -19,21 +19,24 @@ use Rattle.alma_ir.specs.Tree.{MixPlace, a_desig, no_sels, more_sels, Field, Ind
 use Rattle.alma_ir.specs.Count.{stmts_nodes, stmt_nodes, arms_nodes, cases_nodes, else_nodes, branches_nodes, loop_nodes, test_nodes}
 use Rattle.alma_ir.specs.Count.{tests_nodes, expr_nodes, links_nodes, args_nodes, arg_nodes, desig_nodes, sels_nodes, sel_nodes}
 use Rattle.alma_lower_templates.proofs.Tested.{compared_code, Tested, tested, as_value, as_unequal}
+use Rattle.alma_lower_templates.proofs.Turned.{Turned, compares_two, turned, while_code}
 use Rattle.alma_lower_templates.specs.Lined.{Lined, own, leaving, line_from, lines_from}
 use Rattle.alma_lower_templates.specs.Tables.{Tables, range_number, text_number}
 use Rattle.alma_lower_templates.specs.Pieces.{condition, guarded, chosen, first_of_two, refused, fit_code, neg_code, op_code, cmp_code}
-use Rattle.alma_lower_templates.specs.Pieces.{unequal_code, write_code, read_code, case_arm, passed_over, has_dead, behind_labels}
+use Rattle.alma_lower_templates.specs.Pieces.{unequal_code, opposite_code, write_code, read_code, case_arm, passed_over, has_dead}
+use Rattle.alma_lower_templates.specs.Pieces.{behind_labels}
 use Rattle.alma_lower_templates.specs.Pieces.{labels_code, begin_loop, bounds_code, for_turns, some_turns, turn_code, each_body}
-use Rattle.alma_lower_templates.specs.Pieces.{forall_code, straight}
-use Rattle.alma_lower_templates.specs.Slots.{bare, bare_desig, stays, stays_in, unless_bare, is_simple, handed_slots, arg_slots}
+use Rattle.alma_lower_templates.specs.Pieces.{forall_code, straight, count_from, unless_constant, limit_code}
+use Rattle.alma_lower_templates.specs.Slots.{bare, bare_desig, stays, stays_in, unless_bare, is_simple, is_turned, handed_slots, arg_slots}
 use Rattle.alma_lower_templates.specs.Slots.{behind_expr, behind_dead, behind_value, behind_desig, behind_target, behind_variable}
 use Rattle.alma_lower_templates.specs.Slots.{behind_test, behind_stmts, behind_stmt, behind_condition, own_place, own_root, goes_straight}
+use Rattle.alma_lower_templates.specs.Slots.{constant, ends_alone}
 use Rattle.alma_lower_templates.specs.Templates.{char_range, own_slot, slot_or, value_at, part_slot, behind_root, place_at, root_code}
 use Rattle.alma_lower_templates.specs.Templates.{call_link_code, arguments_from, call_code, set_code, load_code, count_at, count_code}
 use Rattle.alma_lower_templates.specs.Templates.{fit_result, stmts_code, stmt_code, if_code, arms_code, for_code, some_code, dead_code}
 use Rattle.alma_lower_templates.specs.Templates.{case_code, cases_code, else_code, either_code, branches_code, test_code, and_code, or_code}
 use Rattle.alma_lower_templates.specs.Templates.{operands_code, jump_code, expr_code, links_code, args_code, arg_code, desig_code}
-use Rattle.alma_lower_templates.specs.Templates.{sels_code, sel_code, held_at, set_to}
+use Rattle.alma_lower_templates.specs.Templates.{sels_code, sel_code, held_at, set_to, back_code}
 
 -- ---- walks
 
@@ -232,28 +235,30 @@ module _ (line : ℕ) where
         own_then (store ∷ []) two,
       )
 
-  for_round : (at : ℕ) (by : ℤ) (counter limit step from to : ℕ) (a : List Lined)
-      → round (for_turns line at by counter limit step from to a) ≤ round a
-  for_round at by counter limit step from to a =
-      let exit : ℕ = at + 4 + length a + 2 in
+  for_round : (at : ℕ) (by : ℤ) (o : Option ℤ) (counter limit step first : ℕ) (a : List Lined)
+      → round (for_turns line at by o counter limit step first a) ≤ round a
+  for_round at by o counter limit step first a =
+      let exit : ℕ = at + 3 + length a + 2 in
       omega (
         arith,
-        own_then (bounds_code by counter limit from to exit)
-            (a ++ own line (I.Step counter limit step exit ∷ I.Jump (at + 4) ∷ [])),
-        then_own a (I.Step counter limit step exit ∷ I.Jump (at + 4) ∷ []),
+        own_then (bounds_code by o counter limit first exit) (a ++ own line (I.Step counter limit step exit ∷ I.Jump (at + 3) ∷ [])),
+        then_own a (I.Step counter limit step exit ∷ I.Jump (at + 3) ∷ []),
       )
 
-  some_round : (at counter limit step from to more : ℕ) (a : List Lined)
-      → round (some_turns line at counter limit step from to more a) ≤ round a
-  some_round at counter limit step from to more a =
-      let n : ℕ = at + 7 + length a in
-      let end : List Instr = I.Jump (n + 4) ∷ I.Add counter counter step ∷ I.Jump (at + 4) ∷ I.Fail ∷ [] in
-      omega (
-        arith,
-        own_then (bounds_code (pos 1) counter limit from to (n + 3)
-            ++ (I.Less more counter limit ∷ I.JumpZero more (at + 7) ∷ I.Choose (n + 1) ∷ [])) (a ++ own line end),
-        then_own a end,
-      )
+  some_round : (at : ℕ) (o : Option ℤ) (counter limit step first more : ℕ) (a : List Lined)
+      → round (some_turns line at o counter limit step first more a) ≤ round a
+  some_round at o counter limit step first more a = own_then
+      (count_from o counter first ∷ I.LessEq first counter limit ∷ I.Check first ∷ I.Jump (at + 5) ∷ I.Add counter counter step
+      ∷ I.Less more counter limit ∷ I.JumpZero more (at + 8) ∷ I.Choose (at + 4) ∷ []) a
+
+  -- a first count that may be a constant, and a limit that goes to its slot
+  constant_round : (o : Option ℤ) (a : List Lined) → round (unless_constant o a) ≤ round a
+  constant_round (Some n) a = omega (arith, hop_none line)
+  constant_round None a = omega arith
+
+  limit_round : (z : Bool) (limit value : ℕ) (a : List Lined) → round (limit_code z line limit value a) ≤ round a
+  limit_round true limit value a = omega (arith, straight_walk line limit line a)
+  limit_round false limit value a = then_own a (I.Move limit value ∷ [])
 
 -- ---- the arms of CASE
 
@@ -314,6 +319,25 @@ module _ (p : Program) (tables : Tables) (r : ℕ) where
       located : (at : ℕ) → round line (unless_bare (bare_desig d) (desig_code p tables r line at (lo + 1) d)) ≤ m
       located at = let z = f at in omega (arith, z, unless_round line (bare_desig d) (desig_code p tables r line at (lo + 1) d))
 
+  -- the bounds of a loop
+  abbrev limit_of : (line at lo limit : ℕ) → Expr → List Lined
+  limit_of line at lo limit e =
+      limit_code (ends_alone e) line limit (value_at p tables r lo e) (unless_bare (bare e) (expr_code p tables r line at lo e))
+
+  first_below : (line : ℕ) (o : Option ℤ) (a : List Lined) (n : ℕ) → round line a ≤ n → round line (unless_constant o a) ≤ n
+  first_below line o a n h = omega (arith, h, constant_round line o a)
+
+  limit_below : (line at lo limit : ℕ) (e : Expr) (n : ℕ) → round line (expr_code p tables r line at lo e) ≤ n
+      → round line (limit_of line at lo limit e) ≤ n
+  limit_below line at lo limit e n h =
+      let value : List Lined = expr_code p tables r line at lo e in
+      omega (
+        arith,
+        h,
+        unless_round line (bare e) value,
+        limit_round line (ends_alone e) limit (value_at p tables r lo e) (unless_bare (bare e) value),
+      )
+
   -- a value that goes straight into a variable, or what sets the variable
   set_round : (o : Option ℕ) (line : ℕ) (value : List Lined) (set : List Instr)
       → round line (set_to p tables r o line value set) ≤ round line value
@@ -340,6 +364,48 @@ module _ (p : Program) (tables : Tables) (r : ℕ) where
           ∙ ends_alike line line (unless_bare (bare e) (expr_code p tables r line at lo e)) (I.Check (value_at p tables r lo e) ∷ [])
       by (as_unequal x y same) = subst (λ z. round line (test_code p tables r line at lo (Value z)) ≡ round line
           (unless_bare (bare z) (expr_code p tables r line at lo z))) (sym same) (differ x y)
+
+  -- a comparison that goes back goes over the lines of the test of it
+  back_round : (line at lo top : ℕ) (t : Test) → is_turned t ≡ true
+      → round line (back_code p tables r line at lo top t) ≡ round line (test_code p tables r line at lo t)
+  back_round line at lo top t e = by (turned t e)
+    where
+      by : Turned t → round line (back_code p tables r line at lo top t) ≡ round line (test_code p tables r line at lo t)
+      by (compares_two how x y is opposite simple) =
+          let operand : ℕ = value_at p tables r (behind_expr p r lo x) y in
+          let operands : List Lined = compared_code p tables r line at lo x y in
+          let first : ℕ = slot_or p tables r (stays x y) lo in
+          subst (λ u. round line (back_code p tables r line at lo top u) ≡ round line (test_code p tables r line at lo u)) (sym is)
+          (ends_alike line line operands (opposite_code how lo first operand ∷ I.JumpZero lo top ∷ [])
+          ∙ sym (ends_alike line line operands (cmp_code how lo first operand)) ∙ sym (value_round line at lo (Compare how x y)))
+
+  while_round : (behind : Bool) (line at lo : ℕ) (t : Test) (body : Stmts) (m n : ℕ) → is_turned t ≡ behind
+      → ((none : ℕ) → round line (jump_code p tables r line (at + 1) lo none t) ≤ m)
+      → ((at lo : ℕ) → round line (test_code p tables r line at lo t) ≤ m)
+      → ((at lo : ℕ) → round line (stmts_code p tables r at lo body) ≤ n)
+      → round line (while_code p tables r behind line at lo t body) ≤ m + n
+  while_round true line at lo t body m n e j f g =
+      let inner : List Lined = stmts_code p tables r (at + 1) lo body in
+      let top : ℕ = at + 1 + length inner in
+      let lo2 : ℕ = behind_stmts p r lo body in
+      let last : List Lined = back_code p tables r line top lo2 (at + 1) t in
+      omega (
+        arith,
+        own_then line (I.Jump top ∷ []) (inner ++ last),
+        both line inner last,
+        back_round line top lo2 (at + 1) t e,
+        f top lo2,
+        g (at + 1) lo,
+      )
+  while_round false line at lo t body m n e j f g =
+      let lo2 : ℕ = behind_condition p r lo t in
+      let inner : List Lined = guarded_code line (at + 1) lo 1 t (λ next. stmts_code p tables r next lo2 body) in
+      omega (
+        arith,
+        asked line (at + 1) lo 1 t (λ next. stmts_code p tables r next lo2 body) m n j f (λ next. g next lo2),
+        own_then line (I.Jump (at + 1) ∷ []) (inner ++ own line (I.Jump (at + 1) ∷ [])),
+        then_own line inner (I.Jump (at + 1) ∷ []),
+      )
 
   mutual
     desig_round : (line at lo : ℕ) (x : Desig) → round line (desig_code p tables r line at lo x) ≤ 2 * desig_nodes x
@@ -700,16 +766,9 @@ module _ (p : Program) (tables : Tables) (r : ℕ) where
         (λ next la. stmts_round line next la rest) in
         omega (arith, z)
     stmt_round line at lo (While t body) =
-        let lo2 : ℕ = behind_condition p r lo t in
-        let inner : List Lined = guarded_code line (at + 1) lo 1 t (λ next. stmts_code p tables r next lo2 body) in
-        let z = asked line (at + 1) lo 1 t (λ next. stmts_code p tables r next lo2 body) (2 * test_nodes t) (2 * stmts_nodes body)
-        (λ none. jump_round line (at + 1) lo none t) (λ at lo. test_round line at lo t) (λ next. stmts_round line next lo2 body) in
-        omega (
-          arith,
-          z,
-          own_then line (I.Jump (at + 1) ∷ []) (inner ++ own line (I.Jump (at + 1) ∷ [])),
-          then_own line inner (I.Jump (at + 1) ∷ []),
-        )
+        let z = while_round (is_turned t) line at lo t body (2 * test_nodes t) (2 * stmts_nodes body) refl
+        (λ none. jump_round line (at + 1) lo none t) (λ at lo. test_round line at lo t) (λ next lo. stmts_round line next lo body) in
+        omega (arith, z)
     stmt_round line at lo (Repeat body t) =
         let lo2 : ℕ = behind_stmts p r lo body in
         let one : List Lined = stmts_code p tables r at lo body in
@@ -909,21 +968,24 @@ module _ (p : Program) (tables : Tables) (r : ℕ) where
         let place : ℕ = behind_expr p r last to in
         let lo2 : ℕ = behind_variable p r place d in
         let count : ℕ = own_slot p tables r counter in
-        let one : List Lined = begin_loop line at lo by (λ at. expr_code p tables r line at (lo + 1) from)
-        (λ at. expr_code p tables r line at last to) in
+        let l : ℕ = own_slot p tables r limit in
+        let one : List Lined = begin_loop line at lo by (λ at. unless_constant (constant from) (expr_code p tables r line at (lo + 1) from))
+        (λ at. limit_of line at last l to) in
         let next : ℕ = at + length one in
-        let each : List Lined = turn_of line (next + 4) count place d range (λ at. stmts_code p tables r at lo2 body) in
-        let begin = begin_round line at lo by (λ at. expr_code p tables r line at (lo + 1) from)
-        (λ at. expr_code p tables r line at last to) (2 * expr_nodes from) (2 * expr_nodes to) (λ at. expr_round line at (lo + 1) from)
-        (λ at. expr_round line at last to) in
-        let turns = turn line (next + 4) count place d range (λ at. stmts_code p tables r at lo2 body) (2 * desig_nodes d)
+        let each : List Lined = turn_of line (next + 3) count place d range (λ at. stmts_code p tables r at lo2 body) in
+        let begin = begin_round line at lo by (λ at. unless_constant (constant from) (expr_code p tables r line at (lo + 1) from))
+        (λ at. limit_of line at last l to) (2 * expr_nodes from) (2 * expr_nodes to)
+        (λ at. first_below line (constant from) (expr_code p tables r line at (lo + 1) from) (2 * expr_nodes from)
+        (expr_round line at (lo + 1) from))
+        (λ at. limit_below line at last l to (2 * expr_nodes to) (expr_round line at last to)) in
+        let turns = turn line (next + 3) count place d range (λ at. stmts_code p tables r at lo2 body) (2 * desig_nodes d)
         (2 * stmts_nodes body) (λ at. desig_round line at (place + 1) d) (λ at. stmts_round line at lo2 body) in
         omega (
           arith,
           begin,
           turns,
-          both line one (for_turns line next by count (own_slot p tables r limit) lo (lo + 1) last each),
-          for_round line next by count (own_slot p tables r limit) lo (lo + 1) last each,
+          both line one (for_turns line next by (constant from) count l lo (lo + 1) each),
+          for_round line next by (constant from) count l lo (lo + 1) each,
         )
 
     some_of_round : (line at lo : ℕ) (x : Loop) → round line (some_code p tables r line at lo x) ≤ 2 * loop_nodes x
@@ -932,19 +994,23 @@ module _ (p : Program) (tables : Tables) (r : ℕ) where
         let more : ℕ = behind_expr p r last to in
         let lo2 : ℕ = behind_variable p r (more + 1) d in
         let count : ℕ = own_slot p tables r counter in
-        let one : List Lined = begin_loop line at lo (pos 1) (λ at. expr_code p tables r line at (lo + 1) from)
-        (λ at. expr_code p tables r line at last to) in
+        let l : ℕ = own_slot p tables r limit in
+        let one : List Lined = begin_loop line at lo (pos 1)
+        (λ at. unless_constant (constant from) (expr_code p tables r line at (lo + 1) from))
+        (λ at. limit_of line at last l to) in
         let next : ℕ = at + length one in
-        let each : List Lined = turn_of line (next + 7) count (more + 1) d range (λ at. stmts_code p tables r at lo2 body) in
-        let begin = begin_round line at lo (pos 1) (λ at. expr_code p tables r line at (lo + 1) from)
-        (λ at. expr_code p tables r line at last to) (2 * expr_nodes from) (2 * expr_nodes to) (λ at. expr_round line at (lo + 1) from)
-        (λ at. expr_round line at last to) in
-        let turns = turn line (next + 7) count (more + 1) d range (λ at. stmts_code p tables r at lo2 body) (2 * desig_nodes d)
+        let each : List Lined = turn_of line (next + 8) count (more + 1) d range (λ at. stmts_code p tables r at lo2 body) in
+        let begin = begin_round line at lo (pos 1) (λ at. unless_constant (constant from) (expr_code p tables r line at (lo + 1) from))
+        (λ at. limit_of line at last l to) (2 * expr_nodes from) (2 * expr_nodes to)
+        (λ at. first_below line (constant from) (expr_code p tables r line at (lo + 1) from) (2 * expr_nodes from)
+        (expr_round line at (lo + 1) from))
+        (λ at. limit_below line at last l to (2 * expr_nodes to) (expr_round line at last to)) in
+        let turns = turn line (next + 8) count (more + 1) d range (λ at. stmts_code p tables r at lo2 body) (2 * desig_nodes d)
         (2 * stmts_nodes body) (λ at. desig_round line at (more + 1 + 1) d) (λ at. stmts_round line at lo2 body) in
         omega (
           arith,
           begin,
           turns,
-          both line one (some_turns line next count (own_slot p tables r limit) lo (lo + 1) last more each),
-          some_round line next count (own_slot p tables r limit) lo (lo + 1) last more each,
+          both line one (some_turns line next (constant from) count l lo (lo + 1) more each),
+          some_round line next (constant from) count l lo (lo + 1) more each,
         )

@@ -1,7 +1,7 @@
 -- What the induction over the phrases of a routine is given: what a checked program keeps and what its tables hold, phrase by
 -- phrase, and the lines that are still to be handed out.
 use Rattle.std.proofs.Common.{◌≡◌, ℕ, zero, suc, ◌+◌, ◌<◌, ◌≤◌, Bool, true, false, List, [], ◌∷◌, ◌++◌, length, get_or, drop, Some, None}
-use Rattle.std.proofs.Common.{refl, ap, ◌∙◌, subst, arith, ℤ}
+use Rattle.std.proofs.Common.{refl, sym, ap, ◌∙◌, subst, arith, ℤ}
 use Rattle.std.specs.Prelude.{slice_get}
 use Rattle.std.specs.List.{AllByRecursion}
 use Rattle.alma_base.specs.Numbers.{within, is_integer}
@@ -25,19 +25,21 @@ use Rattle.alma_ir.proofs.Each.{each_of_front, each_of_back}
 use Rattle.alma_ir.proofs.LinesBack.{count_sum, behind_two}
 use Rattle.alma_mean.specs.Meaning.{Level}
 use Rattle.alma_lower_implements.proofs.Frames.{HasSlots, shift}
-use Rattle.alma_lower_implements.proofs.ExprRows.{AreVariables, slots_behind}
+use Rattle.alma_lower_implements.proofs.ExprRows.{AreVariables, slots_first, slots_behind}
 use Rattle.alma_lower_templates.specs.Tables.{Tables, range_number, text_number, is_whole}
 use Rattle.alma_lower_templates.specs.Slots.{bare, bare_desig, unless_bare, ends_alone, own_place, is_simple, is_simple_expr, mark_slots}
-use Rattle.alma_lower_templates.specs.Slots.{expr_slots, desig_slots, test_slots}
+use Rattle.alma_lower_templates.specs.Slots.{expr_slots, desig_slots, test_slots, is_turned, behind_expr}
 use Rattle.alma_lower_templates.specs.Pieces.{straight}
 use Rattle.alma_lower_templates.specs.Templates.{char_range, expr_code}
 use Rattle.alma_lower_templates.proofs.AtOnce.{BareFits, AtOnce}
 use Rattle.alma_lower_templates.proofs.First.{ConstantFits}
+use Rattle.alma_lower_templates.proofs.Bounds.{LimitRuns}
 use Rattle.alma_lower_templates.proofs.Destinations.{into}
 use Rattle.alma_lower_templates.proofs.ExprForms.{RunsTo, NextRuns}
 use Rattle.alma_lower_templates.proofs.OwnPlace.{OwnFits}
 use Rattle.alma_lower_templates.proofs.FormRuns.{ExprRuns, DesigRuns, TestRuns}
 use Rattle.alma_lower_templates.proofs.GuardedForms.{Decided, decided}
+use Rattle.alma_lower_templates.proofs.Turned.{Turned, compares_two, turned, GoesBack, goes_back}
 use Rattle.alma_mean.specs.Meaning.{ev_test}
 
 -- ---- lines
@@ -328,6 +330,14 @@ module _ (p : Program) (tables : Tables) (code : PlainCode) (input : List ℕ) w
         h.runs at (lo + 1) (slots_behind p code input r lo (slot.Number ∷ []) (desig_slots p r d)
         (subst (λ o. HasSlots p code r lo (unless_bare o (slot.Number ∷ desig_slots p r d))) none slots))
 
+    -- the limit of a loop, in its slot
+    pub limit_goes : (may : Bool) (x : Expr) → ExprGoes x → (at lo limit : ℕ) → AreVariables p code input r limit 1
+        → HasSlots p code r lo (expr_slots p r x) → LimitRuns p tables code input below r line q may at lo limit x
+    limit_goes may x h at lo limit of_limit slots = record {
+      once = record { fits = h.fits; runs = λ none. h.runs at lo slots };
+      straightly = λ alone. h.straightly limit at lo alone of_limit slots;
+    }
+
     simple_slots : (z : Bool) (lo : ℕ) (xs : List SlotKind) → z ≡ true → HasSlots p code r lo (mark_slots z ++ xs) → HasSlots p code r lo xs
     simple_slots true lo xs e h = h
     simple_slots false lo xs e h = absurd (let bad : false ≡ true = e in cc)
@@ -349,3 +359,19 @@ module _ (p : Program) (tables : Tables) (code : PlainCode) (input : List ℕ) w
         value_slots : (x : Expr) → t ≡ Value x → is_simple_expr x ≡ true → HasSlots p code r lo (unless_bare (bare x) (expr_slots p r x))
         value_slots x is simple = simple_slots (is_simple_expr x) lo (unless_bare (bare x) (expr_slots p r x)) simple
             (subst (λ u. HasSlots p code r lo (mark_slots (is_simple u) ++ test_slots p r u)) is slots)
+
+    -- a test as a condition behind the body of WHILE
+    pub decides_back : (t : Test) → TestGoes t → is_turned t ≡ true → (at lo top : ℕ) → HasSlots p code r lo (test_slots p r t)
+        → GoesBack p tables code input below r line q at lo top t (ev_test p input below t) q
+    decides_back t h e at lo top = by (turned t e)
+      where
+        by : Turned t → HasSlots p code r lo (test_slots p r t)
+            → GoesBack p tables code input below r line q at lo top t (ev_test p input below t) q
+        by (compares_two how x y is opposite simple) =
+            let o = (h.value (Compare how x y) is).operands how x y refl in
+            subst (λ u. HasSlots p code r lo (test_slots p r u) → GoesBack p tables code input below r line q at lo top u
+            (ev_test p input below u) q) (sym is)
+            (λ slots. goes_back p tables code input below r line q at lo top how x y opposite simple slots
+            (o.first at lo (slots_first p code input r lo (expr_slots p r x) (unless_bare (bare y) (expr_slots p r y)) slots)) o.fits
+            (o.second (behind_expr p r lo x) (slots_behind p code input r lo (expr_slots p r x) (unless_bare (bare y) (expr_slots p r y))
+            slots)))

@@ -609,7 +609,7 @@ module _ (p : Program) (tables : Tables) (code : PlainCode) (input : List ℕ) (
   -- ---- a test of inequality
 
   -- the contrary of a number stands in a slot
-  abbrev ContraryIn : (lo : ℕ) → Store → ℤ → List PlainFrame → Type 0
+  abbrev pub ContraryIn : (lo : ℕ) → Store → ℤ → List PlainFrame → Type 0
   ContraryIn lo v n t = IsValue p code input lo (bit (is_zero n)) t
 
   -- where they are equal it fails, and else it goes over the failure

@@ -1,6 +1,6 @@
 -- The instructions of the phrases of a routine are at most 16 for each node.
 use Rattle.std.proofs.Common.{◌≡◌, ℕ, zero, suc, ◌+◌, ◌*◌, ◌≤◌, Bool, true, false, List, [], ◌∷◌, ◌++◌, length, drop, get_or, Option, Some}
-use Rattle.std.proofs.Common.{None, refl, arith, pos}
+use Rattle.std.proofs.Common.{None, refl, arith, ℤ, pos}
 use Rattle.std.proofs.lemmas.List.{length-append, length-map}
 use Rattle.alma_base.specs.declared.number.Range.{Range}
 use Rattle.alma_code.specs.declared.instr.Instr.{Instr}
@@ -27,15 +27,18 @@ use Rattle.alma_lower_templates.specs.Lined.{Lined, own, in_row}
 use Rattle.alma_lower_templates.specs.Pieces.{cmp_code, op_code, neg_code, fit_code, unless_whole, link_code, chain_code, condition}
 use Rattle.alma_lower_templates.specs.Pieces.{guarded, read_code, write_code, truth_code, first_of_two, chosen, passed_over, has_dead}
 use Rattle.alma_lower_templates.specs.Pieces.{case_arm, behind_labels, labels_code, label_code, begin_loop, for_turns, some_turns}
-use Rattle.alma_lower_templates.specs.Pieces.{turn_code}
-use Rattle.alma_lower_templates.specs.Slots.{shift_of, bare, bare_desig, stays, stays_in, unless_bare, is_simple, handed_slots, arg_slots}
+use Rattle.alma_lower_templates.specs.Pieces.{turn_code, opposite_code, unless_constant, limit_code}
+use Rattle.alma_lower_templates.specs.Slots.{shift_of, bare, bare_desig, stays, stays_in, unless_bare, is_simple, is_turned, handed_slots}
+use Rattle.alma_lower_templates.specs.Slots.{arg_slots}
 use Rattle.alma_lower_templates.specs.Slots.{behind_stmts, behind_stmt, behind_test, behind_condition, behind_expr, behind_dead}
 use Rattle.alma_lower_templates.specs.Slots.{behind_value, behind_desig, behind_target, behind_variable, own_place, own_root, goes_straight}
+use Rattle.alma_lower_templates.specs.Slots.{constant, ends_alone}
 use Rattle.alma_lower_templates.specs.Tables.{Tables, range_number, is_whole}
 use Rattle.alma_lower_templates.specs.Templates
 use Rattle.alma_lower_templates.proofs.Straight.{straight_long}
 use Rattle.alma_lower_templates.proofs.FewSlots.{Short, AreShort, short_front, short_back, unless_few}
-use Rattle.alma_lower_templates.proofs.Tested.{tested_long}
+use Rattle.alma_lower_templates.proofs.Tested.{compared_code, tested_long}
+use Rattle.alma_lower_templates.proofs.Turned.{while_code}
 
 own_long : (line : ℕ) (xs : List Instr) → length (own line xs) ≡ length xs
 own_long line xs = length-map xs (λ i. record { line = line; instr = i })
@@ -51,6 +54,14 @@ cmp_few line cmp.Less to first other = omega arith
 cmp_few line cmp.LessEq to first other = omega arith
 cmp_few line cmp.Greater to first other = omega arith
 cmp_few line cmp.GreaterEq to first other = omega arith
+
+cmp_some : (line : ℕ) (how : Cmp) (to first other : ℕ) → 1 ≤ length (own line (cmp_code how to first other))
+cmp_some line cmp.Equal to first other = omega arith
+cmp_some line cmp.Unequal to first other = omega arith
+cmp_some line cmp.Less to first other = omega arith
+cmp_some line cmp.LessEq to first other = omega arith
+cmp_some line cmp.Greater to first other = omega arith
+cmp_some line cmp.GreaterEq to first other = omega arith
 
 neg_few : (line : ℕ) (negated : Bool) (to : ℕ) → length (own line (neg_code negated to)) ≤ 1
 neg_few line true to = omega arith
@@ -192,6 +203,65 @@ module _ (p : Program) (tables : Tables) (r : ℕ) where
       (λ at lo none. Templates.jump_code p tables r line at lo none u) (λ at lo. Templates.test_code p tables r line at lo u)) body m n
       (λ none. asks_few line at lo none u m j t) b
 
+  -- a comparison that goes back is no longer than the test of it
+  back_few : (line at lo top : ℕ) (u : Test)
+      → length (Templates.back_code p tables r line at lo top u) ≤ length (Templates.test_code p tables r line at lo u)
+  back_few line at lo top (Value (Compare how x y)) =
+      let operands : List Lined = compared_code p tables r line at lo x y in
+      let first : ℕ = Templates.slot_or p tables r (stays x y) lo in
+      let other : ℕ = Templates.value_at p tables r (behind_expr p r lo x) y in
+      omega (
+        arith,
+        tested_long p tables r line at lo (Compare how x y),
+        length-append operands (own line (cmp_code how lo first other)),
+        length-append operands (own line (opposite_code how lo first other ∷ I.JumpZero lo top ∷ [])),
+        cmp_some line how lo first other,
+      )
+  back_few line at lo top (Value (Const n)) = omega arith
+  back_few line at lo top (Value (Load d)) = omega arith
+  back_few line at lo top (Value (Chain negated e links)) = omega arith
+  back_few line at lo top (Value (Truth t)) = omega arith
+  back_few line at lo top (Value (Known d)) = omega arith
+  back_few line at lo top (Value (Chr e)) = omega arith
+  back_few line at lo top (Value (CallExpr called args up)) = omega arith
+  back_few line at lo top (Bind d e range left) = omega arith
+  back_few line at lo top (Unify d range e range2) = omega arith
+  back_few line at lo top (SameCells d e) = omega arith
+  back_few line at lo top (Seq x) = omega arith
+  back_few line at lo top (And ts) = omega arith
+  back_few line at lo top (Or ts) = omega arith
+  back_few line at lo top (Not t) = omega arith
+  back_few line at lo top (CallTest called args up) = omega arith
+
+  -- WHILE, wherever its condition stands
+  while_few :
+      (behind : Bool) (line at lo : ℕ) (u : Test) (y : Stmts) (m n : ℕ)
+      → ((at lo none : ℕ) → 4 + length (Templates.jump_code p tables r line at lo none u) ≤ m)
+      → ((at lo : ℕ) → 4 + length (Templates.test_code p tables r line at lo u) ≤ m)
+      → ((at lo : ℕ) → length (Templates.stmts_code p tables r at lo y) ≤ n)
+      → length (while_code p tables r behind line at lo u y) ≤ 1 + m + n
+  while_few true line at lo u y m n j t b =
+      let body : List Lined = Templates.stmts_code p tables r (at + 1) lo y in
+      let next : ℕ = at + 1 + length body in
+      let lo2 : ℕ = behind_stmts p r lo y in
+      omega (
+        arith,
+        length-append body (Templates.back_code p tables r line next lo2 (at + 1) u),
+        back_few line next lo2 (at + 1) u,
+        t next lo2,
+        b (at + 1) lo,
+      )
+  while_few false line at lo u y m n j t b =
+      let lo2 : ℕ = behind_condition p r lo u in
+      let one : List Lined = guarded (at + 1) 1
+      (λ none. condition (is_simple u) line (at + 1) lo none (λ at lo none. Templates.jump_code p tables r line at lo none u)
+      (λ at lo. Templates.test_code p tables r line at lo u)) (λ next. Templates.stmts_code p tables r next lo2 y) in
+      omega (
+        arith,
+        asked_few line (at + 1) lo 1 u m j t (λ next. Templates.stmts_code p tables r next lo2 y) n (λ next. b next lo2),
+        length-append one (own line (I.Jump (at + 1) ∷ [])),
+      )
+
   -- two designators
   pair_few :
       (line at lo : ℕ) (y z : Desig) (m n : ℕ)
@@ -222,6 +292,15 @@ module _ (p : Program) (tables : Tables) (r : ℕ) where
         own_long line tests,
         labels_few value bound at here (here + length x + 1) label labels,
       )
+
+  -- a first count and a limit
+  constant_few : (o : Option ℤ) (value : List Lined) → length (unless_constant o value) ≤ length value
+  constant_few (Some n) value = omega arith
+  constant_few None value = omega arith
+
+  limit_few : (z : Bool) (line limit from : ℕ) (value : List Lined) → length (limit_code z line limit from value) ≤ length value + 1
+  limit_few true line limit from value = omega (arith, straight_long limit value)
+  limit_few false line limit from value = omega (arith, length-append value (own line (I.Move limit from ∷ [])))
 
   -- the count of a loop, the variable set to it, and the body
   turn_few :
@@ -703,17 +782,12 @@ module _ (p : Program) (tables : Tables) (r : ℕ) where
         let ls2 = behind (test_phrases t) ls in
         let u : Test = test_with t ls in
         let y : Stmts = stmts_with body ls2 in
-        let lo2 : ℕ = behind_condition p r lo u in
         let z =
-        asked_few line (at + 1) lo 1 u (16 * test_nodes t)
+        while_few (is_turned u) line at lo u y (16 * test_nodes t) (16 * stmts_nodes body)
         (λ at lo none. jump_few line at lo none t ls (short_front (test_phrases t) (stmts_phrases body) h.1))
         (λ at lo. test_few line at lo t ls (short_front (test_phrases t) (stmts_phrases body) h.1))
-        (λ next. Templates.stmts_code p tables r next lo2 y) (16 * stmts_nodes body)
-        (λ next. stmts_few next lo2 body ls2 (short_back (test_phrases t) (stmts_phrases body) h.1)) in
-        let one : List Lined = guarded (at + 1) 1
-        (λ none. condition (is_simple u) line (at + 1) lo none (λ at lo none. Templates.jump_code p tables r line at lo none u)
-        (λ at lo. Templates.test_code p tables r line at lo u)) (λ next. Templates.stmts_code p tables r next lo2 y) in
-        omega (arith, z, length-append one (own line (I.Jump (at + 1) ∷ [])))
+        (λ next lo. stmts_few next lo body ls2 (short_back (test_phrases t) (stmts_phrases body) h.1)) in
+        omega (arith, z)
     stmt_few line at lo (Repeat body t) ls h =
         let ls2 = behind (stmts_phrases body) ls in
         let u : Test = test_with t ls2 in
@@ -1025,29 +1099,37 @@ module _ (p : Program) (tables : Tables) (r : ℕ) where
         let b : Expr = expr_with to ls3 in
         let last : ℕ = behind_expr p r (lo + 1) a in
         let place : ℕ = behind_expr p r last b in
-        let one : List Lined = Templates.expr_code p tables r line (at + 1) (lo + 1) a in
+        let value : List Lined = Templates.expr_code p tables r line (at + 1) (lo + 1) a in
+        let one : List Lined = unless_constant (constant a) value in
         let at2 : ℕ = at + 1 + length one in
-        let both : List Lined = Templates.expr_code p tables r line at2 last b in
-        let begin : List Lined = begin_loop line at lo by (λ at. Templates.expr_code p tables r line at (lo + 1) a)
-        (λ at. Templates.expr_code p tables r line at last b) in
-        let next : ℕ = at + length begin in
-        let lo2 : ℕ = behind_variable p r place y in
+        let limit_value : List Lined = Templates.expr_code p tables r line at2 last b in
         let c : ℕ = Templates.own_slot p tables r counter in
         let l : ℕ = Templates.own_slot p tables r limit in
-        let turn : List Lined = turn_code line (next + 4) (Templates.count_code p tables r (bare_desig y) range c place)
+        let both : List Lined = limit_code (ends_alone b) line l (Templates.value_at p tables r last b) (unless_bare (bare b) limit_value)
+        in
+        let begin : List Lined = begin_loop line at lo by
+        (λ at. unless_constant (constant a) (Templates.expr_code p tables r line at (lo + 1) a))
+        (λ at. limit_code (ends_alone b) line l (Templates.value_at p tables r last b)
+        (unless_bare (bare b) (Templates.expr_code p tables r line at last b))) in
+        let next : ℕ = at + length begin in
+        let lo2 : ℕ = behind_variable p r place y in
+        let turn : List Lined = turn_code line (next + 3) (Templates.count_code p tables r (bare_desig y) range c place)
         (λ at. unless_bare (bare_desig y) (Templates.desig_code p tables r line at (place + 1) y))
         (Templates.set_code p tables r (place + 1) (Templates.count_at p tables r (bare_desig y) c place) y)
         (λ at. Templates.stmts_code p tables r at lo2 (stmts_with body ls4)) in
-        let out : ℕ = next + 4 + length turn + 2 in
-        let end : List Lined = own line (I.Step c l lo out ∷ I.Jump (next + 4) ∷ []) in
+        let out : ℕ = next + 3 + length turn + 2 in
+        let end : List Lined = own line (I.Step c l lo out ∷ I.Jump (next + 3) ∷ []) in
         omega (
           arith,
-          length-append begin (for_turns line next by c l lo (lo + 1) last turn),
+          length-append begin (for_turns line next by (constant a) c l lo (lo + 1) turn),
           length-append one both,
+          constant_few (constant a) value,
+          limit_few (ends_alone b) line l (Templates.value_at p tables r last b) (unless_bare (bare b) limit_value),
+          unless_few (bare b) limit_value,
           length-append turn end,
           expr_few line (at + 1) (lo + 1) from ls2 (short_back (desig_phrases d) (expr_phrases from) two),
           expr_few line at2 last to ls3 (short_back (desig_phrases d ++ expr_phrases from) (expr_phrases to) three),
-          turn_few line (next + 4) c place y range (λ at. Templates.stmts_code p tables r at lo2 (stmts_with body ls4)) (16 * desig_nodes d)
+          turn_few line (next + 3) c place y range (λ at. Templates.stmts_code p tables r at lo2 (stmts_with body ls4)) (16 * desig_nodes d)
               (16 * stmts_nodes body) (λ at. desig_few line at (place + 1) d ls (short_front (desig_phrases d) (expr_phrases from) two))
               (λ at. stmts_few at lo2 body ls4 (short_back bounds (stmts_phrases body) h)),
         )
@@ -1066,28 +1148,34 @@ module _ (p : Program) (tables : Tables) (r : ℕ) where
         let b : Expr = expr_with to ls3 in
         let last : ℕ = behind_expr p r (lo + 1) a in
         let more : ℕ = behind_expr p r last b in
-        let one : List Lined = Templates.expr_code p tables r line (at + 1) (lo + 1) a in
+        let value : List Lined = Templates.expr_code p tables r line (at + 1) (lo + 1) a in
+        let one : List Lined = unless_constant (constant a) value in
         let at2 : ℕ = at + 1 + length one in
-        let both : List Lined = Templates.expr_code p tables r line at2 last b in
-        let begin : List Lined = begin_loop line at lo (pos 1) (λ at. Templates.expr_code p tables r line at (lo + 1) a)
-        (λ at. Templates.expr_code p tables r line at last b) in
-        let next : ℕ = at + length begin in
-        let lo2 : ℕ = behind_variable p r (more + 1) y in
+        let limit_value : List Lined = Templates.expr_code p tables r line at2 last b in
         let c : ℕ = Templates.own_slot p tables r counter in
         let l : ℕ = Templates.own_slot p tables r limit in
-        let turn : List Lined = turn_code line (next + 7) (Templates.count_code p tables r (bare_desig y) range c (more + 1))
+        let both : List Lined = limit_code (ends_alone b) line l (Templates.value_at p tables r last b) (unless_bare (bare b) limit_value)
+        in
+        let begin : List Lined = begin_loop line at lo (pos 1)
+        (λ at. unless_constant (constant a) (Templates.expr_code p tables r line at (lo + 1) a))
+        (λ at. limit_code (ends_alone b) line l (Templates.value_at p tables r last b)
+        (unless_bare (bare b) (Templates.expr_code p tables r line at last b))) in
+        let next : ℕ = at + length begin in
+        let lo2 : ℕ = behind_variable p r (more + 1) y in
+        let turn : List Lined = turn_code line (next + 8) (Templates.count_code p tables r (bare_desig y) range c (more + 1))
         (λ at. unless_bare (bare_desig y) (Templates.desig_code p tables r line at (more + 1 + 1) y))
         (Templates.set_code p tables r (more + 1 + 1) (Templates.count_at p tables r (bare_desig y) c (more + 1)) y)
         (λ at. Templates.stmts_code p tables r at lo2 (stmts_with body ls4)) in
-        let end : List Lined = own line (I.Jump (next + 7 + length turn + 4) ∷ I.Add c c lo ∷ I.Jump (next + 4) ∷ I.Fail ∷ []) in
         omega (
           arith,
-          length-append begin (some_turns line next c l lo (lo + 1) last more turn),
+          length-append begin (some_turns line next (constant a) c l lo (lo + 1) more turn),
           length-append one both,
-          length-append turn end,
+          constant_few (constant a) value,
+          limit_few (ends_alone b) line l (Templates.value_at p tables r last b) (unless_bare (bare b) limit_value),
+          unless_few (bare b) limit_value,
           expr_few line (at + 1) (lo + 1) from ls2 (short_back (desig_phrases d) (expr_phrases from) two),
           expr_few line at2 last to ls3 (short_back (desig_phrases d ++ expr_phrases from) (expr_phrases to) three),
-          turn_few line (next + 7) c (more + 1) y range (λ at. Templates.stmts_code p tables r at lo2 (stmts_with body ls4))
+          turn_few line (next + 8) c (more + 1) y range (λ at. Templates.stmts_code p tables r at lo2 (stmts_with body ls4))
               (16 * desig_nodes d) (16 * stmts_nodes body)
               (λ at. desig_few line at (more + 1 + 1) d ls (short_front (desig_phrases d) (expr_phrases from) two))
               (λ at. stmts_few at lo2 body ls4 (short_back bounds (stmts_phrases body) h)),

@@ -22,8 +22,10 @@ use Rattle.alma_ir.specs.Phrases.{Phrase, TestPhrase, ExprPhrase, DesigPhrase, s
 use Rattle.alma_ir.specs.Phrases.{else_phrases, branches_phrases, loop_phrases, test_phrases, tests_phrases, expr_phrases, links_phrases}
 use Rattle.alma_ir.specs.Phrases.{args_phrases, arg_phrases, desig_phrases, sels_phrases, sel_phrases}
 use Rattle.alma_ir.proofs.Each.{each_of_front, each_of_back}
-use Rattle.alma_lower_templates.specs.Slots.{shift_of, chain_slots, bare, bare_desig, unless_bare, is_simple, mark_slots, handed_slots}
-use Rattle.alma_lower_templates.specs.Slots.{links_if, root_slots, stmts_slots, stmt_slots, arms_slots, dead_slots, cases_slots, else_slots}
+use Rattle.alma_lower_templates.specs.Slots.{shift_of, chain_slots, bare, bare_desig, unless_bare, is_simple, is_turned, by_turn}
+use Rattle.alma_lower_templates.specs.Slots.{mark_slots}
+use Rattle.alma_lower_templates.specs.Slots.{handed_slots, links_if, root_slots, stmts_slots, stmt_slots, arms_slots, dead_slots}
+use Rattle.alma_lower_templates.specs.Slots.{cases_slots, else_slots}
 use Rattle.alma_lower_templates.specs.Slots.{branches_slots, for_slots, some_slots, test_slots, and_slots, or_slots, expr_slots}
 use Rattle.alma_lower_templates.specs.Slots.{links_slots, args_slots, arg_slots, desig_slots, sels_slots, sel_slots}
 
@@ -51,6 +53,13 @@ unless_few None xs = omega arith
 mark_few : (z : Bool) → length (mark_slots z) ≤ 1
 mark_few true = omega arith
 mark_few false = omega arith
+
+-- those of WHILE, wherever its condition stands
+turn_few : (behind simple : Bool) (xs ys : List SlotKind)
+    → length (by_turn behind (ys ++ xs) (mark_slots simple ++ (xs ++ ys))) ≤ 1 + length xs + length ys
+turn_few true simple xs ys = omega (arith, length-append ys xs)
+turn_few false simple xs ys =
+    omega (arith, length-append (mark_slots simple) (xs ++ ys), length-append xs ys, mark_few simple)
 
 module _ (p : Program) where
   chain_long : (links r : ℕ) → length (chain_slots p r links) ≡ links + 1
@@ -307,9 +316,7 @@ module _ (p : Program) where
         let x : List SlotKind = stmts_slots p r (stmts_with body ls2) in
         omega (
           arith,
-          length-append (mark_slots (is_simple u)) (test_slots p r u ++ x),
-          length-append (test_slots p r u) x,
-          mark_few (is_simple u),
+          turn_few (is_turned u) (is_simple u) (test_slots p r u) x,
           test_few r t ls (short_front (test_phrases t) (stmts_phrases body) h.1),
           stmts_few r body ls2 (short_back (test_phrases t) (stmts_phrases body) h.1),
         )

@@ -182,7 +182,7 @@ module _ (p : Program) (tables : Tables) (code : PlainCode) (input : List ℕ) (
       (later v a now (left_self p code input (place + 1) r v now b) (refl, refl) count)) held s is))
 
   -- the number is set by one step
-  pub set_step : (o : Option ℕ) (at lo la value : ℕ) (d : Desig) (v : Store) (now : List PlainFrame) (a : Place) (x : ℤ)
+  set_step : (o : Option ℕ) (at lo la value : ℕ) (d : Desig) (v : Store) (now : List PlainFrame) (a : Place) (x : ℤ)
       → BareFits p tables code input below r line q o → desig_cells d ≡ 1 → own_end p r ≤ lo → Begins p code input r v now
       → IsTarget p tables code input below r line q o la d v a now → IsValue p code input value x now
       → InstrAt code input line at (set_by p tables r o la value d)

@@ -46,7 +46,8 @@ use Rattle.alma_lower_templates.specs.Slots.{routine_kinds, bare, bare_desig, ow
 use Rattle.alma_lower_templates.specs.Slots.{handed_slots, root_slots, stmts_slots, stmt_slots, test_slots, and_slots, or_slots, expr_slots}
 use Rattle.alma_lower_templates.specs.Slots.{links_slots, args_slots, arg_slots, desig_slots, sels_slots, sel_slots, behind_expr}
 use Rattle.alma_lower_templates.specs.Slots.{behind_dead, behind_value, behind_desig, behind_test, behind_stmts, behind_stmt}
-use Rattle.alma_lower_templates.specs.Slots.{behind_condition, behind_variable, arms_slots, dead_slots, cases_slots, else_slots}
+use Rattle.alma_lower_templates.specs.Slots.{behind_condition, behind_variable, is_turned, by_turn, arms_slots, dead_slots, cases_slots}
+use Rattle.alma_lower_templates.specs.Slots.{else_slots}
 use Rattle.alma_lower_templates.specs.Compiled.{program_code}
 use Rattle.alma_lower_templates.specs.Templates.{part_slot, behind_root, arg_code, desig_code, place_at, stmts_code, stmt_code}
 use Rattle.alma_lower_templates.proofs.AtOnce.{BareFits}
@@ -54,8 +55,8 @@ use Rattle.alma_lower_templates.proofs.Args.{ArgPart, ArgParts, same_cells}
 use Rattle.alma_lower_templates.proofs.Asked.{HasUnlessWhole, Asked, Fine, fine_front, fine_back, fine_first, fine_second, fine_third}
 use Rattle.alma_lower_templates.proofs.Asked.{fine_fourth, fine_test, fine_expr, fine_arg, fine_desig, fine_sel, fine_stmt, has_line}
 use Rattle.alma_lower_templates.proofs.Asked.{swapped_first, swapped_second, cells_with, args_with_fit, DesigGoes, OperandsGo, ExprGoes}
-use Rattle.alma_lower_templates.proofs.Asked.{TestGoes, once, behind_first, target, variable, decides, Stays, stays_front, stays_back}
-use Rattle.alma_lower_templates.proofs.Asked.{sel_cells_with}
+use Rattle.alma_lower_templates.proofs.Asked.{TestGoes, once, behind_first, target, variable, decides, decides_back, Stays, stays_front}
+use Rattle.alma_lower_templates.proofs.Asked.{stays_back, sel_cells_with, limit_goes}
 use Rattle.alma_lower_templates.proofs.BarrierForms.{no_stmts_run, more_stmts_run, AndRun, no_and_run, more_and_run, and_runs, seq_runs}
 use Rattle.alma_lower_templates.proofs.BarrierForms.{not_runs, commit_runs}
 use Rattle.alma_lower_templates.proofs.Calls.{RoutineRuns}
@@ -80,13 +81,13 @@ use Rattle.alma_lower_templates.proofs.ExprForms.{some_slots}
 use Rattle.alma_lower_templates.proofs.Tested.{Tested, tested, as_value, as_unequal}
 use Rattle.alma_lower_templates.proofs.FormRuns.{TestRuns, ListRuns, StmtRuns, StatementRuns}
 use Rattle.alma_lower_templates.proofs.ForallRuns.{forall_runs}
-use Rattle.alma_lower_templates.proofs.GuardedForms.{Decided, ArmsRun, no_arms_run, more_arms_run, no_arms_if, if_runs}
+use Rattle.alma_lower_templates.proofs.GuardedForms.{ArmsRun, no_arms_run, more_arms_run, no_arms_if, if_runs}
 use Rattle.alma_lower_templates.proofs.Levels.{Below, ForTurns, SomeTurns, owes_less}
 use Rattle.alma_lower_templates.proofs.ReadForms.{read_runs}
 use Rattle.alma_lower_templates.proofs.Returning.{return_runs, return_value_runs}
 use Rattle.alma_lower_templates.proofs.Parts.{NodeFor, RunsFor, PlaceIn, ending, as_statement}
-use Rattle.alma_lower_templates.proofs.LoopForms.{truth_runs, TurnsRun, while_exit, repeat_exit, while_turn_runs, while_runs}
-use Rattle.alma_lower_templates.proofs.LoopForms.{repeat_turn_runs, repeat_runs}
+use Rattle.alma_lower_templates.proofs.LoopForms.{truth_runs, TurnsRun, TurnKnown, while_top, while_exit, repeat_exit, while_turn_runs}
+use Rattle.alma_lower_templates.proofs.LoopForms.{while_runs, repeat_turn_runs, repeat_runs}
 use Rattle.alma_lower_templates.proofs.RangeChecks.{chr_runs}
 use Rattle.alma_lower_templates.proofs.RootForms.{RootFits, IsParam}
 use Rattle.alma_lower_templates.proofs.StmtForms.{value_runs, test_stmt_runs, assign_runs, write_runs, text_runs, line_runs}
@@ -291,9 +292,6 @@ module _ (p : Program) (tables : Tables) (code : PlainCode) (all : List (List Ru
       less_one : n ≡ suc n - 1
       less_one = omega arith
 
-      less_two : n - 1 ≡ suc n - 1 - 1
-      less_two = omega arith
-
       -- the list of a turn, which the level below runs
       turn_list : (may : Bool) (r line : ℕ) → r < length p.routines → (x : Stmts) (ls : List ℕ) → FineIn r (stmts_phrases x) ls
           → Stays p tables code input may (stmts_phrases x) → (at lo : ℕ) → HasSlots p code r lo (stmts_slots p r (stmts_with x ls))
@@ -303,6 +301,14 @@ module _ (p : Program) (tables : Tables) (code : PlainCode) (all : List (List Ru
           subst (λ k. RunsFor p code input may r line at lo (stmts_code p tables r at lo (stmts_with x ls)) (below.stmts (stmts_with x ls))
           k)
           less_one (know.lists may r line lt x ls fine stays at lo slots)
+
+      -- the list of a turn of WHILE, which pays for the test before it
+      turn_body : (may : Bool) (r line : ℕ) → r < length p.routines → (x : Stmts) (ls : List ℕ) → FineIn r (stmts_phrases x) ls
+          → Stays p tables code input may (stmts_phrases x) → (at lo : ℕ) → HasSlots p code r lo (stmts_slots p r (stmts_with x ls))
+          → RunsFor p code input may r line at lo (stmts_code p tables r at lo (stmts_with x ls)) (below.stmts (stmts_with x ls)) (n - 1)
+      turn_body may r line lt x ls fine stays at lo slots =
+          owes_less p tables code input may r line at lo (stmts_code p tables r at lo (stmts_with x ls)) (below.stmts (stmts_with x ls)) n
+          (n - 1) (omega arith) (know.lists may r line lt x ls fine stays at lo slots)
 
       -- an ELSE list, wherever it stands
       abbrev ElseRuns : (may : Bool) (r : ℕ) → Stmts → Type 0
@@ -319,6 +325,42 @@ module _ (p : Program) (tables : Tables) (code : PlainCode) (all : List (List Ru
                 (subst (HasSlots p code r lo) (sym (append_assoc (mark_slots z) xs ys)) h),
             slots_behind p code input r (lo + length (mark_slots z)) xs ys behind_mark,
           )
+
+      -- the condition and the body of a turn of WHILE, which the level below runs
+      turn_known : (z : Bool) (may : Bool) (r line : ℕ) → r < length p.routines → (t : Test) (body : Stmts) (ls : List ℕ)
+          → FineIn r (test_phrases t ++ stmts_phrases body) ls → Stays p tables code input may (test_phrases t ++ stmts_phrases body)
+          → (at lo : ℕ) → is_turned (test_with t ls) ≡ z
+          → HasSlots p code r lo (by_turn z
+          (stmts_slots p r (stmts_with body (behind (test_phrases t) ls)) ++ test_slots p r (test_with t ls))
+          (mark_slots (is_simple (test_with t ls))
+          ++ (test_slots p r (test_with t ls) ++ stmts_slots p r (stmts_with body (behind (test_phrases t) ls)))))
+          → TurnKnown p tables code input below r line (suc n) z may at lo (test_with t ls) (stmts_with body (behind (test_phrases t) ls))
+          (below.test (test_with t ls)) (below.stmts (stmts_with body (behind (test_phrases t) ls))) n
+      turn_known true may r line lt t body ls inner inner_stays at lo e slots =
+          let ls2 = behind (test_phrases t) ls in
+          let u : Test = test_with t ls in
+          let x : Stmts = stmts_with body ls2 in
+          record {
+            decides = know.backs r line lt t ls (fine_front p tables code input r (test_phrases t) (stmts_phrases body) ls inner) e
+                (at + 1 + length (stmts_code p tables r (at + 1) lo x)) (behind_stmts p r lo x) (at + 1)
+                (slots_behind p code input r lo (stmts_slots p r x) (test_slots p r u) slots);
+            runs = turn_body may r line lt body ls2 (fine_back p tables code input r (test_phrases t) (stmts_phrases body) ls inner)
+                (stays_back p tables code input may (test_phrases t) (stmts_phrases body) inner_stays) (at + 1) lo
+                (slots_first p code input r lo (stmts_slots p r x) (test_slots p r u) slots);
+          }
+      turn_known false may r line lt t body ls inner inner_stays at lo e slots =
+          let ls2 = behind (test_phrases t) ls in
+          let u : Test = test_with t ls in
+          let x : Stmts = stmts_with body ls2 in
+          let condition = condition_slots r lo (is_simple u) (test_slots p r u) (stmts_slots p r x) slots in
+          record {
+            decides = λ none. know.tests r line lt t ls (fine_front p tables code input r (test_phrases t) (stmts_phrases body) ls inner)
+                (at + 1) lo none condition.0;
+            runs = λ next. turn_body may r line lt body ls2
+                (fine_back p tables code input r (test_phrases t) (stmts_phrases body) ls inner)
+                (stays_back p tables code input may (test_phrases t) (stmts_phrases body) inner_stays) next (behind_condition p r lo u)
+                condition.1;
+          }
 
       arm_slots : (r lo : ℕ) (a b c d e : List SlotKind) → HasSlots p code r lo ((a ++ (b ++ (c ++ d))) ++ e)
           → HasSlots p code r lo (a ++ b)
@@ -908,19 +950,10 @@ module _ (p : Program) (tables : Tables) (code : PlainCode) (all : List (List Ru
             let ls2 = behind (test_phrases t) ls in
             let u : Test = test_with t ls in
             let x : Stmts = stmts_with body ls2 in
-            let condition = condition_slots r lo (is_simple u) (test_slots p r u) (stmts_slots p r x) slots in
             λ stands v now b.
             while_runs p tables code input below r line (suc n) may at lo u x slots.behind (n - 1) (omega arith)
-            (λ none. subst (λ k. Decided p tables code input below r line (suc n) (at + 1) lo none u (below.test u) k) less_one
-            (know.tests r line lt t ls (fine_front p tables code input r (test_phrases t) (stmts_phrases body) ls inner) (at + 1) lo none
-            condition.0))
-            (λ next. subst (λ k. RunsFor p code input may r line next (behind_condition p r lo u)
-            (stmts_code p tables r next (behind_condition p r lo u) x) (below.stmts x) k) less_two
-            (owes_less p tables code input may r line next (behind_condition p r lo u)
-            (stmts_code p tables r next (behind_condition p r lo u) x) (below.stmts x) n (n - 1) (omega arith)
-            (know.lists may r line lt body ls2 (fine_back p tables code input r (test_phrases t) (stmts_phrases body) ls inner)
-            (stays_back p tables code input may (test_phrases t) (stmts_phrases body) inner_stays) next (behind_condition p r lo u)
-            condition.1)))
+            (subst (λ k. TurnKnown p tables code input below r line (suc n) (is_turned u) may at lo u x (below.test u) (below.stmts x) k)
+            less_one (turn_known (is_turned u) may r line lt t body ls inner inner_stays at lo refl slots))
             (know.whiles may r line lt t body ls inner inner_stays at lo slots stands) stands v now b
         stmt_go may r lt (Repeat body t) ls0 h stays line at lo slots =
             let ls = drop 1 ls0 in
@@ -976,9 +1009,10 @@ module _ (p : Program) (tables : Tables) (code : PlainCode) (all : List (List Ru
             let s3 = slots_behind p code input r last (expr_slots p r x2) rest s2 in
             λ stands v now b.
             for_runs p tables code input below r line (suc n) may at lo (suc n) y range counter limit x1 x2 by x one_cell (omega arith)
-            apart.two slots of_counter of_limit
+            apart.two slots of_counter of_limit g1.constants
             (g1.runs (at + 1) (lo + 1) (slots_first p code input r (lo + 1) (expr_slots p r x1) (expr_slots p r x2 ++ rest) s1))
-            (λ next. g2.runs next last (slots_first p code input r last (expr_slots p r x2) rest s2))
+            (λ next. limit_goes p tables code input below r line (suc n) may x2 g2 next last limit of_limit
+            (slots_first p code input r last (expr_slots p r x2) rest s2))
             (for_counts p tables code input below r line (suc n) may at lo n y range counter limit x1 x2 by x (g.fits one_cell) one_cell
             (omega arith) h.asked.0.coded slots of_counter of_limit
             (λ none next. variable p tables code input below r line (suc n) y g next place
@@ -1025,9 +1059,10 @@ module _ (p : Program) (tables : Tables) (code : PlainCode) (all : List (List Ru
             (slots_behind p code input r last (expr_slots p r x2) rest s2) in
             λ stands v now b.
             some_runs p tables code input below r line (suc n) may at lo (suc n) y range counter limit x1 x2 by x one_cell (omega arith)
-            apart.two slots of_counter of_limit
+            apart.two slots of_counter of_limit g1.constants
             (g1.runs (at + 1) (lo + 1) (slots_first p code input r (lo + 1) (expr_slots p r x1) (expr_slots p r x2 ++ rest) s1))
-            (λ next. g2.runs next last (slots_first p code input r last (expr_slots p r x2) rest s2))
+            (λ next. limit_goes p tables code input below r line (suc n) may x2 g2 next last limit of_limit
+            (slots_first p code input r last (expr_slots p r x2) rest s2))
             (some_counts p tables code input below r line (suc n) may at lo n y range counter limit x1 x2 by x (g.fits one_cell) one_cell
             (omega arith) apart.two h.asked.0.coded slots of_counter of_limit
             (λ none next. variable p tables code input below r line (suc n) y g next (more + 1)
@@ -1348,7 +1383,8 @@ module _ (p : Program) (tables : Tables) (code : PlainCode) (all : List (List Ru
           → FineIn r (test_phrases t ++ stmts_phrases body) ls → Stays p tables code input may (test_phrases t ++ stmts_phrases body)
           → (at lo : ℕ) → HasSlots p code r lo (stmt_slots p r (While (test_with t ls) (stmts_with body (behind (test_phrases t) ls))))
           → Stands code at (stmt_code p tables r line at lo (While (test_with t ls) (stmts_with body (behind (test_phrases t) ls))))
-          → TurnsRun p tables code input below r line (suc n) may (at + 1)
+          → TurnsRun p tables code input below r line (suc n) may
+          (while_top p tables code input below r line (suc n) at lo (test_with t ls) (stmts_with body (behind (test_phrases t) ls)))
           (while_exit p tables code input below r line (suc n) at lo (test_with t ls) (stmts_with body (behind (test_phrases t) ls))) lo
           (while_turn (below.test (test_with t ls)) (below.stmts (stmts_with body (behind (test_phrases t) ls)))
           (below.while (test_with t ls) (stmts_with body (behind (test_phrases t) ls)))) (suc n - 1)
@@ -1356,21 +1392,14 @@ module _ (p : Program) (tables : Tables) (code : PlainCode) (all : List (List Ru
           let ls2 = behind (test_phrases t) ls in
           let u : Test = test_with t ls in
           let x : Stmts = stmts_with body ls2 in
+          let top : ℕ = while_top p tables code input below r line (suc n) at lo u x in
           let exit : ℕ = while_exit p tables code input below r line (suc n) at lo u x in
           let w = ending p code input may lo r now in
           let e : Events NoYield = on_first (below.test u v) (λ a _. bind (below.stmts x a) (λ y _. below.while u x y)) (λ _. one v tt) in
-          let condition = condition_slots r lo (is_simple u) (test_slots p r u) (stmts_slots p r x) slots in
-          subst (λ k. Later code input line (at + 1) exit now w (Visit e) k) less_one
-          (visited_later code input line (at + 1) exit now w e n
+          subst (λ k. Later code input line top exit now w (Visit e) k) less_one
+          (visited_later code input line top exit now w e n
           (while_turn_runs p tables code input below r line (suc n) may at lo u x (below.test u) (below.stmts x) (below.while u x) n (n - 1)
-          slots.behind (omega arith)
-          (λ none. know.tests r line lt t ls (fine_front p tables code input r (test_phrases t) (stmts_phrases body) ls inner) (at + 1) lo
-          none condition.0)
-          (λ next. owes_less p tables code input may r line next (behind_condition p r lo u)
-          (stmts_code p tables r next (behind_condition p r lo u) x) (below.stmts x) n (n - 1) (omega arith)
-          (know.lists may r line lt body ls2 (fine_back p tables code input r (test_phrases t) (stmts_phrases body) ls inner)
-          (stays_back p tables code input may (test_phrases t) (stmts_phrases body) inner_stays) next (behind_condition p r lo u)
-          condition.1))
+          slots.behind (omega arith) (turn_known (is_turned u) may r line lt t body ls inner inner_stays at lo refl slots)
           (know.whiles may r line lt t body ls inner inner_stays at lo slots stands) stands v now b))
 
       repeat_go : (may : Bool) (r line : ℕ) → r < length p.routines → (body : Stmts) (t : Test) (ls : List ℕ)
@@ -1407,6 +1436,8 @@ module _ (p : Program) (tables : Tables) (code : PlainCode) (all : List (List Ru
         lists = λ may r line lt x ls fine stays at lo slots. stmts_go may r lt x ls fine stays line at lo slots;
         tests = λ r line lt t ls fine at lo none slots. decides p tables code input below r line (suc n) (test_with t ls)
             (test_go r line lt t ls fine) at lo none slots;
+        backs = λ r line lt t ls fine e at lo top slots. decides_back p tables code input below r line (suc n) (test_with t ls)
+            (test_go r line lt t ls fine) e at lo top slots;
         whiles = λ may r line lt t x ls fine stays at lo slots stands v now b. while_go may r line lt t x ls fine stays at lo slots stands v
             now b;
         repeats = λ may r line lt x t ls fine stays at lo slots stands v now b. repeat_go may r line lt x t ls fine stays at lo slots stands

@@ -1,5 +1,5 @@
 -- What is known of the level below: lists, conditions and turns, wherever they stand.
-use Rattle.std.proofs.Common.{◌≡◌, ℕ, zero, suc, ◌+◌, ◌-◌, ◌<◌, ◌≤◌, Bool, List, ◌++◌, length, refl, sym, ap, ◌∙◌, subst, arith}
+use Rattle.std.proofs.Common.{◌≡◌, ℕ, zero, suc, ◌+◌, ◌-◌, ◌<◌, ◌≤◌, Bool, true, List, ◌++◌, length, refl, sym, ap, ◌∙◌, subst, arith}
 use Rattle.alma_code.specs.Picture.{PlainFrame, PlainEntry}
 use Rattle.alma_code.specs.Plain.{PlainCode}
 use Rattle.alma_code.specs.Machine.{State, Mode, Going, Failing, Ended, Stuck, after, step}
@@ -15,16 +15,17 @@ use Rattle.alma_lower_implements.proofs.Frames.{HasSlots, IsAt}
 use Rattle.alma_lower_implements.proofs.Ways.{Leaves}
 use Rattle.alma_lower_templates.specs.Lined.{Lined}
 use Rattle.alma_lower_templates.specs.Tables.{Tables}
-use Rattle.alma_lower_templates.specs.Slots.{is_simple, mark_slots, test_slots, stmts_slots, stmt_slots}
+use Rattle.alma_lower_templates.specs.Slots.{is_simple, is_turned, mark_slots, test_slots, stmts_slots, stmt_slots}
 use Rattle.alma_lower_templates.specs.Stands.{Stands}
 use Rattle.alma_lower_templates.specs.Templates.{stmts_code, stmt_code}
 use Rattle.alma_lower_templates.proofs.Asked.{Asked, Fine, Stays}
 use Rattle.alma_lower_templates.proofs.ForForms.{CountsOn}
 use Rattle.alma_lower_templates.proofs.ForStatement.{for_top}
 use Rattle.alma_lower_templates.proofs.GuardedForms.{Decided}
-use Rattle.alma_lower_templates.proofs.LoopForms.{TurnsRun, while_exit, repeat_exit}
+use Rattle.alma_lower_templates.proofs.LoopForms.{TurnsRun, while_top, while_exit, repeat_exit}
 use Rattle.alma_lower_templates.proofs.Parts.{RunsFor, ending}
 use Rattle.alma_lower_templates.proofs.SomeForms.{TurnsOn, some_top, some_exit}
+use Rattle.alma_lower_templates.proofs.Turned.{GoesBack}
 
 module _ (p : Program) (tables : Tables) (code : PlainCode) (input : List ℕ) where
   -- statements that pay for more pay for less
@@ -37,13 +38,13 @@ module _ (p : Program) (tables : Tables) (code : PlainCode) (input : List ℕ) w
   -- the turns of a loop, given the loop with its lines
   abbrev pub ForTurns : (below : Level) (may : Bool) (r line at lo : ℕ) → Loop → (q : ℕ) → Type 0
   ForTurns below may r line at lo (a_loop d range counter limit from to by body) q =
-      CountsOn p tables code input below r line q may (for_top p tables code input below r line q may at lo from to by)
+      CountsOn p tables code input below r line q may (for_top p tables code input below r line q may at lo limit from to by)
       (at + length (stmt_code p tables r line at lo (ForTo (a_loop d range counter limit from to by body)))) lo
       counter by (below.for (a_loop d range counter limit from to by body)) q
 
   abbrev pub SomeTurns : (below : Level) (may : Bool) (r line at lo : ℕ) → Loop → (q : ℕ) → Type 0
   SomeTurns below may r line at lo (a_loop d range counter limit from to by body) q =
-      TurnsOn p tables code input below r line q may (some_top p tables code input below r line q may at lo from to)
+      TurnsOn p tables code input below r line q may (some_top p tables code input below r line q may at lo limit from to)
       (some_exit p tables code input below r line q may at lo (a_loop d range counter limit from to by body)) lo counter limit
       (below.some (a_loop d range counter limit from to by body)) q
 
@@ -55,12 +56,16 @@ module _ (p : Program) (tables : Tables) (code : PlainCode) (input : List ℕ) w
     pub tests : (r line : ℕ) → r < length p.routines → (t : Test) (ls : List ℕ) → Fine p tables code input r (test_phrases t) ls
         → (at lo none : ℕ) → HasSlots p code r lo (mark_slots (is_simple (test_with t ls)) ++ test_slots p r (test_with t ls))
         → Decided p tables code input below r line m at lo none (test_with t ls) (below.test (test_with t ls)) m
+    pub backs : (r line : ℕ) → r < length p.routines → (t : Test) (ls : List ℕ) → Fine p tables code input r (test_phrases t) ls
+        → is_turned (test_with t ls) ≡ true → (at lo top : ℕ) → HasSlots p code r lo (test_slots p r (test_with t ls))
+        → GoesBack p tables code input below r line m at lo top (test_with t ls) (below.test (test_with t ls)) m
     pub whiles : (may : Bool) (r line : ℕ) → r < length p.routines → (t : Test) (x : Stmts) (ls : List ℕ)
         → Fine p tables code input r (test_phrases t ++ stmts_phrases x) ls
         → Stays p tables code input may (test_phrases t ++ stmts_phrases x)
         → (at lo : ℕ) → HasSlots p code r lo (stmt_slots p r (While (test_with t ls) (stmts_with x (behind (test_phrases t) ls))))
         → Stands code at (stmt_code p tables r line at lo (While (test_with t ls) (stmts_with x (behind (test_phrases t) ls))))
-        → TurnsRun p tables code input below r line m may (at + 1)
+        → TurnsRun p tables code input below r line m may
+        (while_top p tables code input below r line m at lo (test_with t ls) (stmts_with x (behind (test_phrases t) ls)))
         (while_exit p tables code input below r line m at lo (test_with t ls) (stmts_with x (behind (test_phrases t) ls))) lo
         (below.while (test_with t ls) (stmts_with x (behind (test_phrases t) ls))) (m - 1)
     pub repeats : (may : Bool) (r line : ℕ) → r < length p.routines → (x : Stmts) (t : Test) (ls : List ℕ)
@@ -127,6 +132,8 @@ module _ (p : Program) (tables : Tables) (code : PlainCode) (input : List ℕ) w
     lists = λ may r line lt x ls fine stays at lo slots stands v now b c few held s is. cut_here s c 0 (omega arith)
         (subst IsOn (sym is.mode) tt);
     tests = λ r line lt t ls fine at lo none slots v now b stands B left2 more2 fits2 found nothing b2 c le held s is on_found on_none.
+        cut_here s (3 + b2 + c) 0 (omega arith) (subst IsOn (sym is.mode) tt);
+    backs = λ r line lt t ls fine e at lo top slots v now b stands B left2 more2 fits2 found nothing b2 c le held s is on_found on_none.
         cut_here s (3 + b2 + c) 0 (omega arith) (subst IsOn (sym is.mode) tt);
     whiles = λ may r line lt t x ls fine stays at lo slots stands v now b. λ j d few owes held s u silently is. cut_later _ now j d few owes
         held s u silently is;

@@ -24,6 +24,7 @@ pub mod RangeChecks
 pub mod StmtForms
 pub mod SimpleOne
 pub mod Conditions
+pub mod Turned
 pub mod BarrierForms
 pub mod GuardedForms
 pub mod LoopForms
@@ -35,6 +36,7 @@ pub mod CallForms
 pub mod CaseForms
 pub mod Starting
 pub mod ForForms
+pub mod Bounds
 pub mod ForStatement
 pub mod Sizes
 pub mod SomeForms

@@ -1,5 +1,5 @@
 -- Truths as numbers, WHILE and REPEAT, from template to run.
-use Rattle.std.proofs.Common.{◌≡◌, ℕ, suc, ◌+◌, ◌-◌, ◌≤◌, Bool, List, [], ◌∷◌, ◌++◌, length, refl, sym, subst, arith, ℤ, pos}
+use Rattle.std.proofs.Common.{◌≡◌, ℕ, suc, ◌+◌, ◌-◌, ◌≤◌, Bool, true, false, List, [], ◌∷◌, ◌++◌, length, refl, sym, subst, arith, ℤ, pos}
 use Rattle.std.proofs.lemmas.List.{length-append}
 use Rattle.alma_code.specs.declared.cell.SlotKind.TheVariants as slot
 use Rattle.alma_code.specs.declared.instr.Instr.TheVariants as I
@@ -15,11 +15,12 @@ use Rattle.alma_lower_implements.proofs.ChoiceSteps.{jumps}
 use Rattle.alma_lower_implements.proofs.ExprRows.{first_kind}
 use Rattle.alma_lower_implements.proofs.Steps.{InstrAt, const_step}
 use Rattle.alma_lower_implements.proofs.TurnRow.{while_row, repeat_row}
-use Rattle.alma_lower_implements.proofs.Ways.{Leaves, Later, Visited, visited_behind}
+use Rattle.alma_lower_implements.proofs.Ways.{Leaves, Later, Visited, visited_behind, leads_nowhere, leads_by_jump}
 use Rattle.alma_lower_templates.specs.Lined.{Lined, own}
 use Rattle.alma_lower_templates.specs.Tables.{Tables}
-use Rattle.alma_lower_templates.specs.Slots.{is_simple, mark_slots, expr_slots, test_slots, behind_stmts, behind_condition}
-use Rattle.alma_lower_templates.specs.Templates.{stmts_code, stmt_code}
+use Rattle.alma_lower_templates.specs.Slots.{is_simple, is_turned, by_turn, mark_slots, expr_slots, test_slots, behind_stmts}
+use Rattle.alma_lower_templates.specs.Slots.{behind_condition}
+use Rattle.alma_lower_templates.specs.Templates.{stmts_code, stmt_code, back_code}
 use Rattle.alma_lower_templates.specs.Stands.{Stands}
 use Rattle.alma_lower_templates.proofs.Stands.{stands_front, stands_back}
 use Rattle.alma_lower_templates.proofs.Parts.{Begins, begins, Left, left_less, left_on, has_kind, ValueIn, NodeRuns, From, RunsFor, leaving}
@@ -29,6 +30,7 @@ use Rattle.alma_lower_templates.proofs.RangeChecks.{past_from}
 use Rattle.alma_lower_templates.proofs.GuardedForms.{Decided, behind_test_at, guarded_code, guarded_front, guarded_back, guarded_long}
 use Rattle.alma_lower_templates.proofs.GuardedForms.{condition_long}
 use Rattle.alma_lower_templates.proofs.Conditions.{condition_code}
+use Rattle.alma_lower_templates.proofs.Turned.{while_code, GoesBack}
 use Rattle.alma_lower_templates.proofs.FormRuns.{ExprRuns, StatementRuns, ListRuns}
 
 module _ (p : Program) (tables : Tables) (code : PlainCode) (input : List ℕ) (below : Level) (r line q : ℕ) where
@@ -110,15 +112,57 @@ module _ (p : Program) (tables : Tables) (code : PlainCode) (input : List ℕ) (
   abbrev pub while_exit : (at lo : ℕ) → Test → Stmts → ℕ
   while_exit at lo t body = at + length (stmt_code p tables r line at lo (While t body))
 
-  -- a turn, from behind the first jump
-  pub while_turn_runs : (may : Bool) (at lo : ℕ) (t : Test) (body : Stmts) (cond does again : Store → Events NoYield) (d u : ℕ)
-      → own_end p r ≤ lo → d ≤ suc u → ((none : ℕ) → Decided p tables code input below r line q (at + 1) lo none t cond d)
-      → ((next : ℕ) → GivenRuns may next (behind_condition p r lo t) body does (d - 1))
-      → TurnsRun may (at + 1) (while_exit at lo t body) lo again u → Stands code at (stmt_code p tables r line at lo (While t body))
+  -- the address of the condition
+  abbrev pub turn_top : (behind : Bool) (at lo : ℕ) → Stmts → ℕ
+  turn_top behind at lo body = by_turn behind (at + 1 + length (stmts_code p tables r (at + 1) lo body)) (at + 1)
+
+  -- what is known of the condition and the body of a turn
+  pub record BehindKnown (may : Bool) (at lo : ℕ) (t : Test) (body : Stmts) (cond does : Store → Events NoYield) (d : ℕ) : Type 1 where
+    pub decides : GoesBack p tables code input below r line q (at + 1 + length (stmts_code p tables r (at + 1) lo body))
+        (behind_stmts p r lo body) (at + 1) t cond d
+    pub runs : GivenRuns may (at + 1) lo body does (d - 1)
+
+  pub record BeforeKnown (may : Bool) (at lo : ℕ) (t : Test) (body : Stmts) (cond does : Store → Events NoYield) (d : ℕ) : Type 1 where
+    pub decides : (none : ℕ) → Decided p tables code input below r line q (at + 1) lo none t cond d
+    pub runs : (next : ℕ) → GivenRuns may next (behind_condition p r lo t) body does (d - 1)
+
+  abbrev pub TurnKnown : (behind : Bool) (may : Bool) (at lo : ℕ) → Test → Stmts → (cond does : Store → Events NoYield) (d : ℕ) → Type 1
+  TurnKnown true may at lo t body cond does d = BehindKnown may at lo t body cond does d
+  TurnKnown false may at lo t body cond does d = BeforeKnown may at lo t body cond does d
+
+  -- a turn, from its condition on
+  turn_by : (z : Bool) (may : Bool) (at lo : ℕ) (t : Test) (body : Stmts) (cond does again : Store → Events NoYield) (d u : ℕ)
+      → own_end p r ≤ lo → d ≤ suc u → TurnKnown z may at lo t body cond does d
+      → TurnsRun may (turn_top z at lo body) (at + length (while_code p tables r z line at lo t body)) lo again u
+      → Stands code at (while_code p tables r z line at lo t body)
       → (v : Store) (now : List PlainFrame) → Begins p code input r v now
-      → Visited code input line (at + 1) (while_exit at lo t body) now (ending p code input may lo r now)
+      → Visited code input line (turn_top z at lo body) (at + length (while_code p tables r z line at lo t body)) now
+      (ending p code input may lo r now)
       (on_first (cond v) (λ x _. bind (does x) (λ y _. again y)) (λ _. one v tt)) d
-  while_turn_runs may at lo t body cond does again d u behind owes decides runs turns stands v now b =
+  turn_by true may at lo t body cond does again d u behind owes known turns stands v now b =
+      let inner : List Lined = stmts_code p tables r (at + 1) lo body in
+      let top : ℕ = at + 1 + length inner in
+      let lo2 : ℕ = behind_stmts p r lo body in
+      let last : List Lined = back_code p tables r line top lo2 (at + 1) t in
+      let both : length (inner ++ last) ≡ length inner + length last = length-append inner last in
+      let end : top + length last ≡ at + length (while_code p tables r true line at lo t body) = omega (arith, both) in
+      let w = ending p code input may lo r now in
+      subst (λ n. Visited code input line top n now w (on_first (cond v) (λ x _. bind (does x) (λ z _. again z)) (λ _. one v tt)) d) end
+      (while_row code input line top (at + 1) top (top + length last) now w v (cond v) does again (λ x t2. Left p code input lo2 r now x t2)
+      (λ t2. Left p code input lo2 r now v t2) (λ x t2. w) d u owes
+      (known.decides v now b (stands_back code (at + 1) inner last stands.2)) (leads_nowhere code input 1 top)
+      (λ x t2 left.
+      let left0 = left_less p code input lo lo2 r now x t2 (omega arith) left in
+      on_ending p code input may line (at + 1) top lo lo r x now t2 (does x) (d - 1) (omega arith) behind left0
+      (known.runs (stands_front code (at + 1) inner last stands.2) x t2 (begins p code input lo r now x t2 left0)))
+      (λ x t2 z t3 left left3.
+      subst (λ n. Later code input line top n t3 w (again z) u) (sym end)
+      (on_later p code input may line top (at + length (while_code p tables r true line at lo t body)) lo lo r z now t3 (again z) u
+      (omega arith) behind left3
+      (turns z t3 (begins p code input lo r now z t3 left3))))
+      (λ x t2 z n a t3 left h. h)
+      (λ t2 left. left_less p code input lo lo2 r now v t2 (omega arith) left))
+  turn_by false may at lo t body cond does again d u behind owes known turns stands v now b =
       let made = λ (next : ℕ). stmts_code p tables r next (behind_condition p r lo t) body in
       let top : ℕ = at + 1 in
       let head : List Lined = guarded_code p tables code input below r line q top lo 1 t made in
@@ -131,38 +175,60 @@ module _ (p : Program) (tables : Tables) (code : PlainCode) (input : List ℕ) (
       let jump_at : InstrAt code input line y (I.Jump top) =
       subst (λ n. InstrAt code input line n (I.Jump top)) ends (record { instr = back.0; on_line = back.1 }) in
       let both : length (head ++ out) ≡ length head + 1 = length-append head out in
-      let end : m + length (made m) + 1 ≡ while_exit at lo t body = omega (arith, both, ends) in
+      let end : m + length (made m) + 1 ≡ at + length (while_code p tables r false line at lo t body) = omega (arith, both, ends) in
       let w = ending p code input may lo r now in
       subst (λ n. Visited code input line top n now w (on_first (cond v) (λ x _. bind (does x) (λ z _. again z)) (λ _. one v tt)) d) end
       (while_row code input line top m y (m + length (made m) + 1) now w v (cond v) does again (λ x t2. Left p code input lo r now x t2)
       (λ t2. Left p code input lo r now v t2) (λ x t2. w) d u owes
-      (decides (m + length (made m) + 1) v now b (guarded_front p tables code input below r line q top lo 1 t made front)) jump_at
+      (known.decides (m + length (made m) + 1) v now b (guarded_front p tables code input below r line q top lo 1 t made front))
+      (leads_by_jump code input line 1 y top (omega arith) jump_at)
       (λ x t2 left. on_ending p code input may line m y lo (behind_condition p r lo t) r x now t2 (does x) (d - 1) (omega arith) behind left
-      (runs m (guarded_back p tables code input below r line q top lo 1 t made front) x t2 (begins p code input lo r now x t2 left)))
+      (known.runs m (guarded_back p tables code input below r line q top lo 1 t made front) x t2 (begins p code input lo r now x t2 left)))
       (λ x t2 z t3 left left3.
       subst (λ n. Later code input line top n t3 w (again z) u) (sym end)
-      (on_later p code input may line top (while_exit at lo t body) lo lo r z now t3 (again z) u (omega arith) behind left3
-      (turns z t3 (begins p code input lo r now z t3 left3))))
+      (on_later p code input may line top (at + length (while_code p tables r false line at lo t body)) lo lo r z now t3 (again z) u
+      (omega arith) behind
+      left3 (turns z t3 (begins p code input lo r now z t3 left3))))
       (λ x t2 z n a t3 left h. h)
       (λ t2 left. left))
 
+  -- the first jump leads to the condition
+  first_jump : (z : Bool) (at lo : ℕ) (t : Test) (body : Stmts) → Stands code at (while_code p tables r z line at lo t body)
+      → InstrAt code input line at (I.Jump (turn_top z at lo body))
+  first_jump true at lo t body stands = record { instr = stands.0; on_line = stands.1 }
+  first_jump false at lo t body stands = record { instr = stands.0; on_line = stands.1 }
+
+  abbrev pub while_top : (at lo : ℕ) → Test → Stmts → ℕ
+  while_top at lo t body = turn_top (is_turned t) at lo body
+
+  pub while_turn_runs : (may : Bool) (at lo : ℕ) (t : Test) (body : Stmts) (cond does again : Store → Events NoYield) (d u : ℕ)
+      → own_end p r ≤ lo → d ≤ suc u → TurnKnown (is_turned t) may at lo t body cond does d
+      → TurnsRun may (while_top at lo t body) (while_exit at lo t body) lo again u
+      → Stands code at (stmt_code p tables r line at lo (While t body))
+      → (v : Store) (now : List PlainFrame) → Begins p code input r v now
+      → Visited code input line (while_top at lo t body) (while_exit at lo t body) now (ending p code input may lo r now)
+      (on_first (cond v) (λ x _. bind (does x) (λ y _. again y)) (λ _. one v tt)) d
+  while_turn_runs may at lo t body cond does again d u behind owes known turns stands v now b =
+      turn_by (is_turned t) may at lo t body cond does again d u behind owes known turns stands v now b
+
   pub while_runs : (may : Bool) (at lo : ℕ) (t : Test) (body : Stmts) → own_end p r ≤ lo → (u : ℕ) → q - 1 ≤ suc u
-      → ((none : ℕ) → Decided p tables code input below r line q (at + 1) lo none t (below.test t) (q - 1))
-      → ((next : ℕ) → GivenRuns may next (behind_condition p r lo t) body (below.stmts body) (q - 1 - 1))
-      → TurnsRun may (at + 1) (while_exit at lo t body) lo (below.while t body) u
+      → TurnKnown (is_turned t) may at lo t body (below.test t) (below.stmts body) (q - 1)
+      → TurnsRun may (while_top at lo t body) (while_exit at lo t body) lo (below.while t body) u
       → StatementRuns p tables code input below r line q may at lo (While t body)
   unfolding ev_stmts
-  while_runs may at lo t body behind u owes decides runs turns stands v now b =
+  while_runs may at lo t body behind u owes known turns stands v now b =
+      let top : ℕ = while_top at lo t body in
       let exit : ℕ = while_exit at lo t body in
       let w = ending p code input may lo r now in
       let turn : Events NoYield = on_first (below.test t v) (λ x _. bind (below.stmts body x) (λ y _. below.while t body y)) (λ _. one v tt)
       in
-      let visited = while_turn_runs may at lo t body (below.test t) (below.stmts body) (below.while t body) (q - 1) u behind owes decides
-      runs turns stands v now b in
+      let visited = while_turn_runs may at lo t body (below.test t) (below.stmts body) (below.while t body) (q - 1) u behind owes known
+      turns
+      stands v now b in
       as_runs p code input line at exit now w (node (Visit turn)) q
       (node_runs p code input line 1 at exit now w (Visit turn) q (omega arith)
       (λ held s is.
-      let j = jumps code input line at (at + 1) now held s is (record { instr = stands.0; on_line = stands.1 }) in
+      let j = jumps code input line at top now held s is (first_jump (is_turned t) at lo t body stands) in
       before code input line 0 24 (Leaves exit w) held turn s j.to 1 33 24 q (q - 1) j.silently (omega arith) (omega arith)
       (visited held j.to j.is)))
 

@@ -107,7 +107,7 @@ module _ (code : PlainCode) (input : List ℕ) (line lo : ℕ) where
     );
   }
 
-  less_reads : (at one other : ℕ) (now : List PlainFrame) → InstrAt code input line at (I.Less lo one other)
+  pub less_reads : (at one other : ℕ) (now : List PlainFrame) → InstrAt code input line at (I.Less lo one other)
       → ReadsPair code input at one other now
   unfolding act
   less_reads at one other now i = record {
@@ -120,7 +120,7 @@ module _ (code : PlainCode) (input : List ℕ) (line lo : ℕ) where
     );
   }
 
-  less_eq_reads : (at one other : ℕ) (now : List PlainFrame) → InstrAt code input line at (I.LessEq lo one other)
+  pub less_eq_reads : (at one other : ℕ) (now : List PlainFrame) → InstrAt code input line at (I.LessEq lo one other)
       → ReadsPair code input at one other now
   unfolding act
   less_eq_reads at one other now i = record {

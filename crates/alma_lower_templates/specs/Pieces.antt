@@ -1,6 +1,6 @@
 -- The pieces of code that phrases share. An expression's value stands in a slot, a designator's place too; where a value is
 -- used at once, a variable of the routine stands for itself.
-use Rattle.std.specs.Prelude.{ℕ, zero, suc, ◌+◌, ◌*◌, Bool, true, false, ℤ, pos, negsuc, List, [], ◌∷◌, ◌++◌, length}
+use Rattle.std.specs.Prelude.{ℕ, zero, suc, ◌+◌, ◌*◌, Bool, true, false, ℤ, pos, negsuc, List, [], ◌∷◌, ◌++◌, length, Option, Some, None}
 use Rattle.alma_base.specs.declared.number.Range.{Range}
 use Rattle.alma_code.specs.declared.instr.Instr.{Instr}
 use Rattle.alma_code.specs.declared.instr.Instr.TheVariants as I
@@ -33,6 +33,15 @@ cmp_code cmp.Less to first other = I.Less to first other ∷ []
 cmp_code cmp.LessEq to first other = I.LessEq to first other ∷ []
 cmp_code cmp.Greater to first other = I.Less to other first ∷ []
 cmp_code cmp.GreaterEq to first other = I.LessEq to other first ∷ []
+
+-- 0 goes into the slot `to` where that is said of the first value and the other; not asked of equality, whose opposite takes one more
+abbrev pub opposite_code : Cmp → (to first other : ℕ) → Instr
+opposite_code cmp.Equal to first other = I.Equal to first other
+opposite_code cmp.Unequal to first other = I.Equal to first other
+opposite_code cmp.Less to first other = I.LessEq to other first
+opposite_code cmp.LessEq to first other = I.Less to other first
+opposite_code cmp.Greater to first other = I.LessEq to first other
+opposite_code cmp.GreaterEq to first other = I.Less to first other
 
 -- the end of a test of inequality, at an address: it fails where the numbers are equal, and else goes over the failure
 abbrev pub unequal_code : (to first other at : ℕ) → List Instr
@@ -150,20 +159,40 @@ forall_code line at mark parts = begin_forall line mark (at + length parts) ++ (
 
 -- ---- loops
 
--- whether a loop has a turn: the slot `from` holds the first count, the slot `to` the limit; `from` becomes 0 where the
--- first is beyond it
-abbrev pub entry_code : (by : ℤ) → (from to : ℕ) → Instr
-entry_code (pos step) from to = I.LessEq from from to
-entry_code (negsuc step) from to = I.LessEq from to from
+-- WHILE whose condition stands behind its body: the first jump leads there, and while the condition holds its end leads back to the body
+abbrev pub turned_loop : (line at : ℕ) → (body : List Lined) → (condition : (at : ℕ) → List Lined) → List Lined
+turned_loop line at body condition =
+    own line (I.Jump (at + 1 + length body) ∷ []) ++ (body ++ condition (at + 1 + length body))
+
+-- the first count goes to its slot: a constant itself, and another value from where it stands
+abbrev pub count_from : (constant : Option ℤ) → (counter first : ℕ) → Instr
+count_from (Some n) counter first = I.Const counter n
+count_from None counter first = I.Move counter first
+
+-- no code where there is such a constant
+abbrev pub unless_constant : (constant : Option ℤ) → List Lined → List Lined
+unless_constant (Some n) value = []
+unless_constant None value = value
+
+-- the limit goes to its slot: straight, where its code puts it in place alone, or from the slot `value`
+abbrev pub limit_code : (alone : Bool) → (line limit value : ℕ) → (code : List Lined) → List Lined
+limit_code true line limit value code = straight limit code
+limit_code false line limit value code = code ++ own line (I.Move limit value ∷ [])
+
+-- whether a loop has a turn: the slot `to` becomes 0 where the first count is beyond the limit
+abbrev pub entry_code : (by : ℤ) → (to counter limit : ℕ) → Instr
+entry_code (pos step) to counter limit = I.LessEq to counter limit
+entry_code (negsuc step) to counter limit = I.LessEq to limit counter
 
 -- the step of a loop, and both bounds
 abbrev pub begin_loop : (line at step : ℕ) → (by : ℤ) → (from to : (at : ℕ) → List Lined) → List Lined
 begin_loop line at step by from to = own line (I.Const step by ∷ []) ++ in_row (at + 1) (from (at + 1)) to
 
--- behind the bounds: both are stored, and where there is no turn the code goes on at `empty`
-abbrev pub bounds_code : (by : ℤ) → (counter limit first last empty : ℕ) → List Instr
-bounds_code by counter limit first last empty = I.Move counter first ∷ I.Move limit last ∷ entry_code by first last ∷ I.JumpZero first empty
-    ∷ []
+-- behind the limit: the first count is set, so both bounds are there at one point, and where there is no turn the code goes
+-- on at `empty`
+abbrev pub bounds_code : (by : ℤ) → (constant : Option ℤ) → (counter limit first empty : ℕ) → List Instr
+bounds_code by constant counter limit first empty =
+    count_from constant counter first ∷ entry_code by first counter limit ∷ I.JumpZero first empty ∷ []
 
 -- a turn: the count is checked, the variable is located and set, and the body follows
 abbrev pub turn_code : (line at : ℕ) → (check : List Instr) → (locate : (at : ℕ) → List Lined) → (store : Instr)
@@ -172,18 +201,18 @@ turn_code line at check locate store body =
     in_row at (own line check) (λ at. in_row at (locate at) (λ at. own line (store ∷ []) ++ body (at + 1)))
 
 -- the turns of FOR: behind each comes the next, or what is behind the loop
-abbrev pub for_turns : (line at : ℕ) → (by : ℤ) → (counter limit step first last : ℕ) → (turn : List Lined) → List Lined
-for_turns line at by counter limit step first last turn =
-    own line (bounds_code by counter limit first last (at + 4 + length turn + 2))
-    ++ (turn ++ own line (I.Step counter limit step (at + 4 + length turn + 2) ∷ I.Jump (at + 4) ∷ []))
+abbrev pub for_turns : (line at : ℕ) → (by : ℤ) → (constant : Option ℤ) → (counter limit step first : ℕ) → (turn : List Lined) → List Lined
+for_turns line at by constant counter limit step first turn =
+    own line (bounds_code by constant counter limit first (at + 3 + length turn + 2))
+    ++ (turn ++ own line (I.Step counter limit step (at + 3 + length turn + 2) ∷ I.Jump (at + 3) ∷ []))
 
--- the turns of SOME: each but the last has a choice entry, at which the count is raised and the next turn begins; a loop
+-- the turns of SOME: each but the last has a choice entry, which goes on where the count is raised, before the next turn; a loop
 -- without turns fails
-abbrev pub some_turns : (line at counter limit step first last more : ℕ) → (turn : List Lined) → List Lined
-some_turns line at counter limit step first last more turn =
-    own line (bounds_code (pos 1) counter limit first last (at + 7 + length turn + 3)
-    ++ (I.Less more counter limit ∷ I.JumpZero more (at + 7) ∷ I.Choose (at + 7 + length turn + 1) ∷ []))
-    ++ (turn ++ own line (I.Jump (at + 7 + length turn + 4) ∷ I.Add counter counter step ∷ I.Jump (at + 4) ∷ I.Fail ∷ []))
+abbrev pub some_turns : (line at : ℕ) → (constant : Option ℤ) → (counter limit step first more : ℕ) → (turn : List Lined) → List Lined
+some_turns line at constant counter limit step first more turn =
+    own line (count_from constant counter first ∷ I.LessEq first counter limit ∷ I.Check first ∷ I.Jump (at + 5)
+    ∷ I.Add counter counter step ∷ I.Less more counter limit ∷ I.JumpZero more (at + 8) ∷ I.Choose (at + 4) ∷ [])
+    ++ turn
 
 -- ---- CASE
 

@@ -1,10 +1,12 @@
 -- The slots of a routine's frame: the link, its own slots, and a fresh slot for each need of each phrase of its body, in
 -- the order of the phrases. No two phrases share one.
 use Rattle.std.specs.Prelude.{ℕ, zero, suc, ◌+◌, ◌-◌, Bool, true, false, not, ◌&&◌, List, [], ◌∷◌, ◌++◌, length, replicate, Option, Some}
-use Rattle.std.specs.Prelude.{None}
+use Rattle.std.specs.Prelude.{None, ℤ}
 use Rattle.alma_base.specs.declared.number.Range.{Range}
 use Rattle.alma_code.specs.declared.cell.SlotKind.{SlotKind}
 use Rattle.alma_code.specs.declared.cell.SlotKind.TheVariants as slot
+use Rattle.alma_ir.specs.declared.phrase.Cmp.{Cmp}
+use Rattle.alma_ir.specs.declared.phrase.Cmp.TheVariants as cmp
 use Rattle.alma_ir.specs.declared.phrase.Root.{Root}
 use Rattle.alma_ir.specs.declared.phrase.Root.TheVariants as root
 use Rattle.alma_ir.specs.declared.program.ArgKind.{ArgKind}
@@ -98,6 +100,13 @@ straight_by None alone = None
 abbrev pub goes_straight : Desig → Expr → Range → Option ℕ
 goes_straight d e range = straight_by (bare_desig d) (is_whole range && ends_alone e)
 
+-- ---- bounds of loops
+
+-- the number of a first count that is a constant
+abbrev pub constant : Expr → Option ℤ
+constant (Const n) = Some n
+constant _ = None
+
 -- ---- parameters whose place is used in their own slot
 
 -- the slot of a parameter that holds the place of the whole designator
@@ -142,6 +151,21 @@ abbrev mutual
 abbrev pub is_simple : Test → Bool
 is_simple (Value e) = is_simple_expr e
 is_simple _ = false
+
+-- whether the opposite of a comparison is one instruction too
+abbrev pub has_opposite : Cmp → Bool
+has_opposite cmp.Equal = false
+has_opposite _ = true
+
+-- whether WHILE tests its condition behind its body: a simple comparison whose opposite is one instruction too
+abbrev pub is_turned : Test → Bool
+is_turned (Value (Compare how x y)) = has_opposite how && (is_simple_expr x && is_simple_expr y)
+is_turned _ = false
+
+-- the one or the other, by where the condition of WHILE stands
+abbrev pub by_turn : {A : Type 0} → (turned : Bool) → (behind before : A) → A
+by_turn true behind before = behind
+by_turn false behind before = before
 
 -- the mark of a condition that has a choice entry
 abbrev pub mark_slots : (simple : Bool) → List SlotKind
@@ -199,7 +223,8 @@ module _ (p : Program) (r : ℕ) where
     stmt_slots (Assign d e range) = unless_bare (bare_desig d) (desig_slots d) ++ unless_bare (bare e) (expr_slots e)
     stmt_slots (CopyCells d e) = desig_slots d ++ desig_slots e
     stmt_slots (If arms rest) = arms_slots arms ++ stmts_slots rest
-    stmt_slots (While t body) = mark_slots (is_simple t) ++ (test_slots t ++ stmts_slots body)
+    stmt_slots (While t body) = by_turn (is_turned t) (stmts_slots body ++ test_slots t)
+        (mark_slots (is_simple t) ++ (test_slots t ++ stmts_slots body))
     stmt_slots (Repeat body t) = stmts_slots body ++ (mark_slots (is_simple t) ++ test_slots t)
     stmt_slots (ForTo l) = for_slots l
     stmt_slots (SomeOf l) = some_slots l

@@ -21,11 +21,12 @@ use Rattle.alma_lower_templates.specs.Tables.{Tables, range_number, text_number}
 use Rattle.alma_lower_templates.specs.Slots.{shift_of, bare_desig, bare, stays, stays_in, unless_bare, goes_straight, own_place, own_root}
 use Rattle.alma_lower_templates.specs.Slots.{is_simple, handed_slots, call_links, root_slots, arg_slots, behind_stmts, behind_stmt}
 use Rattle.alma_lower_templates.specs.Slots.{behind_test, behind_condition, behind_expr, behind_dead, behind_value, behind_desig}
-use Rattle.alma_lower_templates.specs.Slots.{behind_target, behind_variable, own_kinds}
+use Rattle.alma_lower_templates.specs.Slots.{behind_target, behind_variable, own_kinds, is_turned, by_turn, constant, ends_alone}
 use Rattle.alma_lower_templates.specs.Pieces.{op_code, cmp_code, unequal_code, straight, neg_code, write_code, read_code, fit_code}
 use Rattle.alma_lower_templates.specs.Pieces.{link_code, condition, guarded, chosen, first_of_two, refused, truth_code, each_body}
 use Rattle.alma_lower_templates.specs.Pieces.{forall_code, begin_loop, turn_code, for_turns, some_turns, behind_labels, case_arm}
-use Rattle.alma_lower_templates.specs.Pieces.{passed_over, has_dead, first_argument}
+use Rattle.alma_lower_templates.specs.Pieces.{passed_over, has_dead, first_argument, turned_loop, opposite_code, unless_constant}
+use Rattle.alma_lower_templates.specs.Pieces.{limit_code}
 
 -- the numbers of CHAR
 abbrev pub char_range : Range
@@ -169,11 +170,13 @@ module _ (p : Program) (tables : Tables) (r : ℕ) where
     stmt_code line at lo (If arms rest) = if_code line at lo arms (λ next lo. stmts_code next lo rest)
     -- the first jump is the one step before the first condition
     stmt_code line at lo (While t body) =
-        own line (I.Jump (at + 1) ∷ [])
+        by_turn (is_turned t)
+        (turned_loop line at (stmts_code (at + 1) lo body) (λ next. back_code line next (behind_stmts p r lo body) (at + 1) t))
+        (own line (I.Jump (at + 1) ∷ [])
         ++ (guarded (at + 1) 1 (λ none. condition (is_simple t) line (at + 1) lo none (λ at lo none. jump_code line at lo none t)
         (λ at lo. test_code line at lo t))
         (λ next. stmts_code next (behind_condition p r lo t) body)
-        ++ own line (I.Jump (at + 1) ∷ []))
+        ++ own line (I.Jump (at + 1) ∷ [])))
     stmt_code line at lo (Repeat body t) =
         in_row at (stmts_code at lo body) (λ next. condition (is_simple t) line next (behind_stmts p r lo body)
         at (λ at lo none. jump_code line at lo none t) (λ at lo. test_code line at lo t))
@@ -224,9 +227,10 @@ module _ (p : Program) (tables : Tables) (r : ℕ) where
     for_code line at lo (a_loop d range counter limit from to by body) =
         let last : ℕ = behind_expr p r (lo + 1) from in
         let place : ℕ = behind_expr p r last to in
-        in_row at (begin_loop line at lo by (λ at. expr_code line at (lo + 1) from) (λ at. expr_code line at last to))
-        (λ next. for_turns line next by (own_slot counter) (own_slot limit) lo (lo + 1) last
-        (turn_code line (next + 4) (count_code (bare_desig d) range (own_slot counter) place)
+        in_row at (begin_loop line at lo by (λ at. unless_constant (constant from) (expr_code line at (lo + 1) from))
+        (λ at. limit_code (ends_alone to) line (own_slot limit) (value_at last to) (unless_bare (bare to) (expr_code line at last to))))
+        (λ next. for_turns line next by (constant from) (own_slot counter) (own_slot limit) lo (lo + 1)
+        (turn_code line (next + 3) (count_code (bare_desig d) range (own_slot counter) place)
         (λ at. unless_bare (bare_desig d) (desig_code line at (place + 1) d))
         (set_code (place + 1) (count_at (bare_desig d) (own_slot counter) place) d)
         (λ at. stmts_code at (behind_variable p r place d) body)))
@@ -235,9 +239,10 @@ module _ (p : Program) (tables : Tables) (r : ℕ) where
     some_code line at lo (a_loop d range counter limit from to by body) =
         let last : ℕ = behind_expr p r (lo + 1) from in
         let more : ℕ = behind_expr p r last to in
-        in_row at (begin_loop line at lo (pos 1) (λ at. expr_code line at (lo + 1) from) (λ at. expr_code line at last to))
-        (λ next. some_turns line next (own_slot counter) (own_slot limit) lo (lo + 1) last more
-        (turn_code line (next + 7) (count_code (bare_desig d) range (own_slot counter) (more + 1))
+        in_row at (begin_loop line at lo (pos 1) (λ at. unless_constant (constant from) (expr_code line at (lo + 1) from))
+        (λ at. limit_code (ends_alone to) line (own_slot limit) (value_at last to) (unless_bare (bare to) (expr_code line at last to))))
+        (λ next. some_turns line next (constant from) (own_slot counter) (own_slot limit) lo (lo + 1) more
+        (turn_code line (next + 8) (count_code (bare_desig d) range (own_slot counter) (more + 1))
         (λ at. unless_bare (bare_desig d) (desig_code line at (more + 1 + 1) d))
         (set_code (more + 1 + 1) (count_at (bare_desig d) (own_slot counter) (more + 1)) d)
         (λ at. stmts_code at (behind_variable p r (more + 1) d) body)))
@@ -340,6 +345,14 @@ module _ (p : Program) (tables : Tables) (r : ℕ) where
     pub jump_code : (line at lo none : ℕ) → Test → List Lined
     jump_code line at lo none (Value e) = unless_bare (bare e) (expr_code line at lo e) ++ own line (I.JumpZero (value_at lo e) none ∷ [])
     jump_code line at lo none _ = []
+
+    -- a comparison goes to `top` while it holds
+    pub back_code : (line at lo top : ℕ) → Test → List Lined
+    back_code line at lo top (Value (Compare how x y)) =
+        in_row at (unless_bare (stays x y) (expr_code line at lo x))
+        (λ next. unless_bare (bare y) (expr_code line next (behind_expr p r lo x) y))
+        ++ own line (opposite_code how lo (slot_or (stays x y) lo) (value_at (behind_expr p r lo x) y) ∷ I.JumpZero lo top ∷ [])
+    back_code line at lo top _ = []
 
     -- the value goes into the slot `lo`
     pub expr_code : (line at lo : ℕ) → Expr → List Lined
