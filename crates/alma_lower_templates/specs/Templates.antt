@@ -395,11 +395,13 @@ module _ (p : Program) (tables : Tables) (r : ℕ) where
 
     pub arg_code : (line at to lo : ℕ) → Arg → List Lined
     arg_code line at to lo (ByValue e range) =
-        put_code (is_straight e range) line to (value_at lo e) (fit_code tables range (value_at lo e)) (unless_bare (bare e) (expr_code line at lo e))
+        put_code (is_straight e range) line to (value_at lo e) (fit_code tables range (value_at lo e))
+        (unless_bare (bare e) (expr_code line at lo e))
     arg_code line at to lo (ByCells d) = desig_code line at lo d ++ own line (I.Same to (place_at lo d) ∷ [])
     arg_code line at to lo (ByPlace d) = desig_code line at lo d ++ own line (I.Same to (place_at lo d) ∷ [])
     arg_code line at to lo (MixValue e range) =
-        put_code (is_straight e range) line to (value_at lo e) (fit_code tables range (value_at lo e)) (unless_bare (bare e) (expr_code line at lo e))
+        put_code (is_straight e range) line to (value_at lo e) (fit_code tables range (value_at lo e))
+        (unless_bare (bare e) (expr_code line at lo e))
     arg_code line at to lo (MixPlace d) = desig_code line at lo d ++ own line (I.Same to (place_at lo d) ∷ [])
 
     -- the place goes into the slot `place_at lo`. Where that of a parameter is no place yet, the instruction that takes the part faults
