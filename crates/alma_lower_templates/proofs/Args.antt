@@ -1,6 +1,6 @@
 -- The arguments of a call: each goes into a slot of its own, where the Call reads it.
-use Rattle.std.proofs.Common.{◌≡◌, ℕ, suc, ◌+◌, ◌<◌, ◌≤◌, Bool, true, false, List, [], ◌∷◌, ◌++◌, length, Some, None, refl, sym, ap, ◌∙◌, subst}
-use Rattle.std.proofs.Common.{arith, ℤ, pos, negsuc, length-append}
+use Rattle.std.proofs.Common.{◌≡◌, ℕ, suc, ◌+◌, ◌<◌, ◌≤◌, Bool, true, false, List, [], ◌∷◌, ◌++◌, length, Some, None, refl, sym, ap}
+use Rattle.std.proofs.Common.{◌∙◌, subst, arith, ℤ, pos, negsuc, length-append}
 use Rattle.std.proofs.lemmas.Int.{ints}
 use Rattle.std.proofs.lemmas.Bool.{and_parts}
 use Rattle.std.proofs.lemmas.Bool.Decides.{nat_tests}
@@ -44,13 +44,14 @@ use Rattle.alma_lower_implements.proofs.Ways.{Ways, Leaves, Runs}
 use Rattle.alma_lower_templates.specs.Lined.{Lined, own}
 use Rattle.alma_lower_templates.specs.Tables.{Tables, range_number, is_whole}
 use Rattle.alma_lower_templates.specs.Pieces.{fit_code, put_code, straight, unless_whole}
-use Rattle.alma_lower_templates.specs.Slots.{bare, ends_alone, is_straight, unless_bare, handed_slots, arg_kind, arg_slots, desig_cells, cells_behind}
+use Rattle.alma_lower_templates.specs.Slots.{bare, ends_alone, is_straight, unless_bare, handed_slots, arg_kind, arg_slots, desig_cells}
+use Rattle.alma_lower_templates.specs.Slots.{cells_behind}
 use Rattle.alma_lower_templates.specs.Templates.{expr_code, desig_code, value_at, place_at, arg_code, args_code}
 use Rattle.alma_lower_templates.specs.Stands.{Stands}
 use Rattle.alma_lower_templates.proofs.Stands.{stands_front, stands_back}
 use Rattle.alma_lower_templates.proofs.Parts.{Begins, Left, begins, left_self, left_on, left_temp, holds_temp, has_kind, holds_after}
-use Rattle.alma_lower_templates.proofs.Parts.{IsValue, ValueIn, PlaceIn, NodeFor, From, from_more, leaving, as_runs, node_runs, then_from, step_from}
-use Rattle.alma_lower_templates.proofs.Parts.{ends_here}
+use Rattle.alma_lower_templates.proofs.Parts.{IsValue, ValueIn, PlaceIn, NodeFor, From, from_more, leaving, as_runs, node_runs, then_from}
+use Rattle.alma_lower_templates.proofs.Parts.{step_from, ends_here}
 use Rattle.alma_lower_templates.proofs.PlaceSteps.{in_range_reads, in_range_passes, in_range_faults, same_step}
 use Rattle.alma_lower_templates.proofs.AtOnce.{AtOnce, at_once}
 use Rattle.alma_lower_templates.proofs.ExprForms.{RunsTo}

@@ -21,7 +21,8 @@ use Rattle.alma_lower_templates.specs.Tables.{Tables, range_number, text_number}
 use Rattle.alma_lower_templates.specs.Slots.{shift_of, bare_desig, bare, stays, stays_in, unless_bare, goes_straight, own_place, own_root}
 use Rattle.alma_lower_templates.specs.Slots.{is_simple, handed_slots, call_links, root_slots, arg_slots, behind_stmts, behind_stmt}
 use Rattle.alma_lower_templates.specs.Slots.{behind_test, behind_condition, behind_expr, behind_dead, behind_value, behind_desig}
-use Rattle.alma_lower_templates.specs.Slots.{behind_target, behind_variable, is_straight, own_kinds, is_turned, by_turn, constant, ends_alone}
+use Rattle.alma_lower_templates.specs.Slots.{behind_target, behind_variable, is_straight, own_kinds, is_turned, by_turn, constant}
+use Rattle.alma_lower_templates.specs.Slots.{ends_alone}
 use Rattle.alma_lower_templates.specs.Pieces.{op_code, cmp_code, unequal_code, straight, neg_code, write_code, read_code, fit_code}
 use Rattle.alma_lower_templates.specs.Pieces.{link_code, condition, guarded, chosen, first_of_two, refused, truth_code, each_body}
 use Rattle.alma_lower_templates.specs.Pieces.{forall_code, begin_loop, turn_code, for_turns, some_turns, behind_labels, case_arm}
