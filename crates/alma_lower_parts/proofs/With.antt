@@ -73,7 +73,7 @@ stays_in_with false x (more_links how y rest) ls ls2 = stays_with x y ls ls2
 
 -- ---- values that go straight into a variable
 
-alone_with : (e : Expr) (ls : List ℕ) → ends_alone (expr_with e ls) ≡ ends_alone e
+pub alone_with : (e : Expr) (ls : List ℕ) → ends_alone (expr_with e ls) ≡ ends_alone e
 unfolding stmts_with
 alone_with (Const n) ls = refl
 alone_with (Load d) ls = ap (λ o. not (is_given o)) (own_desig d ls)

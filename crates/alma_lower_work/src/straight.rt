@@ -27,6 +27,14 @@ fn ends_alone(expr: &Expr) -> bool
     }
 }
 
+/// Whether a value of a range may go straight to a slot: all numbers are in the range, and the last instruction of the
+/// value alone puts it.
+pub fn is_straight(expr: &Expr, range: Range) -> bool
+    ensures { result ≡ slots.is_straight (expr_of expr.now) range }
+{
+    holds_all(range) && ends_alone(expr)
+}
+
 /// The slot of a variable into which the value that is assigned to it goes straight.
 pub fn straight_slot(
     scene: &Scene<'_>,
