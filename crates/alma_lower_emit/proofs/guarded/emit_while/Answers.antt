@@ -14,9 +14,9 @@ returns-in-Some g c = record {
       (c.emit_turned.ensures.puts (sym (ap is_turned c.in-Some.ensures.is) ∙ c.in-Some.ensures.turned));
 }
 
-pub returns-in-None : goal.returns-in-None
-returns-in-None g c = record {
+pub returns-in_ok-top-in-None : goal.returns-in_ok-top-in-None
+returns-in_ok-top-in-None g c = record {
   puts = from_both c.then_add.result c.then_add.ensures.done c.then_add.ensures.codes
-      (λ ok h. while_put (around c.args.scene.now) c.args.line _ _ _ _ _ _ _ c.in-None.ensures c.in_ok-top.ensures.top_at
-      c.in_ok-top.ensures.codes (said c.emit_guarded-done.result ok c.emit_guarded-done.ensures.puts) h);
+      (λ ok h. while_put (around c.args.scene.now) c.args.line _ _ _ _ _ _ _ c.in-None.ensures c.in_ok-top-in-None.ensures.top_at
+      c.in_ok-top-in-None.ensures.codes (said c.emit_guarded-done.result ok c.emit_guarded-done.ensures.puts) h);
 }
