@@ -7,6 +7,7 @@ pub mod With
 pub mod PlaceForms
 pub mod ExprForms
 pub mod GuardForms
+pub mod TurnedForms
 pub mod IfForms
 pub mod TestForms
 pub mod StmtForms

@@ -12,9 +12,9 @@ mod pass;
 
 pub use alma_lower_work::{
     FirstOperand, Scene, Stand, Work, hold_at, is_simple, is_straight, next_operand, op_instr,
-    own_first, own_place, own_stand, own_value, put_at, put_cmp, put_fit, put_function, put_links,
-    put_neg, put_result_fit, put_root, put_truth, put_unequal, read_instr, slot_of, stay_at,
-    straight_slot, unequal, write_instr,
+    own_first, own_place, own_stand, own_value, put_at, put_back, put_cmp, put_fit, put_function,
+    put_links, put_neg, put_result_fit, put_root, put_truth, put_unequal, read_instr, slot_of,
+    stay_at, straight_slot, turned_test, unequal, write_instr,
 };
 pub use call::{Handed, begin_call, first_handed, put_call_link, take_handed, take_result};
 pub use case::{

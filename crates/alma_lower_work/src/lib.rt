@@ -9,6 +9,7 @@ mod scene;
 mod simple;
 mod stand;
 mod straight;
+mod turned;
 mod value;
 mod work;
 
@@ -20,6 +21,7 @@ pub use scene::Scene;
 pub use simple::is_simple;
 pub use stand::{Stand, own_stand, own_value};
 pub use straight::{is_straight, straight_slot};
+pub use turned::{put_back, turned_test};
 pub use value::{
     op_instr, put_cmp, put_fit, put_function, put_neg, put_result_fit, put_truth, read_instr,
     write_instr,
