@@ -177,8 +177,8 @@ module _ (s : Around) (line : ℕ) where
       → Changes m n (λ xs. aimed xs jump target) → target ≡ length m.code
       → PutsStmt s line a n (ForTo (a_loop x range counts limits from to by body))
   unfolding stmts_with stmts_phrases
-  for_put a a1 b c d e f g h i j k l m n step first jump top out target count counter limit stand x range counts limits from to known by body
-      cis lis fis t h1 is h2 p is2 q bounds t2 cnt is4 tgt is5 st t3 bd is6 is7 cd ch is8 =
+  for_put a a1 b c d e f g h i j k l m n step first jump top out target count counter limit stand x range counts limits from to known by
+      body cis lis fis t h1 is h2 p is2 q bounds t2 cnt is4 tgt is5 st t3 bd is6 is7 cd ch is8 =
       let ls0 = a.lines in
       let ls1 = behind (desig_phrases x) ls0 in
       let ls2 = behind (expr_phrases from) ls1 in

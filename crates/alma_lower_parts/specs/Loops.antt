@@ -47,7 +47,8 @@ pub record BeginsLoop (line : ℕ) (by : ℤ) (a c : Front) (x : Desig) (step : 
   pub puts : PutsSlot b c slot.Number (own line (I.Const step by ∷ []))
 
 -- the lines of the variable of a loop are passed, and then come its step and both bounds
-pub record PassesAndBounds (s : Around) (line : ℕ) (by : ℤ) (limit : ℕ) (a e : Front) (x : Desig) (from to : Expr) (step first : ℕ) : Type 0 where
+pub record PassesAndBounds (s : Around) (line : ℕ) (by : ℤ) (limit : ℕ) (a e : Front) (x : Desig) (from to : Expr) (step first : ℕ)
+    : Type 0 where
   pub b : Front
   pub passed : Turns a b (behind (desig_phrases x) a.lines)
   pub bounds : PutsBounds s line by limit b e from to step first
