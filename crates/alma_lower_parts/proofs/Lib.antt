@@ -12,6 +12,7 @@ pub mod IfForms
 pub mod TestForms
 pub mod StmtForms
 pub mod CallForms
+pub mod LimitForms
 pub mod LoopForms
 pub mod Arms
 pub mod Rows

@@ -1,4 +1,4 @@
-// Values that go straight into the variable that they are assigned to.
+// Values that go straight into the slot that they are meant for.
 ghost use Rattle.std.specs.Prelude.{◌≡◌, option_map, IfOk};
 ghost use Rattle.alma_ir.specs.View.{desig_of, expr_of};
 ghost use Rattle.alma_lower_templates.specs.Slots.{goes_straight};
@@ -13,8 +13,8 @@ use crate::value::holds_all;
 use alma_base::{NoMemory, Range};
 use alma_ir::{Desig, Expr};
 
-// Whether an expression that has code puts its value in place by its last instruction alone.
-fn ends_alone(expr: &Expr) -> bool
+/// Whether an expression that has code puts its value in place by its last instruction alone.
+pub fn ends_alone(expr: &Expr) -> bool
     ensures { result ≡ slots.ends_alone (expr_of expr.now) }
 {
     match expr {
@@ -50,4 +50,21 @@ pub fn straight_slot(
         return Ok(None);
     }
     own_stand(scene, desig)
+}
+
+/// The number of a first count that is a constant.
+#[tactic(auto, using(alma_ir::proofs::Views::viewed))]
+pub fn constant(expr: &Expr) -> Option<i64>
+    ensures { result ≡ slots.constant (expr_of expr.now) }
+{
+    match expr {
+        Expr::Const(value) => Some(*value),
+        Expr::Load(_)
+        | Expr::Chain(_, _, _)
+        | Expr::Compare(_, _, _)
+        | Expr::Truth(_)
+        | Expr::Known(_)
+        | Expr::Chr(_)
+        | Expr::Call(_) => None,
+    }
 }
