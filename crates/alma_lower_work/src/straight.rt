@@ -46,7 +46,7 @@ pub fn straight_slot(
         (around scene.now).tables (around scene.now).routine)
         (goes_straight (desig_of desig.now) (expr_of value.now) range)) }
 {
-    if !holds_all(range) || !ends_alone(value) {
+    if !is_straight(value, range) {
         return Ok(None);
     }
     own_stand(scene, desig)
