@@ -1,4 +1,3 @@
-use Rattle.std.specs.Prelude.{subst}
 use Rattle.alma_lower_work.specs.Front.{around}
 use Rattle.alma_lower_work.proofs.Joins.{on_ok_map}
 use Rattle.alma_lower_parts.proofs.CallForms.{straight_number, checked_number}
