@@ -81,11 +81,11 @@ where
     match arg {
         Arg::Value(value, range) => {
             let from = emit_value(work, scene, line, value, inside);
-            number_of(work, scene, line, *range, to, from)
+            number_of(work, scene, line, value, *range, to, from)
         }
         Arg::MixValue(value, range) => {
             let from = emit_value(work, scene, line, value, inside);
-            number_of(work, scene, line, *range, to, from)
+            number_of(work, scene, line, value, *range, to, from)
         }
         Arg::Cells(desig) => {
             let from = emit_desig(work, scene, line, desig, inside);

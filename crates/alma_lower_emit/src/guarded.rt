@@ -1,17 +1,19 @@
 // The code of IF, WHILE and REPEAT.
-ghost use Rattle.std.specs.Prelude.{drop, OnOk};
-ghost use Rattle.alma_ir.specs.View.{arms_list, stmts_list, test_of};
+ghost use Rattle.std.specs.Prelude.{◌≡◌, drop, true, OnOk};
+ghost use Rattle.alma_ir.specs.View.{arms_list, expr_of, stmts_list, test_of};
 ghost use Rattle.alma_ir.specs.Tree as tree;
+ghost use Rattle.alma_lower_templates.specs.Slots.{is_turned};
 ghost use Rattle.alma_lower_work.specs.Front.{around, front};
-ghost use Rattle.alma_lower_work.specs.Puts.{PutsStmt, PutsArms, PutsGuarded};
+ghost use Rattle.alma_lower_work.specs.Puts.{PutsStmt, PutsArms, PutsBack, PutsGuarded};
 ghost use Rattle.alma_lower_emit.specs.Inside.{EmitsStmts};
 
 use crate::condition::emit_guard;
+use crate::expression::{emit_first, emit_value};
 use crate::inside::emit_inside;
 use alma_base::NoMemory;
 use alma_code::Instr;
-use alma_ir::{Arm, Stmt, Test};
-use alma_lower_parts::{Scene, Work, begin_while, end_repeat};
+use alma_ir::{Arm, Cmp, Expr, Stmt, Test};
+use alma_lower_parts::{Scene, Work, begin_while, end_repeat, put_back, turned_test};
 
 // A condition, and what is done where it has an alternative; else the code goes on behind the jump that follows.
 fn emit_guarded<S>(
@@ -97,9 +99,62 @@ where
     ensures puts { OnOk result (PutsStmt (around scene.now) line
         (front work.old) (front work.new) (tree.While (test_of test.now) (stmts_list body.now))) }
 {
-    let top = begin_while(work, line)?;
-    let done = emit_guarded(work, scene, line, test, body, inside);
-    work.then_add(done, line, Instr::Jump { to: top })
+    match turned_test(test) {
+        Some((how, left, right)) => emit_turned(work, scene, line, how, left, right, body, inside),
+        None => {
+            let top = begin_while(work, line)?;
+            let done = emit_guarded(work, scene, line, test, body, inside);
+            work.then_add(done, line, Instr::Jump { to: top })
+        }
+    }
+}
+
+// WHILE whose condition stands behind its body.
+fn emit_turned<S>(
+    work: &mut Work,
+    scene: &Scene<'_>,
+    line: u32,
+    how: Cmp,
+    left: &Expr,
+    right: &Expr,
+    body: &[Stmt],
+    inside: &S,
+) -> Result<(), NoMemory>
+where
+    S: for<'a, 'b, 'c, 'd> Fn(&'a mut Work, &'b Scene<'c>, &'d [Stmt]) -> Result<(), NoMemory>,
+    requires emits { EmitsStmts (S.IsAlwaysCallable inside.now) (S.post inside.now) }
+    ensures puts { is_turned (tree.Value (tree.Compare how (expr_of left.now) (expr_of right.now)))
+        ≡ true → OnOk result (PutsStmt (around scene.now) line (front work.old) (front work.new)
+        (tree.While (tree.Value (tree.Compare how (expr_of left.now) (expr_of right.now)))
+        (stmts_list body.now))) }
+{
+    let jump = work.put(line, Instr::Jump { to: 0 })?;
+    let top = work.here()?;
+    let done = emit_inside(work, scene, body, inside);
+    work.then_aim(done, jump, 0)?;
+    emit_back(work, scene, line, how, left, right, top, inside)
+}
+
+// A comparison, which goes back to `top` while it holds.
+fn emit_back<S>(
+    work: &mut Work,
+    scene: &Scene<'_>,
+    line: u32,
+    how: Cmp,
+    left: &Expr,
+    right: &Expr,
+    top: u32,
+    inside: &S,
+) -> Result<(), NoMemory>
+where
+    S: for<'a, 'b, 'c, 'd> Fn(&'a mut Work, &'b Scene<'c>, &'d [Stmt]) -> Result<(), NoMemory>,
+    requires emits { EmitsStmts (S.IsAlwaysCallable inside.now) (S.post inside.now) }
+    ensures puts { OnOk result (PutsBack (around scene.now) line top (front work.old)
+        (front work.new) (tree.Value (tree.Compare how (expr_of left.now) (expr_of right.now)))) }
+{
+    let first = emit_first(work, scene, line, left, Some(right), inside)?;
+    let other = emit_value(work, scene, line, right, inside)?;
+    put_back(work, line, how, first, other, top)
 }
 
 // REPEAT.

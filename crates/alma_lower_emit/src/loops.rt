@@ -3,8 +3,11 @@ ghost use Rattle.std.specs.Prelude.{◌≡◌, IfOk, OnOk};
 ghost use Rattle.alma_ir.specs.View.{desig_of, expr_of, loop_of, stmts_list};
 ghost use Rattle.alma_ir.specs.Tree as tree;
 ghost use Rattle.alma_lower_work.specs.Front.{around, front};
-ghost use Rattle.alma_lower_work.specs.Puts.{PutsStmt};
-ghost use Rattle.alma_lower_parts.specs.Loops.{PassesAndBounds, PutsTurn};
+ghost use Rattle.alma_lower_work.specs.Puts.{PutsFirstOperand, PutsStmt};
+ghost use Rattle.alma_lower_parts.specs.Loops.{PassesAndBounds, PutsFirstCount, PutsLimit};
+ghost use Rattle.alma_lower_parts.specs.Loops.{PutsTurn};
+ghost use Rattle.alma_lower_templates.specs.Slots as slots;
+ghost use Rattle.alma_lower_templates.specs.Templates as T;
 ghost use Rattle.alma_lower_templates.specs.Templates.{own_slot};
 ghost use Rattle.alma_lower_emit.specs.Inside.{EmitsStmts};
 
@@ -12,9 +15,11 @@ use crate::designator::emit_target;
 use crate::expression::emit_expr;
 use crate::inside::emit_inside;
 use alma_base::NoMemory;
-use alma_ir::{Loop, Stmt};
+use alma_code::{Instr, SlotKind};
+use alma_ir::{Expr, Loop, Stmt};
 use alma_lower_parts::{
-    Bounds, Scene, Work, begin_for, begin_loop, begin_some, end_for, end_some, put_count,
+    Bounds, FirstOperand, Scene, Work, begin_for, begin_loop, begin_some, constant, end_for,
+    ends_alone, own_value, put_at, put_count, stay_at,
 };
 
 // FOR. The lines of the variable come first, and its code behind that of the bounds.
@@ -32,12 +37,12 @@ where
         (front work.old) (front work.new) (tree.ForTo (loop_of each.now))) }
 {
     let before = work.position();
-    let (step, bounds) = emit_bounds(work, scene, line, each, each.by, inside)?;
+    let bounds = emit_bounds(work, scene, line, each, each.by, inside)?;
     let after = work.position();
     let (jump, top) = begin_for(work, line, each.by, bounds)?;
     work.go_to(before);
     let done = emit_turn(work, scene, line, each, bounds.counter, after, inside);
-    end_for(work, done, line, bounds, step, jump, top)
+    end_for(work, done, line, bounds, jump, top)
 }
 
 // SOME.
@@ -55,15 +60,14 @@ where
         (front work.old) (front work.new) (tree.SomeOf (loop_of each.now))) }
 {
     let before = work.position();
-    let (step, bounds) = emit_bounds(work, scene, line, each, 1, inside)?;
+    let bounds = emit_bounds(work, scene, line, each, 1, inside)?;
     let after = work.position();
-    let aims = begin_some(work, line, bounds)?;
+    begin_some(work, line, bounds)?;
     work.go_to(before);
-    let done = emit_turn(work, scene, line, each, bounds.counter, after, inside);
-    end_some(work, done, line, bounds.counter, step, aims)
+    emit_turn(work, scene, line, each, bounds.counter, after, inside)
 }
 
-// The step of a loop, and both bounds, behind the lines of its variable.
+// The step of a loop, its first count and its limit, behind the lines of its variable.
 fn emit_bounds<S>(
     work: &mut Work,
     scene: &Scene<'_>,
@@ -71,30 +75,103 @@ fn emit_bounds<S>(
     each: &Loop,
     by: i64,
     inside: &S,
-) -> Result<(u32, Bounds), NoMemory>
+) -> Result<Bounds, NoMemory>
 where
     S: for<'a, 'b, 'c, 'd> Fn(&'a mut Work, &'b Scene<'c>, &'d [Stmt]) -> Result<(), NoMemory>,
     requires emits { EmitsStmts (S.IsAlwaysCallable inside.now) (S.post inside.now) }
-    ensures counter { IfOk result (λ r. r.1.counter ≡ own_slot (around scene.now).program
+    ensures counter { IfOk result (λ bounds. bounds.counter ≡ own_slot (around scene.now).program
         (around scene.now).tables (around scene.now).routine each.now.counter) }
-    ensures limit { IfOk result (λ r. r.1.limit ≡ own_slot (around scene.now).program
+    ensures limit { IfOk result (λ bounds. bounds.limit ≡ own_slot (around scene.now).program
         (around scene.now).tables (around scene.now).routine each.now.limit) }
-    ensures puts { IfOk result (λ r. PassesAndBounds (around scene.now) line by (front work.old)
-        (front work.new) (desig_of each.now.var) (expr_of each.now.from) (expr_of each.now.to) r.0
-        r.1.first r.1.last) }
+    ensures constant { IfOk result (λ bounds. bounds.constant
+        ≡ slots.constant (expr_of each.now.from)) }
+    ensures puts { IfOk result (λ bounds. PassesAndBounds (around scene.now) line by bounds.limit
+        (front work.old) (front work.new) (desig_of each.now.var) (expr_of each.now.from)
+        (expr_of each.now.to) bounds.step bounds.first) }
 {
     let counts = begin_loop(work, scene, line, each, by)?;
-    let first = emit_expr(work, scene, line, &each.from, inside)?;
-    let last = emit_expr(work, scene, line, &each.to, inside)?;
-    Ok((
-        counts.step,
-        Bounds {
-            counter: counts.counter,
-            limit: counts.limit,
-            first,
-            last,
+    let first = emit_first_count(work, scene, line, &each.from, inside)?;
+    emit_limit(work, scene, line, &each.to, counts.limit, inside)?;
+    Ok(Bounds {
+        counter: counts.counter,
+        limit: counts.limit,
+        step: counts.step,
+        first,
+        constant: constant(&each.from),
+    })
+}
+
+// The first count of a loop, and its slot: a constant has no code, since it goes straight to the slot of the count.
+fn emit_first_count<S>(
+    work: &mut Work,
+    scene: &Scene<'_>,
+    line: u32,
+    expr: &Expr,
+    inside: &S,
+) -> Result<u32, NoMemory>
+where
+    S: for<'a, 'b, 'c, 'd> Fn(&'a mut Work, &'b Scene<'c>, &'d [Stmt]) -> Result<(), NoMemory>,
+    requires emits { EmitsStmts (S.IsAlwaysCallable inside.now) (S.post inside.now) }
+    ensures slot { IfOk result (λ slot. slot ≡ (front work.old).next) }
+    ensures puts { OnOk result (PutsFirstCount (around scene.now) line
+        (front work.old) (front work.new) (expr_of expr.now)) }
+{
+    match constant(expr) {
+        Some(_) => work.slot(SlotKind::Number),
+        None => emit_expr(work, scene, line, expr, inside),
+    }
+}
+
+// The limit of a loop goes to its slot.
+fn emit_limit<S>(
+    work: &mut Work,
+    scene: &Scene<'_>,
+    line: u32,
+    expr: &Expr,
+    limit: u32,
+    inside: &S,
+) -> Result<(), NoMemory>
+where
+    S: for<'a, 'b, 'c, 'd> Fn(&'a mut Work, &'b Scene<'c>, &'d [Stmt]) -> Result<(), NoMemory>,
+    requires emits { EmitsStmts (S.IsAlwaysCallable inside.now) (S.post inside.now) }
+    ensures puts { OnOk result (PutsLimit (around scene.now) line limit
+        (front work.old) (front work.new) (expr_of expr.now)) }
+{
+    let last = emit_last(work, scene, line, expr, inside)?;
+    if ends_alone(expr) {
+        work.redirect(limit);
+        return Ok(());
+    }
+    work.add(
+        line,
+        Instr::Move {
+            to: limit,
+            from: last.from,
         },
-    ))
+    )
+}
+
+// The value of a limit: a variable of the routine stands for itself, and takes a slot all the same.
+fn emit_last<S>(
+    work: &mut Work,
+    scene: &Scene<'_>,
+    line: u32,
+    expr: &Expr,
+    inside: &S,
+) -> Result<FirstOperand, NoMemory>
+where
+    S: for<'a, 'b, 'c, 'd> Fn(&'a mut Work, &'b Scene<'c>, &'d [Stmt]) -> Result<(), NoMemory>,
+    requires emits { EmitsStmts (S.IsAlwaysCallable inside.now) (S.post inside.now) }
+    ensures from { IfOk result (λ last. last.from ≡ T.slot_or (around scene.now).program
+        (around scene.now).tables (around scene.now).routine (slots.bare (expr_of expr.now))
+        (front work.old).next) }
+    ensures puts { OnOk result (PutsFirstOperand (around scene.now) line (front work.old)
+        (front work.new) (slots.bare (expr_of expr.now)) (expr_of expr.now)) }
+{
+    match own_value(scene, expr)? {
+        Some(from) => stay_at(work, from),
+        None => put_at(emit_expr(work, scene, line, expr, inside)),
+    }
 }
 
 // A turn: the count is checked, the variable is set, and the body follows with the lines behind those of the bounds.

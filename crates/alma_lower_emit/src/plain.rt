@@ -2,15 +2,18 @@
 ghost use Rattle.std.specs.Prelude.{◌≡◌, ◌∷◌, [], length, IfOk, IsOk, OnOk};
 ghost use Rattle.alma_code.specs.declared.cell.SlotKind.TheVariants as slot;
 ghost use Rattle.alma_code.specs.declared.instr.Instr.TheVariants as instr;
+ghost use Rattle.alma_ir.specs.View.{expr_of};
 ghost use Rattle.alma_lower_templates.specs.Lined.{own};
 ghost use Rattle.alma_lower_templates.specs.Pieces as pieces;
 ghost use Rattle.alma_lower_templates.specs.Tables.{range_number};
 ghost use Rattle.alma_lower_templates.specs.Templates.{char_range};
 ghost use Rattle.alma_lower_work.specs.Front.{around, front, Codes};
-ghost use Rattle.alma_lower_parts.specs.Steps.{PutsSlot, PutsTwo};
+ghost use Rattle.alma_lower_parts.specs.Numbers.{PutsNumber};
+ghost use Rattle.alma_lower_parts.specs.Steps.{PutsSlot};
 
 use alma_base::{NoMemory, Range};
 use alma_code::Instr;
+use alma_ir::Expr;
 use alma_lower_parts::{
     FirstOperand, Scene, Work, put_bind, put_chr, put_index, put_number, put_unequal,
 };
@@ -20,17 +23,17 @@ pub(crate) fn number_of(
     work: &mut Work,
     scene: &Scene<'_>,
     line: u32,
+    value: &Expr,
     range: Range,
     to: u32,
     from: Result<u32, NoMemory>,
 ) -> Result<(), NoMemory>
     ensures done { OnOk result (IsOk from) }
-    ensures puts { IfOk from (λ from. OnOk result (PutsTwo (front work.old) (front work.new)
-        (own line (pieces.fit_code (around scene.now).tables range from))
-        (own line (instr.Move to from ∷ [])))) }
+    ensures puts { IfOk from (λ from. OnOk result (PutsNumber (around scene.now) line
+        (expr_of value.now) range to from (front work.old) (front work.new))) }
 {
     let from = from?;
-    put_number(work, scene, line, range, to, from)
+    put_number(work, scene, line, value, range, to, from)
 }
 
 // A place for the slot of an argument.

@@ -1,5 +1,7 @@
 -- What arguments and calls add.
-use Rattle.std.proofs.Common.{◌≡◌, ℕ, ◌+◌, List, [], ◌∷◌, ◌++◌, length, refl, sym, ap, ◌∙◌, arith, add-zero}
+use Rattle.std.proofs.Common.{◌≡◌, ℕ, ◌+◌, Bool, true, false, List, [], ◌∷◌, ◌++◌, length, refl, sym, ap, ◌∙◌, subst, arith, add-zero}
+use Rattle.std.specs.Prelude.{◌&&◌}
+use Rattle.std.proofs.lemmas.Bool.{and_parts}
 use Rattle.alma_base.specs.declared.number.Range.{Range}
 use Rattle.alma_code.specs.declared.cell.SlotKind.TheVariants as slot
 use Rattle.alma_code.specs.declared.instr.Instr.TheVariants as I
@@ -8,13 +10,18 @@ use Rattle.alma_ir.specs.Tree.{MixPlace}
 use Rattle.alma_ir.specs.Phrases.{stmts_phrases, args_phrases, arg_phrases, expr_phrases, desig_phrases}
 use Rattle.alma_ir.specs.Lines.{behind, stmts_with, args_with, expr_with, desig_with}
 use Rattle.alma_ir.proofs.LinesBack.{behind_two}
-use Rattle.alma_lower_work.specs.Front.{Around, Front, Adds, Codes, Takes}
+use Rattle.alma_lower_work.specs.Front.{Around, Front, Adds, Codes, Takes, Changes}
 use Rattle.alma_lower_work.specs.Puts.{PutsExpr, PutsValue, PutsDesig, PutsArgs, PutsArg, PutsHanded, PutsTest, value_slot, first_slot}
 use Rattle.alma_lower_work.proofs.Joins.{nothing, then_adds, adds_as, code_code, adds_code, slot_adds, own_two}
-use Rattle.alma_lower_parts.proofs.With.{same_handed}
+use Rattle.alma_lower_parts.specs.Numbers.{PutsBy, PutsNumber}
+use Rattle.alma_lower_parts.proofs.StmtForms.{has_code}
+use Rattle.alma_lower_parts.proofs.With.{alone_with, same_handed}
 use Rattle.alma_lower_templates.specs.Lined.{Lined, own, in_row}
 use Rattle.alma_lower_templates.specs.Slots.{bare, unless_bare, shift_of, handed_slots, call_links, args_slots, expr_slots, desig_slots}
-use Rattle.alma_lower_templates.specs.Pieces.{fit_code, first_argument}
+use Rattle.alma_lower_templates.specs.Slots.{ends_alone, is_straight}
+use Rattle.alma_lower_templates.specs.Tables.{is_whole}
+use Rattle.alma_lower_templates.specs.Pieces.{fit_code, put_code, straight, first_argument}
+use Rattle.alma_lower_templates.proofs.Straight.{straight_behind}
 use Rattle.alma_lower_templates.specs.Templates as T
 
 module _ (s : Around) (line : ℕ) where
@@ -31,32 +38,74 @@ module _ (s : Around) (line : ℕ) where
         (sym (behind_two (arg_phrases x) (args_phrases rest) a.lines));
   }
 
-  number_put : (a b c d : Front) (to value : ℕ) (e : Expr) (range : Range) → PutsValue s line a b e
-      → value ≡ value_slot s a.next (expr_with e a.lines)
-      → Codes b c (own line (fit_code s.tables range value)) → Codes c d (own line (I.Move to value ∷ []))
-      → Adds a d (λ at lo ls. unless_bare (bare (expr_with e ls)) (T.expr_code s.program s.tables s.routine line at lo (expr_with e ls))
-      ++ own line (fit_code s.tables range (value_slot s lo (expr_with e ls)) ++ (I.Move to (value_slot s lo (expr_with e ls)) ∷ [])))
+  -- ---- numbers
+
+  pub straight_number : (a b : Front) (to value : ℕ) (e : Expr) (range : Range) → true ≡ is_straight e range
+      → Changes a b (λ xs. straight to xs) → PutsNumber s line e range to value a b
+  straight_number a b to value e range is h = record { all = subst (λ z. PutsBy z s line range to value a b) is h }
+
+  pub checked_number : (a b c : Front) (to value : ℕ) (e : Expr) (range : Range) → false ≡ is_straight e range
+      → Codes a b (own line (fit_code s.tables range value)) → Codes b c (own line (I.Move to value ∷ []))
+      → PutsNumber s line e range to value a c
+  checked_number a b c to value e range is h j =
+      record { all = subst (λ z. PutsBy z s line range to value a c) is (record { b = b; first = h; second = j }) }
+
+  -- the code of a number for a slot
+  abbrev number_code : (to at lo : ℕ) → Expr → Range → List Lined
+  number_code to at lo e range =
+      put_code (is_straight e range) line to (value_slot s lo e) (fit_code s.tables range (value_slot s lo e))
+      (unless_bare (bare e) (T.expr_code s.program s.tables s.routine line at lo e))
+
+  number_put : (a b d : Front) (to value : ℕ) (e : Expr) (range : Range) → PutsValue s line a b e
+      → value ≡ value_slot s a.next (expr_with e a.lines) → PutsNumber s line e range to value b d
+      → Adds a d (λ at lo ls. number_code to at lo (expr_with e ls) range)
       (λ ls. unless_bare (bare (expr_with e ls)) (expr_slots s.program s.routine (expr_with e ls))) (behind (expr_phrases e))
-  number_put a b c d to value e range h is j k =
-      let u = expr_with e a.lines in
-      let code = unless_bare (bare u) (T.expr_code s.program s.tables s.routine line (length a.code) a.next u) in
-      adds_as a d _ _ _ _ _ _ (adds_code a b d _ _ _ _ h.all (code_code b c d _ _ j k))
-      (ap (λ l. code ++ l) (sym (own_two line (fit_code s.tables range value) (I.Move to value ∷ [])))
-      ∙ ap (λ n. code ++ own line (fit_code s.tables range n ++ (I.Move to n ∷ []))) is) refl refl
+  number_put a b d to value e range h is j = by (is_straight e range) refl j.all
+    where
+      u : Expr
+      u = expr_with e a.lines
 
-  pub value_arg_put : (a b c d : Front) (to value : ℕ) (e : Expr) (range : Range) → PutsValue s line a b e
-      → value ≡ value_slot s a.next (expr_with e a.lines)
-      → Codes b c (own line (fit_code s.tables range value)) → Codes c d (own line (I.Move to value ∷ []))
-      → PutsArg s line to a d (ByValue e range)
-  unfolding stmts_with stmts_phrases
-  value_arg_put a b c d to value e range h is j k = record { all = number_put a b c d to value e range h is j k }
+      inner : List Lined
+      inner = unless_bare (bare u) (T.expr_code s.program s.tables s.routine line (length a.code) a.next u)
 
-  pub mix_value_put : (a b c d : Front) (to value : ℕ) (e : Expr) (range : Range) → PutsValue s line a b e
-      → value ≡ value_slot s a.next (expr_with e a.lines)
-      → Codes b c (own line (fit_code s.tables range value)) → Codes c d (own line (I.Move to value ∷ []))
-      → PutsArg s line to a d (MixValue e range)
+      here : (z : Bool) → is_straight e range ≡ z
+          → put_code z line to (value_slot s a.next u) (fit_code s.tables range (value_slot s a.next u)) inner
+          ≡ number_code to (length a.code) a.next u range
+      here z e1 = ap (λ x. put_code x line to (value_slot s a.next u) (fit_code s.tables range (value_slot s a.next u)) inner)
+          (sym (ap (λ x. is_whole range && x) (alone_with e a.lines) ∙ e1))
+
+      by : (z : Bool) → is_straight e range ≡ z → PutsBy z s line range to value b d
+          → Adds a d (λ at lo ls. number_code to at lo (expr_with e ls) range)
+          (λ ls. unless_bare (bare (expr_with e ls)) (expr_slots s.program s.routine (expr_with e ls))) (behind (expr_phrases e))
+      by true e1 k =
+          let ends : ends_alone u ≡ true = alone_with e a.lines ∙ (and_parts (is_whole range) (ends_alone e) e1).1 in
+          record {
+            instrs = k.instrs ∙ ap (straight to) h.all.instrs
+                ∙ straight_behind to a.code inner (has_code s line (length a.code) a.next u ends)
+                ∙ ap (λ l. a.code ++ l) (here true e1);
+            taken = k.taken ∙ h.all.taken;
+            next_slot = k.next_slot ∙ h.all.next_slot;
+            left = k.left ∙ h.all.left;
+            whole = k.whole ∙ h.all.whole;
+          }
+      by false e1 k =
+          adds_as a d _ _ _ _ _ _ (adds_code a b d _ _ _ _ h.all (code_code b k.b d _ _ k.first k.second))
+          (ap (λ l. inner ++ l) (sym (own_two line (fit_code s.tables range value) (I.Move to value ∷ [])))
+          ∙ ap (λ n. inner ++ own line (fit_code s.tables range n ++ (I.Move to n ∷ []))) is ∙ here false e1) refl refl
+
+  pub value_arg_put : (a b c : Front) (to value : ℕ) (e : Expr) (range : Range) → PutsValue s line a b e
+      → value ≡ value_slot s a.next (expr_with e a.lines) → PutsNumber s line e range to value b c
+      → PutsArg s line to a c (ByValue e range)
   unfolding stmts_with stmts_phrases
-  mix_value_put a b c d to value e range h is j k = record { all = number_put a b c d to value e range h is j k }
+  value_arg_put a b c to value e range h is j = record { all = number_put a b c to value e range h is j }
+
+  pub mix_value_put : (a b c : Front) (to value : ℕ) (e : Expr) (range : Range) → PutsValue s line a b e
+      → value ≡ value_slot s a.next (expr_with e a.lines) → PutsNumber s line e range to value b c
+      → PutsArg s line to a c (MixValue e range)
+  unfolding stmts_with stmts_phrases
+  mix_value_put a b c to value e range h is j = record { all = number_put a b c to value e range h is j }
+
+  -- ---- places
 
   place_put : (a b c : Front) (to place : ℕ) (x : Desig) → PutsDesig s line a b x
       → place ≡ T.place_at s.program s.tables s.routine a.next (desig_with x a.lines) → Codes b c (own line (I.Same to place ∷ []))

@@ -1,5 +1,5 @@
 -- IF, WHILE, REPEAT, and a test as a number.
-use Rattle.std.proofs.Common.{◌≡◌, ℕ, ◌+◌, List, [], ◌∷◌, ◌++◌, length, pos, refl, sym, ap, ◌∙◌, arith, append_assoc}
+use Rattle.std.proofs.Common.{◌≡◌, ℕ, ◌+◌, false, List, [], ◌∷◌, ◌++◌, length, pos, refl, sym, ap, ◌∙◌, arith, append_assoc}
 use Rattle.std.proofs.lemmas.List.{append-nil}
 use Rattle.alma_code.specs.declared.cell.SlotKind.TheVariants as slot
 use Rattle.alma_code.specs.declared.instr.Instr.TheVariants as I
@@ -12,10 +12,12 @@ use Rattle.alma_lower_work.specs.Front.{Around, Front, Codes, Takes, Changes}
 use Rattle.alma_lower_work.specs.Puts.{PutsExpr, PutsGuard, PutsGuarded, PutsStmts, PutsStmt, PutsArms}
 use Rattle.alma_lower_work.proofs.Joins.{then_adds, adds_as, code_adds, adds_code, slot_adds, closed, over, address_behind}
 use Rattle.alma_lower_parts.proofs.GuardForms.{condition_code, guarded_code, arms_split, four_long}
+use Rattle.alma_lower_parts.proofs.TurnedForms.{turned_with}
 use Rattle.alma_lower_templates.specs.Lined.{Lined, own}
-use Rattle.alma_lower_templates.specs.Slots.{is_simple, mark_slots, test_slots, stmts_slots, arms_slots}
+use Rattle.alma_lower_templates.specs.Slots.{is_simple, is_turned, by_turn, mark_slots, test_slots, stmts_slots, arms_slots}
 use Rattle.alma_lower_templates.specs.Pieces.{guarded}
 use Rattle.alma_lower_templates.specs.Templates as T
+use Rattle.alma_lower_templates.proofs.Turned.{while_code}
 
 module _ (s : Around) (line : ℕ) where
   pub else_put : (a b : Front) (rest : Stmts) → PutsStmts s a b rest → PutsStmt s line a b (If no_arms rest)
@@ -71,18 +73,25 @@ module _ (s : Around) (line : ℕ) where
             ∙ ap (behind (arms_phrases arms)) (behind_two (test_phrases t) (stmts_phrases body) ls))));
       }
 
-  pub while_put : (a b c d : Front) (top : ℕ) (t : Test) (body : Stmts) → top ≡ length a.code + 1 → Codes a b (own line (I.Jump top ∷ []))
+  pub while_put : (a b c d : Front) (top : ℕ) (t : Test) (body : Stmts) → is_turned t ≡ false → top ≡ length a.code + 1
+      → Codes a b (own line (I.Jump top ∷ []))
       → PutsGuarded s line 1 b c t body → Codes c d (own line (I.Jump top ∷ []))
       → PutsStmt s line a d (While t body)
   unfolding stmts_with stmts_phrases
-  while_put a b c d top t body is h j k =
+  while_put a b c d top t body before is h j k =
       let ls = a.lines in
       let at = length a.code in
-      let inner = guarded_code s line 1 (at + 1) a.next (test_with t ls) (stmts_with body (behind (test_phrases t) ls)) in
+      let u = test_with t ls in
+      let x = stmts_with body (behind (test_phrases t) ls) in
+      let inner = guarded_code s line 1 (at + 1) a.next u x in
+      let z : is_turned u ≡ false = turned_with t ls ∙ before in
       record {
         all = adds_as a d _ _ _ _ _ _ (code_adds a b d _ _ _ _ h (adds_code b c d _ _ _ _ j.all k))
-            (ap (λ n. own line (I.Jump n ∷ []) ++ (inner ++ own line (I.Jump n ∷ []))) is)
-            (append_assoc (mark_slots (is_simple (test_with t ls))) (test_slots s.program s.routine (test_with t ls)) _)
+            (ap (λ n. own line (I.Jump n ∷ []) ++ (inner ++ own line (I.Jump n ∷ []))) is
+            ∙ ap (λ k. while_code s.program s.tables s.routine k line at a.next u x) (sym z))
+            (append_assoc (mark_slots (is_simple u)) (test_slots s.program s.routine u) (stmts_slots s.program s.routine x)
+            ∙ ap (λ k. by_turn k (stmts_slots s.program s.routine x ++ test_slots s.program s.routine u)
+            (mark_slots (is_simple u) ++ (test_slots s.program s.routine u ++ stmts_slots s.program s.routine x))) (sym z))
             (sym (behind_two (test_phrases t) (stmts_phrases body) ls));
       }
 

@@ -7,10 +7,12 @@ pub mod With
 pub mod PlaceForms
 pub mod ExprForms
 pub mod GuardForms
+pub mod TurnedForms
 pub mod IfForms
 pub mod TestForms
 pub mod StmtForms
 pub mod CallForms
+pub mod LimitForms
 pub mod LoopForms
 pub mod Arms
 pub mod Rows

@@ -1,7 +1,7 @@
 -- FOR and SOME. The lines of the variable come before those of the bounds, while its code comes behind theirs: so what is added is said
 -- by lists that are written out, and not as it depends on the lines.
 use Rattle.std.proofs.Common.{◌≡◌, ℕ, ℤ, pos, ◌+◌, List, [], ◌∷◌, ◌++◌, length, Some, None, refl, sym, ap, ◌∙◌, arith, append_assoc}
-use Rattle.std.proofs.Common.{length-append, add-zero}
+use Rattle.std.proofs.Common.{length-append}
 use Rattle.std.specs.Prelude.{Option}
 use Rattle.alma_base.specs.declared.number.Range.{Range}
 use Rattle.alma_code.specs.declared.cell.SlotKind.{SlotKind}
@@ -14,13 +14,15 @@ use Rattle.alma_ir.specs.Lines.{behind, stmts_with, expr_with, desig_with}
 use Rattle.alma_ir.proofs.LinesBack.{behind_two}
 use Rattle.alma_lower_work.specs.declared.stand.Stand.{Stand}
 use Rattle.alma_lower_work.specs.Front.{Around, Front, Adds, Codes, Takes, Changes, Holes, Turns}
-use Rattle.alma_lower_work.specs.Puts.{PutsExpr, PutsTarget, PutsStmts, PutsStmt, stand_of, set_instr}
-use Rattle.alma_lower_work.proofs.Joins.{then_adds, adds_as, code_adds, adds_code, slot_adds, adds_slot, filled, hole_put, address_behind}
-use Rattle.alma_lower_work.proofs.Joins.{address_after}
+use Rattle.alma_lower_work.specs.Puts.{PutsTarget, PutsStmts, PutsStmt, stand_of, set_instr, value_slot}
+use Rattle.alma_lower_work.proofs.Joins.{then_adds, adds_as, code_adds, adds_code, slot_adds, adds_slot, filled, address_behind}
+use Rattle.alma_lower_parts.specs.Loops.{PutsFirstCount, PutsLimit}
+use Rattle.alma_lower_parts.specs.Steps.{some_front}
 use Rattle.alma_lower_parts.proofs.StmtForms.{set_is}
+use Rattle.alma_lower_parts.proofs.With.{constant_with}
 use Rattle.alma_lower_templates.specs.Lined.{Lined, own, in_row}
-use Rattle.alma_lower_templates.specs.Slots.{bare_desig, unless_bare, expr_slots, desig_slots, stmts_slots}
-use Rattle.alma_lower_templates.specs.Pieces.{bounds_code, begin_loop, turn_code}
+use Rattle.alma_lower_templates.specs.Slots.{bare, bare_desig, unless_bare, constant, ends_alone, expr_slots, desig_slots, stmts_slots}
+use Rattle.alma_lower_templates.specs.Pieces.{unless_constant, limit_code, bounds_code, begin_loop, turn_code}
 use Rattle.alma_lower_templates.specs.Templates as T
 
 module _ (s : Around) (line : ℕ) where
@@ -39,20 +41,28 @@ module _ (s : Around) (line : ℕ) where
 
   -- ---- what comes before the turns
 
-  pub bounds_put : (a b c d e : Front) (step first last : ℕ) (by : ℤ) (from to : Expr) → Takes a b slot.Number → step ≡ a.next
+  -- the codes of the first count and of the limit
+  abbrev pub first_code : (at lo : ℕ) → Expr → List Lined
+  first_code at lo e = unless_constant (constant e) (T.expr_code s.program s.tables s.routine line at lo e)
+
+  abbrev pub last_code : (limit at lo : ℕ) → Expr → List Lined
+  last_code limit at lo e = limit_code (ends_alone e) line limit (value_slot s lo e)
+      (unless_bare (bare e) (T.expr_code s.program s.tables s.routine line at lo e))
+
+  pub bounds_put : (a b c d e : Front) (step first limit : ℕ) (by : ℤ) (from to : Expr) → Takes a b slot.Number → step ≡ a.next
       → Codes b c (own line (I.Const step by ∷ []))
-      → PutsExpr s line c d from → first ≡ c.next → PutsExpr s line d e to → last ≡ d.next
-      → Adds a e (λ at lo ls. begin_loop line at lo by (λ at. T.expr_code s.program s.tables s.routine line at (lo + 1) (expr_with from ls))
-      (λ at. T.expr_code s.program s.tables s.routine line at (lo + 1 + length (expr_slots s.program s.routine (expr_with from ls)))
+      → PutsFirstCount s line c d from → PutsLimit s line limit d e to
+      → Adds a e (λ at lo ls. begin_loop line at lo by (λ at. first_code at (lo + 1) (expr_with from ls))
+      (λ at. last_code limit at (lo + 1 + length (expr_slots s.program s.routine (expr_with from ls)))
       (expr_with to (behind (expr_phrases from) ls))))
       (λ ls. slot.Number ∷ (expr_slots s.program s.routine (expr_with from ls)
       ++ expr_slots s.program s.routine (expr_with to (behind (expr_phrases from) ls))))
       (λ ls. behind (expr_phrases to) (behind (expr_phrases from) ls))
-  bounds_put a b c d e step first last by from to h is j k is2 l is3 =
+  bounds_put a b c d e step first limit by from to h is j k l =
       let ls = a.lines in
       let at = length a.code + 1 in
-      let rest = in_row at (T.expr_code s.program s.tables s.routine line at (a.next + 1) (expr_with from ls))
-      (λ at. T.expr_code s.program s.tables s.routine line at (a.next + 1 + length (expr_slots s.program s.routine (expr_with from ls)))
+      let rest = in_row at (first_code at (a.next + 1) (expr_with from ls))
+      (λ at. last_code limit at (a.next + 1 + length (expr_slots s.program s.routine (expr_with from ls)))
       (expr_with to (behind (expr_phrases from) ls))) in
       adds_as a e _ _ _ _ _ _ (slot_adds a b e _ _ _ _ h (code_adds b c e _ _ _ _ j (then_adds c d e _ _ _ _ _ _ k.all l.all)))
       (ap (λ n. own line (I.Const n by ∷ []) ++ rest) is) refl refl
@@ -152,12 +162,13 @@ module _ (s : Around) (line : ℕ) where
   behind_bounds : (lo : ℕ) (k l : List SlotKind) → lo + length (slot.Number ∷ (k ++ l)) + 0 ≡ lo + 1 + length k + length l
   behind_bounds lo k l = omega (arith, length-append k l)
 
-  pub for_put : (a a1 b c d e f g h i j k l m n : Front) (step first last jump top out target count counter limit : ℕ) (stand : Stand)
-      (x : Desig) (range : Range) (counts limits : ℕ) (from to : Expr) (by : ℤ) (body : Stmts)
+  pub for_put : (a a1 b c d e f g h i j k l m n : Front) (step first jump top out target count counter limit : ℕ) (stand : Stand)
+      (x : Desig) (range : Range) (counts limits : ℕ) (from to : Expr) (known : Option ℤ) (by : ℤ) (body : Stmts)
       → counter ≡ T.own_slot s.program s.tables s.routine counts → limit ≡ T.own_slot s.program s.tables s.routine limits
+      → known ≡ constant from
       → Turns a a1 (behind (desig_phrases x) a.lines) → Takes a1 b slot.Number → step ≡ a1.next
-      → Codes b c (own line (I.Const step by ∷ [])) → PutsExpr s line c d from → first ≡ c.next → PutsExpr s line d e to → last ≡ d.next
-      → Holes e f (λ to xs. aimed xs jump to) (λ empty at lo ls. own line (bounds_code by counter limit first last empty)) (λ ls. [])
+      → Codes b c (own line (I.Const step by ∷ [])) → PutsFirstCount s line c d from → first ≡ c.next → PutsLimit s line limit d e to
+      → Holes e f (λ to xs. aimed xs jump to) (λ empty at lo ls. own line (bounds_code by known counter limit first empty)) (λ ls. [])
       (λ ls. ls) → Turns f g a.lines
       → PutsCount range counter g h (desig_with x g.lines) → count ≡ count_of counter g.next (desig_with x g.lines)
       → PutsTarget s line h i x → stand ≡ stand_of s h.next (desig_with x h.lines)
@@ -166,8 +177,8 @@ module _ (s : Around) (line : ℕ) where
       → Changes m n (λ xs. aimed xs jump target) → target ≡ length m.code
       → PutsStmt s line a n (ForTo (a_loop x range counts limits from to by body))
   unfolding stmts_with stmts_phrases
-  for_put a a1 b c d e f g h i j k l m n step first last jump top out target count counter limit stand x range counts limits from to by body
-      cis lis t h1 is h2 p is2 q is3 bounds t2 cnt is4 tgt is5 st t3 bd is6 is7 cd ch is8 =
+  for_put a a1 b c d e f g h i j k l m n step first jump top out target count counter limit stand x range counts limits from to known by
+      body cis lis fis t h1 is h2 p is2 q bounds t2 cnt is4 tgt is5 st t3 bd is6 is7 cd ch is8 =
       let ls0 = a.lines in
       let ls1 = behind (desig_phrases x) ls0 in
       let ls2 = behind (expr_phrases from) ls1 in
@@ -175,7 +186,7 @@ module _ (s : Around) (line : ℕ) where
       let u = desig_with x ls0 in
       let kf = expr_slots s.program s.routine (expr_with from ls1) in
       let kt = expr_slots s.program s.routine (expr_with to ls2) in
-      let before = turned a a1 e ls1 _ _ _ t (bounds_put a1 b c d e step first last by from to h1 is h2 p is2 q is3) in
+      let before = turned a a1 e ls1 _ _ _ t (bounds_put a1 b c d e step first limit by from to h1 is h2 p q) in
       let t4 : Turns j k ls3 = record {
         instrs = t3.instrs;
         taken = t3.taken;
@@ -188,18 +199,18 @@ module _ (s : Around) (line : ℕ) where
       let all = then_adds a e n _ _ _ _ _ _ before (filled e f m n _ _ _ _ _ _ _ target (λ n. n) bounds inner ch is8) in
       let at = length a.code in
       let c0 : c.next ≡ a.next + 1 = h2.next_slot ∙ h1.next_slot ∙ ap (λ n. n + 1) t.next_slot in
-      let cl : c.lines ≡ ls1 = h2.left ∙ h1.left ∙ t.left in
       let first0 : first ≡ a.next + 1 = is2 ∙ c0 in
-      let last0 : last ≡ a.next + 1 + length kf = is3 ∙ p.all.next_slot
-      ∙ ap (λ n. n + length (expr_slots s.program s.routine (expr_with from c.lines))) c0
-      ∙ ap (λ n. a.next + 1 + length (expr_slots s.program s.routine (expr_with from n))) cl in
       let step0 : step ≡ a.next = is ∙ t.next_slot in
-      let begin = begin_loop line at a.next by (λ at. T.expr_code s.program s.tables s.routine line at (a.next + 1) (expr_with from ls1))
-      (λ at. T.expr_code s.program s.tables s.routine line at (a.next + 1 + length kf) (expr_with to ls2)) in
+      let known0 : known ≡ constant (expr_with from ls1) = fis ∙ sym (constant_with from ls1) in
+      let own_counter = T.own_slot s.program s.tables s.routine counts in
+      let own_limit = T.own_slot s.program s.tables s.routine limits in
+      let begin_at : (limit : ℕ) → List Lined = λ limit. begin_loop line at a.next by
+      (λ at. first_code at (a.next + 1) (expr_with from ls1)) (λ at. last_code limit at (a.next + 1 + length kf) (expr_with to ls2)) in
+      let begin = begin_at own_limit in
       let next = at + length begin in
       let low = a.next + length (slot.Number ∷ (kf ++ kt)) + 0 in
       let place = a.next + 1 + length kf + length kt in
-      let turn : (counter lo : ℕ) → List Lined = λ counter lo. turn_code line (next + 4)
+      let turn : (next counter lo : ℕ) → List Lined = λ next counter lo. turn_code line (next + 3)
       (T.count_code s.program s.tables s.routine (bare_desig u) range counter lo)
       (λ at. unless_bare (bare_desig u) (T.desig_code s.program s.tables s.routine line at (lo + 1) u))
       (T.set_code s.program s.tables s.routine (lo + 1) (count_of counter lo u) u)
@@ -213,62 +224,58 @@ module _ (s : Around) (line : ℕ) where
       (T.set_code s.program s.tables s.routine (lo + 1) (count_of counter lo u) u)
       (λ at. T.stmts_code s.program s.tables s.routine
       at (lo + length (unless_bare (bare_desig u) (slot.Number ∷ desig_slots s.program s.routine u))) (stmts_with body ls3)) in
-      let f0 : length f.code ≡ next + 4 = address_behind e f _ _ _ bounds.all ∙ ap (λ n. n + 4) (address_behind a e _ _ _ before) in
+      let e0 : length e.code ≡ next = address_behind a e _ _ _ before ∙ ap (λ z. at + length (begin_at z)) lis in
+      let f0 : length f.code ≡ next + 3 = address_behind e f _ _ _ bounds.all ∙ ap (λ n. n + 3) e0 in
       let fn : f.next ≡ low = bounds.all.next_slot ∙ ap (λ n. n + 0) before.next_slot in
       let low0 : low ≡ place = behind_bounds a.next kf kt in
-      let l0 : length l.code ≡ next + 4 + length (turn counter low) = address_behind f l _ _ _ turn_of
-      ∙ ap (λ n. n + length (tl (length f.code) f.next)) f0 ∙ ap (λ n. next + 4 + length (tl n f.next)) f0
-      ∙ ap (λ n. next + 4 + length (tl (next + 4) n)) fn in
-      let own_counter = T.own_slot s.program s.tables s.routine counts in
-      let own_limit = T.own_slot s.program s.tables s.routine limits in
-      let whole : (counter limit first last low step out top : ℕ) → List Lined = λ counter limit first last low step out top.
-      begin ++ (own line (bounds_code by counter limit first last (next + 4 + length (turn counter low ++ ends counter limit step out top)))
-      ++ (turn counter low ++ ends counter limit step out top)) in
-      let final = turn own_counter place in
-      let out0 : out ≡ next + 4 + length final + 2 = is7
-      ∙ ap (λ n. n + 2) (l0 ∙ ap (λ n. next + 4 + length (turn counter n)) low0 ∙ ap (λ n. next + 4 + length (turn n place)) cis) in
-      let top0 : top ≡ next + 4 = is6 ∙ f0 in
-      let done = ends own_counter own_limit a.next (next + 4 + length final + 2) (next + 4) in
-      let far : next + 4 + length (final ++ done) ≡ next + 4 + length final + 2 = omega (arith, length-append final done) in
+      let l0 : length l.code ≡ next + 3 + length (turn next counter low) = address_behind f l _ _ _ turn_of
+      ∙ ap (λ n. n + length (tl (length f.code) f.next)) f0 ∙ ap (λ n. next + 3 + length (tl n f.next)) f0
+      ∙ ap (λ n. next + 3 + length (tl (next + 3) n)) fn in
+      let whole : (known : Option ℤ) (limits next counter limit first low step out top : ℕ)
+      → List Lined = λ known limits next counter limit first low step out top.
+      begin_at limits ++ (own line (bounds_code by known counter limit first
+      (next + 3 + length (turn next counter low ++ ends counter limit step out top)))
+      ++ (turn next counter low ++ ends counter limit step out top)) in
+      let k0 = constant (expr_with from ls1) in
+      let final = turn next own_counter place in
+      let out0 : out ≡ next + 3 + length final + 2 = is7
+      ∙ ap (λ n. n + 2)
+      (l0 ∙ ap (λ n. next + 3 + length (turn next counter n)) low0 ∙ ap (λ n. next + 3 + length (turn next n place)) cis) in
+      let top0 : top ≡ next + 3 = is6 ∙ f0 in
+      let done = ends own_counter own_limit a.next (next + 3 + length final + 2) (next + 3) in
+      let far : next + 3 + length (final ++ done) ≡ next + 3 + length final + 2 = omega (arith, length-append final done) in
       record {
         all = adds_as a n _ _ _ _ _ _ all
-            (ap (λ z. whole z limit first last low step out top) cis ∙ ap (λ z. whole own_counter z first last low step out top) lis
-            ∙ ap (λ z. whole own_counter own_limit z last low step out top) first0
-            ∙ ap (λ z. whole own_counter own_limit (a.next + 1) z low step out top) last0
-            ∙ ap (λ z. whole own_counter own_limit (a.next + 1) (a.next + 1 + length kf) z step out top) low0
-            ∙ ap (λ z. whole own_counter own_limit (a.next + 1) (a.next + 1 + length kf) place z out top) step0
-            ∙ ap (λ z. whole own_counter own_limit (a.next + 1) (a.next + 1 + length kf) place a.next z top) out0
-            ∙ ap (λ z. whole own_counter own_limit (a.next + 1) (a.next + 1 + length kf) place a.next (next + 4 + length final + 2) z) top0
-            ∙ ap (λ z. begin ++ (own line (bounds_code by own_counter own_limit (a.next + 1) (a.next + 1 + length kf) z)
-            ++ (final ++ done))) far)
+            (ap (λ z. whole known z (at + length (begin_at z)) counter limit first low step out top) lis
+            ∙ ap (λ z. whole z own_limit next counter limit first low step out top) known0
+            ∙ ap (λ z. whole k0 own_limit next z limit first low step out top) cis
+            ∙ ap (λ z. whole k0 own_limit next own_counter z first low step out top) lis
+            ∙ ap (λ z. whole k0 own_limit next own_counter own_limit z low step out top) first0
+            ∙ ap (λ z. whole k0 own_limit next own_counter own_limit (a.next + 1) z step out top) low0
+            ∙ ap (λ z. whole k0 own_limit next own_counter own_limit (a.next + 1) place z out top) step0
+            ∙ ap (λ z. whole k0 own_limit next own_counter own_limit (a.next + 1) place a.next z top) out0
+            ∙ ap (λ z. whole k0 own_limit next own_counter own_limit (a.next + 1) place a.next (next + 3 + length final + 2) z) top0
+            ∙ ap (λ z. begin ++ (own line (bounds_code by k0 own_counter own_limit (a.next + 1) z) ++ (final ++ done))) far)
             (ap (λ l. slot.Number ∷ l) (append_assoc kf kt _)) (four_behind x from to body ls0);
       }
 
   -- ---- SOME
 
-  pub some_put : (a a1 b c d e e1 f f1 f2 g h i j k l l1 m m1 n : Front)
-      (step first last more jump choice top far over up target count counter limit : ℕ) (stand : Stand) (x : Desig) (range : Range)
-      (counts limits : ℕ) (from to : Expr) (by : ℤ) (body : Stmts)
+  pub some_put : (a a1 b c d e e1 f g h i j k l : Front) (step first more count counter limit : ℕ) (stand : Stand) (x : Desig)
+      (range : Range) (counts limits : ℕ) (from to : Expr) (known : Option ℤ) (by : ℤ) (body : Stmts)
       → counter ≡ T.own_slot s.program s.tables s.routine counts → limit ≡ T.own_slot s.program s.tables s.routine limits
+      → known ≡ constant from
       → Turns a a1 (behind (desig_phrases x) a.lines) → Takes a1 b slot.Number → step ≡ a1.next
-      → Codes b c (own line (I.Const step (pos 1) ∷ [])) → PutsExpr s line c d from → first ≡ c.next → PutsExpr s line d e to
-      → last ≡ d.next
-      → Takes e e1 slot.Number → more ≡ e.next
-      → Holes e1 f (λ to xs. aimed xs jump to) (λ empty at lo ls. own line (bounds_code (pos 1) counter limit first last empty)) (λ ls. [])
-      (λ ls. ls)
-      → top ≡ length f.code → far ≡ top + 3 → Codes f f1 (own line (I.Less more counter limit ∷ I.JumpZero more far ∷ []))
-      → choice ≡ length f1.code → Codes f1 f2 (own line (I.Choose 0 ∷ [])) → Turns f2 g a.lines
+      → Codes b c (own line (I.Const step (pos 1) ∷ [])) → PutsFirstCount s line c d from → first ≡ c.next
+      → PutsLimit s line limit d e to → Takes e e1 slot.Number → more ≡ e.next
+      → Codes e1 f (own line (some_front (length e1.code) known counter limit step first more)) → Turns f g a.lines
       → PutsCount range counter g h (desig_with x g.lines) → count ≡ count_of counter g.next (desig_with x g.lines)
       → PutsTarget s line h i x → stand ≡ stand_of s h.next (desig_with x h.lines)
-      → Codes i j (own line (set_instr stand count ∷ [])) → Turns j k e.lines → PutsStmts s k l body → up ≡ length l.code + 1
-      → Changes l l1 (λ xs. aimed xs choice up) → over ≡ length l.code + 4
-      → Codes l1 m (own line (I.Jump over ∷ I.Add counter counter step ∷ I.Jump top ∷ [])) → Changes m m1 (λ xs. aimed xs jump target)
-      → target ≡ length m.code → Codes m1 n (own line (I.Fail ∷ []))
-      → PutsStmt s line a n (SomeOf (a_loop x range counts limits from to by body))
+      → Codes i j (own line (set_instr stand count ∷ [])) → Turns j k e.lines → PutsStmts s k l body
+      → PutsStmt s line a l (SomeOf (a_loop x range counts limits from to by body))
   unfolding stmts_with stmts_phrases
-  some_put a a1 b c d e e1 f f1 f2 g h i j k l l1 m m1 n step first last more jump choice top far over up target count counter limit stand x
-      range counts limits from to by body cis lis t h1 is h2 p is2 q is3 tm ism bounds ist isf cl here ch t2 cnt is4 tgt is5 st t3 bd isu
-      chu iso cd chm is8 cf =
+  some_put a a1 b c d e e1 f g h i j k l step first more count counter limit stand x range counts limits from to known by body
+      cis lis fis t h1 is h2 p is2 q tm ism fr t2 cnt is4 tgt is5 st t3 bd =
       let ls0 = a.lines in
       let ls1 = behind (desig_phrases x) ls0 in
       let ls2 = behind (expr_phrases from) ls1 in
@@ -276,7 +283,7 @@ module _ (s : Around) (line : ℕ) where
       let u = desig_with x ls0 in
       let kf = expr_slots s.program s.routine (expr_with from ls1) in
       let kt = expr_slots s.program s.routine (expr_with to ls2) in
-      let before = turned a a1 e ls1 _ _ _ t (bounds_put a1 b c d e step first last (pos 1) from to h1 is h2 p is2 q is3) in
+      let before = turned a a1 e ls1 _ _ _ t (bounds_put a1 b c d e step first limit (pos 1) from to h1 is h2 p q) in
       let front = adds_slot a e e1 _ _ _ _ before tm in
       let t4 : Turns j k ls3 = record {
         instrs = t3.instrs;
@@ -285,90 +292,52 @@ module _ (s : Around) (line : ℕ) where
         left = t3.left ∙ before.left;
         whole = t3.whole;
       } in
-      let turn_of = turned f2 g l ls0 _ _ _ t2 (turn_put g h i j k l ls3 x body range counter count stand cnt is4 tgt is5 st t4 bd) in
-      let chosen = filled f1 f2 l l1 _ _ _ _ _ _ _ up (λ n. n + 1) (hole_put f1 f2 line choice (I.Choose 0) here refl ch) turn_of chu isu in
-      let inner = code_adds f f1 m _ _ _ _ cl (adds_code f1 l1 m _ _ _ _ chosen cd) in
-      let whole_of = then_adds a e1 m1 _ _ _ _ _ _ front (filled e1 f m m1 _ _ _ _ _ _ _ target (λ n. n) bounds inner chm is8) in
-      let all = adds_code a m1 n _ _ _ _ whole_of cf in
+      let turn_of = turned f g l ls0 _ _ _ t2 (turn_put g h i j k l ls3 x body range counter count stand cnt is4 tgt is5 st t4 bd) in
+      let all = then_adds a f l _ _ _ _ _ _ (adds_code a e1 f _ _ _ _ front fr) turn_of in
       let at = length a.code in
       let c0 : c.next ≡ a.next + 1 = h2.next_slot ∙ h1.next_slot ∙ ap (λ n. n + 1) t.next_slot in
-      let cl1 : c.lines ≡ ls1 = h2.left ∙ h1.left ∙ t.left in
       let first0 : first ≡ a.next + 1 = is2 ∙ c0 in
-      let last0 : last ≡ a.next + 1 + length kf = is3 ∙ p.all.next_slot
-      ∙ ap (λ n. n + length (expr_slots s.program s.routine (expr_with from c.lines))) c0
-      ∙ ap (λ n. a.next + 1 + length (expr_slots s.program s.routine (expr_with from n))) cl1 in
       let step0 : step ≡ a.next = is ∙ t.next_slot in
+      let known0 : known ≡ constant (expr_with from ls1) = fis ∙ sym (constant_with from ls1) in
+      let own_counter = T.own_slot s.program s.tables s.routine counts in
+      let own_limit = T.own_slot s.program s.tables s.routine limits in
       let spare = a.next + 1 + length kf + length kt in
       let more0 : more ≡ spare = omega (arith, ism, before.next_slot, length-append kf kt) in
-      let begin = begin_loop line at a.next (pos 1)
-      (λ at. T.expr_code s.program s.tables s.routine line at (a.next + 1) (expr_with from ls1))
-      (λ at. T.expr_code s.program s.tables s.routine line at (a.next + 1 + length kf) (expr_with to ls2)) in
+      let begin_at : (limit : ℕ) → List Lined = λ limit. begin_loop line at a.next (pos 1)
+      (λ at. first_code at (a.next + 1) (expr_with from ls1)) (λ at. last_code limit at (a.next + 1 + length kf) (expr_with to ls2)) in
+      let begin = begin_at own_limit in
       let next = at + length begin in
-      let low = a.next + length ((slot.Number ∷ (kf ++ kt)) ++ slot.Number ∷ []) + 0 + 0 in
+      let low = a.next + length ((slot.Number ∷ (kf ++ kt)) ++ slot.Number ∷ []) in
       let low0 : low ≡ spare + 1 = omega (arith, length-append (kf ++ kt) (slot.Number ∷ []), length-append kf kt) in
+      let e0 : length e1.code ≡ next = address_behind a e1 _ _ _ front ∙ ap (λ z. at + length (begin_at z)) lis in
       let turn : (counter at lo : ℕ) → List Lined = λ counter at lo. turn_code line
       at (T.count_code s.program s.tables s.routine (bare_desig u) range counter lo)
       (λ at. unless_bare (bare_desig u) (T.desig_code s.program s.tables s.routine line at (lo + 1) u))
       (T.set_code s.program s.tables s.routine (lo + 1) (count_of counter lo u) u)
       (λ at. T.stmts_code s.program s.tables s.routine
       at (lo + length (unless_bare (bare_desig u) (slot.Number ∷ desig_slots s.program s.routine u))) (stmts_with body ls3)) in
-      let two : (counter limit more far : ℕ) → List Lined = λ counter limit more far. own line
-      (I.Less more counter limit ∷ I.JumpZero more far ∷ []) in
-      let three : (counter step over top : ℕ) → List Lined = λ counter step over top. own line
-      (I.Jump over ∷ I.Add counter counter step ∷ I.Jump top ∷ []) in
-      let fail = own line (I.Fail ∷ []) in
-      let body_of : (counter limit more step low at far over top : ℕ) → List Lined = λ counter limit more step low at far over top.
-      two counter limit more far ++ ((own line (I.Choose (at + length (turn counter at low) + 1) ∷ []) ++ turn counter at low)
-      ++ three counter step over top) in
-      let whole : (counter limit first last more step low at far over top : ℕ)
-      → List Lined = λ counter limit first last more step low at far over top.
-      (begin ++ (own line (bounds_code (pos 1) counter limit first last
-      (next + 4 + length (body_of counter limit more step low at far over top)))
-      ++ body_of counter limit more step low at far over top)) ++ fail in
-      let own_counter = T.own_slot s.program s.tables s.routine counts in
-      let own_limit = T.own_slot s.program s.tables s.routine limits in
-      let f0 : length f.code ≡ next + 4 = address_behind e1 f _ _ _ bounds.all ∙ ap (λ n. n + 4) (address_behind a e1 _ _ _ front) in
-      let f10 : length f1.code ≡ next + 4 + 2 = address_after f f1 _ cl ∙ ap (λ n. n + 2) f0 in
-      let f20 : length f2.code ≡ next + 4 + 2 + 1 = address_after f1 f2 _ ch ∙ ap (λ n. n + 1) f10 in
-      let fn : f2.next ≡ low = ch.next_slot ∙ cl.next_slot ∙ bounds.all.next_slot ∙ ap (λ n. n + 0) front.next_slot
-      ∙ sym (add-zero (a.next + length ((slot.Number ∷ (kf ++ kt)) ++ slot.Number ∷ []) + 0)) in
-      let at7 : next + 4 + 2 + 1 ≡ next + 7 = omega arith in
-      let final = turn own_counter (next + 7) (spare + 1) in
-      let l0 : length l.code ≡ next + 7 + length final = address_behind f2 l _ _ _ turn_of
-      ∙ ap (λ n. n + length (turn counter (length f2.code) f2.next)) (f20 ∙ at7)
-      ∙ ap (λ n. next + 7 + length (turn counter n f2.next)) (f20 ∙ at7)
-      ∙ ap (λ n. next + 7 + length (turn counter (next + 7) n)) (fn ∙ low0)
-      ∙ ap (λ n. next + 7 + length (turn n (next + 7) (spare + 1))) cis in
-      let top0 : top ≡ next + 4 = ist ∙ f0 in
-      let far0 : far ≡ next + 7 = omega (arith, isf, top0) in
-      let over0 : over ≡ next + 7 + length final + 4 = iso ∙ ap (λ n. n + 4) l0 in
-      let done = body_of own_counter own_limit spare a.next (spare + 1) (next + 7) (next + 7) (next + 7 + length final + 4) (next + 4) in
-      let four = three own_counter a.next (next + 7 + length final + 4) (next + 4) in
-      let ends : next + 4 + length done ≡ next + 7 + length final + 3 = omega (arith, length-append final four) in
-      let pre : ℕ → List Lined = λ empty. own line
-      (bounds_code (pos 1) own_counter own_limit (a.next + 1) (a.next + 1 + length kf) empty
-      ++ (I.Less spare own_counter own_limit ∷ I.JumpZero spare (next + 7) ∷ I.Choose (next + 7 + length final + 1) ∷ [])) in
+      let eight : (at : ℕ) (known : Option ℤ) (counter limit step first more : ℕ)
+      → List Lined = λ at known counter limit step first more. own line (some_front at known counter limit step first more) in
+      let k0 = constant (expr_with from ls1) in
+      let done = eight next k0 own_counter own_limit a.next (a.next + 1) spare in
+      let far : at + length (begin ++ done) ≡ next + 8 = omega (arith, length-append begin done) in
+      let whole : (known : Option ℤ) (limits next counter limit step first more low : ℕ)
+      → List Lined = λ known limits next counter limit step first more low.
+      (begin_at limits ++ eight next known counter limit step first more)
+      ++ turn counter (at + length (begin_at limits ++ eight next known counter limit step first more)) low in
       record {
-        all = adds_as a n _ _ _ _ _ _ all
-            (ap (λ z. whole z limit first last more step low (next + 4 + 2 + 1) far over top) cis
-            ∙ ap (λ z. whole own_counter z first last more step low (next + 4 + 2 + 1) far over top) lis
-            ∙ ap (λ z. whole own_counter own_limit z last more step low (next + 4 + 2 + 1) far over top) first0
-            ∙ ap (λ z. whole own_counter own_limit (a.next + 1) z more step low (next + 4 + 2 + 1) far over top) last0
-            ∙ ap (λ z. whole own_counter own_limit (a.next + 1) (a.next + 1 + length kf) z step low (next + 4 + 2 + 1) far over top) more0
-            ∙ ap (λ z. whole own_counter own_limit (a.next + 1) (a.next + 1 + length kf) spare z low (next + 4 + 2 + 1) far over top) step0
-            ∙ ap (λ z. whole own_counter own_limit (a.next + 1) (a.next + 1 + length kf) spare a.next z (next + 4 + 2 + 1) far over top)
-            low0
-            ∙ ap (λ z. whole own_counter own_limit (a.next + 1) (a.next + 1 + length kf) spare a.next (spare + 1) z far over top) at7
-            ∙ ap (λ z. whole own_counter own_limit (a.next + 1) (a.next + 1 + length kf) spare a.next (spare + 1) (next + 7) z over top)
-            far0
-            ∙ ap (λ z. whole own_counter own_limit (a.next + 1) (a.next + 1 + length kf) spare a.next (spare + 1) (next + 7) (next + 7) z
-            top) over0
-            ∙ ap (λ z. whole own_counter own_limit (a.next + 1) (a.next + 1 + length kf) spare a.next (spare + 1) (next + 7) (next + 7)
-            (next + 7 + length final + 4) z) top0
-            ∙ ap (λ z. (begin ++ (own line (bounds_code (pos 1) own_counter own_limit (a.next + 1) (a.next + 1 + length kf) z) ++ done))
-            ++ fail) ends
-            ∙ append_assoc begin (pre (next + 7 + length final + 3) ++ (final ++ four)) fail
-            ∙ ap (λ l. begin ++ (pre (next + 7 + length final + 3) ++ l)) (append_assoc final four fail))
+        all = adds_as a l _ _ _ _ _ _ all
+            (ap (λ z. whole known limit z counter limit step first more low) e0
+            ∙ ap (λ z. whole known z next counter limit step first more low) lis
+            ∙ ap (λ z. whole z own_limit next counter limit step first more low) known0
+            ∙ ap (λ z. whole k0 own_limit next z limit step first more low) cis
+            ∙ ap (λ z. whole k0 own_limit next own_counter z step first more low) lis
+            ∙ ap (λ z. whole k0 own_limit next own_counter own_limit z first more low) step0
+            ∙ ap (λ z. whole k0 own_limit next own_counter own_limit a.next z more low) first0
+            ∙ ap (λ z. whole k0 own_limit next own_counter own_limit a.next (a.next + 1) z low) more0
+            ∙ ap (λ z. whole k0 own_limit next own_counter own_limit a.next (a.next + 1) spare z) low0
+            ∙ ap (λ z. (begin ++ done) ++ turn own_counter z (spare + 1)) far
+            ∙ append_assoc begin done (turn own_counter (next + 8) (spare + 1)))
             (ap (λ l. slot.Number ∷ l) (append_assoc (kf ++ kt) (slot.Number ∷ []) _ ∙ append_assoc kf kt _))
             (four_behind x from to body ls0);
       }

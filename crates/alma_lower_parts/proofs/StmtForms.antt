@@ -119,7 +119,7 @@ module _ (s : Around) where
       (λ at. unless_bare (bare e) (T.expr_code s.program s.tables s.routine line at next e))
 
   -- a value that ends alone has code
-  has_code : (line at lo : ℕ) (e : Expr) → ends_alone e ≡ true
+  pub has_code : (line at lo : ℕ) (e : Expr) → ends_alone e ≡ true
       → 0 < length (unless_bare (bare e) (T.expr_code s.program s.tables s.routine line at lo e))
   has_code line at lo (Const n) h = omega arith
   has_code line at lo (Load d) h = by (bare_desig d) refl h

@@ -16,7 +16,7 @@ use Rattle.alma_lower_templates.specs.Tables.{is_whole}
 use Rattle.alma_lower_templates.specs.Slots.{bare_desig, bare, ends_alone, straight_by, goes_straight, own_place, own_root, is_given}
 use Rattle.alma_lower_templates.specs.Slots.{is_ready, if_ready, stays_by, stays, stays_in, is_simple_expr, are_simple_links}
 use Rattle.alma_lower_templates.specs.Slots.{is_simple_desig, are_simple_sels, is_simple_sel, is_simple, cells_behind, desig_cells}
-use Rattle.alma_lower_templates.specs.Slots.{arg_kind, handed_slots}
+use Rattle.alma_lower_templates.specs.Slots.{arg_kind, handed_slots, constant}
 
 -- ---- variables that stand in their own slots
 
@@ -73,7 +73,7 @@ stays_in_with false x (more_links how y rest) ls ls2 = stays_with x y ls ls2
 
 -- ---- values that go straight into a variable
 
-alone_with : (e : Expr) (ls : List ℕ) → ends_alone (expr_with e ls) ≡ ends_alone e
+pub alone_with : (e : Expr) (ls : List ℕ) → ends_alone (expr_with e ls) ≡ ends_alone e
 unfolding stmts_with
 alone_with (Const n) ls = refl
 alone_with (Load d) ls = ap (λ o. not (is_given o)) (own_desig d ls)
@@ -89,6 +89,19 @@ pub straight_with : (d : Desig) (e : Expr) (range : Range) (ls ls2 : List ℕ)
     → goes_straight (desig_with d ls) (expr_with e ls2) range ≡ goes_straight d e range
 straight_with d e range ls ls2 = ap (λ o. straight_by o (is_whole range && ends_alone (expr_with e ls2))) (own_desig d ls)
     ∙ ap (λ b. straight_by (bare_desig d) (is_whole range && b)) (alone_with e ls2)
+
+-- ---- first counts that are constants
+
+pub constant_with : (e : Expr) (ls : List ℕ) → constant (expr_with e ls) ≡ constant e
+unfolding stmts_with
+constant_with (Const n) ls = refl
+constant_with (Load d) ls = refl
+constant_with (Chain negated e links) ls = refl
+constant_with (Compare how x y) ls = refl
+constant_with (Truth t) ls = refl
+constant_with (Known d) ls = refl
+constant_with (Chr e) ls = refl
+constant_with (CallExpr r args up) ls = refl
 
 -- ---- parameters whose place is used in their own slot
 

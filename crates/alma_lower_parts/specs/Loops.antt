@@ -4,28 +4,40 @@ use Rattle.alma_base.specs.declared.number.Range.{Range}
 use Rattle.alma_code.specs.declared.cell.SlotKind.TheVariants as slot
 use Rattle.alma_code.specs.declared.instr.Instr.TheVariants as I
 use Rattle.alma_ir.specs.Tree.{Stmts, Expr, Desig}
-use Rattle.alma_ir.specs.Phrases.{desig_phrases}
-use Rattle.alma_ir.specs.Lines.{behind, desig_with}
+use Rattle.alma_ir.specs.Phrases.{desig_phrases, expr_phrases}
+use Rattle.alma_ir.specs.Lines.{behind, desig_with, expr_with}
 use Rattle.alma_lower_work.specs.declared.stand.Stand.{Stand}
 use Rattle.alma_lower_work.specs.Front.{Around, Front, Adds, Codes, Takes, Turns}
-use Rattle.alma_lower_work.specs.Puts.{PutsExpr, PutsTarget, PutsStmts, stand_of, set_instr}
+use Rattle.alma_lower_work.specs.Puts.{PutsTarget, PutsStmts, stand_of, set_instr, value_slot}
 use Rattle.alma_lower_parts.specs.Steps.{PutsSlot}
 use Rattle.alma_lower_templates.specs.Lined.{own}
-use Rattle.alma_lower_templates.specs.Slots.{bare_desig, unless_bare}
+use Rattle.alma_lower_templates.specs.Slots.{bare, bare_desig, unless_bare, constant, ends_alone, expr_slots}
+use Rattle.alma_lower_templates.specs.Pieces.{unless_constant, limit_code}
 use Rattle.alma_lower_templates.specs.Templates as T
 
--- the step, in a slot of its own, and then both bounds
-pub record PutsBounds (s : Around) (line : ℕ) (by : ℤ) (a e : Front) (from to : Expr) (step first last : ℕ) : Type 0 where
+-- the first count, which has no code where it is a constant; its slot is the first
+pub record PutsFirstCount (s : Around) (line : ℕ) (a b : Front) (e : Expr) : Type 0 where
+  pub all : Adds a b (λ at lo ls. unless_constant (constant (expr_with e ls))
+      (T.expr_code s.program s.tables s.routine line at lo (expr_with e ls)))
+      (λ ls. expr_slots s.program s.routine (expr_with e ls)) (behind (expr_phrases e))
+
+-- the limit, into its slot
+pub record PutsLimit (s : Around) (line limit : ℕ) (a b : Front) (e : Expr) : Type 0 where
+  pub all : Adds a b (λ at lo ls. limit_code (ends_alone (expr_with e ls)) line limit (value_slot s lo (expr_with e ls))
+      (unless_bare (bare (expr_with e ls)) (T.expr_code s.program s.tables s.routine line at lo (expr_with e ls))))
+      (λ ls. expr_slots s.program s.routine (expr_with e ls)) (behind (expr_phrases e))
+
+-- the step, in a slot of its own, and then the first count and the limit
+pub record PutsBounds (s : Around) (line : ℕ) (by : ℤ) (limit : ℕ) (a e : Front) (from to : Expr) (step first : ℕ) : Type 0 where
   pub b : Front
   pub c : Front
   pub d : Front
   pub takes : Takes a b slot.Number
   pub step_slot : step ≡ a.next
   pub codes : Codes b c (own line (I.Const step by ∷ []))
-  pub from_put : PutsExpr s line c d from
+  pub from_put : PutsFirstCount s line c d from
   pub first_slot : first ≡ c.next
-  pub to_put : PutsExpr s line d e to
-  pub last_slot : last ≡ d.next
+  pub to_put : PutsLimit s line limit d e to
 
 -- the lines of the variable of a loop are passed, and its step is put into a slot of its own
 pub record BeginsLoop (line : ℕ) (by : ℤ) (a c : Front) (x : Desig) (step : ℕ) : Type 0 where
@@ -35,10 +47,11 @@ pub record BeginsLoop (line : ℕ) (by : ℤ) (a c : Front) (x : Desig) (step : 
   pub puts : PutsSlot b c slot.Number (own line (I.Const step by ∷ []))
 
 -- the lines of the variable of a loop are passed, and then come its step and both bounds
-pub record PassesAndBounds (s : Around) (line : ℕ) (by : ℤ) (a e : Front) (x : Desig) (from to : Expr) (step first last : ℕ) : Type 0 where
+pub record PassesAndBounds (s : Around) (line : ℕ) (by : ℤ) (limit : ℕ) (a e : Front) (x : Desig) (from to : Expr) (step first : ℕ)
+    : Type 0 where
   pub b : Front
   pub passed : Turns a b (behind (desig_phrases x) a.lines)
-  pub bounds : PutsBounds s line by b e from to step first last
+  pub bounds : PutsBounds s line by limit b e from to step first
 
 -- the count is checked, the variable is located and set, and the body follows with the lines behind so many of all
 pub record PutsTurn (s : Around) (line after : ℕ) (range : Range) (counter : ℕ) (a f : Front) (x : Desig) (body : Stmts) : Type 0 where

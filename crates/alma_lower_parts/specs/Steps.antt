@@ -1,15 +1,16 @@
 -- What is put in a row with no recursion, step by step: it serves contracts between the crates of the emitter alone.
-use Rattle.std.specs.Prelude.{◌≡◌, ℕ, ◌+◌, ℤ, pos, List, [], ◌∷◌, length, drop}
+use Rattle.std.specs.Prelude.{◌≡◌, ℕ, ◌+◌, ℤ, List, [], ◌∷◌, length, drop, Option}
 use Rattle.alma_code.specs.declared.cell.SlotKind.{SlotKind}
 use Rattle.alma_code.specs.declared.cell.SlotKind.TheVariants as slot
+use Rattle.alma_code.specs.declared.instr.Instr.{Instr}
 use Rattle.alma_code.specs.declared.instr.Instr.TheVariants as I
 use Rattle.alma_choice.specs.Emitted.{aimed}
 use Rattle.alma_ir.specs.declared.phrase.Root.{Root}
 use Rattle.alma_ir.specs.Tree.{Args, Sels}
-use Rattle.alma_lower_work.specs.Front.{Around, Front, Adds, Codes, Takes, Changes, Holes, EndsEach, EndsForall}
+use Rattle.alma_lower_work.specs.Front.{Around, Front, Adds, Codes, Takes, Changes, EndsEach, EndsForall}
 use Rattle.alma_lower_templates.specs.Lined.{Lined, own}
 use Rattle.alma_lower_templates.specs.Slots.{call_links, handed_slots, root_slots, own_root, unless_bare}
-use Rattle.alma_lower_templates.specs.Pieces.{bounds_code, truth_code}
+use Rattle.alma_lower_templates.specs.Pieces.{count_from, truth_code}
 use Rattle.alma_lower_templates.specs.Templates as T
 
 -- ---- of any form
@@ -107,31 +108,14 @@ pub record EndsFor (line counter limit step jump top : ℕ) (a c : Front) : Type
   pub codes : Codes a b (own line (I.Step counter limit step out ∷ I.Jump top ∷ []))
   pub aims : Changes b c (λ xs. aimed xs jump (length b.code + 0))
 
--- the bounds of SOME, and the front of its turns
-pub record BeginsSome (line counter limit first last : ℕ) (a e : Front) (jump choice top : ℕ) : Type 0 where
-  pub b : Front
-  pub c : Front
-  pub d : Front
-  pub more : ℕ
-  pub turn : ℕ
-  pub takes : Takes a b slot.Number
-  pub more_slot : more ≡ a.next
-  pub bounds : Holes b c (λ to xs. aimed xs jump to) (λ empty at lo ls. own line (bounds_code (pos 1) counter limit first last empty))
-      (λ ls. []) (λ ls. ls)
-  pub top_at : top ≡ length c.code
-  pub turn_at : turn ≡ length c.code + 3
-  pub tests : Codes c d (own line (I.Less more counter limit ∷ I.JumpZero more turn ∷ []))
-  pub choice_at : choice ≡ length d.code
-  pub chooses : Codes d e (own line (I.Choose 0 ∷ []))
+-- what stands before the turns of SOME, at an address
+abbrev pub some_front : (at : ℕ) → (constant : Option ℤ) → (counter limit step first more : ℕ) → List Instr
+some_front at constant counter limit step first more =
+    count_from constant counter first ∷ I.LessEq first counter limit ∷ I.Check first ∷ I.Jump (at + 5)
+    ∷ I.Add counter counter step ∷ I.Less more counter limit ∷ I.JumpZero more (at + 8) ∷ I.Choose (at + 4) ∷ []
 
--- the end of a turn of SOME, and that of the whole
-pub record EndsSome (line counter step jump choice top : ℕ) (a e : Front) : Type 0 where
+-- a slot for whether there are more turns, and the front
+pub record BeginsSome (line : ℕ) (constant : Option ℤ) (counter limit step first : ℕ) (a c : Front) : Type 0 where
   pub b : Front
-  pub c : Front
-  pub d : Front
-  pub over : ℕ
-  pub over_at : over ≡ length a.code + 4
-  pub aims_choice : Changes a b (λ xs. aimed xs choice (length a.code + 1))
-  pub next : Codes b c (own line (I.Jump over ∷ I.Add counter counter step ∷ I.Jump top ∷ []))
-  pub aims_jump : Changes c d (λ xs. aimed xs jump (length c.code + 0))
-  pub fails : Codes d e (own line (I.Fail ∷ []))
+  pub takes : Takes a b slot.Number
+  pub codes : Codes b c (own line (some_front (length b.code) constant counter limit step first a.next))

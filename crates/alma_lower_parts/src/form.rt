@@ -3,20 +3,22 @@ ghost use Rattle.std.specs.Prelude.{◌≡◌, ◌∷◌, [], IfOk, IsOk, OnOk};
 ghost use Rattle.alma_code.specs.declared.cell.SlotKind.TheVariants as slot;
 ghost use Rattle.alma_code.specs.declared.instr.Instr.TheVariants as instr;
 ghost use Rattle.alma_choice.specs.Emitted.{aimed};
-ghost use Rattle.alma_ir.specs.View.{sels_list};
+ghost use Rattle.alma_ir.specs.View.{expr_of, sels_list};
 ghost use Rattle.alma_lower_templates.specs.Lined.{own};
 ghost use Rattle.alma_lower_templates.specs.Pieces as pieces;
 ghost use Rattle.alma_lower_templates.specs.Tables.{range_number};
 ghost use Rattle.alma_lower_templates.specs.Templates.{char_range, fit_result};
 ghost use Rattle.alma_lower_work.specs.Front.{around, front, result_of, Changes, Codes};
 ghost use Rattle.alma_lower_work.specs.Puts.{set_instr};
+ghost use Rattle.alma_lower_parts.specs.Numbers.{PutsNumber};
 ghost use Rattle.alma_lower_parts.specs.Steps.{BeginsPlace, BeginsWhile, EndsTruth, PutsSlot, PutsTwo};
 
 use alma_base::{NoMemory, Range};
 use alma_code::{Instr, SlotKind};
-use alma_ir::{Desig, ReadAs};
+use alma_ir::{Desig, Expr, ReadAs};
 use alma_lower_work::{
-    Scene, Stand, Work, own_root, put_fit, put_result_fit, put_root, put_truth, read_instr,
+    Scene, Stand, Work, is_straight, own_root, put_fit, put_result_fit, put_root, put_truth,
+    read_instr,
 };
 
 // The numbers of CHAR.
@@ -39,19 +41,23 @@ pub fn put_set(
     work.add(line, stand.set(value))
 }
 
-/// A number for the slot of an argument, in a range.
+/// A number for the slot of an argument, in a range: it goes straight there, or from its own slot behind its check.
 pub fn put_number(
     work: &mut Work,
     scene: &Scene<'_>,
     line: u32,
+    value: &Expr,
     range: Range,
     to: u32,
     from: u32,
 ) -> Result<(), NoMemory>
-    ensures { OnOk result (PutsTwo (front work.old) (front work.new)
-        (own line (pieces.fit_code (around scene.now).tables range from))
-        (own line (instr.Move to from ∷ []))) }
+    ensures { OnOk result (PutsNumber (around scene.now) line (expr_of value.now) range to from
+        (front work.old) (front work.new)) }
 {
+    if is_straight(value, range) {
+        work.redirect(to);
+        return Ok(());
+    }
     put_fit(work, scene, line, range, from)?;
     work.add(line, Instr::Move { to, from })
 }

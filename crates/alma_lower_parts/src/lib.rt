@@ -11,10 +11,10 @@ mod loops;
 mod pass;
 
 pub use alma_lower_work::{
-    FirstOperand, Scene, Stand, Work, hold_at, is_simple, next_operand, op_instr, own_first,
-    own_place, own_stand, own_value, put_at, put_cmp, put_fit, put_function, put_links, put_neg,
-    put_result_fit, put_root, put_truth, put_unequal, read_instr, slot_of, stay_at, straight_slot,
-    unequal, write_instr,
+    FirstOperand, Scene, Stand, Work, constant, ends_alone, hold_at, is_simple, is_straight,
+    next_operand, op_instr, own_first, own_place, own_stand, own_value, put_at, put_back, put_cmp,
+    put_fit, put_function, put_links, put_neg, put_result_fit, put_root, put_truth, put_unequal,
+    read_instr, slot_of, stay_at, straight_slot, turned_test, unequal, write_instr,
 };
 pub use call::{Handed, begin_call, first_handed, put_call_link, take_handed, take_result};
 pub use case::{
@@ -34,7 +34,6 @@ pub use leaf::{
     emit_const, emit_field, emit_line, emit_text, is_plain, slot_behind, slot_past, stand_at,
 };
 pub use loops::{
-    Aims, Bounds, Counts, begin_for, begin_some, end_for, end_some, put_bounds, put_count,
-    put_counts, put_more, put_next, put_step,
+    Bounds, Counts, begin_for, begin_some, end_for, put_bounds, put_count, put_counts, put_step,
 };
 pub use pass::{begin_loop, pass_desig, pass_stmts, pass_unlabelled};

@@ -1,5 +1,5 @@
 // The bounds of loops.
-ghost use Rattle.std.specs.Prelude.{◌≡◌, ◌∷◌, [], length, IfOk, IsOk, OnOk};
+ghost use Rattle.std.specs.Prelude.{◌≡◌, ◌+◌, ◌∷◌, [], length, IfOk, IsOk, OnOk};
 ghost use Rattle.alma_code.specs.declared.instr.Instr.TheVariants as instr;
 ghost use Rattle.alma_code.specs.declared.cell.SlotKind.TheVariants as slot;
 ghost use Rattle.alma_ir.specs.View.{desig_of};
@@ -9,76 +9,70 @@ ghost use Rattle.alma_choice.specs.Emitted.{aimed};
 ghost use Rattle.alma_lower_templates.specs.Lined.{own};
 ghost use Rattle.alma_lower_templates.specs.Pieces as pieces;
 ghost use Rattle.alma_lower_work.specs.Front.{around, front, Adds, Codes, Holes};
-ghost use Rattle.alma_lower_parts.specs.Steps.{BeginsSome, EndsFor, EndsSome, PutsSlot};
+ghost use Rattle.alma_lower_parts.specs.Steps.{BeginsSome, EndsFor, PutsSlot};
 
 use alma_base::{NoMemory, Range};
 use alma_code::{Instr, SlotKind};
 use alma_ir::{Desig, Loop};
 use alma_lower_work::{Scene, Work, own_stand, put_fit};
 
-/// The slots of a loop: of its count and of its limit, and those in which the bounds were put first.
+/// The slots of a loop: of its count, its limit and its step, and that of its first count, with the number of a constant.
 #[derive(Clone, Copy)]
 pub struct Bounds {
     pub counter: u32,
     pub limit: u32,
+    pub step: u32,
     pub first: u32,
-    pub last: u32,
+    pub constant: Option<i64>,
 }
 
-// What makes the first count 0 where it is beyond the limit.
-fn entry_instr(by: i64, from: u32, to: u32) -> Instr
-    ensures { result ≡ pieces.entry_code by from to }
+// What puts the first count into the slot of the count.
+fn count_instr(constant: Option<i64>, counter: u32, first: u32) -> Instr
+    ensures { result ≡ pieces.count_from constant counter first }
+{
+    match constant {
+        Some(value) => Instr::Const { to: counter, value },
+        None => Instr::Move {
+            to: counter,
+            from: first,
+        },
+    }
+}
+
+// What makes a slot 0 where the first count is beyond the limit.
+fn entry_instr(by: i64, to: u32, counter: u32, limit: u32) -> Instr
+    ensures { result ≡ pieces.entry_code by to counter limit }
 {
     if by < 0 {
         Instr::LessEq {
-            to: from,
-            left: to,
-            right: from,
+            to,
+            left: limit,
+            right: counter,
         }
     } else {
         Instr::LessEq {
-            to: from,
-            left: from,
-            right: to,
+            to,
+            left: counter,
+            right: limit,
         }
     }
 }
 
-/// Both bounds go to their slots; the jump where there is no turn, which is to be aimed.
-pub fn put_bounds(work: &mut Work, line: u32, by: i64, bounds: Bounds) -> Result<u32, NoMemory>
-    ensures { IfOk result (λ jump. Holes (front work.old) (front work.new)
-        (λ to xs. aimed xs jump to)
-        (λ empty at lo ls. own line (pieces.bounds_code by bounds.counter bounds.limit bounds.first
-        bounds.last empty)) (λ ls. []) (λ ls. ls)) }
+/// Behind the limit: the first count is set, and its own slot becomes 0 where there is no turn.
+pub fn put_bounds(work: &mut Work, line: u32, by: i64, bounds: Bounds) -> Result<(), NoMemory>
+    ensures { OnOk result (Codes (front work.old) (front work.new) (own line
+        (pieces.count_from bounds.constant bounds.counter bounds.first
+        ∷ pieces.entry_code by bounds.first bounds.counter bounds.limit ∷ []))) }
 {
     let Bounds {
         counter,
         limit,
         first,
-        last,
+        constant,
+        ..
     } = bounds;
-    work.put(
-        line,
-        Instr::Move {
-            to: counter,
-            from: first,
-        },
-    )?;
-    work.put(
-        line,
-        Instr::Move {
-            to: limit,
-            from: last,
-        },
-    )?;
-    work.put(line, entry_instr(by, first, last))?;
-    work.put(
-        line,
-        Instr::JumpZero {
-            value: first,
-            to: 0,
-        },
-    )
+    work.add(line, count_instr(constant, counter, first))?;
+    work.add(line, entry_instr(by, first, counter, limit))
 }
 
 /// The count of a turn, checked against the range of the variable; its slot. A variable that is set in its own slot has it
@@ -120,28 +114,36 @@ pub fn put_step(
     work: &mut Work,
     line: u32,
     bounds: Bounds,
-    by: u32,
     out: u32,
     top: u32,
 ) -> Result<(), NoMemory>
     ensures { OnOk result (Codes (front work.old) (front work.new) (own line
-        (instr.Step bounds.counter bounds.limit by out ∷ instr.Jump top ∷ []))) }
+        (instr.Step bounds.counter bounds.limit bounds.step out ∷ instr.Jump top ∷ []))) }
 {
     work.put(
         line,
         Instr::Step {
             counter: bounds.counter,
             limit: bounds.limit,
-            by,
+            by: bounds.step,
             out,
         },
     )?;
-    work.put(line, Instr::Jump { to: top })?;
-    Ok(())
+    work.add(line, Instr::Jump { to: top })
 }
 
-/// The front of a turn of SOME: whether there are more turns behind it; in the last, the choice that follows is left out.
-pub fn put_more(
+// A loop without turns fails, and the first turn is reached over the count of the next.
+fn put_entry(work: &mut Work, line: u32, first: u32) -> Result<(), NoMemory>
+    ensures { OnOk result (Codes (front work.old) (front work.new) (own line
+        (instr.Check first ∷ instr.Jump (length (front work.old).code + 3) ∷ []))) }
+{
+    let over = work.behind(3)?;
+    work.add(line, Instr::Check { value: first })?;
+    work.add(line, Instr::Jump { to: over })
+}
+
+// Whether there are more turns behind this; in the last, the choice that follows is left out.
+fn put_more(
     work: &mut Work,
     line: u32,
     more: u32,
@@ -159,39 +161,35 @@ pub fn put_more(
             right: bounds.limit,
         },
     )?;
-    work.put(
+    work.add(
         line,
         Instr::JumpZero {
             value: more,
             to: turn,
         },
-    )?;
-    Ok(())
+    )
 }
 
-/// The end of a turn of SOME: over the rest, and the count of the next turn, at which the choice goes on.
-pub fn put_next(
-    work: &mut Work,
-    line: u32,
-    over: u32,
-    counter: u32,
-    step: u32,
-    top: u32,
-) -> Result<(), NoMemory>
+// The count of the next turn, at which the choice of a turn goes on, and that choice.
+fn put_next(work: &mut Work, line: u32, more: u32, bounds: Bounds) -> Result<(), NoMemory>
     ensures { OnOk result (Codes (front work.old) (front work.new) (own line
-        (instr.Jump over ∷ instr.Add counter counter step ∷ instr.Jump top ∷ []))) }
+        (instr.Add bounds.counter bounds.counter bounds.step
+        ∷ instr.Less more bounds.counter bounds.limit
+        ∷ instr.JumpZero more (length (front work.old).code + 4)
+        ∷ instr.Choose (length (front work.old).code) ∷ []))) }
 {
-    work.put(line, Instr::Jump { to: over })?;
+    let retry = work.here()?;
+    let turn = work.behind(4)?;
     work.put(
         line,
         Instr::Add {
-            to: counter,
-            left: counter,
-            right: step,
+            to: bounds.counter,
+            left: bounds.counter,
+            right: bounds.step,
         },
     )?;
-    work.put(line, Instr::Jump { to: top })?;
-    Ok(())
+    put_more(work, line, more, bounds, turn)?;
+    work.add(line, Instr::Choose { resume: retry })
 }
 
 /// The slots of the count, of the limit and of the step of a loop.
@@ -235,7 +233,7 @@ pub fn put_counts(
     })
 }
 
-/// Both bounds of FOR; the jump where there is no turn, which is to be aimed, and the address of the first turn.
+/// Behind the limit of FOR; the jump where there is no turn, which is to be aimed, and the address of the first turn.
 pub fn begin_for(
     work: &mut Work,
     line: u32,
@@ -244,11 +242,18 @@ pub fn begin_for(
 ) -> Result<(u32, u32), NoMemory>
     ensures holes { IfOk result (λ r. Holes (front work.old) (front work.new)
         (λ to xs. aimed xs r.0 to)
-        (λ empty at lo ls. own line (pieces.bounds_code by bounds.counter bounds.limit bounds.first
-        bounds.last empty)) (λ ls. []) (λ ls. ls)) }
+        (λ empty at lo ls. own line (pieces.bounds_code by bounds.constant bounds.counter
+        bounds.limit bounds.first empty)) (λ ls. []) (λ ls. ls)) }
     ensures top { IfOk result (λ r. r.1 ≡ length (front work.new).code) }
 {
-    let jump = put_bounds(work, line, by, bounds)?;
+    put_bounds(work, line, by, bounds)?;
+    let jump = work.put(
+        line,
+        Instr::JumpZero {
+            value: bounds.first,
+            to: 0,
+        },
+    )?;
     let top = work.here()?;
     Ok((jump, top))
 }
@@ -259,59 +264,26 @@ pub fn end_for(
     done: Result<(), NoMemory>,
     line: u32,
     bounds: Bounds,
-    step: u32,
     jump: u32,
     top: u32,
 ) -> Result<(), NoMemory>
     ensures done { OnOk result (IsOk done) }
-    ensures ends { OnOk result (EndsFor line bounds.counter bounds.limit step jump top
+    ensures ends { OnOk result (EndsFor line bounds.counter bounds.limit bounds.step jump top
         (front work.old) (front work.new)) }
 {
     done?;
     let out = work.behind(2)?;
-    put_step(work, line, bounds, step, out, top)?;
+    put_step(work, line, bounds, out, top)?;
     work.aim_behind(jump, 0)
 }
 
-/// What is to be aimed of SOME: the jump where there is no turn and the choice of a turn; and the address of the first turn.
-#[derive(Clone, Copy)]
-pub struct Aims {
-    pub jump: u32,
-    pub choice: u32,
-    pub top: u32,
-}
-
-/// Both bounds of SOME, and the front of a turn.
-pub fn begin_some(work: &mut Work, line: u32, bounds: Bounds) -> Result<Aims, NoMemory>
-    ensures { IfOk result (λ aims. BeginsSome line bounds.counter bounds.limit bounds.first
-        bounds.last (front work.old) (front work.new) aims.jump aims.choice aims.top) }
+/// Behind the limit of SOME: what stands before its turns.
+pub fn begin_some(work: &mut Work, line: u32, bounds: Bounds) -> Result<(), NoMemory>
+    ensures { OnOk result (BeginsSome line bounds.constant bounds.counter bounds.limit bounds.step
+        bounds.first (front work.old) (front work.new)) }
 {
     let more = work.slot(SlotKind::Number)?;
-    let jump = put_bounds(work, line, 1, bounds)?;
-    let top = work.here()?;
-    let turn = work.behind(3)?;
-    put_more(work, line, more, bounds, turn)?;
-    let choice = work.put(line, Instr::Choose { resume: 0 })?;
-    Ok(Aims { jump, choice, top })
-}
-
-/// Behind a turn of SOME: the next turn, and the failure where there is none.
-pub fn end_some(
-    work: &mut Work,
-    done: Result<(), NoMemory>,
-    line: u32,
-    counter: u32,
-    step: u32,
-    aims: Aims,
-) -> Result<(), NoMemory>
-    ensures done { OnOk result (IsOk done) }
-    ensures ends { OnOk result (EndsSome line counter step aims.jump aims.choice aims.top
-        (front work.old) (front work.new)) }
-{
-    done?;
-    let over = work.behind(4)?;
-    work.aim_behind(aims.choice, 1)?;
-    put_next(work, line, over, counter, step, aims.top)?;
-    work.aim_behind(aims.jump, 0)?;
-    work.add(line, Instr::Fail)
+    put_bounds(work, line, 1, bounds)?;
+    put_entry(work, line, bounds.first)?;
+    put_next(work, line, more, bounds)
 }

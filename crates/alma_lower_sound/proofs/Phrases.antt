@@ -41,7 +41,7 @@ use Rattle.alma_lower_templates.specs.Slots.{else_slots, branches_slots, for_slo
 use Rattle.alma_lower_templates.specs.Slots.{links_slots, args_slots, arg_slots, desig_slots, sels_slots, sel_slots, behind_expr}
 use Rattle.alma_lower_templates.specs.Slots.{behind_dead, behind_value, behind_desig, behind_target, behind_variable, behind_test}
 use Rattle.alma_lower_templates.specs.Slots.{behind_stmts, behind_stmt, behind_condition, own_place, own_root, goes_straight}
-use Rattle.alma_lower_templates.specs.Slots.{constant, ends_alone}
+use Rattle.alma_lower_templates.specs.Slots.{constant, ends_alone, is_straight}
 use Rattle.alma_lower_templates.specs.Slots as slots_of
 use Rattle.alma_lower_templates.specs.Templates.{char_range, own_slot, slot_or, value_at, part_slot, behind_root, place_at, root_code}
 use Rattle.alma_lower_templates.specs.Templates.{call_link_code, arguments_from, call_code, set_code, load_code, count_at, count_code}
@@ -600,10 +600,9 @@ module _ (p : Program) (tables : Tables) (code : PlainCode) (checked : IsChecked
     arg_fits line at to lo (ByValue e range) good k slots =
         let v : ℕ = value_at p tables r lo e in
         let n = number lo e good.1 slots in
-        then_own at line (unless_bare (bare e) (expr_code p tables r line at lo e)) (fit_code tables range v ++ (I.Move to v ∷ []))
-        (once line at lo e slots (expr_fits line at lo e good.1))
-        (each_of_append (Needs code r) (fit_code tables range v) (I.Move to v ∷ [])
-        (values.fit_needs p tables code checked w r lt range v good.0 n) ((k, n), tt))
+        pieces.put_fits code r (is_straight e range) line at to v (fit_code tables range v)
+        (unless_bare (bare e) (expr_code p tables r line at lo e)) k n
+        (values.fit_needs p tables code checked w r lt range v good.0 n) (once line at lo e slots (expr_fits line at lo e good.1))
     arg_fits line at to lo (ByCells d) good k slots =
         then_own at line (desig_code p tables r line at lo d) (I.Same to (place_at p tables r lo d) ∷ [])
         (desig_fits line at lo d good.1 slots) (
@@ -631,10 +630,9 @@ module _ (p : Program) (tables : Tables) (code : PlainCode) (checked : IsChecked
     arg_fits line at to lo (MixValue e range) good k slots =
         let v : ℕ = value_at p tables r lo e in
         let n = number lo e good.1 slots in
-        then_own at line (unless_bare (bare e) (expr_code p tables r line at lo e)) (fit_code tables range v ++ (I.Move to v ∷ []))
-        (once line at lo e slots (expr_fits line at lo e good.1))
-        (each_of_append (Needs code r) (fit_code tables range v) (I.Move to v ∷ [])
-        (values.fit_needs p tables code checked w r lt range v good.0 n) ((k, n), tt))
+        pieces.put_fits code r (is_straight e range) line at to v (fit_code tables range v)
+        (unless_bare (bare e) (expr_code p tables r line at lo e)) k n
+        (values.fit_needs p tables code checked w r lt range v good.0 n) (once line at lo e slots (expr_fits line at lo e good.1))
     arg_fits line at to lo (MixPlace d) good k slots =
         then_own at line (desig_code p tables r line at lo d) (I.Same to (place_at p tables r lo d) ∷ [])
         (desig_fits line at lo d good.1 slots) (

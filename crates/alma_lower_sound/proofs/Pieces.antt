@@ -12,6 +12,7 @@ use Rattle.alma_lower_templates.specs.Lined.{Lined, own, in_row, leaving}
 use Rattle.alma_lower_templates.specs.Pieces.{condition, guarded, chosen, first_of_two, refused, truth_code, each_body, forall_code}
 use Rattle.alma_lower_templates.specs.Pieces.{label_code, labels_code, behind_labels, case_arm, passed_over, entry_code, begin_loop}
 use Rattle.alma_lower_templates.specs.Pieces.{turn_code, for_turns, some_turns, aim, straight, count_from, unless_constant, limit_code}
+use Rattle.alma_lower_templates.specs.Pieces.{put_code}
 use Rattle.alma_lower_templates.specs.Slots.{unless_bare}
 use Rattle.alma_lower_sound.proofs.Needs.{IsInside, Needs, Number, Mark}
 use Rattle.alma_lower_templates.proofs.Straight.{straight_long}
@@ -95,6 +96,14 @@ module _ (code : PlainCode) (r : ℕ) where
   pub then_own : (spare at line : ℕ) (a : List Lined) (xs : List Instr) → Fits 0 at a → AllByRecursion (Needs code r) xs
       → Fits spare at (a ++ own line xs)
   then_own spare at line a xs f h = row spare at a (own line xs) f (own_fits spare (at + length a) line xs h)
+
+  -- a number, which goes to a slot
+  pub put_fits : (z : Bool) (line at to value : ℕ) (check : List Instr) (c : List Lined) → Number code r to → Number code r value
+      → AllByRecursion (Needs code r) check → Fits 0 at c → Fits 0 at (put_code z line to value check c)
+  put_fits true line at to value check c there from needs f = straight_fits to at c there f
+  put_fits false line at to value check c there from needs f =
+      then_own 0 at line c (check ++ (I.Move to value ∷ [])) f
+      (each_of_append (Needs code r) check (I.Move to value ∷ []) needs ((there, from), tt))
 
   -- ---- the first of several, which leaves over all
 
@@ -270,8 +279,7 @@ module _ (code : PlainCode) (r : ℕ) where
   -- a limit, which goes to its slot
   pub limit_fits : (z : Bool) (line at limit value : ℕ) (c : List Lined) → Number code r limit → Number code r value → Fits 0 at c
       → Fits 0 at (limit_code z line limit value c)
-  limit_fits true line at limit value c there from f = straight_fits limit at c there f
-  limit_fits false line at limit value c there from f = then_own 0 at line c (I.Move limit value ∷ []) f ((there, from), tt)
+  limit_fits z line at limit value c there from f = put_fits z line at limit value [] c there from tt f
 
   -- the slots of a loop: counter, limit, step, and the first count
   pub record LoopSlots (counter limit step first : ℕ) : Type 0 where

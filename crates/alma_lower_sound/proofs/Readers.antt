@@ -28,12 +28,12 @@ use Rattle.alma_lower_templates.specs.Pieces.{unequal_code, opposite_code, write
 use Rattle.alma_lower_templates.specs.Pieces.{behind_labels}
 use Rattle.alma_lower_templates.specs.Pieces.{labels_code, begin_loop, bounds_code, entry_code, chain_code, link_code, unless_whole}
 use Rattle.alma_lower_templates.specs.Pieces.{for_turns, some_turns, turn_code, each_body, forall_code, aim, straight}
-use Rattle.alma_lower_templates.specs.Pieces.{count_from, unless_constant, limit_code}
+use Rattle.alma_lower_templates.specs.Pieces.{count_from, unless_constant, limit_code, put_code}
 use Rattle.alma_lower_templates.specs.Slots.{shift_of, bare, bare_desig, stays, stays_in, unless_bare, is_simple, is_turned, handed_slots}
 use Rattle.alma_lower_templates.specs.Slots.{arg_slots}
 use Rattle.alma_lower_templates.specs.Slots.{behind_expr, behind_dead, behind_value, behind_desig, behind_target, behind_variable}
 use Rattle.alma_lower_templates.specs.Slots.{behind_test, behind_stmts, behind_stmt, behind_condition, own_place, own_root, goes_straight}
-use Rattle.alma_lower_templates.specs.Slots.{constant, ends_alone}
+use Rattle.alma_lower_templates.specs.Slots.{constant, ends_alone, is_straight}
 use Rattle.alma_lower_templates.specs.Templates.{char_range, own_slot, slot_or, outer_slot, link_if, set_by, load_by, value_at, part_slot}
 use Rattle.alma_lower_templates.specs.Templates.{behind_root, place_at, root_code, call_link_code, arguments_from, call_code, set_code}
 use Rattle.alma_lower_templates.specs.Templates.{load_code, count_at, count_code, fit_result, stmts_code, stmt_code, if_code, arms_code}
@@ -421,9 +421,14 @@ module _ (line : ℕ) where
       → reads (some_turns line at o counter limit step first more a) ≡ reads a
   some_turns_reads at o counter limit step first more a = omega (arith, count_quiet_from o counter first line)
 
+  put_reads : (z : Bool) (to value : ℕ) (check : List Instr) (a : List Lined) → Quiet check
+      → reads (put_code z line to value check a) ≡ reads a
+  put_reads true to value check a quiet = straight_reads to a
+  put_reads false to value check a quiet =
+      then_own a (check ++ (I.Move to value ∷ [])) (quiet_two check (I.Move to value ∷ []) quiet (λ l. refl))
+
   limit_reads : (z : Bool) (limit value : ℕ) (a : List Lined) → reads (limit_code z line limit value a) ≡ reads a
-  limit_reads true limit value a = straight_reads limit a
-  limit_reads false limit value a = then_own a (I.Move limit value ∷ []) (λ l. refl)
+  limit_reads z limit value a = put_reads z limit value [] a (λ l. refl)
 
   limit_once : (e : Expr) (limit value : ℕ) (c : List Lined) → reads c ≡ expr_reads e
       → reads (limit_code (ends_alone e) line limit value (unless_bare (bare e) c)) ≡ expr_reads e
@@ -736,14 +741,9 @@ module _ (p : Program) (tables : Tables) (r : ℕ) where
     arg_same : (line at to lo : ℕ) (x : Arg) → reads (arg_code p tables r line at to lo x) ≡ arg_reads x
     arg_same line at to lo (ByValue e range) =
         let v : ℕ = value_at p tables r lo e in
-        omega (
-          arith,
-          then_own line (unless_bare (bare e) (expr_code p tables r line at lo e))
-              (fit_code tables range v ++ (I.Move to v ∷ []))
-              (quiet_two (fit_code tables range v) (I.Move to v ∷ []) (fit_quiet range v) (λ l. refl)),
-          once e (expr_code p tables r line at lo e) (expr_same line at lo e),
-          expr_same line at lo e,
-        )
+        put_reads line (is_straight e range) to v (fit_code tables range v)
+        (unless_bare (bare e) (expr_code p tables r line at lo e)) (fit_quiet range v)
+        ∙ once e (expr_code p tables r line at lo e) (expr_same line at lo e)
     arg_same line at to lo (ByCells d) = omega (
       arith,
       then_own line (desig_code p tables r line at lo d) (I.Same to (place_at p tables r lo d) ∷ []) (λ l. refl),
@@ -756,14 +756,9 @@ module _ (p : Program) (tables : Tables) (r : ℕ) where
     )
     arg_same line at to lo (MixValue e range) =
         let v : ℕ = value_at p tables r lo e in
-        omega (
-          arith,
-          then_own line (unless_bare (bare e) (expr_code p tables r line at lo e))
-              (fit_code tables range v ++ (I.Move to v ∷ []))
-              (quiet_two (fit_code tables range v) (I.Move to v ∷ []) (fit_quiet range v) (λ l. refl)),
-          once e (expr_code p tables r line at lo e) (expr_same line at lo e),
-          expr_same line at lo e,
-        )
+        put_reads line (is_straight e range) to v (fit_code tables range v)
+        (unless_bare (bare e) (expr_code p tables r line at lo e)) (fit_quiet range v)
+        ∙ once e (expr_code p tables r line at lo e) (expr_same line at lo e)
     arg_same line at to lo (MixPlace d) = omega (
       arith,
       then_own line (desig_code p tables r line at lo d) (I.Same to (place_at p tables r lo d) ∷ []) (λ l. refl),

@@ -26,11 +26,11 @@ use Rattle.alma_lower_templates.specs.Pieces.{condition, guarded, chosen, first_
 use Rattle.alma_lower_templates.specs.Pieces.{unequal_code, opposite_code, write_code, read_code, case_arm, passed_over, has_dead}
 use Rattle.alma_lower_templates.specs.Pieces.{behind_labels}
 use Rattle.alma_lower_templates.specs.Pieces.{labels_code, begin_loop, bounds_code, for_turns, some_turns, turn_code, each_body}
-use Rattle.alma_lower_templates.specs.Pieces.{forall_code, straight, count_from, unless_constant, limit_code}
+use Rattle.alma_lower_templates.specs.Pieces.{forall_code, straight, count_from, unless_constant, limit_code, put_code}
 use Rattle.alma_lower_templates.specs.Slots.{bare, bare_desig, stays, stays_in, unless_bare, is_simple, is_turned, handed_slots, arg_slots}
 use Rattle.alma_lower_templates.specs.Slots.{behind_expr, behind_dead, behind_value, behind_desig, behind_target, behind_variable}
 use Rattle.alma_lower_templates.specs.Slots.{behind_test, behind_stmts, behind_stmt, behind_condition, own_place, own_root, goes_straight}
-use Rattle.alma_lower_templates.specs.Slots.{constant, ends_alone}
+use Rattle.alma_lower_templates.specs.Slots.{constant, ends_alone, is_straight}
 use Rattle.alma_lower_templates.specs.Templates.{char_range, own_slot, slot_or, value_at, part_slot, behind_root, place_at, root_code}
 use Rattle.alma_lower_templates.specs.Templates.{call_link_code, arguments_from, call_code, set_code, load_code, count_at, count_code}
 use Rattle.alma_lower_templates.specs.Templates.{fit_result, stmts_code, stmt_code, if_code, arms_code, for_code, some_code, dead_code}
@@ -251,14 +251,18 @@ module _ (line : ℕ) where
       (count_from o counter first ∷ I.LessEq first counter limit ∷ I.Check first ∷ I.Jump (at + 5) ∷ I.Add counter counter step
       ∷ I.Less more counter limit ∷ I.JumpZero more (at + 8) ∷ I.Choose (at + 4) ∷ []) a
 
+  -- a number that goes to a slot
+  put_round : (z : Bool) (to value : ℕ) (check : List Instr) (a : List Lined) → round (put_code z line to value check a) ≤ round a
+  put_round true to value check a = omega (arith, straight_walk line to line a)
+  put_round false to value check a = then_own a (check ++ (I.Move to value ∷ []))
+
   -- a first count that may be a constant, and a limit that goes to its slot
   constant_round : (o : Option ℤ) (a : List Lined) → round (unless_constant o a) ≤ round a
   constant_round (Some n) a = omega (arith, hop_none line)
   constant_round None a = omega arith
 
   limit_round : (z : Bool) (limit value : ℕ) (a : List Lined) → round (limit_code z line limit value a) ≤ round a
-  limit_round true limit value a = omega (arith, straight_walk line limit line a)
-  limit_round false limit value a = then_own a (I.Move limit value ∷ [])
+  limit_round z limit value a = put_round z limit value [] a
 
 -- ---- the arms of CASE
 
@@ -551,8 +555,8 @@ module _ (p : Program) (tables : Tables) (r : ℕ) where
         let v : ℕ = value_at p tables r lo e in
         omega (
           arith,
-          then_own line (unless_bare (bare e) (expr_code p tables r line at lo e))
-              (fit_code tables range v ++ (I.Move to v ∷ [])),
+          put_round line (is_straight e range) to v (fit_code tables range v)
+              (unless_bare (bare e) (expr_code p tables r line at lo e)),
           unless_round line (bare e) (expr_code p tables r line at lo e),
           expr_round line at lo e,
         )
@@ -572,8 +576,8 @@ module _ (p : Program) (tables : Tables) (r : ℕ) where
         let v : ℕ = value_at p tables r lo e in
         omega (
           arith,
-          then_own line (unless_bare (bare e) (expr_code p tables r line at lo e))
-              (fit_code tables range v ++ (I.Move to v ∷ [])),
+          put_round line (is_straight e range) to v (fit_code tables range v)
+              (unless_bare (bare e) (expr_code p tables r line at lo e)),
           unless_round line (bare e) (expr_code p tables r line at lo e),
           expr_round line at lo e,
         )

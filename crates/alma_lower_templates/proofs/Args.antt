@@ -1,7 +1,8 @@
 -- The arguments of a call: each goes into a slot of its own, where the Call reads it.
-use Rattle.std.proofs.Common.{◌≡◌, ℕ, suc, ◌+◌, ◌<◌, ◌≤◌, Bool, true, false, List, [], ◌∷◌, ◌++◌, length, Some, refl, sym, ap, ◌∙◌, subst}
-use Rattle.std.proofs.Common.{arith, ℤ, pos, negsuc, length-append}
+use Rattle.std.proofs.Common.{◌≡◌, ℕ, suc, ◌+◌, ◌<◌, ◌≤◌, Bool, true, false, List, [], ◌∷◌, ◌++◌, length, Some, None, refl, sym, ap}
+use Rattle.std.proofs.Common.{◌∙◌, subst, arith, ℤ, pos, negsuc, length-append}
 use Rattle.std.proofs.lemmas.Int.{ints}
+use Rattle.std.proofs.lemmas.Bool.{and_parts}
 use Rattle.std.proofs.lemmas.Bool.Decides.{nat_tests}
 use Rattle.std.specs.Prelude.{slice_get}
 use Rattle.std.proofs.lemmas.List.{map-append}
@@ -42,16 +43,19 @@ use Rattle.alma_lower_implements.proofs.Steps.{Holds, InstrAt, top_written, pass
 use Rattle.alma_lower_implements.proofs.Ways.{Ways, Leaves, Runs}
 use Rattle.alma_lower_templates.specs.Lined.{Lined, own}
 use Rattle.alma_lower_templates.specs.Tables.{Tables, range_number, is_whole}
-use Rattle.alma_lower_templates.specs.Pieces.{fit_code, unless_whole}
-use Rattle.alma_lower_templates.specs.Slots.{bare, unless_bare, handed_slots, arg_kind, arg_slots, desig_cells, cells_behind}
+use Rattle.alma_lower_templates.specs.Pieces.{fit_code, put_code, straight, unless_whole}
+use Rattle.alma_lower_templates.specs.Slots.{bare, ends_alone, is_straight, unless_bare, handed_slots, arg_kind, arg_slots, desig_cells}
+use Rattle.alma_lower_templates.specs.Slots.{cells_behind}
 use Rattle.alma_lower_templates.specs.Templates.{expr_code, desig_code, value_at, place_at, arg_code, args_code}
 use Rattle.alma_lower_templates.specs.Stands.{Stands}
 use Rattle.alma_lower_templates.proofs.Stands.{stands_front, stands_back}
 use Rattle.alma_lower_templates.proofs.Parts.{Begins, Left, begins, left_self, left_on, left_temp, holds_temp, has_kind, holds_after}
-use Rattle.alma_lower_templates.proofs.Parts.{IsValue, PlaceIn, NodeFor, From, from_more, leaving, as_runs, node_runs, then_from, step_from}
-use Rattle.alma_lower_templates.proofs.Parts.{ends_here}
+use Rattle.alma_lower_templates.proofs.Parts.{IsValue, ValueIn, PlaceIn, NodeFor, From, from_more, leaving, as_runs, node_runs, then_from}
+use Rattle.alma_lower_templates.proofs.Parts.{step_from, ends_here}
 use Rattle.alma_lower_templates.proofs.PlaceSteps.{in_range_reads, in_range_passes, in_range_faults, same_step}
 use Rattle.alma_lower_templates.proofs.AtOnce.{AtOnce, at_once}
+use Rattle.alma_lower_templates.proofs.ExprForms.{RunsTo}
+use Rattle.alma_lower_templates.proofs.Straight.{alone_bare}
 use Rattle.alma_lower_templates.proofs.NewFrame.{PlaceAlike, HandedAs, a_value, a_place, mix_value, mix_place, some_cells, AllHanded}
 use Rattle.alma_lower_templates.proofs.Handing.{HeldFrom}
 
@@ -211,6 +215,52 @@ module _ (p : Program) (tables : Tables) (code : PlainCode) (input : List ℕ) (
             holds_temp p code input r to u t (cell.Int x) slot.Number kind bt;
       })))))
 
+  -- a number that goes straight
+  straight_arg : (k : ArgKind) (n : ℕ) (wrap : ℤ → ArgValue)
+      → ((x : ℤ) (v : Store) (now : List PlainFrame) → is_integer x ≡ true → HandedAs p code v now k n (wrap x) (cell.Int x))
+      → (e : Expr) (range : Range) (to la at : ℕ) → own_end p r ≤ to → is_whole range ≡ true → bare e ≡ None
+      → RunsTo p tables code input below r line q (λ t. leaving p code input to r t (ValueIn p code input to)) at
+      (straight to (expr_code p tables r line at la e)) e
+      → NodeFor p code input r line at to (straight to (unless_bare (bare e) (expr_code p tables r line at la e)))
+      (λ v. node (bind (ev_expr p input below e v) (λ t x. check_range range x (λ _. one t (wrap x))))) (ArgIn to k n) q
+  straight_arg k n wrap made_of e range to la at own_to whole none runs = subst (λ o. NodeFor p code input r line at to
+      (straight to (unless_bare o (expr_code p tables r line at la e)))
+      (λ v. node (bind (ev_expr p input below e v) (λ t x. check_range range x (λ _. one t (wrap x))))) (ArgIn to k n) q) (sym none)
+      (λ stands v now b.
+      let exit : ℕ = at + length (straight to (expr_code p tables r line at la e)) in
+      node_runs p code input line 0 at exit now (leaving p code input to r now (ArgIn to k n))
+      (bind (ev_expr p input below e v) (λ t x. check_range range x (λ _. one t (wrap x)))) q (omega arith)
+      (then_from p code input line at exit exit to to r now (ValueIn p code input to) (ArgIn to k n) (ev_expr p input below e v)
+      (λ t x. check_range range x (λ _. one t (wrap x))) q (omega arith) own_to (runs stands v now b)
+      (λ u x t left value.
+      subst (λ z. From p code input line 8 exit exit t (leaving p code input to r t (ArgIn to k n))
+      (fault_unless fault.Range z (λ _. one u (wrap x))) q) (sym (whole_within range.low range.high x whole value.integer))
+      (ends_here p code input line 8 exit to r u t (ArgIn to k n) (wrap x) q (begins p code input to r now u t left)
+      (record { cell = cell.Int x; handed = made_of x u t value.integer; holds = value.holds })))))
+
+  -- what a number asks of its expression: it stands for itself or runs, and goes straight where it may
+  pub record ValuePart (at la : ℕ) (e : Expr) (range : Range) : Type 0 where
+    pub once : AtOnce p tables code input below r line q at la e
+    pub fits : RangeFits p tables code input range
+    pub straightly : (to : ℕ) → ends_alone e ≡ true → to ≤ la → own_end p r ≤ to → slice_get (kinds_at code r) to ≡ Some slot.Number
+        → RunsTo p tables code input below r line q (λ t. leaving p code input to r t (ValueIn p code input to)) at
+        (straight to (expr_code p tables r line at la e)) e
+
+  -- a number, straight or not
+  value_arg : (k : ArgKind) (n : ℕ) (wrap : ℤ → ArgValue)
+      → ((x : ℤ) (v : Store) (now : List PlainFrame) → is_integer x ≡ true → HandedAs p code v now k n (wrap x) (cell.Int x))
+      → (e : Expr) (range : Range) (to la at : ℕ) → to < la → own_end p r ≤ to → slice_get (kinds_at code r) to ≡ Some slot.Number
+      → ValuePart at la e range → (z : Bool) → is_straight e range ≡ z
+      → NodeFor p code input r line at to (put_code z line to (value_at p tables r la e) (fit_code tables range (value_at p tables r la e))
+      (unless_bare (bare e) (expr_code p tables r line at la e)))
+      (λ v. node (bind (ev_expr p input below e v) (λ t x. check_range range x (λ _. one t (wrap x))))) (ArgIn to k n) q
+  value_arg k n wrap made_of e range to la at small own_to kind part true is =
+      let both = and_parts (is_whole range) (ends_alone e) is in
+      straight_arg k n wrap made_of e range to la at own_to both.0 (alone_bare e both.1)
+      (part.straightly to both.1 (omega (arith, small)) own_to kind)
+  value_arg k n wrap made_of e range to la at small own_to kind part false is =
+      number_arg k n wrap made_of e range to la at small own_to kind part.fits part.once
+
   -- a place
   place_arg : (k : ArgKind) (n cells : ℕ) (wrap : Place → ArgValue)
       → ((x : Place) (c : CellPlace) (v : Store) (now : List PlainFrame) → PlaceAlike p code v now cells x c
@@ -258,8 +308,8 @@ module _ (p : Program) (tables : Tables) (code : PlainCode) (input : List ℕ) (
 
   -- what an argument asks of its part
   abbrev pub ArgPart : (at la : ℕ) → Arg → Type 0
-  ArgPart at la (ByValue e range) = AtOnce p tables code input below r line q at la e × RangeFits p tables code input range
-  ArgPart at la (MixValue e range) = AtOnce p tables code input below r line q at la e × RangeFits p tables code input range
+  ArgPart at la (ByValue e range) = ValuePart at la e range
+  ArgPart at la (MixValue e range) = ValuePart at la e range
   ArgPart at la (ByPlace d) = NodeFor p code input r line at la (desig_code p tables r line at la d) (ev_desig p input below d)
       (PlaceIn p code input (place_at p tables r la d) (desig_cells d)) q
   ArgPart at la (ByCells d) = NodeFor p code input r line at la (desig_code p tables r line at la d) (ev_desig p input below d)
@@ -274,11 +324,11 @@ module _ (p : Program) (tables : Tables) (code : PlainCode) (input : List ℕ) (
   arg_runs x (ByValue e range) to la at fits one_cell small own_to has part =
       subst (λ k. NodeFor p code input r line at to (arg_code p tables r line at to la (ByValue e range))
       (ev_arg p input below (ByValue e range)) (ArgIn to k x.cells) q) (sym fits)
-      (number_arg kind.Value x.cells ArgNumber (λ n v now i. a_value n i) e range to la at small own_to has part.1 part.0)
+      (value_arg kind.Value x.cells ArgNumber (λ n v now i. a_value n i) e range to la at small own_to has part (is_straight e range) refl)
   arg_runs x (MixValue e range) to la at fits one_cell small own_to has part =
       subst (λ k. NodeFor p code input r line at to (arg_code p tables r line at to la (MixValue e range))
       (ev_arg p input below (MixValue e range)) (ArgIn to k x.cells) q) (sym fits)
-      (number_arg kind.Mix x.cells ArgMix (λ n v now i. mix_value n i) e range to la at small own_to has part.1 part.0)
+      (value_arg kind.Mix x.cells ArgMix (λ n v now i. mix_value n i) e range to la at small own_to has part (is_straight e range) refl)
   arg_runs x (ByPlace d) to la at fits one_cell small own_to has part =
       let cells : desig_cells d ≡ x.cells = same_cells d ∙ fits.1 in
       subst (λ k. NodeFor p code input r line at to (arg_code p tables r line at to la (ByPlace d)) (ev_arg p input below (ByPlace d))

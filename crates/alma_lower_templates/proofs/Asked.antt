@@ -24,7 +24,7 @@ use Rattle.alma_ir.specs.Checked.{desig_cells}
 use Rattle.alma_ir.proofs.Each.{each_of_front, each_of_back}
 use Rattle.alma_ir.proofs.LinesBack.{count_sum, behind_two}
 use Rattle.alma_mean.specs.Meaning.{Level}
-use Rattle.alma_lower_implements.proofs.Frames.{HasSlots, shift}
+use Rattle.alma_lower_implements.proofs.Frames.{HasSlots}
 use Rattle.alma_lower_implements.proofs.ExprRows.{AreVariables, slots_first, slots_behind}
 use Rattle.alma_lower_templates.specs.Tables.{Tables, range_number, text_number, is_whole}
 use Rattle.alma_lower_templates.specs.Slots.{bare, bare_desig, unless_bare, ends_alone, own_place, is_simple, is_simple_expr, mark_slots}
@@ -34,7 +34,7 @@ use Rattle.alma_lower_templates.specs.Templates.{char_range, expr_code}
 use Rattle.alma_lower_templates.proofs.AtOnce.{BareFits, AtOnce}
 use Rattle.alma_lower_templates.proofs.First.{ConstantFits}
 use Rattle.alma_lower_templates.proofs.Bounds.{LimitRuns}
-use Rattle.alma_lower_templates.proofs.Destinations.{into}
+use Rattle.alma_lower_templates.proofs.Destinations.{Goal, in_variable, goal_end, goal_ways, GoalFits}
 use Rattle.alma_lower_templates.proofs.ExprForms.{RunsTo, NextRuns}
 use Rattle.alma_lower_templates.proofs.OwnPlace.{OwnFits}
 use Rattle.alma_lower_templates.proofs.FormRuns.{ExprRuns, DesigRuns, TestRuns}
@@ -297,9 +297,10 @@ module _ (p : Program) (tables : Tables) (code : PlainCode) (input : List ℕ) w
       pub constants : ConstantFits p tables code input below r line q x
       pub runs : (at lo : ℕ) → HasSlots p code r lo (expr_slots p r x) → ExprRuns p tables code input below r line q at lo x
       pub operands : (how : Cmp) (a b : Expr) → x ≡ Compare how a b → OperandsGo a b
-      pub straightly : (to at lo : ℕ) → ends_alone x ≡ true → AreVariables p code input r to 1 → HasSlots p code r lo (expr_slots p r x)
-          → RunsTo p tables code input below r line q (into p code input to lo r)
-          at (straight (shift p r + to) (expr_code p tables r line at lo x)) x
+      pub straightly : (goal : Goal p code input) (at lo : ℕ) → ends_alone x ≡ true → GoalFits p code input r goal lo
+          → HasSlots p code r lo (expr_slots p r x)
+          → RunsTo p tables code input below r line q (goal_ways p code input r goal lo)
+          at (straight (goal_end p code input r goal lo) (expr_code p tables r line at lo x)) x
 
     pub record TestGoes (t : Test) : Type 0 where
       pub runs : (at lo : ℕ) → HasSlots p code r lo (test_slots p r t) → TestRuns p tables code input below r line q at lo t
@@ -335,7 +336,7 @@ module _ (p : Program) (tables : Tables) (code : PlainCode) (input : List ℕ) w
         → HasSlots p code r lo (expr_slots p r x) → LimitRuns p tables code input below r line q may at lo limit x
     limit_goes may x h at lo limit of_limit slots = record {
       once = record { fits = h.fits; runs = λ none. h.runs at lo slots };
-      straightly = λ alone. h.straightly limit at lo alone of_limit slots;
+      straightly = λ alone. h.straightly (in_variable limit) at lo alone of_limit slots;
     }
 
     simple_slots : (z : Bool) (lo : ℕ) (xs : List SlotKind) → z ≡ true → HasSlots p code r lo (mark_slots z ++ xs) → HasSlots p code r lo xs

@@ -1,5 +1,5 @@
--- The slot into which an expression puts its value by its last instruction: the first slot of the expression, or a variable
--- of the routine.
+-- The slot into which an expression puts its value by its last instruction: the first slot of the expression, one before it,
+-- or a variable of the routine.
 use Rattle.std.proofs.Common.{◌≡◌, ℕ, suc, ◌+◌, ◌≤◌, true, List, Some, refl, sym, subst, arith, ℤ}
 use Rattle.std.specs.Prelude.{slice_get}
 use Rattle.alma_base.specs.Numbers.{is_integer}
@@ -18,7 +18,7 @@ use Rattle.alma_lower_implements.proofs.ForSteps.{slot_has_kind}
 use Rattle.alma_lower_implements.proofs.Steps.{HasKind, Writes}
 use Rattle.alma_lower_implements.proofs.Ways.{Ways, Leaves}
 use Rattle.alma_lower_templates.proofs.Parts.{Begins, Left, left_on, left_less, has_kind, ValueIn, NodeRuns, node_here, From, on_from}
-use Rattle.alma_lower_templates.proofs.Parts.{leaving, Carries, leaving_carries, value_ends}
+use Rattle.alma_lower_templates.proofs.Parts.{leaving, Carries, value_ends}
 use Rattle.alma_lower_templates.proofs.Targets.{left_variable}
 
 module _ (p : Program) (code : PlainCode) (input : List ℕ) where
@@ -47,13 +47,22 @@ module _ (p : Program) (code : PlainCode) (input : List ℕ) where
           → ((held : List PlainEntry) (s : State) → IsAt at now held s → Writes code input at now held s end (cell.Int n))
           → From p code input line (suc c) at (at + 1) now (w now) (one v n) q
 
+    -- a slot before those of the expression
+    pub slot_takes : (to : ℕ) → to ≤ lo → own_end p r ≤ to → slice_get (kinds_at code r) to ≡ Some slot.Number
+        → Destination to (λ t. leaving p code input to r t (ValueIn p code input to))
+    slot_takes to le behind kind = record {
+      carries = record {
+        goes = λ v now t left x n u h.
+            (left_on p code input to to r now v x t u (omega arith) (left_less p code input to lo r now v t le left) h.0, h.1);
+        returns = λ v now t left x n a u h. h;
+      };
+      kind = λ v now b. has_kind p code input r to v now slot.Number kind b;
+      ends = λ c at v now n b integer writes. value_ends p code input line c at to r v now n q behind kind integer b writes;
+    }
+
     pub first_takes : own_end p r ≤ lo → slice_get (kinds_at code r) lo ≡ Some slot.Number
         → Destination lo (λ t. leaving p code input lo r t (ValueIn p code input lo))
-    first_takes behind kind = record {
-      carries = leaving_carries p code input lo r (ValueIn p code input lo);
-      kind = λ v now b. has_kind p code input r lo v now slot.Number kind b;
-      ends = λ c at v now n b integer writes. value_ends p code input line c at lo r v now n q behind kind integer b writes;
-    }
+    first_takes behind kind = slot_takes lo (omega arith) behind kind
 
     pub variable_takes : (to : ℕ) → AreVariables p code input r to 1 → Destination (shift p r + to) (into to lo r)
     variable_takes to variable = record {
@@ -74,28 +83,34 @@ module _ (p : Program) (code : PlainCode) (input : List ℕ) where
           ));
     }
 
-  -- ---- the two slots, by name
+  -- ---- the slots, by name
 
   pub data Goal : Type 0 where
     in_first : Goal
+    in_slot : (to : ℕ) → Goal
     in_variable : (to : ℕ) → Goal
 
   module _ (r : ℕ) where
     abbrev pub goal_end : Goal → (lo : ℕ) → ℕ
     goal_end in_first lo = lo
+    goal_end (in_slot to) lo = to
     goal_end (in_variable to) lo = shift p r + to
 
     abbrev pub goal_ways : Goal → (lo : ℕ) → List PlainFrame → Ways ℤ
     goal_ways in_first lo now = leaving p code input lo r now (ValueIn p code input lo)
+    goal_ways (in_slot to) lo now = leaving p code input to r now (ValueIn p code input to)
     goal_ways (in_variable to) lo now = into to lo r now
 
-    abbrev pub GoalFits : Goal → Type 0
-    GoalFits in_first = Unit {0}
-    GoalFits (in_variable to) = AreVariables p code input r to 1
+    -- what is asked of it by an expression whose first slot is `lo`
+    abbrev pub GoalFits : Goal → (lo : ℕ) → Type 0
+    GoalFits in_first lo = Unit {0}
+    GoalFits (in_slot to) lo = (to ≤ lo) × (own_end p r ≤ to) × (slice_get (kinds_at code r) to ≡ Some slot.Number)
+    GoalFits (in_variable to) lo = AreVariables p code input r to 1
 
-    pub goal_takes : (line q lo : ℕ) (g : Goal) → GoalFits g → own_end p r ≤ lo → slice_get (kinds_at code r) lo ≡ Some slot.Number
+    pub goal_takes : (line q lo : ℕ) (g : Goal) → GoalFits g lo → own_end p r ≤ lo → slice_get (kinds_at code r) lo ≡ Some slot.Number
         → Destination line q lo r (goal_end g lo) (goal_ways g lo)
     goal_takes line q lo in_first fits behind kind = first_takes line q lo r behind kind
+    goal_takes line q lo (in_slot to) fits behind kind = slot_takes line q lo r to fits.0 fits.1 fits.2
     goal_takes line q lo (in_variable to) fits behind kind = variable_takes line q lo r to fits
 
   -- an expression whose value goes into a variable, and what is behind it

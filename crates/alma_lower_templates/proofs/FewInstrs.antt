@@ -27,12 +27,12 @@ use Rattle.alma_lower_templates.specs.Lined.{Lined, own, in_row}
 use Rattle.alma_lower_templates.specs.Pieces.{cmp_code, op_code, neg_code, fit_code, unless_whole, link_code, chain_code, condition}
 use Rattle.alma_lower_templates.specs.Pieces.{guarded, read_code, write_code, truth_code, first_of_two, chosen, passed_over, has_dead}
 use Rattle.alma_lower_templates.specs.Pieces.{case_arm, behind_labels, labels_code, label_code, begin_loop, for_turns, some_turns}
-use Rattle.alma_lower_templates.specs.Pieces.{turn_code, opposite_code, unless_constant, limit_code}
+use Rattle.alma_lower_templates.specs.Pieces.{turn_code, opposite_code, unless_constant, limit_code, put_code}
 use Rattle.alma_lower_templates.specs.Slots.{shift_of, bare, bare_desig, stays, stays_in, unless_bare, is_simple, is_turned, handed_slots}
 use Rattle.alma_lower_templates.specs.Slots.{arg_slots}
 use Rattle.alma_lower_templates.specs.Slots.{behind_stmts, behind_stmt, behind_test, behind_condition, behind_expr, behind_dead}
 use Rattle.alma_lower_templates.specs.Slots.{behind_value, behind_desig, behind_target, behind_variable, own_place, own_root, goes_straight}
-use Rattle.alma_lower_templates.specs.Slots.{constant, ends_alone}
+use Rattle.alma_lower_templates.specs.Slots.{constant, ends_alone, is_straight}
 use Rattle.alma_lower_templates.specs.Tables.{Tables, range_number, is_whole}
 use Rattle.alma_lower_templates.specs.Templates
 use Rattle.alma_lower_templates.proofs.Straight.{straight_long}
@@ -165,16 +165,24 @@ module _ (p : Program) (tables : Tables) (r : ℕ) where
 
   -- ---- forms of several parts, given their parts
 
+  put_few : (z : Bool) (line to from : ℕ) (range : Range) (value : List Lined)
+      → length (put_code z line to from (fit_code tables range from) value) ≤ 2 + length value
+  put_few true line to from range value = omega (arith, straight_long to value)
+  put_few false line to from range value =
+      omega (
+        arith,
+        length-append value (own line (fit_code tables range from ++ (I.Move to from ∷ []))),
+        fit_few line range from (I.Move to from ∷ []),
+      )
+
   handed_few : (line at to lo : ℕ) (y : Expr) (range : Range) (n : ℕ) → 1 + length (Templates.expr_code p tables r line at lo y) ≤ n
       → length (Templates.arg_code p tables r line at to lo (ByValue y range)) ≤ 1 + n
   handed_few line at to lo y range n z =
-      let value : ℕ = Templates.value_at p tables r lo y in
       omega (
         arith,
         z,
-        length-append (unless_bare (bare y) (Templates.expr_code p tables r line at lo y))
-            (own line (fit_code tables range value ++ (I.Move to value ∷ []))),
-        fit_few line range value (I.Move to value ∷ []),
+        put_few (is_straight y range) line to (Templates.value_at p tables r lo y) range
+            (unless_bare (bare y) (Templates.expr_code p tables r line at lo y)),
         unless_few (bare y) (Templates.expr_code p tables r line at lo y),
       )
 

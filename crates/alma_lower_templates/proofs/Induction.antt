@@ -51,7 +51,7 @@ use Rattle.alma_lower_templates.specs.Slots.{else_slots}
 use Rattle.alma_lower_templates.specs.Compiled.{program_code}
 use Rattle.alma_lower_templates.specs.Templates.{part_slot, behind_root, arg_code, desig_code, place_at, stmts_code, stmt_code}
 use Rattle.alma_lower_templates.proofs.AtOnce.{BareFits}
-use Rattle.alma_lower_templates.proofs.Args.{ArgPart, ArgParts, same_cells}
+use Rattle.alma_lower_templates.proofs.Args.{ArgPart, ArgParts, RangeFits, same_cells}
 use Rattle.alma_lower_templates.proofs.Asked.{HasUnlessWhole, Asked, Fine, fine_front, fine_back, fine_first, fine_second, fine_third}
 use Rattle.alma_lower_templates.proofs.Asked.{fine_fourth, fine_test, fine_expr, fine_arg, fine_desig, fine_sel, fine_stmt, has_line}
 use Rattle.alma_lower_templates.proofs.Asked.{swapped_first, swapped_second, cells_with, args_with_fit, DesigGoes, OperandsGo, ExprGoes}
@@ -69,8 +69,7 @@ use Rattle.alma_lower_templates.proofs.CellRuns.{copy_runs, match_runs}
 use Rattle.alma_lower_templates.proofs.CellTests.{bind_runs, bind_value_runs, unify_runs}
 use Rattle.alma_lower_templates.proofs.ChoiceForms.{EachRuns, either_form, OperandsRun, last_operand_run, more_operands_run, one_or_runs}
 use Rattle.alma_lower_templates.proofs.ChoiceForms.{or_runs}
-use Rattle.alma_lower_templates.proofs.Destinations.{into, Goal, in_first, in_variable, goal_end, goal_ways, GoalFits, goal_takes}
-use Rattle.alma_lower_templates.proofs.Destinations.{variable_takes}
+use Rattle.alma_lower_templates.proofs.Destinations.{Goal, in_first, in_slot, in_variable, goal_end, goal_ways, GoalFits, goal_takes}
 use Rattle.alma_lower_templates.proofs.Straight.{alone_bare}
 use Rattle.alma_lower_templates.proofs.OwnPlace.{OwnFits}
 use Rattle.alma_lower_templates.proofs.DesigForms.{IsNear, NearRuns, near_root, near_index_runs, OwnRuns, SelRuns, SelsRun, field_runs}
@@ -228,6 +227,17 @@ module _ (p : Program) (tables : Tables) (code : PlainCode) (all : List (List Ru
       place_of r line at la d g slots =
           subst (λ k. NodeFor p code input r line at la (desig_code p tables r line at la d) (ev_desig p input below d)
           (PlaceIn p code input (place_at p tables r la d) k) (suc n)) (sym (same_cells d)) (g.runs at la slots)
+
+      -- a value as an argument
+      value_of : (r line at la : ℕ) (e : Expr) (range : Range) → GoodExpr r line e → RangeFits p tables code input range
+          → HasSlots p code r la (unless_bare (bare e) (expr_slots p r e))
+          → ArgPart p tables code input below r line (suc n) at la (ByValue e range)
+      value_of r line at la e range g fits slots = record {
+        once = once p tables code input below r line (suc n) e g at la slots;
+        fits = fits;
+        straightly = λ to alone le behind kind. g.straightly (in_slot to) at la alone (le, behind, kind)
+            (subst (λ o. HasSlots p code r la (unless_bare o (expr_slots p r e))) (alone_bare e alone) slots);
+      }
 
       -- a value as a test
       value_goes : (r line : ℕ) (x : Expr) → GoodExpr r line x → Tested p tables r x → (at lo : ℕ)
@@ -533,8 +543,9 @@ module _ (p : Program) (tables : Tables) (code : PlainCode) (all : List (List Ru
           constants = λ n same. subst (λ k. is_integer k ≡ true) (same_number m n same) h.asked.0.coded;
           runs = λ at lo slots. const_runs p tables code input below r line (suc n) at lo m h.asked.0.coded slots;
           operands = λ how x y same. absurd (cc);
-          straightly = λ to at lo alone numbers slots. const_to p tables code input below r line (suc n) at lo (shift p r + to) m
-              (into p code input to lo r) h.asked.0.coded (variable_takes p code input line (suc n) lo r to numbers);
+          straightly = λ goal at lo alone numbers slots. const_to p tables code input below r line (suc n) at lo (goal_end p code input r goal lo) m
+              (goal_ways p code input r goal lo) h.asked.0.coded (goal_takes p code input r line (suc n) lo goal numbers slots.behind
+              (first_slot p code input r lo (Const m) slots));
         }
         expr_go r line lt (Load d) ls h =
             let g = desig_go r line lt d ls (fine_expr p tables code input r (Load d) (desig_phrases d) ls h) in
@@ -548,12 +559,13 @@ module _ (p : Program) (tables : Tables) (code : PlainCode) (all : List (List Ru
                   (slots_behind p code input r lo (slot.Number ∷ []) (unless_bare (bare_desig y) (desig_slots p r y)) slots)) one_cell
                   slots;
               operands = λ how y z same. absurd (cc);
-              straightly = λ to at lo alone numbers slots.
+              straightly = λ goal at lo alone numbers slots.
                   let none = alone_bare (Load y) alone in
                   let placed = target p tables code input below r line (suc n) y g at (lo + 1)
                   (slots_behind p code input r lo (slot.Number ∷ []) (unless_bare (bare_desig y) (desig_slots p r y)) slots) none in
-                  load_straight p tables code input below r line (suc n) at lo (shift p r + to) y (into p code input to lo r) none
-                  (g.own one_cell) placed one_cell (variable_takes p code input line (suc n) lo r to numbers);
+                  load_straight p tables code input below r line (suc n) at lo (goal_end p code input r goal lo) y
+                  (goal_ways p code input r goal lo) none (g.own one_cell) placed one_cell
+                  (goal_takes p code input r line (suc n) lo goal numbers slots.behind (first_slot p code input r lo (Load y) slots));
             }
         expr_go r line lt (Chain negated e links) ls h =
             let inner = fine_expr p tables code input r (Chain negated e links) (expr_phrases e ++ links_phrases links) ls h in
@@ -573,13 +585,13 @@ module _ (p : Program) (tables : Tables) (code : PlainCode) (all : List (List Ru
                   slots.behind kind
                   (slots_behind p code input r lo (expr_slots p r x) (links_slots p r (links_with links ls2)) slots));
               operands = λ how y z same. absurd (cc);
-              straightly = λ to at lo alone numbers slots.
+              straightly = λ goal at lo alone numbers slots.
                   let first = slots_first p code input r lo (expr_slots p r x) (links_slots p r (links_with links ls2)) slots in
                   let kind = first_slot p code input r lo x first in
-                  let takes = variable_takes p code input line (suc n) lo r to numbers in
-                  chain_straight p tables code input below r line (suc n) at lo (shift p r + to) (into p code input to lo r) negated x
-                  (links_with links ls2) alone takes slots (g.runs at lo first) g.fits
-                  (others_go r line lt links ls2 behind_e (in_variable to) lo (behind_expr p r lo x) numbers
+                  let takes = goal_takes p code input r line (suc n) lo goal numbers slots.behind kind in
+                  chain_straight p tables code input below r line (suc n) at lo (goal_end p code input r goal lo)
+                  (goal_ways p code input r goal lo) negated x (links_with links ls2) alone takes slots (g.runs at lo first) g.fits
+                  (others_go r line lt links ls2 behind_e goal lo (behind_expr p r lo x) numbers
                   (omega (arith, some_slots p code input r x)) slots.behind kind
                   (slots_behind p code input r lo (expr_slots p r x) (links_slots p r (links_with links ls2)) slots));
             }
@@ -602,7 +614,7 @@ module _ (p : Program) (tables : Tables) (code : PlainCode) (all : List (List Ru
                   subst (λ k. OperandsGo p tables code input below r line (suc n) k b2) (same_left how how2 x a2 y b2 same)
                   (subst (λ k. OperandsGo p tables code input below r line (suc n) x k) (same_right how how2 x a2 y b2 same)
                   (record { fits = g.fits; first = g.runs; second = behind_first p tables code input below r line (suc n) y g2 }));
-              straightly = λ to at lo alone numbers slots. absurd (let bad : false ≡ true = alone in cc);
+              straightly = λ goal at lo alone numbers slots. absurd (let bad : false ≡ true = alone in cc);
             }
         expr_go r line lt (Truth t) ls h =
             let u : Test = test_with t ls in
@@ -614,7 +626,7 @@ module _ (p : Program) (tables : Tables) (code : PlainCode) (all : List (List Ru
                   (λ none. decides p tables code input below r line (suc n) u g at (lo + 1) none
                   (slots_behind p code input r lo (slot.Number ∷ []) (mark_slots (is_simple u) ++ test_slots p r u) slots));
               operands = λ how y z same. absurd (cc);
-              straightly = λ to at lo alone numbers slots. absurd (let bad : false ≡ true = alone in cc);
+              straightly = λ goal at lo alone numbers slots. absurd (let bad : false ≡ true = alone in cc);
             }
         expr_go r line lt (Known d) ls h =
             let y : Desig = desig_with d ls in
@@ -626,7 +638,7 @@ module _ (p : Program) (tables : Tables) (code : PlainCode) (all : List (List Ru
                   slots (cells_with d ls ∙ h.asked.0.cells)
                   (g.runs at (lo + 1) (slots_behind p code input r lo (slot.Number ∷ []) (desig_slots p r y) slots));
               operands = λ how y z same. absurd (cc);
-              straightly = λ to at lo alone numbers slots. absurd (let bad : false ≡ true = alone in cc);
+              straightly = λ goal at lo alone numbers slots. absurd (let bad : false ≡ true = alone in cc);
             }
         expr_go r line lt (Chr e) ls h =
             let x : Expr = expr_with e ls in
@@ -638,7 +650,7 @@ module _ (p : Program) (tables : Tables) (code : PlainCode) (all : List (List Ru
                   λ at lo slots. chr_runs p tables code input below r line (suc n) at lo x slots h.asked.0.coded (g.runs at lo slots);
               operands = λ how y z same. absurd (cc);
               straightly =
-                  λ to at lo alone numbers slots. absurd (let bad : false ≡ true = alone in cc);
+                  λ goal at lo alone numbers slots. absurd (let bad : false ≡ true = alone in cc);
             }
         expr_go r line lt (CallExpr called args up) ls h =
             let inner = fine_expr p tables code input r (CallExpr called args up) (args_phrases args) ls h in
@@ -652,11 +664,11 @@ module _ (p : Program) (tables : Tables) (code : PlainCode) (all : List (List Ru
                   (λ m first arg_slots_. args_go r line lt args ls inner m first (first + length (handed_slots (args_with args ls)))
                   arg_slots_);
               operands = λ how y z same. absurd (cc);
-              straightly = λ to at lo alone numbers slots. absurd (let bad : false ≡ true = alone in cc);
+              straightly = λ goal at lo alone numbers slots. absurd (let bad : false ≡ true = alone in cc);
             }
 
         links_go : (r line : ℕ) → r < length p.routines → (links : Links) (ls : List ℕ) → FineIn r (links_phrases links) ls
-            → (g : Goal p code input) (at to lo : ℕ) → GoalFits p code input r g → to < lo → own_end p r ≤ to
+            → (g : Goal p code input) (at to lo : ℕ) → GoalFits p code input r g to → to < lo → own_end p r ≤ to
             → slice_get (kinds_at code r) to ≡ Some slot.Number
             → HasSlots p code r lo (links_slots p r (links_with links ls))
             → LinksRun p tables code input below r line (suc n) (goal_end p code input r g to) (goal_ways p code input r g to) at to lo
@@ -677,7 +689,7 @@ module _ (p : Program) (tables : Tables) (code : PlainCode) (all : List (List Ru
 
         -- behind a first operand
         others_go : (r line : ℕ) → r < length p.routines → (links : Links) (ls : List ℕ) → FineIn r (links_phrases links) ls
-            → (g : Goal p code input) (to lo : ℕ) → GoalFits p code input r g → to < lo → own_end p r ≤ to
+            → (g : Goal p code input) (to lo : ℕ) → GoalFits p code input r g to → to < lo → own_end p r ≤ to
             → slice_get (kinds_at code r) to ≡ Some slot.Number
             → HasSlots p code r lo (links_slots p r (links_with links ls))
             → OthersRun p tables code input below r line (suc n) (goal_end p code input r g to) (goal_ways p code input r g to) to lo
@@ -710,16 +722,12 @@ module _ (p : Program) (tables : Tables) (code : PlainCode) (all : List (List Ru
 
         arg_go : (r line : ℕ) → r < length p.routines → (a : Arg) (ls : List ℕ) → FineIn r (arg_phrases a) ls → (at la : ℕ)
             → HasSlots p code r la (arg_slots p r (arg_with a ls)) → ArgPart p tables code input below r line (suc n) at la (arg_with a ls)
-        arg_go r line lt (ByValue e range) ls h at la slots = (
-          once p tables code input below r line (suc n) (expr_with e ls)
-              (expr_go r line lt e ls (fine_arg p tables code input r (ByValue e range) (expr_phrases e) ls h)) at la slots,
-          h.asked.0.coded,
-        )
-        arg_go r line lt (MixValue e range) ls h at la slots = (
-          once p tables code input below r line (suc n) (expr_with e ls)
-              (expr_go r line lt e ls (fine_arg p tables code input r (MixValue e range) (expr_phrases e) ls h)) at la slots,
-          h.asked.0.coded,
-        )
+        arg_go r line lt (ByValue e range) ls h at la slots =
+            value_of r line at la (expr_with e ls) range
+            (expr_go r line lt e ls (fine_arg p tables code input r (ByValue e range) (expr_phrases e) ls h)) h.asked.0.coded slots
+        arg_go r line lt (MixValue e range) ls h at la slots =
+            value_of r line at la (expr_with e ls) range
+            (expr_go r line lt e ls (fine_arg p tables code input r (MixValue e range) (expr_phrases e) ls h)) h.asked.0.coded slots
         arg_go r line lt (ByCells d) ls h at la slots =
             place_of r line at la (desig_with d ls) (desig_go r line lt d ls
             (fine_arg p tables code input r (ByCells d) (desig_phrases d) ls h)) slots
@@ -917,7 +925,7 @@ module _ (p : Program) (tables : Tables) (code : PlainCode) (all : List (List Ru
             (target p tables code input below r line (suc n) y g at lo (slots_first p code input r lo place value slots))
             (λ next. once p tables code input below r line (suc n) x g2 next (lo + length place)
             (slots_behind p code input r lo place value slots))
-            (λ to next goes numbers. g2.straightly to next lo goes.alone numbers
+            (λ to next goes numbers. g2.straightly (in_variable to) next lo goes.alone numbers
             (straight_slots (bare_desig y) (bare x) to (desig_slots p r y) (expr_slots p r x) goes.variable (alone_bare x goes.alone)
             slots)))
         stmt_go may r lt (CopyCells d e) ls0 h stays line at lo slots =

@@ -85,6 +85,11 @@ unless_whole false check = check
 abbrev pub fit_code : Tables → Range → (value : ℕ) → List Instr
 fit_code tables range value = unless_whole (is_whole range) (I.InRange value (range_number tables range) ∷ [])
 
+-- a number goes to a slot: straight, where its code puts it in place alone, or from the slot `value`, behind its check
+abbrev pub put_code : (straightly : Bool) → (line to value : ℕ) → (check : List Instr) → (code : List Lined) → List Lined
+put_code true line to value check code = straight to code
+put_code false line to value check code = code ++ own line (check ++ (I.Move to value ∷ []))
+
 -- ---- links
 
 -- from a link in the slot `from`, links to the frames on the way so many links up, each in the next slot
@@ -174,10 +179,9 @@ abbrev pub unless_constant : (constant : Option ℤ) → List Lined → List Lin
 unless_constant (Some n) value = []
 unless_constant None value = value
 
--- the limit goes to its slot: straight, where its code puts it in place alone, or from the slot `value`
+-- the limit goes to its slot
 abbrev pub limit_code : (alone : Bool) → (line limit value : ℕ) → (code : List Lined) → List Lined
-limit_code true line limit value code = straight limit code
-limit_code false line limit value code = code ++ own line (I.Move limit value ∷ [])
+limit_code alone line limit value code = put_code alone line limit value [] code
 
 -- whether a loop has a turn: the slot `to` becomes 0 where the first count is beyond the limit
 abbrev pub entry_code : (by : ℤ) → (to counter limit : ℕ) → Instr

@@ -96,9 +96,13 @@ abbrev pub straight_by : Option ℕ → (alone : Bool) → Option ℕ
 straight_by (Some to) alone = if_ready alone to
 straight_by None alone = None
 
--- the variable of the routine into which an assigned value goes straight: one of all INTEGERs, since no check stands between
+-- whether a value of this range may go straight to a slot: its range is all of INTEGER, since no check stands between
+abbrev pub is_straight : Expr → Range → Bool
+is_straight e range = is_whole range && ends_alone e
+
+-- the variable of the routine into which an assigned value goes straight
 abbrev pub goes_straight : Desig → Expr → Range → Option ℕ
-goes_straight d e range = straight_by (bare_desig d) (is_whole range && ends_alone e)
+goes_straight d e range = straight_by (bare_desig d) (is_straight e range)
 
 -- ---- bounds of loops
 

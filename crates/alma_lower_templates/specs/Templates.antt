@@ -21,11 +21,12 @@ use Rattle.alma_lower_templates.specs.Tables.{Tables, range_number, text_number}
 use Rattle.alma_lower_templates.specs.Slots.{shift_of, bare_desig, bare, stays, stays_in, unless_bare, goes_straight, own_place, own_root}
 use Rattle.alma_lower_templates.specs.Slots.{is_simple, handed_slots, call_links, root_slots, arg_slots, behind_stmts, behind_stmt}
 use Rattle.alma_lower_templates.specs.Slots.{behind_test, behind_condition, behind_expr, behind_dead, behind_value, behind_desig}
-use Rattle.alma_lower_templates.specs.Slots.{behind_target, behind_variable, own_kinds, is_turned, by_turn, constant, ends_alone}
+use Rattle.alma_lower_templates.specs.Slots.{behind_target, behind_variable, is_straight, own_kinds, is_turned, by_turn, constant}
+use Rattle.alma_lower_templates.specs.Slots.{ends_alone}
 use Rattle.alma_lower_templates.specs.Pieces.{op_code, cmp_code, unequal_code, straight, neg_code, write_code, read_code, fit_code}
 use Rattle.alma_lower_templates.specs.Pieces.{link_code, condition, guarded, chosen, first_of_two, refused, truth_code, each_body}
 use Rattle.alma_lower_templates.specs.Pieces.{forall_code, begin_loop, turn_code, for_turns, some_turns, behind_labels, case_arm}
-use Rattle.alma_lower_templates.specs.Pieces.{passed_over, has_dead, first_argument, turned_loop, opposite_code, unless_constant}
+use Rattle.alma_lower_templates.specs.Pieces.{passed_over, has_dead, put_code, first_argument, turned_loop, opposite_code, unless_constant}
 use Rattle.alma_lower_templates.specs.Pieces.{limit_code}
 
 -- the numbers of CHAR
@@ -395,13 +396,13 @@ module _ (p : Program) (tables : Tables) (r : ℕ) where
 
     pub arg_code : (line at to lo : ℕ) → Arg → List Lined
     arg_code line at to lo (ByValue e range) =
-        unless_bare (bare e) (expr_code line at lo e)
-        ++ own line (fit_code tables range (value_at lo e) ++ (I.Move to (value_at lo e) ∷ []))
+        put_code (is_straight e range) line to (value_at lo e) (fit_code tables range (value_at lo e))
+        (unless_bare (bare e) (expr_code line at lo e))
     arg_code line at to lo (ByCells d) = desig_code line at lo d ++ own line (I.Same to (place_at lo d) ∷ [])
     arg_code line at to lo (ByPlace d) = desig_code line at lo d ++ own line (I.Same to (place_at lo d) ∷ [])
     arg_code line at to lo (MixValue e range) =
-        unless_bare (bare e) (expr_code line at lo e)
-        ++ own line (fit_code tables range (value_at lo e) ++ (I.Move to (value_at lo e) ∷ []))
+        put_code (is_straight e range) line to (value_at lo e) (fit_code tables range (value_at lo e))
+        (unless_bare (bare e) (expr_code line at lo e))
     arg_code line at to lo (MixPlace d) = desig_code line at lo d ++ own line (I.Same to (place_at lo d) ∷ [])
 
     -- the place goes into the slot `place_at lo`. Where that of a parameter is no place yet, the instruction that takes the part faults

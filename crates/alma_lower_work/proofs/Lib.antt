@@ -6,3 +6,4 @@ pub mod Small
 pub mod Bare
 pub mod Ready
 pub mod Alone
+pub mod Turning

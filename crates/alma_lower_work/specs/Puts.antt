@@ -1,16 +1,17 @@
 -- What each phrase adds where it is emitted: its code and slots by the templates, with the lines that it is given.
 use Rattle.std.specs.Borrow.{Bor}
-use Rattle.std.specs.Prelude.{ℕ, zero, suc, ◌+◌, Bool, true, false, List, [], ◌∷◌, ◌++◌, length, drop, Option, Some, None}
+use Rattle.std.specs.Prelude.{◌≡◌, ℕ, zero, suc, ◌+◌, Bool, true, false, List, [], ◌∷◌, ◌++◌, length, drop, Option, Some, None}
 use Rattle.alma_base.specs.declared.number.Range.{Range}
 use Rattle.alma_code.specs.declared.cell.SlotKind.TheVariants as slot
 use Rattle.alma_code.specs.declared.instr.Instr.{Instr}
 use Rattle.alma_code.specs.declared.instr.Instr.TheVariants as I
+use Rattle.alma_ir.specs.declared.phrase.Cmp.{Cmp}
 use Rattle.alma_ir.specs.declared.phrase.Cmp.TheVariants as cmp
 use Rattle.alma_ir.specs.declared.phrase.Expr as E
 use Rattle.alma_ir.specs.declared.phrase.Root.{Root}
 use Rattle.alma_ir.specs.declared.phrase.Root.TheVariants as root
 use Rattle.alma_ir.specs.Tree.{Stmts, Stmt, Arms, CaseArms, Else, Branches, Test, Tests, Expr, Links, Args, Arg, Desig, Sels, Sel, Compare}
-use Rattle.alma_ir.specs.Tree.{no_args, more_args}
+use Rattle.alma_ir.specs.Tree.{no_args, more_args, Value}
 use Rattle.alma_ir.specs.Phrases.{Phrase, stmts_phrases, stmt_phrases, arms_phrases, cases_phrases, else_phrases, branches_phrases}
 use Rattle.alma_ir.specs.Phrases.{test_phrases, tests_phrases, expr_phrases, links_phrases, args_phrases, arg_phrases, desig_phrases}
 use Rattle.alma_ir.specs.Phrases.{sels_phrases, sel_phrases}
@@ -21,7 +22,8 @@ use Rattle.alma_lower_work.specs.declared.stand.Stand.{Stand}
 use Rattle.alma_lower_work.specs.declared.stand.Stand.TheVariants as stands
 use Rattle.alma_lower_work.specs.Front.{Around, Front, Adds, Holes}
 use Rattle.alma_lower_templates.specs.Lined.{Lined, own, in_row}
-use Rattle.alma_lower_templates.specs.Slots.{shift_of, bare_desig, bare, stays, unless_bare, own_place, is_simple, mark_slots, handed_slots}
+use Rattle.alma_lower_templates.specs.Slots.{shift_of, bare_desig, bare, stays, unless_bare, own_place, is_simple, is_turned, mark_slots}
+use Rattle.alma_lower_templates.specs.Slots.{handed_slots}
 use Rattle.alma_lower_templates.specs.Slots.{call_links, stmts_slots, stmt_slots, arms_slots, dead_slots, cases_slots, else_slots}
 use Rattle.alma_lower_templates.specs.Slots.{behind_condition, branches_slots, test_slots, and_slots, or_slots, expr_slots, links_slots}
 use Rattle.alma_lower_templates.specs.Slots.{args_slots, arg_slots, desig_slots, sels_slots, sel_slots}
@@ -165,6 +167,16 @@ pub record PutsHanded (s : Around) (line called up : ℕ) (a b : Front) (args : 
 -- a test
 pub record PutsTest (s : Around) (line : ℕ) (a b : Front) (t : Test) : Type 0 where
   pub all : Adds a b (λ at lo ls. T.test_code s.program s.tables s.routine line at lo (test_with t ls))
+      (λ ls. test_slots s.program s.routine (test_with t ls)) (behind (test_phrases t))
+
+-- a condition that WHILE tests behind its body, in its parts
+pub record IsTurned (t : Test) (how : Cmp) (x y : Expr) : Type 0 where
+  pub is : t ≡ Value (Compare how x y)
+  pub turned : is_turned t ≡ true
+
+-- and its code, which goes back to `top` while the comparison holds
+pub record PutsBack (s : Around) (line top : ℕ) (a b : Front) (t : Test) : Type 0 where
+  pub all : Adds a b (λ at lo ls. T.back_code s.program s.tables s.routine line at lo top (test_with t ls))
       (λ ls. test_slots s.program s.routine (test_with t ls)) (behind (test_phrases t))
 
 -- the operands of AND

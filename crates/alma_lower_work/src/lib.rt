@@ -9,6 +9,7 @@ mod scene;
 mod simple;
 mod stand;
 mod straight;
+mod turned;
 mod value;
 mod work;
 
@@ -19,7 +20,8 @@ pub use place::{put_links, put_root};
 pub use scene::Scene;
 pub use simple::is_simple;
 pub use stand::{Stand, own_stand, own_value};
-pub use straight::straight_slot;
+pub use straight::{constant, ends_alone, is_straight, straight_slot};
+pub use turned::{put_back, turned_test};
 pub use value::{
     op_instr, put_cmp, put_fit, put_function, put_neg, put_result_fit, put_truth, read_instr,
     write_instr,

@@ -1,4 +1,4 @@
-// Values that go straight into the variable that they are assigned to.
+// Values that go straight into the slot that they are meant for.
 ghost use Rattle.std.specs.Prelude.{◌≡◌, option_map, IfOk};
 ghost use Rattle.alma_ir.specs.View.{desig_of, expr_of};
 ghost use Rattle.alma_lower_templates.specs.Slots.{goes_straight};
@@ -13,8 +13,8 @@ use crate::value::holds_all;
 use alma_base::{NoMemory, Range};
 use alma_ir::{Desig, Expr};
 
-// Whether an expression that has code puts its value in place by its last instruction alone.
-fn ends_alone(expr: &Expr) -> bool
+/// Whether an expression that has code puts its value in place by its last instruction alone.
+pub fn ends_alone(expr: &Expr) -> bool
     ensures { result ≡ slots.ends_alone (expr_of expr.now) }
 {
     match expr {
@@ -25,6 +25,14 @@ fn ends_alone(expr: &Expr) -> bool
             false
         }
     }
+}
+
+/// Whether a value of a range may go straight to a slot: all numbers are in the range, and the last instruction of the
+/// value alone puts it.
+pub fn is_straight(expr: &Expr, range: Range) -> bool
+    ensures { result ≡ slots.is_straight (expr_of expr.now) range }
+{
+    holds_all(range) && ends_alone(expr)
 }
 
 /// The slot of a variable into which the value that is assigned to it goes straight.
@@ -38,8 +46,25 @@ pub fn straight_slot(
         (around scene.now).tables (around scene.now).routine)
         (goes_straight (desig_of desig.now) (expr_of value.now) range)) }
 {
-    if !holds_all(range) || !ends_alone(value) {
+    if !is_straight(value, range) {
         return Ok(None);
     }
     own_stand(scene, desig)
+}
+
+/// The number of a first count that is a constant.
+#[tactic(auto, using(alma_ir::proofs::Views::viewed))]
+pub fn constant(expr: &Expr) -> Option<i64>
+    ensures { result ≡ slots.constant (expr_of expr.now) }
+{
+    match expr {
+        Expr::Const(value) => Some(*value),
+        Expr::Load(_)
+        | Expr::Chain(_, _, _)
+        | Expr::Compare(_, _, _)
+        | Expr::Truth(_)
+        | Expr::Known(_)
+        | Expr::Chr(_)
+        | Expr::Call(_) => None,
+    }
 }

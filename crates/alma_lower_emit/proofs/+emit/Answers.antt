@@ -72,7 +72,7 @@ call::emit_arg-returns-in-Value g t c =
       puts = arg_as c.number_of.result (around c.args.scene.now) c.args.line c.args.to _ _ _ _ view
           (put_behind c.emit_value-from.result c.number_of.result c.emit_value-from.ensures.puts c.emit_value-from.ensures.value
           c.number_of.ensures.done c.number_of.ensures.puts
-          (λ at puts is h. value_arg_put (around c.args.scene.now) c.args.line _ _ _ _ _ _ _ _ puts is h.first h.second));
+          (λ at puts is h. value_arg_put (around c.args.scene.now) c.args.line _ _ _ _ _ _ _ puts is h));
     }
 
 pub call::emit_arg-returns-in-MixValue : goal.call::emit_arg-returns-in-MixValue
@@ -83,7 +83,7 @@ call::emit_arg-returns-in-MixValue g t c =
       puts = arg_as c.number_of-in-MixValue.result (around c.args.scene.now) c.args.line c.args.to _ _ _ _ view
           (put_behind c.emit_value-from-in-MixValue.result c.number_of-in-MixValue.result c.emit_value-from-in-MixValue.ensures.puts
           c.emit_value-from-in-MixValue.ensures.value c.number_of-in-MixValue.ensures.done c.number_of-in-MixValue.ensures.puts
-          (λ at puts is h. mix_value_put (around c.args.scene.now) c.args.line _ _ _ _ _ _ _ _ puts is h.first h.second));
+          (λ at puts is h. mix_value_put (around c.args.scene.now) c.args.line _ _ _ _ _ _ _ puts is h));
     }
 
 pub call::emit_arg-returns-in-Cells : goal.call::emit_arg-returns-in-Cells

@@ -12,6 +12,7 @@ returns g c =
     record {
       counter = c.in_ok-counts.ensures.counter;
       limit = c.in_ok-counts.ensures.limit;
+      constant = c.constant.ensures;
       puts = record {
         b = begins.b;
         passed = begins.passed;
@@ -24,8 +25,7 @@ returns g c =
           codes = codes_is _ _ c.args.line _ _ (ap (I.Const c.in_ok-counts.counts.step) same) begins.puts.codes;
           from_put = c.in_ok-first.ensures.puts;
           first_slot = c.in_ok-first.ensures.slot;
-          to_put = c.in_ok-last.ensures.puts;
-          last_slot = c.in_ok-last.ensures.slot;
+          to_put = c.in_ok-emit_limit.ensures.puts;
         };
       };
     }
