@@ -1,7 +1,8 @@
 -- What each call keeps.
 use Rattle.std.proofs.Common.{◌≡◌, ◌⊎◌, inl, inr, ℕ, suc, zero, ◌≤◌, ◌<◌, ◌+◌, ◌-◌, Bool, true, false, ◌||◌, nat_lt, nat_le, List, [], ◌∷◌}
 use Rattle.std.proofs.Common.{◌++◌, length, take, drop, get_or, set, replicate, refl, sym, ap, subst, ◌∙◌, arith, min}
-use Rattle.std.proofs.lemmas.List.{append-nil, append_assoc, get_or_read, set-set, set-get_or, length-set, length_push, map-append}
+use Rattle.std.proofs.lemmas.List.{length-append, length-replicate, take_all, get_or_read, set-set, set-get_or, length-set, length_push}
+use Rattle.std.proofs.lemmas.List.{map-append}
 use Rattle.std.proofs.lemmas.List.{take-append-le, length-take-le, length-take, take-take, take-set-le, drop-append-le, take-map, drop_all}
 use Rattle.std.proofs.lemmas.List.{get_or-set_same, get_or-set_other, get_or_past, get_or_push, get_or_append_left, get_or-take}
 use Rattle.std.proofs.lemmas.Bool.{cases_eq, cases_lt, false≢true}
@@ -9,11 +10,12 @@ use Rattle.std.proofs.lemmas.Bool.Decides.{nat_tests}
 use Rattle.alma_memory_rewind.specs.declared.rewind.Note.{Note}
 use Rattle.alma_memory_rewind.specs.declared.rewind.Mark.{Mark}
 use Rattle.alma_memory_rewind.specs.Rewound.{top_copy, needed}
-use Rattle.alma_memory_rewind.specs.Trail.{before, copy_of, held_of, at_of, stamp_of, last_mark, no_mark, is_free, free_from, trail_for}
+use Rattle.alma_memory_rewind.specs.Trail.{before, copy_of, held_of, at_of, stamp_of, last_mark, no_mark, is_free, free_from, noted_to}
+use Rattle.alma_memory_rewind.specs.Trail.{trail_for}
 use Rattle.alma_memory_rewind.specs.Sound.{Rises, IsSound, Keeps, HasNote, AreStamps, IsStamp, AreOld, AddsNoted}
 use Rattle.alma_memory_rewind.proofs.Trails.{rises-le, rises-last, rises-more, rises-push, rises-take, held-agree, held-free, held-push}
 use Rattle.alma_memory_rewind.proofs.Trails.{held-unwound, length-before, length-copy, top-copy, before-append, free-before, before-agree}
-use Rattle.alma_memory_rewind.proofs.Stamps.{stamps-push, stamps-pop, stamps-take, stamps-zero, old-push, old-pop, old-take, old-zero}
+use Rattle.alma_memory_rewind.proofs.Stamps.{stamps-push, stamps-pop, stamps-zeros, old-push, old-pop, old-zeros}
 
 -- ---- places that need no note
 
@@ -56,17 +58,28 @@ pub length-free : (ms : List Mark) (k : ℕ) (stamps : List ℕ) → length (fre
 length-free ms k [] = refl
 length-free ms k (s ∷ stamps) = ap suc (length-free ms (suc k) stamps)
 
-pub free-take : (ms : List Mark) (b k : ℕ) (stamps : List ℕ) → free_from ms k (take b stamps) ≡ take b (free_from ms k stamps)
-free-take ms zero k stamps = refl
-free-take ms (suc b) k [] = refl
-free-take ms (suc b) k (s ∷ stamps) = ap (λ fs. is_free ms k s ∷ fs) (free-take ms b (suc k) stamps)
+-- ---- of the items alone
 
-pub free-push : (ms : List Mark) (k : ℕ) (stamps : List ℕ) (s : ℕ)
-    → free_from ms k (stamps ++ s ∷ []) ≡ free_from ms k stamps ++ is_free ms (k + length stamps) s ∷ []
-free-push ms k [] s = let z : k + 0 ≡ k = omega arith in rw z refl
-free-push ms k (t ∷ stamps) s =
-    let z : k + suc (length stamps) ≡ suc k + length stamps = omega arith in
-    rw z (ap (λ fs. is_free ms k t ∷ fs) (free-push ms (suc k) stamps s))
+-- a place that is noted is one of an item
+noted-low : (n : ℕ) (fs : List Bool) (k : ℕ) → get_or (take n fs) k false ≡ true → k < n
+noted-low n fs k h = by_case (cases_lt k n)
+  where
+    by_case : (k < n) ⊎ (n ≤ k) → k < n
+    by_case (inl l) = l
+    by_case (inr g) =
+        let past : length (take n fs) ≤ k = rw (length-take n fs) (omega (arith, g)) in
+        absurd (false≢true (sym (get_or_past (take n fs) k false past) ∙ h))
+
+pub noted-within : (ms : List Mark) (n : ℕ) (stamps : List ℕ) (k : ℕ) → get_or (noted_to ms n stamps) k false ≡ true → k < n
+noted-within ms n stamps k h = noted-low n (free_from ms 0 stamps) k h
+
+pub noted-flag : (ms : List Mark) (n : ℕ) (stamps : List ℕ) (k : ℕ) → get_or (noted_to ms n stamps) k false ≡ true
+    → get_or (free_from ms 0 stamps) k false ≡ true
+noted-flag ms n stamps k h = sym (get_or-take n (free_from ms 0 stamps) k false (noted-within ms n stamps k h)) ∙ h
+
+noted-from : (ms : List Mark) (n : ℕ) (stamps : List ℕ) (k : ℕ) → k < n → get_or (free_from ms 0 stamps) k false ≡ true
+    → get_or (noted_to ms n stamps) k false ≡ true
+noted-from ms n stamps k l h = get_or-take n (free_from ms 0 stamps) k false l ∙ h
 
 -- the flag of a place, where it is there
 pub flag : (ms : List Mark) (stamps : List ℕ) (k : ℕ) → k < length stamps
@@ -81,20 +94,25 @@ flag-within ms stamps k h = by_cases (cases_lt k (length stamps))
     by_cases (inr g) = absurd (false≢true (sym (get_or_past (free_from ms 0 stamps) k false (rw (length-free ms 0 stamps) g)) ∙ h))
 
 -- a place that is noted is seen to be so by its stamp
-pub free-read : (ms shown : List Mark) (stamps : List ℕ) (k s : ℕ) → shown ≡ ms → s ≡ get_or stamps k s
-    → get_or (free_from ms 0 stamps) k false ≡ true → is_free shown k s ≡ true
-free-read ms shown stamps k s e g h =
-    let l : k < length stamps = flag-within ms stamps k h in
+pub free-read : (ms shown : List Mark) (n : ℕ) (stamps : List ℕ) (k s : ℕ) → shown ≡ ms → s ≡ get_or stamps k s
+    → get_or (noted_to ms n stamps) k false ≡ true → is_free shown k s ≡ true
+free-read ms shown n stamps k s e g h =
+    let f : get_or (free_from ms 0 stamps) k false ≡ true = noted-flag ms n stamps k h in
+    let l : k < length stamps = flag-within ms stamps k f in
     let st : s ≡ get_or stamps k 0 = get_or_read stamps k s l g 0 in
-    ap (λ ns. is_free ns k s) e ∙ (ap (is_free ms k) st ∙ (sym (flag ms stamps k l) ∙ h))
+    ap (λ ns. is_free ns k s) e ∙ (ap (is_free ms k) st ∙ (sym (flag ms stamps k l) ∙ f))
 
-pub adds-free : (ms : List Mark) (stamps : List ℕ) (k : ℕ) → k < length stamps → is_free ms k (get_or stamps k 0) ≡ true
-    → AddsNoted ms stamps stamps k
-adds-free ms stamps k l f = record { noted = flag ms stamps k l ∙ f; kept = λ p h. h }
+pub adds-free : (ms : List Mark) (n : ℕ) (stamps : List ℕ) (k : ℕ) → k < n → k < length stamps
+    → is_free ms k (get_or stamps k 0) ≡ true → AddsNoted ms n stamps stamps k
+adds-free ms n stamps k w l f = record { noted = noted-from ms n stamps k w (flag ms stamps k l ∙ f); kept = λ p h. h }
 
-pub adds-set : (ms : List Mark) (stamps : List ℕ) (k s : ℕ) → k < length stamps → is_free ms k s ≡ true
-    → AddsNoted ms stamps (set stamps k s) k
-adds-set ms stamps k s l f = record { noted = here; kept = λ p h. by_place p h (cases_eq p k) }
+pub adds-set : (ms : List Mark) (n : ℕ) (stamps : List ℕ) (k s : ℕ) → k < n → k < length stamps → is_free ms k s ≡ true
+    → AddsNoted ms n stamps (set stamps k s) k
+adds-set ms n stamps k s w l f = record {
+  noted = noted-from ms n (set stamps k s) k w here;
+  kept = λ p h. noted-from ms n (set stamps k s) p (noted-within ms n stamps p h)
+      (by_place p (noted-flag ms n stamps p h) (cases_eq p k));
+}
   where
     here : get_or (free_from ms 0 (set stamps k s)) k false ≡ true
     here = flag ms (set stamps k s) k (rw (length-set stamps k s) l) ∙ (ap (is_free ms k) (get_or-set_same stamps k s 0 l) ∙ f)
@@ -142,7 +160,7 @@ pub write-free : {T : Type 0} (ms : List Mark) (trail : List (Note T)) (xs : Lis
 write-free {T} ms trail xs stamps counter k x f s = record {
   held = by_marks ms f s.rises (s.stamped.now k);
   sound = record {
-    wide = s.wide ∙ sym (length-set xs k x);
+    wide = rw (length-set xs k x) s.wide;
     stamped = s.stamped;
     old = s.old;
     rises = rw (length-set xs k x) s.rises;
@@ -190,7 +208,7 @@ pub write-noted : {T : Type 0} (ms : List Mark) (trail : List (Note T)) (n : Not
 write-noted {T} ms trail n xs stamps counter x f l e o s = record {
   held = held-push 0 0 (length trail) (length xs) trail n xs (set xs n.at x) ms s.rises (omega arith) undone;
   sound = record {
-    wide = length-set stamps n.at (last_mark ms).serial ∙ (s.wide ∙ sym (length-set xs n.at x));
+    wide = rw (length-set stamps n.at (last_mark ms).serial, length-set xs n.at x) s.wide;
     stamped = stamps-push ms trail n stamps (last_mark ms).serial e (mark-le 0 0 ms (length trail) (length xs) s.rises) s.stamped;
     old = old-push ms trail n stamps (last_mark ms).serial counter e (s.old.serials (length ms - 1) (some ms f)) s.old;
     rises = rw (length-set xs n.at x, length_push trail n)
@@ -238,56 +256,92 @@ free-new (m ∷ ms) at = or-right (nat_le (last_mark (m ∷ ms)).top at) (nat_le
 
 pub cut-keeps : {T : Type 0} (ms : List Mark) (trail : List (Note T)) (xs : List T) (stamps : List ℕ) (counter b : ℕ)
     → (last_mark ms).top ≤ b →
-    IsSound ms trail xs stamps counter → Keeps ms trail trail xs (take b xs) (take b stamps) counter
+    IsSound ms trail xs stamps counter → Keeps ms trail trail xs (take b xs) stamps counter
 cut-keeps ms trail xs stamps counter b l s =
     let t : (last_mark ms).top ≤ length xs = top-le ms (length trail) (length xs) s.rises in
     let w : (last_mark ms).top ≤ length (take b xs) = rw (length-take b xs) (omega (arith, l, t)) in
     record {
       held = held-below trail (take b xs) xs ms (length trail) (length xs) s.rises (take-take (last_mark ms).top b xs l);
       sound = record {
-        wide = length-take b stamps ∙ (ap (λ n. min b n) s.wide ∙ sym (length-take b xs));
-        stamped = stamps-take ms trail stamps b s.old.some s.stamped;
-        old = old-take ms trail stamps counter b s.old;
+        wide = rw (length-take b xs) (omega (arith, s.wide));
+        stamped = s.stamped;
+        old = s.old;
         rises = rises-to ms (length trail) (length xs) (length (take b xs)) s.rises w;
         idle = s.idle;
       };
     }
 
-pub push-keeps : {T : Type 0} (ms : List Mark) (trail : List (Note T)) (xs : List T) (stamps : List ℕ) (counter : ℕ) (x : T) →
-    IsSound ms trail xs stamps counter → Keeps ms trail trail xs (xs ++ x ∷ []) (stamps ++ 0 ∷ []) counter
-push-keeps ms trail xs stamps counter x s =
+-- more items, and more stamps where there are fewer
+pub extend-keeps : {T : Type 0} (ms : List Mark) (trail : List (Note T)) (xs ys : List T) (stamps stamps' : List ℕ) (counter wide : ℕ)
+    (more : List T) → ys ≡ xs ++ more → stamps' ≡ stamps ++ replicate (wide - length stamps) 0 → wide ≡ length xs + length more →
+    IsSound ms trail xs stamps counter → Keeps ms trail trail xs ys stamps' counter
+extend-keeps ms trail xs ys stamps stamps' counter wide more p q w s =
+    let n : ℕ = wide - length stamps in
     let t : (last_mark ms).top ≤ length xs = top-le ms (length trail) (length xs) s.rises in
-    record {
-      held = held-below trail (xs ++ x ∷ []) xs ms (length trail) (length xs) s.rises (take-append-le (last_mark ms).top xs (x ∷ []) t);
+    let long : length (xs ++ more) ≡ length xs + length more = length-append xs more in
+    let stamps_long : length (stamps ++ replicate n 0) ≡ length stamps + n = length-append stamps (replicate n 0)
+    ∙ ap (λ k. length stamps + k) (length-replicate {A = ℕ} n 0) in
+    rw (p, q) (record {
+      held = held-below trail (xs ++ more) xs ms (length trail) (length xs) s.rises (take-append-le (last_mark ms).top xs more t);
       sound = record {
-        wide = length_push stamps 0 ∙ (ap (λ n. n + 1) s.wide ∙ sym (length_push xs x));
-        stamped = stamps-zero ms trail stamps s.stamped;
-        old = old-zero ms trail stamps counter s.old;
-        rises = rises-to ms (length trail) (length xs) (length (xs ++ x ∷ [])) s.rises (rw (length_push xs x) (omega (arith, t)));
+        wide = rw (long, stamps_long) (omega (arith, w));
+        stamped = stamps-zeros ms trail stamps n s.stamped;
+        old = old-zeros ms trail stamps counter n s.old;
+        rises = rises-to ms (length trail) (length xs) (length (xs ++ more)) s.rises (rw long (omega (arith, t)));
         idle = s.idle;
       };
-    }
+    })
 
-pub extend-keeps : {T : Type 0} (ms : List Mark) (trail : List (Note T)) (xs : List T) (stamps : List ℕ) (counter : ℕ) (more : List T) →
-    IsSound ms trail xs stamps counter → Keeps ms trail trail xs (xs ++ more) (stamps ++ replicate (length more) 0) counter
-extend-keeps ms trail xs stamps counter [] s = rw (append-nil xs, append-nil stamps) (record { held = refl; sound = s })
-extend-keeps ms trail xs stamps counter (x ∷ more) s =
-    let one = push-keeps ms trail xs stamps counter x s in
-    let rest = extend-keeps ms trail (xs ++ x ∷ []) (stamps ++ 0 ∷ []) counter more one.sound in
-    let items : (xs ++ x ∷ []) ++ more ≡ xs ++ x ∷ more = append_assoc xs (x ∷ []) more in
-    let zeros : (stamps ++ 0 ∷ []) ++ replicate (length more) 0 ≡ stamps ++ 0 ∷ replicate (length more) 0 =
-    append_assoc stamps (0 ∷ []) (replicate (length more) 0) in
-    let sound = rw (items, zeros) at rest.sound in
-    record { held = sym (ap (λ v. held_of trail v ms) items) ∙ (rest.held ∙ one.held); sound = sound }
+-- places above the top need no note, whatever their stamp
+free-all : (ms : List Mark) (k n : ℕ) (stamps : List ℕ) → (last_mark ms).top ≤ k → n ≤ length stamps
+    → take n (free_from ms k stamps) ≡ replicate n true
+free-all ms k zero stamps t l = refl
+free-all ms k (suc n) [] t l = absurd (omega (arith, l))
+free-all ms k (suc n) (s ∷ stamps) t l =
+    ap (λ b. b ∷ take n (free_from ms (suc k) stamps)) (free-above ms k s t)
+    ∙ ap (λ bs. true ∷ bs) (free-all ms (suc k) n stamps (omega (arith, t)) (omega (arith, l)))
 
--- new places above the top need no note
-pub free-extend : (ms : List Mark) (k n : ℕ) (stamps : List ℕ) → (last_mark ms).top ≤ k + length stamps →
-    free_from ms k (stamps ++ replicate n 0) ≡ free_from ms k stamps ++ replicate n true
-free-extend ms k zero [] l = refl
-free-extend ms k (suc n) [] l =
-    ap (λ b. b ∷ free_from ms (suc k) (replicate n 0)) (free-above ms k 0 (omega (arith, l)))
-    ∙ ap (λ bs. true ∷ bs) (free-extend ms (suc k) n [] (omega (arith, l)))
-free-extend ms k n (s ∷ stamps) l = ap (λ bs. is_free ms k s ∷ bs) (free-extend ms (suc k) n stamps (omega (arith, l)))
+free-more : (ms : List Mark) (k i n : ℕ) (stamps more : List ℕ) → (last_mark ms).top ≤ k + i → i ≤ length stamps
+    → i + n ≤ length stamps + length more →
+    take (i + n) (free_from ms k (stamps ++ more)) ≡ take i (free_from ms k stamps) ++ replicate n true
+free-more ms k zero n stamps more t l w =
+    let none : 0 + n ≡ n = omega arith in
+    let long = length-append stamps more in
+    ap (λ j. take j (free_from ms k (stamps ++ more))) none
+    ∙ free-all ms k n (stamps ++ more) (omega (arith, t)) (omega (arith, long, w))
+free-more ms k (suc i) n [] more t l w = absurd (omega (arith, l))
+free-more ms k (suc i) n (s ∷ stamps) more t l w =
+    let up : suc i + n ≡ suc (i + n) = omega arith in
+    ap (λ j. take j (free_from ms k (s ∷ stamps ++ more))) up
+    ∙ ap (λ bs. is_free ms k s ∷ bs) (free-more ms (suc k) i n stamps more (omega (arith, t)) (omega (arith, l)) (omega (arith, w)))
+
+pub noted-extend : {T : Type 0} (ms : List Mark) (trail : List (Note T)) (xs ys : List T) (stamps stamps' : List ℕ) (counter wide : ℕ)
+    (more : List T) (flags : List Bool) → ys ≡ xs ++ more → stamps' ≡ stamps ++ replicate (wide - length stamps) 0
+    → wide ≡ length xs + length more → IsSound ms trail xs stamps counter → noted_to ms (length xs) stamps ≡ flags →
+    noted_to ms (length ys) stamps' ≡ flags ++ replicate (length more) true
+noted-extend ms trail xs ys stamps stamps' counter wide more flags p q w s e =
+    let n : ℕ = wide - length stamps in
+    let t : (last_mark ms).top ≤ length xs = top-le ms (length trail) (length xs) s.rises in
+    let zeros : length (replicate {A = ℕ} n 0) ≡ n = length-replicate {A = ℕ} n 0 in
+    let long : length ys ≡ length xs + length more = ap length p ∙ length-append xs more in
+    ap (λ k. noted_to ms k stamps') long ∙ (ap (noted_to ms (length xs + length more)) q
+    ∙ (free-more ms 0 (length xs) (length more) stamps (replicate n 0) (omega (arith, t)) s.wide (omega (arith, zeros, s.wide, w))
+    ∙ ap (λ fs. fs ++ replicate (length more) true) e))
+
+-- fewer items: the stamps stay
+pub noted-take : {T : Type 0} (ms : List Mark) (xs : List T) (stamps : List ℕ) (b : ℕ)
+    → noted_to ms (length (take b xs)) stamps ≡ take b (noted_to ms (length xs) stamps)
+noted-take ms xs stamps b =
+    ap (λ k. noted_to ms k stamps) (length-take b xs) ∙ by_case (cases_lt b (length xs))
+  where
+    by_case : (b < length xs) ⊎ (length xs ≤ b) → noted_to ms (min b (length xs)) stamps ≡ take b (noted_to ms (length xs) stamps)
+    by_case (inl l) =
+        let least : min b (length xs) ≡ b = omega (arith, l) in
+        rw least (sym (take-take b (length xs) (free_from ms 0 stamps) (omega (arith, l))))
+    by_case (inr g) =
+        let least : min b (length xs) ≡ length xs = omega (arith, g) in
+        let short : length (noted_to ms (length xs) stamps) ≤ b = rw (length-take (length xs) (free_from ms 0 stamps)) (omega (arith, g)) in
+        rw least (sym (take_all b (noted_to ms (length xs) stamps) short))
 
 -- ---- a new copy
 
@@ -418,7 +472,7 @@ pub record Settles {T : Type 0} (ms : List Mark) (trail after : List (Note T)) (
   pub sound : IsSound ms after xs stamps counter
 
 pub settles : {T : Type 0} (ms : List Mark) (trail after : List (Note T)) (xs : List T) (stamps : List ℕ) (counter : ℕ)
-    → after ≡ trail_for ms trail → length stamps ≡ length xs → AreStamps ms trail stamps →
+    → after ≡ trail_for ms trail → length xs ≤ length stamps → AreStamps ms trail stamps →
     AreOld ms trail stamps counter → Rises 0 0 ms (length trail) (length xs) → Settles ms trail after xs stamps counter
 settles [] trail after xs stamps counter p w a o r = record {
   held = refl;
@@ -457,7 +511,7 @@ pub record Backs {T : Type 0} (ms : List Mark) (trail after : List (Note T)) (xs
 
 pub backs : {T : Type 0} (ms : List Mark) (trail after : List (Note T)) (xs ys : List T) (stamps stamps1 : List ℕ) (counter : ℕ)
     → 1 ≤ length ms →
-    ys ≡ before (drop (last_mark ms).mark trail) xs → after ≡ take (last_mark ms).mark trail → length stamps1 ≡ length ys
+    ys ≡ before (drop (last_mark ms).mark trail) xs → after ≡ take (last_mark ms).mark trail → length ys ≤ length stamps1
     → AreStamps ms after stamps1 → AreOld ms after stamps1 counter →
     IsSound ms trail xs stamps counter → Backs ms trail after xs ys stamps1 counter
 backs [] trail after xs ys stamps stamps1 counter some q t w st old s = absurd (omega (arith, some))

@@ -3,3 +3,4 @@ pub mod Stamps
 pub mod Changes
 mod Olds
 mod Sweeps
+mod Restarts

@@ -1,8 +1,9 @@
 -- Lemmas on stamps: each tells of the latest note of its place.
-use Rattle.std.proofs.Common.{◌≡◌, ◌⊎◌, inl, inr, ℕ, suc, zero, ◌≤◌, ◌<◌, ◌+◌, List, [], ◌∷◌, ◌++◌, length, map, take, get_or, set, refl}
+use Rattle.std.proofs.Common.{◌≡◌, ◌⊎◌, inl, inr, ℕ, suc, zero, ◌≤◌, ◌<◌, ◌+◌, List, [], ◌∷◌, ◌++◌, length, map, get_or, set, replicate}
+use Rattle.std.proofs.Common.{refl}
 use Rattle.std.proofs.Common.{sym, ap, ◌∙◌, arith}
 use Rattle.std.proofs.lemmas.List.{get_or-set_same, get_or-set_other, length_push, get_or_append_left, get_or_push, map-append, length-map}
-use Rattle.std.proofs.lemmas.List.{get_or_past, get_or-take, length-set}
+use Rattle.std.proofs.lemmas.List.{get_or_past, length-set}
 use Rattle.std.proofs.lemmas.Bool.{cases_eq, cases_lt}
 use Rattle.alma_memory_rewind.specs.declared.rewind.Note.{Note}
 use Rattle.alma_memory_rewind.specs.declared.rewind.Mark.{Mark}
@@ -146,39 +147,21 @@ stamp-before ms trail n stamps s = λ i l a b c. (
     let note = s.older (length trail) up i l a b' c' in
     note-less trail n (get_or ms i no_mark).mark (length trail) n.at (omega arith) (rw (at-last trail n) at note))
 
-few : (b : ℕ) (xs : List ℕ) → length (take b xs) ≤ b
-few zero xs = omega arith
-few (suc b) [] = omega arith
-few (suc b) (x ∷ xs) = omega (arith, few b xs)
+pub zeros : (z n k : ℕ) → get_or (replicate n z) k z ≡ z
+zeros z zero zero = refl
+zeros z zero (suc k) = refl
+zeros z (suc n) zero = refl
+zeros z (suc n) (suc k) = zeros z n k
 
--- a stamp of fewer places is one of all, or 0
-taken : (k b : ℕ) (stamps : List ℕ) → (get_or (take b stamps) k 0 ≡ get_or stamps k 0) ⊎ (get_or (take b stamps) k 0 ≡ 0)
-taken k b stamps = by_case (cases_lt k b)
-  where
-    by_case : (k < b) ⊎ (b ≤ k) → (get_or (take b stamps) k 0 ≡ get_or stamps k 0) ⊎ (get_or (take b stamps) k 0 ≡ 0)
-    by_case (inl lt) = inl (get_or-take b stamps k 0 lt)
-    by_case (inr ge) =
-        let past : length (take b stamps) ≤ k = omega (arith, few b stamps, ge) in
-        inr (get_or_past (take b stamps) k 0 past)
+get_or-zeros : (stamps : List ℕ) (n k : ℕ) → get_or (stamps ++ replicate n 0) k 0 ≡ get_or stamps k 0
+get_or-zeros [] n zero = zeros 0 n zero
+get_or-zeros [] n (suc k) = zeros 0 n (suc k)
+get_or-zeros (x ∷ stamps) n zero = refl
+get_or-zeros (x ∷ stamps) n (suc k) = get_or-zeros stamps n k
 
-pub stamps-take : {T : Type 0} (ms : List Mark) (trail : List (Note T)) (stamps : List ℕ) (b : ℕ)
-    → ((i : ℕ) → i < length ms → 1 ≤ (get_or ms i no_mark).serial) → AreStamps ms trail stamps → AreStamps ms trail (take b stamps)
-stamps-take {T} ms trail stamps b pos s = record { now = λ k. now-at k (taken k b stamps); older = s.older }
-  where
-    now-at : (k : ℕ) → (get_or (take b stamps) k 0 ≡ get_or stamps k 0) ⊎ (get_or (take b stamps) k 0 ≡ 0)
-        → IsStamp ms trail (length trail) k (get_or (take b stamps) k 0)
-    now-at k (inl e) = rw e (s.now k)
-    now-at k (inr e) = rw e (no-stamp ms trail (length trail) k pos)
-
-get_or-zero : (stamps : List ℕ) (k : ℕ) → get_or (stamps ++ 0 ∷ []) k 0 ≡ get_or stamps k 0
-get_or-zero [] zero = refl
-get_or-zero [] (suc k) = refl
-get_or-zero (x ∷ stamps) zero = refl
-get_or-zero (x ∷ stamps) (suc k) = get_or-zero stamps k
-
-pub stamps-zero : {T : Type 0} (ms : List Mark) (trail : List (Note T)) (stamps : List ℕ) → AreStamps ms trail stamps
-    → AreStamps ms trail (stamps ++ 0 ∷ [])
-stamps-zero ms trail stamps s = record { now = λ k. rw (get_or-zero stamps k) (s.now k); older = s.older }
+pub stamps-zeros : {T : Type 0} (ms : List Mark) (trail : List (Note T)) (stamps : List ℕ) (n : ℕ) → AreStamps ms trail stamps
+    → AreStamps ms trail (stamps ++ replicate n 0)
+stamps-zeros ms trail stamps n s = record { now = λ k. rw (get_or-zeros stamps n k) (s.now k); older = s.older }
 
 -- ---- the counter
 
@@ -237,22 +220,7 @@ old-pop {T} ms trail n stamps counter o = record {
         rw is (omega arith)
     now-at k (inr d) _ = rw (get_or-set_other stamps n.at k n.stamp 0 d) (o.now k)
 
-pub old-take : {T : Type 0} (ms : List Mark) (trail : List (Note T)) (stamps : List ℕ) (counter b : ℕ) → AreOld ms trail stamps counter
-    → AreOld ms trail (take b stamps) counter
-old-take {T} ms trail stamps counter b o =
-    record { now = λ k. now-at k (taken k b stamps); older = o.older; serials = o.serials; some = o.some }
-  where
-    now-at : (k : ℕ) → (get_or (take b stamps) k 0 ≡ get_or stamps k 0) ⊎ (get_or (take b stamps) k 0 ≡ 0)
-        → get_or (take b stamps) k 0 ≤ counter
-    now-at k (inl e) = rw e (o.now k)
-    now-at k (inr e) = rw e (omega arith)
-
-pub old-zero : {T : Type 0} (ms : List Mark) (trail : List (Note T)) (stamps : List ℕ) (counter : ℕ) → AreOld ms trail stamps counter
-    → AreOld ms trail (stamps ++ 0 ∷ []) counter
-old-zero ms trail stamps counter o = record {
-  now = λ k. rw (get_or-zero stamps k) (o.now k);
-  older = o.older;
-  serials = o.serials;
-  some =
-      o.some;
-}
+pub old-zeros : {T : Type 0} (ms : List Mark) (trail : List (Note T)) (stamps : List ℕ) (counter n : ℕ)
+    → AreOld ms trail stamps counter → AreOld ms trail (stamps ++ replicate n 0) counter
+old-zeros ms trail stamps counter n o =
+    record { now = λ k. rw (get_or-zeros stamps n k) (o.now k); older = o.older; serials = o.serials; some = o.some }

@@ -1,3 +1,4 @@
 pub mod Rewound
 pub mod Trail
 pub mod Sound
+pub mod Restart

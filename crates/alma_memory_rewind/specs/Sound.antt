@@ -2,7 +2,7 @@
 use Rattle.std.specs.Prelude.{true, false, ◌≡◌, ℕ, ◌≤◌, ◌<◌, List, [], ◌∷◌, length, get_or}
 use Rattle.alma_memory_rewind.specs.declared.rewind.Note.{Note}
 use Rattle.alma_memory_rewind.specs.declared.rewind.Mark.{Mark}
-use Rattle.alma_memory_rewind.specs.Trail.{held_of, at_of, stamp_of, free_from, no_mark}
+use Rattle.alma_memory_rewind.specs.Trail.{held_of, at_of, stamp_of, noted_to, no_mark}
 
 -- marks and tops rise, up to the length of the trail and of the items
 abbrev pub Rises : (mark top : ℕ) → List Mark → (notes items : ℕ) → Type 0
@@ -38,7 +38,7 @@ module _ {T : Type 0} where
     pub some : (i : ℕ) → i < length marks → 1 ≤ (get_or marks i no_mark).serial
 
   pub record IsSound (marks : List Mark) (trail : List (Note T)) (items : List T) (stamps : List ℕ) (counter : ℕ) : Type 0 where
-    pub wide : length stamps ≡ length items
+    pub wide : length items ≤ length stamps
     pub stamped : AreStamps marks trail stamps
     pub old : AreOld marks trail stamps counter
     pub rises : Rises 0 0 marks (length trail) (length items)
@@ -59,7 +59,7 @@ module _ {T : Type 0} where
   pub record SweepsOn (marks : List Mark) (old new : List (Note T)) : Type 0 where
     pub keeps : (trail : List (Note T)) → Sweeps marks trail old → Sweeps marks trail new
 
--- a write adds its place to those that need no note, and drops none
-pub record AddsNoted (marks : List Mark) (stamps stamps' : List ℕ) (at : ℕ) : Type 0 where
-  pub noted : get_or (free_from marks 0 stamps') at false ≡ true
-  pub kept : (p : ℕ) → get_or (free_from marks 0 stamps) p false ≡ true → get_or (free_from marks 0 stamps') p false ≡ true
+-- a write adds its place to those that need no note, and drops none, of n items
+pub record AddsNoted (marks : List Mark) (n : ℕ) (stamps stamps' : List ℕ) (at : ℕ) : Type 0 where
+  pub noted : get_or (noted_to marks n stamps') at false ≡ true
+  pub kept : (p : ℕ) → get_or (noted_to marks n stamps) p false ≡ true → get_or (noted_to marks n stamps') p false ≡ true

@@ -47,6 +47,10 @@ abbrev pub free_from : List Mark → (at : ℕ) → List ℕ → List Bool
 free_from marks at [] = []
 free_from marks at (stamp ∷ stamps) = is_free marks at stamp ∷ free_from marks (suc at) stamps
 
+-- for so many items from the bottom: stamps may stand above the items
+abbrev pub noted_to : List Mark → (n : ℕ) → List ℕ → List Bool
+noted_to marks n stamps = take n (free_from marks 0 stamps)
+
 module _ {T : Type 0} where
   -- the trail once marks are dropped: where none is left, no note is kept
   abbrev pub trail_for : List Mark → List (Note T) → List (Note T)

@@ -2,7 +2,7 @@
 ghost use Rattle.std.specs.Prelude.{◌≡◌, ℕ, ◌+◌, ◌-◌, ◌<◌, ◌≤◌, [], ◌∷◌, ◌++◌, length, take, drop};
 ghost use Rattle.std.specs.Prelude.{set, replicate, slice_get, slice_index_or, Some, true, false};
 ghost use Rattle.std.specs.Prelude.{is_ok, IsOk, OnOk, OnErr, IfOk, IsTrue, if◌then◌else◌};
-ghost use Rattle.std.specs.Prelude.{vec_len, vec_capacity};
+ghost use Rattle.std.specs.Prelude.{◌^◌, vec_len, vec_capacity};
 ghost use Rattle.std.specs.BTreeMap.{get};
 ghost use Rattle.std.specs.Ordering.{nat_cmp};
 ghost use Rattle.alma_memory_rewind.specs.Rewound.{IsOlds, needed, top_copy};
@@ -10,6 +10,7 @@ ghost use Rattle.alma_memory_rewind.specs.Trail.{before, first_of, held_of, is_f
 ghost use Rattle.alma_memory_rewind.specs.Trail.{free_from, trail_for};
 ghost use Rattle.alma_memory_rewind.specs.Sound.{AddsNoted, AreOld, AreStamps, IsSound, Keeps};
 ghost use Rattle.alma_memory_rewind.specs.Sound.{Sweeps, SweepsOn};
+ghost use Rattle.alma_memory_rewind.specs.Restart.{cleared, numbered, Renews};
 
 use alma_base::NoMemory;
 use std::alloc::Global;
@@ -19,38 +20,53 @@ use std::marker::Model;
 // So many notes are never looked at.
 const FIRST_LIMIT: usize = 256;
 
+// A list has no more items, so that a note has room for the place of each.
+const ITEM_LIMIT: usize = 4_294_967_296;
+
+// The greatest serial, and the greatest number of copies.
+const SERIAL_LIMIT: usize = 4_294_967_295;
+
 /// The place of a write, with the stamp and the item from before.
 #[derive(Clone, Copy)]
 pub struct Note<T> {
-    pub at: usize,
-    pub stamp: usize,
+    pub at: u32,
+    pub stamp: u32,
     pub old: T,
 }
 
-/// A copy: the length of the trail when it was made, how many items it has, and its number among all
-/// copies so far.
+// What a note puts back, and where.
+#[derive(Clone, Copy)]
+struct Undo<T> {
+    at: usize,
+    stamp: u32,
+    old: T,
+}
+
+/// A copy: the length of the trail when it was made, how many items it has, and its number among
+/// the copies since serials began.
 #[derive(Clone, Copy)]
 pub struct Mark {
     pub mark: usize,
     pub top: usize,
-    pub serial: usize,
+    pub serial: u32,
 }
 
 /// A list that goes back.
 #[derive(Drop)]
 pub struct Rewind<T> {
     items: Vec<T>,
-    stamps: Vec<usize>,
+    // One for each item at least: where items go, their stamps stay.
+    stamps: Vec<u32>,
     trail: Vec<Note<T>>,
     marks: Vec<Mark>,
-    // The greatest serial so far.
-    counter: usize,
+    // The greatest serial since serials began.
+    counter: u32,
     // So many notes may stand in the trail before a cut looks for those that no copy needs.
     limit: usize,
 }
 
 impl<T> Model for Rewind<T> {
-    ghost use Rattle.std.specs.Prelude.{◌-◌, ◌^◌, min};
+    ghost use Rattle.std.specs.Prelude.{◌-◌, ◌^◌, ◌≤◌, length, min};
     ghost use Rattle.std.specs.Vec.{vec_len, vec_capacity};
     ghost use Rattle.alma_memory_rewind.specs.Rewound.{Rewound, rewound_code};
 
@@ -58,24 +74,33 @@ impl<T> Model for Rewind<T> {
 
     ghost coded = { rewound_code T.code };
 
-    ghost use Rattle.alma_memory_rewind.specs.Trail.{held_of, free_from};
+    ghost use Rattle.alma_memory_rewind.specs.Trail.{held_of, noted_to};
     ghost use Rattle.alma_memory_rewind.specs.Sound.{IsSound};
 
     ghost view = { λ r. record {
       now = r.items.items;
       held = held_of r.trail.items r.items.items r.marks.items;
-      noted = free_from r.marks.items 0 r.stamps.items;
-      choice_room = min (vec_capacity r.marks - vec_len r.marks) (2 ^ 64 - 1 - r.counter);
+      noted = noted_to r.marks.items (length r.items.items) r.stamps.items;
+      choice_room = min (vec_capacity r.marks - vec_len r.marks) (2 ^ 32 - 1 - vec_len r.marks);
       trail_room = vec_capacity r.trail - vec_len r.trail;
     } };
 
     ghost invariant = { λ r.
-        IsSound r.marks.items r.trail.items r.items.items r.stamps.items r.counter };
+        IsSound r.marks.items r.trail.items r.items.items r.stamps.items r.counter
+        × (length r.items.items ≤ 2 ^ 32) };
+}
+
+// The place of a note, as an index.
+#[inline(always)]
+fn place_of<T: Copy>(note: Note<T>) -> usize
+    ensures { result ≡ note.at }
+{
+    note.at as usize
 }
 
 // Whether a write at a place with this stamp needs no note.
 #[inline(always)]
-fn needs_no_note(marks: &[Mark], at: usize, stamp: usize) -> bool
+fn needs_no_note(marks: &[Mark], at: usize, stamp: u32) -> bool
     ensures { result ≡ is_free marks.now at stamp }
 {
     if marks.is_empty() {
@@ -111,7 +136,7 @@ fn room_for_one<T>(items: &mut Vec<T>) -> Result<(), NoMemory>
 }
 
 // The serial of the top copy, or 0.
-fn top_serial(marks: &[Mark]) -> usize
+fn top_serial(marks: &[Mark]) -> u32
     ensures { result ≡ (last_mark marks.now).serial }
 {
     if marks.is_empty() {
@@ -139,13 +164,14 @@ fn room_for_note<T>(free: bool, trail: &mut Vec<Note<T>>) -> Result<(), NoMemory
 // Notes what stood at a place, and stamps the place.
 #[inline(always)]
 fn add_note<T: Copy>(
-    stamps: &mut Vec<usize>,
+    stamps: &mut Vec<u32>,
     trail: &mut Vec<Note<T>>,
     at: usize,
     old: T,
-    serial: usize,
+    serial: u32,
 )
     requires wide { at < length stamps.old.items }
+    requires few { at < 2 ^ 32 }
     requires room { vec_len trail.old < vec_capacity trail.old }
     ensures stamps { stamps.new.items ≡ set stamps.old.items at serial }
     ensures trail { trail.new.items ≡ trail.old.items
@@ -154,7 +180,11 @@ fn add_note<T: Copy>(
     ensures capacity { vec_capacity trail.new ≡ vec_capacity trail.old }
 {
     let stamp = stamps[at];
-    trail.push_reserved(Note { at, stamp, old });
+    trail.push_reserved(Note {
+        at: at as u32,
+        stamp,
+        old,
+    });
     stamps[at] = serial;
 }
 
@@ -164,11 +194,12 @@ fn note_old<T: Copy>(
     free: bool,
     marks: &[Mark],
     items: &[T],
-    stamps: &mut Vec<usize>,
+    stamps: &mut Vec<u32>,
     trail: &mut Vec<Note<T>>,
     at: usize,
 )
     requires inside { at < length items.now }
+    requires few { length items.now ≤ 2 ^ 32 }
     requires wide { at < length stamps.old.items }
     requires free { free ≡ is_free marks.now at (slice_index_or stamps.old.items at 0) }
     requires room { free ≡ false → vec_len trail.old < vec_capacity trail.old }
@@ -176,7 +207,7 @@ fn note_old<T: Copy>(
         → IsSound marks.now trail.old.items items.now stamps.old.items counter
         → Keeps marks.now trail.old.items trail.new.items items.now items.now stamps.new.items
         counter }
-    ensures noted { AddsNoted marks.now stamps.old.items stamps.new.items at }
+    ensures noted { AddsNoted marks.now (length items.now) stamps.old.items stamps.new.items at }
     ensures len { vec_len trail.new ≡ vec_len trail.old + (if free then 0 else 1) }
     ensures capacity { vec_capacity trail.new ≡ vec_capacity trail.old }
 {
@@ -186,15 +217,27 @@ fn note_old<T: Copy>(
     }
 }
 
-// Puts back what a note holds.
-fn put_back<T: Copy>(items: &mut Vec<T>, stamps: &mut Vec<usize>, note: Note<T>)
-    requires { length stamps.old.items ≡ length items.old.items }
+// Sets a stamp, where there is one.
+fn set_stamp(stamps: &mut Vec<u32>, at: usize, stamp: u32)
+    ensures { stamps.new.items ≡ set stamps.old.items at stamp }
+{
+    if at < stamps.len() {
+        stamps[at] = stamp;
+    }
+}
+
+// Puts back what a note holds. Where its item went, the stamp alone is there.
+#[inline(always)]
+fn put_back<T: Copy>(items: &mut Vec<T>, stamps: &mut Vec<u32>, note: Undo<T>)
+    requires { length items.old.items ≤ length stamps.old.items }
     ensures items { items.new.items ≡ set items.old.items note.at note.old }
     ensures stamps { stamps.new.items ≡ set stamps.old.items note.at note.stamp }
 {
     if note.at < items.len() {
         items[note.at] = note.old;
         stamps[note.at] = note.stamp;
+    } else {
+        set_stamp(stamps, note.at, note.stamp);
     }
 }
 
@@ -202,25 +245,30 @@ fn put_back<T: Copy>(items: &mut Vec<T>, stamps: &mut Vec<usize>, note: Note<T>)
 fn unwind_to<T: Copy>(
     marks: &[Mark],
     items: &mut Vec<T>,
-    stamps: &mut Vec<usize>,
+    stamps: &mut Vec<u32>,
     trail: &mut Vec<Note<T>>,
     mark: usize,
-    counter: usize,
+    counter: u32,
 )
     requires stamped { AreStamps marks.now trail.old.items stamps.old.items }
     requires old { AreOld marks.now trail.old.items stamps.old.items counter }
-    requires wide { length stamps.old.items ≡ length items.old.items }
+    requires wide { length items.old.items ≤ length stamps.old.items }
     requires mark { mark ≤ length trail.old.items }
     ensures items { items.new.items ≡ before (drop mark trail.old.items) items.old.items }
     ensures trail { trail.new.items ≡ take mark trail.old.items }
     ensures stamped { AreStamps marks.now trail.new.items stamps.new.items }
     ensures old { AreOld marks.now trail.new.items stamps.new.items counter }
-    ensures wide { length stamps.new.items ≡ length items.new.items }
+    ensures wide { length items.new.items ≤ length stamps.new.items }
     ensures capacity { vec_capacity trail.new ≡ vec_capacity trail.old }
 {
     while trail.len() > mark {
         if let Some(note) = trail.pop() {
-            put_back(items, stamps, note);
+            let undo = Undo {
+                at: place_of(note),
+                stamp: note.stamp,
+                old: note.old,
+            };
+            put_back(items, stamps, undo);
         }
     }
 }
@@ -240,7 +288,7 @@ fn olds_of<T: Copy>(
     while left > mark {
         left -= 1;
         let note = trail[left];
-        let _ = olds.insert(note.at, note.old)?;
+        let _ = olds.insert(place_of(note), note.old)?;
     }
     Ok(olds)
 }
@@ -270,7 +318,7 @@ fn move_note<T: Copy>(marks: &[Mark], trail: &mut Vec<Note<T>>, at: usize, to: u
     ensures capacity { vec_capacity trail.new ≡ vec_capacity trail.old }
 {
     let note = trail[at];
-    if needs_no_note(marks, note.at, note.stamp) {
+    if needs_no_note(marks, place_of(note), note.stamp) {
         return to;
     }
     trail[to] = note;
@@ -326,34 +374,115 @@ fn sweep_full<T: Copy>(marks: &[Mark], trail: &mut Vec<Note<T>>, limit: usize) -
     limit_for(trail.len())
 }
 
-// Pushes an item and its stamp.
-fn push_both<T: Copy>(items: &mut Vec<T>, stamps: &mut Vec<usize>, value: T)
-    requires items { vec_len items.old < vec_capacity items.old }
-    requires stamps { vec_len stamps.old < vec_capacity stamps.old }
-    ensures items { items.new.items ≡ items.old.items ++ value ∷ [] }
-    ensures stamps { stamps.new.items ≡ stamps.old.items ++ 0 ∷ [] }
+// Makes stamps for so many items, where there are fewer.
+#[inline(always)]
+fn widen(stamps: &mut Vec<u32>, wide: usize) -> Result<(), NoMemory>
+    ensures ok { OnOk result (stamps.new.items
+        ≡ stamps.old.items ++ replicate (wide - length stamps.old.items) 0) }
+    ensures err { OnErr result (stamps.new.items ≡ stamps.old.items) }
 {
-    items.push_reserved(value);
-    stamps.push_reserved(0);
+    if stamps.len() < wide {
+        stamps.resize(wide, 0)?;
+    }
+    Ok(())
 }
 
-// Pushes items and their stamps, for which there is room.
+// Pushes items, for which there is room.
 #[inline(always)]
-fn push_all<T: Copy>(items: &mut Vec<T>, stamps: &mut Vec<usize>, more: &[T])
-    requires wide { length stamps.old.items ≡ length items.old.items }
-    requires items { vec_len items.old + length more.now ≤ vec_capacity items.old }
-    requires stamps { vec_len stamps.old + length more.now ≤ vec_capacity stamps.old }
-    ensures items { items.new.items ≡ items.old.items ++ more.now }
-    ensures stamps { stamps.new.items ≡ stamps.old.items ++ replicate (length more.now) 0 }
+fn push_all<T: Copy>(items: &mut Vec<T>, more: &[T])
+    requires { vec_len items.old + length more.now ≤ vec_capacity items.old }
+    ensures { items.new.items ≡ items.old.items ++ more.now }
 {
     match items.extend_from_slice(more) {
         Ok(()) => (),
         Err(_) => unreachable!(),
     }
-    match stamps.resize(items.len(), 0) {
+}
+
+// Numbers the copies from the bottom.
+fn number(marks: &mut Vec<Mark>)
+    requires { length marks.old.items < 2 ^ 32 }
+    ensures marks { marks.new.items ≡ numbered (length marks.old.items) 1 marks.old.items }
+    ensures len { vec_len marks.new ≡ vec_len marks.old }
+    ensures capacity { vec_capacity marks.new ≡ vec_capacity marks.old }
+{
+    for at in 0..marks.len() {
+        let mark = marks[at];
+        marks[at] = Mark {
+            mark: mark.mark,
+            top: mark.top,
+            serial: at as u32 + 1,
+        };
+    }
+}
+
+// Sets the stamp of each note to 0.
+fn clear_notes<T: Copy>(trail: &mut Vec<Note<T>>)
+    ensures trail { trail.new.items ≡ cleared (length trail.old.items) trail.old.items }
+    ensures len { vec_len trail.new ≡ vec_len trail.old }
+    ensures capacity { vec_capacity trail.new ≡ vec_capacity trail.old }
+{
+    for at in 0..trail.len() {
+        let note = trail[at];
+        trail[at] = Note {
+            at: note.at,
+            stamp: 0,
+            old: note.old,
+        };
+    }
+}
+
+// Sets each stamp to 0.
+fn clear_stamps(stamps: &mut Vec<u32>)
+    ensures { stamps.new.items ≡ replicate (length stamps.old.items) 0 }
+{
+    let wide = stamps.len();
+    stamps.clear();
+    match stamps.resize(wide, 0) {
         Ok(()) => (),
         Err(_) => unreachable!(),
     }
+}
+
+// Starts serials anew: the copies have 1, 2, .. from the bottom, and no place counts as noted.
+// Answers the greatest serial.
+#[cold]
+fn restart<T: Copy>(marks: &mut Vec<Mark>, stamps: &mut Vec<u32>, trail: &mut Vec<Note<T>>) -> u32
+    requires few { length marks.old.items < 2 ^ 32 - 1 }
+    ensures keeps { (counter : ℕ) → Renews marks.old.items marks.new.items trail.old.items
+        trail.new.items stamps.old.items stamps.new.items counter result }
+    ensures below { result < 2 ^ 32 - 1 }
+    ensures marks { vec_len marks.new ≡ vec_len marks.old }
+    ensures capacity { vec_capacity marks.new ≡ vec_capacity marks.old }
+    ensures len { vec_len trail.new ≡ vec_len trail.old }
+    ensures room { vec_capacity trail.new ≡ vec_capacity trail.old }
+{
+    number(marks);
+    clear_stamps(stamps);
+    clear_notes(trail);
+    marks.len() as u32
+}
+
+// The greatest serial, below the end of the numbers: where it stands there, serials start anew.
+fn room_for_serial<T: Copy>(
+    marks: &mut Vec<Mark>,
+    stamps: &mut Vec<u32>,
+    trail: &mut Vec<Note<T>>,
+    counter: u32,
+) -> u32
+    requires few { length marks.old.items < 2 ^ 32 - 1 }
+    ensures keeps { Renews marks.old.items marks.new.items trail.old.items trail.new.items
+        stamps.old.items stamps.new.items counter result }
+    ensures below { result < 2 ^ 32 - 1 }
+    ensures marks { vec_len marks.new ≡ vec_len marks.old }
+    ensures capacity { vec_capacity marks.new ≡ vec_capacity marks.old }
+    ensures len { vec_len trail.new ≡ vec_len trail.old }
+    ensures room { vec_capacity trail.new ≡ vec_capacity trail.old }
+{
+    if counter < u32::MAX {
+        return counter;
+    }
+    restart(marks, stamps, trail)
 }
 
 impl<T: Copy> Rewind<T> {
@@ -372,11 +501,15 @@ impl<T: Copy> Rewind<T> {
         }
     }
 
-    /// These items and no copy. The vector is taken over, and none of it is copied.
+    /// These items and no copy. The vector is taken over, and none of it is copied. More items than
+    /// the limit, 2^32, are refused.
     pub fn of(alloc: Global, items: Vec<T>) -> Result<Rewind<T>, NoMemory>
         ensures now { IfOk result (λ list. list.now ≡ items.items) }
         ensures held { IfOk result (λ list. list.held ≡ []) }
     {
+        if items.len() > ITEM_LIMIT {
+            return Err(NoMemory);
+        }
         let mut stamps = Vec::new(alloc);
         stamps.resize(items.len(), 0)?;
         Ok(Rewind {
@@ -429,7 +562,7 @@ impl<T: Copy> Rewind<T> {
     pub fn choice_room(&self) -> usize
         ensures { result ≡ self.now.choice_room }
     {
-        let left = usize::MAX.saturating_sub(self.counter);
+        let left = SERIAL_LIMIT.saturating_sub(self.marks.len());
         (self.marks.capacity() - self.marks.len()).min(left)
     }
 
@@ -452,7 +585,7 @@ impl<T: Copy> Rewind<T> {
         ensures no_less { (self.old.choice_room ≤ self.new.choice_room)
             × (self.old.trail_room ≤ self.new.trail_room) }
     {
-        if usize::MAX - self.counter < choices {
+        if SERIAL_LIMIT.saturating_sub(self.marks.len()) < choices {
             return Err(NoMemory);
         }
         self.marks.reserve(choices)?;
@@ -534,10 +667,9 @@ impl<T: Copy> Rewind<T> {
         ensures trail_room { self.new.trail_room ≡ self.old.trail_room }
     {
         self.items.truncate(len);
-        self.stamps.truncate(len);
     }
 
-    /// Pushes an item, which needs no note until a copy is made.
+    /// Pushes an item, which needs no note until a copy is made. A list of 2^32 items refuses it.
     pub fn push(&mut self, value: T) -> Result<(), NoMemory>
         ensures now { self.new.now
             ≡ (if is_ok result then self.old.now ++ value ∷ [] else self.old.now) }
@@ -547,13 +679,18 @@ impl<T: Copy> Rewind<T> {
         ensures choice_room { self.new.choice_room ≡ self.old.choice_room }
         ensures trail_room { self.new.trail_room ≡ self.old.trail_room }
     {
+        let len = self.items.len();
+        if len >= ITEM_LIMIT {
+            return Err(NoMemory);
+        }
         room_for_one(&mut self.items)?;
-        room_for_one(&mut self.stamps)?;
-        push_both(&mut self.items, &mut self.stamps, value);
+        widen(&mut self.stamps, len + 1)?;
+        self.items.push_reserved(value);
         Ok(())
     }
 
-    /// Pushes items, which need no note until a copy is made.
+    /// Pushes items, which need no note until a copy is made. Where they would be more than 2^32,
+    /// none is pushed.
     pub fn extend(&mut self, more: &[T]) -> Result<(), NoMemory>
         ensures now { self.new.now
             ≡ (if is_ok result then self.old.now ++ more.now else self.old.now) }
@@ -563,9 +700,13 @@ impl<T: Copy> Rewind<T> {
         ensures choice_room { self.new.choice_room ≡ self.old.choice_room }
         ensures trail_room { self.new.trail_room ≡ self.old.trail_room }
     {
+        let len = self.items.len();
+        if ITEM_LIMIT.saturating_sub(len) < more.len() {
+            return Err(NoMemory);
+        }
         self.items.reserve(more.len())?;
-        self.stamps.reserve(more.len())?;
-        push_all(&mut self.items, &mut self.stamps, more);
+        widen(&mut self.stamps, len + more.len())?;
+        push_all(&mut self.items, more);
         Ok(())
     }
 
@@ -581,9 +722,15 @@ impl<T: Copy> Rewind<T> {
             + (if is_ok result then 1 else 0) }
         ensures trail_room { self.new.trail_room ≡ self.old.trail_room }
     {
-        if self.counter == usize::MAX {
+        if self.marks.len() >= SERIAL_LIMIT {
             return Err(NoMemory);
         }
+        self.counter = room_for_serial(
+            &mut self.marks,
+            &mut self.stamps,
+            &mut self.trail,
+            self.counter,
+        );
         let mark = Mark {
             mark: self.trail.len(),
             top,

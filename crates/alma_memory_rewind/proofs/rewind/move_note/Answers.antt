@@ -1,5 +1,6 @@
 use Rattle.std.proofs.Common.{◌≡◌, ◌+◌, ◌∷◌, drop, sym, ap, ◌∙◌, arith}
 use Rattle.std.proofs.lemmas.List.{drop_more}
+use Rattle.alma_memory_rewind.specs.Trail.{is_free}
 use Rattle.alma_memory_rewind.proofs.Sweeps.{sweeps-keep, sweeps-drop}
 use Rattle.alma_memory_rewind.proofs.rewind.move_note.Goals as goal
 
@@ -11,7 +12,8 @@ returns-then-needs_no_note-clause-keeps g c =
     ∙ ap (λ x. x ∷ drop (c.args.at + 1) trail) (sym c.index-note.ensures) in
     record {
       keeps = λ all s. sweeps-drop c.args.marks.now all trail n c.args.to c.args.at c.requires.some c.requires.from
-          (omega (arith, c.requires.low, c.requires.within)) e (sym c.if-needs_no_note.ensures) s;
+          (omega (arith, c.requires.low, c.requires.within)) e
+          (ap (λ k. is_free c.args.marks.now k n.stamp) (sym c.place_of.ensures) ∙ sym c.if-needs_no_note.ensures) s;
     }
 
 pub returns-clause-keeps : goal.returns-clause-keeps

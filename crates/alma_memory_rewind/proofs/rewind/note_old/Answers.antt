@@ -16,7 +16,8 @@ pub returns-then-not-free-clause-noted : goal.returns-then-not-free-clause-noted
 returns-then-not-free-clause-noted g c =
     let l : c.args.at < length c.args.stamps.now.items = c.requires.wide in
     rw (c.add_note.ensures.stamps, c.top_serial.ensures)
-    (adds-set c.args.marks.now c.args.stamps.now.items c.args.at (last_mark c.args.marks.now).serial l
+    (adds-set c.args.marks.now (length c.args.items.now) c.args.stamps.now.items c.args.at (last_mark c.args.marks.now).serial
+    c.requires.inside l
     (free-new c.args.marks.now c.args.at))
 
 pub returns-else-not-free-clause-keeps : goal.returns-else-not-free-clause-keeps
@@ -28,4 +29,4 @@ returns-else-not-free-clause-noted g c =
     let l : c.args.at < length c.args.stamps.now.items = c.requires.wide in
     let f : is_free c.args.marks.now c.args.at (get_or c.args.stamps.now.items c.args.at 0) ≡ true = sym c.requires.free
     ∙ c.if-not-free.false in
-    adds-free c.args.marks.now c.args.stamps.now.items c.args.at l f
+    adds-free c.args.marks.now (length c.args.items.now) c.args.stamps.now.items c.args.at c.requires.inside l f

@@ -9,18 +9,19 @@ use Rattle.alma_memory_rewind.proofs.rewind.Rewind.choose.Goals as goal
 
 pub invariant_of-self-2 : goal.invariant_of-self-2
 invariant_of-self-2 g c =
-    let m : Mark = record { mark = c.len.result; top = c.args.top; serial = c.self.inside.counter + 1 } in
-    let pushed : c.push.new.self.items ≡ c.self.inside.marks.items ++ m ∷ [] = grind (arith, common_steps) in
-    let notes : c.len.result ≡ length c.self.inside.trail.items = c.len.ensures ∙ c.self.inside.trail.ok.0 in
-    let e : needed (held_of c.self.inside.trail.items c.self.inside.items.items c.self.inside.marks.items)
-    ≡ (last_mark c.self.inside.marks.items).top =
-    needed-top c.self.inside.trail.items c.self.inside.items.items c.self.inside.marks.items (length c.self.inside.trail.items)
-    c.self.invariant.rises in
-    let v : needed (held_of c.self.inside.trail.items c.self.inside.items.items c.self.inside.marks.items) ≡ needed c.args.self.now.held =
-    ap (λ (p : Rewound g.row.T.Denot). needed p.held) c.self.view_is in
-    let low : (last_mark c.self.inside.marks.items).top ≤ c.args.top = rw (sym e ∙ v) c.requires.low in
-    let wide : length c.self.inside.items.items ≡ length c.args.self.now.now =
-    ap (λ (p : Rewound g.row.T.Denot). length p.now) c.self.view_is in
-    let high : c.args.top ≤ length c.self.inside.items.items = rw wide c.requires.high in
-    (choose-sound c.self.inside.marks.items c.push.new.self.items m c.self.inside.trail.items c.self.inside.items.items
-    c.self.inside.stamps.items c.self.inside.counter pushed notes refl low high c.self.invariant).sound
+    let xs = c.self.inside.items.items in
+    let marks = c.room_for_serial-self-inside.new.marks.items in
+    let trail = c.room_for_serial-self-inside.new.trail.items in
+    let stamps = c.room_for_serial-self-inside.new.stamps.items in
+    let counter = c.room_for_serial-self-inside.result in
+    let anew = c.room_for_serial-self-inside.ensures.keeps.keeps xs c.self.invariant.0 in
+    let m : Mark = record { mark = c.len-2.result; top = c.args.top; serial = counter + 1 } in
+    let pushed : c.push.new.self.items ≡ marks ++ m ∷ [] = grind (arith, common_steps) in
+    let notes : c.len-2.result ≡ length trail = c.len-2.ensures ∙ c.room_for_serial-self-inside.new.trail.ok.0 in
+    let e : needed (held_of trail xs marks) ≡ (last_mark marks).top = needed-top trail xs marks (length trail) anew.sound.rises in
+    let v : needed (held_of trail xs marks) ≡ needed c.args.self.now.held =
+    ap needed anew.held ∙ ap (λ (p : Rewound g.row.T.Denot). needed p.held) c.self.view_is in
+    let low : (last_mark marks).top ≤ c.args.top = rw (sym e ∙ v) c.requires.low in
+    let wide : length xs ≡ length c.args.self.now.now = ap (λ (p : Rewound g.row.T.Denot). length p.now) c.self.view_is in
+    let high : c.args.top ≤ length xs = rw wide c.requires.high in
+    ((choose-sound marks c.push.new.self.items m trail xs stamps counter pushed notes refl low high anew.sound).sound, c.self.invariant.1)

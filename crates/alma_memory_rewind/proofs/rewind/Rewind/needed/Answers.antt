@@ -10,7 +10,7 @@ returns-clause-value g c =
     let e : needed (held_of c.self.inside.trail.items c.self.inside.items.items c.self.inside.marks.items)
     ≡ (last_mark c.self.inside.marks.items).top =
     needed-top c.self.inside.trail.items c.self.inside.items.items c.self.inside.marks.items (length c.self.inside.trail.items)
-    c.self.invariant.rises in
+    c.self.invariant.0.rises in
     let v : needed (held_of c.self.inside.trail.items c.self.inside.items.items c.self.inside.marks.items) ≡ needed c.args.self.now.held =
     ap (λ (p : Rewound g.row.T.Denot). needed p.held) c.self.view_is in
     let a : (last_mark c.as_slice.result.now).top ≡ (last_mark c.self.inside.marks.items).top =
@@ -22,7 +22,7 @@ returns-clause-within g c =
     let a : (last_mark c.as_slice.result.now).top ≡ (last_mark c.self.inside.marks.items).top =
     ap (λ ms. (last_mark ms).top) c.as_slice.ensures.value in
     let low : (last_mark c.self.inside.marks.items).top ≤ length c.self.inside.items.items =
-    top-le c.self.inside.marks.items (length c.self.inside.trail.items) (length c.self.inside.items.items) c.self.invariant.rises in
+    top-le c.self.inside.marks.items (length c.self.inside.trail.items) (length c.self.inside.items.items) c.self.invariant.0.rises in
     let wide : length c.self.inside.items.items ≡ length c.args.self.now.now =
     ap (λ (p : Rewound g.row.T.Denot). length p.now) c.self.view_is in
     omega (arith, c.top_of.ensures, a, low, wide)

@@ -20,7 +20,7 @@ olds_of-requires g c =
     let lt : c.len.result - 1 < length marks = omega (arith, n, wide, c.requires) in
     let is : c.index-mark.result.now ≡ get_or marks (c.len.result - 1) no_mark =
     get_or_read marks (c.len.result - 1) c.index-mark.result.now lt c.index-mark.ensures no_mark in
-    rw (is, c.as_slice.ensures.value) (mark-le 0 0 marks (length trail) (length items) c.self.invariant.rises (c.len.result - 1) lt)
+    rw (is, c.as_slice.ensures.value) (mark-le 0 0 marks (length trail) (length items) c.self.invariant.0.rises (c.len.result - 1) lt)
 
 pub returns : goal.returns
 returns g c =
@@ -37,7 +37,7 @@ returns g c =
     ∙ ap (λ k. get_or marks (k - 1) no_mark) n in
     if-ok c.olds_of.result _ _
     (λ olds h. subst (λ (p : Rewound g.row.T.Denot). IsOlds p.now p.held (get nat_cmp olds)) c.self.view_is
-    (olds-are marks trail items (get nat_cmp olds) some c.self.invariant.rises
+    (olds-are marks trail items (get nat_cmp olds) some c.self.invariant.0.rises
     (λ at. h at ∙ (ap (λ (m : Mark). first_of (drop m.mark c.as_slice.result.now) at) is
     ∙ ap (λ ns. first_of (drop (last_mark marks).mark ns) at) c.as_slice.ensures.value))))
     c.olds_of.ensures

@@ -1,44 +1,44 @@
-use Rattle.std.proofs.Common.{◌≡◌, ◌≤◌, ◌+◌, ◌++◌, ◌∷◌, [], length, ap, ◌∙◌, true, arith}
+use Rattle.std.proofs.Common.{◌≡◌, ◌+◌, ◌++◌, ◌∷◌, [], length, ap, ◌∙◌, arith}
+use Rattle.std.proofs.lemmas.List.{length-append}
 use Rattle.alma_memory_rewind.specs.Rewound.{Rewound}
-use Rattle.alma_memory_rewind.specs.Trail.{held_of, last_mark, is_free, free_from}
-use Rattle.alma_memory_rewind.proofs.Changes.{push-keeps, free-push, free-above, top-le}
+use Rattle.alma_memory_rewind.specs.Trail.{noted_to}
+use Rattle.alma_memory_rewind.proofs.Changes.{extend-keeps, noted-extend}
 use Rattle.alma_memory_rewind.proofs.rewind.Rewind.push.Goals as goal
 
 pub invariant_of-self-2 : goal.invariant_of-self-2
 invariant_of-self-2 g c =
-    let items : c.push_both.new.items.items ≡ c.self.inside.items.items ++ c.args.value ∷ [] = c.push_both.ensures.items
-    ∙ ap (λ xs. xs ++ c.args.value ∷ []) c.room_for_one.ensures.items in
-    let stamps : c.push_both.new.stamps.items ≡ c.self.inside.stamps.items ++ 0 ∷ [] = c.push_both.ensures.stamps
-    ∙ ap (λ xs. xs ++ 0 ∷ []) c.room_for_one-2.ensures.items in
-    rw (items, stamps) (push-keeps c.self.inside.marks.items c.self.inside.trail.items c.self.inside.items.items c.self.inside.stamps.items
-    c.self.inside.counter c.args.value c.self.invariant).sound
+    let xs = c.self.inside.items.items in
+    let items : c.push_reserved.new.self.items ≡ xs ++ c.args.value ∷ [] = c.push_reserved.ensures.items
+    ∙ ap (λ v. v ++ c.args.value ∷ []) c.room_for_one.ensures.items in
+    let n : c.len-len.result ≡ length xs = c.len-len.ensures ∙ c.self.inside.items.ok.0 in
+    let long : length (c.push_reserved.new.self.items) ≡ length xs + length (c.args.value ∷ []) = ap length items
+    ∙ length-append xs (c.args.value ∷ []) in (
+      (extend-keeps c.self.inside.marks.items c.self.inside.trail.items xs c.push_reserved.new.self.items c.self.inside.stamps.items
+          c.widen.new.stamps.items c.self.inside.counter _ (c.args.value ∷ []) items c.in_ok-widen.ensures.ok (omega (arith, n))
+          c.self.invariant.0).sound,
+      omega (arith, long, n, c.if-len-ge-ITEM_LIMIT.false),
+    )
 
 pub returns-clause-held : goal.returns-clause-held
 returns-clause-held g c =
-    let items : c.push_both.new.items.items ≡ c.self.inside.items.items ++ c.args.value ∷ [] = c.push_both.ensures.items
-    ∙ ap (λ xs. xs ++ c.args.value ∷ []) c.room_for_one.ensures.items in
-    let stamps : c.push_both.new.stamps.items ≡ c.self.inside.stamps.items ++ 0 ∷ [] = c.push_both.ensures.stamps
-    ∙ ap (λ xs. xs ++ 0 ∷ []) c.room_for_one-2.ensures.items in
-    let vh : held_of c.self.inside.trail.items c.self.inside.items.items c.self.inside.marks.items ≡ c.args.self.now.held =
-    ap (λ (p : Rewound g.row.T.Denot). p.held) c.self.view_is in
-    ap (λ xs. held_of c.self.inside.trail.items xs c.self.inside.marks.items) items
-    ∙ ((push-keeps c.self.inside.marks.items c.self.inside.trail.items c.self.inside.items.items c.self.inside.stamps.items
-    c.self.inside.counter c.args.value c.self.invariant).held ∙ vh)
+    let xs = c.self.inside.items.items in
+    let items : c.push_reserved.new.self.items ≡ xs ++ c.args.value ∷ [] = c.push_reserved.ensures.items
+    ∙ ap (λ v. v ++ c.args.value ∷ []) c.room_for_one.ensures.items in
+    let n : c.len-len.result ≡ length xs = c.len-len.ensures ∙ c.self.inside.items.ok.0 in
+    (extend-keeps c.self.inside.marks.items c.self.inside.trail.items xs c.push_reserved.new.self.items c.self.inside.stamps.items
+    c.widen.new.stamps.items c.self.inside.counter _ (c.args.value ∷ []) items c.in_ok-widen.ensures.ok (omega (arith, n))
+    c.self.invariant.0).held
+    ∙ ap (λ (p : Rewound g.row.T.Denot). p.held) c.self.view_is
 
 pub returns-clause-noted : goal.returns-clause-noted
 returns-clause-noted g c =
-    let items : c.push_both.new.items.items ≡ c.self.inside.items.items ++ c.args.value ∷ [] = c.push_both.ensures.items
-    ∙ ap (λ xs. xs ++ c.args.value ∷ []) c.room_for_one.ensures.items in
-    let stamps : c.push_both.new.stamps.items ≡ c.self.inside.stamps.items ++ 0 ∷ [] = c.push_both.ensures.stamps
-    ∙ ap (λ xs. xs ++ 0 ∷ []) c.room_for_one-2.ensures.items in
-    let vn : free_from c.self.inside.marks.items 0 c.self.inside.stamps.items ≡ c.args.self.now.noted =
+    let xs = c.self.inside.items.items in
+    let items : c.push_reserved.new.self.items ≡ xs ++ c.args.value ∷ [] = c.push_reserved.ensures.items
+    ∙ ap (λ v. v ++ c.args.value ∷ []) c.room_for_one.ensures.items in
+    let n : c.len-len.result ≡ length xs = c.len-len.ensures ∙ c.self.inside.items.ok.0 in
+    let vn : noted_to c.self.inside.marks.items (length xs) c.self.inside.stamps.items ≡ c.args.self.now.noted =
     ap (λ (p : Rewound g.row.T.Denot). p.noted) c.self.view_is in
-    let up : 0 + length c.self.inside.stamps.items ≡ length c.self.inside.stamps.items = omega arith in
-    let high : (last_mark c.self.inside.marks.items).top ≤ length c.self.inside.stamps.items =
-    rw c.self.invariant.wide (top-le c.self.inside.marks.items (length c.self.inside.trail.items) (length c.self.inside.items.items)
-    c.self.invariant.rises) in
-    let free : is_free c.self.inside.marks.items (0 + length c.self.inside.stamps.items) 0 ≡ true =
-    rw up (free-above c.self.inside.marks.items (length c.self.inside.stamps.items) 0 high) in
-    ap (free_from c.self.inside.marks.items 0) stamps
-    ∙ (free-push c.self.inside.marks.items 0 c.self.inside.stamps.items 0
-    ∙ (ap (λ b. free_from c.self.inside.marks.items 0 c.self.inside.stamps.items ++ b ∷ []) free ∙ ap (λ bs. bs ++ true ∷ []) vn))
+    noted-extend c.self.inside.marks.items c.self.inside.trail.items xs c.push_reserved.new.self.items c.self.inside.stamps.items
+    c.widen.new.stamps.items c.self.inside.counter _ (c.args.value ∷ []) c.args.self.now.noted items c.in_ok-widen.ensures.ok
+    (omega (arith, n))
+    c.self.invariant.0 vn

@@ -1,8 +1,9 @@
-use Rattle.std.proofs.Common.{◌≡◌, ◌≤◌, length, take, sym, ap, ◌∙◌}
+use Rattle.std.proofs.Common.{◌≡◌, ◌≤◌, length, take, sym, ap, ◌∙◌, arith}
+use Rattle.std.proofs.lemmas.List.{length-take}
 use Rattle.alma_memory_rewind.specs.Rewound.{Rewound, needed}
-use Rattle.alma_memory_rewind.specs.Trail.{held_of, last_mark, free_from}
+use Rattle.alma_memory_rewind.specs.Trail.{held_of, last_mark, noted_to}
 use Rattle.alma_memory_rewind.proofs.Trails.{needed-top}
-use Rattle.alma_memory_rewind.proofs.Changes.{cut-keeps, free-take}
+use Rattle.alma_memory_rewind.proofs.Changes.{cut-keeps, noted-take}
 use Rattle.alma_memory_rewind.proofs.rewind.Rewind.truncate.Goals as goal
 
 pub invariant_of-self : goal.invariant_of-self
@@ -10,20 +11,22 @@ invariant_of-self g c =
     let e : needed (held_of c.self.inside.trail.items c.self.inside.items.items c.self.inside.marks.items)
     ≡ (last_mark c.self.inside.marks.items).top =
     needed-top c.self.inside.trail.items c.self.inside.items.items c.self.inside.marks.items (length c.self.inside.trail.items)
-    c.self.invariant.rises in
+    c.self.invariant.0.rises in
     let v : needed (held_of c.self.inside.trail.items c.self.inside.items.items c.self.inside.marks.items) ≡ needed c.args.self.now.held =
     ap (λ (p : Rewound g.row.T.Denot). needed p.held) c.self.view_is in
     let low : (last_mark c.self.inside.marks.items).top ≤ c.args.len = rw (sym e ∙ v) c.requires in
-    rw (c.truncate.ensures.items, c.truncate-2.ensures.items)
-    (cut-keeps c.self.inside.marks.items c.self.inside.trail.items c.self.inside.items.items c.self.inside.stamps.items
-    c.self.inside.counter c.args.len low c.self.invariant).sound
+    rw c.truncate.ensures.items (
+      (cut-keeps c.self.inside.marks.items c.self.inside.trail.items c.self.inside.items.items c.self.inside.stamps.items
+          c.self.inside.counter c.args.len low c.self.invariant.0).sound,
+      rw (length-take c.args.len c.self.inside.items.items) (omega (arith, c.self.invariant.1)),
+    )
 
 pub returns-clause-held : goal.returns-clause-held
 returns-clause-held g c =
     let e : needed (held_of c.self.inside.trail.items c.self.inside.items.items c.self.inside.marks.items)
     ≡ (last_mark c.self.inside.marks.items).top =
     needed-top c.self.inside.trail.items c.self.inside.items.items c.self.inside.marks.items (length c.self.inside.trail.items)
-    c.self.invariant.rises in
+    c.self.invariant.0.rises in
     let v : needed (held_of c.self.inside.trail.items c.self.inside.items.items c.self.inside.marks.items) ≡ needed c.args.self.now.held =
     ap (λ (p : Rewound g.row.T.Denot). needed p.held) c.self.view_is in
     let low : (last_mark c.self.inside.marks.items).top ≤ c.args.len = rw (sym e ∙ v) c.requires in
@@ -31,11 +34,11 @@ returns-clause-held g c =
     ap (λ (p : Rewound g.row.T.Denot). p.held) c.self.view_is in
     ap (λ xs. held_of c.self.inside.trail.items xs c.self.inside.marks.items) c.truncate.ensures.items
     ∙ ((cut-keeps c.self.inside.marks.items c.self.inside.trail.items c.self.inside.items.items c.self.inside.stamps.items
-    c.self.inside.counter c.args.len low c.self.invariant).held ∙ vh)
+    c.self.inside.counter c.args.len low c.self.invariant.0).held ∙ vh)
 
 pub returns-clause-noted : goal.returns-clause-noted
 returns-clause-noted g c =
-    let vn : free_from c.self.inside.marks.items 0 c.self.inside.stamps.items ≡ c.args.self.now.noted =
+    let vn : noted_to c.self.inside.marks.items (length c.self.inside.items.items) c.self.inside.stamps.items ≡ c.args.self.now.noted =
     ap (λ (p : Rewound g.row.T.Denot). p.noted) c.self.view_is in
-    ap (free_from c.self.inside.marks.items 0) c.truncate-2.ensures.items
-    ∙ (free-take c.self.inside.marks.items c.args.len 0 c.self.inside.stamps.items ∙ ap (take c.args.len) vn)
+    ap (λ xs. noted_to c.self.inside.marks.items (length xs) c.self.inside.stamps.items) c.truncate.ensures.items
+    ∙ (noted-take c.self.inside.marks.items c.self.inside.items.items c.self.inside.stamps.items c.args.len ∙ ap (take c.args.len) vn)
