@@ -12,7 +12,7 @@ ghost use Rattle.alma_memory.specs.Refusals.{HasFrameRoom, RefusesFor};
 use crate::stack::{Entry, cut_to, keep_top, lay, lay_top, pop_entry, push_entry};
 use alma_base::{CELL_LIMIT, FRAME_LIMIT, NoMemory};
 use alma_code::{Cell, ChoiceKind, Head, SlotKind};
-use alma_memory_store::{Slot, Store, put_call, put_start};
+use alma_memory_store::{Images, Store, put_start};
 use std::alloc::Global;
 use std::marker::Model;
 
@@ -46,9 +46,8 @@ pub struct Memory {
     alloc: Global,
     store: Store,
     entries: Vec<Entry>,
-    // For the frame that is entered, and for its arguments.
-    slots: Vec<Slot>,
-    cells: Vec<Cell>,
+    // For the frame that is entered.
+    images: Images,
 }
 
 impl Model for Memory {
@@ -86,8 +85,7 @@ impl Memory {
             alloc,
             store: Store::start(alloc, head.declared(), slots)?,
             entries: Vec::new(alloc),
-            slots: Vec::new(alloc),
-            cells: Vec::new(alloc),
+            images: Images::new(alloc)?,
         };
         memory.reserve(FIRST_ENTRIES, FIRST_NOTES)?;
         Ok(memory)
@@ -241,13 +239,9 @@ impl Memory {
         if head.declared() > CELL_LIMIT - self.store.declared() {
             return Err(EnterError::CellsFull);
         }
-        if put_call(&mut self.slots, &mut self.cells, &self.store, head, args).is_err() {
-            return Err(EnterError::Memory);
-        }
-        let slots = self.slots.as_slice();
-        if self
-            .store
-            .enter(routine, ret, head.declared(), slots)
+        let images = &mut self.images;
+        if images
+            .enter(&mut self.store, head, routine, ret, args)
             .is_err()
         {
             return Err(EnterError::Memory);

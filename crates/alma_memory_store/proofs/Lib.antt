@@ -8,5 +8,6 @@ pub mod Copies
 pub mod Finds
 pub mod Flags
 pub mod Layouts
+pub mod Blanks
 pub mod Gains
 pub mod Covers

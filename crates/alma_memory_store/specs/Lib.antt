@@ -2,5 +2,6 @@ pub mod Frames
 pub mod Carries
 pub mod Numbers
 pub mod Regions
+pub mod Images
 pub mod Stored
 pub mod Past

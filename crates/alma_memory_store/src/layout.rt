@@ -1,5 +1,5 @@
 // How the slots of a new frame are laid out.
-ghost use Rattle.std.specs.Prelude.{◌≡◌, ℕ, ◌+◌, ◌-◌, ◌^◌, ◌<◌, ◌≤◌, [], ◌∷◌, ◌++◌, length, map, drop, replicate, slice_index_or, IfOk, OnOk, vec_capacity};
+ghost use Rattle.std.specs.Prelude.{◌≡◌, ℕ, ◌+◌, ◌-◌, ◌^◌, ◌<◌, ◌≤◌, [], ◌∷◌, ◌++◌, length, map, drop, replicate, slice_index_or, IfOk, OnOk, OnErr, vec_capacity};
 ghost use Rattle.alma_code.specs.Layout.{RunsRise, kinds_of, arg_cells, args_cells, FitsParam, FitsParams, FitsPlace, mix_cells, cells_behind_argument, IsHead, cells_at, cells_of_call, start_frame};
 ghost use Rattle.alma_code.specs.Picture.{no_frame};
 ghost use Rattle.alma_code.specs.Carries.{IsLive};
@@ -37,11 +37,12 @@ fn push_run(slots: &mut Vec<Slot>, end: usize, slot: Slot)
 }
 
 // The slots of a head before anything is written, in place of what stood there.
-fn put_blanks<H: Head>(slots: &mut Vec<Slot>, head: &H) -> Result<(), NoMemory>
+pub fn put_blanks<H: Head>(slots: &mut Vec<Slot>, head: &H) -> Result<(), NoMemory>
     requires { RunsRise 0 (H.head head.now).runs (H.head head.now).slots }
     ensures slots { OnOk result (slots.new.items
         ≡ map blank_slot (kinds_of 0 (H.head head.now).runs)) }
     ensures few { OnOk result ((H.head head.now).slots < 2 ^ 32) }
+    ensures none { OnErr result (slots.new.items ≡ []) }
 {
     slots.clear();
     slots.reserve(head.slots() as usize)?;
@@ -53,7 +54,8 @@ fn put_blanks<H: Head>(slots: &mut Vec<Slot>, head: &H) -> Result<(), NoMemory>
 }
 
 // Writes cells into the first slots.
-fn put_cells(slots: &mut Vec<Slot>, cells: &[Cell])
+#[inline(always)]
+pub fn put_cells(slots: &mut Vec<Slot>, cells: &[Cell])
     requires { length cells.now ≤ length slots.old.items }
     ensures kinds { kinds_in slots.new.items ≡ kinds_in slots.old.items }
     ensures cells { cells_in slots.new.items
@@ -152,7 +154,8 @@ fn push_copies<F: LiveFrames>(
 }
 
 // What the arguments put into the first slots, in place of what stood there.
-fn push_args<F: LiveFrames, H: Head>(
+#[inline(always)]
+pub fn push_args<F: LiveFrames, H: Head>(
     cells: &mut Vec<Cell>,
     frames: &F,
     head: &H,
