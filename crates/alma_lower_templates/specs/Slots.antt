@@ -73,6 +73,11 @@ stays_in true first links = None
 stays_in false first no_links = None
 stays_in false first (more_links how next rest) = stays first next
 
+-- the slot from which the first operand is taken where it has no code of its own: a sign takes a variable of the routine from its slot
+abbrev pub taken_from : (negated : Bool) → (first : Expr) → Links → Option ℕ
+taken_from true first links = bare first
+taken_from false first links = stays_in false first links
+
 -- nothing where there is such a slot
 abbrev pub unless_bare : {A : Type 0} → Option ℕ → List A → List A
 unless_bare (Some from) all = []
@@ -118,10 +123,9 @@ abbrev pub own_place : Desig → Option ℕ
 own_place (a_desig (root.Param from) cells no_sels) = Some from
 own_place _ = None
 
--- the slot of a parameter of whose place the first selector takes a part: its index is ready, so nothing comes between
+-- the slot of a parameter of whose place the first selector takes a part
 abbrev pub own_root : Root → Sels → Option ℕ
-own_root (root.Param from) (more_sels (Field offset cells) rest) = Some from
-own_root (root.Param from) (more_sels (Index e range cells) rest) = if_ready (is_ready e) from
+own_root (root.Param from) (more_sels x rest) = Some from
 own_root _ _ = None
 
 -- ---- conditions that need no choice entry: the value of an expression without a call and without a truth
