@@ -27,7 +27,7 @@ use Rattle.alma_mean.specs.Meaning.{Level}
 use Rattle.alma_lower_implements.proofs.Frames.{HasSlots}
 use Rattle.alma_lower_implements.proofs.ExprRows.{AreVariables, slots_first, slots_behind}
 use Rattle.alma_lower_templates.specs.Tables.{Tables, range_number, text_number, is_whole}
-use Rattle.alma_lower_templates.specs.Slots.{bare, bare_desig, unless_bare, ends_alone, own_place, is_simple, is_simple_expr, mark_slots}
+use Rattle.alma_lower_templates.specs.Slots.{bare, bare_desig, unless_bare, ends_alone, is_simple, is_simple_expr, mark_slots}
 use Rattle.alma_lower_templates.specs.Slots.{expr_slots, desig_slots, test_slots, is_turned, behind_expr}
 use Rattle.alma_lower_templates.specs.Pieces.{straight}
 use Rattle.alma_lower_templates.specs.Templates.{char_range, expr_code}
@@ -36,8 +36,7 @@ use Rattle.alma_lower_templates.proofs.First.{ConstantFits}
 use Rattle.alma_lower_templates.proofs.Bounds.{LimitRuns}
 use Rattle.alma_lower_templates.proofs.Destinations.{Goal, in_variable, goal_end, goal_ways, GoalFits}
 use Rattle.alma_lower_templates.proofs.ExprForms.{RunsTo, NextRuns}
-use Rattle.alma_lower_templates.proofs.OwnPlace.{OwnFits}
-use Rattle.alma_lower_templates.proofs.FormRuns.{ExprRuns, DesigRuns, TestRuns}
+use Rattle.alma_lower_templates.proofs.FormRuns.{ExprRuns, DesigRuns, HeldRuns, TestRuns}
 use Rattle.alma_lower_templates.proofs.GuardedForms.{Decided, decided}
 use Rattle.alma_lower_templates.proofs.Turned.{Turned, compares_two, turned, GoesBack, goes_back}
 use Rattle.alma_mean.specs.Meaning.{ev_test}
@@ -282,8 +281,8 @@ module _ (p : Program) (tables : Tables) (code : PlainCode) (input : List ℕ) w
   module _ (below : Level) (r line q : ℕ) where
     pub record DesigGoes (d : Desig) : Type 0 where
       pub fits : desig_cells d ≡ 1 → BareFits p tables code input below r line q (bare_desig d)
-      pub own : desig_cells d ≡ 1 → OwnFits p code input r (own_place d)
       pub runs : (at lo : ℕ) → HasSlots p code r lo (desig_slots p r d) → DesigRuns p tables code input below r line q at lo d
+      pub held : (at lo : ℕ) → HasSlots p code r lo (desig_slots p r d) → HeldRuns p tables code input below r line q at lo d
 
     -- both operands of a comparison
     pub record OperandsGo (a b : Expr) : Type 0 where
@@ -320,15 +319,15 @@ module _ (p : Program) (tables : Tables) (code : PlainCode) (input : List ℕ) w
     behind_first x h lo slots = record { once = λ at. once x h at lo slots; constants = h.constants; slots = slots }
 
     pub target : (d : Desig) → DesigGoes d → (at lo : ℕ) → HasSlots p code r lo (unless_bare (bare_desig d) (desig_slots p r d))
-        → bare_desig d ≡ None → DesigRuns p tables code input below r line q at lo d
-    target d h at lo slots none = h.runs at lo (subst (λ o. HasSlots p code r lo (unless_bare o (desig_slots p r d))) none slots)
+        → bare_desig d ≡ None → HeldRuns p tables code input below r line q at lo d
+    target d h at lo slots none = h.held at lo (subst (λ o. HasSlots p code r lo (unless_bare o (desig_slots p r d))) none slots)
 
     -- the variable of a loop, behind the slot of its count
     pub variable : (d : Desig) → DesigGoes d → (at lo : ℕ)
         → HasSlots p code r lo (unless_bare (bare_desig d) (slot.Number ∷ desig_slots p r d)) → bare_desig d ≡ None
-        → DesigRuns p tables code input below r line q at (lo + 1) d
+        → HeldRuns p tables code input below r line q at (lo + 1) d
     variable d h at lo slots none =
-        h.runs at (lo + 1) (slots_behind p code input r lo (slot.Number ∷ []) (desig_slots p r d)
+        h.held at (lo + 1) (slots_behind p code input r lo (slot.Number ∷ []) (desig_slots p r d)
         (subst (λ o. HasSlots p code r lo (unless_bare o (slot.Number ∷ desig_slots p r d))) none slots))
 
     -- the limit of a loop, in its slot

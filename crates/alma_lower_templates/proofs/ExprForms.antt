@@ -18,10 +18,9 @@ use Rattle.alma_ir.specs.declared.phrase.Op.{Op}
 use Rattle.alma_ir.specs.declared.phrase.Cmp.{Cmp}
 use Rattle.alma_ir.specs.declared.phrase.Cmp.TheVariants as cmp
 use Rattle.alma_ir.specs.Tree.{Program, Expr, Links, Desig, Const, Load, Chain, Compare, Truth, Known, Chr, CallExpr, no_links, more_links}
-use Rattle.alma_ir.specs.Tree.{Value, a_desig, no_sels}
+use Rattle.alma_ir.specs.Tree.{Value}
 use Rattle.alma_ir.specs.Checked.{desig_cells}
-use Rattle.alma_ir.specs.declared.phrase.Root.TheVariants as root
-use Rattle.alma_mean.specs.Store.{Store, Place, cell_of, top_cell}
+use Rattle.alma_mean.specs.Store.{Store, cell_of, top_cell}
 use Rattle.alma_mean.specs.Events.{Events, NoYield, Visit, Fail, one, join, bind}
 use Rattle.alma_mean.specs.Arithmetic.{apply_op, apply_sign, compares}
 use Rattle.alma_mean.specs.Rows.{read_cell, known_bit}
@@ -36,11 +35,11 @@ use Rattle.alma_lower_implements.proofs.Steps.{Holds, InstrAt, const_step, does,
 use Rattle.alma_lower_implements.proofs.Ways.{Ways, Leaves}
 use Rattle.alma_lower_templates.specs.Lined.{Lined, own, in_row}
 use Rattle.alma_lower_templates.specs.Tables.{Tables}
-use Rattle.alma_lower_templates.specs.Slots.{bare, bare_desig, own_place, has_operator, stays, stays_in, unless_bare, expr_slots}
+use Rattle.alma_lower_templates.specs.Slots.{bare, bare_desig, has_operator, stays, stays_in, unless_bare, expr_slots}
 use Rattle.alma_lower_templates.specs.Slots.{links_slots, desig_slots, test_slots, mark_slots, is_simple, call_links, handed_slots}
 use Rattle.alma_lower_templates.specs.Slots.{args_slots, behind_expr, behind_value}
 use Rattle.alma_lower_templates.specs.Pieces.{op_code, cmp_code, unequal_code, straight, neg_code}
-use Rattle.alma_lower_templates.specs.Templates.{expr_code, links_code, desig_code, place_at, slot_or, value_at, load_by}
+use Rattle.alma_lower_templates.specs.Templates.{expr_code, links_code, held_at, slot_or, value_at, load_by}
 use Rattle.alma_lower_templates.specs.Stands.{Stands}
 use Rattle.alma_lower_templates.proofs.Stands.{stands_front, stands_back}
 use Rattle.alma_lower_templates.proofs.Parts.{Begins, begins, has_kind, holds_after, value_after, IsValue, ValueIn, PlaceIn, Nothing}
@@ -52,11 +51,9 @@ use Rattle.alma_lower_templates.proofs.First.{ReadsBoth, second_reads, ConstantF
 use Rattle.alma_lower_templates.proofs.OperatorParts.{op_reads, equal_reads, cmp_reads, op_from, sign_from, compare_ends}
 use Rattle.alma_lower_templates.proofs.CellEnds.{load_to, known_ends}
 use Rattle.alma_lower_templates.proofs.Destinations.{Destination, first_takes}
-use Rattle.alma_lower_templates.proofs.OwnPlace.{ReadsPlace, OwnFits, own_place_is, own_from}
-use Rattle.alma_lower_templates.proofs.RootForms.{IsParam}
 use Rattle.alma_lower_templates.proofs.Straight.{ends_code, put_by, ends_same, straight_ends, straight_behind, straight_last, some_links}
 use Rattle.alma_lower_templates.proofs.RangeChecks.{past_from}
-use Rattle.alma_lower_templates.proofs.FormRuns.{ExprRuns, DesigRuns, TestRuns}
+use Rattle.alma_lower_templates.proofs.FormRuns.{held_code, ExprRuns, HeldRuns, TestRuns}
 
 module _ (p : Program) (code : PlainCode) (input : List ℕ) (r : ℕ) where
   -- the first slot of an expression is for its value
@@ -133,55 +130,39 @@ module _ (p : Program) (tables : Tables) (code : PlainCode) (input : List ℕ) (
           (λ held s is. reads_unknown code input line at (shift p r + from) now held s (move_reads at lo (shift p r + from) now i) is
           i.on_line hold))
 
-  load_reads : (at to from : ℕ) (now : List PlainFrame) → InstrAt code input line at (I.Load to from) → ReadsPlace code input at from now
-  unfolding act
-  load_reads at to from now i held s is = (_, does code input line at now held s (I.Load to from) is i)
-
-  -- the number at a place: that of a whole parameter stands in its own slot
-  load_by_place : (at lo end : ℕ) (d : Desig) (w : List PlainFrame → Ways ℤ) (o : Option ℕ) → own_place d ≡ o → OwnFits p code input r o
-      → Destination p code input line q lo r end w → DesigRuns p tables code input below r line q at (lo + 1) d → desig_cells d ≡ 1
-      → RunsTo w at (unless_bare o (desig_code p tables r line at (lo + 1) d)
-      ++ own line (I.Load end (slot_or p tables r o (place_at p tables r (lo + 1) d)) ∷ [])) (Load d)
+  -- the number at a place
+  load_by_place : (at lo end : ℕ) (d : Desig) (w : List PlainFrame → Ways ℤ) → Destination p code input line q lo r end w
+      → HeldRuns p tables code input below r line q at (lo + 1) d → desig_cells d ≡ 1
+      → RunsTo w at (held_code p tables r line at (lo + 1) d ++ own line (I.Load end (held_at p tables r (lo + 1) d) ∷ [])) (Load d)
   unfolding ev_expr
-  load_by_place at lo end d w None e fits takes runs cells stands v now b =
-      let inner : List Lined = desig_code p tables r line at (lo + 1) d in
+  load_by_place at lo end d w takes held cells stands v now b =
+      let inner : List Lined = held_code p tables r line at (lo + 1) d in
       let m : ℕ = at + length inner in
-      let last : List Lined = own line (I.Load end (place_at p tables r (lo + 1) d) ∷ []) in
+      let from : ℕ = held_at p tables r (lo + 1) d in
+      let last : List Lined = own line (I.Load end from ∷ []) in
       let back = stands_back code at inner last stands in
       let whole : length (inner ++ last) ≡ length inner + 1 = length-append inner last in
       let exit_is : m + 1 ≡ at + length (inner ++ last) = omega (arith, whole) in
       subst (λ n. NodeRuns p code input line at n now (w now) (ev_expr p input below (Load d) v) q) exit_is
       (node_runs p code input line 0 at (m + 1) now (w now)
       (bind (ev_desig p input below d v) (λ t a. read_cell (cell_of t a) (λ n. one t n))) q (omega arith)
-      (then_ways p code input line at m (m + 1) lo (lo + 1) r now (PlaceIn p code input (place_at p tables r (lo + 1) d) (desig_cells d)) w
+      (then_ways p code input line at m (m + 1) lo (lo + 1) r now (PlaceIn p code input from (desig_cells d)) w
       (ev_desig p input below d v) (λ t a. read_cell (cell_of t a) (λ n. one t n)) q (omega arith) takes.carries
-      (runs (stands_front code at inner last stands) v now b)
-      (λ u a t left place. load_to p code input line q m lo r (place_at p tables r (lo + 1) d) (desig_cells d) u t a (omega (arith, cells))
+      (held.runs (stands_front code at inner last stands) v now b)
+      (λ u a t left place. load_to p code input line q m lo r from (desig_cells d) u t a (omega (arith, cells))
       (begins p code input (lo + 1) r now u t left) place end w takes (record { instr = back.0; on_line = back.1 }))))
-  load_by_place at lo end d w (Some from) e fits takes runs cells stands v now b =
-      let z = own_place_is d from e in
-      let i : InstrAt code input line at (I.Load end (shift p r + from)) = record { instr = stands.0; on_line = stands.1 } in
-      let one_cell : z.0 ≡ 1 = ap desig_cells (sym z.1) ∙ cells in
-      let k : Store → Place → Events ℤ = λ t a. read_cell (cell_of t a) (λ n. one t n) in
-      subst (λ y. NodeRuns p code input line at (at + 1) now (w now) (ev_expr p input below (Load y) v) q) (sym z.1)
-      (node_runs p code input line 0 at (at + 1) now (w now) (bind (ev_desig p input below (a_desig (root.Param from) z.0 no_sels) v) k) q
-      (omega arith)
-      (own_from p code input r below line q at (at + 1) from z.0 v now (w now) k (subst (IsParam p code input r from) (sym one_cell) fits) b
-      i.on_line (load_reads at end (shift p r + from) now i)
-      (λ a place. load_to p code input line q at lo r (shift p r + from) z.0 v now a (omega (arith, one_cell)) b place end w takes i)))
 
   -- whatever variable it is
   load_of : (at lo : ℕ) (d : Desig) (o : Option ℕ) → bare_desig d ≡ o → BareFits p tables code input below r line q o
-      → OwnFits p code input r (own_place d) → (o ≡ None → DesigRuns p tables code input below r line q at (lo + 1) d) → desig_cells d ≡ 1
+      → (o ≡ None → HeldRuns p tables code input below r line q at (lo + 1) d) → desig_cells d ≡ 1
       → HasSlots p code r lo (slot.Number ∷ unless_bare o (desig_slots p r d))
-      → NodeFor p code input r line at lo (unless_bare o (unless_bare (own_place d) (desig_code p tables r line at (lo + 1) d))
+      → NodeFor p code input r line at lo (unless_bare o (held_code p tables r line at (lo + 1) d)
       ++ own line (load_by p tables r o lo d ∷ [])) (ev_expr p input below (Load d)) (ValueIn p code input lo) q
   unfolding ev_expr
-  load_of at lo d None e fits param runs cells slots stands v now b =
+  load_of at lo d None e fits held cells slots stands v now b =
       let takes = first_takes p code input line q lo r slots.behind (first_kind p code input r lo slot.Number (desig_slots p r d) slots) in
-      load_by_place at lo lo d (λ t. leaving p code input lo r t (ValueIn p code input lo)) (own_place d) refl param takes (runs refl) cells
-      stands v now b
-  load_of at lo d (Some from) e fits param runs cells slots stands v now b =
+      load_by_place at lo lo d (λ t. leaving p code input lo r t (ValueIn p code input lo)) takes (held refl) cells stands v now b
+  load_of at lo d (Some from) e fits held cells slots stands v now b =
       let z = bare_place d from e in
       let kind = first_kind p code input r lo slot.Number [] slots in
       let w = leaving p code input lo r now (ValueIn p code input lo) in
@@ -194,23 +175,22 @@ module _ (p : Program) (tables : Tables) (code : PlainCode) (input : List ℕ) (
       (move_from at lo from v now slots.behind kind fits (record { instr = stands.0; on_line = stands.1 }) b) held s here)))
 
   pub load_runs : (at lo : ℕ) (d : Desig) → BareFits p tables code input below r line q (bare_desig d)
-      → OwnFits p code input r (own_place d) → (bare_desig d ≡ None → DesigRuns p tables code input below r line q at (lo + 1) d)
-      → desig_cells d ≡ 1
+      → (bare_desig d ≡ None → HeldRuns p tables code input below r line q at (lo + 1) d) → desig_cells d ≡ 1
       → HasSlots p code r lo (expr_slots p r (Load d)) → ExprRuns p tables code input below r line q at lo (Load d)
-  load_runs at lo d fits param runs cells slots = load_of at lo d (bare_desig d) refl fits param runs cells slots
+  load_runs at lo d fits held cells slots = load_of at lo d (bare_desig d) refl fits held cells slots
 
   -- the number at a place, into any slot
   pub load_straight : (at lo end : ℕ) (d : Desig) (w : List PlainFrame → Ways ℤ) → bare_desig d ≡ None
-      → OwnFits p code input r (own_place d) → DesigRuns p tables code input below r line q at (lo + 1) d → desig_cells d ≡ 1
+      → HeldRuns p tables code input below r line q at (lo + 1) d → desig_cells d ≡ 1
       → Destination p code input line q lo r end w
       → RunsTo w at (straight end (expr_code p tables r line at lo (Load d))) (Load d)
-  load_straight at lo end d w none param runs cells takes =
-      let inner : List Lined = unless_bare (own_place d) (desig_code p tables r line at (lo + 1) d) in
+  load_straight at lo end d w none held cells takes =
+      let inner : List Lined = held_code p tables r line at (lo + 1) d in
       let there : straight end (expr_code p tables r line at lo (Load d)) ≡ inner
-      ++ own line (I.Load end (slot_or p tables r (own_place d) (place_at p tables r (lo + 1) d)) ∷ []) =
+      ++ own line (I.Load end (held_at p tables r (lo + 1) d) ∷ []) =
       ap (λ o. straight end (unless_bare o inner ++ own line (load_by p tables r o lo d ∷ []))) none
-      ∙ straight_last end line inner (I.Load lo (slot_or p tables r (own_place d) (place_at p tables r (lo + 1) d))) in
-      subst (λ c. RunsTo w at c (Load d)) (sym there) (load_by_place at lo end d w (own_place d) refl param takes runs cells)
+      ∙ straight_last end line inner (I.Load lo (held_at p tables r (lo + 1) d)) in
+      subst (λ c. RunsTo w at c (Load d)) (sym there) (load_by_place at lo end d w takes held cells)
 
   -- ---- sums and products
 
@@ -683,20 +663,14 @@ module _ (p : Program) (tables : Tables) (code : PlainCode) (input : List ℕ) (
 
   -- ---- KNOWN and CHR
 
-  known_reads : (at to from : ℕ) (now : List PlainFrame) → InstrAt code input line at (I.Known to from) → ReadsPlace code input at from now
-  unfolding act
-  known_reads at to from now i held s is = (_, does code input line at now held s (I.Known to from) is i)
-
-  known_of : (at lo : ℕ) (d : Desig) (o : Option ℕ) → own_place d ≡ o → OwnFits p code input r o
-      → HasSlots p code r lo (expr_slots p r (Known d)) → desig_cells d ≡ 1 → DesigRuns p tables code input below r line q at (lo + 1) d
-      → NodeFor p code input r line at lo (unless_bare o (desig_code p tables r line at (lo + 1) d)
-      ++ own line (I.Known lo (slot_or p tables r o (place_at p tables r (lo + 1) d)) ∷ [])) (ev_expr p input below (Known d))
-      (ValueIn p code input lo) q
+  pub known_runs : (at lo : ℕ) (d : Desig) → HasSlots p code r lo (expr_slots p r (Known d)) → desig_cells d ≡ 1
+      → HeldRuns p tables code input below r line q at (lo + 1) d → ExprRuns p tables code input below r line q at lo (Known d)
   unfolding ev_expr
-  known_of at lo d None e fits slots cells runs stands v now b =
-      let inner : List Lined = desig_code p tables r line at (lo + 1) d in
+  known_runs at lo d slots cells held stands v now b =
+      let inner : List Lined = held_code p tables r line at (lo + 1) d in
       let m : ℕ = at + length inner in
-      let last : List Lined = own line (I.Known lo (place_at p tables r (lo + 1) d) ∷ []) in
+      let from : ℕ = held_at p tables r (lo + 1) d in
+      let last : List Lined = own line (I.Known lo from ∷ []) in
       let back = stands_back code at inner last stands in
       let whole : length (inner ++ last) ≡ length inner + 1 = length-append inner last in
       let end : m + 1 ≡ at + length (inner ++ last) = omega (arith, whole) in
@@ -705,28 +679,9 @@ module _ (p : Program) (tables : Tables) (code : PlainCode) (input : List ℕ) (
       subst (λ n. NodeRuns p code input line at n now w (ev_expr p input below (Known d) v) q) end
       (node_runs p code input line 0 at (m + 1) now w (bind (ev_desig p input below d v) (λ t a. one t (known_bit (cell_of t a)))) q
       (omega arith)
-      (then_from p code input line at m (m + 1) lo (lo + 1) r now (PlaceIn p code input (place_at p tables r (lo + 1) d) (desig_cells d))
+      (then_from p code input line at m (m + 1) lo (lo + 1) r now (PlaceIn p code input from (desig_cells d))
       (ValueIn p code input lo) (ev_desig p input below d v) (λ t a. one t (known_bit (cell_of t a))) q (omega arith) slots.behind
-      (runs (stands_front code at inner last stands) v now b)
-      (λ u a t left place. known_ends p code input line q m lo r (place_at p tables r (lo + 1) d) (desig_cells d) u t a
+      (held.runs (stands_front code at inner last stands) v now b)
+      (λ u a t left place. known_ends p code input line q m lo r from (desig_cells d) u t a
       (omega (arith, cells)) (begins p code input (lo + 1) r now u t left) place slots.behind kind
       (record { instr = back.0; on_line = back.1 }))))
-  known_of at lo d (Some from) e fits slots cells runs stands v now b =
-      let z = own_place_is d from e in
-      let i : InstrAt code input line at (I.Known lo (shift p r + from)) = record { instr = stands.0; on_line = stands.1 } in
-      let one_cell : z.0 ≡ 1 = ap desig_cells (sym z.1) ∙ cells in
-      let kind = first_kind p code input r lo slot.Number (desig_slots p r d) slots in
-      let k : Store → Place → Events ℤ = λ t a. one t (known_bit (cell_of t a)) in
-      let w = leaving p code input lo r now (ValueIn p code input lo) in
-      subst (λ y. NodeRuns p code input line at (at + 1) now w (ev_expr p input below (Known y) v) q) (sym z.1)
-      (node_runs p code input line 0 at (at + 1) now w (bind (ev_desig p input below (a_desig (root.Param from) z.0 no_sels) v) k) q
-      (omega arith)
-      (own_from p code input r below line q at (at + 1) from z.0 v now w k (subst (IsParam p code input r from) (sym one_cell) fits) b
-      i.on_line (known_reads at lo (shift p r + from) now i)
-      (λ a place. known_ends p code input line q at lo r (shift p r + from) z.0 v now a (omega (arith, one_cell)) b place slots.behind kind
-      i)))
-
-  pub known_runs : (at lo : ℕ) (d : Desig) → OwnFits p code input r (own_place d) → HasSlots p code r lo (expr_slots p r (Known d))
-      → desig_cells d ≡ 1 → DesigRuns p tables code input below r line q at (lo + 1) d
-      → ExprRuns p tables code input below r line q at lo (Known d)
-  known_runs at lo d fits slots cells runs = known_of at lo d (own_place d) refl fits slots cells runs

@@ -36,6 +36,7 @@ use Rattle.alma_lower_templates.specs.Slots.{constant, ends_alone, is_straight}
 use Rattle.alma_lower_templates.specs.Tables.{Tables, range_number, is_whole}
 use Rattle.alma_lower_templates.specs.Templates
 use Rattle.alma_lower_templates.proofs.Straight.{straight_long}
+use Rattle.alma_lower_templates.proofs.FormRuns.{held_code}
 use Rattle.alma_lower_templates.proofs.FewSlots.{Short, AreShort, short_front, short_back, unless_few}
 use Rattle.alma_lower_templates.proofs.Tested.{compared_code, tested_long}
 use Rattle.alma_lower_templates.proofs.Turned.{while_code}
@@ -270,19 +271,24 @@ module _ (p : Program) (tables : Tables) (r : ℕ) where
         length-append one (own line (I.Jump (at + 1) ∷ [])),
       )
 
+  -- a place that is used
+  held_few : (line at lo : ℕ) (y : Desig) (m : ℕ) → length (Templates.desig_code p tables r line at lo y) ≤ m
+      → length (held_code p tables r line at lo y) ≤ m
+  held_few line at lo y m a = omega (arith, a, unless_few (own_place y) (Templates.desig_code p tables r line at lo y))
+
   -- two designators
   pair_few :
       (line at lo : ℕ) (y z : Desig) (m n : ℕ)
       → length (Templates.desig_code p tables r line at lo y) ≤ m
       → ((at lo : ℕ) → length (Templates.desig_code p tables r line at lo z) ≤ n)
-      → length (in_row at (Templates.desig_code p tables r line at lo y)
-      (λ next. Templates.desig_code p tables r line next (behind_desig p r lo y) z)) ≤ m + n
+      → length (in_row at (held_code p tables r line at lo y) (λ next. held_code p tables r line next (behind_desig p r lo y) z)) ≤ m + n
   pair_few line at lo y z m n a b =
-      let one : List Lined = Templates.desig_code p tables r line at lo y in
+      let one : List Lined = held_code p tables r line at lo y in
       let next : ℕ = at + length one in
       let lo2 : ℕ = behind_desig p r lo y in
-      let c = b next lo2 in
-      omega (arith, a, c, length-append one (Templates.desig_code p tables r line next lo2 z))
+      let first = held_few line at lo y m a in
+      let second = held_few line next lo2 z n (b next lo2) in
+      omega (arith, first, second, length-append one (held_code p tables r line next lo2 z))
 
   -- an operand of OR that is not the last, without the jump behind it
   first_few : (line at lo : ℕ) (x : List Lined) (n : ℕ) → 4 + length x ≤ n → 1 + length (first_of_two line at lo x) ≤ n
@@ -316,17 +322,17 @@ module _ (p : Program) (tables : Tables) (r : ℕ) where
       → ((at : ℕ) → length (Templates.desig_code p tables r line at (lo + 1) y) ≤ m)
       → ((at : ℕ) → length (body at) ≤ n)
       → length (turn_code line at (Templates.count_code p tables r (bare_desig y) range counter lo)
-      (λ at. unless_bare (bare_desig y) (Templates.desig_code p tables r line at (lo + 1) y))
+      (λ at. unless_bare (bare_desig y) (held_code p tables r line at (lo + 1) y))
       (Templates.set_code p tables r (lo + 1) (Templates.count_at p tables r (bare_desig y) counter lo) y) body) ≤ 3 + m + n
   turn_few line at counter lo y range body m n a b =
       let check : List Instr = Templates.count_code p tables r (bare_desig y) range counter lo in
       let zero : List Lined = own line check in
       let at1 : ℕ = at + length zero in
-      let one : List Lined = unless_bare (bare_desig y) (Templates.desig_code p tables r line at1 (lo + 1) y) in
+      let one : List Lined = unless_bare (bare_desig y) (held_code p tables r line at1 (lo + 1) y) in
       let at2 : ℕ = at1 + length one in
       let end : List Lined = own line (Templates.set_code p tables r (lo + 1) (Templates.count_at p tables r (bare_desig y) counter lo) y
       ∷ []) ++ body (at2 + 1) in
-      let c = a at1 in
+      let c = held_few line at1 (lo + 1) y m (a at1) in
       let e = b (at2 + 1) in
       omega (
         arith,
@@ -336,7 +342,7 @@ module _ (p : Program) (tables : Tables) (r : ℕ) where
         length-append one end,
         own_long line check,
         count_few (bare_desig y) range counter lo,
-        unless_few (bare_desig y) (Templates.desig_code p tables r line at1 (lo + 1) y),
+        unless_few (bare_desig y) (held_code p tables r line at1 (lo + 1) y),
       )
 
   mutual
@@ -393,14 +399,12 @@ module _ (p : Program) (tables : Tables) (r : ℕ) where
     expr_few line at lo (Const n) ls h = omega arith
     expr_few line at lo (Load d) ls h =
         let y : Desig = desig_with d ls in
-        let place : List Lined = Templates.desig_code p tables r line at (lo + 1) y in
-        let x : List Lined = unless_bare (own_place y) place in
+        let x : List Lined = held_code p tables r line at (lo + 1) y in
         omega (
           arith,
           length-append (unless_bare (bare_desig y) x) (own line (Templates.load_code p tables r lo y ∷ [])),
           unless_few (bare_desig y) x,
-          unless_few (own_place y) place,
-          desig_few line at (lo + 1) d ls h.1,
+          held_few line at (lo + 1) y (16 * desig_nodes d) (desig_few line at (lo + 1) d ls h.1),
         )
     expr_few line at lo (Chain negated e links) ls h =
         let ls2 = behind (expr_phrases e) ls in
@@ -454,13 +458,11 @@ module _ (p : Program) (tables : Tables) (r : ℕ) where
         )
     expr_few line at lo (Known d) ls h =
         let y : Desig = desig_with d ls in
-        let place : List Lined = Templates.desig_code p tables r line at (lo + 1) y in
         let last : Instr = I.Known lo (Templates.held_at p tables r (lo + 1) y) in
         omega (
           arith,
-          length-append (unless_bare (own_place y) place) (own line (last ∷ [])),
-          unless_few (own_place y) place,
-          desig_few line at (lo + 1) d ls h.1,
+          length-append (held_code p tables r line at (lo + 1) y) (own line (last ∷ [])),
+          held_few line at (lo + 1) y (16 * desig_nodes d) (desig_few line at (lo + 1) d ls h.1),
         )
     expr_few line at lo (Chr e) ls h =
         omega (
@@ -585,17 +587,17 @@ module _ (p : Program) (tables : Tables) (r : ℕ) where
         let ls2 = behind (desig_phrases d) ls in
         let y : Desig = desig_with d ls in
         let z : Expr = expr_with e ls2 in
-        let one : List Lined = Templates.desig_code p tables r line at lo y in
+        let one : List Lined = held_code p tables r line at lo y in
         let next : ℕ = at + length one in
         let lo2 : ℕ = behind_desig p r lo y in
         let two : List Lined = unless_bare (bare z) (Templates.expr_code p tables r line next lo2 z) in
-        let last : Instr = I.Bind (Templates.place_at p tables r lo y) (Templates.value_at p tables r lo2 z) (range_number tables range) in
+        let last : Instr = I.Bind (Templates.held_at p tables r lo y) (Templates.value_at p tables r lo2 z) (range_number tables range) in
         omega (
           arith,
           length-append (one ++ two) (own line (last ∷ [])),
           length-append one two,
           unless_few (bare z) (Templates.expr_code p tables r line next lo2 z),
-          desig_few line at lo d ls (short_front (desig_phrases d) (expr_phrases e) h.1),
+          held_few line at lo y (16 * desig_nodes d) (desig_few line at lo d ls (short_front (desig_phrases d) (expr_phrases e) h.1)),
           expr_few line next lo2 e ls2 (short_back (desig_phrases d) (expr_phrases e) h.1),
         )
     test_few line at lo (Bind d e range false) ls h =
@@ -605,13 +607,14 @@ module _ (p : Program) (tables : Tables) (r : ℕ) where
         let one : List Lined = Templates.expr_code p tables r line at lo y in
         let next : ℕ = at + length one in
         let lo2 : ℕ = behind_expr p r lo y in
-        let two : List Lined = Templates.desig_code p tables r line next lo2 z in
-        let last : Instr = I.Bind (Templates.place_at p tables r lo2 z) lo (range_number tables range) in
+        let two : List Lined = held_code p tables r line next lo2 z in
+        let last : Instr = I.Bind (Templates.held_at p tables r lo2 z) lo (range_number tables range) in
         omega (
           arith,
           length-append (one ++ two) (own line (last ∷ [])),
           length-append one two,
-          desig_few line next lo2 d ls2 (short_front (desig_phrases d) (expr_phrases e) h.1),
+          held_few line next lo2 z (16 * desig_nodes d)
+              (desig_few line next lo2 d ls2 (short_front (desig_phrases d) (expr_phrases e) h.1)),
           expr_few line at lo e ls (short_back (desig_phrases d) (expr_phrases e) h.1),
         )
     test_few line at lo (Unify d range e range2) ls h =
@@ -620,13 +623,13 @@ module _ (p : Program) (tables : Tables) (r : ℕ) where
         (λ at lo. desig_few line at lo e (behind (desig_phrases d) ls) (short_back (desig_phrases d) (desig_phrases e) h.1)) in
         let ls2 = behind (desig_phrases d) ls in
         let y : Desig = desig_with d ls in
-        let last : Instr = I.Unify (Templates.place_at p tables r lo y) (range_number tables range)
-        (Templates.place_at p tables r (behind_desig p r lo y) (desig_with e ls2)) (range_number tables range2) in
+        let last : Instr = I.Unify (Templates.held_at p tables r lo y) (range_number tables range)
+        (Templates.held_at p tables r (behind_desig p r lo y) (desig_with e ls2)) (range_number tables range2) in
         omega (
           arith,
           z,
-          length-append (in_row at (Templates.desig_code p tables r line at lo y)
-              (λ next. Templates.desig_code p tables r line next (behind_desig p r lo y) (desig_with e ls2))) (own line (last ∷ [])),
+          length-append (in_row at (held_code p tables r line at lo y)
+              (λ next. held_code p tables r line next (behind_desig p r lo y) (desig_with e ls2))) (own line (last ∷ [])),
         )
     test_few line at lo (SameCells d e) ls h =
         let z = pair_few line at lo (desig_with d ls) (desig_with e (behind (desig_phrases d) ls)) (16 * desig_nodes d) (16 * desig_nodes e)
@@ -634,13 +637,13 @@ module _ (p : Program) (tables : Tables) (r : ℕ) where
         (λ at lo. desig_few line at lo e (behind (desig_phrases d) ls) (short_back (desig_phrases d) (desig_phrases e) h.1)) in
         let ls2 = behind (desig_phrases d) ls in
         let y : Desig = desig_with d ls in
-        let last : Instr = I.SameCells (Templates.place_at p tables r lo y)
-        (Templates.place_at p tables r (behind_desig p r lo y) (desig_with e ls2)) in
+        let last : Instr = I.SameCells (Templates.held_at p tables r lo y)
+        (Templates.held_at p tables r (behind_desig p r lo y) (desig_with e ls2)) in
         omega (
           arith,
           z,
-          length-append (in_row at (Templates.desig_code p tables r line at lo y)
-              (λ next. Templates.desig_code p tables r line next (behind_desig p r lo y) (desig_with e ls2))) (own line (last ∷ [])),
+          length-append (in_row at (held_code p tables r line at lo y)
+              (λ next. held_code p tables r line next (behind_desig p r lo y) (desig_with e ls2))) (own line (last ∷ [])),
         )
     test_few line at lo (Seq x) ls h = let z = stmts_few at lo x ls h.1 in omega (arith, z)
     test_few line at lo (And ts) ls h = let z = and_few line at lo ts ls h.1 in omega (arith, z)
@@ -749,7 +752,7 @@ module _ (p : Program) (tables : Tables) (r : ℕ) where
         let ls2 = behind (desig_phrases d) ls in
         let y : Desig = desig_with d ls in
         let z : Expr = expr_with e ls2 in
-        let one : List Lined = unless_bare (bare_desig y) (Templates.desig_code p tables r line at lo y) in
+        let one : List Lined = unless_bare (bare_desig y) (held_code p tables r line at lo y) in
         let next : ℕ = at + length one in
         let lo2 : ℕ = behind_target p r lo y in
         let two : List Lined = unless_bare (bare z) (Templates.expr_code p tables r line next lo2 z) in
@@ -760,9 +763,9 @@ module _ (p : Program) (tables : Tables) (r : ℕ) where
           set_few (goes_straight y z range) line (one ++ two) (fit_code tables range value ++ last),
           length-append one two,
           fit_few line range value last,
-          unless_few (bare_desig y) (Templates.desig_code p tables r line at lo y),
+          unless_few (bare_desig y) (held_code p tables r line at lo y),
           unless_few (bare z) (Templates.expr_code p tables r line next lo2 z),
-          desig_few line at lo d ls (short_front (desig_phrases d) (expr_phrases e) h.1),
+          held_few line at lo y (16 * desig_nodes d) (desig_few line at lo d ls (short_front (desig_phrases d) (expr_phrases e) h.1)),
           expr_few line next lo2 e ls2 (short_back (desig_phrases d) (expr_phrases e) h.1),
         )
     stmt_few line at lo (CopyCells d e) ls h =
@@ -771,13 +774,13 @@ module _ (p : Program) (tables : Tables) (r : ℕ) where
         (λ at lo. desig_few line at lo e (behind (desig_phrases d) ls) (short_back (desig_phrases d) (desig_phrases e) h.1)) in
         let ls2 = behind (desig_phrases d) ls in
         let y : Desig = desig_with d ls in
-        let last : Instr = I.CopyCells (Templates.place_at p tables r lo y)
-        (Templates.place_at p tables r (behind_desig p r lo y) (desig_with e ls2)) in
+        let last : Instr = I.CopyCells (Templates.held_at p tables r lo y)
+        (Templates.held_at p tables r (behind_desig p r lo y) (desig_with e ls2)) in
         omega (
           arith,
           z,
-          length-append (in_row at (Templates.desig_code p tables r line at lo y)
-              (λ next. Templates.desig_code p tables r line next (behind_desig p r lo y) (desig_with e ls2))) (own line (last ∷ [])),
+          length-append (in_row at (held_code p tables r line at lo y)
+              (λ next. held_code p tables r line next (behind_desig p r lo y) (desig_with e ls2))) (own line (last ∷ [])),
         )
     stmt_few line at lo (If arms rest) ls h =
         let ls2 = behind (arms_phrases arms) ls in
@@ -882,9 +885,9 @@ module _ (p : Program) (tables : Tables) (r : ℕ) where
         let y : Desig = desig_with d ls in
         omega (
           arith,
-          length-append (Templates.desig_code p tables r line at lo y)
-              (own line (read_code how (Templates.place_at p tables r lo y) (range_number tables range) ∷ [])),
-          desig_few line at lo d ls h.1,
+          length-append (held_code p tables r line at lo y)
+              (own line (read_code how (Templates.held_at p tables r lo y) (range_number tables range) ∷ [])),
+          held_few line at lo y (16 * desig_nodes d) (desig_few line at lo d ls h.1),
         )
     stmt_few line at lo (WriteExpr e how) ls h =
         let y : Expr = expr_with e ls in
@@ -1122,7 +1125,7 @@ module _ (p : Program) (tables : Tables) (r : ℕ) where
         let next : ℕ = at + length begin in
         let lo2 : ℕ = behind_variable p r place y in
         let turn : List Lined = turn_code line (next + 3) (Templates.count_code p tables r (bare_desig y) range c place)
-        (λ at. unless_bare (bare_desig y) (Templates.desig_code p tables r line at (place + 1) y))
+        (λ at. unless_bare (bare_desig y) (held_code p tables r line at (place + 1) y))
         (Templates.set_code p tables r (place + 1) (Templates.count_at p tables r (bare_desig y) c place) y)
         (λ at. Templates.stmts_code p tables r at lo2 (stmts_with body ls4)) in
         let out : ℕ = next + 3 + length turn + 2 in
@@ -1171,7 +1174,7 @@ module _ (p : Program) (tables : Tables) (r : ℕ) where
         let next : ℕ = at + length begin in
         let lo2 : ℕ = behind_variable p r (more + 1) y in
         let turn : List Lined = turn_code line (next + 8) (Templates.count_code p tables r (bare_desig y) range c (more + 1))
-        (λ at. unless_bare (bare_desig y) (Templates.desig_code p tables r line at (more + 1 + 1) y))
+        (λ at. unless_bare (bare_desig y) (held_code p tables r line at (more + 1 + 1) y))
         (Templates.set_code p tables r (more + 1 + 1) (Templates.count_at p tables r (bare_desig y) c (more + 1)) y)
         (λ at. Templates.stmts_code p tables r at lo2 (stmts_with body ls4)) in
         omega (

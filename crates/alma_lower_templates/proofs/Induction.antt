@@ -42,7 +42,7 @@ use Rattle.alma_base.specs.Limits.{input_limit}
 use Rattle.alma_lower_implements.proofs.Frames.{shift, own_end, HasSlots}
 use Rattle.alma_lower_implements.proofs.ExprRows.{AreVariables, first_kind, slots_first, slots_behind}
 use Rattle.alma_lower_templates.specs.Tables.{Tables}
-use Rattle.alma_lower_templates.specs.Slots.{routine_kinds, bare, bare_desig, own_place, own_root, unless_bare, is_simple, mark_slots}
+use Rattle.alma_lower_templates.specs.Slots.{routine_kinds, bare, bare_desig, own_place, unless_bare, is_simple, mark_slots}
 use Rattle.alma_lower_templates.specs.Slots.{handed_slots, root_slots, stmts_slots, stmt_slots, test_slots, and_slots, or_slots, expr_slots}
 use Rattle.alma_lower_templates.specs.Slots.{links_slots, args_slots, arg_slots, desig_slots, sels_slots, sel_slots, behind_expr}
 use Rattle.alma_lower_templates.specs.Slots.{behind_dead, behind_value, behind_desig, behind_test, behind_stmts, behind_stmt}
@@ -71,14 +71,14 @@ use Rattle.alma_lower_templates.proofs.ChoiceForms.{EachRuns, either_form, Opera
 use Rattle.alma_lower_templates.proofs.ChoiceForms.{or_runs}
 use Rattle.alma_lower_templates.proofs.Destinations.{Goal, in_first, in_slot, in_variable, goal_end, goal_ways, GoalFits, goal_takes}
 use Rattle.alma_lower_templates.proofs.Straight.{alone_bare}
-use Rattle.alma_lower_templates.proofs.OwnPlace.{OwnFits}
-use Rattle.alma_lower_templates.proofs.DesigForms.{IsNear, NearRuns, near_root, near_index_runs, OwnRuns, SelRuns, SelsRun, field_runs}
+use Rattle.alma_lower_templates.proofs.OwnPlace.{OwnFits, own_root_is, held_runs}
+use Rattle.alma_lower_templates.proofs.DesigForms.{SelRuns, SelsRun, field_runs}
 use Rattle.alma_lower_templates.proofs.DesigForms.{index_runs, no_sels_run, more_sels_run, desig_runs}
 use Rattle.alma_lower_templates.proofs.ExprForms.{LinksRun, OthersRun, const_to, const_runs, load_runs, load_straight, more_links_run}
 use Rattle.alma_lower_templates.proofs.ExprForms.{chain_runs, chain_straight, compare_runs, unequal_runs, known_runs, first_slot}
 use Rattle.alma_lower_templates.proofs.ExprForms.{some_slots}
 use Rattle.alma_lower_templates.proofs.Tested.{Tested, tested, as_value, as_unequal}
-use Rattle.alma_lower_templates.proofs.FormRuns.{TestRuns, ListRuns, StmtRuns, StatementRuns}
+use Rattle.alma_lower_templates.proofs.FormRuns.{DesigRuns, TestRuns, ListRuns, StmtRuns, StatementRuns}
 use Rattle.alma_lower_templates.proofs.ForallRuns.{forall_runs}
 use Rattle.alma_lower_templates.proofs.GuardedForms.{ArmsRun, no_arms_run, more_arms_run, no_arms_if, if_runs}
 use Rattle.alma_lower_templates.proofs.Levels.{Below, ForTurns, SomeTurns, owes_less}
@@ -96,10 +96,6 @@ part_end : (p : Program) (tables : Tables) (r lo : ℕ) (x : Sel) → lo + lengt
 part_end p tables r lo (Field offset cells) = refl
 part_end p tables r lo (Index e range cells) =
     omega (arith, length-append (unless_bare (bare e) (expr_slots p r e)) (slot.Place cells ∷ []))
-
-part_above : (p : Program) (tables : Tables) (r lo : ℕ) (x : Sel) → lo ≤ part_slot p tables r lo x
-part_above p tables r lo (Field offset cells) = omega arith
-part_above p tables r lo (Index e range cells) = omega arith
 
 same_value : (a b : Expr) → Value a ≡ Value b → a ≡ b
 same_value a b e = cc
@@ -176,14 +172,14 @@ module _ (p : Program) (tables : Tables) (code : PlainCode) (all : List (List Ru
 
     -- the slot of a whole parameter
     own_fits : (r cells : ℕ) (sels sels2 : Sels) (x : Root) → r < length p.routines
-        → RootExists p r (routine_at p r) (DesigPhrase (a_desig x cells sels2)) → desig_cells (a_desig x cells sels) ≡ 1
-        → OwnFits p code input r (own_place (a_desig x cells sels))
-    own_fits r cells no_sels sels2 (root.Param from) lt h e = subst (IsParam p code input r from) e (params r from cells lt h)
-    own_fits r cells (more_sels y rest) sels2 (root.Param from) lt h e = tt
-    own_fits r cells sels sels2 (root.Local from) lt h e = tt
-    own_fits r cells sels sels2 (root.Global from) lt h e = tt
-    own_fits r cells sels sels2 (root.Outer links from) lt h e = tt
-    own_fits r cells sels sels2 (root.OuterParam links from) lt h e = tt
+        → RootExists p r (routine_at p r) (DesigPhrase (a_desig x cells sels2))
+        → OwnFits p code input r (own_place (a_desig x cells sels)) (desig_cells (a_desig x cells sels))
+    own_fits r cells no_sels sels2 (root.Param from) lt h = params r from cells lt h
+    own_fits r cells (more_sels y rest) sels2 (root.Param from) lt h = tt
+    own_fits r cells sels sels2 (root.Local from) lt h = tt
+    own_fits r cells sels sels2 (root.Global from) lt h = tt
+    own_fits r cells sels sels2 (root.Outer links from) lt h = tt
+    own_fits r cells sels sels2 (root.OuterParam links from) lt h = tt
 
     -- counter and limit of a loop are variables of the routine
     hidden_variable : (r n : ℕ) → r < length p.routines → IsHiddenSlot p r n → AreVariables p code input r n 1
@@ -441,97 +437,57 @@ module _ (p : Program) (tables : Tables) (code : PlainCode) (all : List (List Ru
         desig_go r line lt (a_desig x cells sels) ls h =
             let inner = fine_desig p tables code input r (a_desig x cells sels) (sels_phrases sels) ls h in
             let asked = h.asked.0 in
+            let all : Sels = sels_with sels ls in
+            let runs : (at lo : ℕ) → HasSlots p code r lo (desig_slots p r (a_desig x cells all))
+            → DesigRuns p tables code input below r line (suc n) at lo (a_desig x cells all) =
+            λ at lo slots.
+            let own_lo : own_end p r ≤ lo = slots.behind in
+            let behind_first = slots_behind p code input r lo (slot.Place cells ∷ []) (root_slots p r x ++ sels_slots p r all) slots in
+            let rest = slots_behind p code input r (lo + 1) (root_slots p r x) (sels_slots p r all) behind_first in
+            let fits = root_fits r cells sels x lt asked.root in
+            desig_runs p tables code input below r line (suc n) at lo cells x all fits checked.nested slots
+            (λ next. sels_go r line lt sels ls inner cells asked.parts next lo (behind_root p tables r lo x) (omega arith) rest)
+            (λ from is next.
+            let param : IsParam p code input r from cells = subst (λ k. RootFits p code input r k cells)
+            (own_root_is x all from is) fits in
+            sels_go r line lt sels ls inner cells asked.parts next (shift p r + from) (behind_root p tables r lo x)
+            (omega (arith, own_lo, param.exists)) rest) in
             record {
-              fits = λ e. bare_fits below line (suc n) r cells (sels_with sels ls) sels x lt asked.root e;
-              own = λ e. own_fits r cells (sels_with sels ls) sels x lt asked.root e;
-              runs = λ at lo slots.
-                  let own_lo : own_end p r ≤ lo = slots.behind in
-                  let behind_first = slots_behind p code input r lo (slot.Place cells ∷ [])
-                  (root_slots p r x ++ sels_slots p r (sels_with sels ls)) slots in
-                  let rest = slots_behind p code input r (lo + 1) (root_slots p r x) (sels_slots p r (sels_with sels ls)) behind_first in
-                  let fits = root_fits r cells sels x lt asked.root in
-                  desig_runs p tables code input below r line (suc n) at lo cells x (sels_with sels ls) fits checked.nested slots
-                  (λ next. sels_go r line lt sels ls inner cells asked.parts next lo (behind_root p tables r lo x) (omega arith) own_lo
-                  rest)
-                  (λ from is. own_sels_go r line lt sels ls inner cells asked.parts x from is fits (behind_root p tables r lo x)
-                  (omega (arith, own_lo)) rest);
+              fits = λ e. bare_fits below line (suc n) r cells all sels x lt asked.root e;
+              runs = runs;
+              held = λ at lo slots. held_runs p tables code input below r line (suc n) at lo (a_desig x cells all) slots.behind
+                  (own_fits r cells all sels x lt asked.root) (runs at lo slots);
             }
 
+        -- from any slot before their own
         sels_go : (r line : ℕ) → r < length p.routines → (sels : Sels) (ls : List ℕ) → FineIn r (sels_phrases sels) ls → (size : ℕ)
-            → ArePartsOf sels size → (at from lo : ℕ) → from < lo → own_end p r ≤ from
+            → ArePartsOf sels size → (at from lo : ℕ) → from < lo
             → HasSlots p code r lo (sels_slots p r (sels_with sels ls))
             → SelsRun p tables code input below r line (suc n) at from lo size (sels_with sels ls)
-        sels_go r line lt no_sels ls h size parts at from lo small own_from slots =
+        sels_go r line lt no_sels ls h size parts at from lo small slots =
             no_sels_run p tables code input below r line (suc n) at from lo size
-        sels_go r line lt (more_sels x rest) ls h size parts at from lo small own_from slots =
+        sels_go r line lt (more_sels x rest) ls h size parts at from lo small slots =
             let y : Sel = sel_with x ls in
             let ls2 = behind (sel_phrases x) ls in
             let ends = part_end p tables r lo y in
             let behind_slots = slots_behind p code input r lo (sel_slots p r y) (sels_slots p r (sels_with rest ls2)) slots in
-            let below_part : own_end p r ≤ part_slot p tables r lo y = omega (arith, own_from, small, ends, part_above p tables r lo y) in
-            more_sels_run p tables code input below r line (suc n) at from lo size y (sels_with rest ls2) (omega (arith, own_from, small))
+            more_sels_run p tables code input below r line (suc n) at from lo size y (sels_with rest ls2) slots.behind
             (sel_go r line lt x ls (fine_front p tables code input r (sel_phrases x) (sels_phrases rest) ls h) size parts.0 at from lo small
-            own_from (slots_first p code input r lo (sel_slots p r y) (sels_slots p r (sels_with rest ls2)) slots))
+            (slots_first p code input r lo (sel_slots p r y) (sels_slots p r (sels_with rest ls2)) slots))
             (λ next. subst (λ k. SelsRun p tables code input below r line (suc n) next (part_slot p tables r lo y)
             (part_slot p tables r lo y + 1) k (sels_with rest ls2)) (sym (sel_cells_with x ls))
             (sels_go r line lt rest ls2 (fine_back p tables code input r (sel_phrases x) (sels_phrases rest) ls h) (checked_of.sel_cells x)
-            parts.1 next (part_slot p tables r lo y) (part_slot p tables r lo y + 1) (omega arith) below_part
+            parts.1 next (part_slot p tables r lo y) (part_slot p tables r lo y + 1) (omega arith)
             (subst (λ k. HasSlots p code r k (sels_slots p r (sels_with rest ls2))) ends behind_slots)))
 
-        -- at the slot of a parameter
-        own_sels_go : (r line : ℕ) → r < length p.routines → (sels : Sels) (ls : List ℕ) → FineIn r (sels_phrases sels) ls → (size : ℕ)
-            → ArePartsOf sels size → (x : Root) (from : ℕ) → own_root x (sels_with sels ls) ≡ Some from → RootFits p code input r x size
-            → (lo : ℕ) → own_end p r ≤ lo
-            → HasSlots p code r lo (sels_slots p r (sels_with sels ls))
-            → OwnRuns p tables code input below r line (suc n) from lo size (sels_with sels ls)
-        own_sels_go r line lt no_sels ls h size parts x from e fits lo own_lo slots = tt
-        own_sels_go r line lt (more_sels z rest) ls h size parts x from e fits lo own_lo slots =
-            let y : Sel = sel_with z ls in
-            let ls2 = behind (sel_phrases z) ls in
-            let near = near_root p tables code input below r line (suc n) x y (sels_with rest ls2) from e in
-            let param : IsParam p code input r from size = subst (λ k. RootFits p code input r k size) near.0 fits in
-            let ends = part_end p tables r lo y in
-            let behind_slots = slots_behind p code input r lo (sel_slots p r y) (sels_slots p r (sels_with rest ls2)) slots in
-            let below_part : own_end p r ≤ part_slot p tables r lo y = omega (arith, own_lo, part_above p tables r lo y) in
-            let first = own_sel_go r line lt z ls (fine_front p tables code input r (sel_phrases z) (sels_phrases rest) ls h) size parts.0
-            from lo near.1 (omega (arith, own_lo, param.exists))
-            (slots_first p code input r lo (sel_slots p r y) (sels_slots p r (sels_with rest ls2)) slots) in (
-              first.0,
-              λ next. more_sels_run p tables code input below r line (suc n) next (shift p r + from) lo size y (sels_with rest ls2) own_lo
-                  (first.1 next)
-                  (λ m. subst (λ k. SelsRun p tables code input below r line (suc n) m (part_slot p tables r lo y)
-                  (part_slot p tables r lo y + 1) k (sels_with rest ls2)) (sym (sel_cells_with z ls))
-                  (sels_go r line lt rest ls2 (fine_back p tables code input r (sel_phrases z) (sels_phrases rest) ls h)
-                  (checked_of.sel_cells z) parts.1 m (part_slot p tables r lo y) (part_slot p tables r lo y + 1) (omega arith) below_part
-                  (subst (λ k. HasSlots p code r k (sels_slots p r (sels_with rest ls2))) ends behind_slots))),
-            )
-
-        own_sel_go : (r line : ℕ) → r < length p.routines → (x : Sel) (ls : List ℕ) → FineIn r (sel_phrases x) ls → (size : ℕ)
-            → IsPart x size
-            → (from lo : ℕ) → IsNear p tables code input below r line (suc n) (sel_with x ls) → shift p r + from < lo
-            → HasSlots p code r lo (sel_slots p r (sel_with x ls))
-            → NearRuns p tables code input below r line (suc n) lo (sel_with x ls)
-            × ((at : ℕ) → SelRuns p tables code input below r line (suc n) at (shift p r + from) lo size (sel_with x ls))
-        own_sel_go r line lt (Field offset cells) ls h size part from lo near low slots =
-            (tt, λ at. field_runs p tables code input below r line (suc n) at (shift p r + from) lo size offset cells slots part)
-        own_sel_go r line lt (Index e range cells) ls h size part from lo near low slots =
-            let y : Expr = expr_with e ls in
-            let next = behind_first p tables code input below r line (suc n) y
-            (expr_go r line lt e ls (fine_sel p tables code input r (Index e range cells) (expr_phrases e) ls h)) lo
-            (slots_first p code input r lo (unless_bare (bare y) (expr_slots p r y)) (slot.Place cells ∷ []) slots) in (
-              next,
-              λ at. near_index_runs p tables code input below r line (suc n) (shift p r + from) lo size low cells y range slots
-                  h.asked.0.coded part next at near,
-            )
-
         sel_go : (r line : ℕ) → r < length p.routines → (x : Sel) (ls : List ℕ) → FineIn r (sel_phrases x) ls → (size : ℕ) → IsPart x size
-            → (at from lo : ℕ) → from < lo → own_end p r ≤ from → HasSlots p code r lo (sel_slots p r (sel_with x ls))
+            → (at from lo : ℕ) → from < lo → HasSlots p code r lo (sel_slots p r (sel_with x ls))
             → SelRuns p tables code input below r line (suc n) at from lo size (sel_with x ls)
-        sel_go r line lt (Field offset cells) ls h size part at from lo small own_from slots =
+        sel_go r line lt (Field offset cells) ls h size part at from lo small slots =
             field_runs p tables code input below r line (suc n) at from lo size offset cells slots part
-        sel_go r line lt (Index e range cells) ls h size part at from lo small own_from slots =
+        sel_go r line lt (Index e range cells) ls h size part at from lo small slots =
             let y : Expr = expr_with e ls in
-            index_runs p tables code input below r line (suc n) at from lo size cells y range small own_from h.asked.0.coded part slots
+            index_runs p tables code input below r line (suc n) at from lo size cells y range small h.asked.0.coded part slots
             (once p tables code input below r line (suc n) y
             (expr_go r line lt e ls (fine_sel p tables code input r (Index e range cells) (expr_phrases e) ls h)) at lo
             (slots_first p code input r lo (unless_bare (bare y) (expr_slots p r y)) (slot.Place cells ∷ []) slots))
@@ -543,7 +499,8 @@ module _ (p : Program) (tables : Tables) (code : PlainCode) (all : List (List Ru
           constants = λ n same. subst (λ k. is_integer k ≡ true) (same_number m n same) h.asked.0.coded;
           runs = λ at lo slots. const_runs p tables code input below r line (suc n) at lo m h.asked.0.coded slots;
           operands = λ how x y same. absurd (cc);
-          straightly = λ goal at lo alone numbers slots. const_to p tables code input below r line (suc n) at lo (goal_end p code input r goal lo) m
+          straightly = λ goal at lo alone numbers slots. const_to p tables code input below r line (suc n) at lo
+              (goal_end p code input r goal lo) m
               (goal_ways p code input r goal lo) h.asked.0.coded (goal_takes p code input r line (suc n) lo goal numbers slots.behind
               (first_slot p code input r lo (Const m) slots));
         }
@@ -554,7 +511,7 @@ module _ (p : Program) (tables : Tables) (code : PlainCode) (all : List (List Ru
             record {
               fits = g.fits one_cell;
               constants = λ n same. absurd (cc);
-              runs = λ at lo slots. load_runs p tables code input below r line (suc n) at lo y (g.fits one_cell) (g.own one_cell)
+              runs = λ at lo slots. load_runs p tables code input below r line (suc n) at lo y (g.fits one_cell)
                   (target p tables code input below r line (suc n) y g at (lo + 1)
                   (slots_behind p code input r lo (slot.Number ∷ []) (unless_bare (bare_desig y) (desig_slots p r y)) slots)) one_cell
                   slots;
@@ -564,7 +521,7 @@ module _ (p : Program) (tables : Tables) (code : PlainCode) (all : List (List Ru
                   let placed = target p tables code input below r line (suc n) y g at (lo + 1)
                   (slots_behind p code input r lo (slot.Number ∷ []) (unless_bare (bare_desig y) (desig_slots p r y)) slots) none in
                   load_straight p tables code input below r line (suc n) at lo (goal_end p code input r goal lo) y
-                  (goal_ways p code input r goal lo) none (g.own one_cell) placed one_cell
+                  (goal_ways p code input r goal lo) none placed one_cell
                   (goal_takes p code input r line (suc n) lo goal numbers slots.behind (first_slot p code input r lo (Load y) slots));
             }
         expr_go r line lt (Chain negated e links) ls h =
@@ -634,9 +591,8 @@ module _ (p : Program) (tables : Tables) (code : PlainCode) (all : List (List Ru
             record {
               fits = tt;
               constants = λ n same. absurd (cc);
-              runs = λ at lo slots. known_runs p tables code input below r line (suc n) at lo y (g.own (cells_with d ls ∙ h.asked.0.cells))
-                  slots (cells_with d ls ∙ h.asked.0.cells)
-                  (g.runs at (lo + 1) (slots_behind p code input r lo (slot.Number ∷ []) (desig_slots p r y) slots));
+              runs = λ at lo slots. known_runs p tables code input below r line (suc n) at lo y slots (cells_with d ls ∙ h.asked.0.cells)
+                  (g.held at (lo + 1) (slots_behind p code input r lo (slot.Number ∷ []) (desig_slots p r y) slots));
               operands = λ how y z same. absurd (cc);
               straightly = λ goal at lo alone numbers slots. absurd (let bad : false ≡ true = alone in cc);
             }
@@ -759,7 +715,7 @@ module _ (p : Program) (tables : Tables) (code : PlainCode) (all : List (List Ru
             record {
               runs = λ at lo slots. bind_runs p tables code input below r line (suc n) at lo y x range slots.behind
                   (cells_with d ls ∙ h.asked.0.cells) h.asked.0.coded
-                  (g.runs at lo (slots_first p code input r lo (desig_slots p r y) (unless_bare (bare x) (expr_slots p r x)) slots))
+                  (g.held at lo (slots_first p code input r lo (desig_slots p r y) (unless_bare (bare x) (expr_slots p r x)) slots))
                   (λ next. once p tables code input below r line (suc n) x g2 next (behind_desig p r lo y)
                   (slots_behind p code input r lo (desig_slots p r y) (unless_bare (bare x) (expr_slots p r x)) slots));
               value = λ z same. absurd (cc);
@@ -775,7 +731,7 @@ module _ (p : Program) (tables : Tables) (code : PlainCode) (all : List (List Ru
               runs = λ at lo slots. bind_value_runs p tables code input below r line (suc n) at lo y x range slots.behind
                   (cells_with d ls2 ∙ h.asked.0.cells) h.asked.0.coded
                   (g2.runs at lo (slots_first p code input r lo (expr_slots p r x) (desig_slots p r y) slots))
-                  (λ next. g.runs next (behind_expr p r lo x)
+                  (λ next. g.held next (behind_expr p r lo x)
                   (slots_behind p code input r lo (expr_slots p r x) (desig_slots p r y) slots));
               value = λ z same. absurd (cc);
             }
@@ -790,8 +746,8 @@ module _ (p : Program) (tables : Tables) (code : PlainCode) (all : List (List Ru
             record {
               runs = λ at lo slots. unify_runs p tables code input below r line (suc n) at lo y z range range2 slots.behind
                   (cells_with d ls ∙ asked.cells.0) (cells_with e ls2 ∙ asked.cells.1) asked.coded.0 asked.coded.1
-                  (g.runs at lo (slots_first p code input r lo (desig_slots p r y) (desig_slots p r z) slots))
-                  (λ next. g2.runs next (behind_desig p r lo y)
+                  (g.held at lo (slots_first p code input r lo (desig_slots p r y) (desig_slots p r z) slots))
+                  (λ next. g2.held next (behind_desig p r lo y)
                   (slots_behind p code input r lo (desig_slots p r y) (desig_slots p r z) slots));
               value = λ u same. absurd (cc);
             }
@@ -805,8 +761,8 @@ module _ (p : Program) (tables : Tables) (code : PlainCode) (all : List (List Ru
             record {
               runs = λ at lo slots. match_runs p tables code input below r line (suc n) at lo y z slots.behind
                   (cells_with d ls ∙ h.asked.0.cells ∙ sym (cells_with e ls2))
-                  (g.runs at lo (slots_first p code input r lo (desig_slots p r y) (desig_slots p r z) slots))
-                  (λ next. g2.runs next (behind_desig p r lo y)
+                  (g.held at lo (slots_first p code input r lo (desig_slots p r y) (desig_slots p r z) slots))
+                  (λ next. g2.held next (behind_desig p r lo y)
                   (slots_behind p code input r lo (desig_slots p r y) (desig_slots p r z) slots));
               value = λ u same. absurd (cc);
             }
@@ -938,8 +894,8 @@ module _ (p : Program) (tables : Tables) (code : PlainCode) (all : List (List Ru
             let g2 = desig_go r line lt e ls2 (fine_back p tables code input r (desig_phrases d) (desig_phrases e) ls inner) in
             plain may r line at lo (CopyCells y z) (copy_runs p tables code input below r line (suc n) at lo y z slots.behind
             (cells_with d ls ∙ h.asked.0.cells ∙ sym (cells_with e ls2))
-            (g.runs at lo (slots_first p code input r lo (desig_slots p r y) (desig_slots p r z) slots))
-            (λ next. g2.runs next (behind_desig p r lo y) (slots_behind p code input r lo (desig_slots p r y) (desig_slots p r z) slots)))
+            (g.held at lo (slots_first p code input r lo (desig_slots p r y) (desig_slots p r z) slots))
+            (λ next. g2.held next (behind_desig p r lo y) (slots_behind p code input r lo (desig_slots p r y) (desig_slots p r z) slots)))
         stmt_go may r lt (If arms rest) ls0 h stays line at lo slots =
             let ls = drop 1 ls0 in
             let inner = fine_stmt p tables code input r (If arms rest) (arms_phrases arms ++ stmts_phrases rest) ls0 h in
@@ -1159,7 +1115,7 @@ module _ (p : Program) (tables : Tables) (code : PlainCode) (all : List (List Ru
             let asked = h.asked.0 in
             plain may r line at lo (Read y how range)
             (read_runs p tables code input below r line (suc n) flat position_kind lawful at lo y how range slots.behind
-            (cells_with d ls ∙ asked.cells) asked.coded.0 asked.coded.1 (g.runs at lo slots))
+            (cells_with d ls ∙ asked.cells) asked.coded.0 asked.coded.1 (g.held at lo slots))
         stmt_go may r lt (WriteExpr e how) ls0 h stays line at lo slots =
             let ls = drop 1 ls0 in
             let x : Expr = expr_with e ls in

@@ -1,5 +1,6 @@
 pub mod Stands
 pub mod EitherRuns
+pub mod Given
 pub mod Parts
 pub mod PlaceSteps
 pub mod AtOnce
