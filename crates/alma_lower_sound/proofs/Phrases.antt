@@ -65,6 +65,7 @@ use Rattle.alma_lower_sound.proofs.Roots.{Compiled, Slots}
 use Rattle.alma_lower_sound.proofs.Values as values
 use Rattle.alma_lower_sound.proofs.Values.{Good}
 use Rattle.alma_lower_templates.proofs.Straight.{straight_variable}
+use Rattle.alma_lower_templates.proofs.FormRuns.{held_code}
 
 module _ (p : Program) (tables : Tables) (code : PlainCode) (checked : IsChecked p) (w : Compiled p tables code) (r : ℕ)
     (lt : r < length p.routines) where
@@ -118,10 +119,15 @@ module _ (p : Program) (tables : Tables) (code : PlainCode) (checked : IsChecked
   once line at lo e slots f = pieces.unless code r 0 at (bare e) (expr_code p tables r line at lo e)
       (λ none. f (values.none_slots p tables code checked w r lt (bare e) lo (expr_slots p r e) none slots))
 
+  -- a designator whose place is used
+  held_here : (line at lo : ℕ) (d : Desig) → Here at (desig_code p tables r line at lo d) → Here at (held_code p tables r line at lo d)
+  held_here line at lo d f = pieces.unless code r 0 at (own_place d) (desig_code p tables r line at lo d) (λ none. f)
+
   located : (line at lo : ℕ) (d : Desig) → (bare_desig d ≡ None → SlotsOf lo (desig_slots p r d))
       → (SlotsOf lo (desig_slots p r d) → Here at (desig_code p tables r line at lo d))
-      → Here at (unless_bare (bare_desig d) (desig_code p tables r line at lo d))
-  located line at lo d slots f = pieces.unless code r 0 at (bare_desig d) (desig_code p tables r line at lo d) (λ none. f (slots none))
+      → Here at (unless_bare (bare_desig d) (held_code p tables r line at lo d))
+  located line at lo d slots f =
+      pieces.unless code r 0 at (bare_desig d) (held_code p tables r line at lo d) (λ none. held_here line at lo d (f (slots none)))
 
   target_slots : (lo : ℕ) (d : Desig) → SlotsOf lo (unless_bare (bare_desig d) (desig_slots p r d)) → bare_desig d ≡ None
       → SlotsOf lo (desig_slots p r d)
@@ -392,7 +398,7 @@ module _ (p : Program) (tables : Tables) (code : PlainCode) (checked : IsChecked
   abbrev turn_of : (line at counter lo : ℕ) → Desig → Range → ((at : ℕ) → List Lined) → List Lined
   turn_of line at counter lo d range body =
       turn_code line at (count_code p tables r (bare_desig d) range counter lo)
-      (λ at. unless_bare (bare_desig d) (desig_code p tables r line at (lo + 1) d))
+      (λ at. unless_bare (bare_desig d) (held_code p tables r line at (lo + 1) d))
       (set_code p tables r (lo + 1) (count_at p tables r (bare_desig d) counter lo) d) body
 
   turn : (line at counter lo : ℕ) (d : Desig) (range : Range) (body : (at : ℕ) → List Lined) → HoldsChecked tables range → desig_cells d ≡ 1
@@ -402,7 +408,7 @@ module _ (p : Program) (tables : Tables) (code : PlainCode) (checked : IsChecked
   turn line at counter lo d range body held cell good n slots f b =
       let c = count_needs (bare_desig d) range counter lo held n (λ none. first_slot lo slot.Number (desig_slots p r d) (own_slots none)) in
       pieces.turn_fits code r line at (count_code p tables r (bare_desig d) range counter lo)
-      (λ at. unless_bare (bare_desig d) (desig_code p tables r line at (lo + 1) d))
+      (λ at. unless_bare (bare_desig d) (held_code p tables r line at (lo + 1) d))
       (set_code p tables r (lo + 1) (count_at p tables r (bare_desig d) counter lo) d) body
       c.0 (λ at. located line at (lo + 1) d place_slots (f at (lo + 1)))
       (values.set_needs p tables code checked w r lt (lo + 1) (count_at p tables r (bare_desig d) counter lo) d good cell place_slots c.1) b
@@ -477,12 +483,10 @@ module _ (p : Program) (tables : Tables) (code : PlainCode) (checked : IsChecked
     expr_fits line at lo (Const n) good slots = own_fits at line (I.Const lo n ∷ []) (first_slot lo slot.Number [] slots, tt)
     expr_fits line at lo (Load d) good slots =
         let inner = back lo (slot.Number ∷ []) (unless_bare (bare_desig d) (desig_slots p r d)) slots in
-        let place : List Lined = desig_code p tables r line at (lo + 1) d in
-        let one : List Lined = unless_bare (own_place d) place in
+        let one : List Lined = held_code p tables r line at (lo + 1) d in
         then_own at line (unless_bare (bare_desig d) one) (load_code p tables r lo d ∷ [])
         (pieces.unless code r 0 at (bare_desig d) one
-        (λ none. pieces.unless code r 0 at (own_place d) place
-        (λ other. desig_fits line at (lo + 1) d good.1 (target_slots (lo + 1) d inner none))))
+        (λ none. held_here line at (lo + 1) d (desig_fits line at (lo + 1) d good.1 (target_slots (lo + 1) d inner none))))
         (values.load_needs p tables code checked w r lt lo d good.1 good.0 slots, tt)
     expr_fits line at lo (Chain negated e links) good slots =
         let mine = front lo (expr_slots p r e) (links_slots p r links) slots in
@@ -530,12 +534,11 @@ module _ (p : Program) (tables : Tables) (code : PlainCode) (checked : IsChecked
         (first_slot lo slot.Number (mark_slots (is_simple t) ++ test_slots p r t) slots))
     expr_fits line at lo (Known d) good slots =
         let inner = back lo (slot.Number ∷ []) (desig_slots p r d) slots in
-        let place : List Lined = desig_code p tables r line at (lo + 1) d in
-        then_own at line (unless_bare (own_place d) place) (I.Known lo (held_at p tables r (lo + 1) d) ∷ [])
-        (pieces.unless code r 0 at (own_place d) place (λ other. desig_fits line at (lo + 1) d good.1 inner)) (
+        then_own at line (held_code p tables r line at (lo + 1) d) (I.Known lo (held_at p tables r (lo + 1) d) ∷ [])
+        (held_here line at (lo + 1) d (desig_fits line at (lo + 1) d good.1 inner)) (
           (
             first_slot lo slot.Number (desig_slots p r d) slots,
-            values.held_place p tables code checked w r lt (lo + 1) d good.1 good.0 inner,
+            values.one_place p tables code checked w r lt (lo + 1) d good.1 good.0 inner,
           ),
           tt,
         )
@@ -682,16 +685,17 @@ module _ (p : Program) (tables : Tables) (code : PlainCode) (checked : IsChecked
         value_fits line at lo e good.1 slots (once line at lo e slots (expr_fits line at lo e good.1)) (tested p tables r e)
     test_fits line at lo (Bind d e range true) good slots =
         let lo2 : ℕ = behind_desig p r lo d in
-        let one : List Lined = desig_code p tables r line at lo d in
+        let one : List Lined = held_code p tables r line at lo d in
         let two : List Lined = unless_bare (bare e) (expr_code p tables r line (at + length one) lo2 e) in
         let mine = front lo (desig_slots p r d) (unless_bare (bare e) (expr_slots p r e)) slots in
         let others = back lo (desig_slots p r d) (unless_bare (bare e) (expr_slots p r e)) slots in
+        let good_d = fine_front (desig_phrases d) (expr_phrases e) good.1 in
         let good_e = fine_back (desig_phrases d) (expr_phrases e) good.1 in
-        then_own at line (one ++ two) (I.Bind (place_at p tables r lo d) (value_at p tables r lo2 e) (range_number tables range) ∷ [])
-        (row at one two (desig_fits line at lo d (fine_front (desig_phrases d) (expr_phrases e) good.1) mine)
+        then_own at line (one ++ two) (I.Bind (held_at p tables r lo d) (value_at p tables r lo2 e) (range_number tables range) ∷ [])
+        (row at one two (held_here line at lo d (desig_fits line at lo d good_d mine))
         (once line (at + length one) lo2 e others (expr_fits line (at + length one) lo2 e good_e))) (
           (
-            values.one_place p tables code checked w r lt lo d good.0.0 mine,
+            values.one_place p tables code checked w r lt lo d good_d good.0.0 mine,
             number lo2 e good_e others,
             values.is_range p tables code checked w r lt range good.0.1,
           ),
@@ -700,14 +704,15 @@ module _ (p : Program) (tables : Tables) (code : PlainCode) (checked : IsChecked
     test_fits line at lo (Bind d e range false) good slots =
         let lo2 : ℕ = behind_expr p r lo e in
         let one : List Lined = expr_code p tables r line at lo e in
-        let two : List Lined = desig_code p tables r line (at + length one) lo2 d in
+        let two : List Lined = held_code p tables r line (at + length one) lo2 d in
         let mine = front lo (expr_slots p r e) (desig_slots p r d) slots in
         let others = back lo (expr_slots p r e) (desig_slots p r d) slots in
-        then_own at line (one ++ two) (I.Bind (place_at p tables r lo2 d) lo (range_number tables range) ∷ [])
+        let good_d = fine_front (desig_phrases d) (expr_phrases e) good.1 in
+        then_own at line (one ++ two) (I.Bind (held_at p tables r lo2 d) lo (range_number tables range) ∷ [])
         (row at one two (expr_fits line at lo e (fine_back (desig_phrases d) (expr_phrases e) good.1) mine)
-        (desig_fits line (at + length one) lo2 d (fine_front (desig_phrases d) (expr_phrases e) good.1) others)) (
+        (held_here line (at + length one) lo2 d (desig_fits line (at + length one) lo2 d good_d others))) (
           (
-            values.one_place p tables code checked w r lt lo2 d good.0.0 others,
+            values.one_place p tables code checked w r lt lo2 d good_d good.0.0 others,
             values.expr_number p tables code checked w r lt lo e mine,
             values.is_range p tables code checked w r lt range good.0.1,
           ),
@@ -715,37 +720,41 @@ module _ (p : Program) (tables : Tables) (code : PlainCode) (checked : IsChecked
         )
     test_fits line at lo (Unify d range e range') good slots =
         let lo2 : ℕ = behind_desig p r lo d in
-        let one : List Lined = desig_code p tables r line at lo d in
-        let two : List Lined = desig_code p tables r line (at + length one) lo2 e in
+        let one : List Lined = held_code p tables r line at lo d in
+        let two : List Lined = held_code p tables r line (at + length one) lo2 e in
         let mine = front lo (desig_slots p r d) (desig_slots p r e) slots in
         let others = back lo (desig_slots p r d) (desig_slots p r e) slots in
-        then_own at line (one ++ two) (I.Unify (place_at p tables r lo d) (range_number tables range) (place_at p tables r lo2 e)
+        let good_d = fine_front (desig_phrases d) (desig_phrases e) good.1 in
+        let good_e = fine_back (desig_phrases d) (desig_phrases e) good.1 in
+        then_own at line (one ++ two) (I.Unify (held_at p tables r lo d) (range_number tables range) (held_at p tables r lo2 e)
         (range_number tables range') ∷ [])
-        (row at one two (desig_fits line at lo d (fine_front (desig_phrases d) (desig_phrases e) good.1) mine)
-        (desig_fits line (at + length one) lo2 e (fine_back (desig_phrases d) (desig_phrases e) good.1) others)) (
+        (row at one two (held_here line at lo d (desig_fits line at lo d good_d mine))
+        (held_here line (at + length one) lo2 e (desig_fits line (at + length one) lo2 e good_e others))) (
           (
-            values.one_place p tables code checked w r lt lo d good.0.0 mine,
+            values.one_place p tables code checked w r lt lo d good_d good.0.0 mine,
             values.is_range p tables code checked w r lt range good.0.2,
-            values.one_place p tables code checked w r lt lo2 e good.0.1 others,
+            values.one_place p tables code checked w r lt lo2 e good_e good.0.1 others,
             values.is_range p tables code checked w r lt range' good.0.3,
           ),
           tt,
         )
     test_fits line at lo (SameCells d e) good slots =
         let lo2 : ℕ = behind_desig p r lo d in
-        let one : List Lined = desig_code p tables r line at lo d in
-        let two : List Lined = desig_code p tables r line (at + length one) lo2 e in
+        let one : List Lined = held_code p tables r line at lo d in
+        let two : List Lined = held_code p tables r line (at + length one) lo2 e in
         let mine = front lo (desig_slots p r d) (desig_slots p r e) slots in
         let others = back lo (desig_slots p r d) (desig_slots p r e) slots in
-        then_own at line (one ++ two) (I.SameCells (place_at p tables r lo d) (place_at p tables r lo2 e) ∷ [])
-        (row at one two (desig_fits line at lo d (fine_front (desig_phrases d) (desig_phrases e) good.1) mine)
-        (desig_fits line (at + length one) lo2 e (fine_back (desig_phrases d) (desig_phrases e) good.1) others)) (
+        let good_d = fine_front (desig_phrases d) (desig_phrases e) good.1 in
+        let good_e = fine_back (desig_phrases d) (desig_phrases e) good.1 in
+        then_own at line (one ++ two) (I.SameCells (held_at p tables r lo d) (held_at p tables r lo2 e) ∷ [])
+        (row at one two (held_here line at lo d (desig_fits line at lo d good_d mine))
+        (held_here line (at + length one) lo2 e (desig_fits line (at + length one) lo2 e good_e others))) (
           record {
             cells = desig_cells d;
-            first = values.desig_place p tables code checked w r lt lo d mine;
+            first = values.held_place p tables code checked w r lt lo d good_d mine;
             second =
-                subst (Place code r (place_at p tables r lo2 e)) (sym good.0)
-                (values.desig_place p tables code checked w r lt lo2 e others);
+                subst (Place code r (held_at p tables r lo2 e)) (sym good.0)
+                (values.held_place p tables code checked w r lt lo2 e good_e others);
           },
           tt,
         )
@@ -840,7 +849,7 @@ module _ (p : Program) (tables : Tables) (code : PlainCode) (checked : IsChecked
         let b = unless_bare (bare e) (expr_slots p r e) in
         let lo2 : ℕ = behind_target p r lo d in
         let v : ℕ = value_at p tables r lo2 e in
-        let one : List Lined = unless_bare (bare_desig d) (desig_code p tables r line at lo d) in
+        let one : List Lined = unless_bare (bare_desig d) (held_code p tables r line at lo d) in
         let two : List Lined = unless_bare (bare e) (expr_code p tables r line (at + length one) lo2 e) in
         let place_slots = target_slots lo d (front lo a b slots) in
         let others = back lo a b slots in
@@ -856,19 +865,21 @@ module _ (p : Program) (tables : Tables) (code : PlainCode) (checked : IsChecked
         (values.set_needs p tables code checked w r lt lo v d good_d good.0.0 place_slots n, tt))
     stmt_fits line at lo (CopyCells d e) good slots =
         let lo2 : ℕ = behind_desig p r lo d in
-        let one : List Lined = desig_code p tables r line at lo d in
-        let two : List Lined = desig_code p tables r line (at + length one) lo2 e in
+        let one : List Lined = held_code p tables r line at lo d in
+        let two : List Lined = held_code p tables r line (at + length one) lo2 e in
         let mine = front lo (desig_slots p r d) (desig_slots p r e) slots in
         let others = back lo (desig_slots p r d) (desig_slots p r e) slots in
-        then_own at line (one ++ two) (I.CopyCells (place_at p tables r lo d) (place_at p tables r lo2 e) ∷ [])
-        (row at one two (desig_fits line at lo d (fine_front (desig_phrases d) (desig_phrases e) good.1) mine)
-        (desig_fits line (at + length one) lo2 e (fine_back (desig_phrases d) (desig_phrases e) good.1) others)) (
+        let good_d = fine_front (desig_phrases d) (desig_phrases e) good.1 in
+        let good_e = fine_back (desig_phrases d) (desig_phrases e) good.1 in
+        then_own at line (one ++ two) (I.CopyCells (held_at p tables r lo d) (held_at p tables r lo2 e) ∷ [])
+        (row at one two (held_here line at lo d (desig_fits line at lo d good_d mine))
+        (held_here line (at + length one) lo2 e (desig_fits line (at + length one) lo2 e good_e others))) (
           record {
             cells = desig_cells d;
-            first = values.desig_place p tables code checked w r lt lo d mine;
+            first = values.held_place p tables code checked w r lt lo d good_d mine;
             second =
-                subst (Place code r (place_at p tables r lo2 e)) (sym good.0)
-                (values.desig_place p tables code checked w r lt lo2 e others);
+                subst (Place code r (held_at p tables r lo2 e)) (sym good.0)
+                (values.held_place p tables code checked w r lt lo2 e good_e others);
           },
           tt,
         )
@@ -953,10 +964,10 @@ module _ (p : Program) (tables : Tables) (code : PlainCode) (checked : IsChecked
         (fit_result p tables r (routine_at p r).result v ++ (I.ReturnValue v ∷ []))
         (once line at lo e slots (expr_fits line at lo e good.1)) (result_needs v good.0 (number lo e good.1 slots))
     stmt_fits line at lo (Read d how range) good slots =
-        then_own at line (desig_code p tables r line at lo d) (read_code how (place_at p tables r lo d) (range_number tables range) ∷ [])
-        (desig_fits line at lo d good.1 slots) (
-          read_needs how (place_at p tables r lo d) (range_number tables range)
-              (values.one_place p tables code checked w r lt lo d good.0.0 slots)
+        then_own at line (held_code p tables r line at lo d) (read_code how (held_at p tables r lo d) (range_number tables range) ∷ [])
+        (held_here line at lo d (desig_fits line at lo d good.1 slots)) (
+          read_needs how (held_at p tables r lo d) (range_number tables range)
+              (values.one_place p tables code checked w r lt lo d good.1 good.0.0 slots)
               (values.is_range p tables code checked w r lt range good.0.1),
           tt,
         )

@@ -44,6 +44,7 @@ use Rattle.alma_lower_templates.specs.Templates.{links_code, args_code, arg_code
 use Rattle.alma_lower_templates.proofs.First.{as_stays, as_stays_in}
 use Rattle.alma_lower_templates.proofs.Tested.{compared_code, Tested, tested, as_value, as_unequal}
 use Rattle.alma_lower_templates.proofs.Turned.{Turned, compares_two, turned, while_code}
+use Rattle.alma_lower_templates.proofs.FormRuns.{held_code}
 use Rattle.alma_code.specs.Reads.{is_read}
 
 -- ---- READs of phrases
@@ -445,7 +446,7 @@ module _ (p : Program) (tables : Tables) (r : ℕ) where
   abbrev turn_of : (line at counter lo : ℕ) → Desig → Range → ((at : ℕ) → List Lined) → List Lined
   turn_of line at counter lo d range body =
       turn_code line at (count_code p tables r (bare_desig d) range counter lo)
-      (λ at. unless_bare (bare_desig d) (desig_code p tables r line at (lo + 1) d))
+      (λ at. unless_bare (bare_desig d) (held_code p tables r line at (lo + 1) d))
       (set_code p tables r (lo + 1) (count_at p tables r (bare_desig d) counter lo) d) body
 
   -- ---- forms of several parts, given their parts
@@ -511,10 +512,10 @@ module _ (p : Program) (tables : Tables) (r : ℕ) where
       → reads (turn_of line at counter lo d range body) ≡ desig_reads d + n
   turn line at counter lo d range body n f b =
       turn_reads line at (count_code p tables r (bare_desig d) range counter lo)
-      (λ at. unless_bare (bare_desig d) (desig_code p tables r line at (lo + 1) d))
+      (λ at. unless_bare (bare_desig d) (held_code p tables r line at (lo + 1) d))
       (set_code p tables r (lo + 1) (count_at p tables r (bare_desig d) counter lo) d) body (desig_reads d) n
       (count_quiet (bare_desig d) range counter lo) (set_quiet (lo + 1) (count_at p tables r (bare_desig d) counter lo) d)
-      (λ at. located d (desig_code p tables r line at (lo + 1) d) (f at)) b
+      (λ at. located d (held_code p tables r line at (lo + 1) d) (placed d (desig_code p tables r line at (lo + 1) d) (f at))) b
 
   -- ---- CASE: the jump over the arms that have no label
 
@@ -640,7 +641,7 @@ module _ (p : Program) (tables : Tables) (r : ℕ) where
     expr_same line at lo (Const n) = omega arith
     expr_same line at lo (Load d) =
         let place : List Lined = desig_code p tables r line at (lo + 1) d in
-        let one : List Lined = unless_bare (own_place d) place in
+        let one : List Lined = held_code p tables r line at (lo + 1) d in
         omega (
           arith,
           then_own line (unless_bare (bare_desig d) one) (load_code p tables r lo d ∷ []) (load_quiet lo d),
@@ -687,7 +688,7 @@ module _ (p : Program) (tables : Tables) (r : ℕ) where
         let place : List Lined = desig_code p tables r line at (lo + 1) d in
         omega (
           arith,
-          then_own line (unless_bare (own_place d) place) (I.Known lo (held_at p tables r (lo + 1) d) ∷ []) (λ l. refl),
+          then_own line (held_code p tables r line at (lo + 1) d) (I.Known lo (held_at p tables r (lo + 1) d) ∷ []) (λ l. refl),
           placed d place (desig_same line at (lo + 1) d),
           desig_same line at (lo + 1) d,
         )
@@ -792,51 +793,51 @@ module _ (p : Program) (tables : Tables) (r : ℕ) where
     )
     test_same line at lo (Bind d e range true) =
         let lo2 : ℕ = behind_desig p r lo d in
-        let one : List Lined = desig_code p tables r line at lo d in
+        let one : List Lined = held_code p tables r line at lo d in
         let inner : List Lined = expr_code p tables r line (at + length one) lo2 e in
         let two : List Lined = unless_bare (bare e) inner in
         omega (
           arith,
           then_own line (one ++ two)
-              (I.Bind (place_at p tables r lo d) (value_at p tables r lo2 e) (range_number tables range) ∷ []) (λ l. refl),
+              (I.Bind (held_at p tables r lo d) (value_at p tables r lo2 e) (range_number tables range) ∷ []) (λ l. refl),
           both one two,
           once e inner (expr_same line (at + length one) lo2 e),
-          desig_same line at lo d,
+          placed d (desig_code p tables r line at lo d) (desig_same line at lo d),
           expr_same line (at + length one) lo2 e,
         )
     test_same line at lo (Bind d e range false) =
         let lo2 : ℕ = behind_expr p r lo e in
         let one : List Lined = expr_code p tables r line at lo e in
-        let two : List Lined = desig_code p tables r line (at + length one) lo2 d in
+        let two : List Lined = held_code p tables r line (at + length one) lo2 d in
         omega (
           arith,
-          then_own line (one ++ two) (I.Bind (place_at p tables r lo2 d) lo (range_number tables range) ∷ []) (λ l. refl),
+          then_own line (one ++ two) (I.Bind (held_at p tables r lo2 d) lo (range_number tables range) ∷ []) (λ l. refl),
           both one two,
           expr_same line at lo e,
-          desig_same line (at + length one) lo2 d,
+          placed d (desig_code p tables r line (at + length one) lo2 d) (desig_same line (at + length one) lo2 d),
         )
     test_same line at lo (Unify d range e range2) =
         let lo2 : ℕ = behind_desig p r lo d in
-        let one : List Lined = desig_code p tables r line at lo d in
-        let two : List Lined = desig_code p tables r line (at + length one) lo2 e in
+        let one : List Lined = held_code p tables r line at lo d in
+        let two : List Lined = held_code p tables r line (at + length one) lo2 e in
         omega (
           arith,
-          then_own line (one ++ two) (I.Unify (place_at p tables r lo d) (range_number tables range) (place_at p tables r lo2 e)
+          then_own line (one ++ two) (I.Unify (held_at p tables r lo d) (range_number tables range) (held_at p tables r lo2 e)
               (range_number tables range2) ∷ []) (λ l. refl),
           both one two,
-          desig_same line at lo d,
-          desig_same line (at + length one) lo2 e,
+          placed d (desig_code p tables r line at lo d) (desig_same line at lo d),
+          placed e (desig_code p tables r line (at + length one) lo2 e) (desig_same line (at + length one) lo2 e),
         )
     test_same line at lo (SameCells d e) =
         let lo2 : ℕ = behind_desig p r lo d in
-        let one : List Lined = desig_code p tables r line at lo d in
-        let two : List Lined = desig_code p tables r line (at + length one) lo2 e in
+        let one : List Lined = held_code p tables r line at lo d in
+        let two : List Lined = held_code p tables r line (at + length one) lo2 e in
         omega (
           arith,
-          then_own line (one ++ two) (I.SameCells (place_at p tables r lo d) (place_at p tables r lo2 e) ∷ []) (λ l. refl),
+          then_own line (one ++ two) (I.SameCells (held_at p tables r lo d) (held_at p tables r lo2 e) ∷ []) (λ l. refl),
           both one two,
-          desig_same line at lo d,
-          desig_same line (at + length one) lo2 e,
+          placed d (desig_code p tables r line at lo d) (desig_same line at lo d),
+          placed e (desig_code p tables r line (at + length one) lo2 e) (desig_same line (at + length one) lo2 e),
         )
     test_same line at lo (Seq x) = omega (arith, stmts_same at lo x)
     test_same line at lo (And ts) = omega (arith, and_same line at lo ts)
@@ -919,7 +920,7 @@ module _ (p : Program) (tables : Tables) (r : ℕ) where
     stmt_same line at lo (Assign d e range) =
         let lo2 : ℕ = behind_target p r lo d in
         let v : ℕ = value_at p tables r lo2 e in
-        let place : List Lined = desig_code p tables r line at lo d in
+        let place : List Lined = held_code p tables r line at lo d in
         let one : List Lined = unless_bare (bare_desig d) place in
         let inner : List Lined = expr_code p tables r line (at + length one) lo2 e in
         let two : List Lined = unless_bare (bare e) inner in
@@ -928,21 +929,20 @@ module _ (p : Program) (tables : Tables) (r : ℕ) where
           set_reads (goes_straight d e range) line (one ++ two) (fit_code tables range v ++ (set_code p tables r lo v d ∷ []))
               (quiet_two (fit_code tables range v) (set_code p tables r lo v d ∷ []) (fit_quiet range v) (set_quiet lo v d)),
           both one two,
-          located d place (desig_same line at lo d),
+          located d place (placed d (desig_code p tables r line at lo d) (desig_same line at lo d)),
           once e inner (expr_same line (at + length one) lo2 e),
-          desig_same line at lo d,
           expr_same line (at + length one) lo2 e,
         )
     stmt_same line at lo (CopyCells d e) =
         let lo2 : ℕ = behind_desig p r lo d in
-        let one : List Lined = desig_code p tables r line at lo d in
-        let two : List Lined = desig_code p tables r line (at + length one) lo2 e in
+        let one : List Lined = held_code p tables r line at lo d in
+        let two : List Lined = held_code p tables r line (at + length one) lo2 e in
         omega (
           arith,
-          then_own line (one ++ two) (I.CopyCells (place_at p tables r lo d) (place_at p tables r lo2 e) ∷ []) (λ l. refl),
+          then_own line (one ++ two) (I.CopyCells (held_at p tables r lo d) (held_at p tables r lo2 e) ∷ []) (λ l. refl),
           both one two,
-          desig_same line at lo d,
-          desig_same line (at + length one) lo2 e,
+          placed d (desig_code p tables r line at lo d) (desig_same line at lo d),
+          placed e (desig_code p tables r line (at + length one) lo2 e) (desig_same line (at + length one) lo2 e),
         )
     stmt_same line at lo (If arms rest) =
         let z = if_same line at lo arms (λ next la. stmts_code p tables r next la rest) (stmts_reads rest)
@@ -1019,10 +1019,10 @@ module _ (p : Program) (tables : Tables) (r : ℕ) where
     stmt_same line at lo (Read d how range) =
         omega (
           arith,
-          both (desig_code p tables r line at lo d)
-              (own line (read_code how (place_at p tables r lo d) (range_number tables range) ∷ [])),
-          read_one how (place_at p tables r lo d) (range_number tables range) line,
-          desig_same line at lo d,
+          both (held_code p tables r line at lo d)
+              (own line (read_code how (held_at p tables r lo d) (range_number tables range) ∷ [])),
+          read_one how (held_at p tables r lo d) (range_number tables range) line,
+          placed d (desig_code p tables r line at lo d) (desig_same line at lo d),
         )
     stmt_same line at lo (WriteExpr e how) =
         omega (

@@ -37,6 +37,7 @@ use Rattle.alma_lower_templates.specs.Templates.{fit_result, stmts_code, stmt_co
 use Rattle.alma_lower_templates.specs.Templates.{case_code, cases_code, else_code, either_code, branches_code, test_code, and_code, or_code}
 use Rattle.alma_lower_templates.specs.Templates.{operands_code, jump_code, expr_code, links_code, args_code, arg_code, desig_code}
 use Rattle.alma_lower_templates.specs.Templates.{sels_code, sel_code, held_at, set_to, back_code}
+use Rattle.alma_lower_templates.proofs.FormRuns.{held_code}
 
 -- ---- walks
 
@@ -294,10 +295,15 @@ module _ (p : Program) (tables : Tables) (r : ℕ) where
   abbrev turn_of : (line at counter lo : ℕ) → Desig → Range → ((at : ℕ) → List Lined) → List Lined
   turn_of line at counter lo d range body =
       turn_code line at (count_code p tables r (bare_desig d) range counter lo)
-      (λ at. unless_bare (bare_desig d) (desig_code p tables r line at (lo + 1) d))
+      (λ at. unless_bare (bare_desig d) (held_code p tables r line at (lo + 1) d))
       (set_code p tables r (lo + 1) (count_at p tables r (bare_desig d) counter lo) d) body
 
   -- ---- forms of several parts, given their parts
+
+  -- a designator whose place is used
+  held_round : (line at lo : ℕ) (d : Desig) (m : ℕ) → round line (desig_code p tables r line at lo d) ≤ m
+      → round line (held_code p tables r line at lo d) ≤ m
+  held_round line at lo d m h = omega (arith, h, unless_round line (own_place d) (desig_code p tables r line at lo d))
 
   decides : (line at lo none : ℕ) (t : Test) (n : ℕ) → round line (jump_code p tables r line at lo none t) ≤ n
       → round line (test_code p tables r line (at + 2) (lo + 1) t) ≤ n → round line (condition_code line at lo none t) ≤ n
@@ -317,11 +323,13 @@ module _ (p : Program) (tables : Tables) (r : ℕ) where
       → round line (turn_of line at counter lo d range body) ≤ m + n
   turn line at counter lo d range body m n f b =
       turn_round line at (count_code p tables r (bare_desig d) range counter lo)
-      (λ at. unless_bare (bare_desig d) (desig_code p tables r line at (lo + 1) d))
+      (λ at. unless_bare (bare_desig d) (held_code p tables r line at (lo + 1) d))
       (set_code p tables r (lo + 1) (count_at p tables r (bare_desig d) counter lo) d) body m n located b
     where
-      located : (at : ℕ) → round line (unless_bare (bare_desig d) (desig_code p tables r line at (lo + 1) d)) ≤ m
-      located at = let z = f at in omega (arith, z, unless_round line (bare_desig d) (desig_code p tables r line at (lo + 1) d))
+      located : (at : ℕ) → round line (unless_bare (bare_desig d) (held_code p tables r line at (lo + 1) d)) ≤ m
+      located at =
+          let z = held_round line at (lo + 1) d m (f at) in
+          omega (arith, z, unless_round line (bare_desig d) (held_code p tables r line at (lo + 1) d))
 
   -- the bounds of a loop
   abbrev limit_of : (line at lo limit : ℕ) → Expr → List Lined
@@ -453,14 +461,12 @@ module _ (p : Program) (tables : Tables) (r : ℕ) where
     expr_round : (line at lo : ℕ) (x : Expr) → round line (expr_code p tables r line at lo x) ≤ 2 * expr_nodes x
     expr_round line at lo (Const n) = omega (arith, own_round line (I.Const lo n ∷ []))
     expr_round line at lo (Load d) =
-        let place : List Lined = desig_code p tables r line at (lo + 1) d in
-        let one : List Lined = unless_bare (own_place d) place in
+        let one : List Lined = held_code p tables r line at (lo + 1) d in
         omega (
           arith,
           then_own line (unless_bare (bare_desig d) one) (load_code p tables r lo d ∷ []),
           unless_round line (bare_desig d) one,
-          unless_round line (own_place d) place,
-          desig_round line at (lo + 1) d,
+          held_round line at (lo + 1) d (2 * desig_nodes d) (desig_round line at (lo + 1) d),
         )
     expr_round line at lo (Chain negated e links) =
         let o : Option ℕ = stays_in negated e links in
@@ -497,12 +503,10 @@ module _ (p : Program) (tables : Tables) (r : ℕ) where
         (λ at lo. test_round line at lo t) (λ next. omega (arith, hop_none line)) in
         omega (arith, z, then_own line one (I.Const lo (pos 1) ∷ I.Jump (end + 3) ∷ I.Const lo (pos 0) ∷ []))
     expr_round line at lo (Known d) =
-        let place : List Lined = desig_code p tables r line at (lo + 1) d in
         omega (
           arith,
-          then_own line (unless_bare (own_place d) place) (I.Known lo (held_at p tables r (lo + 1) d) ∷ []),
-          unless_round line (own_place d) place,
-          desig_round line at (lo + 1) d,
+          then_own line (held_code p tables r line at (lo + 1) d) (I.Known lo (held_at p tables r (lo + 1) d) ∷ []),
+          held_round line at (lo + 1) d (2 * desig_nodes d) (desig_round line at (lo + 1) d),
         )
     expr_round line at lo (Chr e) = omega (
       arith,
@@ -613,51 +617,51 @@ module _ (p : Program) (tables : Tables) (r : ℕ) where
     )
     test_round line at lo (Bind d e range true) =
         let lo2 : ℕ = behind_desig p r lo d in
-        let one : List Lined = desig_code p tables r line at lo d in
+        let one : List Lined = held_code p tables r line at lo d in
         let inner : List Lined = expr_code p tables r line (at + length one) lo2 e in
         let two : List Lined = unless_bare (bare e) inner in
         omega (
           arith,
           then_own line (one ++ two)
-              (I.Bind (place_at p tables r lo d) (value_at p tables r lo2 e) (range_number tables range) ∷ []),
+              (I.Bind (held_at p tables r lo d) (value_at p tables r lo2 e) (range_number tables range) ∷ []),
           both line one two,
           unless_round line (bare e) inner,
-          desig_round line at lo d,
+          held_round line at lo d (2 * desig_nodes d) (desig_round line at lo d),
           expr_round line (at + length one) lo2 e,
         )
     test_round line at lo (Bind d e range false) =
         let lo2 : ℕ = behind_expr p r lo e in
         let one : List Lined = expr_code p tables r line at lo e in
-        let two : List Lined = desig_code p tables r line (at + length one) lo2 d in
+        let two : List Lined = held_code p tables r line (at + length one) lo2 d in
         omega (
           arith,
-          then_own line (one ++ two) (I.Bind (place_at p tables r lo2 d) lo (range_number tables range) ∷ []),
+          then_own line (one ++ two) (I.Bind (held_at p tables r lo2 d) lo (range_number tables range) ∷ []),
           both line one two,
           expr_round line at lo e,
-          desig_round line (at + length one) lo2 d,
+          held_round line (at + length one) lo2 d (2 * desig_nodes d) (desig_round line (at + length one) lo2 d),
         )
     test_round line at lo (Unify d range e range2) =
         let lo2 : ℕ = behind_desig p r lo d in
-        let one : List Lined = desig_code p tables r line at lo d in
-        let two : List Lined = desig_code p tables r line (at + length one) lo2 e in
+        let one : List Lined = held_code p tables r line at lo d in
+        let two : List Lined = held_code p tables r line (at + length one) lo2 e in
         omega (
           arith,
-          then_own line (one ++ two) (I.Unify (place_at p tables r lo d) (range_number tables range) (place_at p tables r lo2 e)
+          then_own line (one ++ two) (I.Unify (held_at p tables r lo d) (range_number tables range) (held_at p tables r lo2 e)
               (range_number tables range2) ∷ []),
           both line one two,
-          desig_round line at lo d,
-          desig_round line (at + length one) lo2 e,
+          held_round line at lo d (2 * desig_nodes d) (desig_round line at lo d),
+          held_round line (at + length one) lo2 e (2 * desig_nodes e) (desig_round line (at + length one) lo2 e),
         )
     test_round line at lo (SameCells d e) =
         let lo2 : ℕ = behind_desig p r lo d in
-        let one : List Lined = desig_code p tables r line at lo d in
-        let two : List Lined = desig_code p tables r line (at + length one) lo2 e in
+        let one : List Lined = held_code p tables r line at lo d in
+        let two : List Lined = held_code p tables r line (at + length one) lo2 e in
         omega (
           arith,
-          then_own line (one ++ two) (I.SameCells (place_at p tables r lo d) (place_at p tables r lo2 e) ∷ []),
+          then_own line (one ++ two) (I.SameCells (held_at p tables r lo d) (held_at p tables r lo2 e) ∷ []),
           both line one two,
-          desig_round line at lo d,
-          desig_round line (at + length one) lo2 e,
+          held_round line at lo d (2 * desig_nodes d) (desig_round line at lo d),
+          held_round line (at + length one) lo2 e (2 * desig_nodes e) (desig_round line (at + length one) lo2 e),
         )
     test_round line at lo (Seq x) = omega (arith, stmts_round line at lo x)
     test_round line at lo (And ts) = omega (arith, and_round line at lo ts)
@@ -741,7 +745,7 @@ module _ (p : Program) (tables : Tables) (r : ℕ) where
     stmt_round line at lo (Assign d e range) =
         let lo2 : ℕ = behind_target p r lo d in
         let v : ℕ = value_at p tables r lo2 e in
-        let place : List Lined = desig_code p tables r line at lo d in
+        let place : List Lined = held_code p tables r line at lo d in
         let one : List Lined = unless_bare (bare_desig d) place in
         let inner : List Lined = expr_code p tables r line (at + length one) lo2 e in
         let two : List Lined = unless_bare (bare e) inner in
@@ -751,19 +755,19 @@ module _ (p : Program) (tables : Tables) (r : ℕ) where
           both line one two,
           unless_round line (bare_desig d) place,
           unless_round line (bare e) inner,
-          desig_round line at lo d,
+          held_round line at lo d (2 * desig_nodes d) (desig_round line at lo d),
           expr_round line (at + length one) lo2 e,
         )
     stmt_round line at lo (CopyCells d e) =
         let lo2 : ℕ = behind_desig p r lo d in
-        let one : List Lined = desig_code p tables r line at lo d in
-        let two : List Lined = desig_code p tables r line (at + length one) lo2 e in
+        let one : List Lined = held_code p tables r line at lo d in
+        let two : List Lined = held_code p tables r line (at + length one) lo2 e in
         omega (
           arith,
-          then_own line (one ++ two) (I.CopyCells (place_at p tables r lo d) (place_at p tables r lo2 e) ∷ []),
+          then_own line (one ++ two) (I.CopyCells (held_at p tables r lo d) (held_at p tables r lo2 e) ∷ []),
           both line one two,
-          desig_round line at lo d,
-          desig_round line (at + length one) lo2 e,
+          held_round line at lo d (2 * desig_nodes d) (desig_round line at lo d),
+          held_round line (at + length one) lo2 e (2 * desig_nodes e) (desig_round line (at + length one) lo2 e),
         )
     stmt_round line at lo (If arms rest) =
         let z = if_round line at lo arms (λ next la. stmts_code p tables r next la rest) (2 * stmts_nodes rest)
@@ -838,9 +842,9 @@ module _ (p : Program) (tables : Tables) (r : ℕ) where
     stmt_round line at lo (Read d how range) =
         omega (
           arith,
-          then_own line (desig_code p tables r line at lo d)
-              (read_code how (place_at p tables r lo d) (range_number tables range) ∷ []),
-          desig_round line at lo d,
+          then_own line (held_code p tables r line at lo d)
+              (read_code how (held_at p tables r lo d) (range_number tables range) ∷ []),
+          held_round line at lo d (2 * desig_nodes d) (desig_round line at lo d),
         )
     stmt_round line at lo (WriteExpr e how) =
         omega (
