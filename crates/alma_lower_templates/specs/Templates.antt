@@ -112,7 +112,7 @@ module _ (p : Program) (tables : Tables) (r : ℕ) where
   -- the number in a slot goes to a variable
   abbrev pub set_by : Option ℕ → (lo value : ℕ) → Desig → Instr
   set_by (Some to) lo value d = I.Move (own_slot to) value
-  set_by None lo value d = I.Store (place_at lo d) value
+  set_by None lo value d = I.Store (held_at lo d) value
 
   abbrev pub set_code : (lo value : ℕ) → Desig → Instr
   set_code lo value d = set_by (bare_desig d) lo value d
@@ -168,12 +168,13 @@ module _ (p : Program) (tables : Tables) (r : ℕ) where
     stmt_code line at lo (TestStmt t) = test_code line at lo t
     stmt_code line at lo (Assign d e range) =
         set_to (goes_straight d e range) line
-        (in_row at (unless_bare (bare_desig d) (desig_code line at lo d))
+        (in_row at (unless_bare (bare_desig d) (unless_bare (own_place d) (desig_code line at lo d)))
         (λ next. unless_bare (bare e) (expr_code line next (behind_target p r lo d) e)))
         (fit_code tables range (value_at (behind_target p r lo d) e) ++ (set_code lo (value_at (behind_target p r lo d) e) d ∷ []))
     stmt_code line at lo (CopyCells d e) =
-        in_row at (desig_code line at lo d) (λ next. desig_code line next (behind_desig p r lo d) e)
-        ++ own line (I.CopyCells (place_at lo d) (place_at (behind_desig p r lo d) e) ∷ [])
+        in_row at (unless_bare (own_place d) (desig_code line at lo d))
+        (λ next. unless_bare (own_place e) (desig_code line next (behind_desig p r lo d) e))
+        ++ own line (I.CopyCells (held_at lo d) (held_at (behind_desig p r lo d) e) ∷ [])
     stmt_code line at lo (If arms rest) = if_code line at lo arms (λ next lo. stmts_code next lo rest)
     -- the first jump is the one step before the first condition
     stmt_code line at lo (While t body) =
@@ -204,8 +205,8 @@ module _ (p : Program) (tables : Tables) (r : ℕ) where
         (λ next. each_body line (next + 2) lo inner (stmts_code (next + 2) (inner + 1) y)))
     stmt_code line at lo (Commit x) = own line (I.Mark lo ∷ []) ++ (stmts_code (at + 1) (lo + 1) x ++ own line (I.Cut lo ∷ []))
     stmt_code line at lo (Return e) = return_code line at lo e
-    stmt_code line at lo (Read d how range) = desig_code line at lo d
-        ++ own line (read_code how (place_at lo d) (range_number tables range) ∷ [])
+    stmt_code line at lo (Read d how range) = unless_bare (own_place d) (desig_code line at lo d)
+        ++ own line (read_code how (held_at lo d) (range_number tables range) ∷ [])
     stmt_code line at lo (WriteExpr e how) = unless_bare (bare e) (expr_code line at lo e) ++ own line (write_code how (value_at lo e) ∷ [])
     stmt_code line at lo (WriteText text) = own line (I.WriteText (text_number tables text) ∷ [])
     stmt_code line at lo WriteLine = own line (I.WriteLine ∷ [])
@@ -238,7 +239,7 @@ module _ (p : Program) (tables : Tables) (r : ℕ) where
         (λ at. limit_code (ends_alone to) line (own_slot limit) (value_at last to) (unless_bare (bare to) (expr_code line at last to))))
         (λ next. for_turns line next by (constant from) (own_slot counter) (own_slot limit) lo (lo + 1)
         (turn_code line (next + 3) (count_code (bare_desig d) range (own_slot counter) place)
-        (λ at. unless_bare (bare_desig d) (desig_code line at (place + 1) d))
+        (λ at. unless_bare (bare_desig d) (unless_bare (own_place d) (desig_code line at (place + 1) d)))
         (set_code (place + 1) (count_at (bare_desig d) (own_slot counter) place) d)
         (λ at. stmts_code at (behind_variable p r place d) body)))
 
@@ -250,7 +251,7 @@ module _ (p : Program) (tables : Tables) (r : ℕ) where
         (λ at. limit_code (ends_alone to) line (own_slot limit) (value_at last to) (unless_bare (bare to) (expr_code line at last to))))
         (λ next. some_turns line next (constant from) (own_slot counter) (own_slot limit) lo (lo + 1) more
         (turn_code line (next + 8) (count_code (bare_desig d) range (own_slot counter) (more + 1))
-        (λ at. unless_bare (bare_desig d) (desig_code line at (more + 1 + 1) d))
+        (λ at. unless_bare (bare_desig d) (unless_bare (own_place d) (desig_code line at (more + 1 + 1) d)))
         (set_code (more + 1 + 1) (count_at (bare_desig d) (own_slot counter) (more + 1)) d)
         (λ at. stmts_code at (behind_variable p r (more + 1) d) body)))
 
@@ -308,18 +309,21 @@ module _ (p : Program) (tables : Tables) (r : ℕ) where
         (λ next. own line (unequal_code lo (slot_or (stays x y) lo) (value_at (behind_expr p r lo x) y) next))
     test_code line at lo (Value e) = unless_bare (bare e) (expr_code line at lo e) ++ own line (I.Check (value_at lo e) ∷ [])
     test_code line at lo (Bind d e range true) =
-        in_row at (desig_code line at lo d) (λ next. unless_bare (bare e) (expr_code line next (behind_desig p r lo d) e))
-        ++ own line (I.Bind (place_at lo d) (value_at (behind_desig p r lo d) e) (range_number tables range) ∷ [])
+        in_row at (unless_bare (own_place d) (desig_code line at lo d))
+        (λ next. unless_bare (bare e) (expr_code line next (behind_desig p r lo d) e))
+        ++ own line (I.Bind (held_at lo d) (value_at (behind_desig p r lo d) e) (range_number tables range) ∷ [])
     test_code line at lo (Bind d e range false) =
-        in_row at (expr_code line at lo e) (λ next. desig_code line next (behind_expr p r lo e) d)
-        ++ own line (I.Bind (place_at (behind_expr p r lo e) d) lo (range_number tables range) ∷ [])
+        in_row at (expr_code line at lo e) (λ next. unless_bare (own_place d) (desig_code line next (behind_expr p r lo e) d))
+        ++ own line (I.Bind (held_at (behind_expr p r lo e) d) lo (range_number tables range) ∷ [])
     test_code line at lo (Unify d range e range') =
-        in_row at (desig_code line at lo d) (λ next. desig_code line next (behind_desig p r lo d) e)
-        ++ own line (I.Unify (place_at lo d) (range_number tables range) (place_at (behind_desig p r lo d) e) (range_number tables range')
+        in_row at (unless_bare (own_place d) (desig_code line at lo d))
+        (λ next. unless_bare (own_place e) (desig_code line next (behind_desig p r lo d) e))
+        ++ own line (I.Unify (held_at lo d) (range_number tables range) (held_at (behind_desig p r lo d) e) (range_number tables range')
         ∷ [])
     test_code line at lo (SameCells d e) =
-        in_row at (desig_code line at lo d) (λ next. desig_code line next (behind_desig p r lo d) e)
-        ++ own line (I.SameCells (place_at lo d) (place_at (behind_desig p r lo d) e) ∷ [])
+        in_row at (unless_bare (own_place d) (desig_code line at lo d))
+        (λ next. unless_bare (own_place e) (desig_code line next (behind_desig p r lo d) e))
+        ++ own line (I.SameCells (held_at lo d) (held_at (behind_desig p r lo d) e) ∷ [])
     test_code line at lo (Seq x) = stmts_code at lo x
     test_code line at lo (And ts) = and_code line at lo ts
     test_code line at lo (Or ts) = or_code line at lo ts
