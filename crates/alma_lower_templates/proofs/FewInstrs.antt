@@ -1,7 +1,9 @@
 -- The instructions of the phrases of a routine are at most 16 for each node.
 use Rattle.std.proofs.Common.{◌≡◌, ℕ, zero, suc, ◌+◌, ◌*◌, ◌≤◌, Bool, true, false, List, [], ◌∷◌, ◌++◌, length, drop, get_or, Option, Some}
-use Rattle.std.proofs.Common.{None, refl, arith, ℤ, pos}
+use Rattle.std.proofs.Common.{None, refl, ap, arith, ℤ, pos}
 use Rattle.std.proofs.lemmas.List.{length-append, length-map}
+use Rattle.std.specs.Prelude.{if◌then◌else◌}
+use Rattle.alma_base.specs.Numbers.{int_eq}
 use Rattle.alma_base.specs.declared.number.Range.{Range}
 use Rattle.alma_code.specs.declared.instr.Instr.{Instr}
 use Rattle.alma_code.specs.declared.instr.Instr.TheVariants as I
@@ -26,10 +28,10 @@ use Rattle.alma_ir.specs.Phrases.{desig_phrases, sels_phrases, sel_phrases}
 use Rattle.alma_lower_templates.specs.Lined.{Lined, own, in_row}
 use Rattle.alma_lower_templates.specs.Pieces.{cmp_code, op_code, neg_code, fit_code, unless_whole, link_code, chain_code, condition}
 use Rattle.alma_lower_templates.specs.Pieces.{guarded, read_code, write_code, truth_code, first_of_two, chosen, passed_over, has_dead}
-use Rattle.alma_lower_templates.specs.Pieces.{case_arm, behind_labels, labels_code, label_code, begin_loop, for_turns, some_turns}
-use Rattle.alma_lower_templates.specs.Pieces.{turn_code, opposite_code, unless_constant, limit_code, put_code}
-use Rattle.alma_lower_templates.specs.Slots.{shift_of, bare, bare_desig, stays, stays_in, unless_bare, is_simple, is_turned, handed_slots}
-use Rattle.alma_lower_templates.specs.Slots.{arg_slots}
+use Rattle.alma_lower_templates.specs.Pieces.{case_arm, behind_labels, labels_code, label_code, label_test, test_size, begin_loop, for_turns}
+use Rattle.alma_lower_templates.specs.Pieces.{some_turns, turn_code, opposite_code, unless_constant, limit_code, put_code}
+use Rattle.alma_lower_templates.specs.Slots.{shift_of, bare, bare_desig, stays, stays_in, taken_from, unless_bare, is_simple, is_turned}
+use Rattle.alma_lower_templates.specs.Slots.{handed_slots, arg_slots}
 use Rattle.alma_lower_templates.specs.Slots.{behind_stmts, behind_stmt, behind_test, behind_condition, behind_expr, behind_dead}
 use Rattle.alma_lower_templates.specs.Slots.{behind_value, behind_desig, behind_target, behind_variable, own_place, own_root, goes_straight}
 use Rattle.alma_lower_templates.specs.Slots.{constant, ends_alone, is_straight}
@@ -37,6 +39,7 @@ use Rattle.alma_lower_templates.specs.Tables.{Tables, range_number, is_whole}
 use Rattle.alma_lower_templates.specs.Templates
 use Rattle.alma_lower_templates.proofs.Straight.{straight_long}
 use Rattle.alma_lower_templates.proofs.FormRuns.{held_code}
+use Rattle.alma_lower_templates.proofs.Placed.{handed_is, placed_long}
 use Rattle.alma_lower_templates.proofs.FewSlots.{Short, AreShort, short_front, short_back, unless_few}
 use Rattle.alma_lower_templates.proofs.Tested.{compared_code, tested_long}
 use Rattle.alma_lower_templates.proofs.Turned.{while_code}
@@ -64,20 +67,38 @@ cmp_some line cmp.LessEq to first other = omega arith
 cmp_some line cmp.Greater to first other = omega arith
 cmp_some line cmp.GreaterEq to first other = omega arith
 
-neg_few : (line : ℕ) (negated : Bool) (to : ℕ) → length (own line (neg_code negated to)) ≤ 1
-neg_few line true to = omega arith
-neg_few line false to = omega arith
+neg_few : (line : ℕ) (negated : Bool) (to from : ℕ) → length (own line (neg_code negated to from)) ≤ 1
+neg_few line true to from = omega arith
+neg_few line false to from = omega arith
 
 chain_long : (from links : ℕ) → length (chain_code from links) ≡ links
 chain_long from zero = refl
 chain_long from (suc links) = let z = chain_long (from + 1) links in omega (arith, z)
 
+label_test_few : (value bound miss : ℕ) (label : Range) → length (label_test value bound miss label) ≤ 6
+label_test_few value bound miss label = by (int_eq label.low label.high)
+  where
+    by : (z : Bool) → length (if z then
+        I.Const bound label.low ∷ I.Equal (bound + 1) bound value ∷ I.JumpZero (bound + 1) miss ∷ [] else
+        (I.Const bound label.low ∷ I.LessEq (bound + 1) bound value ∷ I.JumpZero (bound + 1) miss
+        ∷ I.Const bound label.high ∷ I.LessEq (bound + 1) value bound ∷ I.JumpZero (bound + 1) miss ∷ [])) ≤ 6
+    by true = omega arith
+    by false = omega arith
+
 labels_few : (value bound at hit miss : ℕ) (label : Range) (labels : List Range)
     → length (labels_code value bound at hit miss label labels) ≤ 7 * length labels + 6
-labels_few value bound at hit miss label [] = omega arith
+labels_few value bound at hit miss label [] = let z = label_test_few value bound miss label in omega (arith, z)
 labels_few value bound at hit miss label (label2 ∷ rest) =
-    let z = labels_few value bound (at + 7) hit miss label2 rest in
-    omega (arith, z, length-append (label_code value bound at hit label) (labels_code value bound (at + 7) hit miss label2 rest))
+    let next : ℕ = at + test_size label + 1 in
+    let test : List Instr = label_test value bound next label in
+    let z = labels_few value bound next hit miss label2 rest in
+    omega (
+      arith,
+      z,
+      length-append (label_code value bound at hit label) (labels_code value bound next hit miss label2 rest),
+      length-append test (I.Jump hit ∷ []),
+      label_test_few value bound next label,
+    )
 
 passed_few : (z : Bool) (line at : ℕ) (dead : List Lined) → length (passed_over z line at dead) ≤ 1 + length dead
 passed_few true line at dead = omega arith
@@ -298,7 +319,7 @@ module _ (p : Program) (tables : Tables) (r : ℕ) where
   arm_few : (line value bound at : ℕ) (label : Range) (labels : List Range) (x : List Lined)
       → length (case_arm line value bound at label labels x) ≤ 7 * length labels + 6 + length x
   arm_few line value bound at label labels x =
-      let here : ℕ = behind_labels at labels in
+      let here : ℕ = behind_labels at label labels in
       let tests : List Instr = labels_code value bound at here (here + length x + 1) label labels in
       omega (
         arith,
@@ -410,17 +431,18 @@ module _ (p : Program) (tables : Tables) (r : ℕ) where
         let ls2 = behind (expr_phrases e) ls in
         let y : Expr = expr_with e ls in
         let x : List Lined = Templates.expr_code p tables r line at lo y in
-        let o : Option ℕ = stays_in negated y (links_with links ls2) in
+        let o : Option ℕ = taken_from negated y (links_with links ls2) in
         let one : List Lined = unless_bare o x in
-        let neg : List Lined = own line (neg_code negated lo) in
+        let from : ℕ = Templates.value_at p tables r lo y in
+        let neg : List Lined = own line (neg_code negated lo from) in
         let next : ℕ = at + length (one ++ neg) in
         let lo2 : ℕ = behind_expr p r lo y in
-        let first : ℕ = Templates.slot_or p tables r o lo in
+        let first : ℕ = Templates.slot_or p tables r (stays_in negated y (links_with links ls2)) lo in
         omega (
           arith,
           length-append (one ++ neg) (Templates.links_code p tables r line next first lo lo2 (links_with links ls2)),
           length-append one neg,
-          neg_few line negated lo,
+          neg_few line negated lo from,
           unless_few o x,
           expr_few line at lo e ls (short_front (expr_phrases e) (links_phrases links) h.1),
           operators_few line next first lo lo2 links ls2 (short_back (expr_phrases e) (links_phrases links) h.1),
@@ -529,26 +551,29 @@ module _ (p : Program) (tables : Tables) (r : ℕ) where
     arg_few line at to lo (ByValue e range) ls h = let z =
         handed_few line at to lo (expr_with e ls) range (16 * expr_nodes e) (expr_few line at lo e ls h.1) in omega (arith, z)
     arg_few line at to lo (ByCells d) ls h = let y : Desig = desig_with d ls in
+        let made : List Lined = Templates.desig_code p tables r line at lo y in
         omega (
           arith,
-          length-append (Templates.desig_code p tables r line at lo y)
-              (own line (I.Same to (Templates.place_at p tables r lo y) ∷ [])),
+          ap length (handed_is p tables r to line at lo y),
+          placed_long to made,
           desig_few line at lo d ls h.1,
         )
     arg_few line at to lo (ByPlace d) ls h = let y : Desig = desig_with d ls in
+        let made : List Lined = Templates.desig_code p tables r line at lo y in
         omega (
           arith,
-          length-append (Templates.desig_code p tables r line at lo y)
-              (own line (I.Same to (Templates.place_at p tables r lo y) ∷ [])),
+          ap length (handed_is p tables r to line at lo y),
+          placed_long to made,
           desig_few line at lo d ls h.1,
         )
     arg_few line at to lo (MixValue e range) ls h = let z =
         handed_few line at to lo (expr_with e ls) range (16 * expr_nodes e) (expr_few line at lo e ls h.1) in omega (arith, z)
     arg_few line at to lo (MixPlace d) ls h = let y : Desig = desig_with d ls in
+        let made : List Lined = Templates.desig_code p tables r line at lo y in
         omega (
           arith,
-          length-append (Templates.desig_code p tables r line at lo y)
-              (own line (I.Same to (Templates.place_at p tables r lo y) ∷ [])),
+          ap length (handed_is p tables r to line at lo y),
+          placed_long to made,
           desig_few line at lo d ls h.1,
         )
 
@@ -990,7 +1015,7 @@ module _ (p : Program) (tables : Tables) (r : ℕ) where
     case_few line value bound at lo at2 lo2 (more_cases (label ∷ labels) body rest) ls otherwise n h o =
         let ls2 = behind (stmts_phrases body) ls in
         let y : Stmts = stmts_with body ls in
-        let here : ℕ = behind_labels at labels in
+        let here : ℕ = behind_labels at label labels in
         let z = stmts_few here lo body ls (short_front (stmts_phrases body) (cases_phrases rest) h) in
         let w = arm_few line value bound at label labels (Templates.stmts_code p tables r here lo y) in
         let one : List Lined = case_arm line value bound at label labels (Templates.stmts_code p tables r here lo y) in
@@ -1031,7 +1056,7 @@ module _ (p : Program) (tables : Tables) (r : ℕ) where
     cases_few line value bound jump at lo at2 lo2 (more_cases (label ∷ labels) body rest) ls otherwise n h o =
         let ls2 = behind (stmts_phrases body) ls in
         let y : Stmts = stmts_with body ls in
-        let here : ℕ = behind_labels at labels in
+        let here : ℕ = behind_labels at label labels in
         let z = stmts_few here lo body ls (short_front (stmts_phrases body) (cases_phrases rest) h) in
         let w = arm_few line value bound at label labels (Templates.stmts_code p tables r here lo y) in
         let one : List Lined = case_arm line value bound at label labels (Templates.stmts_code p tables r here lo y) in

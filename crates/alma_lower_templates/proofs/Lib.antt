@@ -15,6 +15,7 @@ pub mod FormRuns
 pub mod Targets
 pub mod Destinations
 pub mod Straight
+pub mod Placed
 pub mod OwnPlace
 pub mod CellEnds
 pub mod Tested
