@@ -36,7 +36,8 @@ use Rattle.alma_lower_templates.proofs.First.{ConstantFits}
 use Rattle.alma_lower_templates.proofs.Bounds.{LimitRuns}
 use Rattle.alma_lower_templates.proofs.Destinations.{Goal, in_variable, goal_end, goal_ways, GoalFits}
 use Rattle.alma_lower_templates.proofs.ExprForms.{RunsTo, NextRuns}
-use Rattle.alma_lower_templates.proofs.FormRuns.{ExprRuns, DesigRuns, HeldRuns, TestRuns}
+use Rattle.alma_lower_templates.proofs.FormRuns.{ExprRuns, DesigRuns, PlacedRuns, HeldRuns, TestRuns}
+use Rattle.alma_lower_templates.proofs.DesigForms.{EndFits}
 use Rattle.alma_lower_templates.proofs.GuardedForms.{Decided, decided}
 use Rattle.alma_lower_templates.proofs.Turned.{Turned, compares_two, turned, GoesBack, goes_back}
 use Rattle.alma_mean.specs.Meaning.{ev_test}
@@ -283,6 +284,8 @@ module _ (p : Program) (tables : Tables) (code : PlainCode) (input : List ℕ) w
       pub fits : desig_cells d ≡ 1 → BareFits p tables code input below r line q (bare_desig d)
       pub runs : (at lo : ℕ) → HasSlots p code r lo (desig_slots p r d) → DesigRuns p tables code input below r line q at lo d
       pub held : (at lo : ℕ) → HasSlots p code r lo (desig_slots p r d) → HeldRuns p tables code input below r line q at lo d
+      pub placed : (to at lo : ℕ) → EndFits p tables code input below r line q to to (desig_cells d) → to ≤ lo
+          → HasSlots p code r lo (desig_slots p r d) → PlacedRuns p tables code input below r line q to at lo d
 
     -- both operands of a comparison
     pub record OperandsGo (a b : Expr) : Type 0 where

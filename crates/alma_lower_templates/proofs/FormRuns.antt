@@ -9,6 +9,7 @@ use Rattle.alma_ir.specs.Checked.{desig_cells}
 use Rattle.alma_mean.specs.Meaning.{Level, ev_stmts, ev_stmt, ev_test, ev_expr, ev_desig}
 use Rattle.alma_lower_templates.specs.Tables.{Tables, range_number, is_whole}
 use Rattle.alma_lower_templates.specs.Lined.{Lined}
+use Rattle.alma_lower_templates.specs.Pieces.{placed}
 use Rattle.alma_lower_templates.specs.Slots.{own_place, unless_bare, desig_slots}
 use Rattle.alma_lower_templates.specs.Templates.{stmts_code, stmt_code, test_code, expr_code, desig_code, place_at, held_at}
 use Rattle.alma_lower_templates.proofs.Parts.{NodeFor, RunsFor, ValueIn, PlaceIn, Nothing}
@@ -25,6 +26,11 @@ module _ (p : Program) (tables : Tables) (code : PlainCode) (input : List ℕ) (
   abbrev pub DesigRuns : (at lo : ℕ) → Desig → Type 0
   DesigRuns at lo d = NodeFor p code input r line at lo (desig_code p tables r line at lo d) (ev_desig p input below d)
       (PlaceIn p code input (place_at p tables r lo d) (desig_cells d)) q
+
+  -- with its place put into the slot `to`
+  abbrev pub PlacedRuns : (to at lo : ℕ) → Desig → Type 0
+  PlacedRuns to at lo d = NodeFor p code input r line at to (placed to (desig_code p tables r line at lo d)) (ev_desig p input below d)
+      (PlaceIn p code input to (desig_cells d)) q
 
   -- a designator whose place is used: behind that code it is held by a slot before those of the next phrase
   pub record HeldRuns (at lo : ℕ) (d : Desig) : Type 0 where

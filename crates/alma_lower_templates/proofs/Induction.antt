@@ -22,7 +22,7 @@ use Rattle.alma_ir.specs.Tree.{Unify, SameCells, Seq, And, Or, Not, CallTest, no
 use Rattle.alma_ir.specs.Tree.{Known, Chr, CallExpr, no_links, more_links, no_args, more_args, ByValue, ByCells, ByPlace, MixValue}
 use Rattle.alma_ir.specs.Tree.{MixPlace, a_desig, no_sels, more_sels, Field, Index}
 use Rattle.alma_ir.specs.Checked.{IsChecked, IsHiddenSlot, IsOutside, param_slots, slots_of_kind, HoldsPlace, HasChoice, RootExists}
-use Rattle.alma_ir.specs.Checked.{AreNumbers, LeavesPosition, HoldPlace, ArePartsOf, IsPart, desig_cells, outer_at}
+use Rattle.alma_ir.specs.Checked.{AreNumbers, LeavesPosition, HoldPlace, ArePartsOf, IsPart, desig_cells, sel_cells, outer_at}
 use Rattle.alma_ir.specs.Checked as checked_of
 use Rattle.alma_ir.specs.declared.program.ArgKind.{ArgKind}
 use Rattle.alma_ir.specs.declared.program.ArgKind.TheVariants as kind
@@ -49,7 +49,8 @@ use Rattle.alma_lower_templates.specs.Slots.{behind_dead, behind_value, behind_d
 use Rattle.alma_lower_templates.specs.Slots.{behind_condition, behind_variable, is_turned, by_turn, arms_slots, dead_slots, cases_slots}
 use Rattle.alma_lower_templates.specs.Slots.{else_slots}
 use Rattle.alma_lower_templates.specs.Compiled.{program_code}
-use Rattle.alma_lower_templates.specs.Templates.{part_slot, behind_root, arg_code, desig_code, place_at, stmts_code, stmt_code}
+use Rattle.alma_lower_templates.specs.Templates.{part_slot, part_at, behind_root, arg_code, desig_code, place_at, stmts_code, stmt_code}
+use Rattle.alma_lower_templates.specs.Pieces.{placed}
 use Rattle.alma_lower_templates.proofs.AtOnce.{BareFits}
 use Rattle.alma_lower_templates.proofs.Args.{ArgPart, ArgParts, RangeFits, same_cells}
 use Rattle.alma_lower_templates.proofs.Asked.{HasUnlessWhole, Asked, Fine, fine_front, fine_back, fine_first, fine_second, fine_third}
@@ -72,8 +73,9 @@ use Rattle.alma_lower_templates.proofs.ChoiceForms.{or_runs}
 use Rattle.alma_lower_templates.proofs.Destinations.{Goal, in_first, in_slot, in_variable, goal_end, goal_ways, GoalFits, goal_takes}
 use Rattle.alma_lower_templates.proofs.Straight.{alone_bare}
 use Rattle.alma_lower_templates.proofs.OwnPlace.{OwnFits, own_root_is, held_runs}
-use Rattle.alma_lower_templates.proofs.DesigForms.{SelRuns, SelsRun, field_runs}
-use Rattle.alma_lower_templates.proofs.DesigForms.{index_runs, no_sels_run, more_sels_run, desig_runs}
+use Rattle.alma_lower_templates.proofs.Placed.{by_sels}
+use Rattle.alma_lower_templates.proofs.DesigForms.{SelRuns, SelsRun, EndFits, PartsRun, field_runs, part_end, part_kind, desig_ends}
+use Rattle.alma_lower_templates.proofs.DesigForms.{index_runs, no_sels_run, more_sels_run, desig_runs, placed_runs}
 use Rattle.alma_lower_templates.proofs.ExprForms.{LinksRun, OthersRun, const_to, const_runs, load_runs, load_straight, more_links_run}
 use Rattle.alma_lower_templates.proofs.ExprForms.{chain_runs, chain_straight, compare_runs, unequal_runs, known_runs, first_slot}
 use Rattle.alma_lower_templates.proofs.ExprForms.{some_slots}
@@ -91,11 +93,19 @@ use Rattle.alma_lower_templates.proofs.RangeChecks.{chr_runs}
 use Rattle.alma_lower_templates.proofs.RootForms.{RootFits, IsParam}
 use Rattle.alma_lower_templates.proofs.StmtForms.{value_runs, test_stmt_runs, assign_runs, write_runs, text_runs, line_runs}
 
--- the slots of a selector end behind the place of its part
-part_end : (p : Program) (tables : Tables) (r lo : ℕ) (x : Sel) → lo + length (sel_slots p r x) ≡ part_slot p tables r lo x + 1
-part_end p tables r lo (Field offset cells) = refl
-part_end p tables r lo (Index e range cells) =
-    omega (arith, length-append (unless_bare (bare e) (expr_slots p r e)) (slot.Place cells ∷ []))
+part_above : (p : Program) (tables : Tables) (r lo : ℕ) (x : Sel) → lo ≤ part_slot p tables r lo x
+part_above p tables r lo (Field offset cells) = omega arith
+part_above p tables r lo (Index e range cells) = omega arith
+
+-- the slot of a root is before those of the selectors: where none follow it is the last slot of all
+root_near : (p : Program) (tables : Tables) (r : ℕ) (sels : Sels) (lo next : ℕ) → lo < next
+    → by_sels sels (part_at p tables r lo next sels) lo < next
+root_near p tables r no_sels lo next lt = lt
+root_near p tables r (more_sels x rest) lo next lt = lt
+
+placed_near : (sels : Sels) (to lo next : ℕ) → to ≤ lo → lo < next → by_sels sels to lo < next
+placed_near no_sels to lo next le lt = omega (arith, le, lt)
+placed_near (more_sels x rest) to lo next le lt = lt
 
 same_value : (a b : Expr) → Value a ≡ Value b → a ≡ b
 same_value a b e = cc
@@ -220,9 +230,14 @@ module _ (p : Program) (tables : Tables) (code : PlainCode) (all : List (List Ru
       -- a place as an argument
       place_of : (r line at la : ℕ) (d : Desig) → GoodDesig r line d → HasSlots p code r la (desig_slots p r d)
           → ArgPart p tables code input below r line (suc n) at la (ByPlace d)
-      place_of r line at la d g slots =
-          subst (λ k. NodeFor p code input r line at la (desig_code p tables r line at la d) (ev_desig p input below d)
-          (PlaceIn p code input (place_at p tables r la d) k) (suc n)) (sym (same_cells d)) (g.runs at la slots)
+      place_of r line at la d g slots to small own_to kind =
+          subst (λ k. NodeFor p code input r line at to (placed to (desig_code p tables r line at la d)) (ev_desig p input below d)
+          (PlaceIn p code input to k) (suc n)) (sym (same_cells d))
+          (g.placed to at la (record {
+            behind = own_to;
+            above = omega arith;
+            kind = subst (λ k. slice_get (kinds_at code r) to ≡ Some (slot.Place k)) (same_cells d) kind;
+          }) (omega (arith, small)) slots)
 
       -- a value as an argument
       value_of : (r line at la : ℕ) (e : Expr) (range : Range) → GoodExpr r line e → RangeFits p tables code input range
@@ -438,56 +453,88 @@ module _ (p : Program) (tables : Tables) (code : PlainCode) (all : List (List Ru
             let inner = fine_desig p tables code input r (a_desig x cells sels) (sels_phrases sels) ls h in
             let asked = h.asked.0 in
             let all : Sels = sels_with sels ls in
-            let runs : (at lo : ℕ) → HasSlots p code r lo (desig_slots p r (a_desig x cells all))
-            → DesigRuns p tables code input below r line (suc n) at lo (a_desig x cells all) =
-            λ at lo slots.
-            let own_lo : own_end p r ≤ lo = slots.behind in
-            let behind_first = slots_behind p code input r lo (slot.Place cells ∷ []) (root_slots p r x ++ sels_slots p r all) slots in
-            let rest = slots_behind p code input r (lo + 1) (root_slots p r x) (sels_slots p r all) behind_first in
+            let y : Desig = a_desig x cells all in
             let fits = root_fits r cells sels x lt asked.root in
+            let parts : (low end lo : ℕ) → EndFits p tables code input below r line (suc n) low end (checked_of.cells_after all cells)
+            → low ≤ lo → own_end p r ≤ lo → by_sels all end lo < behind_root p tables r lo x → HasSlots p code r lo (desig_slots p r y)
+            → PartsRun p tables code input below r line (suc n) low end lo cells x all =
+            λ low end lo ends under own_lo near slots.
+            let rest = slots_behind p code input r (lo + 1) (root_slots p r x) (sels_slots p r all)
+            (slots_behind p code input r lo (slot.Place cells ∷ []) (root_slots p r x ++ sels_slots p r all) slots) in
+            let next : ℕ = behind_root p tables r lo x in
+            record {
+              placed = λ m. sels_go r line lt sels ls inner cells asked.parts low end m (by_sels all end lo) next ends
+                  (omega (arith, under)) near rest;
+              owned = λ from is m.
+                  let param : IsParam p code input r from cells =
+                  subst (λ k. RootFits p code input r k cells) (own_root_is x all from is) fits in
+                  sels_go r line lt sels ls inner cells asked.parts low end m (shift p r + from) next ends (omega (arith, under))
+                  (omega (arith, own_lo, param.exists)) rest;
+            } in
+            let runs : (at lo : ℕ) → HasSlots p code r lo (desig_slots p r y) → DesigRuns p tables code input below r line (suc n) at lo y =
+            λ at lo slots.
+            let end : ℕ = place_at p tables r lo y in
             desig_runs p tables code input below r line (suc n) at lo cells x all fits checked.nested slots
-            (λ next. sels_go r line lt sels ls inner cells asked.parts next lo (behind_root p tables r lo x) (omega arith) rest)
-            (λ from is next.
-            let param : IsParam p code input r from cells = subst (λ k. RootFits p code input r k cells)
-            (own_root_is x all from is) fits in
-            sels_go r line lt sels ls inner cells asked.parts next (shift p r + from) (behind_root p tables r lo x)
-            (omega (arith, own_lo, param.exists)) rest) in
+            (parts lo end lo (desig_ends p tables code input below r line (suc n) lo cells x all slots) (omega arith) slots.behind
+            (root_near p tables r all lo (behind_root p tables r lo x) (omega arith)) slots) in
             record {
               fits = λ e. bare_fits below line (suc n) r cells all sels x lt asked.root e;
               runs = runs;
-              held = λ at lo slots. held_runs p tables code input below r line (suc n) at lo (a_desig x cells all) slots.behind
+              held = λ at lo slots. held_runs p tables code input below r line (suc n) at lo y slots.behind
                   (own_fits r cells all sels x lt asked.root) (runs at lo slots);
+              placed = λ to at lo ends under slots. placed_runs p tables code input below r line (suc n) to at lo cells x all ends under fits
+                  checked.nested slots
+                  (parts to to lo ends under slots.behind (placed_near all to lo (behind_root p tables r lo x) under (omega arith)) slots);
             }
 
-        -- from any slot before their own
+        -- from any slot before their own, the last into any slot
         sels_go : (r line : ℕ) → r < length p.routines → (sels : Sels) (ls : List ℕ) → FineIn r (sels_phrases sels) ls → (size : ℕ)
-            → ArePartsOf sels size → (at from lo : ℕ) → from < lo
-            → HasSlots p code r lo (sels_slots p r (sels_with sels ls))
-            → SelsRun p tables code input below r line (suc n) at from lo size (sels_with sels ls)
-        sels_go r line lt no_sels ls h size parts at from lo small slots =
-            no_sels_run p tables code input below r line (suc n) at from lo size
-        sels_go r line lt (more_sels x rest) ls h size parts at from lo small slots =
+            → ArePartsOf sels size → (low end at from lo : ℕ)
+            → EndFits p tables code input below r line (suc n) low end (checked_of.cells_after (sels_with sels ls) size)
+            → low ≤ lo → from < lo → HasSlots p code r lo (sels_slots p r (sels_with sels ls))
+            → SelsRun p tables code input below r line (suc n) low end at from lo size (sels_with sels ls)
+        sels_go r line lt no_sels ls h size parts low end at from lo ends under small slots =
+            no_sels_run p tables code input below r line (suc n) low end at from lo size
+        sels_go r line lt (more_sels x no_sels) ls h size parts low end at from lo ends under small slots =
+            let y : Sel = sel_with x ls in
+            let next_low : low ≤ part_slot p tables r lo y + 1 = omega (arith, under, part_above p tables r lo y) in
+            more_sels_run p tables code input below r line (suc n) low end at from lo size y no_sels ends.behind
+            (sel_go r line lt x ls (fine_front p tables code input r (sel_phrases x) [] ls h) size parts.0 low end at from lo ends under small
+            (slots_first p code input r lo (sel_slots p r y) [] slots))
+            (λ next. no_sels_run p tables code input below r line (suc n) low end next end (part_slot p tables r lo y + 1) (sel_cells y))
+        sels_go r line lt (more_sels x (more_sels z rest)) ls h size parts low end at from lo ends under small slots =
             let y : Sel = sel_with x ls in
             let ls2 = behind (sel_phrases x) ls in
-            let ends = part_end p tables r lo y in
-            let behind_slots = slots_behind p code input r lo (sel_slots p r y) (sels_slots p r (sels_with rest ls2)) slots in
-            more_sels_run p tables code input below r line (suc n) at from lo size y (sels_with rest ls2) slots.behind
-            (sel_go r line lt x ls (fine_front p tables code input r (sel_phrases x) (sels_phrases rest) ls h) size parts.0 at from lo small
-            (slots_first p code input r lo (sel_slots p r y) (sels_slots p r (sels_with rest ls2)) slots))
-            (λ next. subst (λ k. SelsRun p tables code input below r line (suc n) next (part_slot p tables r lo y)
-            (part_slot p tables r lo y + 1) k (sels_with rest ls2)) (sym (sel_cells_with x ls))
-            (sels_go r line lt rest ls2 (fine_back p tables code input r (sel_phrases x) (sels_phrases rest) ls h) (checked_of.sel_cells x)
-            parts.1 next (part_slot p tables r lo y) (part_slot p tables r lo y + 1) (omega arith)
-            (subst (λ k. HasSlots p code r k (sels_slots p r (sels_with rest ls2))) ends behind_slots)))
+            let others : Sels = sels_with (more_sels z rest) ls2 in
+            let part : ℕ = part_slot p tables r lo y in
+            let first = slots_first p code input r lo (sel_slots p r y) (sels_slots p r others) slots in
+            let behind_slots = slots_behind p code input r lo (sel_slots p r y) (sels_slots p r others) slots in
+            let low_part : low ≤ part = omega (arith, under, part_above p tables r lo y) in
+            more_sels_run p tables code input below r line (suc n) low end at from lo size y others ends.behind
+            (sel_go r line lt x ls (fine_front p tables code input r (sel_phrases x) (sels_phrases (more_sels z rest)) ls h) size parts.0 low
+            part at from lo
+            (record { behind = ends.behind; above = low_part; kind = part_kind p tables code input below r line (suc n) lo y first })
+            under small first)
+            (λ next. subst (λ k. SelsRun p tables code input below r line (suc n) low end next part (part + 1) k others)
+            (sym (sel_cells_with x ls))
+            (sels_go r line lt (more_sels z rest) ls2
+            (fine_back p tables code input r (sel_phrases x) (sels_phrases (more_sels z rest)) ls h) (checked_of.sel_cells x)
+            parts.1 low end next part (part + 1)
+            (subst (λ k. EndFits p tables code input below r line (suc n) low end (checked_of.cells_after others k)) (sel_cells_with x ls)
+            ends)
+            (omega (arith, low_part)) (omega arith)
+            (subst (λ k. HasSlots p code r k (sels_slots p r others)) (part_end p tables code input below r line (suc n) lo y)
+            behind_slots)))
 
         sel_go : (r line : ℕ) → r < length p.routines → (x : Sel) (ls : List ℕ) → FineIn r (sel_phrases x) ls → (size : ℕ) → IsPart x size
-            → (at from lo : ℕ) → from < lo → HasSlots p code r lo (sel_slots p r (sel_with x ls))
-            → SelRuns p tables code input below r line (suc n) at from lo size (sel_with x ls)
-        sel_go r line lt (Field offset cells) ls h size part at from lo small slots =
-            field_runs p tables code input below r line (suc n) at from lo size offset cells slots part
-        sel_go r line lt (Index e range cells) ls h size part at from lo small slots =
+            → (low end at from lo : ℕ) → EndFits p tables code input below r line (suc n) low end (sel_cells (sel_with x ls)) → low ≤ lo
+            → from < lo → HasSlots p code r lo (sel_slots p r (sel_with x ls))
+            → SelRuns p tables code input below r line (suc n) low end at from lo size (sel_with x ls)
+        sel_go r line lt (Field offset cells) ls h size part low end at from lo ends under small slots =
+            field_runs p tables code input below r line (suc n) low end at from lo size offset cells ends part
+        sel_go r line lt (Index e range cells) ls h size part low end at from lo ends under small slots =
             let y : Expr = expr_with e ls in
-            index_runs p tables code input below r line (suc n) at from lo size cells y range small h.asked.0.coded part slots
+            index_runs p tables code input below r line (suc n) low end at from lo size cells y range ends under small h.asked.0.coded part
             (once p tables code input below r line (suc n) y
             (expr_go r line lt e ls (fine_sel p tables code input r (Index e range cells) (expr_phrases e) ls h)) at lo
             (slots_first p code input r lo (unless_bare (bare y) (expr_slots p r y)) (slot.Place cells ∷ []) slots))
