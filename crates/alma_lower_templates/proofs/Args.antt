@@ -34,7 +34,7 @@ use Rattle.alma_mean.specs.Rows.{ArgValue, ArgNumber, ArgMix, ArgPlace, ArgCells
 use Rattle.alma_mean.specs.Meaning.{Level, ev_stmts, ev_expr, ev_desig, ev_arg, ev_args}
 use Rattle.alma_lower_implements.proofs.Goes.{Goes, before, bind_goes, one_goes}
 use Rattle.alma_lower_implements.proofs.Address.{at_address}
-use Rattle.alma_lower_implements.proofs.Frames.{own_end, SamePlace, HasSlots}
+use Rattle.alma_lower_implements.proofs.Frames.{own_end, HasSlots}
 use Rattle.alma_lower_implements.proofs.FrameLemmas.{numbers_kept, place_kept}
 use Rattle.alma_lower_implements.proofs.ExprRows.{first_kind, slots_behind}
 use Rattle.alma_lower_implements.proofs.ForSteps.{move_step}
@@ -52,7 +52,7 @@ use Rattle.alma_lower_templates.proofs.Stands.{stands_front, stands_back}
 use Rattle.alma_lower_templates.proofs.Parts.{Begins, Left, begins, left_self, left_on, left_temp, holds_temp, has_kind, holds_after}
 use Rattle.alma_lower_templates.proofs.Parts.{IsValue, ValueIn, PlaceIn, NodeFor, From, from_more, leaving, as_runs, node_runs, then_from}
 use Rattle.alma_lower_templates.proofs.Parts.{step_from, ends_here}
-use Rattle.alma_lower_templates.proofs.PlaceSteps.{in_range_reads, in_range_passes, in_range_faults, same_step}
+use Rattle.alma_lower_templates.proofs.PlaceSteps.{in_range_reads, in_range_passes, in_range_faults}
 use Rattle.alma_lower_templates.proofs.AtOnce.{AtOnce, at_once}
 use Rattle.alma_lower_templates.proofs.ExprForms.{RunsTo}
 use Rattle.alma_lower_templates.proofs.Straight.{alone_bare}

@@ -1,8 +1,7 @@
 -- CASE, from template to run: labels, arms and the ELSE part.
-use Rattle.std.proofs.Common.{◌≡◌, ◌≢◌, ℕ, suc, ◌+◌, ◌*◌, ◌<◌, ◌≤◌, Bool, true, false, List, [], ◌∷◌, ◌++◌, length, Some, refl, sym, ap}
+use Rattle.std.proofs.Common.{◌≡◌, ◌≢◌, ℕ, suc, ◌+◌, ◌<◌, ◌≤◌, Bool, true, false, List, [], ◌∷◌, ◌++◌, length, Some, refl, sym, ap}
 use Rattle.std.proofs.Common.{◌∙◌, subst, arith, ℤ, pos, negsuc}
 use Rattle.std.specs.Prelude.{slice_get, int_le, ◌&&◌, if◌then◌else◌}
-use Rattle.std.proofs.lemmas.Bool.{eqb-true}
 use Rattle.std.proofs.lemmas.Bool.Decides.{nat_tests}
 use Rattle.std.proofs.lemmas.Int.{ints}
 use Rattle.std.proofs.lemmas.List.{length-append}
@@ -28,7 +27,8 @@ use Rattle.alma_lower_implements.proofs.FrameLemmas.{holds_other}
 use Rattle.alma_lower_implements.proofs.ChoiceSteps.{jumps}
 use Rattle.alma_lower_implements.proofs.EitherRow.{inner_goes}
 use Rattle.alma_lower_implements.proofs.ExprRows.{some_frames}
-use Rattle.alma_lower_implements.proofs.Steps.{top_written, Holds, Writes, InstrAt, const_step, equal_step, less_eq_step, zero_jumps, other_goes_on}
+use Rattle.alma_lower_implements.proofs.Steps.{top_written, Holds, Writes, InstrAt, const_step, equal_step, less_eq_step, zero_jumps}
+use Rattle.alma_lower_implements.proofs.Steps.{other_goes_on}
 use Rattle.alma_lower_implements.proofs.Steps.{fault_step}
 use Rattle.alma_lower_implements.proofs.Ways.{Ways, Leaves, LeadsTo, leads_nowhere, leads_by_jump, leads_then}
 use Rattle.alma_lower_templates.specs.Lined.{Lined, own}
@@ -41,6 +41,7 @@ use Rattle.alma_lower_templates.proofs.Stands.{stands_front, stands_back}
 use Rattle.alma_lower_templates.proofs.Parts.{Begins, begins, Left, left_self, left_temp, has_kind, holds_temp, IsValue, ValueIn, From}
 use Rattle.alma_lower_templates.proofs.Parts.{ending, from_more, from_ending, on_ending, then_ending, as_runs, node_runs, faults_here}
 use Rattle.alma_lower_templates.proofs.Args.{own_both}
+use Rattle.alma_lower_templates.proofs.Exists.{same_number}
 use Rattle.alma_lower_templates.proofs.RangeChecks.{past_from}
 use Rattle.alma_lower_templates.proofs.FormRuns.{ExprRuns, StatementRuns, ListRuns}
 
@@ -50,12 +51,6 @@ between_one (pos a) (pos n) = grind (arith, ints, nat_tests)
 between_one (pos a) (negsuc n) = grind (arith, ints, nat_tests)
 between_one (negsuc a) (pos n) = grind (arith, ints, nat_tests)
 between_one (negsuc a) (negsuc n) = grind (arith, ints, nat_tests)
-
-same_number : (a b : ℤ) → int_eq a b ≡ true → a ≡ b
-same_number (pos a) (pos b) e = ap pos (eqb-true a b e)
-same_number (negsuc a) (negsuc b) e = ap negsuc (eqb-true a b e)
-same_number (pos a) (negsuc b) e = absurd (let bad : false ≡ true = e in cc)
-same_number (negsuc a) (pos b) e = absurd (let bad : false ≡ true = e in cc)
 
 within_one : (label : Range) (n : ℤ) → int_eq label.low label.high ≡ true → within label n ≡ int_eq label.low n
 within_one label n e = ap (λ k. int_le label.low n && int_le n k) (sym (same_number label.low label.high e)) ∙ between_one label.low n

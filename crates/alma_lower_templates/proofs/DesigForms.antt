@@ -24,16 +24,16 @@ use Rattle.alma_mean.specs.Meaning.{Level, ev_expr, ev_desig, ev_sels, ev_sel}
 use Rattle.alma_lower_implements.proofs.Frames.{shift, shift_in, own_end, AreNumbers, SamePlace, HasSlots}
 use Rattle.alma_lower_implements.proofs.ExprRows.{first_kind, slots_first, slots_behind}
 use Rattle.alma_lower_implements.proofs.Steps.{InstrAt}
-use Rattle.alma_lower_templates.specs.Lined.{Lined, own, in_row}
+use Rattle.alma_lower_templates.specs.Lined.{Lined, own}
 use Rattle.alma_lower_templates.specs.Tables.{Tables, range_number}
 use Rattle.alma_lower_templates.specs.Slots.{bare, own_root, unless_bare, expr_slots, root_slots, sels_slots, sel_slots}
 use Rattle.alma_lower_templates.specs.Slots.{desig_slots, behind_value}
-use Rattle.alma_lower_templates.specs.Templates.{expr_code, sels_code, sel_code, root_code, slot_or, value_at, part_slot, part_at, place_at}
+use Rattle.alma_lower_templates.specs.Templates.{expr_code, value_at, part_slot, part_at, place_at}
 use Rattle.alma_lower_templates.specs.Templates.{behind_root}
 use Rattle.alma_lower_templates.specs.Stands.{Stands}
 use Rattle.alma_lower_templates.proofs.Stands.{stands_front, stands_back}
 use Rattle.alma_lower_templates.proofs.Parts.{Begins, begins, has_kind, place_after, IsPlace, IsValue, PlaceIn}
-use Rattle.alma_lower_templates.proofs.Parts.{NodeRuns, NodeFor, From, leaving, from_more, from_lower, node_runs, then_from, alone_from}
+use Rattle.alma_lower_templates.proofs.Parts.{NodeRuns, NodeFor, From, leaving, from_more, node_runs, then_from, alone_from}
 use Rattle.alma_lower_templates.proofs.Parts.{faults_here, ends_here, place_goes_on}
 use Rattle.alma_lower_templates.proofs.AtOnce.{AtOnce, at_once}
 use Rattle.alma_lower_templates.proofs.OwnPlace.{own_root_is, no_own_root, own_is}
@@ -172,7 +172,8 @@ module _ (p : Program) (tables : Tables) (code : PlainCode) (input : List ℕ) (
 
   pub more_sels_run : (low end at from lo size : ℕ) (x : Sel) (rest : Sels) → own_end p r ≤ low
       → SelRuns low (by_sels rest end (part_slot p tables r lo x)) at from lo size x
-      → ((next : ℕ) → SelsRun low end next (by_sels rest end (part_slot p tables r lo x)) (part_slot p tables r lo x + 1) (sel_cells x) rest)
+      → ((next : ℕ) → SelsRun low end next (by_sels rest end (part_slot p tables r lo x)) (part_slot p tables r lo x + 1) (sel_cells x)
+      rest)
       → SelsRun low end at from lo size (more_sels x rest)
   unfolding ev_expr
   more_sels_run low end at from lo size x rest behind runs others stands v now a b place =

@@ -28,7 +28,8 @@ use Rattle.alma_ir.specs.Phrases.{desig_phrases, sels_phrases, sel_phrases}
 use Rattle.alma_lower_templates.specs.Lined.{Lined, own, in_row}
 use Rattle.alma_lower_templates.specs.Pieces.{cmp_code, op_code, neg_code, fit_code, unless_whole, link_code, chain_code, condition}
 use Rattle.alma_lower_templates.specs.Pieces.{guarded, read_code, write_code, truth_code, first_of_two, chosen, passed_over, has_dead}
-use Rattle.alma_lower_templates.specs.Pieces.{case_arm, behind_labels, labels_code, label_code, label_test, test_size, begin_loop, for_turns}
+use Rattle.alma_lower_templates.specs.Pieces.{case_arm, behind_labels, labels_code, label_code, label_test, test_size, begin_loop}
+use Rattle.alma_lower_templates.specs.Pieces.{for_turns}
 use Rattle.alma_lower_templates.specs.Pieces.{some_turns, turn_code, opposite_code, unless_constant, limit_code, put_code}
 use Rattle.alma_lower_templates.specs.Slots.{shift_of, bare, bare_desig, stays, stays_in, taken_from, unless_bare, is_simple, is_turned}
 use Rattle.alma_lower_templates.specs.Slots.{handed_slots, arg_slots}

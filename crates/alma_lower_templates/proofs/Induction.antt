@@ -2,7 +2,6 @@
 use Rattle.std.proofs.Common.{◌≡◌, ℕ, zero, suc, ◌+◌, ◌-◌, ◌<◌, ◌≤◌, Bool, true, false, List, [], ◌∷◌, ◌++◌, length, get_or, drop, Some}
 use Rattle.std.proofs.Common.{None, Option, inl, inr, refl, sym, ap, ◌∙◌, subst, arith, append_assoc, ℤ}
 use Rattle.std.specs.Prelude.{slice_get, IsNone, IsSome}
-use Rattle.std.proofs.lemmas.List.{length-append}
 use Rattle.alma_base.specs.declared.number.Range.{Range}
 use Rattle.alma_base.specs.Numbers.{is_integer}
 use Rattle.alma_code.specs.declared.cell.SlotKind.{SlotKind}
@@ -482,7 +481,8 @@ module _ (p : Program) (tables : Tables) (code : PlainCode) (all : List (List Ru
               runs = runs;
               held = λ at lo slots. held_runs p tables code input below r line (suc n) at lo y slots.behind
                   (own_fits r cells all sels x lt asked.root) (runs at lo slots);
-              placed = λ to at lo ends under slots. placed_runs p tables code input below r line (suc n) to at lo cells x all ends under fits
+              placed = λ to at lo ends under slots. placed_runs p tables code input below r line (suc n) to at lo cells x all ends under
+                  fits
                   checked.nested slots
                   (parts to to lo ends under slots.behind (placed_near all to lo (behind_root p tables r lo x) under (omega arith)) slots);
             }
@@ -499,7 +499,8 @@ module _ (p : Program) (tables : Tables) (code : PlainCode) (all : List (List Ru
             let y : Sel = sel_with x ls in
             let next_low : low ≤ part_slot p tables r lo y + 1 = omega (arith, under, part_above p tables r lo y) in
             more_sels_run p tables code input below r line (suc n) low end at from lo size y no_sels ends.behind
-            (sel_go r line lt x ls (fine_front p tables code input r (sel_phrases x) [] ls h) size parts.0 low end at from lo ends under small
+            (sel_go r line lt x ls (fine_front p tables code input r (sel_phrases x) [] ls h) size parts.0 low end at from lo ends under
+            small
             (slots_first p code input r lo (sel_slots p r y) [] slots))
             (λ next. no_sels_run p tables code input below r line (suc n) low end next end (part_slot p tables r lo y + 1) (sel_cells y))
         sels_go r line lt (more_sels x (more_sels z rest)) ls h size parts low end at from lo ends under small slots =
@@ -511,7 +512,8 @@ module _ (p : Program) (tables : Tables) (code : PlainCode) (all : List (List Ru
             let behind_slots = slots_behind p code input r lo (sel_slots p r y) (sels_slots p r others) slots in
             let low_part : low ≤ part = omega (arith, under, part_above p tables r lo y) in
             more_sels_run p tables code input below r line (suc n) low end at from lo size y others ends.behind
-            (sel_go r line lt x ls (fine_front p tables code input r (sel_phrases x) (sels_phrases (more_sels z rest)) ls h) size parts.0 low
+            (sel_go r line lt x ls (fine_front p tables code input r (sel_phrases x) (sels_phrases (more_sels z rest)) ls h) size parts.0
+            low
             part at from lo
             (record { behind = ends.behind; above = low_part; kind = part_kind p tables code input below r line (suc n) lo y first })
             under small first)

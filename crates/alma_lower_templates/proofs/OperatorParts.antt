@@ -32,8 +32,8 @@ use Rattle.alma_lower_implements.proofs.Numbers.{bit_integer, zero_bit, rest_int
 use Rattle.alma_lower_templates.specs.Lined.{own}
 use Rattle.alma_lower_templates.specs.Pieces.{op_code, cmp_code}
 use Rattle.alma_lower_templates.specs.Stands.{Stands}
-use Rattle.alma_lower_templates.proofs.Parts.{Begins, begins, Left, left_self, has_kind, IsValue, ValueIn, From, Carries, leaving}
-use Rattle.alma_lower_templates.proofs.Parts.{from_more, alone_from, faults_here, value_ends, value_then, value_goes_on}
+use Rattle.alma_lower_templates.proofs.Parts.{Begins, begins, Left, has_kind, IsValue, ValueIn, From, Carries, leaving}
+use Rattle.alma_lower_templates.proofs.Parts.{alone_from, faults_here, value_ends, value_then, value_goes_on}
 use Rattle.alma_lower_templates.proofs.First.{ReadsPair, ReadsBoth}
 
 module _ (code : PlainCode) (input : List ℕ) (line lo : ℕ) where

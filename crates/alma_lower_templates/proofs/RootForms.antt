@@ -186,7 +186,8 @@ module _ (p : Program) (code : PlainCode) (input : List ℕ) where
             let sized : a.size ≡ cells = b.sound.sized f from cells a live kind_there e in
             subst (λ x. Taken at now (place_held v x)) (sym e)
             (alone_from p code input line 9 at exit now (leaving p code input low r now yields) (k v a) q
-            (place_goes_on p code input line 8 at exit low r end cells v now a (record { frame = c.frame; slot = c.slot; len = cells }) yields
+            (place_goes_on p code input line 8 at exit low r end cells v now a (record { frame = c.frame; slot = c.slot; len = cells })
+            yields
             (k v a) q behind above kind b (b.sound.live f from a live e) sized
             (record { frame = same.frame; slot = same.slot; size = sized }) (w c there) (λ t left place. later a t left place)))
         by (no_place e there) =
@@ -263,7 +264,8 @@ module _ (p : Program) (code : PlainCode) (input : List ℕ) where
       → Stands code at (own line (root_to p tables r end lo root)) → Begins p code input r v now
       → GoesOnAt line q exit low end lo r v behind above under yields k (at + length (own line (root_to p tables r end lo root))) cells now
       → From p code input line 24 at exit now (leaving p code input low r now yields) (bind (root_place v root cells) k) q
-  root_from tables line q at exit low end lo r cells (root.Local from) v now behind above under yields k fits nested kind slots stands b later =
+  root_from tables line q at exit low end lo r cells (root.Local from) v now behind above under yields k fits nested kind slots stands b
+      later =
       from_more p code input line 9 24 at exit now (leaving p code input low r now yields) (bind (root_place v (root.Local from) cells) k) q
       (omega arith)
       (variables_from line q exit low end lo r v behind above under yields k at (top v) r from cells now b
@@ -273,9 +275,11 @@ module _ (p : Program) (code : PlainCode) (input : List ℕ) where
       (local_step code input line at now held s is end (shift p r + from) cells (record { instr = stands.0; on_line = stands.1 })
       (has_kind p code input r end v now (slot.Place cells) kind b)))
       later)
-  root_from tables line q at exit low end lo r cells (root.Global from) v now behind above under yields k fits nested kind slots stands b later =
+  root_from tables line q at exit low end lo r cells (root.Global from) v now behind above under yields k fits nested kind slots stands b
+      later =
       let e : from ≡ shift p 0 + from = omega (arith, fits.1) in
-      from_more p code input line 9 24 at exit now (leaving p code input low r now yields) (bind (root_place v (root.Global from) cells) k) q
+      from_more p code input line 9 24 at exit now (leaving p code input low r now yields) (bind (root_place v (root.Global from) cells) k)
+      q
       (omega arith)
       (variables_from line q exit low end lo r v behind above under yields k at 0 0 from cells now b kind
       (omega (arith, b.stand.some)) b.sound.main fits.0
@@ -283,24 +287,28 @@ module _ (p : Program) (code : PlainCode) (input : List ℕ) where
       (global_step code input line at now held s is end from cells (record { instr = stands.0; on_line = stands.1 })
       (has_kind p code input r end v now (slot.Place cells) kind b)))
       later)
-  root_from tables line q at exit low end lo r cells (root.Param from) v now behind above under yields k fits nested kind slots stands b later =
+  root_from tables line q at exit low end lo r cells (root.Param from) v now behind above under yields k fits nested kind slots stands b
+      later =
       let i : InstrAt code input line at (I.Same end (shift p r + from)) = record { instr = stands.0; on_line = stands.1 } in
       let at_top : top v ≡ length now - 1 = ap (λ n. n - 1) (sym b.stand.count) in
       from_more p code input line 9 24 at exit now (leaving p code input low r now yields) (bind (root_place v (root.Param from) cells) k) q
       (omega arith)
-      (held_from line q exit low end lo r v behind above under yields k at (top v) r from cells now b kind (omega (arith, b.stand.some)) b.routine fits
+      (held_from line q exit low end lo r v behind above under yields k at (top v) r from cells now b kind (omega (arith, b.stand.some))
+      b.routine fits
       (λ c there held s is. same_step code input line at now held s is end (shift p r + from) cells c i
       (has_kind p code input r end v now (slot.Place cells) kind b)
       (subst (λ n. slice_get (get_or now n picture.no_frame).cells (shift p r + from) ≡ Some (cell.Place c)) at_top there))
       (λ there held s is. same_unset line at end (shift p r + from) now held s is i
       (subst (λ n. slice_get (get_or now n picture.no_frame).cells (shift p r + from) ≡ Some cell.Unset) at_top there))
       later)
-  root_from tables line q at exit low end lo r cells (root.Outer links from) v now behind above under yields k fits nested kind slots stands b later =
+  root_from tables line q at exit low end lo r cells (root.Outer links from) v now behind above under yields k fits nested kind slots stands
+      b later =
       let r2 : ℕ = outer_at p r links in
       let long : length (own line (root_to p tables r end lo (root.Outer links from))) ≡ suc (links + 1) =
       ap suc (chain_long line links (lo + 1) (I.Outer end (lo + 1 + links) (shift p r2 + from))) in
       let here : at + length (own line (root_to p tables r end lo (root.Outer links from))) ≡ at + 1 + links + 1 = omega (arith, long) in
-      linked_from line q exit low end lo r v behind above under yields k at links now (I.Outer end (lo + 1 + links) (shift p r2 + from) ∷ [])
+      linked_from line q exit low end lo r v behind above under yields k at links now
+      (I.Outer end (lo + 1 + links) (shift p r2 + from) ∷ [])
       (one v (record { frame = up v links; slot = from; size = cells })) b nested fits.0
       slots stands
       (λ t b1 reached holds last left.
@@ -311,12 +319,15 @@ module _ (p : Program) (code : PlainCode) (input : List ℕ) where
       (record { instr = last.0; on_line = last.1 }) (has_kind p code input r end v t (slot.Place cells) kind b1) holds)
       (λ a t2 left2 place. subst (λ n. From p code input line 8 n exit t2 (leaving p code input low r t2 yields) (k v a) q) here
       (later a t2 (left_on p code input low low r now v v t t2 (omega arith) left left2) place)))
-  root_from tables line q at exit low end lo r cells (root.OuterParam links from) v now behind above under yields k fits nested kind slots stands b later =
+  root_from tables line q at exit low end lo r cells (root.OuterParam links from) v now behind above under yields k fits nested kind slots
+      stands b later =
       let r2 : ℕ = outer_at p r links in
       let long : length (own line (root_to p tables r end lo (root.OuterParam links from))) ≡ suc (links + 1) =
       ap suc (chain_long line links (lo + 1) (I.OuterSame end (lo + 1 + links) (shift p r2 + from))) in
-      let here : at + length (own line (root_to p tables r end lo (root.OuterParam links from))) ≡ at + 1 + links + 1 = omega (arith, long) in
-      linked_from line q exit low end lo r v behind above under yields k at links now (I.OuterSame end (lo + 1 + links) (shift p r2 + from) ∷ [])
+      let here : at + length (own line (root_to p tables r end lo (root.OuterParam links from))) ≡ at + 1 + links + 1 =
+      omega (arith, long) in
+      linked_from line q exit low end lo r v behind above under yields k at links now
+      (I.OuterSame end (lo + 1 + links) (shift p r2 + from) ∷ [])
       (place_held v (cell_at v (up v links) from)) b nested fits.0
       slots stands
       (λ t b1 reached holds last left.

@@ -273,7 +273,8 @@ module _ (p : Program) (tables : Tables) (r : ℕ) where
     cases_code line value bound jump at lo no_cases otherwise = otherwise at lo
     cases_code line value bound jump at lo (more_cases [] body rest) otherwise = cases_code line value bound jump at lo rest otherwise
     cases_code line value bound jump at lo (more_cases (label ∷ labels) body rest) otherwise =
-        in_row at (case_arm line value bound at label labels (stmts_code (behind_labels at label labels) lo body) ++ own line (I.Jump jump ∷ []))
+        in_row at (case_arm line value bound at label labels (stmts_code (behind_labels at label labels) lo body)
+        ++ own line (I.Jump jump ∷ []))
         (λ next. cases_code line value bound jump next (behind_stmts p r lo body) rest otherwise)
 
     -- 5 is the number of NoCase
