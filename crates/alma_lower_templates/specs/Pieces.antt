@@ -189,6 +189,15 @@ abbrev pub turned_loop : (line at : ℕ) → (body : List Lined) → (condition 
 turned_loop line at body condition =
     own line (I.Jump (at + 1 + length body) ∷ []) ++ (body ++ condition (at + 1 + length body))
 
+-- a constant that is put before a loop, and the slot of an operand that may be one
+abbrev pub held_code : (constant : Option ℤ) → (to : ℕ) → List Instr
+held_code (Some n) to = I.Const to n ∷ []
+held_code None to = []
+
+abbrev pub held_or : (constant : Option ℤ) → (held other : ℕ) → ℕ
+held_or (Some n) held other = held
+held_or None held other = other
+
 -- the first count goes to its slot: a constant itself, and another value from where it stands
 abbrev pub count_from : (constant : Option ℤ) → (counter first : ℕ) → Instr
 count_from (Some n) counter first = I.Const counter n

@@ -170,6 +170,15 @@ abbrev pub is_turned : Test → Bool
 is_turned (Value (Compare how x y)) = has_opposite how && (is_simple_expr x && is_simple_expr y)
 is_turned _ = false
 
+-- the second operand of that comparison, where it is a constant: it goes into a slot of its own once, before the loop
+abbrev pub held_constant : Test → Option ℤ
+held_constant (Value (Compare how x y)) = constant y
+held_constant _ = None
+
+abbrev pub held_slots : Option ℤ → List SlotKind
+held_slots (Some n) = slot.Number ∷ []
+held_slots None = []
+
 -- the one or the other, by where the condition of WHILE stands
 abbrev pub by_turn : {A : Type 0} → (turned : Bool) → (behind before : A) → A
 by_turn true behind before = behind
@@ -231,7 +240,7 @@ module _ (p : Program) (r : ℕ) where
     stmt_slots (Assign d e range) = unless_bare (bare_desig d) (desig_slots d) ++ unless_bare (bare e) (expr_slots e)
     stmt_slots (CopyCells d e) = desig_slots d ++ desig_slots e
     stmt_slots (If arms rest) = arms_slots arms ++ stmts_slots rest
-    stmt_slots (While t body) = by_turn (is_turned t) (stmts_slots body ++ test_slots t)
+    stmt_slots (While t body) = by_turn (is_turned t) (held_slots (held_constant t) ++ (stmts_slots body ++ test_slots t))
         (mark_slots (is_simple t) ++ (test_slots t ++ stmts_slots body))
     stmt_slots (Repeat body t) = stmts_slots body ++ (mark_slots (is_simple t) ++ test_slots t)
     stmt_slots (ForTo l) = for_slots l
@@ -379,6 +388,10 @@ module _ (p : Program) (r : ℕ) where
   -- of a designator that is written
   abbrev pub behind_target : (lo : ℕ) → Desig → ℕ
   behind_target lo d = lo + length (unless_bare (bare_desig d) (desig_slots d))
+
+  -- of a constant that is put before a loop
+  abbrev pub behind_held : (lo : ℕ) → Test → ℕ
+  behind_held lo t = lo + length (held_slots (held_constant t))
 
   -- of the variable of a loop
   abbrev pub behind_variable : (lo : ℕ) → Desig → ℕ

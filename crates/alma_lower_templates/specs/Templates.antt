@@ -22,13 +22,13 @@ use Rattle.alma_lower_templates.specs.Slots.{shift_of, bare_desig, bare, stays, 
 use Rattle.alma_lower_templates.specs.Slots.{own_root}
 use Rattle.alma_lower_templates.specs.Slots.{is_simple, handed_slots, call_links, root_slots, arg_slots, behind_stmts, behind_stmt}
 use Rattle.alma_lower_templates.specs.Slots.{behind_test, behind_condition, behind_expr, behind_dead, behind_value, behind_desig}
-use Rattle.alma_lower_templates.specs.Slots.{behind_target, behind_variable, is_straight, own_kinds, is_turned, by_turn, constant}
+use Rattle.alma_lower_templates.specs.Slots.{held_constant, behind_held, behind_target, behind_variable, is_straight, own_kinds, is_turned, by_turn, constant}
 use Rattle.alma_lower_templates.specs.Slots.{ends_alone}
 use Rattle.alma_lower_templates.specs.Pieces.{op_code, cmp_code, unequal_code, straight, neg_code, write_code, read_code, fit_code}
 use Rattle.alma_lower_templates.specs.Pieces.{link_code, condition, guarded, chosen, first_of_two, refused, truth_code, each_body}
 use Rattle.alma_lower_templates.specs.Pieces.{forall_code, begin_loop, turn_code, for_turns, some_turns, behind_labels, case_arm}
 use Rattle.alma_lower_templates.specs.Pieces.{passed_over, has_dead, put_code, first_argument, turned_loop, opposite_code, unless_constant}
-use Rattle.alma_lower_templates.specs.Pieces.{limit_code, placed}
+use Rattle.alma_lower_templates.specs.Pieces.{limit_code, placed, held_code, held_or}
 
 -- the numbers of CHAR
 abbrev pub char_range : Range
@@ -179,7 +179,9 @@ module _ (p : Program) (tables : Tables) (r : ℕ) where
     -- the first jump is the one step before the first condition
     stmt_code line at lo (While t body) =
         by_turn (is_turned t)
-        (turned_loop line at (stmts_code (at + 1) lo body) (λ next. back_code line next (behind_stmts p r lo body) (at + 1) t))
+        (in_row at (own line (held_code (held_constant t) lo))
+        (λ at. turned_loop line at (stmts_code (at + 1) (behind_held lo t) body)
+        (λ next. back_code line next (behind_stmts p r (behind_held lo t) body) lo (at + 1) t)))
         (own line (I.Jump (at + 1) ∷ [])
         ++ (guarded (at + 1) 1 (λ none. condition (is_simple t) line (at + 1) lo none (λ at lo none. jump_code line at lo none t)
         (λ at lo. test_code line at lo t))
@@ -358,13 +360,14 @@ module _ (p : Program) (tables : Tables) (r : ℕ) where
     jump_code line at lo none (Value e) = unless_bare (bare e) (expr_code line at lo e) ++ own line (I.JumpZero (value_at lo e) none ∷ [])
     jump_code line at lo none _ = []
 
-    -- a comparison goes to `top` while it holds
-    pub back_code : (line at lo top : ℕ) → Test → List Lined
-    back_code line at lo top (Value (Compare how x y)) =
+    -- a comparison goes to `top` while it holds; a constant that is its second operand stands in the slot `held`
+    pub back_code : (line at lo held top : ℕ) → Test → List Lined
+    back_code line at lo held top (Value (Compare how x y)) =
         in_row at (unless_bare (stays x y) (expr_code line at lo x))
-        (λ next. unless_bare (bare y) (expr_code line next (behind_expr p r lo x) y))
-        ++ own line (opposite_code how lo (slot_or (stays x y) lo) (value_at (behind_expr p r lo x) y) ∷ I.JumpZero lo top ∷ [])
-    back_code line at lo top _ = []
+        (λ next. unless_constant (constant y) (unless_bare (bare y) (expr_code line next (behind_expr p r lo x) y)))
+        ++ own line (opposite_code how lo (slot_or (stays x y) lo) (held_or (constant y) held (value_at (behind_expr p r lo x) y))
+        ∷ I.JumpZero lo top ∷ [])
+    back_code line at lo held top _ = []
 
     -- the value goes into the slot `lo`
     pub expr_code : (line at lo : ℕ) → Expr → List Lined
