@@ -364,17 +364,17 @@ module _ (p : Program) (tables : Tables) (code : PlainCode) (input : List ℕ) w
             (subst (λ u. HasSlots p code r lo (mark_slots (is_simple u) ++ test_slots p r u)) is slots)
 
     -- a test as a condition behind the body of WHILE
-    pub decides_back : (t : Test) → TestGoes t → is_turned t ≡ true → (at lo top : ℕ) → HasSlots p code r lo (test_slots p r t)
-        → GoesBack p tables code input below r line q at lo top t (ev_test p input below t) q
-    decides_back t h e at lo top = by (turned t e)
+    pub decides_back : (t : Test) → TestGoes t → is_turned t ≡ true → (at lo held top : ℕ) → HasSlots p code r lo (test_slots p r t)
+        → GoesBack p tables code input below r line q at lo held top t (ev_test p input below t) q
+    decides_back t h e at lo held top = by (turned t e)
       where
         by : Turned t → HasSlots p code r lo (test_slots p r t)
-            → GoesBack p tables code input below r line q at lo top t (ev_test p input below t) q
+            → GoesBack p tables code input below r line q at lo held top t (ev_test p input below t) q
         by (compares_two how x y is opposite simple) =
             let o = (h.value (Compare how x y) is).operands how x y refl in
-            subst (λ u. HasSlots p code r lo (test_slots p r u) → GoesBack p tables code input below r line q at lo top u
+            subst (λ u. HasSlots p code r lo (test_slots p r u) → GoesBack p tables code input below r line q at lo held top u
             (ev_test p input below u) q) (sym is)
-            (λ slots. goes_back p tables code input below r line q at lo top how x y opposite simple slots
+            (λ slots. goes_back p tables code input below r line q at lo held top how x y opposite simple slots
             (o.first at lo (slots_first p code input r lo (expr_slots p r x) (unless_bare (bare y) (expr_slots p r y)) slots)) o.fits
             (o.second (behind_expr p r lo x) (slots_behind p code input r lo (expr_slots p r x) (unless_bare (bare y) (expr_slots p r y))
             slots)))

@@ -31,11 +31,12 @@ use Rattle.alma_lower_templates.specs.Pieces.{guarded, read_code, write_code, tr
 use Rattle.alma_lower_templates.specs.Pieces.{case_arm, behind_labels, labels_code, label_code, label_test, test_size, begin_loop}
 use Rattle.alma_lower_templates.specs.Pieces.{for_turns}
 use Rattle.alma_lower_templates.specs.Pieces.{some_turns, turn_code, opposite_code, unless_constant, limit_code, put_code}
+use Rattle.alma_lower_templates.specs.Pieces.{held_code as constant_code, held_or}
 use Rattle.alma_lower_templates.specs.Slots.{shift_of, bare, bare_desig, stays, stays_in, taken_from, unless_bare, is_simple, is_turned}
 use Rattle.alma_lower_templates.specs.Slots.{handed_slots, arg_slots}
 use Rattle.alma_lower_templates.specs.Slots.{behind_stmts, behind_stmt, behind_test, behind_condition, behind_expr, behind_dead}
 use Rattle.alma_lower_templates.specs.Slots.{behind_value, behind_desig, behind_target, behind_variable, own_place, own_root, goes_straight}
-use Rattle.alma_lower_templates.specs.Slots.{constant, ends_alone, is_straight}
+use Rattle.alma_lower_templates.specs.Slots.{constant, ends_alone, is_straight, behind_held, held_constant}
 use Rattle.alma_lower_templates.specs.Tables.{Tables, range_number, is_whole}
 use Rattle.alma_lower_templates.specs.Templates
 use Rattle.alma_lower_templates.proofs.Straight.{straight_long}
@@ -234,10 +235,21 @@ module _ (p : Program) (tables : Tables) (r : ℕ) where
       (λ at lo none. Templates.jump_code p tables r line at lo none u) (λ at lo. Templates.test_code p tables r line at lo u)) body m n
       (λ none. asks_few line at lo none u m j t) b
 
+  -- a first count, and an operand that is held
+  constant_few : (o : Option ℤ) (value : List Lined) → length (unless_constant o value) ≤ length value
+  constant_few (Some n) value = omega arith
+  constant_few None value = omega arith
+
+  one_few : (line : ℕ) (o : Option ℤ) (to : ℕ) → length (own line (constant_code o to)) ≤ 1
+  one_few line (Some n) to = omega arith
+  one_few line None to = omega arith
+
   -- a comparison that goes back is no longer than the test of it
-  back_few : (line at lo top : ℕ) (u : Test)
-      → length (Templates.back_code p tables r line at lo top u) ≤ length (Templates.test_code p tables r line at lo u)
-  back_few line at lo top (Value (Compare how x y)) =
+  back_few : (line at lo held top : ℕ) (u : Test)
+      → length (Templates.back_code p tables r line at lo held top u) ≤ length (Templates.test_code p tables r line at lo u)
+  back_few line at lo held top (Value (Compare how x y)) =
+      let one : List Lined = unless_bare (stays x y) (Templates.expr_code p tables r line at lo x) in
+      let two : List Lined = unless_bare (bare y) (Templates.expr_code p tables r line (at + length one) (behind_expr p r lo x) y) in
       let operands : List Lined = compared_code p tables r line at lo x y in
       let first : ℕ = Templates.slot_or p tables r (stays x y) lo in
       let other : ℕ = Templates.value_at p tables r (behind_expr p r lo x) y in
@@ -245,24 +257,28 @@ module _ (p : Program) (tables : Tables) (r : ℕ) where
         arith,
         tested_long p tables r line at lo (Compare how x y),
         length-append operands (own line (cmp_code how lo first other)),
-        length-append operands (own line (opposite_code how lo first other ∷ I.JumpZero lo top ∷ [])),
+        length-append one two,
+        length-append one (unless_constant (constant y) two),
+        constant_few (constant y) two,
+        length-append (one ++ unless_constant (constant y) two)
+            (own line (opposite_code how lo first (held_or (constant y) held other) ∷ I.JumpZero lo top ∷ [])),
         cmp_some line how lo first other,
       )
-  back_few line at lo top (Value (Const n)) = omega arith
-  back_few line at lo top (Value (Load d)) = omega arith
-  back_few line at lo top (Value (Chain negated e links)) = omega arith
-  back_few line at lo top (Value (Truth t)) = omega arith
-  back_few line at lo top (Value (Known d)) = omega arith
-  back_few line at lo top (Value (Chr e)) = omega arith
-  back_few line at lo top (Value (CallExpr called args up)) = omega arith
-  back_few line at lo top (Bind d e range left) = omega arith
-  back_few line at lo top (Unify d range e range2) = omega arith
-  back_few line at lo top (SameCells d e) = omega arith
-  back_few line at lo top (Seq x) = omega arith
-  back_few line at lo top (And ts) = omega arith
-  back_few line at lo top (Or ts) = omega arith
-  back_few line at lo top (Not t) = omega arith
-  back_few line at lo top (CallTest called args up) = omega arith
+  back_few line at lo held top (Value (Const n)) = omega arith
+  back_few line at lo held top (Value (Load d)) = omega arith
+  back_few line at lo held top (Value (Chain negated e links)) = omega arith
+  back_few line at lo held top (Value (Truth t)) = omega arith
+  back_few line at lo held top (Value (Known d)) = omega arith
+  back_few line at lo held top (Value (Chr e)) = omega arith
+  back_few line at lo held top (Value (CallExpr called args up)) = omega arith
+  back_few line at lo held top (Bind d e range left) = omega arith
+  back_few line at lo held top (Unify d range e range2) = omega arith
+  back_few line at lo held top (SameCells d e) = omega arith
+  back_few line at lo held top (Seq x) = omega arith
+  back_few line at lo held top (And ts) = omega arith
+  back_few line at lo held top (Or ts) = omega arith
+  back_few line at lo held top (Not t) = omega arith
+  back_few line at lo held top (CallTest called args up) = omega arith
 
   -- WHILE, wherever its condition stands
   while_few :
@@ -272,15 +288,21 @@ module _ (p : Program) (tables : Tables) (r : ℕ) where
       → ((at lo : ℕ) → length (Templates.stmts_code p tables r at lo y) ≤ n)
       → length (while_code p tables r behind line at lo u y) ≤ 1 + m + n
   while_few true line at lo u y m n j t b =
-      let body : List Lined = Templates.stmts_code p tables r (at + 1) lo y in
-      let next : ℕ = at + 1 + length body in
-      let lo2 : ℕ = behind_stmts p r lo y in
+      let lo1 : ℕ = behind_held p r lo u in
+      let held : List Lined = own line (constant_code (held_constant u) lo) in
+      let top : ℕ = at + length held + 1 in
+      let body : List Lined = Templates.stmts_code p tables r top lo1 y in
+      let next : ℕ = top + length body in
+      let lo2 : ℕ = behind_stmts p r lo1 y in
+      let last : List Lined = Templates.back_code p tables r line next lo2 lo top u in
       omega (
         arith,
-        length-append body (Templates.back_code p tables r line next lo2 (at + 1) u),
-        back_few line next lo2 (at + 1) u,
+        length-append held (own line (I.Jump next ∷ []) ++ (body ++ last)),
+        length-append body last,
+        one_few line (held_constant u) lo,
+        back_few line next lo2 lo top u,
         t next lo2,
-        b (at + 1) lo,
+        b top lo1,
       )
   while_few false line at lo u y m n j t b =
       let lo2 : ℕ = behind_condition p r lo u in
@@ -329,11 +351,7 @@ module _ (p : Program) (tables : Tables) (r : ℕ) where
         labels_few value bound at here (here + length x + 1) label labels,
       )
 
-  -- a first count and a limit
-  constant_few : (o : Option ℤ) (value : List Lined) → length (unless_constant o value) ≤ length value
-  constant_few (Some n) value = omega arith
-  constant_few None value = omega arith
-
+  -- a limit
   limit_few : (z : Bool) (line limit from : ℕ) (value : List Lined) → length (limit_code z line limit from value) ≤ length value + 1
   limit_few true line limit from value = omega (arith, straight_long limit value)
   limit_few false line limit from value = omega (arith, length-append value (own line (I.Move limit from ∷ [])))

@@ -45,8 +45,8 @@ use Rattle.alma_lower_templates.specs.Slots.{routine_kinds, bare, bare_desig, ow
 use Rattle.alma_lower_templates.specs.Slots.{handed_slots, root_slots, stmts_slots, stmt_slots, test_slots, and_slots, or_slots, expr_slots}
 use Rattle.alma_lower_templates.specs.Slots.{links_slots, args_slots, arg_slots, desig_slots, sels_slots, sel_slots, behind_expr}
 use Rattle.alma_lower_templates.specs.Slots.{behind_dead, behind_value, behind_desig, behind_test, behind_stmts, behind_stmt}
-use Rattle.alma_lower_templates.specs.Slots.{behind_condition, behind_variable, is_turned, by_turn, arms_slots, dead_slots, cases_slots}
-use Rattle.alma_lower_templates.specs.Slots.{else_slots}
+use Rattle.alma_lower_templates.specs.Slots.{behind_condition, behind_variable, behind_held, is_turned, held_constant, held_slots}
+use Rattle.alma_lower_templates.specs.Slots.{arms_slots, dead_slots, cases_slots, else_slots}
 use Rattle.alma_lower_templates.specs.Compiled.{program_code}
 use Rattle.alma_lower_templates.specs.Templates.{part_slot, part_at, behind_root, arg_code, desig_code, place_at, stmts_code, stmt_code}
 use Rattle.alma_lower_templates.specs.Pieces.{placed}
@@ -86,8 +86,9 @@ use Rattle.alma_lower_templates.proofs.Levels.{Below, ForTurns, SomeTurns, owes_
 use Rattle.alma_lower_templates.proofs.ReadForms.{read_runs}
 use Rattle.alma_lower_templates.proofs.Returning.{return_runs, return_value_runs}
 use Rattle.alma_lower_templates.proofs.Parts.{NodeFor, RunsFor, PlaceIn, ending, as_statement}
-use Rattle.alma_lower_templates.proofs.LoopForms.{truth_runs, TurnsRun, TurnKnown, while_top, while_exit, repeat_exit, while_turn_runs}
-use Rattle.alma_lower_templates.proofs.LoopForms.{while_runs, repeat_turn_runs, repeat_runs}
+use Rattle.alma_lower_templates.proofs.LoopForms.{truth_runs, TurnsRun, HeldTurnsRun, TurnKnown, while_top, while_exit, while_slots}
+use Rattle.alma_lower_templates.proofs.LoopForms.{behind_constant, turned_top, while_turn_runs, while_runs}
+use Rattle.alma_lower_templates.proofs.LoopForms.{repeat_exit, repeat_turn_runs, repeat_runs}
 use Rattle.alma_lower_templates.proofs.RangeChecks.{chr_runs}
 use Rattle.alma_lower_templates.proofs.RootForms.{RootFits, IsParam}
 use Rattle.alma_lower_templates.proofs.StmtForms.{value_runs, test_stmt_runs, assign_runs, write_runs, text_runs, line_runs}
@@ -350,23 +351,24 @@ module _ (p : Program) (tables : Tables) (code : PlainCode) (all : List (List Ru
       turn_known : (z : Bool) (may : Bool) (r line : ℕ) → r < length p.routines → (t : Test) (body : Stmts) (ls : List ℕ)
           → FineIn r (test_phrases t ++ stmts_phrases body) ls → Stays p tables code input may (test_phrases t ++ stmts_phrases body)
           → (at lo : ℕ) → is_turned (test_with t ls) ≡ z
-          → HasSlots p code r lo (by_turn z
-          (stmts_slots p r (stmts_with body (behind (test_phrases t) ls)) ++ test_slots p r (test_with t ls))
-          (mark_slots (is_simple (test_with t ls))
-          ++ (test_slots p r (test_with t ls) ++ stmts_slots p r (stmts_with body (behind (test_phrases t) ls)))))
+          → HasSlots p code r lo (while_slots p tables code input below r line (suc n) z (test_with t ls)
+          (stmts_with body (behind (test_phrases t) ls)))
           → TurnKnown p tables code input below r line (suc n) z may at lo (test_with t ls) (stmts_with body (behind (test_phrases t) ls))
           (below.test (test_with t ls)) (below.stmts (stmts_with body (behind (test_phrases t) ls))) n
       turn_known true may r line lt t body ls inner inner_stays at lo e slots =
           let ls2 = behind (test_phrases t) ls in
           let u : Test = test_with t ls in
           let x : Stmts = stmts_with body ls2 in
+          let lo1 : ℕ = behind_held p r lo u in
+          let at1 : ℕ = behind_constant p tables code input below r line (suc n) at lo u + 1 in
+          let slots1 = slots_behind p code input r lo (held_slots (held_constant u)) (stmts_slots p r x ++ test_slots p r u) slots in
           record {
             decides = know.backs r line lt t ls (fine_front p tables code input r (test_phrases t) (stmts_phrases body) ls inner) e
-                (at + 1 + length (stmts_code p tables r (at + 1) lo x)) (behind_stmts p r lo x) (at + 1)
-                (slots_behind p code input r lo (stmts_slots p r x) (test_slots p r u) slots);
+                (turned_top p tables code input below r line (suc n) at lo u x) (behind_stmts p r lo1 x) lo at1
+                (slots_behind p code input r lo1 (stmts_slots p r x) (test_slots p r u) slots1);
             runs = turn_body may r line lt body ls2 (fine_back p tables code input r (test_phrases t) (stmts_phrases body) ls inner)
-                (stays_back p tables code input may (test_phrases t) (stmts_phrases body) inner_stays) (at + 1) lo
-                (slots_first p code input r lo (stmts_slots p r x) (test_slots p r u) slots);
+                (stays_back p tables code input may (test_phrases t) (stmts_phrases body) inner_stays) at1 lo1
+                (slots_first p code input r lo1 (stmts_slots p r x) (test_slots p r u) slots1);
           }
       turn_known false may r line lt t body ls inner inner_stays at lo e slots =
           let ls2 = behind (test_phrases t) ls in
@@ -964,7 +966,7 @@ module _ (p : Program) (tables : Tables) (code : PlainCode) (all : List (List Ru
             let u : Test = test_with t ls in
             let x : Stmts = stmts_with body ls2 in
             λ stands v now b.
-            while_runs p tables code input below r line (suc n) may at lo u x slots.behind (n - 1) (omega arith)
+            while_runs p tables code input below r line (suc n) may at lo u x slots (n - 1) (omega arith)
             (subst (λ k. TurnKnown p tables code input below r line (suc n) (is_turned u) may at lo u x (below.test u) (below.stmts x) k)
             less_one (turn_known (is_turned u) may r line lt t body ls inner inner_stays at lo refl slots))
             (know.whiles may r line lt t body ls inner inner_stays at lo slots stands) stands v now b
@@ -1396,12 +1398,12 @@ module _ (p : Program) (tables : Tables) (code : PlainCode) (all : List (List Ru
           → FineIn r (test_phrases t ++ stmts_phrases body) ls → Stays p tables code input may (test_phrases t ++ stmts_phrases body)
           → (at lo : ℕ) → HasSlots p code r lo (stmt_slots p r (While (test_with t ls) (stmts_with body (behind (test_phrases t) ls))))
           → Stands code at (stmt_code p tables r line at lo (While (test_with t ls) (stmts_with body (behind (test_phrases t) ls))))
-          → TurnsRun p tables code input below r line (suc n) may
+          → HeldTurnsRun p tables code input below r line (suc n) may
           (while_top p tables code input below r line (suc n) at lo (test_with t ls) (stmts_with body (behind (test_phrases t) ls)))
           (while_exit p tables code input below r line (suc n) at lo (test_with t ls) (stmts_with body (behind (test_phrases t) ls))) lo
-          (while_turn (below.test (test_with t ls)) (below.stmts (stmts_with body (behind (test_phrases t) ls)))
+          (test_with t ls) (while_turn (below.test (test_with t ls)) (below.stmts (stmts_with body (behind (test_phrases t) ls)))
           (below.while (test_with t ls) (stmts_with body (behind (test_phrases t) ls)))) (suc n - 1)
-      while_go may r line lt t body ls inner inner_stays at lo slots stands v now b =
+      while_go may r line lt t body ls inner inner_stays at lo slots stands v now b is_held =
           let ls2 = behind (test_phrases t) ls in
           let u : Test = test_with t ls in
           let x : Stmts = stmts_with body ls2 in
@@ -1413,7 +1415,7 @@ module _ (p : Program) (tables : Tables) (code : PlainCode) (all : List (List Ru
           (visited_later code input line top exit now w e n
           (while_turn_runs p tables code input below r line (suc n) may at lo u x (below.test u) (below.stmts x) (below.while u x) n (n - 1)
           slots.behind (omega arith) (turn_known (is_turned u) may r line lt t body ls inner inner_stays at lo refl slots)
-          (know.whiles may r line lt t body ls inner inner_stays at lo slots stands) stands v now b))
+          (know.whiles may r line lt t body ls inner inner_stays at lo slots stands) stands v now b is_held))
 
       repeat_go : (may : Bool) (r line : ℕ) → r < length p.routines → (body : Stmts) (t : Test) (ls : List ℕ)
           → FineIn r (stmts_phrases body ++ test_phrases t) ls → Stays p tables code input may (stmts_phrases body ++ test_phrases t)
@@ -1449,10 +1451,10 @@ module _ (p : Program) (tables : Tables) (code : PlainCode) (all : List (List Ru
         lists = λ may r line lt x ls fine stays at lo slots. stmts_go may r lt x ls fine stays line at lo slots;
         tests = λ r line lt t ls fine at lo none slots. decides p tables code input below r line (suc n) (test_with t ls)
             (test_go r line lt t ls fine) at lo none slots;
-        backs = λ r line lt t ls fine e at lo top slots. decides_back p tables code input below r line (suc n) (test_with t ls)
-            (test_go r line lt t ls fine) e at lo top slots;
-        whiles = λ may r line lt t x ls fine stays at lo slots stands v now b. while_go may r line lt t x ls fine stays at lo slots stands v
-            now b;
+        backs = λ r line lt t ls fine e at lo held top slots. decides_back p tables code input below r line (suc n) (test_with t ls)
+            (test_go r line lt t ls fine) e at lo held top slots;
+        whiles = λ may r line lt t x ls fine stays at lo slots stands v now b held. while_go may r line lt t x ls fine stays at lo slots
+            stands v now b held;
         repeats = λ may r line lt x t ls fine stays at lo slots stands v now b. repeat_go may r line lt x t ls fine stays at lo slots stands
             v
             now b;

@@ -22,8 +22,8 @@ use Rattle.alma_lower_templates.specs.Slots.{shift_of, bare_desig, bare, stays, 
 use Rattle.alma_lower_templates.specs.Slots.{own_root}
 use Rattle.alma_lower_templates.specs.Slots.{is_simple, handed_slots, call_links, root_slots, arg_slots, behind_stmts, behind_stmt}
 use Rattle.alma_lower_templates.specs.Slots.{behind_test, behind_condition, behind_expr, behind_dead, behind_value, behind_desig}
-use Rattle.alma_lower_templates.specs.Slots.{held_constant, behind_held, behind_target, behind_variable, is_straight, own_kinds, is_turned, by_turn, constant}
-use Rattle.alma_lower_templates.specs.Slots.{ends_alone}
+use Rattle.alma_lower_templates.specs.Slots.{behind_target, behind_variable, is_straight, own_kinds, is_turned, by_turn, constant}
+use Rattle.alma_lower_templates.specs.Slots.{ends_alone, held_constant, behind_held}
 use Rattle.alma_lower_templates.specs.Pieces.{op_code, cmp_code, unequal_code, straight, neg_code, write_code, read_code, fit_code}
 use Rattle.alma_lower_templates.specs.Pieces.{link_code, condition, guarded, chosen, first_of_two, refused, truth_code, each_body}
 use Rattle.alma_lower_templates.specs.Pieces.{forall_code, begin_loop, turn_code, for_turns, some_turns, behind_labels, case_arm}
@@ -180,8 +180,8 @@ module _ (p : Program) (tables : Tables) (r : ℕ) where
     stmt_code line at lo (While t body) =
         by_turn (is_turned t)
         (in_row at (own line (held_code (held_constant t) lo))
-        (λ at. turned_loop line at (stmts_code (at + 1) (behind_held lo t) body)
-        (λ next. back_code line next (behind_stmts p r (behind_held lo t) body) lo (at + 1) t)))
+        (λ at. turned_loop line at (stmts_code (at + 1) (behind_held p r lo t) body)
+        (λ next. back_code line next (behind_stmts p r (behind_held p r lo t) body) lo (at + 1) t)))
         (own line (I.Jump (at + 1) ∷ [])
         ++ (guarded (at + 1) 1 (λ none. condition (is_simple t) line (at + 1) lo none (λ at lo none. jump_code line at lo none t)
         (λ at lo. test_code line at lo t))
