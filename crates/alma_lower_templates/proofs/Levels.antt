@@ -133,10 +133,10 @@ module _ (p : Program) (tables : Tables) (code : PlainCode) (input : List ℕ) w
         (subst IsOn (sym is.mode) tt);
     tests = λ r line lt t ls fine at lo none slots v now b stands B left2 more2 fits2 found nothing b2 c le held s is on_found on_none.
         cut_here s (3 + b2 + c) 0 (omega arith) (subst IsOn (sym is.mode) tt);
-    backs = λ r line lt t ls fine e at lo part top slots v now b known stands B left2 more2 fits2 found nothing b2 c le held s is on_found on_none.
-        cut_here s (3 + b2 + c) 0 (omega arith) (subst IsOn (sym is.mode) tt);
-    whiles = λ may r line lt t x ls fine stays at lo slots stands v now b known. λ j d few owes held s u silently is. cut_later _ now j d few owes
-        held s u silently is;
+    backs = λ r line lt t ls fine e at lo part top slots v now b known stands B left2 more2 fits2 found nothing b2 c le held s is on_found
+        on_none. cut_here s (3 + b2 + c) 0 (omega arith) (subst IsOn (sym is.mode) tt);
+    whiles = λ may r line lt t x ls fine stays at lo slots stands v now b known. λ j d few owes held s u silently is. cut_later _ now j d
+        few owes held s u silently is;
     repeats = λ may r line lt x t ls fine stays at lo slots stands v now b. λ j d few owes held s u silently is. cut_later _ now j d few
         owes held s u silently is;
     fors = λ may r line lt l ls asked fine stays at lo slots stands. cut_for may r line at lo (loop_with l ls);

@@ -332,8 +332,8 @@ module _ (p : Program) (tables : Tables) (code : PlainCode) (input : List ℕ) (
       (node_runs p code input line 2 at exit now w (Visit turn) q (omega arith)
       (λ held s is.
       let e = entered (is_turned t) at lo t body slots stands v now b held s is in
-      let visited = while_turn_runs may at lo t body (below.test t) (below.stmts body) (below.while t body) (q - 1) u slots.behind owes known
-      turns stands v e.later (begins p code input lo r now v e.later e.left) e.stays in
+      let visited = while_turn_runs may at lo t body (below.test t) (below.stmts body) (below.while t body) (q - 1) u slots.behind owes
+      known turns stands v e.later (begins p code input lo r now v e.later e.left) e.stays in
       before code input line 0 24 (Leaves exit w) held turn s e.to e.count 34 24 q (q - 1) e.silently (omega (arith, e.few))
       (omega (arith, e.some))
       (from_ending p code input may line 24 top exit lo lo r v now e.later turn (q - 1) (omega arith) slots.behind e.left visited held e.to
