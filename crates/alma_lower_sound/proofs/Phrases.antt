@@ -34,8 +34,8 @@ use Rattle.alma_lower_templates.specs.Pieces.{condition, guarded, chosen, first_
 use Rattle.alma_lower_templates.specs.Pieces.{unequal_code, opposite_code, write_code, read_code, case_arm, passed_over, has_dead}
 use Rattle.alma_lower_templates.specs.Pieces.{behind_labels}
 use Rattle.alma_lower_templates.specs.Pieces.{begin_loop, for_turns, some_turns, turn_code, each_body, unless_constant, limit_code}
-use Rattle.alma_lower_templates.specs.Slots.{bare, bare_desig, stays, stays_in, unless_bare, is_simple, is_turned, by_turn, mark_slots}
-use Rattle.alma_lower_templates.specs.Slots.{handed_slots}
+use Rattle.alma_lower_templates.specs.Slots.{bare, bare_desig, stays, stays_in, taken_from, unless_bare, is_simple, is_turned, by_turn}
+use Rattle.alma_lower_templates.specs.Slots.{mark_slots, handed_slots}
 use Rattle.alma_lower_templates.specs.Slots.{call_links, root_slots, arg_kind, stmts_slots, stmt_slots, arms_slots, dead_slots, cases_slots}
 use Rattle.alma_lower_templates.specs.Slots.{else_slots, branches_slots, for_slots, some_slots, test_slots, and_slots, or_slots, expr_slots}
 use Rattle.alma_lower_templates.specs.Slots.{links_slots, args_slots, arg_slots, desig_slots, sels_slots, sel_slots, behind_expr}
@@ -49,7 +49,7 @@ use Rattle.alma_lower_templates.specs.Templates.{fit_result, stmts_code, stmt_co
 use Rattle.alma_lower_templates.specs.Templates.{case_code, cases_code, else_code, either_code, branches_code, test_code, and_code, or_code}
 use Rattle.alma_lower_templates.specs.Templates.{operands_code, jump_code, back_code, expr_code, links_code, args_code, arg_code}
 use Rattle.alma_lower_templates.specs.Templates.{desig_code}
-use Rattle.alma_lower_templates.specs.Templates.{sels_code, sel_code, held_at, set_to}
+use Rattle.alma_lower_templates.specs.Templates.{sels_code, sel_code, held_at, handed_code, set_to}
 use Rattle.alma_lower_templates.specs.CodeOf.{HoldsChecked}
 use Rattle.alma_lower_templates.specs.Compiled.{is_function}
 use Rattle.alma_lower_templates.proofs.Args.{same_cells}
@@ -60,6 +60,8 @@ use Rattle.alma_lower_sound.proofs.Facts.{Facts}
 use Rattle.alma_lower_sound.proofs.Needs.{HasKind, IsInside, Needs, IsRange, Number, Place, Mark}
 use Rattle.alma_lower_sound.proofs.Pieces as pieces
 use Rattle.alma_lower_sound.proofs.Pieces.{Fits}
+use Rattle.alma_lower_sound.proofs.Handed.{placed_fits, desig_ends}
+use Rattle.alma_lower_templates.proofs.Placed.{handed_is}
 use Rattle.alma_lower_sound.proofs.Roots as roots
 use Rattle.alma_lower_sound.proofs.Roots.{Compiled, Slots}
 use Rattle.alma_lower_sound.proofs.Values as values
@@ -132,6 +134,16 @@ module _ (p : Program) (tables : Tables) (code : PlainCode) (checked : IsChecked
   target_slots : (lo : ℕ) (d : Desig) → SlotsOf lo (unless_bare (bare_desig d) (desig_slots p r d)) → bare_desig d ≡ None
       → SlotsOf lo (desig_slots p r d)
   target_slots lo d slots none = values.none_slots p tables code checked w r lt (bare_desig d) lo (desig_slots p r d) none slots
+
+  -- a place that is handed over
+  handed_fits : (line at to lo : ℕ) (d : Desig) → HasKind code r to (slot.Place (slots_of.desig_cells d)) → SlotsOf lo (desig_slots p r d)
+      → Here at (desig_code p tables r line at lo d)
+      → Here at (handed_code p tables r (own_place d) line to (desig_code p tables r line at lo d))
+  handed_fits line at to lo d k slots f =
+      subst (Here at) (sym (handed_is p tables r to line at lo d))
+      (placed_fits code r to (place_at p tables r lo d) (desig_cells d) at (desig_code p tables r line at lo d)
+      (desig_ends p tables r line at lo d) (values.desig_place p tables code checked w r lt lo d slots)
+      (subst (Place code r to) (same_cells d) k) f)
 
   -- ---- conditions
 
@@ -492,16 +504,19 @@ module _ (p : Program) (tables : Tables) (code : PlainCode) (checked : IsChecked
         let mine = front lo (expr_slots p r e) (links_slots p r links) slots in
         let n = values.expr_number p tables code checked w r lt lo e mine in
         let o : Option ℕ = stays_in negated e links in
-        let inner : List Lined = unless_bare o (expr_code p tables r line at lo e) in
-        let one : List Lined = inner ++ own line (neg_code negated lo) in
+        let taken : Option ℕ = taken_from negated e links in
+        let from : ℕ = value_at p tables r lo e in
+        let inner : List Lined = unless_bare taken (expr_code p tables r line at lo e) in
+        let one : List Lined = inner ++ own line (neg_code negated lo from) in
         let first : ℕ = slot_or p tables r o lo in
         let good_e = fine_front (expr_phrases e) (links_phrases links) good.1 in
-        let there = as_stays_in (values.BareIs p tables code checked w r lt) negated e links tt
-        (values.bare_value p tables code checked w r lt e good_e) in
+        let bare_is = values.bare_value p tables code checked w r lt e good_e in
+        let there = as_stays_in (values.BareIs p tables code checked w r lt) negated e links tt bare_is in
         row at one (links_code p tables r line (at + length one) first lo (behind_expr p r lo e) links)
-        (then_own at line inner (neg_code negated lo)
-        (pieces.unless code r 0 at o (expr_code p tables r line at lo e) (λ none. expr_fits line at lo e good_e mine))
-        (values.neg_needs p tables code checked w r lt negated lo n))
+        (then_own at line inner (neg_code negated lo from)
+        (pieces.unless code r 0 at taken (expr_code p tables r line at lo e) (λ none. expr_fits line at lo e good_e mine))
+        (values.neg_needs p tables code checked w r lt negated lo from n
+        (values.first_number p tables code checked w r lt (bare e) lo bare_is n)))
         (links_fit line (at + length one) first lo (behind_expr p r lo e) links (fine_back (expr_phrases e) (links_phrases links) good.1)
         (values.first_number p tables code checked w r lt o lo there n) n (back lo (expr_slots p r e) (links_slots p r links) slots))
     expr_fits line at lo (Compare how x y) good slots =
@@ -606,48 +621,15 @@ module _ (p : Program) (tables : Tables) (code : PlainCode) (checked : IsChecked
         pieces.put_fits code r (is_straight e range) line at to v (fit_code tables range v)
         (unless_bare (bare e) (expr_code p tables r line at lo e)) k n
         (values.fit_needs p tables code checked w r lt range v good.0 n) (once line at lo e slots (expr_fits line at lo e good.1))
-    arg_fits line at to lo (ByCells d) good k slots =
-        then_own at line (desig_code p tables r line at lo d) (I.Same to (place_at p tables r lo d) ∷ [])
-        (desig_fits line at lo d good.1 slots) (
-          record {
-            cells = slots_of.desig_cells d;
-            first = k;
-            second =
-                subst (Place code r (place_at p tables r lo d)) (sym (same_cells d))
-                (values.desig_place p tables code checked w r lt lo d slots);
-          },
-          tt,
-        )
-    arg_fits line at to lo (ByPlace d) good k slots =
-        then_own at line (desig_code p tables r line at lo d) (I.Same to (place_at p tables r lo d) ∷ [])
-        (desig_fits line at lo d good.1 slots) (
-          record {
-            cells = slots_of.desig_cells d;
-            first = k;
-            second =
-                subst (Place code r (place_at p tables r lo d)) (sym (same_cells d))
-                (values.desig_place p tables code checked w r lt lo d slots);
-          },
-          tt,
-        )
+    arg_fits line at to lo (ByCells d) good k slots = handed_fits line at to lo d k slots (desig_fits line at lo d good.1 slots)
+    arg_fits line at to lo (ByPlace d) good k slots = handed_fits line at to lo d k slots (desig_fits line at lo d good.1 slots)
     arg_fits line at to lo (MixValue e range) good k slots =
         let v : ℕ = value_at p tables r lo e in
         let n = number lo e good.1 slots in
         pieces.put_fits code r (is_straight e range) line at to v (fit_code tables range v)
         (unless_bare (bare e) (expr_code p tables r line at lo e)) k n
         (values.fit_needs p tables code checked w r lt range v good.0 n) (once line at lo e slots (expr_fits line at lo e good.1))
-    arg_fits line at to lo (MixPlace d) good k slots =
-        then_own at line (desig_code p tables r line at lo d) (I.Same to (place_at p tables r lo d) ∷ [])
-        (desig_fits line at lo d good.1 slots) (
-          record {
-            cells = slots_of.desig_cells d;
-            first = k;
-            second =
-                subst (Place code r (place_at p tables r lo d)) (sym (same_cells d))
-                (values.desig_place p tables code checked w r lt lo d slots);
-          },
-          tt,
-        )
+    arg_fits line at to lo (MixPlace d) good k slots = handed_fits line at to lo d k slots (desig_fits line at lo d good.1 slots)
 
     -- ---- tests
 
@@ -1171,12 +1153,12 @@ module _ (p : Program) (tables : Tables) (code : PlainCode) (checked : IsChecked
         case_fits line value bound at lo rest otherwise others (fine_back (stmts_phrases body) (cases_phrases rest) good) c slots f
     case_fits line value bound at lo (more_cases (label ∷ labels) body rest) otherwise others good c slots f =
         let parts = case_parts lo (stmts_slots p r body) (cases_slots p r rest) others slots in
-        let inner : List Lined = stmts_code p tables r (behind_labels at labels) lo body in
+        let inner : List Lined = stmts_code p tables r (behind_labels at label labels) lo body in
         let one : List Lined = case_arm line value bound at label labels inner in
         let lo2 : ℕ = behind_stmts p r lo body in
         pieces.leaving_fits code r at line one (λ next jump. cases_code p tables r line value bound jump next lo2 rest otherwise)
         (pieces.arm_fits code r line value bound at label labels inner c.number_at c.low c.test
-        (stmts_fit (behind_labels at labels) lo body (fine_front (stmts_phrases body) (cases_phrases rest) good) parts.0))
+        (stmts_fit (behind_labels at label labels) lo body (fine_front (stmts_phrases body) (cases_phrases rest) good) parts.0))
         (λ out. cases_fit line value bound (at + length one) (at + length one + 1) lo2 rest otherwise others
         (fine_back (stmts_phrases body) (cases_phrases rest) good) c parts.1 out f)
 
@@ -1189,13 +1171,13 @@ module _ (p : Program) (tables : Tables) (code : PlainCode) (checked : IsChecked
         cases_fit line value bound jump at lo rest otherwise others (fine_back (stmts_phrases body) (cases_phrases rest) good) c slots out f
     cases_fit line value bound jump at lo (more_cases (label ∷ labels) body rest) otherwise others good c slots out f =
         let parts = case_parts lo (stmts_slots p r body) (cases_slots p r rest) others slots in
-        let inner : List Lined = stmts_code p tables r (behind_labels at labels) lo body in
+        let inner : List Lined = stmts_code p tables r (behind_labels at label labels) lo body in
         let one : List Lined = case_arm line value bound at label labels inner in
         let lo2 : ℕ = behind_stmts p r lo body in
         let next : ℕ = at + length (one ++ own line (I.Jump jump ∷ [])) in
         pieces.by_jump code r at line jump one (λ next. cases_code p tables r line value bound jump next lo2 rest otherwise) out
         (pieces.arm_fits code r line value bound at label labels inner c.number_at c.low c.test
-        (stmts_fit (behind_labels at labels) lo body (fine_front (stmts_phrases body) (cases_phrases rest) good) parts.0))
+        (stmts_fit (behind_labels at label labels) lo body (fine_front (stmts_phrases body) (cases_phrases rest) good) parts.0))
         (cases_fit line value bound jump next lo2 rest otherwise others (fine_back (stmts_phrases body) (cases_phrases rest) good) c parts.1
         out f)
 

@@ -25,23 +25,28 @@ use Rattle.alma_lower_templates.specs.Lined.{Lined, own, leaving}
 use Rattle.alma_lower_templates.specs.Tables.{Tables, range_number, is_whole}
 use Rattle.alma_lower_templates.specs.Pieces.{condition, guarded, chosen, first_of_two, refused, fit_code, neg_code, op_code, cmp_code}
 use Rattle.alma_lower_templates.specs.Pieces.{unequal_code, opposite_code, write_code, read_code, case_arm, passed_over, has_dead}
-use Rattle.alma_lower_templates.specs.Pieces.{behind_labels}
+use Rattle.alma_lower_templates.specs.Pieces.{behind_labels, label_code, label_test, test_size, aim_place, with_last}
+use Rattle.alma_lower_templates.specs.Pieces.{placed as put_in}
 use Rattle.alma_lower_templates.specs.Pieces.{labels_code, begin_loop, bounds_code, entry_code, chain_code, link_code, unless_whole}
 use Rattle.alma_lower_templates.specs.Pieces.{for_turns, some_turns, turn_code, each_body, forall_code, aim, straight}
 use Rattle.alma_lower_templates.specs.Pieces.{count_from, unless_constant, limit_code, put_code}
-use Rattle.alma_lower_templates.specs.Slots.{shift_of, bare, bare_desig, stays, stays_in, unless_bare, is_simple, is_turned, handed_slots}
-use Rattle.alma_lower_templates.specs.Slots.{arg_slots}
+use Rattle.alma_lower_templates.specs.Slots.{shift_of, bare, bare_desig, stays, stays_in, taken_from, unless_bare, is_simple, is_turned}
+use Rattle.alma_lower_templates.specs.Slots.{handed_slots, arg_slots}
 use Rattle.alma_lower_templates.specs.Slots.{behind_expr, behind_dead, behind_value, behind_desig, behind_target, behind_variable}
 use Rattle.alma_lower_templates.specs.Slots.{behind_test, behind_stmts, behind_stmt, behind_condition, own_place, own_root, goes_straight}
 use Rattle.alma_lower_templates.specs.Slots.{constant, ends_alone, is_straight}
 use Rattle.alma_lower_templates.specs.Templates.{char_range, own_slot, slot_or, outer_slot, link_if, set_by, load_by, value_at, part_slot}
-use Rattle.alma_lower_templates.specs.Templates.{behind_root, place_at, root_code, call_link_code, arguments_from, call_code, set_code}
+use Rattle.alma_lower_templates.specs.Templates.{behind_root, root_code, call_link_code, arguments_from, call_code, set_code}
 use Rattle.alma_lower_templates.specs.Templates.{load_code, count_at, count_code, fit_result, stmts_code, stmt_code, if_code, arms_code}
 use Rattle.alma_lower_templates.specs.Templates.{for_code, some_code, dead_code, case_code, cases_code, else_code, either_code}
 use Rattle.alma_lower_templates.specs.Templates.{branches_code, test_code, and_code, or_code, operands_code, jump_code, back_code}
 use Rattle.alma_lower_templates.specs.Templates.{expr_code}
 use Rattle.alma_lower_templates.specs.Templates.{links_code, args_code, arg_code, desig_code, sels_code, sel_code, held_at, set_to}
-use Rattle.alma_lower_templates.proofs.First.{as_stays, as_stays_in}
+use Rattle.alma_lower_templates.proofs.First.{as_stays, as_taken}
+use Rattle.alma_lower_templates.proofs.Placed.{handed_is}
+use Rattle.alma_lower_templates.proofs.CaseForms.{one_test, both_tests}
+use Rattle.std.specs.Prelude.{if◌then◌else◌}
+use Rattle.alma_base.specs.Numbers.{int_eq}
 use Rattle.alma_lower_templates.proofs.Tested.{compared_code, Tested, tested, as_value, as_unequal}
 use Rattle.alma_lower_templates.proofs.Turned.{Turned, compares_two, turned, while_code}
 use Rattle.alma_lower_templates.proofs.FormRuns.{held_code}
@@ -182,10 +187,22 @@ aim_reads : (to : ℕ) (i : Instr) → is_read (aim to i) ≡ is_read i
 aim_reads to (I.Const old n) = refl
 aim_reads to i = refl
 
+aim_place_reads : (to : ℕ) (i : Instr) → is_read (aim_place to i) ≡ is_read i
+aim_place_reads to (I.Local old first) = refl
+aim_place_reads to i = refl
+
+-- code with its last instruction changed
+last_reads : (change : Instr → Instr) → ((i : Instr) → is_read (change i) ≡ is_read i) → (c : List Lined)
+    → reads (with_last change c) ≡ reads c
+last_reads change same [] = refl
+last_reads change same (x ∷ []) = ap (λ z. bit_of z + 0) (same x.instr)
+last_reads change same (x ∷ (y ∷ rest)) = ap (λ n. bit_of (is_read x.instr) + n) (last_reads change same (y ∷ rest))
+
 straight_reads : (to : ℕ) (c : List Lined) → reads (straight to c) ≡ reads c
-straight_reads to [] = refl
-straight_reads to (x ∷ []) = ap (λ z. bit_of z + 0) (aim_reads to x.instr)
-straight_reads to (x ∷ (y ∷ rest)) = ap (λ n. bit_of (is_read x.instr) + n) (straight_reads to (y ∷ rest))
+straight_reads to c = last_reads (aim to) (aim_reads to) c
+
+placed_reads : (to : ℕ) (c : List Lined) → reads (put_in to c) ≡ reads c
+placed_reads to c = last_reads (aim_place to) (aim_place_reads to) c
 
 -- instructions of which none reads
 abbrev Quiet : List Instr → Type 0
@@ -221,9 +238,9 @@ opposite_quiet cmp.LessEq to first other top line = refl
 opposite_quiet cmp.Greater to first other top line = refl
 opposite_quiet cmp.GreaterEq to first other top line = refl
 
-neg_quiet : (negated : Bool) (to : ℕ) → Quiet (neg_code negated to)
-neg_quiet true to line = refl
-neg_quiet false to line = refl
+neg_quiet : (negated : Bool) (to from : ℕ) → Quiet (neg_code negated to from)
+neg_quiet true to from line = refl
+neg_quiet false to from line = refl
 
 write_quiet : (how : WriteAs) (from : ℕ) → Quiet (write_code how from ∷ [])
 write_quiet write_as.Int from line = refl
@@ -258,9 +275,20 @@ bounds_quiet : (by : ℤ) (o : Option ℤ) (counter limit first empty : ℕ) →
 bounds_quiet by o counter limit first empty line =
     omega (arith, count_quiet_from o counter first line, entry_quiet by first counter limit line)
 
+test_quiet : (value bound miss : ℕ) (label : Range) → Quiet (label_test value bound miss label)
+test_quiet value bound miss label line = by (int_eq label.low label.high)
+  where
+    by : (z : Bool) → reads (own line (if z then one_test value bound miss label else both_tests value bound miss label)) ≡ 0
+    by true = refl
+    by false = refl
+
 labels_quiet : (value bound at hit miss : ℕ) (label : Range) (rest : List Range) → Quiet (labels_code value bound at hit miss label rest)
-labels_quiet value bound at hit miss label [] line = refl
-labels_quiet value bound at hit miss label (label2 ∷ rest) line = omega (arith, labels_quiet value bound (at + 7) hit miss label2 rest line)
+labels_quiet value bound at hit miss label [] line = test_quiet value bound miss label line
+labels_quiet value bound at hit miss label (label2 ∷ rest) line =
+    let next : ℕ = at + test_size label + 1 in
+    quiet_two (label_code value bound at hit label) (labels_code value bound next hit miss label2 rest)
+    (quiet_two (label_test value bound next label) (I.Jump hit ∷ []) (test_quiet value bound next label) (λ line. refl))
+    (labels_quiet value bound next hit miss label2 rest) line
 
 -- ---- parts that have code only where they have slots
 
@@ -375,7 +403,7 @@ module _ (line : ℕ) where
   case_arm_reads : (value bound at : ℕ) (label : Range) (rest : List Range) (a : List Lined)
       → reads (case_arm line value bound at label rest a) ≡ reads a
   case_arm_reads value bound at label rest a =
-      let hit : ℕ = behind_labels at rest in
+      let hit : ℕ = behind_labels at label rest in
       own_then (labels_code value bound at hit (hit + length a + 1) label rest) a
       (labels_quiet value bound at hit (hit + length a + 1) label rest)
 
@@ -649,17 +677,18 @@ module _ (p : Program) (tables : Tables) (r : ℕ) where
           desig_same line at (lo + 1) d,
         )
     expr_same line at lo (Chain negated e links) =
-        let o : Option ℕ = stays_in negated e links in
+        let o : Option ℕ = taken_from negated e links in
+        let from : ℕ = value_at p tables r lo e in
         let inner : List Lined = unless_bare o (expr_code p tables r line at lo e) in
-        let one : List Lined = inner ++ own line (neg_code negated lo) in
+        let one : List Lined = inner ++ own line (neg_code negated lo from) in
         let lo2 : ℕ = behind_expr p r lo e in
-        let first : ℕ = slot_or p tables r o lo in
+        let first : ℕ = slot_or p tables r (stays_in negated e links) lo in
         omega (
           arith,
           both one (links_code p tables r line (at + length one) first lo lo2 links),
-          then_own line inner (neg_code negated lo) (neg_quiet negated lo),
+          then_own line inner (neg_code negated lo from) (neg_quiet negated lo from),
           unless_reads o (expr_reads e) (expr_code p tables r line at lo e)
-              (as_stays_in (λ o. BareQuiet o (expr_reads e)) negated e links tt (expr_bare e)) (expr_same line at lo e),
+              (as_taken (λ o. BareQuiet o (expr_reads e)) negated e links tt (expr_bare e)) (expr_same line at lo e),
           links_same line (at + length one) first lo lo2 links,
         )
     expr_same line at lo (Compare how x y) =
@@ -745,26 +774,20 @@ module _ (p : Program) (tables : Tables) (r : ℕ) where
         put_reads line (is_straight e range) to v (fit_code tables range v)
         (unless_bare (bare e) (expr_code p tables r line at lo e)) (fit_quiet range v)
         ∙ once e (expr_code p tables r line at lo e) (expr_same line at lo e)
-    arg_same line at to lo (ByCells d) = omega (
-      arith,
-      then_own line (desig_code p tables r line at lo d) (I.Same to (place_at p tables r lo d) ∷ []) (λ l. refl),
-      desig_same line at lo d,
-    )
-    arg_same line at to lo (ByPlace d) = omega (
-      arith,
-      then_own line (desig_code p tables r line at lo d) (I.Same to (place_at p tables r lo d) ∷ []) (λ l. refl),
-      desig_same line at lo d,
-    )
+    arg_same line at to lo (ByCells d) =
+        let made : List Lined = desig_code p tables r line at lo d in
+        ap reads (handed_is p tables r to line at lo d) ∙ placed_reads to made ∙ desig_same line at lo d
+    arg_same line at to lo (ByPlace d) =
+        let made : List Lined = desig_code p tables r line at lo d in
+        ap reads (handed_is p tables r to line at lo d) ∙ placed_reads to made ∙ desig_same line at lo d
     arg_same line at to lo (MixValue e range) =
         let v : ℕ = value_at p tables r lo e in
         put_reads line (is_straight e range) to v (fit_code tables range v)
         (unless_bare (bare e) (expr_code p tables r line at lo e)) (fit_quiet range v)
         ∙ once e (expr_code p tables r line at lo e) (expr_same line at lo e)
-    arg_same line at to lo (MixPlace d) = omega (
-      arith,
-      then_own line (desig_code p tables r line at lo d) (I.Same to (place_at p tables r lo d) ∷ []) (λ l. refl),
-      desig_same line at lo d,
-    )
+    arg_same line at to lo (MixPlace d) =
+        let made : List Lined = desig_code p tables r line at lo d in
+        ap reads (handed_is p tables r to line at lo d) ∙ placed_reads to made ∙ desig_same line at lo d
 
     jump_same : (line at lo none : ℕ) (x : Test) → is_simple x ≡ true → reads (jump_code p tables r line at lo none x) ≡ test_reads x
     jump_same line at lo none (Value e) simple =
@@ -1079,7 +1102,7 @@ module _ (p : Program) (tables : Tables) (r : ℕ) where
     case_same line value bound at lo (more_cases [] body rest) otherwise n f = let z =
         case_same line value bound at lo rest otherwise n f in omega (arith, z)
     case_same line value bound at lo (more_cases (label ∷ labels) body rest) otherwise n f =
-        let inner : List Lined = stmts_code p tables r (behind_labels at labels) lo body in
+        let inner : List Lined = stmts_code p tables r (behind_labels at label labels) lo body in
         let one : List Lined = case_arm line value bound at label labels inner in
         let lo2 : ℕ = behind_stmts p r lo body in
         let others = cases_same line value bound (at + length one) (at + length one + 1) lo2 rest otherwise n f in
@@ -1088,7 +1111,7 @@ module _ (p : Program) (tables : Tables) (r : ℕ) where
           others,
           leaving_reads line at one (λ next jump. cases_code p tables r line value bound jump next lo2 rest otherwise),
           case_arm_reads line value bound at label labels inner,
-          stmts_same (behind_labels at labels) lo body,
+          stmts_same (behind_labels at label labels) lo body,
         )
 
     cases_same : (line value bound jump at lo : ℕ) (x : CaseArms) (otherwise : (at lo : ℕ) → List Lined) (n : ℕ)
@@ -1098,7 +1121,7 @@ module _ (p : Program) (tables : Tables) (r : ℕ) where
     cases_same line value bound jump at lo (more_cases [] body rest) otherwise n f = let z =
         cases_same line value bound jump at lo rest otherwise n f in omega (arith, z)
     cases_same line value bound jump at lo (more_cases (label ∷ labels) body rest) otherwise n f =
-        let inner : List Lined = stmts_code p tables r (behind_labels at labels) lo body in
+        let inner : List Lined = stmts_code p tables r (behind_labels at label labels) lo body in
         let one : List Lined = case_arm line value bound at label labels inner in
         let lo2 : ℕ = behind_stmts p r lo body in
         let next : ℕ = at + length (one ++ own line (I.Jump jump ∷ [])) in
@@ -1108,7 +1131,7 @@ module _ (p : Program) (tables : Tables) (r : ℕ) where
           others,
           by_jump_reads line jump one (cases_code p tables r line value bound jump next lo2 rest otherwise),
           case_arm_reads line value bound at label labels inner,
-          stmts_same (behind_labels at labels) lo body,
+          stmts_same (behind_labels at label labels) lo body,
         )
 
     else_same : (line at lo : ℕ) (x : Else) → reads (else_code p tables r line at lo x) ≡ else_reads x

@@ -258,9 +258,9 @@ module _ (p : Program) (tables : Tables) (code : PlainCode) (checked : IsChecked
   cmp_needs cmp.Greater to first operand a f b = ((a, b, f), tt)
   cmp_needs cmp.GreaterEq to first operand a f b = ((a, b, f), tt)
 
-  pub neg_needs : (negated : Bool) (to : ℕ) → Number code r to → AllNeeds (neg_code negated to)
-  neg_needs true to a = ((a, a), tt)
-  neg_needs false to a = tt
+  pub neg_needs : (negated : Bool) (to from : ℕ) → Number code r to → Number code r from → AllNeeds (neg_code negated to from)
+  neg_needs true to from a b = ((a, b), tt)
+  neg_needs false to from a b = tt
 
   pub write_needs : (how : WriteAs) (from : ℕ) → Number code r from → Needs code r (write_code how from)
   write_needs write_as.Int from a = a

@@ -24,14 +24,16 @@ use Rattle.alma_lower_templates.specs.Lined.{Lined, own, leaving, line_from, lin
 use Rattle.alma_lower_templates.specs.Tables.{Tables, range_number, text_number}
 use Rattle.alma_lower_templates.specs.Pieces.{condition, guarded, chosen, first_of_two, refused, fit_code, neg_code, op_code, cmp_code}
 use Rattle.alma_lower_templates.specs.Pieces.{unequal_code, opposite_code, write_code, read_code, case_arm, passed_over, has_dead}
-use Rattle.alma_lower_templates.specs.Pieces.{behind_labels}
+use Rattle.alma_lower_templates.specs.Pieces.{behind_labels, aim, aim_place, with_last}
 use Rattle.alma_lower_templates.specs.Pieces.{labels_code, begin_loop, bounds_code, for_turns, some_turns, turn_code, each_body}
 use Rattle.alma_lower_templates.specs.Pieces.{forall_code, straight, count_from, unless_constant, limit_code, put_code}
-use Rattle.alma_lower_templates.specs.Slots.{bare, bare_desig, stays, stays_in, unless_bare, is_simple, is_turned, handed_slots, arg_slots}
+use Rattle.alma_lower_templates.specs.Slots.{bare, bare_desig, stays, stays_in, taken_from, unless_bare, is_simple, is_turned, handed_slots}
+use Rattle.alma_lower_templates.specs.Slots.{arg_slots}
+use Rattle.alma_lower_templates.proofs.Placed.{handed_is}
 use Rattle.alma_lower_templates.specs.Slots.{behind_expr, behind_dead, behind_value, behind_desig, behind_target, behind_variable}
 use Rattle.alma_lower_templates.specs.Slots.{behind_test, behind_stmts, behind_stmt, behind_condition, own_place, own_root, goes_straight}
 use Rattle.alma_lower_templates.specs.Slots.{constant, ends_alone, is_straight}
-use Rattle.alma_lower_templates.specs.Templates.{char_range, own_slot, slot_or, value_at, part_slot, behind_root, place_at, root_code}
+use Rattle.alma_lower_templates.specs.Templates.{char_range, own_slot, slot_or, value_at, part_slot, behind_root, root_code}
 use Rattle.alma_lower_templates.specs.Templates.{call_link_code, arguments_from, call_code, set_code, load_code, count_at, count_code}
 use Rattle.alma_lower_templates.specs.Templates.{fit_result, stmts_code, stmt_code, if_code, arms_code, for_code, some_code, dead_code}
 use Rattle.alma_lower_templates.specs.Templates.{case_code, cases_code, else_code, either_code, branches_code, test_code, and_code, or_code}
@@ -101,10 +103,14 @@ to_other a b c (x ∷ xs) = omega (arith, to_other x.line b c xs)
 around : (a line c : ℕ) (xs : List Lined) → walk a xs c ≤ 2 + walk line xs line
 around a line c xs = omega (arith, from_other a line xs c, to_other line line c xs, hop_few a line, hop_few line c)
 
+-- code with its last instruction changed
+last_walk : (change : Instr → Instr) (from line : ℕ) (xs : List Lined) → walk from (with_last change xs) line ≡ walk from xs line
+last_walk change from line [] = refl
+last_walk change from line (x ∷ []) = refl
+last_walk change from line (x ∷ (y ∷ rest)) = ap (λ n. hop from x.line + n) (last_walk change x.line line (y ∷ rest))
+
 straight_walk : (from to line : ℕ) (xs : List Lined) → walk from (straight to xs) line ≡ walk from xs line
-straight_walk from to line [] = refl
-straight_walk from to line (x ∷ []) = refl
-straight_walk from to line (x ∷ (y ∷ rest)) = ap (λ n. hop from x.line + n) (straight_walk x.line to line (y ∷ rest))
+straight_walk from to line xs = last_walk (aim to) from line xs
 
 module _ (line : ℕ) where
   -- from a line and back to it
@@ -207,7 +213,7 @@ module _ (line : ℕ) where
   arm_round : (value bound at : ℕ) (label : Range) (rest : List Range) (a : List Lined)
       → round (case_arm line value bound at label rest a) ≤ round a
   arm_round value bound at label rest a = own_then
-      (labels_code value bound at (behind_labels at rest) (behind_labels at rest + length a + 1) label rest) a
+      (labels_code value bound at (behind_labels at label rest) (behind_labels at label rest + length a + 1) label rest) a
 
   begin_round : (at step : ℕ) (by : ℤ) (from to : (at : ℕ) → List Lined) (m n : ℕ) → ((at : ℕ) → round (from at) ≤ m)
       → ((at : ℕ) → round (to at) ≤ n) → round (begin_loop line at step by from to) ≤ m + n
@@ -469,15 +475,16 @@ module _ (p : Program) (tables : Tables) (r : ℕ) where
           held_round line at (lo + 1) d (2 * desig_nodes d) (desig_round line at (lo + 1) d),
         )
     expr_round line at lo (Chain negated e links) =
-        let o : Option ℕ = stays_in negated e links in
+        let o : Option ℕ = taken_from negated e links in
+        let from : ℕ = value_at p tables r lo e in
         let inner : List Lined = unless_bare o (expr_code p tables r line at lo e) in
-        let one : List Lined = inner ++ own line (neg_code negated lo) in
+        let one : List Lined = inner ++ own line (neg_code negated lo from) in
         let lo2 : ℕ = behind_expr p r lo e in
-        let first : ℕ = slot_or p tables r o lo in
+        let first : ℕ = slot_or p tables r (stays_in negated e links) lo in
         omega (
           arith,
           both line one (links_code p tables r line (at + length one) first lo lo2 links),
-          then_own line inner (neg_code negated lo),
+          then_own line inner (neg_code negated lo from),
           unless_round line o (expr_code p tables r line at lo e),
           expr_round line at lo e,
           links_round line (at + length one) first lo lo2 links,
@@ -567,13 +574,15 @@ module _ (p : Program) (tables : Tables) (r : ℕ) where
     arg_round_of line at to lo (ByCells d) =
         omega (
           arith,
-          then_own line (desig_code p tables r line at lo d) (I.Same to (place_at p tables r lo d) ∷ []),
+          ap (round line) (handed_is p tables r to line at lo d),
+          last_walk (aim_place to) line line (desig_code p tables r line at lo d),
           desig_round line at lo d,
         )
     arg_round_of line at to lo (ByPlace d) =
         omega (
           arith,
-          then_own line (desig_code p tables r line at lo d) (I.Same to (place_at p tables r lo d) ∷ []),
+          ap (round line) (handed_is p tables r to line at lo d),
+          last_walk (aim_place to) line line (desig_code p tables r line at lo d),
           desig_round line at lo d,
         )
     arg_round_of line at to lo (MixValue e range) =
@@ -588,7 +597,8 @@ module _ (p : Program) (tables : Tables) (r : ℕ) where
     arg_round_of line at to lo (MixPlace d) =
         omega (
           arith,
-          then_own line (desig_code p tables r line at lo d) (I.Same to (place_at p tables r lo d) ∷ []),
+          ap (round line) (handed_is p tables r to line at lo d),
+          last_walk (aim_place to) line line (desig_code p tables r line at lo d),
           desig_round line at lo d,
         )
 
@@ -903,7 +913,7 @@ module _ (p : Program) (tables : Tables) (r : ℕ) where
     case_round line value bound at lo (more_cases [] body rest) otherwise n f = let z =
         case_round line value bound at lo rest otherwise n f in omega (arith, z)
     case_round line value bound at lo (more_cases (label ∷ labels) body rest) otherwise n f =
-        let inner : List Lined = stmts_code p tables r (behind_labels at labels) lo body in
+        let inner : List Lined = stmts_code p tables r (behind_labels at label labels) lo body in
         let one : List Lined = case_arm line value bound at label labels inner in
         let lo2 : ℕ = behind_stmts p r lo body in
         let others = cases_round line value bound (at + length one) (at + length one + 1) lo2 rest otherwise n f in
@@ -912,7 +922,7 @@ module _ (p : Program) (tables : Tables) (r : ℕ) where
           others,
           leaving_round line at one (λ next jump. cases_code p tables r line value bound jump next lo2 rest otherwise),
           arm_round line value bound at label labels inner,
-          stmts_round line (behind_labels at labels) lo body,
+          stmts_round line (behind_labels at label labels) lo body,
         )
 
     cases_round : (line value bound jump at lo : ℕ) (x : CaseArms) (otherwise : (at lo : ℕ) → List Lined) (n : ℕ)
@@ -922,7 +932,7 @@ module _ (p : Program) (tables : Tables) (r : ℕ) where
     cases_round line value bound jump at lo (more_cases [] body rest) otherwise n f = let z =
         cases_round line value bound jump at lo rest otherwise n f in omega (arith, z)
     cases_round line value bound jump at lo (more_cases (label ∷ labels) body rest) otherwise n f =
-        let inner : List Lined = stmts_code p tables r (behind_labels at labels) lo body in
+        let inner : List Lined = stmts_code p tables r (behind_labels at label labels) lo body in
         let one : List Lined = case_arm line value bound at label labels inner in
         let lo2 : ℕ = behind_stmts p r lo body in
         let next : ℕ = at + length (one ++ own line (I.Jump jump ∷ [])) in
@@ -932,7 +942,7 @@ module _ (p : Program) (tables : Tables) (r : ℕ) where
           others,
           by_jump_round line jump one (cases_code p tables r line value bound jump next lo2 rest otherwise),
           arm_round line value bound at label labels inner,
-          stmts_round line (behind_labels at labels) lo body,
+          stmts_round line (behind_labels at label labels) lo body,
         )
 
     else_round : (line at lo : ℕ) (x : Else) → round line (else_code p tables r line at lo x) ≤ 2 * else_nodes x

@@ -4,7 +4,7 @@ use Rattle.std.proofs.Common.{◌∙◌, subst, arith, ℤ, pos, negsuc}
 use Rattle.std.specs.Prelude.{slice_get, int_le, ◌&&◌, if◌then◌else◌}
 use Rattle.std.proofs.lemmas.Bool.Decides.{nat_tests}
 use Rattle.std.proofs.lemmas.Int.{ints}
-use Rattle.std.proofs.lemmas.List.{length-append}
+use Rattle.std.proofs.lemmas.List.{length-append, length-map}
 use Rattle.alma_base.specs.Choice.{if_true}
 use Rattle.alma_base.specs.declared.fault.RunFault.TheVariants as fault
 use Rattle.alma_base.specs.declared.number.Range.{Range}
@@ -56,24 +56,42 @@ within_one : (label : Range) (n : ℤ) → int_eq label.low label.high ≡ true 
 within_one label n e = ap (λ k. int_le label.low n && int_le n k) (sym (same_number label.low label.high e)) ∙ between_one label.low n
 
 -- the tests of a label of one number, and of one of two ends
-abbrev one_test : (value bound miss : ℕ) → Range → List Instr
+abbrev pub one_test : (value bound miss : ℕ) → Range → List Instr
 one_test value bound miss label =
     I.Const bound label.low ∷ I.Equal (bound + 1) bound value ∷ I.JumpZero (bound + 1) miss ∷ []
 
-abbrev both_tests : (value bound miss : ℕ) → Range → List Instr
+abbrev pub both_tests : (value bound miss : ℕ) → Range → List Instr
 both_tests value bound miss label =
     I.Const bound label.low ∷ I.LessEq (bound + 1) bound value ∷ I.JumpZero (bound + 1) miss
     ∷ I.Const bound label.high ∷ I.LessEq (bound + 1) value bound ∷ I.JumpZero (bound + 1) miss ∷ []
 
-module _ (p : Program) (tables : Tables) (code : PlainCode) (input : List ℕ) (below : Level) (r line q : ℕ) (may : Bool) where
-  test_long : (value bound miss : ℕ) (label : Range) → length (own line (label_test value bound miss label)) ≡ test_size label
-  test_long value bound miss label = by (int_eq label.low label.high)
-    where
-      by : (z : Bool) → length (own line (if z then one_test value bound miss label else both_tests value bound miss label))
-          ≡ (if z then 3 else 6)
-      by true = refl
-      by false = refl
+pub test_long : (value bound miss : ℕ) (label : Range) → length (label_test value bound miss label) ≡ test_size label
+test_long value bound miss label = by (int_eq label.low label.high)
+  where
+    by : (z : Bool) → length (if z then one_test value bound miss label else both_tests value bound miss label) ≡ (if z then 3 else 6)
+    by true = refl
+    by false = refl
 
+-- the labels of an arm end at its body
+pub labels_long : (value bound at hit miss : ℕ) (label : Range) (rest : List Range)
+    → at + length (labels_code value bound at hit miss label rest) ≡ behind_labels at label rest
+labels_long value bound at hit miss label [] = ap (λ n. at + n) (test_long value bound miss label)
+labels_long value bound at hit miss label (label' ∷ rest) =
+    let next : ℕ = at + test_size label + 1 in
+    let test : List Instr = label_test value bound next label in
+    let more : List Instr = labels_code value bound next hit miss label' rest in
+    omega (
+      arith,
+      labels_long value bound next hit miss label' rest,
+      test_long value bound next label,
+      length-append (test ++ (I.Jump hit ∷ [])) more,
+      length-append test (I.Jump hit ∷ []),
+    )
+
+own_long : (line : ℕ) (xs : List Instr) → length (own line xs) ≡ length xs
+own_long line xs = length-map xs (λ i. record { line = line; instr = i })
+
+module _ (p : Program) (tables : Tables) (code : PlainCode) (input : List ℕ) (below : Level) (r line q : ℕ) (may : Bool) where
   -- ---- one label; the number stands in the slot lo
 
   module _ (lo bound exit : ℕ) (v : Store) (n : ℤ) (apart : lo < bound) (behind : own_end p r ≤ lo)
@@ -260,7 +278,7 @@ module _ (p : Program) (tables : Tables) (code : PlainCode) (input : List ℕ) (
           let first : ℕ = at + test_size label in
           let test : List Instr = label_test lo bound (first + 1) label in
           let more : List Instr = labels_code lo bound (first + 1) hit miss label' rest in
-          let long : length (own line test) ≡ test_size label = test_long lo bound (first + 1) label in
+          let long : length (own line test) ≡ test_size label = own_long line test ∙ test_long lo bound (first + 1) label in
           let parts : Stands code at ((own line test ++ own line (I.Jump hit ∷ [])) ++ own line more) =
           subst (Stands code at) (own_both line (test ++ (I.Jump hit ∷ [])) more
           ∙ ap (λ c. c ++ own line more) (own_both line test (I.Jump hit ∷ []))) i in
@@ -285,24 +303,6 @@ module _ (p : Program) (tables : Tables) (code : PlainCode) (input : List ℕ) (
           (subst (λ m. Stands code m (own line more)) next_is back) on_hit on_miss t b1 value1)) now b value held s there)
 
   -- ---- the arms behind the first that has a label
-
-  labels_long : (value bound at hit miss : ℕ) (label : Range) (rest : List Range)
-      → at + length (own line (labels_code value bound at hit miss label rest)) ≡ behind_labels at label rest
-  labels_long value bound at hit miss label [] = ap (λ n. at + n) (test_long value bound miss label)
-  labels_long value bound at hit miss label (label' ∷ rest) =
-      let next : ℕ = at + test_size label + 1 in
-      let test : List Instr = label_test value bound next label in
-      let more : List Instr = labels_code value bound next hit miss label' rest in
-      let z = labels_long value bound next hit miss label' rest in
-      omega (
-        arith,
-        z,
-        test_long value bound next label,
-        ap length (own_both line (test ++ (I.Jump hit ∷ [])) more),
-        length-append (own line (test ++ (I.Jump hit ∷ []))) (own line more),
-        ap length (own_both line test (I.Jump hit ∷ [])),
-        length-append (own line test) (own line (I.Jump hit ∷ [])),
-      )
 
   module _ (lo bound : ℕ) (apart : lo < bound) (behind : own_end p r ≤ lo) (kind : slice_get (kinds_at code r) bound ≡ Some slot.Number)
       (kind2 : slice_get (kinds_at code r) (bound + 1) ≡ Some slot.Number) (els : Else) where
@@ -335,7 +335,8 @@ module _ (p : Program) (tables : Tables) (code : PlainCode) (input : List ℕ) (
         let made : List Lined = stmts_code p tables r hit la body in
         let miss : ℕ = hit + length made + 1 in
         let front : List Lined = own line (labels_code lo bound at hit miss label labels) in
-        let here : at + length front ≡ hit = omega (arith, labels_long lo bound at hit miss label labels) in
+        let here : at + length front ≡ hit =
+        omega (arith, own_long line (labels_code lo bound at hit miss label labels), labels_long lo bound at hit miss label labels) in
         let body_at : Stands code hit made = subst (λ m. Stands code m made) here (stands_back code at front made stands) in
         labels_go lo bound exit v n apart behind kind kind2 at hit miss label labels (λ _. node (ev_stmts p input below body v))
         (λ _. rest v n) refl (stands_front code at front made stands)
@@ -363,7 +364,9 @@ module _ (p : Program) (tables : Tables) (code : PlainCode) (input : List ℕ) (
         let labels_part : List Lined = own line (labels_code lo bound at hit (hit + length made + 1) label labels) in
         let long : length head ≡ length labels_part + length made = length-append labels_part made in
         let y : ℕ = hit + length made in
-        let ends : at + length head ≡ y = omega (arith, long, labels_long lo bound at hit (hit + length made + 1) label labels) in
+        let tests : List Instr = labels_code lo bound at hit (hit + length made + 1) label labels in
+        let ends : at + length head ≡ y =
+        omega (arith, long, own_long line tests, labels_long lo bound at hit (hit + length made + 1) label labels) in
         let both : length (head ++ out) ≡ length head + 1 = length-append head out in
         let whole : length ((head ++ out) ++ after) ≡ length (head ++ out) + length after = length-append (head ++ out) after in
         let here : next ≡ y + 1 = omega (arith, both, ends) in
@@ -454,7 +457,9 @@ module _ (p : Program) (tables : Tables) (code : PlainCode) (input : List ℕ) (
         let labels_part : List Lined = own line (labels_code lo bound at hit (hit + length made + 1) label labels) in
         let long : length head ≡ length labels_part + length made = length-append labels_part made in
         let y : ℕ = hit + length made in
-        let ends : jump ≡ y = omega (arith, long, labels_long lo bound at hit (hit + length made + 1) label labels) in
+        let tests : List Instr = labels_code lo bound at hit (hit + length made + 1) label labels in
+        let ends : jump ≡ y =
+        omega (arith, long, own_long line tests, labels_long lo bound at hit (hit + length made + 1) label labels) in
         let whole : length (head ++ (out ++ after)) ≡ length head + suc (length after) = length-append head (out ++ after) in
         let end : jump + 1 + length after ≡ exit = omega (arith, is, whole) in
         let here : next ≡ y + 1 = omega (arith, ends) in

@@ -158,7 +158,7 @@ module _ (p : Program) (tables : Tables) (r : ℕ) where
       (sel_same line at from lo x)
       (λ next. placed_sels to line next part (part + 1) y rest)
 
-  no_own : (x : Root) → own_root x no_sels ≡ None
+  pub no_own : (x : Root) → own_root x no_sels ≡ None
   no_own (root.Local from) = refl
   no_own (root.Global from) = refl
   no_own (root.Param from) = refl
