@@ -1,5 +1,6 @@
 -- The code of each phrase of a routine of a checked program: each instruction has what it needs, by induction over the phrases.
-use Rattle.std.proofs.Common.{◌≡◌, ℕ, ◌+◌, ◌<◌, ◌≤◌, Bool, true, false, List, [], ◌∷◌, ◌++◌, length, Option, Some, None, pos, refl, sym, ap}
+use Rattle.std.proofs.Common.{◌≡◌, ℕ, ◌+◌, ◌<◌, Bool, true, false, List, [], ◌∷◌, ◌++◌, length, Option, Some, None, pos, refl, sym, ap}
+use Rattle.std.proofs.Common.{ℤ}
 use Rattle.std.proofs.Common.{◌∙◌}
 use Rattle.std.proofs.Common.{subst, arith, append_assoc}
 use Rattle.std.specs.Prelude.{slice_get, IsNone, IsSome}
@@ -34,6 +35,7 @@ use Rattle.alma_lower_templates.specs.Pieces.{condition, guarded, chosen, first_
 use Rattle.alma_lower_templates.specs.Pieces.{unequal_code, opposite_code, write_code, read_code, case_arm, passed_over, has_dead}
 use Rattle.alma_lower_templates.specs.Pieces.{behind_labels}
 use Rattle.alma_lower_templates.specs.Pieces.{begin_loop, for_turns, some_turns, turn_code, each_body, unless_constant, limit_code}
+use Rattle.alma_lower_templates.specs.Pieces.{held_code as constant_code, held_or}
 use Rattle.alma_lower_templates.specs.Slots.{bare, bare_desig, stays, stays_in, taken_from, unless_bare, is_simple, is_turned, by_turn}
 use Rattle.alma_lower_templates.specs.Slots.{mark_slots, handed_slots}
 use Rattle.alma_lower_templates.specs.Slots.{call_links, root_slots, arg_kind, stmts_slots, stmt_slots, arms_slots, dead_slots, cases_slots}
@@ -41,7 +43,7 @@ use Rattle.alma_lower_templates.specs.Slots.{else_slots, branches_slots, for_slo
 use Rattle.alma_lower_templates.specs.Slots.{links_slots, args_slots, arg_slots, desig_slots, sels_slots, sel_slots, behind_expr}
 use Rattle.alma_lower_templates.specs.Slots.{behind_dead, behind_value, behind_desig, behind_target, behind_variable, behind_test}
 use Rattle.alma_lower_templates.specs.Slots.{behind_stmts, behind_stmt, behind_condition, own_place, own_root, goes_straight}
-use Rattle.alma_lower_templates.specs.Slots.{constant, ends_alone, is_straight}
+use Rattle.alma_lower_templates.specs.Slots.{constant, ends_alone, is_straight, held_constant, held_slots, behind_held}
 use Rattle.alma_lower_templates.specs.Slots as slots_of
 use Rattle.alma_lower_templates.specs.Templates.{char_range, own_slot, slot_or, value_at, part_slot, behind_root, place_at, root_code}
 use Rattle.alma_lower_templates.specs.Templates.{call_link_code, arguments_from, call_code, set_code, load_code, count_at, count_code}
@@ -55,7 +57,7 @@ use Rattle.alma_lower_templates.specs.Compiled.{is_function}
 use Rattle.alma_lower_templates.proofs.Args.{same_cells}
 use Rattle.alma_lower_templates.proofs.First.{as_stays, as_stays_in}
 use Rattle.alma_lower_templates.proofs.Tested.{compared_code, Tested, tested, as_value, as_unequal}
-use Rattle.alma_lower_templates.proofs.Turned.{Turned, compares_two, turned, while_code}
+use Rattle.alma_lower_templates.proofs.Turned.{while_code}
 use Rattle.alma_lower_sound.proofs.Facts.{Facts}
 use Rattle.alma_lower_sound.proofs.Needs.{HasKind, IsInside, Needs, IsRange, Number, Place, Mark}
 use Rattle.alma_lower_sound.proofs.Pieces as pieces
@@ -270,72 +272,61 @@ module _ (p : Program) (tables : Tables) (code : PlainCode) (checked : IsChecked
   -- ---- WHILE
 
   -- the opposite of a comparison needs what the comparison does
-  back_needs : (how : Cmp) (line to first other top : ℕ) → IsInside code r top
-      → pieces.AllNeed code r (own line (cmp_code how to first other))
-      → pieces.AllNeed code r (own line (opposite_code how to first other ∷ I.JumpZero to top ∷ []))
-  back_needs cmp.Equal line to first other top out h = (h.0, ((h.0.0, out), tt))
-  back_needs cmp.Unequal line to first other top out h = (h.0, ((h.0.0, out), tt))
-  back_needs cmp.Less line to first other top out h = ((h.0.0, h.0.2, h.0.1), ((h.0.0, out), tt))
-  back_needs cmp.LessEq line to first other top out h = ((h.0.0, h.0.2, h.0.1), ((h.0.0, out), tt))
-  back_needs cmp.Greater line to first other top out h = ((h.0.0, h.0.2, h.0.1), ((h.0.0, out), tt))
-  back_needs cmp.GreaterEq line to first other top out h = ((h.0.0, h.0.2, h.0.1), ((h.0.0, out), tt))
+  back_needs : (how : Cmp) (to first other top : ℕ) → IsInside code r top → AllNeeds (cmp_code how to first other)
+      → AllNeeds (opposite_code how to first other ∷ I.JumpZero to top ∷ [])
+  back_needs cmp.Equal to first other top out h = (h.0, ((h.0.0, out), tt))
+  back_needs cmp.Unequal to first other top out h = (h.0, ((h.0.0, out), tt))
+  back_needs cmp.Less to first other top out h = ((h.0.0, h.0.2, h.0.1), ((h.0.0, out), tt))
+  back_needs cmp.LessEq to first other top out h = ((h.0.0, h.0.2, h.0.1), ((h.0.0, out), tt))
+  back_needs cmp.Greater to first other top out h = ((h.0.0, h.0.2, h.0.1), ((h.0.0, out), tt))
+  back_needs cmp.GreaterEq to first other top out h = ((h.0.0, h.0.2, h.0.1), ((h.0.0, out), tt))
 
-  cmp_few : (line : ℕ) (how : Cmp) (to first other : ℕ) → length (own line (cmp_code how to first other)) ≤ 2
-  cmp_few line cmp.Equal to first other = omega arith
-  cmp_few line cmp.Unequal to first other = omega arith
-  cmp_few line cmp.Less to first other = omega arith
-  cmp_few line cmp.LessEq to first other = omega arith
-  cmp_few line cmp.Greater to first other = omega arith
-  cmp_few line cmp.GreaterEq to first other = omega arith
+  -- the slot of a constant that is held
+  abbrev HeldNumber : Option ℤ → (held : ℕ) → Type 0
+  HeldNumber (Some n) held = Number code r held
+  HeldNumber None held = Unit {0}
 
-  same_value : (a b : Expr) → Value a ≡ Value b → a ≡ b
-  same_value a b e = cc
+  held_number : (o : Option ℤ) (held other : ℕ) → HeldNumber o held → Number code r other → Number code r (held_or o held other)
+  held_number (Some n) held other h k = h
+  held_number None held other h k = k
 
-  -- a comparison that goes back, given its value
-  turned_fits : (line at lo top : ℕ) (e : Expr) → IsInside code r top → Turned (Value e)
-      → Here at (unless_bare (bare e) (expr_code p tables r line at lo e)) → Here at (back_code p tables r line at lo top (Value e))
-  turned_fits line at lo top e out (compares_two how x y is opposite simple) =
-      subst (λ z. Here at (unless_bare (bare z) (expr_code p tables r line at lo z))
-      → Here at (back_code p tables r line at lo top (Value z)))
-      (sym (same_value e (Compare how x y) is)) back
-    where
-      back : Here at (expr_code p tables r line at lo (Compare how x y))
-          → Here at (back_code p tables r line at lo top (Value (Compare how x y)))
-      back f room =
-          let operand : ℕ = value_at p tables r (behind_expr p r lo x) y in
-          let operands : List Lined = compared_code p tables r line at lo x y in
-          let first : ℕ = slot_or p tables r (stays x y) lo in
-          let end : List Lined = own line (opposite_code how lo first operand ∷ I.JumpZero lo top ∷ []) in
-          let value : List Lined = own line (cmp_code how lo first operand) in
-          let long = length-append operands end in
-          let all = f (record {
-            low = room.low;
-            high = omega (arith, room.high, long, length-append operands value, cmp_few line how lo first operand);
-          }) in
-          each_of_append (pieces.NeedsOf code r) operands end (each_of_front (pieces.NeedsOf code r) operands value all)
-          (back_needs how line lo first operand top out (each_of_back (pieces.NeedsOf code r) operands value all))
+  held_slot : (o : Option ℤ) (lo : ℕ) (rest : List SlotKind) → SlotsOf lo (held_slots o ++ rest) → HeldNumber o lo
+  held_slot (Some n) lo rest h = first_slot lo slot.Number rest h
+  held_slot None lo rest h = tt
 
-  while_fits : (behind : Bool) (line at lo : ℕ) (t : Test) (body : Stmts) → is_turned t ≡ behind
-      → SlotsOf lo (by_turn behind (stmts_slots p r body ++ test_slots p r t)
+  constant_needs : (o : Option ℤ) (lo : ℕ) → HeldNumber o lo → AllNeeds (constant_code o lo)
+  constant_needs (Some n) lo h = (h, tt)
+  constant_needs None lo h = tt
+
+  while_fits : (behind : Bool) (line at lo : ℕ) (t : Test) (body : Stmts)
+      → SlotsOf lo (by_turn behind (held_slots (held_constant t) ++ (stmts_slots p r body ++ test_slots p r t))
       (mark_slots (is_simple t) ++ (test_slots p r t ++ stmts_slots p r body)))
       → ((none : ℕ) → IsInside code r none → SlotsOf lo (test_slots p r t) → Here (at + 1) (jump_code p tables r line (at + 1) lo none t))
       → ((at lo : ℕ) → SlotsOf lo (test_slots p r t) → Here at (test_code p tables r line at lo t))
-      → ((at lo top : ℕ) → is_turned t ≡ true → IsInside code r top → SlotsOf lo (test_slots p r t)
-      → Here at (back_code p tables r line at lo top t))
+      → ((at lo held top : ℕ) → IsInside code r top → HeldNumber (held_constant t) held → SlotsOf lo (test_slots p r t)
+      → Here at (back_code p tables r line at lo held top t))
       → ((at lo : ℕ) → SlotsOf lo (stmts_slots p r body) → Here at (stmts_code p tables r at lo body))
       → Here at (while_code p tables r behind line at lo t body)
-  while_fits true line at lo t body e slots j f g b room =
-      let inner : List Lined = stmts_code p tables r (at + 1) lo body in
-      let next : ℕ = at + 1 + length inner in
-      let lo2 : ℕ = behind_stmts p r lo body in
-      let last : List Lined = back_code p tables r line next lo2 (at + 1) t in
+  while_fits true line at lo t body slots j f g b room =
+      let constant : List Instr = constant_code (held_constant t) lo in
+      let at1 : ℕ = at + length (own line constant) in
+      let lo1 : ℕ = behind_held p r lo t in
+      let inner : List Lined = stmts_code p tables r (at1 + 1) lo1 body in
+      let next : ℕ = at1 + 1 + length inner in
+      let lo2 : ℕ = behind_stmts p r lo1 body in
+      let last : List Lined = back_code p tables r line next lo2 lo (at1 + 1) t in
+      let loop : List Lined = own line (I.Jump next ∷ []) ++ (inner ++ last) in
+      let here = held_slot (held_constant t) lo (stmts_slots p r body ++ test_slots p r t) slots in
+      let mine = back lo (held_slots (held_constant t)) (stmts_slots p r body ++ test_slots p r t) slots in
       let long = length-append inner last in
-      let there : IsInside code r next = record { low = omega (arith, room.low); high = omega (arith, room.high, long) } in
-      let top : IsInside code r (at + 1) = record { low = omega (arith, room.low); high = omega (arith, room.high, long) } in
-      let all = row (at + 1) inner last (b (at + 1) lo (front lo (stmts_slots p r body) (test_slots p r t) slots))
-      (g next lo2 (at + 1) e top (back lo (stmts_slots p r body) (test_slots p r t) slots)) in
-      (there, all (record { low = omega (arith, room.low); high = omega (arith, room.high) }))
-  while_fits false line at lo t body e slots j f g b room =
+      let whole = length-append (own line constant) loop in
+      let there : IsInside code r next = record { low = omega (arith, room.low); high = omega (arith, room.high, long, whole) } in
+      let top : IsInside code r (at1 + 1) = record { low = omega (arith, room.low); high = omega (arith, room.high, long, whole) } in
+      let all = row (at1 + 1) inner last (b (at1 + 1) lo1 (front lo1 (stmts_slots p r body) (test_slots p r t) mine))
+      (g next lo2 lo (at1 + 1) top here (back lo1 (stmts_slots p r body) (test_slots p r t) mine)) in
+      row at (own line constant) loop (own_fits at line constant (constant_needs (held_constant t) lo here))
+      (λ inside. (there, all (record { low = omega (arith, inside.low); high = omega (arith, inside.high) }))) room
+  while_fits false line at lo t body slots j f g b room =
       let parts = condition_slots lo (is_simple t) (test_slots p r t) (stmts_slots p r body) slots in
       let lo2 : ℕ = behind_condition p r lo t in
       let inner : List Lined = guarded_code line (at + 1) lo 1 t (λ next. stmts_code p tables r next lo2 body) in
@@ -648,18 +639,45 @@ module _ (p : Program) (tables : Tables) (code : PlainCode) (checked : IsChecked
     jump_fits line at lo none (Not t) good out slots = λ room. tt
     jump_fits line at lo none (CallTest called args up) good out slots = λ room. tt
 
-    back_fits : (line at lo top : ℕ) (t : Test) → Fine (test_phrases t) → is_turned t ≡ true → IsInside code r top
-        → SlotsOf lo (test_slots p r t) → Here at (back_code p tables r line at lo top t)
-    back_fits line at lo top (Value e) good behind out slots =
-        turned_fits line at lo top e out (turned (Value e) behind) (once line at lo e slots (expr_fits line at lo e good.1))
-    back_fits line at lo top (Bind d e range left) good behind out slots = λ room. tt
-    back_fits line at lo top (Unify d range e range') good behind out slots = λ room. tt
-    back_fits line at lo top (SameCells d e) good behind out slots = λ room. tt
-    back_fits line at lo top (Seq x) good behind out slots = λ room. tt
-    back_fits line at lo top (And ts) good behind out slots = λ room. tt
-    back_fits line at lo top (Or ts) good behind out slots = λ room. tt
-    back_fits line at lo top (Not t) good behind out slots = λ room. tt
-    back_fits line at lo top (CallTest called args up) good behind out slots = λ room. tt
+    -- a comparison that goes back
+    back_fits : (line at lo held top : ℕ) (t : Test) → Fine (test_phrases t) → IsInside code r top → HeldNumber (held_constant t) held
+        → SlotsOf lo (test_slots p r t) → Here at (back_code p tables r line at lo held top t)
+    back_fits line at lo held top (Value (Compare how x y)) good out here slots =
+        let lo2 : ℕ = behind_expr p r lo x in
+        let one : List Lined = unless_bare (stays x y) (expr_code p tables r line at lo x) in
+        let two : List Lined = unless_bare (bare y) (expr_code p tables r line (at + length one) lo2 y) in
+        let first : ℕ = slot_or p tables r (stays x y) lo in
+        let other : ℕ = held_or (constant y) held (value_at p tables r lo2 y) in
+        let mine = front lo (expr_slots p r x) (unless_bare (bare y) (expr_slots p r y)) slots in
+        let others = back lo (expr_slots p r x) (unless_bare (bare y) (expr_slots p r y)) slots in
+        let good_x = fine_front (expr_phrases x) (expr_phrases y) good.1.1 in
+        let good_y = fine_back (expr_phrases x) (expr_phrases y) good.1.1 in
+        let n = values.expr_number p tables code checked w r lt lo x mine in
+        let there = as_stays (values.BareIs p tables code checked w r lt) x y tt
+        (values.bare_value p tables code checked w r lt x good_x) in
+        then_own at line (one ++ unless_constant (constant y) two) (opposite_code how lo first other ∷ I.JumpZero lo top ∷ [])
+        (row at one (unless_constant (constant y) two) (pieces.unless code r 0 at (stays x y) (expr_code p tables r line at lo x)
+        (λ none. expr_fits line at lo x good_x mine))
+        (pieces.constant_fits code r (constant y) (at + length one) two
+        (once line (at + length one) lo2 y others (expr_fits line (at + length one) lo2 y good_y))))
+        (back_needs how lo first other top out (values.cmp_needs p tables code checked w r lt how lo first other n
+        (values.first_number p tables code checked w r lt (stays x y) lo there n)
+        (held_number (constant y) held (value_at p tables r lo2 y) here (number lo2 y good_y others))))
+    back_fits line at lo held top (Value (Const n)) good out here slots = λ room. tt
+    back_fits line at lo held top (Value (Load d)) good out here slots = λ room. tt
+    back_fits line at lo held top (Value (Chain negated e links)) good out here slots = λ room. tt
+    back_fits line at lo held top (Value (Truth t)) good out here slots = λ room. tt
+    back_fits line at lo held top (Value (Known d)) good out here slots = λ room. tt
+    back_fits line at lo held top (Value (Chr e)) good out here slots = λ room. tt
+    back_fits line at lo held top (Value (CallExpr called args up)) good out here slots = λ room. tt
+    back_fits line at lo held top (Bind d e range left) good out here slots = λ room. tt
+    back_fits line at lo held top (Unify d range e range') good out here slots = λ room. tt
+    back_fits line at lo held top (SameCells d e) good out here slots = λ room. tt
+    back_fits line at lo held top (Seq x) good out here slots = λ room. tt
+    back_fits line at lo held top (And ts) good out here slots = λ room. tt
+    back_fits line at lo held top (Or ts) good out here slots = λ room. tt
+    back_fits line at lo held top (Not t) good out here slots = λ room. tt
+    back_fits line at lo held top (CallTest called args up) good out here slots = λ room. tt
 
     test_fits : (line at lo : ℕ) (t : Test) → Fine (test_phrases t) → SlotsOf lo (test_slots p r t)
         → Here at (test_code p tables r line at lo t)
@@ -871,8 +889,8 @@ module _ (p : Program) (tables : Tables) (code : PlainCode) (checked : IsChecked
         (λ next la s. stmts_fit next la rest (fine_back (arms_phrases arms) (stmts_phrases rest) good.1) s)
     stmt_fits line at lo (While t body) good slots =
         let good_t = fine_front (test_phrases t) (stmts_phrases body) good.1 in
-        while_fits (is_turned t) line at lo t body refl slots (λ none out s. jump_fits line (at + 1) lo none t good_t out s)
-        (λ at lo s. test_fits line at lo t good_t s) (λ at lo top e out s. back_fits line at lo top t good_t e out s)
+        while_fits (is_turned t) line at lo t body slots (λ none out s. jump_fits line (at + 1) lo none t good_t out s)
+        (λ at lo s. test_fits line at lo t good_t s) (λ at lo held top out here s. back_fits line at lo held top t good_t out here s)
         (λ next lo s. stmts_fit next lo body (fine_back (test_phrases t) (stmts_phrases body) good.1) s)
     stmt_fits line at lo (Repeat body t) good slots =
         let lo2 : ℕ = behind_stmts p r lo body in

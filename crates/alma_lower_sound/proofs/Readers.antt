@@ -29,12 +29,13 @@ use Rattle.alma_lower_templates.specs.Pieces.{behind_labels, label_code, label_t
 use Rattle.alma_lower_templates.specs.Pieces.{placed as put_in}
 use Rattle.alma_lower_templates.specs.Pieces.{labels_code, begin_loop, bounds_code, entry_code, chain_code, link_code, unless_whole}
 use Rattle.alma_lower_templates.specs.Pieces.{for_turns, some_turns, turn_code, each_body, forall_code, aim, straight}
-use Rattle.alma_lower_templates.specs.Pieces.{count_from, unless_constant, limit_code, put_code}
+use Rattle.alma_lower_templates.specs.Pieces.{count_from, unless_constant, limit_code, put_code, held_or}
+use Rattle.alma_lower_templates.specs.Pieces.{held_code as constant_code}
 use Rattle.alma_lower_templates.specs.Slots.{shift_of, bare, bare_desig, stays, stays_in, taken_from, unless_bare, is_simple, is_turned}
 use Rattle.alma_lower_templates.specs.Slots.{handed_slots, arg_slots}
 use Rattle.alma_lower_templates.specs.Slots.{behind_expr, behind_dead, behind_value, behind_desig, behind_target, behind_variable}
 use Rattle.alma_lower_templates.specs.Slots.{behind_test, behind_stmts, behind_stmt, behind_condition, own_place, own_root, goes_straight}
-use Rattle.alma_lower_templates.specs.Slots.{constant, ends_alone, is_straight}
+use Rattle.alma_lower_templates.specs.Slots.{constant, ends_alone, is_straight, held_constant, behind_held}
 use Rattle.alma_lower_templates.specs.Templates.{char_range, own_slot, slot_or, outer_slot, link_if, set_by, load_by, value_at, part_slot}
 use Rattle.alma_lower_templates.specs.Templates.{behind_root, root_code, call_link_code, arguments_from, call_code, set_code}
 use Rattle.alma_lower_templates.specs.Templates.{load_code, count_at, count_code, fit_result, stmts_code, stmt_code, if_code, arms_code}
@@ -237,6 +238,11 @@ opposite_quiet cmp.Less to first other top line = refl
 opposite_quiet cmp.LessEq to first other top line = refl
 opposite_quiet cmp.Greater to first other top line = refl
 opposite_quiet cmp.GreaterEq to first other top line = refl
+
+-- a constant that is put before a loop
+held_quiet : (o : Option ℤ) (to : ℕ) → Quiet (constant_code o to)
+held_quiet (Some n) to line = refl
+held_quiet None to line = refl
 
 neg_quiet : (negated : Bool) (to from : ℕ) → Quiet (neg_code negated to from)
 neg_quiet true to from line = refl
@@ -586,19 +592,39 @@ module _ (p : Program) (tables : Tables) (r : ℕ) where
       by (as_unequal x y same) = subst (λ z. reads (test_code p tables r line at lo (Value z)) ≡ reads
           (unless_bare (bare z) (expr_code p tables r line at lo z))) (sym same) (differ x y)
 
+  -- an operand that is held reads nothing
+  constant_quiet : (line at lo : ℕ) (y : Expr)
+      → reads (unless_constant (constant y) (unless_bare (bare y) (expr_code p tables r line at lo y)))
+      ≡ reads (unless_bare (bare y) (expr_code p tables r line at lo y))
+  constant_quiet line at lo (Const n) = refl
+  constant_quiet line at lo (Load d) = refl
+  constant_quiet line at lo (Chain negated e links) = refl
+  constant_quiet line at lo (Compare how x y) = refl
+  constant_quiet line at lo (Truth t) = refl
+  constant_quiet line at lo (Known d) = refl
+  constant_quiet line at lo (Chr x) = refl
+  constant_quiet line at lo (CallExpr called args up) = refl
+
   -- a comparison that goes back reads where the test of it does
-  back_same : (line at lo top : ℕ) (t : Test) → is_turned t ≡ true
-      → reads (back_code p tables r line at lo top t) ≡ reads (test_code p tables r line at lo t)
-  back_same line at lo top t e = by (turned t e)
+  back_same : (line at lo held top : ℕ) (t : Test) → is_turned t ≡ true
+      → reads (back_code p tables r line at lo held top t) ≡ reads (test_code p tables r line at lo t)
+  back_same line at lo held top t e = by (turned t e)
     where
-      by : Turned t → reads (back_code p tables r line at lo top t) ≡ reads (test_code p tables r line at lo t)
+      by : Turned t → reads (back_code p tables r line at lo held top t) ≡ reads (test_code p tables r line at lo t)
       by (compares_two how x y is opposite simple) =
-          let operand : ℕ = value_at p tables r (behind_expr p r lo x) y in
-          let operands : List Lined = compared_code p tables r line at lo x y in
+          let lo2 : ℕ = behind_expr p r lo x in
+          let operand : ℕ = value_at p tables r lo2 y in
+          let other : ℕ = held_or (constant y) held operand in
+          let one : List Lined = unless_bare (stays x y) (expr_code p tables r line at lo x) in
+          let two : List Lined = unless_bare (bare y) (expr_code p tables r line (at + length one) lo2 y) in
+          let left : List Lined = unless_constant (constant y) two in
           let first : ℕ = slot_or p tables r (stays x y) lo in
-          subst (λ u. reads (back_code p tables r line at lo top u) ≡ reads (test_code p tables r line at lo u)) (sym is)
-          (then_own line operands (opposite_code how lo first operand ∷ I.JumpZero lo top ∷ []) (opposite_quiet how lo first operand top)
-          ∙ sym (then_own line operands (cmp_code how lo first operand) (cmp_quiet how lo first operand))
+          let same : reads left ≡ reads two = constant_quiet line (at + length one) lo2 y in
+          let as_operands : reads (one ++ left) ≡ reads (one ++ two) = omega (arith, both one left, both one two, same) in
+          subst (λ u. reads (back_code p tables r line at lo held top u) ≡ reads (test_code p tables r line at lo u)) (sym is)
+          (then_own line (one ++ left) (opposite_code how lo first other ∷ I.JumpZero lo top ∷ []) (opposite_quiet how lo first other top)
+          ∙ as_operands
+          ∙ sym (then_own line (one ++ two) (cmp_code how lo first operand) (cmp_quiet how lo first operand))
           ∙ sym (value_same line at lo (Compare how x y)))
 
   while_same : (behind : Bool) (line at lo : ℕ) (t : Test) (body : Stmts) (m n : ℕ) → is_turned t ≡ behind
@@ -606,17 +632,21 @@ module _ (p : Program) (tables : Tables) (r : ℕ) where
       → ((at lo : ℕ) → reads (test_code p tables r line at lo t) ≡ m) → ((at lo : ℕ) → reads (stmts_code p tables r at lo body) ≡ n)
       → reads (while_code p tables r behind line at lo t body) ≡ m + n
   while_same true line at lo t body m n e j f g =
-      let inner : List Lined = stmts_code p tables r (at + 1) lo body in
-      let top : ℕ = at + 1 + length inner in
-      let lo2 : ℕ = behind_stmts p r lo body in
-      let last : List Lined = back_code p tables r line top lo2 (at + 1) t in
+      let constant : List Instr = constant_code (held_constant t) lo in
+      let at1 : ℕ = at + length (own line constant) + 1 in
+      let lo1 : ℕ = behind_held p r lo t in
+      let inner : List Lined = stmts_code p tables r at1 lo1 body in
+      let top : ℕ = at1 + length inner in
+      let lo2 : ℕ = behind_stmts p r lo1 body in
+      let last : List Lined = back_code p tables r line top lo2 lo at1 t in
       omega (
         arith,
+        own_then line constant (own line (I.Jump top ∷ []) ++ (inner ++ last)) (held_quiet (held_constant t) lo),
         own_then line (I.Jump top ∷ []) (inner ++ last) (λ l. refl),
         both inner last,
-        back_same line top lo2 (at + 1) t e,
+        back_same line top lo2 lo at1 t e,
         f top lo2,
-        g (at + 1) lo,
+        g at1 lo1,
       )
   while_same false line at lo t body m n e j f g =
       let lo2 : ℕ = behind_condition p r lo t in

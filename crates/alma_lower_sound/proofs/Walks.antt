@@ -26,13 +26,14 @@ use Rattle.alma_lower_templates.specs.Pieces.{condition, guarded, chosen, first_
 use Rattle.alma_lower_templates.specs.Pieces.{unequal_code, opposite_code, write_code, read_code, case_arm, passed_over, has_dead}
 use Rattle.alma_lower_templates.specs.Pieces.{behind_labels, aim, aim_place, with_last}
 use Rattle.alma_lower_templates.specs.Pieces.{labels_code, begin_loop, bounds_code, for_turns, some_turns, turn_code, each_body}
-use Rattle.alma_lower_templates.specs.Pieces.{forall_code, straight, count_from, unless_constant, limit_code, put_code}
+use Rattle.alma_lower_templates.specs.Pieces.{forall_code, straight, count_from, unless_constant, limit_code, put_code, held_or}
+use Rattle.alma_lower_templates.specs.Pieces.{held_code as constant_code}
 use Rattle.alma_lower_templates.specs.Slots.{bare, bare_desig, stays, stays_in, taken_from, unless_bare, is_simple, is_turned, handed_slots}
 use Rattle.alma_lower_templates.specs.Slots.{arg_slots}
 use Rattle.alma_lower_templates.proofs.Placed.{handed_is}
 use Rattle.alma_lower_templates.specs.Slots.{behind_expr, behind_dead, behind_value, behind_desig, behind_target, behind_variable}
 use Rattle.alma_lower_templates.specs.Slots.{behind_test, behind_stmts, behind_stmt, behind_condition, own_place, own_root, goes_straight}
-use Rattle.alma_lower_templates.specs.Slots.{constant, ends_alone, is_straight}
+use Rattle.alma_lower_templates.specs.Slots.{constant, ends_alone, is_straight, held_constant, behind_held}
 use Rattle.alma_lower_templates.specs.Templates.{char_range, own_slot, slot_or, value_at, part_slot, behind_root, root_code}
 use Rattle.alma_lower_templates.specs.Templates.{call_link_code, arguments_from, call_code, set_code, load_code, count_at, count_code}
 use Rattle.alma_lower_templates.specs.Templates.{fit_result, stmts_code, stmt_code, if_code, arms_code, for_code, some_code, dead_code}
@@ -383,19 +384,36 @@ module _ (p : Program) (tables : Tables) (r : ℕ) where
       by (as_unequal x y same) = subst (λ z. round line (test_code p tables r line at lo (Value z)) ≡ round line
           (unless_bare (bare z) (expr_code p tables r line at lo z))) (sym same) (differ x y)
 
+  -- an operand that is held has no line of its own
+  constant_same : (line at lo : ℕ) (one : List Lined) (y : Expr)
+      → round line (one ++ unless_constant (constant y) (unless_bare (bare y) (expr_code p tables r line at lo y)))
+      ≡ round line (one ++ unless_bare (bare y) (expr_code p tables r line at lo y))
+  constant_same line at lo one (Const n) = ends_alike line line one [] ∙ sym (ends_alike line line one (I.Const lo n ∷ []))
+  constant_same line at lo one (Load d) = refl
+  constant_same line at lo one (Chain negated e links) = refl
+  constant_same line at lo one (Compare how x y) = refl
+  constant_same line at lo one (Truth t) = refl
+  constant_same line at lo one (Known d) = refl
+  constant_same line at lo one (Chr x) = refl
+  constant_same line at lo one (CallExpr called args up) = refl
+
   -- a comparison that goes back goes over the lines of the test of it
-  back_round : (line at lo top : ℕ) (t : Test) → is_turned t ≡ true
-      → round line (back_code p tables r line at lo top t) ≡ round line (test_code p tables r line at lo t)
-  back_round line at lo top t e = by (turned t e)
+  back_round : (line at lo held top : ℕ) (t : Test) → is_turned t ≡ true
+      → round line (back_code p tables r line at lo held top t) ≡ round line (test_code p tables r line at lo t)
+  back_round line at lo held top t e = by (turned t e)
     where
-      by : Turned t → round line (back_code p tables r line at lo top t) ≡ round line (test_code p tables r line at lo t)
+      by : Turned t → round line (back_code p tables r line at lo held top t) ≡ round line (test_code p tables r line at lo t)
       by (compares_two how x y is opposite simple) =
-          let operand : ℕ = value_at p tables r (behind_expr p r lo x) y in
-          let operands : List Lined = compared_code p tables r line at lo x y in
+          let lo2 : ℕ = behind_expr p r lo x in
+          let operand : ℕ = value_at p tables r lo2 y in
+          let other : ℕ = held_or (constant y) held operand in
+          let one : List Lined = unless_bare (stays x y) (expr_code p tables r line at lo x) in
+          let two : List Lined = unless_bare (bare y) (expr_code p tables r line (at + length one) lo2 y) in
           let first : ℕ = slot_or p tables r (stays x y) lo in
-          subst (λ u. round line (back_code p tables r line at lo top u) ≡ round line (test_code p tables r line at lo u)) (sym is)
-          (ends_alike line line operands (opposite_code how lo first operand ∷ I.JumpZero lo top ∷ [])
-          ∙ sym (ends_alike line line operands (cmp_code how lo first operand)) ∙ sym (value_round line at lo (Compare how x y)))
+          subst (λ u. round line (back_code p tables r line at lo held top u) ≡ round line (test_code p tables r line at lo u)) (sym is)
+          (ends_alike line line (one ++ unless_constant (constant y) two) (opposite_code how lo first other ∷ I.JumpZero lo top ∷ [])
+          ∙ constant_same line (at + length one) lo2 one y
+          ∙ sym (ends_alike line line (one ++ two) (cmp_code how lo first operand)) ∙ sym (value_round line at lo (Compare how x y)))
 
   while_round : (behind : Bool) (line at lo : ℕ) (t : Test) (body : Stmts) (m n : ℕ) → is_turned t ≡ behind
       → ((none : ℕ) → round line (jump_code p tables r line (at + 1) lo none t) ≤ m)
@@ -403,17 +421,21 @@ module _ (p : Program) (tables : Tables) (r : ℕ) where
       → ((at lo : ℕ) → round line (stmts_code p tables r at lo body) ≤ n)
       → round line (while_code p tables r behind line at lo t body) ≤ m + n
   while_round true line at lo t body m n e j f g =
-      let inner : List Lined = stmts_code p tables r (at + 1) lo body in
-      let top : ℕ = at + 1 + length inner in
-      let lo2 : ℕ = behind_stmts p r lo body in
-      let last : List Lined = back_code p tables r line top lo2 (at + 1) t in
+      let constant : List Instr = constant_code (held_constant t) lo in
+      let at1 : ℕ = at + length (own line constant) + 1 in
+      let lo1 : ℕ = behind_held p r lo t in
+      let inner : List Lined = stmts_code p tables r at1 lo1 body in
+      let top : ℕ = at1 + length inner in
+      let lo2 : ℕ = behind_stmts p r lo1 body in
+      let last : List Lined = back_code p tables r line top lo2 lo at1 t in
       omega (
         arith,
+        own_then line constant (own line (I.Jump top ∷ []) ++ (inner ++ last)),
         own_then line (I.Jump top ∷ []) (inner ++ last),
         both line inner last,
-        back_round line top lo2 (at + 1) t e,
+        back_round line top lo2 lo at1 t e,
         f top lo2,
-        g (at + 1) lo,
+        g at1 lo1,
       )
   while_round false line at lo t body m n e j f g =
       let lo2 : ℕ = behind_condition p r lo t in
