@@ -1,6 +1,6 @@
 -- Each slot for links of a routine of a checked program is for frames of a routine that exists, and not of the module.
 use Rattle.std.proofs.Common.{◌≡◌, ℕ, zero, suc, ◌+◌, ◌-◌, ◌<◌, Bool, true, false, List, [], ◌∷◌, ◌++◌, length, replicate, Option, Some}
-use Rattle.std.proofs.Common.{None, refl, arith}
+use Rattle.std.proofs.Common.{None, refl, arith, ℤ}
 use Rattle.std.specs.Prelude.{nat_lt}
 use Rattle.std.specs.List.{AllByRecursion, list_all}
 use Rattle.std.proofs.lemmas.Bool.{lt-ltb, and_from}
@@ -30,7 +30,7 @@ use Rattle.alma_ir.specs.Checked.{IsChecked, RootExists, link_slots}
 use Rattle.alma_ir.proofs.Each.{each_of_front, each_of_back, each_of_append}
 use Rattle.alma_lower_templates.specs.Tables.{Tables}
 use Rattle.alma_lower_templates.specs.Slots.{shift_of, chain_slots, links_if, bare, bare_desig, unless_bare, is_simple, mark_slots}
-use Rattle.alma_lower_templates.specs.Slots.{is_turned, by_turn}
+use Rattle.alma_lower_templates.specs.Slots.{is_turned, by_turn, held_constant, held_slots}
 use Rattle.alma_lower_templates.specs.Slots.{handed_slots, arg_kind, call_links, root_slots, stmts_slots, stmt_slots, arms_slots}
 use Rattle.alma_lower_templates.specs.Slots.{dead_slots, cases_slots, else_slots, branches_slots, for_slots, some_slots, test_slots}
 use Rattle.alma_lower_templates.specs.Slots.{and_slots, or_slots, expr_slots, links_slots, args_slots, arg_slots, desig_slots, sels_slots}
@@ -101,10 +101,14 @@ module _ (p : Program) where
   mark_named false = (tt, tt)
 
   -- the slots of WHILE, wherever its condition stands
-  turn_named : (behind simple : Bool) (xs ys : List SlotKind) → AllNamed xs → AllNamed ys
-      → AllNamed (by_turn behind (ys ++ xs) (mark_slots simple ++ (xs ++ ys)))
-  turn_named true simple xs ys h k = both ys xs k h
-  turn_named false simple xs ys h k = both (mark_slots simple) (xs ++ ys) (mark_named simple) (both xs ys h k)
+  held_named : (o : Option ℤ) → AllNamed (held_slots o)
+  held_named (Some n) = (tt, tt)
+  held_named None = tt
+
+  turn_named : (behind simple : Bool) (o : Option ℤ) (xs ys : List SlotKind) → AllNamed xs → AllNamed ys
+      → AllNamed (by_turn behind (held_slots o ++ (ys ++ xs)) (mark_slots simple ++ (xs ++ ys)))
+  turn_named true simple o xs ys h k = both (held_slots o) (ys ++ xs) (held_named o) (both ys xs k h)
+  turn_named false simple o xs ys h k = both (mark_slots simple) (xs ++ ys) (mark_named simple) (both xs ys h k)
 
   arg_named : (a : Arg) → IsNamed (arg_kind a)
   arg_named (ByValue e range) = tt
@@ -282,7 +286,7 @@ module _ (p : Program) where
             (arms_named arms (fine_front (arms_phrases arms) (stmts_phrases rest) h.1))
             (stmts_named rest (fine_back (arms_phrases arms) (stmts_phrases rest) h.1))
         stmt_named (While t body) h =
-            turn_named (is_turned t) (is_simple t) (test_slots p r t) (stmts_slots p r body)
+            turn_named (is_turned t) (is_simple t) (held_constant t) (test_slots p r t) (stmts_slots p r body)
             (test_named t (fine_front (test_phrases t) (stmts_phrases body) h.1))
             (stmts_named body (fine_back (test_phrases t) (stmts_phrases body) h.1))
         stmt_named (Repeat body t) h =

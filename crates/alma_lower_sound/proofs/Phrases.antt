@@ -1,5 +1,6 @@
 -- The code of each phrase of a routine of a checked program: each instruction has what it needs, by induction over the phrases.
-use Rattle.std.proofs.Common.{◌≡◌, ℕ, ◌+◌, ◌<◌, ◌≤◌, Bool, true, false, List, [], ◌∷◌, ◌++◌, length, Option, Some, None, pos, refl, sym, ap}
+use Rattle.std.proofs.Common.{◌≡◌, ℕ, ◌+◌, ◌<◌, Bool, true, false, List, [], ◌∷◌, ◌++◌, length, Option, Some, None, pos, refl, sym, ap}
+use Rattle.std.proofs.Common.{ℤ}
 use Rattle.std.proofs.Common.{◌∙◌}
 use Rattle.std.proofs.Common.{subst, arith, append_assoc}
 use Rattle.std.specs.Prelude.{slice_get, IsNone, IsSome}
@@ -34,14 +35,15 @@ use Rattle.alma_lower_templates.specs.Pieces.{condition, guarded, chosen, first_
 use Rattle.alma_lower_templates.specs.Pieces.{unequal_code, opposite_code, write_code, read_code, case_arm, passed_over, has_dead}
 use Rattle.alma_lower_templates.specs.Pieces.{behind_labels}
 use Rattle.alma_lower_templates.specs.Pieces.{begin_loop, for_turns, some_turns, turn_code, each_body, unless_constant, limit_code}
-use Rattle.alma_lower_templates.specs.Slots.{bare, bare_desig, stays, stays_in, unless_bare, is_simple, is_turned, by_turn, mark_slots}
-use Rattle.alma_lower_templates.specs.Slots.{handed_slots}
+use Rattle.alma_lower_templates.specs.Pieces.{held_code as constant_code, held_or}
+use Rattle.alma_lower_templates.specs.Slots.{bare, bare_desig, stays, stays_in, taken_from, unless_bare, is_simple, is_turned, by_turn}
+use Rattle.alma_lower_templates.specs.Slots.{mark_slots, handed_slots}
 use Rattle.alma_lower_templates.specs.Slots.{call_links, root_slots, arg_kind, stmts_slots, stmt_slots, arms_slots, dead_slots, cases_slots}
 use Rattle.alma_lower_templates.specs.Slots.{else_slots, branches_slots, for_slots, some_slots, test_slots, and_slots, or_slots, expr_slots}
 use Rattle.alma_lower_templates.specs.Slots.{links_slots, args_slots, arg_slots, desig_slots, sels_slots, sel_slots, behind_expr}
 use Rattle.alma_lower_templates.specs.Slots.{behind_dead, behind_value, behind_desig, behind_target, behind_variable, behind_test}
 use Rattle.alma_lower_templates.specs.Slots.{behind_stmts, behind_stmt, behind_condition, own_place, own_root, goes_straight}
-use Rattle.alma_lower_templates.specs.Slots.{constant, ends_alone, is_straight}
+use Rattle.alma_lower_templates.specs.Slots.{constant, ends_alone, is_straight, held_constant, held_slots, behind_held}
 use Rattle.alma_lower_templates.specs.Slots as slots_of
 use Rattle.alma_lower_templates.specs.Templates.{char_range, own_slot, slot_or, value_at, part_slot, behind_root, place_at, root_code}
 use Rattle.alma_lower_templates.specs.Templates.{call_link_code, arguments_from, call_code, set_code, load_code, count_at, count_code}
@@ -49,22 +51,25 @@ use Rattle.alma_lower_templates.specs.Templates.{fit_result, stmts_code, stmt_co
 use Rattle.alma_lower_templates.specs.Templates.{case_code, cases_code, else_code, either_code, branches_code, test_code, and_code, or_code}
 use Rattle.alma_lower_templates.specs.Templates.{operands_code, jump_code, back_code, expr_code, links_code, args_code, arg_code}
 use Rattle.alma_lower_templates.specs.Templates.{desig_code}
-use Rattle.alma_lower_templates.specs.Templates.{sels_code, sel_code, held_at, set_to}
+use Rattle.alma_lower_templates.specs.Templates.{sels_code, sel_code, held_at, handed_code, set_to}
 use Rattle.alma_lower_templates.specs.CodeOf.{HoldsChecked}
 use Rattle.alma_lower_templates.specs.Compiled.{is_function}
 use Rattle.alma_lower_templates.proofs.Args.{same_cells}
 use Rattle.alma_lower_templates.proofs.First.{as_stays, as_stays_in}
 use Rattle.alma_lower_templates.proofs.Tested.{compared_code, Tested, tested, as_value, as_unequal}
-use Rattle.alma_lower_templates.proofs.Turned.{Turned, compares_two, turned, while_code}
+use Rattle.alma_lower_templates.proofs.Turned.{while_code}
 use Rattle.alma_lower_sound.proofs.Facts.{Facts}
 use Rattle.alma_lower_sound.proofs.Needs.{HasKind, IsInside, Needs, IsRange, Number, Place, Mark}
 use Rattle.alma_lower_sound.proofs.Pieces as pieces
 use Rattle.alma_lower_sound.proofs.Pieces.{Fits}
+use Rattle.alma_lower_sound.proofs.Handed.{placed_fits, desig_ends}
+use Rattle.alma_lower_templates.proofs.Placed.{handed_is}
 use Rattle.alma_lower_sound.proofs.Roots as roots
 use Rattle.alma_lower_sound.proofs.Roots.{Compiled, Slots}
 use Rattle.alma_lower_sound.proofs.Values as values
 use Rattle.alma_lower_sound.proofs.Values.{Good}
 use Rattle.alma_lower_templates.proofs.Straight.{straight_variable}
+use Rattle.alma_lower_templates.proofs.FormRuns.{held_code}
 
 module _ (p : Program) (tables : Tables) (code : PlainCode) (checked : IsChecked p) (w : Compiled p tables code) (r : ℕ)
     (lt : r < length p.routines) where
@@ -118,14 +123,29 @@ module _ (p : Program) (tables : Tables) (code : PlainCode) (checked : IsChecked
   once line at lo e slots f = pieces.unless code r 0 at (bare e) (expr_code p tables r line at lo e)
       (λ none. f (values.none_slots p tables code checked w r lt (bare e) lo (expr_slots p r e) none slots))
 
+  -- a designator whose place is used
+  held_here : (line at lo : ℕ) (d : Desig) → Here at (desig_code p tables r line at lo d) → Here at (held_code p tables r line at lo d)
+  held_here line at lo d f = pieces.unless code r 0 at (own_place d) (desig_code p tables r line at lo d) (λ none. f)
+
   located : (line at lo : ℕ) (d : Desig) → (bare_desig d ≡ None → SlotsOf lo (desig_slots p r d))
       → (SlotsOf lo (desig_slots p r d) → Here at (desig_code p tables r line at lo d))
-      → Here at (unless_bare (bare_desig d) (desig_code p tables r line at lo d))
-  located line at lo d slots f = pieces.unless code r 0 at (bare_desig d) (desig_code p tables r line at lo d) (λ none. f (slots none))
+      → Here at (unless_bare (bare_desig d) (held_code p tables r line at lo d))
+  located line at lo d slots f =
+      pieces.unless code r 0 at (bare_desig d) (held_code p tables r line at lo d) (λ none. held_here line at lo d (f (slots none)))
 
   target_slots : (lo : ℕ) (d : Desig) → SlotsOf lo (unless_bare (bare_desig d) (desig_slots p r d)) → bare_desig d ≡ None
       → SlotsOf lo (desig_slots p r d)
   target_slots lo d slots none = values.none_slots p tables code checked w r lt (bare_desig d) lo (desig_slots p r d) none slots
+
+  -- a place that is handed over
+  handed_fits : (line at to lo : ℕ) (d : Desig) → HasKind code r to (slot.Place (slots_of.desig_cells d)) → SlotsOf lo (desig_slots p r d)
+      → Here at (desig_code p tables r line at lo d)
+      → Here at (handed_code p tables r (own_place d) line to (desig_code p tables r line at lo d))
+  handed_fits line at to lo d k slots f =
+      subst (Here at) (sym (handed_is p tables r to line at lo d))
+      (placed_fits code r to (place_at p tables r lo d) (desig_cells d) at (desig_code p tables r line at lo d)
+      (desig_ends p tables r line at lo d) (values.desig_place p tables code checked w r lt lo d slots)
+      (subst (Place code r to) (same_cells d) k) f)
 
   -- ---- conditions
 
@@ -252,72 +272,61 @@ module _ (p : Program) (tables : Tables) (code : PlainCode) (checked : IsChecked
   -- ---- WHILE
 
   -- the opposite of a comparison needs what the comparison does
-  back_needs : (how : Cmp) (line to first other top : ℕ) → IsInside code r top
-      → pieces.AllNeed code r (own line (cmp_code how to first other))
-      → pieces.AllNeed code r (own line (opposite_code how to first other ∷ I.JumpZero to top ∷ []))
-  back_needs cmp.Equal line to first other top out h = (h.0, ((h.0.0, out), tt))
-  back_needs cmp.Unequal line to first other top out h = (h.0, ((h.0.0, out), tt))
-  back_needs cmp.Less line to first other top out h = ((h.0.0, h.0.2, h.0.1), ((h.0.0, out), tt))
-  back_needs cmp.LessEq line to first other top out h = ((h.0.0, h.0.2, h.0.1), ((h.0.0, out), tt))
-  back_needs cmp.Greater line to first other top out h = ((h.0.0, h.0.2, h.0.1), ((h.0.0, out), tt))
-  back_needs cmp.GreaterEq line to first other top out h = ((h.0.0, h.0.2, h.0.1), ((h.0.0, out), tt))
+  back_needs : (how : Cmp) (to first other top : ℕ) → IsInside code r top → AllNeeds (cmp_code how to first other)
+      → AllNeeds (opposite_code how to first other ∷ I.JumpZero to top ∷ [])
+  back_needs cmp.Equal to first other top out h = (h.0, ((h.0.0, out), tt))
+  back_needs cmp.Unequal to first other top out h = (h.0, ((h.0.0, out), tt))
+  back_needs cmp.Less to first other top out h = ((h.0.0, h.0.2, h.0.1), ((h.0.0, out), tt))
+  back_needs cmp.LessEq to first other top out h = ((h.0.0, h.0.2, h.0.1), ((h.0.0, out), tt))
+  back_needs cmp.Greater to first other top out h = ((h.0.0, h.0.2, h.0.1), ((h.0.0, out), tt))
+  back_needs cmp.GreaterEq to first other top out h = ((h.0.0, h.0.2, h.0.1), ((h.0.0, out), tt))
 
-  cmp_few : (line : ℕ) (how : Cmp) (to first other : ℕ) → length (own line (cmp_code how to first other)) ≤ 2
-  cmp_few line cmp.Equal to first other = omega arith
-  cmp_few line cmp.Unequal to first other = omega arith
-  cmp_few line cmp.Less to first other = omega arith
-  cmp_few line cmp.LessEq to first other = omega arith
-  cmp_few line cmp.Greater to first other = omega arith
-  cmp_few line cmp.GreaterEq to first other = omega arith
+  -- the slot of a constant that is held
+  abbrev HeldNumber : Option ℤ → (held : ℕ) → Type 0
+  HeldNumber (Some n) held = Number code r held
+  HeldNumber None held = Unit {0}
 
-  same_value : (a b : Expr) → Value a ≡ Value b → a ≡ b
-  same_value a b e = cc
+  held_number : (o : Option ℤ) (held other : ℕ) → HeldNumber o held → Number code r other → Number code r (held_or o held other)
+  held_number (Some n) held other h k = h
+  held_number None held other h k = k
 
-  -- a comparison that goes back, given its value
-  turned_fits : (line at lo top : ℕ) (e : Expr) → IsInside code r top → Turned (Value e)
-      → Here at (unless_bare (bare e) (expr_code p tables r line at lo e)) → Here at (back_code p tables r line at lo top (Value e))
-  turned_fits line at lo top e out (compares_two how x y is opposite simple) =
-      subst (λ z. Here at (unless_bare (bare z) (expr_code p tables r line at lo z))
-      → Here at (back_code p tables r line at lo top (Value z)))
-      (sym (same_value e (Compare how x y) is)) back
-    where
-      back : Here at (expr_code p tables r line at lo (Compare how x y))
-          → Here at (back_code p tables r line at lo top (Value (Compare how x y)))
-      back f room =
-          let operand : ℕ = value_at p tables r (behind_expr p r lo x) y in
-          let operands : List Lined = compared_code p tables r line at lo x y in
-          let first : ℕ = slot_or p tables r (stays x y) lo in
-          let end : List Lined = own line (opposite_code how lo first operand ∷ I.JumpZero lo top ∷ []) in
-          let value : List Lined = own line (cmp_code how lo first operand) in
-          let long = length-append operands end in
-          let all = f (record {
-            low = room.low;
-            high = omega (arith, room.high, long, length-append operands value, cmp_few line how lo first operand);
-          }) in
-          each_of_append (pieces.NeedsOf code r) operands end (each_of_front (pieces.NeedsOf code r) operands value all)
-          (back_needs how line lo first operand top out (each_of_back (pieces.NeedsOf code r) operands value all))
+  held_slot : (o : Option ℤ) (lo : ℕ) (rest : List SlotKind) → SlotsOf lo (held_slots o ++ rest) → HeldNumber o lo
+  held_slot (Some n) lo rest h = first_slot lo slot.Number rest h
+  held_slot None lo rest h = tt
 
-  while_fits : (behind : Bool) (line at lo : ℕ) (t : Test) (body : Stmts) → is_turned t ≡ behind
-      → SlotsOf lo (by_turn behind (stmts_slots p r body ++ test_slots p r t)
+  constant_needs : (o : Option ℤ) (lo : ℕ) → HeldNumber o lo → AllNeeds (constant_code o lo)
+  constant_needs (Some n) lo h = (h, tt)
+  constant_needs None lo h = tt
+
+  while_fits : (behind : Bool) (line at lo : ℕ) (t : Test) (body : Stmts)
+      → SlotsOf lo (by_turn behind (held_slots (held_constant t) ++ (stmts_slots p r body ++ test_slots p r t))
       (mark_slots (is_simple t) ++ (test_slots p r t ++ stmts_slots p r body)))
       → ((none : ℕ) → IsInside code r none → SlotsOf lo (test_slots p r t) → Here (at + 1) (jump_code p tables r line (at + 1) lo none t))
       → ((at lo : ℕ) → SlotsOf lo (test_slots p r t) → Here at (test_code p tables r line at lo t))
-      → ((at lo top : ℕ) → is_turned t ≡ true → IsInside code r top → SlotsOf lo (test_slots p r t)
-      → Here at (back_code p tables r line at lo top t))
+      → ((at lo held top : ℕ) → IsInside code r top → HeldNumber (held_constant t) held → SlotsOf lo (test_slots p r t)
+      → Here at (back_code p tables r line at lo held top t))
       → ((at lo : ℕ) → SlotsOf lo (stmts_slots p r body) → Here at (stmts_code p tables r at lo body))
       → Here at (while_code p tables r behind line at lo t body)
-  while_fits true line at lo t body e slots j f g b room =
-      let inner : List Lined = stmts_code p tables r (at + 1) lo body in
-      let next : ℕ = at + 1 + length inner in
-      let lo2 : ℕ = behind_stmts p r lo body in
-      let last : List Lined = back_code p tables r line next lo2 (at + 1) t in
+  while_fits true line at lo t body slots j f g b room =
+      let constant : List Instr = constant_code (held_constant t) lo in
+      let at1 : ℕ = at + length (own line constant) in
+      let lo1 : ℕ = behind_held p r lo t in
+      let inner : List Lined = stmts_code p tables r (at1 + 1) lo1 body in
+      let next : ℕ = at1 + 1 + length inner in
+      let lo2 : ℕ = behind_stmts p r lo1 body in
+      let last : List Lined = back_code p tables r line next lo2 lo (at1 + 1) t in
+      let loop : List Lined = own line (I.Jump next ∷ []) ++ (inner ++ last) in
+      let here = held_slot (held_constant t) lo (stmts_slots p r body ++ test_slots p r t) slots in
+      let mine = back lo (held_slots (held_constant t)) (stmts_slots p r body ++ test_slots p r t) slots in
       let long = length-append inner last in
-      let there : IsInside code r next = record { low = omega (arith, room.low); high = omega (arith, room.high, long) } in
-      let top : IsInside code r (at + 1) = record { low = omega (arith, room.low); high = omega (arith, room.high, long) } in
-      let all = row (at + 1) inner last (b (at + 1) lo (front lo (stmts_slots p r body) (test_slots p r t) slots))
-      (g next lo2 (at + 1) e top (back lo (stmts_slots p r body) (test_slots p r t) slots)) in
-      (there, all (record { low = omega (arith, room.low); high = omega (arith, room.high) }))
-  while_fits false line at lo t body e slots j f g b room =
+      let whole = length-append (own line constant) loop in
+      let there : IsInside code r next = record { low = omega (arith, room.low); high = omega (arith, room.high, long, whole) } in
+      let top : IsInside code r (at1 + 1) = record { low = omega (arith, room.low); high = omega (arith, room.high, long, whole) } in
+      let all = row (at1 + 1) inner last (b (at1 + 1) lo1 (front lo1 (stmts_slots p r body) (test_slots p r t) mine))
+      (g next lo2 lo (at1 + 1) top here (back lo1 (stmts_slots p r body) (test_slots p r t) mine)) in
+      row at (own line constant) loop (own_fits at line constant (constant_needs (held_constant t) lo here))
+      (λ inside. (there, all (record { low = omega (arith, inside.low); high = omega (arith, inside.high) }))) room
+  while_fits false line at lo t body slots j f g b room =
       let parts = condition_slots lo (is_simple t) (test_slots p r t) (stmts_slots p r body) slots in
       let lo2 : ℕ = behind_condition p r lo t in
       let inner : List Lined = guarded_code line (at + 1) lo 1 t (λ next. stmts_code p tables r next lo2 body) in
@@ -392,7 +401,7 @@ module _ (p : Program) (tables : Tables) (code : PlainCode) (checked : IsChecked
   abbrev turn_of : (line at counter lo : ℕ) → Desig → Range → ((at : ℕ) → List Lined) → List Lined
   turn_of line at counter lo d range body =
       turn_code line at (count_code p tables r (bare_desig d) range counter lo)
-      (λ at. unless_bare (bare_desig d) (desig_code p tables r line at (lo + 1) d))
+      (λ at. unless_bare (bare_desig d) (held_code p tables r line at (lo + 1) d))
       (set_code p tables r (lo + 1) (count_at p tables r (bare_desig d) counter lo) d) body
 
   turn : (line at counter lo : ℕ) (d : Desig) (range : Range) (body : (at : ℕ) → List Lined) → HoldsChecked tables range → desig_cells d ≡ 1
@@ -402,7 +411,7 @@ module _ (p : Program) (tables : Tables) (code : PlainCode) (checked : IsChecked
   turn line at counter lo d range body held cell good n slots f b =
       let c = count_needs (bare_desig d) range counter lo held n (λ none. first_slot lo slot.Number (desig_slots p r d) (own_slots none)) in
       pieces.turn_fits code r line at (count_code p tables r (bare_desig d) range counter lo)
-      (λ at. unless_bare (bare_desig d) (desig_code p tables r line at (lo + 1) d))
+      (λ at. unless_bare (bare_desig d) (held_code p tables r line at (lo + 1) d))
       (set_code p tables r (lo + 1) (count_at p tables r (bare_desig d) counter lo) d) body
       c.0 (λ at. located line at (lo + 1) d place_slots (f at (lo + 1)))
       (values.set_needs p tables code checked w r lt (lo + 1) (count_at p tables r (bare_desig d) counter lo) d good cell place_slots c.1) b
@@ -477,27 +486,28 @@ module _ (p : Program) (tables : Tables) (code : PlainCode) (checked : IsChecked
     expr_fits line at lo (Const n) good slots = own_fits at line (I.Const lo n ∷ []) (first_slot lo slot.Number [] slots, tt)
     expr_fits line at lo (Load d) good slots =
         let inner = back lo (slot.Number ∷ []) (unless_bare (bare_desig d) (desig_slots p r d)) slots in
-        let place : List Lined = desig_code p tables r line at (lo + 1) d in
-        let one : List Lined = unless_bare (own_place d) place in
+        let one : List Lined = held_code p tables r line at (lo + 1) d in
         then_own at line (unless_bare (bare_desig d) one) (load_code p tables r lo d ∷ [])
         (pieces.unless code r 0 at (bare_desig d) one
-        (λ none. pieces.unless code r 0 at (own_place d) place
-        (λ other. desig_fits line at (lo + 1) d good.1 (target_slots (lo + 1) d inner none))))
+        (λ none. held_here line at (lo + 1) d (desig_fits line at (lo + 1) d good.1 (target_slots (lo + 1) d inner none))))
         (values.load_needs p tables code checked w r lt lo d good.1 good.0 slots, tt)
     expr_fits line at lo (Chain negated e links) good slots =
         let mine = front lo (expr_slots p r e) (links_slots p r links) slots in
         let n = values.expr_number p tables code checked w r lt lo e mine in
         let o : Option ℕ = stays_in negated e links in
-        let inner : List Lined = unless_bare o (expr_code p tables r line at lo e) in
-        let one : List Lined = inner ++ own line (neg_code negated lo) in
+        let taken : Option ℕ = taken_from negated e links in
+        let from : ℕ = value_at p tables r lo e in
+        let inner : List Lined = unless_bare taken (expr_code p tables r line at lo e) in
+        let one : List Lined = inner ++ own line (neg_code negated lo from) in
         let first : ℕ = slot_or p tables r o lo in
         let good_e = fine_front (expr_phrases e) (links_phrases links) good.1 in
-        let there = as_stays_in (values.BareIs p tables code checked w r lt) negated e links tt
-        (values.bare_value p tables code checked w r lt e good_e) in
+        let bare_is = values.bare_value p tables code checked w r lt e good_e in
+        let there = as_stays_in (values.BareIs p tables code checked w r lt) negated e links tt bare_is in
         row at one (links_code p tables r line (at + length one) first lo (behind_expr p r lo e) links)
-        (then_own at line inner (neg_code negated lo)
-        (pieces.unless code r 0 at o (expr_code p tables r line at lo e) (λ none. expr_fits line at lo e good_e mine))
-        (values.neg_needs p tables code checked w r lt negated lo n))
+        (then_own at line inner (neg_code negated lo from)
+        (pieces.unless code r 0 at taken (expr_code p tables r line at lo e) (λ none. expr_fits line at lo e good_e mine))
+        (values.neg_needs p tables code checked w r lt negated lo from n
+        (values.first_number p tables code checked w r lt (bare e) lo bare_is n)))
         (links_fit line (at + length one) first lo (behind_expr p r lo e) links (fine_back (expr_phrases e) (links_phrases links) good.1)
         (values.first_number p tables code checked w r lt o lo there n) n (back lo (expr_slots p r e) (links_slots p r links) slots))
     expr_fits line at lo (Compare how x y) good slots =
@@ -530,12 +540,11 @@ module _ (p : Program) (tables : Tables) (code : PlainCode) (checked : IsChecked
         (first_slot lo slot.Number (mark_slots (is_simple t) ++ test_slots p r t) slots))
     expr_fits line at lo (Known d) good slots =
         let inner = back lo (slot.Number ∷ []) (desig_slots p r d) slots in
-        let place : List Lined = desig_code p tables r line at (lo + 1) d in
-        then_own at line (unless_bare (own_place d) place) (I.Known lo (held_at p tables r (lo + 1) d) ∷ [])
-        (pieces.unless code r 0 at (own_place d) place (λ other. desig_fits line at (lo + 1) d good.1 inner)) (
+        then_own at line (held_code p tables r line at (lo + 1) d) (I.Known lo (held_at p tables r (lo + 1) d) ∷ [])
+        (held_here line at (lo + 1) d (desig_fits line at (lo + 1) d good.1 inner)) (
           (
             first_slot lo slot.Number (desig_slots p r d) slots,
-            values.held_place p tables code checked w r lt (lo + 1) d good.1 good.0 inner,
+            values.one_place p tables code checked w r lt (lo + 1) d good.1 good.0 inner,
           ),
           tt,
         )
@@ -603,48 +612,15 @@ module _ (p : Program) (tables : Tables) (code : PlainCode) (checked : IsChecked
         pieces.put_fits code r (is_straight e range) line at to v (fit_code tables range v)
         (unless_bare (bare e) (expr_code p tables r line at lo e)) k n
         (values.fit_needs p tables code checked w r lt range v good.0 n) (once line at lo e slots (expr_fits line at lo e good.1))
-    arg_fits line at to lo (ByCells d) good k slots =
-        then_own at line (desig_code p tables r line at lo d) (I.Same to (place_at p tables r lo d) ∷ [])
-        (desig_fits line at lo d good.1 slots) (
-          record {
-            cells = slots_of.desig_cells d;
-            first = k;
-            second =
-                subst (Place code r (place_at p tables r lo d)) (sym (same_cells d))
-                (values.desig_place p tables code checked w r lt lo d slots);
-          },
-          tt,
-        )
-    arg_fits line at to lo (ByPlace d) good k slots =
-        then_own at line (desig_code p tables r line at lo d) (I.Same to (place_at p tables r lo d) ∷ [])
-        (desig_fits line at lo d good.1 slots) (
-          record {
-            cells = slots_of.desig_cells d;
-            first = k;
-            second =
-                subst (Place code r (place_at p tables r lo d)) (sym (same_cells d))
-                (values.desig_place p tables code checked w r lt lo d slots);
-          },
-          tt,
-        )
+    arg_fits line at to lo (ByCells d) good k slots = handed_fits line at to lo d k slots (desig_fits line at lo d good.1 slots)
+    arg_fits line at to lo (ByPlace d) good k slots = handed_fits line at to lo d k slots (desig_fits line at lo d good.1 slots)
     arg_fits line at to lo (MixValue e range) good k slots =
         let v : ℕ = value_at p tables r lo e in
         let n = number lo e good.1 slots in
         pieces.put_fits code r (is_straight e range) line at to v (fit_code tables range v)
         (unless_bare (bare e) (expr_code p tables r line at lo e)) k n
         (values.fit_needs p tables code checked w r lt range v good.0 n) (once line at lo e slots (expr_fits line at lo e good.1))
-    arg_fits line at to lo (MixPlace d) good k slots =
-        then_own at line (desig_code p tables r line at lo d) (I.Same to (place_at p tables r lo d) ∷ [])
-        (desig_fits line at lo d good.1 slots) (
-          record {
-            cells = slots_of.desig_cells d;
-            first = k;
-            second =
-                subst (Place code r (place_at p tables r lo d)) (sym (same_cells d))
-                (values.desig_place p tables code checked w r lt lo d slots);
-          },
-          tt,
-        )
+    arg_fits line at to lo (MixPlace d) good k slots = handed_fits line at to lo d k slots (desig_fits line at lo d good.1 slots)
 
     -- ---- tests
 
@@ -663,18 +639,45 @@ module _ (p : Program) (tables : Tables) (code : PlainCode) (checked : IsChecked
     jump_fits line at lo none (Not t) good out slots = λ room. tt
     jump_fits line at lo none (CallTest called args up) good out slots = λ room. tt
 
-    back_fits : (line at lo top : ℕ) (t : Test) → Fine (test_phrases t) → is_turned t ≡ true → IsInside code r top
-        → SlotsOf lo (test_slots p r t) → Here at (back_code p tables r line at lo top t)
-    back_fits line at lo top (Value e) good behind out slots =
-        turned_fits line at lo top e out (turned (Value e) behind) (once line at lo e slots (expr_fits line at lo e good.1))
-    back_fits line at lo top (Bind d e range left) good behind out slots = λ room. tt
-    back_fits line at lo top (Unify d range e range') good behind out slots = λ room. tt
-    back_fits line at lo top (SameCells d e) good behind out slots = λ room. tt
-    back_fits line at lo top (Seq x) good behind out slots = λ room. tt
-    back_fits line at lo top (And ts) good behind out slots = λ room. tt
-    back_fits line at lo top (Or ts) good behind out slots = λ room. tt
-    back_fits line at lo top (Not t) good behind out slots = λ room. tt
-    back_fits line at lo top (CallTest called args up) good behind out slots = λ room. tt
+    -- a comparison that goes back
+    back_fits : (line at lo held top : ℕ) (t : Test) → Fine (test_phrases t) → IsInside code r top → HeldNumber (held_constant t) held
+        → SlotsOf lo (test_slots p r t) → Here at (back_code p tables r line at lo held top t)
+    back_fits line at lo held top (Value (Compare how x y)) good out here slots =
+        let lo2 : ℕ = behind_expr p r lo x in
+        let one : List Lined = unless_bare (stays x y) (expr_code p tables r line at lo x) in
+        let two : List Lined = unless_bare (bare y) (expr_code p tables r line (at + length one) lo2 y) in
+        let first : ℕ = slot_or p tables r (stays x y) lo in
+        let other : ℕ = held_or (constant y) held (value_at p tables r lo2 y) in
+        let mine = front lo (expr_slots p r x) (unless_bare (bare y) (expr_slots p r y)) slots in
+        let others = back lo (expr_slots p r x) (unless_bare (bare y) (expr_slots p r y)) slots in
+        let good_x = fine_front (expr_phrases x) (expr_phrases y) good.1.1 in
+        let good_y = fine_back (expr_phrases x) (expr_phrases y) good.1.1 in
+        let n = values.expr_number p tables code checked w r lt lo x mine in
+        let there = as_stays (values.BareIs p tables code checked w r lt) x y tt
+        (values.bare_value p tables code checked w r lt x good_x) in
+        then_own at line (one ++ unless_constant (constant y) two) (opposite_code how lo first other ∷ I.JumpZero lo top ∷ [])
+        (row at one (unless_constant (constant y) two) (pieces.unless code r 0 at (stays x y) (expr_code p tables r line at lo x)
+        (λ none. expr_fits line at lo x good_x mine))
+        (pieces.constant_fits code r (constant y) (at + length one) two
+        (once line (at + length one) lo2 y others (expr_fits line (at + length one) lo2 y good_y))))
+        (back_needs how lo first other top out (values.cmp_needs p tables code checked w r lt how lo first other n
+        (values.first_number p tables code checked w r lt (stays x y) lo there n)
+        (held_number (constant y) held (value_at p tables r lo2 y) here (number lo2 y good_y others))))
+    back_fits line at lo held top (Value (Const n)) good out here slots = λ room. tt
+    back_fits line at lo held top (Value (Load d)) good out here slots = λ room. tt
+    back_fits line at lo held top (Value (Chain negated e links)) good out here slots = λ room. tt
+    back_fits line at lo held top (Value (Truth t)) good out here slots = λ room. tt
+    back_fits line at lo held top (Value (Known d)) good out here slots = λ room. tt
+    back_fits line at lo held top (Value (Chr e)) good out here slots = λ room. tt
+    back_fits line at lo held top (Value (CallExpr called args up)) good out here slots = λ room. tt
+    back_fits line at lo held top (Bind d e range left) good out here slots = λ room. tt
+    back_fits line at lo held top (Unify d range e range') good out here slots = λ room. tt
+    back_fits line at lo held top (SameCells d e) good out here slots = λ room. tt
+    back_fits line at lo held top (Seq x) good out here slots = λ room. tt
+    back_fits line at lo held top (And ts) good out here slots = λ room. tt
+    back_fits line at lo held top (Or ts) good out here slots = λ room. tt
+    back_fits line at lo held top (Not t) good out here slots = λ room. tt
+    back_fits line at lo held top (CallTest called args up) good out here slots = λ room. tt
 
     test_fits : (line at lo : ℕ) (t : Test) → Fine (test_phrases t) → SlotsOf lo (test_slots p r t)
         → Here at (test_code p tables r line at lo t)
@@ -682,16 +685,17 @@ module _ (p : Program) (tables : Tables) (code : PlainCode) (checked : IsChecked
         value_fits line at lo e good.1 slots (once line at lo e slots (expr_fits line at lo e good.1)) (tested p tables r e)
     test_fits line at lo (Bind d e range true) good slots =
         let lo2 : ℕ = behind_desig p r lo d in
-        let one : List Lined = desig_code p tables r line at lo d in
+        let one : List Lined = held_code p tables r line at lo d in
         let two : List Lined = unless_bare (bare e) (expr_code p tables r line (at + length one) lo2 e) in
         let mine = front lo (desig_slots p r d) (unless_bare (bare e) (expr_slots p r e)) slots in
         let others = back lo (desig_slots p r d) (unless_bare (bare e) (expr_slots p r e)) slots in
+        let good_d = fine_front (desig_phrases d) (expr_phrases e) good.1 in
         let good_e = fine_back (desig_phrases d) (expr_phrases e) good.1 in
-        then_own at line (one ++ two) (I.Bind (place_at p tables r lo d) (value_at p tables r lo2 e) (range_number tables range) ∷ [])
-        (row at one two (desig_fits line at lo d (fine_front (desig_phrases d) (expr_phrases e) good.1) mine)
+        then_own at line (one ++ two) (I.Bind (held_at p tables r lo d) (value_at p tables r lo2 e) (range_number tables range) ∷ [])
+        (row at one two (held_here line at lo d (desig_fits line at lo d good_d mine))
         (once line (at + length one) lo2 e others (expr_fits line (at + length one) lo2 e good_e))) (
           (
-            values.one_place p tables code checked w r lt lo d good.0.0 mine,
+            values.one_place p tables code checked w r lt lo d good_d good.0.0 mine,
             number lo2 e good_e others,
             values.is_range p tables code checked w r lt range good.0.1,
           ),
@@ -700,14 +704,15 @@ module _ (p : Program) (tables : Tables) (code : PlainCode) (checked : IsChecked
     test_fits line at lo (Bind d e range false) good slots =
         let lo2 : ℕ = behind_expr p r lo e in
         let one : List Lined = expr_code p tables r line at lo e in
-        let two : List Lined = desig_code p tables r line (at + length one) lo2 d in
+        let two : List Lined = held_code p tables r line (at + length one) lo2 d in
         let mine = front lo (expr_slots p r e) (desig_slots p r d) slots in
         let others = back lo (expr_slots p r e) (desig_slots p r d) slots in
-        then_own at line (one ++ two) (I.Bind (place_at p tables r lo2 d) lo (range_number tables range) ∷ [])
+        let good_d = fine_front (desig_phrases d) (expr_phrases e) good.1 in
+        then_own at line (one ++ two) (I.Bind (held_at p tables r lo2 d) lo (range_number tables range) ∷ [])
         (row at one two (expr_fits line at lo e (fine_back (desig_phrases d) (expr_phrases e) good.1) mine)
-        (desig_fits line (at + length one) lo2 d (fine_front (desig_phrases d) (expr_phrases e) good.1) others)) (
+        (held_here line (at + length one) lo2 d (desig_fits line (at + length one) lo2 d good_d others))) (
           (
-            values.one_place p tables code checked w r lt lo2 d good.0.0 others,
+            values.one_place p tables code checked w r lt lo2 d good_d good.0.0 others,
             values.expr_number p tables code checked w r lt lo e mine,
             values.is_range p tables code checked w r lt range good.0.1,
           ),
@@ -715,37 +720,41 @@ module _ (p : Program) (tables : Tables) (code : PlainCode) (checked : IsChecked
         )
     test_fits line at lo (Unify d range e range') good slots =
         let lo2 : ℕ = behind_desig p r lo d in
-        let one : List Lined = desig_code p tables r line at lo d in
-        let two : List Lined = desig_code p tables r line (at + length one) lo2 e in
+        let one : List Lined = held_code p tables r line at lo d in
+        let two : List Lined = held_code p tables r line (at + length one) lo2 e in
         let mine = front lo (desig_slots p r d) (desig_slots p r e) slots in
         let others = back lo (desig_slots p r d) (desig_slots p r e) slots in
-        then_own at line (one ++ two) (I.Unify (place_at p tables r lo d) (range_number tables range) (place_at p tables r lo2 e)
+        let good_d = fine_front (desig_phrases d) (desig_phrases e) good.1 in
+        let good_e = fine_back (desig_phrases d) (desig_phrases e) good.1 in
+        then_own at line (one ++ two) (I.Unify (held_at p tables r lo d) (range_number tables range) (held_at p tables r lo2 e)
         (range_number tables range') ∷ [])
-        (row at one two (desig_fits line at lo d (fine_front (desig_phrases d) (desig_phrases e) good.1) mine)
-        (desig_fits line (at + length one) lo2 e (fine_back (desig_phrases d) (desig_phrases e) good.1) others)) (
+        (row at one two (held_here line at lo d (desig_fits line at lo d good_d mine))
+        (held_here line (at + length one) lo2 e (desig_fits line (at + length one) lo2 e good_e others))) (
           (
-            values.one_place p tables code checked w r lt lo d good.0.0 mine,
+            values.one_place p tables code checked w r lt lo d good_d good.0.0 mine,
             values.is_range p tables code checked w r lt range good.0.2,
-            values.one_place p tables code checked w r lt lo2 e good.0.1 others,
+            values.one_place p tables code checked w r lt lo2 e good_e good.0.1 others,
             values.is_range p tables code checked w r lt range' good.0.3,
           ),
           tt,
         )
     test_fits line at lo (SameCells d e) good slots =
         let lo2 : ℕ = behind_desig p r lo d in
-        let one : List Lined = desig_code p tables r line at lo d in
-        let two : List Lined = desig_code p tables r line (at + length one) lo2 e in
+        let one : List Lined = held_code p tables r line at lo d in
+        let two : List Lined = held_code p tables r line (at + length one) lo2 e in
         let mine = front lo (desig_slots p r d) (desig_slots p r e) slots in
         let others = back lo (desig_slots p r d) (desig_slots p r e) slots in
-        then_own at line (one ++ two) (I.SameCells (place_at p tables r lo d) (place_at p tables r lo2 e) ∷ [])
-        (row at one two (desig_fits line at lo d (fine_front (desig_phrases d) (desig_phrases e) good.1) mine)
-        (desig_fits line (at + length one) lo2 e (fine_back (desig_phrases d) (desig_phrases e) good.1) others)) (
+        let good_d = fine_front (desig_phrases d) (desig_phrases e) good.1 in
+        let good_e = fine_back (desig_phrases d) (desig_phrases e) good.1 in
+        then_own at line (one ++ two) (I.SameCells (held_at p tables r lo d) (held_at p tables r lo2 e) ∷ [])
+        (row at one two (held_here line at lo d (desig_fits line at lo d good_d mine))
+        (held_here line (at + length one) lo2 e (desig_fits line (at + length one) lo2 e good_e others))) (
           record {
             cells = desig_cells d;
-            first = values.desig_place p tables code checked w r lt lo d mine;
+            first = values.held_place p tables code checked w r lt lo d good_d mine;
             second =
-                subst (Place code r (place_at p tables r lo2 e)) (sym good.0)
-                (values.desig_place p tables code checked w r lt lo2 e others);
+                subst (Place code r (held_at p tables r lo2 e)) (sym good.0)
+                (values.held_place p tables code checked w r lt lo2 e good_e others);
           },
           tt,
         )
@@ -840,7 +849,7 @@ module _ (p : Program) (tables : Tables) (code : PlainCode) (checked : IsChecked
         let b = unless_bare (bare e) (expr_slots p r e) in
         let lo2 : ℕ = behind_target p r lo d in
         let v : ℕ = value_at p tables r lo2 e in
-        let one : List Lined = unless_bare (bare_desig d) (desig_code p tables r line at lo d) in
+        let one : List Lined = unless_bare (bare_desig d) (held_code p tables r line at lo d) in
         let two : List Lined = unless_bare (bare e) (expr_code p tables r line (at + length one) lo2 e) in
         let place_slots = target_slots lo d (front lo a b slots) in
         let others = back lo a b slots in
@@ -856,19 +865,21 @@ module _ (p : Program) (tables : Tables) (code : PlainCode) (checked : IsChecked
         (values.set_needs p tables code checked w r lt lo v d good_d good.0.0 place_slots n, tt))
     stmt_fits line at lo (CopyCells d e) good slots =
         let lo2 : ℕ = behind_desig p r lo d in
-        let one : List Lined = desig_code p tables r line at lo d in
-        let two : List Lined = desig_code p tables r line (at + length one) lo2 e in
+        let one : List Lined = held_code p tables r line at lo d in
+        let two : List Lined = held_code p tables r line (at + length one) lo2 e in
         let mine = front lo (desig_slots p r d) (desig_slots p r e) slots in
         let others = back lo (desig_slots p r d) (desig_slots p r e) slots in
-        then_own at line (one ++ two) (I.CopyCells (place_at p tables r lo d) (place_at p tables r lo2 e) ∷ [])
-        (row at one two (desig_fits line at lo d (fine_front (desig_phrases d) (desig_phrases e) good.1) mine)
-        (desig_fits line (at + length one) lo2 e (fine_back (desig_phrases d) (desig_phrases e) good.1) others)) (
+        let good_d = fine_front (desig_phrases d) (desig_phrases e) good.1 in
+        let good_e = fine_back (desig_phrases d) (desig_phrases e) good.1 in
+        then_own at line (one ++ two) (I.CopyCells (held_at p tables r lo d) (held_at p tables r lo2 e) ∷ [])
+        (row at one two (held_here line at lo d (desig_fits line at lo d good_d mine))
+        (held_here line (at + length one) lo2 e (desig_fits line (at + length one) lo2 e good_e others))) (
           record {
             cells = desig_cells d;
-            first = values.desig_place p tables code checked w r lt lo d mine;
+            first = values.held_place p tables code checked w r lt lo d good_d mine;
             second =
-                subst (Place code r (place_at p tables r lo2 e)) (sym good.0)
-                (values.desig_place p tables code checked w r lt lo2 e others);
+                subst (Place code r (held_at p tables r lo2 e)) (sym good.0)
+                (values.held_place p tables code checked w r lt lo2 e good_e others);
           },
           tt,
         )
@@ -878,8 +889,8 @@ module _ (p : Program) (tables : Tables) (code : PlainCode) (checked : IsChecked
         (λ next la s. stmts_fit next la rest (fine_back (arms_phrases arms) (stmts_phrases rest) good.1) s)
     stmt_fits line at lo (While t body) good slots =
         let good_t = fine_front (test_phrases t) (stmts_phrases body) good.1 in
-        while_fits (is_turned t) line at lo t body refl slots (λ none out s. jump_fits line (at + 1) lo none t good_t out s)
-        (λ at lo s. test_fits line at lo t good_t s) (λ at lo top e out s. back_fits line at lo top t good_t e out s)
+        while_fits (is_turned t) line at lo t body slots (λ none out s. jump_fits line (at + 1) lo none t good_t out s)
+        (λ at lo s. test_fits line at lo t good_t s) (λ at lo held top out here s. back_fits line at lo held top t good_t out here s)
         (λ next lo s. stmts_fit next lo body (fine_back (test_phrases t) (stmts_phrases body) good.1) s)
     stmt_fits line at lo (Repeat body t) good slots =
         let lo2 : ℕ = behind_stmts p r lo body in
@@ -953,10 +964,10 @@ module _ (p : Program) (tables : Tables) (code : PlainCode) (checked : IsChecked
         (fit_result p tables r (routine_at p r).result v ++ (I.ReturnValue v ∷ []))
         (once line at lo e slots (expr_fits line at lo e good.1)) (result_needs v good.0 (number lo e good.1 slots))
     stmt_fits line at lo (Read d how range) good slots =
-        then_own at line (desig_code p tables r line at lo d) (read_code how (place_at p tables r lo d) (range_number tables range) ∷ [])
-        (desig_fits line at lo d good.1 slots) (
-          read_needs how (place_at p tables r lo d) (range_number tables range)
-              (values.one_place p tables code checked w r lt lo d good.0.0 slots)
+        then_own at line (held_code p tables r line at lo d) (read_code how (held_at p tables r lo d) (range_number tables range) ∷ [])
+        (held_here line at lo d (desig_fits line at lo d good.1 slots)) (
+          read_needs how (held_at p tables r lo d) (range_number tables range)
+              (values.one_place p tables code checked w r lt lo d good.1 good.0.0 slots)
               (values.is_range p tables code checked w r lt range good.0.1),
           tt,
         )
@@ -1160,12 +1171,12 @@ module _ (p : Program) (tables : Tables) (code : PlainCode) (checked : IsChecked
         case_fits line value bound at lo rest otherwise others (fine_back (stmts_phrases body) (cases_phrases rest) good) c slots f
     case_fits line value bound at lo (more_cases (label ∷ labels) body rest) otherwise others good c slots f =
         let parts = case_parts lo (stmts_slots p r body) (cases_slots p r rest) others slots in
-        let inner : List Lined = stmts_code p tables r (behind_labels at labels) lo body in
+        let inner : List Lined = stmts_code p tables r (behind_labels at label labels) lo body in
         let one : List Lined = case_arm line value bound at label labels inner in
         let lo2 : ℕ = behind_stmts p r lo body in
         pieces.leaving_fits code r at line one (λ next jump. cases_code p tables r line value bound jump next lo2 rest otherwise)
         (pieces.arm_fits code r line value bound at label labels inner c.number_at c.low c.test
-        (stmts_fit (behind_labels at labels) lo body (fine_front (stmts_phrases body) (cases_phrases rest) good) parts.0))
+        (stmts_fit (behind_labels at label labels) lo body (fine_front (stmts_phrases body) (cases_phrases rest) good) parts.0))
         (λ out. cases_fit line value bound (at + length one) (at + length one + 1) lo2 rest otherwise others
         (fine_back (stmts_phrases body) (cases_phrases rest) good) c parts.1 out f)
 
@@ -1178,13 +1189,13 @@ module _ (p : Program) (tables : Tables) (code : PlainCode) (checked : IsChecked
         cases_fit line value bound jump at lo rest otherwise others (fine_back (stmts_phrases body) (cases_phrases rest) good) c slots out f
     cases_fit line value bound jump at lo (more_cases (label ∷ labels) body rest) otherwise others good c slots out f =
         let parts = case_parts lo (stmts_slots p r body) (cases_slots p r rest) others slots in
-        let inner : List Lined = stmts_code p tables r (behind_labels at labels) lo body in
+        let inner : List Lined = stmts_code p tables r (behind_labels at label labels) lo body in
         let one : List Lined = case_arm line value bound at label labels inner in
         let lo2 : ℕ = behind_stmts p r lo body in
         let next : ℕ = at + length (one ++ own line (I.Jump jump ∷ [])) in
         pieces.by_jump code r at line jump one (λ next. cases_code p tables r line value bound jump next lo2 rest otherwise) out
         (pieces.arm_fits code r line value bound at label labels inner c.number_at c.low c.test
-        (stmts_fit (behind_labels at labels) lo body (fine_front (stmts_phrases body) (cases_phrases rest) good) parts.0))
+        (stmts_fit (behind_labels at label labels) lo body (fine_front (stmts_phrases body) (cases_phrases rest) good) parts.0))
         (cases_fit line value bound jump next lo2 rest otherwise others (fine_back (stmts_phrases body) (cases_phrases rest) good) c parts.1
         out f)
 

@@ -1,7 +1,9 @@
 -- Code at an address of a routine, each instruction with what it needs: the pieces that phrases share.
-use Rattle.std.proofs.Common.{◌≡◌, ℕ, ◌+◌, ◌*◌, ◌<◌, ◌≤◌, Bool, true, false, List, [], ◌∷◌, ◌++◌, length, Option, Some, None, ℤ, pos}
+use Rattle.std.proofs.Common.{◌≡◌, ℕ, ◌+◌, ◌<◌, ◌≤◌, Bool, true, false, List, [], ◌∷◌, ◌++◌, length, Option, Some, None, ℤ, pos}
 use Rattle.std.proofs.Common.{negsuc, refl, arith, subst}
 use Rattle.std.specs.List.{AllByRecursion}
+use Rattle.std.specs.Prelude.{if◌then◌else◌}
+use Rattle.alma_base.specs.Numbers.{int_eq}
 use Rattle.std.proofs.lemmas.List.{length-append, length-map}
 use Rattle.alma_base.specs.declared.number.Range.{Range}
 use Rattle.alma_code.specs.declared.instr.Instr.{Instr}
@@ -10,12 +12,15 @@ use Rattle.alma_code.specs.Plain.{PlainCode, start_at, end_at}
 use Rattle.alma_ir.proofs.Each.{each_of_append}
 use Rattle.alma_lower_templates.specs.Lined.{Lined, own, in_row, leaving}
 use Rattle.alma_lower_templates.specs.Pieces.{condition, guarded, chosen, first_of_two, refused, truth_code, each_body, forall_code}
-use Rattle.alma_lower_templates.specs.Pieces.{label_code, labels_code, behind_labels, case_arm, passed_over, entry_code, begin_loop}
-use Rattle.alma_lower_templates.specs.Pieces.{turn_code, for_turns, some_turns, aim, straight, count_from, unless_constant, limit_code}
-use Rattle.alma_lower_templates.specs.Pieces.{put_code}
+use Rattle.alma_lower_templates.specs.Pieces.{label_code, label_test, labels_code, test_size, behind_labels, case_arm, passed_over}
+use Rattle.alma_lower_templates.specs.Pieces.{entry_code}
+use Rattle.alma_lower_templates.specs.Pieces.{begin_loop, turn_code, for_turns, some_turns, aim, with_last, straight, count_from}
+use Rattle.alma_lower_templates.specs.Pieces.{unless_constant}
+use Rattle.alma_lower_templates.specs.Pieces.{limit_code, put_code}
 use Rattle.alma_lower_templates.specs.Slots.{unless_bare}
 use Rattle.alma_lower_sound.proofs.Needs.{IsInside, Needs, Number, Mark}
 use Rattle.alma_lower_templates.proofs.Straight.{straight_long}
+use Rattle.alma_lower_templates.proofs.CaseForms.{one_test, both_tests, labels_long}
 
 module _ (code : PlainCode) (r : ℕ) where
   abbrev pub NeedsOf : Lined → Type 0
@@ -80,13 +85,16 @@ module _ (code : PlainCode) (r : ℕ) where
   aim_needs to (I.Mod old first operand) there h = (there, h.1, h.2)
   aim_needs to i there h = h
 
-  straight_need : (to : ℕ) (c : List Lined) → Number code r to → AllNeed c → AllNeed (straight to c)
-  straight_need to [] there h = tt
-  straight_need to (x ∷ []) there h = (aim_needs to x.instr there h.0, tt)
-  straight_need to (x ∷ (y ∷ rest)) there h = (h.0, straight_need to (y ∷ rest) there h.1)
+  -- code with its last instruction changed
+  last_need : (change : Instr → Instr) → ((i : Instr) → Needs code r i → Needs code r (change i)) → (c : List Lined) → AllNeed c
+      → AllNeed (with_last change c)
+  last_need change keeps [] h = tt
+  last_need change keeps (x ∷ []) h = (keeps x.instr h.0, tt)
+  last_need change keeps (x ∷ (y ∷ rest)) h = (h.0, last_need change keeps (y ∷ rest) h.1)
 
   pub straight_fits : (to at : ℕ) (c : List Lined) → Number code r to → Fits 0 at c → Fits 0 at (straight to c)
-  straight_fits to at c there h room = straight_need to c there (h (subst (λ n. Room at (n + 0)) (straight_long to c) room))
+  straight_fits to at c there h room =
+      last_need (aim to) (λ i. aim_needs to i there) c (h (subst (λ n. Room at (n + 0)) (straight_long to c) room))
 
   pub unless : (spare at : ℕ) (o : Option ℕ) (c : List Lined) → (o ≡ None → Fits spare at c) → Fits spare at (unless_bare o c)
   unless spare at (Some n) c f room = tt
@@ -222,43 +230,46 @@ module _ (code : PlainCode) (r : ℕ) where
     f (record { low = omega (arith, room.low); high = omega (arith, room.high) }),
   )
 
-  pub labels_long : (value bound at hit miss : ℕ) (label : Range) (rest : List Range)
-      → length (labels_code value bound at hit miss label rest) ≡ 7 * length rest + 6
-  labels_long value bound at hit miss label [] = refl
-  labels_long value bound at hit miss label (label2 ∷ rest) =
-      omega (
-        arith,
-        length-append (label_code value bound at hit label) (labels_code value bound (at + 7) hit miss label2 rest),
-        labels_long value bound (at + 7) hit miss label2 rest,
-      )
+  test_need : (value bound miss : ℕ) (label : Range) → Number code r value → Number code r bound → Number code r (bound + 1)
+      → IsInside code r miss → AllByRecursion (Needs code r) (label_test value bound miss label)
+  test_need value bound miss label v b c m = by (int_eq label.low label.high)
+    where
+      by : (z : Bool) → AllByRecursion (Needs code r) (if z then one_test value bound miss label else both_tests value bound miss label)
+      by true = (b, ((c, b, v), ((c, m), tt)))
+      by false = (b, ((c, b, v), ((c, m), (b, ((c, v, b), ((c, m), tt))))))
+
+  labels_low : (at : ℕ) (label : Range) (rest : List Range) → at ≤ behind_labels at label rest
+  labels_low at label [] = omega arith
+  labels_low at label (label2 ∷ rest) = let z = labels_low (at + test_size label + 1) label2 rest in omega (arith, z)
 
   labels_need : (value bound at hit miss : ℕ) (label : Range) (rest : List Range) → Number code r value → Number code r bound
-      → Number code r (bound + 1) → IsInside code r hit → IsInside code r miss
-      → start_at code r ≤ at → at + 7 * length rest < end_at code r
+      → Number code r (bound + 1) → hit ≡ behind_labels at label rest → IsInside code r hit → IsInside code r miss → start_at code r ≤ at
       → AllByRecursion (Needs code r) (labels_code value bound at hit miss label rest)
-  labels_need value bound at hit miss label [] v b c h m low high = (b, ((c, b, v), ((c, m), (b, ((c, v, b), ((c, m), tt))))))
-  labels_need value bound at hit miss label (label2 ∷ rest) v b c h m low high =
-      let next : IsInside code r (at + 7) = record { low = omega (arith, low); high = omega (arith, high) } in
-      each_of_append (Needs code r) (label_code value bound at hit label) (labels_code value bound (at + 7) hit miss label2 rest)
-      (b, ((c, b, v), ((c, next), (b, ((c, v, b), ((c, next), (h, tt)))))))
-      (labels_need value bound (at + 7) hit miss label2 rest v b c h m (omega (arith, low)) (omega (arith, high)))
+  labels_need value bound at hit miss label [] v b c is h m low = test_need value bound miss label v b c m
+  labels_need value bound at hit miss label (label2 ∷ rest) v b c is h m low =
+      let at2 : ℕ = at + test_size label + 1 in
+      let next : IsInside code r at2 = record { low = omega (arith, low); high = omega (arith, is, h.high, labels_low at2 label2 rest) } in
+      each_of_append (Needs code r) (label_code value bound at hit label) (labels_code value bound at2 hit miss label2 rest)
+      (each_of_append (Needs code r) (label_test value bound at2 label) (I.Jump hit ∷ []) (test_need value bound at2 label v b c next)
+      (h, tt))
+      (labels_need value bound at2 hit miss label2 rest v b c is h m (omega (arith, low)))
 
   -- the labels of an arm and its body, with the jump behind it
   pub arm_fits : (line value bound at : ℕ) (label : Range) (rest : List Range) (body : List Lined) → Number code r value
       → Number code r bound → Number code r (bound + 1)
-      → Fits 0 (behind_labels at rest) body → Fits 1 at (case_arm line value bound at label rest body)
+      → Fits 0 (behind_labels at label rest) body → Fits 1 at (case_arm line value bound at label rest body)
   arm_fits line value bound at label rest body v b c f room =
-      let hit : ℕ = behind_labels at rest in
+      let hit : ℕ = behind_labels at label rest in
       let tests : List Instr = labels_code value bound at hit (hit + length body + 1) label rest in
       let long = length-append (own line tests) body in
       let longer : length (own line tests) ≡ length tests = length-map tests (λ i. record { line = line; instr = i }) in
       let longest = labels_long value bound at hit (hit + length body + 1) label rest in
       both (own line tests) body
-      (own_need line tests (labels_need value bound at hit (hit + length body + 1) label rest v b c
-      (record { low = omega (arith, room.low); high = omega (arith, room.high, long, longer, longest) })
-      (record { low = omega (arith, room.low); high = omega (arith, room.high, long, longer, longest) })
-      room.low (omega (arith, room.high, long, longer, longest))))
-      (f (record { low = omega (arith, room.low); high = omega (arith, room.high, long, longer, longest) }))
+      (own_need line tests (labels_need value bound at hit (hit + length body + 1) label rest v b c refl
+      (record { low = omega (arith, room.low, longest); high = omega (arith, room.high, long, longer, longest) })
+      (record { low = omega (arith, room.low, longest); high = omega (arith, room.high, long, longer, longest) })
+      room.low))
+      (f (record { low = omega (arith, room.low, longest); high = omega (arith, room.high, long, longer, longest) }))
 
   -- ---- loops
 

@@ -25,25 +25,32 @@ use Rattle.alma_lower_templates.specs.Lined.{Lined, own, leaving}
 use Rattle.alma_lower_templates.specs.Tables.{Tables, range_number, is_whole}
 use Rattle.alma_lower_templates.specs.Pieces.{condition, guarded, chosen, first_of_two, refused, fit_code, neg_code, op_code, cmp_code}
 use Rattle.alma_lower_templates.specs.Pieces.{unequal_code, opposite_code, write_code, read_code, case_arm, passed_over, has_dead}
-use Rattle.alma_lower_templates.specs.Pieces.{behind_labels}
+use Rattle.alma_lower_templates.specs.Pieces.{behind_labels, label_code, label_test, test_size, aim_place, with_last}
+use Rattle.alma_lower_templates.specs.Pieces.{placed as put_in}
 use Rattle.alma_lower_templates.specs.Pieces.{labels_code, begin_loop, bounds_code, entry_code, chain_code, link_code, unless_whole}
 use Rattle.alma_lower_templates.specs.Pieces.{for_turns, some_turns, turn_code, each_body, forall_code, aim, straight}
-use Rattle.alma_lower_templates.specs.Pieces.{count_from, unless_constant, limit_code, put_code}
-use Rattle.alma_lower_templates.specs.Slots.{shift_of, bare, bare_desig, stays, stays_in, unless_bare, is_simple, is_turned, handed_slots}
-use Rattle.alma_lower_templates.specs.Slots.{arg_slots}
+use Rattle.alma_lower_templates.specs.Pieces.{count_from, unless_constant, limit_code, put_code, held_or}
+use Rattle.alma_lower_templates.specs.Pieces.{held_code as constant_code}
+use Rattle.alma_lower_templates.specs.Slots.{shift_of, bare, bare_desig, stays, stays_in, taken_from, unless_bare, is_simple, is_turned}
+use Rattle.alma_lower_templates.specs.Slots.{handed_slots, arg_slots}
 use Rattle.alma_lower_templates.specs.Slots.{behind_expr, behind_dead, behind_value, behind_desig, behind_target, behind_variable}
 use Rattle.alma_lower_templates.specs.Slots.{behind_test, behind_stmts, behind_stmt, behind_condition, own_place, own_root, goes_straight}
-use Rattle.alma_lower_templates.specs.Slots.{constant, ends_alone, is_straight}
+use Rattle.alma_lower_templates.specs.Slots.{constant, ends_alone, is_straight, held_constant, behind_held}
 use Rattle.alma_lower_templates.specs.Templates.{char_range, own_slot, slot_or, outer_slot, link_if, set_by, load_by, value_at, part_slot}
-use Rattle.alma_lower_templates.specs.Templates.{behind_root, place_at, root_code, call_link_code, arguments_from, call_code, set_code}
+use Rattle.alma_lower_templates.specs.Templates.{behind_root, root_code, call_link_code, arguments_from, call_code, set_code}
 use Rattle.alma_lower_templates.specs.Templates.{load_code, count_at, count_code, fit_result, stmts_code, stmt_code, if_code, arms_code}
 use Rattle.alma_lower_templates.specs.Templates.{for_code, some_code, dead_code, case_code, cases_code, else_code, either_code}
 use Rattle.alma_lower_templates.specs.Templates.{branches_code, test_code, and_code, or_code, operands_code, jump_code, back_code}
 use Rattle.alma_lower_templates.specs.Templates.{expr_code}
 use Rattle.alma_lower_templates.specs.Templates.{links_code, args_code, arg_code, desig_code, sels_code, sel_code, held_at, set_to}
-use Rattle.alma_lower_templates.proofs.First.{as_stays, as_stays_in}
+use Rattle.alma_lower_templates.proofs.First.{as_stays, as_taken}
+use Rattle.alma_lower_templates.proofs.Placed.{handed_is}
+use Rattle.alma_lower_templates.proofs.CaseForms.{one_test, both_tests}
+use Rattle.std.specs.Prelude.{if◌then◌else◌}
+use Rattle.alma_base.specs.Numbers.{int_eq}
 use Rattle.alma_lower_templates.proofs.Tested.{compared_code, Tested, tested, as_value, as_unequal}
 use Rattle.alma_lower_templates.proofs.Turned.{Turned, compares_two, turned, while_code}
+use Rattle.alma_lower_templates.proofs.FormRuns.{held_code}
 use Rattle.alma_code.specs.Reads.{is_read}
 
 -- ---- READs of phrases
@@ -181,10 +188,22 @@ aim_reads : (to : ℕ) (i : Instr) → is_read (aim to i) ≡ is_read i
 aim_reads to (I.Const old n) = refl
 aim_reads to i = refl
 
+aim_place_reads : (to : ℕ) (i : Instr) → is_read (aim_place to i) ≡ is_read i
+aim_place_reads to (I.Local old first) = refl
+aim_place_reads to i = refl
+
+-- code with its last instruction changed
+last_reads : (change : Instr → Instr) → ((i : Instr) → is_read (change i) ≡ is_read i) → (c : List Lined)
+    → reads (with_last change c) ≡ reads c
+last_reads change same [] = refl
+last_reads change same (x ∷ []) = ap (λ z. bit_of z + 0) (same x.instr)
+last_reads change same (x ∷ (y ∷ rest)) = ap (λ n. bit_of (is_read x.instr) + n) (last_reads change same (y ∷ rest))
+
 straight_reads : (to : ℕ) (c : List Lined) → reads (straight to c) ≡ reads c
-straight_reads to [] = refl
-straight_reads to (x ∷ []) = ap (λ z. bit_of z + 0) (aim_reads to x.instr)
-straight_reads to (x ∷ (y ∷ rest)) = ap (λ n. bit_of (is_read x.instr) + n) (straight_reads to (y ∷ rest))
+straight_reads to c = last_reads (aim to) (aim_reads to) c
+
+placed_reads : (to : ℕ) (c : List Lined) → reads (put_in to c) ≡ reads c
+placed_reads to c = last_reads (aim_place to) (aim_place_reads to) c
 
 -- instructions of which none reads
 abbrev Quiet : List Instr → Type 0
@@ -220,9 +239,14 @@ opposite_quiet cmp.LessEq to first other top line = refl
 opposite_quiet cmp.Greater to first other top line = refl
 opposite_quiet cmp.GreaterEq to first other top line = refl
 
-neg_quiet : (negated : Bool) (to : ℕ) → Quiet (neg_code negated to)
-neg_quiet true to line = refl
-neg_quiet false to line = refl
+-- a constant that is put before a loop
+held_quiet : (o : Option ℤ) (to : ℕ) → Quiet (constant_code o to)
+held_quiet (Some n) to line = refl
+held_quiet None to line = refl
+
+neg_quiet : (negated : Bool) (to from : ℕ) → Quiet (neg_code negated to from)
+neg_quiet true to from line = refl
+neg_quiet false to from line = refl
 
 write_quiet : (how : WriteAs) (from : ℕ) → Quiet (write_code how from ∷ [])
 write_quiet write_as.Int from line = refl
@@ -257,9 +281,20 @@ bounds_quiet : (by : ℤ) (o : Option ℤ) (counter limit first empty : ℕ) →
 bounds_quiet by o counter limit first empty line =
     omega (arith, count_quiet_from o counter first line, entry_quiet by first counter limit line)
 
+test_quiet : (value bound miss : ℕ) (label : Range) → Quiet (label_test value bound miss label)
+test_quiet value bound miss label line = by (int_eq label.low label.high)
+  where
+    by : (z : Bool) → reads (own line (if z then one_test value bound miss label else both_tests value bound miss label)) ≡ 0
+    by true = refl
+    by false = refl
+
 labels_quiet : (value bound at hit miss : ℕ) (label : Range) (rest : List Range) → Quiet (labels_code value bound at hit miss label rest)
-labels_quiet value bound at hit miss label [] line = refl
-labels_quiet value bound at hit miss label (label2 ∷ rest) line = omega (arith, labels_quiet value bound (at + 7) hit miss label2 rest line)
+labels_quiet value bound at hit miss label [] line = test_quiet value bound miss label line
+labels_quiet value bound at hit miss label (label2 ∷ rest) line =
+    let next : ℕ = at + test_size label + 1 in
+    quiet_two (label_code value bound at hit label) (labels_code value bound next hit miss label2 rest)
+    (quiet_two (label_test value bound next label) (I.Jump hit ∷ []) (test_quiet value bound next label) (λ line. refl))
+    (labels_quiet value bound next hit miss label2 rest) line
 
 -- ---- parts that have code only where they have slots
 
@@ -374,7 +409,7 @@ module _ (line : ℕ) where
   case_arm_reads : (value bound at : ℕ) (label : Range) (rest : List Range) (a : List Lined)
       → reads (case_arm line value bound at label rest a) ≡ reads a
   case_arm_reads value bound at label rest a =
-      let hit : ℕ = behind_labels at rest in
+      let hit : ℕ = behind_labels at label rest in
       own_then (labels_code value bound at hit (hit + length a + 1) label rest) a
       (labels_quiet value bound at hit (hit + length a + 1) label rest)
 
@@ -445,7 +480,7 @@ module _ (p : Program) (tables : Tables) (r : ℕ) where
   abbrev turn_of : (line at counter lo : ℕ) → Desig → Range → ((at : ℕ) → List Lined) → List Lined
   turn_of line at counter lo d range body =
       turn_code line at (count_code p tables r (bare_desig d) range counter lo)
-      (λ at. unless_bare (bare_desig d) (desig_code p tables r line at (lo + 1) d))
+      (λ at. unless_bare (bare_desig d) (held_code p tables r line at (lo + 1) d))
       (set_code p tables r (lo + 1) (count_at p tables r (bare_desig d) counter lo) d) body
 
   -- ---- forms of several parts, given their parts
@@ -511,10 +546,10 @@ module _ (p : Program) (tables : Tables) (r : ℕ) where
       → reads (turn_of line at counter lo d range body) ≡ desig_reads d + n
   turn line at counter lo d range body n f b =
       turn_reads line at (count_code p tables r (bare_desig d) range counter lo)
-      (λ at. unless_bare (bare_desig d) (desig_code p tables r line at (lo + 1) d))
+      (λ at. unless_bare (bare_desig d) (held_code p tables r line at (lo + 1) d))
       (set_code p tables r (lo + 1) (count_at p tables r (bare_desig d) counter lo) d) body (desig_reads d) n
       (count_quiet (bare_desig d) range counter lo) (set_quiet (lo + 1) (count_at p tables r (bare_desig d) counter lo) d)
-      (λ at. located d (desig_code p tables r line at (lo + 1) d) (f at)) b
+      (λ at. located d (held_code p tables r line at (lo + 1) d) (placed d (desig_code p tables r line at (lo + 1) d) (f at))) b
 
   -- ---- CASE: the jump over the arms that have no label
 
@@ -557,19 +592,39 @@ module _ (p : Program) (tables : Tables) (r : ℕ) where
       by (as_unequal x y same) = subst (λ z. reads (test_code p tables r line at lo (Value z)) ≡ reads
           (unless_bare (bare z) (expr_code p tables r line at lo z))) (sym same) (differ x y)
 
+  -- an operand that is held reads nothing
+  constant_quiet : (line at lo : ℕ) (y : Expr)
+      → reads (unless_constant (constant y) (unless_bare (bare y) (expr_code p tables r line at lo y)))
+      ≡ reads (unless_bare (bare y) (expr_code p tables r line at lo y))
+  constant_quiet line at lo (Const n) = refl
+  constant_quiet line at lo (Load d) = refl
+  constant_quiet line at lo (Chain negated e links) = refl
+  constant_quiet line at lo (Compare how x y) = refl
+  constant_quiet line at lo (Truth t) = refl
+  constant_quiet line at lo (Known d) = refl
+  constant_quiet line at lo (Chr x) = refl
+  constant_quiet line at lo (CallExpr called args up) = refl
+
   -- a comparison that goes back reads where the test of it does
-  back_same : (line at lo top : ℕ) (t : Test) → is_turned t ≡ true
-      → reads (back_code p tables r line at lo top t) ≡ reads (test_code p tables r line at lo t)
-  back_same line at lo top t e = by (turned t e)
+  back_same : (line at lo held top : ℕ) (t : Test) → is_turned t ≡ true
+      → reads (back_code p tables r line at lo held top t) ≡ reads (test_code p tables r line at lo t)
+  back_same line at lo held top t e = by (turned t e)
     where
-      by : Turned t → reads (back_code p tables r line at lo top t) ≡ reads (test_code p tables r line at lo t)
+      by : Turned t → reads (back_code p tables r line at lo held top t) ≡ reads (test_code p tables r line at lo t)
       by (compares_two how x y is opposite simple) =
-          let operand : ℕ = value_at p tables r (behind_expr p r lo x) y in
-          let operands : List Lined = compared_code p tables r line at lo x y in
+          let lo2 : ℕ = behind_expr p r lo x in
+          let operand : ℕ = value_at p tables r lo2 y in
+          let other : ℕ = held_or (constant y) held operand in
+          let one : List Lined = unless_bare (stays x y) (expr_code p tables r line at lo x) in
+          let two : List Lined = unless_bare (bare y) (expr_code p tables r line (at + length one) lo2 y) in
+          let left : List Lined = unless_constant (constant y) two in
           let first : ℕ = slot_or p tables r (stays x y) lo in
-          subst (λ u. reads (back_code p tables r line at lo top u) ≡ reads (test_code p tables r line at lo u)) (sym is)
-          (then_own line operands (opposite_code how lo first operand ∷ I.JumpZero lo top ∷ []) (opposite_quiet how lo first operand top)
-          ∙ sym (then_own line operands (cmp_code how lo first operand) (cmp_quiet how lo first operand))
+          let same : reads left ≡ reads two = constant_quiet line (at + length one) lo2 y in
+          let as_operands : reads (one ++ left) ≡ reads (one ++ two) = omega (arith, both one left, both one two, same) in
+          subst (λ u. reads (back_code p tables r line at lo held top u) ≡ reads (test_code p tables r line at lo u)) (sym is)
+          (then_own line (one ++ left) (opposite_code how lo first other ∷ I.JumpZero lo top ∷ []) (opposite_quiet how lo first other top)
+          ∙ as_operands
+          ∙ sym (then_own line (one ++ two) (cmp_code how lo first operand) (cmp_quiet how lo first operand))
           ∙ sym (value_same line at lo (Compare how x y)))
 
   while_same : (behind : Bool) (line at lo : ℕ) (t : Test) (body : Stmts) (m n : ℕ) → is_turned t ≡ behind
@@ -577,17 +632,21 @@ module _ (p : Program) (tables : Tables) (r : ℕ) where
       → ((at lo : ℕ) → reads (test_code p tables r line at lo t) ≡ m) → ((at lo : ℕ) → reads (stmts_code p tables r at lo body) ≡ n)
       → reads (while_code p tables r behind line at lo t body) ≡ m + n
   while_same true line at lo t body m n e j f g =
-      let inner : List Lined = stmts_code p tables r (at + 1) lo body in
-      let top : ℕ = at + 1 + length inner in
-      let lo2 : ℕ = behind_stmts p r lo body in
-      let last : List Lined = back_code p tables r line top lo2 (at + 1) t in
+      let constant : List Instr = constant_code (held_constant t) lo in
+      let at1 : ℕ = at + length (own line constant) + 1 in
+      let lo1 : ℕ = behind_held p r lo t in
+      let inner : List Lined = stmts_code p tables r at1 lo1 body in
+      let top : ℕ = at1 + length inner in
+      let lo2 : ℕ = behind_stmts p r lo1 body in
+      let last : List Lined = back_code p tables r line top lo2 lo at1 t in
       omega (
         arith,
+        own_then line constant (own line (I.Jump top ∷ []) ++ (inner ++ last)) (held_quiet (held_constant t) lo),
         own_then line (I.Jump top ∷ []) (inner ++ last) (λ l. refl),
         both inner last,
-        back_same line top lo2 (at + 1) t e,
+        back_same line top lo2 lo at1 t e,
         f top lo2,
-        g (at + 1) lo,
+        g at1 lo1,
       )
   while_same false line at lo t body m n e j f g =
       let lo2 : ℕ = behind_condition p r lo t in
@@ -640,7 +699,7 @@ module _ (p : Program) (tables : Tables) (r : ℕ) where
     expr_same line at lo (Const n) = omega arith
     expr_same line at lo (Load d) =
         let place : List Lined = desig_code p tables r line at (lo + 1) d in
-        let one : List Lined = unless_bare (own_place d) place in
+        let one : List Lined = held_code p tables r line at (lo + 1) d in
         omega (
           arith,
           then_own line (unless_bare (bare_desig d) one) (load_code p tables r lo d ∷ []) (load_quiet lo d),
@@ -648,17 +707,18 @@ module _ (p : Program) (tables : Tables) (r : ℕ) where
           desig_same line at (lo + 1) d,
         )
     expr_same line at lo (Chain negated e links) =
-        let o : Option ℕ = stays_in negated e links in
+        let o : Option ℕ = taken_from negated e links in
+        let from : ℕ = value_at p tables r lo e in
         let inner : List Lined = unless_bare o (expr_code p tables r line at lo e) in
-        let one : List Lined = inner ++ own line (neg_code negated lo) in
+        let one : List Lined = inner ++ own line (neg_code negated lo from) in
         let lo2 : ℕ = behind_expr p r lo e in
-        let first : ℕ = slot_or p tables r o lo in
+        let first : ℕ = slot_or p tables r (stays_in negated e links) lo in
         omega (
           arith,
           both one (links_code p tables r line (at + length one) first lo lo2 links),
-          then_own line inner (neg_code negated lo) (neg_quiet negated lo),
+          then_own line inner (neg_code negated lo from) (neg_quiet negated lo from),
           unless_reads o (expr_reads e) (expr_code p tables r line at lo e)
-              (as_stays_in (λ o. BareQuiet o (expr_reads e)) negated e links tt (expr_bare e)) (expr_same line at lo e),
+              (as_taken (λ o. BareQuiet o (expr_reads e)) negated e links tt (expr_bare e)) (expr_same line at lo e),
           links_same line (at + length one) first lo lo2 links,
         )
     expr_same line at lo (Compare how x y) =
@@ -687,7 +747,7 @@ module _ (p : Program) (tables : Tables) (r : ℕ) where
         let place : List Lined = desig_code p tables r line at (lo + 1) d in
         omega (
           arith,
-          then_own line (unless_bare (own_place d) place) (I.Known lo (held_at p tables r (lo + 1) d) ∷ []) (λ l. refl),
+          then_own line (held_code p tables r line at (lo + 1) d) (I.Known lo (held_at p tables r (lo + 1) d) ∷ []) (λ l. refl),
           placed d place (desig_same line at (lo + 1) d),
           desig_same line at (lo + 1) d,
         )
@@ -744,26 +804,20 @@ module _ (p : Program) (tables : Tables) (r : ℕ) where
         put_reads line (is_straight e range) to v (fit_code tables range v)
         (unless_bare (bare e) (expr_code p tables r line at lo e)) (fit_quiet range v)
         ∙ once e (expr_code p tables r line at lo e) (expr_same line at lo e)
-    arg_same line at to lo (ByCells d) = omega (
-      arith,
-      then_own line (desig_code p tables r line at lo d) (I.Same to (place_at p tables r lo d) ∷ []) (λ l. refl),
-      desig_same line at lo d,
-    )
-    arg_same line at to lo (ByPlace d) = omega (
-      arith,
-      then_own line (desig_code p tables r line at lo d) (I.Same to (place_at p tables r lo d) ∷ []) (λ l. refl),
-      desig_same line at lo d,
-    )
+    arg_same line at to lo (ByCells d) =
+        let made : List Lined = desig_code p tables r line at lo d in
+        ap reads (handed_is p tables r to line at lo d) ∙ placed_reads to made ∙ desig_same line at lo d
+    arg_same line at to lo (ByPlace d) =
+        let made : List Lined = desig_code p tables r line at lo d in
+        ap reads (handed_is p tables r to line at lo d) ∙ placed_reads to made ∙ desig_same line at lo d
     arg_same line at to lo (MixValue e range) =
         let v : ℕ = value_at p tables r lo e in
         put_reads line (is_straight e range) to v (fit_code tables range v)
         (unless_bare (bare e) (expr_code p tables r line at lo e)) (fit_quiet range v)
         ∙ once e (expr_code p tables r line at lo e) (expr_same line at lo e)
-    arg_same line at to lo (MixPlace d) = omega (
-      arith,
-      then_own line (desig_code p tables r line at lo d) (I.Same to (place_at p tables r lo d) ∷ []) (λ l. refl),
-      desig_same line at lo d,
-    )
+    arg_same line at to lo (MixPlace d) =
+        let made : List Lined = desig_code p tables r line at lo d in
+        ap reads (handed_is p tables r to line at lo d) ∙ placed_reads to made ∙ desig_same line at lo d
 
     jump_same : (line at lo none : ℕ) (x : Test) → is_simple x ≡ true → reads (jump_code p tables r line at lo none x) ≡ test_reads x
     jump_same line at lo none (Value e) simple =
@@ -792,51 +846,51 @@ module _ (p : Program) (tables : Tables) (r : ℕ) where
     )
     test_same line at lo (Bind d e range true) =
         let lo2 : ℕ = behind_desig p r lo d in
-        let one : List Lined = desig_code p tables r line at lo d in
+        let one : List Lined = held_code p tables r line at lo d in
         let inner : List Lined = expr_code p tables r line (at + length one) lo2 e in
         let two : List Lined = unless_bare (bare e) inner in
         omega (
           arith,
           then_own line (one ++ two)
-              (I.Bind (place_at p tables r lo d) (value_at p tables r lo2 e) (range_number tables range) ∷ []) (λ l. refl),
+              (I.Bind (held_at p tables r lo d) (value_at p tables r lo2 e) (range_number tables range) ∷ []) (λ l. refl),
           both one two,
           once e inner (expr_same line (at + length one) lo2 e),
-          desig_same line at lo d,
+          placed d (desig_code p tables r line at lo d) (desig_same line at lo d),
           expr_same line (at + length one) lo2 e,
         )
     test_same line at lo (Bind d e range false) =
         let lo2 : ℕ = behind_expr p r lo e in
         let one : List Lined = expr_code p tables r line at lo e in
-        let two : List Lined = desig_code p tables r line (at + length one) lo2 d in
+        let two : List Lined = held_code p tables r line (at + length one) lo2 d in
         omega (
           arith,
-          then_own line (one ++ two) (I.Bind (place_at p tables r lo2 d) lo (range_number tables range) ∷ []) (λ l. refl),
+          then_own line (one ++ two) (I.Bind (held_at p tables r lo2 d) lo (range_number tables range) ∷ []) (λ l. refl),
           both one two,
           expr_same line at lo e,
-          desig_same line (at + length one) lo2 d,
+          placed d (desig_code p tables r line (at + length one) lo2 d) (desig_same line (at + length one) lo2 d),
         )
     test_same line at lo (Unify d range e range2) =
         let lo2 : ℕ = behind_desig p r lo d in
-        let one : List Lined = desig_code p tables r line at lo d in
-        let two : List Lined = desig_code p tables r line (at + length one) lo2 e in
+        let one : List Lined = held_code p tables r line at lo d in
+        let two : List Lined = held_code p tables r line (at + length one) lo2 e in
         omega (
           arith,
-          then_own line (one ++ two) (I.Unify (place_at p tables r lo d) (range_number tables range) (place_at p tables r lo2 e)
+          then_own line (one ++ two) (I.Unify (held_at p tables r lo d) (range_number tables range) (held_at p tables r lo2 e)
               (range_number tables range2) ∷ []) (λ l. refl),
           both one two,
-          desig_same line at lo d,
-          desig_same line (at + length one) lo2 e,
+          placed d (desig_code p tables r line at lo d) (desig_same line at lo d),
+          placed e (desig_code p tables r line (at + length one) lo2 e) (desig_same line (at + length one) lo2 e),
         )
     test_same line at lo (SameCells d e) =
         let lo2 : ℕ = behind_desig p r lo d in
-        let one : List Lined = desig_code p tables r line at lo d in
-        let two : List Lined = desig_code p tables r line (at + length one) lo2 e in
+        let one : List Lined = held_code p tables r line at lo d in
+        let two : List Lined = held_code p tables r line (at + length one) lo2 e in
         omega (
           arith,
-          then_own line (one ++ two) (I.SameCells (place_at p tables r lo d) (place_at p tables r lo2 e) ∷ []) (λ l. refl),
+          then_own line (one ++ two) (I.SameCells (held_at p tables r lo d) (held_at p tables r lo2 e) ∷ []) (λ l. refl),
           both one two,
-          desig_same line at lo d,
-          desig_same line (at + length one) lo2 e,
+          placed d (desig_code p tables r line at lo d) (desig_same line at lo d),
+          placed e (desig_code p tables r line (at + length one) lo2 e) (desig_same line (at + length one) lo2 e),
         )
     test_same line at lo (Seq x) = omega (arith, stmts_same at lo x)
     test_same line at lo (And ts) = omega (arith, and_same line at lo ts)
@@ -919,7 +973,7 @@ module _ (p : Program) (tables : Tables) (r : ℕ) where
     stmt_same line at lo (Assign d e range) =
         let lo2 : ℕ = behind_target p r lo d in
         let v : ℕ = value_at p tables r lo2 e in
-        let place : List Lined = desig_code p tables r line at lo d in
+        let place : List Lined = held_code p tables r line at lo d in
         let one : List Lined = unless_bare (bare_desig d) place in
         let inner : List Lined = expr_code p tables r line (at + length one) lo2 e in
         let two : List Lined = unless_bare (bare e) inner in
@@ -928,21 +982,20 @@ module _ (p : Program) (tables : Tables) (r : ℕ) where
           set_reads (goes_straight d e range) line (one ++ two) (fit_code tables range v ++ (set_code p tables r lo v d ∷ []))
               (quiet_two (fit_code tables range v) (set_code p tables r lo v d ∷ []) (fit_quiet range v) (set_quiet lo v d)),
           both one two,
-          located d place (desig_same line at lo d),
+          located d place (placed d (desig_code p tables r line at lo d) (desig_same line at lo d)),
           once e inner (expr_same line (at + length one) lo2 e),
-          desig_same line at lo d,
           expr_same line (at + length one) lo2 e,
         )
     stmt_same line at lo (CopyCells d e) =
         let lo2 : ℕ = behind_desig p r lo d in
-        let one : List Lined = desig_code p tables r line at lo d in
-        let two : List Lined = desig_code p tables r line (at + length one) lo2 e in
+        let one : List Lined = held_code p tables r line at lo d in
+        let two : List Lined = held_code p tables r line (at + length one) lo2 e in
         omega (
           arith,
-          then_own line (one ++ two) (I.CopyCells (place_at p tables r lo d) (place_at p tables r lo2 e) ∷ []) (λ l. refl),
+          then_own line (one ++ two) (I.CopyCells (held_at p tables r lo d) (held_at p tables r lo2 e) ∷ []) (λ l. refl),
           both one two,
-          desig_same line at lo d,
-          desig_same line (at + length one) lo2 e,
+          placed d (desig_code p tables r line at lo d) (desig_same line at lo d),
+          placed e (desig_code p tables r line (at + length one) lo2 e) (desig_same line (at + length one) lo2 e),
         )
     stmt_same line at lo (If arms rest) =
         let z = if_same line at lo arms (λ next la. stmts_code p tables r next la rest) (stmts_reads rest)
@@ -1019,10 +1072,10 @@ module _ (p : Program) (tables : Tables) (r : ℕ) where
     stmt_same line at lo (Read d how range) =
         omega (
           arith,
-          both (desig_code p tables r line at lo d)
-              (own line (read_code how (place_at p tables r lo d) (range_number tables range) ∷ [])),
-          read_one how (place_at p tables r lo d) (range_number tables range) line,
-          desig_same line at lo d,
+          both (held_code p tables r line at lo d)
+              (own line (read_code how (held_at p tables r lo d) (range_number tables range) ∷ [])),
+          read_one how (held_at p tables r lo d) (range_number tables range) line,
+          placed d (desig_code p tables r line at lo d) (desig_same line at lo d),
         )
     stmt_same line at lo (WriteExpr e how) =
         omega (
@@ -1079,7 +1132,7 @@ module _ (p : Program) (tables : Tables) (r : ℕ) where
     case_same line value bound at lo (more_cases [] body rest) otherwise n f = let z =
         case_same line value bound at lo rest otherwise n f in omega (arith, z)
     case_same line value bound at lo (more_cases (label ∷ labels) body rest) otherwise n f =
-        let inner : List Lined = stmts_code p tables r (behind_labels at labels) lo body in
+        let inner : List Lined = stmts_code p tables r (behind_labels at label labels) lo body in
         let one : List Lined = case_arm line value bound at label labels inner in
         let lo2 : ℕ = behind_stmts p r lo body in
         let others = cases_same line value bound (at + length one) (at + length one + 1) lo2 rest otherwise n f in
@@ -1088,7 +1141,7 @@ module _ (p : Program) (tables : Tables) (r : ℕ) where
           others,
           leaving_reads line at one (λ next jump. cases_code p tables r line value bound jump next lo2 rest otherwise),
           case_arm_reads line value bound at label labels inner,
-          stmts_same (behind_labels at labels) lo body,
+          stmts_same (behind_labels at label labels) lo body,
         )
 
     cases_same : (line value bound jump at lo : ℕ) (x : CaseArms) (otherwise : (at lo : ℕ) → List Lined) (n : ℕ)
@@ -1098,7 +1151,7 @@ module _ (p : Program) (tables : Tables) (r : ℕ) where
     cases_same line value bound jump at lo (more_cases [] body rest) otherwise n f = let z =
         cases_same line value bound jump at lo rest otherwise n f in omega (arith, z)
     cases_same line value bound jump at lo (more_cases (label ∷ labels) body rest) otherwise n f =
-        let inner : List Lined = stmts_code p tables r (behind_labels at labels) lo body in
+        let inner : List Lined = stmts_code p tables r (behind_labels at label labels) lo body in
         let one : List Lined = case_arm line value bound at label labels inner in
         let lo2 : ℕ = behind_stmts p r lo body in
         let next : ℕ = at + length (one ++ own line (I.Jump jump ∷ [])) in
@@ -1108,7 +1161,7 @@ module _ (p : Program) (tables : Tables) (r : ℕ) where
           others,
           by_jump_reads line jump one (cases_code p tables r line value bound jump next lo2 rest otherwise),
           case_arm_reads line value bound at label labels inner,
-          stmts_same (behind_labels at labels) lo body,
+          stmts_same (behind_labels at label labels) lo body,
         )
 
     else_same : (line at lo : ℕ) (x : Else) → reads (else_code p tables r line at lo x) ≡ else_reads x

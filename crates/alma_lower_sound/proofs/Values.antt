@@ -114,22 +114,21 @@ module _ (p : Program) (tables : Tables) (code : PlainCode) (checked : IsChecked
   bare_value (CallExpr called args up) h = tt
 
   -- the slot of a whole parameter
-  abbrev pub PlaceIs : Option ℕ → Type 0
-  PlaceIs (Some from) = Place code r (own_slot p tables r from) 1
-  PlaceIs None = Unit {0}
+  abbrev pub PlaceIs : Option ℕ → (cells : ℕ) → Type 0
+  PlaceIs (Some from) cells = Place code r (own_slot p tables r from) cells
+  PlaceIs None cells = Unit {0}
 
-  held_root : (d : Desig) → Facts p tables r (DesigPhrase d) → desig_cells d ≡ 1 → PlaceIs (own_place d)
-  held_root (a_desig (root.Param from) cells no_sels) h e =
-      subst (Place code r (own_slot p tables r from)) e (held p tables code checked w r lt from cells h.0)
-  held_root (a_desig (root.Param from) cells (more_sels x rest)) h e = tt
-  held_root (a_desig (root.Local from) cells sels) h e = tt
-  held_root (a_desig (root.Global from) cells sels) h e = tt
-  held_root (a_desig (root.Outer links from) cells sels) h e = tt
-  held_root (a_desig (root.OuterParam links from) cells sels) h e = tt
+  held_root : (d : Desig) → Facts p tables r (DesigPhrase d) → PlaceIs (own_place d) (desig_cells d)
+  held_root (a_desig (root.Param from) cells no_sels) h = held p tables code checked w r lt from cells h.0
+  held_root (a_desig (root.Param from) cells (more_sels x rest)) h = tt
+  held_root (a_desig (root.Local from) cells sels) h = tt
+  held_root (a_desig (root.Global from) cells sels) h = tt
+  held_root (a_desig (root.Outer links from) cells sels) h = tt
+  held_root (a_desig (root.OuterParam links from) cells sels) h = tt
 
-  held_variable : (d : Desig) → Good (desig_phrases d) → desig_cells d ≡ 1 → PlaceIs (own_place d)
+  held_variable : (d : Desig) → Good (desig_phrases d) → PlaceIs (own_place d) (desig_cells d)
   unfolding stmts_phrases
-  held_variable (a_desig x cells sels) h e = held_root (a_desig x cells sels) h.0 e
+  held_variable (a_desig x cells sels) h = held_root (a_desig x cells sels) h.0
 
   -- the slot of which the first selector takes a part
   pub root_place : (o : Option ℕ) (lo cells : ℕ) (x : Root) (sels : Sels) → own_root x sels ≡ o
@@ -201,17 +200,18 @@ module _ (p : Program) (tables : Tables) (code : PlainCode) (checked : IsChecked
       (first_slot p tables code checked w r lt lo (slot.Place cells) (root_slots p r x ++ sels_slots p r sels) h)
       (sels_behind lo cells x sels h)
 
-  pub one_place : (lo : ℕ) (d : Desig) → desig_cells d ≡ 1 → SlotsOf lo (desig_slots p r d) → Place code r (place_at p tables r lo d) 1
-  one_place lo d e h = subst (λ n. Place code r (place_at p tables r lo d) n) e (desig_place lo d h)
-
-  -- where it stands to be read at once
-  pub held_place : (lo : ℕ) (d : Desig) → Good (desig_phrases d) → desig_cells d ≡ 1 → SlotsOf lo (desig_slots p r d)
-      → Place code r (held_at p tables r lo d) 1
-  held_place lo d good e slots = by (own_place d) (held_variable d good e)
+  -- where it stands to be used
+  pub held_place : (lo : ℕ) (d : Desig) → Good (desig_phrases d) → SlotsOf lo (desig_slots p r d)
+      → Place code r (held_at p tables r lo d) (desig_cells d)
+  held_place lo d good slots = by (own_place d) (held_variable d good)
     where
-      by : (o : Option ℕ) → PlaceIs o → Place code r (slot_or p tables r o (place_at p tables r lo d)) 1
+      by : (o : Option ℕ) → PlaceIs o (desig_cells d) → Place code r (slot_or p tables r o (place_at p tables r lo d)) (desig_cells d)
       by (Some from) h = h
-      by None h = one_place lo d e slots
+      by None h = desig_place lo d slots
+
+  pub one_place : (lo : ℕ) (d : Desig) → Good (desig_phrases d) → desig_cells d ≡ 1 → SlotsOf lo (desig_slots p r d)
+      → Place code r (held_at p tables r lo d) 1
+  one_place lo d good e slots = subst (Place code r (held_at p tables r lo d)) e (held_place lo d good slots)
 
   -- ---- variables
 
@@ -221,7 +221,7 @@ module _ (p : Program) (tables : Tables) (code : PlainCode) (checked : IsChecked
     where
       by : (o : Option ℕ) → bare_desig d ≡ o → BareIs o → Needs code r (set_by p tables r o lo value d)
       by (Some to) is b = (b, n)
-      by None is b = (one_place lo d e (slots is), n)
+      by None is b = (one_place lo d good e (slots is), n)
 
   pub load_needs : (lo : ℕ) (d : Desig) → Good (desig_phrases d) → desig_cells d ≡ 1
       → SlotsOf lo (slot.Number ∷ unless_bare (bare_desig d) (desig_slots p r d)) → Needs code r (load_code p tables r lo d)
@@ -234,7 +234,7 @@ module _ (p : Program) (tables : Tables) (code : PlainCode) (checked : IsChecked
       by (Some from) is b = (n, b)
       by None is b = (
         n,
-        held_place (lo + 1) d good e
+        one_place (lo + 1) d good e
             (none_slots (bare_desig d) (lo + 1) (desig_slots p r d) is
             (back p tables code checked w r lt lo (slot.Number ∷ []) (unless_bare (bare_desig d) (desig_slots p r d)) slots)),
       )
@@ -258,9 +258,9 @@ module _ (p : Program) (tables : Tables) (code : PlainCode) (checked : IsChecked
   cmp_needs cmp.Greater to first operand a f b = ((a, b, f), tt)
   cmp_needs cmp.GreaterEq to first operand a f b = ((a, b, f), tt)
 
-  pub neg_needs : (negated : Bool) (to : ℕ) → Number code r to → AllNeeds (neg_code negated to)
-  neg_needs true to a = ((a, a), tt)
-  neg_needs false to a = tt
+  pub neg_needs : (negated : Bool) (to from : ℕ) → Number code r to → Number code r from → AllNeeds (neg_code negated to from)
+  neg_needs true to from a b = ((a, b), tt)
+  neg_needs false to from a b = tt
 
   pub write_needs : (how : WriteAs) (from : ℕ) → Number code r from → Needs code r (write_code how from)
   write_needs write_as.Int from a = a

@@ -24,19 +24,23 @@ use Rattle.alma_lower_templates.specs.Lined.{Lined, own, leaving, line_from, lin
 use Rattle.alma_lower_templates.specs.Tables.{Tables, range_number, text_number}
 use Rattle.alma_lower_templates.specs.Pieces.{condition, guarded, chosen, first_of_two, refused, fit_code, neg_code, op_code, cmp_code}
 use Rattle.alma_lower_templates.specs.Pieces.{unequal_code, opposite_code, write_code, read_code, case_arm, passed_over, has_dead}
-use Rattle.alma_lower_templates.specs.Pieces.{behind_labels}
+use Rattle.alma_lower_templates.specs.Pieces.{behind_labels, aim, aim_place, with_last}
 use Rattle.alma_lower_templates.specs.Pieces.{labels_code, begin_loop, bounds_code, for_turns, some_turns, turn_code, each_body}
-use Rattle.alma_lower_templates.specs.Pieces.{forall_code, straight, count_from, unless_constant, limit_code, put_code}
-use Rattle.alma_lower_templates.specs.Slots.{bare, bare_desig, stays, stays_in, unless_bare, is_simple, is_turned, handed_slots, arg_slots}
+use Rattle.alma_lower_templates.specs.Pieces.{forall_code, straight, count_from, unless_constant, limit_code, put_code, held_or}
+use Rattle.alma_lower_templates.specs.Pieces.{held_code as constant_code}
+use Rattle.alma_lower_templates.specs.Slots.{bare, bare_desig, stays, stays_in, taken_from, unless_bare, is_simple, is_turned, handed_slots}
+use Rattle.alma_lower_templates.specs.Slots.{arg_slots}
+use Rattle.alma_lower_templates.proofs.Placed.{handed_is}
 use Rattle.alma_lower_templates.specs.Slots.{behind_expr, behind_dead, behind_value, behind_desig, behind_target, behind_variable}
 use Rattle.alma_lower_templates.specs.Slots.{behind_test, behind_stmts, behind_stmt, behind_condition, own_place, own_root, goes_straight}
-use Rattle.alma_lower_templates.specs.Slots.{constant, ends_alone, is_straight}
-use Rattle.alma_lower_templates.specs.Templates.{char_range, own_slot, slot_or, value_at, part_slot, behind_root, place_at, root_code}
+use Rattle.alma_lower_templates.specs.Slots.{constant, ends_alone, is_straight, held_constant, behind_held}
+use Rattle.alma_lower_templates.specs.Templates.{char_range, own_slot, slot_or, value_at, part_slot, behind_root, root_code}
 use Rattle.alma_lower_templates.specs.Templates.{call_link_code, arguments_from, call_code, set_code, load_code, count_at, count_code}
 use Rattle.alma_lower_templates.specs.Templates.{fit_result, stmts_code, stmt_code, if_code, arms_code, for_code, some_code, dead_code}
 use Rattle.alma_lower_templates.specs.Templates.{case_code, cases_code, else_code, either_code, branches_code, test_code, and_code, or_code}
 use Rattle.alma_lower_templates.specs.Templates.{operands_code, jump_code, expr_code, links_code, args_code, arg_code, desig_code}
 use Rattle.alma_lower_templates.specs.Templates.{sels_code, sel_code, held_at, set_to, back_code}
+use Rattle.alma_lower_templates.proofs.FormRuns.{held_code}
 
 -- ---- walks
 
@@ -100,10 +104,14 @@ to_other a b c (x ∷ xs) = omega (arith, to_other x.line b c xs)
 around : (a line c : ℕ) (xs : List Lined) → walk a xs c ≤ 2 + walk line xs line
 around a line c xs = omega (arith, from_other a line xs c, to_other line line c xs, hop_few a line, hop_few line c)
 
+-- code with its last instruction changed
+last_walk : (change : Instr → Instr) (from line : ℕ) (xs : List Lined) → walk from (with_last change xs) line ≡ walk from xs line
+last_walk change from line [] = refl
+last_walk change from line (x ∷ []) = refl
+last_walk change from line (x ∷ (y ∷ rest)) = ap (λ n. hop from x.line + n) (last_walk change x.line line (y ∷ rest))
+
 straight_walk : (from to line : ℕ) (xs : List Lined) → walk from (straight to xs) line ≡ walk from xs line
-straight_walk from to line [] = refl
-straight_walk from to line (x ∷ []) = refl
-straight_walk from to line (x ∷ (y ∷ rest)) = ap (λ n. hop from x.line + n) (straight_walk x.line to line (y ∷ rest))
+straight_walk from to line xs = last_walk (aim to) from line xs
 
 module _ (line : ℕ) where
   -- from a line and back to it
@@ -206,7 +214,7 @@ module _ (line : ℕ) where
   arm_round : (value bound at : ℕ) (label : Range) (rest : List Range) (a : List Lined)
       → round (case_arm line value bound at label rest a) ≤ round a
   arm_round value bound at label rest a = own_then
-      (labels_code value bound at (behind_labels at rest) (behind_labels at rest + length a + 1) label rest) a
+      (labels_code value bound at (behind_labels at label rest) (behind_labels at label rest + length a + 1) label rest) a
 
   begin_round : (at step : ℕ) (by : ℤ) (from to : (at : ℕ) → List Lined) (m n : ℕ) → ((at : ℕ) → round (from at) ≤ m)
       → ((at : ℕ) → round (to at) ≤ n) → round (begin_loop line at step by from to) ≤ m + n
@@ -294,10 +302,15 @@ module _ (p : Program) (tables : Tables) (r : ℕ) where
   abbrev turn_of : (line at counter lo : ℕ) → Desig → Range → ((at : ℕ) → List Lined) → List Lined
   turn_of line at counter lo d range body =
       turn_code line at (count_code p tables r (bare_desig d) range counter lo)
-      (λ at. unless_bare (bare_desig d) (desig_code p tables r line at (lo + 1) d))
+      (λ at. unless_bare (bare_desig d) (held_code p tables r line at (lo + 1) d))
       (set_code p tables r (lo + 1) (count_at p tables r (bare_desig d) counter lo) d) body
 
   -- ---- forms of several parts, given their parts
+
+  -- a designator whose place is used
+  held_round : (line at lo : ℕ) (d : Desig) (m : ℕ) → round line (desig_code p tables r line at lo d) ≤ m
+      → round line (held_code p tables r line at lo d) ≤ m
+  held_round line at lo d m h = omega (arith, h, unless_round line (own_place d) (desig_code p tables r line at lo d))
 
   decides : (line at lo none : ℕ) (t : Test) (n : ℕ) → round line (jump_code p tables r line at lo none t) ≤ n
       → round line (test_code p tables r line (at + 2) (lo + 1) t) ≤ n → round line (condition_code line at lo none t) ≤ n
@@ -317,11 +330,13 @@ module _ (p : Program) (tables : Tables) (r : ℕ) where
       → round line (turn_of line at counter lo d range body) ≤ m + n
   turn line at counter lo d range body m n f b =
       turn_round line at (count_code p tables r (bare_desig d) range counter lo)
-      (λ at. unless_bare (bare_desig d) (desig_code p tables r line at (lo + 1) d))
+      (λ at. unless_bare (bare_desig d) (held_code p tables r line at (lo + 1) d))
       (set_code p tables r (lo + 1) (count_at p tables r (bare_desig d) counter lo) d) body m n located b
     where
-      located : (at : ℕ) → round line (unless_bare (bare_desig d) (desig_code p tables r line at (lo + 1) d)) ≤ m
-      located at = let z = f at in omega (arith, z, unless_round line (bare_desig d) (desig_code p tables r line at (lo + 1) d))
+      located : (at : ℕ) → round line (unless_bare (bare_desig d) (held_code p tables r line at (lo + 1) d)) ≤ m
+      located at =
+          let z = held_round line at (lo + 1) d m (f at) in
+          omega (arith, z, unless_round line (bare_desig d) (held_code p tables r line at (lo + 1) d))
 
   -- the bounds of a loop
   abbrev limit_of : (line at lo limit : ℕ) → Expr → List Lined
@@ -369,19 +384,36 @@ module _ (p : Program) (tables : Tables) (r : ℕ) where
       by (as_unequal x y same) = subst (λ z. round line (test_code p tables r line at lo (Value z)) ≡ round line
           (unless_bare (bare z) (expr_code p tables r line at lo z))) (sym same) (differ x y)
 
+  -- an operand that is held has no line of its own
+  constant_same : (line at lo : ℕ) (one : List Lined) (y : Expr)
+      → round line (one ++ unless_constant (constant y) (unless_bare (bare y) (expr_code p tables r line at lo y)))
+      ≡ round line (one ++ unless_bare (bare y) (expr_code p tables r line at lo y))
+  constant_same line at lo one (Const n) = ends_alike line line one [] ∙ sym (ends_alike line line one (I.Const lo n ∷ []))
+  constant_same line at lo one (Load d) = refl
+  constant_same line at lo one (Chain negated e links) = refl
+  constant_same line at lo one (Compare how x y) = refl
+  constant_same line at lo one (Truth t) = refl
+  constant_same line at lo one (Known d) = refl
+  constant_same line at lo one (Chr x) = refl
+  constant_same line at lo one (CallExpr called args up) = refl
+
   -- a comparison that goes back goes over the lines of the test of it
-  back_round : (line at lo top : ℕ) (t : Test) → is_turned t ≡ true
-      → round line (back_code p tables r line at lo top t) ≡ round line (test_code p tables r line at lo t)
-  back_round line at lo top t e = by (turned t e)
+  back_round : (line at lo held top : ℕ) (t : Test) → is_turned t ≡ true
+      → round line (back_code p tables r line at lo held top t) ≡ round line (test_code p tables r line at lo t)
+  back_round line at lo held top t e = by (turned t e)
     where
-      by : Turned t → round line (back_code p tables r line at lo top t) ≡ round line (test_code p tables r line at lo t)
+      by : Turned t → round line (back_code p tables r line at lo held top t) ≡ round line (test_code p tables r line at lo t)
       by (compares_two how x y is opposite simple) =
-          let operand : ℕ = value_at p tables r (behind_expr p r lo x) y in
-          let operands : List Lined = compared_code p tables r line at lo x y in
+          let lo2 : ℕ = behind_expr p r lo x in
+          let operand : ℕ = value_at p tables r lo2 y in
+          let other : ℕ = held_or (constant y) held operand in
+          let one : List Lined = unless_bare (stays x y) (expr_code p tables r line at lo x) in
+          let two : List Lined = unless_bare (bare y) (expr_code p tables r line (at + length one) lo2 y) in
           let first : ℕ = slot_or p tables r (stays x y) lo in
-          subst (λ u. round line (back_code p tables r line at lo top u) ≡ round line (test_code p tables r line at lo u)) (sym is)
-          (ends_alike line line operands (opposite_code how lo first operand ∷ I.JumpZero lo top ∷ [])
-          ∙ sym (ends_alike line line operands (cmp_code how lo first operand)) ∙ sym (value_round line at lo (Compare how x y)))
+          subst (λ u. round line (back_code p tables r line at lo held top u) ≡ round line (test_code p tables r line at lo u)) (sym is)
+          (ends_alike line line (one ++ unless_constant (constant y) two) (opposite_code how lo first other ∷ I.JumpZero lo top ∷ [])
+          ∙ constant_same line (at + length one) lo2 one y
+          ∙ sym (ends_alike line line (one ++ two) (cmp_code how lo first operand)) ∙ sym (value_round line at lo (Compare how x y)))
 
   while_round : (behind : Bool) (line at lo : ℕ) (t : Test) (body : Stmts) (m n : ℕ) → is_turned t ≡ behind
       → ((none : ℕ) → round line (jump_code p tables r line (at + 1) lo none t) ≤ m)
@@ -389,17 +421,21 @@ module _ (p : Program) (tables : Tables) (r : ℕ) where
       → ((at lo : ℕ) → round line (stmts_code p tables r at lo body) ≤ n)
       → round line (while_code p tables r behind line at lo t body) ≤ m + n
   while_round true line at lo t body m n e j f g =
-      let inner : List Lined = stmts_code p tables r (at + 1) lo body in
-      let top : ℕ = at + 1 + length inner in
-      let lo2 : ℕ = behind_stmts p r lo body in
-      let last : List Lined = back_code p tables r line top lo2 (at + 1) t in
+      let constant : List Instr = constant_code (held_constant t) lo in
+      let at1 : ℕ = at + length (own line constant) + 1 in
+      let lo1 : ℕ = behind_held p r lo t in
+      let inner : List Lined = stmts_code p tables r at1 lo1 body in
+      let top : ℕ = at1 + length inner in
+      let lo2 : ℕ = behind_stmts p r lo1 body in
+      let last : List Lined = back_code p tables r line top lo2 lo at1 t in
       omega (
         arith,
+        own_then line constant (own line (I.Jump top ∷ []) ++ (inner ++ last)),
         own_then line (I.Jump top ∷ []) (inner ++ last),
         both line inner last,
-        back_round line top lo2 (at + 1) t e,
+        back_round line top lo2 lo at1 t e,
         f top lo2,
-        g (at + 1) lo,
+        g at1 lo1,
       )
   while_round false line at lo t body m n e j f g =
       let lo2 : ℕ = behind_condition p r lo t in
@@ -453,25 +489,24 @@ module _ (p : Program) (tables : Tables) (r : ℕ) where
     expr_round : (line at lo : ℕ) (x : Expr) → round line (expr_code p tables r line at lo x) ≤ 2 * expr_nodes x
     expr_round line at lo (Const n) = omega (arith, own_round line (I.Const lo n ∷ []))
     expr_round line at lo (Load d) =
-        let place : List Lined = desig_code p tables r line at (lo + 1) d in
-        let one : List Lined = unless_bare (own_place d) place in
+        let one : List Lined = held_code p tables r line at (lo + 1) d in
         omega (
           arith,
           then_own line (unless_bare (bare_desig d) one) (load_code p tables r lo d ∷ []),
           unless_round line (bare_desig d) one,
-          unless_round line (own_place d) place,
-          desig_round line at (lo + 1) d,
+          held_round line at (lo + 1) d (2 * desig_nodes d) (desig_round line at (lo + 1) d),
         )
     expr_round line at lo (Chain negated e links) =
-        let o : Option ℕ = stays_in negated e links in
+        let o : Option ℕ = taken_from negated e links in
+        let from : ℕ = value_at p tables r lo e in
         let inner : List Lined = unless_bare o (expr_code p tables r line at lo e) in
-        let one : List Lined = inner ++ own line (neg_code negated lo) in
+        let one : List Lined = inner ++ own line (neg_code negated lo from) in
         let lo2 : ℕ = behind_expr p r lo e in
-        let first : ℕ = slot_or p tables r o lo in
+        let first : ℕ = slot_or p tables r (stays_in negated e links) lo in
         omega (
           arith,
           both line one (links_code p tables r line (at + length one) first lo lo2 links),
-          then_own line inner (neg_code negated lo),
+          then_own line inner (neg_code negated lo from),
           unless_round line o (expr_code p tables r line at lo e),
           expr_round line at lo e,
           links_round line (at + length one) first lo lo2 links,
@@ -497,12 +532,10 @@ module _ (p : Program) (tables : Tables) (r : ℕ) where
         (λ at lo. test_round line at lo t) (λ next. omega (arith, hop_none line)) in
         omega (arith, z, then_own line one (I.Const lo (pos 1) ∷ I.Jump (end + 3) ∷ I.Const lo (pos 0) ∷ []))
     expr_round line at lo (Known d) =
-        let place : List Lined = desig_code p tables r line at (lo + 1) d in
         omega (
           arith,
-          then_own line (unless_bare (own_place d) place) (I.Known lo (held_at p tables r (lo + 1) d) ∷ []),
-          unless_round line (own_place d) place,
-          desig_round line at (lo + 1) d,
+          then_own line (held_code p tables r line at (lo + 1) d) (I.Known lo (held_at p tables r (lo + 1) d) ∷ []),
+          held_round line at (lo + 1) d (2 * desig_nodes d) (desig_round line at (lo + 1) d),
         )
     expr_round line at lo (Chr e) = omega (
       arith,
@@ -563,13 +596,15 @@ module _ (p : Program) (tables : Tables) (r : ℕ) where
     arg_round_of line at to lo (ByCells d) =
         omega (
           arith,
-          then_own line (desig_code p tables r line at lo d) (I.Same to (place_at p tables r lo d) ∷ []),
+          ap (round line) (handed_is p tables r to line at lo d),
+          last_walk (aim_place to) line line (desig_code p tables r line at lo d),
           desig_round line at lo d,
         )
     arg_round_of line at to lo (ByPlace d) =
         omega (
           arith,
-          then_own line (desig_code p tables r line at lo d) (I.Same to (place_at p tables r lo d) ∷ []),
+          ap (round line) (handed_is p tables r to line at lo d),
+          last_walk (aim_place to) line line (desig_code p tables r line at lo d),
           desig_round line at lo d,
         )
     arg_round_of line at to lo (MixValue e range) =
@@ -584,7 +619,8 @@ module _ (p : Program) (tables : Tables) (r : ℕ) where
     arg_round_of line at to lo (MixPlace d) =
         omega (
           arith,
-          then_own line (desig_code p tables r line at lo d) (I.Same to (place_at p tables r lo d) ∷ []),
+          ap (round line) (handed_is p tables r to line at lo d),
+          last_walk (aim_place to) line line (desig_code p tables r line at lo d),
           desig_round line at lo d,
         )
 
@@ -613,51 +649,51 @@ module _ (p : Program) (tables : Tables) (r : ℕ) where
     )
     test_round line at lo (Bind d e range true) =
         let lo2 : ℕ = behind_desig p r lo d in
-        let one : List Lined = desig_code p tables r line at lo d in
+        let one : List Lined = held_code p tables r line at lo d in
         let inner : List Lined = expr_code p tables r line (at + length one) lo2 e in
         let two : List Lined = unless_bare (bare e) inner in
         omega (
           arith,
           then_own line (one ++ two)
-              (I.Bind (place_at p tables r lo d) (value_at p tables r lo2 e) (range_number tables range) ∷ []),
+              (I.Bind (held_at p tables r lo d) (value_at p tables r lo2 e) (range_number tables range) ∷ []),
           both line one two,
           unless_round line (bare e) inner,
-          desig_round line at lo d,
+          held_round line at lo d (2 * desig_nodes d) (desig_round line at lo d),
           expr_round line (at + length one) lo2 e,
         )
     test_round line at lo (Bind d e range false) =
         let lo2 : ℕ = behind_expr p r lo e in
         let one : List Lined = expr_code p tables r line at lo e in
-        let two : List Lined = desig_code p tables r line (at + length one) lo2 d in
+        let two : List Lined = held_code p tables r line (at + length one) lo2 d in
         omega (
           arith,
-          then_own line (one ++ two) (I.Bind (place_at p tables r lo2 d) lo (range_number tables range) ∷ []),
+          then_own line (one ++ two) (I.Bind (held_at p tables r lo2 d) lo (range_number tables range) ∷ []),
           both line one two,
           expr_round line at lo e,
-          desig_round line (at + length one) lo2 d,
+          held_round line (at + length one) lo2 d (2 * desig_nodes d) (desig_round line (at + length one) lo2 d),
         )
     test_round line at lo (Unify d range e range2) =
         let lo2 : ℕ = behind_desig p r lo d in
-        let one : List Lined = desig_code p tables r line at lo d in
-        let two : List Lined = desig_code p tables r line (at + length one) lo2 e in
+        let one : List Lined = held_code p tables r line at lo d in
+        let two : List Lined = held_code p tables r line (at + length one) lo2 e in
         omega (
           arith,
-          then_own line (one ++ two) (I.Unify (place_at p tables r lo d) (range_number tables range) (place_at p tables r lo2 e)
+          then_own line (one ++ two) (I.Unify (held_at p tables r lo d) (range_number tables range) (held_at p tables r lo2 e)
               (range_number tables range2) ∷ []),
           both line one two,
-          desig_round line at lo d,
-          desig_round line (at + length one) lo2 e,
+          held_round line at lo d (2 * desig_nodes d) (desig_round line at lo d),
+          held_round line (at + length one) lo2 e (2 * desig_nodes e) (desig_round line (at + length one) lo2 e),
         )
     test_round line at lo (SameCells d e) =
         let lo2 : ℕ = behind_desig p r lo d in
-        let one : List Lined = desig_code p tables r line at lo d in
-        let two : List Lined = desig_code p tables r line (at + length one) lo2 e in
+        let one : List Lined = held_code p tables r line at lo d in
+        let two : List Lined = held_code p tables r line (at + length one) lo2 e in
         omega (
           arith,
-          then_own line (one ++ two) (I.SameCells (place_at p tables r lo d) (place_at p tables r lo2 e) ∷ []),
+          then_own line (one ++ two) (I.SameCells (held_at p tables r lo d) (held_at p tables r lo2 e) ∷ []),
           both line one two,
-          desig_round line at lo d,
-          desig_round line (at + length one) lo2 e,
+          held_round line at lo d (2 * desig_nodes d) (desig_round line at lo d),
+          held_round line (at + length one) lo2 e (2 * desig_nodes e) (desig_round line (at + length one) lo2 e),
         )
     test_round line at lo (Seq x) = omega (arith, stmts_round line at lo x)
     test_round line at lo (And ts) = omega (arith, and_round line at lo ts)
@@ -741,7 +777,7 @@ module _ (p : Program) (tables : Tables) (r : ℕ) where
     stmt_round line at lo (Assign d e range) =
         let lo2 : ℕ = behind_target p r lo d in
         let v : ℕ = value_at p tables r lo2 e in
-        let place : List Lined = desig_code p tables r line at lo d in
+        let place : List Lined = held_code p tables r line at lo d in
         let one : List Lined = unless_bare (bare_desig d) place in
         let inner : List Lined = expr_code p tables r line (at + length one) lo2 e in
         let two : List Lined = unless_bare (bare e) inner in
@@ -751,19 +787,19 @@ module _ (p : Program) (tables : Tables) (r : ℕ) where
           both line one two,
           unless_round line (bare_desig d) place,
           unless_round line (bare e) inner,
-          desig_round line at lo d,
+          held_round line at lo d (2 * desig_nodes d) (desig_round line at lo d),
           expr_round line (at + length one) lo2 e,
         )
     stmt_round line at lo (CopyCells d e) =
         let lo2 : ℕ = behind_desig p r lo d in
-        let one : List Lined = desig_code p tables r line at lo d in
-        let two : List Lined = desig_code p tables r line (at + length one) lo2 e in
+        let one : List Lined = held_code p tables r line at lo d in
+        let two : List Lined = held_code p tables r line (at + length one) lo2 e in
         omega (
           arith,
-          then_own line (one ++ two) (I.CopyCells (place_at p tables r lo d) (place_at p tables r lo2 e) ∷ []),
+          then_own line (one ++ two) (I.CopyCells (held_at p tables r lo d) (held_at p tables r lo2 e) ∷ []),
           both line one two,
-          desig_round line at lo d,
-          desig_round line (at + length one) lo2 e,
+          held_round line at lo d (2 * desig_nodes d) (desig_round line at lo d),
+          held_round line (at + length one) lo2 e (2 * desig_nodes e) (desig_round line (at + length one) lo2 e),
         )
     stmt_round line at lo (If arms rest) =
         let z = if_round line at lo arms (λ next la. stmts_code p tables r next la rest) (2 * stmts_nodes rest)
@@ -838,9 +874,9 @@ module _ (p : Program) (tables : Tables) (r : ℕ) where
     stmt_round line at lo (Read d how range) =
         omega (
           arith,
-          then_own line (desig_code p tables r line at lo d)
-              (read_code how (place_at p tables r lo d) (range_number tables range) ∷ []),
-          desig_round line at lo d,
+          then_own line (held_code p tables r line at lo d)
+              (read_code how (held_at p tables r lo d) (range_number tables range) ∷ []),
+          held_round line at lo d (2 * desig_nodes d) (desig_round line at lo d),
         )
     stmt_round line at lo (WriteExpr e how) =
         omega (
@@ -899,7 +935,7 @@ module _ (p : Program) (tables : Tables) (r : ℕ) where
     case_round line value bound at lo (more_cases [] body rest) otherwise n f = let z =
         case_round line value bound at lo rest otherwise n f in omega (arith, z)
     case_round line value bound at lo (more_cases (label ∷ labels) body rest) otherwise n f =
-        let inner : List Lined = stmts_code p tables r (behind_labels at labels) lo body in
+        let inner : List Lined = stmts_code p tables r (behind_labels at label labels) lo body in
         let one : List Lined = case_arm line value bound at label labels inner in
         let lo2 : ℕ = behind_stmts p r lo body in
         let others = cases_round line value bound (at + length one) (at + length one + 1) lo2 rest otherwise n f in
@@ -908,7 +944,7 @@ module _ (p : Program) (tables : Tables) (r : ℕ) where
           others,
           leaving_round line at one (λ next jump. cases_code p tables r line value bound jump next lo2 rest otherwise),
           arm_round line value bound at label labels inner,
-          stmts_round line (behind_labels at labels) lo body,
+          stmts_round line (behind_labels at label labels) lo body,
         )
 
     cases_round : (line value bound jump at lo : ℕ) (x : CaseArms) (otherwise : (at lo : ℕ) → List Lined) (n : ℕ)
@@ -918,7 +954,7 @@ module _ (p : Program) (tables : Tables) (r : ℕ) where
     cases_round line value bound jump at lo (more_cases [] body rest) otherwise n f = let z =
         cases_round line value bound jump at lo rest otherwise n f in omega (arith, z)
     cases_round line value bound jump at lo (more_cases (label ∷ labels) body rest) otherwise n f =
-        let inner : List Lined = stmts_code p tables r (behind_labels at labels) lo body in
+        let inner : List Lined = stmts_code p tables r (behind_labels at label labels) lo body in
         let one : List Lined = case_arm line value bound at label labels inner in
         let lo2 : ℕ = behind_stmts p r lo body in
         let next : ℕ = at + length (one ++ own line (I.Jump jump ∷ [])) in
@@ -928,7 +964,7 @@ module _ (p : Program) (tables : Tables) (r : ℕ) where
           others,
           by_jump_round line jump one (cases_code p tables r line value bound jump next lo2 rest otherwise),
           arm_round line value bound at label labels inner,
-          stmts_round line (behind_labels at labels) lo body,
+          stmts_round line (behind_labels at label labels) lo body,
         )
 
     else_round : (line at lo : ℕ) (x : Else) → round line (else_code p tables r line at lo x) ≤ 2 * else_nodes x

@@ -34,7 +34,7 @@ use Rattle.alma_mean.specs.Rows.{ArgValue, ArgNumber, ArgMix, ArgPlace, ArgCells
 use Rattle.alma_mean.specs.Meaning.{Level, ev_stmts, ev_expr, ev_desig, ev_arg, ev_args}
 use Rattle.alma_lower_implements.proofs.Goes.{Goes, before, bind_goes, one_goes}
 use Rattle.alma_lower_implements.proofs.Address.{at_address}
-use Rattle.alma_lower_implements.proofs.Frames.{own_end, SamePlace, HasSlots}
+use Rattle.alma_lower_implements.proofs.Frames.{own_end, HasSlots}
 use Rattle.alma_lower_implements.proofs.FrameLemmas.{numbers_kept, place_kept}
 use Rattle.alma_lower_implements.proofs.ExprRows.{first_kind, slots_behind}
 use Rattle.alma_lower_implements.proofs.ForSteps.{move_step}
@@ -43,19 +43,20 @@ use Rattle.alma_lower_implements.proofs.Steps.{Holds, InstrAt, top_written, pass
 use Rattle.alma_lower_implements.proofs.Ways.{Ways, Leaves, Runs}
 use Rattle.alma_lower_templates.specs.Lined.{Lined, own}
 use Rattle.alma_lower_templates.specs.Tables.{Tables, range_number, is_whole}
-use Rattle.alma_lower_templates.specs.Pieces.{fit_code, put_code, straight, unless_whole}
-use Rattle.alma_lower_templates.specs.Slots.{bare, ends_alone, is_straight, unless_bare, handed_slots, arg_kind, arg_slots, desig_cells}
-use Rattle.alma_lower_templates.specs.Slots.{cells_behind}
-use Rattle.alma_lower_templates.specs.Templates.{expr_code, desig_code, value_at, place_at, arg_code, args_code}
+use Rattle.alma_lower_templates.specs.Pieces.{fit_code, put_code, straight, placed, unless_whole}
+use Rattle.alma_lower_templates.specs.Slots.{bare, own_place, ends_alone, is_straight, unless_bare, handed_slots, arg_kind, arg_slots}
+use Rattle.alma_lower_templates.specs.Slots.{desig_cells, cells_behind}
+use Rattle.alma_lower_templates.specs.Templates.{expr_code, desig_code, value_at, handed_code, arg_code, args_code}
 use Rattle.alma_lower_templates.specs.Stands.{Stands}
 use Rattle.alma_lower_templates.proofs.Stands.{stands_front, stands_back}
 use Rattle.alma_lower_templates.proofs.Parts.{Begins, Left, begins, left_self, left_on, left_temp, holds_temp, has_kind, holds_after}
 use Rattle.alma_lower_templates.proofs.Parts.{IsValue, ValueIn, PlaceIn, NodeFor, From, from_more, leaving, as_runs, node_runs, then_from}
 use Rattle.alma_lower_templates.proofs.Parts.{step_from, ends_here}
-use Rattle.alma_lower_templates.proofs.PlaceSteps.{in_range_reads, in_range_passes, in_range_faults, same_step}
+use Rattle.alma_lower_templates.proofs.PlaceSteps.{in_range_reads, in_range_passes, in_range_faults}
 use Rattle.alma_lower_templates.proofs.AtOnce.{AtOnce, at_once}
 use Rattle.alma_lower_templates.proofs.ExprForms.{RunsTo}
 use Rattle.alma_lower_templates.proofs.Straight.{alone_bare}
+use Rattle.alma_lower_templates.proofs.Placed.{handed_is}
 use Rattle.alma_lower_templates.proofs.NewFrame.{PlaceAlike, HandedAs, a_value, a_place, mix_value, mix_place, some_cells, AllHanded}
 use Rattle.alma_lower_templates.proofs.Handing.{HeldFrom}
 
@@ -265,57 +266,40 @@ module _ (p : Program) (tables : Tables) (code : PlainCode) (input : List ℕ) (
   place_arg : (k : ArgKind) (n cells : ℕ) (wrap : Place → ArgValue)
       → ((x : Place) (c : CellPlace) (v : Store) (now : List PlainFrame) → PlaceAlike p code v now cells x c
       → HandedAs p code v now k n (wrap x) (cell.Place c))
-      → (d : Desig) (to la at : ℕ) → to < la → own_end p r ≤ to → slice_get (kinds_at code r) to ≡ Some (slot.Place cells)
-      → NodeFor p code input r line at la (desig_code p tables r line at la d) (ev_desig p input below d)
-      (PlaceIn p code input (place_at p tables r la d) cells) q
-      → NodeFor p code input r line at to (desig_code p tables r line at la d ++ own line (I.Same to (place_at p tables r la d) ∷ []))
+      → (d : Desig) (to la at : ℕ) → own_end p r ≤ to
+      → NodeFor p code input r line at to (placed to (desig_code p tables r line at la d)) (ev_desig p input below d)
+      (PlaceIn p code input to cells) q
+      → NodeFor p code input r line at to (handed_code p tables r (own_place d) line to (desig_code p tables r line at la d))
       (λ v. node (bind (ev_desig p input below d v) (λ t x. one t (wrap x)))) (ArgIn to k n) q
-  place_arg k n cells wrap made_of d to la at small own_to kind runs stands v now b =
-      let first : List Lined = desig_code p tables r line at la d in
-      let from : ℕ = place_at p tables r la d in
-      let second : List Lined = own line (I.Same to from ∷ []) in
-      let m : ℕ = at + length first in
-      let exit : ℕ = at + length (first ++ second) in
-      let behind : Stands code m second = stands_back code at first second stands in
-      let whole : length (first ++ second) ≡ length first + 1 = length-append first second in
-      let end : m + 1 ≡ exit = omega (arith, whole) in
+  place_arg k n cells wrap made_of d to la at own_to runs =
+      subst (λ c. NodeFor p code input r line at to c (λ v. node (bind (ev_desig p input below d v) (λ t x. one t (wrap x)))) (ArgIn to k n)
+      q) (sym (handed_is p tables r to line at la d))
+      (λ stands v now b.
+      let exit : ℕ = at + length (placed to (desig_code p tables r line at la d)) in
       node_runs p code input line 0 at exit now (leaving p code input to r now (ArgIn to k n))
       (bind (ev_desig p input below d v) (λ t x. one t (wrap x))) q (omega arith)
-      (then_from p code input line at m exit to la r now (PlaceIn p code input from cells) (ArgIn to k n) (ev_desig p input below d v)
-      (λ t x. one t (wrap x)) q (omega (arith, small)) own_to
-      (runs (stands_front code at first second stands) v now b)
+      (then_from p code input line at exit exit to to r now (PlaceIn p code input to cells) (ArgIn to k n) (ev_desig p input below d v)
+      (λ t x. one t (wrap x)) q (omega arith) own_to (runs stands v now b)
       (λ u x t left place.
-      let bt : Begins p code input r u t = begins p code input la r now u t left in
-      let c : CellPlace = record { frame = place.place.frame; slot = place.place.slot; len = cells } in
-      let later : List PlainFrame = top_written t to (cell.Place c) in
-      let one_more : Left p code input to r t u later = left_temp p code input to r to u t (cell.Place c) (omega arith) own_to bt in
-      let same : SamePlace p u x c = record { frame = place.same.frame; slot = place.same.slot; size = place.sized } in
-      let alike : PlaceAlike p code u later cells x c =
-      record { same = same; numbers = numbers_kept p code to x u u t later bt.stand one_more.fits place.numbers; size = place.sized } in
-      step_from p code input line 7 m exit exit to r u t later (ArgIn to k n) (one u (wrap x)) q own_to
-      (λ held s is.
-      let z = same_step code input line m t held s is to from cells place.place (record { instr = behind.0; on_line = behind.1 })
-      (has_kind p code input r to u t (slot.Place cells) kind bt) place.holds in
-      record { to = z.to; silently = z.silently; is = at_address (m + 1) exit later held z.to end z.is })
-      one_more
-      (ends_here p code input line 7 exit to r u later (ArgIn to k n) (wrap x) q (begins p code input to r t u later one_more)
+      ends_here p code input line 8 exit to r u t (ArgIn to k n) (wrap x) q (begins p code input to r now u t left)
       (record {
-        cell = cell.Place c;
-        handed = made_of x c u later alike;
-        holds =
-            holds_temp p code input r to u t (cell.Place c) (slot.Place cells) kind bt;
+        cell = cell.Place place.place;
+        handed = made_of x place.place u t (record { same = place.same; numbers = place.numbers; size = place.sized });
+        holds = place.holds;
       }))))
 
   -- what an argument asks of its part
+  abbrev pub PlacePart : (at la : ℕ) → Desig → Type 0
+  PlacePart at la d = (to : ℕ) → to < la → own_end p r ≤ to → slice_get (kinds_at code r) to ≡ Some (slot.Place (desig_cells d))
+      → NodeFor p code input r line at to (placed to (desig_code p tables r line at la d)) (ev_desig p input below d)
+      (PlaceIn p code input to (desig_cells d)) q
+
   abbrev pub ArgPart : (at la : ℕ) → Arg → Type 0
   ArgPart at la (ByValue e range) = ValuePart at la e range
   ArgPart at la (MixValue e range) = ValuePart at la e range
-  ArgPart at la (ByPlace d) = NodeFor p code input r line at la (desig_code p tables r line at la d) (ev_desig p input below d)
-      (PlaceIn p code input (place_at p tables r la d) (desig_cells d)) q
-  ArgPart at la (ByCells d) = NodeFor p code input r line at la (desig_code p tables r line at la d) (ev_desig p input below d)
-      (PlaceIn p code input (place_at p tables r la d) (desig_cells d)) q
-  ArgPart at la (MixPlace d) = NodeFor p code input r line at la (desig_code p tables r line at la d) (ev_desig p input below d)
-      (PlaceIn p code input (place_at p tables r la d) (desig_cells d)) q
+  ArgPart at la (ByPlace d) = PlacePart at la d
+  ArgPart at la (ByCells d) = PlacePart at la d
+  ArgPart at la (MixPlace d) = PlacePart at la d
 
   pub arg_runs : (x : Param) (a : Arg) (to la at : ℕ) → ArgFits x a → HasOneCellAs x.kind x.cells → to < la → own_end p r ≤ to
       → slice_get (kinds_at code r) to ≡ Some (arg_kind a) → ArgPart at la a
@@ -335,23 +319,24 @@ module _ (p : Program) (tables : Tables) (code : PlainCode) (input : List ℕ) (
       (ArgIn to k x.cells) q) (sym fits.0)
       (subst (λ n. NodeFor p code input r line at to (arg_code p tables r line at to la (ByPlace d)) (ev_arg p input below (ByPlace d))
       (ArgIn to kind.Place n) q) cells
-      (place_arg kind.Place (desig_cells d) (desig_cells d) ArgPlace (λ y c v now alike. a_place y c alike) d to la at small own_to has
-      part))
+      (place_arg kind.Place (desig_cells d) (desig_cells d) ArgPlace (λ y c v now alike. a_place y c alike) d to la at own_to
+      (part to small own_to has)))
   arg_runs x (ByCells d) to la at fits one_cell small own_to has part =
       let cells : desig_cells d ≡ x.cells = same_cells d ∙ fits.1 in
       subst (λ k. NodeFor p code input r line at to (arg_code p tables r line at to la (ByCells d)) (ev_arg p input below (ByCells d))
       (ArgIn to k x.cells) q) (sym fits.0)
       (subst (λ n. NodeFor p code input r line at to (arg_code p tables r line at to la (ByCells d)) (ev_arg p input below (ByCells d))
       (ArgIn to kind.Cells n) q) cells
-      (place_arg kind.Cells (desig_cells d) (desig_cells d) ArgCells (λ y c v now alike. some_cells y c alike) d to la at small own_to has
-      part))
+      (place_arg kind.Cells (desig_cells d) (desig_cells d) ArgCells (λ y c v now alike. some_cells y c alike) d to la at own_to
+      (part to small own_to has)))
   arg_runs x (MixPlace d) to la at fits one_cell small own_to has part =
       let of_mix : x.cells ≡ 1 = subst (λ k. HasOneCellAs k x.cells) fits.0 one_cell in
       let cells : desig_cells d ≡ 1 = same_cells d ∙ fits.1 ∙ of_mix in
       subst (λ k. NodeFor p code input r line at to (arg_code p tables r line at to la (MixPlace d)) (ev_arg p input below (MixPlace d))
       (ArgIn to k x.cells) q) (sym fits.0)
       (place_arg kind.Mix x.cells (desig_cells d) ArgPlace
-      (λ y c v now alike. mix_place y c (subst (λ n. PlaceAlike p code v now n y c) cells alike)) d to la at small own_to has part)
+      (λ y c v now alike. mix_place y c (subst (λ n. PlaceAlike p code v now n y c) cells alike)) d to la at own_to
+      (part to small own_to has))
 
   -- ---- all arguments
 

@@ -27,7 +27,7 @@ use Rattle.alma_mean.specs.Meaning.{Level}
 use Rattle.alma_lower_implements.proofs.Frames.{HasSlots}
 use Rattle.alma_lower_implements.proofs.ExprRows.{AreVariables, slots_first, slots_behind}
 use Rattle.alma_lower_templates.specs.Tables.{Tables, range_number, text_number, is_whole}
-use Rattle.alma_lower_templates.specs.Slots.{bare, bare_desig, unless_bare, ends_alone, own_place, is_simple, is_simple_expr, mark_slots}
+use Rattle.alma_lower_templates.specs.Slots.{bare, bare_desig, unless_bare, ends_alone, is_simple, is_simple_expr, mark_slots}
 use Rattle.alma_lower_templates.specs.Slots.{expr_slots, desig_slots, test_slots, is_turned, behind_expr}
 use Rattle.alma_lower_templates.specs.Pieces.{straight}
 use Rattle.alma_lower_templates.specs.Templates.{char_range, expr_code}
@@ -36,8 +36,8 @@ use Rattle.alma_lower_templates.proofs.First.{ConstantFits}
 use Rattle.alma_lower_templates.proofs.Bounds.{LimitRuns}
 use Rattle.alma_lower_templates.proofs.Destinations.{Goal, in_variable, goal_end, goal_ways, GoalFits}
 use Rattle.alma_lower_templates.proofs.ExprForms.{RunsTo, NextRuns}
-use Rattle.alma_lower_templates.proofs.OwnPlace.{OwnFits}
-use Rattle.alma_lower_templates.proofs.FormRuns.{ExprRuns, DesigRuns, TestRuns}
+use Rattle.alma_lower_templates.proofs.FormRuns.{ExprRuns, DesigRuns, PlacedRuns, HeldRuns, TestRuns}
+use Rattle.alma_lower_templates.proofs.DesigForms.{EndFits}
 use Rattle.alma_lower_templates.proofs.GuardedForms.{Decided, decided}
 use Rattle.alma_lower_templates.proofs.Turned.{Turned, compares_two, turned, GoesBack, goes_back}
 use Rattle.alma_mean.specs.Meaning.{ev_test}
@@ -282,8 +282,10 @@ module _ (p : Program) (tables : Tables) (code : PlainCode) (input : List ℕ) w
   module _ (below : Level) (r line q : ℕ) where
     pub record DesigGoes (d : Desig) : Type 0 where
       pub fits : desig_cells d ≡ 1 → BareFits p tables code input below r line q (bare_desig d)
-      pub own : desig_cells d ≡ 1 → OwnFits p code input r (own_place d)
       pub runs : (at lo : ℕ) → HasSlots p code r lo (desig_slots p r d) → DesigRuns p tables code input below r line q at lo d
+      pub held : (at lo : ℕ) → HasSlots p code r lo (desig_slots p r d) → HeldRuns p tables code input below r line q at lo d
+      pub placed : (to at lo : ℕ) → EndFits p tables code input below r line q to to (desig_cells d) → to ≤ lo
+          → HasSlots p code r lo (desig_slots p r d) → PlacedRuns p tables code input below r line q to at lo d
 
     -- both operands of a comparison
     pub record OperandsGo (a b : Expr) : Type 0 where
@@ -320,15 +322,15 @@ module _ (p : Program) (tables : Tables) (code : PlainCode) (input : List ℕ) w
     behind_first x h lo slots = record { once = λ at. once x h at lo slots; constants = h.constants; slots = slots }
 
     pub target : (d : Desig) → DesigGoes d → (at lo : ℕ) → HasSlots p code r lo (unless_bare (bare_desig d) (desig_slots p r d))
-        → bare_desig d ≡ None → DesigRuns p tables code input below r line q at lo d
-    target d h at lo slots none = h.runs at lo (subst (λ o. HasSlots p code r lo (unless_bare o (desig_slots p r d))) none slots)
+        → bare_desig d ≡ None → HeldRuns p tables code input below r line q at lo d
+    target d h at lo slots none = h.held at lo (subst (λ o. HasSlots p code r lo (unless_bare o (desig_slots p r d))) none slots)
 
     -- the variable of a loop, behind the slot of its count
     pub variable : (d : Desig) → DesigGoes d → (at lo : ℕ)
         → HasSlots p code r lo (unless_bare (bare_desig d) (slot.Number ∷ desig_slots p r d)) → bare_desig d ≡ None
-        → DesigRuns p tables code input below r line q at (lo + 1) d
+        → HeldRuns p tables code input below r line q at (lo + 1) d
     variable d h at lo slots none =
-        h.runs at (lo + 1) (slots_behind p code input r lo (slot.Number ∷ []) (desig_slots p r d)
+        h.held at (lo + 1) (slots_behind p code input r lo (slot.Number ∷ []) (desig_slots p r d)
         (subst (λ o. HasSlots p code r lo (unless_bare o (slot.Number ∷ desig_slots p r d))) none slots))
 
     -- the limit of a loop, in its slot
@@ -362,17 +364,17 @@ module _ (p : Program) (tables : Tables) (code : PlainCode) (input : List ℕ) w
             (subst (λ u. HasSlots p code r lo (mark_slots (is_simple u) ++ test_slots p r u)) is slots)
 
     -- a test as a condition behind the body of WHILE
-    pub decides_back : (t : Test) → TestGoes t → is_turned t ≡ true → (at lo top : ℕ) → HasSlots p code r lo (test_slots p r t)
-        → GoesBack p tables code input below r line q at lo top t (ev_test p input below t) q
-    decides_back t h e at lo top = by (turned t e)
+    pub decides_back : (t : Test) → TestGoes t → is_turned t ≡ true → (at lo held top : ℕ) → HasSlots p code r lo (test_slots p r t)
+        → GoesBack p tables code input below r line q at lo held top t (ev_test p input below t) q
+    decides_back t h e at lo held top = by (turned t e)
       where
         by : Turned t → HasSlots p code r lo (test_slots p r t)
-            → GoesBack p tables code input below r line q at lo top t (ev_test p input below t) q
+            → GoesBack p tables code input below r line q at lo held top t (ev_test p input below t) q
         by (compares_two how x y is opposite simple) =
             let o = (h.value (Compare how x y) is).operands how x y refl in
-            subst (λ u. HasSlots p code r lo (test_slots p r u) → GoesBack p tables code input below r line q at lo top u
+            subst (λ u. HasSlots p code r lo (test_slots p r u) → GoesBack p tables code input below r line q at lo held top u
             (ev_test p input below u) q) (sym is)
-            (λ slots. goes_back p tables code input below r line q at lo top how x y opposite simple slots
+            (λ slots. goes_back p tables code input below r line q at lo held top how x y opposite simple slots
             (o.first at lo (slots_first p code input r lo (expr_slots p r x) (unless_bare (bare y) (expr_slots p r y)) slots)) o.fits
             (o.second (behind_expr p r lo x) (slots_behind p code input r lo (expr_slots p r x) (unless_bare (bare y) (expr_slots p r y))
             slots)))

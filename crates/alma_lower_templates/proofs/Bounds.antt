@@ -73,7 +73,7 @@ top_held v n c some there =
 
 -- ---- a first count that is a constant
 
-constant_is : (x : Expr) (n : ℤ) → constant x ≡ Some n → x ≡ Const n
+pub constant_is : (x : Expr) (n : ℤ) → constant x ≡ Some n → x ≡ Const n
 constant_is (Const m) n e = let same : m ≡ n = cc in ap Const same
 constant_is (Load d) n e = absurd (cc)
 constant_is (Chain negated x links) n e = absurd (cc)

@@ -2,7 +2,7 @@
 use Rattle.std.proofs.Common.{◌≡◌, ℕ, zero, suc, ◌+◌, ◌-◌, ◌<◌, ◌≤◌, inl, inr, true, List, [], ◌∷◌, ◌++◌, length, get_or, Some, None}
 use Rattle.std.proofs.Common.{Option, refl, sym, ap, ◌∙◌, subst, arith, ℤ, length-append}
 use Rattle.std.specs.Prelude.{slice_get}
-use Rattle.std.proofs.lemmas.Bool.{cases_eq, cases_lt}
+use Rattle.std.proofs.lemmas.Bool.{cases_eq}
 use Rattle.std.proofs.lemmas.List.{get_or_append_left, get_or-take}
 use Rattle.std.proofs.Math.Seq.{get_or-append_seam}
 use Rattle.alma_base.specs.declared.number.Range.{Range}
@@ -27,7 +27,7 @@ use Rattle.alma_mean.specs.Rows.{ArgValue, enter, as_test, as_value, frame_of}
 use Rattle.alma_mean.specs.Meaning.{Level, ev_stmts, ev_args, ev_test, ev_expr}
 use Rattle.alma_lower_implements.proofs.Goes.{Silently, Goes, no_step, before, bind_goes}
 use Rattle.alma_lower_implements.proofs.Address.{at_address}
-use Rattle.alma_lower_implements.proofs.Frames.{shift, shift_in, own_end, HasLink, StandFor, KeptBelow, Fits, HasSlots, IsAt}
+use Rattle.alma_lower_implements.proofs.Frames.{shift, shift_in, own_end, HasLink, StandFor, Fits, HasSlots, IsAt}
 use Rattle.alma_lower_implements.proofs.FrameLemmas.{top_same, holds_other}
 use Rattle.alma_lower_implements.proofs.ExprRows.{first_kind, slots_first, slots_behind}
 use Rattle.alma_lower_implements.proofs.LinkRows.{LinkedUp, linked_up, ChainsAt, AreLinks, link_goes}
@@ -47,7 +47,8 @@ use Rattle.alma_lower_templates.specs.Stands.{Stands}
 use Rattle.alma_lower_templates.proofs.Stands.{stands_front, stands_back}
 use Rattle.alma_lower_templates.proofs.Parts.{Begins, Left, sound_of, begins, left_self, left_on, left_less, on_from, holds_after, Nothing}
 use Rattle.alma_lower_templates.proofs.Parts.{ValueIn, NodeFor, node_runs, From, leaving, ending, left_temp, holds_temp, has_kind, ResultIs}
-use Rattle.alma_lower_templates.proofs.NewFrame.{AllHanded, with_link, handed_all, IsCompiled, enter_stands}
+use Rattle.alma_lower_templates.proofs.NewFrame.{AllHanded, with_link, handed_all, IsCompiled, enter_stands, enter_given}
+use Rattle.alma_lower_templates.proofs.Given.{frame_kept, given_after}
 use Rattle.alma_lower_templates.proofs.Handing.{HeldFrom, counts_alike, holds_arguments}
 use Rattle.alma_lower_templates.proofs.Args.{ArgsIn, ArgParts, args_run, handed_after}
 
@@ -91,20 +92,6 @@ module _ (p : Program) (code : PlainCode) where
           (routine_at p (routine_at p (get_or v f store.no_frame).routine).outer).level
       above = (nested (get_or v f store.no_frame).routine (stand.routines f lt)).above not_main
 
-  -- each frame has the link that it had
-  frame_kept : (lo k : ℕ) (v w : Store) (now later : List PlainFrame) → k < length v → StandFor p code v now → Fits p code lo now w later
-      → (lo2 : ℕ) × KeptBelow p code lo2 (get_or now k picture.no_frame) (get_or later k picture.no_frame)
-  frame_kept lo k v w now later lt stand fit = elim (cases_lt (suc k) (length later)) [
-    | inl below ↦ (length (get_or now k picture.no_frame).cells, fit.others k below)
-    | inr last ↦
-        let at_later : length later - 1 ≡ k = omega (arith, last, lt, stand.count, fit.same_count) in
-        let at_now : length now - 1 ≡ k = omega (arith, last, lt, stand.count, fit.same_count) in (
-          lo,
-          subst (λ m. KeptBelow p code lo (get_or now k picture.no_frame) (get_or later m picture.no_frame)) at_later
-              (subst (λ m. KeptBelow p code lo (get_or now m picture.no_frame) (last_frame later)) at_now fit.top),
-        )
-  ]
-
   abbrev linked_frame : Cell → ℕ
   linked_frame (cell.Place c) = c.frame
   linked_frame cell.Unknown = 0
@@ -118,7 +105,7 @@ module _ (p : Program) (code : PlainCode) where
   up_same lo f zero v w now later stand fit reached = refl
   up_same lo f (suc k) v w now later stand fit reached =
       let long : length w ≡ length v = sym fit.stand.count ∙ fit.same_count ∙ stand.count in
-      let kept = frame_kept lo f v w now later reached.0 stand fit in
+      let kept = frame_kept p code lo f v w now later reached.0 stand fit in
       let was = stand.frames f reached.0 in
       let is = fit.stand.frames f (omega (arith, long, reached.0)) in
       let same : (get_or w f store.no_frame).routine ≡ (get_or v f store.no_frame).routine = is.routine ∙ kept.1.routine
@@ -211,7 +198,13 @@ module _ (p : Program) (tables : Tables) (code : PlainCode) (input : List ℕ) (
         silently = z.silently;
         frames = z.frames;
         is = at_address (at + 1 + up) (at + length (own line (link_code lo up))) z.frames held z.to e z.is;
-        left = record { fits = z.fits; routine = b.routine; sound = sound_of p code input v z.frames z.fits.stand b.sound.position };
+        left = record {
+          fits = z.fits;
+          routine = b.routine;
+          sound =
+              sound_of p code input v z.frames z.fits.stand b.sound.position
+              (given_after p code lo v v now z.frames b.stand z.fits b.sound.given);
+        };
         link = λ some. z.holds;
       }
 
@@ -393,7 +386,9 @@ module _ (p : Program) (tables : Tables) (code : PlainCode) (input : List ℕ) (
                   is =
                       ap (λ f. get_or f.cells 0 Unknown) (get_or_append_left v (frame_of v called up (routine_at p called) taken ∷ [])
                       store.no_frame 0 (omega (arith, b.stand.some))) ∙ b.sound.position.is;
-                });
+                })
+                (enter_given p code v now b.stand called up back callee.named taken cells callee.is callee.exists callee.first l.0 l.1
+                handed b.sound.given);
           }
 
       -- what the body leaves, and the frames of the caller below it
@@ -423,7 +418,8 @@ module _ (p : Program) (tables : Tables) (code : PlainCode) (input : List ℕ) (
                         is =
                             ap (λ f. get_or f.cells 0 Unknown) (get_or-take (length x - 1) x 0 store.no_frame
                             (omega (arith, h.fits.same_count, h.fits.stand.count, long, some_now))) ∙ h.sound.position.is;
-                      });
+                      })
+                      (given_after p code lo v (without_top x) now (without_last z) b.stand fit b.sound.given);
                 };
           }
 

@@ -1,14 +1,17 @@
 -- CASE, from template to run: labels, arms and the ELSE part.
-use Rattle.std.proofs.Common.{◌≡◌, ◌≢◌, ℕ, suc, ◌+◌, ◌*◌, ◌<◌, ◌≤◌, Bool, true, false, List, [], ◌∷◌, ◌++◌, length, Some, refl, sym, ap}
-use Rattle.std.proofs.Common.{◌∙◌, subst, arith, ℤ}
-use Rattle.std.specs.Prelude.{slice_get, int_le, ◌&&◌}
-use Rattle.std.proofs.lemmas.List.{length-append}
+use Rattle.std.proofs.Common.{◌≡◌, ◌≢◌, ℕ, suc, ◌+◌, ◌<◌, ◌≤◌, Bool, true, false, List, [], ◌∷◌, ◌++◌, length, Some, refl, sym, ap}
+use Rattle.std.proofs.Common.{◌∙◌, subst, arith, ℤ, pos, negsuc}
+use Rattle.std.specs.Prelude.{slice_get, int_le, ◌&&◌, if◌then◌else◌}
+use Rattle.std.proofs.lemmas.Bool.Decides.{nat_tests}
+use Rattle.std.proofs.lemmas.Int.{ints}
+use Rattle.std.proofs.lemmas.List.{length-append, length-map}
 use Rattle.alma_base.specs.Choice.{if_true}
 use Rattle.alma_base.specs.declared.fault.RunFault.TheVariants as fault
 use Rattle.alma_base.specs.declared.number.Range.{Range}
-use Rattle.alma_base.specs.Numbers.{within, bit}
+use Rattle.alma_base.specs.Numbers.{within, bit, int_eq}
 use Rattle.alma_code.specs.declared.cell.Cell.TheVariants as cell
 use Rattle.alma_code.specs.declared.cell.SlotKind.TheVariants as slot
+use Rattle.alma_code.specs.declared.instr.Instr.{Instr}
 use Rattle.alma_code.specs.declared.instr.Instr.TheVariants as I
 use Rattle.alma_code.specs.Picture.{PlainFrame, PlainEntry}
 use Rattle.alma_code.specs.Plain.{PlainCode, kinds_at}
@@ -24,20 +27,69 @@ use Rattle.alma_lower_implements.proofs.FrameLemmas.{holds_other}
 use Rattle.alma_lower_implements.proofs.ChoiceSteps.{jumps}
 use Rattle.alma_lower_implements.proofs.EitherRow.{inner_goes}
 use Rattle.alma_lower_implements.proofs.ExprRows.{some_frames}
-use Rattle.alma_lower_implements.proofs.Steps.{top_written, Holds, Writes, InstrAt, const_step, less_eq_step, zero_jumps, other_goes_on}
+use Rattle.alma_lower_implements.proofs.Steps.{top_written, Holds, Writes, InstrAt, const_step, equal_step, less_eq_step, zero_jumps}
+use Rattle.alma_lower_implements.proofs.Steps.{other_goes_on}
 use Rattle.alma_lower_implements.proofs.Steps.{fault_step}
 use Rattle.alma_lower_implements.proofs.Ways.{Ways, Leaves, LeadsTo, leads_nowhere, leads_by_jump, leads_then}
 use Rattle.alma_lower_templates.specs.Lined.{Lined, own}
 use Rattle.alma_lower_templates.specs.Tables.{Tables}
 use Rattle.alma_lower_templates.specs.Slots.{behind_stmts, behind_expr, behind_dead}
-use Rattle.alma_lower_templates.specs.Pieces.{last_label_code, labels_code, behind_labels, case_arm, passed_over, has_dead}
+use Rattle.alma_lower_templates.specs.Pieces.{labels_code, label_test, test_size, behind_labels, case_arm, passed_over, has_dead}
 use Rattle.alma_lower_templates.specs.Templates.{stmts_code, expr_code, dead_code, case_code, cases_code, else_code}
 use Rattle.alma_lower_templates.specs.Stands.{Stands}
 use Rattle.alma_lower_templates.proofs.Stands.{stands_front, stands_back}
 use Rattle.alma_lower_templates.proofs.Parts.{Begins, begins, Left, left_self, left_temp, has_kind, holds_temp, IsValue, ValueIn, From}
 use Rattle.alma_lower_templates.proofs.Parts.{ending, from_more, from_ending, on_ending, then_ending, as_runs, node_runs, faults_here}
+use Rattle.alma_lower_templates.proofs.Args.{own_both}
+use Rattle.alma_lower_templates.proofs.Exists.{same_number}
 use Rattle.alma_lower_templates.proofs.RangeChecks.{past_from}
 use Rattle.alma_lower_templates.proofs.FormRuns.{ExprRuns, StatementRuns, ListRuns}
+
+-- a number lies in a label of one number where it is that number
+between_one : (a n : ℤ) → (int_le a n && int_le n a) ≡ int_eq a n
+between_one (pos a) (pos n) = grind (arith, ints, nat_tests)
+between_one (pos a) (negsuc n) = grind (arith, ints, nat_tests)
+between_one (negsuc a) (pos n) = grind (arith, ints, nat_tests)
+between_one (negsuc a) (negsuc n) = grind (arith, ints, nat_tests)
+
+within_one : (label : Range) (n : ℤ) → int_eq label.low label.high ≡ true → within label n ≡ int_eq label.low n
+within_one label n e = ap (λ k. int_le label.low n && int_le n k) (sym (same_number label.low label.high e)) ∙ between_one label.low n
+
+-- the tests of a label of one number, and of one of two ends
+abbrev pub one_test : (value bound miss : ℕ) → Range → List Instr
+one_test value bound miss label =
+    I.Const bound label.low ∷ I.Equal (bound + 1) bound value ∷ I.JumpZero (bound + 1) miss ∷ []
+
+abbrev pub both_tests : (value bound miss : ℕ) → Range → List Instr
+both_tests value bound miss label =
+    I.Const bound label.low ∷ I.LessEq (bound + 1) bound value ∷ I.JumpZero (bound + 1) miss
+    ∷ I.Const bound label.high ∷ I.LessEq (bound + 1) value bound ∷ I.JumpZero (bound + 1) miss ∷ []
+
+pub test_long : (value bound miss : ℕ) (label : Range) → length (label_test value bound miss label) ≡ test_size label
+test_long value bound miss label = by (int_eq label.low label.high)
+  where
+    by : (z : Bool) → length (if z then one_test value bound miss label else both_tests value bound miss label) ≡ (if z then 3 else 6)
+    by true = refl
+    by false = refl
+
+-- the labels of an arm end at its body
+pub labels_long : (value bound at hit miss : ℕ) (label : Range) (rest : List Range)
+    → at + length (labels_code value bound at hit miss label rest) ≡ behind_labels at label rest
+labels_long value bound at hit miss label [] = ap (λ n. at + n) (test_long value bound miss label)
+labels_long value bound at hit miss label (label' ∷ rest) =
+    let next : ℕ = at + test_size label + 1 in
+    let test : List Instr = label_test value bound next label in
+    let more : List Instr = labels_code value bound next hit miss label' rest in
+    omega (
+      arith,
+      labels_long value bound next hit miss label' rest,
+      test_long value bound next label,
+      length-append (test ++ (I.Jump hit ∷ [])) more,
+      length-append test (I.Jump hit ∷ []),
+    )
+
+own_long : (line : ℕ) (xs : List Instr) → length (own line xs) ≡ length xs
+own_long line xs = length-map xs (λ i. record { line = line; instr = i })
 
 module _ (p : Program) (tables : Tables) (code : PlainCode) (input : List ℕ) (below : Level) (r line q : ℕ) (may : Bool) where
   -- ---- one label; the number stands in the slot lo
@@ -79,25 +131,22 @@ module _ (p : Program) (tables : Tables) (code : PlainCode) (input : List ℕ) (
       with_one at e h now b value = from_more p code input line 7 8 at exit now (ending p code input may lo r now) e q (omega arith)
           (h now b value)
 
-      -- an end of a label is compared with the number, and the slot is tested
-      end_goes : (z : Bool) (at a d miss : ℕ) (x y w : ℤ) (e : Events NoYield) (now : List PlainFrame) → Begins p code input r v now
-          → IsValue p code input lo n now
-          → InstrAt code input line at (I.Const bound x) → InstrAt code input line (at + 1) (I.LessEq (bound + 1) a d)
-          → InstrAt code input line (at + 1 + 1) (I.JumpZero (bound + 1) miss)
-          → ((t : List PlainFrame) → IsValue p code input lo n t → Holds t bound (cell.Int x) → Holds t a (cell.Int y)
-          × Holds t d (cell.Int w)) → int_le y w ≡ z → (c : ℕ)
+      -- a number of a label is compared with the number, and the slot is tested
+      compared_go : (z : Bool) (at miss : ℕ) (x : ℤ) (e : Events NoYield) (now : List PlainFrame) → Begins p code input r v now
+          → IsValue p code input lo n now → InstrAt code input line at (I.Const bound x)
+          → ((t : List PlainFrame) → Begins p code input r v t → IsValue p code input lo n t → Holds t bound (cell.Int x)
+          → (held : List PlainEntry) (s : State) → IsAt (at + 1) t held s
+          → Writes code input (at + 1) t held s (bound + 1) (cell.Int (bit z)))
+          → InstrAt code input line (at + 1 + 1) (I.JumpZero (bound + 1) miss) → (c : ℕ)
           → (z ≡ true → GoesAt c (at + 1 + 1 + 1) e) → (z ≡ false → GoesAt c miss e)
           → From p code input line (suc (suc (suc c))) at exit now (ending p code input may lo r now) e q
-      end_goes z at a d miss x y w e now b value i j k pick is c on_true on_false =
+      compared_go z at miss x e now b value i compares k c on_true on_false =
           writes_go (suc (suc c)) at bound x e now apart kind b value
           (λ held s there. const_step code input line at now held s there bound x i
           (has_kind p code input r bound v now slot.Number kind b))
           (λ t b1 value1 hx others.
-          let z1 = pick t value1 hx in
-          writes_go (suc c) (at + 1) (bound + 1) (bit (int_le y w)) e t (omega (arith, apart)) kind2 b1 value1
-          (λ held s there. less_eq_step code input line (at + 1) t held s there (bound + 1) a d y w j
-          (has_kind p code input r (bound + 1) v t slot.Number kind2 b1) z1.0 z1.1)
-          (λ t2 b2 value2 hb others2. tested z t2 b2 value2 (subst (λ u. Holds t2 (bound + 1) (cell.Int (bit u))) is hb) on_true on_false))
+          writes_go (suc c) (at + 1) (bound + 1) (bit z) e t (omega (arith, apart)) kind2 b1 value1 (compares t b1 value1 hx)
+          (λ t2 b2 value2 hb others2. tested z t2 b2 value2 hb on_true on_false))
         where
           tested : (z : Bool) (t : List PlainFrame) → Begins p code input r v t → IsValue p code input lo n t
               → Holds t (bound + 1) (cell.Int (bit z)) → (z ≡ true → GoesAt c (at + 1 + 1 + 1) e) → (z ≡ false → GoesAt c miss e)
@@ -111,9 +160,56 @@ module _ (p : Program) (tables : Tables) (code : PlainCode) (input : List ℕ) (
               (λ held s there. let m = zero_jumps code input line (at + 1 + 1) t held s there (bound + 1) miss (bit false) k hb refl in
               record { to = m.to; silently = m.silently; is = m.is }) (other_so refl t b2 value2)
 
+      -- an end of a label
+      end_goes : (z : Bool) (at a d miss : ℕ) (x y w : ℤ) (e : Events NoYield) (now : List PlainFrame) → Begins p code input r v now
+          → IsValue p code input lo n now
+          → InstrAt code input line at (I.Const bound x) → InstrAt code input line (at + 1) (I.LessEq (bound + 1) a d)
+          → InstrAt code input line (at + 1 + 1) (I.JumpZero (bound + 1) miss)
+          → ((t : List PlainFrame) → IsValue p code input lo n t → Holds t bound (cell.Int x) → Holds t a (cell.Int y)
+          × Holds t d (cell.Int w)) → int_le y w ≡ z → (c : ℕ)
+          → (z ≡ true → GoesAt c (at + 1 + 1 + 1) e) → (z ≡ false → GoesAt c miss e)
+          → From p code input line (suc (suc (suc c))) at exit now (ending p code input may lo r now) e q
+      end_goes z at a d miss x y w e now b value i j k pick is c on_true on_false =
+          compared_go z at miss x e now b value i
+          (λ t b1 value1 hx held s there.
+          let z1 = pick t value1 hx in
+          subst (λ u. Writes code input (at + 1) t held s (bound + 1) (cell.Int (bit u))) is
+          (less_eq_step code input line (at + 1) t held s there (bound + 1) a d y w j
+          (has_kind p code input r (bound + 1) v t slot.Number kind2 b1) z1.0 z1.1)) k c on_true on_false
+
+      -- the number of a label of one
+      one_goes : (at miss c : ℕ) (label : Range) (arm next : Events NoYield) → int_eq label.low label.high ≡ true
+          → Stands code at (own line (one_test lo bound miss label)) → GoesAt c (at + 3) arm → GoesAt c miss next
+          → GoesAt (suc (suc (suc c))) at (if_true (within label n) (λ _. arm) (λ _. next))
+      one_goes at miss c label arm next same i on_hit on_miss now b value =
+          subst (λ z. From p code input line (suc (suc (suc c))) at exit now (ending p code input may lo r now)
+          (if_true z (λ _. arm) (λ _. next)) q) (sym (within_one label n same)) (by (int_eq label.low n) refl)
+        where
+          three : at + 1 + 1 + 1 ≡ at + 3
+          three = omega arith
+
+          compares : (z : Bool) → int_eq label.low n ≡ z → (t : List PlainFrame) → Begins p code input r v t
+              → IsValue p code input lo n t → Holds t bound (cell.Int label.low) → (held : List PlainEntry) (s : State)
+              → IsAt (at + 1) t held s → Writes code input (at + 1) t held s (bound + 1) (cell.Int (bit z))
+          compares z is t b1 value1 hx held s there =
+              subst (λ u. Writes code input (at + 1) t held s (bound + 1) (cell.Int (bit u))) is
+              (equal_step code input line (at + 1) t held s there (bound + 1) bound lo label.low n
+              (record { instr = i.2.0; on_line = i.2.1 }) (has_kind p code input r (bound + 1) v t slot.Number kind2 b1) hx
+              value1.holds)
+
+          by : (z : Bool) → int_eq label.low n ≡ z
+              → From p code input line (suc (suc (suc c))) at exit now (ending p code input may lo r now)
+              (if_true z (λ _. arm) (λ _. next)) q
+          by true is =
+              compared_go true at miss label.low arm now b value (record { instr = i.0; on_line = i.1 }) (compares true is)
+              (record { instr = i.2.2.0; on_line = i.2.2.1 }) c (λ e. subst (λ m. GoesAt c m arm) (sym three) on_hit)
+              (λ e. absurd (let bad : true ≡ false = e in cc))
+          by false is =
+              compared_go false at miss label.low next now b value (record { instr = i.0; on_line = i.1 }) (compares false is)
+              (record { instr = i.2.2.0; on_line = i.2.2.1 }) c (λ e. absurd (let bad : false ≡ true = e in cc)) (λ e. on_miss)
+
       -- both ends
-      ends_go : (at miss c : ℕ) (label : Range) (arm next : Events NoYield)
-          → Stands code at (own line (last_label_code lo bound miss label))
+      ends_go : (at miss c : ℕ) (label : Range) (arm next : Events NoYield) → Stands code at (own line (both_tests lo bound miss label))
           → GoesAt c (at + 6) arm → GoesAt c miss next
           → GoesAt (suc (suc (suc (suc (suc (suc c)))))) at (if_true (within label n) (λ _. arm) (λ _. next))
       ends_go at miss c label arm next i on_hit on_miss now b value = low_end (int_le label.low n) refl
@@ -154,51 +250,59 @@ module _ (p : Program) (tables : Tables) (code : PlainCode) (input : List ℕ) (
               (λ e t b1 value1. from_more p code input line c (suc (suc (suc c))) miss exit t (ending p code input may lo r t) next q
               (omega arith) (on_miss t b1 value1)))
 
+      -- a label of either kind
+      test_goes : (at miss c : ℕ) (label : Range) (arm next : Events NoYield) → Stands code at (own line (label_test lo bound miss label))
+          → GoesAt c (at + test_size label) arm → GoesAt c miss next
+          → GoesAt (suc (suc (suc (suc (suc (suc c)))))) at (if_true (within label n) (λ _. arm) (λ _. next))
+      test_goes at miss c label arm next = by (int_eq label.low label.high) refl
+        where
+          by : (z : Bool) → int_eq label.low label.high ≡ z
+              → Stands code at (own line (if z then one_test lo bound miss label else both_tests lo bound miss label))
+              → GoesAt c (at + (if z then 3 else 6)) arm → GoesAt c miss next
+              → GoesAt (suc (suc (suc (suc (suc (suc c)))))) at (if_true (within label n) (λ _. arm) (λ _. next))
+          by false is i on_hit on_miss now b value = ends_go at miss c label arm next i on_hit on_miss now b value
+          by true is i on_hit on_miss now b value =
+              from_more p code input line (suc (suc (suc c))) (suc (suc (suc (suc (suc (suc c)))))) at exit now
+              (ending p code input may lo r now) (if_true (within label n) (λ _. arm) (λ _. next)) q (omega arith)
+              (one_goes at miss c label arm next is i on_hit on_miss now b value)
+
       -- the labels of an arm: the last falls into its body
       pub labels_go : (at hit miss : ℕ) (label : Range) (rest : List Range) (arm next : Unit {0} → Events NoYield)
-          → hit ≡ behind_labels at rest → Stands code at (own line (labels_code lo bound at hit miss label rest))
+          → hit ≡ behind_labels at label rest → Stands code at (own line (labels_code lo bound at hit miss label rest))
           → GoesAt 8 hit (arm tt) → GoesAt 8 miss (next tt) → GoesAt 0 at (try_labels (label ∷ rest) n arm next)
-      labels_go at hit miss label [] arm next is i on_hit on_miss now b value =
-          let here : hit ≡ at + 6 = omega (arith, is) in
-          λ held s there. weaker code input line 0 24 (Leaves exit (ending p code input may lo r now)) held
+      labels_go at hit miss label [] arm next is i on_hit on_miss now b value held s there =
+          weaker code input line 0 24 (Leaves exit (ending p code input may lo r now)) held
           (if_true (within label n) arm next) s 32 14 q q (omega arith) (omega arith)
-          (ends_go at miss 8 label (arm tt) (next tt) i (subst (λ m. GoesAt 8 m (arm tt)) here on_hit) on_miss now b value held s there)
-      labels_go at hit miss label (label' ∷ rest) arm next is i on_hit on_miss now b value =
-          let seven : at + 1 + 1 + 1 + 1 + 1 + 1 + 1 ≡ at + 7 = omega arith in
-          let six : at + 1 + 1 + 1 + 1 + 1 + 1 ≡ at + 6 = omega arith in
-          let later : hit ≡ behind_labels (at + 7) rest = omega (arith, is) in
-          let jump_at : InstrAt code input line (at + 6) (I.Jump hit) =
-          subst (λ m. InstrAt code input line m (I.Jump hit)) six (record { instr = i.2.2.2.2.2.2.0; on_line = i.2.2.2.2.2.2.1 }) in
-          λ held s there. weaker code input line 0 24 (Leaves exit (ending p code input may lo r now)) held
+          (test_goes at miss 8 label (arm tt) (next tt) i (subst (λ m. GoesAt 8 m (arm tt)) is on_hit) on_miss now b value held s there)
+      labels_go at hit miss label (label' ∷ rest) arm next is i on_hit on_miss now b value held s there =
+          let first : ℕ = at + test_size label in
+          let test : List Instr = label_test lo bound (first + 1) label in
+          let more : List Instr = labels_code lo bound (first + 1) hit miss label' rest in
+          let long : length (own line test) ≡ test_size label = own_long line test ∙ test_long lo bound (first + 1) label in
+          let parts : Stands code at ((own line test ++ own line (I.Jump hit ∷ [])) ++ own line more) =
+          subst (Stands code at) (own_both line (test ++ (I.Jump hit ∷ [])) more
+          ∙ ap (λ c. c ++ own line more) (own_both line test (I.Jump hit ∷ []))) i in
+          let front = stands_front code at (own line test ++ own line (I.Jump hit ∷ [])) (own line more) parts in
+          let back = stands_back code at (own line test ++ own line (I.Jump hit ∷ [])) (own line more) parts in
+          let both : length (own line test ++ own line (I.Jump hit ∷ [])) ≡ length (own line test) + 1 =
+          length-append (own line test) (own line (I.Jump hit ∷ [])) in
+          let next_is : at + length (own line test ++ own line (I.Jump hit ∷ [])) ≡ first + 1 = omega (arith, both, long) in
+          let jump_is : at + length (own line test) ≡ first = omega (arith, long) in
+          let jump = stands_back code at (own line test) (own line (I.Jump hit ∷ [])) front in
+          let jump_at : InstrAt code input line first (I.Jump hit) =
+          subst (λ m. InstrAt code input line m (I.Jump hit)) jump_is (record { instr = jump.0; on_line = jump.1 }) in
+          weaker code input line 0 24 (Leaves exit (ending p code input may lo r now)) held
           (if_true (within label n) arm (λ _. try_labels (label' ∷ rest) n arm next)) s 32 15 q q (omega arith) (omega arith)
-          (ends_go at (at + 7) 9 label (arm tt) (try_labels (label' ∷ rest) n arm next) (
-            i.0,
-            i.1,
-            (
-              i.2.0,
-              i.2.1,
-              (
-                i.2.2.0,
-                i.2.2.1,
-                (i.2.2.2.0, i.2.2.2.1, (i.2.2.2.2.0, i.2.2.2.2.1, (i.2.2.2.2.2.0, i.2.2.2.2.2.1, tt))),
-              ),
-            ),
-          )
-          (λ t b1 value1. past_from p tables code input below r line q 8 (at + 6) hit exit t (ending p code input may lo r t) (arm tt)
-          (λ h s2 is2. jumps code input line (at + 6) hit t h s2 is2 jump_at) (on_hit t b1 value1))
-          (λ t b1 value1. from_more p code input line 0 9 (at + 7) exit t (ending p code input may lo r t)
+          (test_goes at (first + 1) 9 label (arm tt) (try_labels (label' ∷ rest) n arm next)
+          (stands_front code at (own line test) (own line (I.Jump hit ∷ [])) front)
+          (λ t b1 value1. past_from p tables code input below r line q 8 first hit exit t (ending p code input may lo r t) (arm tt)
+          (λ h s2 is2. jumps code input line first hit t h s2 is2 jump_at) (on_hit t b1 value1))
+          (λ t b1 value1. from_more p code input line 0 9 (first + 1) exit t (ending p code input may lo r t)
           (try_labels (label' ∷ rest) n arm next) q (omega arith)
-          (labels_go (at + 7) hit miss label' rest arm next later
-          (subst (λ m. Stands code m (own line (labels_code lo bound (at + 7) hit miss label' rest))) seven i.2.2.2.2.2.2.2) on_hit
-          on_miss t b1 value1)) now b value held s there)
+          (labels_go (first + 1) hit miss label' rest arm next is
+          (subst (λ m. Stands code m (own line more)) next_is back) on_hit on_miss t b1 value1)) now b value held s there)
 
   -- ---- the arms behind the first that has a label
-
-  labels_long : (value bound at hit miss : ℕ) (label : Range) (rest : List Range)
-      → length (own line (labels_code value bound at hit miss label rest)) ≡ 7 * length rest + 6
-  labels_long value bound at hit miss label [] = refl
-  labels_long value bound at hit miss label (label' ∷ rest) = let z = labels_long value bound (at + 7) hit miss label' rest in
-      omega (arith, z)
 
   module _ (lo bound : ℕ) (apart : lo < bound) (behind : own_end p r ≤ lo) (kind : slice_get (kinds_at code r) bound ≡ Some slot.Number)
       (kind2 : slice_get (kinds_at code r) (bound + 1) ≡ Some slot.Number) (els : Else) where
@@ -219,19 +323,20 @@ module _ (p : Program) (tables : Tables) (code : PlainCode) (input : List ℕ) (
 
     -- one arm; it leaves from behind its body
     arm_goes : (at la exit : ℕ) (label : Range) (labels : List Range) (body : Stmts) (rest : Store → ℤ → Events NoYield) (v : Store) (n : ℤ)
-        → lo ≤ la → Stands code at (case_arm line lo bound at label labels (stmts_code p tables r (behind_labels at labels) la body))
-        → ListRuns p tables code input below r line q may (behind_labels at labels) la body
-        → LeadsTo code input 8 (behind_labels at labels + length (stmts_code p tables r (behind_labels at labels) la body)) exit
+        → lo ≤ la → Stands code at (case_arm line lo bound at label labels (stmts_code p tables r (behind_labels at label labels) la body))
+        → ListRuns p tables code input below r line q may (behind_labels at label labels) la body
+        → LeadsTo code input 8 (behind_labels at label labels + length (stmts_code p tables r (behind_labels at label labels) la body)) exit
         → GoesAt lo bound exit v n apart behind kind kind2 8
-        (behind_labels at labels + length (stmts_code p tables r (behind_labels at labels) la body) + 1) (rest v n)
+        (behind_labels at label labels + length (stmts_code p tables r (behind_labels at label labels) la body) + 1) (rest v n)
         → GoesAt lo bound exit v n apart behind kind kind2 0
         at (try_labels (label ∷ labels) n (λ _. node (ev_stmts p input below body v)) (λ _. rest v n))
     arm_goes at la exit label labels body rest v n le stands runs leads later =
-        let hit : ℕ = behind_labels at labels in
+        let hit : ℕ = behind_labels at label labels in
         let made : List Lined = stmts_code p tables r hit la body in
         let miss : ℕ = hit + length made + 1 in
         let front : List Lined = own line (labels_code lo bound at hit miss label labels) in
-        let here : at + length front ≡ hit = omega (arith, labels_long lo bound at hit miss label labels) in
+        let here : at + length front ≡ hit =
+        omega (arith, own_long line (labels_code lo bound at hit miss label labels), labels_long lo bound at hit miss label labels) in
         let body_at : Stands code hit made = subst (λ m. Stands code m made) here (stands_back code at front made stands) in
         labels_go lo bound exit v n apart behind kind kind2 at hit miss label labels (λ _. node (ev_stmts p input below body v))
         (λ _. rest v n) refl (stands_front code at front made stands)
@@ -248,7 +353,7 @@ module _ (p : Program) (tables : Tables) (code : PlainCode) (input : List ℕ) (
         → ((next : ℕ) → CasesRun jump next (behind_stmts p r la body) rest) → CasesRun jump at la (more_cases (label ∷ labels) body rest)
     unfolding ev_stmts
     labelled_run jump at la label labels body rest le runs others stands exit is leads v n now b value =
-        let hit : ℕ = behind_labels at labels in
+        let hit : ℕ = behind_labels at label labels in
         let made : List Lined = stmts_code p tables r hit la body in
         let head : List Lined = case_arm line lo bound at label labels made in
         let out : List Lined = own line (I.Jump jump ∷ []) in
@@ -259,7 +364,9 @@ module _ (p : Program) (tables : Tables) (code : PlainCode) (input : List ℕ) (
         let labels_part : List Lined = own line (labels_code lo bound at hit (hit + length made + 1) label labels) in
         let long : length head ≡ length labels_part + length made = length-append labels_part made in
         let y : ℕ = hit + length made in
-        let ends : at + length head ≡ y = omega (arith, long, labels_long lo bound at hit (hit + length made + 1) label labels) in
+        let tests : List Instr = labels_code lo bound at hit (hit + length made + 1) label labels in
+        let ends : at + length head ≡ y =
+        omega (arith, long, own_long line tests, labels_long lo bound at hit (hit + length made + 1) label labels) in
         let both : length (head ++ out) ≡ length head + 1 = length-append head out in
         let whole : length ((head ++ out) ++ after) ≡ length (head ++ out) + length after = length-append (head ++ out) after in
         let here : next ≡ y + 1 = omega (arith, both, ends) in
@@ -338,7 +445,7 @@ module _ (p : Program) (tables : Tables) (code : PlainCode) (input : List ℕ) (
         → FirstRun at la (more_cases (label ∷ labels) body rest)
     unfolding ev_stmts
     labelled_first_run at la label labels body rest le runs others stands exit is v n now b value =
-        let hit : ℕ = behind_labels at labels in
+        let hit : ℕ = behind_labels at label labels in
         let made : List Lined = stmts_code p tables r hit la body in
         let head : List Lined = case_arm line lo bound at label labels made in
         let jump : ℕ = at + length head in
@@ -350,7 +457,9 @@ module _ (p : Program) (tables : Tables) (code : PlainCode) (input : List ℕ) (
         let labels_part : List Lined = own line (labels_code lo bound at hit (hit + length made + 1) label labels) in
         let long : length head ≡ length labels_part + length made = length-append labels_part made in
         let y : ℕ = hit + length made in
-        let ends : jump ≡ y = omega (arith, long, labels_long lo bound at hit (hit + length made + 1) label labels) in
+        let tests : List Instr = labels_code lo bound at hit (hit + length made + 1) label labels in
+        let ends : jump ≡ y =
+        omega (arith, long, own_long line tests, labels_long lo bound at hit (hit + length made + 1) label labels) in
         let whole : length (head ++ (out ++ after)) ≡ length head + suc (length after) = length-append head (out ++ after) in
         let end : jump + 1 + length after ≡ exit = omega (arith, is, whole) in
         let here : next ≡ y + 1 = omega (arith, ends) in

@@ -33,15 +33,15 @@ use Rattle.alma_lower_implements.proofs.Steps.{InstrAt, passed, does, went_on, p
 use Rattle.alma_lower_templates.specs.Lined.{Lined, own, in_row}
 use Rattle.alma_lower_templates.specs.Tables.{Tables}
 use Rattle.alma_lower_templates.specs.Slots.{behind_desig}
-use Rattle.alma_lower_templates.specs.Templates.{desig_code, place_at}
+use Rattle.alma_lower_templates.specs.Templates.{held_at}
 use Rattle.alma_lower_templates.proofs.Stands.{stands_front, stands_back}
 use Rattle.alma_lower_templates.proofs.Parts.{Begins, begins, Left, left_self, left_on, place_after, IsPlace, PlaceIn, Nothing, NodeRuns}
 use Rattle.alma_lower_templates.proofs.Parts.{NodeFor, From, leaving, from_more, node_runs, then_from, step_from, faults_here, fails_here}
 use Rattle.alma_lower_templates.proofs.Parts.{ends_here}
 use Rattle.alma_lower_templates.proofs.CellEnds.{CellIs, is_number, is_unknown, cell_there}
 use Rattle.alma_lower_templates.proofs.CellsMoved.{left_cell}
-use Rattle.alma_lower_templates.proofs.Targets.{place_within, left_put}
-use Rattle.alma_lower_templates.proofs.FormRuns.{DesigRuns, TestRuns, StmtRuns}
+use Rattle.alma_lower_templates.proofs.Targets.{left_put}
+use Rattle.alma_lower_templates.proofs.FormRuns.{held_code, HeldRuns, TestRuns, StmtRuns}
 
 module _ (p : Program) (code : PlainCode) (input : List ℕ) where
   -- so many cells of a frame, in the store and in the machine
@@ -361,24 +361,23 @@ module _ (p : Program) (tables : Tables) (code : PlainCode) (input : List ℕ) (
   -- ---- two designators, and an instruction
 
   pair_runs : (at lo : ℕ) (d e : Desig) (i : Instr) (last : Store → Place → Place → Events NoYield) → own_end p r ≤ lo
-      → DesigRuns p tables code input below r line q at lo d
-      → ((next : ℕ) → DesigRuns p tables code input below r line q next (behind_desig p r lo d) e)
+      → HeldRuns p tables code input below r line q at lo d
+      → ((next : ℕ) → HeldRuns p tables code input below r line q next (behind_desig p r lo d) e)
       → ((m : ℕ) (u : Store) (t : List PlainFrame) (k l : Place) → Begins p code input r u t
-      → IsPlace p code input (place_at p tables r lo d) (desig_cells d) u k t
-      → IsPlace p code input (place_at p tables r (behind_desig p r lo d) e) (desig_cells e) u l t → InstrAt code input line m i
+      → IsPlace p code input (held_at p tables r lo d) (desig_cells d) u k t
+      → IsPlace p code input (held_at p tables r (behind_desig p r lo d) e) (desig_cells e) u l t → InstrAt code input line m i
       → Ends m lo u t (last u k l))
-      → NodeFor p code input r line at lo (in_row at (desig_code p tables r line at lo d)
-      (λ next. desig_code p tables r line next (behind_desig p r lo d) e) ++ own line (i ∷ []))
+      → NodeFor p code input r line at lo (in_row at (held_code p tables r line at lo d)
+      (λ next. held_code p tables r line next (behind_desig p r lo d) e) ++ own line (i ∷ []))
       (λ v. node (bind (ev_desig p input below d v) (λ t k. bind (ev_desig p input below e t) (λ u l. last u k l)))) (Nothing p code input)
       q
   pair_runs at lo d e i last behind runs others ends stands v now b =
-      let a : ℕ = place_at p tables r lo d in
+      let a : ℕ = held_at p tables r lo d in
       let la : ℕ = behind_desig p r lo d in
-      let c : ℕ = place_at p tables r la e in
-      let inside = place_within p tables code input below r line q lo d in
-      let first : List Lined = desig_code p tables r line at lo d in
+      let c : ℕ = held_at p tables r la e in
+      let first : List Lined = held_code p tables r line at lo d in
       let m : ℕ = at + length first in
-      let second : List Lined = desig_code p tables r line m la e in
+      let second : List Lined = held_code p tables r line m la e in
       let front = stands_front code at (first ++ second) (own line (i ∷ [])) stands in
       let back = stands_back code at (first ++ second) (own line (i ∷ [])) stands in
       let both : length (first ++ second) ≡ length first + length second = length-append first second in
@@ -396,37 +395,37 @@ module _ (p : Program) (tables : Tables) (code : PlainCode) (input : List ℕ) (
       (node_runs p code input line 0 at (m2 + 1) now w whole_events q (omega arith)
       (then_from p code input line at m (m2 + 1) lo lo r now (PlaceIn p code input a (desig_cells d)) (Nothing p code input)
       (ev_desig p input below d v) (λ t k. bind (ev_desig p input below e t) (λ u l. last u k l)) q (omega arith) behind
-      (runs (stands_front code at first second front) v now b)
+      (runs.runs (stands_front code at first second front) v now b)
       (λ u k t left place.
       let b1 = begins p code input lo r now u t left in
       from_more p code input line 0 8 m (m2 + 1) t (leaving p code input lo r t (Nothing p code input))
       (bind (ev_desig p input below e u) (λ u2 l. last u2 k l)) q (omega arith)
       (then_from p code input line m m2 (m2 + 1) lo la r t (PlaceIn p code input c (desig_cells e)) (Nothing p code input)
       (ev_desig p input below e u) (λ u2 l. last u2 k l) q (omega arith) behind
-      (others m (stands_back code at first second front) u t b1)
+      ((others m).runs (stands_back code at first second front) u t b1)
       (λ u2 l t2 left2 place2.
       ends m2 u2 t2 k l (begins p code input la r t u2 t2 left2)
-      (place_after p code input la r a (desig_cells d) k u u2 t t2 b1 (omega (arith, behind, inside.0)) inside.1 left2 place) place2
+      (place_after p code input la r a (desig_cells d) k u u2 t t2 b1 (omega (arith, behind)) runs.within left2 place) place2
       there)))))
 
   pub copy_runs : (at lo : ℕ) (d e : Desig) → own_end p r ≤ lo → desig_cells d ≡ desig_cells e
-      → DesigRuns p tables code input below r line q at lo d
-      → ((next : ℕ) → DesigRuns p tables code input below r line q next (behind_desig p r lo d) e)
+      → HeldRuns p tables code input below r line q at lo d
+      → ((next : ℕ) → HeldRuns p tables code input below r line q next (behind_desig p r lo d) e)
       → StmtRuns p tables code input below r line q at lo (CopyCells d e)
   unfolding ev_expr
   copy_runs at lo d e behind long runs others =
-      pair_runs at lo d e (I.CopyCells (place_at p tables r lo d) (place_at p tables r (behind_desig p r lo d) e))
+      pair_runs at lo d e (I.CopyCells (held_at p tables r lo d) (held_at p tables r (behind_desig p r lo d) e))
       (λ u k l. one (copy_cells u k l) tt) behind runs others
-      (λ m u t k l b h h2 i. copy_ends m lo (place_at p tables r lo d) (place_at p tables r (behind_desig p r lo d) e) (desig_cells e) u t k
-      l behind b (subst (λ n. IsPlace p code input (place_at p tables r lo d) n u k t) long h) h2 i)
+      (λ m u t k l b h h2 i. copy_ends m lo (held_at p tables r lo d) (held_at p tables r (behind_desig p r lo d) e) (desig_cells e) u t k
+      l behind b (subst (λ n. IsPlace p code input (held_at p tables r lo d) n u k t) long h) h2 i)
 
   pub match_runs : (at lo : ℕ) (d e : Desig) → own_end p r ≤ lo → desig_cells d ≡ desig_cells e
-      → DesigRuns p tables code input below r line q at lo d
-      → ((next : ℕ) → DesigRuns p tables code input below r line q next (behind_desig p r lo d) e)
+      → HeldRuns p tables code input below r line q at lo d
+      → ((next : ℕ) → HeldRuns p tables code input below r line q next (behind_desig p r lo d) e)
       → TestRuns p tables code input below r line q at lo (SameCells d e)
   unfolding ev_expr
   match_runs at lo d e behind long runs others =
-      pair_runs at lo d e (I.SameCells (place_at p tables r lo d) (place_at p tables r (behind_desig p r lo d) e))
+      pair_runs at lo d e (I.SameCells (held_at p tables r lo d) (held_at p tables r (behind_desig p r lo d) e))
       (λ u k l. match_cells k.size u k l) behind runs others
-      (λ m u t k l b h h2 i. match_ends m lo (place_at p tables r lo d) (place_at p tables r (behind_desig p r lo d) e) (desig_cells e) u t
-      k l behind b (subst (λ n. IsPlace p code input (place_at p tables r lo d) n u k t) long h) h2 i)
+      (λ m u t k l b h h2 i. match_ends m lo (held_at p tables r lo d) (held_at p tables r (behind_desig p r lo d) e) (desig_cells e) u t
+      k l behind b (subst (λ n. IsPlace p code input (held_at p tables r lo d) n u k t) long h) h2 i)

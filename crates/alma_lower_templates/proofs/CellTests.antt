@@ -32,7 +32,7 @@ use Rattle.alma_lower_implements.proofs.Steps.{Holds, InstrAt, passed, does, wen
 use Rattle.alma_lower_templates.specs.Lined.{Lined, own}
 use Rattle.alma_lower_templates.specs.Tables.{Tables, range_number}
 use Rattle.alma_lower_templates.specs.Slots.{bare, unless_bare, behind_desig, behind_expr}
-use Rattle.alma_lower_templates.specs.Templates.{expr_code, desig_code, place_at, value_at}
+use Rattle.alma_lower_templates.specs.Templates.{expr_code, held_at, value_at}
 use Rattle.alma_lower_templates.proofs.Stands.{stands_front, stands_back}
 use Rattle.alma_lower_templates.proofs.Parts.{Begins, begins, place_after, value_after, IsValue, IsPlace, ValueIn, PlaceIn, Nothing}
 use Rattle.alma_lower_templates.proofs.Parts.{NodeRuns, From, leaving, from_more, node_runs, then_from, faults_here, fails_here, ends_here}
@@ -41,8 +41,8 @@ use Rattle.alma_lower_templates.proofs.CellEnds.{CellIs, is_number, is_unknown, 
 use Rattle.alma_lower_templates.proofs.ExprForms.{some_slots}
 use Rattle.alma_lower_templates.proofs.PlaceSteps.{goes_past, content_is}
 use Rattle.alma_lower_templates.proofs.RangeChecks.{past_from}
-use Rattle.alma_lower_templates.proofs.Targets.{place_within, put_goes_on}
-use Rattle.alma_lower_templates.proofs.FormRuns.{ExprRuns, DesigRuns, TestRuns, HasRange}
+use Rattle.alma_lower_templates.proofs.Targets.{put_goes_on}
+use Rattle.alma_lower_templates.proofs.FormRuns.{held_code, ExprRuns, HeldRuns, TestRuns, HasRange}
 
 equal_naturals : (a b : ℕ) → nat_eq a b ≡ nat_eq b a
 equal_naturals a b = by (nat_eq a b) (nat_eq b a) refl refl
@@ -185,15 +185,14 @@ module _ (p : Program) (tables : Tables) (code : PlainCode) (input : List ℕ) (
           (bind_does at a b (range_number tables range) h.place range x cell.Unknown now i has h.holds hx.holds live is))
 
   pub bind_runs : (at lo : ℕ) (d : Desig) (x : Expr) (range : Range) → own_end p r ≤ lo → desig_cells d ≡ 1
-      → HasRange p tables code input below r line q range → DesigRuns p tables code input below r line q at lo d
+      → HasRange p tables code input below r line q range → HeldRuns p tables code input below r line q at lo d
       → ((next : ℕ) → AtOnce p tables code input below r line q next (behind_desig p r lo d) x)
       → TestRuns p tables code input below r line q at lo (Bind d x range true)
   unfolding ev_expr
   bind_runs at lo d x range behind cells has runs once stands v now b =
-      let a : ℕ = place_at p tables r lo d in
+      let a : ℕ = held_at p tables r lo d in
       let la : ℕ = behind_desig p r lo d in
-      let inside = place_within p tables code input below r line q lo d in
-      let first : List Lined = desig_code p tables r line at lo d in
+      let first : List Lined = held_code p tables r line at lo d in
       let m : ℕ = at + length first in
       let second : List Lined = unless_bare (bare x) (expr_code p tables r line m la x) in
       let operand : ℕ = value_at p tables r la x in
@@ -216,7 +215,7 @@ module _ (p : Program) (tables : Tables) (code : PlainCode) (input : List ℕ) (
       (then_from p code input line at m (m2 + 1) lo lo r now (PlaceIn p code input a (desig_cells d)) (Nothing p code input)
       (ev_desig p input below d v) (λ t k. bind (ev_expr p input below x t) (λ u n. bind_cell u k (cell_of u k) range n)) q
       (omega arith) behind
-      (runs (stands_front code at first second front) v now b)
+      (runs.runs (stands_front code at first second front) v now b)
       (λ u k t left place.
       let b1 = begins p code input lo r now u t left in
       from_more p code input line 0 8 m (m2 + 1) t (leaving p code input lo r t (Nothing p code input))
@@ -227,20 +226,20 @@ module _ (p : Program) (tables : Tables) (code : PlainCode) (input : List ℕ) (
       (bind_reads m2 a operand (range_number tables range) place.place t i place.holds)
       (λ u2 n t2 left2 value.
       bind_ends m2 lo a operand (desig_cells d) u2 t2 k range n behind (omega (arith, cells)) has (begins p code input la r t u2 t2 left2)
-      (place_after p code input la r a (desig_cells d) k u u2 t t2 b1 (omega (arith, behind, inside.0)) inside.1 left2 place) value
+      (place_after p code input la r a (desig_cells d) k u u2 t t2 b1 (omega (arith, behind)) runs.within left2 place) value
       i)))))
 
   pub bind_value_runs : (at lo : ℕ) (d : Desig) (x : Expr) (range : Range) → own_end p r ≤ lo → desig_cells d ≡ 1
       → HasRange p tables code input below r line q range → ExprRuns p tables code input below r line q at lo x
-      → ((next : ℕ) → DesigRuns p tables code input below r line q next (behind_expr p r lo x) d)
+      → ((next : ℕ) → HeldRuns p tables code input below r line q next (behind_expr p r lo x) d)
       → TestRuns p tables code input below r line q at lo (Bind d x range false)
   unfolding ev_expr
   bind_value_runs at lo d x range behind cells has runs others stands v now b =
       let la : ℕ = behind_expr p r lo x in
-      let a : ℕ = place_at p tables r la d in
+      let a : ℕ = held_at p tables r la d in
       let first : List Lined = expr_code p tables r line at lo x in
       let m : ℕ = at + length first in
-      let second : List Lined = desig_code p tables r line m la d in
+      let second : List Lined = held_code p tables r line m la d in
       let last : List Lined = own line (I.Bind a lo (range_number tables range) ∷ []) in
       let front = stands_front code at (first ++ second) last stands in
       let back = stands_back code at (first ++ second) last stands in
@@ -266,7 +265,7 @@ module _ (p : Program) (tables : Tables) (code : PlainCode) (input : List ℕ) (
       (bind (ev_desig p input below d u) (λ u2 k. bind_cell u2 k (cell_of u2 k) range n)) q (omega arith)
       (then_from p code input line m m2 (m2 + 1) lo la r t (PlaceIn p code input a (desig_cells d)) (Nothing p code input)
       (ev_desig p input below d u) (λ u2 k. bind_cell u2 k (cell_of u2 k) range n) q (omega arith) behind
-      (others m (stands_back code at first second front) u t b1)
+      ((others m).runs (stands_back code at first second front) u t b1)
       (λ u2 k t2 left2 place.
       bind_ends m2 lo a lo (desig_cells d) u2 t2 k range n behind (omega (arith, cells)) has (begins p code input la r t u2 t2 left2) place
       (value_after p code input la r lo n u u2 t t2 b1 behind (omega (arith, some_slots p code input r x)) left2 value) i)))))
@@ -351,18 +350,17 @@ module _ (p : Program) (tables : Tables) (code : PlainCode) (input : List ℕ) (
 
   pub unify_runs : (at lo : ℕ) (d e : Desig) (range range' : Range) → own_end p r ≤ lo → desig_cells d ≡ 1 → desig_cells e ≡ 1
       → HasRange p tables code input below r line q range → HasRange p tables code input below r line q range'
-      → DesigRuns p tables code input below r line q at lo d
-      → ((next : ℕ) → DesigRuns p tables code input below r line q next (behind_desig p r lo d) e)
+      → HeldRuns p tables code input below r line q at lo d
+      → ((next : ℕ) → HeldRuns p tables code input below r line q next (behind_desig p r lo d) e)
       → TestRuns p tables code input below r line q at lo (Unify d range e range')
   unfolding ev_expr
   unify_runs at lo d e range range' behind cells cells' has has' runs others stands v now b =
-      let a : ℕ = place_at p tables r lo d in
+      let a : ℕ = held_at p tables r lo d in
       let la : ℕ = behind_desig p r lo d in
-      let c : ℕ = place_at p tables r la e in
-      let inside = place_within p tables code input below r line q lo d in
-      let first : List Lined = desig_code p tables r line at lo d in
+      let c : ℕ = held_at p tables r la e in
+      let first : List Lined = held_code p tables r line at lo d in
       let m : ℕ = at + length first in
-      let second : List Lined = desig_code p tables r line m la e in
+      let second : List Lined = held_code p tables r line m la e in
       let last : List Lined = own line (I.Unify a (range_number tables range) c (range_number tables range') ∷ []) in
       let front = stands_front code at (first ++ second) last stands in
       let back = stands_back code at (first ++ second) last stands in
@@ -382,15 +380,15 @@ module _ (p : Program) (tables : Tables) (code : PlainCode) (input : List ℕ) (
       (then_from p code input line at m (m2 + 1) lo lo r now (PlaceIn p code input a (desig_cells d)) (Nothing p code input)
       (ev_desig p input below d v) (λ t k. bind (ev_desig p input below e t)
       (λ u l. unify_cells u k (cell_of u k) range l (cell_of u l) range')) q (omega arith) behind
-      (runs (stands_front code at first second front) v now b)
+      (runs.runs (stands_front code at first second front) v now b)
       (λ u k t left place.
       let b1 = begins p code input lo r now u t left in
       from_more p code input line 0 8 m (m2 + 1) t (leaving p code input lo r t (Nothing p code input))
       (bind (ev_desig p input below e u) (λ u2 l. unify_cells u2 k (cell_of u2 k) range l (cell_of u2 l) range')) q (omega arith)
       (then_from p code input line m m2 (m2 + 1) lo la r t (PlaceIn p code input c (desig_cells e)) (Nothing p code input)
       (ev_desig p input below e u) (λ u2 l. unify_cells u2 k (cell_of u2 k) range l (cell_of u2 l) range') q (omega arith) behind
-      (others m (stands_back code at first second front) u t b1)
+      ((others m).runs (stands_back code at first second front) u t b1)
       (λ u2 l t2 left2 place2.
       unify_ends m2 lo a c (desig_cells d) (desig_cells e) u2 t2 k l range range' behind (omega (arith, cells)) (omega (arith, cells')) has
       has' (begins p code input la r t u2 t2 left2)
-      (place_after p code input la r a (desig_cells d) k u u2 t t2 b1 (omega (arith, behind, inside.0)) inside.1 left2 place) place2 i)))))
+      (place_after p code input la r a (desig_cells d) k u u2 t t2 b1 (omega (arith, behind)) runs.within left2 place) place2 i)))))

@@ -16,6 +16,7 @@ use Rattle.alma_lower_implements.proofs.Frames.{shift_in, own_end, SameContent, 
 use Rattle.alma_lower_implements.proofs.CarryMaps.{same_place_is, same_itself}
 use Rattle.alma_lower_implements.proofs.Carrying.{Alike, SameOption, kind_in, kind_number, laid_fits}
 use Rattle.alma_lower_implements.proofs.FrameLemmas.{put_routine}
+use Rattle.alma_lower_templates.proofs.Given.{given_after}
 use Rattle.alma_lower_templates.proofs.Parts.{Begins, Left, put_position, sound_of}
 
 -- two places that differ
@@ -94,5 +95,6 @@ module _ (p : Program) (code : PlainCode) (input : List ℕ) where
         routine = put_routine v f i a live ∙ begun.routine;
         sound =
             sound_of p code input (put v f i a) (frames_with_cell now f (shift_in p v f + i) b) fit.stand
-            (put_position p code input v f i a free begun.sound.position);
+            (put_position p code input v f i a free begun.sound.position)
+            (given_after p code lo v (put v f i a) now (frames_with_cell now f (shift_in p v f + i) b) begun.stand fit begun.sound.given);
       }

@@ -70,7 +70,7 @@ found same is itself (x ∷ xs) a h = by (same x a) refl h (λ there. found same
     by false e (inr there) later = later there
     by false e (inl here) later = absurd (let bad : true ≡ false = sym (ap (λ y. same y a) here ∙ itself a) ∙ e in cc)
 
-same_number : (a b : ℤ) → int_eq a b ≡ true → a ≡ b
+pub same_number : (a b : ℤ) → int_eq a b ≡ true → a ≡ b
 same_number (pos a) (pos b) e = ap pos (eqb-true a b e)
 same_number (negsuc a) (negsuc b) e = ap negsuc (eqb-true a b e)
 same_number (pos a) (negsuc b) e = absurd (let bad : false ≡ true = e in cc)

@@ -18,10 +18,9 @@ use Rattle.alma_ir.specs.declared.phrase.Op.{Op}
 use Rattle.alma_ir.specs.declared.phrase.Cmp.{Cmp}
 use Rattle.alma_ir.specs.declared.phrase.Cmp.TheVariants as cmp
 use Rattle.alma_ir.specs.Tree.{Program, Expr, Links, Desig, Const, Load, Chain, Compare, Truth, Known, Chr, CallExpr, no_links, more_links}
-use Rattle.alma_ir.specs.Tree.{Value, a_desig, no_sels}
+use Rattle.alma_ir.specs.Tree.{Value}
 use Rattle.alma_ir.specs.Checked.{desig_cells}
-use Rattle.alma_ir.specs.declared.phrase.Root.TheVariants as root
-use Rattle.alma_mean.specs.Store.{Store, Place, cell_of, top_cell}
+use Rattle.alma_mean.specs.Store.{Store, cell_of, top_cell}
 use Rattle.alma_mean.specs.Events.{Events, NoYield, Visit, Fail, one, join, bind}
 use Rattle.alma_mean.specs.Arithmetic.{apply_op, apply_sign, compares}
 use Rattle.alma_mean.specs.Rows.{read_cell, known_bit}
@@ -36,11 +35,11 @@ use Rattle.alma_lower_implements.proofs.Steps.{Holds, InstrAt, const_step, does,
 use Rattle.alma_lower_implements.proofs.Ways.{Ways, Leaves}
 use Rattle.alma_lower_templates.specs.Lined.{Lined, own, in_row}
 use Rattle.alma_lower_templates.specs.Tables.{Tables}
-use Rattle.alma_lower_templates.specs.Slots.{bare, bare_desig, own_place, has_operator, stays, stays_in, unless_bare, expr_slots}
+use Rattle.alma_lower_templates.specs.Slots.{bare, bare_desig, has_operator, stays, stays_in, taken_from, unless_bare, expr_slots}
 use Rattle.alma_lower_templates.specs.Slots.{links_slots, desig_slots, test_slots, mark_slots, is_simple, call_links, handed_slots}
 use Rattle.alma_lower_templates.specs.Slots.{args_slots, behind_expr, behind_value}
 use Rattle.alma_lower_templates.specs.Pieces.{op_code, cmp_code, unequal_code, straight, neg_code}
-use Rattle.alma_lower_templates.specs.Templates.{expr_code, links_code, desig_code, place_at, slot_or, value_at, load_by}
+use Rattle.alma_lower_templates.specs.Templates.{expr_code, links_code, held_at, slot_or, value_at, load_by}
 use Rattle.alma_lower_templates.specs.Stands.{Stands}
 use Rattle.alma_lower_templates.proofs.Stands.{stands_front, stands_back}
 use Rattle.alma_lower_templates.proofs.Parts.{Begins, begins, has_kind, holds_after, value_after, IsValue, ValueIn, PlaceIn, Nothing}
@@ -49,14 +48,12 @@ use Rattle.alma_lower_templates.proofs.Parts.{value_then, alone_from, faults_her
 use Rattle.alma_lower_templates.proofs.Tested.{operands_code, compared_code}
 use Rattle.alma_lower_templates.proofs.AtOnce.{AtOnce, BareFits, at_once, at_once_ways, bare_place}
 use Rattle.alma_lower_templates.proofs.First.{ReadsBoth, second_reads, ConstantFits, stays_is, both_from}
-use Rattle.alma_lower_templates.proofs.OperatorParts.{op_reads, equal_reads, cmp_reads, op_from, sign_from, compare_ends}
+use Rattle.alma_lower_templates.proofs.OperatorParts.{op_reads, neg_reads, equal_reads, cmp_reads, op_from, sign_from, compare_ends}
 use Rattle.alma_lower_templates.proofs.CellEnds.{load_to, known_ends}
 use Rattle.alma_lower_templates.proofs.Destinations.{Destination, first_takes}
-use Rattle.alma_lower_templates.proofs.OwnPlace.{ReadsPlace, OwnFits, own_place_is, own_from}
-use Rattle.alma_lower_templates.proofs.RootForms.{IsParam}
 use Rattle.alma_lower_templates.proofs.Straight.{ends_code, put_by, ends_same, straight_ends, straight_behind, straight_last, some_links}
 use Rattle.alma_lower_templates.proofs.RangeChecks.{past_from}
-use Rattle.alma_lower_templates.proofs.FormRuns.{ExprRuns, DesigRuns, TestRuns}
+use Rattle.alma_lower_templates.proofs.FormRuns.{held_code, ExprRuns, HeldRuns, TestRuns}
 
 module _ (p : Program) (code : PlainCode) (input : List ℕ) (r : ℕ) where
   -- the first slot of an expression is for its value
@@ -133,55 +130,39 @@ module _ (p : Program) (tables : Tables) (code : PlainCode) (input : List ℕ) (
           (λ held s is. reads_unknown code input line at (shift p r + from) now held s (move_reads at lo (shift p r + from) now i) is
           i.on_line hold))
 
-  load_reads : (at to from : ℕ) (now : List PlainFrame) → InstrAt code input line at (I.Load to from) → ReadsPlace code input at from now
-  unfolding act
-  load_reads at to from now i held s is = (_, does code input line at now held s (I.Load to from) is i)
-
-  -- the number at a place: that of a whole parameter stands in its own slot
-  load_by_place : (at lo end : ℕ) (d : Desig) (w : List PlainFrame → Ways ℤ) (o : Option ℕ) → own_place d ≡ o → OwnFits p code input r o
-      → Destination p code input line q lo r end w → DesigRuns p tables code input below r line q at (lo + 1) d → desig_cells d ≡ 1
-      → RunsTo w at (unless_bare o (desig_code p tables r line at (lo + 1) d)
-      ++ own line (I.Load end (slot_or p tables r o (place_at p tables r (lo + 1) d)) ∷ [])) (Load d)
+  -- the number at a place
+  load_by_place : (at lo end : ℕ) (d : Desig) (w : List PlainFrame → Ways ℤ) → Destination p code input line q lo r end w
+      → HeldRuns p tables code input below r line q at (lo + 1) d → desig_cells d ≡ 1
+      → RunsTo w at (held_code p tables r line at (lo + 1) d ++ own line (I.Load end (held_at p tables r (lo + 1) d) ∷ [])) (Load d)
   unfolding ev_expr
-  load_by_place at lo end d w None e fits takes runs cells stands v now b =
-      let inner : List Lined = desig_code p tables r line at (lo + 1) d in
+  load_by_place at lo end d w takes held cells stands v now b =
+      let inner : List Lined = held_code p tables r line at (lo + 1) d in
       let m : ℕ = at + length inner in
-      let last : List Lined = own line (I.Load end (place_at p tables r (lo + 1) d) ∷ []) in
+      let from : ℕ = held_at p tables r (lo + 1) d in
+      let last : List Lined = own line (I.Load end from ∷ []) in
       let back = stands_back code at inner last stands in
       let whole : length (inner ++ last) ≡ length inner + 1 = length-append inner last in
       let exit_is : m + 1 ≡ at + length (inner ++ last) = omega (arith, whole) in
       subst (λ n. NodeRuns p code input line at n now (w now) (ev_expr p input below (Load d) v) q) exit_is
       (node_runs p code input line 0 at (m + 1) now (w now)
       (bind (ev_desig p input below d v) (λ t a. read_cell (cell_of t a) (λ n. one t n))) q (omega arith)
-      (then_ways p code input line at m (m + 1) lo (lo + 1) r now (PlaceIn p code input (place_at p tables r (lo + 1) d) (desig_cells d)) w
+      (then_ways p code input line at m (m + 1) lo (lo + 1) r now (PlaceIn p code input from (desig_cells d)) w
       (ev_desig p input below d v) (λ t a. read_cell (cell_of t a) (λ n. one t n)) q (omega arith) takes.carries
-      (runs (stands_front code at inner last stands) v now b)
-      (λ u a t left place. load_to p code input line q m lo r (place_at p tables r (lo + 1) d) (desig_cells d) u t a (omega (arith, cells))
+      (held.runs (stands_front code at inner last stands) v now b)
+      (λ u a t left place. load_to p code input line q m lo r from (desig_cells d) u t a (omega (arith, cells))
       (begins p code input (lo + 1) r now u t left) place end w takes (record { instr = back.0; on_line = back.1 }))))
-  load_by_place at lo end d w (Some from) e fits takes runs cells stands v now b =
-      let z = own_place_is d from e in
-      let i : InstrAt code input line at (I.Load end (shift p r + from)) = record { instr = stands.0; on_line = stands.1 } in
-      let one_cell : z.0 ≡ 1 = ap desig_cells (sym z.1) ∙ cells in
-      let k : Store → Place → Events ℤ = λ t a. read_cell (cell_of t a) (λ n. one t n) in
-      subst (λ y. NodeRuns p code input line at (at + 1) now (w now) (ev_expr p input below (Load y) v) q) (sym z.1)
-      (node_runs p code input line 0 at (at + 1) now (w now) (bind (ev_desig p input below (a_desig (root.Param from) z.0 no_sels) v) k) q
-      (omega arith)
-      (own_from p code input r below line q at (at + 1) from z.0 v now (w now) k (subst (IsParam p code input r from) (sym one_cell) fits) b
-      i.on_line (load_reads at end (shift p r + from) now i)
-      (λ a place. load_to p code input line q at lo r (shift p r + from) z.0 v now a (omega (arith, one_cell)) b place end w takes i)))
 
   -- whatever variable it is
   load_of : (at lo : ℕ) (d : Desig) (o : Option ℕ) → bare_desig d ≡ o → BareFits p tables code input below r line q o
-      → OwnFits p code input r (own_place d) → (o ≡ None → DesigRuns p tables code input below r line q at (lo + 1) d) → desig_cells d ≡ 1
+      → (o ≡ None → HeldRuns p tables code input below r line q at (lo + 1) d) → desig_cells d ≡ 1
       → HasSlots p code r lo (slot.Number ∷ unless_bare o (desig_slots p r d))
-      → NodeFor p code input r line at lo (unless_bare o (unless_bare (own_place d) (desig_code p tables r line at (lo + 1) d))
+      → NodeFor p code input r line at lo (unless_bare o (held_code p tables r line at (lo + 1) d)
       ++ own line (load_by p tables r o lo d ∷ [])) (ev_expr p input below (Load d)) (ValueIn p code input lo) q
   unfolding ev_expr
-  load_of at lo d None e fits param runs cells slots stands v now b =
+  load_of at lo d None e fits held cells slots stands v now b =
       let takes = first_takes p code input line q lo r slots.behind (first_kind p code input r lo slot.Number (desig_slots p r d) slots) in
-      load_by_place at lo lo d (λ t. leaving p code input lo r t (ValueIn p code input lo)) (own_place d) refl param takes (runs refl) cells
-      stands v now b
-  load_of at lo d (Some from) e fits param runs cells slots stands v now b =
+      load_by_place at lo lo d (λ t. leaving p code input lo r t (ValueIn p code input lo)) takes (held refl) cells stands v now b
+  load_of at lo d (Some from) e fits held cells slots stands v now b =
       let z = bare_place d from e in
       let kind = first_kind p code input r lo slot.Number [] slots in
       let w = leaving p code input lo r now (ValueIn p code input lo) in
@@ -194,23 +175,22 @@ module _ (p : Program) (tables : Tables) (code : PlainCode) (input : List ℕ) (
       (move_from at lo from v now slots.behind kind fits (record { instr = stands.0; on_line = stands.1 }) b) held s here)))
 
   pub load_runs : (at lo : ℕ) (d : Desig) → BareFits p tables code input below r line q (bare_desig d)
-      → OwnFits p code input r (own_place d) → (bare_desig d ≡ None → DesigRuns p tables code input below r line q at (lo + 1) d)
-      → desig_cells d ≡ 1
+      → (bare_desig d ≡ None → HeldRuns p tables code input below r line q at (lo + 1) d) → desig_cells d ≡ 1
       → HasSlots p code r lo (expr_slots p r (Load d)) → ExprRuns p tables code input below r line q at lo (Load d)
-  load_runs at lo d fits param runs cells slots = load_of at lo d (bare_desig d) refl fits param runs cells slots
+  load_runs at lo d fits held cells slots = load_of at lo d (bare_desig d) refl fits held cells slots
 
   -- the number at a place, into any slot
   pub load_straight : (at lo end : ℕ) (d : Desig) (w : List PlainFrame → Ways ℤ) → bare_desig d ≡ None
-      → OwnFits p code input r (own_place d) → DesigRuns p tables code input below r line q at (lo + 1) d → desig_cells d ≡ 1
+      → HeldRuns p tables code input below r line q at (lo + 1) d → desig_cells d ≡ 1
       → Destination p code input line q lo r end w
       → RunsTo w at (straight end (expr_code p tables r line at lo (Load d))) (Load d)
-  load_straight at lo end d w none param runs cells takes =
-      let inner : List Lined = unless_bare (own_place d) (desig_code p tables r line at (lo + 1) d) in
+  load_straight at lo end d w none held cells takes =
+      let inner : List Lined = held_code p tables r line at (lo + 1) d in
       let there : straight end (expr_code p tables r line at lo (Load d)) ≡ inner
-      ++ own line (I.Load end (slot_or p tables r (own_place d) (place_at p tables r (lo + 1) d)) ∷ []) =
+      ++ own line (I.Load end (held_at p tables r (lo + 1) d) ∷ []) =
       ap (λ o. straight end (unless_bare o inner ++ own line (load_by p tables r o lo d ∷ []))) none
-      ∙ straight_last end line inner (I.Load lo (slot_or p tables r (own_place d) (place_at p tables r (lo + 1) d))) in
-      subst (λ c. RunsTo w at c (Load d)) (sym there) (load_by_place at lo end d w (own_place d) refl param takes runs cells)
+      ∙ straight_last end line inner (I.Load lo (held_at p tables r (lo + 1) d)) in
+      subst (λ c. RunsTo w at c (Load d)) (sym there) (load_by_place at lo end d w takes held cells)
 
   -- ---- sums and products
 
@@ -349,11 +329,11 @@ module _ (p : Program) (tables : Tables) (code : PlainCode) (input : List ℕ) (
       (λ t n. bind (apply_sign false t n) (λ u z. ev_links p input below (more_links how y rest) z u))
       (λ n goes. alone_from p code input line 8 at exit now (w now) (ev_links p input below (more_links how y rest) n v) q goes))
 
-  -- a chain whose first operand stays or not, and of which the last operator puts its value into the slot `end`
-  abbrev chain_code : Option ℕ → (at end lo : ℕ) → Bool → Expr → Links → List Lined
-  chain_code o at end lo negated x links =
-      in_row at (unless_bare o (expr_code p tables r line at lo x) ++ own line (neg_code negated lo))
-      (λ next. ends_code p tables r end line next (slot_or p tables r o lo) lo (behind_expr p r lo x) links)
+  -- a chain whose first operand has code or not and stays or not, and of which the last operator puts its value into the slot `end`
+  abbrev chain_code : (taken stays : Option ℕ) → (at end lo : ℕ) → Bool → Expr → Links → List Lined
+  chain_code taken stays at end lo negated x links =
+      in_row at (unless_bare taken (expr_code p tables r line at lo x) ++ own line (neg_code negated lo (value_at p tables r lo x)))
+      (λ next. ends_code p tables r end line next (slot_or p tables r stays lo) lo (behind_expr p r lo x) links)
 
   -- the value behind the sign is the whole, or operators follow
   abbrev Follows : (end lo la : ℕ) (w : List PlainFrame → Ways ℤ) → Links → Type 0
@@ -363,50 +343,77 @@ module _ (p : Program) (tables : Tables) (code : PlainCode) (input : List ℕ) (
       → From p code input line 0 at (at + length (ends_code p tables r end line at lo lo la links)) now (w now)
       (ev_links p input below links n v) q
 
-  -- where it does not
-  chain_of : (at end lo : ℕ) (w : List PlainFrame → Ways ℤ) (negated : Bool) (x : Expr) (links : Links)
-      → Destination p code input line q lo r end w → HasSlots p code r lo (expr_slots p r (Chain negated x links))
-      → ExprRuns p tables code input below r line q at lo x
-      → Follows end lo (behind_expr p r lo x) w links → RunsTo w at (chain_code None at end lo negated x links) (Chain negated x links)
+  -- where there is no sign, and the first operand does not stay
+  chain_of : (at end lo : ℕ) (w : List PlainFrame → Ways ℤ) (x : Expr) (links : Links) → Destination p code input line q lo r end w
+      → HasSlots p code r lo (expr_slots p r (Chain false x links)) → ExprRuns p tables code input below r line q at lo x
+      → Follows end lo (behind_expr p r lo x) w links → RunsTo w at (chain_code None None at end lo false x links) (Chain false x links)
   unfolding ev_expr
-  chain_of at end lo w negated x links takes slots runs others stands v now b =
-      let kind = first_slot p code input r lo (Chain negated x links) slots in
+  chain_of at end lo w x links takes slots runs others stands v now b =
       let inner : List Lined = expr_code p tables r line at lo x in
-      let sign : List Lined = own line (neg_code negated lo) in
+      let m : ℕ = at + length inner in
+      let next : ℕ = at + length (inner ++ []) in
+      let after : List Lined = ends_code p tables r end line next lo lo (behind_expr p r lo x) links in
+      let front = stands_front code at (inner ++ []) after stands in
+      let both : length (inner ++ []) ≡ length inner + 0 = length-append inner [] in
+      let whole : length ((inner ++ []) ++ after) ≡ length (inner ++ []) + length after = length-append (inner ++ []) after in
+      let here : next ≡ m = omega (arith, both) in
+      let exit_is : next + length after ≡ at + length ((inner ++ []) ++ after) = omega (arith, whole) in
+      let exit : ℕ = next + length after in
+      subst (λ e. NodeRuns p code input line at e now (w now) (ev_expr p input below (Chain false x links) v) q) exit_is
+      (node_runs p code input line 0 at exit now (w now)
+      (bind (ev_expr p input below x v) (λ t n. bind (apply_sign false t n) (λ u y. ev_links p input below links y u))) q (omega arith)
+      (then_ways p code input line at m exit lo lo r now (ValueIn p code input lo) w (ev_expr p input below x v)
+      (λ t n. bind (apply_sign false t n) (λ u y. ev_links p input below links y u)) q (omega arith) takes.carries
+      (runs (stands_front code at inner [] front) v now b)
+      (λ u n t left value.
+      alone_from p code input line 8 m exit t (w t) (ev_links p input below links n u) q
+      (subst (λ a. From p code input line 8 a exit t (w t) (ev_links p input below links n u) q) here
+      (from_more p code input line 0 8 next exit t (w t) (ev_links p input below links n u) q (omega arith)
+      (others next (stands_back code at (inner ++ []) after stands) u t n (begins p code input lo r now u t left) value))))))
+
+  -- where there is a sign: it takes the first operand, which may be a variable
+  signed_of : (at end lo : ℕ) (w : List PlainFrame → Ways ℤ) (x : Expr) (links : Links) → Destination p code input line q lo r end w
+      → HasSlots p code r lo (expr_slots p r (Chain true x links)) → AtOnce p tables code input below r line q at lo x
+      → Follows end lo (behind_expr p r lo x) w links → RunsTo w at (chain_code (bare x) None at end lo true x links) (Chain true x links)
+  unfolding ev_expr
+  signed_of at end lo w x links takes slots once others stands v now b =
+      let kind = first_slot p code input r lo (Chain true x links) slots in
+      let inner : List Lined = unless_bare (bare x) (expr_code p tables r line at lo x) in
+      let from : ℕ = value_at p tables r lo x in
+      let sign : List Lined = own line (I.Neg lo from ∷ []) in
       let m : ℕ = at + length inner in
       let next : ℕ = at + length (inner ++ sign) in
       let after : List Lined = ends_code p tables r end line next lo lo (behind_expr p r lo x) links in
       let front = stands_front code at (inner ++ sign) after stands in
-      let both : length (inner ++ sign) ≡ length inner + length sign = length-append inner sign in
+      let back = stands_back code at inner sign front in
+      let i : InstrAt code input line m (I.Neg lo from) = record { instr = back.0; on_line = back.1 } in
+      let both : length (inner ++ sign) ≡ length inner + 1 = length-append inner sign in
       let whole : length ((inner ++ sign) ++ after) ≡ length (inner ++ sign) + length after = length-append (inner ++ sign) after in
-      let here : next ≡ m + length sign = omega (arith, both) in
+      let here : next ≡ m + 1 = omega (arith, both) in
       let exit_is : next + length after ≡ at + length ((inner ++ sign) ++ after) = omega (arith, whole) in
       let exit : ℕ = next + length after in
-      subst (λ e. NodeRuns p code input line at e now (w now) (ev_expr p input below (Chain negated x links) v) q) exit_is
+      subst (λ e. NodeRuns p code input line at e now (w now) (ev_expr p input below (Chain true x links) v) q) exit_is
       (node_runs p code input line 0 at exit now (w now)
-      (bind (ev_expr p input below x v) (λ t n. bind (apply_sign negated t n) (λ u y. ev_links p input below links y u))) q
-      (omega arith)
-      (then_ways p code input line at m exit lo lo r now (ValueIn p code input lo) w (ev_expr p input below x v)
-      (λ t n. bind (apply_sign negated t n) (λ u y. ev_links p input below links y u)) q (omega arith) takes.carries
-      (runs (stands_front code at inner sign front) v now b)
+      (bind (ev_expr p input below x v) (λ t n. bind (apply_sign true t n) (λ u y. ev_links p input below links y u))) q (omega arith)
+      (at_once_ways p tables code input below r line q exit lo lo at v now w
+      (λ t n. bind (apply_sign true t n) (λ u y. ev_links p input below links y u)) (omega arith) takes.carries b x once
+      (stands_front code at inner sign front) i.on_line (neg_reads code input line lo m from now i)
       (λ u n t left value.
-      sign_from p code input line q lo r slots.behind kind u t (begins p code input lo r now u t left) negated m exit w
-      (λ x2 y. ev_links p input below links y x2) n takes.carries (stands_back code at inner sign front) value
+      sign_from p code input line q lo r slots.behind kind u t (begins p code input lo r now u t left) m exit from w
+      (λ x2 y. ev_links p input below links y x2) n takes.carries i value
       (λ z t2 left2 value2.
       subst (λ a. From p code input line 7 a exit t2 (w t2) (ev_links p input below links z u) q) here
       (from_more p code input line 0 7 next exit t2 (w t2) (ev_links p input below links z u) q (omega arith)
       (others next (stands_back code at (inner ++ sign) after stands) u t2 z (begins p code input lo r t u t2 left2) value2))))))
 
-  -- where it does
-  stays_of : (at end lo : ℕ) (w : List PlainFrame → Ways ℤ) (negated : Bool) (x : Expr) (links : Links) (from : ℕ)
-      → stays_in negated x links ≡ Some from → Destination p code input line q lo r end w
-      → HasSlots p code r lo (expr_slots p r (Chain negated x links))
+  -- where the first operand stays
+  stays_of : (at end lo : ℕ) (w : List PlainFrame → Ways ℤ) (x : Expr) (links : Links) (from : ℕ) → stays_in false x links ≡ Some from
+      → Destination p code input line q lo r end w → HasSlots p code r lo (expr_slots p r (Chain false x links))
       → BareFits p tables code input below r line q (bare x) → OthersRun end w lo (behind_expr p r lo x) links
-      → RunsTo w at (chain_code (Some from) at end lo negated x links) (Chain negated x links)
+      → RunsTo w at (chain_code (Some from) (Some from) at end lo false x links) (Chain false x links)
   unfolding ev_expr
-  stays_of at end lo w true x links from e takes slots fits others stands v now b = absurd (cc)
-  stays_of at end lo w false x no_links from e takes slots fits others stands v now b = absurd (cc)
-  stays_of at end lo w false x (more_links how y rest) from e takes slots fits others stands v now b =
+  stays_of at end lo w x no_links from e takes slots fits others stands v now b = absurd (cc)
+  stays_of at end lo w x (more_links how y rest) from e takes slots fits others stands v now b =
       let lo2 : ℕ = behind_expr p r lo x in
       let first : ℕ = shift p r + from in
       let kind = first_slot p code input r lo (Chain false x (more_links how y rest)) slots in
@@ -421,14 +428,18 @@ module _ (p : Program) (tables : Tables) (code : PlainCode) (input : List ℕ) (
       (stays_run at end lo lo2 w how x y rest from e takes (omega (arith, some_slots p code input r x)) slots.behind kind fits others there
       v now b))
 
-  chain_by : (at end lo : ℕ) (w : List PlainFrame → Ways ℤ) (negated : Bool) (x : Expr) (links : Links) (o : Option ℕ)
-      → stays_in negated x links ≡ o → Destination p code input line q lo r end w
-      → HasSlots p code r lo (expr_slots p r (Chain negated x links)) → ExprRuns p tables code input below r line q at lo x
-      → BareFits p tables code input below r line q (bare x) → Follows end lo (behind_expr p r lo x) w links
-      → OthersRun end w lo (behind_expr p r lo x) links → RunsTo w at (chain_code o at end lo negated x links) (Chain negated x links)
-  chain_by at end lo w negated x links None e takes slots runs fits all others = chain_of at end lo w negated x links takes slots runs all
-  chain_by at end lo w negated x links (Some from) e takes slots runs fits all others =
-      stays_of at end lo w negated x links from e takes slots fits others
+  chain_by : (at end lo : ℕ) (w : List PlainFrame → Ways ℤ) (negated : Bool) (x : Expr) (links : Links)
+      → Destination p code input line q lo r end w → HasSlots p code r lo (expr_slots p r (Chain negated x links))
+      → ExprRuns p tables code input below r line q at lo x → BareFits p tables code input below r line q (bare x)
+      → Follows end lo (behind_expr p r lo x) w links → OthersRun end w lo (behind_expr p r lo x) links
+      → RunsTo w at (chain_code (taken_from negated x links) (stays_in negated x links) at end lo negated x links) (Chain negated x links)
+  chain_by at end lo w true x links takes slots runs fits all others =
+      signed_of at end lo w x links takes slots (record { fits = fits; runs = λ none. runs }) all
+  chain_by at end lo w false x links takes slots runs fits all others = by (stays_in false x links) refl
+    where
+      by : (o : Option ℕ) → stays_in false x links ≡ o → RunsTo w at (chain_code o o at end lo false x links) (Chain false x links)
+      by None e = chain_of at end lo w x links takes slots runs all
+      by (Some from) e = stays_of at end lo w x links from e takes slots fits others
 
   -- operators that are some follow in any ways, and none only where the value stands already
   some_follow : (end lo la : ℕ) (w : List PlainFrame → Ways ℤ) (links : Links) → has_operator links ≡ true
@@ -455,11 +466,12 @@ module _ (p : Program) (tables : Tables) (code : PlainCode) (input : List ℕ) (
       let kind = first_slot p code input r lo (Chain negated x links) slots in
       let w : List PlainFrame → Ways ℤ = λ t. leaving p code input lo r t (ValueIn p code input lo) in
       let takes = first_takes p code input line q lo r slots.behind kind in
-      let o : Option ℕ = stays_in negated x links in
-      let front : List Lined = unless_bare o (expr_code p tables r line at lo x) ++ own line (neg_code negated lo) in
-      let is = ap (λ c. front ++ c) (ends_same p tables r line (at + length front) (slot_or p tables r o lo) lo la links) in
+      let front : List Lined = unless_bare (taken_from negated x links) (expr_code p tables r line at lo x)
+      ++ own line (neg_code negated lo (value_at p tables r lo x)) in
+      let is = ap (λ c. front ++ c)
+      (ends_same p tables r line (at + length front) (slot_or p tables r (stays_in negated x links) lo) lo la links) in
       subst (λ c. RunsTo w at c (Chain negated x links)) (sym is)
-      (chain_by at lo lo w negated x links o refl takes slots runs fits
+      (chain_by at lo lo w negated x links takes slots runs fits
       (all_follow lo la links (λ next. behind_run next lo lo la w links takes (omega (arith, some_slots p code input r x)) slots.behind
       kind others)) others)
 
@@ -474,15 +486,15 @@ module _ (p : Program) (tables : Tables) (code : PlainCode) (input : List ℕ) (
       let links : Links = more_links how y rest in
       let la : ℕ = behind_expr p r lo x in
       let kind = first_slot p code input r lo (Chain negated x links) slots in
-      let o : Option ℕ = stays_in negated x links in
-      let first : ℕ = slot_or p tables r o lo in
-      let front : List Lined = unless_bare o (expr_code p tables r line at lo x) ++ own line (neg_code negated lo) in
+      let first : ℕ = slot_or p tables r (stays_in negated x links) lo in
+      let front : List Lined = unless_bare (taken_from negated x links) (expr_code p tables r line at lo x)
+      ++ own line (neg_code negated lo (value_at p tables r lo x)) in
       let next : ℕ = at + length front in
       let is = straight_behind end front (links_code p tables r line next first lo la links)
       (some_links p tables r line next first lo la how y rest)
       ∙ ap (λ c. front ++ c) (straight_ends p tables r end line next first lo la how y rest) in
       subst (λ c. RunsTo w at c (Chain negated x links)) (sym is)
-      (chain_by at end lo w negated x links o refl takes slots runs fits
+      (chain_by at end lo w negated x links takes slots runs fits
       (some_follow end lo la w links e (λ m. behind_run m end lo la w links takes (omega (arith, some_slots p code input r x))
       slots.behind kind others)) others)
 
@@ -683,20 +695,14 @@ module _ (p : Program) (tables : Tables) (code : PlainCode) (input : List ℕ) (
 
   -- ---- KNOWN and CHR
 
-  known_reads : (at to from : ℕ) (now : List PlainFrame) → InstrAt code input line at (I.Known to from) → ReadsPlace code input at from now
-  unfolding act
-  known_reads at to from now i held s is = (_, does code input line at now held s (I.Known to from) is i)
-
-  known_of : (at lo : ℕ) (d : Desig) (o : Option ℕ) → own_place d ≡ o → OwnFits p code input r o
-      → HasSlots p code r lo (expr_slots p r (Known d)) → desig_cells d ≡ 1 → DesigRuns p tables code input below r line q at (lo + 1) d
-      → NodeFor p code input r line at lo (unless_bare o (desig_code p tables r line at (lo + 1) d)
-      ++ own line (I.Known lo (slot_or p tables r o (place_at p tables r (lo + 1) d)) ∷ [])) (ev_expr p input below (Known d))
-      (ValueIn p code input lo) q
+  pub known_runs : (at lo : ℕ) (d : Desig) → HasSlots p code r lo (expr_slots p r (Known d)) → desig_cells d ≡ 1
+      → HeldRuns p tables code input below r line q at (lo + 1) d → ExprRuns p tables code input below r line q at lo (Known d)
   unfolding ev_expr
-  known_of at lo d None e fits slots cells runs stands v now b =
-      let inner : List Lined = desig_code p tables r line at (lo + 1) d in
+  known_runs at lo d slots cells held stands v now b =
+      let inner : List Lined = held_code p tables r line at (lo + 1) d in
       let m : ℕ = at + length inner in
-      let last : List Lined = own line (I.Known lo (place_at p tables r (lo + 1) d) ∷ []) in
+      let from : ℕ = held_at p tables r (lo + 1) d in
+      let last : List Lined = own line (I.Known lo from ∷ []) in
       let back = stands_back code at inner last stands in
       let whole : length (inner ++ last) ≡ length inner + 1 = length-append inner last in
       let end : m + 1 ≡ at + length (inner ++ last) = omega (arith, whole) in
@@ -705,28 +711,9 @@ module _ (p : Program) (tables : Tables) (code : PlainCode) (input : List ℕ) (
       subst (λ n. NodeRuns p code input line at n now w (ev_expr p input below (Known d) v) q) end
       (node_runs p code input line 0 at (m + 1) now w (bind (ev_desig p input below d v) (λ t a. one t (known_bit (cell_of t a)))) q
       (omega arith)
-      (then_from p code input line at m (m + 1) lo (lo + 1) r now (PlaceIn p code input (place_at p tables r (lo + 1) d) (desig_cells d))
+      (then_from p code input line at m (m + 1) lo (lo + 1) r now (PlaceIn p code input from (desig_cells d))
       (ValueIn p code input lo) (ev_desig p input below d v) (λ t a. one t (known_bit (cell_of t a))) q (omega arith) slots.behind
-      (runs (stands_front code at inner last stands) v now b)
-      (λ u a t left place. known_ends p code input line q m lo r (place_at p tables r (lo + 1) d) (desig_cells d) u t a
+      (held.runs (stands_front code at inner last stands) v now b)
+      (λ u a t left place. known_ends p code input line q m lo r from (desig_cells d) u t a
       (omega (arith, cells)) (begins p code input (lo + 1) r now u t left) place slots.behind kind
       (record { instr = back.0; on_line = back.1 }))))
-  known_of at lo d (Some from) e fits slots cells runs stands v now b =
-      let z = own_place_is d from e in
-      let i : InstrAt code input line at (I.Known lo (shift p r + from)) = record { instr = stands.0; on_line = stands.1 } in
-      let one_cell : z.0 ≡ 1 = ap desig_cells (sym z.1) ∙ cells in
-      let kind = first_kind p code input r lo slot.Number (desig_slots p r d) slots in
-      let k : Store → Place → Events ℤ = λ t a. one t (known_bit (cell_of t a)) in
-      let w = leaving p code input lo r now (ValueIn p code input lo) in
-      subst (λ y. NodeRuns p code input line at (at + 1) now w (ev_expr p input below (Known y) v) q) (sym z.1)
-      (node_runs p code input line 0 at (at + 1) now w (bind (ev_desig p input below (a_desig (root.Param from) z.0 no_sels) v) k) q
-      (omega arith)
-      (own_from p code input r below line q at (at + 1) from z.0 v now w k (subst (IsParam p code input r from) (sym one_cell) fits) b
-      i.on_line (known_reads at lo (shift p r + from) now i)
-      (λ a place. known_ends p code input line q at lo r (shift p r + from) z.0 v now a (omega (arith, one_cell)) b place slots.behind kind
-      i)))
-
-  pub known_runs : (at lo : ℕ) (d : Desig) → OwnFits p code input r (own_place d) → HasSlots p code r lo (expr_slots p r (Known d))
-      → desig_cells d ≡ 1 → DesigRuns p tables code input below r line q at (lo + 1) d
-      → ExprRuns p tables code input below r line q at lo (Known d)
-  known_runs at lo d fits slots cells runs = known_of at lo d (own_place d) refl fits slots cells runs

@@ -1,7 +1,9 @@
 -- The instructions of the phrases of a routine are at most 16 for each node.
 use Rattle.std.proofs.Common.{◌≡◌, ℕ, zero, suc, ◌+◌, ◌*◌, ◌≤◌, Bool, true, false, List, [], ◌∷◌, ◌++◌, length, drop, get_or, Option, Some}
-use Rattle.std.proofs.Common.{None, refl, arith, ℤ, pos}
+use Rattle.std.proofs.Common.{None, refl, ap, arith, ℤ, pos}
 use Rattle.std.proofs.lemmas.List.{length-append, length-map}
+use Rattle.std.specs.Prelude.{if◌then◌else◌}
+use Rattle.alma_base.specs.Numbers.{int_eq}
 use Rattle.alma_base.specs.declared.number.Range.{Range}
 use Rattle.alma_code.specs.declared.instr.Instr.{Instr}
 use Rattle.alma_code.specs.declared.instr.Instr.TheVariants as I
@@ -26,16 +28,20 @@ use Rattle.alma_ir.specs.Phrases.{desig_phrases, sels_phrases, sel_phrases}
 use Rattle.alma_lower_templates.specs.Lined.{Lined, own, in_row}
 use Rattle.alma_lower_templates.specs.Pieces.{cmp_code, op_code, neg_code, fit_code, unless_whole, link_code, chain_code, condition}
 use Rattle.alma_lower_templates.specs.Pieces.{guarded, read_code, write_code, truth_code, first_of_two, chosen, passed_over, has_dead}
-use Rattle.alma_lower_templates.specs.Pieces.{case_arm, behind_labels, labels_code, label_code, begin_loop, for_turns, some_turns}
-use Rattle.alma_lower_templates.specs.Pieces.{turn_code, opposite_code, unless_constant, limit_code, put_code}
-use Rattle.alma_lower_templates.specs.Slots.{shift_of, bare, bare_desig, stays, stays_in, unless_bare, is_simple, is_turned, handed_slots}
-use Rattle.alma_lower_templates.specs.Slots.{arg_slots}
+use Rattle.alma_lower_templates.specs.Pieces.{case_arm, behind_labels, labels_code, label_code, label_test, test_size, begin_loop}
+use Rattle.alma_lower_templates.specs.Pieces.{for_turns}
+use Rattle.alma_lower_templates.specs.Pieces.{some_turns, turn_code, opposite_code, unless_constant, limit_code, put_code}
+use Rattle.alma_lower_templates.specs.Pieces.{held_code as constant_code, held_or}
+use Rattle.alma_lower_templates.specs.Slots.{shift_of, bare, bare_desig, stays, stays_in, taken_from, unless_bare, is_simple, is_turned}
+use Rattle.alma_lower_templates.specs.Slots.{handed_slots, arg_slots}
 use Rattle.alma_lower_templates.specs.Slots.{behind_stmts, behind_stmt, behind_test, behind_condition, behind_expr, behind_dead}
 use Rattle.alma_lower_templates.specs.Slots.{behind_value, behind_desig, behind_target, behind_variable, own_place, own_root, goes_straight}
-use Rattle.alma_lower_templates.specs.Slots.{constant, ends_alone, is_straight}
+use Rattle.alma_lower_templates.specs.Slots.{constant, ends_alone, is_straight, behind_held, held_constant}
 use Rattle.alma_lower_templates.specs.Tables.{Tables, range_number, is_whole}
 use Rattle.alma_lower_templates.specs.Templates
 use Rattle.alma_lower_templates.proofs.Straight.{straight_long}
+use Rattle.alma_lower_templates.proofs.FormRuns.{held_code}
+use Rattle.alma_lower_templates.proofs.Placed.{handed_is, placed_long}
 use Rattle.alma_lower_templates.proofs.FewSlots.{Short, AreShort, short_front, short_back, unless_few}
 use Rattle.alma_lower_templates.proofs.Tested.{compared_code, tested_long}
 use Rattle.alma_lower_templates.proofs.Turned.{while_code}
@@ -63,20 +69,38 @@ cmp_some line cmp.LessEq to first other = omega arith
 cmp_some line cmp.Greater to first other = omega arith
 cmp_some line cmp.GreaterEq to first other = omega arith
 
-neg_few : (line : ℕ) (negated : Bool) (to : ℕ) → length (own line (neg_code negated to)) ≤ 1
-neg_few line true to = omega arith
-neg_few line false to = omega arith
+neg_few : (line : ℕ) (negated : Bool) (to from : ℕ) → length (own line (neg_code negated to from)) ≤ 1
+neg_few line true to from = omega arith
+neg_few line false to from = omega arith
 
 chain_long : (from links : ℕ) → length (chain_code from links) ≡ links
 chain_long from zero = refl
 chain_long from (suc links) = let z = chain_long (from + 1) links in omega (arith, z)
 
+label_test_few : (value bound miss : ℕ) (label : Range) → length (label_test value bound miss label) ≤ 6
+label_test_few value bound miss label = by (int_eq label.low label.high)
+  where
+    by : (z : Bool) → length (if z then
+        I.Const bound label.low ∷ I.Equal (bound + 1) bound value ∷ I.JumpZero (bound + 1) miss ∷ [] else
+        (I.Const bound label.low ∷ I.LessEq (bound + 1) bound value ∷ I.JumpZero (bound + 1) miss
+        ∷ I.Const bound label.high ∷ I.LessEq (bound + 1) value bound ∷ I.JumpZero (bound + 1) miss ∷ [])) ≤ 6
+    by true = omega arith
+    by false = omega arith
+
 labels_few : (value bound at hit miss : ℕ) (label : Range) (labels : List Range)
     → length (labels_code value bound at hit miss label labels) ≤ 7 * length labels + 6
-labels_few value bound at hit miss label [] = omega arith
+labels_few value bound at hit miss label [] = let z = label_test_few value bound miss label in omega (arith, z)
 labels_few value bound at hit miss label (label2 ∷ rest) =
-    let z = labels_few value bound (at + 7) hit miss label2 rest in
-    omega (arith, z, length-append (label_code value bound at hit label) (labels_code value bound (at + 7) hit miss label2 rest))
+    let next : ℕ = at + test_size label + 1 in
+    let test : List Instr = label_test value bound next label in
+    let z = labels_few value bound next hit miss label2 rest in
+    omega (
+      arith,
+      z,
+      length-append (label_code value bound at hit label) (labels_code value bound next hit miss label2 rest),
+      length-append test (I.Jump hit ∷ []),
+      label_test_few value bound next label,
+    )
 
 passed_few : (z : Bool) (line at : ℕ) (dead : List Lined) → length (passed_over z line at dead) ≤ 1 + length dead
 passed_few true line at dead = omega arith
@@ -211,10 +235,21 @@ module _ (p : Program) (tables : Tables) (r : ℕ) where
       (λ at lo none. Templates.jump_code p tables r line at lo none u) (λ at lo. Templates.test_code p tables r line at lo u)) body m n
       (λ none. asks_few line at lo none u m j t) b
 
+  -- a first count, and an operand that is held
+  constant_few : (o : Option ℤ) (value : List Lined) → length (unless_constant o value) ≤ length value
+  constant_few (Some n) value = omega arith
+  constant_few None value = omega arith
+
+  one_few : (line : ℕ) (o : Option ℤ) (to : ℕ) → length (own line (constant_code o to)) ≤ 1
+  one_few line (Some n) to = omega arith
+  one_few line None to = omega arith
+
   -- a comparison that goes back is no longer than the test of it
-  back_few : (line at lo top : ℕ) (u : Test)
-      → length (Templates.back_code p tables r line at lo top u) ≤ length (Templates.test_code p tables r line at lo u)
-  back_few line at lo top (Value (Compare how x y)) =
+  back_few : (line at lo held top : ℕ) (u : Test)
+      → length (Templates.back_code p tables r line at lo held top u) ≤ length (Templates.test_code p tables r line at lo u)
+  back_few line at lo held top (Value (Compare how x y)) =
+      let one : List Lined = unless_bare (stays x y) (Templates.expr_code p tables r line at lo x) in
+      let two : List Lined = unless_bare (bare y) (Templates.expr_code p tables r line (at + length one) (behind_expr p r lo x) y) in
       let operands : List Lined = compared_code p tables r line at lo x y in
       let first : ℕ = Templates.slot_or p tables r (stays x y) lo in
       let other : ℕ = Templates.value_at p tables r (behind_expr p r lo x) y in
@@ -222,24 +257,28 @@ module _ (p : Program) (tables : Tables) (r : ℕ) where
         arith,
         tested_long p tables r line at lo (Compare how x y),
         length-append operands (own line (cmp_code how lo first other)),
-        length-append operands (own line (opposite_code how lo first other ∷ I.JumpZero lo top ∷ [])),
+        length-append one two,
+        length-append one (unless_constant (constant y) two),
+        constant_few (constant y) two,
+        length-append (one ++ unless_constant (constant y) two)
+            (own line (opposite_code how lo first (held_or (constant y) held other) ∷ I.JumpZero lo top ∷ [])),
         cmp_some line how lo first other,
       )
-  back_few line at lo top (Value (Const n)) = omega arith
-  back_few line at lo top (Value (Load d)) = omega arith
-  back_few line at lo top (Value (Chain negated e links)) = omega arith
-  back_few line at lo top (Value (Truth t)) = omega arith
-  back_few line at lo top (Value (Known d)) = omega arith
-  back_few line at lo top (Value (Chr e)) = omega arith
-  back_few line at lo top (Value (CallExpr called args up)) = omega arith
-  back_few line at lo top (Bind d e range left) = omega arith
-  back_few line at lo top (Unify d range e range2) = omega arith
-  back_few line at lo top (SameCells d e) = omega arith
-  back_few line at lo top (Seq x) = omega arith
-  back_few line at lo top (And ts) = omega arith
-  back_few line at lo top (Or ts) = omega arith
-  back_few line at lo top (Not t) = omega arith
-  back_few line at lo top (CallTest called args up) = omega arith
+  back_few line at lo held top (Value (Const n)) = omega arith
+  back_few line at lo held top (Value (Load d)) = omega arith
+  back_few line at lo held top (Value (Chain negated e links)) = omega arith
+  back_few line at lo held top (Value (Truth t)) = omega arith
+  back_few line at lo held top (Value (Known d)) = omega arith
+  back_few line at lo held top (Value (Chr e)) = omega arith
+  back_few line at lo held top (Value (CallExpr called args up)) = omega arith
+  back_few line at lo held top (Bind d e range left) = omega arith
+  back_few line at lo held top (Unify d range e range2) = omega arith
+  back_few line at lo held top (SameCells d e) = omega arith
+  back_few line at lo held top (Seq x) = omega arith
+  back_few line at lo held top (And ts) = omega arith
+  back_few line at lo held top (Or ts) = omega arith
+  back_few line at lo held top (Not t) = omega arith
+  back_few line at lo held top (CallTest called args up) = omega arith
 
   -- WHILE, wherever its condition stands
   while_few :
@@ -249,15 +288,21 @@ module _ (p : Program) (tables : Tables) (r : ℕ) where
       → ((at lo : ℕ) → length (Templates.stmts_code p tables r at lo y) ≤ n)
       → length (while_code p tables r behind line at lo u y) ≤ 1 + m + n
   while_few true line at lo u y m n j t b =
-      let body : List Lined = Templates.stmts_code p tables r (at + 1) lo y in
-      let next : ℕ = at + 1 + length body in
-      let lo2 : ℕ = behind_stmts p r lo y in
+      let lo1 : ℕ = behind_held p r lo u in
+      let held : List Lined = own line (constant_code (held_constant u) lo) in
+      let top : ℕ = at + length held + 1 in
+      let body : List Lined = Templates.stmts_code p tables r top lo1 y in
+      let next : ℕ = top + length body in
+      let lo2 : ℕ = behind_stmts p r lo1 y in
+      let last : List Lined = Templates.back_code p tables r line next lo2 lo top u in
       omega (
         arith,
-        length-append body (Templates.back_code p tables r line next lo2 (at + 1) u),
-        back_few line next lo2 (at + 1) u,
+        length-append held (own line (I.Jump next ∷ []) ++ (body ++ last)),
+        length-append body last,
+        one_few line (held_constant u) lo,
+        back_few line next lo2 lo top u,
         t next lo2,
-        b (at + 1) lo,
+        b top lo1,
       )
   while_few false line at lo u y m n j t b =
       let lo2 : ℕ = behind_condition p r lo u in
@@ -270,19 +315,24 @@ module _ (p : Program) (tables : Tables) (r : ℕ) where
         length-append one (own line (I.Jump (at + 1) ∷ [])),
       )
 
+  -- a place that is used
+  held_few : (line at lo : ℕ) (y : Desig) (m : ℕ) → length (Templates.desig_code p tables r line at lo y) ≤ m
+      → length (held_code p tables r line at lo y) ≤ m
+  held_few line at lo y m a = omega (arith, a, unless_few (own_place y) (Templates.desig_code p tables r line at lo y))
+
   -- two designators
   pair_few :
       (line at lo : ℕ) (y z : Desig) (m n : ℕ)
       → length (Templates.desig_code p tables r line at lo y) ≤ m
       → ((at lo : ℕ) → length (Templates.desig_code p tables r line at lo z) ≤ n)
-      → length (in_row at (Templates.desig_code p tables r line at lo y)
-      (λ next. Templates.desig_code p tables r line next (behind_desig p r lo y) z)) ≤ m + n
+      → length (in_row at (held_code p tables r line at lo y) (λ next. held_code p tables r line next (behind_desig p r lo y) z)) ≤ m + n
   pair_few line at lo y z m n a b =
-      let one : List Lined = Templates.desig_code p tables r line at lo y in
+      let one : List Lined = held_code p tables r line at lo y in
       let next : ℕ = at + length one in
       let lo2 : ℕ = behind_desig p r lo y in
-      let c = b next lo2 in
-      omega (arith, a, c, length-append one (Templates.desig_code p tables r line next lo2 z))
+      let first = held_few line at lo y m a in
+      let second = held_few line next lo2 z n (b next lo2) in
+      omega (arith, first, second, length-append one (held_code p tables r line next lo2 z))
 
   -- an operand of OR that is not the last, without the jump behind it
   first_few : (line at lo : ℕ) (x : List Lined) (n : ℕ) → 4 + length x ≤ n → 1 + length (first_of_two line at lo x) ≤ n
@@ -292,7 +342,7 @@ module _ (p : Program) (tables : Tables) (r : ℕ) where
   arm_few : (line value bound at : ℕ) (label : Range) (labels : List Range) (x : List Lined)
       → length (case_arm line value bound at label labels x) ≤ 7 * length labels + 6 + length x
   arm_few line value bound at label labels x =
-      let here : ℕ = behind_labels at labels in
+      let here : ℕ = behind_labels at label labels in
       let tests : List Instr = labels_code value bound at here (here + length x + 1) label labels in
       omega (
         arith,
@@ -301,11 +351,7 @@ module _ (p : Program) (tables : Tables) (r : ℕ) where
         labels_few value bound at here (here + length x + 1) label labels,
       )
 
-  -- a first count and a limit
-  constant_few : (o : Option ℤ) (value : List Lined) → length (unless_constant o value) ≤ length value
-  constant_few (Some n) value = omega arith
-  constant_few None value = omega arith
-
+  -- a limit
   limit_few : (z : Bool) (line limit from : ℕ) (value : List Lined) → length (limit_code z line limit from value) ≤ length value + 1
   limit_few true line limit from value = omega (arith, straight_long limit value)
   limit_few false line limit from value = omega (arith, length-append value (own line (I.Move limit from ∷ [])))
@@ -316,17 +362,17 @@ module _ (p : Program) (tables : Tables) (r : ℕ) where
       → ((at : ℕ) → length (Templates.desig_code p tables r line at (lo + 1) y) ≤ m)
       → ((at : ℕ) → length (body at) ≤ n)
       → length (turn_code line at (Templates.count_code p tables r (bare_desig y) range counter lo)
-      (λ at. unless_bare (bare_desig y) (Templates.desig_code p tables r line at (lo + 1) y))
+      (λ at. unless_bare (bare_desig y) (held_code p tables r line at (lo + 1) y))
       (Templates.set_code p tables r (lo + 1) (Templates.count_at p tables r (bare_desig y) counter lo) y) body) ≤ 3 + m + n
   turn_few line at counter lo y range body m n a b =
       let check : List Instr = Templates.count_code p tables r (bare_desig y) range counter lo in
       let zero : List Lined = own line check in
       let at1 : ℕ = at + length zero in
-      let one : List Lined = unless_bare (bare_desig y) (Templates.desig_code p tables r line at1 (lo + 1) y) in
+      let one : List Lined = unless_bare (bare_desig y) (held_code p tables r line at1 (lo + 1) y) in
       let at2 : ℕ = at1 + length one in
       let end : List Lined = own line (Templates.set_code p tables r (lo + 1) (Templates.count_at p tables r (bare_desig y) counter lo) y
       ∷ []) ++ body (at2 + 1) in
-      let c = a at1 in
+      let c = held_few line at1 (lo + 1) y m (a at1) in
       let e = b (at2 + 1) in
       omega (
         arith,
@@ -336,7 +382,7 @@ module _ (p : Program) (tables : Tables) (r : ℕ) where
         length-append one end,
         own_long line check,
         count_few (bare_desig y) range counter lo,
-        unless_few (bare_desig y) (Templates.desig_code p tables r line at1 (lo + 1) y),
+        unless_few (bare_desig y) (held_code p tables r line at1 (lo + 1) y),
       )
 
   mutual
@@ -393,30 +439,29 @@ module _ (p : Program) (tables : Tables) (r : ℕ) where
     expr_few line at lo (Const n) ls h = omega arith
     expr_few line at lo (Load d) ls h =
         let y : Desig = desig_with d ls in
-        let place : List Lined = Templates.desig_code p tables r line at (lo + 1) y in
-        let x : List Lined = unless_bare (own_place y) place in
+        let x : List Lined = held_code p tables r line at (lo + 1) y in
         omega (
           arith,
           length-append (unless_bare (bare_desig y) x) (own line (Templates.load_code p tables r lo y ∷ [])),
           unless_few (bare_desig y) x,
-          unless_few (own_place y) place,
-          desig_few line at (lo + 1) d ls h.1,
+          held_few line at (lo + 1) y (16 * desig_nodes d) (desig_few line at (lo + 1) d ls h.1),
         )
     expr_few line at lo (Chain negated e links) ls h =
         let ls2 = behind (expr_phrases e) ls in
         let y : Expr = expr_with e ls in
         let x : List Lined = Templates.expr_code p tables r line at lo y in
-        let o : Option ℕ = stays_in negated y (links_with links ls2) in
+        let o : Option ℕ = taken_from negated y (links_with links ls2) in
         let one : List Lined = unless_bare o x in
-        let neg : List Lined = own line (neg_code negated lo) in
+        let from : ℕ = Templates.value_at p tables r lo y in
+        let neg : List Lined = own line (neg_code negated lo from) in
         let next : ℕ = at + length (one ++ neg) in
         let lo2 : ℕ = behind_expr p r lo y in
-        let first : ℕ = Templates.slot_or p tables r o lo in
+        let first : ℕ = Templates.slot_or p tables r (stays_in negated y (links_with links ls2)) lo in
         omega (
           arith,
           length-append (one ++ neg) (Templates.links_code p tables r line next first lo lo2 (links_with links ls2)),
           length-append one neg,
-          neg_few line negated lo,
+          neg_few line negated lo from,
           unless_few o x,
           expr_few line at lo e ls (short_front (expr_phrases e) (links_phrases links) h.1),
           operators_few line next first lo lo2 links ls2 (short_back (expr_phrases e) (links_phrases links) h.1),
@@ -454,13 +499,11 @@ module _ (p : Program) (tables : Tables) (r : ℕ) where
         )
     expr_few line at lo (Known d) ls h =
         let y : Desig = desig_with d ls in
-        let place : List Lined = Templates.desig_code p tables r line at (lo + 1) y in
         let last : Instr = I.Known lo (Templates.held_at p tables r (lo + 1) y) in
         omega (
           arith,
-          length-append (unless_bare (own_place y) place) (own line (last ∷ [])),
-          unless_few (own_place y) place,
-          desig_few line at (lo + 1) d ls h.1,
+          length-append (held_code p tables r line at (lo + 1) y) (own line (last ∷ [])),
+          held_few line at (lo + 1) y (16 * desig_nodes d) (desig_few line at (lo + 1) d ls h.1),
         )
     expr_few line at lo (Chr e) ls h =
         omega (
@@ -527,26 +570,29 @@ module _ (p : Program) (tables : Tables) (r : ℕ) where
     arg_few line at to lo (ByValue e range) ls h = let z =
         handed_few line at to lo (expr_with e ls) range (16 * expr_nodes e) (expr_few line at lo e ls h.1) in omega (arith, z)
     arg_few line at to lo (ByCells d) ls h = let y : Desig = desig_with d ls in
+        let made : List Lined = Templates.desig_code p tables r line at lo y in
         omega (
           arith,
-          length-append (Templates.desig_code p tables r line at lo y)
-              (own line (I.Same to (Templates.place_at p tables r lo y) ∷ [])),
+          ap length (handed_is p tables r to line at lo y),
+          placed_long to made,
           desig_few line at lo d ls h.1,
         )
     arg_few line at to lo (ByPlace d) ls h = let y : Desig = desig_with d ls in
+        let made : List Lined = Templates.desig_code p tables r line at lo y in
         omega (
           arith,
-          length-append (Templates.desig_code p tables r line at lo y)
-              (own line (I.Same to (Templates.place_at p tables r lo y) ∷ [])),
+          ap length (handed_is p tables r to line at lo y),
+          placed_long to made,
           desig_few line at lo d ls h.1,
         )
     arg_few line at to lo (MixValue e range) ls h = let z =
         handed_few line at to lo (expr_with e ls) range (16 * expr_nodes e) (expr_few line at lo e ls h.1) in omega (arith, z)
     arg_few line at to lo (MixPlace d) ls h = let y : Desig = desig_with d ls in
+        let made : List Lined = Templates.desig_code p tables r line at lo y in
         omega (
           arith,
-          length-append (Templates.desig_code p tables r line at lo y)
-              (own line (I.Same to (Templates.place_at p tables r lo y) ∷ [])),
+          ap length (handed_is p tables r to line at lo y),
+          placed_long to made,
           desig_few line at lo d ls h.1,
         )
 
@@ -585,17 +631,17 @@ module _ (p : Program) (tables : Tables) (r : ℕ) where
         let ls2 = behind (desig_phrases d) ls in
         let y : Desig = desig_with d ls in
         let z : Expr = expr_with e ls2 in
-        let one : List Lined = Templates.desig_code p tables r line at lo y in
+        let one : List Lined = held_code p tables r line at lo y in
         let next : ℕ = at + length one in
         let lo2 : ℕ = behind_desig p r lo y in
         let two : List Lined = unless_bare (bare z) (Templates.expr_code p tables r line next lo2 z) in
-        let last : Instr = I.Bind (Templates.place_at p tables r lo y) (Templates.value_at p tables r lo2 z) (range_number tables range) in
+        let last : Instr = I.Bind (Templates.held_at p tables r lo y) (Templates.value_at p tables r lo2 z) (range_number tables range) in
         omega (
           arith,
           length-append (one ++ two) (own line (last ∷ [])),
           length-append one two,
           unless_few (bare z) (Templates.expr_code p tables r line next lo2 z),
-          desig_few line at lo d ls (short_front (desig_phrases d) (expr_phrases e) h.1),
+          held_few line at lo y (16 * desig_nodes d) (desig_few line at lo d ls (short_front (desig_phrases d) (expr_phrases e) h.1)),
           expr_few line next lo2 e ls2 (short_back (desig_phrases d) (expr_phrases e) h.1),
         )
     test_few line at lo (Bind d e range false) ls h =
@@ -605,13 +651,14 @@ module _ (p : Program) (tables : Tables) (r : ℕ) where
         let one : List Lined = Templates.expr_code p tables r line at lo y in
         let next : ℕ = at + length one in
         let lo2 : ℕ = behind_expr p r lo y in
-        let two : List Lined = Templates.desig_code p tables r line next lo2 z in
-        let last : Instr = I.Bind (Templates.place_at p tables r lo2 z) lo (range_number tables range) in
+        let two : List Lined = held_code p tables r line next lo2 z in
+        let last : Instr = I.Bind (Templates.held_at p tables r lo2 z) lo (range_number tables range) in
         omega (
           arith,
           length-append (one ++ two) (own line (last ∷ [])),
           length-append one two,
-          desig_few line next lo2 d ls2 (short_front (desig_phrases d) (expr_phrases e) h.1),
+          held_few line next lo2 z (16 * desig_nodes d)
+              (desig_few line next lo2 d ls2 (short_front (desig_phrases d) (expr_phrases e) h.1)),
           expr_few line at lo e ls (short_back (desig_phrases d) (expr_phrases e) h.1),
         )
     test_few line at lo (Unify d range e range2) ls h =
@@ -620,13 +667,13 @@ module _ (p : Program) (tables : Tables) (r : ℕ) where
         (λ at lo. desig_few line at lo e (behind (desig_phrases d) ls) (short_back (desig_phrases d) (desig_phrases e) h.1)) in
         let ls2 = behind (desig_phrases d) ls in
         let y : Desig = desig_with d ls in
-        let last : Instr = I.Unify (Templates.place_at p tables r lo y) (range_number tables range)
-        (Templates.place_at p tables r (behind_desig p r lo y) (desig_with e ls2)) (range_number tables range2) in
+        let last : Instr = I.Unify (Templates.held_at p tables r lo y) (range_number tables range)
+        (Templates.held_at p tables r (behind_desig p r lo y) (desig_with e ls2)) (range_number tables range2) in
         omega (
           arith,
           z,
-          length-append (in_row at (Templates.desig_code p tables r line at lo y)
-              (λ next. Templates.desig_code p tables r line next (behind_desig p r lo y) (desig_with e ls2))) (own line (last ∷ [])),
+          length-append (in_row at (held_code p tables r line at lo y)
+              (λ next. held_code p tables r line next (behind_desig p r lo y) (desig_with e ls2))) (own line (last ∷ [])),
         )
     test_few line at lo (SameCells d e) ls h =
         let z = pair_few line at lo (desig_with d ls) (desig_with e (behind (desig_phrases d) ls)) (16 * desig_nodes d) (16 * desig_nodes e)
@@ -634,13 +681,13 @@ module _ (p : Program) (tables : Tables) (r : ℕ) where
         (λ at lo. desig_few line at lo e (behind (desig_phrases d) ls) (short_back (desig_phrases d) (desig_phrases e) h.1)) in
         let ls2 = behind (desig_phrases d) ls in
         let y : Desig = desig_with d ls in
-        let last : Instr = I.SameCells (Templates.place_at p tables r lo y)
-        (Templates.place_at p tables r (behind_desig p r lo y) (desig_with e ls2)) in
+        let last : Instr = I.SameCells (Templates.held_at p tables r lo y)
+        (Templates.held_at p tables r (behind_desig p r lo y) (desig_with e ls2)) in
         omega (
           arith,
           z,
-          length-append (in_row at (Templates.desig_code p tables r line at lo y)
-              (λ next. Templates.desig_code p tables r line next (behind_desig p r lo y) (desig_with e ls2))) (own line (last ∷ [])),
+          length-append (in_row at (held_code p tables r line at lo y)
+              (λ next. held_code p tables r line next (behind_desig p r lo y) (desig_with e ls2))) (own line (last ∷ [])),
         )
     test_few line at lo (Seq x) ls h = let z = stmts_few at lo x ls h.1 in omega (arith, z)
     test_few line at lo (And ts) ls h = let z = and_few line at lo ts ls h.1 in omega (arith, z)
@@ -749,7 +796,7 @@ module _ (p : Program) (tables : Tables) (r : ℕ) where
         let ls2 = behind (desig_phrases d) ls in
         let y : Desig = desig_with d ls in
         let z : Expr = expr_with e ls2 in
-        let one : List Lined = unless_bare (bare_desig y) (Templates.desig_code p tables r line at lo y) in
+        let one : List Lined = unless_bare (bare_desig y) (held_code p tables r line at lo y) in
         let next : ℕ = at + length one in
         let lo2 : ℕ = behind_target p r lo y in
         let two : List Lined = unless_bare (bare z) (Templates.expr_code p tables r line next lo2 z) in
@@ -760,9 +807,9 @@ module _ (p : Program) (tables : Tables) (r : ℕ) where
           set_few (goes_straight y z range) line (one ++ two) (fit_code tables range value ++ last),
           length-append one two,
           fit_few line range value last,
-          unless_few (bare_desig y) (Templates.desig_code p tables r line at lo y),
+          unless_few (bare_desig y) (held_code p tables r line at lo y),
           unless_few (bare z) (Templates.expr_code p tables r line next lo2 z),
-          desig_few line at lo d ls (short_front (desig_phrases d) (expr_phrases e) h.1),
+          held_few line at lo y (16 * desig_nodes d) (desig_few line at lo d ls (short_front (desig_phrases d) (expr_phrases e) h.1)),
           expr_few line next lo2 e ls2 (short_back (desig_phrases d) (expr_phrases e) h.1),
         )
     stmt_few line at lo (CopyCells d e) ls h =
@@ -771,13 +818,13 @@ module _ (p : Program) (tables : Tables) (r : ℕ) where
         (λ at lo. desig_few line at lo e (behind (desig_phrases d) ls) (short_back (desig_phrases d) (desig_phrases e) h.1)) in
         let ls2 = behind (desig_phrases d) ls in
         let y : Desig = desig_with d ls in
-        let last : Instr = I.CopyCells (Templates.place_at p tables r lo y)
-        (Templates.place_at p tables r (behind_desig p r lo y) (desig_with e ls2)) in
+        let last : Instr = I.CopyCells (Templates.held_at p tables r lo y)
+        (Templates.held_at p tables r (behind_desig p r lo y) (desig_with e ls2)) in
         omega (
           arith,
           z,
-          length-append (in_row at (Templates.desig_code p tables r line at lo y)
-              (λ next. Templates.desig_code p tables r line next (behind_desig p r lo y) (desig_with e ls2))) (own line (last ∷ [])),
+          length-append (in_row at (held_code p tables r line at lo y)
+              (λ next. held_code p tables r line next (behind_desig p r lo y) (desig_with e ls2))) (own line (last ∷ [])),
         )
     stmt_few line at lo (If arms rest) ls h =
         let ls2 = behind (arms_phrases arms) ls in
@@ -882,9 +929,9 @@ module _ (p : Program) (tables : Tables) (r : ℕ) where
         let y : Desig = desig_with d ls in
         omega (
           arith,
-          length-append (Templates.desig_code p tables r line at lo y)
-              (own line (read_code how (Templates.place_at p tables r lo y) (range_number tables range) ∷ [])),
-          desig_few line at lo d ls h.1,
+          length-append (held_code p tables r line at lo y)
+              (own line (read_code how (Templates.held_at p tables r lo y) (range_number tables range) ∷ [])),
+          held_few line at lo y (16 * desig_nodes d) (desig_few line at lo d ls h.1),
         )
     stmt_few line at lo (WriteExpr e how) ls h =
         let y : Expr = expr_with e ls in
@@ -987,7 +1034,7 @@ module _ (p : Program) (tables : Tables) (r : ℕ) where
     case_few line value bound at lo at2 lo2 (more_cases (label ∷ labels) body rest) ls otherwise n h o =
         let ls2 = behind (stmts_phrases body) ls in
         let y : Stmts = stmts_with body ls in
-        let here : ℕ = behind_labels at labels in
+        let here : ℕ = behind_labels at label labels in
         let z = stmts_few here lo body ls (short_front (stmts_phrases body) (cases_phrases rest) h) in
         let w = arm_few line value bound at label labels (Templates.stmts_code p tables r here lo y) in
         let one : List Lined = case_arm line value bound at label labels (Templates.stmts_code p tables r here lo y) in
@@ -1028,7 +1075,7 @@ module _ (p : Program) (tables : Tables) (r : ℕ) where
     cases_few line value bound jump at lo at2 lo2 (more_cases (label ∷ labels) body rest) ls otherwise n h o =
         let ls2 = behind (stmts_phrases body) ls in
         let y : Stmts = stmts_with body ls in
-        let here : ℕ = behind_labels at labels in
+        let here : ℕ = behind_labels at label labels in
         let z = stmts_few here lo body ls (short_front (stmts_phrases body) (cases_phrases rest) h) in
         let w = arm_few line value bound at label labels (Templates.stmts_code p tables r here lo y) in
         let one : List Lined = case_arm line value bound at label labels (Templates.stmts_code p tables r here lo y) in
@@ -1122,7 +1169,7 @@ module _ (p : Program) (tables : Tables) (r : ℕ) where
         let next : ℕ = at + length begin in
         let lo2 : ℕ = behind_variable p r place y in
         let turn : List Lined = turn_code line (next + 3) (Templates.count_code p tables r (bare_desig y) range c place)
-        (λ at. unless_bare (bare_desig y) (Templates.desig_code p tables r line at (place + 1) y))
+        (λ at. unless_bare (bare_desig y) (held_code p tables r line at (place + 1) y))
         (Templates.set_code p tables r (place + 1) (Templates.count_at p tables r (bare_desig y) c place) y)
         (λ at. Templates.stmts_code p tables r at lo2 (stmts_with body ls4)) in
         let out : ℕ = next + 3 + length turn + 2 in
@@ -1171,7 +1218,7 @@ module _ (p : Program) (tables : Tables) (r : ℕ) where
         let next : ℕ = at + length begin in
         let lo2 : ℕ = behind_variable p r (more + 1) y in
         let turn : List Lined = turn_code line (next + 8) (Templates.count_code p tables r (bare_desig y) range c (more + 1))
-        (λ at. unless_bare (bare_desig y) (Templates.desig_code p tables r line at (more + 1 + 1) y))
+        (λ at. unless_bare (bare_desig y) (held_code p tables r line at (more + 1 + 1) y))
         (Templates.set_code p tables r (more + 1 + 1) (Templates.count_at p tables r (bare_desig y) c (more + 1)) y)
         (λ at. Templates.stmts_code p tables r at lo2 (stmts_with body ls4)) in
         omega (

@@ -1,6 +1,6 @@
 -- The slots of the phrases of a routine are at most 16 for each node.
 use Rattle.std.proofs.Common.{◌≡◌, ℕ, zero, suc, ◌+◌, ◌*◌, ◌≤◌, Bool, true, false, List, [], ◌∷◌, ◌++◌, length, drop, Option, Some, None}
-use Rattle.std.proofs.Common.{refl, arith}
+use Rattle.std.proofs.Common.{refl, arith, ℤ}
 use Rattle.std.specs.List.{AllByRecursion}
 use Rattle.std.proofs.lemmas.List.{length-append}
 use Rattle.alma_code.specs.declared.cell.SlotKind.{SlotKind}
@@ -23,7 +23,7 @@ use Rattle.alma_ir.specs.Phrases.{else_phrases, branches_phrases, loop_phrases, 
 use Rattle.alma_ir.specs.Phrases.{args_phrases, arg_phrases, desig_phrases, sels_phrases, sel_phrases}
 use Rattle.alma_ir.proofs.Each.{each_of_front, each_of_back}
 use Rattle.alma_lower_templates.specs.Slots.{shift_of, chain_slots, bare, bare_desig, unless_bare, is_simple, is_turned, by_turn}
-use Rattle.alma_lower_templates.specs.Slots.{mark_slots}
+use Rattle.alma_lower_templates.specs.Slots.{mark_slots, held_constant, held_slots}
 use Rattle.alma_lower_templates.specs.Slots.{handed_slots, links_if, root_slots, stmts_slots, stmt_slots, arms_slots, dead_slots}
 use Rattle.alma_lower_templates.specs.Slots.{cases_slots, else_slots}
 use Rattle.alma_lower_templates.specs.Slots.{branches_slots, for_slots, some_slots, test_slots, and_slots, or_slots, expr_slots}
@@ -54,11 +54,15 @@ mark_few : (z : Bool) → length (mark_slots z) ≤ 1
 mark_few true = omega arith
 mark_few false = omega arith
 
+held_few : (o : Option ℤ) → length (held_slots o) ≤ 1
+held_few (Some n) = omega arith
+held_few None = omega arith
+
 -- those of WHILE, wherever its condition stands
-turn_few : (behind simple : Bool) (xs ys : List SlotKind)
-    → length (by_turn behind (ys ++ xs) (mark_slots simple ++ (xs ++ ys))) ≤ 1 + length xs + length ys
-turn_few true simple xs ys = omega (arith, length-append ys xs)
-turn_few false simple xs ys =
+turn_few : (behind simple : Bool) (o : Option ℤ) (xs ys : List SlotKind)
+    → length (by_turn behind (held_slots o ++ (ys ++ xs)) (mark_slots simple ++ (xs ++ ys))) ≤ 1 + length xs + length ys
+turn_few true simple o xs ys = omega (arith, held_few o, length-append (held_slots o) (ys ++ xs), length-append ys xs)
+turn_few false simple o xs ys =
     omega (arith, length-append (mark_slots simple) (xs ++ ys), length-append xs ys, mark_few simple)
 
 module _ (p : Program) where
@@ -316,7 +320,7 @@ module _ (p : Program) where
         let x : List SlotKind = stmts_slots p r (stmts_with body ls2) in
         omega (
           arith,
-          turn_few (is_turned u) (is_simple u) (test_slots p r u) x,
+          turn_few (is_turned u) (is_simple u) (held_constant u) (test_slots p r u) x,
           test_few r t ls (short_front (test_phrases t) (stmts_phrases body) h.1),
           stmts_few r body ls2 (short_back (test_phrases t) (stmts_phrases body) h.1),
         )

@@ -27,7 +27,8 @@ use Rattle.alma_lower_implements.proofs.ForSteps.{SlotThere, a_number, not_known
 use Rattle.alma_lower_implements.proofs.Steps.{top_written, Holds, Faults, InstrAt, const_step}
 use Rattle.alma_lower_implements.proofs.Ways.{Ways, Leaves}
 use Rattle.alma_lower_templates.specs.Tables.{Tables}
-use Rattle.alma_lower_templates.specs.Slots.{bare, bare_desig, is_given, is_ready, if_ready, stays_by, stays, stays_in, unless_bare}
+use Rattle.alma_lower_templates.specs.Slots.{bare, bare_desig, is_given, is_ready, if_ready, stays_by, stays, stays_in, taken_from}
+use Rattle.alma_lower_templates.specs.Slots.{unless_bare}
 use Rattle.alma_lower_templates.specs.Templates.{expr_code, value_at}
 use Rattle.alma_lower_templates.specs.Stands.{Stands}
 use Rattle.alma_lower_templates.proofs.Parts.{Begins, begins, Left, left_self, left_temp, holds_temp, has_kind, IsValue, From, Carries}
@@ -87,6 +88,10 @@ pub as_stays_in : (P : Option ℕ → Type 0) (negated : Bool) (x : Expr) (links
 as_stays_in P true x links none there = none
 as_stays_in P false x no_links none there = none
 as_stays_in P false x (more_links how y rest) none there = as_stays P x y none there
+
+pub as_taken : (P : Option ℕ → Type 0) (negated : Bool) (x : Expr) (links : Links) → P None → P (bare x) → P (taken_from negated x links)
+as_taken P true x links none there = there
+as_taken P false x links none there = as_stays_in P false x links none there
 
 -- ---- how it is read
 

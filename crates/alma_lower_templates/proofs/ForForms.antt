@@ -35,16 +35,17 @@ use Rattle.alma_lower_templates.specs.Lined.{Lined, own}
 use Rattle.alma_lower_templates.specs.Tables.{Tables, range_number, is_whole}
 use Rattle.alma_lower_templates.specs.Slots.{bare_desig, unless_bare, desig_slots}
 use Rattle.alma_lower_templates.specs.Pieces.{unless_whole, fit_code, turn_code}
-use Rattle.alma_lower_templates.specs.Templates.{stmts_code, desig_code, place_at, set_by, count_at, count_code}
+use Rattle.alma_lower_templates.specs.Templates.{stmts_code, held_at, set_by, count_at, count_code}
 use Rattle.alma_lower_templates.specs.Stands.{Stands}
 use Rattle.alma_lower_templates.proofs.Stands.{stands_front, stands_back}
 use Rattle.alma_lower_templates.proofs.Parts.{Takes, RunsFor, alone_from, Begins, begins, Left, left_self, left_less, left_on, left_temp}
-use Rattle.alma_lower_templates.proofs.Parts.{has_kind, holds_temp, put_position, sound_after, holds_after, value_after, IsValue, PlaceIn}
+use Rattle.alma_lower_templates.proofs.Parts.{has_kind, holds_temp, put_position, sound_after, holds_after, value_after, IsValue, IsPlace}
+use Rattle.alma_lower_templates.proofs.Parts.{PlaceIn}
 use Rattle.alma_lower_templates.proofs.Parts.{From, ending, from_more, from_ending, on_later, then_ending, faults_here}
 use Rattle.alma_lower_templates.proofs.AtOnce.{BareFits, bare_place}
 use Rattle.alma_lower_templates.proofs.RangeChecks.{whole_within, check_from}
 use Rattle.alma_lower_templates.proofs.Targets.{IsTarget, put_places, left_put, top_free}
-use Rattle.alma_lower_templates.proofs.FormRuns.{DesigRuns, FitsRange}
+use Rattle.alma_lower_templates.proofs.FormRuns.{held_code, HeldRuns, FitsRange}
 
 module _ (p : Program) (tables : Tables) (code : PlainCode) (input : List ℕ) (below : Level) (r line q : ℕ) (may : Bool) where
   -- ---- statements, and what is behind them
@@ -154,21 +155,22 @@ module _ (p : Program) (tables : Tables) (code : PlainCode) (input : List ℕ) (
   -- it is located, and the slot of the count keeps what it holds
   located_from : (o : Option ℕ) (at exit lo place value : ℕ) (d : Desig) (v : Store) (now : List PlainFrame) (n : ℤ)
       (k : Store → Place → Events NoYield) → bare_desig d ≡ o → lo ≤ place → own_end p r ≤ lo → Begins p code input r v now
-      → (o ≡ None → DesigRuns p tables code input below r line q at (place + 1) d)
-      → Stands code at (unless_bare o (desig_code p tables r line at (place + 1) d))
+      → (o ≡ None → HeldRuns p tables code input below r line q at (place + 1) d)
+      → Stands code at (unless_bare o (held_code p tables r line at (place + 1) d))
       → IsValue p code input (count_at p tables r o value place) n now
       → ((u : Store) (a : Place) (t : List PlainFrame) → Left p code input (place + 1) r now u t
       → IsTarget p tables code input below r line q o (place + 1) d u a t → IsValue p code input (count_at p tables r o value place) n t
-      → From p code input line 8 (at + length (unless_bare o (desig_code p tables r line at (place + 1) d))) exit t
+      → From p code input line 8 (at + length (unless_bare o (held_code p tables r line at (place + 1) d))) exit t
       (ending p code input may lo r t) (k u a) q)
       → From p code input line 0 at exit now (ending p code input may lo r now) (bind (ev_desig p input below d v) k) q
   unfolding ev_expr
   located_from None at exit lo place value d v now n k e le behind b runs stands count later =
-      let m : ℕ = at + length (desig_code p tables r line at (place + 1) d) in
+      let m : ℕ = at + length (held_code p tables r line at (place + 1) d) in
       then_ending p code input may line at m exit lo (place + 1) r now
-      (PlaceIn p code input (place_at p tables r (place + 1) d) (desig_cells d)) (ev_desig p input below d v) k q (omega (arith, le))
-      behind (runs refl stands v now b)
-      (λ u a t left h. later u a t left h (value_after p code input (place + 1) r place n v u now t b (omega (arith, le, behind))
+      (PlaceIn p code input (held_at p tables r (place + 1) d) (desig_cells d)) (ev_desig p input below d v) k q (omega (arith, le))
+      behind ((runs refl).runs stands v now b)
+      (λ u a t left h. later u a t left ((runs refl).within, h)
+      (value_after p code input (place + 1) r place n v u now t b (omega (arith, le, behind))
       (omega arith) left count))
   located_from (Some from) at exit lo place value d v now n k e le behind b runs stands count later =
       let z = bare_place d from e in
@@ -188,27 +190,29 @@ module _ (p : Program) (tables : Tables) (code : PlainCode) (input : List ℕ) (
       → InstrAt code input line at (set_by p tables r o la value d)
       → (t : List PlainFrame) × Takes p code input at (at + 1) now t × Left p code input lo r now (put_at v a (Number x)) t
   set_step None at lo la value d v now a x fits cells behind b h hx i =
-      let some_cell : 0 < a.size = omega (arith, cells, h.sized) in
+      let place : IsPlace p code input (held_at p tables r la d) (desig_cells d) v a now = h.1 in
+      let some_cell : 0 < a.size = omega (arith, cells, place.sized) in
       let sh : ℕ = shift_in p v a.frame in
-      let there : a.slot < length (get_or v a.frame store_of.no_frame).cells = omega (arith, h.numbers.cells 0 some_cell) in
+      let there : a.slot < length (get_or v a.frame store_of.no_frame).cells = omega (arith, place.numbers.cells 0 some_cell) in
       let zero : sh + (a.slot + 0) ≡ sh + a.slot = omega arith in
       let kind : get_or (get_or now a.frame picture.no_frame).kinds (sh + a.slot) slot.Mark ≡ slot.Number =
-      ap (λ n. get_or (get_or now a.frame picture.no_frame).kinds n slot.Mark) (sym zero) ∙ h.numbers.kinds 0 some_cell in
-      let live = content_there p code v now a h.place b.stand h.numbers some_cell h.same in
+      ap (λ n. get_or (get_or now a.frame picture.no_frame).kinds n slot.Mark) (sym zero) ∙ place.numbers.kinds 0 some_cell in
+      let live = content_there p code v now a place.place b.stand place.numbers some_cell place.same in
       let t : List PlainFrame = frames_with_cell now a.frame (sh + a.slot) (cell.Int x) in
-      let here : frames_with_cell now h.place.frame h.place.slot (cell.Int x) ≡ t =
-      ap (λ f. frames_with_cell now f h.place.slot (cell.Int x)) (sym h.same.frame)
-      ∙ ap (λ n. frames_with_cell now a.frame n (cell.Int x)) (sym h.same.slot) in (
+      let here : frames_with_cell now place.place.frame place.place.slot (cell.Int x) ≡ t =
+      ap (λ f. frames_with_cell now f place.place.slot (cell.Int x)) (sym place.same.frame)
+      ∙ ap (λ n. frames_with_cell now a.frame n (cell.Int x)) (sym place.same.slot) in (
         t,
         (λ held s is.
-            let w = store_step code input line at now held s is (place_at p tables r la d) value h.place x i h.holds hx.holds live.0 in
+            let w = store_step code input line at now held s is (held_at p tables r la d) value place.place x i place.holds hx.holds
+            live.0 in
             record {
               to = w.to;
               silently = w.silently;
               is =
                   record { mode = w.is.mode; here = w.is.here; frames = w.is.frames ∙ here; entries = w.is.entries };
             }),
-        left_put p code input lo r a.frame a.slot x v now h.numbers.frame there kind hx.integer h.numbers.free b,
+        left_put p code input lo r a.frame a.slot x v now place.numbers.frame there kind hx.integer place.numbers.free b,
       )
   set_step (Some from) at lo la value d v now a x fits cells behind b h hx i =
       let t : List PlainFrame = top_written now (shift p r + from) (cell.Int x) in
@@ -250,17 +254,17 @@ module _ (p : Program) (tables : Tables) (code : PlainCode) (input : List ℕ) (
   set_here : (o : Option ℕ) (at exit lo place value : ℕ) (d : Desig) (v : Store) (now : List PlainFrame) (n : ℤ)
       (k : Store → Events NoYield) (made : List Lined) → bare_desig d ≡ o → BareFits p tables code input below r line q o
       → desig_cells d ≡ 1 → own_end p r ≤ lo → lo ≤ place
-      → (o ≡ None → DesigRuns p tables code input below r line q at (place + 1) d)
-      → Stands code at (unless_bare o (desig_code p tables r line at (place + 1) d)
+      → (o ≡ None → HeldRuns p tables code input below r line q at (place + 1) d)
+      → Stands code at (unless_bare o (held_code p tables r line at (place + 1) d)
       ++ (own line (set_by p tables r o (place + 1) (count_at p tables r o value place) d ∷ []) ++ made)) → Begins p code input r v now
       → IsValue p code input (count_at p tables r o value place) n now
       → ((w : Store) (t : List PlainFrame) → Left p code input lo r now w t
-      → From p code input line 7 (at + length (unless_bare o (desig_code p tables r line at (place + 1) d)) + 1) exit t
+      → From p code input line 7 (at + length (unless_bare o (held_code p tables r line at (place + 1) d)) + 1) exit t
       (ending p code input may lo r t) (k w) (q - 1))
       → From p code input line 0 at exit now (ending p code input may lo r now)
       (bind (ev_desig p input below d v) (λ t a. k (put_at t a (Number n)))) q
   set_here o at exit lo place value d v now n k made e fits cells behind le runs stands b count later =
-      let locate : List Lined = unless_bare o (desig_code p tables r line at (place + 1) d) in
+      let locate : List Lined = unless_bare o (held_code p tables r line at (place + 1) d) in
       let from : ℕ = count_at p tables r o value place in
       let set : List Lined = own line (set_by p tables r o (place + 1) from d ∷ []) in
       let m : ℕ = at + length locate in
@@ -289,14 +293,14 @@ module _ (p : Program) (tables : Tables) (code : PlainCode) (input : List ℕ) (
       → desig_cells d ≡ 1 → own_end p r ≤ lo → lo ≤ place
       → FitsRange p tables code input below r line q range → AreVariables p code input r counter 1
       → (o ≡ None → slice_get (kinds_at code r) place ≡ Some slot.Number)
-      → (o ≡ None → (next : ℕ) → DesigRuns p tables code input below r line q next (place + 1) d)
+      → (o ≡ None → (next : ℕ) → HeldRuns p tables code input below r line q next (place + 1) d)
       → Stands code at (turn_code line at (count_code p tables r o range (shift p r + counter) place)
-      (λ next. unless_bare o (desig_code p tables r line next (place + 1) d))
+      (λ next. unless_bare o (held_code p tables r line next (place + 1) d))
       (set_by p tables r o (place + 1) (count_at p tables r o (shift p r + counter) place) d) made)
       → Begins p code input r v now → top_cell v counter ≡ Number n
       → ((next : ℕ) → next + length (made next) ≡ at + length
       (turn_code line at (count_code p tables r o range (shift p r + counter) place)
-      (λ next. unless_bare o (desig_code p tables r line next (place + 1) d))
+      (λ next. unless_bare o (held_code p tables r line next (place + 1) d))
       (set_by p tables r o (place + 1) (count_at p tables r o (shift p r + counter) place) d) made) → Stands code next (made next)
       → (w : Store) (t : List PlainFrame) → Left p code input lo r now w t
       → From p code input line 7 next exit t (ending p code input may lo r t) (k w) (q - 1))
@@ -327,7 +331,7 @@ module _ (p : Program) (tables : Tables) (code : PlainCode) (input : List ℕ) (
       let value : ℕ = shift p r + counter in
       let check : List Lined = own line (fit_code tables range place) in
       let m : ℕ = at + suc (length check) in
-      let locate : List Lined = desig_code p tables r line m (place + 1) d in
+      let locate : List Lined = held_code p tables r line m (place + 1) d in
       let set : List Lined = own line (set_by p tables r None (place + 1) place d ∷ []) in
       let m2 : ℕ = m + length locate + 1 in
       let rest : List Lined = locate ++ (set ++ made m2) in
@@ -370,12 +374,12 @@ module _ (p : Program) (tables : Tables) (code : PlainCode) (input : List ℕ) (
       → own_end p r ≤ lo → lo < place → q ≤ suc u → FitsRange p tables code input below r line q range
       → AreVariables p code input r counter 1 → AreVariables p code input r limit 1
       → (o ≡ None → slice_get (kinds_at code r) place ≡ Some slot.Number)
-      → (o ≡ None → (next : ℕ) → DesigRuns p tables code input below r line q next (place + 1) d)
+      → (o ≡ None → (next : ℕ) → HeldRuns p tables code input below r line q next (place + 1) d)
       → ((next : ℕ) → RunsFor p code input may r line next (place + length (unless_bare o (slot.Number ∷ desig_slots p r d)))
       (stmts_code p tables r next (place + length (unless_bare o (slot.Number ∷ desig_slots p r d))) body) does (q - 1))
       → CountsOn p tables code input below r line q may at exit lo counter by again u
       → Stands code at (turn_code line at (count_code p tables r o range (shift p r + counter) place)
-      (λ next. unless_bare o (desig_code p tables r line next (place + 1) d))
+      (λ next. unless_bare o (held_code p tables r line next (place + 1) d))
       (set_by p tables r o (place + 1) (count_at p tables r o (shift p r + counter) place) d)
       (λ next. stmts_code p tables r next (place + length (unless_bare o (slot.Number ∷ desig_slots p r d))) body)
       ++ own line (I.Step (shift p r + counter) (shift p r + limit) lo exit ∷ I.Jump at ∷ []))
@@ -389,7 +393,7 @@ module _ (p : Program) (tables : Tables) (code : PlainCode) (input : List ℕ) (
       let lb : ℕ = place + length (unless_bare o (slot.Number ∷ desig_slots p r d)) in
       let made = λ (next : ℕ). stmts_code p tables r next lb body in
       let turn : List Lined = turn_code line at (count_code p tables r o range (shift p r + counter) place)
-      (λ next. unless_bare o (desig_code p tables r line next (place + 1) d))
+      (λ next. unless_bare o (held_code p tables r line next (place + 1) d))
       (set_by p tables r o (place + 1) (count_at p tables r o (shift p r + counter) place) d) made in
       let last : List Lined = own line (I.Step (shift p r + counter) (shift p r + limit) lo exit ∷ I.Jump at ∷ []) in
       let m : ℕ = at + length turn in

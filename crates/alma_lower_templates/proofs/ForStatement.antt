@@ -25,10 +25,10 @@ use Rattle.alma_lower_templates.specs.Slots.{bare_desig, unless_bare, expr_slots
 use Rattle.alma_lower_templates.specs.Slots.{behind_variable, constant}
 use Rattle.alma_lower_templates.proofs.Stands.{stands_front, stands_back}
 use Rattle.alma_lower_templates.proofs.ExprForms.{first_slot, some_slots}
-use Rattle.alma_lower_templates.proofs.FormRuns.{DesigRuns, ExprRuns, StatementRuns, FitsRange}
+use Rattle.alma_lower_templates.proofs.FormRuns.{held_code, HeldRuns, ExprRuns, StatementRuns, FitsRange}
 use Rattle.alma_lower_templates.proofs.AtOnce.{BareFits}
 use Rattle.alma_lower_templates.specs.Stands.{Stands}
-use Rattle.alma_lower_templates.specs.Templates.{set_code, stmt_code, stmts_code, desig_code, count_at, count_code}
+use Rattle.alma_lower_templates.specs.Templates.{set_code, stmt_code, stmts_code, count_at, count_code}
 use Rattle.alma_lower_templates.proofs.Parts.{RunsFor, Left, left_self, ending, from_more, as_runs, node_runs}
 use Rattle.alma_lower_templates.proofs.ForForms.{CountsOn, for_turn_of}
 use Rattle.alma_lower_templates.proofs.Bounds.{loop_front, LimitRuns, front_from, bounds_from}
@@ -40,7 +40,7 @@ module _ (p : Program) (tables : Tables) (code : PlainCode) (input : List ℕ) (
   abbrev pub for_turn_code : (at place : ℕ) → Desig → Range → (counter : ℕ) → Stmts → List Lined
   for_turn_code at place d range counter body =
       turn_code line at (count_code p tables r (bare_desig d) range (shift p r + counter) place)
-      (λ next. unless_bare (bare_desig d) (desig_code p tables r line next (place + 1) d))
+      (λ next. unless_bare (bare_desig d) (held_code p tables r line next (place + 1) d))
       (set_code p tables r (place + 1) (count_at p tables r (bare_desig d) (shift p r + counter) place) d)
       (λ next. stmts_code p tables r next (behind_variable p r place d) body)
 
@@ -113,7 +113,7 @@ module _ (p : Program) (tables : Tables) (code : PlainCode) (input : List ℕ) (
       → FitsRange p tables code input below r line q range
       → HasSlots p code r lo (for_slots p r (a_loop d range counter limit from to by body)) → AreVariables p code input r counter 1
       → AreVariables p code input r limit 1
-      → (bare_desig d ≡ None → (next : ℕ) → DesigRuns p tables code input below r line q next
+      → (bare_desig d ≡ None → (next : ℕ) → HeldRuns p tables code input below r line q next
       (behind_expr p r (behind_expr p r (lo + 1) from) to + 1) d)
       → ((next : ℕ) → RunsFor p code input may r line next (behind_variable p r (behind_expr p r (behind_expr p r (lo + 1) from) to) d)
       (stmts_code p tables r next (behind_variable p r (behind_expr p r (behind_expr p r (lo + 1) from) to) d) body) (below.stmts body)

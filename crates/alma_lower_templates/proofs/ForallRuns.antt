@@ -41,6 +41,7 @@ use Rattle.alma_lower_templates.specs.Templates.{stmts_code, stmt_code}
 use Rattle.alma_lower_templates.specs.Pieces.{begin_each, end_each}
 use Rattle.alma_lower_templates.specs.Stands.{Stands}
 use Rattle.alma_lower_templates.proofs.Stands.{stands_front, stands_back}
+use Rattle.alma_lower_templates.proofs.Given.{given_after}
 use Rattle.alma_lower_templates.proofs.Parts.{Positioned, Begins, Left, sound_of, begins, left_on, left_temp, holds_temp, has_kind}
 use Rattle.alma_lower_templates.proofs.Parts.{holds_after, From, from_less, node_runs, leaving, ending, Nothing}
 use Rattle.alma_lower_templates.proofs.FormRuns.{ListRuns, StmtRuns}
@@ -179,7 +180,8 @@ module _ (p : Program) (tables : Tables) (code : PlainCode) (input : List ℕ) (
               routine = top_is ∙ left.routine;
               sound =
                   sound_of p code input (over v carry) (frames_with_carry now c) fit.stand
-                  (laid_position p code input v carry alike.0.carry_rising alike.1 left.fits.stand.some left.sound.position);
+                  (laid_position p code input v carry alike.0.carry_rising alike.1 left.fits.stand.some left.sound.position)
+                  (given_after p code inner v (over v carry) now (frames_with_carry now c) left.fits.stand fit left.sound.given);
             }
 
         begins_laid : Begins p code input r (over v carry) (frames_with_carry now c)
@@ -223,7 +225,8 @@ module _ (p : Program) (tables : Tables) (code : PlainCode) (input : List ℕ) (
             routine = top_is ∙ b0.routine;
             sound =
                 sound_of p code input (over s0 carry) (frames_with_carry now0 c) fit.stand
-                (laid_position p code input s0 carry alike.0.carry_rising alike.1 b0.stand.some b0.sound.position);
+                (laid_position p code input s0 carry alike.0.carry_rising alike.1 b0.stand.some b0.sound.position)
+                (given_after p code lo s0 (over s0 carry) now0 (frames_with_carry now0 c) b0.stand fit b0.sound.given);
           };
     }
       where

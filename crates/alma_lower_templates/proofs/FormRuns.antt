@@ -1,6 +1,6 @@
 -- How the phrases of one statement run, in words: each stands somewhere, takes its slots from `lo` on, and is at the line
 -- of the statement.
-use Rattle.std.proofs.Common.{◌≡◌, ℕ, Bool, false, Some, List}
+use Rattle.std.proofs.Common.{◌≡◌, ℕ, ◌+◌, ◌<◌, Bool, false, Some, List, length}
 use Rattle.std.specs.Prelude.{slice_get}
 use Rattle.alma_base.specs.declared.number.Range.{Range}
 use Rattle.alma_code.specs.Plain.{PlainCode}
@@ -8,8 +8,15 @@ use Rattle.alma_ir.specs.Tree.{Program, Stmts, Stmt, Test, Expr, Desig}
 use Rattle.alma_ir.specs.Checked.{desig_cells}
 use Rattle.alma_mean.specs.Meaning.{Level, ev_stmts, ev_stmt, ev_test, ev_expr, ev_desig}
 use Rattle.alma_lower_templates.specs.Tables.{Tables, range_number, is_whole}
-use Rattle.alma_lower_templates.specs.Templates.{stmts_code, stmt_code, test_code, expr_code, desig_code, place_at}
+use Rattle.alma_lower_templates.specs.Lined.{Lined}
+use Rattle.alma_lower_templates.specs.Pieces.{placed}
+use Rattle.alma_lower_templates.specs.Slots.{own_place, unless_bare, desig_slots}
+use Rattle.alma_lower_templates.specs.Templates.{stmts_code, stmt_code, test_code, expr_code, desig_code, place_at, held_at}
 use Rattle.alma_lower_templates.proofs.Parts.{NodeFor, RunsFor, ValueIn, PlaceIn, Nothing}
+
+-- the code that comes before what uses the place of a designator: none for a whole parameter, which has it in its own slot
+abbrev pub held_code : (p : Program) (tables : Tables) (r line at lo : ℕ) → Desig → List Lined
+held_code p tables r line at lo d = unless_bare (own_place d) (desig_code p tables r line at lo d)
 
 module _ (p : Program) (tables : Tables) (code : PlainCode) (input : List ℕ) (below : Level) (r line q : ℕ) where
   abbrev pub ExprRuns : (at lo : ℕ) → Expr → Type 0
@@ -19,6 +26,17 @@ module _ (p : Program) (tables : Tables) (code : PlainCode) (input : List ℕ) (
   abbrev pub DesigRuns : (at lo : ℕ) → Desig → Type 0
   DesigRuns at lo d = NodeFor p code input r line at lo (desig_code p tables r line at lo d) (ev_desig p input below d)
       (PlaceIn p code input (place_at p tables r lo d) (desig_cells d)) q
+
+  -- with its place put into the slot `to`
+  abbrev pub PlacedRuns : (to at lo : ℕ) → Desig → Type 0
+  PlacedRuns to at lo d = NodeFor p code input r line at to (placed to (desig_code p tables r line at lo d)) (ev_desig p input below d)
+      (PlaceIn p code input to (desig_cells d)) q
+
+  -- a designator whose place is used: behind that code it is held by a slot before those of the next phrase
+  pub record HeldRuns (at lo : ℕ) (d : Desig) : Type 0 where
+    pub within : held_at p tables r lo d < lo + length (desig_slots p r d)
+    pub runs : NodeFor p code input r line at lo (held_code p tables r line at lo d) (ev_desig p input below d)
+        (PlaceIn p code input (held_at p tables r lo d) (desig_cells d)) q
 
   abbrev pub TestRuns : (at lo : ℕ) → Test → Type 0
   TestRuns at lo t = NodeFor p code input r line at lo (test_code p tables r line at lo t) (ev_test p input below t) (Nothing p code input)

@@ -2,7 +2,6 @@
 use Rattle.std.proofs.Common.{◌≡◌, ℕ, zero, suc, ◌+◌, ◌-◌, ◌<◌, ◌≤◌, Bool, true, false, List, [], ◌∷◌, ◌++◌, length, get_or, drop, Some}
 use Rattle.std.proofs.Common.{None, Option, inl, inr, refl, sym, ap, ◌∙◌, subst, arith, append_assoc, ℤ}
 use Rattle.std.specs.Prelude.{slice_get, IsNone, IsSome}
-use Rattle.std.proofs.lemmas.List.{length-append}
 use Rattle.alma_base.specs.declared.number.Range.{Range}
 use Rattle.alma_base.specs.Numbers.{is_integer}
 use Rattle.alma_code.specs.declared.cell.SlotKind.{SlotKind}
@@ -22,7 +21,7 @@ use Rattle.alma_ir.specs.Tree.{Unify, SameCells, Seq, And, Or, Not, CallTest, no
 use Rattle.alma_ir.specs.Tree.{Known, Chr, CallExpr, no_links, more_links, no_args, more_args, ByValue, ByCells, ByPlace, MixValue}
 use Rattle.alma_ir.specs.Tree.{MixPlace, a_desig, no_sels, more_sels, Field, Index}
 use Rattle.alma_ir.specs.Checked.{IsChecked, IsHiddenSlot, IsOutside, param_slots, slots_of_kind, HoldsPlace, HasChoice, RootExists}
-use Rattle.alma_ir.specs.Checked.{AreNumbers, LeavesPosition, HoldPlace, ArePartsOf, IsPart, desig_cells, outer_at}
+use Rattle.alma_ir.specs.Checked.{AreNumbers, LeavesPosition, HoldPlace, ArePartsOf, IsPart, desig_cells, sel_cells, outer_at}
 use Rattle.alma_ir.specs.Checked as checked_of
 use Rattle.alma_ir.specs.declared.program.ArgKind.{ArgKind}
 use Rattle.alma_ir.specs.declared.program.ArgKind.TheVariants as kind
@@ -42,14 +41,15 @@ use Rattle.alma_base.specs.Limits.{input_limit}
 use Rattle.alma_lower_implements.proofs.Frames.{shift, own_end, HasSlots}
 use Rattle.alma_lower_implements.proofs.ExprRows.{AreVariables, first_kind, slots_first, slots_behind}
 use Rattle.alma_lower_templates.specs.Tables.{Tables}
-use Rattle.alma_lower_templates.specs.Slots.{routine_kinds, bare, bare_desig, own_place, own_root, unless_bare, is_simple, mark_slots}
+use Rattle.alma_lower_templates.specs.Slots.{routine_kinds, bare, bare_desig, own_place, unless_bare, is_simple, mark_slots}
 use Rattle.alma_lower_templates.specs.Slots.{handed_slots, root_slots, stmts_slots, stmt_slots, test_slots, and_slots, or_slots, expr_slots}
 use Rattle.alma_lower_templates.specs.Slots.{links_slots, args_slots, arg_slots, desig_slots, sels_slots, sel_slots, behind_expr}
 use Rattle.alma_lower_templates.specs.Slots.{behind_dead, behind_value, behind_desig, behind_test, behind_stmts, behind_stmt}
-use Rattle.alma_lower_templates.specs.Slots.{behind_condition, behind_variable, is_turned, by_turn, arms_slots, dead_slots, cases_slots}
-use Rattle.alma_lower_templates.specs.Slots.{else_slots}
+use Rattle.alma_lower_templates.specs.Slots.{behind_condition, behind_variable, behind_held, is_turned, held_constant, held_slots}
+use Rattle.alma_lower_templates.specs.Slots.{arms_slots, dead_slots, cases_slots, else_slots}
 use Rattle.alma_lower_templates.specs.Compiled.{program_code}
-use Rattle.alma_lower_templates.specs.Templates.{part_slot, behind_root, arg_code, desig_code, place_at, stmts_code, stmt_code}
+use Rattle.alma_lower_templates.specs.Templates.{part_slot, part_at, behind_root, arg_code, desig_code, place_at, stmts_code, stmt_code}
+use Rattle.alma_lower_templates.specs.Pieces.{placed}
 use Rattle.alma_lower_templates.proofs.AtOnce.{BareFits}
 use Rattle.alma_lower_templates.proofs.Args.{ArgPart, ArgParts, RangeFits, same_cells}
 use Rattle.alma_lower_templates.proofs.Asked.{HasUnlessWhole, Asked, Fine, fine_front, fine_back, fine_first, fine_second, fine_third}
@@ -71,35 +71,41 @@ use Rattle.alma_lower_templates.proofs.ChoiceForms.{EachRuns, either_form, Opera
 use Rattle.alma_lower_templates.proofs.ChoiceForms.{or_runs}
 use Rattle.alma_lower_templates.proofs.Destinations.{Goal, in_first, in_slot, in_variable, goal_end, goal_ways, GoalFits, goal_takes}
 use Rattle.alma_lower_templates.proofs.Straight.{alone_bare}
-use Rattle.alma_lower_templates.proofs.OwnPlace.{OwnFits}
-use Rattle.alma_lower_templates.proofs.DesigForms.{IsNear, NearRuns, near_root, near_index_runs, OwnRuns, SelRuns, SelsRun, field_runs}
-use Rattle.alma_lower_templates.proofs.DesigForms.{index_runs, no_sels_run, more_sels_run, desig_runs}
+use Rattle.alma_lower_templates.proofs.OwnPlace.{OwnFits, own_root_is, held_runs}
+use Rattle.alma_lower_templates.proofs.Placed.{by_sels}
+use Rattle.alma_lower_templates.proofs.DesigForms.{SelRuns, SelsRun, EndFits, PartsRun, field_runs, part_end, part_kind, desig_ends}
+use Rattle.alma_lower_templates.proofs.DesigForms.{index_runs, no_sels_run, more_sels_run, desig_runs, placed_runs}
 use Rattle.alma_lower_templates.proofs.ExprForms.{LinksRun, OthersRun, const_to, const_runs, load_runs, load_straight, more_links_run}
 use Rattle.alma_lower_templates.proofs.ExprForms.{chain_runs, chain_straight, compare_runs, unequal_runs, known_runs, first_slot}
 use Rattle.alma_lower_templates.proofs.ExprForms.{some_slots}
 use Rattle.alma_lower_templates.proofs.Tested.{Tested, tested, as_value, as_unequal}
-use Rattle.alma_lower_templates.proofs.FormRuns.{TestRuns, ListRuns, StmtRuns, StatementRuns}
+use Rattle.alma_lower_templates.proofs.FormRuns.{DesigRuns, TestRuns, ListRuns, StmtRuns, StatementRuns}
 use Rattle.alma_lower_templates.proofs.ForallRuns.{forall_runs}
 use Rattle.alma_lower_templates.proofs.GuardedForms.{ArmsRun, no_arms_run, more_arms_run, no_arms_if, if_runs}
 use Rattle.alma_lower_templates.proofs.Levels.{Below, ForTurns, SomeTurns, owes_less}
 use Rattle.alma_lower_templates.proofs.ReadForms.{read_runs}
 use Rattle.alma_lower_templates.proofs.Returning.{return_runs, return_value_runs}
 use Rattle.alma_lower_templates.proofs.Parts.{NodeFor, RunsFor, PlaceIn, ending, as_statement}
-use Rattle.alma_lower_templates.proofs.LoopForms.{truth_runs, TurnsRun, TurnKnown, while_top, while_exit, repeat_exit, while_turn_runs}
-use Rattle.alma_lower_templates.proofs.LoopForms.{while_runs, repeat_turn_runs, repeat_runs}
+use Rattle.alma_lower_templates.proofs.LoopForms.{truth_runs, TurnsRun, HeldTurnsRun, TurnKnown, while_top, while_exit, while_slots}
+use Rattle.alma_lower_templates.proofs.LoopForms.{behind_constant, turned_top, while_turn_runs, while_runs}
+use Rattle.alma_lower_templates.proofs.LoopForms.{repeat_exit, repeat_turn_runs, repeat_runs}
 use Rattle.alma_lower_templates.proofs.RangeChecks.{chr_runs}
 use Rattle.alma_lower_templates.proofs.RootForms.{RootFits, IsParam}
 use Rattle.alma_lower_templates.proofs.StmtForms.{value_runs, test_stmt_runs, assign_runs, write_runs, text_runs, line_runs}
 
--- the slots of a selector end behind the place of its part
-part_end : (p : Program) (tables : Tables) (r lo : ℕ) (x : Sel) → lo + length (sel_slots p r x) ≡ part_slot p tables r lo x + 1
-part_end p tables r lo (Field offset cells) = refl
-part_end p tables r lo (Index e range cells) =
-    omega (arith, length-append (unless_bare (bare e) (expr_slots p r e)) (slot.Place cells ∷ []))
-
 part_above : (p : Program) (tables : Tables) (r lo : ℕ) (x : Sel) → lo ≤ part_slot p tables r lo x
 part_above p tables r lo (Field offset cells) = omega arith
 part_above p tables r lo (Index e range cells) = omega arith
+
+-- the slot of a root is before those of the selectors: where none follow it is the last slot of all
+root_near : (p : Program) (tables : Tables) (r : ℕ) (sels : Sels) (lo next : ℕ) → lo < next
+    → by_sels sels (part_at p tables r lo next sels) lo < next
+root_near p tables r no_sels lo next lt = lt
+root_near p tables r (more_sels x rest) lo next lt = lt
+
+placed_near : (sels : Sels) (to lo next : ℕ) → to ≤ lo → lo < next → by_sels sels to lo < next
+placed_near no_sels to lo next le lt = omega (arith, le, lt)
+placed_near (more_sels x rest) to lo next le lt = lt
 
 same_value : (a b : Expr) → Value a ≡ Value b → a ≡ b
 same_value a b e = cc
@@ -176,14 +182,14 @@ module _ (p : Program) (tables : Tables) (code : PlainCode) (all : List (List Ru
 
     -- the slot of a whole parameter
     own_fits : (r cells : ℕ) (sels sels2 : Sels) (x : Root) → r < length p.routines
-        → RootExists p r (routine_at p r) (DesigPhrase (a_desig x cells sels2)) → desig_cells (a_desig x cells sels) ≡ 1
-        → OwnFits p code input r (own_place (a_desig x cells sels))
-    own_fits r cells no_sels sels2 (root.Param from) lt h e = subst (IsParam p code input r from) e (params r from cells lt h)
-    own_fits r cells (more_sels y rest) sels2 (root.Param from) lt h e = tt
-    own_fits r cells sels sels2 (root.Local from) lt h e = tt
-    own_fits r cells sels sels2 (root.Global from) lt h e = tt
-    own_fits r cells sels sels2 (root.Outer links from) lt h e = tt
-    own_fits r cells sels sels2 (root.OuterParam links from) lt h e = tt
+        → RootExists p r (routine_at p r) (DesigPhrase (a_desig x cells sels2))
+        → OwnFits p code input r (own_place (a_desig x cells sels)) (desig_cells (a_desig x cells sels))
+    own_fits r cells no_sels sels2 (root.Param from) lt h = params r from cells lt h
+    own_fits r cells (more_sels y rest) sels2 (root.Param from) lt h = tt
+    own_fits r cells sels sels2 (root.Local from) lt h = tt
+    own_fits r cells sels sels2 (root.Global from) lt h = tt
+    own_fits r cells sels sels2 (root.Outer links from) lt h = tt
+    own_fits r cells sels sels2 (root.OuterParam links from) lt h = tt
 
     -- counter and limit of a loop are variables of the routine
     hidden_variable : (r n : ℕ) → r < length p.routines → IsHiddenSlot p r n → AreVariables p code input r n 1
@@ -224,9 +230,14 @@ module _ (p : Program) (tables : Tables) (code : PlainCode) (all : List (List Ru
       -- a place as an argument
       place_of : (r line at la : ℕ) (d : Desig) → GoodDesig r line d → HasSlots p code r la (desig_slots p r d)
           → ArgPart p tables code input below r line (suc n) at la (ByPlace d)
-      place_of r line at la d g slots =
-          subst (λ k. NodeFor p code input r line at la (desig_code p tables r line at la d) (ev_desig p input below d)
-          (PlaceIn p code input (place_at p tables r la d) k) (suc n)) (sym (same_cells d)) (g.runs at la slots)
+      place_of r line at la d g slots to small own_to kind =
+          subst (λ k. NodeFor p code input r line at to (placed to (desig_code p tables r line at la d)) (ev_desig p input below d)
+          (PlaceIn p code input to k) (suc n)) (sym (same_cells d))
+          (g.placed to at la (record {
+            behind = own_to;
+            above = omega arith;
+            kind = subst (λ k. slice_get (kinds_at code r) to ≡ Some (slot.Place k)) (same_cells d) kind;
+          }) (omega (arith, small)) slots)
 
       -- a value as an argument
       value_of : (r line at la : ℕ) (e : Expr) (range : Range) → GoodExpr r line e → RangeFits p tables code input range
@@ -340,23 +351,24 @@ module _ (p : Program) (tables : Tables) (code : PlainCode) (all : List (List Ru
       turn_known : (z : Bool) (may : Bool) (r line : ℕ) → r < length p.routines → (t : Test) (body : Stmts) (ls : List ℕ)
           → FineIn r (test_phrases t ++ stmts_phrases body) ls → Stays p tables code input may (test_phrases t ++ stmts_phrases body)
           → (at lo : ℕ) → is_turned (test_with t ls) ≡ z
-          → HasSlots p code r lo (by_turn z
-          (stmts_slots p r (stmts_with body (behind (test_phrases t) ls)) ++ test_slots p r (test_with t ls))
-          (mark_slots (is_simple (test_with t ls))
-          ++ (test_slots p r (test_with t ls) ++ stmts_slots p r (stmts_with body (behind (test_phrases t) ls)))))
+          → HasSlots p code r lo (while_slots p tables code input below r line (suc n) z (test_with t ls)
+          (stmts_with body (behind (test_phrases t) ls)))
           → TurnKnown p tables code input below r line (suc n) z may at lo (test_with t ls) (stmts_with body (behind (test_phrases t) ls))
           (below.test (test_with t ls)) (below.stmts (stmts_with body (behind (test_phrases t) ls))) n
       turn_known true may r line lt t body ls inner inner_stays at lo e slots =
           let ls2 = behind (test_phrases t) ls in
           let u : Test = test_with t ls in
           let x : Stmts = stmts_with body ls2 in
+          let lo1 : ℕ = behind_held p r lo u in
+          let at1 : ℕ = behind_constant p tables code input below r line (suc n) at lo u + 1 in
+          let slots1 = slots_behind p code input r lo (held_slots (held_constant u)) (stmts_slots p r x ++ test_slots p r u) slots in
           record {
             decides = know.backs r line lt t ls (fine_front p tables code input r (test_phrases t) (stmts_phrases body) ls inner) e
-                (at + 1 + length (stmts_code p tables r (at + 1) lo x)) (behind_stmts p r lo x) (at + 1)
-                (slots_behind p code input r lo (stmts_slots p r x) (test_slots p r u) slots);
+                (turned_top p tables code input below r line (suc n) at lo u x) (behind_stmts p r lo1 x) lo at1
+                (slots_behind p code input r lo1 (stmts_slots p r x) (test_slots p r u) slots1);
             runs = turn_body may r line lt body ls2 (fine_back p tables code input r (test_phrases t) (stmts_phrases body) ls inner)
-                (stays_back p tables code input may (test_phrases t) (stmts_phrases body) inner_stays) (at + 1) lo
-                (slots_first p code input r lo (stmts_slots p r x) (test_slots p r u) slots);
+                (stays_back p tables code input may (test_phrases t) (stmts_phrases body) inner_stays) at1 lo1
+                (slots_first p code input r lo1 (stmts_slots p r x) (test_slots p r u) slots1);
           }
       turn_known false may r line lt t body ls inner inner_stays at lo e slots =
           let ls2 = behind (test_phrases t) ls in
@@ -441,97 +453,92 @@ module _ (p : Program) (tables : Tables) (code : PlainCode) (all : List (List Ru
         desig_go r line lt (a_desig x cells sels) ls h =
             let inner = fine_desig p tables code input r (a_desig x cells sels) (sels_phrases sels) ls h in
             let asked = h.asked.0 in
+            let all : Sels = sels_with sels ls in
+            let y : Desig = a_desig x cells all in
+            let fits = root_fits r cells sels x lt asked.root in
+            let parts : (low end lo : ℕ) → EndFits p tables code input below r line (suc n) low end (checked_of.cells_after all cells)
+            → low ≤ lo → own_end p r ≤ lo → by_sels all end lo < behind_root p tables r lo x → HasSlots p code r lo (desig_slots p r y)
+            → PartsRun p tables code input below r line (suc n) low end lo cells x all =
+            λ low end lo ends under own_lo near slots.
+            let rest = slots_behind p code input r (lo + 1) (root_slots p r x) (sels_slots p r all)
+            (slots_behind p code input r lo (slot.Place cells ∷ []) (root_slots p r x ++ sels_slots p r all) slots) in
+            let next : ℕ = behind_root p tables r lo x in
             record {
-              fits = λ e. bare_fits below line (suc n) r cells (sels_with sels ls) sels x lt asked.root e;
-              own = λ e. own_fits r cells (sels_with sels ls) sels x lt asked.root e;
-              runs = λ at lo slots.
-                  let own_lo : own_end p r ≤ lo = slots.behind in
-                  let behind_first = slots_behind p code input r lo (slot.Place cells ∷ [])
-                  (root_slots p r x ++ sels_slots p r (sels_with sels ls)) slots in
-                  let rest = slots_behind p code input r (lo + 1) (root_slots p r x) (sels_slots p r (sels_with sels ls)) behind_first in
-                  let fits = root_fits r cells sels x lt asked.root in
-                  desig_runs p tables code input below r line (suc n) at lo cells x (sels_with sels ls) fits checked.nested slots
-                  (λ next. sels_go r line lt sels ls inner cells asked.parts next lo (behind_root p tables r lo x) (omega arith) own_lo
-                  rest)
-                  (λ from is. own_sels_go r line lt sels ls inner cells asked.parts x from is fits (behind_root p tables r lo x)
-                  (omega (arith, own_lo)) rest);
+              placed = λ m. sels_go r line lt sels ls inner cells asked.parts low end m (by_sels all end lo) next ends
+                  (omega (arith, under)) near rest;
+              owned = λ from is m.
+                  let param : IsParam p code input r from cells =
+                  subst (λ k. RootFits p code input r k cells) (own_root_is x all from is) fits in
+                  sels_go r line lt sels ls inner cells asked.parts low end m (shift p r + from) next ends (omega (arith, under))
+                  (omega (arith, own_lo, param.exists)) rest;
+            } in
+            let runs : (at lo : ℕ) → HasSlots p code r lo (desig_slots p r y) → DesigRuns p tables code input below r line (suc n) at lo y =
+            λ at lo slots.
+            let end : ℕ = place_at p tables r lo y in
+            desig_runs p tables code input below r line (suc n) at lo cells x all fits checked.nested slots
+            (parts lo end lo (desig_ends p tables code input below r line (suc n) lo cells x all slots) (omega arith) slots.behind
+            (root_near p tables r all lo (behind_root p tables r lo x) (omega arith)) slots) in
+            record {
+              fits = λ e. bare_fits below line (suc n) r cells all sels x lt asked.root e;
+              runs = runs;
+              held = λ at lo slots. held_runs p tables code input below r line (suc n) at lo y slots.behind
+                  (own_fits r cells all sels x lt asked.root) (runs at lo slots);
+              placed = λ to at lo ends under slots. placed_runs p tables code input below r line (suc n) to at lo cells x all ends under
+                  fits
+                  checked.nested slots
+                  (parts to to lo ends under slots.behind (placed_near all to lo (behind_root p tables r lo x) under (omega arith)) slots);
             }
 
+        -- from any slot before their own, the last into any slot
         sels_go : (r line : ℕ) → r < length p.routines → (sels : Sels) (ls : List ℕ) → FineIn r (sels_phrases sels) ls → (size : ℕ)
-            → ArePartsOf sels size → (at from lo : ℕ) → from < lo → own_end p r ≤ from
-            → HasSlots p code r lo (sels_slots p r (sels_with sels ls))
-            → SelsRun p tables code input below r line (suc n) at from lo size (sels_with sels ls)
-        sels_go r line lt no_sels ls h size parts at from lo small own_from slots =
-            no_sels_run p tables code input below r line (suc n) at from lo size
-        sels_go r line lt (more_sels x rest) ls h size parts at from lo small own_from slots =
+            → ArePartsOf sels size → (low end at from lo : ℕ)
+            → EndFits p tables code input below r line (suc n) low end (checked_of.cells_after (sels_with sels ls) size)
+            → low ≤ lo → from < lo → HasSlots p code r lo (sels_slots p r (sels_with sels ls))
+            → SelsRun p tables code input below r line (suc n) low end at from lo size (sels_with sels ls)
+        sels_go r line lt no_sels ls h size parts low end at from lo ends under small slots =
+            no_sels_run p tables code input below r line (suc n) low end at from lo size
+        sels_go r line lt (more_sels x no_sels) ls h size parts low end at from lo ends under small slots =
+            let y : Sel = sel_with x ls in
+            let next_low : low ≤ part_slot p tables r lo y + 1 = omega (arith, under, part_above p tables r lo y) in
+            more_sels_run p tables code input below r line (suc n) low end at from lo size y no_sels ends.behind
+            (sel_go r line lt x ls (fine_front p tables code input r (sel_phrases x) [] ls h) size parts.0 low end at from lo ends under
+            small
+            (slots_first p code input r lo (sel_slots p r y) [] slots))
+            (λ next. no_sels_run p tables code input below r line (suc n) low end next end (part_slot p tables r lo y + 1) (sel_cells y))
+        sels_go r line lt (more_sels x (more_sels z rest)) ls h size parts low end at from lo ends under small slots =
             let y : Sel = sel_with x ls in
             let ls2 = behind (sel_phrases x) ls in
-            let ends = part_end p tables r lo y in
-            let behind_slots = slots_behind p code input r lo (sel_slots p r y) (sels_slots p r (sels_with rest ls2)) slots in
-            let below_part : own_end p r ≤ part_slot p tables r lo y = omega (arith, own_from, small, ends, part_above p tables r lo y) in
-            more_sels_run p tables code input below r line (suc n) at from lo size y (sels_with rest ls2) (omega (arith, own_from, small))
-            (sel_go r line lt x ls (fine_front p tables code input r (sel_phrases x) (sels_phrases rest) ls h) size parts.0 at from lo small
-            own_from (slots_first p code input r lo (sel_slots p r y) (sels_slots p r (sels_with rest ls2)) slots))
-            (λ next. subst (λ k. SelsRun p tables code input below r line (suc n) next (part_slot p tables r lo y)
-            (part_slot p tables r lo y + 1) k (sels_with rest ls2)) (sym (sel_cells_with x ls))
-            (sels_go r line lt rest ls2 (fine_back p tables code input r (sel_phrases x) (sels_phrases rest) ls h) (checked_of.sel_cells x)
-            parts.1 next (part_slot p tables r lo y) (part_slot p tables r lo y + 1) (omega arith) below_part
-            (subst (λ k. HasSlots p code r k (sels_slots p r (sels_with rest ls2))) ends behind_slots)))
-
-        -- at the slot of a parameter
-        own_sels_go : (r line : ℕ) → r < length p.routines → (sels : Sels) (ls : List ℕ) → FineIn r (sels_phrases sels) ls → (size : ℕ)
-            → ArePartsOf sels size → (x : Root) (from : ℕ) → own_root x (sels_with sels ls) ≡ Some from → RootFits p code input r x size
-            → (lo : ℕ) → own_end p r ≤ lo
-            → HasSlots p code r lo (sels_slots p r (sels_with sels ls))
-            → OwnRuns p tables code input below r line (suc n) from lo size (sels_with sels ls)
-        own_sels_go r line lt no_sels ls h size parts x from e fits lo own_lo slots = tt
-        own_sels_go r line lt (more_sels z rest) ls h size parts x from e fits lo own_lo slots =
-            let y : Sel = sel_with z ls in
-            let ls2 = behind (sel_phrases z) ls in
-            let near = near_root p tables code input below r line (suc n) x y (sels_with rest ls2) from e in
-            let param : IsParam p code input r from size = subst (λ k. RootFits p code input r k size) near.0 fits in
-            let ends = part_end p tables r lo y in
-            let behind_slots = slots_behind p code input r lo (sel_slots p r y) (sels_slots p r (sels_with rest ls2)) slots in
-            let below_part : own_end p r ≤ part_slot p tables r lo y = omega (arith, own_lo, part_above p tables r lo y) in
-            let first = own_sel_go r line lt z ls (fine_front p tables code input r (sel_phrases z) (sels_phrases rest) ls h) size parts.0
-            from lo near.1 (omega (arith, own_lo, param.exists))
-            (slots_first p code input r lo (sel_slots p r y) (sels_slots p r (sels_with rest ls2)) slots) in (
-              first.0,
-              λ next. more_sels_run p tables code input below r line (suc n) next (shift p r + from) lo size y (sels_with rest ls2) own_lo
-                  (first.1 next)
-                  (λ m. subst (λ k. SelsRun p tables code input below r line (suc n) m (part_slot p tables r lo y)
-                  (part_slot p tables r lo y + 1) k (sels_with rest ls2)) (sym (sel_cells_with z ls))
-                  (sels_go r line lt rest ls2 (fine_back p tables code input r (sel_phrases z) (sels_phrases rest) ls h)
-                  (checked_of.sel_cells z) parts.1 m (part_slot p tables r lo y) (part_slot p tables r lo y + 1) (omega arith) below_part
-                  (subst (λ k. HasSlots p code r k (sels_slots p r (sels_with rest ls2))) ends behind_slots))),
-            )
-
-        own_sel_go : (r line : ℕ) → r < length p.routines → (x : Sel) (ls : List ℕ) → FineIn r (sel_phrases x) ls → (size : ℕ)
-            → IsPart x size
-            → (from lo : ℕ) → IsNear p tables code input below r line (suc n) (sel_with x ls) → shift p r + from < lo
-            → HasSlots p code r lo (sel_slots p r (sel_with x ls))
-            → NearRuns p tables code input below r line (suc n) lo (sel_with x ls)
-            × ((at : ℕ) → SelRuns p tables code input below r line (suc n) at (shift p r + from) lo size (sel_with x ls))
-        own_sel_go r line lt (Field offset cells) ls h size part from lo near low slots =
-            (tt, λ at. field_runs p tables code input below r line (suc n) at (shift p r + from) lo size offset cells slots part)
-        own_sel_go r line lt (Index e range cells) ls h size part from lo near low slots =
-            let y : Expr = expr_with e ls in
-            let next = behind_first p tables code input below r line (suc n) y
-            (expr_go r line lt e ls (fine_sel p tables code input r (Index e range cells) (expr_phrases e) ls h)) lo
-            (slots_first p code input r lo (unless_bare (bare y) (expr_slots p r y)) (slot.Place cells ∷ []) slots) in (
-              next,
-              λ at. near_index_runs p tables code input below r line (suc n) (shift p r + from) lo size low cells y range slots
-                  h.asked.0.coded part next at near,
-            )
+            let others : Sels = sels_with (more_sels z rest) ls2 in
+            let part : ℕ = part_slot p tables r lo y in
+            let first = slots_first p code input r lo (sel_slots p r y) (sels_slots p r others) slots in
+            let behind_slots = slots_behind p code input r lo (sel_slots p r y) (sels_slots p r others) slots in
+            let low_part : low ≤ part = omega (arith, under, part_above p tables r lo y) in
+            more_sels_run p tables code input below r line (suc n) low end at from lo size y others ends.behind
+            (sel_go r line lt x ls (fine_front p tables code input r (sel_phrases x) (sels_phrases (more_sels z rest)) ls h) size parts.0
+            low
+            part at from lo
+            (record { behind = ends.behind; above = low_part; kind = part_kind p tables code input below r line (suc n) lo y first })
+            under small first)
+            (λ next. subst (λ k. SelsRun p tables code input below r line (suc n) low end next part (part + 1) k others)
+            (sym (sel_cells_with x ls))
+            (sels_go r line lt (more_sels z rest) ls2
+            (fine_back p tables code input r (sel_phrases x) (sels_phrases (more_sels z rest)) ls h) (checked_of.sel_cells x)
+            parts.1 low end next part (part + 1)
+            (subst (λ k. EndFits p tables code input below r line (suc n) low end (checked_of.cells_after others k)) (sel_cells_with x ls)
+            ends)
+            (omega (arith, low_part)) (omega arith)
+            (subst (λ k. HasSlots p code r k (sels_slots p r others)) (part_end p tables code input below r line (suc n) lo y)
+            behind_slots)))
 
         sel_go : (r line : ℕ) → r < length p.routines → (x : Sel) (ls : List ℕ) → FineIn r (sel_phrases x) ls → (size : ℕ) → IsPart x size
-            → (at from lo : ℕ) → from < lo → own_end p r ≤ from → HasSlots p code r lo (sel_slots p r (sel_with x ls))
-            → SelRuns p tables code input below r line (suc n) at from lo size (sel_with x ls)
-        sel_go r line lt (Field offset cells) ls h size part at from lo small own_from slots =
-            field_runs p tables code input below r line (suc n) at from lo size offset cells slots part
-        sel_go r line lt (Index e range cells) ls h size part at from lo small own_from slots =
+            → (low end at from lo : ℕ) → EndFits p tables code input below r line (suc n) low end (sel_cells (sel_with x ls)) → low ≤ lo
+            → from < lo → HasSlots p code r lo (sel_slots p r (sel_with x ls))
+            → SelRuns p tables code input below r line (suc n) low end at from lo size (sel_with x ls)
+        sel_go r line lt (Field offset cells) ls h size part low end at from lo ends under small slots =
+            field_runs p tables code input below r line (suc n) low end at from lo size offset cells ends part
+        sel_go r line lt (Index e range cells) ls h size part low end at from lo ends under small slots =
             let y : Expr = expr_with e ls in
-            index_runs p tables code input below r line (suc n) at from lo size cells y range small own_from h.asked.0.coded part slots
+            index_runs p tables code input below r line (suc n) low end at from lo size cells y range ends under small h.asked.0.coded part
             (once p tables code input below r line (suc n) y
             (expr_go r line lt e ls (fine_sel p tables code input r (Index e range cells) (expr_phrases e) ls h)) at lo
             (slots_first p code input r lo (unless_bare (bare y) (expr_slots p r y)) (slot.Place cells ∷ []) slots))
@@ -543,7 +550,8 @@ module _ (p : Program) (tables : Tables) (code : PlainCode) (all : List (List Ru
           constants = λ n same. subst (λ k. is_integer k ≡ true) (same_number m n same) h.asked.0.coded;
           runs = λ at lo slots. const_runs p tables code input below r line (suc n) at lo m h.asked.0.coded slots;
           operands = λ how x y same. absurd (cc);
-          straightly = λ goal at lo alone numbers slots. const_to p tables code input below r line (suc n) at lo (goal_end p code input r goal lo) m
+          straightly = λ goal at lo alone numbers slots. const_to p tables code input below r line (suc n) at lo
+              (goal_end p code input r goal lo) m
               (goal_ways p code input r goal lo) h.asked.0.coded (goal_takes p code input r line (suc n) lo goal numbers slots.behind
               (first_slot p code input r lo (Const m) slots));
         }
@@ -554,7 +562,7 @@ module _ (p : Program) (tables : Tables) (code : PlainCode) (all : List (List Ru
             record {
               fits = g.fits one_cell;
               constants = λ n same. absurd (cc);
-              runs = λ at lo slots. load_runs p tables code input below r line (suc n) at lo y (g.fits one_cell) (g.own one_cell)
+              runs = λ at lo slots. load_runs p tables code input below r line (suc n) at lo y (g.fits one_cell)
                   (target p tables code input below r line (suc n) y g at (lo + 1)
                   (slots_behind p code input r lo (slot.Number ∷ []) (unless_bare (bare_desig y) (desig_slots p r y)) slots)) one_cell
                   slots;
@@ -564,7 +572,7 @@ module _ (p : Program) (tables : Tables) (code : PlainCode) (all : List (List Ru
                   let placed = target p tables code input below r line (suc n) y g at (lo + 1)
                   (slots_behind p code input r lo (slot.Number ∷ []) (unless_bare (bare_desig y) (desig_slots p r y)) slots) none in
                   load_straight p tables code input below r line (suc n) at lo (goal_end p code input r goal lo) y
-                  (goal_ways p code input r goal lo) none (g.own one_cell) placed one_cell
+                  (goal_ways p code input r goal lo) none placed one_cell
                   (goal_takes p code input r line (suc n) lo goal numbers slots.behind (first_slot p code input r lo (Load y) slots));
             }
         expr_go r line lt (Chain negated e links) ls h =
@@ -634,9 +642,8 @@ module _ (p : Program) (tables : Tables) (code : PlainCode) (all : List (List Ru
             record {
               fits = tt;
               constants = λ n same. absurd (cc);
-              runs = λ at lo slots. known_runs p tables code input below r line (suc n) at lo y (g.own (cells_with d ls ∙ h.asked.0.cells))
-                  slots (cells_with d ls ∙ h.asked.0.cells)
-                  (g.runs at (lo + 1) (slots_behind p code input r lo (slot.Number ∷ []) (desig_slots p r y) slots));
+              runs = λ at lo slots. known_runs p tables code input below r line (suc n) at lo y slots (cells_with d ls ∙ h.asked.0.cells)
+                  (g.held at (lo + 1) (slots_behind p code input r lo (slot.Number ∷ []) (desig_slots p r y) slots));
               operands = λ how y z same. absurd (cc);
               straightly = λ goal at lo alone numbers slots. absurd (let bad : false ≡ true = alone in cc);
             }
@@ -759,7 +766,7 @@ module _ (p : Program) (tables : Tables) (code : PlainCode) (all : List (List Ru
             record {
               runs = λ at lo slots. bind_runs p tables code input below r line (suc n) at lo y x range slots.behind
                   (cells_with d ls ∙ h.asked.0.cells) h.asked.0.coded
-                  (g.runs at lo (slots_first p code input r lo (desig_slots p r y) (unless_bare (bare x) (expr_slots p r x)) slots))
+                  (g.held at lo (slots_first p code input r lo (desig_slots p r y) (unless_bare (bare x) (expr_slots p r x)) slots))
                   (λ next. once p tables code input below r line (suc n) x g2 next (behind_desig p r lo y)
                   (slots_behind p code input r lo (desig_slots p r y) (unless_bare (bare x) (expr_slots p r x)) slots));
               value = λ z same. absurd (cc);
@@ -775,7 +782,7 @@ module _ (p : Program) (tables : Tables) (code : PlainCode) (all : List (List Ru
               runs = λ at lo slots. bind_value_runs p tables code input below r line (suc n) at lo y x range slots.behind
                   (cells_with d ls2 ∙ h.asked.0.cells) h.asked.0.coded
                   (g2.runs at lo (slots_first p code input r lo (expr_slots p r x) (desig_slots p r y) slots))
-                  (λ next. g.runs next (behind_expr p r lo x)
+                  (λ next. g.held next (behind_expr p r lo x)
                   (slots_behind p code input r lo (expr_slots p r x) (desig_slots p r y) slots));
               value = λ z same. absurd (cc);
             }
@@ -790,8 +797,8 @@ module _ (p : Program) (tables : Tables) (code : PlainCode) (all : List (List Ru
             record {
               runs = λ at lo slots. unify_runs p tables code input below r line (suc n) at lo y z range range2 slots.behind
                   (cells_with d ls ∙ asked.cells.0) (cells_with e ls2 ∙ asked.cells.1) asked.coded.0 asked.coded.1
-                  (g.runs at lo (slots_first p code input r lo (desig_slots p r y) (desig_slots p r z) slots))
-                  (λ next. g2.runs next (behind_desig p r lo y)
+                  (g.held at lo (slots_first p code input r lo (desig_slots p r y) (desig_slots p r z) slots))
+                  (λ next. g2.held next (behind_desig p r lo y)
                   (slots_behind p code input r lo (desig_slots p r y) (desig_slots p r z) slots));
               value = λ u same. absurd (cc);
             }
@@ -805,8 +812,8 @@ module _ (p : Program) (tables : Tables) (code : PlainCode) (all : List (List Ru
             record {
               runs = λ at lo slots. match_runs p tables code input below r line (suc n) at lo y z slots.behind
                   (cells_with d ls ∙ h.asked.0.cells ∙ sym (cells_with e ls2))
-                  (g.runs at lo (slots_first p code input r lo (desig_slots p r y) (desig_slots p r z) slots))
-                  (λ next. g2.runs next (behind_desig p r lo y)
+                  (g.held at lo (slots_first p code input r lo (desig_slots p r y) (desig_slots p r z) slots))
+                  (λ next. g2.held next (behind_desig p r lo y)
                   (slots_behind p code input r lo (desig_slots p r y) (desig_slots p r z) slots));
               value = λ u same. absurd (cc);
             }
@@ -938,8 +945,8 @@ module _ (p : Program) (tables : Tables) (code : PlainCode) (all : List (List Ru
             let g2 = desig_go r line lt e ls2 (fine_back p tables code input r (desig_phrases d) (desig_phrases e) ls inner) in
             plain may r line at lo (CopyCells y z) (copy_runs p tables code input below r line (suc n) at lo y z slots.behind
             (cells_with d ls ∙ h.asked.0.cells ∙ sym (cells_with e ls2))
-            (g.runs at lo (slots_first p code input r lo (desig_slots p r y) (desig_slots p r z) slots))
-            (λ next. g2.runs next (behind_desig p r lo y) (slots_behind p code input r lo (desig_slots p r y) (desig_slots p r z) slots)))
+            (g.held at lo (slots_first p code input r lo (desig_slots p r y) (desig_slots p r z) slots))
+            (λ next. g2.held next (behind_desig p r lo y) (slots_behind p code input r lo (desig_slots p r y) (desig_slots p r z) slots)))
         stmt_go may r lt (If arms rest) ls0 h stays line at lo slots =
             let ls = drop 1 ls0 in
             let inner = fine_stmt p tables code input r (If arms rest) (arms_phrases arms ++ stmts_phrases rest) ls0 h in
@@ -959,7 +966,7 @@ module _ (p : Program) (tables : Tables) (code : PlainCode) (all : List (List Ru
             let u : Test = test_with t ls in
             let x : Stmts = stmts_with body ls2 in
             λ stands v now b.
-            while_runs p tables code input below r line (suc n) may at lo u x slots.behind (n - 1) (omega arith)
+            while_runs p tables code input below r line (suc n) may at lo u x slots (n - 1) (omega arith)
             (subst (λ k. TurnKnown p tables code input below r line (suc n) (is_turned u) may at lo u x (below.test u) (below.stmts x) k)
             less_one (turn_known (is_turned u) may r line lt t body ls inner inner_stays at lo refl slots))
             (know.whiles may r line lt t body ls inner inner_stays at lo slots stands) stands v now b
@@ -1159,7 +1166,7 @@ module _ (p : Program) (tables : Tables) (code : PlainCode) (all : List (List Ru
             let asked = h.asked.0 in
             plain may r line at lo (Read y how range)
             (read_runs p tables code input below r line (suc n) flat position_kind lawful at lo y how range slots.behind
-            (cells_with d ls ∙ asked.cells) asked.coded.0 asked.coded.1 (g.runs at lo slots))
+            (cells_with d ls ∙ asked.cells) asked.coded.0 asked.coded.1 (g.held at lo slots))
         stmt_go may r lt (WriteExpr e how) ls0 h stays line at lo slots =
             let ls = drop 1 ls0 in
             let x : Expr = expr_with e ls in
@@ -1391,12 +1398,12 @@ module _ (p : Program) (tables : Tables) (code : PlainCode) (all : List (List Ru
           → FineIn r (test_phrases t ++ stmts_phrases body) ls → Stays p tables code input may (test_phrases t ++ stmts_phrases body)
           → (at lo : ℕ) → HasSlots p code r lo (stmt_slots p r (While (test_with t ls) (stmts_with body (behind (test_phrases t) ls))))
           → Stands code at (stmt_code p tables r line at lo (While (test_with t ls) (stmts_with body (behind (test_phrases t) ls))))
-          → TurnsRun p tables code input below r line (suc n) may
+          → HeldTurnsRun p tables code input below r line (suc n) may
           (while_top p tables code input below r line (suc n) at lo (test_with t ls) (stmts_with body (behind (test_phrases t) ls)))
           (while_exit p tables code input below r line (suc n) at lo (test_with t ls) (stmts_with body (behind (test_phrases t) ls))) lo
-          (while_turn (below.test (test_with t ls)) (below.stmts (stmts_with body (behind (test_phrases t) ls)))
+          (test_with t ls) (while_turn (below.test (test_with t ls)) (below.stmts (stmts_with body (behind (test_phrases t) ls)))
           (below.while (test_with t ls) (stmts_with body (behind (test_phrases t) ls)))) (suc n - 1)
-      while_go may r line lt t body ls inner inner_stays at lo slots stands v now b =
+      while_go may r line lt t body ls inner inner_stays at lo slots stands v now b is_held =
           let ls2 = behind (test_phrases t) ls in
           let u : Test = test_with t ls in
           let x : Stmts = stmts_with body ls2 in
@@ -1408,7 +1415,7 @@ module _ (p : Program) (tables : Tables) (code : PlainCode) (all : List (List Ru
           (visited_later code input line top exit now w e n
           (while_turn_runs p tables code input below r line (suc n) may at lo u x (below.test u) (below.stmts x) (below.while u x) n (n - 1)
           slots.behind (omega arith) (turn_known (is_turned u) may r line lt t body ls inner inner_stays at lo refl slots)
-          (know.whiles may r line lt t body ls inner inner_stays at lo slots stands) stands v now b))
+          (know.whiles may r line lt t body ls inner inner_stays at lo slots stands) stands v now b is_held))
 
       repeat_go : (may : Bool) (r line : ℕ) → r < length p.routines → (body : Stmts) (t : Test) (ls : List ℕ)
           → FineIn r (stmts_phrases body ++ test_phrases t) ls → Stays p tables code input may (stmts_phrases body ++ test_phrases t)
@@ -1444,10 +1451,10 @@ module _ (p : Program) (tables : Tables) (code : PlainCode) (all : List (List Ru
         lists = λ may r line lt x ls fine stays at lo slots. stmts_go may r lt x ls fine stays line at lo slots;
         tests = λ r line lt t ls fine at lo none slots. decides p tables code input below r line (suc n) (test_with t ls)
             (test_go r line lt t ls fine) at lo none slots;
-        backs = λ r line lt t ls fine e at lo top slots. decides_back p tables code input below r line (suc n) (test_with t ls)
-            (test_go r line lt t ls fine) e at lo top slots;
-        whiles = λ may r line lt t x ls fine stays at lo slots stands v now b. while_go may r line lt t x ls fine stays at lo slots stands v
-            now b;
+        backs = λ r line lt t ls fine e at lo held top slots. decides_back p tables code input below r line (suc n) (test_with t ls)
+            (test_go r line lt t ls fine) e at lo held top slots;
+        whiles = λ may r line lt t x ls fine stays at lo slots stands v now b held. while_go may r line lt t x ls fine stays at lo slots
+            stands v now b held;
         repeats = λ may r line lt x t ls fine stays at lo slots stands v now b. repeat_go may r line lt x t ls fine stays at lo slots stands
             v
             now b;

@@ -22,7 +22,7 @@ use Rattle.alma_lower_templates.proofs.Asked.{Asked, Fine, Stays}
 use Rattle.alma_lower_templates.proofs.ForForms.{CountsOn}
 use Rattle.alma_lower_templates.proofs.ForStatement.{for_top}
 use Rattle.alma_lower_templates.proofs.GuardedForms.{Decided}
-use Rattle.alma_lower_templates.proofs.LoopForms.{TurnsRun, while_top, while_exit, repeat_exit}
+use Rattle.alma_lower_templates.proofs.LoopForms.{TurnsRun, HeldTurnsRun, while_top, while_exit, repeat_exit}
 use Rattle.alma_lower_templates.proofs.Parts.{RunsFor, ending}
 use Rattle.alma_lower_templates.proofs.SomeForms.{TurnsOn, some_top, some_exit}
 use Rattle.alma_lower_templates.proofs.Turned.{GoesBack}
@@ -57,17 +57,17 @@ module _ (p : Program) (tables : Tables) (code : PlainCode) (input : List ℕ) w
         → (at lo none : ℕ) → HasSlots p code r lo (mark_slots (is_simple (test_with t ls)) ++ test_slots p r (test_with t ls))
         → Decided p tables code input below r line m at lo none (test_with t ls) (below.test (test_with t ls)) m
     pub backs : (r line : ℕ) → r < length p.routines → (t : Test) (ls : List ℕ) → Fine p tables code input r (test_phrases t) ls
-        → is_turned (test_with t ls) ≡ true → (at lo top : ℕ) → HasSlots p code r lo (test_slots p r (test_with t ls))
-        → GoesBack p tables code input below r line m at lo top (test_with t ls) (below.test (test_with t ls)) m
+        → is_turned (test_with t ls) ≡ true → (at lo held top : ℕ) → HasSlots p code r lo (test_slots p r (test_with t ls))
+        → GoesBack p tables code input below r line m at lo held top (test_with t ls) (below.test (test_with t ls)) m
     pub whiles : (may : Bool) (r line : ℕ) → r < length p.routines → (t : Test) (x : Stmts) (ls : List ℕ)
         → Fine p tables code input r (test_phrases t ++ stmts_phrases x) ls
         → Stays p tables code input may (test_phrases t ++ stmts_phrases x)
         → (at lo : ℕ) → HasSlots p code r lo (stmt_slots p r (While (test_with t ls) (stmts_with x (behind (test_phrases t) ls))))
         → Stands code at (stmt_code p tables r line at lo (While (test_with t ls) (stmts_with x (behind (test_phrases t) ls))))
-        → TurnsRun p tables code input below r line m may
+        → HeldTurnsRun p tables code input below r line m may
         (while_top p tables code input below r line m at lo (test_with t ls) (stmts_with x (behind (test_phrases t) ls)))
         (while_exit p tables code input below r line m at lo (test_with t ls) (stmts_with x (behind (test_phrases t) ls))) lo
-        (below.while (test_with t ls) (stmts_with x (behind (test_phrases t) ls))) (m - 1)
+        (test_with t ls) (below.while (test_with t ls) (stmts_with x (behind (test_phrases t) ls))) (m - 1)
     pub repeats : (may : Bool) (r line : ℕ) → r < length p.routines → (x : Stmts) (t : Test) (ls : List ℕ)
         → Fine p tables code input r (stmts_phrases x ++ test_phrases t) ls
         → Stays p tables code input may (stmts_phrases x ++ test_phrases t)
@@ -133,10 +133,10 @@ module _ (p : Program) (tables : Tables) (code : PlainCode) (input : List ℕ) w
         (subst IsOn (sym is.mode) tt);
     tests = λ r line lt t ls fine at lo none slots v now b stands B left2 more2 fits2 found nothing b2 c le held s is on_found on_none.
         cut_here s (3 + b2 + c) 0 (omega arith) (subst IsOn (sym is.mode) tt);
-    backs = λ r line lt t ls fine e at lo top slots v now b stands B left2 more2 fits2 found nothing b2 c le held s is on_found on_none.
-        cut_here s (3 + b2 + c) 0 (omega arith) (subst IsOn (sym is.mode) tt);
-    whiles = λ may r line lt t x ls fine stays at lo slots stands v now b. λ j d few owes held s u silently is. cut_later _ now j d few owes
-        held s u silently is;
+    backs = λ r line lt t ls fine e at lo part top slots v now b known stands B left2 more2 fits2 found nothing b2 c le held s is on_found
+        on_none. cut_here s (3 + b2 + c) 0 (omega arith) (subst IsOn (sym is.mode) tt);
+    whiles = λ may r line lt t x ls fine stays at lo slots stands v now b known. λ j d few owes held s u silently is. cut_later _ now j d
+        few owes held s u silently is;
     repeats = λ may r line lt x t ls fine stays at lo slots stands v now b. λ j d few owes held s u silently is. cut_later _ now j d few
         owes held s u silently is;
     fors = λ may r line lt l ls asked fine stays at lo slots stands. cut_for may r line at lo (loop_with l ls);

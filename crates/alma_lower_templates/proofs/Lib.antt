@@ -1,5 +1,6 @@
 pub mod Stands
 pub mod EitherRuns
+pub mod Given
 pub mod Parts
 pub mod PlaceSteps
 pub mod AtOnce
@@ -14,6 +15,7 @@ pub mod FormRuns
 pub mod Targets
 pub mod Destinations
 pub mod Straight
+pub mod Placed
 pub mod OwnPlace
 pub mod CellEnds
 pub mod Tested

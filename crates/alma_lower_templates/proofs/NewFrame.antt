@@ -37,6 +37,7 @@ use Rattle.alma_lower_implements.proofs.FrameLemmas.{HoldsPlace, FrontAlike, num
 use Rattle.alma_lower_implements.proofs.Leaving.{same_below}
 use Rattle.alma_lower_templates.specs.Slots.{param_kinds, params_kinds, routine_kinds, link_kinds, stmts_slots}
 use Rattle.alma_lower_templates.specs.Compiled.{param_kind, param_named, link_params}
+use Rattle.alma_lower_templates.proofs.Given.{GivenIn, number_given, Given}
 
 take_next : {A : Type 0} (l : List A) (m n : ℕ) (d : A) → m < length l → take (suc n) (drop m l) ≡ get_or l m d ∷ take n (drop (suc m) l)
 take_next [] m n d lt = absurd (omega (arith, lt))
@@ -100,17 +101,19 @@ module _ (p : Program) (code : PlainCode) (v : Store) (now : List PlainFrame) (s
     pub behind : (i : ℕ) → at ≤ i → get_or cells i Unknown ≡ Unknown
     pub link : 1 ≤ shift p r → get_or done 0 cell.Unset ≡ cell.Place (link_to f)
     pub places : (i : ℕ) (q : Place) → get_or cells i Unknown ≡ At q → NewPlace i q
+    pub given : (i : ℕ) → i < at → GivenIn (get_or done (shift p r + i) cell.Unset) (kind_of i)
 
   one_cell : (at : ℕ) (cells : List store.Cell) (done : List Cell) (x : store.Cell) (y : Cell) → at < (routine_at p r).slots
-      → SameContent p w (kind_of at) x y → ((q : Place) → x ≡ At q → NewPlace at q)
+      → SameContent p w (kind_of at) x y → ((q : Place) → x ≡ At q → NewPlace at q) → GivenIn y (kind_of at)
       → FrontSame at cells done → FrontSame (suc at) (set cells at x) (done ++ y ∷ [])
-  one_cell at cells done x y lt content place h = record {
+  one_cell at cells done x y lt content place held h = record {
     long = omega (arith, h.long, length-append done (y ∷ []));
     slots = length-set cells at x ∙ h.slots;
     same = λ i small. same_at i small (cases_eq i at);
     behind = λ i le. get_or-set_other cells at i x Unknown (λ e. omega (arith, e, le)) ∙ h.behind i (omega (arith, le));
     link = λ some. get_or_append_left done (y ∷ []) cell.Unset 0 (omega (arith, h.long, some)) ∙ h.link some;
     places = λ i q e. place_at i q e (cases_eq i at);
+    given = λ i small. given_at i small (cases_eq i at);
   }
     where
       there : at < length cells
@@ -136,6 +139,16 @@ module _ (p : Program) (code : PlainCode) (v : Store) (now : List PlainFrame) (s
           (sym (get_or_append_left done (y ∷ []) cell.Unset (shift p r + i) (omega (arith, h.long, small, ne))))
           (h.same i (omega (arith, small, ne))))
 
+      given_at : (i : ℕ) → i < suc at → (i ≡ at) ⊎ (i ≡ at → ⊥)
+          → GivenIn (get_or (done ++ y ∷ []) (shift p r + i) cell.Unset) (kind_of i)
+      given_at i small (inl e) =
+          subst (λ n. GivenIn (get_or (done ++ y ∷ []) (shift p r + n) cell.Unset) (kind_of n)) (sym e)
+          (subst (λ c. GivenIn c (kind_of at)) (sym here_too) held)
+      given_at i small (inr ne) =
+          subst (λ c. GivenIn c (kind_of i))
+          (sym (get_or_append_left done (y ∷ []) cell.Unset (shift p r + i) (omega (arith, h.long, small, ne))))
+          (h.given i (omega (arith, small, ne)))
+
       place_at : (i : ℕ) (q : Place) → get_or (set cells at x) i Unknown ≡ At q → (i ≡ at) ⊎ (i ≡ at → ⊥) → NewPlace i q
       place_at i q e (inl z) = subst (λ n. NewPlace n q) (sym z)
           (place q (sym here ∙ ap (λ n. get_or (set cells at x) n Unknown) (sym z) ∙ e))
@@ -155,7 +168,7 @@ module _ (p : Program) (code : PlainCode) (v : Store) (now : List PlainFrame) (s
       let stays : set cells at Unknown ≡ cells = ap (set cells at) (sym (h.behind at (omega arith))) ∙ set-get_or cells at Unknown in
       subst (λ cs. FrontSame (suc at) cs (done ++ cell.Unknown ∷ [])) stays
       (one_cell at cells done Unknown cell.Unknown lt (subst (λ k. SameContent p w k Unknown cell.Unknown) (sym is) content)
-      (unknown_no_place at) h)
+      (unknown_no_place at) tt h)
 
   number_content : (a : store.Cell) (b : Cell) → SameContent p v slot.Number a b → SameContent p w slot.Number a b
   number_content Unknown cell.Unknown h = h
@@ -193,7 +206,7 @@ module _ (p : Program) (code : PlainCode) (v : Store) (now : List PlainFrame) (s
       (subst (λ m. SameContent p v slot.Number (cell_at v g (from + 0)) (get_or source m cell.Unset)) c0 (contents 0 (omega arith))) in
       let is : kind_of at ≡ slot.Number = ap kind_of (sym a0) ∙ numbers 0 (omega arith) in
       let one = one_cell at cells done x y (omega (arith, room)) (subst (λ k. SameContent p w k x y) (sym is) (number_content x y content))
-      (λ q e. content_no_place x y at q content e) h in
+      (λ q e. content_no_place x y at q content e) (subst (GivenIn y) (sym is) (number_given y)) h in
       let rest =
       all_cells n (suc at) g (suc from) (suc cfrom) source (set cells at x) (done ++ y ∷ []) (omega (arith, room))
       (λ i lt. (let e : suc at + i ≡ at + suc i = omega arith in ap kind_of e) ∙ numbers (suc i) (omega (arith, lt)))
@@ -229,7 +242,7 @@ module _ (p : Program) (code : PlainCode) (v : Store) (now : List PlainFrame) (s
       let content : SameContent p w slot.Number (Number x) (cell.Int x) = (refl, fits) in
       subst (λ m. FrontSame m (set cells at (Number x)) (done ++ cell.Int x ∷ [])) s
       (one_cell at cells done (Number x) (cell.Int x) (omega (arith, room))
-      (subst (λ k. SameContent p w k (Number x) (cell.Int x)) (sym is) content) (number_no_place x at) h)
+      (subst (λ k. SameContent p w k (Number x) (cell.Int x)) (sym is) content) (number_no_place x at) tt h)
   param_step k n a d at cells done (a_place q c alike) room are h =
       let a0 : at + 0 ≡ at = omega arith in
       let s : suc at ≡ at + 1 = omega arith in
@@ -238,7 +251,7 @@ module _ (p : Program) (code : PlainCode) (v : Store) (now : List PlainFrame) (s
       subst (λ m. FrontSame m (set cells at (At q)) (done ++ cell.Place c ∷ [])) s
       (one_cell at cells done (At q) (cell.Place c) (omega (arith, room))
       (subst (λ k. SameContent p w k (At q) (cell.Place c)) (sym is) content)
-      (λ q' e. subst (NewPlace at) (is_held e) (record { size = is ∙ ap slot.Place (sym alike.size); is = inl alike.numbers })) h)
+      (λ q' e. subst (NewPlace at) (is_held e) (record { size = is ∙ ap slot.Place (sym alike.size); is = inl alike.numbers })) tt h)
     where
       held_or : store.Cell → Place
       held_or Unknown = q
@@ -257,7 +270,7 @@ module _ (p : Program) (code : PlainCode) (v : Store) (now : List PlainFrame) (s
       let one =
       one_cell at cells done (At q) (cell.Place c) (omega (arith, room))
       (subst (λ k. SameContent p w k (At q) (cell.Place c)) (sym is) content)
-      (λ q' e. subst (NewPlace at) (is_held e) (record { size = is ∙ ap slot.Place (sym alike.size); is = inl alike.numbers })) h in
+      (λ q' e. subst (NewPlace at) (is_held e) (record { size = is ∙ ap slot.Place (sym alike.size); is = inl alike.numbers })) tt h in
       subst (λ m. FrontSame m (set cells at (At q)) (done ++ cell.Place c ∷ cell.Unknown ∷ [])) s
       (subst (FrontSame (suc (suc at)) (set cells at (At q))) (append_assoc done (cell.Place c ∷ []) (cell.Unknown ∷ []))
       (no_cell (suc at) (set cells at (At q)) (done ++ cell.Place c ∷ []) (omega (arith, room)) second one))
@@ -287,9 +300,9 @@ module _ (p : Program) (code : PlainCode) (v : Store) (now : List PlainFrame) (s
             inr (record { frame = refl; size = refl; there = omega (arith, room); kind = second });
       } in
       let one = one_cell at cells done (At q) (cell.Place c) (omega (arith, room))
-      (subst (λ k. SameContent p w k (At q) (cell.Place c)) (sym is) content) (λ q' e. subst (NewPlace at) (is_held q e) itself) h in
+      (subst (λ k. SameContent p w k (At q) (cell.Place c)) (sym is) content) (λ q' e. subst (NewPlace at) (is_held q e) itself) tt h in
       let two = one_cell (suc at) (set cells at (At q)) (done ++ cell.Place c ∷ []) (Number x) (cell.Int x) (omega (arith, room))
-      (subst (λ k. SameContent p w k (Number x) (cell.Int x)) (sym second) number) (number_no_place x (suc at)) one in
+      (subst (λ k. SameContent p w k (Number x) (cell.Int x)) (sym second) number) (number_no_place x (suc at)) tt one in
       subst (λ m. FrontSame m (set (set cells at (At q)) (suc at) (Number x)) (done ++ cell.Place c ∷ cell.Int x ∷ [])) s
       (subst (FrontSame (suc (suc at)) (set (set cells at (At q)) (suc at) (Number x)))
       (append_assoc done (cell.Place c ∷ []) (cell.Int x ∷ [])) two)
@@ -389,6 +402,7 @@ module _ (p : Program) (code : PlainCode) (v : Store) (now : List PlainFrame) (s
     behind = λ i le. unknown_at i;
     link = link;
     places = λ i q e. unknown_no_place i q (sym (unknown_at i) ∙ e);
+    given = λ i lt. absurd (omega (arith, lt));
   }
     where
       unknown_at : (i : ℕ) → get_or (replicate (routine_at p r).slots Unknown) i Unknown ≡ Unknown
@@ -658,6 +672,42 @@ module _ (p : Program) (code : PlainCode) (v : Store) (now : List PlainFrame) (s
           (sym (other_kind i late lt))
           (subst (λ a. SameContent p w slot.Number a (get_or pushed.cells (shift p r + i) cell.Unset)) (sym (all_there.behind i late))
           (subst (SameContent p w slot.Number Unknown) (sym (blank_there i late lt)) content))
+
+  -- each parameter holds its place
+  new_given : (i : ℕ) → i < (routine_at p r).slots
+      → GivenIn (get_or pushed.cells (shift p r + i) cell.Unset) (get_or kinds (shift p r + i) slot.Mark)
+  new_given i lt = by (cases_lt i (sum_by param_slots params))
+    where
+      by : (i < sum_by param_slots params) ⊎ (sum_by param_slots params ≤ i)
+          → GivenIn (get_or pushed.cells (shift p r + i) cell.Unset) (get_or kinds (shift p r + i) slot.Mark)
+      by (inl early) =
+          subst (λ c. GivenIn c (get_or kinds (shift p r + i) slot.Mark))
+          (sym (get_or_append_left made (drop (length made) (blank_cells callee.head)) cell.Unset (shift p r + i)
+          (omega (arith, early, made_long)))) (all_there.given i early)
+      by (inr late) =
+          subst (GivenIn (get_or pushed.cells (shift p r + i) cell.Unset)) (sym (other_kind i late lt))
+          (number_given (get_or pushed.cells (shift p r + i) cell.Unset))
+
+  pub enter_given : Given p now → Given p later
+  enter_given old k i lt small = by (cases_lt k (length now))
+    where
+      many : length later ≡ length now + 1
+      many = length-append now (pushed ∷ [])
+
+      by : (k < length now) ⊎ (length now ≤ k)
+          → GivenIn (get_or (get_or later k picture.no_frame).cells (shift p (get_or later k picture.no_frame).routine + i) cell.Unset)
+          (get_or (get_or later k picture.no_frame).kinds (shift p (get_or later k picture.no_frame).routine + i) slot.Mark)
+      by (inl early) =
+          let is_old : get_or later k picture.no_frame ≡ get_or now k picture.no_frame =
+          get_or_append_left now (pushed ∷ []) picture.no_frame k early in
+          subst (λ g. GivenIn (get_or g.cells (shift p g.routine + i) cell.Unset) (get_or g.kinds (shift p g.routine + i) slot.Mark))
+          (sym is_old) (old k i early (subst (λ g. i < (routine_at p g.routine).slots) is_old small))
+      by (inr late) =
+          let z : length now ≡ k = omega (arith, late, lt, many) in
+          let is_new : get_or later k picture.no_frame ≡ pushed =
+          ap (λ n. get_or later n picture.no_frame) (sym z) ∙ get_or-append_seam now pushed [] picture.no_frame in
+          subst (λ g. GivenIn (get_or g.cells (shift p g.routine + i) cell.Unset) (get_or g.kinds (shift p g.routine + i) slot.Mark))
+          (sym is_new) (new_given i (subst (λ g. i < (routine_at p g.routine).slots) is_new small))
 
   old_front : FrontAlike p code (length v) v w now later
   old_front = record {

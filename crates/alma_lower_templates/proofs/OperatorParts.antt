@@ -22,6 +22,7 @@ use Rattle.alma_ir.specs.Tree.{Program}
 use Rattle.alma_mean.specs.Store.{Store}
 use Rattle.alma_mean.specs.Events.{Events, one, bind}
 use Rattle.alma_mean.specs.Arithmetic.{apply_op, apply_sign, check_integer, fault_unless, compares}
+use Rattle.alma_lower_implements.proofs.BareRow.{ReadsFirst}
 use Rattle.alma_lower_implements.proofs.Frames.{own_end, IsAt}
 use Rattle.alma_lower_implements.proofs.Steps.{Holds, HasKind, Writes, InstrAt, passed, does, number_is, here_too, flip_step, equal_step}
 use Rattle.alma_lower_implements.proofs.Steps.{less_step, less_eq_step, fits_step, overflow_step, neg_does, add_does, sub_does, mul_does}
@@ -29,10 +30,10 @@ use Rattle.alma_lower_implements.proofs.Steps.{div_does, mod_does, faults_now}
 use Rattle.alma_lower_implements.proofs.Ways.{Ways}
 use Rattle.alma_lower_implements.proofs.Numbers.{bit_integer, zero_bit, rest_integer, nonzero}
 use Rattle.alma_lower_templates.specs.Lined.{own}
-use Rattle.alma_lower_templates.specs.Pieces.{op_code, cmp_code, neg_code}
+use Rattle.alma_lower_templates.specs.Pieces.{op_code, cmp_code}
 use Rattle.alma_lower_templates.specs.Stands.{Stands}
-use Rattle.alma_lower_templates.proofs.Parts.{Begins, begins, Left, left_self, has_kind, IsValue, ValueIn, From, Carries, leaving}
-use Rattle.alma_lower_templates.proofs.Parts.{from_more, alone_from, faults_here, value_ends, value_then, value_goes_on}
+use Rattle.alma_lower_templates.proofs.Parts.{Begins, begins, Left, has_kind, IsValue, ValueIn, From, Carries, leaving}
+use Rattle.alma_lower_templates.proofs.Parts.{alone_from, faults_here, value_ends, value_then, value_goes_on}
 use Rattle.alma_lower_templates.proofs.First.{ReadsPair, ReadsBoth}
 
 module _ (code : PlainCode) (input : List ℕ) (line lo : ℕ) where
@@ -93,6 +94,10 @@ module _ (code : PlainCode) (input : List ℕ) (line lo : ℕ) where
           (λ _. integer_result (passed code input s) (mod_down_of x y) (λ v. put_number (passed code input s) lo v)))) is.frames ha,
     );
   }
+
+  pub neg_reads : (at from : ℕ) (now : List PlainFrame) → InstrAt code input line at (I.Neg lo from) → ReadsFirst code input at from now
+  unfolding act
+  neg_reads at from now i held s is = (_, does code input line at now held s (I.Neg lo from) is i)
 
   pub equal_reads : (at one other : ℕ) (now : List PlainFrame) → InstrAt code input line at (I.Equal lo one other)
       → ReadsPair code input at one other now
@@ -213,9 +218,10 @@ module _ (p : Program) (code : PlainCode) (input : List ℕ) (line q lo : ℕ) w
           (later (mod_down_of x y) fits (λ held s is. fits_step code input line at now held s is lo (mod_down_of x y) kind_now fits
           (does held s is))))
 
-      pub neg_from : (x : ℤ) → InstrAt code input line at (I.Neg lo lo) → Holds now lo (cell.Int x) → ((z : ℤ) → GoesOnWith z)
-          → Applied (apply_sign true v x)
-      neg_from x i hx later = checked_from (neg_ℤ x) i.on_line (λ held s is. neg_does code input line at now held s is lo lo x i hx)
+      pub neg_from : (from : ℕ) (x : ℤ) → InstrAt code input line at (I.Neg lo from) → Holds now from (cell.Int x)
+          → ((z : ℤ) → GoesOnWith z) → Applied (apply_sign true v x)
+      neg_from from x i hx later =
+          checked_from (neg_ℤ x) i.on_line (λ held s is. neg_does code input line at now held s is lo from x i hx)
           (later (neg_ℤ x))
 
 module _ (p : Program) (code : PlainCode) (input : List ℕ) (line q lo r : ℕ) (behind : own_end p r ≤ lo)
@@ -224,20 +230,15 @@ module _ (p : Program) (code : PlainCode) (input : List ℕ) (line q lo r : ℕ)
     kind_now : HasKind now lo slot.Number
     kind_now = has_kind p code input r lo v now slot.Number kind b
 
-    -- the sign of a first operand
-    pub sign_from : {B : Type 0} (negated : Bool) (at exit : ℕ) (w : List PlainFrame → Ways B) (k : Store → ℤ → Events B) (x : ℤ)
-        → Carries p code input lo r w → Stands code at (own line (neg_code negated lo)) → IsValue p code input lo x now
+    -- the sign of a first operand, which stands in any slot
+    pub sign_from : {B : Type 0} (at exit from : ℕ) (w : List PlainFrame → Ways B) (k : Store → ℤ → Events B) (x : ℤ)
+        → Carries p code input lo r w → InstrAt code input line at (I.Neg lo from) → IsValue p code input from x now
         → ((z : ℤ) (t : List PlainFrame) → Left p code input lo r now v t → IsValue p code input lo z t
-        → From p code input line 7 (at + length (own line (neg_code negated lo))) exit t (w t) (k v z) q)
-        → From p code input line 8 at exit now (w now) (bind (apply_sign negated v x) k) q
-    sign_from true at exit w k x carries i hx later =
-        neg_from p code input line q lo v now kind_now at exit (w now) k x (record { instr = i.0; on_line = i.1 }) hx.holds
+        → From p code input line 7 (at + 1) exit t (w t) (k v z) q)
+        → From p code input line 8 at exit now (w now) (bind (apply_sign true v x) k) q
+    sign_from at exit from w k x carries i hx later =
+        neg_from p code input line q lo v now kind_now at exit (w now) k from x i hx.holds
         (λ z integer writes. value_then p code input line 7 at exit lo r v now z w (k v z) q behind kind integer b carries writes (later z))
-    sign_from false at exit w k x carries i hx later =
-        let zero : at + 0 ≡ at = omega arith in
-        alone_from p code input line 8 at exit now (w now) (k v x) q
-        (from_more p code input line 7 8 at exit now (w now) (k v x) q (omega arith)
-        (subst (λ n. From p code input line 7 n exit now (w now) (k v x) q) zero (later x now (left_self p code input lo r v now b) hx)))
 
     -- ---- comparisons
 

@@ -1,32 +1,31 @@
--- A parameter whose place is used in its own slot: where it holds none yet, the instruction that uses it faults, and the
--- fault is the one that the meaning tells.
-use Rattle.std.proofs.Common.{◌≡◌, ℕ, ◌+◌, ◌-◌, ◌<◌, List, length, get_or, Some, None, Option, sym, ap, ◌∙◌, subst, arith, Bool, true}
-use Rattle.std.proofs.Common.{false}
+-- A whole parameter: its place is used in its own slot, where it always is. Any other designator has code that puts its place into
+-- a slot. Both in one word: how the place is held that a phrase uses.
+use Rattle.std.proofs.Common.{◌≡◌, ℕ, ◌+◌, ◌-◌, ◌<◌, ◌≤◌, List, [], length, get_or, Some, None, Option, refl, sym, ap, ◌∙◌, subst, arith}
 use Rattle.std.specs.Prelude.{slice_get}
-use Rattle.alma_base.specs.declared.fault.RunFault.TheVariants as fault
+use Rattle.std.proofs.lemmas.Option.{get_or_from_slice_get}
 use Rattle.alma_code.specs.declared.cell.Cell.TheVariants as cell
-use Rattle.alma_code.specs.declared.cell.CellPlace.{CellPlace}
 use Rattle.alma_code.specs.declared.cell.SlotKind.TheVariants as slot
-use Rattle.alma_code.specs.Lines.{line_at}
-use Rattle.alma_code.specs.Picture.{PlainFrame, PlainEntry, last_frame}
+use Rattle.alma_code.specs.Picture.{PlainFrame}
 use Rattle.alma_code.specs.Picture as picture
 use Rattle.alma_code.specs.Plain.{PlainCode, kinds_at}
-use Rattle.alma_code.specs.Machine.{State, Stepped, step, as_place, place}
 use Rattle.alma_ir.specs.declared.phrase.Root.{Root}
 use Rattle.alma_ir.specs.declared.phrase.Root.TheVariants as root
-use Rattle.alma_ir.specs.Tree.{Program, Desig, Sels, a_desig, no_sels, more_sels, Field, Index}
-use Rattle.alma_mean.specs.Store.{Store, Place, Unknown, At, top, top_cell}
+use Rattle.alma_ir.specs.Tree.{Program, Desig, Sels, a_desig, no_sels, more_sels, routine_at}
+use Rattle.alma_ir.specs.Checked.{desig_cells}
+use Rattle.alma_mean.specs.Store.{Store, Place, At, top, top_cell}
 use Rattle.alma_mean.specs.Store as store
-use Rattle.alma_mean.specs.Events.{Events, Fail, Fault, one, join, bind, node}
+use Rattle.alma_mean.specs.Events.{Fail, one, join, bind, node}
 use Rattle.alma_mean.specs.Rows.{place_held}
 use Rattle.alma_mean.specs.Meaning.{Level, ev_desig}
-use Rattle.alma_lower_implements.proofs.Goes.{weaker}
-use Rattle.alma_lower_implements.proofs.Frames.{shift, shift_in, IsAt}
-use Rattle.alma_lower_implements.proofs.Steps.{Holds, Faults, passed, faults_now}
-use Rattle.alma_lower_implements.proofs.Ways.{Ways, Leaves}
-use Rattle.alma_lower_templates.specs.Slots.{is_ready, if_ready, own_place, own_root}
-use Rattle.alma_lower_templates.proofs.Parts.{Begins, IsPlace, From, alone_from, faults_here}
+use Rattle.alma_lower_implements.proofs.Frames.{shift, shift_in, own_end}
+use Rattle.alma_lower_templates.specs.Tables.{Tables}
+use Rattle.alma_lower_templates.specs.Slots.{own_place, own_root, unless_bare, desig_slots}
+use Rattle.alma_lower_templates.specs.Templates.{desig_code, place_at, slot_or}
+use Rattle.alma_lower_templates.proofs.Given.{GivenIn}
+use Rattle.alma_lower_templates.proofs.Parts.{Begins, IsPlace, PlaceIn, NodeRuns, NodeFor, leaving, node_runs, alone_from, ends_here}
 use Rattle.alma_lower_templates.proofs.RootForms.{HeldIs, a_place, no_place, held_is, IsParam}
+use Rattle.alma_lower_templates.proofs.FormRuns.{DesigRuns, HeldRuns}
+use Rattle.alma_lower_templates.proofs.Targets.{place_within}
 
 -- the designator is the whole parameter
 pub own_place_is : (d : Desig) (from : ℕ) → own_place d ≡ Some from → (cells : ℕ) × (d ≡ a_desig (root.Param from) cells no_sels)
@@ -38,38 +37,28 @@ own_place_is (a_desig (root.Global n) cells sels) from e = absurd (cc)
 own_place_is (a_desig (root.Outer links n) cells sels) from e = absurd (cc)
 own_place_is (a_desig (root.OuterParam links n) cells sels) from e = absurd (cc)
 
--- and the root of one whose first part is taken there
-pub own_root_is : (x : Root) (sels : Sels) (from : ℕ) → own_root x sels ≡ Some from → x ≡ root.Param from
-own_root_is (root.Param n) no_sels from e = absurd (cc)
-own_root_is (root.Param n) (more_sels (Field offset cells) rest) from e = let same : n ≡ from = cc in ap root.Param same
-own_root_is (root.Param n) (more_sels (Index x range cells) rest) from e = by (is_ready x) e
-  where
-    by : (z : Bool) → if_ready z n ≡ Some from → root.Param n ≡ root.Param from
-    by true h = let same : n ≡ from = cc in ap root.Param same
-    by false h = absurd (cc)
-own_root_is (root.Local n) sels from e = absurd (cc)
-own_root_is (root.Global n) sels from e = absurd (cc)
-own_root_is (root.Outer links n) sels from e = absurd (cc)
-own_root_is (root.OuterParam links n) sels from e = absurd (cc)
+-- the root of a designator whose first part is taken at the slot of a parameter
+pub own_root_is : (x : Root) (sels : Sels) (n : ℕ) → own_root x sels ≡ Some n → x ≡ root.Param n
+own_root_is (root.Param m) no_sels n e = absurd (cc)
+own_root_is (root.Param m) (more_sels y rest) n e = let same : m ≡ n = cc in ap root.Param same
+own_root_is (root.Local m) sels n e = absurd (cc)
+own_root_is (root.Global m) sels n e = absurd (cc)
+own_root_is (root.Outer links m) sels n e = absurd (cc)
+own_root_is (root.OuterParam links m) sels n e = absurd (cc)
 
-module _ (code : PlainCode) (input : List ℕ) where
-  -- the instruction at an address begins by reading a place
-  abbrev pub ReadsPlace : (at slot : ℕ) → List PlainFrame → Type 0
-  ReadsPlace at slot now = (held : List PlainEntry) (s : State) → IsAt at now held s → (k : CellPlace → Stepped)
-      × (step code input s ≡ place (passed code input s) slot k)
-
-  pub reads_unset : (line at slot : ℕ) (now : List PlainFrame) (held : List PlainEntry) (s : State) → ReadsPlace at slot now
-      → IsAt at now held s → line_at code at ≡ line → Holds now slot cell.Unset → Faults code input line s fault.Unknown
-  reads_unset line at slot now held s reads is here there =
-      let r = reads held s is in
-      faults_now code input line s fault.Unknown (ap (line_at code) is.here ∙ here)
-      (r.1 ∙ ap (λ o. as_place o (passed code input s) r.0) (ap (λ z. slice_get (last_frame z).cells slot) is.frames ∙ there))
+pub no_own_root : (x : Root) (n : ℕ) → own_root x no_sels ≡ Some n → ⊥
+no_own_root (root.Param m) n e = absurd (cc)
+no_own_root (root.Local m) n e = absurd (cc)
+no_own_root (root.Global m) n e = absurd (cc)
+no_own_root (root.Outer links m) n e = absurd (cc)
+no_own_root (root.OuterParam links m) n e = absurd (cc)
 
 module _ (p : Program) (code : PlainCode) (input : List ℕ) (r : ℕ) where
   -- what a parameter of the routine on top holds, in the store and in its slot
-  pub data OwnHeld (from cells : ℕ) (v : Store) (now : List PlainFrame) : Type 0 where
-    own_held : (a : Place) → top_cell v from ≡ At a → IsPlace p code input (shift p r + from) cells v a now → OwnHeld from cells v now
-    none_held : top_cell v from ≡ Unknown → Holds now (shift p r + from) cell.Unset → OwnHeld from cells v now
+  pub record OwnHeld (from cells : ℕ) (v : Store) (now : List PlainFrame) : Type 0 where
+    pub place : Place
+    pub there : top_cell v from ≡ At place
+    pub is : IsPlace p code input (shift p r + from) cells v place now
 
   pub own_is : (from cells : ℕ) (v : Store) (now : List PlainFrame) → IsParam p code input r from cells → Begins p code input r v now
       → OwnHeld from cells v now
@@ -81,52 +70,90 @@ module _ (p : Program) (code : PlainCode) (input : List ℕ) (r : ℕ) where
       at_top : top v ≡ length now - 1
       at_top = ap (λ n. n - 1) (sym b.stand.count)
 
+      routine : (get_or now (top v) picture.no_frame).routine ≡ r
+      routine = sym (b.stand.frames (top v) live).routine ∙ b.routine
+
+      kinds : (get_or now (top v) picture.no_frame).kinds ≡ kinds_at code r
+      kinds = (b.stand.frames (top v) live).kinds ∙ ap (kinds_at code) routine
+
       kind_there : slice_get (kinds_at code (get_or v (top v) store.no_frame).routine) (shift_in p v (top v) + from) ≡ Some
           (slot.Place cells)
       kind_there = subst (λ x. slice_get (kinds_at code x) (shift p x + from) ≡ Some (slot.Place cells)) (sym b.routine) h.kind
 
+      kind_is : get_or (get_or now (top v) picture.no_frame).kinds (shift p r + from) slot.Mark ≡ slot.Place cells
+      kind_is = ap (λ ks. get_or ks (shift p r + from) slot.Mark) kinds
+          ∙ get_or_from_slice_get (kinds_at code r) (shift p r + from) (slot.Place cells) slot.Mark h.kind
+
+      -- its slot is not unset
+      never : slice_get (get_or now (top v) picture.no_frame).cells (shift p r + from) ≡ Some cell.Unset → ⊥
+      never e =
+          let unset : get_or (get_or now (top v) picture.no_frame).cells (shift p r + from) cell.Unset ≡ cell.Unset =
+          get_or_from_slice_get (get_or now (top v) picture.no_frame).cells (shift p r + from) cell.Unset cell.Unset e in
+          let slots : from < (routine_at p (get_or now (top v) picture.no_frame).routine).slots =
+          subst (λ x. from < (routine_at p x).slots) (sym routine) h.exists in
+          let given = b.sound.given (top v) from (omega (arith, live, b.stand.count)) slots in
+          subst (GivenIn cell.Unset) kind_is
+          (subst (λ c. GivenIn c (get_or (get_or now (top v) picture.no_frame).kinds (shift p r + from) slot.Mark)) unset
+          (subst (λ x. GivenIn (get_or (get_or now (top v) picture.no_frame).cells (shift p x + from) cell.Unset)
+          (get_or (get_or now (top v) picture.no_frame).kinds (shift p x + from) slot.Mark)) routine given))
+
       by : HeldIs p code input v now (top v) from (shift p r + from) → OwnHeld from cells v now
-      by (a_place a c e there same) =
-          own_held a e (record {
-            numbers = b.sound.live (top v) from a live e;
-            sized = b.sound.sized (top v) from cells a live kind_there e;
-            place = c;
-            same = same;
-            holds = subst (λ n. slice_get (get_or now n picture.no_frame).cells (shift p r + from) ≡ Some (cell.Place c)) at_top there;
-          })
-      by (no_place e there) = none_held e (subst (λ n. slice_get (get_or now n picture.no_frame).cells (shift p r + from) ≡ Some cell.Unset)
-          at_top there)
+      by (a_place a c e there same) = record {
+        place = a;
+        there = e;
+        is = record {
+          numbers = b.sound.live (top v) from a live e;
+          sized = b.sound.sized (top v) from cells a live kind_there e;
+          place = c;
+          same = same;
+          holds = subst (λ n. slice_get (get_or now n picture.no_frame).cells (shift p r + from) ≡ Some (cell.Place c)) at_top there;
+        };
+      }
+      by (no_place e there) = absurd (never there)
 
-  pub unset_there : (from cells : ℕ) (v : Store) (now : List PlainFrame) → IsParam p code input r from cells → Begins p code input r v now
-      → top_cell v from ≡ Unknown → Holds now (shift p r + from) cell.Unset
-  unset_there from cells v now h b none = by (own_is from cells v now h b)
-    where
-      by : OwnHeld from cells v now → Holds now (shift p r + from) cell.Unset
-      by (none_held e hold) = hold
-      by (own_held a e is) = absurd (let bad : Unknown ≡ At a = sym none ∙ e in cc)
+  -- the slot of a whole parameter, for a place of so many cells
+  abbrev pub OwnFits : Option ℕ → (cells : ℕ) → Type 0
+  OwnFits (Some from) cells = IsParam p code input r from cells
+  OwnFits None cells = Unit {0}
 
-  -- the place of the whole parameter, read at once
-  pub own_from : {B : Type 0} (below : Level) (line q at exit from cells : ℕ) (v : Store) (now : List PlainFrame) (w : Ways B)
-      (k : Store → Place → Events B) → IsParam p code input r from cells → Begins p code input r v now → line_at code at ≡ line
-      → ReadsPlace code input at (shift p r + from) now
-      → ((a : Place) → IsPlace p code input (shift p r + from) cells v a now → From p code input line 8 at exit now w (k v a) q)
-      → From p code input line 0 at exit now w (bind (ev_desig p input below (a_desig (root.Param from) cells no_sels) v) k) q
+module _ (p : Program) (tables : Tables) (code : PlainCode) (input : List ℕ) (below : Level) (r line q : ℕ) where
+  -- a whole parameter takes no step
+  own_runs : (at lo from cells : ℕ) → IsParam p code input r from cells
+      → NodeFor p code input r line at lo [] (ev_desig p input below (a_desig (root.Param from) cells no_sels))
+      (PlaceIn p code input (shift p r + from) cells) q
   unfolding ev_desig
-  own_from below line q at exit from cells v now w k h b there reads later = by (own_is from cells v now h b)
-    where
-      by : OwnHeld from cells v now → From p code input line 0 at exit now w
-          (bind (node (bind (place_held v (top_cell v from)) (λ t a. one t a))) k) q
-      by (own_held a e is) =
-          subst (λ c. From p code input line 0 at exit now w (bind (node (bind (place_held v c) (λ t a. one t a))) k) q) (sym e)
-          (λ held s here. weaker code input line 0 24 (Leaves exit w) held (join (k v a) Fail) s 64 8 q q (omega arith) (omega arith)
-          (alone_from p code input line 8 at exit now w (k v a) q (later a is) held s here))
-      by (none_held e hold) =
-          subst (λ c. From p code input line 0 at exit now w (bind (node (bind (place_held v c) (λ t a. one t a))) k) q) (sym e)
-          (λ held s here. weaker code input line 0 24 (Leaves exit w) held (Fault fault.Unknown 0) s 32 8 q q (omega arith) (omega arith)
-          (faults_here p code input line 7 at exit now w fault.Unknown q
-          (λ h2 u at_u. reads_unset code input line at (shift p r + from) now h2 u reads at_u there hold) held s here))
+  own_runs at lo from cells h stands v now b =
+      let own = own_is p code input r from cells v now h b in
+      let zero : at ≡ at + 0 = omega arith in
+      let yields = PlaceIn p code input (shift p r + from) cells in
+      let w = leaving p code input lo r now yields in
+      subst (λ m. NodeRuns p code input line at m now w (ev_desig p input below (a_desig (root.Param from) cells no_sels) v) q) zero
+      (subst (λ c. NodeRuns p code input line at at now w (node (bind (place_held v c) (λ t a. one t a))) q) (sym own.there)
+      (node_runs p code input line 0 at at now w (join (one v own.place) Fail) q (omega arith)
+      (alone_from p code input line 0 at at now w (one v own.place) q
+      (ends_here p code input line 0 at lo r v now yields own.place q b own.is))))
 
-  -- the slot of a whole parameter
-  abbrev pub OwnFits : Option ℕ → Type 0
-  OwnFits (Some from) = IsParam p code input r from 1
-  OwnFits None = Unit {0}
+  pub held_runs : (at lo : ℕ) (d : Desig) → own_end p r ≤ lo → OwnFits p code input r (own_place d) (desig_cells d)
+      → DesigRuns p tables code input below r line q at lo d → HeldRuns p tables code input below r line q at lo d
+  held_runs at lo d behind fits runs = record { within = near (own_place d) fits; runs = by (own_place d) refl fits }
+    where
+      inside : place_at p tables r lo d < lo + length (desig_slots p r d)
+      inside = (place_within p tables code input below r line q lo d).1
+
+      near : (o : Option ℕ) → OwnFits p code input r o (desig_cells d)
+          → slot_or p tables r o (place_at p tables r lo d) < lo + length (desig_slots p r d)
+      near None h = inside
+      near (Some from) h = omega (arith, h.exists, behind)
+
+      by : (o : Option ℕ) → own_place d ≡ o → OwnFits p code input r o (desig_cells d)
+          → NodeFor p code input r line at lo (unless_bare o (desig_code p tables r line at lo d)) (ev_desig p input below d)
+          (PlaceIn p code input (slot_or p tables r o (place_at p tables r lo d)) (desig_cells d)) q
+      by None e h = runs
+      by (Some from) e h =
+          let z = own_place_is d from e in
+          let cells : z.0 ≡ desig_cells d = ap desig_cells (sym z.1) in
+          subst (λ y. NodeFor p code input r line at lo [] (ev_desig p input below y)
+          (PlaceIn p code input (shift p r + from) (desig_cells d)) q) (sym z.1)
+          (subst (λ k. NodeFor p code input r line at lo [] (ev_desig p input below (a_desig (root.Param from) z.0 no_sels))
+          (PlaceIn p code input (shift p r + from) k) q) cells
+          (own_runs at lo from z.0 (subst (IsParam p code input r from) (sym cells) h)))

@@ -1,7 +1,9 @@
 -- What each part of a phrase keeps, and how one part follows another.
 use Rattle.std.proofs.Common.{◌≡◌, ℕ, suc, ◌+◌, ◌<◌, ◌≤◌, Bool, true, false, List, [], ◌++◌, length, get_or, Some, None, Option, refl, sym}
+use Rattle.std.proofs.Common.{◌⊎◌, inl, inr, ◌-◌}
 use Rattle.std.proofs.Common.{ap, ◌∙◌, subst, arith, ℤ, pos, append-nil}
 use Rattle.std.specs.Prelude.{slice_get}
+use Rattle.std.proofs.lemmas.Bool.{cases_lt}
 use Rattle.std.proofs.lemmas.Option.{slice_get-get_or, slice_get_within, get_or_from_slice_get}
 use Rattle.alma_base.specs.declared.fault.RunFault.{RunFault}
 use Rattle.alma_base.specs.declared.number.Range.{Range}
@@ -17,12 +19,13 @@ use Rattle.alma_code.specs.Picture as picture
 use Rattle.alma_code.specs.Plain.{PlainCode, kinds_at}
 use Rattle.alma_code.specs.Machine.{State}
 use Rattle.alma_ir.specs.Tree.{Program, routine_at}
-use Rattle.alma_mean.specs.Store.{Store, Place, Number, At, top_frame, cell_at}
+use Rattle.alma_mean.specs.Store.{Store, Place, Unknown, Number, At, top_frame, cell_at}
 use Rattle.alma_mean.specs.Store as store
 use Rattle.alma_mean.specs.Events.{Events, Flow, Go, Return, NoYield, Fail, Fault, one, join, bind, node}
 use Rattle.alma_lower_implements.proofs.Goes.{Silently, IsGoing, IsFailing, Goes, before, weaker, credited, join_goes, bind_goes, node_goes}
 use Rattle.alma_lower_implements.proofs.Goes.{one_goes, no_step}
-use Rattle.alma_lower_implements.proofs.Frames.{shift, shift_in, own_end, StandFor, Fits, AreNumbers, SamePlace, IsAt}
+use Rattle.alma_lower_implements.proofs.Frames.{shift, shift_in, own_end, SameContent, SameFrame, StandFor, Fits, AreNumbers, SamePlace}
+use Rattle.alma_lower_implements.proofs.Frames.{IsAt}
 use Rattle.alma_lower_implements.proofs.FrameLemmas.{top_same, fits_self, fits_on, fits_less, fits_temp, frame_routine, numbers_kept}
 use Rattle.alma_lower_implements.proofs.FrameLemmas.{place_kept, holds_written}
 use Rattle.alma_lower_implements.proofs.ExprRows.{kind_there, within_frame, slots_behind_routine, some_frames}
@@ -34,6 +37,7 @@ use Rattle.alma_lower_implements.proofs.Leaving.{PlacesBelow}
 use Rattle.alma_lower_implements.proofs.Ways.{Ways, Leaves, Runs, Later, then_up_to}
 use Rattle.alma_lower_templates.specs.Lined.{Lined}
 use Rattle.alma_lower_templates.specs.Stands.{Stands}
+use Rattle.alma_lower_templates.proofs.Given.{Given, given_after}
 
 module _ (p : Program) (code : PlainCode) (input : List ℕ) where
   -- ---- what is kept
@@ -61,11 +65,13 @@ module _ (p : Program) (code : PlainCode) (input : List ℕ) where
     pub sized : (k i l : ℕ) (q : Place) → k < length v
         → slice_get (kinds_at code (get_or v k store.no_frame).routine) (shift_in p v k + i) ≡ Some (slot.Place l) → cell_at v k i ≡ At q
         → q.size ≡ l
+    pub given : Given p now
 
-  -- frames that stand for a store are sound
-  pub sound_of : (v : Store) (now : List PlainFrame) → StandFor p code v now → Positioned v → Sound v now
-  sound_of v now h position = record {
+  -- frames that stand for a store are sound, where each parameter holds its place
+  pub sound_of : (v : Store) (now : List PlainFrame) → StandFor p code v now → Positioned v → Given p now → Sound v now
+  sound_of v now h position given = record {
     position = position;
+    given = given;
     main = h.main;
     routines = h.routines;
     below = λ k i q lt e. (h.places k i q lt e).below;
@@ -105,6 +111,7 @@ module _ (p : Program) (code : PlainCode) (input : List ℕ) where
       → NoNewPlaces v w → (Positioned v → Positioned w) → Sound v now → Sound w later
   sound_after lo v w now later stand fit old kept h = record {
     position = kept h.position;
+    given = given_after p code lo v w now later stand fit h.given;
     main = routine 0 stand.some ∙ h.main;
     routines = λ k lt. subst (λ x. x < length p.routines) (sym (routine k (omega (arith, lt, long))))
         (h.routines k (omega (arith, lt, long)));
@@ -190,14 +197,61 @@ module _ (p : Program) (code : PlainCode) (input : List ℕ) where
   value_after lo r n x v w now later b behind lt left h =
       record { holds = holds_after lo r n (cell.Int x) v w now later b behind lt left h.holds; integer = h.integer }
 
-  pub place_after : (lo r n size : ℕ) (q : Place) (v w : Store) (now later : List PlainFrame) → Begins r v now → own_end p r ≤ n → n < lo
+  -- a slot of the routine that holds a place is for one
+  content_place : (v : Store) (k : SlotKind) (a : store.Cell) (c : CellPlace) → SameContent p v k a (cell.Place c)
+      → (l : ℕ) × (k ≡ slot.Place l)
+  content_place v (slot.Place l) a c h = (l, refl)
+  content_place v slot.Number Unknown c h = absurd h
+  content_place v slot.Number (Number x) c h = absurd h
+  content_place v slot.Number (At q) c h = absurd h
+  content_place v slot.Mark a c h = absurd h
+  content_place v (slot.Link s) a c h = absurd h
+
+  -- each slot before those of a phrase keeps the place that it holds: the link, those of the routine, those of the phrases before
+  kept_place : (lo r n : ℕ) (c : CellPlace) (v w : Store) (now later : List PlainFrame) → Begins r v now → own_end p r ≤ lo → n < lo
+      → Left lo r now w later → Holds now n (cell.Place c) → Holds later n (cell.Place c)
+  kept_place lo r n c v w now later b behind lt left h = by (cases_lt n (shift p r)) (cases_lt n (own_end p r))
+    where
+      same : SameFrame p code v (top_frame v) (last_frame now)
+      same = top_same p code v now b.stand
+
+      routine : (last_frame now).routine ≡ r
+      routine = sym same.routine ∙ b.routine
+
+      there : get_or (last_frame now).cells n cell.Unset ≡ cell.Place c
+      there = get_or_from_slice_get (last_frame now).cells n (cell.Place c) cell.Unset h
+
+      holds : get_or (last_frame later).cells n cell.Unset ≡ get_or (last_frame now).cells n cell.Unset → Holds later n (cell.Place c)
+      holds e =
+          let within : n < length (last_frame now).cells = slice_get_within (last_frame now).cells n (cell.Place c) h in
+          slice_get-get_or (last_frame later).cells n cell.Unset (omega (arith, within, left.fits.top.long)) ∙ ap Some (e ∙ there)
+
+      own : (i : ℕ) → shift p (top_frame v).routine + i ≡ n → i < length (top_frame v).cells → Holds later n (cell.Place c)
+      own i e small =
+          let content : SameContent p v (get_or (last_frame now).kinds n slot.Mark) (get_or (top_frame v).cells i Unknown)
+          (cell.Place c) =
+          subst (SameContent p v (get_or (last_frame now).kinds n slot.Mark) (get_or (top_frame v).cells i Unknown)) there
+          (subst (λ m. SameContent p v (get_or (last_frame now).kinds m slot.Mark) (get_or (top_frame v).cells i Unknown)
+          (get_or (last_frame now).cells m cell.Unset)) e (same.cells i small)) in
+          let kind = content_place v (get_or (last_frame now).kinds n slot.Mark) (get_or (top_frame v).cells i Unknown) c content in
+          holds (left.fits.top.places n kind.0 kind.1
+          (omega (arith, e, small, same.slots, ap (own_end p) same.routine)))
+
+      by : (n < shift p r) ⊎ (shift p r ≤ n) → (n < own_end p r) ⊎ (own_end p r ≤ n) → Holds later n (cell.Place c)
+      by (inl low) z = holds (left.fits.top.link n (omega (arith, low, ap (shift p) routine)))
+      by (inr high) (inr past) = holds_after lo r n (cell.Place c) v w now later b past lt left h
+      by (inr high) (inl small) =
+          own (n - shift p r) (omega (arith, high, ap (shift p) b.routine))
+          (omega (arith, high, small, same.slots, ap (λ x. (routine_at p x).slots) b.routine))
+
+  pub place_after : (lo r n size : ℕ) (q : Place) (v w : Store) (now later : List PlainFrame) → Begins r v now → own_end p r ≤ lo → n < lo
       → Left lo r now w later → IsPlace n size v q now → IsPlace n size w q later
   place_after lo r n size q v w now later b behind lt left h = record {
     numbers = numbers_kept p code lo q v w now later b.stand left.fits h.numbers;
     sized = h.sized;
     place = h.place;
     same = place_kept p code lo q h.place v w now later h.numbers.frame b.stand left.fits h.same;
-    holds = holds_after lo r n (cell.Place h.place) v w now later b behind lt left h.holds;
+    holds = kept_place lo r n h.place v w now later b behind lt left h.holds;
   }
 
   -- ---- where phrases leave off

@@ -45,15 +45,16 @@ use Rattle.alma_lower_implements.proofs.Steps.{InstrAt, passed, does, went_on, p
 use Rattle.alma_lower_templates.specs.Lined.{Lined, own}
 use Rattle.alma_lower_templates.specs.Tables.{Tables, range_number}
 use Rattle.alma_lower_templates.specs.Pieces.{read_code}
-use Rattle.alma_lower_templates.specs.Templates.{desig_code, place_at}
+use Rattle.alma_lower_templates.specs.Templates.{held_at}
 use Rattle.alma_lower_templates.proofs.Stands.{stands_front, stands_back}
+use Rattle.alma_lower_templates.proofs.Given.{given_after}
 use Rattle.alma_lower_templates.proofs.Parts.{Begins, begins, Left, left_on, sound_of, IsPlace, PlaceIn, Nothing, NodeRuns, From, leaving}
 use Rattle.alma_lower_templates.proofs.Parts.{node_runs, then_from, faults_here, fails_here}
 use Rattle.alma_lower_templates.proofs.CellsMoved.{cell_fits}
 use Rattle.alma_lower_templates.proofs.CellRuns.{passes_with}
 use Rattle.alma_lower_templates.proofs.ForallRuns.{position_there}
 use Rattle.alma_lower_templates.proofs.Targets.{left_put}
-use Rattle.alma_lower_templates.proofs.FormRuns.{DesigRuns, StmtRuns, HasRange}
+use Rattle.alma_lower_templates.proofs.FormRuns.{held_code, HeldRuns, StmtRuns, HasRange}
 
 -- ---- what is found
 
@@ -186,7 +187,9 @@ module _ (p : Program) (tables : Tables) (code : PlainCode) (input : List ℕ) (
         fits = fit;
         routine = put_routine v 0 0 (Number (pos n)) live ∙ b.routine;
         sound = sound_of p code input (set_position v n) (frames_with_cell now 0 (shift_in p v 0 + 0) (cell.Int (pos n))) fit.stand
-            (record { at = n; is = put_here v 0 0 (Number (pos n)) live there });
+            (record { at = n; is = put_here v 0 0 (Number (pos n)) live there })
+            (given_after p code lo v (set_position v n) now (frames_with_cell now 0 (shift_in p v 0 + 0) (cell.Int (pos n))) b.stand fit
+            b.sound.given);
       } in
       subst (λ m. Left p code input lo r now (set_position v n) (frames_with_cell now 0 m (cell.Int (pos n)))) sh made
 
@@ -335,12 +338,12 @@ module _ (p : Program) (tables : Tables) (code : PlainCode) (input : List ℕ) (
 
   pub read_runs : (at lo : ℕ) (d : Desig) (how : ReadAs) (range : Range) → own_end p r ≤ lo → desig_cells d ≡ 1
       → HasRange p tables code input below r line q range → ((z : ℤ) → within range z ≡ true → is_integer z ≡ true)
-      → DesigRuns p tables code input below r line q at lo d
+      → HeldRuns p tables code input below r line q at lo d
       → StmtRuns p tables code input below r line q at lo (Read d how range)
   unfolding ev_expr
   read_runs at lo d how range behind cells has inside runs stands v now b =
-      let inner : List Lined = desig_code p tables r line at lo d in
-      let a : ℕ = place_at p tables r lo d in
+      let inner : List Lined = held_code p tables r line at lo d in
+      let a : ℕ = held_at p tables r lo d in
       let last : List Lined = own line (read_code how a (range_number tables range) ∷ []) in
       let m : ℕ = at + length inner in
       let back = stands_back code at inner last stands in
@@ -353,6 +356,6 @@ module _ (p : Program) (tables : Tables) (code : PlainCode) (input : List ℕ) (
       (omega arith)
       (then_from p code input line at m (m + 1) lo lo r now (PlaceIn p code input a (desig_cells d)) (Nothing p code input)
       (ev_desig p input below d v) (λ t k. read_row input how t k range) q (omega arith) behind
-      (runs (stands_front code at inner last stands) v now b)
+      (runs.runs (stands_front code at inner last stands) v now b)
       (λ u k t left place. read_ends how m lo a (desig_cells d) u t k range has behind (omega (arith, cells)) inside
       (begins p code input lo r now u t left) place i)))

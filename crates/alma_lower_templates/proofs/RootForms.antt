@@ -1,4 +1,4 @@
--- The root of a designator, from template to run: its place goes into the first slot.
+-- The root of a designator, from template to run: its place goes into a slot, the first of the designator or any other.
 use Rattle.std.proofs.Common.{◌≡◌, ℕ, zero, suc, ◌+◌, ◌-◌, ◌<◌, ◌≤◌, List, [], ◌∷◌, ◌++◌, length, get_or, Some, refl, sym, ap, ◌∙◌, subst}
 use Rattle.std.proofs.Common.{arith}
 use Rattle.std.specs.Prelude.{slice_get}
@@ -34,11 +34,11 @@ use Rattle.alma_lower_templates.specs.Lined.{own}
 use Rattle.alma_lower_templates.specs.Tables.{Tables}
 use Rattle.alma_lower_templates.specs.Slots.{root_slots, chain_slots}
 use Rattle.alma_lower_templates.specs.Pieces.{link_code, chain_code}
-use Rattle.alma_lower_templates.specs.Templates.{root_code}
 use Rattle.alma_lower_templates.specs.Stands.{Stands}
 use Rattle.alma_lower_templates.proofs.Parts.{Begins, begins, Left, has_kind, IsPlace, From, leaving, from_more, alone_from, faults_here}
 use Rattle.alma_lower_templates.proofs.Parts.{on_from, left_on, sound_after, place_goes_on}
 use Rattle.alma_lower_templates.proofs.PlaceSteps.{global_step, same_step}
+use Rattle.alma_lower_templates.proofs.Placed.{root_to}
 
 module _ (p : Program) (code : PlainCode) (input : List ℕ) where
   -- number slots of a live frame
@@ -140,35 +140,36 @@ module _ (p : Program) (code : PlainCode) (input : List ℕ) where
 
   -- ---- the forms of roots
 
-  module _ (line q exit lo r : ℕ) (v : Store) (behind : own_end p r ≤ lo) {B : Type 0} (yields : Store → B → List PlainFrame → Type 0)
-      (k : Store → Place → Events B) where
+  -- the place goes into the slot `end`; `low` is the first slot of the phrase, and those of a root begin at `lo`
+  module _ (line q exit low end lo r : ℕ) (v : Store) (behind : own_end p r ≤ low) (above : low ≤ end) (under : low ≤ lo) {B : Type 0}
+      (yields : Store → B → List PlainFrame → Type 0) (k : Store → Place → Events B) where
     abbrev pub GoesOnAt : (next cells : ℕ) → List PlainFrame → Type 0
-    GoesOnAt next cells now = (a : Place) (t : List PlainFrame) → Left p code input lo r now v t → IsPlace p code input lo cells v a t
-        → From p code input line 8 next exit t (leaving p code input lo r t yields) (k v a) q
+    GoesOnAt next cells now = (a : Place) (t : List PlainFrame) → Left p code input low r now v t → IsPlace p code input end cells v a t
+        → From p code input line 8 next exit t (leaving p code input low r t yields) (k v a) q
 
     abbrev pub Taken : (at : ℕ) → List PlainFrame → Events Place → Type 0
-    Taken at now e = From p code input line 9 at exit now (leaving p code input lo r now yields) (bind e k) q
+    Taken at now e = From p code input line 9 at exit now (leaving p code input low r now yields) (bind e k) q
 
     abbrev WritesPlace : (at : ℕ) → List PlainFrame → CellPlace → Type 0
-    WritesPlace at now m = (held : List PlainEntry) (s : State) → IsAt at now held s → Writes code input at now held s lo (cell.Place m)
+    WritesPlace at now m = (held : List PlainEntry) (s : State) → IsAt at now held s → Writes code input at now held s end (cell.Place m)
 
     -- a place of variables in a live frame, by one step
     variables_from : (at f r2 from cells : ℕ) (now : List PlainFrame) → Begins p code input r v now
-        → slice_get (kinds_at code r) lo ≡ Some (slot.Place cells) → f < length v → (get_or v f store.no_frame).routine ≡ r2
+        → slice_get (kinds_at code r) end ≡ Some (slot.Place cells) → f < length v → (get_or v f store.no_frame).routine ≡ r2
         → AreVariables p code input r2 from cells
         → WritesPlace at now (record { frame = f; slot = shift p r2 + from; len = cells }) → GoesOnAt (at + 1) cells now
         → Taken at now (one v (record { frame = f; slot = from; size = cells }))
     variables_from at f r2 from cells now b kind live is h w later =
         let a : Place = record { frame = f; slot = from; size = cells } in
         let m : CellPlace = record { frame = f; slot = shift p r2 + from; len = cells } in
-        alone_from p code input line 9 at exit now (leaving p code input lo r now yields) (k v a) q
-        (place_goes_on p code input line 8 at exit lo r lo cells v now a m yields (k v a) q behind (omega arith) kind b
+        alone_from p code input line 9 at exit now (leaving p code input low r now yields) (k v a) q
+        (place_goes_on p code input line 8 at exit low r end cells v now a m yields (k v a) q behind above kind b
         (frame_numbers f r2 from cells v now b.stand live is h) refl
         (record { frame = refl; slot = ap (λ x. shift p x + from) is; size = refl }) w (λ t left place. later a t left place))
 
     -- a place that a slot of a live frame holds
     held_from : (at f r2 from cells : ℕ) (now : List PlainFrame) → Begins p code input r v now
-        → slice_get (kinds_at code r) lo ≡ Some (slot.Place cells) → f < length v → (get_or v f store.no_frame).routine ≡ r2
+        → slice_get (kinds_at code r) end ≡ Some (slot.Place cells) → f < length v → (get_or v f store.no_frame).routine ≡ r2
         → IsParam r2 from cells
         → ((c : CellPlace) → slice_get (get_or now f picture.no_frame).cells (shift p r2 + from) ≡ Some (cell.Place c)
         → WritesPlace at now (record { frame = c.frame; slot = c.slot; len = cells }))
@@ -184,13 +185,14 @@ module _ (p : Program) (code : PlainCode) (input : List ℕ) where
         by (a_place a c e there same) =
             let sized : a.size ≡ cells = b.sound.sized f from cells a live kind_there e in
             subst (λ x. Taken at now (place_held v x)) (sym e)
-            (alone_from p code input line 9 at exit now (leaving p code input lo r now yields) (k v a) q
-            (place_goes_on p code input line 8 at exit lo r lo cells v now a (record { frame = c.frame; slot = c.slot; len = cells }) yields
-            (k v a) q behind (omega arith) kind b (b.sound.live f from a live e) sized
+            (alone_from p code input line 9 at exit now (leaving p code input low r now yields) (k v a) q
+            (place_goes_on p code input line 8 at exit low r end cells v now a (record { frame = c.frame; slot = c.slot; len = cells })
+            yields
+            (k v a) q behind above kind b (b.sound.live f from a live e) sized
             (record { frame = same.frame; slot = same.slot; size = sized }) (w c there) (λ t left place. later a t left place)))
         by (no_place e there) =
             subst (λ x. Taken at now (place_held v x)) (sym e)
-            (faults_here p code input line 8 at exit now (leaving p code input lo r now yields) fault.Unknown q (none there))
+            (faults_here p code input line 8 at exit now (leaving p code input low r now yields) fault.Unknown q (none there))
 
     -- a link to a frame up, in front of a step that uses it
     linked_from : (at links : ℕ) (now : List PlainFrame) (rest : List Instr) (e : Events Place) → Begins p code input r v now
@@ -198,8 +200,8 @@ module _ (p : Program) (code : PlainCode) (input : List ℕ) where
         → HasSlots p code r (lo + 1) (chain_slots p r links) → Stands code at (own line (link_code (lo + 1) links ++ rest))
         → ((t : List PlainFrame) → Begins p code input r v t → LinkedUp p v (top v) links
         → Holds t (lo + 1 + links) (cell.Place (link_to (up v links))) → Stands code (at + 1 + links) (own line rest)
-        → Left p code input lo r now v t → Taken (at + 1 + links) t e)
-        → From p code input line 24 at exit now (leaving p code input lo r now yields) (bind e k) q
+        → Left p code input low r now v t → Taken (at + 1 + links) t e)
+        → From p code input line 24 at exit now (leaving p code input low r now yields) (bind e k) q
     linked_from at links now rest e b nested few slots stands later held s is =
         let live : top v < length v = omega (arith, b.stand.some) in
         let there : r < length p.routines = subst (λ x. x < length p.routines) b.routine (b.sound.routines (top v) live) in
@@ -208,20 +210,20 @@ module _ (p : Program) (code : PlainCode) (input : List ℕ) where
         linked_up p code v now (top v) links nested b.sound.routines b.sound.main b.stand live
         (subst (λ x. links < (routine_at p x).level) (sym b.routine) few) in
         let z = chains_stand line links (at + 1) (lo + 1) rest stands.2 in
-        let l = link_goes p code input line links at (lo + 1) r v now held s (omega (arith, behind)) is b.stand b.routine up_there
+        let l = link_goes p code input line links at (lo + 1) r v now held s (omega (arith, behind, under)) is b.stand b.routine up_there
         (record { instr = stands.0; on_line = stands.1 }) r (chain_first links r r (lo + 1) slots) z.0
         (links_are line links r r (lo + 1) slots) in
-        let left : Left p code input lo r now v l.frames =
+        let left : Left p code input low r now v l.frames =
         record {
-          fits = fits_less p code lo (lo + 1) v now l.frames (omega arith) l.fits;
+          fits = fits_less p code low (lo + 1) v now l.frames (omega (arith, under)) l.fits;
           routine = b.routine;
           sound =
               sound_after p code input (lo + 1) v v now l.frames b.stand l.fits (λ j i x y. y) (λ x. x) b.sound;
         } in
-        before code input line 0 24 (Leaves exit (leaving p code input lo r now yields)) held (bind e k) s l.to (1 + links) 24 9 q q
+        before code input line 0 24 (Leaves exit (leaving p code input low r now yields)) held (bind e k) s l.to (1 + links) 24 9 q q
         l.silently (omega (arith, few, short)) (omega arith)
-        (on_from p code input line 9 (at + 1 + links) exit lo lo r v now l.frames yields (bind e k) q (omega arith) behind left
-        (later l.frames (begins p code input lo r now v l.frames left) up_there l.holds z.1 left) held l.to l.is)
+        (on_from p code input line 9 (at + 1 + links) exit low low r v now l.frames yields (bind e k) q (omega arith) behind left
+        (later l.frames (begins p code input low r now v l.frames left) up_there l.holds z.1 left) held l.to l.is)
 
   -- what a root must keep
   abbrev pub RootFits : (r : ℕ) → Root → (cells : ℕ) → Type 0
@@ -254,80 +256,88 @@ module _ (p : Program) (code : PlainCode) (input : List ℕ) where
       (ap (λ z. slice_get (get_or z f picture.no_frame).cells c) is.frames ∙ hc))
 
   -- the place of a root, and what is done with it
-  pub root_from : (tables : Tables) (line q at exit lo r cells : ℕ) (root : Root) (v : Store) (now : List PlainFrame)
-      (behind : own_end p r ≤ lo) {B : Type 0} (yields : Store → B → List PlainFrame → Type 0) (k : Store → Place → Events B)
-      → RootFits r root cells
-      → ((s : ℕ) → s < length p.routines → IsNested p s (routine_at p s)) → HasSlots p code r lo (slot.Place cells ∷ root_slots p r root)
-      → Stands code at (own line (root_code p tables r lo root)) → Begins p code input r v now
-      → GoesOnAt line q exit lo r v behind yields k (at + length (own line (root_code p tables r lo root))) cells now
-      → From p code input line 24 at exit now (leaving p code input lo r now yields) (bind (root_place v root cells) k) q
-  root_from tables line q at exit lo r cells (root.Local from) v now behind yields k fits nested slots stands b later =
-      from_more p code input line 9 24 at exit now (leaving p code input lo r now yields) (bind (root_place v (root.Local from) cells) k) q
+  pub root_from : (tables : Tables) (line q at exit low end lo r cells : ℕ) (root : Root) (v : Store) (now : List PlainFrame)
+      (behind : own_end p r ≤ low) (above : low ≤ end) (under : low ≤ lo) {B : Type 0} (yields : Store → B → List PlainFrame → Type 0)
+      (k : Store → Place → Events B) → RootFits r root cells
+      → ((s : ℕ) → s < length p.routines → IsNested p s (routine_at p s)) → slice_get (kinds_at code r) end ≡ Some (slot.Place cells)
+      → HasSlots p code r (lo + 1) (root_slots p r root)
+      → Stands code at (own line (root_to p tables r end lo root)) → Begins p code input r v now
+      → GoesOnAt line q exit low end lo r v behind above under yields k (at + length (own line (root_to p tables r end lo root))) cells now
+      → From p code input line 24 at exit now (leaving p code input low r now yields) (bind (root_place v root cells) k) q
+  root_from tables line q at exit low end lo r cells (root.Local from) v now behind above under yields k fits nested kind slots stands b
+      later =
+      from_more p code input line 9 24 at exit now (leaving p code input low r now yields) (bind (root_place v (root.Local from) cells) k) q
       (omega arith)
-      (variables_from line q exit lo r v behind yields k at (top v) r from cells now b
-      (first_kind p code input r lo (slot.Place cells) [] slots) (omega (arith, b.stand.some)) b.routine fits
-      (λ held s is. subst (λ n. Writes code input at now held s lo
+      (variables_from line q exit low end lo r v behind above under yields k at (top v) r from cells now b
+      kind (omega (arith, b.stand.some)) b.routine fits
+      (λ held s is. subst (λ n. Writes code input at now held s end
       (cell.Place (record { frame = n - 1; slot = shift p r + from; len = cells }))) b.stand.count
-      (local_step code input line at now held s is lo (shift p r + from) cells (record { instr = stands.0; on_line = stands.1 })
-      (has_kind p code input r lo v now (slot.Place cells) (first_kind p code input r lo (slot.Place cells) [] slots) b)))
+      (local_step code input line at now held s is end (shift p r + from) cells (record { instr = stands.0; on_line = stands.1 })
+      (has_kind p code input r end v now (slot.Place cells) kind b)))
       later)
-  root_from tables line q at exit lo r cells (root.Global from) v now behind yields k fits nested slots stands b later =
+  root_from tables line q at exit low end lo r cells (root.Global from) v now behind above under yields k fits nested kind slots stands b
+      later =
       let e : from ≡ shift p 0 + from = omega (arith, fits.1) in
-      from_more p code input line 9 24 at exit now (leaving p code input lo r now yields) (bind (root_place v (root.Global from) cells) k) q
+      from_more p code input line 9 24 at exit now (leaving p code input low r now yields) (bind (root_place v (root.Global from) cells) k)
+      q
       (omega arith)
-      (variables_from line q exit lo r v behind yields k at 0 0 from cells now b (first_kind p code input r lo (slot.Place cells) [] slots)
+      (variables_from line q exit low end lo r v behind above under yields k at 0 0 from cells now b kind
       (omega (arith, b.stand.some)) b.sound.main fits.0
-      (λ held s is. subst (λ n. Writes code input at now held s lo (cell.Place (record { frame = 0; slot = n; len = cells }))) e
-      (global_step code input line at now held s is lo from cells (record { instr = stands.0; on_line = stands.1 })
-      (has_kind p code input r lo v now (slot.Place cells) (first_kind p code input r lo (slot.Place cells) [] slots) b)))
+      (λ held s is. subst (λ n. Writes code input at now held s end (cell.Place (record { frame = 0; slot = n; len = cells }))) e
+      (global_step code input line at now held s is end from cells (record { instr = stands.0; on_line = stands.1 })
+      (has_kind p code input r end v now (slot.Place cells) kind b)))
       later)
-  root_from tables line q at exit lo r cells (root.Param from) v now behind yields k fits nested slots stands b later =
-      let kind = first_kind p code input r lo (slot.Place cells) [] slots in
-      let i : InstrAt code input line at (I.Same lo (shift p r + from)) = record { instr = stands.0; on_line = stands.1 } in
+  root_from tables line q at exit low end lo r cells (root.Param from) v now behind above under yields k fits nested kind slots stands b
+      later =
+      let i : InstrAt code input line at (I.Same end (shift p r + from)) = record { instr = stands.0; on_line = stands.1 } in
       let at_top : top v ≡ length now - 1 = ap (λ n. n - 1) (sym b.stand.count) in
-      from_more p code input line 9 24 at exit now (leaving p code input lo r now yields) (bind (root_place v (root.Param from) cells) k) q
+      from_more p code input line 9 24 at exit now (leaving p code input low r now yields) (bind (root_place v (root.Param from) cells) k) q
       (omega arith)
-      (held_from line q exit lo r v behind yields k at (top v) r from cells now b kind (omega (arith, b.stand.some)) b.routine fits
-      (λ c there held s is. same_step code input line at now held s is lo (shift p r + from) cells c i
-      (has_kind p code input r lo v now (slot.Place cells) kind b)
+      (held_from line q exit low end lo r v behind above under yields k at (top v) r from cells now b kind (omega (arith, b.stand.some))
+      b.routine fits
+      (λ c there held s is. same_step code input line at now held s is end (shift p r + from) cells c i
+      (has_kind p code input r end v now (slot.Place cells) kind b)
       (subst (λ n. slice_get (get_or now n picture.no_frame).cells (shift p r + from) ≡ Some (cell.Place c)) at_top there))
-      (λ there held s is. same_unset line at lo (shift p r + from) now held s is i
+      (λ there held s is. same_unset line at end (shift p r + from) now held s is i
       (subst (λ n. slice_get (get_or now n picture.no_frame).cells (shift p r + from) ≡ Some cell.Unset) at_top there))
       later)
-  root_from tables line q at exit lo r cells (root.Outer links from) v now behind yields k fits nested slots stands b later =
-      let kind = first_kind p code input r lo (slot.Place cells) (chain_slots p r links) slots in
+  root_from tables line q at exit low end lo r cells (root.Outer links from) v now behind above under yields k fits nested kind slots stands
+      b later =
       let r2 : ℕ = outer_at p r links in
-      let long : length (own line (root_code p tables r lo (root.Outer links from))) ≡ suc (links + 1) =
-      ap suc (chain_long line links (lo + 1) (I.Outer lo (lo + 1 + links) (shift p r2 + from))) in
-      let here : at + length (own line (root_code p tables r lo (root.Outer links from))) ≡ at + 1 + links + 1 = omega (arith, long) in
-      linked_from line q exit lo r v behind yields k at links now (I.Outer lo (lo + 1 + links) (shift p r2 + from) ∷ [])
+      let long : length (own line (root_to p tables r end lo (root.Outer links from))) ≡ suc (links + 1) =
+      ap suc (chain_long line links (lo + 1) (I.Outer end (lo + 1 + links) (shift p r2 + from))) in
+      let here : at + length (own line (root_to p tables r end lo (root.Outer links from))) ≡ at + 1 + links + 1 = omega (arith, long) in
+      linked_from line q exit low end lo r v behind above under yields k at links now
+      (I.Outer end (lo + 1 + links) (shift p r2 + from) ∷ [])
       (one v (record { frame = up v links; slot = from; size = cells })) b nested fits.0
-      (slots_behind p code input r lo (slot.Place cells ∷ []) (chain_slots p r links) slots) stands
+      slots stands
       (λ t b1 reached holds last left.
-      variables_from line q exit lo r v behind yields k (at + 1 + links) (up v links) r2 from cells t b1 kind
+      variables_from line q exit low end lo r v behind above under yields k (at + 1 + links) (up v links) r2 from cells t b1 kind
       (up_live p code v (top v) links reached)
       (up_routine p code v t (top v) links b1.stand reached ∙ ap (λ x. outer_at p x links) b1.routine) fits.1
-      (λ held s is. outer_step code input line (at + 1 + links) t held s is lo (lo + 1 + links) (shift p r2 + from) (up v links) cells
-      (record { instr = last.0; on_line = last.1 }) (has_kind p code input r lo v t (slot.Place cells) kind b1) holds)
-      (λ a t2 left2 place. subst (λ n. From p code input line 8 n exit t2 (leaving p code input lo r t2 yields) (k v a) q) here
-      (later a t2 (left_on p code input lo lo r now v v t t2 (omega arith) left left2) place)))
-  root_from tables line q at exit lo r cells (root.OuterParam links from) v now behind yields k fits nested slots stands b later =
-      let kind = first_kind p code input r lo (slot.Place cells) (chain_slots p r links) slots in
+      (λ held s is. outer_step code input line (at + 1 + links) t held s is end (lo + 1 + links) (shift p r2 + from) (up v links) cells
+      (record { instr = last.0; on_line = last.1 }) (has_kind p code input r end v t (slot.Place cells) kind b1) holds)
+      (λ a t2 left2 place. subst (λ n. From p code input line 8 n exit t2 (leaving p code input low r t2 yields) (k v a) q) here
+      (later a t2 (left_on p code input low low r now v v t t2 (omega arith) left left2) place)))
+  root_from tables line q at exit low end lo r cells (root.OuterParam links from) v now behind above under yields k fits nested kind slots
+      stands b later =
       let r2 : ℕ = outer_at p r links in
-      let long : length (own line (root_code p tables r lo (root.OuterParam links from))) ≡ suc (links + 1) =
-      ap suc (chain_long line links (lo + 1) (I.OuterSame lo (lo + 1 + links) (shift p r2 + from))) in
-      let here : at + length (own line (root_code p tables r lo (root.OuterParam links from))) ≡ at + 1 + links + 1 = omega (arith, long) in
-      linked_from line q exit lo r v behind yields k at links now (I.OuterSame lo (lo + 1 + links) (shift p r2 + from) ∷ [])
+      let long : length (own line (root_to p tables r end lo (root.OuterParam links from))) ≡ suc (links + 1) =
+      ap suc (chain_long line links (lo + 1) (I.OuterSame end (lo + 1 + links) (shift p r2 + from))) in
+      let here : at + length (own line (root_to p tables r end lo (root.OuterParam links from))) ≡ at + 1 + links + 1 =
+      omega (arith, long) in
+      linked_from line q exit low end lo r v behind above under yields k at links now
+      (I.OuterSame end (lo + 1 + links) (shift p r2 + from) ∷ [])
       (place_held v (cell_at v (up v links) from)) b nested fits.0
-      (slots_behind p code input r lo (slot.Place cells ∷ []) (chain_slots p r links) slots) stands
+      slots stands
       (λ t b1 reached holds last left.
-      let i : InstrAt code input line (at + 1 + links) (I.OuterSame lo (lo + 1 + links) (shift p r2 + from)) =
+      let i : InstrAt code input line (at + 1 + links) (I.OuterSame end (lo + 1 + links) (shift p r2 + from)) =
       record { instr = last.0; on_line = last.1 } in
-      held_from line q exit lo r v behind yields k (at + 1 + links) (up v links) r2 from cells t b1 kind
+      held_from line q exit low end lo r v behind above under yields k (at + 1 + links) (up v links) r2 from cells t b1 kind
       (up_live p code v (top v) links reached)
       (up_routine p code v t (top v) links b1.stand reached ∙ ap (λ x. outer_at p x links) b1.routine) fits.1
-      (λ c there held s is. outer_same_step code input line (at + 1 + links) t held s is lo (lo + 1 + links) (shift p r2 + from)
-      (up v links) cells c i (has_kind p code input r lo v t (slot.Place cells) kind b1) holds there)
-      (λ there held s is. outer_unset line (at + 1 + links) lo (lo + 1 + links) (shift p r2 + from) (up v links) t held s is i holds there)
-      (λ a t2 left2 place. subst (λ n. From p code input line 8 n exit t2 (leaving p code input lo r t2 yields) (k v a) q) here
-      (later a t2 (left_on p code input lo lo r now v v t t2 (omega arith) left left2) place)))
+      (λ c there held s is. outer_same_step code input line (at + 1 + links) t held s is end (lo + 1 + links) (shift p r2 + from)
+      (up v links) cells c i (has_kind p code input r end v t (slot.Place cells) kind b1) holds there)
+      (λ there held s is. outer_unset line (at + 1 + links) end (lo + 1 + links) (shift p r2 + from) (up v links) t held s is i holds there)
+      (λ a t2 left2 place. subst (λ n. From p code input line 8 n exit t2 (leaving p code input low r t2 yields) (k v a) q) here
+      (later a t2 (left_on p code input low low r now v v t t2 (omega arith) left left2) place)))

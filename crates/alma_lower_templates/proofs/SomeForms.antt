@@ -33,12 +33,12 @@ use Rattle.alma_lower_templates.specs.Pieces.{count_from, turn_code, some_turns}
 use Rattle.alma_lower_templates.specs.Slots.{bare_desig, unless_bare, expr_slots, desig_slots, stmts_slots, some_slots, behind_expr}
 use Rattle.alma_lower_templates.specs.Slots.{behind_variable, constant}
 use Rattle.alma_lower_templates.specs.Stands.{Stands}
-use Rattle.alma_lower_templates.specs.Templates.{set_by, stmt_code, stmts_code, desig_code, count_at, count_code}
+use Rattle.alma_lower_templates.specs.Templates.{set_by, stmt_code, stmts_code, count_at, count_code}
 use Rattle.alma_lower_templates.proofs.Stands.{stands_front, stands_back}
 use Rattle.alma_lower_templates.proofs.AtOnce.{BareFits}
 use Rattle.alma_lower_templates.proofs.ExprForms.{first_slot}
 use Rattle.alma_lower_templates.proofs.ExprForms.{some_slots as some_of}
-use Rattle.alma_lower_templates.proofs.FormRuns.{DesigRuns, ExprRuns, StatementRuns, FitsRange}
+use Rattle.alma_lower_templates.proofs.FormRuns.{held_code, HeldRuns, ExprRuns, StatementRuns, FitsRange}
 use Rattle.alma_lower_templates.proofs.ForForms.{variable_from}
 use Rattle.alma_lower_templates.proofs.Bounds.{loop_front, LimitRuns, front_from, bounds_from}
 use Rattle.alma_lower_templates.proofs.First.{ConstantFits}
@@ -96,7 +96,7 @@ module _ (p : Program) (tables : Tables) (code : PlainCode) (input : List ℕ) (
   abbrev turn_made : Option ℕ → (at place : ℕ) → Desig → Range → (counter : ℕ) → Stmts → List Lined
   turn_made o at place d range counter body =
       turn_code line at (count_code p tables r o range (shift p r + counter) place)
-      (λ next. unless_bare o (desig_code p tables r line next (place + 1) d))
+      (λ next. unless_bare o (held_code p tables r line next (place + 1) d))
       (set_by p tables r o (place + 1) (count_at p tables r o (shift p r + counter) place) d)
       (λ next. stmts_code p tables r next (place + length (unless_bare o (slot.Number ∷ desig_slots p r d))) body)
 
@@ -107,7 +107,7 @@ module _ (p : Program) (tables : Tables) (code : PlainCode) (input : List ℕ) (
       → AreVariables p code input r counter 1 → AreVariables p code input r limit 1
       → slice_get (kinds_at code r) more ≡ Some slot.Number
       → (o ≡ None → slice_get (kinds_at code r) place ≡ Some slot.Number)
-      → (o ≡ None → (next : ℕ) → DesigRuns p tables code input below r line q next (place + 1) d)
+      → (o ≡ None → (next : ℕ) → HeldRuns p tables code input below r line q next (place + 1) d)
       → ((next : ℕ) → RunsFor p code input may r line next (place + length (unless_bare o (slot.Number ∷ desig_slots p r d)))
       (stmts_code p tables r next (place + length (unless_bare o (slot.Number ∷ desig_slots p r d))) body) does (q - 1))
       → TurnsOn start exit lo counter limit again u
@@ -318,7 +318,7 @@ module _ (p : Program) (tables : Tables) (code : PlainCode) (input : List ℕ) (
       → FitsRange p tables code input below r line q range
       → HasSlots p code r lo (some_slots p r (a_loop d range counter limit from to by body)) → AreVariables p code input r counter 1
       → AreVariables p code input r limit 1
-      → (bare_desig d ≡ None → (next : ℕ) → DesigRuns p tables code input below r line q next
+      → (bare_desig d ≡ None → (next : ℕ) → HeldRuns p tables code input below r line q next
       (behind_expr p r (behind_expr p r (lo + 1) from) to + 1 + 1) d)
       → ((next : ℕ) → RunsFor p code input may r line next (behind_variable p r (behind_expr p r (behind_expr p r (lo + 1) from) to + 1) d)
       (stmts_code p tables r next (behind_variable p r (behind_expr p r (behind_expr p r (lo + 1) from) to + 1) d) body)

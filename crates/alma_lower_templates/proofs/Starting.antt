@@ -24,6 +24,7 @@ use Rattle.alma_lower_templates.specs.Tables.{Tables}
 use Rattle.alma_lower_templates.specs.Slots.{routine_kinds, own_kinds, link_kinds, params_kinds, stmts_slots}
 use Rattle.alma_lower_templates.specs.Compiled.{program_code}
 use Rattle.alma_lower_templates.proofs.Whole.{routine_compiled}
+use Rattle.alma_lower_templates.proofs.Given.{GivenIn, number_given, Given}
 use Rattle.alma_lower_templates.proofs.Parts.{Begins, sound_of}
 
 module _ (p : Program) (tables : Tables) (code : PlainCode) (all : List (List Run)) (is : code ≡ program_code p tables all)
@@ -153,6 +154,21 @@ module _ (p : Program) (tables : Tables) (code : PlainCode) (all : List (List Ru
     main = refl;
   }
 
+  -- the slots of the module are for numbers
+  start_given : Given p (start_frame (head_at code 0) ∷ [])
+  start_given k i lt small =
+      let z : k ≡ 0 = omega (arith, lt) in
+      let below : i < slots = subst (λ n. i < (routine_at p (get_or (start_frame (head_at code 0) ∷ []) n picture.no_frame).routine).slots)
+      z small in
+      let moved : i ≡ shift p 0 + i = omega (arith, flat) in
+      subst (λ n. GivenIn (get_or (get_or (start_frame (head_at code 0) ∷ []) n picture.no_frame).cells
+      (shift p (get_or (start_frame (head_at code 0) ∷ []) n picture.no_frame).routine + i) cell.Unset)
+      (get_or (get_or (start_frame (head_at code 0) ∷ []) n picture.no_frame).kinds
+      (shift p (get_or (start_frame (head_at code 0) ∷ []) n picture.no_frame).routine + i) slot.Mark)) (sym z)
+      (subst (λ j. GivenIn (get_or (set blanks 0 (cell.Int (pos 0))) j cell.Unset) (get_or kinds j slot.Mark)) moved
+      (subst (GivenIn (get_or (set blanks 0 (cell.Int (pos 0))) i cell.Unset)) (sym (kind_at i below))
+      (number_given (get_or (set blanks 0 (cell.Int (pos 0))) i cell.Unset))))
+
   -- the statements of the module begin there
   pub start_begins : (input : List ℕ) → Begins p code input 0 (start p) (start_frame (head_at code 0) ∷ [])
   start_begins input = record {
@@ -164,5 +180,5 @@ module _ (p : Program) (tables : Tables) (code : PlainCode) (all : List (List Ru
           at = 0;
           is = get_or-set_same (replicate slots Unknown) 0 (Number (pos 0)) Unknown
               (omega (arith, checked.body.1, length-replicate slots Unknown));
-        });
+        }) start_given;
   }

@@ -32,7 +32,7 @@ use Rattle.alma_lower_templates.specs.Lined.{Lined, own, in_row}
 use Rattle.alma_lower_templates.specs.Tables.{Tables, text_number, is_whole}
 use Rattle.alma_lower_templates.specs.Slots.{bare, bare_desig, unless_bare, goes_straight, desig_slots}
 use Rattle.alma_lower_templates.specs.Pieces.{fit_code, straight, write_code}
-use Rattle.alma_lower_templates.specs.Templates.{test_code, expr_code, desig_code, value_at, set_by, set_to}
+use Rattle.alma_lower_templates.specs.Templates.{test_code, expr_code, value_at, set_by, set_to}
 use Rattle.alma_lower_templates.specs.Stands.{Stands}
 use Rattle.alma_lower_templates.proofs.Stands.{stands_front, stands_back}
 use Rattle.alma_lower_templates.proofs.Parts.{Begins, begins, Left, left_self, left_less, IsValue, Nothing, NodeRuns, NodeFor, From}
@@ -45,7 +45,7 @@ use Rattle.alma_lower_templates.proofs.ExprForms.{RunsTo}
 use Rattle.alma_lower_templates.proofs.Straight.{alone_bare, put_count, GoesStraight, straight_is}
 use Rattle.alma_lower_templates.proofs.Targets.{target_after, target_from, set_from, set_reads}
 use Rattle.alma_lower_templates.proofs.PlaceSteps.{write_text_step}
-use Rattle.alma_lower_templates.proofs.FormRuns.{DesigRuns, TestRuns, StmtRuns, FitsRange}
+use Rattle.alma_lower_templates.proofs.FormRuns.{held_code, HeldRuns, TestRuns, StmtRuns, FitsRange}
 
 module _ (p : Program) (tables : Tables) (code : PlainCode) (input : List ℕ) (below : Level) (r line q : ℕ) where
   -- ---- assignment
@@ -53,9 +53,9 @@ module _ (p : Program) (tables : Tables) (code : PlainCode) (input : List ℕ) (
   assign_of : (o : Option ℕ) (at lo : ℕ) (d : Desig) (x : Expr) (range : Range) → bare_desig d ≡ o
       → BareFits p tables code input below r line q o → desig_cells d ≡ 1 → own_end p r ≤ lo
       → FitsRange p tables code input below r line q range
-      → (o ≡ None → DesigRuns p tables code input below r line q at lo d)
+      → (o ≡ None → HeldRuns p tables code input below r line q at lo d)
       → ((next : ℕ) → AtOnce p tables code input below r line q next (lo + length (unless_bare o (desig_slots p r d))) x)
-      → (made : List Lined) → made ≡ in_row at (unless_bare o (desig_code p tables r line at lo d))
+      → (made : List Lined) → made ≡ in_row at (unless_bare o (held_code p tables r line at lo d))
       (λ next. unless_bare (bare x) (expr_code p tables r line next (lo + length (unless_bare o (desig_slots p r d))) x))
       ++ own line (fit_code tables range (value_at p tables r (lo + length (unless_bare o (desig_slots p r d))) x)
       ++ (set_by p tables r o lo (value_at p tables r (lo + length (unless_bare o (desig_slots p r d))) x) d ∷ []))
@@ -63,7 +63,7 @@ module _ (p : Program) (tables : Tables) (code : PlainCode) (input : List ℕ) (
   unfolding ev_expr
   assign_of o at lo d x range e fits cells behind has runs once made is stands v now b =
       let lo2 : ℕ = lo + length (unless_bare o (desig_slots p r d)) in
-      let first : List Lined = unless_bare o (desig_code p tables r line at lo d) in
+      let first : List Lined = unless_bare o (held_code p tables r line at lo d) in
       let m : ℕ = at + length first in
       let second : List Lined = unless_bare (bare x) (expr_code p tables r line m lo2 x) in
       let operand : ℕ = value_at p tables r lo2 x in
@@ -116,13 +116,13 @@ module _ (p : Program) (tables : Tables) (code : PlainCode) (input : List ℕ) (
       → RunsTo p tables code input below r line q (into p code input to la r) next
       (straight (shift p r + to) (expr_code p tables r line next la x)) x)
       → NodeFor p code input r line at lo (straight (shift p r + to)
-      (in_row at (unless_bare (bare_desig d) (desig_code p tables r line at lo d))
+      (in_row at (unless_bare (bare_desig d) (held_code p tables r line at lo d))
       (λ next. unless_bare (bare x) (expr_code p tables r line next (lo + length (unless_bare (bare_desig d) (desig_slots p r d))) x))))
       (ev_stmt p input below (Assign d x range)) (Nothing p code input) q
   unfolding ev_expr
   straight_runs at lo to d x range e whole none behind runs =
       subst (λ o. NodeFor p code input r line at lo
-      (straight (shift p r + to) (in_row at (unless_bare o (desig_code p tables r line at lo d))
+      (straight (shift p r + to) (in_row at (unless_bare o (held_code p tables r line at lo d))
       (λ next. unless_bare (bare x) (expr_code p tables r line next (lo + length (unless_bare o (desig_slots p r d))) x))))
       (ev_stmt p input below (Assign d x range)) (Nothing p code input) q) (sym e)
       (subst (λ o. NodeFor p code input r line at lo
@@ -168,7 +168,7 @@ module _ (p : Program) (tables : Tables) (code : PlainCode) (input : List ℕ) (
 
   pub assign_runs : (at lo : ℕ) (d : Desig) (x : Expr) (range : Range) → BareFits p tables code input below r line q (bare_desig d)
       → desig_cells d ≡ 1 → own_end p r ≤ lo → FitsRange p tables code input below r line q range
-      → (bare_desig d ≡ None → DesigRuns p tables code input below r line q at lo d)
+      → (bare_desig d ≡ None → HeldRuns p tables code input below r line q at lo d)
       → ((next : ℕ) → AtOnce p tables code input below r line q next (lo + length (unless_bare (bare_desig d) (desig_slots p r d))) x)
       → ((to next : ℕ) → GoesStraight d x range to → AreVariables p code input r to 1
       → RunsTo p tables code input below r line q (into p code input to lo r) next
@@ -177,7 +177,7 @@ module _ (p : Program) (tables : Tables) (code : PlainCode) (input : List ℕ) (
   assign_runs at lo d x range fits cells behind has runs once straightly = by (goes_straight d x range) refl
     where
       value : List Lined
-      value = in_row at (unless_bare (bare_desig d) (desig_code p tables r line at lo d))
+      value = in_row at (unless_bare (bare_desig d) (held_code p tables r line at lo d))
           (λ next. unless_bare (bare x) (expr_code p tables r line next (lo + length (unless_bare (bare_desig d) (desig_slots p r d))) x))
 
       set : List Instr

@@ -1,4 +1,4 @@
--- Code whose last instruction puts its number into another slot.
+-- Code whose last instruction is changed, and code whose last instruction puts its number into another slot.
 use Rattle.std.proofs.Common.{◌≡◌, ℕ, zero, suc, ◌+◌, ◌<◌, true, false, not, List, [], ◌∷◌, ◌++◌, length, Option, Some, None, refl, sym, ap}
 use Rattle.std.proofs.Common.{◌∙◌, arith, append-nil, Bool}
 use Rattle.std.proofs.lemmas.List.{length-append}
@@ -11,29 +11,43 @@ use Rattle.alma_lower_templates.specs.Lined.{Lined, own, in_row}
 use Rattle.alma_lower_templates.specs.Tables.{Tables, is_whole}
 use Rattle.alma_lower_templates.specs.Slots.{bare, bare_desig, is_given, ends_alone, unless_bare, behind_value, if_ready, straight_by}
 use Rattle.alma_lower_templates.specs.Slots.{goes_straight}
-use Rattle.alma_lower_templates.specs.Pieces.{op_code, aim, straight}
+use Rattle.alma_lower_templates.specs.Pieces.{op_code, aim, with_last, straight}
 use Rattle.alma_lower_templates.specs.Templates.{expr_code, links_code, value_at}
 use Rattle.std.specs.Prelude.{◌&&◌}
 use Rattle.std.proofs.lemmas.Bool.{and_parts}
 use Rattle.alma_base.specs.declared.number.Range.{Range}
 
+-- ---- code with its last instruction changed
+
+module _ (change : Instr → Instr) where
+  pub last_long : (code : List Lined) → length (with_last change code) ≡ length code
+  last_long [] = refl
+  last_long (x ∷ []) = refl
+  last_long (x ∷ (y ∷ rest)) = ap suc (last_long (y ∷ rest))
+
+  last_rest : (a : List Lined) (x : Lined) (b : List Lined) → with_last change (a ++ (x ∷ b)) ≡ a ++ with_last change (x ∷ b)
+  last_rest [] x b = refl
+  last_rest (y ∷ []) x b = refl
+  last_rest (y ∷ (z ∷ a)) x b = ap (λ c. y ∷ c) (last_rest (z ∷ a) x b)
+
+  -- of two parts the second changes, where it has an instruction
+  pub last_behind : (a b : List Lined) → 0 < length b → with_last change (a ++ b) ≡ a ++ with_last change b
+  last_behind a [] some = absurd (omega (arith, some))
+  last_behind a (x ∷ b) some = last_rest a x b
+
+  pub last_is : (line : ℕ) (a : List Lined) (i : Instr) → with_last change (a ++ own line (i ∷ [])) ≡ a ++ own line (change i ∷ [])
+  last_is line a i = last_rest a (record { line = line; instr = i }) []
+
+-- ---- a number that goes into another slot
+
 pub straight_long : (to : ℕ) (code : List Lined) → length (straight to code) ≡ length code
-straight_long to [] = refl
-straight_long to (x ∷ []) = refl
-straight_long to (x ∷ (y ∷ rest)) = ap suc (straight_long to (y ∷ rest))
+straight_long to code = last_long (aim to) code
 
-straight_rest : (to : ℕ) (a : List Lined) (x : Lined) (b : List Lined) → straight to (a ++ (x ∷ b)) ≡ a ++ straight to (x ∷ b)
-straight_rest to [] x b = refl
-straight_rest to (y ∷ []) x b = refl
-straight_rest to (y ∷ (z ∷ a)) x b = ap (λ c. y ∷ c) (straight_rest to (z ∷ a) x b)
-
--- of two parts the second changes, where it has an instruction
 pub straight_behind : (to : ℕ) (a b : List Lined) → 0 < length b → straight to (a ++ b) ≡ a ++ straight to b
-straight_behind to a [] some = absurd (omega (arith, some))
-straight_behind to a (x ∷ b) some = straight_rest to a x b
+straight_behind to a b some = last_behind (aim to) a b some
 
 pub straight_last : (to line : ℕ) (a : List Lined) (i : Instr) → straight to (a ++ own line (i ∷ [])) ≡ a ++ own line (aim to i ∷ [])
-straight_last to line a i = straight_rest to a (record { line = line; instr = i }) []
+straight_last to line a i = last_is (aim to) line a i
 
 aim_op : (how : Op) (to old first operand : ℕ) → aim to (op_code how old first operand) ≡ op_code how to first operand
 aim_op op.Add to old first operand = refl

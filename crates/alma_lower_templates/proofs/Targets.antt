@@ -27,12 +27,12 @@ use Rattle.alma_lower_implements.proofs.Steps.{top_written, InstrAt, passed, doe
 use Rattle.alma_lower_implements.proofs.Ways.{Leaves}
 use Rattle.alma_lower_templates.specs.Tables.{Tables}
 use Rattle.alma_lower_templates.specs.Slots.{bare, bare_desig, unless_bare, expr_slots, desig_slots, sels_slots, root_slots, behind_value}
-use Rattle.alma_lower_templates.specs.Templates.{desig_code, place_at, part_at, behind_root, set_by}
+use Rattle.alma_lower_templates.specs.Templates.{place_at, held_at, part_at, behind_root, set_by}
 use Rattle.alma_lower_templates.specs.Stands.{Stands}
 use Rattle.alma_lower_templates.proofs.Parts.{Begins, Left, left_self, put_position, sound_after, place_after, IsValue, IsPlace, PlaceIn}
 use Rattle.alma_lower_templates.proofs.Parts.{NoNewPlaces, From, Takes, leaving, step_from, then_from, alone_from}
 use Rattle.alma_lower_templates.proofs.AtOnce.{BareFits, bare_place}
-use Rattle.alma_lower_templates.proofs.FormRuns.{DesigRuns}
+use Rattle.alma_lower_templates.proofs.FormRuns.{held_code, HeldRuns}
 
 module _ (p : Program) (code : PlainCode) (input : List ℕ) where
   -- a number that is put is no place
@@ -191,7 +191,8 @@ module _ (p : Program) (tables : Tables) (code : PlainCode) (input : List ℕ) (
   -- it is located: a variable of the routine, or a place in its slot
   abbrev pub IsTarget : Option ℕ → (lo : ℕ) → Desig → Store → Place → List PlainFrame → Type 0
   IsTarget (Some from) lo d v a now = (a.frame ≡ top v) × (a.slot ≡ from)
-  IsTarget None lo d v a now = IsPlace p code input (place_at p tables r lo d) (desig_cells d) v a now
+  IsTarget None lo d v a now = (held_at p tables r lo d < lo + length (desig_slots p r d))
+      × IsPlace p code input (held_at p tables r lo d) (desig_cells d) v a now
 
   pub target_after : (o : Option ℕ) (lo la : ℕ) (d : Desig) (a : Place) (v w : Store) (now later : List PlainFrame)
       → Begins p code input r v now → own_end p r ≤ lo → lo + length (unless_bare o (desig_slots p r d)) ≤ la
@@ -200,25 +201,26 @@ module _ (p : Program) (tables : Tables) (code : PlainCode) (input : List ℕ) (
   target_after (Some from) lo la d a v w now later b behind le left h =
       let long : length v ≡ length w = sym b.stand.count ∙ sym left.fits.same_count ∙ left.fits.stand.count in
       (h.0 ∙ ap (λ n. n - 1) long, h.1)
-  target_after None lo la d a v w now later b behind le left h =
-      let z = place_within lo d in
-      place_after p code input la r (place_at p tables r lo d) (desig_cells d) a v w now later b (omega (arith, behind, z.0))
-      (omega (arith, z.1, le)) left h
+  target_after None lo la d a v w now later b behind le left h = (
+    omega (arith, h.0),
+    place_after p code input la r (held_at p tables r lo d) (desig_cells d) a v w now later b (omega (arith, behind, le))
+        (omega (arith, h.0, le)) left h.1,
+  )
 
   pub target_from : {B : Type 0} (o : Option ℕ) (at exit lo la : ℕ) (d : Desig) (v : Store) (now : List PlainFrame)
       (yb : Store → B → List PlainFrame → Type 0) (k : Store → Place → Events B) → bare_desig d ≡ o → lo ≤ la → own_end p r ≤ lo
       → Begins p code input r v now
-      → (o ≡ None → DesigRuns p tables code input below r line q at la d)
-      → Stands code at (unless_bare o (desig_code p tables r line at la d))
+      → (o ≡ None → HeldRuns p tables code input below r line q at la d)
+      → Stands code at (unless_bare o (held_code p tables r line at la d))
       → ((u : Store) (a : Place) (t : List PlainFrame) → Left p code input la r now u t → IsTarget o la d u a t
-      → From p code input line 8 (at + length (unless_bare o (desig_code p tables r line at la d))) exit t
+      → From p code input line 8 (at + length (unless_bare o (held_code p tables r line at la d))) exit t
       (leaving p code input lo r t yb) (k u a) q)
       → From p code input line 0 at exit now (leaving p code input lo r now yb) (bind (ev_desig p input below d v) k) q
   unfolding ev_expr
   target_from None at exit lo la d v now yb k e le behind b runs stands later =
-      then_from p code input line at (at + length (desig_code p tables r line at la d)) exit lo la r now
-      (PlaceIn p code input (place_at p tables r la d) (desig_cells d)) yb (ev_desig p input below d v) k q le behind
-      (runs refl stands v now b) later
+      then_from p code input line at (at + length (held_code p tables r line at la d)) exit lo la r now
+      (PlaceIn p code input (held_at p tables r la d) (desig_cells d)) yb (ev_desig p input below d v) k q le behind
+      ((runs refl).runs stands v now b) (λ u a t left place. later u a t left ((runs refl).within, place))
   target_from (Some from) at exit lo la d v now yb k e le behind b runs stands later =
       let z = bare_place d from e in
       let zero : at + 0 ≡ at = omega arith in
@@ -239,8 +241,8 @@ module _ (p : Program) (tables : Tables) (code : PlainCode) (input : List ℕ) (
       → From p code input line c (at + 1) exit t (leaving p code input lo r t yields) e q)
       → From p code input line (suc c) at exit now (leaving p code input lo r now yields) e q
   set_from None c at exit lo la value d v now a x yields e fits cells behind b h hx i later =
-      store_goes_on p code input line c at exit lo r v now x yields e q behind b (place_at p tables r la d) (desig_cells d) value a
-      (omega (arith, cells)) h hx i later
+      store_goes_on p code input line c at exit lo r v now x yields e q behind b (held_at p tables r la d) (desig_cells d) value a
+      (omega (arith, cells)) h.1 hx i later
   set_from (Some from) c at exit lo la value d v now a x yields e fits cells behind b h hx i later =
       move_goes_on p code input line c at exit lo r v now x yields e q behind b from value fits hx i
       (λ t left. later t (subst (λ f. Left p code input lo r now (put v f a.slot (Number x)) t) (sym h.0)
@@ -253,7 +255,7 @@ module _ (p : Program) (tables : Tables) (code : PlainCode) (input : List ℕ) (
   set_reads (Some from) at la value d v a now h i held s is = (_, does code input line at now held s (I.Move (shift p r + from) value) is i)
   set_reads None at la value d v a now h i held s is = (
     _,
-    does code input line at now held s (I.Store (place_at p tables r la d) value) is i
-        ∙ place_is code input now (passed code input s) (place_at p tables r la d) h.place
-        (λ c. number (passed code input s) value (λ n. store (passed code input s) c.frame c.slot n quiet_step)) is.frames h.holds,
+    does code input line at now held s (I.Store (held_at p tables r la d) value) is i
+        ∙ place_is code input now (passed code input s) (held_at p tables r la d) h.1.place
+        (λ c. number (passed code input s) value (λ n. store (passed code input s) c.frame c.slot n quiet_step)) is.frames h.1.holds,
   )

@@ -1,6 +1,8 @@
 -- The pieces of code that phrases share. An expression's value stands in a slot, a designator's place too; where a value is
 -- used at once, a variable of the routine stands for itself.
-use Rattle.std.specs.Prelude.{ℕ, zero, suc, ◌+◌, ◌*◌, Bool, true, false, ℤ, pos, negsuc, List, [], ◌∷◌, ◌++◌, length, Option, Some, None}
+use Rattle.std.specs.Prelude.{ℕ, zero, suc, ◌+◌, Bool, true, false, ℤ, pos, negsuc, List, [], ◌∷◌, ◌++◌, length, Option, Some, None}
+use Rattle.std.specs.Prelude.{if◌then◌else◌}
+use Rattle.alma_base.specs.Numbers.{int_eq}
 use Rattle.alma_base.specs.declared.number.Range.{Range}
 use Rattle.alma_code.specs.declared.instr.Instr.{Instr}
 use Rattle.alma_code.specs.declared.instr.Instr.TheVariants as I
@@ -58,15 +60,33 @@ aim to (I.Div old first operand) = I.Div to first operand
 aim to (I.Mod old first operand) = I.Mod to first operand
 aim to i = i
 
--- code whose last instruction puts its number into another slot
-abbrev pub straight : (to : ℕ) → List Lined → List Lined
-straight to [] = []
-straight to (x ∷ []) = record { line = x.line; instr = aim to x.instr } ∷ []
-straight to (x ∷ (y ∷ rest)) = x ∷ straight to (y ∷ rest)
+-- the instruction with its place put into another slot
+abbrev pub aim_place : (to : ℕ) → Instr → Instr
+aim_place to (I.Local old first) = I.Local to first
+aim_place to (I.Global old first) = I.Global to first
+aim_place to (I.Same old from) = I.Same to from
+aim_place to (I.Outer old link first) = I.Outer to link first
+aim_place to (I.OuterSame old link from) = I.OuterSame to link from
+aim_place to (I.Field old from offset) = I.Field to from offset
+aim_place to (I.Index old from index range) = I.Index to from index range
+aim_place to i = i
 
-abbrev pub neg_code : Bool → (to : ℕ) → List Instr
-neg_code true to = I.Neg to to ∷ []
-neg_code false to = []
+-- code with its last instruction changed
+abbrev pub with_last : (change : Instr → Instr) → List Lined → List Lined
+with_last change [] = []
+with_last change (x ∷ []) = record { line = x.line; instr = change x.instr } ∷ []
+with_last change (x ∷ (y ∷ rest)) = x ∷ with_last change (y ∷ rest)
+
+-- code whose last instruction puts its number into another slot, and its place
+abbrev pub straight : (to : ℕ) → List Lined → List Lined
+straight to code = with_last (aim to) code
+
+abbrev pub placed : (to : ℕ) → List Lined → List Lined
+placed to code = with_last (aim_place to) code
+
+abbrev pub neg_code : Bool → (to from : ℕ) → List Instr
+neg_code true to from = I.Neg to from ∷ []
+neg_code false to from = []
 
 abbrev pub write_code : WriteAs → (from : ℕ) → Instr
 write_code write_as.Int from = I.WriteInt from
@@ -169,6 +189,15 @@ abbrev pub turned_loop : (line at : ℕ) → (body : List Lined) → (condition 
 turned_loop line at body condition =
     own line (I.Jump (at + 1 + length body) ∷ []) ++ (body ++ condition (at + 1 + length body))
 
+-- a constant that is put before a loop, and the slot of an operand that may be one
+abbrev pub held_code : (constant : Option ℤ) → (to : ℕ) → List Instr
+held_code (Some n) to = I.Const to n ∷ []
+held_code None to = []
+
+abbrev pub held_or : (constant : Option ℤ) → (held other : ℕ) → ℕ
+held_or (Some n) held other = held
+held_or None held other = other
+
 -- the first count goes to its slot: a constant itself, and another value from where it stands
 abbrev pub count_from : (constant : Option ℤ) → (counter first : ℕ) → Instr
 count_from (Some n) counter first = I.Const counter n
@@ -220,31 +249,42 @@ some_turns line at constant counter limit step first more turn =
 
 -- ---- CASE
 
+-- the one or the other, by whether a label is one number
+abbrev pub by_label : {A : Type 0} → Range → (single between : A) → A
+by_label label single between = if int_eq label.low label.high then single else between
+
+-- how many instructions test a label
+abbrev pub test_size : Range → ℕ
+test_size label = by_label label 3 6
+
+-- the test of a label: goes to `miss` where the number in the slot `value` is not in it, else on behind
+abbrev pub label_test : (value bound miss : ℕ) → Range → List Instr
+label_test value bound miss label =
+    by_label label
+    (I.Const bound label.low ∷ I.Equal (bound + 1) bound value ∷ I.JumpZero (bound + 1) miss ∷ [])
+    (I.Const bound label.low ∷ I.LessEq (bound + 1) bound value ∷ I.JumpZero (bound + 1) miss
+    ∷ I.Const bound label.high ∷ I.LessEq (bound + 1) value bound ∷ I.JumpZero (bound + 1) miss ∷ [])
+
 -- a label that is not the last of its arm: goes to `hit` where the number in the slot `value` lies in it, else on behind
 abbrev pub label_code : (value bound at hit : ℕ) → Range → List Instr
-label_code value bound at hit label =
-    I.Const bound label.low ∷ I.LessEq (bound + 1) bound value ∷ I.JumpZero (bound + 1) (at + 7)
-    ∷ I.Const bound label.high ∷ I.LessEq (bound + 1) value bound ∷ I.JumpZero (bound + 1) (at + 7) ∷ I.Jump hit ∷ []
+label_code value bound at hit label = label_test value bound (at + test_size label + 1) label ++ (I.Jump hit ∷ [])
 
--- the last label of an arm: goes on behind where the number lies in it, else to `miss`
-abbrev pub last_label_code : (value bound miss : ℕ) → Range → List Instr
-last_label_code value bound miss label =
-    I.Const bound label.low ∷ I.LessEq (bound + 1) bound value ∷ I.JumpZero (bound + 1) miss
-    ∷ I.Const bound label.high ∷ I.LessEq (bound + 1) value bound ∷ I.JumpZero (bound + 1) miss ∷ []
-
+-- behind the last label of an arm the code goes on where the number lies in it, else at `miss`
 abbrev pub labels_code : (value bound at hit miss : ℕ) → Range → List Range → List Instr
-labels_code value bound at hit miss label [] = last_label_code value bound miss label
+labels_code value bound at hit miss label [] = label_test value bound miss label
 labels_code value bound at hit miss label (label' ∷ rest) =
-    label_code value bound at hit label ++ labels_code value bound (at + 7) hit miss label' rest
+    label_code value bound at hit label ++ labels_code value bound (at + test_size label + 1) hit miss label' rest
 
 -- the address behind the labels of an arm
-abbrev pub behind_labels : (at : ℕ) → List Range → ℕ
-behind_labels at rest = at + 7 * length rest + 6
+abbrev pub behind_labels : (at : ℕ) → Range → List Range → ℕ
+behind_labels at label [] = at + test_size label
+behind_labels at label (label' ∷ rest) = behind_labels (at + test_size label + 1) label' rest
 
 -- an arm: its labels and its body, with the jump behind it by which it leaves
 abbrev pub case_arm : (line value bound at : ℕ) → Range → List Range → (body : List Lined) → List Lined
 case_arm line value bound at label rest body =
-    own line (labels_code value bound at (behind_labels at rest) (behind_labels at rest + length body + 1) label rest) ++ body
+    own line (labels_code value bound at (behind_labels at label rest) (behind_labels at label rest + length body + 1) label rest)
+    ++ body
 
 -- code that is never reached, and before it the jump that leads over it, where there is some
 abbrev pub passed_over : Bool → (line at : ℕ) → List Lined → List Lined

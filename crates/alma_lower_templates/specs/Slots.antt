@@ -73,6 +73,11 @@ stays_in true first links = None
 stays_in false first no_links = None
 stays_in false first (more_links how next rest) = stays first next
 
+-- the slot from which the first operand is taken where it has no code of its own: a sign takes a variable of the routine from its slot
+abbrev pub taken_from : (negated : Bool) → (first : Expr) → Links → Option ℕ
+taken_from true first links = bare first
+taken_from false first links = stays_in false first links
+
 -- nothing where there is such a slot
 abbrev pub unless_bare : {A : Type 0} → Option ℕ → List A → List A
 unless_bare (Some from) all = []
@@ -118,10 +123,9 @@ abbrev pub own_place : Desig → Option ℕ
 own_place (a_desig (root.Param from) cells no_sels) = Some from
 own_place _ = None
 
--- the slot of a parameter of whose place the first selector takes a part: its index is ready, so nothing comes between
+-- the slot of a parameter of whose place the first selector takes a part
 abbrev pub own_root : Root → Sels → Option ℕ
-own_root (root.Param from) (more_sels (Field offset cells) rest) = Some from
-own_root (root.Param from) (more_sels (Index e range cells) rest) = if_ready (is_ready e) from
+own_root (root.Param from) (more_sels x rest) = Some from
 own_root _ _ = None
 
 -- ---- conditions that need no choice entry: the value of an expression without a call and without a truth
@@ -165,6 +169,15 @@ has_opposite _ = true
 abbrev pub is_turned : Test → Bool
 is_turned (Value (Compare how x y)) = has_opposite how && (is_simple_expr x && is_simple_expr y)
 is_turned _ = false
+
+-- the second operand of that comparison, where it is a constant: it goes into a slot of its own once, before the loop
+abbrev pub held_constant : Test → Option ℤ
+held_constant (Value (Compare how x y)) = constant y
+held_constant _ = None
+
+abbrev pub held_slots : Option ℤ → List SlotKind
+held_slots (Some n) = slot.Number ∷ []
+held_slots None = []
 
 -- the one or the other, by where the condition of WHILE stands
 abbrev pub by_turn : {A : Type 0} → (turned : Bool) → (behind before : A) → A
@@ -227,7 +240,7 @@ module _ (p : Program) (r : ℕ) where
     stmt_slots (Assign d e range) = unless_bare (bare_desig d) (desig_slots d) ++ unless_bare (bare e) (expr_slots e)
     stmt_slots (CopyCells d e) = desig_slots d ++ desig_slots e
     stmt_slots (If arms rest) = arms_slots arms ++ stmts_slots rest
-    stmt_slots (While t body) = by_turn (is_turned t) (stmts_slots body ++ test_slots t)
+    stmt_slots (While t body) = by_turn (is_turned t) (held_slots (held_constant t) ++ (stmts_slots body ++ test_slots t))
         (mark_slots (is_simple t) ++ (test_slots t ++ stmts_slots body))
     stmt_slots (Repeat body t) = stmts_slots body ++ (mark_slots (is_simple t) ++ test_slots t)
     stmt_slots (ForTo l) = for_slots l
@@ -375,6 +388,10 @@ module _ (p : Program) (r : ℕ) where
   -- of a designator that is written
   abbrev pub behind_target : (lo : ℕ) → Desig → ℕ
   behind_target lo d = lo + length (unless_bare (bare_desig d) (desig_slots d))
+
+  -- of a constant that is put before a loop
+  abbrev pub behind_held : (lo : ℕ) → Test → ℕ
+  behind_held lo t = lo + length (held_slots (held_constant t))
 
   -- of the variable of a loop
   abbrev pub behind_variable : (lo : ℕ) → Desig → ℕ

@@ -18,16 +18,17 @@ use Rattle.alma_ir.specs.Checked.{outer_at}
 use Rattle.alma_ir.specs.Lines.{body_with_lines}
 use Rattle.alma_lower_templates.specs.Lined.{Lined, own, in_row, leaving}
 use Rattle.alma_lower_templates.specs.Tables.{Tables, range_number, text_number}
-use Rattle.alma_lower_templates.specs.Slots.{shift_of, bare_desig, bare, stays, stays_in, unless_bare, goes_straight, own_place, own_root}
+use Rattle.alma_lower_templates.specs.Slots.{shift_of, bare_desig, bare, stays, stays_in, taken_from, unless_bare, goes_straight, own_place}
+use Rattle.alma_lower_templates.specs.Slots.{own_root}
 use Rattle.alma_lower_templates.specs.Slots.{is_simple, handed_slots, call_links, root_slots, arg_slots, behind_stmts, behind_stmt}
 use Rattle.alma_lower_templates.specs.Slots.{behind_test, behind_condition, behind_expr, behind_dead, behind_value, behind_desig}
 use Rattle.alma_lower_templates.specs.Slots.{behind_target, behind_variable, is_straight, own_kinds, is_turned, by_turn, constant}
-use Rattle.alma_lower_templates.specs.Slots.{ends_alone}
+use Rattle.alma_lower_templates.specs.Slots.{ends_alone, held_constant, behind_held}
 use Rattle.alma_lower_templates.specs.Pieces.{op_code, cmp_code, unequal_code, straight, neg_code, write_code, read_code, fit_code}
 use Rattle.alma_lower_templates.specs.Pieces.{link_code, condition, guarded, chosen, first_of_two, refused, truth_code, each_body}
 use Rattle.alma_lower_templates.specs.Pieces.{forall_code, begin_loop, turn_code, for_turns, some_turns, behind_labels, case_arm}
 use Rattle.alma_lower_templates.specs.Pieces.{passed_over, has_dead, put_code, first_argument, turned_loop, opposite_code, unless_constant}
-use Rattle.alma_lower_templates.specs.Pieces.{limit_code}
+use Rattle.alma_lower_templates.specs.Pieces.{limit_code, placed, held_code, held_or}
 
 -- the numbers of CHAR
 abbrev pub char_range : Range
@@ -111,7 +112,7 @@ module _ (p : Program) (tables : Tables) (r : ℕ) where
   -- the number in a slot goes to a variable
   abbrev pub set_by : Option ℕ → (lo value : ℕ) → Desig → Instr
   set_by (Some to) lo value d = I.Move (own_slot to) value
-  set_by None lo value d = I.Store (place_at lo d) value
+  set_by None lo value d = I.Store (held_at lo d) value
 
   abbrev pub set_code : (lo value : ℕ) → Desig → Instr
   set_code lo value d = set_by (bare_desig d) lo value d
@@ -128,6 +129,11 @@ module _ (p : Program) (tables : Tables) (r : ℕ) where
 
   abbrev pub load_code : (lo : ℕ) → Desig → Instr
   load_code lo d = load_by (bare_desig d) lo d
+
+  -- a place that is handed over goes straight to the slot of its argument; that of a whole parameter is in its own slot
+  abbrev pub handed_code : Option ℕ → (line to : ℕ) → (located : List Lined) → List Lined
+  handed_code (Some from) line to located = own line (I.Same to (own_slot from) ∷ [])
+  handed_code None line to located = placed to located
 
   -- ---- the count of a turn
 
@@ -162,17 +168,20 @@ module _ (p : Program) (tables : Tables) (r : ℕ) where
     stmt_code line at lo (TestStmt t) = test_code line at lo t
     stmt_code line at lo (Assign d e range) =
         set_to (goes_straight d e range) line
-        (in_row at (unless_bare (bare_desig d) (desig_code line at lo d))
+        (in_row at (unless_bare (bare_desig d) (unless_bare (own_place d) (desig_code line at lo d)))
         (λ next. unless_bare (bare e) (expr_code line next (behind_target p r lo d) e)))
         (fit_code tables range (value_at (behind_target p r lo d) e) ++ (set_code lo (value_at (behind_target p r lo d) e) d ∷ []))
     stmt_code line at lo (CopyCells d e) =
-        in_row at (desig_code line at lo d) (λ next. desig_code line next (behind_desig p r lo d) e)
-        ++ own line (I.CopyCells (place_at lo d) (place_at (behind_desig p r lo d) e) ∷ [])
+        in_row at (unless_bare (own_place d) (desig_code line at lo d))
+        (λ next. unless_bare (own_place e) (desig_code line next (behind_desig p r lo d) e))
+        ++ own line (I.CopyCells (held_at lo d) (held_at (behind_desig p r lo d) e) ∷ [])
     stmt_code line at lo (If arms rest) = if_code line at lo arms (λ next lo. stmts_code next lo rest)
     -- the first jump is the one step before the first condition
     stmt_code line at lo (While t body) =
         by_turn (is_turned t)
-        (turned_loop line at (stmts_code (at + 1) lo body) (λ next. back_code line next (behind_stmts p r lo body) (at + 1) t))
+        (in_row at (own line (held_code (held_constant t) lo))
+        (λ at. turned_loop line at (stmts_code (at + 1) (behind_held p r lo t) body)
+        (λ next. back_code line next (behind_stmts p r (behind_held p r lo t) body) lo (at + 1) t)))
         (own line (I.Jump (at + 1) ∷ [])
         ++ (guarded (at + 1) 1 (λ none. condition (is_simple t) line (at + 1) lo none (λ at lo none. jump_code line at lo none t)
         (λ at lo. test_code line at lo t))
@@ -198,8 +207,8 @@ module _ (p : Program) (tables : Tables) (r : ℕ) where
         (λ next. each_body line (next + 2) lo inner (stmts_code (next + 2) (inner + 1) y)))
     stmt_code line at lo (Commit x) = own line (I.Mark lo ∷ []) ++ (stmts_code (at + 1) (lo + 1) x ++ own line (I.Cut lo ∷ []))
     stmt_code line at lo (Return e) = return_code line at lo e
-    stmt_code line at lo (Read d how range) = desig_code line at lo d
-        ++ own line (read_code how (place_at lo d) (range_number tables range) ∷ [])
+    stmt_code line at lo (Read d how range) = unless_bare (own_place d) (desig_code line at lo d)
+        ++ own line (read_code how (held_at lo d) (range_number tables range) ∷ [])
     stmt_code line at lo (WriteExpr e how) = unless_bare (bare e) (expr_code line at lo e) ++ own line (write_code how (value_at lo e) ∷ [])
     stmt_code line at lo (WriteText text) = own line (I.WriteText (text_number tables text) ∷ [])
     stmt_code line at lo WriteLine = own line (I.WriteLine ∷ [])
@@ -232,7 +241,7 @@ module _ (p : Program) (tables : Tables) (r : ℕ) where
         (λ at. limit_code (ends_alone to) line (own_slot limit) (value_at last to) (unless_bare (bare to) (expr_code line at last to))))
         (λ next. for_turns line next by (constant from) (own_slot counter) (own_slot limit) lo (lo + 1)
         (turn_code line (next + 3) (count_code (bare_desig d) range (own_slot counter) place)
-        (λ at. unless_bare (bare_desig d) (desig_code line at (place + 1) d))
+        (λ at. unless_bare (bare_desig d) (unless_bare (own_place d) (desig_code line at (place + 1) d)))
         (set_code (place + 1) (count_at (bare_desig d) (own_slot counter) place) d)
         (λ at. stmts_code at (behind_variable p r place d) body)))
 
@@ -244,7 +253,7 @@ module _ (p : Program) (tables : Tables) (r : ℕ) where
         (λ at. limit_code (ends_alone to) line (own_slot limit) (value_at last to) (unless_bare (bare to) (expr_code line at last to))))
         (λ next. some_turns line next (constant from) (own_slot counter) (own_slot limit) lo (lo + 1) more
         (turn_code line (next + 8) (count_code (bare_desig d) range (own_slot counter) (more + 1))
-        (λ at. unless_bare (bare_desig d) (desig_code line at (more + 1 + 1) d))
+        (λ at. unless_bare (bare_desig d) (unless_bare (own_place d) (desig_code line at (more + 1 + 1) d)))
         (set_code (more + 1 + 1) (count_at (bare_desig d) (own_slot counter) (more + 1)) d)
         (λ at. stmts_code at (behind_variable p r (more + 1) d) body)))
 
@@ -259,14 +268,15 @@ module _ (p : Program) (tables : Tables) (r : ℕ) where
     case_code line value bound at lo no_cases otherwise = otherwise at lo
     case_code line value bound at lo (more_cases [] body rest) otherwise = case_code line value bound at lo rest otherwise
     case_code line value bound at lo (more_cases (label ∷ labels) body rest) otherwise =
-        leaving line at (case_arm line value bound at label labels (stmts_code (behind_labels at labels) lo body))
+        leaving line at (case_arm line value bound at label labels (stmts_code (behind_labels at label labels) lo body))
         (λ next jump. cases_code line value bound jump next (behind_stmts p r lo body) rest otherwise)
 
     pub cases_code : (line value bound jump at lo : ℕ) → CaseArms → (otherwise : (at lo : ℕ) → List Lined) → List Lined
     cases_code line value bound jump at lo no_cases otherwise = otherwise at lo
     cases_code line value bound jump at lo (more_cases [] body rest) otherwise = cases_code line value bound jump at lo rest otherwise
     cases_code line value bound jump at lo (more_cases (label ∷ labels) body rest) otherwise =
-        in_row at (case_arm line value bound at label labels (stmts_code (behind_labels at labels) lo body) ++ own line (I.Jump jump ∷ []))
+        in_row at (case_arm line value bound at label labels (stmts_code (behind_labels at label labels) lo body)
+        ++ own line (I.Jump jump ∷ []))
         (λ next. cases_code line value bound jump next (behind_stmts p r lo body) rest otherwise)
 
     -- 5 is the number of NoCase
@@ -302,18 +312,21 @@ module _ (p : Program) (tables : Tables) (r : ℕ) where
         (λ next. own line (unequal_code lo (slot_or (stays x y) lo) (value_at (behind_expr p r lo x) y) next))
     test_code line at lo (Value e) = unless_bare (bare e) (expr_code line at lo e) ++ own line (I.Check (value_at lo e) ∷ [])
     test_code line at lo (Bind d e range true) =
-        in_row at (desig_code line at lo d) (λ next. unless_bare (bare e) (expr_code line next (behind_desig p r lo d) e))
-        ++ own line (I.Bind (place_at lo d) (value_at (behind_desig p r lo d) e) (range_number tables range) ∷ [])
+        in_row at (unless_bare (own_place d) (desig_code line at lo d))
+        (λ next. unless_bare (bare e) (expr_code line next (behind_desig p r lo d) e))
+        ++ own line (I.Bind (held_at lo d) (value_at (behind_desig p r lo d) e) (range_number tables range) ∷ [])
     test_code line at lo (Bind d e range false) =
-        in_row at (expr_code line at lo e) (λ next. desig_code line next (behind_expr p r lo e) d)
-        ++ own line (I.Bind (place_at (behind_expr p r lo e) d) lo (range_number tables range) ∷ [])
+        in_row at (expr_code line at lo e) (λ next. unless_bare (own_place d) (desig_code line next (behind_expr p r lo e) d))
+        ++ own line (I.Bind (held_at (behind_expr p r lo e) d) lo (range_number tables range) ∷ [])
     test_code line at lo (Unify d range e range') =
-        in_row at (desig_code line at lo d) (λ next. desig_code line next (behind_desig p r lo d) e)
-        ++ own line (I.Unify (place_at lo d) (range_number tables range) (place_at (behind_desig p r lo d) e) (range_number tables range')
+        in_row at (unless_bare (own_place d) (desig_code line at lo d))
+        (λ next. unless_bare (own_place e) (desig_code line next (behind_desig p r lo d) e))
+        ++ own line (I.Unify (held_at lo d) (range_number tables range) (held_at (behind_desig p r lo d) e) (range_number tables range')
         ∷ [])
     test_code line at lo (SameCells d e) =
-        in_row at (desig_code line at lo d) (λ next. desig_code line next (behind_desig p r lo d) e)
-        ++ own line (I.SameCells (place_at lo d) (place_at (behind_desig p r lo d) e) ∷ [])
+        in_row at (unless_bare (own_place d) (desig_code line at lo d))
+        (λ next. unless_bare (own_place e) (desig_code line next (behind_desig p r lo d) e))
+        ++ own line (I.SameCells (held_at lo d) (held_at (behind_desig p r lo d) e) ∷ [])
     test_code line at lo (Seq x) = stmts_code at lo x
     test_code line at lo (And ts) = and_code line at lo ts
     test_code line at lo (Or ts) = or_code line at lo ts
@@ -347,13 +360,14 @@ module _ (p : Program) (tables : Tables) (r : ℕ) where
     jump_code line at lo none (Value e) = unless_bare (bare e) (expr_code line at lo e) ++ own line (I.JumpZero (value_at lo e) none ∷ [])
     jump_code line at lo none _ = []
 
-    -- a comparison goes to `top` while it holds
-    pub back_code : (line at lo top : ℕ) → Test → List Lined
-    back_code line at lo top (Value (Compare how x y)) =
+    -- a comparison goes to `top` while it holds; a constant that is its second operand stands in the slot `held`
+    pub back_code : (line at lo held top : ℕ) → Test → List Lined
+    back_code line at lo held top (Value (Compare how x y)) =
         in_row at (unless_bare (stays x y) (expr_code line at lo x))
-        (λ next. unless_bare (bare y) (expr_code line next (behind_expr p r lo x) y))
-        ++ own line (opposite_code how lo (slot_or (stays x y) lo) (value_at (behind_expr p r lo x) y) ∷ I.JumpZero lo top ∷ [])
-    back_code line at lo top _ = []
+        (λ next. unless_constant (constant y) (unless_bare (bare y) (expr_code line next (behind_expr p r lo x) y)))
+        ++ own line (opposite_code how lo (slot_or (stays x y) lo) (held_or (constant y) held (value_at (behind_expr p r lo x) y))
+        ∷ I.JumpZero lo top ∷ [])
+    back_code line at lo held top _ = []
 
     -- the value goes into the slot `lo`
     pub expr_code : (line at lo : ℕ) → Expr → List Lined
@@ -361,7 +375,7 @@ module _ (p : Program) (tables : Tables) (r : ℕ) where
     expr_code line at lo (Load d) =
         unless_bare (bare_desig d) (unless_bare (own_place d) (desig_code line at (lo + 1) d)) ++ own line (load_code lo d ∷ [])
     expr_code line at lo (Chain negated e links) =
-        in_row at (unless_bare (stays_in negated e links) (expr_code line at lo e) ++ own line (neg_code negated lo))
+        in_row at (unless_bare (taken_from negated e links) (expr_code line at lo e) ++ own line (neg_code negated lo (value_at lo e)))
         (λ next. links_code line next (slot_or (stays_in negated e links) lo) lo (behind_expr p r lo e) links)
     -- a first operand that stays is read by the instruction that takes both. Where it is unknown that one faults: before it stands a
     -- constant at most, and where the next operand is unknown too the fault is the same
@@ -398,14 +412,14 @@ module _ (p : Program) (tables : Tables) (r : ℕ) where
     arg_code line at to lo (ByValue e range) =
         put_code (is_straight e range) line to (value_at lo e) (fit_code tables range (value_at lo e))
         (unless_bare (bare e) (expr_code line at lo e))
-    arg_code line at to lo (ByCells d) = desig_code line at lo d ++ own line (I.Same to (place_at lo d) ∷ [])
-    arg_code line at to lo (ByPlace d) = desig_code line at lo d ++ own line (I.Same to (place_at lo d) ∷ [])
+    arg_code line at to lo (ByCells d) = handed_code (own_place d) line to (desig_code line at lo d)
+    arg_code line at to lo (ByPlace d) = handed_code (own_place d) line to (desig_code line at lo d)
     arg_code line at to lo (MixValue e range) =
         put_code (is_straight e range) line to (value_at lo e) (fit_code tables range (value_at lo e))
         (unless_bare (bare e) (expr_code line at lo e))
-    arg_code line at to lo (MixPlace d) = desig_code line at lo d ++ own line (I.Same to (place_at lo d) ∷ [])
+    arg_code line at to lo (MixPlace d) = handed_code (own_place d) line to (desig_code line at lo d)
 
-    -- the place goes into the slot `place_at lo`. Where that of a parameter is no place yet, the instruction that takes the part faults
+    -- the place goes into the slot `place_at lo`
     pub desig_code : (line at lo : ℕ) → Desig → List Lined
     desig_code line at lo (a_desig root cells sels) =
         in_row at (unless_bare (own_root root sels) (own line (root_code lo root)))
