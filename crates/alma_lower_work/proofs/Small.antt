@@ -1,5 +1,5 @@
 -- One more of a list, and designators with a selector.
-use Rattle.std.proofs.Common.{◌≡◌, ℕ, suc, ◌+◌, Bool, Some, arith, List, [], ◌∷◌, length, refl, sym, ap, ◌∙◌, None, ◌<◌, drop, get_or}
+use Rattle.std.proofs.Common.{◌≡◌, ℕ, suc, ◌+◌, arith, List, [], ◌∷◌, length, refl, sym, ap, ◌∙◌, None, ◌<◌, drop, get_or}
 use Rattle.std.proofs.Common.{drop-cons, add-one}
 use Rattle.std.specs.Prelude.{option_map, Option, Result, Ok, Err, IfOk}
 use Rattle.alma_ir.specs.declared.phrase.Root.{Root}
