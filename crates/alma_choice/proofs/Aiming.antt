@@ -8,7 +8,7 @@ use Rattle.alma_code.specs.declared.instr.Instr.{Instr}
 use Rattle.alma_code.specs.declared.instr.Instr.TheVariants as I
 use Rattle.alma_choice.specs.declared.emit.Emit.{Emit}
 use Rattle.alma_lower_templates.specs.Lined.{Lined, own}
-use Rattle.alma_lower_templates.specs.Pieces.{aim, straight}
+use Rattle.alma_lower_templates.specs.Pieces.{with_last}
 use Rattle.alma_choice.specs.Emitted.{lined, made, with_target, aimed, Appends, Aims, EndsEach, EndsForall}
 
 -- an instruction of the code is written anew with its target
@@ -18,18 +18,29 @@ aimed_in [] at to d lt = absurd (omega (arith, lt))
 aimed_in (x ∷ xs) zero to d lt = refl
 aimed_in (x ∷ xs) (suc at) to d lt = ap (λ l. lined x ∷ l) (aimed_in xs at to d (omega (arith, lt)))
 
--- the last instruction of the code is written anew with its destination
-pub straight_in : (xs : List (Instr × ℕ)) (at to : ℕ) (d : Instr × ℕ) → length xs ≡ suc at
-    → map lined (slice_set xs at (aim to (get_or xs at d).0, (get_or xs at d).1)) ≡ straight to (map lined xs)
-straight_in [] at to d e = absurd (omega (arith, e))
-straight_in (x ∷ []) zero to d e = refl
-straight_in (x ∷ []) (suc at) to d e = absurd (omega (arith, e))
-straight_in (x ∷ y ∷ xs) zero to d e = absurd (omega (arith, e))
-straight_in (x ∷ y ∷ xs) (suc at) to d e = ap (λ l. lined x ∷ l) (straight_in (y ∷ xs) at to d (omega (arith, e)))
+-- the last instruction of the code is written anew
+pub last_in : (change : Instr → Instr) (xs : List (Instr × ℕ)) (at : ℕ) (d : Instr × ℕ) → length xs ≡ suc at
+    → map lined (slice_set xs at (change (get_or xs at d).0, (get_or xs at d).1)) ≡ with_last change (map lined xs)
+last_in change [] at d e = absurd (omega (arith, e))
+last_in change (x ∷ []) zero d e = refl
+last_in change (x ∷ []) (suc at) d e = absurd (omega (arith, e))
+last_in change (x ∷ y ∷ xs) zero d e = absurd (omega (arith, e))
+last_in change (x ∷ y ∷ xs) (suc at) d e = ap (λ l. lined x ∷ l) (last_in change (y ∷ xs) at d (omega (arith, e)))
 
-pub straight_none : (xs : List (Instr × ℕ)) (to : ℕ) → length xs ≡ 0 → straight to (map lined xs) ≡ map lined xs
-straight_none [] to e = refl
-straight_none (x ∷ xs) to e = absurd (omega (arith, e))
+pub last_none : (change : Instr → Instr) (xs : List (Instr × ℕ)) → length xs ≡ 0 → with_last change (map lined xs) ≡ map lined xs
+last_none change [] e = refl
+last_none change (x ∷ xs) e = absurd (omega (arith, e))
+
+last_rest : (change : Instr → Instr) (a : List Lined) (x : Lined) (b : List Lined)
+    → with_last change (a ++ (x ∷ b)) ≡ a ++ with_last change (x ∷ b)
+last_rest change [] x b = refl
+last_rest change (y ∷ []) x b = refl
+last_rest change (y ∷ (z ∷ a)) x b = ap (λ c. y ∷ c) (last_rest change (z ∷ a) x b)
+
+-- of two parts the second changes, where it has an instruction
+pub last_behind : (change : Instr → Instr) (a b : List Lined) → 0 < length b → with_last change (a ++ b) ≡ a ++ with_last change b
+last_behind change a [] some = absurd (omega (arith, some))
+last_behind change a (x ∷ b) some = last_rest change a x b
 
 -- behind the code there is nothing to be aimed
 pub aimed_out : (xs : List Lined) (at to : ℕ) → length xs ≤ at → aimed xs at to ≡ xs

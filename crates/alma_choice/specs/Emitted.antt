@@ -6,7 +6,7 @@ use Rattle.alma_code.specs.declared.instr.Instr.{Instr}
 use Rattle.alma_code.specs.declared.instr.Instr.TheVariants as I
 use Rattle.alma_choice.specs.declared.emit.Emit.{Emit}
 use Rattle.alma_lower_templates.specs.Lined.{Lined, own}
-use Rattle.alma_lower_templates.specs.Pieces.{straight}
+use Rattle.alma_lower_templates.specs.Pieces.{with_last}
 
 -- an instruction in memory beside its line
 abbrev pub lined : Instr × ℕ → Lined
@@ -55,9 +55,9 @@ pub record Aims (a b : Emit) (at to : ℕ) : Type 0 where
   pub kinds : b.kinds.items ≡ a.kinds.items
   pub next : b.next ≡ a.next
 
--- b is a whose last instruction puts its number into another slot
-pub record Redirects (a b : Emit) (to : ℕ) : Type 0 where
-  pub instrs : made b ≡ straight to (made a)
+-- b is a with its last instruction changed
+pub record ChangesLast (a b : Emit) (change : Instr → Instr) : Type 0 where
+  pub instrs : made b ≡ with_last change (made a)
   pub kinds : b.kinds.items ≡ a.kinds.items
   pub next : b.next ≡ a.next
 

@@ -5,7 +5,8 @@ ghost use Rattle.alma_code.specs.declared.cell.SlotKind.TheVariants as slot;
 ghost use Rattle.alma_lower_templates.specs.Lined.{own};
 ghost use Rattle.alma_lower_templates.specs.Pieces as pieces;
 ghost use Rattle.alma_base.specs.Limits.{instr_limit};
-ghost use Rattle.alma_choice.specs.Emitted.{made, with_target, aimed, Appends, Aims, Redirects, EndsEach, EndsForall, IsAsBefore, HasSlotRoom};
+ghost use Rattle.alma_choice.specs.Emitted.{made, with_target, aimed, Appends, Aims, ChangesLast, EndsEach, EndsForall, IsAsBefore};
+ghost use Rattle.alma_choice.specs.Emitted.{HasSlotRoom};
 
 use alma_base::{INSTR_LIMIT, NoMemory, SLOT_LIMIT};
 use alma_code::{Instr, SlotKind};
@@ -149,7 +150,7 @@ impl Emit {
 
     /// Sends the number of the last instruction into another slot.
     pub fn redirect(&mut self, to: u32)
-        ensures redirects { Redirects self.old self.new to }
+        ensures redirects { ChangesLast self.old self.new (pieces.aim to) }
     {
         let count = self.code.len();
         if count == 0 {
@@ -157,6 +158,18 @@ impl Emit {
         }
         let (instr, line) = self.code[count - 1];
         self.code[count - 1] = (sent_to(instr, to), line);
+    }
+
+    /// Sends the place of the last instruction into another slot.
+    pub fn redirect_place(&mut self, to: u32)
+        ensures redirects { ChangesLast self.old self.new (pieces.aim_place to) }
+    {
+        let count = self.code.len();
+        if count == 0 {
+            return;
+        }
+        let (instr, line) = self.code[count - 1];
+        self.code[count - 1] = (placed_to(instr, to), line);
     }
 
     /// The front of a phrase of which the first alternative is taken: its mark, and the address of the choice, which is
@@ -288,6 +301,32 @@ fn sent_to(instr: Instr, to: u32) -> Instr
         Instr::Mul { left, right, .. } => Instr::Mul { to, left, right },
         Instr::Div { left, right, .. } => Instr::Div { to, left, right },
         Instr::Mod { left, right, .. } => Instr::Mod { to, left, right },
+        other => other,
+    }
+}
+
+// The same instruction with its place for another slot.
+fn placed_to(instr: Instr, to: u32) -> Instr
+    ensures { result ≡ pieces.aim_place to instr }
+{
+    match instr {
+        Instr::Local { first, .. } => Instr::Local { to, first },
+        Instr::Global { first, .. } => Instr::Global { to, first },
+        Instr::Same { from, .. } => Instr::Same { to, from },
+        Instr::Outer { link, first, .. } => Instr::Outer { to, link, first },
+        Instr::OuterSame { link, slot, .. } => Instr::OuterSame { to, link, slot },
+        Instr::Field { from, offset, .. } => Instr::Field { to, from, offset },
+        Instr::Index {
+            from,
+            index,
+            range,
+            ..
+        } => Instr::Index {
+            to,
+            from,
+            index,
+            range,
+        },
         other => other,
     }
 }

@@ -1,5 +1,5 @@
 -- The arms of CASE: those without a label have their code before the others, and their lines are passed over there.
-use Rattle.std.proofs.Common.{◌≡◌, ℕ, ◌+◌, ◌*◌, ◌-◌, ◌<◌, true, List, [], ◌∷◌, ◌++◌, length, drop, refl, sym, ap, ◌∙◌, subst, arith}
+use Rattle.std.proofs.Common.{◌≡◌, ℕ, ◌+◌, ◌<◌, true, List, [], ◌∷◌, ◌++◌, length, drop, refl, sym, ap, ◌∙◌, subst, arith}
 use Rattle.std.proofs.Common.{add-zero}
 use Rattle.alma_base.specs.declared.number.Range.{Range}
 use Rattle.alma_code.specs.declared.cell.SlotKind.TheVariants as slot
@@ -10,13 +10,13 @@ use Rattle.alma_ir.specs.Phrases.{stmts_phrases, cases_phrases, else_phrases, ex
 use Rattle.alma_ir.specs.Lines.{behind, stmts_with, cases_with, else_with, expr_with}
 use Rattle.alma_ir.proofs.LinesBack.{behind_two}
 use Rattle.alma_lower_work.specs.Front.{Around, Front, Adds, Codes, Changes, Holes, Turns}
-use Rattle.alma_lower_work.specs.Puts.{PutsExpr, PutsStmts, PutsStmt, PutsCases, PutsDead, PutsDeadBodies, PutsElse, all_labels}
+use Rattle.alma_lower_work.specs.Puts.{PutsExpr, PutsStmts, PutsStmt, PutsCases, PutsDead, PutsDeadBodies, PutsElse, all_labels, behind_all}
 use Rattle.alma_lower_work.proofs.Joins.{then_adds, adds_as, holes_as}
 use Rattle.alma_lower_parts.proofs.LoopForms.{turned}
 use Rattle.alma_lower_parts.proofs.CaseForms.{arm_put, cases_put, body_put, dead_put, first_case_put}
 use Rattle.alma_lower_parts.specs.Cases.{PutsAllArms, PutsArmOf}
 use Rattle.alma_lower_templates.specs.Lined.{Lined, own}
-use Rattle.alma_lower_templates.specs.Pieces.{labels_code, behind_labels, passed_over, has_dead}
+use Rattle.alma_lower_templates.specs.Pieces.{behind_labels, passed_over, has_dead}
 use Rattle.alma_lower_templates.specs.Slots.{expr_slots, dead_slots, cases_slots, else_slots}
 use Rattle.alma_lower_templates.specs.Templates as T
 
@@ -97,7 +97,7 @@ module _ (s : Around) (line : ℕ) where
   -- the labels, the body, and both jumps of the last label
   pub arm_of : (a b c d e : Front) (value bound low high target : ℕ) (labels : List Range) (body : Stmts) → 0 < length labels
       → Holes a b (λ to xs. aimed (aimed xs low to) high to)
-      (λ none at lo ls. own line (all_labels value bound at (at + 7 * (length labels - 1) + 6) none labels)) (λ ls. []) (λ ls. ls)
+      (λ none at lo ls. own line (all_labels value bound at (behind_all at labels) none labels)) (λ ls. []) (λ ls. ls)
       → PutsStmts s b c body → target ≡ length c.code + 1 → Changes c d (λ xs. aimed xs low target)
       → Changes d e (λ xs. aimed xs high target) → PutsArmOf s line value bound a e labels body
   arm_of a b c d e value bound low high target [] body some h j is k l = absurd (omega (arith, some))
@@ -109,11 +109,8 @@ module _ (s : Around) (line : ℕ) where
         left = l.left ∙ k.left;
         whole = l.whole ∙ k.whole;
       } in
-      let here : length a.code + 7 * (length (label ∷ labels) - 1) + 6 ≡ behind_labels (length a.code) labels = omega arith in
-      arm_put s line a b c e value bound (behind_labels (length a.code) labels) target (λ to xs. aimed (aimed xs low to) high to) label
-      labels body refl
-      (holes_as a b _ _ _ _ _ _ _ h (λ to. ap (λ hit. own line (labels_code value bound (length a.code) hit to label labels)) here) refl
-      refl) j both is
+      arm_put s line a b c e value bound (behind_labels (length a.code) label labels) target (λ to xs. aimed (aimed xs low to) high to)
+      label labels body refl (holes_as a b _ _ _ _ _ _ _ h (λ to. refl) refl refl) j both is
 
   pub turns_is : (a b : Front) (x y : Stmts) → x ≡ y → Turns a b (behind (stmts_phrases x) a.lines)
       → Turns a b (behind (stmts_phrases y) a.lines)

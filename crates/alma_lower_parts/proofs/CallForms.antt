@@ -1,27 +1,33 @@
 -- What arguments and calls add.
-use Rattle.std.proofs.Common.{◌≡◌, ℕ, ◌+◌, Bool, true, false, List, [], ◌∷◌, ◌++◌, length, refl, sym, ap, ◌∙◌, subst, arith, add-zero}
-use Rattle.std.specs.Prelude.{◌&&◌}
+use Rattle.std.proofs.Common.{◌≡◌, ℕ, ◌+◌, ◌<◌, Bool, true, false, List, [], ◌∷◌, ◌++◌, length, Some, None, refl, sym, ap, ◌∙◌, subst}
+use Rattle.std.proofs.Common.{arith, add-zero}
+use Rattle.std.specs.Prelude.{◌&&◌, Option, option_map}
 use Rattle.std.proofs.lemmas.Bool.{and_parts}
 use Rattle.alma_base.specs.declared.number.Range.{Range}
 use Rattle.alma_code.specs.declared.cell.SlotKind.TheVariants as slot
+use Rattle.alma_code.specs.declared.instr.Instr.{Instr}
 use Rattle.alma_code.specs.declared.instr.Instr.TheVariants as I
+use Rattle.alma_choice.proofs.Aiming.{last_behind}
+use Rattle.alma_ir.specs.declared.phrase.Root.{Root}
+use Rattle.alma_ir.specs.declared.phrase.Root.TheVariants as root
 use Rattle.alma_ir.specs.Tree.{Expr, Args, Arg, Desig, CallTest, CallExpr, no_args, more_args, ByValue, ByCells, ByPlace, MixValue}
-use Rattle.alma_ir.specs.Tree.{MixPlace}
-use Rattle.alma_ir.specs.Phrases.{stmts_phrases, args_phrases, arg_phrases, expr_phrases, desig_phrases}
+use Rattle.alma_ir.specs.Tree.{MixPlace, Sels, Sel, a_desig, no_sels, more_sels, Field, Index}
+use Rattle.alma_ir.specs.Phrases.{stmts_phrases, args_phrases, arg_phrases, expr_phrases}
 use Rattle.alma_ir.specs.Lines.{behind, stmts_with, args_with, expr_with, desig_with}
 use Rattle.alma_ir.proofs.LinesBack.{behind_two}
 use Rattle.alma_lower_work.specs.Front.{Around, Front, Adds, Codes, Takes, Changes}
-use Rattle.alma_lower_work.specs.Puts.{PutsExpr, PutsValue, PutsDesig, PutsArgs, PutsArg, PutsHanded, PutsTest, value_slot, first_slot}
-use Rattle.alma_lower_work.proofs.Joins.{nothing, then_adds, adds_as, code_code, adds_code, slot_adds, own_two}
+use Rattle.alma_lower_work.specs.Puts.{PutsExpr, PutsValue, PutsDesig, PutsPlace, PutsArgs, PutsArg, PutsHanded, PutsTest, value_slot}
+use Rattle.alma_lower_work.specs.Puts.{first_slot}
+use Rattle.alma_lower_work.proofs.Joins.{nothing, then_adds, adds_as, code_code, adds_code, only_code, slot_adds, own_two}
 use Rattle.alma_lower_parts.specs.Numbers.{PutsBy, PutsNumber}
-use Rattle.alma_lower_parts.proofs.StmtForms.{has_code}
-use Rattle.alma_lower_parts.proofs.With.{alone_with, same_handed}
+use Rattle.alma_lower_parts.specs.Steps.{PutsSlot}
+use Rattle.alma_lower_parts.proofs.StmtForms.{has_code, long_behind, long_before}
+use Rattle.alma_lower_parts.proofs.With.{no_bare, alone_with, place_with, same_handed}
 use Rattle.alma_lower_templates.specs.Lined.{Lined, own, in_row}
-use Rattle.alma_lower_templates.specs.Slots.{bare, unless_bare, shift_of, handed_slots, call_links, args_slots, expr_slots, desig_slots}
-use Rattle.alma_lower_templates.specs.Slots.{ends_alone, is_straight}
+use Rattle.alma_lower_templates.specs.Slots.{bare, unless_bare, shift_of, handed_slots, call_links, args_slots, expr_slots}
+use Rattle.alma_lower_templates.specs.Slots.{ends_alone, is_straight, own_place, own_root}
 use Rattle.alma_lower_templates.specs.Tables.{is_whole}
-use Rattle.alma_lower_templates.specs.Pieces.{fit_code, put_code, straight, first_argument}
-use Rattle.alma_lower_templates.proofs.Straight.{straight_behind}
+use Rattle.alma_lower_templates.specs.Pieces.{aim, aim_place, fit_code, link_code, placed, put_code, straight, first_argument}
 use Rattle.alma_lower_templates.specs.Templates as T
 
 module _ (s : Around) (line : ℕ) where
@@ -81,7 +87,7 @@ module _ (s : Around) (line : ℕ) where
           let ends : ends_alone u ≡ true = alone_with e a.lines ∙ (and_parts (is_whole range) (ends_alone e) e1).1 in
           record {
             instrs = k.instrs ∙ ap (straight to) h.all.instrs
-                ∙ straight_behind to a.code inner (has_code s line (length a.code) a.next u ends)
+                ∙ last_behind (aim to) a.code inner (has_code s line (length a.code) a.next u ends)
                 ∙ ap (λ l. a.code ++ l) (here true e1);
             taken = k.taken ∙ h.all.taken;
             next_slot = k.next_slot ∙ h.all.next_slot;
@@ -107,32 +113,99 @@ module _ (s : Around) (line : ℕ) where
 
   -- ---- places
 
-  place_put : (a b c : Front) (to place : ℕ) (x : Desig) → PutsDesig s line a b x
-      → place ≡ T.place_at s.program s.tables s.routine a.next (desig_with x a.lines) → Codes b c (own line (I.Same to place ∷ []))
-      → Adds a c (λ at lo ls. T.desig_code s.program s.tables s.routine line at lo (desig_with x ls)
-      ++ own line (I.Same to (T.place_at s.program s.tables s.routine lo (desig_with x ls)) ∷ []))
-      (λ ls. desig_slots s.program s.routine (desig_with x ls)) (behind (desig_phrases x))
-  place_put a b c to place x h is j =
-      let code = T.desig_code s.program s.tables s.routine line (length a.code) a.next (desig_with x a.lines) in
-      adds_as a c _ _ _ _ _ _ (adds_code a b c _ _ _ _ h.all j) (ap (λ n. code ++ own line (I.Same to n ∷ [])) is) refl refl
-
-  pub cells_arg_put : (a b c : Front) (to place : ℕ) (x : Desig) → PutsDesig s line a b x
-      → place ≡ T.place_at s.program s.tables s.routine a.next (desig_with x a.lines) → Codes b c (own line (I.Same to place ∷ []))
-      → PutsArg s line to a c (ByCells x)
+  -- that of a parameter is in its own slot, and takes another all the same
+  own_by : (a c : Front) (to from : ℕ) (r : Root) (cells : ℕ) (sels : Sels) → own_place (a_desig r cells sels) ≡ Some from
+      → PutsSlot a c (slot.Place cells) (own line (I.Same to (T.own_slot s.program s.tables s.routine from) ∷ []))
+      → PutsPlace s line to a c (a_desig r cells sels)
   unfolding stmts_with stmts_phrases
-  cells_arg_put a b c to place x h is j = record { all = place_put a b c to place x h is j }
+  own_by a c to from (root.Param x) cells no_sels is h =
+      let same : from ≡ x = cc in
+      record {
+        all = adds_as a c _ _ _ _ _ _ (slot_adds a h.b c _ _ _ _ h.takes (only_code h.b c _ h.codes))
+            (ap (λ n. own line (I.Same to (T.own_slot s.program s.tables s.routine n) ∷ [])) same) refl refl;
+      }
+  own_by a c to from (root.Param x) cells (more_sels y rest) is h = absurd (cc)
+  own_by a c to from (root.Local x) cells sels is h = absurd (cc)
+  own_by a c to from (root.Global x) cells sels is h = absurd (cc)
+  own_by a c to from (root.Outer links x) cells sels is h = absurd (cc)
+  own_by a c to from (root.OuterParam links x) cells sels is h = absurd (cc)
 
-  pub place_arg_put : (a b c : Front) (to place : ℕ) (x : Desig) → PutsDesig s line a b x
-      → place ≡ T.place_at s.program s.tables s.routine a.next (desig_with x a.lines) → Codes b c (own line (I.Same to place ∷ []))
-      → PutsArg s line to a c (ByPlace x)
-  unfolding stmts_with stmts_phrases
-  place_arg_put a b c to place x h is j = record { all = place_put a b c to place x h is j }
+  pub own_place_put : (a c : Front) (to place : ℕ) (r : Root) (cells : ℕ) (sels : Sels)
+      → Some place ≡ option_map (T.own_slot s.program s.tables s.routine) (own_place (a_desig r cells sels))
+      → PutsSlot a c (slot.Place cells) (own line (I.Same to place ∷ [])) → PutsPlace s line to a c (a_desig r cells sels)
+  own_place_put a c to place r cells sels there h = by (own_place (a_desig r cells sels)) refl there
+    where
+      by : (o : Option ℕ) → own_place (a_desig r cells sels) ≡ o → Some place ≡ option_map (T.own_slot s.program s.tables s.routine) o
+          → PutsPlace s line to a c (a_desig r cells sels)
+      by (Some from) e there =
+          let is : place ≡ T.own_slot s.program s.tables s.routine from = cc in
+          own_by a c to from r cells sels e (subst (λ n. PutsSlot a c (slot.Place cells) (own line (I.Same to n ∷ []))) is h)
+      by None e there = absurd (cc)
 
-  pub mix_place_put : (a b c : Front) (to place : ℕ) (x : Desig) → PutsDesig s line a b x
-      → place ≡ T.place_at s.program s.tables s.routine a.next (desig_with x a.lines) → Codes b c (own line (I.Same to place ∷ []))
-      → PutsArg s line to a c (MixPlace x)
+  -- any other place has code
+  some_sel : (at from lo : ℕ) (x : Sel) → 0 < length (T.sel_code s.program s.tables s.routine line at from lo x)
+  some_sel at from lo (Field offset cells) = omega arith
+  some_sel at from lo (Index e range cells) = long_behind (unless_bare (bare e) (T.expr_code s.program s.tables s.routine line at lo e)) _
+      (omega arith)
+
+  long_links : (lo links : ℕ) (i : Instr) → 0 < length (own line (link_code lo links ++ (i ∷ [])))
+  long_links lo links i = subst (λ l. 0 < length l) (sym (own_two line (link_code lo links) (i ∷ [])))
+      (long_behind (own line (link_code lo links)) (own line (i ∷ [])) (omega arith))
+
+  some_root : (lo : ℕ) (r : Root) → 0 < length (own line (T.root_code s.program s.tables s.routine lo r))
+  some_root lo (root.Local from) = omega arith
+  some_root lo (root.Global from) = omega arith
+  some_root lo (root.Param from) = omega arith
+  some_root lo (root.Outer links from) = long_links (lo + 1) links _
+  some_root lo (root.OuterParam links from) = long_links (lo + 1) links _
+
+  -- the code of a root without selectors
+  alone_root : (lo : ℕ) (r : Root) (cells : ℕ) → own_place (a_desig r cells no_sels) ≡ None
+      → 0 < length (unless_bare (own_root r no_sels) (own line (T.root_code s.program s.tables s.routine lo r)))
+  alone_root lo (root.Local from) cells h = some_root lo (root.Local from)
+  alone_root lo (root.Global from) cells h = some_root lo (root.Global from)
+  alone_root lo (root.Param from) cells h = absurd (cc)
+  alone_root lo (root.Outer links from) cells h = some_root lo (root.Outer links from)
+  alone_root lo (root.OuterParam links from) cells h = some_root lo (root.OuterParam links from)
+
+  some_place : (at lo : ℕ) (d : Desig) → own_place d ≡ None → 0 < length (T.desig_code s.program s.tables s.routine line at lo d)
+  some_place at lo (a_desig r cells no_sels) h = long_before
+      (unless_bare (own_root r no_sels) (own line (T.root_code s.program s.tables s.routine lo r))) _ (alone_root lo r cells h)
+  some_place at lo (a_desig r cells (more_sels x rest)) h = long_behind
+      (unless_bare (own_root r (more_sels x rest)) (own line (T.root_code s.program s.tables s.routine lo r))) _
+      (long_before (T.sel_code s.program s.tables s.routine line _ _ _ x) _ (some_sel _ _ _ x))
+
+  -- and goes straight to the slot of the argument
+  pub made_place_put : (a b c : Front) (to : ℕ) (d : Desig)
+      → None ≡ option_map (T.own_slot s.program s.tables s.routine) (own_place d) → PutsDesig s line a b d
+      → Changes b c (λ xs. placed to xs) → PutsPlace s line to a c d
+  made_place_put a b c to d none h k =
+      let u = desig_with d a.lines in
+      let e : own_place u ≡ None = place_with d a.lines ∙ no_bare (T.own_slot s.program s.tables s.routine) (own_place d) none in
+      let code : List Lined = T.desig_code s.program s.tables s.routine line (length a.code) a.next u in
+      record {
+        all = record {
+          instrs = k.instrs ∙ ap (placed to) h.all.instrs
+              ∙ last_behind (aim_place to) a.code code (some_place (length a.code) a.next u e)
+              ∙ ap (λ o. a.code ++ T.handed_code s.program s.tables s.routine o line to code) (sym e);
+          taken = k.taken ∙ h.all.taken;
+          next_slot = k.next_slot ∙ h.all.next_slot;
+          left = k.left ∙ h.all.left;
+          whole = k.whole ∙ h.all.whole;
+        };
+      }
+
+  pub cells_arg_put : (a b : Front) (to : ℕ) (x : Desig) → PutsPlace s line to a b x → PutsArg s line to a b (ByCells x)
   unfolding stmts_with stmts_phrases
-  mix_place_put a b c to place x h is j = record { all = place_put a b c to place x h is j }
+  cells_arg_put a b to x h = record { all = h.all }
+
+  pub place_arg_put : (a b : Front) (to : ℕ) (x : Desig) → PutsPlace s line to a b x → PutsArg s line to a b (ByPlace x)
+  unfolding stmts_with stmts_phrases
+  place_arg_put a b to x h = record { all = h.all }
+
+  pub mix_place_put : (a b : Front) (to : ℕ) (x : Desig) → PutsPlace s line to a b x → PutsArg s line to a b (MixPlace x)
+  unfolding stmts_with stmts_phrases
+  mix_place_put a b to x h = record { all = h.all }
 
   -- ---- calls
 

@@ -1,5 +1,5 @@
 -- CASE: labels, arms, those that are never tried, and the ELSE part.
-use Rattle.std.proofs.Common.{◌≡◌, ℕ, suc, ◌+◌, ◌*◌, ◌<◌, Bool, true, false, List, [], ◌∷◌, ◌++◌, length, drop, get_or, refl, sym, ap, ◌∙◌}
+use Rattle.std.proofs.Common.{◌≡◌, ℕ, ◌+◌, ◌<◌, Bool, true, false, List, [], ◌∷◌, ◌++◌, length, drop, get_or, refl, sym, ap, ◌∙◌}
 use Rattle.std.proofs.Common.{arith, append_assoc, length-append, add-zero}
 use Rattle.alma_base.specs.declared.number.Range.{Range}
 use Rattle.alma_code.specs.declared.instr.Instr.{Instr}
@@ -13,11 +13,12 @@ use Rattle.alma_ir.specs.Lines.{behind, stmts_with, cases_with, else_with}
 use Rattle.alma_ir.proofs.LinesBack.{behind_two}
 use Rattle.alma_lower_work.specs.Front.{Around, Front, Adds, Codes, Changes, Holes, Turns}
 use Rattle.alma_lower_work.specs.Puts.{PutsStmts, PutsCases, PutsCaseArm, PutsDead, PutsDeadBodies, PutsElse}
+use Rattle.alma_lower_parts.proofs.LabelForms.{test_long, code_long}
 use Rattle.alma_lower_work.proofs.Small.{drop_one}
-use Rattle.alma_lower_work.proofs.Joins.{nothing, then_adds, adds_as, turned_back, adds_code, only_code, filled, over, address_behind}
+use Rattle.alma_lower_work.proofs.Joins.{nothing, then_adds, adds_as, turned_back, adds_code, only_code, filled, over, address_behind, own_two}
 use Rattle.alma_lower_templates.specs.Lined.{Lined, own}
 use Rattle.alma_lower_templates.specs.Slots.{stmts_slots, dead_slots, cases_slots, else_slots}
-use Rattle.alma_lower_templates.specs.Pieces.{labels_code, behind_labels, case_arm, passed_over, has_dead}
+use Rattle.alma_lower_templates.specs.Pieces.{test_size, label_code, labels_code, behind_labels, case_arm, passed_over, has_dead}
 use Rattle.alma_lower_templates.specs.Templates as T
 
 -- the first of the arms that are left has no label, or the others decide
@@ -53,29 +54,29 @@ module _ (s : Around) (line : ℕ) where
 
   -- ---- an arm
 
-  own_long : (xs : List Instr) → length (own line xs) ≡ length xs
-  own_long [] = refl
-  own_long (x ∷ xs) = ap suc (own_long xs)
-
-  labels_count : (value bound at hit miss : ℕ) (label : Range) (rest : List Range)
-      → length (own line (labels_code value bound at hit miss label rest)) ≡ 7 * length rest + 6
-  labels_count value bound at hit miss label [] = refl
-  labels_count value bound at hit miss label (label2 ∷ rest) =
-      let more : length (own line (labels_code value bound (at + 7) hit miss label2 rest)) ≡ 7 * length rest + 6 =
-      labels_count value bound (at + 7) hit miss label2 rest in
-      omega (arith, more)
+  labels_end : (value bound at hit miss : ℕ) (label : Range) (rest : List Range)
+      → at + length (own line (labels_code value bound at hit miss label rest)) ≡ behind_labels at label rest
+  labels_end value bound at hit miss label [] = ap (λ n. at + n) (test_long line value bound miss label)
+  labels_end value bound at hit miss label (label2 ∷ rest) =
+      let next : ℕ = at + test_size label + 1 in
+      let one : List Instr = label_code value bound at hit label in
+      let others : List Instr = labels_code value bound next hit miss label2 rest in
+      let far : at + length (own line (one ++ others)) ≡ next + length (own line others) =
+      omega (arith, ap length (own_two line one others), length-append (own line one) (own line others), code_long line value bound at hit label)
+      in
+      far ∙ labels_end value bound next hit miss label2 rest
 
   -- the labels, the body, and both jumps of the last label aimed behind the jump that follows
   pub arm_put : (a b c d : Front) (value bound hit target : ℕ) (aim : ℕ → List Lined → List Lined) (label : Range) (rest : List Range)
-      (body : Stmts) → hit ≡ behind_labels (length a.code) rest
+      (body : Stmts) → hit ≡ behind_labels (length a.code) label rest
       → Holes a b aim (λ miss at lo ls. own line (labels_code value bound at hit miss label rest)) (λ ls. []) (λ ls. ls)
       → PutsStmts s b c body → Changes c d (aim target) → target ≡ length c.code + 1
       → PutsCaseArm s line value bound a d label rest body
   arm_put a b c d value bound hit target aim label rest body is h j k is2 =
       let at = length a.code in
       let x = stmts_with body a.lines in
-      let count : (miss : ℕ) → at + length (own line (labels_code value bound at hit miss label rest)) ≡ behind_labels at rest = λ miss.
-      omega (arith, labels_count value bound at hit miss label rest) in
+      let count : (miss : ℕ) → at + length (own line (labels_code value bound at hit miss label rest)) ≡ behind_labels at label rest =
+      λ miss. labels_end value bound at hit miss label rest in
       let code : (hit miss next lo : ℕ) → List Lined = λ hit miss next lo. own line (labels_code value bound at hit miss label rest)
       ++ T.stmts_code s.program s.tables s.routine next lo x in
       let here = at + length (own line (labels_code value bound at hit 0 label rest)) in
@@ -87,8 +88,8 @@ module _ (s : Around) (line : ℕ) where
             ∙ ap (λ n. own line (labels_code value bound at hit (n + length (body_code n a.next) + 1) label rest) ++ body_code n a.next)
             (count 0)
             ∙ ap (λ h. own line (labels_code value bound at h
-            (behind_labels at rest + length (body_code (behind_labels at rest) a.next) + 1) label rest)
-            ++ body_code (behind_labels at rest) a.next) is)
+            (behind_labels at label rest + length (body_code (behind_labels at label rest) a.next) + 1) label rest)
+            ++ body_code (behind_labels at label rest) a.next) is)
             refl refl;
       }
 
@@ -103,7 +104,7 @@ module _ (s : Around) (line : ℕ) where
       ∙ ap (otherwise (at + 0)) (sym (add-zero lo))
   cases_split value bound exit at lo (more_cases [] body rest) otherwise = cases_split value bound exit at lo rest otherwise
   cases_split value bound exit at lo (more_cases (label ∷ labels) body rest) otherwise =
-      let first = case_arm line value bound at label labels (T.stmts_code s.program s.tables s.routine (behind_labels at labels) lo body)
+      let first = case_arm line value bound at label labels (T.stmts_code s.program s.tables s.routine (behind_labels at label labels) lo body)
       ++ own line (I.Jump exit ∷ []) in
       let next = at + length first in
       let l = stmts_slots s.program s.routine body in
@@ -199,7 +200,7 @@ module _ (s : Around) (line : ℕ) where
       let y = cases_with arms (behind (stmts_phrases body) ls) in
       let z = else_with rest (behind (cases_phrases arms) (behind (stmts_phrases body) ls)) in
       let first = case_arm line value bound (length a.code) label labels
-      (T.stmts_code s.program s.tables s.routine (behind_labels (length a.code) labels) a.next x) in
+      (T.stmts_code s.program s.tables s.routine (behind_labels (length a.code) label labels) a.next x) in
       let jump = length a.code + length first in
       let low = a.next + length (stmts_slots s.program s.routine x) in
       let otherwise : (at lo : ℕ) → List Lined = λ next lo. T.else_code s.program s.tables s.routine line next lo z in

@@ -1,7 +1,8 @@
 -- What each form of expression adds.
-use Rattle.std.proofs.Common.{◌≡◌, ℕ, ℤ, ◌+◌, Bool, List, [], ◌∷◌, ◌++◌, length, Some, None, refl, sym, ap, ◌∙◌}
+use Rattle.std.proofs.Common.{◌≡◌, ℕ, ℤ, ◌+◌, Bool, true, false, List, [], ◌∷◌, ◌++◌, length, Some, None, refl, sym, ap, ◌∙◌}
 use Rattle.std.specs.Prelude.{Option, option_map}
 use Rattle.alma_code.specs.declared.cell.SlotKind.TheVariants as slot
+use Rattle.alma_code.specs.declared.instr.Instr.{Instr}
 use Rattle.alma_code.specs.declared.instr.Instr.TheVariants as I
 use Rattle.alma_ir.specs.declared.phrase.Op.{Op}
 use Rattle.alma_ir.specs.declared.phrase.Cmp.{Cmp}
@@ -10,13 +11,13 @@ use Rattle.alma_ir.specs.Phrases.{stmts_phrases, expr_phrases, links_phrases}
 use Rattle.alma_ir.specs.Lines.{behind, stmts_with, expr_with, links_with, desig_with}
 use Rattle.alma_ir.proofs.LinesBack.{behind_two}
 use Rattle.alma_lower_work.specs.Front.{Around, Front, Codes, Takes}
-use Rattle.alma_lower_work.specs.Puts.{PutsExpr, PutsFirstOperand, PutsValue, PutsLinks, PutsDesig, PutsHeld, PutsTarget, stand_by}
-use Rattle.alma_lower_work.specs.Puts.{stand_of, value_slot}
+use Rattle.alma_lower_work.specs.Puts.{PutsExpr, PutsFirstOperand, PutsValue, PutsLinks, PutsHeld, PutsTarget, stand_by}
+use Rattle.alma_lower_work.specs.Puts.{stand_of, value_slot, behind_sign}
 use Rattle.alma_lower_work.proofs.Joins.{nothing, then_adds, adds_as, adds_code, only_code, slot_adds}
-use Rattle.alma_lower_parts.proofs.With.{no_bare, own_desig, own_expr, own_desig_passes, own_expr_passes, stays_with, stays_in_with}
+use Rattle.alma_lower_parts.proofs.With.{no_bare, own_desig, own_expr, own_desig_passes, own_expr_passes, stays_with, taken_with}
 use Rattle.alma_lower_templates.specs.Lined.{Lined, own, in_row}
 use Rattle.alma_lower_templates.specs.Tables.{range_number}
-use Rattle.alma_lower_templates.specs.Slots.{bare_desig, bare, own_place, stays, stays_in, unless_bare, expr_slots, desig_slots}
+use Rattle.alma_lower_templates.specs.Slots.{bare_desig, bare, own_place, stays, stays_in, taken_from, unless_bare, expr_slots, desig_slots}
 use Rattle.alma_lower_templates.specs.Pieces.{op_code, cmp_code, neg_code}
 use Rattle.alma_lower_templates.proofs.AtOnce.{bare_value}
 use Rattle.alma_lower_templates.specs.Templates as T
@@ -84,16 +85,18 @@ module _ (s : Around) (line : ℕ) where
   pub own_target_put : (a : Front) (d : Desig) (from : ℕ) → bare_desig d ≡ Some from → PutsTarget s line a a d
   own_target_put a d from h = record {
     all = adds_as a a _ _ _ _ _ _ (nothing a)
-        (sym (ap (λ o. unless_bare o (T.desig_code s.program s.tables s.routine line (length a.code) a.next (desig_with d a.lines)))
+        (sym (ap (λ o. unless_bare o (unless_bare (own_place (desig_with d a.lines))
+        (T.desig_code s.program s.tables s.routine line (length a.code) a.next (desig_with d a.lines))))
         (own_desig d a.lines ∙ h)))
         (sym (ap (λ o. unless_bare o (desig_slots s.program s.routine (desig_with d a.lines))) (own_desig d a.lines ∙ h)))
         (sym (own_desig_passes d from a.lines h));
   }
 
-  pub made_target_put : (a b : Front) (d : Desig) → bare_desig d ≡ None → PutsDesig s line a b d → PutsTarget s line a b d
+  pub made_target_put : (a b : Front) (d : Desig) → bare_desig d ≡ None → PutsHeld s line a b d → PutsTarget s line a b d
   made_target_put a b d h j = record {
     all = adds_as a b _ _ _ _ _ _ j.all
-        (sym (ap (λ o. unless_bare o (T.desig_code s.program s.tables s.routine line (length a.code) a.next (desig_with d a.lines)))
+        (sym (ap (λ o. unless_bare o (unless_bare (own_place (desig_with d a.lines))
+        (T.desig_code s.program s.tables s.routine line (length a.code) a.next (desig_with d a.lines))))
         (own_desig d a.lines ∙ h)))
         (sym (ap (λ o. unless_bare o (desig_slots s.program s.routine (desig_with d a.lines))) (own_desig d a.lines ∙ h)))
         refl;
@@ -101,11 +104,11 @@ module _ (s : Around) (line : ℕ) where
 
   pub own_stand_of : (lo : ℕ) (ls : List ℕ) (d : Desig) (from : ℕ) → bare_desig d ≡ Some from
       → stand_of s lo (desig_with d ls) ≡ stand_by s (Some from) 0
-  own_stand_of lo ls d from h = ap (λ o. stand_by s o (T.place_at s.program s.tables s.routine lo (desig_with d ls))) (own_desig d ls ∙ h)
+  own_stand_of lo ls d from h = ap (λ o. stand_by s o (T.held_at s.program s.tables s.routine lo (desig_with d ls))) (own_desig d ls ∙ h)
 
   pub made_stand_of : (lo : ℕ) (ls : List ℕ) (d : Desig) → bare_desig d ≡ None
-      → stand_of s lo (desig_with d ls) ≡ stand_by s None (T.place_at s.program s.tables s.routine lo (desig_with d ls))
-  made_stand_of lo ls d h = ap (λ o. stand_by s o (T.place_at s.program s.tables s.routine lo (desig_with d ls))) (own_desig d ls ∙ h)
+      → stand_of s lo (desig_with d ls) ≡ stand_by s None (T.held_at s.program s.tables s.routine lo (desig_with d ls))
+  made_stand_of lo ls d h = ap (λ o. stand_by s o (T.held_at s.program s.tables s.routine lo (desig_with d ls))) (own_desig d ls ∙ h)
 
   -- the number of a variable that stands in its own slot
   pub load_own : (a b c : Front) (x : Desig) (to from : ℕ)
@@ -177,24 +180,49 @@ module _ (s : Around) (line : ℕ) where
             refl (sym (behind_two (expr_phrases e) (links_phrases rest) a.lines));
       }
 
-  pub chain_put : (a b c d : Front) (from to : ℕ) (negated : Bool) (e : Expr) (links : Links)
-      → PutsFirstOperand s line a b (stays_in negated e links) e → to ≡ a.next
-      → from ≡ T.slot_or s.program s.tables s.routine (stays_in negated e links) a.next → Codes b c (own line (neg_code negated to))
-      → PutsLinks s line from to c d links → PutsExpr s line a d (Chain negated e links)
+  -- behind its sign the first operand stands in the slot for the value
+  signed_from : (lo : ℕ) (negated : Bool) (e : Expr) (links : Links)
+      → behind_sign negated (T.slot_or s.program s.tables s.routine (taken_from negated e links) lo) lo
+      ≡ T.slot_or s.program s.tables s.routine (stays_in negated e links) lo
+  signed_from lo true e links = refl
+  signed_from lo false e links = refl
+
+  signed_code : (to lo : ℕ) (negated : Bool) (e : Expr) (links : Links)
+      → neg_code negated to (T.slot_or s.program s.tables s.routine (taken_from negated e links) lo)
+      ≡ neg_code negated to (value_slot s lo e)
+  signed_code to lo true e links = refl
+  signed_code to lo false e links = refl
+
+  pub chain_put : (a b c d : Front) (from to signed signed_to : ℕ) (negated : Bool) (e : Expr) (links : Links)
+      → PutsFirstOperand s line a b (taken_from negated e links) e → to ≡ a.next
+      → from ≡ T.slot_or s.program s.tables s.routine (taken_from negated e links) a.next
+      → signed ≡ behind_sign negated from to → signed_to ≡ to → Codes b c (own line (neg_code negated to from))
+      → PutsLinks s line signed signed_to c d links → PutsExpr s line a d (Chain negated e links)
   unfolding stmts_with stmts_phrases
-  chain_put a b c d from to negated e links h is is2 j k =
+  chain_put a b c d from to signed signed_to negated e links h is is2 is3 is4 j k =
       let all = then_adds a c d _ _ _ _ _ _ (adds_code a b c _ _ _ _ h.all j) k.all in
       let x = expr_with e a.lines in
       let lo = a.next + length (expr_slots s.program s.routine x) in
       let ls = behind (expr_phrases e) a.lines in
-      let code : Option ℕ → (from to : ℕ) → List Lined = λ o from to.
-      in_row (length a.code) (unless_bare o (T.expr_code s.program s.tables s.routine line (length a.code) a.next x)
-      ++ own line (neg_code negated to)) (λ next. T.links_code s.program s.tables s.routine line next from to lo (links_with links ls))
-      in
+      let v = links_with links ls in
+      let o = taken_from negated e links in
+      let stay = T.slot_or s.program s.tables s.routine o a.next in
+      let code : Option ℕ → List Instr → (from to : ℕ) → List Lined = λ o sign from to.
+      in_row (length a.code) (unless_bare o (T.expr_code s.program s.tables s.routine line (length a.code) a.next x) ++ own line sign)
+      (λ next. T.links_code s.program s.tables s.routine line next from to lo v) in
       record {
         all = adds_as a d _ _ _ _ _ _ all
-            (ap (code (stays_in negated e links) from) is ∙ ap (λ n. code (stays_in negated e links) n a.next) is2
-            ∙ ap (λ o. code o (T.slot_or s.program s.tables s.routine o a.next) a.next) (sym (stays_in_with negated e links a.lines ls)))
+            (ap (λ n. code o (neg_code negated to from) signed n) is4
+            ∙ ap (λ n. code o (neg_code negated to from) n to) is3
+            ∙ ap (λ n. code o (neg_code negated n from) (behind_sign negated from n) n) is
+            ∙ ap (λ n. code o (neg_code negated a.next n) (behind_sign negated n a.next) a.next) is2
+            ∙ ap (λ z. code z (neg_code negated a.next (T.slot_or s.program s.tables s.routine z a.next))
+            (behind_sign negated (T.slot_or s.program s.tables s.routine z a.next) a.next) a.next) (sym (taken_with negated e links a.lines ls))
+            ∙ ap (λ i. code (taken_from negated x v) i
+            (behind_sign negated (T.slot_or s.program s.tables s.routine (taken_from negated x v) a.next) a.next) a.next)
+            (signed_code a.next a.next negated x v)
+            ∙ ap (λ n. code (taken_from negated x v) (neg_code negated a.next (value_slot s a.next x)) n a.next)
+            (signed_from a.next negated x v))
             refl (sym (behind_two (expr_phrases e) (links_phrases links) a.lines));
       }
 

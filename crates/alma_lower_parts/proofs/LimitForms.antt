@@ -1,8 +1,8 @@
 -- The bounds of loops: a first count, the limit, which goes to its slot, and what stands before the turns of SOME.
 use Rattle.std.proofs.Common.{◌≡◌, ℕ, ℤ, ◌+◌, true, false, List, [], ◌∷◌, ◌++◌, length, Option, Some, None, refl, sym, ap, ◌∙◌, arith}
-use Rattle.std.specs.Prelude.{option_map}
 use Rattle.alma_code.specs.declared.cell.SlotKind.TheVariants as slot
 use Rattle.alma_code.specs.declared.instr.Instr.TheVariants as I
+use Rattle.alma_choice.proofs.Aiming.{last_behind}
 use Rattle.alma_ir.specs.Tree.{Expr, Const, Load, Chain, Compare, Truth, Known, Chr, CallExpr}
 use Rattle.alma_ir.specs.Phrases.{stmts_phrases}
 use Rattle.alma_ir.specs.Lines.{stmts_with, expr_with}
@@ -11,13 +11,11 @@ use Rattle.alma_lower_work.specs.Puts.{PutsExpr, PutsFirstOperand, value_slot}
 use Rattle.alma_lower_work.proofs.Joins.{adds_as, adds_code, code_code, codes_as, only_slot, address_after}
 use Rattle.alma_lower_parts.specs.Loops.{PutsFirstCount, PutsLimit}
 use Rattle.alma_lower_parts.specs.Steps.{BeginsSome}
-use Rattle.alma_lower_parts.proofs.ExprForms.{stay_put}
 use Rattle.alma_lower_parts.proofs.StmtForms.{has_code}
 use Rattle.alma_lower_parts.proofs.With.{own_expr, alone_with, constant_with}
 use Rattle.alma_lower_templates.specs.Lined.{Lined, own}
 use Rattle.alma_lower_templates.specs.Slots.{bare, unless_bare, constant, ends_alone}
-use Rattle.alma_lower_templates.specs.Pieces.{straight, count_from, unless_constant, limit_code}
-use Rattle.alma_lower_templates.proofs.Straight.{straight_behind}
+use Rattle.alma_lower_templates.specs.Pieces.{aim, straight, count_from, unless_constant, limit_code}
 use Rattle.alma_lower_templates.specs.Templates as T
 
 -- what stands before the turns of SOME, in three parts
@@ -67,16 +65,6 @@ module _ (s : Around) (line : ℕ) where
         (none ∙ sym (constant_with e a.lines))) refl refl;
   }
 
-  -- a variable of the routine, whose slot is taken all the same
-  pub own_last : (a b : Front) (e : Expr) (given : ℕ) → Some given ≡ option_map (T.own_slot s.program s.tables s.routine) (bare e)
-      → Takes a b slot.Number → PutsFirstOperand s line a b (bare e) e
-  own_last a b e given h j = by (bare e) refl h
-    where
-      by : (o : Option ℕ) → bare e ≡ o → Some given ≡ option_map (T.own_slot s.program s.tables s.routine) o
-          → PutsFirstOperand s line a b (bare e) e
-      by (Some from) is h = stay_put s line a b e (bare e) from is is j
-      by None is h = absurd (cc)
-
   -- the last instruction of the value puts it into the slot of the limit
   pub straight_limit : (a b c : Front) (limit : ℕ) (e : Expr) → true ≡ ends_alone e → PutsFirstOperand s line a b (bare e) e
       → Changes b c (λ xs. straight limit xs) → PutsLimit s line limit a c e
@@ -88,7 +76,7 @@ module _ (s : Around) (line : ℕ) where
         all = record {
           instrs = k.instrs ∙ ap (straight limit) h.all.instrs
               ∙ ap (λ o. straight limit (a.code ++ unless_bare o code)) (sym (own_expr e a.lines))
-              ∙ straight_behind limit a.code (unless_bare (bare v) code) (has_code s line (length a.code) a.next v ends)
+              ∙ last_behind (aim limit) a.code (unless_bare (bare v) code) (has_code s line (length a.code) a.next v ends)
               ∙ ap (λ b. a.code ++ limit_code b line limit (value_slot s a.next v) (unless_bare (bare v) code)) (sym ends);
           taken = k.taken ∙ h.all.taken;
           next_slot = k.next_slot ∙ h.all.next_slot;

@@ -18,6 +18,7 @@ use Rattle.alma_lower_work.specs.Puts.{PutsTarget, PutsStmts, PutsStmt, stand_of
 use Rattle.alma_lower_work.proofs.Joins.{then_adds, adds_as, code_adds, adds_code, slot_adds, adds_slot, filled, address_behind}
 use Rattle.alma_lower_parts.specs.Loops.{PutsFirstCount, PutsLimit}
 use Rattle.alma_lower_parts.specs.Steps.{some_front}
+use Rattle.alma_lower_parts.proofs.TestForms.{located}
 use Rattle.alma_lower_parts.proofs.StmtForms.{set_is}
 use Rattle.alma_lower_parts.proofs.With.{constant_with}
 use Rattle.alma_lower_templates.specs.Lined.{Lined, own, in_row}
@@ -86,7 +87,7 @@ module _ (s : Around) (line : ℕ) where
   set_low : (o : Option ℕ) (low low2 value : ℕ) (d : Desig) → (o ≡ None → low ≡ low2)
       → T.set_by s.program s.tables s.routine o low value d ≡ T.set_by s.program s.tables s.routine o low2 value d
   set_low (Some x) low low2 value d h = refl
-  set_low None low low2 value d h = ap (λ n. I.Store (T.place_at s.program s.tables s.routine n d) value) (h refl)
+  set_low None low low2 value d h = ap (λ n. I.Store (T.held_at s.program s.tables s.routine n d) value) (h refl)
 
   two_slots : (o : Option ℕ) (k : SlotKind) (l : List SlotKind) → unless_bare o (k ∷ []) ++ unless_bare o l ≡ unless_bare o (k ∷ l)
   two_slots (Some x) k l = refl
@@ -101,7 +102,7 @@ module _ (s : Around) (line : ℕ) where
       → PutsTarget s line b c x → stand ≡ stand_of s b.next (desig_with x b.lines) → Codes c d (own line (set_instr stand count ∷ []))
       → Turns d e ls → PutsStmts s e f body
       → Adds a f (λ at lo ms. turn_code line at (T.count_code s.program s.tables s.routine (bare_desig (desig_with x ms)) range counter lo)
-      (λ at. unless_bare (bare_desig (desig_with x ms)) (T.desig_code s.program s.tables s.routine line at (lo + 1) (desig_with x ms)))
+      (λ at. unless_bare (bare_desig (desig_with x ms)) (located s line at (lo + 1) (desig_with x ms)))
       (T.set_code s.program s.tables s.routine (lo + 1) (count_of counter lo (desig_with x ms)) (desig_with x ms))
       (λ at. T.stmts_code s.program s.tables s.routine
       at (lo + length (unless_bare (bare_desig (desig_with x ms)) (slot.Number ∷ desig_slots s.program s.routine (desig_with x ms))))
@@ -114,7 +115,7 @@ module _ (s : Around) (line : ℕ) where
       let o = bare_desig u in
       let at = length a.code in
       let check = own line (T.count_code s.program s.tables s.routine o range counter a.next) in
-      let locate : ℕ → List Lined = λ low. unless_bare o (T.desig_code s.program s.tables s.routine line (at + length check) low u) in
+      let locate : ℕ → List Lined = λ low. unless_bare o (located s line (at + length check) low u) in
       let low = a.next + length (unless_bare o (slot.Number ∷ [])) in
       let k1 = unless_bare o (slot.Number ∷ []) in
       let k2 = unless_bare o (desig_slots s.program s.routine u) in
@@ -137,7 +138,7 @@ module _ (s : Around) (line : ℕ) where
       adds_as a f _ _ _ _ _ _ all
       (ap (λ c. ((check ++ c) ++ own line (set_instr stand count ∷ []))
       ++ body_code (at + length ((check ++ c) ++ own line (set_instr stand count ∷ []))) (a.next + length (k1 ++ k2)))
-      (locate_code o low (a.next + 1) (λ low. T.desig_code s.program s.tables s.routine line (at + length check) low u) (one_slot o a.next))
+      (locate_code o low (a.next + 1) (λ low. located s line (at + length check) low u) (one_slot o a.next))
       ∙ ap (λ i. ((check ++ place) ++ own line (i ∷ []))
       ++ body_code (at + length ((check ++ place) ++ own line (i ∷ []))) (a.next + length (k1 ++ k2))) instr
       ∙ ap (λ n. ((check ++ place) ++ store) ++ body_code n (a.next + length (k1 ++ k2))) far
@@ -212,7 +213,7 @@ module _ (s : Around) (line : ℕ) where
       let place = a.next + 1 + length kf + length kt in
       let turn : (next counter lo : ℕ) → List Lined = λ next counter lo. turn_code line (next + 3)
       (T.count_code s.program s.tables s.routine (bare_desig u) range counter lo)
-      (λ at. unless_bare (bare_desig u) (T.desig_code s.program s.tables s.routine line at (lo + 1) u))
+      (λ at. unless_bare (bare_desig u) (located s line at (lo + 1) u))
       (T.set_code s.program s.tables s.routine (lo + 1) (count_of counter lo u) u)
       (λ at. T.stmts_code s.program s.tables s.routine
       at (lo + length (unless_bare (bare_desig u) (slot.Number ∷ desig_slots s.program s.routine u))) (stmts_with body ls3)) in
@@ -220,7 +221,7 @@ module _ (s : Around) (line : ℕ) where
       → List Lined = λ counter limit step out top. own line (I.Step counter limit step out ∷ I.Jump top ∷ []) in
       let tl : (at lo : ℕ) → List Lined = λ at lo. turn_code line
       at (T.count_code s.program s.tables s.routine (bare_desig u) range counter lo)
-      (λ at. unless_bare (bare_desig u) (T.desig_code s.program s.tables s.routine line at (lo + 1) u))
+      (λ at. unless_bare (bare_desig u) (located s line at (lo + 1) u))
       (T.set_code s.program s.tables s.routine (lo + 1) (count_of counter lo u) u)
       (λ at. T.stmts_code s.program s.tables s.routine
       at (lo + length (unless_bare (bare_desig u) (slot.Number ∷ desig_slots s.program s.routine u))) (stmts_with body ls3)) in
@@ -312,7 +313,7 @@ module _ (s : Around) (line : ℕ) where
       let e0 : length e1.code ≡ next = address_behind a e1 _ _ _ front ∙ ap (λ z. at + length (begin_at z)) lis in
       let turn : (counter at lo : ℕ) → List Lined = λ counter at lo. turn_code line
       at (T.count_code s.program s.tables s.routine (bare_desig u) range counter lo)
-      (λ at. unless_bare (bare_desig u) (T.desig_code s.program s.tables s.routine line at (lo + 1) u))
+      (λ at. unless_bare (bare_desig u) (located s line at (lo + 1) u))
       (T.set_code s.program s.tables s.routine (lo + 1) (count_of counter lo u) u)
       (λ at. T.stmts_code s.program s.tables s.routine
       at (lo + length (unless_bare (bare_desig u) (slot.Number ∷ desig_slots s.program s.routine u))) (stmts_with body ls3)) in

@@ -7,10 +7,8 @@ use Rattle.std.proofs.lemmas.Bool.Decides.{nat_tests}
 use Rattle.std.specs.Prelude.{Bool, ⊤, Result, Ok, Err, IsOk, OnOk, IfOk}
 use Rattle.std.proofs.Math.ListN.{drop_of_length-le}
 use Rattle.std.specs.Prelude.{Option, Some, None, option_map}
-use Rattle.std.specs.Borrow.{Bor}
 use Rattle.alma_code.specs.declared.cell.SlotKind.TheVariants as kinds
 use Rattle.alma_code.specs.declared.instr.Instr.{Instr}
-use Rattle.alma_ir.specs.declared.phrase.Expr as E
 use Rattle.alma_ir.specs.View.{expr_of}
 use Rattle.alma_lower_templates.proofs.First.{stays_is}
 use Rattle.alma_choice.specs.Emitted.{aimed}
@@ -18,11 +16,13 @@ use Rattle.alma_ir.specs.Tree.{Stmts, Stmt, Arms, CaseArms, Else, Branches, Test
 use Rattle.alma_ir.specs.Tree.{more_sels}
 use Rattle.alma_ir.specs.Lines.{behind, stmts_with, expr_with, desig_with, sels_with, sel_with}
 use Rattle.alma_ir.specs.Phrases.{sel_phrases}
+use Rattle.alma_lower_work.specs.declared.first_operand.Taken.{Taken}
+use Rattle.alma_lower_work.specs.declared.first_operand.Taken.TheVariants as takes
 use Rattle.alma_lower_work.specs.declared.stand.Stand.TheVariants as stands
 use Rattle.alma_lower_work.specs.Front.{Around, Front, Codes, Takes}
-use Rattle.alma_lower_work.specs.Puts.{stays_before, PutsFirstOperand, PutsStmts, PutsStmt, PutsArms, PutsCases, PutsDeadBodies, PutsElse}
+use Rattle.alma_lower_work.specs.Puts.{stays_until, PutsFirstOperand, PutsStmts, PutsStmt, PutsArms, PutsCases, PutsDeadBodies, PutsElse}
 use Rattle.alma_lower_work.specs.Puts.{PutsBranches, PutsTest, PutsGuard, PutsAnd, PutsOperands, PutsExpr, PutsValue, PutsLinks, PutsArgs}
-use Rattle.alma_lower_work.specs.Puts.{PutsArg, PutsDesig, PutsTarget, PutsSels, PutsSel, value_slot, stand_of}
+use Rattle.alma_lower_work.specs.Puts.{PutsArg, PutsDesig, PutsHeld, PutsTarget, PutsSels, PutsSel, value_slot, stand_of}
 use Rattle.alma_lower_parts.proofs.ExprForms.{stay_put, made_first_put, own_value_put, own_value_slot, made_value_put, made_value_slot}
 use Rattle.alma_lower_parts.proofs.ExprForms.{own_target_put, made_target_put, own_stand_of, made_stand_of}
 use Rattle.alma_lower_work.proofs.DesigForms.{parts_on}
@@ -193,12 +193,12 @@ module _ (s : Around) (line : ℕ) where
       by None e h = absurd (cc)
 
   pub made_target : (a b : Front) (d : Desig) → None ≡ option_map (T.own_slot s.program s.tables s.routine) (bare_desig d)
-      → PutsDesig s line a b d → PutsTarget s line a b d
+      → PutsHeld s line a b d → PutsTarget s line a b d
   made_target a b d h j = made_target_put s line a b d (no_bare (T.own_slot s.program s.tables s.routine) (bare_desig d) h) j
 
   pub made_stands : (lo : ℕ) (ls : List ℕ) (d : Desig) (place : ℕ)
       → None ≡ option_map (T.own_slot s.program s.tables s.routine) (bare_desig d)
-      → place ≡ T.place_at s.program s.tables s.routine lo (desig_with d ls)
+      → place ≡ T.held_at s.program s.tables s.routine lo (desig_with d ls)
       → stands.Placed place ≡ stand_of s lo (desig_with d ls)
   made_stands lo ls d place h is = ap stands.Placed is
       ∙ sym (made_stand_of s line lo ls d (no_bare (T.own_slot s.program s.tables s.routine) (bare_desig d) h))
@@ -237,18 +237,19 @@ module _ (s : Around) (line : ℕ) where
   stays_at lo (Some from) slot h = cc
   stays_at lo None slot h = absurd (cc)
 
-  pub stays_there : (a b : Front) (e : Expr) (next : Option (Bor E.Expr)) (slot : ℕ)
-      → Some slot ≡ option_map (T.own_slot s.program s.tables s.routine) (stays_before e next) → Takes a b kinds.Number
-      → PutsFirstOperand s line a b (stays_before e next) e
-  stays_there a b e next slot h j = by (stays_before e next) refl h
+  pub stays_there : (a b : Front) (e : Expr) (taken : Taken) (slot : ℕ)
+      → Some slot ≡ option_map (T.own_slot s.program s.tables s.routine) (stays_until e taken) → Takes a b kinds.Number
+      → PutsFirstOperand s line a b (stays_until e taken) e
+  stays_there a b e taken slot h j = by (stays_until e taken) refl h
     where
-      of_bare : (next : Option (Bor E.Expr)) (from : ℕ) → stays_before e next ≡ Some from → bare e ≡ Some from
-      of_bare (Some y) from is = (stays_is e (expr_of y.now) from is).first
-      of_bare None from is = absurd (cc)
+      of_bare : (taken : Taken) (from : ℕ) → stays_until e taken ≡ Some from → bare e ≡ Some from
+      of_bare takes.AtOnce from is = is
+      of_bare (takes.Behind y) from is = (stays_is e (expr_of y.now) from is).first
+      of_bare takes.Never from is = absurd (cc)
 
-      by : (o : Option ℕ) → stays_before e next ≡ o → Some slot ≡ option_map (T.own_slot s.program s.tables s.routine) o
-          → PutsFirstOperand s line a b (stays_before e next) e
-      by (Some from) is h = stay_put s line a b e (stays_before e next) from is (of_bare next from is) j
+      by : (o : Option ℕ) → stays_until e taken ≡ o → Some slot ≡ option_map (T.own_slot s.program s.tables s.routine) o
+          → PutsFirstOperand s line a b (stays_until e taken) e
+      by (Some from) is h = stay_put s line a b e (stays_until e taken) from is (of_bare taken from is) j
       by None is h = absurd (cc)
 
   pub put_there : (a b : Front) (e : Expr) (o : Option ℕ) → None ≡ option_map (T.own_slot s.program s.tables s.routine) o

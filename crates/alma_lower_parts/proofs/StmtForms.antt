@@ -8,6 +8,7 @@ use Rattle.alma_code.specs.declared.cell.SlotKind.TheVariants as slot
 use Rattle.alma_code.specs.declared.instr.Instr.{Instr}
 use Rattle.alma_code.specs.declared.instr.Instr.TheVariants as I
 use Rattle.alma_choice.specs.Emitted.{aimed}
+use Rattle.alma_choice.proofs.Aiming.{last_behind}
 use Rattle.alma_ir.specs.declared.phrase.ReadAs.{ReadAs}
 use Rattle.alma_ir.specs.declared.phrase.WriteAs.{WriteAs}
 use Rattle.alma_ir.specs.Tree.{Stmts, Stmt, Branches, Test, Expr, Desig, no_stmts, more_stmts, TestStmt, Assign, CopyCells, If, While}
@@ -19,19 +20,18 @@ use Rattle.alma_ir.specs.Lines.{stmt_count, behind, stmts_with, stmt_with, branc
 use Rattle.alma_ir.proofs.LinesBack.{behind_two, drop_two}
 use Rattle.alma_lower_work.specs.declared.stand.Stand.{Stand}
 use Rattle.alma_lower_work.specs.Front.{Around, Front, Adds, Codes, Takes, Changes, Holes, EndsEach, EndsForall, result_of}
-use Rattle.alma_lower_work.specs.Puts.{PutsValue, PutsDesig, PutsTarget, PutsTest, PutsStmts, PutsStmt, PutsBranches, PutsChosen}
+use Rattle.alma_lower_work.specs.Puts.{PutsValue, PutsHeld, PutsTarget, PutsTest, PutsStmts, PutsStmt, PutsBranches, PutsChosen}
 use Rattle.alma_lower_work.specs.Puts.{value_slot, stand_of, stand_by, set_instr, inside}
 use Rattle.alma_lower_work.proofs.Joins.{nothing, then_adds, adds_as, code_code, code_adds, adds_code, only_code, slot_adds, filled, over}
 use Rattle.alma_lower_work.proofs.Joins.{own_two, address_behind}
 use Rattle.alma_lower_parts.proofs.With.{no_bare, straight_with}
-use Rattle.alma_lower_parts.proofs.TestForms.{two_places}
+use Rattle.alma_lower_parts.proofs.TestForms.{located, two_places}
 use Rattle.alma_lower_templates.specs.Lined.{Lined, own, in_row}
 use Rattle.alma_lower_templates.specs.Tables.{range_number, text_number, is_whole}
-use Rattle.alma_lower_templates.specs.Slots.{bare, bare_desig, is_given, ends_alone, straight_by, goes_straight, own_place, stays_in}
+use Rattle.alma_lower_templates.specs.Slots.{bare, bare_desig, is_given, ends_alone, straight_by, goes_straight, own_place, taken_from}
 use Rattle.alma_lower_templates.specs.Slots.{unless_bare, stmts_slots, stmt_slots, desig_slots}
-use Rattle.alma_lower_templates.specs.Pieces.{straight, neg_code, fit_code, write_code, read_code, begin_forall, begin_each, end_each}
+use Rattle.alma_lower_templates.specs.Pieces.{aim, straight, neg_code, fit_code, write_code, read_code, begin_forall, begin_each, end_each}
 use Rattle.alma_lower_templates.specs.Pieces.{each_body, chosen}
-use Rattle.alma_lower_templates.proofs.Straight.{straight_behind}
 use Rattle.alma_lower_templates.specs.Templates as T
 
 -- ---- lists of statements
@@ -96,10 +96,10 @@ module _ (s : Around) where
 
 -- ---- values that go straight into a variable
 
-long_behind : (xs ys : List Lined) → 0 < length ys → 0 < length (xs ++ ys)
+pub long_behind : (xs ys : List Lined) → 0 < length ys → 0 < length (xs ++ ys)
 long_behind xs ys long = omega (arith, long, length-append xs ys)
 
-long_before : (xs ys : List Lined) → 0 < length xs → 0 < length (xs ++ ys)
+pub long_before : (xs ys : List Lined) → 0 < length xs → 0 < length (xs ++ ys)
 long_before xs ys long = omega (arith, long, length-append xs ys)
 
 goes_alone : (d : Desig) (e : Expr) (range : Range) (from : ℕ) → goes_straight d e range ≡ Some from → ends_alone e ≡ true
@@ -115,7 +115,7 @@ module _ (s : Around) where
   -- the code of a variable and of the number for it, before that is put there
   abbrev assigned_code : (line at lo next : ℕ) → Desig → Expr → List Lined
   assigned_code line at lo next d e =
-      in_row at (unless_bare (bare_desig d) (T.desig_code s.program s.tables s.routine line at lo d))
+      in_row at (unless_bare (bare_desig d) (unless_bare (own_place d) (T.desig_code s.program s.tables s.routine line at lo d)))
       (λ at. unless_bare (bare e) (T.expr_code s.program s.tables s.routine line at next e))
 
   -- a value that ends alone has code
@@ -132,8 +132,8 @@ module _ (s : Around) where
           (omega arith)
   has_code line at lo (Chain negated e no_links) h = absurd (cc)
   has_code line at lo (Chain negated e (more_links how x rest)) h =
-      long_behind (unless_bare (stays_in negated e (more_links how x rest))
-      (T.expr_code s.program s.tables s.routine line at lo e) ++ own line (neg_code negated lo)) _
+      long_behind (unless_bare (taken_from negated e (more_links how x rest))
+      (T.expr_code s.program s.tables s.routine line at lo e) ++ own line (neg_code negated lo (value_slot s lo e))) _
       (long_before _ _ (long_behind (unless_bare (bare x) (T.expr_code s.program s.tables s.routine line _ _ x)) _ (omega arith)))
   has_code line at lo (Compare how x y) h = absurd (cc)
   has_code line at lo (Truth t) h = absurd (cc)
@@ -143,7 +143,7 @@ module _ (s : Around) where
 
 module _ (s : Around) (line : ℕ) where
   set_by : (o : Option ℕ) (lo value : ℕ) (d : Desig)
-      → set_instr (stand_by s o (T.place_at s.program s.tables s.routine lo d)) value ≡ T.set_by s.program s.tables s.routine o lo value d
+      → set_instr (stand_by s o (T.held_at s.program s.tables s.routine lo d)) value ≡ T.set_by s.program s.tables s.routine o lo value d
   set_by (Some to) lo value d = refl
   set_by None lo value d = refl
 
@@ -206,8 +206,9 @@ module _ (s : Around) (line : ℕ) where
           record {
             all = record {
               instrs = k.instrs ∙ ap (straight to) all.instrs
-                  ∙ straight_behind to a.code both
-                  (long_behind (unless_bare (bare_desig u) (T.desig_code s.program s.tables s.routine line (length a.code) a.next u))
+                  ∙ last_behind (aim to) a.code both
+                  (long_behind (unless_bare (bare_desig u) (unless_bare (own_place u)
+                  (T.desig_code s.program s.tables s.routine line (length a.code) a.next u)))
                   _ (has_code s line _ lo v (goes_alone u v range from same)))
                   ∙ ap (λ n. a.code ++ straight n both) is
                   ∙ ap (λ o. a.code ++ T.set_to s.program s.tables s.routine o line both set) (sym same);
@@ -223,9 +224,9 @@ module _ (s : Around) (line : ℕ) where
       by (Some from) e is = put from e cc
       by None e is = absurd (cc)
 
-  pub copy_put : (a b c d : Front) (x y : Desig) (place place2 : ℕ) → PutsDesig s line a b x
-      → place ≡ T.place_at s.program s.tables s.routine a.next (desig_with x a.lines)
-      → PutsDesig s line b c y → place2 ≡ T.place_at s.program s.tables s.routine b.next (desig_with y b.lines)
+  pub copy_put : (a b c d : Front) (x y : Desig) (place place2 : ℕ) → PutsHeld s line a b x
+      → place ≡ T.held_at s.program s.tables s.routine a.next (desig_with x a.lines)
+      → PutsHeld s line b c y → place2 ≡ T.held_at s.program s.tables s.routine b.next (desig_with y b.lines)
       → Codes c d (own line (I.CopyCells place place2 ∷ [])) → PutsStmt s line a d (CopyCells x y)
   unfolding stmts_with stmts_phrases
   copy_put a b c d x y place place2 h is j is2 k =
@@ -261,17 +262,17 @@ module _ (s : Around) (line : ℕ) where
             ∙ ap (λ n. code ++ own line (fit n ++ (I.ReturnValue n ∷ []))) is) refl refl;
       }
 
-  pub read_put : (a b c : Front) (x : Desig) (how : ReadAs) (range : Range) (place number : ℕ) → PutsDesig s line a b x
-      → place ≡ T.place_at s.program s.tables s.routine a.next (desig_with x a.lines)
+  pub read_put : (a b c : Front) (x : Desig) (how : ReadAs) (range : Range) (place number : ℕ) → PutsHeld s line a b x
+      → place ≡ T.held_at s.program s.tables s.routine a.next (desig_with x a.lines)
       → number ≡ range_number s.tables range → Codes b c (own line (read_code how place number ∷ []))
       → PutsStmt s line a c (Read x how range)
   unfolding stmts_with stmts_phrases
   read_put a b c x how range place number h is is2 j =
-      let code = T.desig_code s.program s.tables s.routine line (length a.code) a.next (desig_with x a.lines) in
+      let code = located s line (length a.code) a.next (desig_with x a.lines) in
       record {
         all = adds_as a c _ _ _ _ _ _ (adds_code a b c _ _ _ _ h.all j)
             (ap (λ n. code ++ own line (read_code how n number ∷ [])) is
-            ∙ ap (λ n. code ++ own line (read_code how (T.place_at s.program s.tables s.routine a.next (desig_with x a.lines)) n ∷ []))
+            ∙ ap (λ n. code ++ own line (read_code how (T.held_at s.program s.tables s.routine a.next (desig_with x a.lines)) n ∷ []))
             is2) refl refl;
       }
 

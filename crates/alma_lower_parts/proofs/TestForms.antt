@@ -13,12 +13,12 @@ use Rattle.alma_ir.specs.Phrases.{stmts_phrases, test_phrases, tests_phrases, ex
 use Rattle.alma_ir.specs.Lines.{behind, stmts_with, test_with, tests_with, expr_with, desig_with}
 use Rattle.alma_ir.proofs.LinesBack.{behind_two, count_sum}
 use Rattle.alma_lower_work.specs.Front.{Around, Front, Adds, Codes, Changes, Holes}
-use Rattle.alma_lower_work.specs.Puts.{PutsExpr, PutsFirstOperand, PutsValue, PutsDesig, PutsTest, PutsAnd, PutsOperands, PutsFirst}
+use Rattle.alma_lower_work.specs.Puts.{PutsExpr, PutsFirstOperand, PutsValue, PutsHeld, PutsTest, PutsAnd, PutsOperands, PutsFirst}
 use Rattle.alma_lower_work.specs.Puts.{PutsStmts, value_slot, is_unequal}
 use Rattle.alma_lower_work.proofs.Joins.{nothing, then_adds, adds_as, adds_code, only_code, filled, over, address_behind}
 use Rattle.alma_lower_templates.specs.Lined.{Lined, own, in_row}
 use Rattle.alma_lower_templates.specs.Tables.{range_number}
-use Rattle.alma_lower_templates.specs.Slots.{bare, stays, unless_bare, test_slots, expr_slots, desig_slots}
+use Rattle.alma_lower_templates.specs.Slots.{bare, own_place, stays, unless_bare, test_slots, expr_slots, desig_slots}
 use Rattle.alma_lower_templates.specs.Pieces.{unequal_code, begin_first, first_of_two}
 use Rattle.alma_lower_templates.proofs.Tested.{ChecksValue, Tested, tested, as_value, as_unequal}
 use Rattle.alma_lower_parts.proofs.With.{unequal_with, stays_with}
@@ -26,7 +26,11 @@ use Rattle.alma_lower_templates.specs.Templates as T
 
 module _ (s : Around) (line : ℕ) where
   abbrev pub place_of : (lo : ℕ) → Desig → ℕ
-  place_of lo d = T.place_at s.program s.tables s.routine lo d
+  place_of lo d = T.held_at s.program s.tables s.routine lo d
+
+  -- the code of a place, which that of a parameter has not
+  abbrev pub located : (at lo : ℕ) → Desig → List Lined
+  located at lo d = unless_bare (own_place d) (T.desig_code s.program s.tables s.routine line at lo d)
 
   -- two phrases are passed in the other order
   behind_swap : (d : Desig) (e : Expr) (ls : List ℕ)
@@ -82,7 +86,7 @@ module _ (s : Around) (line : ℕ) where
             refl (sym (behind_two (expr_phrases x) (expr_phrases y) a.lines));
       }
 
-  pub bind_left_put : (a b c d : Front) (x : Desig) (e : Expr) (range : Range) (place value number : ℕ) → PutsDesig s line a b x
+  pub bind_left_put : (a b c d : Front) (x : Desig) (e : Expr) (range : Range) (place value number : ℕ) → PutsHeld s line a b x
       → place ≡ place_of a.next (desig_with x a.lines)
       → PutsValue s line b c e → value ≡ value_slot s b.next (expr_with e b.lines) → number ≡ range_number s.tables range
       → Codes c d (own line (I.Bind place value number ∷ []))
@@ -93,7 +97,7 @@ module _ (s : Around) (line : ℕ) where
       let lo = a.next + length (desig_slots s.program s.routine (desig_with x a.lines)) in
       let there : value ≡ value_slot s lo (expr_with e ls) = is2 ∙ ap (λ n. value_slot s n (expr_with e b.lines)) h.all.next_slot
       ∙ ap (λ n. value_slot s lo (expr_with e n)) h.all.left in
-      let both = in_row (length a.code) (T.desig_code s.program s.tables s.routine line (length a.code) a.next (desig_with x a.lines))
+      let both = in_row (length a.code) (located (length a.code) a.next (desig_with x a.lines))
       (λ next. unless_bare (bare (expr_with e ls)) (T.expr_code s.program s.tables s.routine line next lo (expr_with e ls))) in
       record {
         all = adds_as a d _ _ _ _ _ _ (adds_code a c d _ _ _ _ (then_adds a b c _ _ _ _ _ _ h.all j.all) k)
@@ -105,7 +109,7 @@ module _ (s : Around) (line : ℕ) where
 
   pub bind_right_put : (a b c d : Front) (x : Desig) (e : Expr) (range : Range) (place value number : ℕ) → PutsExpr s line a b e
       → value ≡ a.next
-      → PutsDesig s line b c x → place ≡ place_of b.next (desig_with x b.lines) → number ≡ range_number s.tables range
+      → PutsHeld s line b c x → place ≡ place_of b.next (desig_with x b.lines) → number ≡ range_number s.tables range
       → Codes c d (own line (I.Bind place value number ∷ []))
       → PutsTest s line a d (Bind x e range false)
   unfolding stmts_with stmts_phrases
@@ -115,7 +119,7 @@ module _ (s : Around) (line : ℕ) where
       let there : place ≡ place_of lo (desig_with x ls) = is2 ∙ ap (λ n. place_of n (desig_with x b.lines)) h.all.next_slot
       ∙ ap (λ n. place_of lo (desig_with x n)) h.all.left in
       let both = in_row (length a.code) (T.expr_code s.program s.tables s.routine line (length a.code) a.next (expr_with e a.lines))
-      (λ next. T.desig_code s.program s.tables s.routine line next lo (desig_with x ls)) in
+      (λ next. located next lo (desig_with x ls)) in
       record {
         all = adds_as a d _ _ _ _ _ _ (adds_code a c d _ _ _ _ (then_adds a b c _ _ _ _ _ _ h.all j.all) k)
             (ap (λ n. both ++ own line (I.Bind place n number ∷ [])) is ∙ ap (λ n. both ++ own line (I.Bind n a.next number ∷ [])) there
@@ -124,11 +128,11 @@ module _ (s : Around) (line : ℕ) where
       }
 
   -- two designators, and an instruction on both places
-  pub two_places : (a b c d : Front) (x y : Desig) (place place2 : ℕ) (instr : (place place2 : ℕ) → Instr) → PutsDesig s line a b x
+  pub two_places : (a b c d : Front) (x y : Desig) (place place2 : ℕ) (instr : (place place2 : ℕ) → Instr) → PutsHeld s line a b x
       → place ≡ place_of a.next (desig_with x a.lines)
-      → PutsDesig s line b c y → place2 ≡ place_of b.next (desig_with y b.lines) → Codes c d (own line (instr place place2 ∷ []))
-      → Adds a d (λ at lo ls. in_row at (T.desig_code s.program s.tables s.routine line at lo (desig_with x ls))
-      (λ next. T.desig_code s.program s.tables s.routine line next (lo + length (desig_slots s.program s.routine (desig_with x ls)))
+      → PutsHeld s line b c y → place2 ≡ place_of b.next (desig_with y b.lines) → Codes c d (own line (instr place place2 ∷ []))
+      → Adds a d (λ at lo ls. in_row at (located at lo (desig_with x ls))
+      (λ next. located next (lo + length (desig_slots s.program s.routine (desig_with x ls)))
       (desig_with y (behind (desig_phrases x) ls)))
       ++ own line (instr (place_of lo (desig_with x ls))
       (place_of (lo + length (desig_slots s.program s.routine (desig_with x ls))) (desig_with y (behind (desig_phrases x) ls))) ∷ []))
@@ -140,16 +144,16 @@ module _ (s : Around) (line : ℕ) where
       let lo = a.next + length (desig_slots s.program s.routine (desig_with x a.lines)) in
       let there : place2 ≡ place_of lo (desig_with y ls) = is2 ∙ ap (λ n. place_of n (desig_with y b.lines)) h.all.next_slot
       ∙ ap (λ n. place_of lo (desig_with y n)) h.all.left in
-      let both = in_row (length a.code) (T.desig_code s.program s.tables s.routine line (length a.code) a.next (desig_with x a.lines))
-      (λ next. T.desig_code s.program s.tables s.routine line next lo (desig_with y ls)) in
+      let both = in_row (length a.code) (located (length a.code) a.next (desig_with x a.lines))
+      (λ next. located next lo (desig_with y ls)) in
       adds_as a d _ _ _ _ _ _ (adds_code a c d _ _ _ _ (then_adds a b c _ _ _ _ _ _ h.all j.all) k)
       (ap (λ n. both ++ own line (instr n place2 ∷ [])) is
       ∙ ap (λ n. both ++ own line (instr (place_of a.next (desig_with x a.lines)) n ∷ [])) there)
       refl (sym (behind_two (desig_phrases x) (desig_phrases y) a.lines))
 
-  pub unify_put : (a b c d : Front) (x y : Desig) (range range2 : Range) (place place2 number number2 : ℕ) → PutsDesig s line a b x
+  pub unify_put : (a b c d : Front) (x y : Desig) (range range2 : Range) (place place2 number number2 : ℕ) → PutsHeld s line a b x
       → place ≡ place_of a.next (desig_with x a.lines)
-      → PutsDesig s line b c y → place2 ≡ place_of b.next (desig_with y b.lines) → number ≡ range_number s.tables range
+      → PutsHeld s line b c y → place2 ≡ place_of b.next (desig_with y b.lines) → number ≡ range_number s.tables range
       → number2 ≡ range_number s.tables range2
       → Codes c d (own line (I.Unify place number place2 number2 ∷ [])) → PutsTest s line a d (Unify x range y range2)
   unfolding stmts_with stmts_phrases
@@ -161,9 +165,9 @@ module _ (s : Around) (line : ℕ) where
             (subst (λ n. Codes c d (own line (I.Unify place n place2 number2 ∷ []))) is3 k));
       }
 
-  pub same_put : (a b c d : Front) (x y : Desig) (place place2 : ℕ) → PutsDesig s line a b x
+  pub same_put : (a b c d : Front) (x y : Desig) (place place2 : ℕ) → PutsHeld s line a b x
       → place ≡ place_of a.next (desig_with x a.lines)
-      → PutsDesig s line b c y → place2 ≡ place_of b.next (desig_with y b.lines) → Codes c d (own line (I.SameCells place place2 ∷ []))
+      → PutsHeld s line b c y → place2 ≡ place_of b.next (desig_with y b.lines) → Codes c d (own line (I.SameCells place place2 ∷ []))
       → PutsTest s line a d (SameCells x y)
   unfolding stmts_with stmts_phrases
   same_put a b c d x y place place2 h is j is2 k =

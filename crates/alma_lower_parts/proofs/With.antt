@@ -14,7 +14,7 @@ use Rattle.alma_ir.specs.Lines.{behind, stmts_with, test_with, expr_with, links_
 use Rattle.alma_lower_work.specs.Puts.{is_unequal}
 use Rattle.alma_lower_templates.specs.Tables.{is_whole}
 use Rattle.alma_lower_templates.specs.Slots.{bare_desig, bare, ends_alone, straight_by, goes_straight, own_place, own_root, is_given}
-use Rattle.alma_lower_templates.specs.Slots.{is_ready, if_ready, stays_by, stays, stays_in, is_simple_expr, are_simple_links}
+use Rattle.alma_lower_templates.specs.Slots.{is_ready, if_ready, stays_by, stays, stays_in, taken_from, is_simple_expr, are_simple_links}
 use Rattle.alma_lower_templates.specs.Slots.{is_simple_desig, are_simple_sels, is_simple_sel, is_simple, cells_behind, desig_cells}
 use Rattle.alma_lower_templates.specs.Slots.{arg_kind, handed_slots, constant}
 
@@ -71,6 +71,11 @@ stays_in_with true x links ls ls2 = refl
 stays_in_with false x no_links ls ls2 = refl
 stays_in_with false x (more_links how y rest) ls ls2 = stays_with x y ls ls2
 
+pub taken_with : (negated : Bool) (x : Expr) (links : Links) (ls ls2 : List ℕ)
+    → taken_from negated (expr_with x ls) (links_with links ls2) ≡ taken_from negated x links
+taken_with true x links ls ls2 = own_expr x ls
+taken_with false x links ls ls2 = stays_in_with false x links ls ls2
+
 -- ---- values that go straight into a variable
 
 pub alone_with : (e : Expr) (ls : List ℕ) → ends_alone (expr_with e ls) ≡ ends_alone e
@@ -117,8 +122,7 @@ place_with (a_desig (root.OuterParam links from) cells sels) ls = refl
 pub root_with : (r : Root) (sels : Sels) (ls : List ℕ) → own_root r (sels_with sels ls) ≡ own_root r sels
 unfolding stmts_with
 root_with (root.Param from) no_sels ls = refl
-root_with (root.Param from) (more_sels (Field offset cells) rest) ls = refl
-root_with (root.Param from) (more_sels (Index e range cells) rest) ls = ap (λ z. if_ready z from) (ready_with e ls)
+root_with (root.Param from) (more_sels x rest) ls = refl
 root_with (root.Local from) sels ls = refl
 root_with (root.Global from) sels ls = refl
 root_with (root.Outer links from) sels ls = refl

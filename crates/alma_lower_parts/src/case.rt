@@ -6,6 +6,7 @@ ghost use Rattle.alma_ir.specs.View.{cases_list};
 ghost use Rattle.alma_lower_templates.specs.Lined.{own};
 ghost use Rattle.alma_lower_templates.specs.Pieces as pieces;
 ghost use Rattle.alma_lower_work.specs.Front.{front, Adds, Codes, Holes};
+ghost use Rattle.alma_lower_parts.specs.Labels.{between_test, single_test};
 ghost use Rattle.alma_lower_parts.specs.Steps.{EndsArm, EndsDead};
 
 use alma_base::{NoMemory, Range};
@@ -21,7 +22,8 @@ pub struct Labels {
     pub test: u32,
 }
 
-/// The two jumps of the last label, which are to be aimed where the number lies in none.
+/// The jumps of the last label, which are to be aimed where the number lies in none: that behind its lower end and that
+/// behind its upper end, or twice the one of a label of one number.
 #[derive(Clone, Copy)]
 pub struct Miss {
     pub low: u32,
@@ -53,8 +55,8 @@ pub fn take_labels(work: &mut Work, value: u32) -> Result<Labels, NoMemory>
     Ok(Labels { value, bound, test })
 }
 
-/// A label that is the last of its arm: the code goes on where the number lies in it, and else by one of two jumps.
-pub fn put_last_label(
+/// The test of a label: the code goes on where the number lies in it, and else by one of its jumps.
+pub fn put_label_test(
     work: &mut Work,
     line: u32,
     labels: Labels,
@@ -62,7 +64,51 @@ pub fn put_last_label(
 ) -> Result<Miss, NoMemory>
     ensures { labels.test ≡ labels.bound + 1 → IfOk result (λ miss. Holes (front work.old)
         (front work.new) (λ to xs. aimed (aimed xs miss.low to) miss.high to)
-        (λ none at lo ls. own line (pieces.last_label_code labels.value labels.bound none label))
+        (λ none at lo ls. own line (pieces.label_test labels.value labels.bound none label))
+        (λ ls. []) (λ ls. ls)) }
+{
+    if label.low == label.high {
+        put_single(work, line, labels, label.low)
+    } else {
+        put_between(work, line, labels, label)
+    }
+}
+
+// The test of a label of one number.
+fn put_single(work: &mut Work, line: u32, labels: Labels, number: i64) -> Result<Miss, NoMemory>
+    ensures { labels.test ≡ labels.bound + 1 → IfOk result (λ miss. Holes (front work.old)
+        (front work.new) (λ to xs. aimed (aimed xs miss.low to) miss.high to)
+        (λ none at lo ls. own line (single_test labels.value labels.bound none number))
+        (λ ls. []) (λ ls. ls)) }
+{
+    let Labels { value, bound, test } = labels;
+    work.put(
+        line,
+        Instr::Const {
+            to: bound,
+            value: number,
+        },
+    )?;
+    work.put(
+        line,
+        Instr::Equal {
+            to: test,
+            left: bound,
+            right: value,
+        },
+    )?;
+    let jump = work.put(line, Instr::JumpZero { value: test, to: 0 })?;
+    Ok(Miss {
+        low: jump,
+        high: jump,
+    })
+}
+
+// The test of a label that is a range.
+fn put_between(work: &mut Work, line: u32, labels: Labels, label: Range) -> Result<Miss, NoMemory>
+    ensures { labels.test ≡ labels.bound + 1 → IfOk result (λ miss. Holes (front work.old)
+        (front work.new) (λ to xs. aimed (aimed xs miss.low to) miss.high to)
+        (λ none at lo ls. own line (between_test labels.value labels.bound none label))
         (λ ls. []) (λ ls. ls)) }
 {
     let Labels { value, bound, test } = labels;
@@ -113,7 +159,7 @@ pub fn put_label(
         (own line (pieces.label_code labels.value labels.bound (length (front work.old).code) hit
         label))) }
 {
-    let miss = put_last_label(work, line, labels, label)?;
+    let miss = put_label_test(work, line, labels, label)?;
     let behind = work.behind(1)?;
     work.aim(miss.low, behind);
     work.aim(miss.high, behind);

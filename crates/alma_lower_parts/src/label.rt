@@ -1,12 +1,13 @@
 // The labels of an arm of CASE.
-ghost use Rattle.std.specs.Prelude.{◌≡◌, ◌+◌, ◌*◌, ◌-◌, ◌<◌, [], length, IfOk};
+ghost use Rattle.std.specs.Prelude.{◌≡◌, ◌+◌, ◌<◌, ◌≤◌, [], length, IfOk};
 ghost use Rattle.alma_choice.specs.Emitted.{aimed};
 ghost use Rattle.alma_lower_templates.specs.Lined.{own};
+ghost use Rattle.alma_lower_templates.specs.Pieces as pieces;
 ghost use Rattle.alma_lower_work.specs.Front.{front, Holes};
-ghost use Rattle.alma_lower_work.specs.Puts.{all_labels};
+ghost use Rattle.alma_lower_work.specs.Puts.{all_labels, behind_all};
 
-use crate::case::{Labels, Miss, put_label, put_last_label};
-use alma_base::{INSTR_LIMIT, NoMemory, Range};
+use crate::case::{Labels, Miss, put_label, put_label_test};
+use alma_base::{NoMemory, Range};
 use alma_lower_work::Work;
 
 /// The labels of an arm: the code goes on where the number lies in one of them, and else by the jumps of the last.
@@ -20,25 +21,46 @@ pub fn put_labels(
     ensures holes { labels.test ≡ labels.bound + 1 → IfOk result (λ miss.
         Holes (front work.old) (front work.new) (λ to xs. aimed (aimed xs miss.low to) miss.high to)
         (λ none at lo ls. own line (all_labels labels.value labels.bound at
-        (at + 7 * (length ranges.now - 1) + 6) none ranges.now)) (λ ls. []) (λ ls. ls)) }
+        (behind_all at ranges.now) none ranges.now)) (λ ls. []) (λ ls. ls)) }
 {
     if ranges.is_empty() {
         return Err(NoMemory);
     }
     let last = ranges.len() - 1;
-    let hit = hit_behind(work, last)?;
+    let at = work.here()?;
+    let hit = behind_labels(at, ranges)?;
     for i in 0..last {
         put_label(work, line, labels, hit, ranges[i])?;
     }
-    put_last_label(work, line, labels, ranges[last])
+    put_label_test(work, line, labels, ranges[last])
 }
 
-// The address behind so many labels and the last.
-fn hit_behind(work: &Work, count: usize) -> Result<u32, NoMemory>
-    ensures { IfOk result (λ hit. hit ≡ length (front work.now).code + 7 * count + 6) }
+// The address behind labels that stand at an address, of which there is one: each but the last ends with a jump.
+fn behind_labels(at: u32, ranges: &[Range]) -> Result<u32, NoMemory>
+    ensures { 0 < length ranges.now → IfOk result (λ hit. hit ≡ behind_all at ranges.now) }
 {
-    if count > INSTR_LIMIT as usize {
+    if ranges.is_empty() {
         return Err(NoMemory);
     }
-    work.behind(7 * count as u32 + 6)
+    let last = ranges.len() - 1;
+    let mut next = at;
+    for i in 0..last {
+        next = behind(next, test_size(ranges[i]) + 1)?;
+    }
+    behind(next, test_size(ranges[last]))
+}
+
+// The address so far behind another.
+fn behind(at: u32, count: u32) -> Result<u32, NoMemory>
+    ensures { IfOk result (λ next. next ≡ at + count) }
+{
+    at.checked_add(count).ok_or(NoMemory)
+}
+
+// How many instructions test a label.
+fn test_size(label: Range) -> u32
+    ensures size { result ≡ pieces.test_size label }
+    ensures small { result ≤ 6 }
+{
+    if label.low == label.high { 3 } else { 6 }
 }

@@ -11,14 +11,14 @@ mod loops;
 mod pass;
 
 pub use alma_lower_work::{
-    FirstOperand, Scene, Stand, Work, constant, ends_alone, hold_at, is_simple, is_straight,
-    next_operand, op_instr, own_first, own_place, own_stand, own_value, put_at, put_back, put_cmp,
-    put_fit, put_function, put_links, put_neg, put_result_fit, put_root, put_truth, put_unequal,
-    read_instr, slot_of, stay_at, straight_slot, turned_test, unequal, write_instr,
+    FirstOperand, Scene, Stand, Taken, Work, constant, ends_alone, hold_at, is_simple, is_straight,
+    op_instr, own_first, own_place, own_stand, own_value, put_at, put_back, put_cmp, put_fit,
+    put_function, put_links, put_neg, put_result_fit, put_root, put_truth, put_unequal, read_instr,
+    slot_of, stay_at, straight_slot, taken_by, turned_test, unequal, write_instr,
 };
 pub use call::{Handed, begin_call, first_handed, put_call_link, take_handed, take_result};
 pub use case::{
-    Labels, Miss, end_arm, end_dead, has_dead, put_label, put_last_label, take_labels,
+    Labels, Miss, end_arm, end_dead, has_dead, put_label, put_label_test, take_labels,
     then_take_labels,
 };
 pub use choice::{

@@ -1,14 +1,12 @@
 -- One more of a list, and designators with a selector.
-use Rattle.std.proofs.Common.{◌≡◌, ℕ, suc, ◌+◌, Bool, Some, arith, List, [], ◌∷◌, length, refl, sym, ap, ◌∙◌, None, ◌<◌, drop, get_or}
+use Rattle.std.proofs.Common.{◌≡◌, ℕ, suc, ◌+◌, arith, List, [], ◌∷◌, length, refl, sym, ap, ◌∙◌, None, ◌<◌, drop, get_or}
 use Rattle.std.proofs.Common.{drop-cons, add-one}
-use Rattle.std.specs.Prelude.{option_map}
+use Rattle.std.specs.Prelude.{option_map, Option, Result, Ok, Err, IfOk}
 use Rattle.alma_ir.specs.declared.phrase.Root.{Root}
-use Rattle.alma_ir.specs.Tree.{a_desig, more_sels}
-use Rattle.alma_ir.specs.View.{expr_of, sel_of, sels_list}
-use Rattle.alma_ir.proofs.Views
-use Rattle.alma_base.specs.declared.number.Range.{Range}
-use Rattle.alma_ir.specs.declared.phrase.Expr as E
-use Rattle.alma_lower_templates.specs.Slots.{bare_desig, own_place, own_root, is_ready, if_ready}
+use Rattle.alma_ir.specs.Tree.{a_desig}
+use Rattle.alma_ir.specs.View.{sels_list}
+use Rattle.alma_lower_templates.specs.Slots.{bare_desig, own_place, own_root}
+use Rattle.alma_lower_work.specs.Puts.{param_of}
 use Rattle.alma_ir.specs.declared.phrase.Sel as L
 use Rattle.alma_ir.specs.declared.phrase.Root.TheVariants as root
 
@@ -35,19 +33,25 @@ placed f (root.Param from) cells (x ∷ rest) h = refl
 placed f (root.Outer links from) cells (x ∷ rest) h = refl
 placed f (root.OuterParam links from) cells (x ∷ rest) h = refl
 
--- the first selector takes a part of a parameter's place
-pub part_field : (sels : List L.Sel) (x : L.Sel) (offset cells : ℕ) → 0 < length sels → x ≡ get_or sels 0 x → x ≡ L.Field offset cells
-    → (from : ℕ) → own_root (root.Param from) (sels_list sels) ≡ Some from
-part_field [] x offset cells some is field from = absurd (omega (arith, some))
-part_field (y ∷ rest) x offset cells some is field from =
-    ap (λ z. own_root (root.Param from) (more_sels (sel_of z) (sels_list rest))) (sym is ∙ field)
-    ∙ ap (λ z. own_root (root.Param from) (more_sels z (sels_list rest))) (Views.field_view offset cells)
+-- where there is no selector none takes a part of a parameter's place
+pub no_part : {A : Type 0} (f : ℕ → A) (r : Root) (sels : List L.Sel) → length sels ≡ 0 → None ≡ option_map f (own_root r (sels_list sels))
+no_part f (root.Local from) [] none = refl
+no_part f (root.Global from) [] none = refl
+no_part f (root.Param from) [] none = refl
+no_part f (root.Outer links from) [] none = refl
+no_part f (root.OuterParam links from) [] none = refl
+no_part f r (x ∷ rest) none = absurd (omega (arith, none))
 
-pub part_index : (sels : List L.Sel) (x : L.Sel) (e : E.Expr) (range : Range) (cells : ℕ) (ready : Bool) → 0 < length sels
-    → x ≡ get_or sels 0 x → x ≡ L.Index e range cells
-    → ready ≡ is_ready (expr_of e) → (from : ℕ) → own_root (root.Param from) (sels_list sels) ≡ if_ready ready from
-part_index [] x e range cells ready some is index h from = absurd (omega (arith, some))
-part_index (y ∷ rest) x e range cells ready some is index h from =
-    ap (λ z. own_root (root.Param from) (more_sels (sel_of z) (sels_list rest))) (sym is ∙ index)
-    ∙ ap (λ z. own_root (root.Param from) (more_sels z (sels_list rest))) (Views.index_view e range cells)
-    ∙ ap (λ z. if_ready z from) (sym h)
+-- and else the first one does
+part_root : (r : Root) (x : L.Sel) (rest : List L.Sel) → param_of r ≡ own_root r (sels_list (x ∷ rest))
+part_root (root.Local from) x rest = refl
+part_root (root.Global from) x rest = refl
+part_root (root.Param from) x rest = refl
+part_root (root.Outer links from) x rest = refl
+part_root (root.OuterParam links from) x rest = refl
+
+pub part_of : {A X : Type 0} (f : ℕ → A) (o : Result (Option A) X) (r : Root) (sels : List L.Sel) → (length sels ≡ 0 → ⊥)
+    → IfOk o (λ x. x ≡ option_map f (param_of r)) → IfOk o (λ x. x ≡ option_map f (own_root r (sels_list sels)))
+part_of f o r [] some h = absurd (some refl)
+part_of f (Ok y) r (x ∷ rest) some h = h ∙ ap (option_map f) (part_root r x rest)
+part_of f (Err e) r (x ∷ rest) some h = h

@@ -1,5 +1,4 @@
 -- What each phrase adds where it is emitted: its code and slots by the templates, with the lines that it is given.
-use Rattle.std.specs.Borrow.{Bor}
 use Rattle.std.specs.Prelude.{◌≡◌, ℕ, zero, suc, ◌+◌, Bool, true, false, List, [], ◌∷◌, ◌++◌, length, drop, Option, Some, None}
 use Rattle.alma_base.specs.declared.number.Range.{Range}
 use Rattle.alma_code.specs.declared.cell.SlotKind.TheVariants as slot
@@ -7,7 +6,6 @@ use Rattle.alma_code.specs.declared.instr.Instr.{Instr}
 use Rattle.alma_code.specs.declared.instr.Instr.TheVariants as I
 use Rattle.alma_ir.specs.declared.phrase.Cmp.{Cmp}
 use Rattle.alma_ir.specs.declared.phrase.Cmp.TheVariants as cmp
-use Rattle.alma_ir.specs.declared.phrase.Expr as E
 use Rattle.alma_ir.specs.declared.phrase.Root.{Root}
 use Rattle.alma_ir.specs.declared.phrase.Root.TheVariants as root
 use Rattle.alma_ir.specs.Tree.{Stmts, Stmt, Arms, CaseArms, Else, Branches, Test, Tests, Expr, Links, Args, Arg, Desig, Sels, Sel, Compare}
@@ -18,6 +16,8 @@ use Rattle.alma_ir.specs.Phrases.{sels_phrases, sel_phrases}
 use Rattle.alma_ir.specs.Lines.{behind, stmts_with, stmt_with, arms_with, cases_with, else_with, branches_with, test_with, tests_with}
 use Rattle.alma_ir.specs.Lines.{expr_with, links_with, args_with, arg_with, desig_with, sels_with, sel_with}
 use Rattle.alma_ir.specs.View.{expr_of}
+use Rattle.alma_lower_work.specs.declared.first_operand.Taken.{Taken}
+use Rattle.alma_lower_work.specs.declared.first_operand.Taken.TheVariants as takes
 use Rattle.alma_lower_work.specs.declared.stand.Stand.{Stand}
 use Rattle.alma_lower_work.specs.declared.stand.Stand.TheVariants as stands
 use Rattle.alma_lower_work.specs.Front.{Around, Front, Adds, Holes}
@@ -34,13 +34,13 @@ use Rattle.alma_lower_templates.specs.Templates as T
 -- ---- variables, by slot or by place
 
 module _ (s : Around) where
-  -- a variable of the routine stands in its own slot, any other by the place that its code makes
+  -- a variable of the routine stands in its own slot, any other by its place
   abbrev pub stand_by : Option ℕ → (place : ℕ) → Stand
   stand_by (Some from) place = stands.Own (T.own_slot s.program s.tables s.routine from)
   stand_by None place = stands.Placed place
 
   abbrev pub stand_of : (lo : ℕ) → Desig → Stand
-  stand_of lo d = stand_by (bare_desig d) (T.place_at s.program s.tables s.routine lo d)
+  stand_of lo d = stand_by (bare_desig d) (T.held_at s.program s.tables s.routine lo d)
 
   -- the slot in which a value that is used at once stands
   abbrev pub value_slot : (lo : ℕ) → Expr → ℕ
@@ -72,10 +72,16 @@ abbrev pub param_of : Root → Option ℕ
 param_of (root.Param from) = Some from
 param_of _ = None
 
--- the slot of the routine in which a first operand stays, with the next one if there is one
-abbrev pub stays_before : (first : Expr) → (next : Option (Bor E.Expr)) → Option ℕ
-stays_before first (Some next) = stays first (expr_of next.now)
-stays_before first None = None
+-- the slot of the routine in which a first operand stays until it is taken
+abbrev pub stays_until : (first : Expr) → Taken → Option ℕ
+stays_until first takes.AtOnce = bare first
+stays_until first (takes.Behind next) = stays first (expr_of next.now)
+stays_until first takes.Never = None
+
+-- where a first operand stands behind its sign, if it has one
+abbrev pub behind_sign : (negated : Bool) → (from to : ℕ) → ℕ
+behind_sign true from to = to
+behind_sign false from to = from
 
 -- whether an expression is a test of inequality
 abbrev pub is_unequal : Expr → Bool
@@ -86,6 +92,11 @@ is_unequal _ = false
 abbrev pub first_of : List Instr → Instr
 first_of [] = I.Fail
 first_of (i ∷ rest) = i
+
+-- the address behind the labels of an arm of CASE, which stand at an address
+abbrev pub behind_all : (at : ℕ) → List Range → ℕ
+behind_all at [] = at
+behind_all at (label ∷ rest) = behind_labels at label rest
 
 -- the labels of an arm of CASE
 abbrev pub all_labels : (value bound at hit miss : ℕ) → List Range → List Instr
@@ -124,13 +135,19 @@ pub record PutsDesig (s : Around) (line : ℕ) (a b : Front) (d : Desig) : Type 
   pub all : Adds a b (λ at lo ls. T.desig_code s.program s.tables s.routine line at lo (desig_with d ls))
       (λ ls. desig_slots s.program s.routine (desig_with d ls)) (behind (desig_phrases d))
 
--- a variable that is read or written, which has no code where it stands in its own slot
+-- a variable that is written, which has no code where it, or its place, stands in its own slot
 pub record PutsTarget (s : Around) (line : ℕ) (a b : Front) (d : Desig) : Type 0 where
   pub all : Adds a b (λ at lo ls. unless_bare (bare_desig (desig_with d ls))
-      (T.desig_code s.program s.tables s.routine line at lo (desig_with d ls)))
+      (unless_bare (own_place (desig_with d ls)) (T.desig_code s.program s.tables s.routine line at lo (desig_with d ls))))
       (λ ls. unless_bare (bare_desig (desig_with d ls)) (desig_slots s.program s.routine (desig_with d ls))) (behind (desig_phrases d))
 
--- a place that is read at once: that of a parameter stands in its own slot
+-- a place that is handed over, into a slot
+pub record PutsPlace (s : Around) (line to : ℕ) (a b : Front) (d : Desig) : Type 0 where
+  pub all : Adds a b (λ at lo ls. T.handed_code s.program s.tables s.routine (own_place (desig_with d ls)) line to
+      (T.desig_code s.program s.tables s.routine line at lo (desig_with d ls)))
+      (λ ls. desig_slots s.program s.routine (desig_with d ls)) (behind (desig_phrases d))
+
+-- a place that is used: that of a parameter stands in its own slot
 pub record PutsHeld (s : Around) (line : ℕ) (a b : Front) (d : Desig) : Type 0 where
   pub all : Adds a b (λ at lo ls. unless_bare (own_place (desig_with d ls))
       (T.desig_code s.program s.tables s.routine line at lo (desig_with d ls))) (λ ls. desig_slots s.program s.routine (desig_with d ls))
@@ -263,5 +280,5 @@ pub record PutsChosen (s : Around) (line : ℕ) (a b : Front) (body : Stmts) : T
 -- an arm of CASE that has a label
 pub record PutsCaseArm (s : Around) (line value bound : ℕ) (a b : Front) (label : Range) (rest : List Range) (body : Stmts) : Type 0 where
   pub all : Adds a b (λ at lo ls. case_arm line value bound at label rest
-      (T.stmts_code s.program s.tables s.routine (behind_labels at rest) lo (stmts_with body ls)))
+      (T.stmts_code s.program s.tables s.routine (behind_labels at label rest) lo (stmts_with body ls)))
       (λ ls. stmts_slots s.program s.routine (stmts_with body ls)) (behind (stmts_phrases body))

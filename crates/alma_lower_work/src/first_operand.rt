@@ -3,11 +3,11 @@ ghost use Rattle.std.specs.Prelude.{◌≡◌, option_map, IfOk, IsOk, OnOk};
 ghost use Rattle.alma_code.specs.declared.cell.SlotKind.TheVariants as slot;
 ghost use Rattle.alma_ir.specs.Tree as tree;
 ghost use Rattle.alma_ir.specs.View.{desig_of, expr_of, links_list};
-ghost use Rattle.alma_lower_templates.specs.Slots.{bare_desig, stays_in};
+ghost use Rattle.alma_lower_templates.specs.Slots.{bare_desig, taken_from};
 ghost use Rattle.alma_lower_templates.specs.Slots as slots;
 ghost use Rattle.alma_lower_templates.specs.Templates.{own_slot};
 ghost use Rattle.alma_lower_work.specs.Front.{around, front, Takes};
-ghost use Rattle.alma_lower_work.specs.Puts.{stays_before};
+ghost use Rattle.alma_lower_work.specs.Puts.{stays_until};
 
 use crate::scene::Scene;
 use crate::stand::own_value;
@@ -21,6 +21,15 @@ use alma_ir::{Desig, Expr, Link, Root};
 pub struct FirstOperand {
     pub from: u32,
     pub to: u32,
+}
+
+/// How a first operand is taken: at once, as by a sign; behind the next operand; or by no instruction, so that it stands in
+/// the slot of the value.
+#[derive(Clone, Copy)]
+pub enum Taken<'e> {
+    AtOnce,
+    Behind(&'e Expr),
+    Never,
 }
 
 // Whether a designator names a variable of the routine, without a selector.
@@ -52,36 +61,36 @@ pub(crate) fn is_ready(expr: &Expr) -> bool
     }
 }
 
-/// The slot in which a first operand stays before the next one.
-pub fn own_first(
-    scene: &Scene<'_>,
-    first: &Expr,
-    next: Option<&Expr>,
-) -> Result<Option<u32>, NoMemory>
+/// The slot in which a first operand stays until it is taken.
+pub fn own_first(scene: &Scene<'_>, first: &Expr, taken: Taken<'_>) -> Result<Option<u32>, NoMemory>
     ensures { IfOk result (λ o. o ≡ option_map (own_slot (around scene.now).program
         (around scene.now).tables (around scene.now).routine)
-        (stays_before (expr_of first.now) next.entry)) }
+        (stays_until (expr_of first.now) taken.entry)) }
 {
-    let Some(next) = next else {
-        return Ok(None);
-    };
-    if !is_ready(next) {
-        return Ok(None);
+    match taken {
+        Taken::AtOnce => own_value(scene, first),
+        Taken::Behind(next) => {
+            if is_ready(next) {
+                own_value(scene, first)
+            } else {
+                Ok(None)
+            }
+        }
+        Taken::Never => Ok(None),
     }
-    own_value(scene, first)
 }
 
-/// The operand of the first operator, before which a first operand without a sign may stay.
-pub fn next_operand(negated: bool, links: &[Link]) -> Option<&Expr>
-    ensures { (first : tree.Expr) → stays_before first result
-        ≡ stays_in negated first (links_list links.now) }
+/// How the first operand of operators is taken: by its sign, or by the first of them.
+pub fn taken_by(negated: bool, links: &[Link]) -> Taken<'_>
+    ensures { (first : tree.Expr) → stays_until first result
+        ≡ taken_from negated first (links_list links.now) }
 {
     if negated {
-        return None;
+        return Taken::AtOnce;
     }
     match links.first() {
-        Some(link) => Some(&link.operand),
-        None => None,
+        Some(link) => Taken::Behind(&link.operand),
+        None => Taken::Never,
     }
 }
 

@@ -1,15 +1,12 @@
 // Places of parameters that are used in the parameter's own slot.
-ghost use Rattle.std.specs.Prelude.{◌≡◌, ℕ, option_map, IfOk, OnOk};
+ghost use Rattle.std.specs.Prelude.{◌≡◌, option_map, IfOk, OnOk};
 ghost use Rattle.alma_code.specs.declared.cell.SlotKind.TheVariants as slot;
 ghost use Rattle.alma_ir.specs.View.{desig_of, sels_list};
-ghost use Rattle.alma_lower_templates.specs.Slots.{if_ready};
 ghost use Rattle.alma_lower_templates.specs.Slots as slots;
 ghost use Rattle.alma_lower_templates.specs.Templates.{own_slot};
-ghost use Rattle.alma_ir.specs.declared.phrase.Root.TheVariants as root;
 ghost use Rattle.alma_lower_work.specs.Front.{around, front, Takes};
 ghost use Rattle.alma_lower_work.specs.Puts.{param_of};
 
-use crate::first_operand::is_ready;
 use crate::scene::Scene;
 use crate::work::Work;
 use alma_base::NoMemory;
@@ -28,13 +25,13 @@ pub fn own_place(scene: &Scene<'_>, desig: &Desig) -> Result<Option<u32>, NoMemo
     param_slot(scene, desig.root)
 }
 
-/// The slot of a parameter of whose place the first selector takes a part, with nothing between.
+/// The slot of a parameter of whose place the first selector takes a part.
 pub fn own_root(scene: &Scene<'_>, root: Root, sels: &[Sel]) -> Result<Option<u32>, NoMemory>
     ensures { IfOk result (λ o. o ≡ option_map (own_slot (around scene.now).program
         (around scene.now).tables (around scene.now).routine)
         (slots.own_root root (sels_list sels.now))) }
 {
-    if !is_part(sels) {
+    if sels.is_empty() {
         return Ok(None);
     }
     param_slot(scene, root)
@@ -47,18 +44,6 @@ pub fn hold_at(work: &mut Work, cells: u32, from: u32) -> Result<u32, NoMemory>
 {
     work.slot(SlotKind::Place(cells))?;
     Ok(from)
-}
-
-// Whether there is a first selector, with nothing to be evaluated for it but a variable of the routine or a constant.
-fn is_part(sels: &[Sel]) -> bool
-    ensures { (from : ℕ) → slots.own_root (root.Param from) (sels_list sels.now)
-        ≡ if_ready result from }
-{
-    match sels.first() {
-        Some(Sel::Field(_, _)) => true,
-        Some(Sel::Index(index, _, _)) => is_ready(index),
-        None => false,
-    }
 }
 
 // The slot of a root that is a parameter with a place.

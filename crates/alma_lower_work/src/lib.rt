@@ -13,7 +13,7 @@ mod turned;
 mod value;
 mod work;
 
-pub use first_operand::{FirstOperand, next_operand, own_first, put_at, stay_at};
+pub use first_operand::{FirstOperand, Taken, own_first, put_at, stay_at, taken_by};
 pub use held::{hold_at, own_place, own_root};
 pub use inequality::{put_unequal, unequal};
 pub use place::{put_links, put_root};

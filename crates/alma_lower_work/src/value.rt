@@ -6,7 +6,7 @@ ghost use Rattle.alma_lower_templates.specs.Pieces as pieces;
 ghost use Rattle.alma_lower_templates.specs.Tables.{is_whole};
 ghost use Rattle.alma_lower_templates.specs.Templates as T;
 ghost use Rattle.alma_lower_work.specs.Front.{around, front, result_of, Codes};
-ghost use Rattle.alma_lower_work.specs.Puts.{first_of};
+ghost use Rattle.alma_lower_work.specs.Puts.{behind_sign, first_of};
 
 use crate::first_operand::FirstOperand;
 use crate::scene::Scene;
@@ -89,15 +89,24 @@ fn cmp_instr(cmp: Cmp, to: u32, left: u32, right: u32) -> Instr
     }
 }
 
-/// The sign of a first operand.
-pub fn put_neg(work: &mut Work, line: u32, negated: bool, to: u32) -> Result<(), NoMemory>
-    ensures { OnOk result (Codes (front work.old) (front work.new)
-        (own line (pieces.neg_code negated to))) }
+/// The sign of a first operand, which puts it into the slot for the value; where it stands then.
+pub fn put_neg(
+    work: &mut Work,
+    line: u32,
+    negated: bool,
+    first: FirstOperand,
+) -> Result<FirstOperand, NoMemory>
+    ensures from { IfOk result (λ signed. signed.from ≡ behind_sign negated first.from first.to) }
+    ensures to { IfOk result (λ signed. signed.to ≡ first.to) }
+    ensures codes { OnOk result (Codes (front work.old) (front work.new)
+        (own line (pieces.neg_code negated first.to first.from))) }
 {
     if !negated {
-        return Ok(());
+        return Ok(first);
     }
-    work.add(line, Instr::Neg { to, from: to })
+    let FirstOperand { from, to } = first;
+    work.put(line, Instr::Neg { to, from })?;
+    Ok(FirstOperand { from: to, to })
 }
 
 // Whether a range holds all numbers of INTEGER.

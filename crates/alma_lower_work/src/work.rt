@@ -4,7 +4,7 @@ ghost use Rattle.alma_code.specs.declared.cell.SlotKind.TheVariants as slot;
 ghost use Rattle.alma_base.specs.Limits.{instr_limit};
 ghost use Rattle.alma_choice.specs.Emitted.{aimed};
 ghost use Rattle.alma_lower_templates.specs.Lined.{own};
-ghost use Rattle.alma_lower_templates.specs.Pieces.{straight};
+ghost use Rattle.alma_lower_templates.specs.Pieces.{placed, straight};
 ghost use Rattle.alma_lower_work.specs.Front.{front, Codes, Takes, Changes, Turns};
 
 use alma_base::NoMemory;
@@ -106,6 +106,14 @@ impl Work {
         ensures { Changes (front self.old) (front self.new) (λ xs. straight to xs) }
     {
         self.emit.redirect(to);
+    }
+
+    /// Sends the place of the last instruction into another slot.
+    #[tactic(auto, unfolding(crate::specs::Front::front))]
+    pub fn redirect_place(&mut self, to: u32)
+        ensures { Changes (front self.old) (front self.new) (λ xs. placed to xs) }
+    {
+        self.emit.redirect_place(to);
     }
 
     /// The line of the next statement, or 0 where none is left.

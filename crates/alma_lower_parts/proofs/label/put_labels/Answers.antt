@@ -1,18 +1,14 @@
-use Rattle.std.proofs.Common.{◌≡◌, ◌∙◌, suc, ◌+◌, ◌-◌, ◌<◌, ◌≤◌, [], ◌∷◌, pos, length, drop, get_or, refl, ap, sym, subst, arith}
+use Rattle.std.proofs.Common.{◌≡◌, ◌∙◌, suc, ◌+◌, ◌-◌, ◌<◌, ◌≤◌, [], ◌∷◌, length, drop, get_or, refl, ap, sym, subst, arith}
 use Rattle.std.proofs.Common.{length-drop, drop-cons, add-one}
 use Rattle.std.proofs.Math.ListN.{drop_of_length-le}
-use Rattle.alma_base.specs.declared.number.Range.{Range}
 use Rattle.alma_choice.specs.Emitted.{aimed}
 use Rattle.alma_lower_work.specs.Front.{front, Holes}
-use Rattle.alma_lower_work.specs.Puts.{all_labels}
+use Rattle.alma_lower_work.specs.Puts.{all_labels, behind_all}
 use Rattle.alma_lower_work.proofs.Joins.{holes_as}
-use Rattle.alma_lower_parts.proofs.LabelForms.{more_labels}
+use Rattle.alma_lower_parts.proofs.LabelForms.{more_labels, no_range}
 use Rattle.alma_lower_parts.proofs.Said.{if_ok, some_elements}
 use Rattle.alma_lower_parts.proofs.label.put_labels.Goals as goal
 use Rattle.alma_lower_templates.specs.Lined.{own}
-
-no_range : Range
-no_range = record { low = pos 0; high = pos 0 }
 
 pub loop-i-preserved : goal.loop-i-preserved
 unfolding no_range
@@ -39,10 +35,10 @@ returns-clause-holes c = λ test.
     let none : drop (suc (length xs - 1)) xs ≡ [] = drop_of_length-le xs le in
     let one : drop l.i xs ≡ get_or xs (length xs - 1) no_range ∷ [] = ap (λ n. drop n xs) at ∙ drop-cons xs (length xs - 1) no_range lt
     ∙ ap (λ ys. get_or xs (length xs - 1) no_range ∷ ys) none in
-    if_ok c.put_last_label.result (λ miss h. holes_as _ _ _ _ _ _ (λ to xs. aimed (aimed xs miss.low to) miss.high to) _ _
+    if_ok c.put_label_test.result (λ miss h. holes_as _ _ _ _ _ _ (λ to xs. aimed (aimed xs miss.low to) miss.high to) _ _
     (l.invariant test _ (λ to xs. aimed (aimed xs miss.low to) miss.high to)
-    (subst (λ z. Holes (front l.work) (front c.put_last_label.new.work) (λ to xs. aimed (aimed xs miss.low to) miss.high to)
+    (subst (λ z. Holes (front l.work) (front c.put_label_test.new.work) (λ to xs. aimed (aimed xs miss.low to) miss.high to)
     (λ none at lo ls. own c.args.line (all_labels c.args.labels.value c.args.labels.bound at c.in_ok-hit.hit none z)) (λ ls. [])
     (λ ls. ls)) (sym one) h))
     (λ to. ap (λ n. own c.args.line (all_labels c.args.labels.value c.args.labels.bound (length (front c.args.work.now).code) n to xs))
-    c.in_ok-hit.ensures) refl refl) (c.put_last_label.ensures test)
+    (c.in_ok-hit.ensures (omega (arith, lt)) ∙ ap (λ n. behind_all n xs) c.in_ok-at.ensures.address)) refl refl) (c.put_label_test.ensures test)

@@ -2,13 +2,13 @@ use Rattle.std.proofs.Common.{ℕ, ◌-◌, ◌∙◌, ap, sym, refl, arith, map
 use Rattle.std.specs.Prelude.{slice_set}
 use Rattle.alma_lower_templates.specs.Pieces.{aim}
 use Rattle.alma_choice.specs.Emitted.{lined}
-use Rattle.alma_choice.proofs.Aiming.{straight_in, straight_none}
+use Rattle.alma_choice.proofs.Aiming.{last_in, last_none}
 use Rattle.alma_choice.proofs.emit.Emit.redirect.Goals as goal
 
 pub returns-then-count-eq0 : goal.returns-then-count-eq0
 returns-then-count-eq0 c = record {
   redirects = record {
-    instrs = sym (straight_none c.args.self.now.code.items c.args.to (omega (arith, c.if-count-eq0.true, c.len-count.ensures)));
+    instrs = sym (last_none (aim c.args.to) c.args.self.now.code.items (omega (arith, c.if-count-eq0.true, c.len-count.ensures)));
     kinds = refl;
     next = refl;
   };
@@ -23,7 +23,7 @@ returns c =
       redirects = record {
         instrs = ap (λ i. map lined (slice_set items at (i, d.1))) c.sent_to.ensures
             ∙ ap (λ x. map lined (slice_set items at (aim c.args.to x.0, x.1))) c.index.ensures
-            ∙ straight_in items at c.args.to d (omega (arith, c.if-count-eq0.false, c.len-count.ensures));
+            ∙ last_in (aim c.args.to) items at d (omega (arith, c.if-count-eq0.false, c.len-count.ensures));
         kinds = refl;
         next = refl;
       };
