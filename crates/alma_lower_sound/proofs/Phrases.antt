@@ -110,7 +110,7 @@ module _ (p : Program) (tables : Tables) (code : PlainCode) (checked : IsChecked
   own_fits at line xs h = pieces.own_fits code r 0 at line xs h
 
   row : (at : ℕ) (a b : List Lined) → Here at a → Here (at + length a) b → Here at (a ++ b)
-  row at a b f g = pieces.row code r 0 at a b f g
+  row at a b f g = pieces.both_fit code r 0 at a b f g
 
   then_own : (at line : ℕ) (a : List Lined) (xs : List Instr) → Here at a → AllNeeds xs → Here at (a ++ own line xs)
   then_own at line a xs f h = pieces.then_own code r 0 at line a xs f h
@@ -945,7 +945,7 @@ module _ (p : Program) (tables : Tables) (code : PlainCode) (checked : IsChecked
         let behind_x = back (lo + 1) (stmts_slots p r x) (slot.Mark ∷ stmts_slots p r y) behind_mark in
         let m = first_slot lo slot.Mark (stmts_slots p r x ++ (slot.Mark ∷ stmts_slots p r y)) slots in
         pieces.forall_fits code r line at lo (one ++ each_body line (n + 2) lo inner two) m
-        (pieces.row code r 1 (at + 1) one (each_body line (n + 2) lo inner two)
+        (pieces.both_fit code r 1 (at + 1) one (each_body line (n + 2) lo inner two)
         (stmts_fit (at + 1) (lo + 1) x (fine_front (stmts_phrases x) (stmts_phrases y) good.1)
         (front (lo + 1) (stmts_slots p r x) (slot.Mark ∷ stmts_slots p r y) behind_mark))
         (pieces.each_fits code r line n lo inner two m (first_slot inner slot.Mark (stmts_slots p r y) behind_x)

@@ -71,8 +71,8 @@ module _ (code : PlainCode) (r : ℕ) where
   pub first : (spare at : ℕ) (c : List Lined) → Fits 0 at c → Fits spare at c
   first spare at c h = less_spare spare 0 at c (omega arith) h
 
-  pub row : (spare at : ℕ) (a b : List Lined) → Fits 0 at a → Fits spare (at + length a) b → Fits spare at (a ++ b)
-  row spare at a b f g = in_two spare at a b (first (length b + spare) at a f) g
+  pub both_fit : (spare at : ℕ) (a b : List Lined) → Fits 0 at a → Fits spare (at + length a) b → Fits spare at (a ++ b)
+  both_fit spare at a b f g = in_two spare at a b (first (length b + spare) at a f) g
 
   -- a value that goes straight into another slot
   aim_needs : (to : ℕ) (i : Instr) → Number code r to → Needs code r i → Needs code r (aim to i)
@@ -103,7 +103,7 @@ module _ (code : PlainCode) (r : ℕ) where
   -- behind a part, instructions of the phrase itself
   pub then_own : (spare at line : ℕ) (a : List Lined) (xs : List Instr) → Fits 0 at a → AllByRecursion (Needs code r) xs
       → Fits spare at (a ++ own line xs)
-  then_own spare at line a xs f h = row spare at a (own line xs) f (own_fits spare (at + length a) line xs h)
+  then_own spare at line a xs f h = both_fit spare at a (own line xs) f (own_fits spare (at + length a) line xs h)
 
   -- a number, which goes to a slot
   pub put_fits : (z : Bool) (line at to value : ℕ) (check : List Instr) (c : List Lined) → Number code r to → Number code r value
@@ -134,7 +134,7 @@ module _ (code : PlainCode) (r : ℕ) where
       → Fits 0 at (in_row at (a ++ own line (I.Jump jump ∷ [])) rest)
   by_jump at line jump a rest out f g =
       let last : List Lined = own line (I.Jump jump ∷ []) in
-      row 0 at (a ++ last) (rest (at + length (a ++ last)))
+      both_fit 0 at (a ++ last) (rest (at + length (a ++ last)))
       (in_two 0 at a last (less_spare (length last + 0) 1 at a (omega arith) f)
       (own_fits 0 (at + length a) line (I.Jump jump ∷ []) (out, tt))) g
 
@@ -352,9 +352,9 @@ module _ (code : PlainCode) (r : ℕ) where
       let at1 : ℕ = at + length (own line check) in
       let at2 : ℕ = at1 + length (locate at1) in
       let set : List Lined = own line (store ∷ []) in
-      row 0 at (own line check) (locate at1 ++ (set ++ body (at2 + 1))) (own_fits 0 at line check c)
-      (row 0 at1 (locate at1) (set ++ body (at2 + 1)) (l at1)
-      (row 0 at2 set (body (at2 + 1)) (own_fits 0 at2 line (store ∷ []) (s, tt)) (b (at2 + 1))))
+      both_fit 0 at (own line check) (locate at1 ++ (set ++ body (at2 + 1))) (own_fits 0 at line check c)
+      (both_fit 0 at1 (locate at1) (set ++ body (at2 + 1)) (l at1)
+      (both_fit 0 at2 set (body (at2 + 1)) (own_fits 0 at2 line (store ∷ []) (s, tt)) (b (at2 + 1))))
 
   -- the step, and both bounds
   pub begin_fits : (spare line at step : ℕ) (by : ℤ) (from to : (at : ℕ) → List Lined) → Number code r step
@@ -363,5 +363,5 @@ module _ (code : PlainCode) (r : ℕ) where
       let one : List Lined = from (at + 1) in
       let two : List Lined = to (at + 1 + length one) in
       first spare at (own line (I.Const step by ∷ []) ++ (one ++ two))
-      (row 0 at (own line (I.Const step by ∷ [])) (one ++ two) (own_fits 0 at line (I.Const step by ∷ []) (s, tt))
-      (row 0 (at + 1) one two (f (at + 1)) (g (at + 1 + length one))))
+      (both_fit 0 at (own line (I.Const step by ∷ [])) (one ++ two) (own_fits 0 at line (I.Const step by ∷ []) (s, tt))
+      (both_fit 0 (at + 1) one two (f (at + 1)) (g (at + 1 + length one))))
