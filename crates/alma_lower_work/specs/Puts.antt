@@ -191,9 +191,9 @@ pub record IsTurned (t : Test) (how : Cmp) (x y : Expr) : Type 0 where
   pub is : t ≡ Value (Compare how x y)
   pub turned : is_turned t ≡ true
 
--- and its code, which goes back to `top` while the comparison holds
-pub record PutsBack (s : Around) (line top : ℕ) (a b : Front) (t : Test) : Type 0 where
-  pub all : Adds a b (λ at lo ls. T.back_code s.program s.tables s.routine line at lo top (test_with t ls))
+-- and its code, which goes back to `top` while the comparison holds; a constant that is its second operand is held in a slot
+pub record PutsBack (s : Around) (line held top : ℕ) (a b : Front) (t : Test) : Type 0 where
+  pub all : Adds a b (λ at lo ls. T.back_code s.program s.tables s.routine line at lo held top (test_with t ls))
       (λ ls. test_slots s.program s.routine (test_with t ls)) (behind (test_phrases t))
 
 -- the operands of AND
