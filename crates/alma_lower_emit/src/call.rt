@@ -6,9 +6,9 @@ ghost use Rattle.alma_lower_work.specs.Front.{around, front};
 ghost use Rattle.alma_lower_work.specs.Puts.{PutsExpr, PutsArgs, PutsArg, PutsHanded, first_slot};
 ghost use Rattle.alma_lower_emit.specs.Inside.{EmitsStmts};
 
-use crate::designator::emit_desig;
+use crate::designator::emit_place;
 use crate::expression::emit_value;
-use crate::plain::{number_of, place_of};
+use crate::plain::number_of;
 use alma_base::NoMemory;
 use alma_ir::{Arg, Call, Stmt};
 use alma_lower_parts::{Scene, Work, begin_call, put_function, slot_of, slot_past, take_result};
@@ -87,18 +87,9 @@ where
             let from = emit_value(work, scene, line, value, inside);
             number_of(work, scene, line, value, *range, to, from)
         }
-        Arg::Cells(desig) => {
-            let from = emit_desig(work, scene, line, desig, inside);
-            place_of(work, line, to, from)
-        }
-        Arg::Place(desig) => {
-            let from = emit_desig(work, scene, line, desig, inside);
-            place_of(work, line, to, from)
-        }
-        Arg::MixPlace(desig) => {
-            let from = emit_desig(work, scene, line, desig, inside);
-            place_of(work, line, to, from)
-        }
+        Arg::Cells(desig) => emit_place(work, scene, line, to, desig, inside),
+        Arg::Place(desig) => emit_place(work, scene, line, to, desig, inside),
+        Arg::MixPlace(desig) => emit_place(work, scene, line, to, desig, inside),
     }
 }
 

@@ -4,11 +4,12 @@ ghost use Rattle.alma_ir.specs.View.{desig_of, sel_of, sels_list};
 ghost use Rattle.alma_ir.specs.Lines.{desig_with, sels_with, sel_with};
 ghost use Rattle.alma_lower_templates.specs.Templates.{held_at, place_at, part_at, part_slot};
 ghost use Rattle.alma_lower_work.specs.Front.{around, front};
-ghost use Rattle.alma_lower_work.specs.Puts.{PutsDesig, PutsHeld, PutsTarget, PutsSels, PutsSel, stand_of};
+ghost use Rattle.alma_lower_work.specs.Puts.{PutsDesig, PutsHeld, PutsPlace, PutsTarget, PutsSels, PutsSel};
+ghost use Rattle.alma_lower_work.specs.Puts.{stand_of};
 ghost use Rattle.alma_lower_emit.specs.Inside.{EmitsStmts};
 
 use crate::expression::emit_value;
-use crate::plain::element_of;
+use crate::plain::{element_of, hand_own, place_of};
 use alma_base::NoMemory;
 use alma_ir::{Desig, Sel, Stmt};
 use alma_lower_parts::{
@@ -37,7 +38,7 @@ where
     emit_sels(work, scene, line, to, &desig.sels, inside)
 }
 
-/// The place of a designator that is read at once.
+/// The place of a designator that is used: that of a parameter stands in its own slot.
 #[cycle(emit)]
 pub fn emit_held<S>(
     work: &mut Work,
@@ -61,6 +62,31 @@ where
     }
 }
 
+/// The place of a designator that is handed over, into the slot of an argument.
+#[cycle(emit)]
+pub fn emit_place<S>(
+    work: &mut Work,
+    scene: &Scene<'_>,
+    line: u32,
+    to: u32,
+    desig: &Desig,
+    inside: &S,
+) -> Result<(), NoMemory>
+where
+    S: for<'a, 'b, 'c, 'd> Fn(&'a mut Work, &'b Scene<'c>, &'d [Stmt]) -> Result<(), NoMemory>,
+    requires emits { EmitsStmts (S.IsAlwaysCallable inside.now) (S.post inside.now) }
+    ensures puts { OnOk result (PutsPlace (around scene.now) line to
+        (front work.old) (front work.new) (desig_of desig.now)) }
+{
+    match own_place(scene, desig)? {
+        Some(from) => hand_own(work, line, desig.cells, to, from),
+        None => {
+            let made = emit_desig(work, scene, line, desig, inside);
+            place_of(work, to, made)
+        }
+    }
+}
+
 /// Where a variable stands that is written.
 pub fn emit_target<S>(
     work: &mut Work,
@@ -79,7 +105,7 @@ where
 {
     match own_stand(scene, desig)? {
         Some(slot) => Ok(Stand::Own(slot)),
-        None => stand_at(emit_desig(work, scene, line, desig, inside)),
+        None => stand_at(emit_held(work, scene, line, desig, inside)),
     }
 }
 

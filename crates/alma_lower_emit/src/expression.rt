@@ -5,7 +5,7 @@ ghost use Rattle.alma_ir.specs.Lines.{expr_with};
 ghost use Rattle.alma_ir.specs.Tree as tree;
 ghost use Rattle.alma_lower_work.specs.Front.{around, front};
 ghost use Rattle.alma_lower_work.specs.Puts.{PutsExpr, PutsFirstOperand, PutsValue, PutsLinks};
-ghost use Rattle.alma_lower_work.specs.Puts.{stays_before, value_slot};
+ghost use Rattle.alma_lower_work.specs.Puts.{stays_until, value_slot};
 ghost use Rattle.alma_lower_templates.specs.Templates as T;
 ghost use Rattle.alma_lower_emit.specs.Inside.{EmitsStmts};
 
@@ -17,8 +17,8 @@ use alma_base::NoMemory;
 use alma_code::{Instr, SlotKind};
 use alma_ir::{Cmp, Desig, Expr, Link, Stmt, Test};
 use alma_lower_parts::{
-    FirstOperand, Scene, Work, emit_const, end_truth, next_operand, op_instr, own_first, own_stand,
-    own_value, put_at, put_cmp, put_neg, slot_of, stay_at,
+    FirstOperand, Scene, Taken, Work, emit_const, end_truth, op_instr, own_first, own_stand,
+    own_value, put_at, put_cmp, put_neg, slot_of, stay_at, taken_by,
 };
 
 /// An expression, and the slot of its number.
@@ -101,23 +101,23 @@ where
         (front work.old) (front work.new)
         (tree.Chain negated (expr_of first.now) (links_list links.now))) }
 {
-    let next = next_operand(negated, links);
-    let first = emit_first(work, scene, line, first, next, inside)?;
-    put_neg(work, line, negated, first.to)?;
+    let taken = taken_by(negated, links);
+    let first = emit_first(work, scene, line, first, taken, inside)?;
+    let first = put_neg(work, line, negated, first)?;
     slot_of(
         emit_links(work, scene, line, first, links, inside),
         first.to,
     )
 }
 
-/// A first operand, which has no code where it stays before the next one.
+/// A first operand, which has no code where it stays until it is taken.
 #[cycle(emit)]
 pub fn emit_first<S>(
     work: &mut Work,
     scene: &Scene<'_>,
     line: u32,
     expr: &Expr,
-    next: Option<&Expr>,
+    taken: Taken<'_>,
     inside: &S,
 ) -> Result<FirstOperand, NoMemory>
 where
@@ -126,11 +126,11 @@ where
     ensures to { IfOk result (λ first. first.to ≡ (front work.old).next) }
     ensures from { IfOk result (λ first. first.from ≡ T.slot_or (around scene.now).program
         (around scene.now).tables (around scene.now).routine
-        (stays_before (expr_of expr.now) next.entry) (front work.old).next) }
+        (stays_until (expr_of expr.now) taken.entry) (front work.old).next) }
     ensures puts { OnOk result (PutsFirstOperand (around scene.now) line (front work.old)
-        (front work.new) (stays_before (expr_of expr.now) next.entry) (expr_of expr.now)) }
+        (front work.new) (stays_until (expr_of expr.now) taken.entry) (expr_of expr.now)) }
 {
-    match own_first(scene, expr, next)? {
+    match own_first(scene, expr, taken)? {
         Some(from) => stay_at(work, from),
         None => put_at(emit_expr(work, scene, line, expr, inside)),
     }
@@ -180,7 +180,7 @@ where
         (front work.old) (front work.new)
         (tree.Compare cmp (expr_of left.now) (expr_of right.now))) }
 {
-    let first = emit_first(work, scene, line, left, Some(right), inside)?;
+    let first = emit_first(work, scene, line, left, Taken::Behind(right), inside)?;
     let other = emit_value(work, scene, line, right, inside)?;
     slot_of(put_cmp(work, line, cmp, first, other), first.to)
 }

@@ -13,7 +13,7 @@ use crate::inside::emit_inside;
 use alma_base::NoMemory;
 use alma_code::Instr;
 use alma_ir::{Arm, Cmp, Expr, Stmt, Test};
-use alma_lower_parts::{Scene, Work, begin_while, end_repeat, put_back, turned_test};
+use alma_lower_parts::{Scene, Taken, Work, begin_while, end_repeat, put_back, turned_test};
 
 // A condition, and what is done where it has an alternative; else the code goes on behind the jump that follows.
 fn emit_guarded<S>(
@@ -152,7 +152,7 @@ where
     ensures puts { OnOk result (PutsBack (around scene.now) line top (front work.old)
         (front work.new) (tree.Value (tree.Compare how (expr_of left.now) (expr_of right.now)))) }
 {
-    let first = emit_first(work, scene, line, left, Some(right), inside)?;
+    let first = emit_first(work, scene, line, left, Taken::Behind(right), inside)?;
     let other = emit_value(work, scene, line, right, inside)?;
     put_back(work, line, how, first, other, top)
 }

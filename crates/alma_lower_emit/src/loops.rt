@@ -3,23 +3,22 @@ ghost use Rattle.std.specs.Prelude.{◌≡◌, IfOk, OnOk};
 ghost use Rattle.alma_ir.specs.View.{desig_of, expr_of, loop_of, stmts_list};
 ghost use Rattle.alma_ir.specs.Tree as tree;
 ghost use Rattle.alma_lower_work.specs.Front.{around, front};
-ghost use Rattle.alma_lower_work.specs.Puts.{PutsFirstOperand, PutsStmt};
+ghost use Rattle.alma_lower_work.specs.Puts.{PutsStmt};
 ghost use Rattle.alma_lower_parts.specs.Loops.{PassesAndBounds, PutsFirstCount, PutsLimit};
 ghost use Rattle.alma_lower_parts.specs.Loops.{PutsTurn};
 ghost use Rattle.alma_lower_templates.specs.Slots as slots;
-ghost use Rattle.alma_lower_templates.specs.Templates as T;
 ghost use Rattle.alma_lower_templates.specs.Templates.{own_slot};
 ghost use Rattle.alma_lower_emit.specs.Inside.{EmitsStmts};
 
 use crate::designator::emit_target;
-use crate::expression::emit_expr;
+use crate::expression::{emit_expr, emit_first};
 use crate::inside::emit_inside;
 use alma_base::NoMemory;
 use alma_code::{Instr, SlotKind};
 use alma_ir::{Expr, Loop, Stmt};
 use alma_lower_parts::{
-    Bounds, FirstOperand, Scene, Work, begin_for, begin_loop, begin_some, constant, end_for,
-    ends_alone, own_value, put_at, put_count, stay_at,
+    Bounds, Scene, Taken, Work, begin_for, begin_loop, begin_some, constant, end_for, ends_alone,
+    put_count,
 };
 
 // FOR. The lines of the variable come first, and its code behind that of the bounds.
@@ -122,7 +121,7 @@ where
     }
 }
 
-// The limit of a loop goes to its slot.
+// The limit of a loop goes to its slot. A variable of the routine stands for itself, and takes a slot all the same.
 fn emit_limit<S>(
     work: &mut Work,
     scene: &Scene<'_>,
@@ -137,7 +136,7 @@ where
     ensures puts { OnOk result (PutsLimit (around scene.now) line limit
         (front work.old) (front work.new) (expr_of expr.now)) }
 {
-    let last = emit_last(work, scene, line, expr, inside)?;
+    let last = emit_first(work, scene, line, expr, Taken::AtOnce, inside)?;
     if ends_alone(expr) {
         work.redirect(limit);
         return Ok(());
@@ -149,29 +148,6 @@ where
             from: last.from,
         },
     )
-}
-
-// The value of a limit: a variable of the routine stands for itself, and takes a slot all the same.
-fn emit_last<S>(
-    work: &mut Work,
-    scene: &Scene<'_>,
-    line: u32,
-    expr: &Expr,
-    inside: &S,
-) -> Result<FirstOperand, NoMemory>
-where
-    S: for<'a, 'b, 'c, 'd> Fn(&'a mut Work, &'b Scene<'c>, &'d [Stmt]) -> Result<(), NoMemory>,
-    requires emits { EmitsStmts (S.IsAlwaysCallable inside.now) (S.post inside.now) }
-    ensures from { IfOk result (λ last. last.from ≡ T.slot_or (around scene.now).program
-        (around scene.now).tables (around scene.now).routine (slots.bare (expr_of expr.now))
-        (front work.old).next) }
-    ensures puts { OnOk result (PutsFirstOperand (around scene.now) line (front work.old)
-        (front work.new) (slots.bare (expr_of expr.now)) (expr_of expr.now)) }
-{
-    match own_value(scene, expr)? {
-        Some(from) => stay_at(work, from),
-        None => put_at(emit_expr(work, scene, line, expr, inside)),
-    }
 }
 
 // A turn: the count is checked, the variable is set, and the body follows with the lines behind those of the bounds.

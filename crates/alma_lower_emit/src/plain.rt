@@ -7,12 +7,12 @@ ghost use Rattle.alma_lower_templates.specs.Lined.{own};
 ghost use Rattle.alma_lower_templates.specs.Pieces as pieces;
 ghost use Rattle.alma_lower_templates.specs.Tables.{range_number};
 ghost use Rattle.alma_lower_templates.specs.Templates.{char_range};
-ghost use Rattle.alma_lower_work.specs.Front.{around, front, Codes};
+ghost use Rattle.alma_lower_work.specs.Front.{around, front, Changes, Codes};
 ghost use Rattle.alma_lower_parts.specs.Numbers.{PutsNumber};
 ghost use Rattle.alma_lower_parts.specs.Steps.{PutsSlot};
 
 use alma_base::{NoMemory, Range};
-use alma_code::Instr;
+use alma_code::{Instr, SlotKind};
 use alma_ir::Expr;
 use alma_lower_parts::{
     FirstOperand, Scene, Work, put_bind, put_chr, put_index, put_number, put_unequal,
@@ -36,18 +36,33 @@ pub(crate) fn number_of(
     put_number(work, scene, line, value, range, to, from)
 }
 
-// A place for the slot of an argument.
+// The place that was made last goes straight to the slot of an argument.
 pub(crate) fn place_of(
     work: &mut Work,
-    line: u32,
     to: u32,
-    from: Result<u32, NoMemory>,
+    made: Result<u32, NoMemory>,
 ) -> Result<(), NoMemory>
-    ensures done { OnOk result (IsOk from) }
-    ensures codes { IfOk from (λ from. OnOk result (Codes (front work.old) (front work.new)
-        (own line (instr.Same to from ∷ [])))) }
+    ensures done { OnOk result (IsOk made) }
+    ensures places { OnOk result (Changes (front work.old) (front work.new)
+        (λ xs. pieces.placed to xs)) }
 {
-    let from = from?;
+    made?;
+    work.redirect_place(to);
+    Ok(())
+}
+
+// The place of a parameter for the slot of an argument, from its own slot; a slot is taken all the same.
+pub(crate) fn hand_own(
+    work: &mut Work,
+    line: u32,
+    cells: u32,
+    to: u32,
+    from: u32,
+) -> Result<(), NoMemory>
+    ensures { OnOk result (PutsSlot (front work.old) (front work.new) (slot.Place cells)
+        (own line (instr.Same to from ∷ []))) }
+{
+    work.slot(SlotKind::Place(cells))?;
     work.add(line, Instr::Same { to, from })
 }
 

@@ -8,7 +8,7 @@ ghost use Rattle.alma_lower_emit.specs.Inside.{EmitsStmts};
 
 use crate::case::emit_case;
 use crate::choice::{emit_commit, emit_either, emit_forall};
-use crate::designator::{emit_desig, emit_target};
+use crate::designator::{emit_held, emit_target};
 use crate::expression::emit_value;
 use crate::guarded::{emit_if, emit_repeat, emit_while};
 use crate::leaf::{read_of, return_of, write_of};
@@ -70,7 +70,7 @@ where
         Stmt::Commit(body) => emit_commit(work, scene, line, body, inside),
         Stmt::Return(value) => emit_return(work, scene, line, value, inside),
         Stmt::Read(desig, how, range) => {
-            let place = emit_desig(work, scene, line, desig, inside);
+            let place = emit_held(work, scene, line, desig, inside);
             read_of(work, scene, line, *how, place, *range)
         }
         Stmt::WriteExpr(value, how) => {
@@ -126,8 +126,8 @@ where
         (front work.old) (front work.new)
         (tree.CopyCells (desig_of desig.now) (desig_of from.now))) }
 {
-    let to = emit_desig(work, scene, line, desig, inside)?;
-    let from = emit_desig(work, scene, line, from, inside)?;
+    let to = emit_held(work, scene, line, desig, inside)?;
+    let from = emit_held(work, scene, line, from, inside)?;
     work.add(line, Instr::CopyCells { to, from })
 }
 

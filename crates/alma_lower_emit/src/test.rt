@@ -7,14 +7,14 @@ ghost use Rattle.alma_lower_work.specs.Puts.{PutsTest, PutsOperands, PutsFirst};
 ghost use Rattle.alma_lower_emit.specs.Inside.{EmitsStmts};
 
 use crate::call::emit_call;
-use crate::designator::emit_desig;
+use crate::designator::emit_held;
 use crate::expression::{emit_expr, emit_first, emit_value};
 use crate::inside::emit_inside;
 use crate::plain::{bind_place, bind_value, call_of, check_of, unequal_of};
 use alma_base::{NoMemory, Range};
 use alma_code::Instr;
 use alma_ir::{Desig, Expr, Stmt, Test};
-use alma_lower_parts::{Scene, Work, begin_first, end_first, end_not, put_unify, unequal};
+use alma_lower_parts::{Scene, Taken, Work, begin_first, end_first, end_not, put_unify, unequal};
 
 /// A test.
 #[cycle(emit)]
@@ -68,7 +68,7 @@ where
 {
     match unequal(value) {
         Some((left, right)) => {
-            let first = emit_first(work, scene, line, left, Some(right), inside)?;
+            let first = emit_first(work, scene, line, left, Taken::Behind(right), inside)?;
             let other = emit_value(work, scene, line, right, inside);
             unequal_of(work, line, first, other)
         }
@@ -123,7 +123,7 @@ where
         (front work.old) (front work.new)
         (tree.Bind (desig_of desig.now) (expr_of value.now) range true)) }
 {
-    let place = emit_desig(work, scene, line, desig, inside)?;
+    let place = emit_held(work, scene, line, desig, inside)?;
     let number = emit_value(work, scene, line, value, inside);
     bind_value(work, scene, line, place, number, range)
 }
@@ -147,7 +147,7 @@ where
         (tree.Bind (desig_of desig.now) (expr_of value.now) range false)) }
 {
     let value = emit_expr(work, scene, line, value, inside)?;
-    let place = emit_desig(work, scene, line, desig, inside);
+    let place = emit_held(work, scene, line, desig, inside);
     bind_place(work, scene, line, place, value, range)
 }
 
@@ -170,8 +170,8 @@ where
         (front work.old) (front work.new)
         (tree.Unify (desig_of left.now) left_range (desig_of right.now) right_range)) }
 {
-    let left = emit_desig(work, scene, line, left, inside)?;
-    let right = emit_desig(work, scene, line, right, inside)?;
+    let left = emit_held(work, scene, line, left, inside)?;
+    let right = emit_held(work, scene, line, right, inside)?;
     put_unify(work, scene, line, (left, left_range), (right, right_range))
 }
 
@@ -192,8 +192,8 @@ where
         (front work.old) (front work.new)
         (tree.SameCells (desig_of left.now) (desig_of right.now))) }
 {
-    let left = emit_desig(work, scene, line, left, inside)?;
-    let right = emit_desig(work, scene, line, right, inside)?;
+    let left = emit_held(work, scene, line, left, inside)?;
+    let right = emit_held(work, scene, line, right, inside)?;
     work.add(line, Instr::SameCells { left, right })
 }
 

@@ -18,7 +18,7 @@ use Rattle.alma_lower_parts.proofs.ExprForms.{load_own, load_held, no_links_put,
 use Rattle.alma_lower_work.proofs.DesigForms.{no_sels_put, sels_put, index_put, index_part}
 use Rattle.alma_lower_parts.proofs.PlaceForms.{desig_put, desig_place, own_held, own_held_at, made_held, made_held_at}
 use Rattle.alma_lower_parts.proofs.CallForms.{no_args_put, args_put, value_arg_put, mix_value_put, cells_arg_put, place_arg_put}
-use Rattle.alma_lower_parts.proofs.CallForms.{mix_place_put, handed_put, call_test_put, call_value_put}
+use Rattle.alma_lower_parts.proofs.CallForms.{mix_place_put, own_place_put, made_place_put, handed_put, call_test_put, call_value_put}
 use Rattle.alma_lower_parts.proofs.GuardForms.{simple_guard, barrier_guard}
 use Rattle.alma_lower_parts.proofs.IfForms.{truth_put}
 use Rattle.alma_lower_parts.proofs.TestForms.{value_test_put, unequal_put, bind_left_put, bind_right_put, unify_put, same_put, seq_put}
@@ -90,30 +90,26 @@ pub call::emit_arg-returns-in-Cells : goal.call::emit_arg-returns-in-Cells
 call::emit_arg-returns-in-Cells g t c =
     let view : arg_of c.args.arg.now ≡ tree.ByCells (desig_of c.in-Cells.desig) = ap arg_of c.in-Cells.is ∙ Views.bycells_view _ in
     record {
-      puts = arg_as c.place_of.result (around c.args.scene.now) c.args.line c.args.to _ _ _ _ view
-          (put_behind c.emit_desig-from.result c.place_of.result c.emit_desig-from.ensures.puts c.emit_desig-from.ensures.place
-          c.place_of.ensures.done c.place_of.ensures.codes
-          (λ at puts is h. cells_arg_put (around c.args.scene.now) c.args.line _ _ _ _ _ _ puts is h));
+      puts = arg_as c.emit_place.result (around c.args.scene.now) c.args.line c.args.to _ _ _ _ view
+          (on_ok c.emit_place.result (cells_arg_put (around c.args.scene.now) c.args.line _ _ _ _) c.emit_place.ensures.puts);
     }
 
 pub call::emit_arg-returns-in-Place : goal.call::emit_arg-returns-in-Place
 call::emit_arg-returns-in-Place g t c =
     let view : arg_of c.args.arg.now ≡ tree.ByPlace (desig_of c.in-Place.desig) = ap arg_of c.in-Place.is ∙ Views.byplace_view _ in
     record {
-      puts = arg_as c.place_of-in-Place.result (around c.args.scene.now) c.args.line c.args.to _ _ _ _ view
-          (put_behind c.emit_desig-from-in-Place.result c.place_of-in-Place.result c.emit_desig-from-in-Place.ensures.puts
-          c.emit_desig-from-in-Place.ensures.place c.place_of-in-Place.ensures.done c.place_of-in-Place.ensures.codes
-          (λ at puts is h. place_arg_put (around c.args.scene.now) c.args.line _ _ _ _ _ _ puts is h));
+      puts = arg_as c.emit_place-in-Place.result (around c.args.scene.now) c.args.line c.args.to _ _ _ _ view
+          (on_ok c.emit_place-in-Place.result (place_arg_put (around c.args.scene.now) c.args.line _ _ _ _)
+          c.emit_place-in-Place.ensures.puts);
     }
 
 pub call::emit_arg-returns-in-MixPlace : goal.call::emit_arg-returns-in-MixPlace
 call::emit_arg-returns-in-MixPlace g t c =
     let view : arg_of c.args.arg.now ≡ tree.MixPlace (desig_of c.in-MixPlace.desig) = ap arg_of c.in-MixPlace.is ∙ Views.mixplace_view _ in
     record {
-      puts = arg_as c.place_of-in-MixPlace.result (around c.args.scene.now) c.args.line c.args.to _ _ _ _ view
-          (put_behind c.emit_desig-from-in-MixPlace.result c.place_of-in-MixPlace.result c.emit_desig-from-in-MixPlace.ensures.puts
-          c.emit_desig-from-in-MixPlace.ensures.place c.place_of-in-MixPlace.ensures.done c.place_of-in-MixPlace.ensures.codes
-          (λ at puts is h. mix_place_put (around c.args.scene.now) c.args.line _ _ _ _ _ _ puts is h));
+      puts = arg_as c.emit_place-in-MixPlace.result (around c.args.scene.now) c.args.line c.args.to _ _ _ _ view
+          (on_ok c.emit_place-in-MixPlace.result (mix_place_put (around c.args.scene.now) c.args.line _ _ _ _)
+          c.emit_place-in-MixPlace.ensures.puts);
     }
 
 pub call::emit_call_value-returns : goal.call::emit_call_value-returns
@@ -162,12 +158,12 @@ expression::emit_load-returns-in-None g t c =
 pub expression::emit_chain-returns : goal.expression::emit_chain-returns
 expression::emit_chain-returns g t c =
     record {
-      slot = if_ok c.slot_of.result (λ given is. is ∙ c.in_ok-first.ensures.to) c.slot_of.ensures.slot;
-      puts = on_ok c.slot_of.result (λ ok. chain_put (around c.args.scene.now) c.args.line _ _ _ _ _ _ _ _ _
-          (first_is (around c.args.scene.now) c.args.line _ _ _ _ _ (c.next_operand-next.ensures _) c.in_ok-first.ensures.puts)
+      slot = if_ok c.slot_of.result (λ given is. is ∙ c.in_ok-first-2.ensures.to ∙ c.in_ok-first.ensures.to) c.slot_of.ensures.slot;
+      puts = on_ok c.slot_of.result (λ ok. chain_put (around c.args.scene.now) c.args.line _ _ _ _ _ _ _ _ _ _ _
+          (first_is (around c.args.scene.now) c.args.line _ _ _ _ _ (c.taken_by-taken.ensures _) c.in_ok-first.ensures.puts)
           c.in_ok-first.ensures.to
-          (first_at (around c.args.scene.now) c.args.line _ _ _ _ (c.next_operand-next.ensures _) c.in_ok-first.ensures.from)
-          c.in_ok-put_neg.ensures (said c.emit_links.result ok c.emit_links.ensures.puts)) c.slot_of.ensures.done;
+          (first_at (around c.args.scene.now) c.args.line _ _ _ _ (c.taken_by-taken.ensures _) c.in_ok-first.ensures.from)
+          c.in_ok-first-2.ensures.from c.in_ok-first-2.ensures.to c.in_ok-first-2.ensures.codes (said c.emit_links.result ok c.emit_links.ensures.puts)) c.slot_of.ensures.done;
     }
 
 pub expression::emit_first-returns-in-Some : goal.expression::emit_first-returns-in-Some
@@ -230,7 +226,7 @@ test::emit_bind_left-returns g t c = record {
 pub test::emit_bind_right-returns : goal.test::emit_bind_right-returns
 test::emit_bind_right-returns g t c = record {
   puts =
-      put_behind c.emit_desig-place.result c.bind_place.result c.emit_desig-place.ensures.puts c.emit_desig-place.ensures.place
+      put_behind c.emit_held-place.result c.bind_place.result c.emit_held-place.ensures.puts c.emit_held-place.ensures.place
       c.bind_place.ensures.done c.bind_place.ensures.codes
       (λ at puts is h. bind_right_put (around c.args.scene.now) c.args.line _ _ _ _ _ _ _ _ _ _ c.in_ok-value.ensures.puts
       c.in_ok-value.ensures.slot puts is refl h);
@@ -479,6 +475,22 @@ designator::emit_held-returns-in-None g t c =
           (λ place h. made_held_at (around c.args.scene.now) c.args.line _ _ _ _ none h) c.emit_desig.ensures.place;
       puts = on_ok c.emit_desig.result (made_held (around c.args.scene.now) c.args.line _ _ _ none) c.emit_desig.ensures.puts;
     }
+
+pub designator::emit_place-returns-in-Some : goal.designator::emit_place-returns-in-Some
+designator::emit_place-returns-in-Some g t c = record {
+  puts = on_ok c.hand_own.result
+      (own_place_put (around c.args.scene.now) c.args.line _ _ _ _ _ _ _ (sym c.in-Some.is ∙ c.in_ok-from.ensures)) c.hand_own.ensures;
+}
+
+pub designator::emit_place-returns-in-None : goal.designator::emit_place-returns-in-None
+designator::emit_place-returns-in-None g t c = record {
+  puts = from_both c.place_of.result c.place_of.ensures.done c.place_of.ensures.places
+      (λ ok. made_place_put (around c.args.scene.now) c.args.line _ _ _ _ _ (sym c.in-None.is ∙ c.in_ok-from.ensures)
+      (said c.emit_desig-made.result ok c.emit_desig-made.ensures.puts));
+}
+
+pub designator::emit_place-emit_desig-made-requires : goal.designator::emit_place-emit_desig-made-requires
+designator::emit_place-emit_desig-made-requires g t c κs within = (omega arith, (search rules, c.requires.emits))
 
 pub designator::emit_sels-loop-sel-init : goal.designator::emit_sels-loop-sel-init
 designator::emit_sels-loop-sel-init g t c = record { part = refl; completes = λ e h. h }
@@ -783,18 +795,18 @@ call::emit_arg-emit_value-from-requires-in-MixValue g t c κs within =
     ∙ Views.mixvalue_view _ _ in
     (omega (arith, ap arg_nodes view), (search rules, c.requires.emits))
 
-pub call::emit_arg-emit_desig-from-requires : goal.call::emit_arg-emit_desig-from-requires
-call::emit_arg-emit_desig-from-requires g t c κs within =
+pub call::emit_arg-emit_place-requires : goal.call::emit_arg-emit_place-requires
+call::emit_arg-emit_place-requires g t c κs within =
     let view : arg_of c.args.arg.now ≡ tree.ByCells (desig_of c.in-Cells.desig) = ap arg_of c.in-Cells.is ∙ Views.bycells_view _ in
     (omega (arith, ap arg_nodes view), (search rules, c.requires.emits))
 
-pub call::emit_arg-emit_desig-from-requires-in-Place : goal.call::emit_arg-emit_desig-from-requires-in-Place
-call::emit_arg-emit_desig-from-requires-in-Place g t c κs within =
+pub call::emit_arg-emit_place-requires-in-Place : goal.call::emit_arg-emit_place-requires-in-Place
+call::emit_arg-emit_place-requires-in-Place g t c κs within =
     let view : arg_of c.args.arg.now ≡ tree.ByPlace (desig_of c.in-Place.desig) = ap arg_of c.in-Place.is ∙ Views.byplace_view _ in
     (omega (arith, ap arg_nodes view), (search rules, c.requires.emits))
 
-pub call::emit_arg-emit_desig-from-requires-in-MixPlace : goal.call::emit_arg-emit_desig-from-requires-in-MixPlace
-call::emit_arg-emit_desig-from-requires-in-MixPlace g t c κs within =
+pub call::emit_arg-emit_place-requires-in-MixPlace : goal.call::emit_arg-emit_place-requires-in-MixPlace
+call::emit_arg-emit_place-requires-in-MixPlace g t c κs within =
     let view : arg_of c.args.arg.now ≡ tree.MixPlace (desig_of c.in-MixPlace.desig) = ap arg_of c.in-MixPlace.is ∙ Views.mixplace_view _ in
     (omega (arith, ap arg_nodes view), (search rules, c.requires.emits))
 
@@ -899,8 +911,8 @@ test::emit_bind-emit_bind_left-requires g t c κs within = (omega arith, (search
 pub test::emit_bind-emit_bind_right-requires : goal.test::emit_bind-emit_bind_right-requires
 test::emit_bind-emit_bind_right-requires g t c κs within = (omega arith, (search rules, c.requires.emits))
 
-pub test::emit_bind_left-emit_desig-requires : goal.test::emit_bind_left-emit_desig-requires
-test::emit_bind_left-emit_desig-requires g t c κs within = (omega arith, (search rules, c.requires.emits))
+pub test::emit_bind_left-emit_held-requires : goal.test::emit_bind_left-emit_held-requires
+test::emit_bind_left-emit_held-requires g t c κs within = (omega arith, (search rules, c.requires.emits))
 
 pub test::emit_bind_left-emit_value-number-requires : goal.test::emit_bind_left-emit_value-number-requires
 test::emit_bind_left-emit_value-number-requires g t c κs within = (omega arith, (search rules, c.requires.emits))
@@ -908,20 +920,20 @@ test::emit_bind_left-emit_value-number-requires g t c κs within = (omega arith,
 pub test::emit_bind_right-emit_expr-requires : goal.test::emit_bind_right-emit_expr-requires
 test::emit_bind_right-emit_expr-requires g t c κs within = (omega arith, (search rules, c.requires.emits))
 
-pub test::emit_bind_right-emit_desig-place-requires : goal.test::emit_bind_right-emit_desig-place-requires
-test::emit_bind_right-emit_desig-place-requires g t c κs within = (omega arith, (search rules, c.requires.emits))
+pub test::emit_bind_right-emit_held-place-requires : goal.test::emit_bind_right-emit_held-place-requires
+test::emit_bind_right-emit_held-place-requires g t c κs within = (omega arith, (search rules, c.requires.emits))
 
-pub test::emit_unify-emit_desig-requires : goal.test::emit_unify-emit_desig-requires
-test::emit_unify-emit_desig-requires g t c κs within = (omega arith, (search rules, c.requires.emits))
+pub test::emit_unify-emit_held-requires : goal.test::emit_unify-emit_held-requires
+test::emit_unify-emit_held-requires g t c κs within = (omega arith, (search rules, c.requires.emits))
 
-pub test::emit_unify-emit_desig-requires-2 : goal.test::emit_unify-emit_desig-requires-2
-test::emit_unify-emit_desig-requires-2 g t c κs within = (omega arith, (search rules, c.requires.emits))
+pub test::emit_unify-emit_held-requires-2 : goal.test::emit_unify-emit_held-requires-2
+test::emit_unify-emit_held-requires-2 g t c κs within = (omega arith, (search rules, c.requires.emits))
 
-pub test::emit_same_cells-emit_desig-requires : goal.test::emit_same_cells-emit_desig-requires
-test::emit_same_cells-emit_desig-requires g t c κs within = (omega arith, (search rules, c.requires.emits))
+pub test::emit_same_cells-emit_held-requires : goal.test::emit_same_cells-emit_held-requires
+test::emit_same_cells-emit_held-requires g t c κs within = (omega arith, (search rules, c.requires.emits))
 
-pub test::emit_same_cells-emit_desig-requires-2 : goal.test::emit_same_cells-emit_desig-requires-2
-test::emit_same_cells-emit_desig-requires-2 g t c κs within = (omega arith, (search rules, c.requires.emits))
+pub test::emit_same_cells-emit_held-requires-2 : goal.test::emit_same_cells-emit_held-requires-2
+test::emit_same_cells-emit_held-requires-2 g t c κs within = (omega arith, (search rules, c.requires.emits))
 
 pub test::emit_or-emit_operands-done-requires : goal.test::emit_or-emit_operands-done-requires
 test::emit_or-emit_operands-done-requires g t c κs within = (omega arith, (search rules, c.requires.emits))

@@ -32,6 +32,9 @@ decreases-designator::emit_desig g l = 16 * (desig_nodes (desig_of l.desig.now))
 abbrev pub decreases-designator::emit_held : goal.decreases-designator::emit_held
 decreases-designator::emit_held g l = 16 * (desig_nodes (desig_of l.desig.now)) + 1
 
+abbrev pub decreases-designator::emit_place : goal.decreases-designator::emit_place
+decreases-designator::emit_place g l = 16 * (desig_nodes (desig_of l.desig.now)) + 1
+
 abbrev pub decreases-designator::emit_sels : goal.decreases-designator::emit_sels
 decreases-designator::emit_sels g l = 16 * (sels_nodes (sels_list l.sels.now)) + 1
 

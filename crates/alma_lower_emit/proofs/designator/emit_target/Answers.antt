@@ -15,9 +15,9 @@ pub returns-in-None : goal.returns-in-None
 returns-in-None g c =
     let none = sym c.in-None.is ∙ c.in_ok-slot.ensures in
     record {
-      stand = through c.emit_desig.result c.stand_at.result c.emit_desig.ensures.place c.stand_at.ensures.done c.stand_at.ensures.stand
+      stand = through c.emit_held.result c.stand_at.result c.emit_held.ensures.place c.stand_at.ensures.done c.stand_at.ensures.stand
           (λ at stand place is. is ∙ made_stands (around c.args.scene.now) c.args.line _ _ _ at none place);
       puts = on_ok c.stand_at.result
-          (λ ok. made_target (around c.args.scene.now) c.args.line _ _ _ none (said c.emit_desig.result ok c.emit_desig.ensures.puts))
+          (λ ok. made_target (around c.args.scene.now) c.args.line _ _ _ none (said c.emit_held.result ok c.emit_held.ensures.puts))
           c.stand_at.ensures.done;
     }

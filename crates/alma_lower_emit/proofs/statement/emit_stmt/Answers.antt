@@ -91,7 +91,7 @@ returns-in-Read g c =
     ∙ Views.read_view _ _ _ in
     record {
       puts = stmt_as c.read_of.result (around c.args.scene.now) c.args.line _ _ _ _ view
-          (put_behind c.emit_desig-place.result c.read_of.result c.emit_desig-place.ensures.puts c.emit_desig-place.ensures.place
+          (put_behind c.emit_held-place.result c.read_of.result c.emit_held-place.ensures.puts c.emit_held-place.ensures.place
           c.read_of.ensures.done c.read_of.ensures.codes
           (λ at puts is h. read_put (around c.args.scene.now) c.args.line _ _ _ _ _ _ _ _ puts is refl h));
     }
