@@ -1,10 +1,11 @@
 // The code of IF, WHILE and REPEAT.
-ghost use Rattle.std.specs.Prelude.{◌≡◌, drop, true, OnOk};
+ghost use Rattle.std.specs.Prelude.{◌≡◌, ℕ, drop, true, OnOk};
 ghost use Rattle.alma_ir.specs.View.{arms_list, expr_of, stmts_list, test_of};
 ghost use Rattle.alma_ir.specs.Tree as tree;
-ghost use Rattle.alma_lower_templates.specs.Slots.{is_turned};
+ghost use Rattle.alma_lower_templates.specs.Slots.{constant, is_turned};
 ghost use Rattle.alma_lower_work.specs.Front.{around, front};
 ghost use Rattle.alma_lower_work.specs.Puts.{PutsStmt, PutsArms, PutsBack, PutsGuarded};
+ghost use Rattle.alma_lower_parts.specs.Steps.{held_slot};
 ghost use Rattle.alma_lower_emit.specs.Inside.{EmitsStmts};
 
 use crate::condition::emit_guard;
@@ -13,7 +14,9 @@ use crate::inside::emit_inside;
 use alma_base::NoMemory;
 use alma_code::Instr;
 use alma_ir::{Arm, Cmp, Expr, Stmt, Test};
-use alma_lower_parts::{Scene, Taken, Work, begin_while, end_repeat, put_back, turned_test};
+use alma_lower_parts::{
+    Scene, Taken, Work, begin_while, end_repeat, put_back, put_held, put_held_back, turned_test,
+};
 
 // A condition, and what is done where it has an alternative; else the code goes on behind the jump that follows.
 fn emit_guarded<S>(
@@ -128,14 +131,15 @@ where
         (tree.While (tree.Value (tree.Compare how (expr_of left.now) (expr_of right.now)))
         (stmts_list body.now))) }
 {
+    let held = put_held(work, line, right)?;
     let jump = work.put(line, Instr::Jump { to: 0 })?;
     let top = work.here()?;
     let done = emit_inside(work, scene, body, inside);
     work.then_aim(done, jump, 0)?;
-    emit_back(work, scene, line, how, left, right, top, inside)
+    emit_back(work, scene, line, how, left, right, held, top, inside)
 }
 
-// A comparison, which goes back to `top` while it holds.
+// A comparison, which goes back to `top` while it holds. A constant that is its second operand is held in a slot.
 fn emit_back<S>(
     work: &mut Work,
     scene: &Scene<'_>,
@@ -143,18 +147,25 @@ fn emit_back<S>(
     how: Cmp,
     left: &Expr,
     right: &Expr,
+    held: Option<u32>,
     top: u32,
     inside: &S,
 ) -> Result<(), NoMemory>
 where
     S: for<'a, 'b, 'c, 'd> Fn(&'a mut Work, &'b Scene<'c>, &'d [Stmt]) -> Result<(), NoMemory>,
     requires emits { EmitsStmts (S.IsAlwaysCallable inside.now) (S.post inside.now) }
-    ensures puts { OnOk result (PutsBack (around scene.now) line top (front work.old)
-        (front work.new) (tree.Value (tree.Compare how (expr_of left.now) (expr_of right.now)))) }
+    ensures puts { (slot : ℕ) → held ≡ held_slot (constant (expr_of right.now)) slot
+        → OnOk result (PutsBack (around scene.now) line slot top (front work.old) (front work.new)
+        (tree.Value (tree.Compare how (expr_of left.now) (expr_of right.now)))) }
 {
     let first = emit_first(work, scene, line, left, Taken::Behind(right), inside)?;
-    let other = emit_value(work, scene, line, right, inside)?;
-    put_back(work, line, how, first, other, top)
+    match held {
+        Some(held) => put_held_back(work, line, how, first, held, top),
+        None => {
+            let other = emit_value(work, scene, line, right, inside)?;
+            put_back(work, line, how, first, other, top)
+        }
+    }
 }
 
 // REPEAT.

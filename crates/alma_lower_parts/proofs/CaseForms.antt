@@ -15,7 +15,8 @@ use Rattle.alma_lower_work.specs.Front.{Around, Front, Adds, Codes, Changes, Hol
 use Rattle.alma_lower_work.specs.Puts.{PutsStmts, PutsCases, PutsCaseArm, PutsDead, PutsDeadBodies, PutsElse}
 use Rattle.alma_lower_parts.proofs.LabelForms.{test_long, code_long}
 use Rattle.alma_lower_work.proofs.Small.{drop_one}
-use Rattle.alma_lower_work.proofs.Joins.{nothing, then_adds, adds_as, turned_back, adds_code, only_code, filled, over, address_behind, own_two}
+use Rattle.alma_lower_work.proofs.Joins.{nothing, then_adds, adds_as, turned_back, adds_code, only_code, filled, over, address_behind}
+use Rattle.alma_lower_work.proofs.Joins.{own_two}
 use Rattle.alma_lower_templates.specs.Lined.{Lined, own}
 use Rattle.alma_lower_templates.specs.Slots.{stmts_slots, dead_slots, cases_slots, else_slots}
 use Rattle.alma_lower_templates.specs.Pieces.{test_size, label_code, labels_code, behind_labels, case_arm, passed_over, has_dead}
@@ -62,7 +63,12 @@ module _ (s : Around) (line : ℕ) where
       let one : List Instr = label_code value bound at hit label in
       let others : List Instr = labels_code value bound next hit miss label2 rest in
       let far : at + length (own line (one ++ others)) ≡ next + length (own line others) =
-      omega (arith, ap length (own_two line one others), length-append (own line one) (own line others), code_long line value bound at hit label)
+      omega (
+        arith,
+        ap length (own_two line one others),
+        length-append (own line one) (own line others),
+        code_long line value bound at hit label,
+      )
       in
       far ∙ labels_end value bound next hit miss label2 rest
 
@@ -104,7 +110,8 @@ module _ (s : Around) (line : ℕ) where
       ∙ ap (otherwise (at + 0)) (sym (add-zero lo))
   cases_split value bound exit at lo (more_cases [] body rest) otherwise = cases_split value bound exit at lo rest otherwise
   cases_split value bound exit at lo (more_cases (label ∷ labels) body rest) otherwise =
-      let first = case_arm line value bound at label labels (T.stmts_code s.program s.tables s.routine (behind_labels at label labels) lo body)
+      let first = case_arm line value bound at label labels
+      (T.stmts_code s.program s.tables s.routine (behind_labels at label labels) lo body)
       ++ own line (I.Jump exit ∷ []) in
       let next = at + length first in
       let l = stmts_slots s.program s.routine body in

@@ -217,7 +217,8 @@ module _ (s : Around) (line : ℕ) where
             ∙ ap (λ n. code o (neg_code negated n from) (behind_sign negated from n) n) is
             ∙ ap (λ n. code o (neg_code negated a.next n) (behind_sign negated n a.next) a.next) is2
             ∙ ap (λ z. code z (neg_code negated a.next (T.slot_or s.program s.tables s.routine z a.next))
-            (behind_sign negated (T.slot_or s.program s.tables s.routine z a.next) a.next) a.next) (sym (taken_with negated e links a.lines ls))
+            (behind_sign negated (T.slot_or s.program s.tables s.routine z a.next) a.next) a.next)
+            (sym (taken_with negated e links a.lines ls))
             ∙ ap (λ i. code (taken_from negated x v) i
             (behind_sign negated (T.slot_or s.program s.tables s.routine (taken_from negated x v) a.next) a.next) a.next)
             (signed_code a.next a.next negated x v)

@@ -15,6 +15,7 @@ use Rattle.alma_lower_parts.proofs.GuardForms.{condition_code, guarded_code, arm
 use Rattle.alma_lower_parts.proofs.TurnedForms.{turned_with}
 use Rattle.alma_lower_templates.specs.Lined.{Lined, own}
 use Rattle.alma_lower_templates.specs.Slots.{is_simple, is_turned, by_turn, mark_slots, test_slots, stmts_slots, arms_slots}
+use Rattle.alma_lower_templates.specs.Slots.{held_constant, held_slots}
 use Rattle.alma_lower_templates.specs.Pieces.{guarded}
 use Rattle.alma_lower_templates.specs.Templates as T
 use Rattle.alma_lower_templates.proofs.Turned.{while_code}
@@ -90,7 +91,7 @@ module _ (s : Around) (line : ℕ) where
             (ap (λ n. own line (I.Jump n ∷ []) ++ (inner ++ own line (I.Jump n ∷ []))) is
             ∙ ap (λ k. while_code s.program s.tables s.routine k line at a.next u x) (sym z))
             (append_assoc (mark_slots (is_simple u)) (test_slots s.program s.routine u) (stmts_slots s.program s.routine x)
-            ∙ ap (λ k. by_turn k (stmts_slots s.program s.routine x ++ test_slots s.program s.routine u)
+            ∙ ap (λ k. by_turn k (held_slots (held_constant u) ++ (stmts_slots s.program s.routine x ++ test_slots s.program s.routine u))
             (mark_slots (is_simple u) ++ (test_slots s.program s.routine u ++ stmts_slots s.program s.routine x))) (sym z))
             (sym (behind_two (test_phrases t) (stmts_phrases body) ls));
       }

@@ -1,5 +1,5 @@
 -- What is put in a row with no recursion, step by step: it serves contracts between the crates of the emitter alone.
-use Rattle.std.specs.Prelude.{◌≡◌, ℕ, ◌+◌, ℤ, List, [], ◌∷◌, length, drop, Option}
+use Rattle.std.specs.Prelude.{◌≡◌, ℕ, ◌+◌, ℤ, List, [], ◌∷◌, length, drop, Option, Some, None}
 use Rattle.alma_code.specs.declared.cell.SlotKind.{SlotKind}
 use Rattle.alma_code.specs.declared.cell.SlotKind.TheVariants as slot
 use Rattle.alma_code.specs.declared.instr.Instr.{Instr}
@@ -9,8 +9,8 @@ use Rattle.alma_ir.specs.declared.phrase.Root.{Root}
 use Rattle.alma_ir.specs.Tree.{Args, Sels}
 use Rattle.alma_lower_work.specs.Front.{Around, Front, Adds, Codes, Takes, Changes, EndsEach, EndsForall}
 use Rattle.alma_lower_templates.specs.Lined.{Lined, own}
-use Rattle.alma_lower_templates.specs.Slots.{call_links, handed_slots, root_slots, own_root, unless_bare}
-use Rattle.alma_lower_templates.specs.Pieces.{count_from, truth_code}
+use Rattle.alma_lower_templates.specs.Slots.{call_links, handed_slots, held_slots, root_slots, own_root, unless_bare}
+use Rattle.alma_lower_templates.specs.Pieces.{count_from, held_code, truth_code}
 use Rattle.alma_lower_templates.specs.Templates as T
 
 -- ---- of any form
@@ -97,6 +97,18 @@ pub record EndsDead (a c : Front) (before over : ℕ) : Type 0 where
   pub lines : b.lines ≡ drop before a.all_lines
   pub whole : b.all_lines ≡ a.all_lines
   pub aims : Changes b c (λ xs. aimed xs over (length b.code + 0))
+
+-- ---- of WHILE whose condition stands behind its body
+
+-- the slot in which a constant is held, where there is one
+abbrev pub held_slot : (constant : Option ℤ) → (lo : ℕ) → Option ℕ
+held_slot (Some n) lo = Some lo
+held_slot None lo = None
+
+-- a constant that is put before a loop, in a slot of its own
+pub record HoldsConstant (line : ℕ) (a b : Front) (constant : Option ℤ) (held : Option ℕ) : Type 0 where
+  pub held_at : held ≡ held_slot constant a.next
+  pub all : Adds a b (λ at lo ls. own line (held_code constant lo)) (λ ls. held_slots constant) (λ ls. ls)
 
 -- ---- of FOR and SOME
 

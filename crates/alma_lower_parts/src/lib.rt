@@ -1,6 +1,7 @@
 //! Parts of templates, and forms that are put whole.
 #![tactic(auto)]
 
+mod back;
 mod call;
 mod case;
 mod choice;
@@ -16,6 +17,7 @@ pub use alma_lower_work::{
     put_function, put_links, put_neg, put_result_fit, put_root, put_truth, put_unequal, read_instr,
     slot_of, stay_at, straight_slot, taken_by, turned_test, unequal, write_instr,
 };
+pub use back::{put_held, put_held_back};
 pub use call::{Handed, begin_call, first_handed, put_call_link, take_handed, take_result};
 pub use case::{
     Labels, Miss, end_arm, end_dead, has_dead, put_label, put_label_test, take_labels,

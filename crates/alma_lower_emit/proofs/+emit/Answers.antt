@@ -163,7 +163,8 @@ expression::emit_chain-returns g t c =
           (first_is (around c.args.scene.now) c.args.line _ _ _ _ _ (c.taken_by-taken.ensures _) c.in_ok-first.ensures.puts)
           c.in_ok-first.ensures.to
           (first_at (around c.args.scene.now) c.args.line _ _ _ _ (c.taken_by-taken.ensures _) c.in_ok-first.ensures.from)
-          c.in_ok-first-2.ensures.from c.in_ok-first-2.ensures.to c.in_ok-first-2.ensures.codes (said c.emit_links.result ok c.emit_links.ensures.puts)) c.slot_of.ensures.done;
+          c.in_ok-first-2.ensures.from c.in_ok-first-2.ensures.to c.in_ok-first-2.ensures.codes
+          (said c.emit_links.result ok c.emit_links.ensures.puts)) c.slot_of.ensures.done;
     }
 
 pub expression::emit_first-returns-in-Some : goal.expression::emit_first-returns-in-Some

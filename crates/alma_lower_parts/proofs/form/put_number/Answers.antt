@@ -8,4 +8,5 @@ returns-then-is_straight c = straight_number (around c.args.scene.now) c.args.li
 
 pub returns : goal.returns
 returns c = on_ok_map c.add.result
-    (λ h. checked_number (around c.args.scene.now) c.args.line _ _ _ _ _ _ _ c.if-is_straight.ensures c.in_ok-put_fit.ensures h) c.add.ensures
+    (λ h. checked_number (around c.args.scene.now) c.args.line _ _ _ _ _ _ _ c.if-is_straight.ensures c.in_ok-put_fit.ensures h)
+    c.add.ensures

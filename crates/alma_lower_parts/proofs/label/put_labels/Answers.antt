@@ -41,4 +41,5 @@ returns-clause-holes c = λ test.
     (λ none at lo ls. own c.args.line (all_labels c.args.labels.value c.args.labels.bound at c.in_ok-hit.hit none z)) (λ ls. [])
     (λ ls. ls)) (sym one) h))
     (λ to. ap (λ n. own c.args.line (all_labels c.args.labels.value c.args.labels.bound (length (front c.args.work.now).code) n to xs))
-    (c.in_ok-hit.ensures (omega (arith, lt)) ∙ ap (λ n. behind_all n xs) c.in_ok-at.ensures.address)) refl refl) (c.put_label_test.ensures test)
+    (c.in_ok-hit.ensures (omega (arith, lt)) ∙ ap (λ n. behind_all n xs) c.in_ok-at.ensures.address)) refl refl)
+    (c.put_label_test.ensures test)
