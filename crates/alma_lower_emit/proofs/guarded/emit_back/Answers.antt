@@ -14,6 +14,6 @@ returns-in-Some g c = record {
 pub returns-in_ok-other-in-None : goal.returns-in_ok-other-in-None
 returns-in_ok-other-in-None g c = record {
   puts = λ slot is. then_ok c.put_back.result c.put_back.ensures
-      (λ h. back_put (around c.args.scene.now) c.args.line _ _ _ _ _ _ _ _ _ _ _ _ _ (sym c.in-None.is ∙ is) c.in_ok-first.ensures.puts
+      (λ h. back_put (around c.args.scene.now) c.args.line _ _ _ _ _ _ _ _ _ _ _ _ (sym c.in-None.is ∙ is) c.in_ok-first.ensures.puts
       c.in_ok-first.ensures.to c.in_ok-first.ensures.from c.in_ok-other-in-None.ensures.puts c.in_ok-other-in-None.ensures.value h);
 }
