@@ -35,16 +35,6 @@ striped = record {
   has_result = false;
 }
 
--- a head of a parameter that is a number or its place, of one of two cells, and of a slot for a mark
-abbrev pub mixed : PlainHead
-mixed = record {
-  slots = 5;
-  declared = 3;
-  params = record { kind = param.Mix; cells = 1 } ∷ record { kind = param.Cells; cells = 2 } ∷ [];
-  runs = record { kind = slot.Place 1; end = 1 } ∷ record { kind = slot.Number; end = 4 } ∷ record { kind = slot.Mark; end = 5 } ∷ [];
-  has_result = false;
-}
-
 -- an entry that nothing was kept in
 abbrev pub entry : ChoiceKind → ℕ → List PlainFrame → PlainEntry
 entry kind resume frames = record { kind = kind; resume = resume; frames = frames; carry = [] }

@@ -1,12 +1,11 @@
 // Rows on calls alone.
 ghost use Rattle.std.specs.Prelude.{ℕ, ◌≡◌, ◌≢◌, ◌<◌, ◌≤◌, ◌∷◌, ◌++◌, [], length, slice_index_or, IfOk, OnOk};
-ghost use Rattle.alma_code.specs.Layout.{FitsMix, start_frame};
-ghost use Rattle.alma_code.specs.Carries.{IsLive};
+ghost use Rattle.alma_code.specs.Layout.{start_frame};
 ghost use Rattle.alma_code.specs.Picture.{no_frame, frames_with_cell, last_frame, top_of};
 ghost use Rattle.alma_code.specs.Picture.{stack_after_pop};
 ghost use Rattle.alma_memory.specs.Slots.{KeepsSlots};
 ghost use Rattle.alma_tests_machine.specs.Rows.{numbers, entry, frames_of_two, in_body, body_kept};
-ghost use Rattle.alma_tests_machine.specs.Rows.{mixed, nothing_kept, striped};
+ghost use Rattle.alma_tests_machine.specs.Rows.{nothing_kept, striped};
 ghost use Rattle.alma_code.specs.declared.cell.Cell.TheVariants as cell;
 ghost use Rattle.alma_code.specs.declared.cell.ChoiceKind.TheVariants as choice;
 
@@ -452,172 +451,14 @@ fn visit_stripes(memory: &mut Memory, number: i64) -> Result<[Cell; 8], Fail>
     Ok(cells)
 }
 
-// Enters a frame of so many number slots, writes into it, and leaves it. Answers what two of its slots held at first.
-fn visit_numbers(memory: &mut Memory, routine: u32, slots: u32) -> Result<(Cell, Cell), Fail>
-    requires now { memory.old.now ≡ start_frame striped ∷ [] }
-    requires some { 1 ≤ slots }
-    requires few { slots ≤ 1000 }
-    ensures { OnOk result (memory.new.now ≡ memory.old.now) }
-{
-    let head = Sketch {
-        has_place: false,
-        numbers: slots,
-    };
-    memory.enter(&head, routine, 9, &[])?;
-    let cells = (memory.top(0), memory.top(slots - 1));
-    memory.put(0, Cell::Int(1))?;
-    let _back = memory.leave()?;
-    Ok(cells)
-}
-
-const TWO_UNKNOWN: (Cell, Cell) = (Cell::Unknown, Cell::Unknown);
-
 #[test]
-fn routines_by_turns_find_their_slots_blank(rt: HostRuntime) -> Result<(), Fail> {
+fn a_routine_that_is_called_again_finds_its_slots_blank(rt: HostRuntime) -> Result<(), Fail> {
     let mut memory = start_striped(rt.alloc())?;
     let first = visit_stripes(&mut memory, 5)?;
     let second = visit_stripes(&mut memory, 6)?;
-    let others = (
-        visit_numbers(&mut memory, 9, 8)?,
-        visit_numbers(&mut memory, 1, 300)?,
-        visit_numbers(&mut memory, 2, 400)?,
-    );
-    let third = visit_stripes(&mut memory, 7)?;
     assert_eq!(rt;
         (first, second),
         (stripes_with(Cell::Int(5)), stripes_with(Cell::Int(6)))
-    );
-    assert_eq!(rt; others, (TWO_UNKNOWN, TWO_UNKNOWN, TWO_UNKNOWN));
-    assert_eq!(rt; third, stripes_with(Cell::Int(7)));
-    Ok(())
-}
-
-// A head of a number or its place, of two cells by value, and of a mark.
-#[derive(Drop)]
-struct Mixed {}
-
-impl Head for Mixed {
-    ghost use Rattle.alma_tests_machine.specs.Rows.{mixed};
-
-    ghost head = { λ h. mixed };
-
-    fn slots(&self) -> u32 {
-        5
-    }
-
-    fn declared(&self) -> u32 {
-        3
-    }
-
-    fn param_count(&self) -> u32 {
-        2
-    }
-
-    fn param(&self, i: u32) -> CodeParam {
-        MIXED_PARAMS[i as usize]
-    }
-
-    fn run_count(&self) -> u32 {
-        3
-    }
-
-    fn run(&self, i: u32) -> Run {
-        MIXED_RUNS[i as usize]
-    }
-
-    fn has_result(&self) -> bool {
-        false
-    }
-}
-
-const MIXED_PARAMS: [CodeParam; 2] = [
-    CodeParam {
-        kind: ParamKind::Mix,
-        cells: 1,
-    },
-    CodeParam {
-        kind: ParamKind::Cells,
-        cells: 2,
-    },
-];
-
-const MIXED_RUNS: [Run; 3] = [
-    Run {
-        kind: SlotKind::Place(1),
-        end: 1,
-    },
-    Run {
-        kind: SlotKind::Number,
-        end: 4,
-    },
-    Run {
-        kind: SlotKind::Mark,
-        end: 5,
-    },
-];
-
-// The last two slots of the global frame of short runs.
-const LAST_TWO: CellPlace = CellPlace {
-    frame: 0,
-    slot: 6,
-    len: 2,
-};
-
-// The second slot of the frame that is entered.
-const OWN_NUMBER: CellPlace = CellPlace {
-    frame: 1,
-    slot: 1,
-    len: 1,
-};
-
-// Enters a frame with this number or place and the last two slots, and leaves it. Answers what it held at first.
-fn visit_mixed(memory: &mut Memory, first: Cell) -> Result<[Cell; 5], Fail>
-    requires now { memory.old.now ≡ start_frame striped ∷ [] }
-    requires first { FitsMix (IsLive memory.old.now) first }
-    ensures { OnOk result (memory.new.now ≡ memory.old.now) }
-{
-    memory.enter(&Mixed {}, 1, 9, &[first, Cell::Place(LAST_TWO)])?;
-    let cells = mixed_on_top(memory);
-    memory.put(3, Cell::Int(1))?;
-    let _back = memory.leave()?;
-    Ok(cells)
-}
-
-// What five slots of the top frame hold.
-fn mixed_on_top(memory: &Memory) -> [Cell; 5]
-    requires { 5 ≤ length (last_frame memory.now.now).cells }
-{
-    [
-        memory.top(0),
-        memory.top(1),
-        memory.top(2),
-        memory.top(3),
-        memory.top(4),
-    ]
-}
-
-// What the five slots hold, where a number or a place was handed over as these two cells.
-fn mixed_with(place: CellPlace, number: Cell) -> [Cell; 5] {
-    [
-        Cell::Place(place),
-        number,
-        Cell::Unknown,
-        Cell::Unknown,
-        Cell::Unset,
-    ]
-}
-
-#[test]
-fn arguments_by_value_and_by_place_are_laid_anew(rt: HostRuntime) -> Result<(), Fail> {
-    let mut memory = start_striped(rt.alloc())?;
-    let number = visit_mixed(&mut memory, Cell::Int(7))?;
-    let place = visit_mixed(&mut memory, Cell::Place(PLACE))?;
-    assert_eq!(rt;
-        (number, place),
-        (
-            mixed_with(OWN_NUMBER, Cell::Int(7)),
-            mixed_with(PLACE, Cell::Unknown)
-        )
     );
     Ok(())
 }
