@@ -6,5 +6,5 @@ use Rattle.alma_memory_store.proofs.image.has_runs.Goals as goal
 pub loop-i-preserved : goal.loop-i-preserved
 loop-i-preserved g c =
     let l : c.loop-i.i < length c.args.runs.now = omega arith in
-    same-more c.args.runs.now (g.H.Head.head c.args.head.now).runs (record { kind = Number; end = 0 }) c.run.result c.loop-i.i l c.run.ensures
-    (c.if-not-is_same_run.ensures refl) c.loop-i.invariant
+    same-more c.args.runs.now (g.H.Head.head c.args.head.now).runs (record { kind = Number; end = 0 }) c.run.result
+    c.loop-i.i l c.run.ensures (c.if-not-is_same_run.ensures refl) c.loop-i.invariant
