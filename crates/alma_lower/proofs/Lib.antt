@@ -1,3 +1,4 @@
 pub mod Making
 pub mod Finishing
 pub mod Naming
+pub mod Sharing

@@ -16,6 +16,7 @@ use crate::compiled::compiled;
 use alma_base::{NoMemory, SIZE_LIMIT};
 use alma_code::Code;
 use alma_ir::{Program, size};
+use alma_lower_slots::share_slots;
 use std::alloc::Global;
 use thiserror::Error;
 
@@ -52,8 +53,27 @@ pub fn lower(alloc: Global, program: &Program) -> Result<Code, LowerError>
     if size > SIZE_LIMIT {
         return Err(LowerError::TooMuchCode(size));
     }
-    match compiled(alloc, program) {
+    match with_few_slots(alloc, program) {
         Ok(code) => Ok(code),
         Err(NoMemory) => Err(LowerError::Memory),
     }
+}
+
+// The code of a program whose temporaries share slots.
+fn with_few_slots(alloc: Global, program: &Program) -> Result<Code, NoMemory>
+    requires checked { IsChecked (program_of program.now) }
+    requires size { 16 * nodes (program_of program.now) ≤ size_limit }
+    ensures implements { IfOk result (λ code. Implements (code_of code) (program_of program.now)) }
+    ensures sound { IfOk result (λ code. IsSound (code_of code)) }
+    ensures names { IfOk result (λ code. KeepsNames (code_of code) (program_of program.now)) }
+    ensures version { IfOk result (λ code. KeepsVersion (code_of code)) }
+    ensures counts { IfOk result (λ code. KeepsCounts (code_of code)) }
+    ensures records { IfOk result (λ code. KeepsRecords (code_of code)) }
+    ensures reads { IfOk result (λ code. code_reads (code_of code) ≡ program_reads
+        (program_of program.now)) }
+    ensures few { IfOk result (λ code. length (code_of code).instrs ≤ 16 * nodes
+        (program_of program.now)) }
+{
+    let code = compiled(alloc, program)?;
+    share_slots(alloc, code)
 }

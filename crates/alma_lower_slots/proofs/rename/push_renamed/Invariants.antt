@@ -1,0 +1,8 @@
+-- The instructions so far.
+use Rattle.std.proofs.Common.{◌≡◌, ◌++◌, map, take}
+use Rattle.alma_lower_slots.specs.Slots.{renamed}
+use Rattle.alma_lower_slots.specs.Shared.{slot_in}
+use Rattle.alma_lower_slots.proofs.rename.push_renamed.Given as goal
+
+abbrev pub invariant-loop-instr : goal.invariant-loop-instr
+invariant-loop-instr l = l.instrs.items ≡ l.fn.instrs.items ++ map (renamed (slot_in l.all)) (take l.instr-index l.code)
