@@ -3,3 +3,8 @@ mod Frames
 mod Opening
 mod Headings
 mod Leaving
+mod Whole
+mod Constants
+mod TypeTokens
+mod TypeSteps
+mod All

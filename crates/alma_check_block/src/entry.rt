@@ -10,9 +10,10 @@ ghost use Rattle.alma_rules.specs.View as view;
 ghost use Rattle.alma_check_type.specs.Told.{fault_of, bound_of};
 ghost use Rattle.alma_check_block.specs.Shown.{shown, told_frame};
 
+use crate::constant::read_constant;
 use crate::frame::Frame;
+use crate::type_node::read_type;
 use alma_base::NoMemory;
-use alma_check_decl::{read_constant, read_type};
 use alma_check_marks::{width_of_expr, width_of_type};
 use alma_check_type::{Bound, Broken, Reader, redeclared};
 use alma_names::{Entry, ShapeId};

@@ -9,8 +9,8 @@ ghost use Rattle.alma_check_block.specs.Shown.{shown, told_frame};
 
 use crate::entry::{behind_type, enter_name};
 use crate::frame::Frame;
+use crate::type_node::read_type;
 use alma_base::NoMemory;
-use alma_check_decl::read_type;
 use alma_check_type::{Reader, last_token, redeclared};
 use alma_names::{Access, Entry, ShapeId};
 use alma_tree::{Name, VarEntry};

@@ -4,7 +4,7 @@
 
 mod phrase;
 
-pub use alma_check_decl::fits;
+pub use alma_check_block::fits;
 pub use alma_check_rules::Env;
 pub use alma_rules::CheckError;
 pub use phrase::{const_value, shape_of};

@@ -4,7 +4,7 @@ ghost use Rattle.alma_rules.specs.Answers.{IsConstValue, IsShapeOf};
 ghost use Rattle.alma_rules.specs.View.{view_expr, view_type_node};
 ghost use Rattle.alma_check_expr.specs.Shapes as shapes;
 
-use alma_check_decl::{read_constant, read_type};
+use alma_check_block::{read_constant, read_type};
 use alma_check_marks::{first_token_in_expr, first_token_in_type};
 use alma_check_type::{Bound, Reader};
 use alma_names::ShapeId;

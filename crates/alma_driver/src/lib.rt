@@ -4,6 +4,5 @@
 mod driver;
 
 pub use alma_driver_outcome::laws;
-pub use alma_driver_sample::sample_source;
-pub use alma_driver_words::{Request, WordsError, read_words};
+pub use alma_driver_words::{Request, WordsError, read_words, sample_source};
 pub use driver::alma;

@@ -19,7 +19,7 @@ use Rattle.alma_object.specs.Object.{IsObject}
 use Rattle.alma_object.specs.Fields.{FitsFields}
 use Rattle.alma_object.specs.Walk.{object_fault}
 use Rattle.alma_verify.specs.Bytes.{object_code}
-use Rattle.alma_driver_sample.specs.Sample.{sample_text}
+use Rattle.alma_driver_words.specs.Sample.{sample_text}
 use Rattle.alma_lower_sound.specs.Reads.{program_reads}
 use Rattle.alma_lower.specs.Names.{KeepsNames}
 use Rattle.alma_lower_implements.specs.Implements.{Implements, Covers, meant_end, state_after, line_in}

@@ -1,7 +1,7 @@
 -- What the run of a sample comes to.
 use Rattle.std.proofs.Common.{◌≡◌, ◌∙◌, ◌++◌, ℕ, List, [], length, inl, inr, ap, sym, subst}
 use Rattle.std.specs.Prelude.{false, Option, Some, None, codes}
-use Rattle.alma_driver_sample.specs.Sample.{sample_text}
+use Rattle.alma_driver_words.specs.Sample.{sample_text}
 use Rattle.alma_driver_words.specs.Words.{default_steps}
 use Rattle.alma_io.specs.Sides.{SinkSide, SourceSide}
 use Rattle.alma_driver_outcome.specs.Ends.{status_of, sample_line, summary_line}

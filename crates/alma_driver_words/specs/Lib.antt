@@ -2,3 +2,4 @@ pub mod Words
 pub mod Limits
 -- What the contracts of private functions say.
 pub mod Inner
+pub mod Sample

@@ -1,5 +1,6 @@
 //! Laws of the definitions that the contracts cite: functions without work, whose contracts are the laws.
-ghost use Rattle.std.specs.Prelude.{◌≡◌, List, ℕ};
+ghost use Rattle.std.specs.Prelude.{◌≡◌, ◌≤◌, List, ℕ, length};
+ghost use Rattle.alma_driver_words.specs.Sample.{sample_text};
 ghost use Rattle.alma_driver_words.specs.Words.{Request, Asks, IsBadWord};
 ghost use Rattle.alma_driver_words.specs.Limits.{IsWithinLimits};
 
@@ -17,4 +18,10 @@ pub fn words_have_one_answer()
 pub fn requests_are_within_limits()
     ensures within { (words : List (List ℕ)) (request : Request) → Asks words request
         → IsWithinLimits request }
+{}
+
+/// A sample of up to 5,000 lines is a source that is not too long.
+#[tactic(auto, using(crate::proofs::Lengths::sample_length))]
+pub fn samples_are_short()
+    ensures short { (lines : ℕ) → lines ≤ 5000 → length (sample_text lines) ≤ 1048576 }
 {}

@@ -1,14 +1,17 @@
-//! What the words of a call ask for.
+//! What the words of a call ask for, and the source that `alma sample` is asked for.
 #![tactic(auto)]
 
 mod command;
 pub mod laws;
 mod number;
 mod options;
+mod sample;
+mod sample_line;
 mod setting;
 mod words;
 
 pub use number::{named_steps, numeral};
 pub use options::DEFAULT_STEPS;
+pub use sample::sample_source;
 pub use setting::is_name;
 pub use words::{Request, WordsError, file_word, read_words};

@@ -8,7 +8,7 @@ use Rattle.alma_ir.specs.declared.program.Global as variable
 use Rattle.alma_ir.specs.Tree.{Routine, Program, routine_at}
 use Rattle.alma_ir.specs.Tree as ir
 use Rattle.alma_ir.specs.View.{routine_of, global_of, stmts_list, stmt_of}
-use Rattle.alma_joined.specs.Joined.{Kept, is_bare, kept_of, moved_procedure}
+use Rattle.alma_join.specs.Joined.{Kept, is_bare, kept_of, moved_procedure}
 use Rattle.alma_join.proofs.Keeping.{Passed, passed_none, passed_bare, passed_kept, passed_all}
 use Rattle.alma_rules.specs.Parts.{append_stmts}
 

@@ -9,7 +9,7 @@ use Rattle.alma_ir.specs.Count.{saturate}
 use Rattle.alma_ir.specs.Tree.{Program}
 use Rattle.alma_ir.specs.declared.phrase.Stmt.{Stmt}
 use Rattle.alma_ir.specs.declared.program.Program as whole
-use Rattle.alma_joined.specs.Joined as joined
+use Rattle.alma_join.specs.Joined as joined
 use Rattle.alma_join.specs.Texts.{text_count}
 use Rattle.alma_join.specs.Totals.{AreTotals}
 use Rattle.alma_join.specs.declared.size.Totals as memory

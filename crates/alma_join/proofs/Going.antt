@@ -11,7 +11,7 @@ use Rattle.alma_base.specs.Choice.{if_true}
 use Rattle.alma_ir.specs.declared.program.Program as whole
 use Rattle.alma_ir.specs.Tree.{Routine, Program, routine_at}
 use Rattle.alma_ir.specs.View.{program_of}
-use Rattle.alma_joined.specs.Joined.{Kept, is_bare, kept_of, kept_in, matches}
+use Rattle.alma_join.specs.Joined.{Kept, is_bare, kept_of, kept_in, matches}
 use Rattle.alma_join.specs.declared.directory.Export.{Export}
 use Rattle.alma_join.specs.declared.directory.Directory.{Directory}
 use Rattle.alma_join.specs.declared.directory.Matches.{Matches}

@@ -5,7 +5,7 @@ use Rattle.std.proofs.Common.{true≢false}
 use Rattle.std.specs.Prelude.{pos}
 use Rattle.alma_ir.specs.declared.program.ArgKind.TheVariants as kind
 use Rattle.alma_ir.specs.declared.program.Param.{Param}
-use Rattle.alma_joined.specs.Joined.{same_params}
+use Rattle.alma_join.specs.Joined.{same_params}
 use Rattle.alma_join.proofs.Rows.{rest_from, rest_none, any_default}
 
 -- of two lengths

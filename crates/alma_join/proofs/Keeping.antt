@@ -8,7 +8,7 @@ use Rattle.std.proofs.lemmas.Bool.Decides.{nat_tests}
 use Rattle.std.proofs.lemmas.List.{append-nil, append_assoc}
 use Rattle.alma_base.specs.Choice.{if_true}
 use Rattle.alma_ir.specs.Tree.{Routine, Program, routine_at, no_routine}
-use Rattle.alma_joined.specs.Joined.{Kept, is_bare, kept_from, kept_of, kept_in, matches, first_match, number_of_kept, new_number}
+use Rattle.alma_join.specs.Joined.{Kept, is_bare, kept_from, kept_of, kept_in, matches, first_match, number_of_kept, new_number}
 use Rattle.alma_ir.proofs.Each.{each_of_append}
 use Rattle.alma_join.proofs.Rows.{rest_from, rest_none}
 

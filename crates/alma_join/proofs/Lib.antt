@@ -13,3 +13,14 @@ pub mod Whole
 pub mod Bytes
 pub mod Counting
 pub mod Sums
+pub mod Alone
+pub mod Worked
+mod Moving
+mod Forms
+mod KeptLists
+mod Places
+mod Slots
+mod Imports
+mod Calls
+mod Limits
+mod JoinedChecked

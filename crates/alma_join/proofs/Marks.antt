@@ -17,7 +17,7 @@ use Rattle.alma_ir.specs.declared.program.Routine as memory
 use Rattle.alma_ir.specs.Checked.{param_slots}
 use Rattle.alma_ir.specs.Tree.{Routine, Program, routine_at, no_routine}
 use Rattle.alma_ir.specs.View.{routine_of, program_of, stmts_list}
-use Rattle.alma_joined.specs.Joined.{is_empty, is_bare}
+use Rattle.alma_join.specs.Joined.{is_empty, is_bare}
 use Rattle.alma_join.specs.Bare.{MarksOuter, MarksBare}
 use Rattle.alma_join.proofs.Rows.{sum_rest, sum_none, element_is, any_default}
 

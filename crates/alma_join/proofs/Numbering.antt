@@ -10,8 +10,8 @@ use Rattle.alma_base.specs.Choice.{if_true}
 use Rattle.alma_copy.specs.Numbers.{number_in}
 use Rattle.alma_ir.proofs.Each.{each_of_append}
 use Rattle.alma_ir.specs.Tree.{Routine, Program, routine_at, no_routine}
-use Rattle.alma_joined.specs.Joined.{Kept, JoinFault, is_bare, kept_of, kept_from, matches, first_match, match_fault, fault_from, or_next}
-use Rattle.alma_joined.specs.Joined.{number_of_kept, new_number}
+use Rattle.alma_join.specs.Joined.{Kept, JoinFault, is_bare, kept_of, kept_from, matches, first_match, match_fault, fault_from, or_next}
+use Rattle.alma_join.specs.Joined.{number_of_kept, new_number}
 use Rattle.alma_join.specs.declared.directory.Directory.{Directory}
 use Rattle.alma_join.specs.declared.error.JoinError.{JoinError}
 use Rattle.alma_join.specs.declared.error.JoinError.TheVariants as error

@@ -9,9 +9,9 @@ use Rattle.alma_copy.specs.Numbers.{slot_behind}
 use Rattle.alma_ir.specs.Tree as ir
 use Rattle.alma_ir.specs.Tree.{Stmts, Program, Routine, routine_at}
 use Rattle.alma_ir.specs.View.{routine_of, global_of, stmts_list}
-use Rattle.alma_joined.proofs.Alone.{append_none}
-use Rattle.alma_joined.specs.Joined.{Kept, kept_in, kept_of, new_slot, own_slots, body_moves, procedure_moves, moved_procedure}
-use Rattle.alma_joined.specs.Joined.{joined_globals, joined_stmts, joined_lines, joined_procedures}
+use Rattle.alma_join.proofs.Alone.{append_none}
+use Rattle.alma_join.specs.Joined.{Kept, kept_in, kept_of, new_slot, own_slots, body_moves, procedure_moves, moved_procedure}
+use Rattle.alma_join.specs.Joined.{joined_globals, joined_stmts, joined_lines, joined_procedures}
 use Rattle.alma_join.specs.declared.part.Parts.{Parts}
 use Rattle.alma_join.specs.Numbers.{NumbersUnit, NumbersUnits}
 use Rattle.alma_join.specs.Parts.{body_numbers, procedure_numbers, AddsUnit, ArePartsOf}

@@ -8,7 +8,7 @@ use Rattle.std.proofs.lemmas.List.{append-nil, append_assoc, length-append}
 use Rattle.indexmap.specs.IndexMap.{get}
 use Rattle.alma_base.specs.Choice.{if_true}
 use Rattle.alma_ir.specs.Tree.{Routine}
-use Rattle.alma_joined.specs.Joined.{Kept, same_name, matches}
+use Rattle.alma_join.specs.Joined.{Kept, same_name, matches}
 use Rattle.alma_join.specs.declared.directory.Directory.{Directory}
 use Rattle.alma_join.specs.Directory.{PlainExport, sharing, entries_in, alike, others, Lists, Holds, Enters, EntersOne}
 

@@ -5,7 +5,7 @@ use Rattle.std.proofs.lemmas.List.{take_more, take_all, take-append-drop, length
 use Rattle.alma_ir.specs.declared.program.Program as whole
 use Rattle.alma_ir.specs.Tree.{Program}
 use Rattle.alma_ir.specs.View.{program_of}
-use Rattle.alma_joined.specs.Joined.{Kept, kept_of, kept_in, import_fault, or_next}
+use Rattle.alma_join.specs.Joined.{Kept, kept_of, kept_in, import_fault, or_next}
 use Rattle.alma_join.specs.declared.error.JoinError.{JoinError}
 use Rattle.alma_join.specs.Fault.{IsErrorOf}
 use Rattle.alma_join.specs.Numbers.{StandsAt, unit_fault, NumbersUnit, NumbersUnits, numbers_in}

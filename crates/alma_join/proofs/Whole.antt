@@ -3,7 +3,7 @@ use Rattle.std.proofs.Common.{◌≡◌, ◌+◌, ◌<◌, List, [], ◌∷◌, 
 use Rattle.alma_ir.specs.declared.program.Program as whole
 use Rattle.alma_ir.specs.Tree.{Program, routine_at}
 use Rattle.alma_ir.specs.View.{program_of}
-use Rattle.alma_joined.specs.Joined.{or_next, import_fault, size_fault, no_totals, kept_in, join_fault, first_of, joined}
+use Rattle.alma_join.specs.Joined.{or_next, import_fault, size_fault, no_totals, kept_in, join_fault, first_of, joined}
 use Rattle.alma_join.specs.declared.part.Parts.{Parts}
 use Rattle.alma_join.specs.Parts.{ArePartsOf, with_body}
 

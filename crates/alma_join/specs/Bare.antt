@@ -2,7 +2,7 @@
 use Rattle.std.specs.Prelude.{◌≡◌, ℕ, ◌<◌, Bool, false, List, length, get_or, nat_eq}
 use Rattle.std.specs.List.{list_any}
 use Rattle.alma_ir.specs.Tree.{Routine, Program, routine_at}
-use Rattle.alma_joined.specs.Joined.{is_bare}
+use Rattle.alma_join.specs.Joined.{is_bare}
 
 -- each routine with one inside of it is marked
 pub record MarksOuter (routines : List Routine) (marks : List Bool) : Type 0 where

@@ -6,7 +6,7 @@ use Rattle.indexmap.specs.IndexMap.{IndexMap, get}
 use Rattle.alma_base.specs.Choice.{if_true}
 use Rattle.alma_ir.specs.Tree.{Routine}
 use Rattle.alma_ir.specs.View.{routine_of}
-use Rattle.alma_joined.specs.Joined.{Kept, same_name}
+use Rattle.alma_join.specs.Joined.{Kept, same_name}
 use Rattle.alma_join.specs.declared.directory.Export.{Export}
 use Rattle.alma_join.specs.declared.directory.Directory.{Directory}
 use Rattle.alma_join.specs.declared.directory.Matches.{Matches}

@@ -1,7 +1,7 @@
 -- What an error says.
 use Rattle.std.specs.Prelude.{◌≡◌, List, Option, Some}
 use Rattle.alma_ir.specs.Tree.{Program}
-use Rattle.alma_joined.specs.Joined.{JoinFault, Missing, Twice, HeadDiffers, TooLarge, join_fault}
+use Rattle.alma_join.specs.Joined.{JoinFault, Missing, Twice, HeadDiffers, TooLarge, join_fault}
 use Rattle.alma_join.specs.declared.error.JoinError.{JoinError}
 use Rattle.alma_join.specs.declared.error.JoinError.TheVariants as error
 

@@ -5,3 +5,5 @@ pub mod Numbers
 pub mod Parts
 pub mod Texts
 pub mod Totals
+pub mod Joined
+pub mod Worked

@@ -4,7 +4,7 @@ use Rattle.std.specs.Global.{Global}
 use Rattle.std.specs.List.{AllByRecursion}
 use Rattle.alma_copy.specs.Numbers.{number_in}
 use Rattle.alma_ir.specs.Tree.{Routine, Program}
-use Rattle.alma_joined.specs.Joined.{Kept, JoinFault, kept_of, first_match, match_fault, fault_from, new_number}
+use Rattle.alma_join.specs.Joined.{Kept, JoinFault, kept_of, first_match, match_fault, fault_from, new_number}
 use Rattle.alma_join.specs.declared.error.JoinError.{JoinError}
 use Rattle.alma_join.specs.Fault.{IsErrorOf}
 

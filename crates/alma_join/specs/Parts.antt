@@ -4,8 +4,8 @@ use Rattle.alma_copy.specs.Moved.{Moves, moved_stmts, moved_global}
 use Rattle.alma_copy.specs.Numbers.{slot_behind, number_in}
 use Rattle.alma_ir.specs.Tree.{Routine, Program, routine_at}
 use Rattle.alma_ir.specs.View.{routine_of, global_of, stmts_list}
-use Rattle.alma_joined.specs.Joined.{kept_in, kept_of, own_slots, moved_procedure, joined_globals, joined_stmts, joined_lines}
-use Rattle.alma_joined.specs.Joined.{joined_procedures}
+use Rattle.alma_join.specs.Joined.{kept_in, kept_of, own_slots, moved_procedure, joined_globals, joined_stmts, joined_lines}
+use Rattle.alma_join.specs.Joined.{joined_procedures}
 use Rattle.alma_join.specs.declared.part.Parts.{Parts}
 use Rattle.alma_rules.specs.Parts.{append_stmts}
 

@@ -1,7 +1,7 @@
 -- Sums in memory.
 use Rattle.std.specs.Prelude.{◌≡◌}
 use Rattle.alma_ir.specs.Count.{saturate}
-use Rattle.alma_joined.specs.Joined as joined
+use Rattle.alma_join.specs.Joined as joined
 use Rattle.alma_join.specs.declared.size.Totals as memory
 
 -- they are these, each stopped at 2^64-1

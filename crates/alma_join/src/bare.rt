@@ -3,7 +3,7 @@ ghost use Rattle.std.specs.Prelude.{◌≡◌, ◌<◌, false, length, map, get_
 ghost use Rattle.std.specs.List.{list_any};
 ghost use Rattle.alma_ir.specs.Checked.{slots_of_kind, param_slots};
 ghost use Rattle.alma_ir.specs.View.{program_of, routine_of, stmts_list};
-ghost use Rattle.alma_joined.specs.Joined.{is_empty};
+ghost use Rattle.alma_join.specs.Joined.{is_empty};
 ghost use Rattle.alma_join.specs.Bare.{MarksOuter, MarksBare};
 
 use alma_base::NoMemory;

@@ -3,7 +3,7 @@ ghost use Rattle.std.specs.Prelude.{◌≡◌, ℕ, ◌+◌, ◌≤◌, List, []
 ghost use Rattle.std.specs.Global as heap;
 ghost use Rattle.indexmap.specs.IndexMap.{get};
 ghost use Rattle.alma_ir.specs.View.{program_of, routine_of};
-ghost use Rattle.alma_joined.specs.Joined.{Kept, kept_of, kept_in, matches};
+ghost use Rattle.alma_join.specs.Joined.{Kept, kept_of, kept_in, matches};
 ghost use Rattle.alma_join.specs.Directory.{entries_in, plain_export, alike, others, Holds, Enters, EntersOne, IsAnswer};
 
 use crate::bare::mark_bare;

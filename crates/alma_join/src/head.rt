@@ -1,7 +1,7 @@
 // Whether two heads are alike.
 ghost use Rattle.std.specs.Prelude.{◌≡◌, [], ◌∷◌};
 ghost use Rattle.alma_ir.specs.View.{routine_of};
-ghost use Rattle.alma_joined.specs.Joined as joined;
+ghost use Rattle.alma_join.specs.Joined as joined;
 
 use alma_base::Range;
 use alma_ir::{ArgKind, Param, Routine};

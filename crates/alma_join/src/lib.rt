@@ -1,4 +1,4 @@
-//! Modules that were checked apart, joined to one program.
+//! Modules that were checked apart, joined to one program: its definition, its laws, its code.
 #![tactic(auto)]
 
 mod bare;
@@ -6,6 +6,7 @@ mod directory;
 mod error;
 mod head;
 mod import;
+pub mod laws;
 mod part;
 mod program;
 mod size;

@@ -6,7 +6,7 @@ ghost use Rattle.alma_copy.specs.Moved as copy;
 ghost use Rattle.alma_copy.specs.Numbers.{moves_of};
 ghost use Rattle.alma_ir.specs.Tree.{routine_at};
 ghost use Rattle.alma_ir.specs.View.{program_of, routine_of, global_of, stmts_list};
-ghost use Rattle.alma_joined.specs.Joined.{kept_in, kept_of, moved_procedure};
+ghost use Rattle.alma_join.specs.Joined.{kept_in, kept_of, moved_procedure};
 ghost use Rattle.alma_join.specs.Numbers.{NumbersUnits, numbers_in};
 ghost use Rattle.alma_join.specs.Parts.{AddsUnit, AddsBody, ArePartsOf};
 ghost use Rattle.alma_rules.specs.Parts.{append_stmts};

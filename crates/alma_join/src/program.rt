@@ -2,18 +2,18 @@
 ghost use Rattle.std.specs.Prelude.{◌≡◌, ◌+◌, ◌<◌, ◌∷◌, length, map, None, IfOk, IfErr};
 ghost use Rattle.alma_ir.specs.Checked.{IsChecked};
 ghost use Rattle.alma_ir.specs.View.{program_of, routine_of, global_of, stmts_list};
-ghost use Rattle.alma_joined.specs.Joined.{AreUnits, joined, join_fault};
+ghost use Rattle.alma_join.specs.Joined.{AreUnits, joined, join_fault};
 ghost use Rattle.alma_join.specs.Fault.{IsJoinError};
 ghost use Rattle.alma_join.specs.Parts.{with_body};
 
 use crate::directory::following;
 use crate::error::JoinError;
 use crate::import::number_all;
+use crate::laws::joined_is_checked;
 use crate::part::{Parts, parts_of};
 use crate::size::first_too_large;
 use alma_base::NoMemory;
 use alma_ir::{Program, Routine};
-use alma_joined::laws::joined_is_checked;
 use std::alloc::Global;
 
 // The program with the name of a module and the head of its body.

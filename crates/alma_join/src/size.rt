@@ -5,7 +5,7 @@ ghost use Rattle.alma_ir.specs.Count.{saturate};
 ghost use Rattle.alma_ir.specs.Phrases.{stmts_phrases};
 ghost use Rattle.alma_ir.specs.Tree.{routine_at};
 ghost use Rattle.alma_ir.specs.View.{program_of, routine_of, global_of};
-ghost use Rattle.alma_joined.specs.Joined as joined;
+ghost use Rattle.alma_join.specs.Joined as joined;
 ghost use Rattle.alma_join.specs.Totals.{AreTotals};
 
 use crate::texts::count_stmts;

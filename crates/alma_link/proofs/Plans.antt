@@ -6,7 +6,7 @@ use Rattle.alma_ir.specs.Tree.{Program}
 use Rattle.alma_join.specs.declared.error.JoinError.{JoinError}
 use Rattle.alma_join.specs.declared.error.JoinError.TheVariants as join
 use Rattle.alma_join.specs.Fault.{IsJoinError}
-use Rattle.alma_joined.specs.Joined.{JoinFault, Missing, Twice, HeadDiffers, TooLarge, join_fault, joined}
+use Rattle.alma_join.specs.Joined.{JoinFault, Missing, Twice, HeadDiffers, TooLarge, join_fault, joined}
 use Rattle.alma_plan.specs.Causes.{HasOwnEnds}
 use Rattle.alma_plan.specs.Course.{Follows, whole}
 use Rattle.alma_plan.specs.Plan.{Ending, Ends, bad_word, silent, tells}

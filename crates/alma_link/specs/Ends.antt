@@ -3,7 +3,7 @@ use Rattle.std.specs.Prelude.{List}
 use Rattle.alma_ir.specs.Tree.{Program}
 use Rattle.alma_join.specs.declared.error.JoinError.{JoinError}
 use Rattle.alma_join.specs.declared.error.JoinError.TheVariants as join
-use Rattle.alma_joined.specs.Joined as fault
+use Rattle.alma_join.specs.Joined as fault
 use Rattle.alma_plan.specs.Plan.{Ending, bad_word, no_memory, tells}
 use Rattle.alma_plan.specs.Words.{texts}
 use Rattle.alma_plan_run.specs.Ends.{file_end, program_end}

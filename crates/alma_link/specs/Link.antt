@@ -1,7 +1,7 @@
 -- What a call of the program comes to: its plan.
 use Rattle.std.specs.Prelude.{◌-◌, ℕ, List, [], ◌∷◌, ◌++◌, codes, decimal, get_or, Option, None, Some, Result, Ok, Err}
 use Rattle.alma_ir.specs.Tree.{Program, routine_at}
-use Rattle.alma_joined.specs.Joined.{JoinFault, Missing, Twice, HeadDiffers, TooLarge, join_fault, joined}
+use Rattle.alma_join.specs.Joined.{JoinFault, Missing, Twice, HeadDiffers, TooLarge, join_fault, joined}
 use Rattle.alma_plan.specs.Plan.{Ending, Plan, Ends, ending_of, silent, tells, bad_word}
 use Rattle.alma_plan_run.specs.Programs.{Last, Tells, read_source, run_plan, store_plan}
 use Rattle.alma_source.specs.Verdict.{Verdict}

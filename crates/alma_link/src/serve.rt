@@ -3,7 +3,7 @@ ghost use Rattle.std.specs.Prelude.{◌≡◌, ◌≤◌, ◌<◌, ◌+◌, [], 
 ghost use Rattle.std.specs.List.{AllByRecursion};
 ghost use Rattle.alma_ir.specs.Checked.{IsChecked};
 ghost use Rattle.alma_ir.specs.View.{program_of};
-ghost use Rattle.alma_joined.specs.Joined.{AreUnits};
+ghost use Rattle.alma_join.specs.Joined.{AreUnits};
 ghost use Rattle.alma_plan.specs.Course.{Follows};
 ghost use Rattle.alma_plan.specs.Words.{texts};
 ghost use Rattle.alma_plan_run.specs.Ends.{program_end};

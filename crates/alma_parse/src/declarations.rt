@@ -8,8 +8,8 @@ ghost use Rattle.alma_grammar.specs.Parts.{block_parts};
 ghost use Rattle.alma_parse_cursor.specs.Forms.{procedure_parts, decl_form_parts};
 ghost use Rattle.alma_parse_cursor.specs.Parsing.{position_of, Reads, Fails};
 
+use crate::entries::{body, const_decl, params, result_name, type_decl, var_decl};
 use alma_parse_cursor::{Cursor, DeclForm, Fault};
-use alma_parse_decl::{body, const_decl, params, result_name, type_decl, var_decl};
 use alma_tree::{Block, Decl, Kind};
 use std::alloc::Global;
 

@@ -1,10 +1,13 @@
-//! Reading a module: its declarations, its body and its end.
+//! Reading a module: its types, its declarations, its body and its end.
 #![tactic(auto)]
 
 mod declarations;
 mod ending;
+mod entries;
 mod error;
+mod list;
 mod parser;
+mod types;
 mod whole;
 
 pub use declarations::block;

@@ -12,16 +12,18 @@ ghost use Rattle.alma_grammar.specs.Filling.{spell_inside_args};
 ghost use Rattle.alma_grammar.specs.Parts.{factor_part, primary_part, factor_tail, term_tail, compared_part, args_part, args_inside, expr_tail};
 ghost use Rattle.alma_grammar.specs.Parts.{selector_tail, term_parts, simple_parts, expr_parts, exprs_parts, desig_parts};
 ghost use Rattle.alma_parse_cursor.specs.Forms.{paren_parts, known_parts, ord_parts, chr_parts, index_parts, selector_form_parts};
-ghost use Rattle.alma_parse_parts.specs.Pieces.{inside_of, number_inside_args, spell_signed, number_signed};
+ghost use Rattle.alma_parse_expr.specs.Pieces.{inside_of, number_inside_args, spell_signed, number_signed};
 ghost use Rattle.alma_parse_expr.specs.Inside.{ReadsStmts};
 ghost use Rattle.alma_parse_cursor.specs.Parsing.{position_of, Reads, Extends, Fails};
 
-use alma_parse_cursor::{Cursor, Fault, PrimaryForm, SelectorForm, followed_by, numbered};
-use alma_parse_parts::{
-    add_link, arguments_of, boxed, chr_of, desig_of, expr_of, expressions_of, field, index_of,
-    known_of, literal, mul_link, named_of, not_of, number, open_after, ord_of, paren_of, plain_of,
-    present, pushed, relation_of, simple_of, term_of,
+use crate::leaf::{field, literal, number};
+use crate::list::{boxed, present, pushed};
+use crate::node::{
+    add_link, arguments_of, chr_of, desig_of, expr_of, expressions_of, index_of, known_of,
+    mul_link, named_of, not_of, ord_of, paren_of, plain_of, relation_of, simple_of, term_of,
 };
+use crate::step::open_after;
+use alma_parse_cursor::{Cursor, Fault, PrimaryForm, SelectorForm, followed_by, numbered};
 use alma_tree::{
     AddLink, Args, Compared, Desig, Expr, Exprs, Factor, Kind, MulLink, Primary, Selector, Sign,
     Simple, Stmts, Term,

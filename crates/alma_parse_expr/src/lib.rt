@@ -1,6 +1,13 @@
-//! Reading expressions, over a reader of the statements inside them.
+//! Reading expressions, over a reader of the statements inside them; and what every part of the parser is made with.
 #![tactic(auto)]
 
 mod expression;
+mod leaf;
+mod list;
+mod node;
+mod step;
 
 pub use expression::{StmtsRead, args, desig, desig_value, expr, exprs};
+pub use leaf::{field, literal, number};
+pub use list::{boxed, present, pushed};
+pub use step::open_after;

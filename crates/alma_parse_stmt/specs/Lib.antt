@@ -1,1 +1,2 @@
-pub use Rattle.alma_parse_parts.specs.Pieces
+pub use Rattle.alma_parse_expr.specs.Pieces
+pub mod Heads

@@ -11,12 +11,12 @@ ghost use Rattle.alma_parse_cursor.specs.Forms.{if_parts, while_parts, repeat_pa
 ghost use Rattle.alma_parse_expr.specs.Inside.{ReadsAt, ReadsStmts};
 ghost use Rattle.alma_parse_cursor.specs.Parsing.{position_of, Reads, Fails};
 
-use alma_parse_cursor::{Cursor, Fault, followed_by, numbered};
-use alma_parse_expr::{StmtsRead, expr};
-use alma_parse_parts::{
-    boxed, case_of, elsif_of, empty_arm, for_of, if_of, label_of, labelled_of, loop_head, present,
-    pushed, repeat_of, while_of,
+use crate::head::loop_head;
+use crate::node::{
+    case_of, elsif_of, empty_arm, for_of, if_of, label_of, labelled_of, repeat_of, while_of,
 };
+use alma_parse_cursor::{Cursor, Fault, followed_by, numbered};
+use alma_parse_expr::{StmtsRead, boxed, expr, present, pushed};
 use alma_tree::{Arm, Elsif, Expr, Kind, Label, Stmt, Stmts};
 use std::alloc::Global;
 

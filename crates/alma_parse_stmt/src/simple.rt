@@ -9,11 +9,10 @@ ghost use Rattle.alma_parse_cursor.specs.Forms.{return_parts, read_parts, write_
 ghost use Rattle.alma_parse_expr.specs.Inside.{ReadsStmts};
 ghost use Rattle.alma_parse_cursor.specs.Parsing.{position_of, Reads, Extends, Fails};
 
+use crate::node::{assign_of, nothing, read_of, return_of, value_of, write_of, writeln_of};
 use alma_parse_cursor::{Cursor, Fault, StmtForm, followed_by, numbered};
-use alma_parse_expr::{StmtsRead, args, desig, desig_value, expr, exprs};
-use alma_parse_parts::{
-    assign_of, nothing, open_after, present, pushed, read_of, return_of, value_of, write_of,
-    writeln_of,
+use alma_parse_expr::{
+    StmtsRead, args, desig, desig_value, expr, exprs, open_after, present, pushed,
 };
 use alma_tree::{Desig, Expr, Kind, Stmt};
 use std::alloc::Global;

@@ -9,12 +9,11 @@ ghost use Rattle.alma_parse_expr.specs.Inside.{ReadsStmts};
 ghost use Rattle.alma_parse_cursor.specs.Parsing.{position_of, Reads, Fails};
 
 use crate::control::{case_stmt, for_stmt, if_stmt, nested, repeat_stmt, while_stmt};
+use crate::head::loop_head;
+use crate::node::{commit_of, either_of, forall_of, some_of, stmts_of};
 use crate::simple::simple_stmt;
 use alma_parse_cursor::{Cursor, Fault, StmtForm, followed_by, numbered};
-use alma_parse_expr::{StmtsRead, expr};
-use alma_parse_parts::{
-    boxed, commit_of, either_of, forall_of, loop_head, pushed, some_of, stmts_of,
-};
+use alma_parse_expr::{StmtsRead, boxed, expr, pushed};
 use alma_tree::{Kind, Stmt, Stmts};
 use std::alloc::Global;
 

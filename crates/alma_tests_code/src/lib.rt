@@ -1,4 +1,4 @@
-//! Tests of names, programs, code and objects.
+//! Worked codes, and tests of names, programs, code and objects.
 #![tactic(auto)]
 
 #[cfg(test)]
@@ -11,3 +11,4 @@ mod names;
 mod object;
 #[cfg(test)]
 mod verify;
+pub mod worked;

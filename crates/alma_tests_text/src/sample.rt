@@ -1,7 +1,7 @@
 // The first sources of a sample.
 ghost use Rattle.std.specs.Prelude.{◌≤◌};
 
-use alma_driver_sample::sample_source;
+use alma_driver_words::sample_source;
 use std::alloc::Global;
 use std::test::Fail;
 

@@ -1,6 +1,6 @@
 use Rattle.std.proofs.Common.{take, map}
 use Rattle.alma_ir.specs.View.{program_of}
-use Rattle.alma_joined.specs.Joined.{kept_in}
+use Rattle.alma_join.specs.Joined.{kept_in}
 use Rattle.alma_join.specs.Directory.{Holds}
 use Rattle.alma_join.proofs.directory.directory_of.Given as goal
 

@@ -1,5 +1,5 @@
 use Rattle.std.proofs.Common.{◌≡◌, drop}
-use Rattle.alma_joined.specs.Joined.{same_params}
+use Rattle.alma_join.specs.Joined.{same_params}
 use Rattle.alma_join.proofs.head.same_params.Given as goal
 
 abbrev pub invariant-loop-i : goal.invariant-loop-i

@@ -1,7 +1,7 @@
 use Rattle.std.proofs.Common.{◌≡◌, ◌+◌, ◌<◌, ◌∙◌, refl, sym, subst, arith, length, map}
 use Rattle.std.proofs.lemmas.List.{length-map}
 use Rattle.alma_ir.specs.View.{program_of, routine_of}
-use Rattle.alma_joined.specs.Joined.{kept_in}
+use Rattle.alma_join.specs.Joined.{kept_in}
 use Rattle.alma_join.specs.Numbers.{NumbersUnit, numbers_in}
 use Rattle.alma_join.proofs.PartsGo.{parts_none, parts_more, parts_all, numbers_at, numbers_length, each_at}
 use Rattle.alma_join.proofs.Rows.{element_is}

@@ -5,7 +5,7 @@ use Rattle.alma_tree.proofs.NumberRows as numbered
 use Rattle.alma_parse_cursor.proofs.Loops.{ended, broken}
 use Rattle.alma_parse_cursor.proofs.Steps.{after, first, passed, opened, closed, counted, then, no_memory}
 use Rattle.alma_parse_cursor.proofs.Turns.{begun, grown, want}
-use Rattle.alma_parse_decl.proofs.Items.{decls_listed}
+use Rattle.alma_parse.proofs.Items.{decls_listed}
 use Rattle.alma_parse.proofs.declarations.+declarations.Goals as goal
 
 pub block-returns-in_err-decls : goal.block-returns-in_err-decls

@@ -26,19 +26,19 @@ use Rattle.alma_parse_cursor.proofs.Loops as loops
 use Rattle.alma_parse_cursor.proofs.Loops.{grouped}
 use Rattle.alma_parse_cursor.proofs.Steps.{passed, opened, closed_any, then, skipped, becoming, after, first, becoming_fails, instead}
 use Rattle.alma_parse_cursor.proofs.Steps.{instead_any, extended}
-use Rattle.alma_parse_parts.specs.Nodes.{ComparedWith, SumOf}
-use Rattle.alma_parse_parts.proofs.Fewer.{behind_within, made_within, pushed_within, within_ok, ok_within}
-use Rattle.alma_parse_parts.proofs.Growing.{pushed_turn}
-use Rattle.alma_parse_parts.proofs.Stopped.{stopped}
-use Rattle.alma_parse_parts.proofs.Made.{made_gives, made_or_gives, behind_front, becoming_gives, made_extends, made_or_extends}
-use Rattle.alma_parse_parts.specs.Pieces.{inside_of, number_inside_args}
-use Rattle.alma_parse_parts.proofs.Chain.{plain, closing, matching, ended_behind, in_box}
-use Rattle.alma_parse_parts.proofs.Heads as heads
-use Rattle.alma_parse_parts.proofs.Links.{broken_turn, term_linked, factor_linked, shallower_gives}
-use Rattle.alma_parse_parts.proofs.Lists as lists
-use Rattle.alma_parse_parts.proofs.Values.{a_simple, a_term, a_factor, a_selector, a_primary, an_expr, some_exprs, a_desig}
-use Rattle.alma_parse_parts.proofs.Values.{more_terms, more_factors, more_selectors, count_terms}
-use Rattle.alma_parse_parts.proofs.Values.{count_factors, count_selectors}
+use Rattle.alma_parse_expr.specs.Nodes.{ComparedWith, SumOf}
+use Rattle.alma_parse_expr.proofs.Fewer.{behind_within, made_within, pushed_within, within_ok, ok_within}
+use Rattle.alma_parse_expr.proofs.Growing.{pushed_turn}
+use Rattle.alma_parse_expr.proofs.Stopped.{stopped}
+use Rattle.alma_parse_expr.proofs.Made.{made_gives, made_or_gives, behind_front, becoming_gives, made_extends, made_or_extends}
+use Rattle.alma_parse_expr.specs.Pieces.{inside_of, number_inside_args}
+use Rattle.alma_parse_expr.proofs.Chain.{plain, closing, matching, ended_behind, in_box}
+use Rattle.alma_parse_expr.proofs.Heads as heads
+use Rattle.alma_parse_expr.proofs.Links.{broken_turn, term_linked, factor_linked, shallower_gives}
+use Rattle.alma_parse_expr.proofs.Lists as lists
+use Rattle.alma_parse_expr.proofs.Values.{a_simple, a_term, a_factor, a_selector, a_primary, an_expr, some_exprs, a_desig}
+use Rattle.alma_parse_expr.proofs.Values.{more_terms, more_factors, more_selectors, count_terms}
+use Rattle.alma_parse_expr.proofs.Values.{count_factors, count_selectors}
 use Rattle.alma_parse_expr.proofs.expression.+values.Goals as goal
 
 pub expr_from-returns : goal.expr_from-returns

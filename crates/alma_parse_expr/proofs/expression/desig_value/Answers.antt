@@ -6,9 +6,9 @@ use Rattle.alma_tree.specs.Numbers.{number_primary}
 use Rattle.alma_grammar.specs.Parts.{compared_part}
 use Rattle.alma_parse_cursor.proofs.Steps.{twice, first, beyond}
 use Rattle.alma_parse_cursor.proofs.Steps.{extended_twice}
-use Rattle.alma_parse_parts.proofs.Stopped.{stopped}
-use Rattle.alma_parse_parts.proofs.Chain.{ended_extending}
-use Rattle.alma_parse_parts.proofs.Values.{a_primary}
+use Rattle.alma_parse_expr.proofs.Stopped.{stopped}
+use Rattle.alma_parse_expr.proofs.Chain.{ended_extending}
+use Rattle.alma_parse_expr.proofs.Values.{a_primary}
 use Rattle.alma_parse_expr.proofs.expression.desig_value.Goals as goal
 
 pub returns-in_err-primary : goal.returns-in_err-primary

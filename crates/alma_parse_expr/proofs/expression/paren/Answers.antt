@@ -10,10 +10,10 @@ use Rattle.alma_grammar.specs.Parts.{one}
 use Rattle.alma_grammar.specs.Parts.{stmts_parts}
 use Rattle.alma_parse_cursor.proofs.Joins.{followed}
 use Rattle.alma_parse_cursor.proofs.Steps.{opened, first}
-use Rattle.alma_parse_parts.proofs.Stopped.{stopped}
-use Rattle.alma_parse_parts.proofs.Made.{made_gives, behind_front}
-use Rattle.alma_parse_parts.proofs.Chain.{matching, ended_behind, in_box}
-use Rattle.alma_parse_parts.proofs.Values.{a_primary, some_stmts}
+use Rattle.alma_parse_expr.proofs.Stopped.{stopped}
+use Rattle.alma_parse_expr.proofs.Made.{made_gives, behind_front}
+use Rattle.alma_parse_expr.proofs.Chain.{matching, ended_behind, in_box}
+use Rattle.alma_parse_expr.proofs.Values.{a_primary, some_stmts}
 use Rattle.alma_parse_expr.proofs.expression.paren.Goals as goal
 
 pub returns : goal.returns

@@ -5,7 +5,7 @@ use Rattle.alma_tree.specs.Numbers.{number_arm}
 use Rattle.alma_grammar.specs.Parts.{arm_part}
 use Rattle.alma_parse_cursor.specs.Forms as forms
 use Rattle.alma_parse_cursor.proofs.Steps.{instead, instead_any}
-use Rattle.alma_parse_parts.proofs.Values.{an_arm}
+use Rattle.alma_parse_expr.proofs.Values.{an_arm}
 use Rattle.alma_parse_stmt.proofs.control.arm.Goals as goal
 
 pub returns-then-begins_expr : goal.returns-then-begins_expr

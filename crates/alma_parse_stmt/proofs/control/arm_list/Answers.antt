@@ -4,11 +4,11 @@ use Rattle.alma_tree.specs.Numbers.{number_arm}
 use Rattle.alma_grammar.specs.Parts.{one, arm_part}
 use Rattle.alma_parse_cursor.proofs.Loops as loops
 use Rattle.alma_parse_cursor.proofs.Steps.{passed}
-use Rattle.alma_parse_parts.proofs.Stopped.{stopped}
-use Rattle.alma_parse_parts.proofs.Heads as heads
-use Rattle.alma_parse_parts.proofs.Lists as lists
-use Rattle.alma_parse_parts.proofs.Values.{an_arm}
-use Rattle.alma_parse_parts.proofs.Fronts.{part, both, one_more, no_more}
+use Rattle.alma_parse_expr.proofs.Stopped.{stopped}
+use Rattle.alma_parse_expr.proofs.Heads as heads
+use Rattle.alma_parse_expr.proofs.Lists as lists
+use Rattle.alma_parse_expr.proofs.Values.{an_arm}
+use Rattle.alma_parse_expr.proofs.Fronts.{part, both, one_more, no_more}
 use Rattle.alma_parse_stmt.proofs.control.arm_list.Goals as goal
 
 pub loop-after-init : goal.loop-after-init

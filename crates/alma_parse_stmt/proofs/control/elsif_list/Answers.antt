@@ -5,12 +5,12 @@ use Rattle.alma_grammar.specs.Parts.{one, expr_parts, stmts_parts}
 use Rattle.alma_parse_cursor.proofs.Joins.{followed}
 use Rattle.alma_parse_cursor.proofs.Loops as loops
 use Rattle.alma_parse_cursor.proofs.Steps.{passed, after, first}
-use Rattle.alma_parse_parts.proofs.Stopped.{stopped}
-use Rattle.alma_parse_parts.proofs.Chain.{plain}
-use Rattle.alma_parse_parts.proofs.Heads as heads
-use Rattle.alma_parse_parts.proofs.Lists as lists
-use Rattle.alma_parse_parts.proofs.Values.{an_expr, some_stmts}
-use Rattle.alma_parse_parts.proofs.Fronts.{part, part_and, and_then, whole, one_more, no_more}
+use Rattle.alma_parse_expr.proofs.Stopped.{stopped}
+use Rattle.alma_parse_expr.proofs.Chain.{plain}
+use Rattle.alma_parse_expr.proofs.Heads as heads
+use Rattle.alma_parse_expr.proofs.Lists as lists
+use Rattle.alma_parse_expr.proofs.Values.{an_expr, some_stmts}
+use Rattle.alma_parse_expr.proofs.Fronts.{part, part_and, and_then, whole, one_more, no_more}
 use Rattle.alma_parse_stmt.proofs.control.elsif_list.Goals as goal
 
 pub loop-after-init : goal.loop-after-init

@@ -3,10 +3,10 @@ use Rattle.alma_tree.specs.Spelling.{spell_high}
 use Rattle.alma_tree.specs.View.{high_of}
 use Rattle.alma_tree.specs.Numbers.{number_expr, numbers_of_high}
 use Rattle.alma_parse_cursor.proofs.Steps.{passed, skipped}
-use Rattle.alma_parse_parts.proofs.Made.{becoming_gives}
-use Rattle.alma_parse_parts.proofs.Heads as heads
-use Rattle.alma_parse_parts.proofs.Values.{an_expr}
-use Rattle.alma_parse_parts.proofs.Fronts.{part, whole}
+use Rattle.alma_parse_expr.proofs.Made.{becoming_gives}
+use Rattle.alma_parse_expr.proofs.Heads as heads
+use Rattle.alma_parse_expr.proofs.Values.{an_expr}
+use Rattle.alma_parse_expr.proofs.Fronts.{part, whole}
 use Rattle.alma_parse_stmt.proofs.control.high.Goals as goal
 
 pub returns-in_default : goal.returns-in_default

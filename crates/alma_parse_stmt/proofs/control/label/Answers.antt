@@ -6,8 +6,8 @@ use Rattle.alma_tree.proofs.Rows as rows
 use Rattle.alma_tree.proofs.NumberRows as numbers
 use Rattle.alma_parse_cursor.proofs.Joins.{ended}
 use Rattle.alma_parse_cursor.proofs.Steps.{first}
-use Rattle.alma_parse_parts.proofs.Stopped.{stopped}
-use Rattle.alma_parse_parts.proofs.Fronts.{part, whole}
+use Rattle.alma_parse_expr.proofs.Stopped.{stopped}
+use Rattle.alma_parse_expr.proofs.Fronts.{part, whole}
 use Rattle.alma_parse_stmt.proofs.control.label.Goals as goal
 
 pub returns-in_err-low : goal.returns-in_err-low

@@ -6,10 +6,10 @@ use Rattle.alma_tree.specs.Numbers.{number_label}
 use Rattle.alma_grammar.specs.Parts.{one, label_parts}
 use Rattle.alma_parse_cursor.proofs.Loops as loops
 use Rattle.alma_parse_cursor.proofs.Steps.{passed}
-use Rattle.alma_parse_parts.proofs.Stopped.{stopped}
-use Rattle.alma_parse_parts.proofs.Heads as heads
-use Rattle.alma_parse_parts.proofs.Lists as lists
-use Rattle.alma_parse_parts.proofs.Fronts.{part, both, one_more, no_more}
+use Rattle.alma_parse_expr.proofs.Stopped.{stopped}
+use Rattle.alma_parse_expr.proofs.Heads as heads
+use Rattle.alma_parse_expr.proofs.Lists as lists
+use Rattle.alma_parse_expr.proofs.Fronts.{part, both, one_more, no_more}
 use Rattle.alma_parse_stmt.proofs.control.label_list.Goals as goal
 
 pub loop-after-init : goal.loop-after-init

@@ -6,10 +6,10 @@ use Rattle.alma_tree.proofs.Rows as rows
 use Rattle.alma_tree.proofs.NumberRows as numbers
 use Rattle.alma_parse_cursor.proofs.Joins.{followed, ended}
 use Rattle.alma_parse_cursor.proofs.Steps.{after, first}
-use Rattle.alma_parse_parts.proofs.Stopped.{stopped}
-use Rattle.alma_parse_parts.proofs.Chain.{plain}
-use Rattle.alma_parse_parts.proofs.Values.{an_arm, some_stmts, more_labels, count_labels}
-use Rattle.alma_parse_parts.proofs.Fronts.{part, part_and, and_then, whole}
+use Rattle.alma_parse_expr.proofs.Stopped.{stopped}
+use Rattle.alma_parse_expr.proofs.Chain.{plain}
+use Rattle.alma_parse_expr.proofs.Values.{an_arm, some_stmts, more_labels, count_labels}
+use Rattle.alma_parse_expr.proofs.Fronts.{part, part_and, and_then, whole}
 use Rattle.alma_parse_stmt.proofs.control.labelled_arm.Goals as goal
 
 pub returns-in_err-first : goal.returns-in_err-first

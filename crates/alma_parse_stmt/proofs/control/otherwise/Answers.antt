@@ -3,10 +3,10 @@ use Rattle.alma_tree.specs.Spelling.{spell_else}
 use Rattle.alma_tree.specs.View.{else_of}
 use Rattle.alma_tree.specs.Numbers.{number_stmts, numbers_of_else}
 use Rattle.alma_parse_cursor.proofs.Steps.{passed, skipped}
-use Rattle.alma_parse_parts.proofs.Made.{becoming_gives}
-use Rattle.alma_parse_parts.proofs.Heads as heads
-use Rattle.alma_parse_parts.proofs.Values.{some_stmts}
-use Rattle.alma_parse_parts.proofs.Fronts.{part, whole}
+use Rattle.alma_parse_expr.proofs.Made.{becoming_gives}
+use Rattle.alma_parse_expr.proofs.Heads as heads
+use Rattle.alma_parse_expr.proofs.Values.{some_stmts}
+use Rattle.alma_parse_expr.proofs.Fronts.{part, whole}
 use Rattle.alma_parse_stmt.proofs.control.otherwise.Goals as goal
 
 pub returns-in_default : goal.returns-in_default

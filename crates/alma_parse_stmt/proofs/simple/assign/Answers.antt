@@ -8,11 +8,11 @@ use Rattle.alma_tree.proofs.Rows as rows
 use Rattle.alma_tree.proofs.NumberRows as numbers
 use Rattle.alma_parse_cursor.proofs.Joins.{ended}
 use Rattle.alma_parse_cursor.proofs.Steps.{passed, first}
-use Rattle.alma_parse_parts.proofs.Stopped.{stopped}
-use Rattle.alma_parse_parts.proofs.Made.{made_extends}
-use Rattle.alma_parse_parts.proofs.Values.{a_stmt, an_expr}
+use Rattle.alma_parse_expr.proofs.Stopped.{stopped}
+use Rattle.alma_parse_expr.proofs.Made.{made_extends}
+use Rattle.alma_parse_expr.proofs.Values.{a_stmt, an_expr}
 use Rattle.alma_tree.specs.declared.phrase.Stmt as dt
-use Rattle.alma_parse_parts.proofs.Fronts.{part, both}
+use Rattle.alma_parse_expr.proofs.Fronts.{part, both}
 use Rattle.alma_parse_stmt.proofs.simple.assign.Goals as goal
 
 pub returns-in_err-at : goal.returns-in_err-at

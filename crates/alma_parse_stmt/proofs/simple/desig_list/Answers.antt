@@ -5,11 +5,11 @@ use Rattle.alma_grammar.specs.Parts.{one}
 use Rattle.alma_grammar.specs.Parts.{desig_parts}
 use Rattle.alma_parse_cursor.proofs.Loops as loops
 use Rattle.alma_parse_cursor.proofs.Steps.{passed}
-use Rattle.alma_parse_parts.proofs.Stopped.{stopped}
-use Rattle.alma_parse_parts.proofs.Heads as heads
-use Rattle.alma_parse_parts.proofs.Lists as lists
-use Rattle.alma_parse_parts.proofs.Values.{a_desig}
-use Rattle.alma_parse_parts.proofs.Fronts.{part, both, one_more, no_more}
+use Rattle.alma_parse_expr.proofs.Stopped.{stopped}
+use Rattle.alma_parse_expr.proofs.Heads as heads
+use Rattle.alma_parse_expr.proofs.Lists as lists
+use Rattle.alma_parse_expr.proofs.Values.{a_desig}
+use Rattle.alma_parse_expr.proofs.Fronts.{part, both, one_more, no_more}
 use Rattle.alma_parse_stmt.proofs.simple.desig_list.Goals as goal
 
 pub loop-after-init : goal.loop-after-init

@@ -9,11 +9,11 @@ use Rattle.alma_grammar.specs.Parts.{one}
 use Rattle.alma_grammar.specs.Parts.{factor_tail, term_tail, compared_part, args_part, after_desig, expr_parts}
 use Rattle.alma_parse_cursor.proofs.Steps.{first}
 use Rattle.alma_parse_cursor.proofs.Steps.{extended, instead_extending}
-use Rattle.alma_parse_parts.proofs.Stopped.{stopped}
-use Rattle.alma_parse_parts.proofs.Made.{made_gives}
-use Rattle.alma_parse_parts.proofs.Chain.{ended_extending}
-use Rattle.alma_parse_parts.proofs.Heads as heads
-use Rattle.alma_parse_parts.proofs.Values.{a_stmt, an_expr}
+use Rattle.alma_parse_expr.proofs.Stopped.{stopped}
+use Rattle.alma_parse_expr.proofs.Made.{made_gives}
+use Rattle.alma_parse_expr.proofs.Chain.{ended_extending}
+use Rattle.alma_parse_expr.proofs.Heads as heads
+use Rattle.alma_parse_expr.proofs.Values.{a_stmt, an_expr}
 use Rattle.alma_tree.specs.declared.phrase.Stmt as dt
 use Rattle.alma_parse_stmt.proofs.simple.desig_stmt.Goals as goal
 

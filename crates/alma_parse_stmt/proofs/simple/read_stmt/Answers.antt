@@ -5,12 +5,12 @@ use Rattle.alma_tree.specs.Numbers.{token, node, ◌>>◌, number_stmt}
 use Rattle.alma_tree.proofs.Rows as rows
 use Rattle.alma_tree.proofs.NumberRows as numbers
 use Rattle.alma_parse_cursor.proofs.Steps.{passed, opened, first}
-use Rattle.alma_parse_parts.proofs.Stopped.{stopped}
-use Rattle.alma_parse_parts.proofs.Chain.{matching, ended_behind}
-use Rattle.alma_parse_parts.proofs.Values.{a_stmt}
-use Rattle.alma_parse_parts.proofs.Values.{more_desigs}
-use Rattle.alma_parse_parts.proofs.Values.{count_desigs}
-use Rattle.alma_parse_parts.proofs.Fronts.{part, and_then, whole}
+use Rattle.alma_parse_expr.proofs.Stopped.{stopped}
+use Rattle.alma_parse_expr.proofs.Chain.{matching, ended_behind}
+use Rattle.alma_parse_expr.proofs.Values.{a_stmt}
+use Rattle.alma_parse_expr.proofs.Values.{more_desigs}
+use Rattle.alma_parse_expr.proofs.Values.{count_desigs}
+use Rattle.alma_parse_expr.proofs.Fronts.{part, and_then, whole}
 use Rattle.alma_parse_stmt.proofs.simple.read_stmt.Goals as goal
 
 pub returns-in_err-at : goal.returns-in_err-at

@@ -8,9 +8,9 @@ use Rattle.alma_tree.proofs.Rows as rows
 use Rattle.alma_tree.proofs.NumberRows as numbers
 use Rattle.alma_parse_cursor.proofs.Joins.{ended}
 use Rattle.alma_parse_cursor.proofs.Steps.{passed, first}
-use Rattle.alma_parse_parts.proofs.Stopped.{stopped}
-use Rattle.alma_parse_parts.proofs.Values.{a_stmt}
-use Rattle.alma_parse_parts.proofs.Fronts.{part, whole}
+use Rattle.alma_parse_expr.proofs.Stopped.{stopped}
+use Rattle.alma_parse_expr.proofs.Values.{a_stmt}
+use Rattle.alma_parse_expr.proofs.Fronts.{part, whole}
 use Rattle.alma_parse_stmt.proofs.simple.return_stmt.Goals as goal
 
 pub returns-in_err-at : goal.returns-in_err-at

@@ -4,8 +4,8 @@ use Rattle.alma_tree.specs.View.{returned_of}
 use Rattle.alma_tree.specs.Numbers.{number_expr}
 use Rattle.alma_tree.specs.Numbers.{numbers_of_returned}
 use Rattle.alma_parse_cursor.proofs.Steps.{skipped}
-use Rattle.alma_parse_parts.proofs.Made.{made_gives, becoming_gives}
-use Rattle.alma_parse_parts.proofs.Values.{an_expr}
+use Rattle.alma_parse_expr.proofs.Made.{made_gives, becoming_gives}
+use Rattle.alma_parse_expr.proofs.Values.{an_expr}
 use Rattle.alma_parse_stmt.proofs.simple.returned.Goals as goal
 
 pub returns-then-begins_expr : goal.returns-then-begins_expr

@@ -1,8 +1,8 @@
 use Rattle.std.proofs.Common.{refl}
 use Rattle.alma_tree.specs.Numbers.{node, ◌>>◌, number_stmt, number_expr}
 use Rattle.alma_parse_cursor.proofs.Joins.{ended}
-use Rattle.alma_parse_parts.proofs.Made.{made_gives}
-use Rattle.alma_parse_parts.proofs.Values.{a_stmt, an_expr}
+use Rattle.alma_parse_expr.proofs.Made.{made_gives}
+use Rattle.alma_parse_expr.proofs.Values.{a_stmt, an_expr}
 use Rattle.alma_tree.specs.declared.phrase.Stmt as dt
 use Rattle.alma_parse_stmt.proofs.simple.value_stmt.Goals as goal
 

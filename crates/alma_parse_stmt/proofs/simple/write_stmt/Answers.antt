@@ -3,11 +3,11 @@ use Rattle.alma_tree.specs.declared.kind.Kind.TheVariants as kinds
 use Rattle.alma_tree.specs.Numbers.{token, node, ◌>>◌, number_stmt}
 use Rattle.alma_tree.specs.Numbers.{number_exprs}
 use Rattle.alma_parse_cursor.proofs.Steps.{passed, opened, first}
-use Rattle.alma_parse_parts.proofs.Stopped.{stopped}
-use Rattle.alma_parse_parts.proofs.Chain.{matching, ended_behind}
-use Rattle.alma_parse_parts.proofs.Values.{a_stmt, some_exprs}
+use Rattle.alma_parse_expr.proofs.Stopped.{stopped}
+use Rattle.alma_parse_expr.proofs.Chain.{matching, ended_behind}
+use Rattle.alma_parse_expr.proofs.Values.{a_stmt, some_exprs}
 use Rattle.alma_tree.specs.declared.phrase.Stmt as dt
-use Rattle.alma_parse_parts.proofs.Fronts.{part, and_then, whole}
+use Rattle.alma_parse_expr.proofs.Fronts.{part, and_then, whole}
 use Rattle.alma_parse_stmt.proofs.simple.write_stmt.Goals as goal
 
 pub returns-in_err-at : goal.returns-in_err-at

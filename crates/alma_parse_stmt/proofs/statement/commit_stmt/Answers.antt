@@ -5,10 +5,10 @@ use Rattle.alma_tree.specs.Numbers.{token, node, ◌>>◌, number_stmts, number_
 use Rattle.alma_tree.proofs.Rows as rows
 use Rattle.alma_tree.proofs.NumberRows as numbers
 use Rattle.alma_parse_cursor.proofs.Steps.{opened, first}
-use Rattle.alma_parse_parts.proofs.Stopped.{stopped}
-use Rattle.alma_parse_parts.proofs.Chain.{matching, ended_behind}
-use Rattle.alma_parse_parts.proofs.Values.{a_stmt, some_stmts}
-use Rattle.alma_parse_parts.proofs.Fronts.{part, whole}
+use Rattle.alma_parse_expr.proofs.Stopped.{stopped}
+use Rattle.alma_parse_expr.proofs.Chain.{matching, ended_behind}
+use Rattle.alma_parse_expr.proofs.Values.{a_stmt, some_stmts}
+use Rattle.alma_parse_expr.proofs.Fronts.{part, whole}
 use Rattle.alma_parse_stmt.proofs.statement.commit_stmt.Goals as goal
 
 pub returns-in_err-at : goal.returns-in_err-at

@@ -2,10 +2,10 @@ use Rattle.std.proofs.Common.{Ok, Err, refl}
 use Rattle.alma_tree.specs.Numbers.{node, ◌>>◌, number_stmts, number_stmt}
 use Rattle.alma_parse_cursor.proofs.Joins.{ended}
 use Rattle.alma_parse_cursor.proofs.Steps.{first}
-use Rattle.alma_parse_parts.proofs.Stopped.{stopped}
-use Rattle.alma_parse_parts.proofs.Chain.{in_box}
-use Rattle.alma_parse_parts.proofs.Values.{a_stmt, some_stmts, more_stmts, count_stmts}
-use Rattle.alma_parse_parts.proofs.Fronts.{part, whole}
+use Rattle.alma_parse_expr.proofs.Stopped.{stopped}
+use Rattle.alma_parse_expr.proofs.Chain.{in_box}
+use Rattle.alma_parse_expr.proofs.Values.{a_stmt, some_stmts, more_stmts, count_stmts}
+use Rattle.alma_parse_expr.proofs.Fronts.{part, whole}
 use Rattle.alma_parse_stmt.proofs.statement.statements.Goals as goal
 
 pub returns-in_err-first : goal.returns-in_err-first

@@ -1,5 +1,0 @@
-mod Whole
-mod Constants
-mod TypeTokens
-mod TypeSteps
-mod All

@@ -1,4 +1,0 @@
-pub mod TypeItems
-pub mod TypesLeftOut
-pub mod Items
-pub mod LeftOut

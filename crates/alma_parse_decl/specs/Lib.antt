@@ -1,4 +1,0 @@
--- One ARRAY of a type.
-pub mod Dimensions
--- Pieces of declarations.
-pub mod Entries
