@@ -7,8 +7,8 @@ use crate::stretch::Stretch;
 use alma_base::NoMemory;
 use std::alloc::Global;
 
-// Whether the new number of a stretch is free where it begins; it is taken up to its end. `ends` has of each new number where the
-// last stretch that had it ends.
+// Whether the new number of a stretch is free where it begins; it is taken up to its end. `ends`
+// has of each new number where the last stretch that had it ends.
 fn take(ends: &mut [u32], stretch: Stretch) -> bool
     ensures { result ≡ true → Takes ends.old ends.new stretch }
 {
@@ -24,7 +24,8 @@ fn take(ends: &mut [u32], stretch: Stretch) -> bool
     true
 }
 
-/// Whether no two slots have one new number at one address. The stretches of each new number have to rise.
+/// Whether no two slots have one new number at one address. The stretches of each new number have
+/// to rise.
 pub fn are_apart(alloc: Global, stretches: &[Stretch]) -> Result<bool, NoMemory>
     ensures { IfOk result (λ apart. apart ≡ true → AreApart stretches.now) }
 {

@@ -16,7 +16,8 @@ use alma_base::NoMemory;
 use alma_code::{Code, SlotKind};
 use std::alloc::Global;
 
-/// Whether the slots of a routine may be renamed as the stretches say. Linear in the code and in the sum of the stretches.
+/// Whether the slots of a routine may be renamed as the stretches say. Linear in the code and in
+/// the sum of the stretches.
 pub fn may_share(
     alloc: Global,
     code: &Code,

@@ -1,4 +1,5 @@
-// Whether the stretches of slots are closed: a slot is written where its stretch begins, and none jumps into the stretch from outside.
+// Whether the stretches of slots are closed: a slot is written where its stretch begins, and none
+// jumps into the stretch from outside.
 ghost use Rattle.std.specs.Prelude.{◌≡◌, ◌-◌, ◌<◌, ◌≤◌, ◌^◌, ℕ, true, false, get_or, length, slice_get, Some};
 ghost use Rattle.alma_code.specs.Kinds.{is_number as is_number_spec};
 ghost use Rattle.alma_code.specs.Plain.{code_of};
@@ -45,14 +46,16 @@ fn leads_inside(sources: &[Sources], start: u32, low: u32, high: u32) -> bool
     true
 }
 
-// Whether no carry may have been laid over the frame behind an instruction, or it is the last of a stretch and leads nowhere else.
+// Whether no carry may have been laid over the frame behind an instruction, or it is the last of a
+// stretch and leads nowhere else.
 fn leaves_calm(instr: Instr, at: u32, high: u32) -> bool
     ensures { result ≡ true → IsCalm instr at high }
 {
     !lays_over(instr) || at == high && away_of(instr).is_none()
 }
 
-// Whether a number may live behind low up to high: a Call at `high` reads it, and it does not live behind that.
+// Whether a number may live behind low up to high: a Call at `high` reads it, and it does not live
+// behind that.
 fn is_calm(code: &Code, low: u32, high: u32) -> bool
     ensures { result ≡ true → (at : ℕ) → low < at → at ≤ high
         → IsCalm (get_or (code_of code.now).instrs at I.Fail) at high }
@@ -68,8 +71,8 @@ fn is_calm(code: &Code, low: u32, high: u32) -> bool
 
 // Whether the instruction at an address writes a slot.
 fn writes(code: &Code, at: u32, slot: u32) -> bool
-    ensures { result ≡ true → written (code_of code.now) (get_or (code_of code.now).instrs at I.Fail)
-        ≡ Some slot }
+    ensures { result ≡ true → written (code_of code.now) (get_or (code_of code.now).instrs at
+        I.Fail) ≡ Some slot }
 {
     match written_by(code, instr_at(code, at)) {
         None => false,

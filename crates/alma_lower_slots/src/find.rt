@@ -1,4 +1,5 @@
-// How many slots are a routine's own: places name them, or other frames read them. What is found here the checker looks over.
+// How many slots are a routine's own: places name them, or other frames read them. What is found
+// here the checker looks over.
 
 use crate::head::param_slots;
 use crate::names::{length_of, link_of};
@@ -7,7 +8,8 @@ use alma_base::NoMemory;
 use alma_code::{Code, CodeParam, Instr, SlotKind};
 use std::alloc::Global;
 
-/// For each routine a count of slots, from 0 on, that keep their numbers. `kinds` has those of the slots of each.
+/// For each routine a count of slots, from 0 on, that keep their numbers. `kinds` has those of the
+/// slots of each.
 pub fn own_slots(
     alloc: Global,
     code: &Code,

@@ -12,8 +12,8 @@ use alma_code::{Code, Instr};
 
 // Whether an instruction ends the flow where a Finish stands at the next address.
 fn ends_before(code: &Code, at: u32, instr: Instr) -> bool
-    ensures { result ≡ true → is_finish_spec (get_or (code_of code.now).instrs (suc at) I.Fail) ≡ true
-        → ends_routine_spec instr ≡ true }
+    ensures { result ≡ true → is_finish_spec (get_or (code_of code.now).instrs (suc at) I.Fail)
+        ≡ true → ends_routine_spec instr ≡ true }
 {
     match at.checked_add(1) {
         None => false,

@@ -63,7 +63,8 @@ fn is_free(named: Option<SlotKind>, kind: SlotKind) -> bool
     }
 }
 
-// Names the kind of a slot at its new number, or says that another kind stands there, or that there is no such number.
+// Names the kind of a slot at its new number, or says that another kind stands there, or that there
+// is no such number.
 fn name_kind(named: &mut [Option<SlotKind>], slot: usize, kind: SlotKind) -> bool
     ensures { result ≡ true → NamesOne named.old slot kind named.new }
 {
@@ -77,7 +78,8 @@ fn name_kind(named: &mut [Option<SlotKind>], slot: usize, kind: SlotKind) -> boo
     true
 }
 
-// Names the kinds of all slots at their new numbers, and gives the count of these, or says that there is no such renaming.
+// Names the kinds of all slots at their new numbers, and gives the count of these, or says that
+// there is no such renaming.
 fn name_kinds(
     named: &mut [Option<SlotKind>],
     kinds: &[SlotKind],
@@ -85,8 +87,8 @@ fn name_kinds(
 ) -> Option<usize>
     requires none { named.old ≡ replicate (length kinds.now) None }
     requires few { length kinds.now ≤ slot_limit }
-    ensures { IfSome result (λ count. NamesSoFar kinds.now stretches.now (length kinds.now) named.new
-        count) }
+    ensures { IfSome result (λ count. NamesSoFar kinds.now stretches.now (length kinds.now)
+        named.new count) }
 {
     let mut count = 0;
     for i in 0..kinds.len() {
@@ -106,7 +108,8 @@ fn all_named(
     count: usize,
 ) -> Result<Option<Vec<SlotKind>>, NoMemory>
     requires { count ≤ length named.now }
-    ensures { IfOk result (λ found. IfSome found (λ kinds. map Some kinds.items ≡ take count named.now)) }
+    ensures { IfOk result (λ found. IfSome found (λ kinds. map Some kinds.items
+        ≡ take count named.now)) }
 {
     let mut kinds = Vec::new(alloc);
     for i in 0..count {
@@ -118,13 +121,15 @@ fn all_named(
     Ok(Some(kinds))
 }
 
-// The kinds of the slots behind a renaming, or none where two slots of one new number differ in kind, or a number stands for none.
+// The kinds of the slots behind a renaming, or none where two slots of one new number differ in
+// kind, or a number stands for none.
 fn new_kinds(
     alloc: Global,
     kinds: &[SlotKind],
     stretches: &[Stretch],
 ) -> Result<Option<Vec<SlotKind>>, NoMemory>
-    ensures { IfOk result (λ found. IfSome found (λ new. KindsFor kinds.now stretches.now new.items)) }
+    ensures { IfOk result (λ found. IfSome found (λ new. KindsFor kinds.now stretches.now
+        new.items)) }
 {
     if kinds.len() > SLOT_LIMIT as usize {
         return Ok(None);
@@ -140,7 +145,8 @@ fn new_kinds(
 fn head_over(alloc: Global, old: &RoutineHead, kinds: &[SlotKind]) -> Result<RoutineHead, NoMemory>
     requires few { length kinds.now ≤ slot_limit }
     requires enough { old.now.declared ≤ length kinds.now }
-    ensures { IfOk result (λ head. HeadOver (code.routine_of old.now) kinds.now (code.routine_of head)) }
+    ensures { IfOk result (λ head. HeadOver (code.routine_of old.now) kinds.now (code.routine_of
+        head)) }
 {
     Ok(RoutineHead {
         name: Vec::from_slice(alloc, &old.name)?,
@@ -153,15 +159,16 @@ fn head_over(alloc: Global, old: &RoutineHead, kinds: &[SlotKind]) -> Result<Rou
     })
 }
 
-/// A routine as before, but with its slots, which are of these kinds, behind a renaming, or none where there is no such renaming.
+/// A routine as before, but with its slots, which are of these kinds, behind a renaming, or none
+/// where there is no such renaming.
 pub fn head_behind(
     alloc: Global,
     old: &RoutineHead,
     kinds: &[SlotKind],
     stretches: &[Stretch],
 ) -> Result<Option<RoutineHead>, NoMemory>
-    ensures { IfOk result (λ found. IfSome found (λ head. HeadBehind (code.routine_of old.now) kinds.now
-        stretches.now (code.routine_of head))) }
+    ensures { IfOk result (λ found. IfSome found (λ head. HeadBehind (code.routine_of old.now)
+        kinds.now stretches.now (code.routine_of head))) }
 {
     match new_kinds(alloc, kinds, stretches)? {
         Some(new) => {

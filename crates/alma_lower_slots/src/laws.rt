@@ -8,6 +8,6 @@ ghost use Rattle.alma_lower_slots.specs.Same.{DoesTheSame};
 /// Where the slots of a sound code may be shared, the machine on the renamed code does the same.
 #[tactic(auto, using(crate::proofs::Whole::renamed_does_the_same))]
 pub fn renamed_code_does_the_same()
-    ensures { (code new : PlainCode) (sharing : Sharing) → IsSound code → Shares code sharing → Renames code sharing new
-        → DoesTheSame code new }
+    ensures { (code new : PlainCode) (sharing : Sharing) → IsSound code → Shares code sharing
+        → Renames code sharing new → DoesTheSame code new }
 {}

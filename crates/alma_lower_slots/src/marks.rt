@@ -50,7 +50,8 @@ fn is_clear(marks: &[bool], slot: Option<u32>) -> bool
     }
 }
 
-// Whether no slot in which the routine looks for the height of a FORALL is marked, where those are marked that a Mark writes.
+// Whether no slot in which the routine looks for the height of a FORALL is marked, where those are
+// marked that a Mark writes.
 fn are_clear(code: &Code, routine: usize, marks: &[bool]) -> bool
     requires { AreMarks (code_of code.now) routine marks.now }
     ensures { result ≡ true → ClearBodies (code_of code.now) routine }
@@ -65,8 +66,8 @@ fn are_clear(code: &Code, routine: usize, marks: &[bool]) -> bool
     true
 }
 
-/// Whether the routine begins with no Finish, and no Mark writes where it looks for the height of a FORALL. Of its slots there are
-/// so many.
+/// Whether the routine begins with no Finish, and no Mark writes where it looks for the height of a
+/// FORALL. Of its slots there are so many.
 pub fn fit_bodies(
     alloc: Global,
     code: &Code,

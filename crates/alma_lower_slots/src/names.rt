@@ -1,4 +1,5 @@
-// Whether the slots of which an instruction makes places, or which it reads in another frame, are own ones of their routine.
+// Whether the slots of which an instruction makes places, or which it reads in another frame, are
+// own ones of their routine.
 ghost use Rattle.std.specs.Prelude.{◌≡◌, ◌+◌, suc, get_or, nat_le, slice_get};
 ghost use Rattle.alma_code.specs.Rules.{place_length, link_routine};
 ghost use Rattle.alma_lower_slots.specs.Checks.{begins_within, names_within};

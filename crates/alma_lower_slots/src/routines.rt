@@ -35,7 +35,8 @@ pub fn all_kinds(alloc: Global, heads: &[RoutineHead]) -> Result<Vec<Vec<SlotKin
 
 /// Whether the runs of all routines are not too many.
 pub fn runs_fit(heads: &[RoutineHead]) -> bool
-    ensures { result ≡ true → sum_by (λ r. length r.head.runs) (map routine_of heads.now) ≤ slot_limit }
+    ensures { result ≡ true → sum_by (λ r. length r.head.runs) (map routine_of heads.now)
+        ≤ slot_limit }
 {
     let mut count = 0;
     for head in heads {
@@ -47,7 +48,8 @@ pub fn runs_fit(heads: &[RoutineHead]) -> bool
     true
 }
 
-// Puts the instructions of a routine, with their slots renamed, behind those of the routines before it.
+// Puts the instructions of a routine, with their slots renamed, behind those of the routines before
+// it.
 fn push_instrs(
     instrs: &mut Vec<Instr>,
     code: &Code,

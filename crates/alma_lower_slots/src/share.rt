@@ -52,7 +52,8 @@ fn with_parts(code: Code, parts: Parts) -> Code
     }
 }
 
-/// The code with fewer slots, on which the machine does the same, or the code as it is where its slots may not be shared.
+/// The code with fewer slots, on which the machine does the same, or the code as it is where its
+/// slots may not be shared.
 pub fn share_slots(alloc: Global, code: Code) -> Result<Code, NoMemory>
     requires sound { IsSound (code_of code) }
     requires counts { KeepsCounts (code_of code) }

@@ -9,8 +9,8 @@ use alma_base::NoMemory;
 use alma_code::Code;
 use std::alloc::Global;
 
-/// The least and the greatest address from which one leads away to an address; of one to which none leads the greatest and the
-/// least number.
+/// The least and the greatest address from which one leads away to an address; of one to which none
+/// leads the greatest and the least number.
 #[derive(Clone, Copy)]
 pub struct Sources {
     pub first: u32,

@@ -1,4 +1,5 @@
-// Where slots are live, as far as writes, reads and jumps tell. What is found here the checker looks over.
+// Where slots are live, as far as writes, reads and jumps tell. What is found here the checker
+// looks over.
 
 use crate::close::is_calm_for;
 use crate::matters::is_kept;
@@ -29,7 +30,8 @@ const APART: Stretch = Stretch {
     high: KEPT,
 };
 
-/// The stretch of each slot of a routine, with its new number. `own` has for each routine how many of its slots are own ones.
+/// The stretch of each slot of a routine, with its new number. `own` has for each routine how many
+/// of its slots are own ones.
 pub fn stretches_of(
     alloc: Global,
     code: &Code,
@@ -154,7 +156,8 @@ fn see_write(stretches: &mut [Stretch], slot: u32, at: u32) {
     stretches[slot].high = stretches[slot].high.max(at.saturating_add(1));
 }
 
-// The stretch with all jumps in it that lead back into it. Where one leads into it from before, or it is long, the slot is kept.
+// The stretch with all jumps in it that lead back into it. Where one leads into it from before, or
+// it is long, the slot is kept.
 fn closed(start: u32, sources: &[Sources], stretch: Stretch) -> Stretch {
     let mut closed = stretch;
     if stretch.high <= stretch.low || is_kept(stretch) {

@@ -1,7 +1,7 @@
 // What becomes of a slot.
 
-/// The new number of a slot, and where it is live: behind the address `low`, up to `high`. A slot whose `high` is `KEPT` has its
-/// new number for itself, wherever the machine is.
+/// The new number of a slot, and where it is live: behind the address `low`, up to `high`. A slot
+/// whose `high` is `KEPT` has its new number for itself, wherever the machine is.
 #[derive(Clone, Copy)]
 pub struct Stretch {
     pub slot: u32,

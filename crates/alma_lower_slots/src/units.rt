@@ -1,4 +1,5 @@
-// New numbers of slots: those of one kind whose stretches do not meet share one. What is given here the checker looks over.
+// New numbers of slots: those of one kind whose stretches do not meet share one. What is given here
+// the checker looks over.
 
 use crate::stretch::Stretch;
 use alma_base::{NoMemory, SLOT_LIMIT};
@@ -15,7 +16,8 @@ pub struct Unit {
     pub len: u32,
 }
 
-// New slots that stay together: of what old ones they have the kinds, and the end of the last stretch that they were given to.
+// New slots that stay together: of what old ones they have the kinds, and the end of the last
+// stretch that they were given to.
 #[derive(Clone, Copy)]
 struct Seat {
     first: u32,
@@ -23,7 +25,8 @@ struct Seat {
     free: u32,
 }
 
-/// Gives each slot behind the own ones its new number. `units` has for each slot the unit that it is of.
+/// Gives each slot behind the own ones its new number. `units` has for each slot the unit that it
+/// is of.
 pub fn give_numbers(
     alloc: Global,
     kinds: &[SlotKind],
