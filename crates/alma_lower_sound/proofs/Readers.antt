@@ -31,8 +31,8 @@ use Rattle.alma_lower_templates.specs.Pieces.{labels_code, begin_loop, bounds_co
 use Rattle.alma_lower_templates.specs.Pieces.{for_turns, some_turns, turn_code, each_body, forall_code, aim, straight}
 use Rattle.alma_lower_templates.specs.Pieces.{count_from, unless_constant, limit_code, put_code, held_or}
 use Rattle.alma_lower_templates.specs.Pieces.{held_code as constant_code}
-use Rattle.alma_lower_templates.specs.Slots.{shift_of, bare, bare_desig, fields_from, stays, stays_in, taken_from, unless_bare, is_simple, is_turned}
-use Rattle.alma_lower_templates.specs.Slots.{handed_slots, arg_slots}
+use Rattle.alma_lower_templates.specs.Slots.{shift_of, bare, bare_desig, stays, stays_in, taken_from, unless_bare, is_simple, is_turned}
+use Rattle.alma_lower_templates.specs.Slots.{handed_slots, arg_slots, fields_from}
 use Rattle.alma_lower_templates.specs.Slots.{behind_expr, behind_dead, behind_value, behind_desig, behind_target, behind_variable}
 use Rattle.alma_lower_templates.specs.Slots.{behind_test, behind_stmts, behind_stmt, behind_condition, own_place, own_root, goes_straight}
 use Rattle.alma_lower_templates.specs.Slots.{constant, ends_alone, is_straight, held_constant, behind_held}

@@ -33,8 +33,9 @@ use Rattle.alma_ir.specs.Checked.{RootExists}
 use Rattle.alma_lower_implements.proofs.ExprRows.{AreVariables}
 use Rattle.alma_lower_templates.specs.Tables.{Tables, range_number, is_whole}
 use Rattle.alma_lower_templates.specs.Pieces.{op_code, cmp_code, neg_code, write_code, fit_code, unless_whole, first_argument}
-use Rattle.alma_lower_templates.specs.Slots.{shift_of, chain_slots, links_if, bare, fields_from, bare_desig, unless_bare, arg_kind, handed_slots}
+use Rattle.alma_lower_templates.specs.Slots.{shift_of, chain_slots, links_if, bare, bare_desig, unless_bare, arg_kind, handed_slots}
 use Rattle.alma_lower_templates.specs.Slots.{call_links, root_slots, expr_slots, desig_slots, sels_slots, sel_slots, own_place, own_root}
+use Rattle.alma_lower_templates.specs.Slots.{fields_from}
 use Rattle.alma_lower_templates.specs.Templates.{own_slot, slot_or, value_at, part_slot, part_at, behind_root, place_at, link_if}
 use Rattle.alma_lower_templates.specs.Templates.{call_link_code, handed, handed_from, call_code, set_by, set_code, load_by, load_code}
 use Rattle.alma_lower_templates.specs.Templates.{held_at}
