@@ -2,20 +2,20 @@
 use Rattle.std.proofs.Common.{◌≡◌, ℕ, ◌<◌, List, [], ◌∷◌, length, Some, sym, ◌∙◌, true, false}
 use Rattle.std.specs.Prelude.{IsNone, IsSome, slice_get}
 use Rattle.std.specs.List.{AllByRecursion}
-use Rattle.alma_ir.specs.Tree.{Program, Args, Loop, Sels, no_sels, more_sels, routine_at, Assign, CopyCells, ForTo, SomeOf, Return, Read}
+use Rattle.alma_ir.specs.Tree.{Program, Args, Loop, no_sels, routine_at, Assign, CopyCells, ForTo, SomeOf, Return, Read}
 use Rattle.alma_ir.specs.Tree.{WriteText, no_result, some_result, a_loop, Bind, Unify, SameCells, CallTest, Load, Known, Chr, CallExpr}
-use Rattle.alma_ir.specs.Tree.{ByValue, MixValue, a_desig, Field, Index}
+use Rattle.alma_ir.specs.Tree.{ByValue, MixValue, a_desig, Index}
 use Rattle.alma_ir.specs.Checked.{IsChecked, RootExists, PartsExist, CellsAgree, LoopIsApart, IsHiddenSlot, loops_of, CalleeExists}
 use Rattle.alma_ir.specs.Checked.{CallLeads, CallFits, LinksAgree, ArgsFit, ResultAgrees, ReturnAgrees, ArePartsOf, desig_cells}
 use Rattle.alma_ir.specs.declared.phrase.Root.{Root}
 use Rattle.alma_ir.specs.declared.phrase.Root.TheVariants as root
-use Rattle.alma_ir.specs.Lines.{behind, stmts_with, sels_with, args_with, body_with_lines}
+use Rattle.alma_ir.specs.Lines.{behind, stmts_with, args_with, body_with_lines}
 use Rattle.alma_ir.specs.Phrases.{Phrase, StmtPhrase, TestPhrase, ExprPhrase, ArgPhrase, DesigPhrase, SelPhrase, stmts_phrases}
-use Rattle.alma_ir.specs.Phrases.{expr_phrases, desig_phrases, sel_phrases}
+use Rattle.alma_ir.specs.Phrases.{expr_phrases, desig_phrases}
 use Rattle.alma_lower_templates.specs.Tables.{Tables, text_number}
 use Rattle.alma_lower_templates.specs.Templates.{char_range}
 use Rattle.alma_lower_templates.specs.CodeOf.{HoldsRange, HoldsChecked, InTables, HoldsAllOf}
-use Rattle.alma_lower_templates.proofs.Asked.{cells_with, args_with_fit}
+use Rattle.alma_lower_templates.proofs.Asked.{cells_with, parts_with, args_with_fit}
 use Rattle.alma_lower_sound.proofs.WithLines.{phrase_with, stmts_stay}
 
 module _ (p : Program) (tables : Tables) (r : ℕ) where
@@ -111,13 +111,6 @@ module _ (p : Program) (tables : Tables) (r : ℕ) where
 
   -- ---- with lines
 
-  parts_stay : (sels : Sels) (cells : ℕ) (ls : List ℕ) → ArePartsOf sels cells → ArePartsOf (sels_with sels ls) cells
-  unfolding stmts_with
-  parts_stay no_sels cells ls h = tt
-  parts_stay (more_sels (Field offset part) rest) cells ls h = (h.0, parts_stay rest part (behind (sel_phrases (Field offset part)) ls) h.1)
-  parts_stay (more_sels (Index e range part) rest) cells ls h =
-      (h.0, parts_stay rest part (behind (sel_phrases (Index e range part)) ls) h.1)
-
   call_stays : (called up : ℕ) (args : Args) (ls : List ℕ) → CallFacts called args up → CallFacts called (args_with args ls) up
   call_stays called up args ls h = record {
     not_main = h.not_main;
@@ -149,7 +142,7 @@ module _ (p : Program) (tables : Tables) (r : ℕ) where
   facts_stay (ExprPhrase (CallExpr called args up)) ls h = (call_stays called up args ls h.0, h.1)
   facts_stay (ArgPhrase (ByValue e range)) ls h = h
   facts_stay (ArgPhrase (MixValue e range)) ls h = h
-  facts_stay (DesigPhrase (a_desig x cells sels)) ls h = (h.0, parts_stay sels cells ls h.1)
+  facts_stay (DesigPhrase (a_desig x cells sels)) ls h = (h.0, parts_with sels cells ls h.1)
   facts_stay (SelPhrase (Index e range cells)) ls h = h
   facts_stay x ls h = tt
 

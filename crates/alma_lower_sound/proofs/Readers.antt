@@ -32,7 +32,7 @@ use Rattle.alma_lower_templates.specs.Pieces.{for_turns, some_turns, turn_code, 
 use Rattle.alma_lower_templates.specs.Pieces.{count_from, unless_constant, limit_code, put_code, held_or}
 use Rattle.alma_lower_templates.specs.Pieces.{held_code as constant_code}
 use Rattle.alma_lower_templates.specs.Slots.{shift_of, bare, bare_desig, stays, stays_in, taken_from, unless_bare, is_simple, is_turned}
-use Rattle.alma_lower_templates.specs.Slots.{handed_slots, arg_slots}
+use Rattle.alma_lower_templates.specs.Slots.{handed_slots, arg_slots, fields_from}
 use Rattle.alma_lower_templates.specs.Slots.{behind_expr, behind_dead, behind_value, behind_desig, behind_target, behind_variable}
 use Rattle.alma_lower_templates.specs.Slots.{behind_test, behind_stmts, behind_stmt, behind_condition, own_place, own_root, goes_straight}
 use Rattle.alma_lower_templates.specs.Slots.{constant, ends_alone, is_straight, held_constant, behind_held}
@@ -302,9 +302,18 @@ abbrev BareQuiet : Option ℕ → ℕ → Type 0
 BareQuiet (Some n) reads_in = reads_in ≡ 0
 BareQuiet None reads_in = Unit {0}
 
+-- fields read nothing
+fields_quiet : (sels : Sels) (from : ℕ) → BareQuiet (fields_from from sels) (sels_reads sels)
+fields_quiet no_sels from = refl
+fields_quiet (more_sels (Field offset cells) rest) from = by (fields_from (from + offset) rest) (fields_quiet rest (from + offset))
+  where
+    by : (o : Option ℕ) → BareQuiet o (sels_reads rest) → BareQuiet o (0 + sels_reads rest)
+    by (Some n) h = omega (arith, h)
+    by None h = tt
+fields_quiet (more_sels (Index e range cells) rest) from = tt
+
 desig_bare : (d : Desig) → BareQuiet (bare_desig d) (desig_reads d)
-desig_bare (a_desig (root.Local from) cells no_sels) = refl
-desig_bare (a_desig (root.Local from) cells (more_sels x rest)) = tt
+desig_bare (a_desig (root.Local from) cells sels) = fields_quiet sels from
 desig_bare (a_desig (root.Global from) cells sels) = tt
 desig_bare (a_desig (root.Param from) cells sels) = tt
 desig_bare (a_desig (root.Outer links from) cells sels) = tt

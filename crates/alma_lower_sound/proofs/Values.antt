@@ -35,11 +35,13 @@ use Rattle.alma_lower_templates.specs.Tables.{Tables, range_number, is_whole}
 use Rattle.alma_lower_templates.specs.Pieces.{op_code, cmp_code, neg_code, write_code, fit_code, unless_whole, first_argument}
 use Rattle.alma_lower_templates.specs.Slots.{shift_of, chain_slots, links_if, bare, bare_desig, unless_bare, arg_kind, handed_slots}
 use Rattle.alma_lower_templates.specs.Slots.{call_links, root_slots, expr_slots, desig_slots, sels_slots, sel_slots, own_place, own_root}
+use Rattle.alma_lower_templates.specs.Slots.{fields_from}
 use Rattle.alma_lower_templates.specs.Templates.{own_slot, slot_or, value_at, part_slot, part_at, behind_root, place_at, link_if}
 use Rattle.alma_lower_templates.specs.Templates.{call_link_code, handed, handed_from, call_code, set_by, set_code, load_by, load_code}
 use Rattle.alma_lower_templates.specs.Templates.{held_at}
 use Rattle.alma_lower_templates.specs.CodeOf.{HoldsRange, HoldsChecked}
 use Rattle.alma_lower_templates.specs.Compiled.{link_params, param_kind, param_named, is_function}
+use Rattle.alma_lower_templates.proofs.Fields.{fields_fit}
 use Rattle.alma_lower_templates.proofs.Args.{same_cells}
 use Rattle.alma_lower_templates.proofs.ExprForms as exprs
 use Rattle.alma_lower_sound.proofs.Facts.{Facts, CallFacts}
@@ -90,9 +92,12 @@ module _ (p : Program) (tables : Tables) (code : PlainCode) (checked : IsChecked
   BareIs None = Unit {0}
 
   bare_root : (d : Desig) → Facts p tables r (DesigPhrase d) → desig_cells d ≡ 1 → BareIs (bare_desig d)
-  bare_root (a_desig (root.Local from) cells no_sels) h e =
-      variable p tables code checked w r lt from (subst (AreVariables p code [] r from) e (w.variables r from cells lt h.0.0 h.0.1))
-  bare_root (a_desig (root.Local from) cells (more_sels x rest)) h e = tt
+  bare_root (a_desig (root.Local from) cells sels) h e = by (fields_from from sels) refl
+    where
+      by : (o : Option ℕ) → fields_from from sels ≡ o → BareIs o
+      by (Some to) is = variable p tables code checked w r lt to (subst (AreVariables p code [] r to) e
+          (fields_fit p code [] r sels from cells to (w.variables r from cells lt h.0.0 h.0.1) h.1 is))
+      by None is = tt
   bare_root (a_desig (root.Global from) cells sels) h e = tt
   bare_root (a_desig (root.Param from) cells sels) h e = tt
   bare_root (a_desig (root.Outer links from) cells sels) h e = tt

@@ -20,7 +20,7 @@ use Rattle.alma_ir.specs.Phrases.{Phrase, StmtPhrase, TestPhrase, ExprPhrase, Ar
 use Rattle.alma_ir.specs.Phrases.{sel_phrases}
 use Rattle.alma_ir.specs.Checked.{RootExists, PartsExist, CellsAgree, LoopIsApart, loops_of, CalleeExists, CallLeads, CallFits}
 use Rattle.alma_ir.specs.Checked.{ResultAgrees, HasChoice, ReturnAgrees, ReturnsStay, IsNoReturn, ArgsFit, ArgFits, sel_cells, cells_after}
-use Rattle.alma_ir.specs.Checked.{desig_cells}
+use Rattle.alma_ir.specs.Checked.{desig_cells, ArePartsOf}
 use Rattle.alma_ir.proofs.Each.{each_of_front, each_of_back}
 use Rattle.alma_ir.proofs.LinesBack.{count_sum, behind_two}
 use Rattle.alma_mean.specs.Meaning.{Level}
@@ -97,6 +97,12 @@ after_with no_sels cells ls = refl
 after_with (more_sels x rest) cells ls =
     ap (cells_after (sels_with rest (behind (sel_phrases x) ls))) (sel_cells_with x ls)
     ∙ after_with rest (sel_cells x) (behind (sel_phrases x) ls)
+
+pub parts_with : (sels : Sels) (cells : ℕ) (ls : List ℕ) → ArePartsOf sels cells → ArePartsOf (sels_with sels ls) cells
+unfolding sel_with
+parts_with no_sels cells ls h = tt
+parts_with (more_sels (Field offset part) rest) cells ls h = (h.0, parts_with rest part (behind (sel_phrases (Field offset part)) ls) h.1)
+parts_with (more_sels (Index e range part) rest) cells ls h = (h.0, parts_with rest part (behind (sel_phrases (Index e range part)) ls) h.1)
 
 pub cells_with : (d : Desig) (ls : List ℕ) → desig_cells (desig_with d ls) ≡ desig_cells d
 unfolding sel_with

@@ -4,8 +4,7 @@ use Rattle.alma_base.specs.declared.fault.RunFault.TheVariants as fault
 use Rattle.alma_code.specs.Lines.{line_at}
 use Rattle.alma_code.specs.Picture.{PlainFrame}
 use Rattle.alma_code.specs.Plain.{PlainCode}
-use Rattle.alma_ir.specs.declared.phrase.Root.TheVariants as root
-use Rattle.alma_ir.specs.Tree.{Program, Expr, Desig, Const, Load, Chain, Compare, Truth, Known, Chr, CallExpr, a_desig, no_sels, more_sels}
+use Rattle.alma_ir.specs.Tree.{Program, Expr}
 use Rattle.alma_mean.specs.Store.{Store, top_cell}
 use Rattle.alma_mean.specs.Events.{Events, Visit, Fail, one, join, bind, visit_each}
 use Rattle.alma_mean.specs.Rows.{read_cell}
@@ -18,31 +17,12 @@ use Rattle.alma_lower_implements.proofs.ForSteps.{SlotThere, a_number, not_known
 use Rattle.alma_lower_implements.proofs.Ways.{Ways, Leaves}
 use Rattle.alma_lower_templates.specs.Lined.{Lined}
 use Rattle.alma_lower_templates.specs.Tables.{Tables}
-use Rattle.alma_lower_templates.specs.Slots.{bare, bare_desig, unless_bare}
+use Rattle.alma_lower_templates.specs.Slots.{bare, unless_bare}
 use Rattle.alma_lower_templates.specs.Templates.{expr_code, slot_or, value_at}
 use Rattle.alma_lower_templates.specs.Stands.{Stands}
 use Rattle.alma_lower_templates.proofs.Parts.{Begins, Left, left_self, IsValue, ValueIn, NodeFor, From, Carries, leaving, leaving_carries}
+use Rattle.alma_lower_templates.proofs.Fields.{load_from}
 use Rattle.alma_lower_templates.proofs.Parts.{then_ways, alone_from, faults_here}
-
--- the bare designators and expressions
-pub bare_place : (d : Desig) (from : ℕ) → bare_desig d ≡ Some from → (cells : ℕ) × (d ≡ a_desig (root.Local from) cells no_sels)
-bare_place (a_desig (root.Local n) cells no_sels) from e =
-    (cells, let same : n ≡ from = cc in ap (λ k. a_desig (root.Local k) cells no_sels) same)
-bare_place (a_desig (root.Local n) cells (more_sels x rest)) from e = absurd (cc)
-bare_place (a_desig (root.Global n) cells sels) from e = absurd (cc)
-bare_place (a_desig (root.Param n) cells sels) from e = absurd (cc)
-bare_place (a_desig (root.Outer links n) cells sels) from e = absurd (cc)
-bare_place (a_desig (root.OuterParam links n) cells sels) from e = absurd (cc)
-
-pub bare_value : (x : Expr) (from : ℕ) → bare x ≡ Some from → (cells : ℕ) × (x ≡ Load (a_desig (root.Local from) cells no_sels))
-bare_value (Load d) from e = let z = bare_place d from e in (z.0, ap Load z.1)
-bare_value (Const n) from e = absurd (cc)
-bare_value (Chain negated x links) from e = absurd (cc)
-bare_value (Compare how x y) from e = absurd (cc)
-bare_value (Truth t) from e = absurd (cc)
-bare_value (Known d) from e = absurd (cc)
-bare_value (Chr x) from e = absurd (cc)
-bare_value (CallExpr q args up) from e = absurd (cc)
 
 module _ (p : Program) (tables : Tables) (code : PlainCode) (input : List ℕ) (below : Level) (r line q : ℕ) where
   -- such a slot is a variable of the routine
@@ -90,10 +70,9 @@ module _ (p : Program) (tables : Tables) (code : PlainCode) (input : List ℕ) (
         then_ways p code input line at (at + length made) exit lo la r now (ValueIn p code input la) w (ev_expr p input below x v) k q le
         carries (runs refl stands v now b) later
     value_from x (Some from) e made fits runs stands there reads later =
-        let z = bare_value x from e in
         let zero : at + 0 ≡ at = omega arith in
-        subst (λ y. From p code input line 0 at exit now (w now) (bind (ev_expr p input below y v) k) q) (sym z.1)
-        (subst (λ y. From p code input line 0 at exit now (w now) (bind y k) q) (sym (bare_is code input p below from z.0 v))
+        load_from p code input line at exit now (w now) below v from q x k e
+        (λ size. subst (λ y. From p code input line 0 at exit now (w now) (bind y k) q) (sym (bare_is code input p below from size v))
         (bare_from from fits (ap (line_at code) (sym zero) ∙ there) (subst (λ n. ReadsFirst code input n (shift p r + from) now) zero reads)
         (λ n value. subst (λ m. From p code input line 8 m exit now (w now) (k v n) q) zero
         (later v n now (left_self p code input la r v now b) value))))

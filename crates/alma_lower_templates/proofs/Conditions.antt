@@ -37,7 +37,8 @@ use Rattle.alma_lower_templates.specs.Stands.{Stands}
 use Rattle.alma_lower_templates.proofs.Stands.{stands_front, stands_back}
 use Rattle.alma_lower_templates.proofs.Parts.{Begins, begins, Left, left_on, left_temp, has_kind, ValueIn, Nothing, NodeRuns, NodeFor, From}
 use Rattle.alma_lower_templates.proofs.Parts.{leaving, node_runs, as_runs, alone_from, faults_here, ends_here}
-use Rattle.alma_lower_templates.proofs.AtOnce.{AtOnce, BareFits, bare_value}
+use Rattle.alma_lower_templates.proofs.Fields.{load_runs}
+use Rattle.alma_lower_templates.proofs.AtOnce.{AtOnce, BareFits}
 use Rattle.alma_lower_templates.proofs.SimpleOne.{expr_one}
 use Rattle.alma_lower_templates.proofs.FormRuns.{TestRuns}
 
@@ -100,13 +101,11 @@ module _ (p : Program) (tables : Tables) (code : PlainCode) (input : List ℕ) (
       (leaving p code input la r now (ValueIn p code input (slot_or p tables r o la))) (ev_expr p input below x v) q
   once_by None at la x made v now e fits runs stands there reads b = runs refl stands v now b
   once_by (Some from) at la x made v now e fits runs stands there reads b =
-      let z = bare_value x from e in
       let zero : at + 0 ≡ at = omega arith in
       subst (λ n. NodeRuns p code input line at n now (leaving p code input la r now (ValueIn p code input (shift p r + from)))
       (ev_expr p input below x v) q) (sym zero)
-      (subst (λ y. NodeRuns p code input line at at now (leaving p code input la r now (ValueIn p code input (shift p r + from)))
-      (ev_expr p input below y v) q) (sym z.1)
-      (bare_runs at la from z.0 v now fits (ap (line_at code) (sym zero) ∙ there)
+      (load_runs p code input line at at now (leaving p code input la r now (ValueIn p code input (shift p r + from))) below v from q x e
+      (λ size. bare_runs at la from size v now fits (ap (line_at code) (sym zero) ∙ there)
       (subst (λ n. ReadsFirst code input n (shift p r + from) now) zero reads) b))
 
   -- ---- conditions

@@ -46,7 +46,8 @@ use Rattle.alma_lower_templates.proofs.Parts.{Begins, begins, has_kind, holds_af
 use Rattle.alma_lower_templates.proofs.Parts.{NodeRuns, NodeFor, From, leaving, leaving_carries, from_more, node_runs, then_from, then_ways}
 use Rattle.alma_lower_templates.proofs.Parts.{value_then, alone_from, faults_here, fails_here, ends_here, value_ends, value_goes_on}
 use Rattle.alma_lower_templates.proofs.Tested.{operands_code, compared_code}
-use Rattle.alma_lower_templates.proofs.AtOnce.{AtOnce, BareFits, at_once, at_once_ways, bare_place}
+use Rattle.alma_lower_templates.proofs.AtOnce.{AtOnce, BareFits, at_once, at_once_ways}
+use Rattle.alma_lower_templates.proofs.Fields.{load_runs as bare_runs}
 use Rattle.alma_lower_templates.proofs.First.{ReadsBoth, second_reads, ConstantFits, stays_is, both_from}
 use Rattle.alma_lower_templates.proofs.OperatorParts.{op_reads, neg_reads, equal_reads, cmp_reads, op_from, sign_from, compare_ends}
 use Rattle.alma_lower_templates.proofs.CellEnds.{load_to, known_ends}
@@ -163,11 +164,10 @@ module _ (p : Program) (tables : Tables) (code : PlainCode) (input : List ℕ) (
       let takes = first_takes p code input line q lo r slots.behind (first_kind p code input r lo slot.Number (desig_slots p r d) slots) in
       load_by_place at lo lo d (λ t. leaving p code input lo r t (ValueIn p code input lo)) takes (held refl) cells stands v now b
   load_of at lo d (Some from) e fits held cells slots stands v now b =
-      let z = bare_place d from e in
       let kind = first_kind p code input r lo slot.Number [] slots in
       let w = leaving p code input lo r now (ValueIn p code input lo) in
-      subst (λ y. NodeRuns p code input line at (at + 1) now w (ev_expr p input below (Load y) v) q) (sym z.1)
-      (node_runs p code input line 8 at (at + 1) now w (Visit (Visit (join (read_cell (top_cell v from) (λ n. one v n)) Fail))) q
+      bare_runs p code input line at (at + 1) now w below v from q (Load d) e
+      (λ size. node_runs p code input line 8 at (at + 1) now w (Visit (Visit (join (read_cell (top_cell v from) (λ n. one v n)) Fail))) q
       (omega arith)
       (λ held s here. weaker code input line 0 24 (Leaves (at + 1) w) held (join (read_cell (top_cell v from) (λ n. one v n)) Fail) s 72 8 q
       q (omega arith) (omega arith)

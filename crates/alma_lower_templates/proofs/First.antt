@@ -12,9 +12,7 @@ use Rattle.alma_code.specs.Lines.{line_at}
 use Rattle.alma_code.specs.Picture.{PlainFrame, PlainEntry}
 use Rattle.alma_code.specs.Plain.{PlainCode, kinds_at}
 use Rattle.alma_code.specs.Machine.{State}
-use Rattle.alma_ir.specs.declared.phrase.Root.TheVariants as root
 use Rattle.alma_ir.specs.Tree.{Program, Expr, Links, Const, Load, Chain, Compare, Truth, Known, Chr, CallExpr, no_links, more_links}
-use Rattle.alma_ir.specs.Tree.{a_desig, no_sels}
 use Rattle.alma_mean.specs.Store.{Store, Number, Unknown, top_cell}
 use Rattle.alma_mean.specs.Events.{Events, Visit, Fail, Fault, one, join, bind, visit_each}
 use Rattle.alma_mean.specs.Rows.{read_cell}
@@ -29,25 +27,26 @@ use Rattle.alma_lower_implements.proofs.Ways.{Ways, Leaves}
 use Rattle.alma_lower_templates.specs.Tables.{Tables}
 use Rattle.alma_lower_templates.specs.Slots.{bare, bare_desig, is_given, is_ready, if_ready, stays_by, stays, stays_in, taken_from}
 use Rattle.alma_lower_templates.specs.Slots.{unless_bare}
-use Rattle.alma_lower_templates.specs.Templates.{expr_code, value_at}
+use Rattle.alma_lower_templates.specs.Templates.{slot_or, expr_code, value_at}
 use Rattle.alma_lower_templates.specs.Stands.{Stands}
 use Rattle.alma_lower_templates.proofs.Parts.{Begins, begins, Left, left_self, left_temp, holds_temp, has_kind, IsValue, From, Carries}
 use Rattle.alma_lower_templates.proofs.Parts.{from_more, writes_take, step_ways, alone_from, faults_here}
-use Rattle.alma_lower_templates.proofs.AtOnce.{BareFits, bare_place, bare_value}
+use Rattle.alma_lower_templates.proofs.Fields.{load_from}
+use Rattle.alma_lower_templates.proofs.AtOnce.{BareFits}
 
 -- ---- what stays
 
 -- an operand that is ready
 pub data Ready (y : Expr) : Type 0 where
   constant : (n : ℤ) → y ≡ Const n → Ready y
-  variable : (from cells : ℕ) → y ≡ Load (a_desig (root.Local from) cells no_sels) → Ready y
+  variable : (from : ℕ) → bare y ≡ Some from → Ready y
 
 pub ready : (y : Expr) → is_ready y ≡ true → Ready y
 ready (Const n) e = constant n refl
 ready (Load d) e = by (bare_desig d) refl e
   where
     by : (o : Option ℕ) → bare_desig d ≡ o → is_given o ≡ true → Ready (Load d)
-    by (Some from) is h = let z = bare_place d from is in variable from z.0 (ap Load z.1)
+    by (Some from) is h = variable from is
     by None is h = absurd (let bad : false ≡ true = h in cc)
 ready (Chain negated x links) e = absurd (let bad : false ≡ true = e in cc)
 ready (Compare how x y) e = absurd (let bad : false ≡ true = e in cc)
@@ -129,14 +128,15 @@ module _ (p : Program) (tables : Tables) (code : PlainCode) (input : List ℕ) (
   ConstantFits y = (n : ℤ) → y ≡ Const n → is_integer n ≡ true
 
   -- a variable, in words of the store
-  pub variable_from : {B : Type 0} (at exit from cells : ℕ) (v : Store) (now : List PlainFrame) (w : Ways B) (k : Store → ℤ → Events B)
-      → AreVariables p code input r from 1 → Begins p code input r v now
+  pub variable_from : {B : Type 0} (at exit from : ℕ) (x : Expr) (v : Store) (now : List PlainFrame) (w : Ways B) (k : Store → ℤ → Events B)
+      → bare x ≡ Some from → AreVariables p code input r from 1 → Begins p code input r v now
       → (top_cell v from ≡ Unknown → From p code input line 8 at exit now w (Fault fault.Unknown 0) q)
       → ((n : ℤ) → top_cell v from ≡ Number n → From p code input line 8 at exit now w (k v n) q)
-      → From p code input line 0 at exit now w (bind (ev_expr p input below (Load (a_desig (root.Local from) cells no_sels)) v) k) q
-  variable_from at exit from cells v now w k variables b unknown known =
-      subst (λ e. From p code input line 0 at exit now w (bind e k) q) (sym (bare_is code input p below from cells v))
-      (by (slot_there p code input r from variables v now b.stand b.routine))
+      → From p code input line 0 at exit now w (bind (ev_expr p input below x v) k) q
+  variable_from at exit from x v now w k is variables b unknown known =
+      load_from p code input line at exit now w below v from q x k is
+      (λ size. subst (λ e. From p code input line 0 at exit now w (bind e k) q) (sym (bare_is code input p below from size v))
+      (by (slot_there p code input r from variables v now b.stand b.routine)))
     where
       by : SlotThere p code input v now from (shift p r + from)
           → From p code input line 0 at exit now w
@@ -210,11 +210,12 @@ module _ (p : Program) (tables : Tables) (code : PlainCode) (input : List ℕ) (
         (λ held s is. const_step code input line at now held s is la z i (has_kind p code input r la v now slot.Number kind b))) left
         (later t left (record { holds = holds_temp p code input r la v now (cell.Int z) slot.Number kind b; integer = integer }))
 
-    both_constant : (at cells : ℕ) (z : ℤ) → is_integer z ≡ true → slice_get (kinds_at code r) la ≡ Some slot.Number
+    both_constant : (at : ℕ) (x : Expr) (z : ℤ) → bare x ≡ Some from → is_integer z ≡ true
+        → slice_get (kinds_at code r) la ≡ Some slot.Number
         → InstrAt code input line at (I.Const la z) → Behind (at + 1) la
-        → BothGo at (Load (a_desig (root.Local from) cells no_sels)) (Const z)
-    both_constant at cells z integer kind i behind k1 follows =
-        variable_from at exit from cells v now (w now) k1 first b
+        → BothGo at x (Const z)
+    both_constant at x z is integer kind i behind k1 follows =
+        variable_from at exit from x v now (w now) k1 is first b
         (λ none. constant_then 7 at z (Fault fault.Unknown 0) integer kind i
         (λ t left value. faults_here p code input line 6 (at + 1) exit t (w t) fault.Unknown q
         (λ held s is. reads_unknown code input line (at + 1) (shift p r + from) t held s
@@ -226,16 +227,16 @@ module _ (p : Program) (tables : Tables) (code : PlainCode) (input : List ℕ) (
         (constant_then 8 at z (k v n z) integer kind i
         (λ t left value. behind.goes n z t left (value_there from v n t first (begins p code input lo r now v t left) known) value)))))
 
-    both_variables : (at cells to cells2 : ℕ) → AreVariables p code input r to 1 → Behind at (shift p r + to)
-        → BothGo at (Load (a_desig (root.Local from) cells no_sels)) (Load (a_desig (root.Local to) cells2 no_sels))
-    both_variables at cells to cells2 second behind k1 follows =
-        variable_from at exit from cells v now (w now) k1 first b
+    both_variables : (at to : ℕ) (x y : Expr) → bare x ≡ Some from → bare y ≡ Some to → AreVariables p code input r to 1
+        → Behind at (shift p r + to) → BothGo at x y
+    both_variables at to x y x_is y_is second behind k1 follows =
+        variable_from at exit from x v now (w now) k1 x_is first b
         (λ none. faults_here p code input line 7 at exit now (w now) fault.Unknown q
         (faults (unknown_there from v now first b none) (slot_there p code input r to second v now b.stand b.routine)))
         (λ n known. follows n (from_more p code input line 0 8 at exit now (w now)
-        (bind (ev_expr p input below (Load (a_desig (root.Local to) cells2 no_sels)) v) (λ u x. k u n x)) q (omega arith)
+        (bind (ev_expr p input below y v) (λ u z. k u n z)) q (omega arith)
         (let value = value_there from v n now first b known in
-        variable_from at exit to cells2 v now (w now) (λ u x. k u n x) second b
+        variable_from at exit to y v now (w now) (λ u z. k u n z) y_is second b
         (λ none. faults_here p code input line 7 at exit now (w now) fault.Unknown q
         (λ held s is. reads_unknown code input line at (shift p r + to) now held s
         (second_reads code input at (shift p r + from) (shift p r + to) now n (behind.reads now) value.holds) is behind.on_line
@@ -256,24 +257,20 @@ module _ (p : Program) (tables : Tables) (code : PlainCode) (input : List ℕ) (
         → Stands code at (unless_bare (bare y) (expr_code p tables r line at la y))
         → Behind (at + length (unless_bare (bare y) (expr_code p tables r line at la y))) (value_at p tables r la y) → BothGo at x y
     both_from at x y h fits constants kind stands behind =
-        let z = bare_value x from h.first in
-        subst (λ e. BothGo at e y) (sym z.1) (by h.next)
+        by h.next
       where
         zero_on : at + 0 ≡ at
         zero_on = omega arith
 
-        by : Ready y → BothGo at (Load (a_desig (root.Local from) (bare_value x from h.first).0 no_sels)) y
+        by : Ready y → BothGo at x y
         by (constant n is) =
             let there = subst (λ e. Stands code at (unless_bare (bare e) (expr_code p tables r line at la e))) is stands in
-            subst (λ e. BothGo at (Load (a_desig (root.Local from) (bare_value x from h.first).0 no_sels)) e) (sym is)
-            (both_constant at (bare_value x from h.first).0 n (constants n is) (kind (ap bare is))
+            subst (λ e. BothGo at x e) (sym is)
+            (both_constant at x n h.first (constants n is) (kind (ap bare is))
             (record { instr = there.0; on_line = there.1 })
             (subst (λ e. Behind (at + length (unless_bare (bare e) (expr_code p tables r line at la e))) (value_at p tables r la e)) is
             behind))
-        by (variable to cells2 is) =
-            subst (λ e. BothGo at (Load (a_desig (root.Local from) (bare_value x from h.first).0 no_sels)) e) (sym is)
-            (both_variables at (bare_value x from h.first).0 to cells2
-            (subst (λ e. BareFits p tables code input below r line q (bare e)) is fits)
+        by (variable to is) =
+            both_variables at to x y h.first is (subst (BareFits p tables code input below r line q) is fits)
             (subst (λ m. Behind m (shift p r + to)) zero_on
-            (subst (λ e. Behind (at + length (unless_bare (bare e) (expr_code p tables r line at la e))) (value_at p tables r la e)) is
-            behind)))
+            (subst (λ o. Behind (at + length (unless_bare o (expr_code p tables r line at la y))) (slot_or p tables r o la)) is behind))

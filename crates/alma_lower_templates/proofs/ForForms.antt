@@ -42,7 +42,8 @@ use Rattle.alma_lower_templates.proofs.Parts.{Takes, RunsFor, alone_from, Begins
 use Rattle.alma_lower_templates.proofs.Parts.{has_kind, holds_temp, put_position, sound_after, holds_after, value_after, IsValue, IsPlace}
 use Rattle.alma_lower_templates.proofs.Parts.{PlaceIn}
 use Rattle.alma_lower_templates.proofs.Parts.{From, ending, from_more, from_ending, on_later, then_ending, faults_here}
-use Rattle.alma_lower_templates.proofs.AtOnce.{BareFits, bare_place}
+use Rattle.alma_lower_templates.proofs.Fields.{desig_from}
+use Rattle.alma_lower_templates.proofs.AtOnce.{BareFits}
 use Rattle.alma_lower_templates.proofs.RangeChecks.{whole_within, check_from}
 use Rattle.alma_lower_templates.proofs.Targets.{IsTarget, put_places, left_put, top_free}
 use Rattle.alma_lower_templates.proofs.FormRuns.{held_code, HeldRuns, FitsRange}
@@ -173,12 +174,11 @@ module _ (p : Program) (tables : Tables) (code : PlainCode) (input : List ℕ) (
       (value_after p code input (place + 1) r place n v u now t b (omega (arith, le, behind))
       (omega arith) left count))
   located_from (Some from) at exit lo place value d v now n k e le behind b runs stands count later =
-      let z = bare_place d from e in
       let zero : at + 0 ≡ at = omega arith in
-      let a : Place = record { frame = top v; slot = from; size = z.0 } in
       let w = ending p code input may lo r now in
-      subst (λ y. From p code input line 0 at exit now w (bind (ev_desig p input below y v) k) q) (sym z.1)
-      (λ held s is. weaker code input line 0 24 (Leaves exit w) held (join (k v a) Fail) s 64 8 q q (omega arith) (omega arith)
+      desig_from p code input line at exit now w below v from q d k e
+      (λ size held s is. let a : Place = record { frame = top v; slot = from; size = size } in
+      weaker code input line 0 24 (Leaves exit w) held (join (k v a) Fail) s 64 8 q q (omega arith) (omega arith)
       (alone_from p code input line 8 at exit now w (k v a) q
       (subst (λ m. From p code input line 8 m exit now w (k v a) q) zero
       (later v a now (left_self p code input (place + 1) r v now b) (refl, refl) count)) held s is))

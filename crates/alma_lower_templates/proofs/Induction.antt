@@ -46,7 +46,7 @@ use Rattle.alma_lower_templates.specs.Slots.{handed_slots, root_slots, stmts_slo
 use Rattle.alma_lower_templates.specs.Slots.{links_slots, args_slots, arg_slots, desig_slots, sels_slots, sel_slots, behind_expr}
 use Rattle.alma_lower_templates.specs.Slots.{behind_dead, behind_value, behind_desig, behind_test, behind_stmts, behind_stmt}
 use Rattle.alma_lower_templates.specs.Slots.{behind_condition, behind_variable, behind_held, is_turned, held_constant, held_slots}
-use Rattle.alma_lower_templates.specs.Slots.{arms_slots, dead_slots, cases_slots, else_slots}
+use Rattle.alma_lower_templates.specs.Slots.{arms_slots, dead_slots, cases_slots, else_slots, fields_from}
 use Rattle.alma_lower_templates.specs.Compiled.{program_code}
 use Rattle.alma_lower_templates.specs.Templates.{part_slot, part_at, behind_root, arg_code, desig_code, place_at, stmts_code, stmt_code}
 use Rattle.alma_lower_templates.specs.Pieces.{placed}
@@ -56,7 +56,8 @@ use Rattle.alma_lower_templates.proofs.Asked.{HasUnlessWhole, Asked, Fine, fine_
 use Rattle.alma_lower_templates.proofs.Asked.{fine_fourth, fine_test, fine_expr, fine_arg, fine_desig, fine_sel, fine_stmt, has_line}
 use Rattle.alma_lower_templates.proofs.Asked.{swapped_first, swapped_second, cells_with, args_with_fit, DesigGoes, OperandsGo, ExprGoes}
 use Rattle.alma_lower_templates.proofs.Asked.{TestGoes, once, behind_first, target, variable, decides, decides_back, Stays, stays_front}
-use Rattle.alma_lower_templates.proofs.Asked.{stays_back, sel_cells_with, limit_goes}
+use Rattle.alma_lower_templates.proofs.Asked.{stays_back, sel_cells_with, parts_with, limit_goes}
+use Rattle.alma_lower_templates.proofs.Fields.{fields_fit}
 use Rattle.alma_lower_templates.proofs.BarrierForms.{no_stmts_run, more_stmts_run, AndRun, no_and_run, more_and_run, and_runs, seq_runs}
 use Rattle.alma_lower_templates.proofs.BarrierForms.{not_runs, commit_runs}
 use Rattle.alma_lower_templates.proofs.Calls.{RoutineRuns}
@@ -168,17 +169,21 @@ module _ (p : Program) (tables : Tables) (code : PlainCode) (all : List (List Ru
         let z = outer_there links r lt (omega (arith, h.0.1)) in
         (h.0.1, params (outer_at p r links) from cells z.0 h.1)
 
-    -- a variable without selectors is one of the routine
+    -- a field of a variable of the routine is one
     bare_fits : (below : Level) (line q r cells : ℕ) (sels sels2 : Sels) (x : Root) → r < length p.routines
-        → RootExists p r (routine_at p r) (DesigPhrase (a_desig x cells sels2)) → desig_cells (a_desig x cells sels) ≡ 1
-        → BareFits p tables code input below r line q (bare_desig (a_desig x cells sels))
-    bare_fits below line q r cells no_sels sels2 (root.Local from) lt h e =
-        subst (AreVariables p code input r from) e (variables r from cells lt h.0 h.1)
-    bare_fits below line q r cells (more_sels y rest) sels2 (root.Local from) lt h e = tt
-    bare_fits below line q r cells sels sels2 (root.Global from) lt h e = tt
-    bare_fits below line q r cells sels sels2 (root.Param from) lt h e = tt
-    bare_fits below line q r cells sels sels2 (root.Outer links from) lt h e = tt
-    bare_fits below line q r cells sels sels2 (root.OuterParam links from) lt h e = tt
+        → RootExists p r (routine_at p r) (DesigPhrase (a_desig x cells sels2)) → ArePartsOf sels cells
+        → desig_cells (a_desig x cells sels) ≡ 1 → BareFits p tables code input below r line q (bare_desig (a_desig x cells sels))
+    bare_fits below line q r cells sels sels2 (root.Local from) lt h parts e = by (fields_from from sels) refl
+      where
+        by : (o : Option ℕ) → fields_from from sels ≡ o → BareFits p tables code input below r line q o
+        by (Some to) is =
+            subst (AreVariables p code input r to) e
+            (fields_fit p code input r sels from cells to (variables r from cells lt h.0 h.1) parts is)
+        by None is = tt
+    bare_fits below line q r cells sels sels2 (root.Global from) lt h parts e = tt
+    bare_fits below line q r cells sels sels2 (root.Param from) lt h parts e = tt
+    bare_fits below line q r cells sels sels2 (root.Outer links from) lt h parts e = tt
+    bare_fits below line q r cells sels sels2 (root.OuterParam links from) lt h parts e = tt
 
     -- the slot of a whole parameter
     own_fits : (r cells : ℕ) (sels sels2 : Sels) (x : Root) → r < length p.routines
@@ -479,7 +484,7 @@ module _ (p : Program) (tables : Tables) (code : PlainCode) (all : List (List Ru
             (parts lo end lo (desig_ends p tables code input below r line (suc n) lo cells x all slots) (omega arith) slots.behind
             (root_near p tables r all lo (behind_root p tables r lo x) (omega arith)) slots) in
             record {
-              fits = λ e. bare_fits below line (suc n) r cells all sels x lt asked.root e;
+              fits = λ e. bare_fits below line (suc n) r cells all sels x lt asked.root (parts_with sels cells ls asked.parts) e;
               runs = runs;
               held = λ at lo slots. held_runs p tables code input below r line (suc n) at lo y slots.behind
                   (own_fits r cells all sels x lt asked.root) (runs at lo slots);

@@ -3,6 +3,7 @@ pub mod EitherRuns
 pub mod Given
 pub mod Parts
 pub mod PlaceSteps
+pub mod Fields
 pub mod AtOnce
 pub mod First
 pub mod NewFrame

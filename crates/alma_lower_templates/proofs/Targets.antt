@@ -31,7 +31,8 @@ use Rattle.alma_lower_templates.specs.Templates.{place_at, held_at, part_at, beh
 use Rattle.alma_lower_templates.specs.Stands.{Stands}
 use Rattle.alma_lower_templates.proofs.Parts.{Begins, Left, left_self, put_position, sound_after, place_after, IsValue, IsPlace, PlaceIn}
 use Rattle.alma_lower_templates.proofs.Parts.{NoNewPlaces, From, Takes, leaving, step_from, then_from, alone_from}
-use Rattle.alma_lower_templates.proofs.AtOnce.{BareFits, bare_place}
+use Rattle.alma_lower_templates.proofs.Fields.{desig_from}
+use Rattle.alma_lower_templates.proofs.AtOnce.{BareFits}
 use Rattle.alma_lower_templates.proofs.FormRuns.{held_code, HeldRuns}
 
 module _ (p : Program) (code : PlainCode) (input : List ℕ) where
@@ -222,12 +223,11 @@ module _ (p : Program) (tables : Tables) (code : PlainCode) (input : List ℕ) (
       (PlaceIn p code input (held_at p tables r la d) (desig_cells d)) yb (ev_desig p input below d v) k q le behind
       ((runs refl).runs stands v now b) (λ u a t left place. later u a t left ((runs refl).within, place))
   target_from (Some from) at exit lo la d v now yb k e le behind b runs stands later =
-      let z = bare_place d from e in
       let zero : at + 0 ≡ at = omega arith in
-      let a : Place = record { frame = top v; slot = from; size = z.0 } in
       let w = leaving p code input lo r now yb in
-      subst (λ y. From p code input line 0 at exit now w (bind (ev_desig p input below y v) k) q) (sym z.1)
-      (λ held s is. weaker code input line 0 24 (Leaves exit w) held (join (k v a) Fail) s 64 8 q q (omega arith) (omega arith)
+      desig_from p code input line at exit now w below v from q d k e
+      (λ size held s is. let a : Place = record { frame = top v; slot = from; size = size } in
+      weaker code input line 0 24 (Leaves exit w) held (join (k v a) Fail) s 64 8 q q (omega arith) (omega arith)
       (alone_from p code input line 8 at exit now w (k v a) q
       (subst (λ m. From p code input line 8 m exit now w (k v a) q) zero (later v a now (left_self p code input la r v now b) (refl, refl)))
       held s is))

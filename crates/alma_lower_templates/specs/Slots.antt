@@ -36,9 +36,15 @@ chain_slots p r (suc links) = slot.Link r ∷ chain_slots p (routine_at p r).out
 
 -- ---- variables that are read and written in their own slot
 
--- the slot of a variable of the routine that is named without a selector
+-- the first slot of the part that selectors name in what stands from a slot on: each of them is a field
+abbrev pub fields_from : (from : ℕ) → Sels → Option ℕ
+fields_from from no_sels = Some from
+fields_from from (more_sels (Field offset cells) rest) = fields_from (from + offset) rest
+fields_from from (more_sels (Index e range cells) rest) = None
+
+-- the slot of a variable of the routine, or of a field of one
 abbrev pub bare_desig : Desig → Option ℕ
-bare_desig (a_desig (root.Local from) cells no_sels) = Some from
+bare_desig (a_desig (root.Local from) cells sels) = fields_from from sels
 bare_desig _ = None
 
 abbrev pub bare : Expr → Option ℕ
