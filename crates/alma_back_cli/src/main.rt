@@ -3,8 +3,7 @@
 // The program: its words, the file system, and the standard streams.
 
 use alma_back::back_main;
-use alma_cli_words::all_words;
-use alma_io::{Sink, StdFiles, StdSink, StdSource, write_all};
+use alma_io::{Sink, StdFiles, StdSink, StdSource, all_words, write_all};
 use std::process::ExitCode;
 
 /// The status where the words themselves find no memory.
