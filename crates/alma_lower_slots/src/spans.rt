@@ -43,7 +43,7 @@ pub fn stretches_of(
         return Err(NoMemory);
     }
     let own = own_of(own, routine);
-    let mut stretches = unseen(alloc, own, kinds.len() as u32)?;
+    let mut stretches = without_uses(alloc, own, kinds.len() as u32)?;
     let mut units = singles(alloc, kinds.len() as u32)?;
     for at in start_of(code, routine)..end_of(code, routine) {
         see(code, at, &mut stretches, &mut units);
@@ -64,14 +64,14 @@ fn close_all(
     let start = start_of(code, routine);
     let sources = sources_of(alloc, code, routine)?;
     for n in 0..stretches.len().min(kinds.len()) {
-        let whole = closed(start, &sources, stretches[n]);
-        stretches[n] = calmed(code, kinds.get(n).copied(), whole);
+        let whole = closure_of(start, &sources, stretches[n]);
+        stretches[n] = calm_or_kept(code, kinds.get(n).copied(), whole);
     }
     Ok(())
 }
 
 // The own slots, which are kept, and the others, of which nothing was seen.
-fn unseen(alloc: Global, own: u32, count: u32) -> Result<Vec<Stretch>, NoMemory> {
+fn without_uses(alloc: Global, own: u32, count: u32) -> Result<Vec<Stretch>, NoMemory> {
     let mut stretches = Vec::new(alloc);
     for n in 0..count {
         let kept = Stretch {
@@ -158,14 +158,14 @@ fn see_write(stretches: &mut [Stretch], slot: u32, at: u32) {
 
 // The stretch with all jumps in it that lead back into it. Where one leads into it from before, or
 // it is long, the slot is kept.
-fn closed(start: u32, sources: &[Sources], stretch: Stretch) -> Stretch {
-    let mut closed = stretch;
+fn closure_of(start: u32, sources: &[Sources], stretch: Stretch) -> Stretch {
+    let mut closure = stretch;
     if stretch.high <= stretch.low || is_kept(stretch) {
-        return closed;
+        return closure;
     }
     for at in stretch.low.saturating_add(1)..stretch.low.saturating_add(LONGEST) {
-        if at > closed.high {
-            return closed;
+        if at > closure.high {
+            return closure;
         }
         let Some(from) = sources.get(at.saturating_sub(start) as usize) else {
             return APART;
@@ -173,13 +173,13 @@ fn closed(start: u32, sources: &[Sources], stretch: Stretch) -> Stretch {
         if from.first <= stretch.low {
             return APART;
         }
-        closed.high = closed.high.max(from.last);
+        closure.high = closure.high.max(from.last);
     }
     APART
 }
 
 // The stretch, if no number lives in it behind a carry; else the slot is kept.
-fn calmed(code: &Code, kind: Option<SlotKind>, stretch: Stretch) -> Stretch {
+fn calm_or_kept(code: &Code, kind: Option<SlotKind>, stretch: Stretch) -> Stretch {
     if is_kept(stretch) || is_calm_for(code, kind, stretch.low, stretch.high) {
         return stretch;
     }
