@@ -2,6 +2,8 @@
 #![tactic(auto)]
 
 mod control;
+mod head;
+mod node;
 mod phrase;
 mod simple;
 mod statement;
