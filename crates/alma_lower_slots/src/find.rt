@@ -1,11 +1,10 @@
-// How many slots are a routine's own: places name them, or other frames read them. What is found
-// here the checker looks over.
+// How many slots are a routine's own: its parameters and variables, and what places name or other
+// frames read. What is found here the checker looks over.
 
-use crate::head::param_slots;
 use crate::names::{length_of, link_of};
 use crate::own::{end_of, instr_at, start_of};
 use alma_base::NoMemory;
-use alma_code::{Code, CodeParam, Instr, SlotKind};
+use alma_code::{Code, Instr, ParamKind, RoutineHead, SlotKind};
 use std::alloc::Global;
 
 /// For each routine a count of slots, from 0 on, that keep their numbers. `kinds` has those of the
@@ -16,8 +15,8 @@ pub fn own_slots(
     kinds: &[Vec<SlotKind>],
 ) -> Result<Vec<u32>, NoMemory> {
     let mut own = Vec::new(alloc);
-    for head in &code.routines {
-        own.push(params_slots(&head.params).max(1))?;
+    for routine in 0..code.routines.len() {
+        own.push(declared_slots(&code.routines[routine], routine == 0))?;
     }
     for global in &code.globals {
         raise(&mut own, 0, global.slot.saturating_add(global.cells));
@@ -28,13 +27,19 @@ pub fn own_slots(
     Ok(own)
 }
 
-// How many slots parameters have.
-fn params_slots(params: &[CodeParam]) -> u32 {
-    let mut count = 0u32;
-    for param in params {
-        count = count.saturating_add(param_slots(*param));
+// How many slots parameters and variables have: as many as are declared cells, one more for a link
+// and for a simple MIX parameter. The body of the module has the input position in front of them.
+fn declared_slots(head: &RoutineHead, is_body: bool) -> u32 {
+    let mut count = head.declared;
+    if is_body {
+        count = count.saturating_add(1);
     }
-    count
+    for param in &head.params {
+        if param.kind == ParamKind::Link || param.kind == ParamKind::Mix {
+            count = count.saturating_add(1);
+        }
+    }
+    count.max(1)
 }
 
 // A routine has at least so many own slots.
