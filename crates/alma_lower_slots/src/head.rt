@@ -9,8 +9,8 @@ use crate::matters::{is_kept, stretch_of};
 use crate::stretch::Stretch;
 use alma_code::{Code, CodeParam, ParamKind};
 
-/// How many slots a parameter has.
-pub fn param_slots(param: CodeParam) -> u32
+// How many slots a parameter has.
+fn param_slots(param: CodeParam) -> u32
     ensures { result ≡ param_slots_spec param.kind param.cells }
 {
     match param.kind {
