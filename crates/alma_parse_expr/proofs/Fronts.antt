@@ -1,10 +1,7 @@
 -- What was read before the last part of a node.
-use Rattle.std.proofs.Common.{◌≡◌, ◌<◌, ℕ, true, length, List, ◌∷◌, Result, Ok, Err, refl, sym, subst, arith}
+use Rattle.std.proofs.Common.{◌≡◌, ℕ, List, ◌∷◌, Result, Ok, Err, sym, subst}
 use Rattle.alma_tree.specs.declared.kind.Kind.{Kind}
-use Rattle.alma_tree.specs.declared.kind.Kind.TheVariants as kinds
-use Rattle.alma_tree.specs.declared.leaf.Name.{Name}
-use Rattle.alma_tree.specs.Depth.{opens}
-use Rattle.alma_tree.specs.Numbers.{Step, token, ◌>>◌, number_name}
+use Rattle.alma_tree.specs.Numbers.{Step, token, ◌>>◌}
 use Rattle.alma_grammar.specs.Parts.{Part, one}
 use Rattle.alma_parse_cursor.specs.declared.cursor.Cursor as cursors
 use Rattle.alma_parse_cursor.specs.declared.fault.Fault.{Fault}
@@ -14,9 +11,8 @@ use Rattle.alma_parse_cursor.proofs.Joins as joins
 use Rattle.alma_parse_cursor.proofs.Joins.{Gives, Token}
 use Rattle.alma_parse_cursor.proofs.Loops.{Loops}
 use Rattle.alma_parse_cursor.proofs.Turns.{Lists}
-use Rattle.alma_parse_cursor.proofs.Steps.{then, after, same, opened, passed}
+use Rattle.alma_parse_cursor.proofs.Steps.{then, after, same}
 use Rattle.alma_parse_expr.specs.Joins.{Pushed}
-use Rattle.alma_parse_stmt.specs.Heads.{BeginsLoop}
 use Rattle.alma_parse_expr.specs.Made.{made}
 use Rattle.alma_parse_expr.proofs.Growing.{pushed_turn, pushed_fault}
 
@@ -69,15 +65,6 @@ module _ {T : Type 0} (s : T → List Kind → List Kind) (n : T → Step)
   pub both : (r : Result (T × cursors.Cursor) Fault) → Gives s n q e f b r → Gives (λ v. t (s v)) (λ v. m (n v)) (p q) d f a r
   both (Ok v) y = x.reads (s v.0) (n v.0) q f (position_of v.1) y
   both (Err i) y = x.fails q i y
-
--- the head of a loop
-pub loop_front : {k : Kind} {v : Name} {d e : ℕ} {a b : At} → opens k ≡ true → BeginsLoop k v d e a b
-    → Front (λ t ks. k ∷ kinds.Name ∷ kinds.Assign ∷ t ks) (λ m. token >> number_name v >> token >> m)
-    (λ q o. one k ∷ one kinds.Name ∷ one kinds.Assign ∷ q o) d e a b
-loop_front h x = and_then (part (opened h x.opens_first)) (and_then (part x.named) (part (passed refl refl x.assigned)))
-
-pub loop_fewer : {k : Kind} {v : Name} {d e : ℕ} {a b : At} → BeginsLoop k v d e a b → length b.kinds < length a.kinds
-loop_fewer x = omega (arith, x.opens_first.passes.shorter, x.named.shorter, x.assigned.shorter)
 
 module _ {T : Type 0} {s : T → List Kind → List Kind} {sa : List T → List Kind → List Kind} {n : T → Step} {na : List T → Step}
     (l : Lists s sa n na)

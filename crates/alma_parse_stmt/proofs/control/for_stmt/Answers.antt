@@ -10,7 +10,8 @@ use Rattle.alma_parse_cursor.proofs.Steps.{first}
 use Rattle.alma_parse_expr.proofs.Stopped.{stopped}
 use Rattle.alma_parse_expr.proofs.Chain.{plain, matching, ended_behind}
 use Rattle.alma_parse_expr.proofs.Values.{a_stmt, an_expr, some_stmts}
-use Rattle.alma_parse_expr.proofs.Fronts.{part, part_and, and_then, whole, loop_front}
+use Rattle.alma_parse_expr.proofs.Fronts.{part, part_and, and_then, whole}
+use Rattle.alma_parse_stmt.proofs.LoopFronts.{loop_front}
 use Rattle.alma_parse_stmt.proofs.control.for_stmt.Goals as goal
 
 pub returns-in_err-variable : goal.returns-in_err-variable
