@@ -14,12 +14,12 @@ use Rattle.alma_lower_work.specs.Front.{Around, Front, Codes, Takes}
 use Rattle.alma_lower_work.specs.Puts.{PutsExpr, PutsFirstOperand, PutsValue, PutsLinks, PutsHeld, PutsTarget, stand_by}
 use Rattle.alma_lower_work.specs.Puts.{stand_of, value_slot, behind_sign}
 use Rattle.alma_lower_work.proofs.Joins.{nothing, then_adds, adds_as, adds_code, only_code, slot_adds}
+use Rattle.alma_lower_parts.proofs.With.{bare_slots}
 use Rattle.alma_lower_parts.proofs.With.{no_bare, own_desig, own_expr, own_desig_passes, own_expr_passes, stays_with, taken_with}
 use Rattle.alma_lower_templates.specs.Lined.{Lined, own, in_row}
 use Rattle.alma_lower_templates.specs.Tables.{range_number}
 use Rattle.alma_lower_templates.specs.Slots.{bare_desig, bare, own_place, stays, stays_in, taken_from, unless_bare, expr_slots, desig_slots}
 use Rattle.alma_lower_templates.specs.Pieces.{op_code, cmp_code, neg_code}
-use Rattle.alma_lower_templates.proofs.AtOnce.{bare_value}
 use Rattle.alma_lower_templates.specs.Templates as T
 
 module _ (s : Around) (line : ℕ) where
@@ -62,7 +62,7 @@ module _ (s : Around) (line : ℕ) where
 
   -- a variable of the routine takes the slot for the value alone
   alone : (e : Expr) (from : ℕ) (ls : List ℕ) → bare e ≡ Some from → slot.Number ∷ [] ≡ expr_slots s.program s.routine (expr_with e ls)
-  alone e from ls h = let z = bare_value (expr_with e ls) from (own_expr e ls ∙ h) in sym (ap (expr_slots s.program s.routine) z.1)
+  alone e from ls h = sym (bare_slots s.program s.routine (expr_with e ls) from (own_expr e ls ∙ h))
 
   pub stay_put : (a b : Front) (e : Expr) (o : Option ℕ) (from : ℕ) → o ≡ Some from → bare e ≡ Some from → Takes a b slot.Number
       → PutsFirstOperand s line a b o e

@@ -1,5 +1,5 @@
 -- Phrases with lines have the form of the phrases without.
-use Rattle.std.proofs.Common.{◌≡◌, ℕ, Bool, true, false, List, ◌∷◌, Option, Some, None, refl, ap, ◌∙◌}
+use Rattle.std.proofs.Common.{◌≡◌, ℕ, ◌+◌, Bool, true, false, List, [], ◌∷◌, drop, Option, Some, None, refl, ap, ◌∙◌}
 use Rattle.std.specs.Prelude.{option_map, not, ◌&&◌}
 use Rattle.alma_base.specs.declared.number.Range.{Range}
 use Rattle.alma_ir.specs.declared.phrase.Root.{Root}
@@ -8,15 +8,16 @@ use Rattle.alma_ir.specs.declared.phrase.Cmp.TheVariants as cmp
 use Rattle.alma_ir.specs.declared.phrase.Root.TheVariants as root
 use Rattle.alma_ir.specs.Tree.{Test, Expr, Links, Args, Arg, Desig, Sels, Sel, Value, Bind, Unify, SameCells, Seq, And, Or, Not, CallTest}
 use Rattle.alma_ir.specs.Tree.{Const, Load, Chain, Compare, Truth, Known, Chr, CallExpr, no_links, more_links, no_args, more_args, ByValue}
-use Rattle.alma_ir.specs.Tree.{ByCells, ByPlace, MixValue, MixPlace, a_desig, no_sels, more_sels, Field, Index}
-use Rattle.alma_ir.specs.Phrases.{stmts_phrases, expr_phrases, desig_phrases, sel_phrases, arg_phrases}
+use Rattle.alma_ir.specs.Tree.{Program, ByCells, ByPlace, MixValue, MixPlace, a_desig, no_sels, more_sels, Field, Index}
+use Rattle.alma_ir.specs.Phrases.{stmts_phrases, expr_phrases, desig_phrases, sels_phrases, sel_phrases, arg_phrases}
 use Rattle.alma_ir.specs.Lines.{behind, stmts_with, test_with, expr_with, links_with, args_with, arg_with, desig_with, sels_with, sel_with}
+use Rattle.alma_ir.specs.Lines.{stmt_count}
 use Rattle.alma_lower_work.specs.Puts.{is_unequal}
 use Rattle.alma_lower_templates.specs.Tables.{is_whole}
 use Rattle.alma_lower_templates.specs.Slots.{bare_desig, bare, ends_alone, straight_by, goes_straight, own_place, own_root, is_given}
 use Rattle.alma_lower_templates.specs.Slots.{is_ready, if_ready, stays_by, stays, stays_in, taken_from, is_simple_expr, are_simple_links}
 use Rattle.alma_lower_templates.specs.Slots.{is_simple_desig, are_simple_sels, is_simple_sel, is_simple, cells_behind, desig_cells}
-use Rattle.alma_lower_templates.specs.Slots.{arg_kind, handed_slots, constant}
+use Rattle.alma_lower_templates.specs.Slots.{arg_kind, handed_slots, constant, fields_from, unless_bare, expr_slots, desig_slots}
 
 -- ---- variables that stand in their own slots
 
@@ -24,10 +25,15 @@ pub no_bare : (f : ℕ → ℕ) (o : Option ℕ) → None ≡ option_map f o →
 no_bare f (Some from) h = absurd (cc)
 no_bare f None h = refl
 
+fields_with : (sels : Sels) (from : ℕ) (ls : List ℕ) → fields_from from (sels_with sels ls) ≡ fields_from from sels
+unfolding stmts_with
+fields_with no_sels from ls = refl
+fields_with (more_sels (Field offset cells) rest) from ls = fields_with rest (from + offset) (behind (sel_phrases (Field offset cells)) ls)
+fields_with (more_sels (Index e range cells) rest) from ls = refl
+
 pub own_desig : (d : Desig) (ls : List ℕ) → bare_desig (desig_with d ls) ≡ bare_desig d
 unfolding stmts_with
-own_desig (a_desig (root.Local from) cells no_sels) ls = refl
-own_desig (a_desig (root.Local from) cells (more_sels x rest)) ls = refl
+own_desig (a_desig (root.Local from) cells sels) ls = fields_with sels from ls
 own_desig (a_desig (root.Global from) cells sels) ls = refl
 own_desig (a_desig (root.Param from) cells sels) ls = refl
 own_desig (a_desig (root.Outer links from) cells sels) ls = refl
@@ -130,11 +136,17 @@ root_with (root.OuterParam links from) sels ls = refl
 
 -- ---- variables without code
 
--- such a variable has no line inside
+-- fields have no line inside
+fields_pass : (sels : Sels) (n from : ℕ) → fields_from n sels ≡ Some from → stmt_count (sels_phrases sels) ≡ 0
+unfolding stmts_phrases
+fields_pass no_sels n from h = refl
+fields_pass (more_sels (Field offset cells) rest) n from h = fields_pass rest (n + offset) from h
+fields_pass (more_sels (Index e range cells) rest) n from h = absurd (cc)
+
+-- nor has such a variable
 pub own_desig_passes : (d : Desig) (from : ℕ) (ls : List ℕ) → bare_desig d ≡ Some from → behind (desig_phrases d) ls ≡ ls
 unfolding stmts_phrases
-own_desig_passes (a_desig (root.Local x) cells no_sels) from ls h = refl
-own_desig_passes (a_desig (root.Local x) cells (more_sels y rest)) from ls h = absurd (cc)
+own_desig_passes (a_desig (root.Local x) cells sels) from ls h = ap (λ n. drop n ls) (fields_pass sels x from h)
 own_desig_passes (a_desig (root.Global x) cells sels) from ls h = absurd (cc)
 own_desig_passes (a_desig (root.Param x) cells sels) from ls h = absurd (cc)
 own_desig_passes (a_desig (root.Outer links x) cells sels) from ls h = absurd (cc)
@@ -150,6 +162,17 @@ own_expr_passes (Truth t) from ls h = absurd (cc)
 own_expr_passes (Known d) from ls h = absurd (cc)
 own_expr_passes (Chr e) from ls h = absurd (cc)
 own_expr_passes (CallExpr r args up) from ls h = absurd (cc)
+
+-- the value of such a variable takes the slot for its number alone
+pub bare_slots : (p : Program) (r : ℕ) (e : Expr) (from : ℕ) → bare e ≡ Some from → expr_slots p r e ≡ slot.Number ∷ []
+bare_slots p r (Load d) from h = ap (λ o. slot.Number ∷ unless_bare o (desig_slots p r d)) h
+bare_slots p r (Const n) from h = absurd (cc)
+bare_slots p r (Chain negated e links) from h = absurd (cc)
+bare_slots p r (Compare how x y) from h = absurd (cc)
+bare_slots p r (Truth t) from h = absurd (cc)
+bare_slots p r (Known d) from h = absurd (cc)
+bare_slots p r (Chr e) from h = absurd (cc)
+bare_slots p r (CallExpr called args up) from h = absurd (cc)
 
 -- ---- tests of inequality
 

@@ -1,13 +1,12 @@
 -- Variables that stand in a slot of their own, and what stands in none.
-use Rattle.std.proofs.Common.{◌≡◌, ℕ, ◌⊎◌, inl, inr, List, [], ◌∷◌, length, sym, ap, ◌∙◌, None, Some, arith}
+use Rattle.std.proofs.Common.{◌≡◌, ℕ, ◌⊎◌, inl, inr, sym, ap, ◌∙◌, None}
 use Rattle.std.specs.Prelude.{option_map, Option, Result, Ok, Err, IfOk}
 use Rattle.alma_ir.specs.declared.phrase.Desig.{Desig}
 use Rattle.alma_ir.specs.declared.phrase.Expr as E
 use Rattle.alma_ir.specs.declared.phrase.Root.{Root}
 use Rattle.alma_ir.specs.declared.phrase.Root.TheVariants as root
-use Rattle.alma_ir.specs.declared.phrase.Sel as L
 use Rattle.alma_ir.specs.Tree.{a_desig, Sels}
-use Rattle.alma_ir.specs.View.{desig_of, expr_of, sels_list}
+use Rattle.alma_ir.specs.View.{desig_of, expr_of}
 use Rattle.alma_ir.proofs.Views
 use Rattle.alma_lower_templates.specs.Slots.{bare, bare_desig}
 
@@ -22,13 +21,6 @@ elsewhere f r cells sels (inl h) = sym (ap (λ x. option_map f (bare_desig (a_de
 elsewhere f r cells sels (inr (inl h)) = sym (ap (λ x. option_map f (bare_desig (a_desig x cells sels))) h.1)
 elsewhere f r cells sels (inr (inr (inl h))) = sym (ap (λ x. option_map f (bare_desig (a_desig x cells sels))) h.2)
 elsewhere f r cells sels (inr (inr (inr h))) = sym (ap (λ x. option_map f (bare_desig (a_desig x cells sels))) h.2)
-
--- a variable of the routine without a selector stands in its own slot
-pub own_alone : (f : ℕ → ℕ) (r : Root) (cells : ℕ) (sels : List L.Sel) (from slot : ℕ) → r ≡ root.Local from → length sels ≡ 0
-    → slot ≡ f from
-    → Some slot ≡ option_map f (bare_desig (a_desig r cells (sels_list sels)))
-own_alone f r cells [] from slot is none h = ap Some h ∙ sym (ap (λ x. option_map f (bare_desig (a_desig x cells (sels_list [])))) is)
-own_alone f r cells (x ∷ rest) from slot is none h = absurd (omega (arith, none))
 
 -- an expression that is not the value of a variable
 abbrev pub NotLoad : E.Expr → Type 0

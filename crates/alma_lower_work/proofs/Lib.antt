@@ -3,6 +3,7 @@ pub mod Joins
 pub mod Scenes
 pub mod DesigForms
 pub mod Small
+pub mod Fields
 pub mod Bare
 pub mod Ready
 pub mod Alone

@@ -1,14 +1,10 @@
 -- Which operands are ready: variables of the routine and constants.
-use Rattle.std.proofs.Common.{◌≡◌, ℕ, ◌⊎◌, inl, inr, true, false, refl, sym, ap, ◌∙◌}
+use Rattle.std.proofs.Common.{◌≡◌, ℕ, ◌⊎◌, inl, inr, false, refl, sym, ap, ◌∙◌}
 use Rattle.std.specs.Prelude.{option_map, Option, Some, None}
 use Rattle.alma_ir.specs.declared.phrase.Expr as E
 use Rattle.alma_ir.specs.View.{expr_of}
 use Rattle.alma_ir.proofs.Views
 use Rattle.alma_lower_templates.specs.Slots.{is_given, is_ready}
-
-pub given : (o : Option ℕ) (n : ℕ) → Some n ≡ option_map (λ k. k) o → true ≡ is_given o
-given (Some k) n h = refl
-given None n h = absurd (cc)
 
 pub not_given : (o : Option ℕ) → None ≡ option_map (λ k. k) o → false ≡ is_given o
 not_given (Some k) h = absurd (cc)

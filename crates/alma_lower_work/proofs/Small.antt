@@ -5,7 +5,7 @@ use Rattle.std.specs.Prelude.{option_map, Option, Result, Ok, Err, IfOk}
 use Rattle.alma_ir.specs.declared.phrase.Root.{Root}
 use Rattle.alma_ir.specs.Tree.{a_desig}
 use Rattle.alma_ir.specs.View.{sels_list}
-use Rattle.alma_lower_templates.specs.Slots.{bare_desig, own_place, own_root}
+use Rattle.alma_lower_templates.specs.Slots.{own_place, own_root}
 use Rattle.alma_lower_work.specs.Puts.{param_of}
 use Rattle.alma_ir.specs.declared.phrase.Sel as L
 use Rattle.alma_ir.specs.declared.phrase.Root.TheVariants as root
@@ -13,17 +13,7 @@ use Rattle.alma_ir.specs.declared.phrase.Root.TheVariants as root
 pub drop_one : {A : Type 0} (xs : List A) (i : ℕ) (x : A) → i < length xs → x ≡ get_or xs i x → drop i xs ≡ x ∷ drop (i + 1) xs
 drop_one xs i x lt is = drop-cons xs i x lt ∙ ap (λ y. y ∷ drop (suc i) xs) (sym is) ∙ ap (λ n. x ∷ drop n xs) (sym (add-one i))
 
--- a designator with a selector stands in no slot of its own
-pub selected : {A : Type 0} (f : ℕ → A) (r : Root) (cells : ℕ) (sels : List L.Sel) → (length sels ≡ 0 → ⊥)
-    → None ≡ option_map f (bare_desig (a_desig r cells (sels_list sels)))
-selected f r cells [] h = absurd (h refl)
-selected f (root.Local from) cells (x ∷ rest) h = refl
-selected f (root.Global from) cells (x ∷ rest) h = refl
-selected f (root.Param from) cells (x ∷ rest) h = refl
-selected f (root.Outer links from) cells (x ∷ rest) h = refl
-selected f (root.OuterParam links from) cells (x ∷ rest) h = refl
-
--- nor is its place that of a parameter
+-- where there is a selector a place is not that of a parameter
 pub placed : {A : Type 0} (f : ℕ → A) (r : Root) (cells : ℕ) (sels : List L.Sel) → (length sels ≡ 0 → ⊥)
     → None ≡ option_map f (own_place (a_desig r cells (sels_list sels)))
 placed f r cells [] h = absurd (h refl)

@@ -9,6 +9,7 @@ ghost use Rattle.alma_lower_templates.specs.Templates.{own_slot};
 ghost use Rattle.alma_lower_work.specs.Front.{around, front, Takes};
 ghost use Rattle.alma_lower_work.specs.Puts.{stays_until};
 
+use crate::field::are_fields;
 use crate::scene::Scene;
 use crate::stand::own_value;
 use crate::work::Work;
@@ -32,15 +33,12 @@ pub enum Taken<'e> {
     Never,
 }
 
-// Whether a designator names a variable of the routine, without a selector.
+// Whether a designator names a variable of the routine, or a field of one.
 pub(crate) fn is_own(desig: &Desig) -> bool
     ensures { result ≡ slots.is_given (bare_desig (desig_of desig.now)) }
 {
-    if !desig.sels.is_empty() {
-        return false;
-    }
     match desig.root {
-        Root::Local(_) => true,
+        Root::Local(_) => are_fields(&desig.sels),
         Root::Global(_) | Root::Param(_) | Root::Outer(_, _) | Root::OuterParam(_, _) => false,
     }
 }

@@ -1,6 +1,7 @@
 //! The work of the emitter: code in the making, the scene of a routine, and the single instructions of values and places.
 #![tactic(auto)]
 
+mod field;
 mod first_operand;
 mod held;
 mod inequality;

@@ -6,6 +6,7 @@ ghost use Rattle.alma_lower_templates.specs.Templates.{own_slot};
 ghost use Rattle.alma_lower_work.specs.Front.{around};
 ghost use Rattle.alma_lower_work.specs.Puts.{set_instr};
 
+use crate::field::field_slot;
 use crate::scene::Scene;
 use alma_base::NoMemory;
 use alma_code::Instr;
@@ -33,16 +34,16 @@ impl Stand {
     }
 }
 
-/// The slot of a variable of the routine that is named without a selector.
+/// The slot of a variable of the routine, or of a field of one.
 pub fn own_stand(scene: &Scene<'_>, desig: &Desig) -> Result<Option<u32>, NoMemory>
     ensures { IfOk result (λ o. o ≡ option_map (own_slot (around scene.now).program
         (around scene.now).tables (around scene.now).routine) (bare_desig (desig_of desig.now))) }
 {
-    if !desig.sels.is_empty() {
-        return Ok(None);
-    }
     match desig.root {
-        Root::Local(from) => Ok(Some(scene.own_slot(from)?)),
+        Root::Local(from) => match field_slot(from, &desig.sels)? {
+            Some(slot) => Ok(Some(scene.own_slot(slot)?)),
+            None => Ok(None),
+        },
         Root::Global(_) | Root::Param(_) | Root::Outer(_, _) | Root::OuterParam(_, _) => Ok(None),
     }
 }
