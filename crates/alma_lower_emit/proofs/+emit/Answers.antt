@@ -173,8 +173,9 @@ expression::emit_first-returns-in-Some g t c =
       to = c.stay_at.ensures.to;
       from = if_ok c.stay_at.result (λ first h. h
           ∙ stays_at (around c.args.scene.now) c.args.line _ _ _ (sym c.in-Some.is ∙ c.in_ok-from.ensures)) c.stay_at.ensures.from;
-      puts = on_ok c.stay_at.result (stays_there (around c.args.scene.now) c.args.line _ _ _ _ _ (sym c.in-Some.is ∙ c.in_ok-from.ensures))
-          c.stay_at.ensures.takes;
+      puts = on_ok c.stay_at.result
+          (stays_there (around c.args.scene.now) c.args.line _ _ (expr_of c.args.expr.now) c.args.taken _
+          (sym c.in-Some.is ∙ c.in_ok-from.ensures)) c.stay_at.ensures.takes;
     }
 
 pub expression::emit_first-returns-in-None : goal.expression::emit_first-returns-in-None
