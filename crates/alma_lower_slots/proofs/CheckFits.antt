@@ -13,10 +13,10 @@ use Rattle.alma_code.specs.Plain.{PlainCode, start_at, end_at, kinds_at}
 use Rattle.alma_code.specs.Rules.{kind_in}
 use Rattle.alma_lower_slots.specs.declared.stretch.Stretch.{Stretch}
 use Rattle.alma_lower_slots.specs.Slots.{written, away, lays_over}
-use Rattle.alma_lower_slots.specs.Sharing.{params_slots, names_own, begins_own, StaysTogether, SharesAt, SharesIn}
+use Rattle.alma_lower_slots.specs.Sharing.{params_slots, StaysTogether, SharesAt, SharesIn}
 use Rattle.alma_lower_slots.specs.Stretches.{no_end, own_stretch, stretch_at, is_kept, is_live, sharing_in, FitsRoutine}
-use Rattle.alma_lower_slots.specs.Checks.{names_within, begins_within, mark_of, begin_of, Holds, AreApart, FitsSlot, FitSlots}
-use Rattle.alma_lower_slots.specs.Checks.{StayTogether, FitsInstr, FitInstrs, FitBodies, KeepsOwn}
+use Rattle.alma_lower_slots.specs.Inner.Checks.{mark_of, begin_of, Holds, AreApart, FitsSlot, FitSlots}
+use Rattle.alma_lower_slots.specs.Inner.Checks.{StayTogether, FitsInstr, FitInstrs, FitBodies, KeepsOwn}
 
 -- ---- of one stretch
 
@@ -67,29 +67,11 @@ live_there stretches n at live = elim (cases_lt n (length stretches)) [
 
 -- ---- of one instruction
 
--- what it names elsewhere
-names_is : (code : PlainCode) (own : List ℕ) (stretches : List Stretch) (r : ℕ) (i : Instr)
-    → names_own code (sharing_in own stretches) r i ≡ names_within own (kinds_at code r) r i
-unfolding names_own names_within
-names_is code own stretches r (I.Local a b) = refl
-names_is code own stretches r (I.Global a b) = refl
-names_is code own stretches r (I.Chain a b c) = refl
-names_is code own stretches r (I.Outer a b c) = refl
-names_is code own stretches r (I.OuterSame a b c) = refl
-names_is code own stretches r _ = refl
-
 -- its arguments
 together_is : (code : PlainCode) (own : List ℕ) (stretches : List Stretch) (r : ℕ) (i : Instr) → StayTogether code stretches i
     → StaysTogether code (sharing_in own stretches) r i
 together_is code own stretches r (I.Call c first to) h = h
 together_is code own stretches r _ h = tt
-
--- where its places begin
-begins_is : (code : PlainCode) (own : List ℕ) (stretches : List Stretch) (r : ℕ) (i : Instr)
-    → begins_own code (sharing_in own stretches) r i ≡ begins_within own r i
-unfolding begins_own begins_within
-begins_is code own stretches r (I.Local a b) = refl
-begins_is code own stretches r _ = refl
 
 -- a Mark writes its slot
 mark_is : (i : Instr) (a : ℕ) → i ≡ I.Mark a → mark_of i ≡ Some a
@@ -174,8 +156,8 @@ module _ (code : PlainCode) (own : List ℕ) (stretches : List Stretch) (r : ℕ
         (λ live. still_jump at t n low high lays leads number live);
     ends = fits.flow.ends;
     finishes = fits.flow.finishes;
-    places = names_is code own stretches r (get_or code.instrs at I.Fail) ∙ fits.places;
-    begins = begins_is code own stretches r (get_or code.instrs at I.Fail) ∙ fits.begins;
+    places = fits.places;
+    begins = fits.begins;
     together = together_is code own stretches r (get_or code.instrs at I.Fail) fits.together;
   }
 

@@ -12,10 +12,11 @@ use Rattle.alma_code.specs.Plain.{PlainCode, start_at, end_at}
 use Rattle.alma_lower_slots.specs.declared.stretch.Stretch.{Stretch}
 use Rattle.alma_lower_slots.specs.declared.sources.Sources.{Sources}
 use Rattle.alma_lower_slots.specs.Slots.{slots_from, reads, written, away, body_of}
-use Rattle.alma_lower_slots.specs.Stretches.{stretch_at}
-use Rattle.alma_lower_slots.specs.Checks.{matters_at, names_within, begins_within, mark_of, IsAmong, no_sources, AreSources, Encloses}
-use Rattle.alma_lower_slots.specs.Checks.{NotesJump, begin_of, AreApart, WritesIn, IsCalm, FitsSlot, StayTogether, FitsFlow, FitsInstr}
-use Rattle.alma_lower_slots.specs.Checks.{NotesMark, AreMarks, IsClear, ClearBodies, Takes, Rise}
+use Rattle.alma_lower_slots.specs.Sharing.{names_own, begins_own}
+use Rattle.alma_lower_slots.specs.Stretches.{own_count, stretch_at}
+use Rattle.alma_lower_slots.specs.Inner.Checks.{matters_at, mark_of, IsAmong, no_sources, AreSources, Encloses}
+use Rattle.alma_lower_slots.specs.Inner.Checks.{NotesJump, begin_of, AreApart, WritesIn, IsCalm, FitsSlot, StayTogether, FitsFlow, FitsInstr}
+use Rattle.alma_lower_slots.specs.Inner.Checks.{NotesMark, AreMarks, IsClear, ClearBodies, Takes, Rise}
 
 -- the first of some slots, and the others
 pub slots_more : (p : ℕ → Bool) (n i : ℕ) → 0 < n
@@ -79,7 +80,7 @@ slot_fits code r sources kind n x start stop are is_start is_stop low high write
 pub instr_fits : (code : PlainCode) (own : List ℕ) (kinds : List SlotKind) (stretches : List Stretch) (r at : ℕ) (i j : Instr) → i ≡ j
     → list_all (λ n. matters_at stretches at n) (reads code i) ≡ true
     → ((w : ℕ) → written code i ≡ Some w → WritesIn stretches at w) → FitsFlow code at i
-    → names_within own kinds r i ≡ true → begins_within own r i ≡ true → StayTogether code stretches i
+    → names_own (own_count own) kinds r i ≡ true → begins_own (own_count own) r i ≡ true → StayTogether code stretches i
     → FitsInstr code own kinds stretches r at j
 instr_fits code own kinds stretches r at i j e read write flow places begins together =
     subst (λ k. FitsInstr code own kinds stretches r at k) e

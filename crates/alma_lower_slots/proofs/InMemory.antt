@@ -9,7 +9,7 @@ use Rattle.alma_code.specs.declared.code.RoutineHead.{RoutineHead}
 use Rattle.alma_code.specs.Layout.{kinds_of}
 use Rattle.alma_code.specs.Plain.{code_of, routine_of, no_routine, routine_at, kinds_at, start_at, end_at}
 use Rattle.alma_code.specs.Rules.{IsSound}
-use Rattle.alma_lower_slots.specs.Shared.{head_kinds, kinds_of_all}
+use Rattle.alma_lower_slots.specs.Inner.Shared.{head_kinds, kinds_of_all}
 use Rattle.alma_lower_slots.proofs.SoFar.{ends_within}
 
 -- a routine that is read

@@ -14,7 +14,7 @@ use Rattle.alma_code.specs.Records.{same_kind, runs_differ}
 use Rattle.alma_code.specs.Rules.{IsSound, last_end}
 use Rattle.alma_lower_slots.specs.declared.stretch.Stretch.{Stretch}
 use Rattle.alma_lower_slots.specs.Runs.{HasHead}
-use Rattle.alma_lower_slots.specs.Shared.{HeadBehind, slot_in}
+use Rattle.alma_lower_slots.specs.Inner.Shared.{HeadBehind, slot_in}
 use Rattle.alma_lower_templates.specs.Runs.{RunsDiffer}
 
 -- ---- runs that differ

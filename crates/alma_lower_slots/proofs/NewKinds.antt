@@ -7,7 +7,7 @@ use Rattle.std.proofs.lemmas.Option.{slice_get-get_or}
 use Rattle.alma_code.specs.declared.cell.SlotKind.{SlotKind}
 use Rattle.alma_code.specs.declared.cell.SlotKind.TheVariants as slot
 use Rattle.alma_lower_slots.specs.declared.stretch.Stretch.{Stretch}
-use Rattle.alma_lower_slots.specs.Shared.{KindsFor, NamesSoFar, slot_in}
+use Rattle.alma_lower_slots.specs.Inner.Shared.{KindsFor, NamesSoFar, slot_in}
 
 -- where the first so many are named, there are so many
 named_count : (new : List SlotKind) (named : List (Option SlotKind)) (count : ℕ) → count ≤ length named → map Some new ≡ take count named

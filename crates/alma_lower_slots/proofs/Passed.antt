@@ -5,7 +5,7 @@ use Rattle.alma_code.specs.Reads.{code_reads}
 use Rattle.alma_code.specs.Records.{KeepsCounts, KeepsRecords, KeepsVersion}
 use Rattle.alma_code.specs.Rules.{IsSound}
 use Rattle.alma_lower_slots.specs.Same.{DoesTheSame, KeepsTables}
-use Rattle.alma_lower_slots.specs.Shared.{IsSharedOf}
+use Rattle.alma_lower_slots.specs.Inner.Shared.{IsSharedOf}
 use Rattle.alma_lower_slots.proofs.Whole.{renamed_does_the_same}
 use Rattle.alma_lower_slots.proofs.RecordsRenamed.{renamed_keeps_counts, renamed_keeps_records, renamed_keeps_version, renamed_names}
 use Rattle.alma_lower_slots.proofs.RecordsRenamed.{renamed_reads}

@@ -5,20 +5,10 @@ use Rattle.alma_code.specs.declared.instr.Instr.{Instr}
 use Rattle.alma_code.specs.declared.instr.Instr.TheVariants as I
 use Rattle.alma_code.specs.Plain.{PlainCode}
 use Rattle.alma_lower_slots.specs.declared.stretch.Stretch.{Stretch}
-use Rattle.alma_lower_slots.specs.Sharing.{SharesAt, SharesIn, Shares, StaysTogether, names_own, begins_own}
+use Rattle.alma_lower_slots.specs.Sharing.{SharesAt, SharesIn, Shares, StaysTogether}
 use Rattle.alma_lower_slots.specs.Stretches.{sharing_of, sharing_in, FitsRoutine}
 
 module _ (code : PlainCode) (own : List ℕ) (all : List (List Stretch)) (r : ℕ) where
-  -- the places of an instruction
-  places_of : (i : Instr) → names_own code (sharing_in own (get_or all r [])) r i ≡ true → names_own code (sharing_of own all) r i ≡ true
-  unfolding names_own
-  places_of i h = h
-
-  -- where its places begin
-  begins_of : (i : Instr) → begins_own code (sharing_in own (get_or all r [])) r i ≡ true → begins_own code (sharing_of own all) r i ≡ true
-  unfolding begins_own
-  begins_of i h = h
-
   -- the arguments of a Call
   together_of : (i : Instr) → StaysTogether code (sharing_in own (get_or all r [])) r i → StaysTogether code (sharing_of own all) r i
   together_of (I.Call c first to) h = h
@@ -35,8 +25,8 @@ module _ (code : PlainCode) (own : List ℕ) (all : List (List Stretch)) (r : �
     still_away = h.still_away;
     ends = h.ends;
     finishes = h.finishes;
-    places = places_of i h.places;
-    begins = begins_of i h.begins;
+    places = h.places;
+    begins = h.begins;
     together = together_of i h.together;
   }
 

@@ -9,7 +9,7 @@ use Rattle.alma_code.specs.declared.instr.Instr.{Instr}
 use Rattle.alma_code.specs.declared.instr.Instr.TheVariants as I
 use Rattle.alma_code.specs.Plain.{PlainCode, PlainRoutine, no_routine, start_at, end_at}
 use Rattle.alma_code.specs.Rules.{IsTable}
-use Rattle.alma_lower_slots.specs.Shared.{RoutineOver, Adds, SharesSoFar, instrs_in, slot_in}
+use Rattle.alma_lower_slots.specs.Inner.Shared.{RoutineOver, Adds, SharesSoFar, instrs_in, slot_in}
 use Rattle.alma_lower_slots.specs.Slots.{renamed}
 
 -- ---- where routines begin

@@ -9,7 +9,7 @@ use Rattle.alma_code.specs.Plain.{PlainCode, PlainRoutine, routine_at}
 use Rattle.alma_code.specs.Rules.{IsSound}
 use Rattle.alma_lower_slots.specs.Runs.{HasHeads}
 use Rattle.alma_lower_slots.specs.Sharing.{Sharing, Renames, IsRenamed}
-use Rattle.alma_lower_slots.specs.Shared.{HeadOver, SharesSoFar, IsSharedOf, code_with}
+use Rattle.alma_lower_slots.specs.Inner.Shared.{HeadOver, SharesSoFar, IsSharedOf, code_with}
 use Rattle.alma_lower_slots.specs.Stretches.{sharing_of}
 use Rattle.alma_lower_slots.proofs.NewHeads.{kind_kept, has_head}
 use Rattle.alma_lower_slots.proofs.SharesOf.{shares_of}

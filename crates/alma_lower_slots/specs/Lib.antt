@@ -1,7 +1,6 @@
-pub mod Checks
+pub mod Inner
 pub mod Runs
 pub mod Same
-pub mod Shared
 pub mod Sharing
 pub mod Slots
 pub mod Stretches

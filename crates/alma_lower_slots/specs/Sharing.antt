@@ -1,13 +1,14 @@
 -- What becomes of the slots of a code where temporaries share slots, and when that may be.
 use Rattle.std.specs.Prelude.{◌≡◌, ◌⊎◌, ◌<◌, ◌≤◌, ℕ, suc, ◌+◌, Bool, true, false, ◌||◌, nat_le, nat_lt, length, get_or, sum_by}
-use Rattle.std.specs.Prelude.{Some, slice_get}
+use Rattle.std.specs.Prelude.{List, Some, slice_get}
 use Rattle.std.specs.List.{list_all}
+use Rattle.alma_code.specs.declared.cell.SlotKind.{SlotKind}
 use Rattle.alma_code.specs.declared.instr.Instr.{Instr}
 use Rattle.alma_code.specs.declared.instr.Instr.TheVariants as I
 use Rattle.alma_code.specs.Kinds.{is_number}
 use Rattle.alma_code.specs.Layout.{param_slots}
 use Rattle.alma_code.specs.Plain.{PlainCode, PlainRoutine, routine_at, head_at, start_at, end_at, kinds_at}
-use Rattle.alma_code.specs.Rules.{kind_in, length_in, link_in, ends_routine}
+use Rattle.alma_code.specs.Rules.{kind_in, place_length, link_routine, ends_routine}
 use Rattle.alma_lower_slots.specs.Slots.{reads, written, away, lays_over, is_finish, is_forall, body_of, renamed}
 
 -- for each routine: how many slots, from 0 on, are its own and keep their numbers, so that places may name them; the new number of
@@ -26,21 +27,22 @@ matters s r at n = s.kept r n || s.live r at n
 abbrev pub params_slots : PlainCode → (r : ℕ) → ℕ
 params_slots code r = sum_by (λ p. param_slots p.kind p.cells) (head_at code r).params
 
+-- in a routine whose slots have these kinds: the slots that the instruction makes places of, or that it reads in another frame, are
+-- own ones of their routine
+unfoldable pub names_own : (own : ℕ → ℕ) → (kinds : List SlotKind) → (r : ℕ) → Instr → Bool
+names_own own kinds r (I.Local a b) = nat_le (b + place_length (slice_get kinds a)) (own r)
+names_own own kinds r (I.Global a b) = nat_le (b + place_length (slice_get kinds a)) (own 0)
+names_own own kinds r (I.Chain a b c) = nat_le (suc c) (own (link_routine (slice_get kinds b)))
+names_own own kinds r (I.Outer a b c) = nat_le (c + place_length (slice_get kinds a)) (own (link_routine (slice_get kinds b)))
+names_own own kinds r (I.OuterSame a b c) = nat_le (suc c) (own (link_routine (slice_get kinds b)))
+names_own own kinds r _ = true
+
+-- also a place of no cells begins at an own slot
+unfoldable pub begins_own : (own : ℕ → ℕ) → (r : ℕ) → Instr → Bool
+begins_own own r (I.Local a b) = nat_lt b (own r)
+begins_own own r _ = true
+
 module _ (code : PlainCode) (s : Sharing) where
-  -- the slots that it makes places of, or that it reads in another frame, are own ones of their routine
-  unfoldable pub names_own : (r : ℕ) → Instr → Bool
-  names_own r (I.Local a b) = nat_le (b + length_in code r a) (s.own r)
-  names_own r (I.Global a b) = nat_le (b + length_in code r a) (s.own 0)
-  names_own r (I.Chain a b c) = nat_le (suc c) (s.own (link_in code r b))
-  names_own r (I.Outer a b c) = nat_le (c + length_in code r a) (s.own (link_in code r b))
-  names_own r (I.OuterSame a b c) = nat_le (suc c) (s.own (link_in code r b))
-  names_own r _ = true
-
-  -- also a place of no cells begins at an own slot
-  unfoldable pub begins_own : (r : ℕ) → Instr → Bool
-  begins_own r (I.Local a b) = nat_lt b (s.own r)
-  begins_own r _ = true
-
   -- the arguments of a Call stay together
   abbrev pub StaysTogether : (r : ℕ) → Instr → Type 0
   StaysTogether r (I.Call c first to) = (k : ℕ) → k < length (head_at code c).params → s.slot r (first + k) ≡ s.slot r first + k
@@ -61,8 +63,8 @@ module _ (code : PlainCode) (s : Sharing) where
     -- a Finish is reached from a Forall alone, when all its alternatives failed
     pub ends : is_finish (get_or code.instrs (suc at) I.Fail) ≡ true → ends_routine i ≡ true
     pub finishes : (t : ℕ) → away i ≡ Some t → is_finish (get_or code.instrs t I.Fail) ≡ is_forall i
-    pub places : names_own r i ≡ true
-    pub begins : begins_own r i ≡ true
+    pub places : names_own s.own (kinds_at code r) r i ≡ true
+    pub begins : begins_own s.own r i ≡ true
     pub together : StaysTogether r i
 
   -- a routine: its parameters are among its own slots, these are kept and keep their numbers, the others come behind them, and nothing

@@ -1,6 +1,6 @@
 // Whether slots that share a new number have it one after another.
 ghost use Rattle.std.specs.Prelude.{◌≡◌, IfOk, true};
-ghost use Rattle.alma_lower_slots.specs.Checks.{AreApart, Takes};
+ghost use Rattle.alma_lower_slots.specs.Inner.Checks.{AreApart, Takes};
 
 use crate::instrs::begin_of;
 use crate::stretch::Stretch;

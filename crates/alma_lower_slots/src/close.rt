@@ -4,7 +4,7 @@ ghost use Rattle.std.specs.Prelude.{◌≡◌, ◌-◌, ◌<◌, ◌≤◌, ◌^
 ghost use Rattle.alma_code.specs.Kinds.{is_number as is_number_spec};
 ghost use Rattle.alma_code.specs.Plain.{code_of};
 ghost use Rattle.alma_code.specs.declared.instr.Instr.TheVariants as I;
-ghost use Rattle.alma_lower_slots.specs.Checks.{AreSources, Encloses, FitSlots, FitsSlot, HasStretch, IsCalm, no_sources};
+ghost use Rattle.alma_lower_slots.specs.Inner.Checks.{AreSources, Encloses, FitSlots, FitsSlot, HasStretch, IsCalm, no_sources};
 ghost use Rattle.alma_lower_slots.specs.Slots.{written};
 
 use crate::matters::{is_kept, stretch_of};

@@ -3,7 +3,7 @@ ghost use Rattle.std.specs.Prelude.{◌≡◌, ℕ, suc, true, get_or, Some};
 ghost use Rattle.alma_code.specs.Plain.{code_of};
 ghost use Rattle.alma_code.specs.Rules.{ends_routine as ends_routine_spec};
 ghost use Rattle.alma_code.specs.declared.instr.Instr.TheVariants as I;
-ghost use Rattle.alma_lower_slots.specs.Checks.{FitsFlow};
+ghost use Rattle.alma_lower_slots.specs.Inner.Checks.{FitsFlow};
 ghost use Rattle.alma_lower_slots.specs.Slots.{away, is_finish as is_finish_spec, is_forall as is_forall_spec};
 
 use crate::own::instr_at;

@@ -2,7 +2,7 @@
 ghost use Rattle.std.specs.Prelude.{◌≡◌, ◌<◌, ◌≤◌, ◌^◌, true, length, sum_by};
 ghost use Rattle.alma_code.specs.Layout.{param_slots as param_slots_spec};
 ghost use Rattle.alma_code.specs.Plain.{code_of};
-ghost use Rattle.alma_lower_slots.specs.Checks.{KeepsNumber, KeepsOwn};
+ghost use Rattle.alma_lower_slots.specs.Inner.Checks.{KeepsNumber, KeepsOwn};
 ghost use Rattle.alma_lower_slots.specs.Sharing.{params_slots};
 
 use crate::matters::{is_kept, stretch_of};

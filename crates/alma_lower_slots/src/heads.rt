@@ -3,7 +3,7 @@ ghost use Rattle.std.specs.Prelude.{◌≡◌, ◌≤◌, ◌++◌, length, repl
 ghost use Rattle.alma_base.specs.Limits.{slot_limit};
 ghost use Rattle.alma_code.specs.Layout.{kinds_of};
 ghost use Rattle.alma_code.specs.Plain as code;
-ghost use Rattle.alma_lower_slots.specs.Shared.{HeadBehind, HeadOver, KindsFor, NamesOne, NamesSoFar};
+ghost use Rattle.alma_lower_slots.specs.Inner.Shared.{HeadBehind, HeadOver, KindsFor, NamesOne, NamesSoFar};
 
 use crate::rename::slot_of;
 use crate::stretch::Stretch;

@@ -2,7 +2,7 @@
 ghost use Rattle.std.specs.Prelude.{◌≡◌, ◌+◌, ◌<◌, ℕ, true, get_or, Some};
 ghost use Rattle.alma_code.specs.Plain.{code_of};
 ghost use Rattle.alma_code.specs.declared.instr.Instr.TheVariants as I;
-ghost use Rattle.alma_lower_slots.specs.Checks.{begin_of as begin_of_spec, FitInstrs, FitsInstr, StayTogether, WritesIn};
+ghost use Rattle.alma_lower_slots.specs.Inner.Checks.{begin_of as begin_of_spec, FitInstrs, FitsInstr, StayTogether, WritesIn};
 ghost use Rattle.alma_lower_slots.specs.Slots.{written};
 ghost use Rattle.alma_lower_slots.specs.Stretches.{stretch_at};
 

@@ -1,7 +1,7 @@
 // Whether the slots in which a routine looks for the height of a FORALL are written by no Mark.
 ghost use Rattle.std.specs.Prelude.{◌≡◌, IfOk, true};
 ghost use Rattle.alma_code.specs.Plain.{code_of};
-ghost use Rattle.alma_lower_slots.specs.Checks.{AreMarks, ClearBodies, FitBodies, IsClear, NotesMark};
+ghost use Rattle.alma_lower_slots.specs.Inner.Checks.{AreMarks, ClearBodies, FitBodies, IsClear, NotesMark};
 
 use crate::own::{end_of, instr_at, start_of};
 use crate::uses::{body_of, is_finish, mark_of};

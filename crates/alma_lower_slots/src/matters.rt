@@ -2,7 +2,7 @@
 ghost use Rattle.std.specs.Prelude.{◌≡◌};
 ghost use Rattle.std.specs.List.{list_all};
 ghost use Rattle.alma_code.specs.Plain.{code_of};
-ghost use Rattle.alma_lower_slots.specs.Checks.{arguments, matters_at, matters_if as matters_if_spec};
+ghost use Rattle.alma_lower_slots.specs.Inner.Checks.{arguments, matters_at, matters_if as matters_if_spec};
 ghost use Rattle.alma_lower_slots.specs.Slots.{reads, slots_from};
 ghost use Rattle.alma_lower_slots.specs.Stretches.{stretch_at, is_kept as is_kept_spec, is_live as is_live_spec};
 
@@ -72,7 +72,7 @@ fn all_matter(stretches: &[Stretch], at: u32, first: u32, count: u32) -> bool
 }
 
 // Whether what the arguments of a Call hold matters.
-#[tactic(auto, unfolding(crate::specs::Checks::arguments))]
+#[tactic(auto, unfolding(crate::specs::Inner::Checks::arguments))]
 fn arguments_matter(code: &Code, stretches: &[Stretch], at: u32, instr: Instr) -> bool
     ensures { result ≡ list_all (λ n. matters_at stretches.now at n)
         (arguments (code_of code.now) instr) }

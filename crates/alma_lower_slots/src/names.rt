@@ -2,7 +2,8 @@
 // own ones of their routine.
 ghost use Rattle.std.specs.Prelude.{◌≡◌, ◌+◌, suc, get_or, nat_le, slice_get};
 ghost use Rattle.alma_code.specs.Rules.{place_length, link_routine};
-ghost use Rattle.alma_lower_slots.specs.Checks.{begins_within, names_within};
+ghost use Rattle.alma_lower_slots.specs.Sharing.{begins_own as begins_own_spec, names_own as names_own_spec};
+ghost use Rattle.alma_lower_slots.specs.Stretches.{own_count};
 
 use alma_code::{Instr, SlotKind};
 
@@ -51,9 +52,9 @@ fn is_within(slot: u32, own: u32) -> bool
 }
 
 /// Whether the slots that an instruction names elsewhere are own ones of their routine.
-#[tactic(auto, unfolding(crate::specs::Checks::names_within))]
+#[tactic(auto, unfolding(crate::specs::Sharing::names_own))]
 pub fn names_own(own: &[u32], kinds: &[SlotKind], routine: usize, instr: Instr) -> bool
-    ensures { result ≡ names_within own.now kinds.now routine instr }
+    ensures { result ≡ names_own_spec (own_count own.now) kinds.now routine instr }
 {
     match instr {
         Instr::Local { to, first } => {
@@ -73,9 +74,9 @@ pub fn names_own(own: &[u32], kinds: &[SlotKind], routine: usize, instr: Instr) 
 }
 
 /// Whether the places that an instruction makes begin at an own slot.
-#[tactic(auto, unfolding(crate::specs::Checks::begins_within))]
+#[tactic(auto, unfolding(crate::specs::Sharing::begins_own))]
 pub fn begins_own(own: &[u32], routine: usize, instr: Instr) -> bool
-    ensures { result ≡ begins_within own.now routine instr }
+    ensures { result ≡ begins_own_spec (own_count own.now) routine instr }
 {
     match instr {
         Instr::Local { first, .. } => first < own_of(own, routine),

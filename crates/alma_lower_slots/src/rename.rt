@@ -2,7 +2,7 @@
 ghost use Rattle.std.specs.Prelude.{◌≡◌, ◌++◌, map, OnOk};
 ghost use Rattle.alma_lower_slots.specs.Slots.{renamed};
 ghost use Rattle.alma_lower_slots.specs.Stretches.{stretch_at};
-ghost use Rattle.alma_lower_slots.specs.Shared.{slot_in};
+ghost use Rattle.alma_lower_slots.specs.Inner.Shared.{slot_in};
 
 use crate::stretch::Stretch;
 use alma_base::NoMemory;

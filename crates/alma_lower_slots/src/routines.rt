@@ -3,7 +3,7 @@ ghost use Rattle.std.specs.Prelude.{◌≡◌, ◌<◌, ◌≤◌, ◌++◌, len
 ghost use Rattle.alma_base.specs.Limits.{slot_limit};
 ghost use Rattle.alma_code.specs.Plain.{code_of, routine_of, kinds_at, start_at};
 ghost use Rattle.alma_code.specs.Rules.{IsSound};
-ghost use Rattle.alma_lower_slots.specs.Shared.{Adds, SharesSoFar, head_kinds, instrs_in, kinds_of_all, slot_in};
+ghost use Rattle.alma_lower_slots.specs.Inner.Shared.{Adds, SharesSoFar, head_kinds, instrs_in, kinds_of_all, slot_in};
 ghost use Rattle.alma_lower_slots.specs.Slots.{renamed};
 
 use crate::check::may_share;

@@ -5,7 +5,7 @@ ghost use Rattle.alma_code.specs.Reads.{code_reads};
 ghost use Rattle.alma_code.specs.Records.{KeepsCounts, KeepsRecords, KeepsVersion};
 ghost use Rattle.alma_code.specs.Rules.{IsSound};
 ghost use Rattle.alma_lower_slots.specs.Same.{DoesTheSame, KeepsTables};
-ghost use Rattle.alma_lower_slots.specs.Shared.{IsSharedOf, code_with};
+ghost use Rattle.alma_lower_slots.specs.Inner.Shared.{IsSharedOf, code_with};
 
 use crate::check::globals_are_own;
 use crate::find::own_slots;

@@ -1,7 +1,7 @@
 // From where jumps lead to the addresses of a routine.
 ghost use Rattle.std.specs.Prelude.{IfOk};
 ghost use Rattle.alma_code.specs.Plain.{code_of};
-ghost use Rattle.alma_lower_slots.specs.Checks.{AreSources, Notes, NotesJump};
+ghost use Rattle.alma_lower_slots.specs.Inner.Checks.{AreSources, Notes, NotesJump};
 
 use crate::own::{end_of, instr_at, start_of};
 use crate::uses::away_of;

@@ -4,7 +4,7 @@ ghost use Rattle.alma_code.specs.Plain.{PlainCode, code_of};
 ghost use Rattle.alma_code.specs.Rules.{ends_routine as ends_routine_spec};
 ghost use Rattle.alma_lower_slots.specs.Slots.{away as away_spec, body_of as body_of_spec, lays_over as lays_over_spec, reads, written};
 ghost use Rattle.alma_lower_slots.specs.Slots.{is_finish as is_finish_spec, is_forall as is_forall_spec};
-ghost use Rattle.alma_lower_slots.specs.Checks.{arguments, mark_of as mark_of_spec, slots_of};
+ghost use Rattle.alma_lower_slots.specs.Inner.Checks.{arguments, mark_of as mark_of_spec, slots_of};
 
 use crate::own::has_result;
 use alma_code::{Code, Instr};
@@ -51,7 +51,7 @@ pub fn ends_routine(instr: Instr) -> bool
 }
 
 /// The slot that a Mark writes.
-#[tactic(auto, unfolding(crate::specs::Checks::mark_of))]
+#[tactic(auto, unfolding(crate::specs::Inner::Checks::mark_of))]
 pub fn mark_of(instr: Instr) -> Option<u32>
     ensures { result ≡ mark_of_spec instr }
 {
@@ -167,7 +167,7 @@ fn two(a: u32, b: u32) -> [Option<u32>; 3]
 }
 
 /// The slots that it reads, up to three; those of a Call, its arguments, are not among them.
-#[tactic(auto, unfolding(crate::specs::Slots::reads, crate::specs::Checks::arguments))]
+#[tactic(auto, unfolding(crate::specs::Slots::reads, crate::specs::Inner::Checks::arguments))]
 pub fn reads_of(instr: Instr) -> [Option<u32>; 3]
     ensures { (code : PlainCode) → reads code instr ≡ slots_of result ++ arguments code instr }
 {

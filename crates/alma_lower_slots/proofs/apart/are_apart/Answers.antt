@@ -1,7 +1,7 @@
 use Rattle.std.proofs.Common.{arith, ◌≡◌, ℕ, ◌+◌, ◌++◌, ◌<◌, List, length, take, drop, get_or, sym, subst}
 use Rattle.std.proofs.lemmas.List.{take_at, get_or_default}
 use Rattle.alma_lower_slots.specs.declared.stretch.Stretch.{Stretch}
-use Rattle.alma_lower_slots.specs.Checks.{Takes, Rise}
+use Rattle.alma_lower_slots.specs.Inner.Checks.{Takes, Rise}
 use Rattle.alma_lower_slots.specs.Stretches.{own_stretch, stretch_at}
 use Rattle.alma_lower_slots.proofs.CheckSteps.{rise_more, rise_apart}
 use Rattle.alma_lower_slots.proofs.apart.are_apart.Goals as goal

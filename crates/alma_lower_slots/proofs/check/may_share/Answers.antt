@@ -1,6 +1,6 @@
 use Rattle.std.proofs.Common.{arith, ◌≤◌, subst}
 use Rattle.alma_code.specs.Plain.{code_of}
-use Rattle.alma_lower_slots.specs.Checks.{KeepsOwn}
+use Rattle.alma_lower_slots.specs.Inner.Checks.{KeepsOwn}
 use Rattle.alma_lower_slots.specs.Sharing.{params_slots}
 use Rattle.alma_lower_slots.proofs.CheckFits.{fits_routine}
 use Rattle.alma_lower_slots.proofs.check.may_share.Goals as goal

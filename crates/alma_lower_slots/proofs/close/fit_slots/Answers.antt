@@ -1,7 +1,7 @@
 use Rattle.std.proofs.Common.{sym, subst}
 use Rattle.std.specs.Prelude.{slice_get}
 use Rattle.alma_code.specs.Plain.{code_of}
-use Rattle.alma_lower_slots.specs.Checks.{FitsSlot, HasStretch}
+use Rattle.alma_lower_slots.specs.Inner.Checks.{FitsSlot, HasStretch}
 use Rattle.alma_lower_slots.specs.Stretches.{stretch_at}
 use Rattle.alma_lower_slots.proofs.CheckSteps.{below_more}
 use Rattle.alma_lower_slots.proofs.close.fit_slots.Goals as goal

@@ -1,5 +1,5 @@
 use Rattle.std.proofs.Common.{ℕ, ◌-◌, ◌<◌, ◌≤◌, get_or}
-use Rattle.alma_lower_slots.specs.Checks.{Encloses, no_sources}
+use Rattle.alma_lower_slots.specs.Inner.Checks.{Encloses, no_sources}
 use Rattle.alma_lower_slots.proofs.close.leads_inside.Given as goal
 
 abbrev pub invariant-loop-before : goal.invariant-loop-before

@@ -1,5 +1,5 @@
 use Rattle.std.proofs.Common.{ℕ, ◌<◌}
-use Rattle.alma_lower_slots.specs.Checks.{KeepsNumber}
+use Rattle.alma_lower_slots.specs.Inner.Checks.{KeepsNumber}
 use Rattle.alma_lower_slots.specs.Stretches.{stretch_at}
 use Rattle.alma_lower_slots.proofs.head.keeps_own.Given as goal
 

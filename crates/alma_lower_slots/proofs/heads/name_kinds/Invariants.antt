@@ -1,5 +1,5 @@
 -- The slots so far.
-use Rattle.alma_lower_slots.specs.Shared.{NamesSoFar}
+use Rattle.alma_lower_slots.specs.Inner.Shared.{NamesSoFar}
 use Rattle.alma_lower_slots.proofs.heads.name_kinds.Given as goal
 
 abbrev pub invariant-loop-i : goal.invariant-loop-i

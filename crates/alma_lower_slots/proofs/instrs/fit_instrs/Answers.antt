@@ -1,7 +1,7 @@
 use Rattle.std.proofs.Common.{get_or}
 use Rattle.alma_code.specs.declared.instr.Instr.TheVariants as I
 use Rattle.alma_code.specs.Plain.{code_of}
-use Rattle.alma_lower_slots.specs.Checks.{FitsInstr}
+use Rattle.alma_lower_slots.specs.Inner.Checks.{FitsInstr}
 use Rattle.alma_lower_slots.proofs.CheckSteps.{from_more}
 use Rattle.alma_lower_slots.proofs.instrs.fit_instrs.Goals as goal
 

@@ -4,7 +4,7 @@ use Rattle.std.proofs.lemmas.List.{take_at}
 use Rattle.alma_code.specs.declared.instr.Instr.{Instr}
 use Rattle.alma_code.specs.declared.instr.Instr.TheVariants as I
 use Rattle.alma_code.specs.Plain.{code_of}
-use Rattle.alma_lower_slots.specs.Checks.{NotesMark, mark_of}
+use Rattle.alma_lower_slots.specs.Inner.Checks.{NotesMark, mark_of}
 use Rattle.alma_lower_slots.proofs.CheckSteps.{marks_more}
 use Rattle.alma_lower_slots.proofs.marks.marks_of.Goals as goal
 

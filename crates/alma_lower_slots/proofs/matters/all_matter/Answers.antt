@@ -1,7 +1,7 @@
 use Rattle.std.proofs.Common.{arith, ◌≡◌, ℕ, ◌+◌, ◌-◌, ◌∙◌, ◌<◌, ◌≤◌, ap, sym}
 use Rattle.std.specs.Prelude.{Bool, true, false, ◌&&◌}
 use Rattle.std.specs.List.{list_all}
-use Rattle.alma_lower_slots.specs.Checks.{matters_at}
+use Rattle.alma_lower_slots.specs.Inner.Checks.{matters_at}
 use Rattle.alma_lower_slots.specs.Slots.{slots_from}
 use Rattle.alma_lower_slots.proofs.CheckSteps.{slots_more, slots_none}
 use Rattle.alma_lower_slots.proofs.matters.all_matter.Goals as goal

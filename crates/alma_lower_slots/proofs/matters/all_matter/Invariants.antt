@@ -1,6 +1,6 @@
 use Rattle.std.proofs.Common.{◌≡◌, ◌+◌, ◌-◌}
 use Rattle.std.specs.List.{list_all}
-use Rattle.alma_lower_slots.specs.Checks.{matters_at}
+use Rattle.alma_lower_slots.specs.Inner.Checks.{matters_at}
 use Rattle.alma_lower_slots.specs.Slots.{slots_from}
 use Rattle.alma_lower_slots.proofs.matters.all_matter.Given as goal
 

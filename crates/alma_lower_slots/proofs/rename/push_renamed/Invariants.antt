@@ -1,7 +1,7 @@
 -- The instructions so far.
 use Rattle.std.proofs.Common.{◌≡◌, ◌++◌, map, take}
 use Rattle.alma_lower_slots.specs.Slots.{renamed}
-use Rattle.alma_lower_slots.specs.Shared.{slot_in}
+use Rattle.alma_lower_slots.specs.Inner.Shared.{slot_in}
 use Rattle.alma_lower_slots.proofs.rename.push_renamed.Given as goal
 
 abbrev pub invariant-loop-instr : goal.invariant-loop-instr

@@ -3,7 +3,7 @@ use Rattle.std.specs.List.{list_all}
 use Rattle.std.specs.Prelude.{sum_by}
 use Rattle.alma_base.specs.Limits.{slot_limit}
 use Rattle.alma_code.specs.Plain.{code_of, routine_of}
-use Rattle.alma_lower_slots.specs.Shared.{SharesSoFar}
+use Rattle.alma_lower_slots.specs.Inner.Shared.{SharesSoFar}
 use Rattle.alma_lower_slots.proofs.WholeShared.{whole_shared}
 use Rattle.alma_lower_slots.proofs.share.shared_parts.Goals as goal
 

@@ -4,7 +4,7 @@ use Rattle.alma_code.specs.declared.instr.Instr.{Instr}
 use Rattle.alma_code.specs.declared.instr.Instr.TheVariants as I
 use Rattle.alma_code.specs.Plain.{code_of}
 use Rattle.alma_lower_slots.specs.declared.sources.Sources.{Sources}
-use Rattle.alma_lower_slots.specs.Checks.{IsAmong, no_sources, NotesJump}
+use Rattle.alma_lower_slots.specs.Inner.Checks.{IsAmong, no_sources, NotesJump}
 use Rattle.alma_lower_slots.specs.Slots.{away}
 use Rattle.alma_lower_slots.proofs.CheckSteps.{sources_more}
 use Rattle.alma_lower_slots.proofs.sources.sources_of.Goals as goal

@@ -1,7 +1,7 @@
 use Rattle.std.proofs.Common.{◌≡◌, ℕ, ◌-◌, ◌<◌, ◌≤◌, length, get_or, Some}
 use Rattle.alma_code.specs.declared.instr.Instr.TheVariants as I
 use Rattle.alma_code.specs.Plain.{code_of}
-use Rattle.alma_lower_slots.specs.Checks.{IsAmong, no_sources}
+use Rattle.alma_lower_slots.specs.Inner.Checks.{IsAmong, no_sources}
 use Rattle.alma_lower_slots.specs.Slots.{away}
 use Rattle.alma_lower_slots.proofs.sources.sources_of.Given as goal
 

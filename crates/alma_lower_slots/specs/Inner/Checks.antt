@@ -7,11 +7,12 @@ use Rattle.alma_code.specs.declared.instr.Instr.{Instr}
 use Rattle.alma_code.specs.declared.instr.Instr.TheVariants as I
 use Rattle.alma_code.specs.Kinds.{is_number}
 use Rattle.alma_code.specs.Plain.{PlainCode, head_at, start_at, end_at}
-use Rattle.alma_code.specs.Rules.{place_length, link_routine, ends_routine}
+use Rattle.alma_code.specs.Rules.{ends_routine}
 use Rattle.alma_lower_slots.specs.declared.stretch.Stretch.{Stretch}
 use Rattle.alma_lower_slots.specs.declared.sources.Sources.{Sources}
 use Rattle.alma_lower_slots.specs.Slots.{slots_from, reads, written, away, lays_over, is_finish, is_forall, body_of}
-use Rattle.alma_lower_slots.specs.Stretches.{no_end, stretch_at, is_kept, is_live}
+use Rattle.alma_lower_slots.specs.Sharing.{names_own, begins_own}
+use Rattle.alma_lower_slots.specs.Stretches.{no_end, own_count, stretch_at, is_kept, is_live}
 
 -- ---- words of an instruction
 
@@ -25,21 +26,6 @@ slots_of (None ∷ rest) = slots_of rest
 unfoldable pub arguments : PlainCode → Instr → List ℕ
 arguments code (I.Call r first to) = slots_from (length (head_at code r).params) first
 arguments code _ = []
-
--- the slots that it makes places of, or that it reads in another frame, are own ones of their routine
-unfoldable pub names_within : (own : List ℕ) → (kinds : List SlotKind) → (r : ℕ) → Instr → Bool
-names_within own kinds r (I.Local a b) = nat_le (b + place_length (slice_get kinds a)) (get_or own r 1)
-names_within own kinds r (I.Global a b) = nat_le (b + place_length (slice_get kinds a)) (get_or own 0 1)
-names_within own kinds r (I.Chain a b c) = nat_le (suc c) (get_or own (link_routine (slice_get kinds b)) 1)
-names_within own kinds r (I.Outer a b c) =
-    nat_le (c + place_length (slice_get kinds a)) (get_or own (link_routine (slice_get kinds b)) 1)
-names_within own kinds r (I.OuterSame a b c) = nat_le (suc c) (get_or own (link_routine (slice_get kinds b)) 1)
-names_within own kinds r _ = true
-
--- also a place of no cells begins at an own slot
-unfoldable pub begins_within : (own : List ℕ) → (r : ℕ) → Instr → Bool
-begins_within own r (I.Local a b) = nat_lt b (get_or own r 1)
-begins_within own r _ = true
 
 -- the slot that a Mark writes
 unfoldable pub mark_of : Instr → Option ℕ
@@ -146,8 +132,8 @@ pub record FitsInstr (code : PlainCode) (own : List ℕ) (kinds : List SlotKind)
   pub read : list_all (λ n. matters_at stretches at n) (reads code i) ≡ true
   pub write : (w : ℕ) → written code i ≡ Some w → WritesIn stretches at w
   pub flow : FitsFlow code at i
-  pub places : names_within own kinds r i ≡ true
-  pub begins : begins_within own r i ≡ true
+  pub places : names_own (own_count own) kinds r i ≡ true
+  pub begins : begins_own (own_count own) r i ≡ true
   pub together : StayTogether code stretches i
 
 -- each instruction of the routine does, and a word holds each of its addresses
