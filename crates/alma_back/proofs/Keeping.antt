@@ -18,10 +18,10 @@ use Rattle.alma_machine_acts.specs.declared.registers.Registers.{Registers}
 use Rattle.alma_back.specs.declared.back.Old.{Old}
 use Rattle.alma_back.specs.Kept.{state_in, scene_of, is_failing, mode_by, old_of, state_at, printed_at, olds_before, scenes_before}
 use Rattle.alma_back.specs.Kept.{IsCounted, Keeps}
-use Rattle.alma_back.specs.Standing.{goes}
+use Rattle.alma_trace.specs.Cuts.{can_go}
 
 -- a run that has not ended is live
-live_of : (m : Mode) → goes m ≡ true → IsLive m
+live_of : (m : Mode) → can_go m ≡ true → IsLive m
 live_of Going h = tt
 live_of Failing h = tt
 live_of (Ended end) h = cc h
@@ -89,7 +89,7 @@ module _ (code : PlainCode) (input : List ℕ) where
 
   module _ (n : ℕ) (r : Registers MachinePicture) (olds : List Old) (printed : ℕ) (h : Keeps code input n r olds printed) where
     -- a run that goes on stands
-    pub keeps_standing : goes (state_at code input n).mode ≡ true → Stands code (state_in r)
+    pub keeps_standing : can_go (state_at code input n).mode ≡ true → Stands code (state_in r)
     keeps_standing on =
         let c = h.counted n (omega arith) in
         subst (λ (s : State). Stands code s) (sym h.state) (record {
@@ -100,7 +100,7 @@ module _ (code : PlainCode) (input : List ℕ) where
           fails = omega (arith, c.fails, c.count);
         })
 
-    module _ (r' : Registers MachinePicture) (answer : Step) (bytes : List ℕ) (on : goes (state_at code input n).mode ≡ true)
+    module _ (r' : Registers MachinePicture) (answer : Step) (bytes : List ℕ) (on : can_go (state_at code input n).mode ≡ true)
         (is : stepped answer bytes (state_in r') ≡ step code input (state_in r))
         (steps : r'.steps ≡ r.steps + 1) (choices : r'.choices ≤ r.choices + 1) (fails : r'.fails ≤ r.fails + 1)
         (past : r'.memory.past ≡ scene_of (state_in r) ∷ r.memory.past) where

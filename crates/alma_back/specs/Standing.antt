@@ -1,7 +1,8 @@
 -- What contracts see of a run that is walked both ways.
-use Rattle.std.specs.Prelude.{◌+◌, ◌-◌, ℕ, Bool, true, false, cond, List, [], ◌∷◌}
-use Rattle.alma_code.specs.Machine.{Mode, Going, Failing, Ended, Stuck, State, after, prints, start}
+use Rattle.std.specs.Prelude.{◌+◌, ◌-◌, ℕ, Bool, cond, List, [], ◌∷◌}
+use Rattle.alma_code.specs.Machine.{State, after, prints, start}
 use Rattle.alma_code.specs.Plain.{PlainCode}
+use Rattle.alma_trace.specs.Cuts.{can_go}
 
 -- its code and input, and how many steps were made that were not taken back
 pub record Standing : Type 0 where
@@ -21,16 +22,9 @@ state_of s = after s.code s.input s.steps (start s.code)
 abbrev pub output_of : Standing → List ℕ
 output_of s = prints s.code s.input s.steps (start s.code)
 
--- a machine in this mode has not ended
-abbrev pub goes : Mode → Bool
-goes Going = true
-goes Failing = true
-goes (Ended end) = false
-goes Stuck = false
-
 -- the run has not ended
 abbrev pub runs : Standing → Bool
-runs s = goes (state_of s).mode
+runs s = can_go (state_of s).mode
 
 -- ---- walks
 
