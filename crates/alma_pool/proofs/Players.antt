@@ -3,7 +3,7 @@ use Rattle.std.proofs.Common.{◌≡◌, ◌<◌, ◌≤◌, ◌+◌, ◌∙◌,
 use Rattle.std.proofs.lemmas.List.{map-set, get_or-map, get_or-set_same, length-map}
 use Rattle.std.specs.Prelude.{Bool, false, Result, Ok, Err, OnOk, is_err}
 use Rattle.alma_pool.specs.declared.pool.Player.{Player}
-use Rattle.alma_pool.specs.Pool.{Played, PoolView, turned, no_program, program_at, after_turn}
+use Rattle.alma_pool.specs.Pool.{OthersStay, Played, PoolView, turned, no_program, program_at, after_turn}
 use Rattle.alma_pool.specs.Ready.{played_of}
 
 -- a pool by its parts
@@ -34,6 +34,21 @@ counted_view players k old new whole pool is there at one =
     ap (λ ps. get_or ps k no_program) (map-set played_of players k new)
     ∙ get_or-set_same (map played_of players) k (played_of new) no_program within in
     omega (arith, ap (λ (p : Played). p.state.steps) before, ap (λ (p : Played). p.state.steps) after, one)
+
+-- no other changed
+pub others_view : (players : List Player) (k : ℕ) (new : Player) (whole : Bool) (pool : PoolView)
+    → pool_of (map played_of players) whole ≡ pool → k < length players
+    → OthersStay pool (pool_of (map played_of (set players k new)) false) k
+others_view players k new whole pool is there =
+    let within : k < length (map played_of players) = omega (arith, there, length-map players played_of) in
+    let after : get_or (map played_of (set players k new)) k no_program ≡ played_of new =
+    ap (λ ps. get_or ps k no_program) (map-set played_of players k new)
+    ∙ get_or-set_same (map played_of players) k (played_of new) no_program within in
+    record {
+      others = map-set played_of players k new
+          ∙ (ap (set (map played_of players) k) (sym after)
+          ∙ ap (λ (p : PoolView). set p.programs k (get_or (map played_of (set players k new)) k no_program)) is);
+    }
 
 -- what holds where a call succeeds holds where it does not fail
 pub ok_of : {T E : Type 0} (r : Result T E) (P : Type 0) → is_err r ≡ false → OnOk r P → P

@@ -1,5 +1,5 @@
 -- Programs that take turns, each by itself.
-use Rattle.std.specs.Prelude.{◌+◌, ℕ, Bool, List, [], ◌∷◌, ◌++◌, get_or, set, eqb, cond, Option, None, Some}
+use Rattle.std.specs.Prelude.{◌≡◌, ◌+◌, ℕ, Bool, List, [], ◌∷◌, ◌++◌, get_or, set, eqb, cond, Option, None, Some}
 use Rattle.alma_code.specs.declared.step.End.{End}
 use Rattle.alma_code.specs.Machine.{Mode, Going, Failing, Ended, Stuck, State, step, after, prints, start}
 use Rattle.alma_code.specs.Plain.{PlainCode}
@@ -62,6 +62,10 @@ program_at pool k = get_or pool.programs k no_program
 -- the pool after one turn of the program of a number
 abbrev pub after_turn : PoolView → ℕ → PoolView
 after_turn pool k = record pool { programs = set pool.programs k (turned (program_at pool k)) }
+
+-- no program but that of the number has changed
+pub record OthersStay (old new : PoolView) (k : ℕ) : Type 0 where
+  pub others : new.programs ≡ set old.programs k (program_at new k)
 
 -- the pool after a list of turns
 abbrev pub after_turns : PoolView → List ℕ → PoolView

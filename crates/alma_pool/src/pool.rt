@@ -2,7 +2,7 @@
 ghost use Rattle.std.specs.Prelude.{◌≡◌, ◌<◌, ◌≤◌, ◌+◌, ◌^◌, [], ◌∷◌, ◌++◌, true, false, length, map, IfOk, OnOk, OnErr, IsTrue};
 ghost use Rattle.alma_base.specs.Limits.{input_limit};
 ghost use Rattle.alma_verify.specs.Verified.{code_of_verified};
-ghost use Rattle.alma_pool.specs.Pool.{ended_in, begun, turned, program_at, after_turn};
+ghost use Rattle.alma_pool.specs.Pool.{OthersStay, ended_in, begun, turned, program_at, after_turn};
 ghost use Rattle.alma_pool.specs.Ready.{IsReady, played_of};
 
 use alma_base::NoMemory;
@@ -110,7 +110,8 @@ impl<'b, 'i> Pool<'b, 'i> {
         self.whole
     }
 
-    /// One step of the program of a number, and nothing where that has ended. After a refused turn the pool is not whole.
+    /// One step of the program of a number, and nothing where that has ended. After a refused turn the pool is not whole, and that
+    /// program may stand anywhere.
     pub fn turn(&mut self, k: usize) -> Result<(), NoMemory>
         requires whole { IsTrue self.old.whole }
         requires there { k < length self.old.programs }
@@ -119,6 +120,7 @@ impl<'b, 'i> Pool<'b, 'i> {
         ensures counted { OnOk result ((program_at self.new k).state.steps
             ≤ (program_at self.old k).state.steps + 1) }
         ensures refused { OnErr result (self.new.whole ≡ false) }
+        ensures others { OnErr result (OthersStay self.old self.new k) }
     {
         let player = &mut self.players[k];
         if play(player).is_err() {

@@ -4,7 +4,7 @@ use Rattle.alma_pool.specs.Pool.{PoolView, turned}
 use Rattle.std.proofs.lemmas.List.Elements.{All-set}
 use Rattle.alma_pool.specs.declared.pool.Player.{Player}
 use Rattle.alma_pool.specs.Ready.{IsReady, played_of}
-use Rattle.alma_pool.proofs.Players.{turned_view, counted_view, ok_of}
+use Rattle.alma_pool.proofs.Players.{turned_view, counted_view, others_view, ok_of}
 use Rattle.alma_pool.proofs.pool.Pool.turn.Goals as goal
 
 pub invariant_of-self-else-is_err : goal.invariant_of-self-else-is_err
@@ -32,3 +32,9 @@ returns-clause-counted c =
     c.index_mut-player.ensures.value
     (ok_of c.play.result (c.play.new.player.machine.state.steps ≤ old.machine.state.steps + 1)
     (sym c.is_err.ensures.value ∙ c.if-is_err.false) c.play.ensures.counted)
+
+pub returns-then-is_err-clause-others : goal.returns-then-is_err-clause-others
+returns-then-is_err-clause-others c =
+    let players = c.self.inside.players.items in
+    others_view players c.args.k c.play.new.player c.self.inside.whole c.args.self.now c.self.view_is
+    (omega (arith, c.requires.there, ap (λ (p : PoolView). length p.programs) c.self.view_is, length-map players played_of))
