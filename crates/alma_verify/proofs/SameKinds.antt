@@ -68,6 +68,7 @@ alike_fit code (p ∷ ps) r i q j a free e =
     ∙ (ap (λ b. b && fit_arguments code q ps (suc j)) there
     ∙ alike_fit code ps r (suc i) q (suc j) (alike_rest code r i q j (length ps) a) (free_later code q j) rest)
 
+-- what fits a call that was seen fits another one of the callee that is alike
 pub fit_like : (code : PlainCode) (s t : SeenCall) (n : ℕ) → AreAlike code s.caller s.first t.caller t.first n → IsFit code s
     → s.callee ≡ t.callee → n ≡ length (head_at code t.callee).params → t.caller < length code.routines
     → nat_lt 0 (t.caller + (t.first + 0)) ≡ true → IsFit code t

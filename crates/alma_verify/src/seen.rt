@@ -22,9 +22,9 @@ const NO_CALL: SeenCall = SeenCall {
     first: 0,
 };
 
-/// Calls whose arguments were found to fit, and no memory is asked for. In `calls` each has the place that its callee and first slot
-/// give, where the last one stays, so a call that stands in a code many times is looked at once. In `latest` its callee alone gives
-/// the place, and calls of one callee are compared with the last one.
+/// Calls whose arguments were found to fit. In `calls` each has the place that its callee and first slot give, where the last one
+/// stays, so a call that stands in a code many times is looked at once. In `latest` its callee alone gives the place, and other calls
+/// of that callee are compared with it. No memory is asked for.
 #[derive(Drop)]
 pub struct SeenCalls {
     calls: [SeenCall; 256],
