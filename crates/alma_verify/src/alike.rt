@@ -6,8 +6,8 @@ ghost use Rattle.alma_verify.specs.Seen.{AreAlike};
 use crate::reader::CodeReader;
 use crate::seen::SeenCall;
 
-/// How many turns a comparison has, of which each passes at least one run of one of the callers.
-pub const TURNS: u32 = 8;
+// How many turns a comparison has, of which each passes at least one run of one of the callers.
+const TURNS: u32 = 8;
 
 // How many slots more have one kind in both calls, behind so many; 0 where the next two differ, or one is not there.
 fn alike_behind<R: CodeReader>(reader: &R, one: SeenCall, other: SeenCall, passed: u64) -> u64

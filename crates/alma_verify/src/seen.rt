@@ -4,7 +4,7 @@ ghost use Rattle.alma_code.specs.Plain.{PlainCode, head_at};
 ghost use Rattle.alma_code.specs.Rules.{IsTable, fit_arguments};
 ghost use Rattle.alma_verify.specs.Seen.{AreFit, IsFit, is_same as is_same_spec};
 
-use crate::alike::{TURNS, are_alike};
+use crate::alike::are_alike;
 use crate::arguments::is_free;
 use crate::reader::CodeReader;
 
@@ -15,6 +15,9 @@ pub struct SeenCall {
     pub callee: u32,
     pub first: u32,
 }
+
+// So many arguments are sooner looked at than compared.
+const FEW: u32 = 64;
 
 const NO_CALL: SeenCall = SeenCall {
     caller: 0,
@@ -74,8 +77,7 @@ impl SeenCalls {
         )
     }
 
-    // Whether the arguments are of the same kinds as those of the last call of the callee that fit. Where they are few, this would
-    // cost more than to look at each.
+    // Whether the arguments are more than few, and of the same kinds as those of the last call of the callee that fit.
     fn fits_like_latest<R: CodeReader>(&self, reader: &R, call: SeenCall) -> bool
         requires caller { call.caller < length (R.code reader.now).routines }
         requires callee { call.callee < length (R.code reader.now).routines }
@@ -86,7 +88,7 @@ impl SeenCalls {
     {
         let latest = self.latest[latest_place(call.callee)];
         let count = reader.param_count(call.callee);
-        if latest.callee != call.callee || count <= TURNS {
+        if latest.callee != call.callee || count <= FEW {
             return false;
         }
         is_free(call.caller, call.first, 0) && are_alike(reader, latest, call, count)
