@@ -44,7 +44,7 @@ no_numbers code r (suc n) i le = ap (λ o. is_number o && numbers_from n (kinds_
     ∙ sym (eqb-suc-zero n)
 
 -- the arguments of a call, by the kinds of the caller's slots
-takes_is : (code : PlainCode) (r : ℕ) (k : ParamKind) (n i : ℕ) → fits_argument code r k n i ≡ takes k n (kind_in code r i)
+pub takes_is : (code : PlainCode) (r : ℕ) (k : ParamKind) (n i : ℕ) → fits_argument code r k n i ≡ takes k n (kind_in code r i)
 takes_is code r param.Value n i = refl
 takes_is code r param.Place n i = refl
 takes_is code r param.Mix n i = refl

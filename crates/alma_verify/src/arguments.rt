@@ -20,8 +20,8 @@ fn takes(param: CodeParam, kind: Option<SlotKind>) -> bool
     }
 }
 
-// Whether a slot of a routine is not the input position.
-fn is_free(routine: u32, first: u32, k: u32) -> bool
+/// Whether a slot of a routine is not the input position.
+pub fn is_free(routine: u32, first: u32, k: u32) -> bool
     ensures { result ≡ nat_lt 0 (routine + (first + k)) }
 {
     routine > 0 || first > 0 || k > 0

@@ -1,6 +1,7 @@
 //! The verifier: which objects hold sound code; and code in memory that is encoded and opened again.
 #![tactic(auto)]
 
+mod alike;
 mod arguments;
 mod fields;
 mod forms;

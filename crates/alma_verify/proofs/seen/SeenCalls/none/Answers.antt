@@ -4,7 +4,6 @@ use Rattle.alma_verify.specs.Seen.{IsFit}
 use Rattle.alma_verify.proofs.seen.SeenCalls.none.Goals as goal
 
 pub returns : goal.returns
-returns c code = record {
-  all = All-replicate (IsFit code) 256 (record { caller = 0; callee = 0; first = 0 })
-      (λ lt. absurd (omega (arith, lt)));
-}
+returns c code =
+    let none = All-replicate (IsFit code) 256 (record { caller = 0; callee = 0; first = 0 }) (λ lt. absurd (omega (arith, lt))) in
+    record { calls = none; latest = none }
