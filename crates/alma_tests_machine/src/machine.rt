@@ -336,56 +336,50 @@ fn parts_are_copied_and_a_loop_counts(rt: HostRuntime) -> Result<(), Fail> {
     Ok(())
 }
 
-// How a run of so many steps ends, and one of the rest of 31; no second run where the first took other steps.
-fn run_twice(
-    machine: &mut Machine<'_, '_>,
-    out: &mut MemSink,
-    budget: u64,
-) -> (RunEnd, Option<RunEnd>)
+// Runs so many steps, and answers how a run of the rest of 31 ends; none where the first did not run out of steps there.
+fn run_rest(machine: &mut Machine<'_, '_>, out: &mut MemSink, budget: u64) -> Option<RunEnd>
     requires running { IsTrue machine.old.running }
     requires few { machine.old.state.steps + budget < 2 ^ 63 }
     requires below { budget ≤ 31 }
 {
     let end = run_on(machine, budget, out);
-    if !machine.is_running() || machine.steps() != budget {
-        return (end, None);
+    if end != RunEnd::StepsOut || !machine.is_running() || machine.steps() != budget {
+        return None;
     }
-    (end, Some(run_on(machine, 31 - budget, out)))
+    Some(run_on(machine, 31 - budget, out))
 }
 
-// How two such runs end, whether all is printed then, and whether the machine runs on.
-type ShownTwice = ((RunEnd, Option<RunEnd>), bool, bool);
+// How the second of such runs ends, whether all is printed then, and whether the machine runs on.
+type Rest = (Option<RunEnd>, bool, bool);
 
-fn show_twice(machine: &mut Machine<'_, '_>, out: &mut MemSink, budget: u64) -> ShownTwice
+// What such runs show.
+fn show_rest(machine: &mut Machine<'_, '_>, out: &mut MemSink, budget: u64) -> Rest
     requires running { IsTrue machine.old.running }
     requires few { machine.old.state.steps + budget < 2 ^ 63 }
     requires below { budget ≤ 31 }
 {
-    let ends = run_twice(machine, out, budget);
-    (
-        ends,
-        out.bytes() == b"123FALSE".as_slice(),
-        machine.is_running(),
-    )
+    let end = run_rest(machine, out, budget);
+    let is_printed = out.bytes() == b"123FALSE".as_slice();
+    (end, is_printed, machine.is_running())
 }
 
-// What two such runs of the code show.
-fn two_runs(alloc: Global, code: Verified<'_>, budget: u64) -> Result<ShownTwice, NoMemory>
+// What such runs of the code show.
+fn two_runs(alloc: Global, code: Verified<'_>, budget: u64) -> Result<Rest, NoMemory>
     requires { budget ≤ 31 }
 {
     let mut out = MemSink::new(alloc, 99, 99, &[])?;
     let mut machine = Machine::new(alloc, code, b"")?;
-    Ok(show_twice(&mut machine, &mut out, budget))
+    Ok(show_rest(&mut machine, &mut out, budget))
 }
 
 #[test]
 fn steps_run_out_at_each_budget_below_the_whole(rt: HostRuntime) -> Result<(), Fail> {
     let object = object(rt.alloc(), &COUNT)?;
     let code = opened(&object).ok_or("sound")?;
-    let ends = (RunEnd::StepsOut, Some(RunEnd::Succeeded));
+    let end = Some(RunEnd::Succeeded);
     for budget in 0..31 {
         let found = two_runs(rt.alloc(), code, budget)?;
-        assert_eq!(rt; found, (ends, true, false), "after {budget}");
+        assert_eq!(rt; found, (end, true, false), "after {budget}");
     }
     Ok(())
 }
@@ -448,6 +442,7 @@ fn other_print(machine: &mut Machine<'_, '_>) -> Option<u64> {
 // The first of 31 steps that prints other than it should, whether the machine runs on, its choices and fails.
 type Steps = (Option<u64>, bool, u64, u64);
 
+// What 31 steps show.
 fn show_steps(machine: &mut Machine<'_, '_>) -> Steps {
     let other = other_print(machine);
     let is_running = machine.is_running();

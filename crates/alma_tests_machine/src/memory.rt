@@ -209,10 +209,10 @@ fn enter_second(memory: &mut Memory) -> Result<(), Fail>
     Ok(())
 }
 
+// Where a frame goes back to when it is left, and how many frames there are.
 type Left = (u32, u32);
 
-// Leaves the second frame behind a branch that wrote into the first. Answers where it goes back to, and how many frames
-// there are.
+// Leaves the second frame behind a branch that wrote into the first.
 fn leave_frame(memory: &mut Memory) -> Result<Left, NoMemory>
     requires now { memory.old.now ≡ frames_of_two }
     requires held { memory.old.held ≡ [] }
@@ -228,9 +228,10 @@ fn shape(memory: &Memory) -> (u32, u32, u32) {
     (memory.frames(), memory.routine(), memory.live_cells())
 }
 
+// Whether there was an entry to go back to, what is live then, and the first slot of each frame.
 type Revived = (bool, (u32, u32, u32), [Cell; 2]);
 
-// Fails, and answers whether there was an entry, what is live then, and the first slot of each frame.
+// Goes back to where the second frame lives.
 fn revive(memory: &mut Memory) -> Revived
     requires { memory.old.held ≡ entry choice.Branch 9 frames_of_two ∷ [] }
 {
@@ -257,10 +258,9 @@ fn left_and_revived(alloc: Global) -> Result<(Left, Revived), Fail> {
 
 #[test]
 fn a_frame_that_was_left_lives_again(rt: HostRuntime) -> Result<(), Fail> {
-    let (left, revived) = left_and_revived(rt.alloc())?;
+    let found = left_and_revived(rt.alloc())?;
     let cells = [Cell::Int(0), Cell::Place(PLACE)];
-    assert_eq!(rt; left, (9, 1));
-    assert_eq!(rt; revived, (true, (2, 1, 1), cells));
+    assert_eq!(rt; found, ((9, 1), (true, (2, 1, 1), cells)));
     Ok(())
 }
 
@@ -353,11 +353,11 @@ const FORALL: Resumed = Resumed {
 
 #[test]
 fn a_forall_carries_what_its_bodies_changed(rt: HostRuntime) -> Result<(), Fail> {
-    let (in_range, at_end, behind) = forall_of_nine(rt.alloc())?;
+    let found = forall_of_nine(rt.alloc())?;
     let (nine, done) = (Cell::Int(9), Some(ChoiceKind::Done));
-    assert_eq!(rt; in_range, (2, true, Cell::Unknown));
-    assert_eq!(rt; at_end, (nine, Some(FORALL), done, Cell::Unknown));
-    assert_eq!(rt; behind, (nine, 0));
+    let in_range = (2, true, Cell::Unknown);
+    let at_end = (nine, Some(FORALL), done, Cell::Unknown);
+    assert_eq!(rt; found, (in_range, at_end, (nine, 0)));
     Ok(())
 }
 
@@ -564,10 +564,9 @@ fn two_stripes(alloc: Global) -> Result<Stripes, Fail> {
 
 #[test]
 fn a_frame_of_short_runs_is_laid_slot_by_slot(rt: HostRuntime) -> Result<(), Fail> {
-    let (first, second, kinds) = two_stripes(rt.alloc())?;
-    assert_eq!(rt; first, stripes_with(Cell::Int(0)));
-    assert_eq!(rt; second, stripes_with(Cell::Int(5)));
-    assert_eq!(rt; kinds, KINDS);
+    let found = two_stripes(rt.alloc())?;
+    let (first, second) = (stripes_with(Cell::Int(0)), stripes_with(Cell::Int(5)));
+    assert_eq!(rt; found, (first, second, KINDS));
     Ok(())
 }
 
@@ -662,6 +661,7 @@ fn counts(memory: &Memory, slots: u32) -> (usize, u32)
 // again.
 type Choices = ((usize, u32), u32, (usize, u32));
 
+// Makes so many choices, and takes them back.
 fn choose_and_fail(memory: &mut Memory, slots: u32, choices: u32) -> Result<Choices, NoMemory>
     requires some { 2 ≤ slots }
     requires slots { KeepsSlots slots memory.old }

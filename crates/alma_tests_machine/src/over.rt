@@ -52,6 +52,7 @@ fn body_memory<'b>(
 // Whether a machine runs, the address of its last instruction, its steps, and the height of its memory.
 type Standing = (bool, u32, u64, usize);
 
+// How a machine stands.
 fn standing(machine: &Machine<'_, '_>) -> Standing {
     (
         machine.is_running(),
