@@ -1,5 +1,5 @@
 // The machine, run on the verified objects of small codes.
-ghost use Rattle.std.specs.Prelude.{◌≡◌, ◌≤◌, ◌<◌, ◌^◌, ◌∷◌, [], length, map, codes, IfOk};
+ghost use Rattle.std.specs.Prelude.{◌≡◌, ◌≤◌, ◌<◌, ◌+◌, ◌^◌, ◌∷◌, [], length, map, codes, IfOk, IsTrue};
 ghost use Rattle.alma_code.specs.Plain.{code_of, routine_of};
 ghost use Rattle.alma_tests_machine.specs.Small.{small_routine, small_code};
 
@@ -269,53 +269,66 @@ fn object(alloc: Global, instrs: &[Instr]) -> Result<Vec<u8>, NoMemory>
 }
 
 // The verified view of an object; none where it is refused.
-fn opened(bytes: &[u8]) -> Option<Verified<'_>> {
+pub fn opened(bytes: &[u8]) -> Option<Verified<'_>> {
     let view = ObjectView::new(bytes).ok()?;
     verify(view).ok()
 }
 
-// How a run of the code ends, and in how many steps; nothing where its object is refused.
-fn outcome(alloc: Global, instrs: &[Instr]) -> Result<Option<(RunEnd, u64)>, NoMemory>
+// A run of so many steps at most, of which no more is known than how it ends.
+fn run_on(machine: &mut Machine<'_, '_>, budget: u64, out: &mut MemSink) -> RunEnd
+    requires running { IsTrue machine.old.running }
+    requires few { machine.old.state.steps + budget < 2 ^ 63 }
+{
+    machine.run(budget, out)
+}
+
+// How a run ends, the machine's steps, choices and fails, whether it printed what was awaited, and whether it runs on.
+type Shown = (RunEnd, [u64; 3], bool, bool);
+
+// What a run of 99 steps at most shows.
+fn show(machine: &mut Machine<'_, '_>, out: &mut MemSink, print: &[u8]) -> Shown
+    requires running { IsTrue machine.old.running }
+    requires few { machine.old.state.steps + 99 < 2 ^ 63 }
+{
+    let end = run_on(machine, 99, out);
+    let counts = [machine.steps(), machine.choices(), machine.fails()];
+    (end, counts, out.bytes() == print, machine.is_running())
+}
+
+// What a run of the code shows whose writes of these numbers fail.
+fn run_of(
+    alloc: Global,
+    code: Verified<'_>,
+    faults: &[u64],
+    print: &[u8],
+) -> Result<Shown, NoMemory> {
+    let mut out = MemSink::new(alloc, 99, 99, faults)?;
+    let mut machine = Machine::new(alloc, code, b"")?;
+    Ok(show(&mut machine, &mut out, print))
+}
+
+// The same of the code of these instructions.
+fn outcome(alloc: Global, instrs: &[Instr], faults: &[u64], print: &[u8]) -> Result<Shown, Fail>
     requires { length instrs.now ≤ 99 }
 {
     let object = object(alloc, instrs)?;
-    let Some(code) = opened(&object) else {
-        return Ok(None);
-    };
-    let mut machine = Machine::new(alloc, code, b"")?;
-    let mut out = MemSink::new(alloc, 99, 99, &[])?;
-    let end = machine.run(99, &mut out);
-    Ok(Some((end, machine.steps())))
+    let code = opened(&object).ok_or("sound")?;
+    Ok(run_of(alloc, code, faults, print)?)
 }
 
 #[test]
 fn a_run_ends_as_its_code_says(rt: HostRuntime) -> Result<(), Fail> {
     for row in &ROWS {
         assert!(rt; row.instrs.len() <= 99);
-        let found = outcome(rt.alloc(), row.instrs)?;
-        assert_eq!(rt; found, Some((row.end, row.steps)));
+        let (end, [steps, _, _], _, _) = outcome(rt.alloc(), row.instrs, &[], b"")?;
+        assert_eq!(rt; (end, steps), (row.end, row.steps));
     }
     Ok(())
 }
 
-// How a run of the code ends, its steps, choices and fails, and whether it prints this.
-fn run_of(
-    alloc: Global,
-    code: Verified<'_>,
-    print: &[u8],
-) -> Result<(RunEnd, [u64; 3], bool), NoMemory> {
-    let mut machine = Machine::new(alloc, code, b"")?;
-    let mut out = MemSink::new(alloc, 99, 99, &[])?;
-    let end = machine.run(99, &mut out);
-    let counts = [machine.steps(), machine.choices(), machine.fails()];
-    Ok((end, counts, out.bytes() == print))
-}
-
 #[test]
 fn parts_are_copied_and_a_loop_counts(rt: HostRuntime) -> Result<(), Fail> {
-    let object = object(rt.alloc(), &PARTS)?;
-    let code = opened(&object).ok_or("sound")?;
-    let (end, [steps, _, _], is_printed) = run_of(rt.alloc(), code, b"BAok\n12")?;
+    let (end, [steps, _, _], is_printed, _) = outcome(rt.alloc(), &PARTS, &[], b"BAok\n12")?;
     assert_eq!(rt;
         (end, steps, is_printed),
         (RunEnd::Fault(RunFault::NoCase), 24, true)
@@ -323,89 +336,131 @@ fn parts_are_copied_and_a_loop_counts(rt: HostRuntime) -> Result<(), Fail> {
     Ok(())
 }
 
-// How a run of so many steps ends, and one of the rest of 31, with whether all is printed then and the machine runs on;
-// no second run where the first took other steps.
-fn two_runs(
-    alloc: Global,
-    code: Verified<'_>,
-    budget: u64,
-) -> Result<(RunEnd, Option<(RunEnd, bool, bool)>), NoMemory>
+// Runs so many steps, and answers how a run of the rest of 31 ends; none where the first did not run out of steps there.
+fn run_rest(machine: &mut Machine<'_, '_>, out: &mut MemSink, budget: u64) -> Option<RunEnd>
+    requires running { IsTrue machine.old.running }
+    requires few { machine.old.state.steps + budget < 2 ^ 63 }
+    requires below { budget ≤ 31 }
+{
+    let end = run_on(machine, budget, out);
+    if end != RunEnd::StepsOut || !machine.is_running() || machine.steps() != budget {
+        return None;
+    }
+    Some(run_on(machine, 31 - budget, out))
+}
+
+// How the second of such runs ends, whether all is printed then, and whether the machine runs on.
+type Rest = (Option<RunEnd>, bool, bool);
+
+// What such runs show.
+fn show_rest(machine: &mut Machine<'_, '_>, out: &mut MemSink, budget: u64) -> Rest
+    requires running { IsTrue machine.old.running }
+    requires few { machine.old.state.steps + budget < 2 ^ 63 }
+    requires below { budget ≤ 31 }
+{
+    let end = run_rest(machine, out, budget);
+    let is_printed = out.bytes() == b"123FALSE".as_slice();
+    (end, is_printed, machine.is_running())
+}
+
+// What such runs of the code show.
+fn two_runs(alloc: Global, code: Verified<'_>, budget: u64) -> Result<Rest, NoMemory>
     requires { budget ≤ 31 }
 {
-    let mut machine = Machine::new(alloc, code, b"")?;
     let mut out = MemSink::new(alloc, 99, 99, &[])?;
-    let end = machine.run(budget, &mut out);
-    if !machine.is_running() || machine.steps() != budget {
-        return Ok((end, None));
-    }
-    let rest = machine.run(31 - budget, &mut out);
-    let is_printed = out.bytes() == b"123FALSE".as_slice();
-    Ok((end, Some((rest, is_printed, machine.is_running()))))
+    let mut machine = Machine::new(alloc, code, b"")?;
+    Ok(show_rest(&mut machine, &mut out, budget))
 }
 
 #[test]
 fn steps_run_out_at_each_budget_below_the_whole(rt: HostRuntime) -> Result<(), Fail> {
     let object = object(rt.alloc(), &COUNT)?;
     let code = opened(&object).ok_or("sound")?;
+    let end = Some(RunEnd::Succeeded);
     for budget in 0..31 {
-        let ends = two_runs(rt.alloc(), code, budget)?;
+        let found = two_runs(rt.alloc(), code, budget)?;
+        assert_eq!(rt; found, (end, true, false), "after {budget}");
+    }
+    Ok(())
+}
+
+// What is printed before the write of a number fails.
+const WRITE_FAULTS: [(u64, &[u8]); 4] = [(1, b""), (2, b"1"), (3, b"12"), (4, b"123")];
+
+#[test]
+fn a_write_fault_stops_the_machine(rt: HostRuntime) -> Result<(), Fail> {
+    for (number, print) in &WRITE_FAULTS {
+        let (end, _, is_printed, is_running) = outcome(rt.alloc(), &COUNT, &[*number], print)?;
         assert_eq!(rt;
-            ends,
-            (RunEnd::StepsOut, Some((RunEnd::Succeeded, true, false))),
-            "after {budget}"
+            (end, is_printed, is_running),
+            (RunEnd::WriteFault, true, false),
+            "write {number}"
         );
     }
     Ok(())
 }
 
-// How a run ends whose write of this number fails, whether it prints this, and whether the machine runs on.
-fn faulty_run(
-    alloc: Global,
-    code: Verified<'_>,
-    number: u64,
-    print: &[u8],
-) -> Result<(RunEnd, bool, bool), NoMemory> {
-    let mut machine = Machine::new(alloc, code, b"")?;
-    let mut out = MemSink::new(alloc, 99, 99, &[number])?;
-    let end = machine.run(99, &mut out);
-    Ok((end, out.bytes() == print, machine.is_running()))
+// What the step of this number prints.
+fn print_of(step: u64) -> &'static [u8] {
+    match step {
+        10 => b"1",
+        18 => b"2",
+        26 => b"3",
+        30 => b"FALSE",
+        _ => b"",
+    }
 }
 
-#[test]
-fn a_write_fault_stops_the_machine(rt: HostRuntime) -> Result<(), Fail> {
-    let object = object(rt.alloc(), &COUNT)?;
-    let code = opened(&object).ok_or("sound")?;
-    for (number, print) in [
-        (1, b"".as_slice()),
-        (2, b"1".as_slice()),
-        (3, b"12".as_slice()),
-        (4, b"123".as_slice()),
-    ] {
-        let end = faulty_run(rt.alloc(), code, number, print)?;
-        assert_eq!(rt; end, (RunEnd::WriteFault, true, false), "write {number}");
+// The next step of a machine that made less than 99; none where it does not run.
+pub fn next_step(machine: &mut Machine<'_, '_>) -> Result<Option<Step>, NoMemory> {
+    if !machine.is_running() || machine.steps() >= 99 {
+        return Ok(None);
     }
-    Ok(())
+    Ok(Some(machine.step()?))
+}
+
+// Makes one step, and answers whether it prints this, or does not print where this is empty.
+fn prints(machine: &mut Machine<'_, '_>, print: &[u8]) -> bool {
+    match next_step(machine) {
+        Ok(Some(step)) => {
+            (step == Step::Printed) != print.is_empty() && machine.printed() == print
+        }
+        _ => false,
+    }
+}
+
+// The first of 31 steps that prints other than it should.
+fn other_print(machine: &mut Machine<'_, '_>) -> Option<u64> {
+    for step in 1..32 {
+        if !prints(machine, print_of(step)) {
+            return Some(step);
+        }
+    }
+    None
+}
+
+// The first of 31 steps that prints other than it should, whether the machine runs on, its choices and fails.
+type Steps = (Option<u64>, bool, u64, u64);
+
+// What 31 steps show.
+fn show_steps(machine: &mut Machine<'_, '_>) -> Steps {
+    let other = other_print(machine);
+    let is_running = machine.is_running();
+    (other, is_running, machine.choices(), machine.fails())
+}
+
+// What 31 steps of the code show.
+fn steps_of(alloc: Global, code: Verified<'_>) -> Result<Steps, NoMemory> {
+    let mut machine = Machine::new(alloc, code, b"")?;
+    Ok(show_steps(&mut machine))
 }
 
 #[test]
 fn the_print_of_the_last_step_is_there(rt: HostRuntime) -> Result<(), Fail> {
     let object = object(rt.alloc(), &COUNT)?;
     let code = opened(&object).ok_or("sound")?;
-    let mut machine = Machine::new(rt.alloc(), code, b"")?;
-    let prints: [(u64, &[u8]); 4] = [(10, b"1"), (18, b"2"), (26, b"3"), (30, b"FALSE")];
-    for step in 1..32 {
-        assert!(rt; machine.is_running());
-        assert!(rt; machine.steps() < 99);
-        let answer = machine.step()?;
-        let print = prints.iter().find(|print| print.0 == step);
-        assert_eq!(rt; answer == Step::Printed, print.is_some());
-        assert_eq!(rt;
-            machine.printed(),
-            print.map_or(b"".as_slice(), |print| print.1)
-        );
-    }
-    assert!(rt; !machine.is_running());
-    assert_eq!(rt; (machine.choices(), machine.fails()), (0, 0));
+    let found = steps_of(rt.alloc(), code)?;
+    assert_eq!(rt; found, (None, false, 0, 0));
     Ok(())
 }
 
@@ -436,9 +491,10 @@ const TWO_WAYS: [Instr; 13] = [
 
 #[test]
 fn a_failed_alternative_leaves_no_trace(rt: HostRuntime) -> Result<(), Fail> {
-    let object = object(rt.alloc(), &TWO_WAYS)?;
-    let code = opened(&object).ok_or("sound")?;
-    let run = run_of(rt.alloc(), code, b"12\n")?;
-    assert_eq!(rt; run, (RunEnd::Succeeded, [14, 1, 1], true));
+    let (end, counts, is_printed, _) = outcome(rt.alloc(), &TWO_WAYS, &[], b"12\n")?;
+    assert_eq!(rt;
+        (end, counts, is_printed),
+        (RunEnd::Succeeded, [14, 1, 1], true)
+    );
     Ok(())
 }

@@ -115,41 +115,79 @@ fn branch_and_write(
     memory.write(0, slot, Cell::Int(number))
 }
 
+// Goes back to the top entry, and answers what it is.
+fn go_back(memory: &mut Memory) -> Option<Resumed>
+    requires { memory.old.held ≢ [] }
+    ensures now { memory.new.now ≡ (top_of memory.old.held).frames }
+    ensures held { memory.new.held ≡ stack_after_pop memory.old.held }
+{
+    memory.fail()
+}
+
+const BRANCH: Resumed = Resumed {
+    kind: ChoiceKind::Branch,
+    resume: 7,
+};
+
+// Fails after a branch wrote into the second slot. Answers what is resumed, the slot, and what a second failure
+// resumes.
+fn fail_twice(memory: &mut Memory) -> Result<(Option<Resumed>, Cell, Option<Resumed>), NoMemory>
+    requires now { memory.old.now ≡ start_frame (numbers 2) ∷ [] }
+    requires held { memory.old.held ≡ [] }
+{
+    memory.reserve(4, 4)?;
+    branch_and_write(memory, 7, 1, 5)?;
+    let resumed = go_back(memory);
+    Ok((resumed, memory.read(0, 1), memory.fail()))
+}
+
+// The same in a memory of two slots.
+fn two_fails(alloc: Global) -> Result<(Option<Resumed>, Cell, Option<Resumed>), NoMemory> {
+    let mut memory = start(alloc, 2)?;
+    fail_twice(&mut memory)
+}
+
 #[test]
 fn a_pop_leaves_unknown_what_was_unknown(rt: HostRuntime) -> Result<(), Fail> {
-    let mut memory = start(rt.alloc(), 2)?;
-    memory.reserve(4, 4)?;
-    branch_and_write(&mut memory, 7, 1, 5)?;
-    let resumed = memory.fail();
-    let cell = memory.read(0, 1);
-    let branch = Resumed {
-        kind: ChoiceKind::Branch,
-        resume: 7,
-    };
-    assert_eq!(rt;
-        (resumed, cell, memory.fail()),
-        (Some(branch), Cell::Unknown, None)
-    );
+    let found = two_fails(rt.alloc())?;
+    assert_eq!(rt; found, (Some(BRANCH), Cell::Unknown, None));
     Ok(())
+}
+
+// Writes the second slot, and answers whether that took no room.
+fn writes_in_place(memory: &mut Memory, number: i64) -> Result<bool, NoMemory>
+    requires live { 0 < length memory.old.now }
+    requires slot_of { 1 < length (slice_index_or memory.old.now 0 no_frame).cells }
+    ensures { memory.new.held ≡ memory.old.held }
+{
+    let room = memory.trail_room();
+    memory.write(0, 1, Cell::Int(number))?;
+    Ok(memory.trail_room() == room)
+}
+
+// Writes the second slot twice behind a branch, with room for one note, and fails. Answers whether the second write
+// took no room, what is resumed, and the slot.
+fn write_twice(memory: &mut Memory) -> Result<(bool, Option<Resumed>, Cell), NoMemory>
+    requires now { memory.old.now ≡ start_frame (numbers 2) ∷ [] }
+    requires held { memory.old.held ≡ [] }
+{
+    memory.reserve(1, 1)?;
+    branch_and_write(memory, 7, 1, 5)?;
+    let is_in_place = writes_in_place(memory, 6)?;
+    let resumed = go_back(memory);
+    Ok((is_in_place, resumed, memory.read(0, 1)))
+}
+
+// The same in a memory of two slots.
+fn two_writes(alloc: Global) -> Result<(bool, Option<Resumed>, Cell), NoMemory> {
+    let mut memory = start(alloc, 2)?;
+    write_twice(&mut memory)
 }
 
 #[test]
 fn a_noted_slot_is_written_with_no_room(rt: HostRuntime) -> Result<(), Fail> {
-    let mut memory = start(rt.alloc(), 2)?;
-    memory.reserve(1, 1)?;
-    branch_and_write(&mut memory, 7, 1, 5)?;
-    let room = memory.trail_room();
-    memory.write(0, 1, Cell::Int(6))?;
-    let is_same = memory.trail_room() == room;
-    let resumed = memory.fail();
-    let branch = Resumed {
-        kind: ChoiceKind::Branch,
-        resume: 7,
-    };
-    assert_eq!(rt;
-        (is_same, resumed, memory.read(0, 1)),
-        (true, Some(branch), Cell::Unknown)
-    );
+    let found = two_writes(rt.alloc())?;
+    assert_eq!(rt; found, (true, Some(BRANCH), Cell::Unknown));
     Ok(())
 }
 
@@ -160,35 +198,69 @@ const PLACE: CellPlace = CellPlace {
     len: 1,
 };
 
-// A frame of routine 1 with that place, over a global frame of one number slot.
-fn two_frames(alloc: Global) -> Result<Memory, Fail>
-    ensures now { IfOk result (λ memory. memory.now ≡ frames_of_two) }
-    ensures held { IfOk result (λ memory. memory.held ≡ []) }
+// Enters a frame of routine 1 with that place, over a global frame of one number slot.
+fn enter_second(memory: &mut Memory) -> Result<(), Fail>
+    requires { memory.old.now ≡ start_frame (numbers 1) ∷ [] }
+    ensures now { OnOk result (memory.new.now ≡ frames_of_two) }
+    ensures held { memory.new.held ≡ memory.old.held }
 {
-    let mut memory = start(alloc, 1)?;
     memory.reserve(2, 4)?;
     memory.enter(&ONE_PLACE, 1, 9, &[Cell::Place(PLACE)])?;
-    Ok(memory)
+    Ok(())
+}
+
+// Where a frame goes back to when it is left, and how many frames there are.
+type Left = (u32, u32);
+
+// Leaves the second frame behind a branch that wrote into the first.
+fn leave_frame(memory: &mut Memory) -> Result<Left, NoMemory>
+    requires now { memory.old.now ≡ frames_of_two }
+    requires held { memory.old.held ≡ [] }
+    ensures { OnOk result (memory.new.held ≡ entry choice.Branch 9 frames_of_two ∷ []) }
+{
+    branch_and_write(memory, 9, 0, 4)?;
+    let back = memory.leave()?;
+    Ok((back, memory.frames()))
+}
+
+// The frames, the routine of the last, and the cells that are live.
+fn shape(memory: &Memory) -> (u32, u32, u32) {
+    (memory.frames(), memory.routine(), memory.live_cells())
+}
+
+// Whether there was an entry to go back to, what is live then, and the first slot of each frame.
+type Revived = (bool, (u32, u32, u32), [Cell; 2]);
+
+// Goes back to where the second frame lives.
+fn revive(memory: &mut Memory) -> Revived
+    requires { memory.old.held ≡ entry choice.Branch 9 frames_of_two ∷ [] }
+{
+    let has_resumed = go_back(memory).is_some();
+    let cells = [memory.read(0, 0), memory.read(1, 0)];
+    (has_resumed, shape(memory), cells)
+}
+
+// Enters a second frame, leaves it, and goes back to it.
+fn leave_and_revive(memory: &mut Memory) -> Result<(Left, Revived), Fail>
+    requires now { memory.old.now ≡ start_frame (numbers 1) ∷ [] }
+    requires held { memory.old.held ≡ [] }
+{
+    enter_second(memory)?;
+    let left = leave_frame(memory)?;
+    Ok((left, revive(memory)))
+}
+
+// The same in a memory of one slot.
+fn left_and_revived(alloc: Global) -> Result<(Left, Revived), Fail> {
+    let mut memory = start(alloc, 1)?;
+    leave_and_revive(&mut memory)
 }
 
 #[test]
 fn a_frame_that_was_left_lives_again(rt: HostRuntime) -> Result<(), Fail> {
-    let mut memory = two_frames(rt.alloc())?;
-    branch_and_write(&mut memory, 9, 0, 4)?;
-    let back = memory.leave()?;
-    assert_eq!(rt; (back, memory.frames()), (9, 1));
-    let has_resumed = memory.fail().is_some();
-    let cells = (memory.read(0, 0), memory.read(1, 0));
-    assert_eq!(rt;
-        (
-            has_resumed,
-            memory.frames(),
-            memory.routine(),
-            memory.live_cells()
-        ),
-        (true, 2, 1, 1)
-    );
-    assert_eq!(rt; cells, (Cell::Int(0), Cell::Place(PLACE)));
+    let found = left_and_revived(rt.alloc())?;
+    let cells = [Cell::Int(0), Cell::Place(PLACE)];
+    assert_eq!(rt; found, ((9, 1), (true, (2, 1, 1), cells)));
     Ok(())
 }
 
@@ -213,90 +285,133 @@ fn keep_nine(memory: &mut Memory) -> Result<(), NoMemory>
     memory.keep(1)
 }
 
-// A memory of two number slots, in whose second a forall carries a 9.
-fn carrying(alloc: Global) -> Result<Memory, NoMemory>
-    ensures { IfOk result (λ memory. memory.held ≡ body_kept) }
+// Goes back to the branch of the range. Answers the height before, whether there was an entry, and the second slot.
+fn leave_body(memory: &mut Memory) -> (usize, bool, Cell)
+    requires { memory.old.held ≡ body_kept }
+    ensures now { memory.new.now ≡ start_frame (numbers 2) ∷ [] }
+    ensures held { memory.new.held ≡ stack_after_pop body_kept }
 {
-    let mut memory = start(alloc, 2)?;
-    enter_body(&mut memory)?;
-    keep_nine(&mut memory)?;
-    Ok(memory)
+    let height = memory.height();
+    let has_branch = go_back(memory).is_some();
+    (height, has_branch, memory.read(0, 1))
 }
 
-// Goes back to the top entry, and answers what it is.
-fn go_back(memory: &mut Memory) -> Option<Resumed>
-    requires { memory.old.held ≢ [] }
-    ensures now { memory.new.now ≡ (top_of memory.old.held).frames }
-    ensures held { memory.new.held ≡ stack_after_pop memory.old.held }
+// Lays what the forall carries, and goes back to its end. Answers the second slot between, what is resumed, the kind of
+// the entry, and the slot then.
+fn leave_range(
+    memory: &mut Memory,
+) -> Result<(Cell, Option<Resumed>, Option<ChoiceKind>, Cell), NoMemory>
+    requires now { memory.old.now ≡ start_frame (numbers 2) ∷ [] }
+    requires held { memory.old.held ≡ stack_after_pop body_kept }
+    ensures now { OnOk result (memory.new.now ≡ start_frame (numbers 2) ∷ []) }
+    ensures held { OnOk result (memory.new.held ≡ stack_after_pop (stack_after_pop body_kept)) }
 {
-    memory.fail()
+    memory.overlay(1)?;
+    let carried = memory.read(0, 1);
+    let resumed = go_back(memory);
+    Ok((carried, resumed, memory.kind_at(1), memory.read(0, 1)))
 }
+
+// Ends the forall, and answers the second slot and the height.
+fn finish_forall(memory: &mut Memory) -> Result<(Cell, usize), NoMemory>
+    requires now { memory.old.now ≡ start_frame (numbers 2) ∷ [] }
+    requires held { memory.old.held ≡ stack_after_pop (stack_after_pop body_kept) }
+{
+    memory.finish()?;
+    Ok((memory.read(0, 1), memory.height()))
+}
+
+// What a forall shows whose body writes a 9: in its range, at its end and behind it.
+type Carried = (
+    (usize, bool, Cell),
+    (Cell, Option<Resumed>, Option<ChoiceKind>, Cell),
+    (Cell, usize),
+);
+
+// Carries a 9 in the second slot through a forall.
+fn carry_nine(memory: &mut Memory) -> Result<Carried, NoMemory>
+    requires now { memory.old.now ≡ start_frame (numbers 2) ∷ [] }
+    requires held { memory.old.held ≡ [] }
+{
+    enter_body(memory)?;
+    keep_nine(memory)?;
+    let in_range = leave_body(memory);
+    let at_end = leave_range(memory)?;
+    Ok((in_range, at_end, finish_forall(memory)?))
+}
+
+// The same in a memory of two slots.
+fn forall_of_nine(alloc: Global) -> Result<Carried, NoMemory> {
+    let mut memory = start(alloc, 2)?;
+    carry_nine(&mut memory)
+}
+
+const FORALL: Resumed = Resumed {
+    kind: ChoiceKind::Forall,
+    resume: 3,
+};
 
 #[test]
 fn a_forall_carries_what_its_bodies_changed(rt: HostRuntime) -> Result<(), Fail> {
-    let mut memory = carrying(rt.alloc())?;
-    let height = memory.height();
-    let has_branch = go_back(&mut memory).is_some();
-    let cell = memory.read(0, 1);
-    assert_eq!(rt; (height, has_branch, cell), (2, true, Cell::Unknown));
-    memory.overlay(1)?;
-    let carried = memory.read(0, 1);
-    let resumed = go_back(&mut memory);
-    let forall = Resumed {
-        kind: ChoiceKind::Forall,
-        resume: 3,
-    };
-    assert_eq!(rt;
-        (carried, resumed, memory.kind_at(1), memory.read(0, 1)),
-        (
-            Cell::Int(9),
-            Some(forall),
-            Some(ChoiceKind::Done),
-            Cell::Unknown
-        )
-    );
-    memory.finish()?;
-    assert_eq!(rt; (memory.read(0, 1), memory.height()), (Cell::Int(9), 0));
+    let found = forall_of_nine(rt.alloc())?;
+    let (nine, done) = (Cell::Int(9), Some(ChoiceKind::Done));
+    let in_range = (2, true, Cell::Unknown);
+    let at_end = (nine, Some(FORALL), done, Cell::Unknown);
+    assert_eq!(rt; found, (in_range, at_end, (nine, 0)));
     Ok(())
 }
 
-// Keeps a body that changed nothing.
+// Keeps the body of a forall, which changed nothing.
 fn keep_nothing(memory: &mut Memory) -> Result<(), NoMemory>
     requires now { memory.old.now ≡ start_frame (numbers 2) ∷ [] }
-    requires held { memory.old.held ≡ in_body memory.old.now }
+    requires held { memory.old.held ≡ [] }
     ensures { OnOk result (memory.new.held ≡ nothing_kept) }
 {
+    enter_body(memory)?;
     memory.keep(1)
 }
 
-// A memory of two number slots, in which a forall carries nothing.
-fn carrying_nothing(alloc: Global) -> Result<Memory, NoMemory>
-    ensures { IfOk result (λ memory. memory.held ≡ nothing_kept) }
+// Whether there was a branch, the second slot behind it, whether there was a forall, and the slot and the height in the
+// end.
+type Laid = (bool, Cell, bool, Cell, usize);
+
+// Goes through the rest of a forall that carries nothing.
+fn lay_nothing(memory: &mut Memory) -> Result<Laid, NoMemory>
+    requires { memory.old.held ≡ nothing_kept }
 {
+    let has_branch = go_back(memory).is_some();
+    memory.overlay(1)?;
+    let laid = memory.read(0, 1);
+    let has_forall = go_back(memory).is_some();
+    memory.finish()?;
+    Ok((
+        has_branch,
+        laid,
+        has_forall,
+        memory.read(0, 1),
+        memory.height(),
+    ))
+}
+
+// Carries nothing through a forall.
+fn carry_nothing(memory: &mut Memory) -> Result<Laid, NoMemory>
+    requires now { memory.old.now ≡ start_frame (numbers 2) ∷ [] }
+    requires held { memory.old.held ≡ [] }
+{
+    keep_nothing(memory)?;
+    lay_nothing(memory)
+}
+
+// The same in a memory of two slots.
+fn forall_of_nothing(alloc: Global) -> Result<Laid, NoMemory> {
     let mut memory = start(alloc, 2)?;
-    enter_body(&mut memory)?;
-    keep_nothing(&mut memory)?;
-    Ok(memory)
+    carry_nothing(&mut memory)
 }
 
 #[test]
 fn a_forall_of_which_nothing_was_kept_lays_nothing(rt: HostRuntime) -> Result<(), Fail> {
-    let mut memory = carrying_nothing(rt.alloc())?;
-    let has_branch = go_back(&mut memory).is_some();
-    memory.overlay(1)?;
-    let laid = memory.read(0, 1);
-    let has_forall = go_back(&mut memory).is_some();
-    memory.finish()?;
-    assert_eq!(rt;
-        (
-            has_branch,
-            laid,
-            has_forall,
-            memory.read(0, 1),
-            memory.height()
-        ),
-        (true, Cell::Unknown, true, Cell::Unknown, 0)
-    );
+    let found = forall_of_nothing(rt.alloc())?;
+    assert_eq!(rt; found, (true, Cell::Unknown, true, Cell::Unknown, 0));
     Ok(())
 }
 
@@ -429,13 +544,29 @@ const KINDS: [SlotKind; 4] = [
     SlotKind::Number,
 ];
 
+// What the slots of a frame hold, what those of a frame over it hold, and the kinds of four.
+type Stripes = ([Cell; 8], [Cell; 8], [SlotKind; 4]);
+
+// Enters a frame of short runs.
+fn enter_stripes(memory: &mut Memory) -> Result<Stripes, Fail>
+    requires { memory.old.now ≡ start_frame striped ∷ [] }
+{
+    let first = cells_on_top(memory);
+    memory.enter(&Striped {}, 1, 9, &[Cell::Int(5)])?;
+    Ok((first, cells_on_top(memory), kinds_on_top(memory)))
+}
+
+// The same in a memory with such a frame.
+fn two_stripes(alloc: Global) -> Result<Stripes, Fail> {
+    let mut memory = start_striped(alloc)?;
+    enter_stripes(&mut memory)
+}
+
 #[test]
 fn a_frame_of_short_runs_is_laid_slot_by_slot(rt: HostRuntime) -> Result<(), Fail> {
-    let mut memory = start_striped(rt.alloc())?;
-    assert_eq!(rt; cells_on_top(&memory), stripes_with(Cell::Int(0)));
-    memory.enter(&Striped {}, 1, 9, &[Cell::Int(5)])?;
-    assert_eq!(rt; cells_on_top(&memory), stripes_with(Cell::Int(5)));
-    assert_eq!(rt; kinds_on_top(&memory), KINDS);
+    let found = two_stripes(rt.alloc())?;
+    let (first, second) = (stripes_with(Cell::Int(0)), stripes_with(Cell::Int(5)));
+    assert_eq!(rt; found, (first, second, KINDS));
     Ok(())
 }
 
@@ -451,13 +582,25 @@ fn visit_stripes(memory: &mut Memory, number: i64) -> Result<[Cell; 8], Fail>
     Ok(cells)
 }
 
+// Visits such a frame twice, with a number each.
+fn visit_twice(memory: &mut Memory) -> Result<([Cell; 8], [Cell; 8]), Fail>
+    requires { memory.old.now ≡ start_frame striped ∷ [] }
+{
+    let first = visit_stripes(memory, 5)?;
+    Ok((first, visit_stripes(memory, 6)?))
+}
+
+// The same in a memory with such a frame.
+fn two_visits(alloc: Global) -> Result<([Cell; 8], [Cell; 8]), Fail> {
+    let mut memory = start_striped(alloc)?;
+    visit_twice(&mut memory)
+}
+
 #[test]
 fn a_routine_that_is_called_again_finds_its_slots_blank(rt: HostRuntime) -> Result<(), Fail> {
-    let mut memory = start_striped(rt.alloc())?;
-    let first = visit_stripes(&mut memory, 5)?;
-    let second = visit_stripes(&mut memory, 6)?;
+    let found = two_visits(rt.alloc())?;
     assert_eq!(rt;
-        (first, second),
+        found,
         (stripes_with(Cell::Int(5)), stripes_with(Cell::Int(6)))
     );
     Ok(())
@@ -514,15 +657,30 @@ fn counts(memory: &Memory, slots: u32) -> (usize, u32)
     (memory.height(), count_known(memory, slots))
 }
 
+// The entries and the slots that hold a number when so many choices are made, how many are taken back, and the same
+// again.
+type Choices = ((usize, u32), u32, (usize, u32));
+
+// Makes so many choices, and takes them back.
+fn choose_and_fail(memory: &mut Memory, slots: u32, choices: u32) -> Result<Choices, NoMemory>
+    requires some { 2 ≤ slots }
+    requires slots { KeepsSlots slots memory.old }
+{
+    choose_and_write(memory, slots, choices)?;
+    let chosen = counts(memory, slots);
+    let popped = fail_often(memory, choices);
+    Ok((chosen, popped, counts(memory, slots)))
+}
+
+// The same in a memory of so many slots.
+fn many_choices(alloc: Global) -> Result<Choices, NoMemory> {
+    let mut memory = start(alloc, SLOTS)?;
+    choose_and_fail(&mut memory, SLOTS, CHOICES)
+}
+
 #[test]
 fn many_choices_are_taken_back(rt: HostRuntime) -> Result<(), Fail> {
-    let mut memory = start(rt.alloc(), SLOTS)?;
-    choose_and_write(&mut memory, SLOTS, CHOICES)?;
-    let chosen = counts(&memory, SLOTS);
-    let popped = fail_often(&mut memory, CHOICES);
-    assert_eq!(rt;
-        (chosen, popped, counts(&memory, SLOTS)),
-        ((CHOICES as usize, SLOTS - 1), CHOICES, (0, 0))
-    );
+    let found = many_choices(rt.alloc())?;
+    assert_eq!(rt; found, ((CHOICES as usize, SLOTS - 1), CHOICES, (0, 0)));
     Ok(())
 }

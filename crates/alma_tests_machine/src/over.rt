@@ -5,12 +5,13 @@ ghost use Rattle.alma_code.specs.Plain.{head_at};
 ghost use Rattle.alma_object.specs.View.{head_of_view};
 ghost use Rattle.alma_verify.specs.Verified.{code_of_verified};
 
+use crate::machine::{next_step, opened};
 use alma_base::NoMemory;
 use alma_code::End;
 use alma_machine::{CodeView, Machine, Step};
 use alma_memory::Memory;
-use alma_object::{ObjectView, RoutineView};
-use alma_verify::{Verified, verify};
+use alma_object::RoutineView;
+use alma_verify::Verified;
 use std::alloc::Global;
 use std::test::Fail;
 
@@ -48,18 +49,38 @@ fn body_memory<'b>(
     Memory::new(alloc, head)
 }
 
+// Whether a machine runs, the address of its last instruction, its steps, and the height of its memory.
+type Standing = (bool, u32, u64, usize);
+
+// How a machine stands.
+fn standing(machine: &Machine<'_, '_>) -> Standing {
+    (
+        machine.is_running(),
+        machine.at(),
+        machine.steps(),
+        machine.memory().height(),
+    )
+}
+
+// The next step of a machine, and how it stands then.
+fn step_once(machine: &mut Machine<'_, '_>) -> Result<(Option<Step>, Standing), NoMemory> {
+    let step = next_step(machine)?;
+    Ok((step, standing(machine)))
+}
+
+// The first step of the code over a memory that is handed to the machine.
+fn first_step(alloc: Global, code: Verified<'_>) -> Result<(Option<Step>, Standing), NoMemory> {
+    let head = body_head(&code);
+    let memory = body_memory(alloc, &code, &head)?;
+    let mut machine = Machine::over(alloc, code, b"", memory);
+    step_once(&mut machine)
+}
+
 #[test]
 fn a_module_that_only_returns_succeeds_at_once(rt: HostRuntime) -> Result<(), Fail> {
-    let view = ObjectView::new(&RETURNS).ok().ok_or("object")?;
-    let code = verify(view).ok().ok_or("sound")?;
-    let head = body_head(&code);
-    let memory = body_memory(rt.alloc(), &code, &head)?;
-    let mut machine = Machine::over(rt.alloc(), code, b"", memory);
-    assert!(rt; machine.is_running());
-    assert!(rt; machine.steps() < 99);
-    assert_eq!(rt; machine.step()?, Step::Done(End::Succeeded));
-    assert!(rt; !machine.is_running());
-    assert_eq!(rt; (machine.at(), machine.steps()), (0, 1));
-    assert_eq!(rt; machine.memory().height(), 0);
+    let code = opened(&RETURNS).ok_or("sound")?;
+    let found = first_step(rt.alloc(), code)?;
+    let step = Step::Done(End::Succeeded);
+    assert_eq!(rt; found, (Some(step), (false, 0, 1, 0)));
     Ok(())
 }
