@@ -15,7 +15,8 @@ use Rattle.alma_lower_slots.specs.Slots.{slots_from, reads, written, away, body_
 use Rattle.alma_lower_slots.specs.Sharing.{names_own, begins_own}
 use Rattle.alma_lower_slots.specs.Stretches.{own_count, stretch_at}
 use Rattle.alma_lower_slots.specs.Inner.Checks.{matters_at, mark_of, IsAmong, no_sources, AreSources, Encloses}
-use Rattle.alma_lower_slots.specs.Inner.Checks.{NotesJump, begin_of, AreApart, WritesIn, IsCalm, FitsSlot, StayTogether, FitsFlow, FitsInstr}
+use Rattle.alma_lower_slots.specs.Inner.Checks.{NotesJump, begin_of, AreApart, WritesIn, IsCalm, FitsSlot}
+use Rattle.alma_lower_slots.specs.Inner.Checks.{StayTogether, FitsFlow, FitsInstr}
 use Rattle.alma_lower_slots.specs.Inner.Checks.{NotesMark, AreMarks, IsClear, ClearBodies, Takes, Rise}
 
 -- the first of some slots, and the others

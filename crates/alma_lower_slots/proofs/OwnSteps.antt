@@ -161,7 +161,8 @@ module _ (s : Sharing) where
 
     module _ (input : List ℕ) (shares : (r : ℕ) → r < length code.routines → SharesIn code s r) where
       -- what an instruction does: one clause for each form
-      act_own : (i : Instr) (r at : ℕ) (t : State) → Here code r at t → Obeys code r at i → names_own s.own (kinds_at code r) r i ≡ true → OwnState s t
+      act_own : (i : Instr) (r at : ℕ) (t : State) → Here code r at t → Obeys code r at i
+          → names_own s.own (kinds_at code r) r i ≡ true → OwnState s t
           → Own s (act code input i t)
       unfolding act rule_5 rule_6 words names_own
       act_own (I.Const a v) r at t here o n h = put_number_own s t a v h
