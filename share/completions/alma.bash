@@ -1,6 +1,8 @@
 # Completion of alma for bash: source this file, or put it into bash-completion's folder under the name alma.
-# The faults of docs/FAULTS.md beside the script.
-_alma_faults() {
+# What `help` tells: the faults of docs/FAULTS.md beside the script, commands, pages, and words of the language.
+_alma_topics() {
+  echo check run trace compile list exec sample all link pool back why replay tutorial idioms language commands faults
+  echo EITHER ORELSE SOME FORALL COMMIT NOT KNOWN FOR WHILE REPEAT CASE IF VAR MIX READ WRITE WRITELN RETURN DIV MOD ORD CHR
   sed -n 's/^### \([A-Za-z]*\).*/\1/p' "$(dirname "$(readlink -f "$(command -v "${COMP_WORDS[0]}")")")/docs/FAULTS.md" 2>/dev/null
 }
 
@@ -24,7 +26,13 @@ _alma() {
   2,link) mapfile -t COMPREPLY < <(compgen -W 'run compile' -- "$word") ;;
   *,link) mapfile -t COMPREPLY < <(compgen -o plusdirs -f -X '!*.al' -- "$word") ;;
   2,list | 2,exec | 3,compile | *,pool | 2,back | 3,back) mapfile -t COMPREPLY < <(compgen -f -- "$word") ;;
-  2,help) mapfile -t COMPREPLY < <(compgen -W "$(_alma_faults)" -- "$word") ;;
+  2,help) mapfile -t COMPREPLY < <(compgen -W "$(_alma_topics)" -- "$word") ;;
+  *,replay)
+    case ${COMP_WORDS[COMP_CWORD - 1]} in
+    --input | -o) mapfile -t COMPREPLY < <(compgen -f -- "$word") ;;
+    *) mapfile -t COMPREPLY < <(compgen -W "$(_alma_options --input --steps= -o)" -- "$word") ;;
+    esac
+    ;;
   *,run | *,exec) mapfile -t COMPREPLY < <(compgen -W "$(_alma_options --steps= --stats)" -- "$word") ;;
   *,all) mapfile -t COMPREPLY < <(compgen -W "$(_alma_options --steps=)" -- "$word") ;;
   *,trace) mapfile -t COMPREPLY < <(compgen -W "$(_alma_options --steps= --watch=)" -- "$word") ;;
