@@ -24,7 +24,8 @@ returns-then-number-range-clause-ok g c =
     let r = c.args.range.now in
     let v = c.in-Number.number in
     let out : within r v ≡ false = search (rules, ranges) in
-    c.end-then-number-range.ensures.step ∙ sym (ap (takes_read s r c.args.place) c.in-Number.is ∙ took_out s r c.args.place v c.in-Number.behind out)
+    c.end-then-number-range.ensures.step ∙ sym (ap (takes_read s r c.args.place) c.in-Number.is
+    ∙ took_out s r c.args.place v c.in-Number.behind out)
 
 pub returns-in-Ok-write-clause-ok : goal.returns-in-Ok-write-clause-ok
 returns-in-Ok-write-clause-ok g c =

@@ -33,5 +33,6 @@ returns-in-Ok-number-clause-ok g c =
     ok_is c.bind_to.result [] (state_of g.M.MachineMemory.picture c.bind_to.new.self)
     (content s p.frame p.slot (λ u. binds_content s p r (to_z w64 (of_z w64 v)) u))
     (place s c.args.to (λ p. number s c.args.value (λ v. content s p.frame p.slot (λ u. binds_content s p r v u)))) c.bind_to.ensures.ok
-    (ap (λ n. content s p.frame p.slot (λ u. binds_content s p r n u)) (to_z-of_z w64 v (search rules)) ∙ sym (c.in-Ok.ensures.1 s (λ p. number s c.args.value (λ v. content s p.frame p.slot (λ u. binds_content s p r v u))) refl
+    (ap (λ n. content s p.frame p.slot (λ u. binds_content s p r n u)) (to_z-of_z w64 v (search rules))
+    ∙ sym (c.in-Ok.ensures.1 s (λ p. number s c.args.value (λ v. content s p.frame p.slot (λ u. binds_content s p r v u))) refl
     ∙ c.in-Ok-number.ensures s (λ v. content s p.frame p.slot (λ u. binds_content s p r v u)) refl))
