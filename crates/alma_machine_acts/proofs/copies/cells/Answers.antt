@@ -11,3 +11,8 @@ loop-k-preserved g c =
     let k = c.loop-k.k in
     c.in_ok-push.ensures.items ∙ ap (λ xs. xs ++ (c.read.result ∷ [])) c.loop-k.invariant
     ∙ ap (λ x. cells_from now f i k ++ (x ∷ [])) c.read.ensures ∙ read_more now f i k
+
+pub read-requires : goal.read-requires
+read-requires g c =
+    let h = c.requires.each c.loop-k.k c.loop-k-test.true in
+    record { live = h.live; slot_of = h.below }
