@@ -116,12 +116,12 @@ abbrev pub AreCounts : (stats : Bool) → Option Counts → Type 0
 AreCounts false counts = counts ≡ None
 AreCounts true counts = (told : Counts) × (counts ≡ Some told)
 
--- the end of a call whose run shows this end of the meaning, with counts; where the meaning is cut off the steps ran out
-abbrev pub meant_end : events.End → Option Counts → End
-meant_end events.Succeeded counts = Succeeded counts
-meant_end events.Failed counts = Failed counts
+-- the end of a call that tells this end of the meaning, with counts; where the meaning is cut off the steps ran out
+abbrev pub told_end : events.End → Option Counts → End
+told_end events.Succeeded counts = Succeeded counts
+told_end events.Failed counts = Failed counts
 meant_end (events.Faulted fault line) counts = Faulted fault line counts
-meant_end events.CutOff counts = StepsOut counts
+told_end events.CutOff counts = StepsOut counts
 
 -- What the meaning of a program says of such a run on an input: its prints and its end, or a front of them.
 pub record MeansOn (p : Program) (input : List ℕ) (steps : ℕ) (stats : Bool) (due : Due) : Type 0 where
@@ -129,7 +129,7 @@ pub record MeansOn (p : Program) (input : List ℕ) (steps : ℕ) (stats : Bool)
   pub shows : Shows p input steps due.out end
   pub counts : Option Counts
   pub counted : AreCounts stats counts
-  pub ends : due.end ≡ meant_end end counts
+  pub ends : due.end ≡ told_end end counts
 
 -- the input on which a run goes, by whether it is read
 abbrev pub IsTaken : Option (List ℕ) → (reads : Bool) → List ℕ → Type 0
