@@ -120,7 +120,7 @@ AreCounts true counts = (told : Counts) × (counts ≡ Some told)
 abbrev pub told_end : events.End → Option Counts → End
 told_end events.Succeeded counts = Succeeded counts
 told_end events.Failed counts = Failed counts
-meant_end (events.Faulted fault line) counts = Faulted fault line counts
+told_end (events.Faulted fault line) counts = Faulted fault line counts
 told_end events.CutOff counts = StepsOut counts
 
 -- What the meaning of a program says of such a run on an input: its prints and its end, or a front of them.
