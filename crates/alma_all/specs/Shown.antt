@@ -1,24 +1,31 @@
 -- What a call shows of the alternatives of a program, in the words of a reader of its meaning.
-use Rattle.std.specs.Prelude.{◌≡◌, ◌<◌, ◌≤◌, ◌+◌, ◌*◌, ◌/◌, ℕ, suc, false, List, length, codes}
-use Rattle.alma_base.specs.Limits.{input_limit}
+use Rattle.std.specs.Prelude.{◌≡◌, ◌<◌, ◌≤◌, ◌+◌, ◌*◌, ◌/◌, ℕ, suc, Bool, true, false, List, [], ◌∷◌, length, codes, Some}
+use Rattle.alma_base.specs.Limits.{input_limit, size_limit, source_limit}
+use Rattle.alma_driver_words.specs.Words.{default_steps}
+use Rattle.alma_io.specs.Files.{Has}
 use Rattle.alma_ir.specs.Checked.{IsChecked, HaveNoReturn}
 use Rattle.alma_ir.specs.Tree.{Program, routine_at}
 use Rattle.alma_lower_implements.specs.Implements.{Covers}
-use Rattle.alma_mean.specs.Events.{End, Succeeded, Failed, Faulted, CutOff, first, visit_count}
+use Rattle.alma_lower_sound.specs.Reads.{program_reads}
+use Rattle.alma_mean.specs.Events.{End, CutOff, first, visit_count}
 use Rattle.alma_mean.specs.Laws.{IsPrefix, ends_in_cut}
 use Rattle.alma_mean.specs.Meaning.{ev_program}
 use Rattle.alma_listing.specs.Lister.{listing_of}
 use Rattle.alma_listing.specs.Listing.{alternatives, global_cells, listed, listing}
-use Rattle.alma_plan.specs.Plan.{Due, Ending, success, tells}
-use Rattle.alma_plan_run.specs.Programs.{Runs, fault_words}
-use Rattle.alma_all.specs.All.{program, all_sense}
+use Rattle.alma_plan.specs.Outside.{Outside}
+use Rattle.alma_plan.specs.Plan.{Due, Ending, silent, success, tells}
+use Rattle.alma_plan.specs.Words.{is_file_name}
+use Rattle.alma_plan_run.specs.Meant.{meant_ending}
+use Rattle.alma_plan_run.specs.Programs.{Runs, refused, too_much_code}
+use Rattle.alma_plan_run.specs.Undisturbed.{ShowsDue}
+use Rattle.alma_run_laws.specs.Shown.{size_of}
+use Rattle.alma_source.specs.Refusal.{IsProgramOf, IsRefused, place_of}
+use Rattle.alma_source.specs.declared.fault.SourceFault.{SourceFault}
+use Rattle.alma_all.specs.All.{program, all_sense, body_returns, steps_in}
 
 -- how a call ends behind all alternatives: where these close in a failure that is success, and a fault is told with its line
 abbrev pub listing_end : End → Ending
-listing_end Succeeded = success
-listing_end Failed = success
-listing_end (Faulted fault line) = tells program 4 (fault_words fault line)
-listing_end CutOff = tells program 5 (codes "steps out")
+listing_end end = meant_ending program success end
 
 -- how many visits listing costs at most: those of the program, and for each alternative 128 times one more than cells and variables
 abbrev pub most_visits : (level : ℕ) → Program → (input : List ℕ) → ℕ
@@ -46,3 +53,39 @@ abbrev pub ListsEveryAlternative : Type 0
 ListsEveryAlternative =
     (p : Program) (input : List ℕ) (steps : ℕ) (due : Due) → IsChecked p → HaveNoReturn (routine_at p 0).body → length input ≤ input_limit
     → all_sense.means (Runs (listing_of p) input steps) due → IsListed p input steps due
+
+-- ---- whole calls
+
+-- the words ask for the alternatives of the program of this file, in so many steps
+pub data AsksToList (words : List (List ℕ)) (file : List ℕ) (steps : ℕ) : Type 0 where
+  plain : words ≡ file ∷ [] → steps ≡ default_steps → AsksToList words file steps
+  within : (option : List ℕ) → words ≡ file ∷ option ∷ [] → steps_in option ≡ Some steps → AsksToList words file steps
+
+-- that file has this source, and where its program reads, this input is left; both are within their lengths
+pub record ListsSource (words : List (List ℕ)) (before : Outside) (file source input : List ℕ) (steps : ℕ) : Type 0 where
+  pub named : is_file_name file ≡ true
+  pub asks : AsksToList words file steps
+  pub told : before.files.told file ≡ Has source
+  pub source_short : length source ≤ source_limit
+  pub left : (p : Program) → IsProgramOf source p → program_reads p ≡ true → before.input.left ≡ Some input
+  pub input_short : length input ≤ input_limit
+
+-- What such a call shows, where nothing fails.
+pub data ListEnds (file source input : List ℕ) (steps : ℕ) (before after : Outside) (status : ℕ) : Type 0 where
+  -- the source has this fault at this place, and no other: it is refused for that
+  refuses : (fault : SourceFault) (offset : ℕ) → IsRefused source fault offset
+      → ((other : SourceFault) (place : ℕ) → IsRefused source other place → (fault ≡ other) × (offset ≡ place))
+      → ShowsDue before after status (silent (refused file fault (place_of source offset)))
+      → ListEnds file source input steps before after status
+  -- a RETURN stands in the body of the program's module
+  returns : (p : Program) → IsProgramOf source p → body_returns p ≡ true
+      → ShowsDue before after status (silent (tells program 13 (codes "ModuleReturn")))
+      → ListEnds file source input steps before after status
+  -- the program that lists the alternatives is too large
+  too_large : (p : Program) → IsProgramOf source p → body_returns p ≡ false → size_limit < size_of (listing_of p)
+      → ShowsDue before after status (silent (too_much_code program (listing_of p)))
+      → ListEnds file source input steps before after status
+  -- else its alternatives are listed, or a front of them
+  lists : (p : Program) (due : Due) → IsProgramOf source p → body_returns p ≡ false → size_of (listing_of p) ≤ size_limit
+      → IsListed p input steps due → ShowsDue before after status due
+      → ListEnds file source input steps before after status

@@ -1,5 +1,10 @@
 //! Laws of what is listed: functions without work, whose contracts are the laws.
-ghost use Rattle.alma_all.specs.Shown.{ListsEveryAlternative};
+ghost use Rattle.std.specs.Prelude.{List, ℕ};
+ghost use Rattle.alma_plan.specs.Causes.{Causes};
+ghost use Rattle.alma_plan.specs.Outside.{Outside};
+ghost use Rattle.alma_plan_run.specs.Undisturbed.{IsUndisturbed};
+ghost use Rattle.alma_all.specs.All.{program, all_plan, all_sense};
+ghost use Rattle.alma_all.specs.Shown.{ListEnds, ListsEveryAlternative, ListsSource};
 
 /// Where a call lists the alternatives of a program on an input, it prints what the meaning of the program prints, and the
 /// line of each of its alternatives, in their order, and ends behind them as the meaning does; or its steps ran out, and
@@ -8,4 +13,15 @@ ghost use Rattle.alma_all.specs.Shown.{ListsEveryAlternative};
 /// the number of its variables.
 pub fn every_alternative_is_listed()
     ensures listed { ListsEveryAlternative }
+{}
+
+/// A call that lists the alternatives of a source, where memory is found and nothing fails outside, refuses the source for its one
+/// stated fault, for a RETURN in the body of its module, or for the size of the program that lists them; or it lists its
+/// alternatives, or a front of them where the steps ran out.
+pub fn a_call_lists_the_alternatives_of_its_source()
+    ensures shown { (words : List (List ℕ)) (file source input : List ℕ) (steps : ℕ)
+        (before after : Outside) (status : ℕ) → ListsSource words before file source input steps
+        → Causes all_sense program (all_plan words) before after status
+        → IsUndisturbed before after status
+        → ListEnds file source input steps before after status }
 {}

@@ -6,25 +6,28 @@ use Rattle.alma_ir.specs.Tree.{Program}
 use Rattle.alma_mean.specs.Events.{End, Succeeded, Failed, Faulted, CutOff, first}
 use Rattle.alma_mean.specs.Meaning.{ev_program, result}
 use Rattle.alma_lower_implements.specs.Implements.{Covers}
+use Rattle.alma_lower_sound.specs.Reads.{program_reads}
 use Rattle.alma_driver_words.specs.Words.{Asks, Run, file_of}
 use Rattle.alma_io.specs.Sides.{SourceSide}
 use Rattle.alma_driver_outcome.specs.Outside.{Outside}
 use Rattle.alma_driver_outcome.specs.Causes.{ReadFailed, WriteFailed}
 use Rattle.alma_driver_outcome.specs.Course.{Gains}
 use Rattle.alma_driver_outcome.specs.Ends.{counts_text, fault_text, text_of}
-use Rattle.alma_driver_outcome.specs.Outcome.{size_of, AreCounts, MayRunOut}
+use Rattle.alma_driver_outcome.specs.Outcome.{AreCounts}
+use Rattle.alma_run_laws.specs.Shown.{size_of, MayRunOut}
 use Rattle.alma_source.specs.Refusal.{IsRefused, IsProgramOf, place_of}
 use Rattle.alma_source.specs.declared.fault.SourceFault.{SourceFault}
 use Rattle.alma_driver_outcome.specs.declared.end.Counts.{Counts}
 use Rattle.alma_driver_outcome.specs.declared.end.End.TheVariants.{Refused, StepsOut, TooMuchCode}
 
--- the words ask to run a file that has this source, for so many steps, where this input is left; both are within their lengths
+-- the words ask to run a file that has this source, for so many steps; and where its program reads, this input is left; both are within
+-- their lengths
 pub record AsksToRun (words : List (List ℕ)) (before : Outside) (source input : List ℕ) (steps : ℕ) (stats : Bool) : Type 0 where
   pub name : List ℕ
   pub asks : Asks words (Run name steps stats)
   pub told : before.files.told name ≡ Has source
   pub source_short : length source ≤ source_limit
-  pub left : before.input.left ≡ Some input
+  pub left : (p : Program) → IsProgramOf source p → program_reads p ≡ true → before.input.left ≡ Some input
   pub input_short : length input ≤ input_limit
 
 -- no count of faults rose in the call, and memory was found

@@ -1,13 +1,10 @@
 -- What a call comes to where memory is found and nothing fails, layer by layer.
-use Rattle.std.specs.Prelude.{◌≡◌, ◌<◌, ◌≤◌, ◌+◌, ◌*◌, ◌/◌, ◌⊎◌, suc, Bool, true, false, List, ℕ, [], length, Option, None, Some}
+use Rattle.std.specs.Prelude.{◌≡◌, ◌<◌, ◌≤◌, ◌⊎◌, Bool, true, false, List, ℕ, [], length, Option, None, Some}
 use Rattle.alma_base.specs.Limits.{size_limit, input_limit}
 use Rattle.alma_io.specs.Files.{Told, Missing, MayHave, MayPass}
 use Rattle.alma_io.specs.Whole.{MayHaveMore}
 use Rattle.alma_ir.specs.Tree.{Program}
-use Rattle.alma_ir.specs.Count.{saturate, nodes}
-use Rattle.alma_mean.specs.Events.{first, end_of, visit_count, CutOff}
-use Rattle.alma_mean.specs.Meaning.{ev_program, result}
-use Rattle.alma_code.specs.declared.step.End as code
+use Rattle.alma_mean.specs.Events as events
 use Rattle.alma_code.specs.declared.step.VerifyFault.{VerifyFault}
 use Rattle.alma_code.specs.ListText.{list_text}
 use Rattle.alma_code.specs.Plain.{PlainCode}
@@ -22,21 +19,18 @@ use Rattle.alma_verify.specs.Bytes.{object_code}
 use Rattle.alma_driver_words.specs.Sample.{sample_text}
 use Rattle.alma_lower_sound.specs.Reads.{program_reads}
 use Rattle.alma_lower.specs.Names.{KeepsNames}
-use Rattle.alma_lower_implements.specs.Implements.{Implements, Covers, meant_end, state_after, line_in}
+use Rattle.alma_lower_implements.specs.Implements.{Implements, state_after, line_in}
+use Rattle.alma_run_laws.specs.Shown.{Shows, size_of}
 use Rattle.alma_driver_words.specs.Words.{Request, Check, Compile, Listing, Run, Exec, Trace, Sample, Asks, IsBadWord, default_steps}
 use Rattle.alma_driver_outcome.specs.Words.{read_by, limit_of, IsReadBy}
 use Rattle.alma_driver_outcome.specs.Showing.{Showing, Prints, Traces, counts_shown, text_shown}
-use Rattle.alma_driver_outcome.specs.Ends.{ended_end, mode_end, counts_in, status_of, sample_line}
+use Rattle.alma_driver_outcome.specs.Ends.{mode_end, counts_in, status_of, sample_line}
 use Rattle.alma_source.specs.Refusal.{IsRefused, IsProgramOf, place_of}
 use Rattle.alma_source.specs.declared.fault.SourceFault.{SourceFault}
 use Rattle.alma_driver_outcome.specs.declared.end.Counts.{Counts}
 use Rattle.alma_driver_outcome.specs.declared.end.End.{End}
-use Rattle.alma_driver_outcome.specs.declared.end.End.TheVariants.{Succeeded, BadWord, Refused, StepsOut, ReadFault, Memory, BadObject}
-use Rattle.alma_driver_outcome.specs.declared.end.End.TheVariants.{BadCode, TooLong, TooMuchCode}
-
--- the size of a program, by which its code is limited
-abbrev pub size_of : Program → ℕ
-size_of p = saturate (16 * nodes p)
+use Rattle.alma_driver_outcome.specs.declared.end.End.TheVariants.{Succeeded, Failed, Faulted, BadWord, Refused, StepsOut, ReadFault}
+use Rattle.alma_driver_outcome.specs.declared.end.End.TheVariants.{Memory, BadObject, BadCode, TooLong, TooMuchCode}
 
 -- bytes under the name of a file
 pub record Stored : Type 0 where
@@ -116,26 +110,25 @@ pub data CompileOutcome (p : Program) (object : List ℕ) (due : Due) : Type 0 w
 
 -- ---- the same by the meaning alone
 
--- So many steps may not be enough for the meaning of the program: at 32 steps for each visit, and 32 more, they would be.
-abbrev pub MayRunOut : Program → (input : List ℕ) → (steps : ℕ) → Type 0
-MayRunOut p input steps =
-    (level : ℕ) → (end_of (first (ev_program level p input)) ≡ CutOff → ⊥)
-    → steps < 32 * (visit_count (first (ev_program level p input)) + 1)
-
 -- counts are told where they are asked for
 abbrev pub AreCounts : (stats : Bool) → Option Counts → Type 0
 AreCounts false counts = counts ≡ None
 AreCounts true counts = (told : Counts) × (counts ≡ Some told)
 
--- What the meaning of a program says of such a run on an input: its result, a fault at the line where it comes, or a front
--- of its prints that covers one visit for each 32 steps.
-pub data MeansOn (p : Program) (input : List ℕ) (steps : ℕ) (stats : Bool) (due : Due) : Type 0 where
-  whole : (printed : List ℕ) (end : code.End) (line : ℕ) (counts : Option Counts) → AreCounts stats counts
-      → result (suc steps) p input ≡ (printed, meant_end end line) → due.end ≡ ended_end end line counts → due.out ≡ printed
-      → MeansOn p input steps stats due
-  front : (printed : List ℕ) (counts : Option Counts) → AreCounts stats counts
-      → Covers (first (ev_program (suc steps) p input)) printed (steps / 32)
-      → MayRunOut p input steps → due.end ≡ StepsOut counts → due.out ≡ printed → MeansOn p input steps stats due
+-- the end of a call that tells this end of the meaning, with counts; where the meaning is cut off the steps ran out
+abbrev pub told_end : events.End → Option Counts → End
+told_end events.Succeeded counts = Succeeded counts
+told_end events.Failed counts = Failed counts
+told_end (events.Faulted fault line) counts = Faulted fault line counts
+told_end events.CutOff counts = StepsOut counts
+
+-- What the meaning of a program says of such a run on an input: its prints and its end, or a front of them.
+pub record MeansOn (p : Program) (input : List ℕ) (steps : ℕ) (stats : Bool) (due : Due) : Type 0 where
+  pub end : events.End
+  pub shows : Shows p input steps due.out end
+  pub counts : Option Counts
+  pub counted : AreCounts stats counts
+  pub ends : due.end ≡ told_end end counts
 
 -- the input on which a run goes, by whether it is read
 abbrev pub IsTaken : Option (List ℕ) → (reads : Bool) → List ℕ → Type 0

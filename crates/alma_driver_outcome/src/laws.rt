@@ -2,7 +2,7 @@
 ghost use Rattle.std.specs.Prelude.{◌≡◌, ◌≤◌, ◌+◌, ◌*◌, Bool, List, ℕ, Option, Some, map};
 ghost use Rattle.alma_base.specs.Limits.{size_limit};
 ghost use Rattle.alma_source.specs.Refusal.{IsProgramOf};
-ghost use Rattle.alma_driver_outcome.specs.Outcome.{Due, Stored, size_of, ProgramOutcome, CompileOutcome, SourceOutcome, Meant, ListOutcome, ExecOutcome};
+ghost use Rattle.alma_driver_outcome.specs.Outcome.{Due, Stored, ProgramOutcome, CompileOutcome, SourceOutcome, Meant, ListOutcome, ExecOutcome};
 ghost use Rattle.alma_driver_outcome.specs.Causes.{Causes};
 ghost use Rattle.alma_driver_outcome.specs.Headline.{AsksToRun, IsUndisturbed, IsInputLeft, RunEnds, ShowsResult};
 ghost use Rattle.alma_driver_outcome.specs.Stored.{SpellsCodeOf};
@@ -14,6 +14,7 @@ ghost use Rattle.alma_code.specs.Machine.{State};
 ghost use Rattle.alma_code.specs.TraceText.{watched_words};
 ghost use Rattle.alma_ir.specs.Tree as tree;
 ghost use Rattle.alma_lower_sound.specs.Reads.{program_reads};
+ghost use Rattle.alma_run_laws.specs.Shown.{size_of};
 ghost use Rattle.alma_driver_outcome.specs.Outside.{Outside};
 ghost use Rattle.alma_driver_outcome.specs.Showing.{Prints};
 ghost use Rattle.alma_ir.specs.Tree.{Program};
@@ -66,7 +67,8 @@ pub fn a_trace_shows_the_variables_of_its_source()
         → (plain.routine_at code r).name ≡ (tree.routine_at p r).name }
 {}
 
-/// A run of a source on an input, where memory is found and nothing fails outside, refuses the source for its one stated fault, or for
+/// A run of a source on an input, which is told where its program has a READ, and any other one elsewhere, where memory is found and
+/// nothing fails outside, refuses the source for its one stated fault, or for
 /// its size; or prints what its program means and ends in its success, failure or fault; or its steps ran out, and it printed
 /// a front of that, which covers one visit for each 32 steps.
 pub fn a_run_shows_what_its_source_means()

@@ -1,3 +1,4 @@
 pub mod Words
 pub mod Link
+pub mod Shown
 pub mod Ends

@@ -1,5 +1,6 @@
 -- What a call of the program comes to: its plan.
 use Rattle.std.specs.Prelude.{◌-◌, ℕ, List, [], ◌∷◌, ◌++◌, codes, decimal, get_or, Option, None, Some, Result, Ok, Err}
+use Rattle.alma_driver_words.specs.Words.{default_steps}
 use Rattle.alma_ir.specs.Tree.{Program, routine_at}
 use Rattle.alma_join.specs.Joined.{JoinFault, Missing, Twice, HeadDiffers, TooLarge, join_fault, joined}
 use Rattle.alma_plan.specs.Plan.{Ending, Plan, Ends, ending_of, silent, tells, bad_word}
@@ -14,10 +15,6 @@ program = codes "alma_link"
 -- how a run ends that fails
 abbrev pub failed : Ending
 failed = ending_of 1 []
-
--- the greatest number of steps of a run
-abbrev pub default_steps : ℕ
-default_steps = 1000000000
 
 -- ---- faults of modules
 

@@ -2,6 +2,7 @@
 #![tactic(auto)]
 
 mod end;
+pub mod laws;
 mod main_call;
 mod serve;
 mod words;

@@ -14,6 +14,7 @@ ghost use Rattle.alma_link.specs.Words.{greatest_files};
 
 use crate::end::LinkEnd;
 use crate::words::{Task, request_of};
+use alma_driver_words::DEFAULT_STEPS;
 use alma_io::{Files, Sink, Source};
 use alma_ir::Program;
 use alma_join::join;
@@ -21,9 +22,6 @@ use alma_plan::{Stop, split_word};
 use alma_plan_run::{FileStop, ProgramEnd, run_program, store_program};
 use alma_unit::read_unit;
 use std::alloc::Global;
-
-// The greatest number of steps of a run.
-const DEFAULT_STEPS: u64 = 1_000_000_000;
 
 // Does with the joined program what is asked for.
 fn perform_task<F: Files, I: Source, O: Sink>(

@@ -4,3 +4,5 @@ mod Sizes
 mod Storing
 pub mod Sources
 pub mod Owns
+pub mod MeantLemmas
+pub mod UndisturbedLemmas

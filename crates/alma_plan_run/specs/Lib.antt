@@ -1,2 +1,4 @@
 pub mod Programs
+pub mod Meant
+pub mod Undisturbed
 pub mod Ends

@@ -1,5 +1,5 @@
 -- What programs come to that are read from files: plans of sources, of runs, and of objects.
-use Rattle.std.specs.Prelude.{◌≡◌, ℕ, ◌*◌, ◌++◌, List, [], Bool, true, false, ltb, codes, decimal, Option, None, Some}
+use Rattle.std.specs.Prelude.{◌≡◌, ℕ, ◌++◌, List, [], Bool, true, false, ltb, codes, decimal, Option, None, Some}
 use Rattle.alma_base.specs.Fault.{run_fault_text}
 use Rattle.alma_base.specs.Limits.{source_limit, size_limit}
 use Rattle.alma_base.specs.declared.place.Place.{Place}
@@ -11,13 +11,13 @@ use Rattle.alma_code.specs.Machine.{Mode, Going, Failing, Ended, Stuck}
 use Rattle.alma_code.specs.Plain.{PlainCode}
 use Rattle.alma_code.specs.Reads.{code_reads}
 use Rattle.alma_code.specs.Rules.{IsSound}
-use Rattle.alma_ir.specs.Count.{saturate, nodes}
 use Rattle.alma_ir.specs.Tree.{Program}
 use Rattle.alma_lower.specs.Names.{KeepsNames}
 use Rattle.alma_lower_implements.specs.Implements.{Implements, state_after, printed_by, line_in}
 use Rattle.alma_lower_sound.specs.Reads.{program_reads}
 use Rattle.alma_object.specs.Fields.{FitsFields}
 use Rattle.alma_object_format.specs.Object.{IsObject}
+use Rattle.alma_run_laws.specs.Shown.{size_of}
 use Rattle.alma_source.specs.Texts.{refusal_text}
 use Rattle.alma_source.specs.Verdict.{Verdict, Accepted, Rejected, IsVerdict}
 use Rattle.alma_source.specs.declared.fault.SourceFault.{SourceFault}
@@ -94,10 +94,6 @@ module _ (program : List ℕ) (failed : Ending) where
   sense = record { judged = IsVerdict; means = Means }
 
 -- ---- plans
-
--- the size of a program, by which its code is limited
-abbrev pub size_of : Program → ℕ
-size_of p = saturate (16 * nodes p)
 
 -- the end of a program that is too large
 abbrev pub too_much_code : (program : List ℕ) → Program → Ending
