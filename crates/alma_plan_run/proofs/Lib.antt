@@ -4,3 +4,4 @@ mod Sizes
 mod Storing
 pub mod Sources
 pub mod Owns
+pub mod ToldLemmas
