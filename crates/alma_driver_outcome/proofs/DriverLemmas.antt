@@ -1,10 +1,8 @@
 -- From what the parts of a call ensure to how the call may go.
 use Rattle.std.proofs.lemmas.List.{append-nil}
 use Rattle.std.proofs.Common.{◌+◌, ◌++◌, ◌≡◌, ◌≤◌, ◌<◌, ◌^◌, ◌∙◌, ℕ, List, [], length, ap, sym, subst, refl, inl, inr, arith}
-use Rattle.std.specs.Prelude.{◌⊎◌, Bool, true, false, Option, Result, Ok, Err, None, Some}
+use Rattle.std.specs.Prelude.{◌⊎◌, Bool, true, false, Option, Result, Err, None, Some}
 use Rattle.std.specs.Global.{Vec}
-use Rattle.std.specs.Str.{bytes_eq}
-use Rattle.std.proofs.lemmas.Slice.Eq.{bytes_eq-Decides}
 use Rattle.std.proofs.lemmas.Bool.{cases_lt}
 use Rattle.alma_base.specs.Limits.{size_limit, input_limit}
 use Rattle.std.specs.Io.KnownBytes.{Consumes, IsAtEnd}
@@ -19,7 +17,6 @@ use Rattle.alma_io.specs.declared.files.StoreFault.{StoreFault}
 use Rattle.alma_io.specs.declared.files.StoreFault.TheVariants as store
 use Rattle.alma_io.proofs.Known.{appends_none}
 use Rattle.alma_ir.specs.Tree.{Program}
-use Rattle.alma_code.specs.declared.code.Code.{Code}
 use Rattle.alma_code.specs.ListText.{list_text}
 use Rattle.alma_code.specs.Plain.{PlainCode}
 use Rattle.alma_code.specs.Reads.{code_reads}
@@ -36,6 +33,9 @@ use Rattle.alma_lower.specs.Names.{KeepsNames}
 use Rattle.alma_lower.specs.declared.lowering.LowerError.TheVariants as lower
 use Rattle.alma_lower_implements.specs.Implements.{Implements}
 use Rattle.alma_lower_sound.specs.Reads.{program_reads}
+use Rattle.alma_run_laws.specs.Shown.{size_of}
+use Rattle.alma_run_laws.proofs.Sizes.{not_lowered, refused_large}
+use Rattle.alma_run_laws.proofs.Told.{told_stays}
 use Rattle.alma_driver_words.specs.Words.{Request, Check, Compile, Listing, Run, Exec, Trace, Sample, Asks, Reads}
 use Rattle.alma_driver_outcome.specs.Words.{read_by, limit_of, IsReadBy}
 use Rattle.alma_driver_outcome.specs.Showing.{Showing, Prints}
@@ -47,7 +47,7 @@ use Rattle.alma_source.specs.Refusal.{IsRefused, IsProgramOf, place_of}
 use Rattle.alma_source.specs.declared.fault.SourceFault.{SourceFault}
 use Rattle.alma_driver_outcome.specs.Ends.{lower_end, words_end, fetch_end, store_end, input_end}
 use Rattle.alma_driver_outcome.specs.Outcome.{Due, Stored, due_of, silent, storing, code_due, long_input, MayBeLeft, InputOutcome, unread}
-use Rattle.alma_driver_outcome.specs.Outcome.{taken, past_input, size_of, ProgramOutcome, ran, too_much_code, CompileOutcome, made}
+use Rattle.alma_driver_outcome.specs.Outcome.{taken, past_input, ProgramOutcome, ran, too_much_code, CompileOutcome, made}
 use Rattle.alma_driver_outcome.specs.Outcome.{past_size, IsSourceEnd, refused, IsStop, SourceOutcome, stopped, compiled, CheckOutcome}
 use Rattle.alma_driver_outcome.specs.Outcome.{ListOutcome, listed, no_object, CodeOutcome, executed, unsound, ExecOutcome, opened, unopened}
 use Rattle.alma_driver_outcome.specs.Outcome.{FileOutcome, SampleOutcome, summed, RequestOutcome, absent, past_limit, fetched, unfetched}
@@ -243,13 +243,6 @@ runs_read source P p i j a b end is g = runs_map (P p) (SourceOutcome source P) 
 
 -- ---- compiling
 
--- what compiling answers where it gives no code, and where it gives one
-abbrev not_lowered : LowerError → Result Code LowerError
-not_lowered error = Err error
-
-abbrev lowered : Code → Result Code LowerError
-lowered code = Ok code
-
 -- why a program has no code
 pub data IsUnlowered (p : Program) (error : LowerError) : Type 0 where
   large : size_limit < size_of p → lower_end error ≡ TooMuchCode (size_of p) → IsUnlowered p error
@@ -258,13 +251,9 @@ pub data IsUnlowered (p : Program) (error : LowerError) : Type 0 where
 pub unlowered : (p : Program) (error : LowerError)
     → (size_limit < size_of p → not_lowered error ≡ not_lowered (lower.TooMuchCode (size_of p)))
     → (size_of p ≤ size_limit → (n : ℕ) → not_lowered error ≡ not_lowered (lower.TooMuchCode n) → ⊥) → IsUnlowered p error
-unlowered p (lower.TooMuchCode n) too_much within = by (cases_lt size_limit (size_of p))
-  where
-    by : (size_limit < size_of p) ⊎ (size_of p ≤ size_limit) → IsUnlowered p (lower.TooMuchCode n)
-    by (inl past) =
-        let same : n ≡ size_of p = cc (too_much past) in
-        large past (ap TooMuchCode same)
-    by (inr small) = absurd (within small n refl)
+unlowered p (lower.TooMuchCode n) too_much within =
+    let past = refused_large p n too_much within in
+    large past.0 (ap TooMuchCode past.1)
 unlowered p lower.Memory too_much within = starved refl
 
 -- a program that was not compiled
@@ -283,15 +272,6 @@ runs_refused p steps showing error i a (large past e) =
     ))
 runs_refused p steps showing error i a (starved e) =
     subst (Runs (ProgramOutcome i.left p steps showing) i i a a) (sym e) (runs_starved (ProgramOutcome i.left p steps showing) i a)
-
--- a program that was compiled is within its greatest size
-pub compiled_within : (p : Program) (code : Code) → (size_limit < size_of p → lowered code ≡ not_lowered (lower.TooMuchCode (size_of p)))
-    → size_of p ≤ size_limit
-compiled_within p code too_much = by (cases_lt size_limit (size_of p))
-  where
-    by : (size_limit < size_of p) ⊎ (size_of p ≤ size_limit) → size_of p ≤ size_limit
-    by (inl past) = cc (too_much past)
-    by (inr small) = small
 
 -- a program that was compiled and run
 pub runs_compiled : (p : Program) (code : PlainCode) (steps : ℕ) (showing : Showing) (i j : SourceSide) (a b : SinkSide) (end : End)
@@ -436,15 +416,6 @@ pub works_stored : (f f' : FilesSide) (name bytes : List ℕ) (a : SinkSide) →
     → f'.store_faults ≡ f.store_faults → Works (IsStoring name bytes) f f' a a (Succeeded None)
 works_stored f f' name bytes a others now same =
     inr (done (storing name bytes) (stored_as name bytes) refl refl (gains_none a) (others, now, same) refl)
-
--- files of which one tells what it told, and the others too
-pub told_stays : (f f' : FilesSide) (name : List ℕ) → OthersStay f f' name → f'.told name ≡ f.told name → (other : List ℕ)
-    → f'.told other ≡ f.told other
-told_stays f f' name others same other = by (bytes_eq other name) refl
-  where
-    by : (b : Bool) → bytes_eq other name ≡ b → f'.told other ≡ f.told other
-    by true e = subst (λ n. f'.told n ≡ f.told n) (sym ((bytes_eq-Decides other name).0 e)) same
-    by false e = others other (λ q. cc ((bytes_eq-Decides other name).1 q, e))
 
 -- bytes that were not stored
 pub works_unstored : (f f' : FilesSide) (name bytes : List ℕ) (fault : StoreFault) (a : SinkSide) → OthersStay f f' name

@@ -1,32 +1,34 @@
 -- The headline: a run of a source shows what its program means.
-use Rattle.std.proofs.Common.{◌≡◌, ◌≤◌, ◌<◌, ◌+◌, ◌-◌, ◌*◌, ◌∙◌, ◌++◌, ℕ, suc, List, [], length, refl, inl, inr, ap, sym, subst, arith}
-use Rattle.std.specs.Prelude.{◌⊎◌, Bool, Option, Some}
-use Rattle.std.proofs.lemmas.Bool.{cases_lt}
+use Rattle.std.proofs.Common.{◌≡◌, ◌≤◌, ◌+◌, ◌*◌, ◌∙◌, ◌++◌, ℕ, suc, List, [], length, refl, inl, inr, ap, sym, subst, arith}
+use Rattle.std.specs.Prelude.{◌⊎◌, Bool, true, Option, Some}
 use Rattle.alma_base.specs.Limits.{source_limit, size_limit, input_limit}
 use Rattle.alma_io.specs.Files.{Told, Has, MayHave, MayPass}
+use Rattle.alma_io.specs.Whole.{MayHaveMore}
 use Rattle.alma_ir.specs.Tree.{Program}
 use Rattle.alma_mean.specs.Events as events
 use Rattle.alma_mean.specs.Events.{first, end_of, visit_count, CutOff}
 use Rattle.alma_mean.specs.Meaning.{ev_program, result}
-use Rattle.alma_mean.proofs.Results.{result_stays}
 use Rattle.alma_code.specs.Plain.{PlainCode}
-use Rattle.alma_code.specs.declared.step.End as code
-use Rattle.alma_code.specs.declared.step.End.TheVariants as code_end
-use Rattle.alma_lower_implements.specs.Implements.{Implements, meant_end}
+use Rattle.alma_code.specs.Reads.{code_reads}
+use Rattle.alma_lower_implements.specs.Implements.{Implements}
+use Rattle.alma_lower_sound.specs.Reads.{program_reads}
+use Rattle.alma_run_laws.specs.Shown as run_laws
+use Rattle.alma_run_laws.specs.Shown.{size_of, MayRunOut, whole, front}
+use Rattle.alma_run_laws.proofs.Meant.{same_result}
 use Rattle.alma_driver_words.specs.Words.{Request, Run, file_of}
 use Rattle.alma_driver_words.proofs.WordLemmas.{one_request}
 use Rattle.alma_driver_outcome.specs.Words.{read_by}
 use Rattle.alma_driver_outcome.specs.Showing.{Prints}
 use Rattle.alma_driver_outcome.specs.Outside.{Outside}
-use Rattle.alma_driver_outcome.specs.Ends.{status_of, text_of, ended_end, counts_text}
+use Rattle.alma_driver_outcome.specs.Ends.{status_of, text_of, counts_text}
 use Rattle.alma_source.specs.Refusal.{IsProgramOf, place_of}
-use Rattle.alma_driver_outcome.specs.Outcome.{Due, silent, size_of, code_due, InputOutcome, unread, taken, past_input, ProgramOutcome, ran}
-use Rattle.alma_driver_outcome.specs.Outcome.{too_much_code, MayRunOut, MeansOn, whole, front, IsSourceEnd, refused, SourceOutcome, stopped}
+use Rattle.alma_driver_outcome.specs.Outcome.{Due, silent, code_due, MayBeLeft, InputOutcome, unread, taken, past_input, ProgramOutcome}
+use Rattle.alma_driver_outcome.specs.Outcome.{ran, too_much_code, told_end, MeansOn, IsSourceEnd, refused, SourceOutcome, stopped}
 use Rattle.alma_driver_outcome.specs.Outcome.{compiled, RequestOutcome, absent, past_limit, fetched, unfetched, Outcome, bad_word, asks}
 use Rattle.alma_driver_outcome.specs.Outcome.{Lacks}
 use Rattle.alma_driver_outcome.specs.Course.{Gains}
 use Rattle.alma_driver_outcome.specs.Causes.{Causes, FetchFailed, InputFailed}
-use Rattle.alma_driver_outcome.specs.Headline.{AsksToRun, IsUndisturbed, Shows, ShowsResult, RunEnds, refuses, too_large, ended, ran_out}
+use Rattle.alma_driver_outcome.specs.Headline.{AsksToRun, IsUndisturbed, ShowsResult, RunEnds, refuses, too_large, ended, ran_out}
 use Rattle.alma_driver_outcome.specs.Headline.{meant_status, meant_text}
 use Rattle.alma_driver_outcome.specs.declared.end.Counts.{Counts}
 use Rattle.alma_driver_outcome.specs.declared.end.End.{End}
@@ -36,29 +38,24 @@ use Rattle.alma_driver_outcome.proofs.RunLemmas.{code_means}
 use Rattle.alma_source.proofs.RefusalLemmas.{one_refusal, one_program, refused_no_program}
 use Rattle.alma_driver_outcome.proofs.Unread.{due_alike}
 
--- ---- a run on an input that is told
+-- ---- a run on an input that is told where it is read
 
--- what is due is what the program means, or the refusal of its size
-data ToldMeans (input : List ℕ) (p : Program) (steps : ℕ) (stats : Bool) (due : Due) : Type 0 where
-  small : size_of p ≤ size_limit → MeansOn p input steps stats due → ToldMeans input p steps stats due
-  large : size_limit < size_of p → due ≡ silent (TooMuchCode (size_of p)) → ToldMeans input p steps stats due
-
-run_means : (input : List ℕ) (p : Program) (code : PlainCode) (steps : ℕ) (stats : Bool) (due : Due) → length input ≤ input_limit
+-- what is due from the code of a program is what the program means
+run_means : (left : Option (List ℕ)) (input : List ℕ) (p : Program) (code : PlainCode) (steps : ℕ) (stats : Bool) (due : Due)
+    → (code_reads code ≡ true → left ≡ Some input)
+    → length input ≤ input_limit
     → Implements code p
-    → InputOutcome (Some input) code steps (Prints stats) due → MeansOn p input steps stats due
-run_means input p code steps stats due short implements (unread quiet e) =
+    → InputOutcome left code steps (Prints stats) due → MeansOn p input steps stats due
+run_means left input p code steps stats due told short implements (unread quiet e) =
     subst (MeansOn p input steps stats) (sym (e ∙ due_alike code [] input steps stats quiet))
     (code_means p code input steps stats implements short)
-run_means input p code steps stats due short implements (taken other q l s e) =
-    subst (MeansOn p input steps stats) (sym (e ∙ ap (λ (i : List ℕ). code_due code i steps (Prints stats)) (sym l)))
+run_means left input p code steps stats due told short implements (taken other reads l s e) =
+    let same : input ≡ other = subst (λ (o : Option (List ℕ)). MayBeLeft o other) (told reads) l in
+    subst (MeansOn p input steps stats) (sym (e ∙ ap (λ (i : List ℕ). code_due code i steps (Prints stats)) (sym same)))
     (code_means p code input steps stats implements short)
-run_means input p code steps stats due short implements (past_input q more e) = absurd (omega (arith, short, more))
-
-told_means : (input : List ℕ) (p : Program) (steps : ℕ) (stats : Bool) (due : Due) → length input ≤ input_limit
-    → ProgramOutcome (Some input) p steps (Prints stats) due → ToldMeans input p steps stats due
-told_means input p steps stats due short (ran code size sound implements reads names o) =
-    small size (run_means input p code steps stats due short implements o)
-told_means input p steps stats due short (too_much_code size e) = large size e
+run_means left input p code steps stats due told short implements (past_input reads more e) =
+    let past : MayHaveMore (Some input) input_limit = subst (λ (o : Option (List ℕ)). MayHaveMore o input_limit) (told reads) more in
+    absurd (omega (arith, short, past))
 
 -- ---- what a call shows
 
@@ -68,98 +65,74 @@ record IsShown (words : List (List ℕ)) (before after : Outside) (status : ℕ)
   out : Gains before.out after.out due.out
   err : Gains before.err after.err (text_of (file_of words) due.end)
 
--- the same by an end and prints
-record IsShownAs (words : List (List ℕ)) (before after : Outside) (status : ℕ) (end : End) (printed : List ℕ) : Type 0 where
-  status_is : status ≡ status_of end
-  shows : Shows before after printed (text_of (file_of words) end)
+-- the end that is told of an end of the meaning has the status of that, and its text where it is not cut off
+told_status : (end : events.End) (counts : Option Counts) → status_of (told_end end counts) ≡ meant_status end
+told_status events.Succeeded counts = refl
+told_status events.Failed counts = refl
+told_status (events.Faulted fault line) counts = refl
+told_status CutOff counts = refl
 
-by_parts : (words : List (List ℕ)) (before after : Outside) (status : ℕ) (due : Due) (end : End) (printed : List ℕ) → due.end ≡ end
-    → due.out ≡ printed
-    → IsShown words before after status due → IsShownAs words before after status end printed
-by_parts words before after status due end printed ends prints h = record {
-  status_is = h.status_is ∙ ap status_of ends;
-  shows = (
-    subst (Gains before.out after.out) prints h.out,
-    subst (λ (x : End). Gains before.err after.err (text_of (file_of words) x)) ends h.err,
-  );
-}
+told_text : (file : List ℕ) (end : events.End) (counts : Option Counts) → (end ≡ CutOff → ⊥)
+    → text_of file (told_end end counts) ≡ counts_text counts ++ meant_text end
+told_text file events.Succeeded counts uncut = refl
+told_text file events.Failed counts uncut = refl
+told_text file (events.Faulted fault line) counts uncut = refl
+told_text file CutOff counts uncut = absurd (uncut refl)
 
--- an end of the machine is an end of the meaning, with its status and its text
-same_status : (e : code.End) (line : ℕ) (counts : Option Counts) → status_of (ended_end e line counts) ≡ meant_status (meant_end e line)
-same_status code_end.Succeeded line counts = refl
-same_status code_end.Failed line counts = refl
-same_status (code_end.Fault fault) line counts = refl
+module _ (words : List (List ℕ)) (source input : List ℕ) (steps : ℕ) (stats : Bool) (before after : Outside) (status : ℕ) where
+  -- a program that was run
+  ends_meant : (p : Program) (due : Due) → IsProgramOf source p → size_of p ≤ size_limit → IsShown words before after status due
+      → MeansOn p input steps stats due → RunEnds words source input steps stats before after status
+  ends_meant p due is size h m = by m.shows
+    where
+      by : run_laws.Shows p input steps due.out m.end → RunEnds words source input steps stats before after status
+      by (whole uncut r) =
+          let text = ap (text_of (file_of words)) m.ends ∙ told_text (file_of words) m.end m.counts uncut in
+          let all : ShowsResult stats (due.out, m.end) before after status = record {
+            uncut = uncut;
+            status_is = h.status_is ∙ ap status_of m.ends ∙ told_status m.end m.counts;
+            counts = m.counts;
+            counted = m.counted;
+            shows = (h.out, subst (Gains before.err after.err) text h.err);
+          } in
+          ended p is size (subst (λ (x : List ℕ × events.End). ShowsResult stats x before after status) (sym r) all)
+      by (front cut covers few) =
+          let out : due.end ≡ StepsOut m.counts = m.ends ∙ ap (λ (e : events.End). told_end e m.counts) cut in
+          ran_out p is size (record {
+            status_is = h.status_is ∙ ap status_of out;
+            printed = due.out;
+            covers = covers;
+            few = few;
+            counts = m.counts;
+            counted = m.counted;
+            shows = (h.out, subst (λ (x : End). Gains before.err after.err (text_of (file_of words) x)) out h.err);
+          })
 
-same_text : (file : List ℕ) (e : code.End) (line : ℕ) (counts : Option Counts)
-    → text_of file (ended_end e line counts) ≡ counts_text counts ++ meant_text (meant_end e line)
-same_text file code_end.Succeeded line counts = refl
-same_text file code_end.Failed line counts = refl
-same_text file (code_end.Fault fault) line counts = refl
+  -- a program that was run on an input that is told where it is read, or is too large
+  ends_program : (p : Program) (due : Due) → (program_reads p ≡ true → before.input.left ≡ Some input) → length input ≤ input_limit
+      → IsProgramOf source p → IsShown words before after status due → ProgramOutcome before.input.left p steps (Prints stats) due
+      → RunEnds words source input steps stats before after status
+  ends_program p due told short is h (ran code size sound implements reads names o) =
+      ends_meant p due is size h
+      (run_means before.input.left input p code steps stats due (λ r. told (sym reads ∙ r)) short implements o)
+  ends_program p due told short is h (too_much_code size e) =
+      let s : IsShown words before after status (silent (TooMuchCode (size_of p))) = subst (IsShown words before after status) e h in
+      too_large p is size s.status_is (s.out, s.err)
 
-never_cut : (e : code.End) (line : ℕ) → meant_end e line ≡ CutOff → ⊥
-never_cut code_end.Succeeded line q = cc q
-never_cut code_end.Failed line q = cc q
-never_cut (code_end.Fault fault) line q = cc q
+  -- a source that is refused
+  ends_refused : (due : Due) (end : End) → due ≡ silent end → IsShown words before after status due → IsSourceEnd source end
+      → RunEnds words source input steps stats before after status
+  ends_refused due end d h (refused fault offset r e) =
+      let s : IsShown words before after status (silent (Refused fault (place_of source offset))) =
+      subst (IsShown words before after status) (d ∙ ap silent e) h in
+      refuses fault offset r (λ other place q. one_refusal source fault other offset place r q) s.status_is (s.out, s.err)
 
--- a program that was run
-ends_meant : (words : List (List ℕ)) (source input : List ℕ) (steps : ℕ) (stats : Bool) (before after : Outside) (status : ℕ) (p : Program)
-    (due : Due)
-    → IsProgramOf source p → size_of p ≤ size_limit → IsShown words before after status due → MeansOn p input steps stats due
-    → RunEnds words source input steps stats before after status
-ends_meant words source input steps stats before after status p due is size h (whole printed e line counts told r ends prints) =
-    let shown = by_parts words before after status due (ended_end e line counts) printed ends prints h in
-    let all : ShowsResult stats (printed, meant_end e line) before after status = record {
-      uncut = never_cut e line;
-      status_is = shown.status_is ∙ same_status e line counts;
-      counts = counts;
-      counted = told;
-      shows = (shown.shows.0, subst (Gains before.err after.err) (same_text (file_of words) e line counts) shown.shows.1);
-    } in
-    ended p is size (subst (λ (m : List ℕ × events.End). ShowsResult stats m before after status) (sym r) all)
-ends_meant words source input steps stats before after status p due is size h (front printed counts told covers few ends prints) =
-    let shown = by_parts words before after status due (StepsOut counts) printed ends prints h in
-    ran_out p is size (record {
-      status_is = shown.status_is;
-      printed = printed;
-      covers = covers;
-      few = few;
-      counts = counts;
-      counted = told;
-      shows =
-          shown.shows;
-    })
-
--- a program that was run, or is too large
-ends_told : (words : List (List ℕ)) (source input : List ℕ) (steps : ℕ) (stats : Bool) (before after : Outside) (status : ℕ) (p : Program)
-    (due : Due)
-    → IsProgramOf source p → IsShown words before after status due → ToldMeans input p steps stats due
-    → RunEnds words source input steps stats before after status
-ends_told words source input steps stats before after status p due is h (small size m) =
-    ends_meant words source input steps stats before after status p due is size h m
-ends_told words source input steps stats before after status p due is h (large size e) =
-    let shown = by_parts words before after status due (TooMuchCode (size_of p)) [] (ap (λ (d : Due). d.end) e) (ap (λ (d : Due). d.out) e)
-    h in
-    too_large p is size shown.status_is shown.shows
-
--- a source that is refused
-ends_refused : (words : List (List ℕ)) (source input : List ℕ) (steps : ℕ) (stats : Bool) (before after : Outside) (status : ℕ) (due : Due)
-    (end : End)
-    → due ≡ silent end → IsShown words before after status due → IsSourceEnd source end
-    → RunEnds words source input steps stats before after status
-ends_refused words source input steps stats before after status due end d h (refused fault offset r e) =
-    let shown = by_parts words before after status due (Refused fault (place_of source offset)) [] (ap (λ (x : Due). x.end) d ∙ e)
-    (ap (λ (x : Due). x.out) d) h in
-    refuses fault offset r (λ other place q. one_refusal source fault other offset place r q) shown.status_is shown.shows
-
--- what a source comes to
-ends_of : (words : List (List ℕ)) (source input : List ℕ) (steps : ℕ) (stats : Bool) (before after : Outside) (status : ℕ) (due : Due)
-    → length input ≤ input_limit → IsShown words before after status due
-    → SourceOutcome source (λ p. ProgramOutcome (Some input) p steps (Prints stats)) due
-    → RunEnds words source input steps stats before after status
-ends_of words source input steps stats before after status due short h (stopped end r e) =
-    ends_refused words source input steps stats before after status due end e h r
-ends_of words source input steps stats before after status due short h (compiled p is o) =
-    ends_told words source input steps stats before after status p due is h (told_means input p steps stats due short o)
+  -- what a source comes to
+  ends_of : (due : Due) → AsksToRun words before source input steps stats → IsShown words before after status due
+      → SourceOutcome source (λ p. ProgramOutcome before.input.left p steps (Prints stats)) due
+      → RunEnds words source input steps stats before after status
+  ends_of due a h (stopped end r e) = ends_refused due end e h r
+  ends_of due a h (compiled p is o) = ends_program p due (a.left p is) a.input_short is h o
 
 -- ---- what the words ask
 
@@ -185,14 +158,12 @@ source_run told name source steps stats left due has short (unfetched is o) = cc
 pub words_run : (words : List (List ℕ)) (before : Outside) (source input : List ℕ) (steps : ℕ) (stats : Bool) (due : Due)
     → AsksToRun words before source input steps stats
     → Outcome words before.files.told before.input.left due
-    → SourceOutcome source (λ p. ProgramOutcome (Some input) p steps (Prints stats)) due
+    → SourceOutcome source (λ p. ProgramOutcome before.input.left p steps (Prints stats)) due
 words_run words before source input steps stats due a (bad_word k bad e) = absurd (bad.none (Run a.name steps stats) a.asks)
 words_run words before source input steps stats due a (asks r h o) =
     let same : r ≡ Run a.name steps stats = one_request words r (Run a.name steps stats) h a.asks in
-    let run : RequestOutcome before.files.told before.input.left (Run a.name steps stats) due =
-    subst (λ (q : Request). RequestOutcome before.files.told before.input.left q due) same o in
-    subst (λ (left : Option (List ℕ)). SourceOutcome source (λ p. ProgramOutcome left p steps (Prints stats)) due) a.left
-    (source_run before.files.told a.name source steps stats before.input.left due a.told a.source_short run)
+    source_run before.files.told a.name source steps stats before.input.left due a.told a.source_short
+    (subst (λ (q : Request). RequestOutcome before.files.told before.input.left q due) same o)
 
 -- its file is not missing
 not_lacking : (words : List (List ℕ)) (before : Outside) (source input : List ℕ) (steps : ℕ) (stats : Bool)
@@ -220,7 +191,7 @@ ends_whole : (words : List (List ℕ)) (source input : List ℕ) (steps : ℕ) (
     → AsksToRun words before source input steps stats → IsWhole words before after status
     → RunEnds words source input steps stats before after status
 ends_whole words source input steps stats before after status a w =
-    ends_of words source input steps stats before after status w.0 a.input_short (record { status_is = w.2; out = w.3; err = w.4 })
+    ends_of words source input steps stats before after status w.0 a (record { status_is = w.2; out = w.3; err = w.4 })
     (words_run words before source input steps stats w.0 a w.1)
 
 -- all that is due from a run came where nothing failed
@@ -239,20 +210,6 @@ run_ends words source input steps stats before after status a c u =
     ends_whole words source input steps stats before after status a (whole_run words source input steps stats before after status a c u)
 
 -- ---- enough steps
-
--- levels that are not cut off have one result
-same_result : (p : Program) (input : List ℕ) (m n : ℕ) → (end_of (first (ev_program m p input)) ≡ CutOff → ⊥)
-    → (end_of (first (ev_program n p input)) ≡ CutOff → ⊥)
-    → result m p input ≡ result n p input
-same_result p input m n whole_m whole_n = by (cases_lt m n)
-  where
-    by : (m < n) ⊎ (n ≤ m) → result m p input ≡ result n p input
-    by (inl below) =
-        let sum : (n - m) + m ≡ n = omega (arith, below) in
-        sym (result_stays p input m (n - m) whole_m) ∙ ap (λ (k : ℕ). result k p input) sum
-    by (inr above) =
-        let sum : (m - n) + n ≡ m = omega (arith, above) in
-        sym (ap (λ (k : ℕ). result k p input) sum) ∙ result_stays p input n (m - n) whole_n
 
 -- a result is shown for each level that is not cut off
 shows_level : (p : Program) (input : List ℕ) (steps level : ℕ) (stats : Bool) (before after : Outside) (status : ℕ)

@@ -1,8 +1,9 @@
 -- What becomes of the input in a run of a source.
 use Rattle.std.proofs.Common.{◌≡◌, ◌≤◌, ◌∙◌, ℕ, List, [], ap, sym, subst, arith}
-use Rattle.std.specs.Prelude.{Bool, Option, Some, None}
+use Rattle.std.specs.Prelude.{Bool, true, Option, Some, None}
 use Rattle.std.specs.Io.KnownBytes.{Consumes, IsAtEnd}
-use Rattle.alma_base.specs.Limits.{size_limit}
+use Rattle.alma_base.specs.Limits.{size_limit, input_limit}
+use Rattle.alma_io.specs.Whole.{MayHaveMore}
 use Rattle.alma_ir.specs.Tree.{Program}
 use Rattle.alma_lower_sound.specs.Reads.{program_reads}
 use Rattle.alma_code.specs.Plain.{PlainCode}
@@ -10,6 +11,7 @@ use Rattle.alma_code.specs.Reads.{code_reads}
 use Rattle.alma_code.specs.Machine.{Mode, Going, Failing, Ended, Stuck}
 use Rattle.alma_code.specs.declared.step.End.TheVariants as code_end
 use Rattle.alma_lower_implements.specs.Implements.{state_after, line_in}
+use Rattle.alma_run_laws.specs.Shown.{size_of}
 use Rattle.alma_driver_outcome.specs.declared.end.Counts.{Counts}
 use Rattle.alma_driver_outcome.specs.declared.end.End.{End}
 use Rattle.alma_driver_outcome.specs.declared.end.End.TheVariants.{TooLong}
@@ -17,7 +19,7 @@ use Rattle.alma_driver_outcome.specs.Ends.{mode_end, counts_in}
 use Rattle.alma_driver_outcome.specs.Outside.{Outside}
 use Rattle.alma_driver_outcome.specs.Showing.{Prints}
 use Rattle.alma_source.specs.Refusal.{IsProgramOf}
-use Rattle.alma_driver_outcome.specs.Outcome.{Due, size_of, InputOutcome, unread, taken, past_input, ProgramOutcome, ran, too_much_code}
+use Rattle.alma_driver_outcome.specs.Outcome.{Due, InputOutcome, unread, taken, past_input, ProgramOutcome, ran, too_much_code}
 use Rattle.alma_driver_outcome.specs.Outcome.{IsSourceEnd, refused, SourceOutcome, stopped, compiled}
 use Rattle.alma_driver_outcome.specs.Course.{Takes, IsReadWhole}
 use Rattle.alma_source.proofs.RefusalLemmas.{one_program, refused_no_program}
@@ -51,27 +53,29 @@ input_left words source input steps stats before after status p a w is small =
     by_end : (end : End) → IsSourceEnd source end → IsInputLeft (program_reads p) before.input after.input
     by_end end (refused fault offset r e) = absurd (refused_no_program source fault offset p r is)
 
-    by_input : (code : PlainCode) → InputOutcome (Some input) code steps (Prints stats) w.0
-        → IsInputLeft (code_reads code) before.input after.input
-    by_input code (unread quiet e) =
+    by_input : (code : PlainCode) → (code_reads code ≡ true → before.input.left ≡ Some input)
+        → InputOutcome before.input.left code steps (Prints stats) w.0 → IsInputLeft (code_reads code) before.input after.input
+    by_input code told (unread quiet e) =
         subst (λ (r : Bool). IsInputLeft r before.input after.input) (sym quiet)
         (subst (λ (r : Bool). Takes r before.input after.input) (ap (λ (d : Due). d.reads) e ∙ quiet) w.6)
-    by_input code (taken other q l short e) =
+    by_input code told (taken other q l short e) =
         let s = state_after code other steps in
         let all : IsReadWhole before.input after.input =
         w.7 (ap (λ (d : Due). d.reads) e ∙ q) (λ long. never_long s.mode (line_in code s) (counts_in stats s)
         (sym (ap (λ (d : Due). d.end) e) ∙ long)) in
         subst (λ (r : Bool). IsInputLeft r before.input after.input) (sym q)
-        (all_read input all.0 before.input.left after.input.left a.left all.1 all.2)
-    by_input code (past_input q more e) = absurd (omega (arith, a.input_short, more))
+        (all_read input all.0 before.input.left after.input.left (told q) all.1 all.2)
+    by_input code told (past_input q more e) =
+        let past : MayHaveMore (Some input) input_limit = subst (λ (o : Option (List ℕ)). MayHaveMore o input_limit) (told q) more in
+        absurd (omega (arith, a.input_short, past))
 
-    by_program : (q : Program) → IsProgramOf source q → ProgramOutcome (Some input) q steps (Prints stats) w.0
+    by_program : (q : Program) → IsProgramOf source q → ProgramOutcome before.input.left q steps (Prints stats) w.0
         → IsInputLeft (program_reads q) before.input after.input
     by_program q isq (ran code size sound implements reads names o) =
-        subst (λ (r : Bool). IsInputLeft r before.input after.input) reads (by_input code o)
+        subst (λ (r : Bool). IsInputLeft r before.input after.input) reads (by_input code (λ r. a.left q isq (sym reads ∙ r)) o)
     by_program q isq (too_much_code size e) = absurd (omega (arith, size, small, ap size_of (one_program source q p isq is)))
 
-    by_source : SourceOutcome source (λ q. ProgramOutcome (Some input) q steps (Prints stats)) w.0
+    by_source : SourceOutcome source (λ q. ProgramOutcome before.input.left q steps (Prints stats)) w.0
         → IsInputLeft (program_reads p) before.input after.input
     by_source (stopped end h e) = by_end end h
     by_source (compiled q isq o) =

@@ -1,63 +1,30 @@
 -- What a run of compiled code comes to, step by step and by the meaning.
-use Rattle.std.proofs.Common.{◌≡◌, ◌≤◌, ◌<◌, ◌+◌, ◌*◌, ℕ, zero, suc, List, [], ◌++◌, inl, inr, ap, sym, subst, refl, ◌∙◌, arith}
-use Rattle.std.proofs.Common.{append_assoc}
-use Rattle.std.specs.Prelude.{◌⊎◌, Bool, Option, None, Some, true, false, length}
-use Rattle.std.specs.Io.KnownBytes.{Appends}
-use Rattle.std.proofs.lemmas.Bool.{cases_lt}
+use Rattle.std.proofs.Common.{◌≡◌, ◌≤◌, ◌∙◌, ℕ, zero, suc, List, [], inr, ap, sym, subst, refl, arith}
+use Rattle.std.specs.Prelude.{Bool, Option, None, Some, true, false, length}
 use Rattle.alma_base.specs.Limits.{size_limit, input_limit}
-use Rattle.alma_io.specs.Causes.{HasCause}
-use Rattle.alma_io.specs.Fronts.{AppendsFront}
 use Rattle.alma_ir.specs.Tree.{Program}
-use Rattle.alma_mean.specs.Events.{first, visit_count}
-use Rattle.alma_mean.specs.Meaning.{ev_program}
-use Rattle.alma_code.specs.declared.step.End as code
 use Rattle.alma_code.specs.declared.step.End.TheVariants as ended
 use Rattle.alma_code.specs.Lines.{known_line}
-use Rattle.alma_code.specs.Machine.{Mode, Going, Failing, Ended, Stuck, State, start, step, after, prints}
+use Rattle.alma_code.specs.Machine.{Mode, Going, Failing, Ended, Stuck, State, start}
 use Rattle.alma_code.specs.Plain.{PlainCode}
 use Rattle.alma_code.specs.Reads.{code_reads}
-use Rattle.alma_lower_implements.specs.Implements.{Implements, ComesTo, HasEnded, IsEnough, state_after, printed_by, line_in}
-use Rattle.alma_lower_implements.proofs.Enough.{is_enough}
+use Rattle.alma_lower_implements.specs.Implements.{Implements, state_after, line_in}
 use Rattle.alma_machine.specs.declared.machine.RunEnd.{RunEnd}
 use Rattle.alma_machine.specs.declared.machine.RunEnd.TheVariants as run
-use Rattle.alma_machine.specs.Runs.{run_end_of, made, all_written, OnWhole, OnMemory, OnWriteFault}
+use Rattle.alma_machine.specs.Runs.{run_end_of, made}
 use Rattle.alma_machine.specs.View.{MachineView}
-use Rattle.alma_machine.proofs.Budget.{ended_after}
+use Rattle.alma_run_laws.specs.Shown.{size_of, shown_end}
+use Rattle.alma_run_laws.proofs.Fronts.{fresh, HasRun, front_of_more, whole_is_front}
+use Rattle.alma_run_laws.proofs.Meant.{code_shows}
 use Rattle.alma_io.specs.Sides.{SinkSide}
 use Rattle.alma_driver_outcome.specs.declared.end.Counts.{Counts}
 use Rattle.alma_driver_outcome.specs.Ends.{mode_end, run_end, counts_in}
-use Rattle.alma_driver_outcome.specs.Outcome.{Due, code_end, code_due, size_of, InputOutcome, unread, taken, past_input, AreCounts}
-use Rattle.alma_driver_outcome.specs.Outcome.{MayRunOut, MeansOn, whole, front, ProgramOutcome, ran, too_much_code, IsTaken, Meant}
-use Rattle.alma_driver_outcome.specs.Outcome.{meant_on, too_long, too_large}
+use Rattle.alma_driver_outcome.specs.Outcome.{Due, code_end, code_due, InputOutcome, unread, taken, past_input, AreCounts, told_end}
+use Rattle.alma_driver_outcome.specs.Outcome.{MeansOn, ProgramOutcome, ran, too_much_code, IsTaken, Meant, meant_on, too_long, too_large}
 use Rattle.alma_driver_outcome.specs.Showing.{Showing, Prints}
 use Rattle.alma_driver_outcome.specs.Course.{Goes}
 
 -- ---- a run of the machine
-
--- what is printed in fewer steps is a front of what is printed in more
-prints_front : (code : PlainCode) (input : List ℕ) (m n : ℕ) (s : State) → m ≤ n → (rest : List ℕ)
-    × (prints code input n s ≡ prints code input m s ++ rest)
-prints_front code input zero n s le = (prints code input n s, refl)
-prints_front code input (suc m) zero s le = absurd (omega (arith, le))
-prints_front code input (suc m) (suc n) s le =
-    let next = (step code input s).state in
-    let more = prints_front code input m n next (omega (arith, le)) in (
-      more.0,
-      ap (λ z. (step code input s).printed ++ z) more.1
-          ∙ sym (append_assoc (step code input s).printed (prints code input m next) more.0),
-    )
-
--- a front of what is printed in fewer steps is a front of what is printed in more
-front_of_more : (a b : Option (List ℕ)) (code : PlainCode) (input : List ℕ) (m n : ℕ) (s : State) → m ≤ n
-    → AppendsFront a b (prints code input m s) → AppendsFront a b (prints code input n s)
-front_of_more a b code input m n s le h =
-    let more = prints_front code input m n s le in
-    (h.0, h.1 ++ more.0, more.1 ∙ ap (λ z. z ++ more.0) h.2 ∙ append_assoc h.0 h.1 more.0, h.3)
-
--- all that is printed in fewer steps is such a front
-whole_is_front : (a b : Option (List ℕ)) (code : PlainCode) (input : List ℕ) (m n : ℕ) (s : State) → m ≤ n
-    → Appends a b (prints code input m s) → AppendsFront a b (prints code input n s)
-whole_is_front a b code input m n s le h = let more = prints_front code input m n s le in (prints code input m s, more.0, more.1, h)
 
 -- the answer of a run that was not cut short is by the mode in which it is left
 mode_is : (m : Mode) (line : ℕ) (counts : Option Counts) → mode_end m line counts ≡ run_end (run_end_of m) line counts
@@ -77,20 +44,6 @@ end_is code input new steps stats answer is same =
     let s = state_after code input steps in
     mode_is s.mode (line_in code s) (counts_in stats s) ∙ ap (λ r. run_end r (line_in code s) (counts_in stats s)) (sym is)
     ∙ ap (λ t. run_end answer (line_in code t) (counts_in stats t)) (sym same)
-
--- a machine at the start of the code, on an input
-abbrev pub fresh : PlainCode → (input : List ℕ) → MachineView
-fresh code input = record { code = code; input = input; state = start code; running = true; printed = [] }
-
--- what a run ensures
-pub record HasRun (old new : MachineView) (steps : ℕ) (answer : RunEnd) (a b : SinkSide) : Type 0 where
-  pub answered : OnWhole answer (answer ≡ run_end_of (after old.code old.input steps old.state).mode)
-  pub state : OnWhole answer (new.state ≡ after old.code old.input steps old.state)
-  pub out : OnWhole answer (Appends a.written b.written (prints old.code old.input steps old.state))
-  pub few : new.state.steps ≤ old.state.steps + steps
-  pub memory : OnMemory answer (Appends a.written b.written (prints old.code old.input (made old new) old.state))
-  pub write_fault : OnWriteFault answer (AppendsFront a.written b.written (prints old.code old.input (made old new) old.state))
-  pub cause : HasCause a.faults b.faults (all_written answer)
 
 -- what is due from the code
 abbrev pub IsDue : PlainCode → (input : List ℕ) → (steps : ℕ) → Showing → Due → Type 0
@@ -162,28 +115,14 @@ line_unknown (suc n) e = absurd (cc e)
 
 -- ---- a run of code that implements a program
 
--- a machine that has ended is in an end
-in_end : (m : Mode) → HasEnded m → (e : code.End) × (m ≡ Ended e)
-in_end (Ended e) h = (e, refl)
-in_end Going h = absurd h
-in_end Failing h = absurd h
-in_end Stuck h = absurd h
-
--- a machine that has not ended in so many steps was given too few for each visit of the meaning
-may_run_out : (code : PlainCode) (p : Program) (input : List ℕ) (steps : ℕ) → length input ≤ input_limit → IsEnough code p
-    → (HasEnded (state_after code input steps).mode → ⊥) → MayRunOut p input steps
-may_run_out code p input steps short enough out level uncut =
-    by (cases_lt steps (32 * (visit_count (first (ev_program level p input)) + 1)))
-  where
-    by : (steps < 32 * (visit_count (first (ev_program level p input)) + 1))
-        ⊎ (32 * (visit_count (first (ev_program level p input)) + 1) ≤ steps)
-        → steps < 32 * (visit_count (first (ev_program level p input)) + 1)
-    by (inl few) = few
-    by (inr many) =
-        let plenty = 32 * (visit_count (first (ev_program level p input)) + 1) in
-        let there = enough input short level uncut in
-        let e = in_end (state_after code input plenty).mode there in
-        absurd (out (subst (λ (s : State). HasEnded s.mode) (sym (ended_after code input plenty steps (start code) e.0 many e.1)) there))
+-- the end of a machine that is left in a mode is told as what it shows
+told_is : (m : Mode) (line : ℕ) (counts : Option Counts) → mode_end m line counts ≡ told_end (shown_end m line) counts
+told_is (Ended ended.Succeeded) line counts = refl
+told_is (Ended ended.Failed) line counts = refl
+told_is (Ended (ended.Fault fault)) line counts = refl
+told_is Going line counts = refl
+told_is Failing line counts = refl
+told_is Stuck line counts = refl
 
 -- the counts in a state
 counts_are : (stats : Bool) (s : State) → AreCounts stats (counts_in stats s)
@@ -194,30 +133,15 @@ counts_are true s = (record { steps = s.steps; choices = s.choices; fails = s.fa
 pub code_means : (p : Program) (code : PlainCode) (input : List ℕ) (steps : ℕ) (stats : Bool) → Implements code p
     → length input ≤ input_limit
     → MeansOn p input steps stats (code_due code input steps (Prints stats))
-code_means p code input steps stats implements short = by (state_after code input steps).mode refl (implements input short steps)
-  where
-    cut : (m : Mode) → (state_after code input steps).mode ≡ m → (HasEnded m → ⊥) → MayRunOut p input steps
-    cut m same out = may_run_out code p input steps short (is_enough code p implements) (λ h. out (subst HasEnded same h))
-
-    by : (m : Mode) → (state_after code input steps).mode ≡ m
-        → ComesTo m (line_in code (state_after code input steps)) (printed_by code input steps) p input steps
-        → MeansOn p input steps stats (code_due code input steps (Prints stats))
-    by (Ended e) same h =
-        let s = state_after code input steps in
-        whole (printed_by code input steps) e (line_in code s) (counts_in stats s) (counts_are stats s) h
-        (ap (λ k. mode_end k (line_in code s) (counts_in stats s)) same) refl
-    by Going same h =
-        let s = state_after code input steps in
-        front (printed_by code input steps) (counts_in stats s) (counts_are stats s) h (cut Going same (λ x. x))
-        (ap (λ k. mode_end k (line_in code s) (counts_in stats s)) same) refl
-    by Failing same h =
-        let s = state_after code input steps in
-        front (printed_by code input steps) (counts_in stats s) (counts_are stats s) h (cut Failing same (λ x. x))
-        (ap (λ k. mode_end k (line_in code s) (counts_in stats s)) same) refl
-    by Stuck same h =
-        let s = state_after code input steps in
-        front (printed_by code input steps) (counts_in stats s) (counts_are stats s) h (cut Stuck same (λ x. x))
-        (ap (λ k. mode_end k (line_in code s) (counts_in stats s)) same) refl
+code_means p code input steps stats implements short =
+    let s = state_after code input steps in
+    record {
+      end = shown_end s.mode (line_in code s);
+      shows = code_shows code p input steps implements short;
+      counts = counts_in stats s;
+      counted = counts_are stats s;
+      ends = told_is s.mode (line_in code s) (counts_in stats s);
+    }
 
 -- a run on this input is what the program means on it
 means_due : (left : Option (List ℕ)) (p : Program) (code : PlainCode) (input : List ℕ) (steps : ℕ) (stats : Bool) (due : Due)

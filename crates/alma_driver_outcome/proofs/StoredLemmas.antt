@@ -15,8 +15,9 @@ use Rattle.alma_verify.specs.Bytes.{object_code}
 use Rattle.alma_lower_sound.specs.Reads.{program_reads}
 use Rattle.alma_lower.specs.Names.{KeepsNames}
 use Rattle.alma_lower_implements.specs.Implements.{Implements}
+use Rattle.alma_run_laws.specs.Shown.{size_of}
 use Rattle.alma_driver_outcome.specs.Showing.{Prints}
-use Rattle.alma_driver_outcome.specs.Outcome.{Due, Stored, size_of, ProgramOutcome, ran, CompileOutcome, made, past_size, SourceOutcome}
+use Rattle.alma_driver_outcome.specs.Outcome.{Due, Stored, ProgramOutcome, ran, CompileOutcome, made, past_size, SourceOutcome}
 use Rattle.alma_driver_outcome.specs.Outcome.{stopped, compiled, executed, unsound, ExecOutcome, opened, unopened}
 use Rattle.alma_driver_outcome.specs.Stored.{SpellsCodeOf}
 

@@ -5,7 +5,6 @@ use Rattle.alma_io.specs.Files.{Told, Missing, MayHave, MayPass}
 use Rattle.alma_io.specs.Whole.{MayHaveMore}
 use Rattle.alma_ir.specs.Tree.{Program}
 use Rattle.alma_mean.specs.Events as events
-use Rattle.alma_code.specs.declared.step.End as code
 use Rattle.alma_code.specs.declared.step.VerifyFault.{VerifyFault}
 use Rattle.alma_code.specs.ListText.{list_text}
 use Rattle.alma_code.specs.Plain.{PlainCode}
@@ -25,13 +24,13 @@ use Rattle.alma_run_laws.specs.Shown.{Shows, size_of}
 use Rattle.alma_driver_words.specs.Words.{Request, Check, Compile, Listing, Run, Exec, Trace, Sample, Asks, IsBadWord, default_steps}
 use Rattle.alma_driver_outcome.specs.Words.{read_by, limit_of, IsReadBy}
 use Rattle.alma_driver_outcome.specs.Showing.{Showing, Prints, Traces, counts_shown, text_shown}
-use Rattle.alma_driver_outcome.specs.Ends.{ended_end, mode_end, counts_in, status_of, sample_line}
+use Rattle.alma_driver_outcome.specs.Ends.{mode_end, counts_in, status_of, sample_line}
 use Rattle.alma_source.specs.Refusal.{IsRefused, IsProgramOf, place_of}
 use Rattle.alma_source.specs.declared.fault.SourceFault.{SourceFault}
 use Rattle.alma_driver_outcome.specs.declared.end.Counts.{Counts}
 use Rattle.alma_driver_outcome.specs.declared.end.End.{End}
-use Rattle.alma_driver_outcome.specs.declared.end.End.TheVariants.{Succeeded, Failed, Faulted, BadWord, Refused, StepsOut, ReadFault, Memory, BadObject}
-use Rattle.alma_driver_outcome.specs.declared.end.End.TheVariants.{BadCode, TooLong, TooMuchCode}
+use Rattle.alma_driver_outcome.specs.declared.end.End.TheVariants.{Succeeded, Failed, Faulted, BadWord, Refused, StepsOut, ReadFault}
+use Rattle.alma_driver_outcome.specs.declared.end.End.TheVariants.{Memory, BadObject, BadCode, TooLong, TooMuchCode}
 
 -- bytes under the name of a file
 pub record Stored : Type 0 where

@@ -29,7 +29,8 @@ use Rattle.alma_driver_outcome.specs.Ends.{run_end}
 use Rattle.alma_driver_outcome.specs.Outcome.{Due, code_due}
 use Rattle.alma_driver_outcome.specs.Showing.{Traces}
 use Rattle.alma_driver_outcome.specs.Course.{Goes}
-use Rattle.alma_driver_outcome.proofs.RunLemmas.{IsDue, end_is, fresh}
+use Rattle.alma_driver_outcome.proofs.RunLemmas.{IsDue, end_is}
+use Rattle.alma_run_laws.proofs.Fronts.{fresh}
 
 -- the names of watches
 abbrev pub names_of : List Watch → List (List ℕ)

@@ -4,4 +4,6 @@ mod Sizes
 mod Storing
 pub mod Sources
 pub mod Owns
+pub mod MeantLemmas
+pub mod UndisturbedLemmas
 pub mod ToldLemmas

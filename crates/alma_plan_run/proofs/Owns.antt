@@ -12,7 +12,8 @@ use Rattle.alma_plan.specs.Causes.{IsOwn, HasOwnEnds}
 use Rattle.alma_plan.specs.Plan.{Due, Ending, Plan, Ends, silent}
 use Rattle.alma_source.specs.Verdict.{Verdict, Accepted, Rejected}
 use Rattle.alma_plan_run.specs.Programs.{Last, Tells, Runs, Stores, sense, end_of, mode_end, accepted, read_source, refused, run_on}
-use Rattle.alma_plan_run.specs.Programs.{run_plan, size_of, store_plan, too_much_code, unless_large}
+use Rattle.alma_plan_run.specs.Programs.{run_plan, store_plan, too_much_code, unless_large}
+use Rattle.alma_run_laws.specs.Shown.{size_of}
 
 -- a status that is no fault of the outside, and no want of memory
 abbrev pub IsOwnStatus : ℕ → Type 0

@@ -1,48 +1,21 @@
 -- What a run of compiled code comes to, step by step.
-use Rattle.std.proofs.Common.{◌≡◌, ◌≤◌, ◌+◌, ◌∙◌, ℕ, zero, suc, List, [], ◌++◌, ap, sym, subst, refl, arith, append_assoc}
-use Rattle.std.specs.Prelude.{Option, true}
+use Rattle.std.proofs.Common.{◌≡◌, ◌≤◌, ◌∙◌, ℕ, List, ap, sym, subst, refl, arith}
 use Rattle.std.specs.Io.KnownBytes.{Appends}
-use Rattle.alma_io.specs.Causes.{HasCause}
-use Rattle.alma_io.specs.Fronts.{AppendsFront}
 use Rattle.alma_io.specs.Sides.{SinkSide}
 use Rattle.alma_code.specs.declared.step.End.TheVariants as ended
-use Rattle.alma_code.specs.Machine.{Mode, Going, Failing, Ended, Stuck, State, start, step, after, prints}
+use Rattle.alma_code.specs.Machine.{Mode, Going, Failing, Ended, Stuck, State, start, prints}
 use Rattle.alma_code.specs.Plain.{PlainCode}
 use Rattle.alma_lower_implements.specs.Implements.{state_after, line_in}
 use Rattle.alma_machine.specs.declared.machine.RunEnd.{RunEnd}
 use Rattle.alma_machine.specs.declared.machine.RunEnd.TheVariants as run
-use Rattle.alma_machine.specs.Runs.{run_end_of, made, all_written, OnWhole, OnMemory, OnWriteFault}
+use Rattle.alma_machine.specs.Runs.{run_end_of, made}
 use Rattle.alma_machine.specs.View.{MachineView}
+use Rattle.alma_run_laws.proofs.Fronts.{fresh, HasRun, front_of_more, whole_is_front}
 use Rattle.alma_ir.specs.Tree.{Program}
 use Rattle.alma_plan.specs.Course.{Goes, cut_short, hungry, hungry_within, whole}
 use Rattle.alma_plan.specs.Plan.{Due, Ending}
 use Rattle.alma_plan_run.specs.Ends.{program_end, run_end}
 use Rattle.alma_plan_run.specs.Programs.{Runs, IsCodeOf, mode_end, code_due, IsRun, Means}
-
--- what is printed in fewer steps is a front of what is printed in more
-prints_front : (code : PlainCode) (input : List ℕ) (m n : ℕ) (s : State) → m ≤ n → (rest : List ℕ)
-    × (prints code input n s ≡ prints code input m s ++ rest)
-prints_front code input zero n s le = (prints code input n s, refl)
-prints_front code input (suc m) zero s le = absurd (omega (arith, le))
-prints_front code input (suc m) (suc n) s le =
-    let next = (step code input s).state in
-    let more = prints_front code input m n next (omega (arith, le)) in (
-      more.0,
-      ap (λ z. (step code input s).printed ++ z) more.1
-          ∙ sym (append_assoc (step code input s).printed (prints code input m next) more.0),
-    )
-
--- a front of what is printed in fewer steps is a front of what is printed in more
-front_of_more : (a b : Option (List ℕ)) (code : PlainCode) (input : List ℕ) (m n : ℕ) (s : State) → m ≤ n
-    → AppendsFront a b (prints code input m s) → AppendsFront a b (prints code input n s)
-front_of_more a b code input m n s le h =
-    let more = prints_front code input m n s le in
-    (h.0, h.1 ++ more.0, more.1 ∙ ap (λ z. z ++ more.0) h.2 ∙ append_assoc h.0 h.1 more.0, h.3)
-
--- all that is printed in fewer steps is such a front
-whole_is_front : (a b : Option (List ℕ)) (code : PlainCode) (input : List ℕ) (m n : ℕ) (s : State) → m ≤ n
-    → Appends a b (prints code input m s) → AppendsFront a b (prints code input n s)
-whole_is_front a b code input m n s le h = let more = prints_front code input m n s le in (prints code input m s, more.0, more.1, h)
 
 module _ (program : List ℕ) (failed : Ending) where
   -- the answer of a run that was not cut short is by the mode in which it is left
@@ -63,20 +36,6 @@ module _ (program : List ℕ) (failed : Ending) where
       let s = state_after code input steps in
       mode_is s.mode (line_in code s) ∙ ap (λ r. program_end program failed (run_end r (line_in code s))) (sym is)
       ∙ ap (λ t. program_end program failed (run_end answer (line_in code t))) (sym same)
-
--- a machine at the start of the code, on an input
-abbrev pub fresh : PlainCode → (input : List ℕ) → MachineView
-fresh code input = record { code = code; input = input; state = start code; running = true; printed = [] }
-
--- what a run ensures
-pub record HasRun (old new : MachineView) (steps : ℕ) (answer : RunEnd) (a b : SinkSide) : Type 0 where
-  pub answered : OnWhole answer (answer ≡ run_end_of (after old.code old.input steps old.state).mode)
-  pub state : OnWhole answer (new.state ≡ after old.code old.input steps old.state)
-  pub out : OnWhole answer (Appends a.written b.written (prints old.code old.input steps old.state))
-  pub few : new.state.steps ≤ old.state.steps + steps
-  pub memory : OnMemory answer (Appends a.written b.written (prints old.code old.input (made old new) old.state))
-  pub write_fault : OnWriteFault answer (AppendsFront a.written b.written (prints old.code old.input (made old new) old.state))
-  pub cause : HasCause a.faults b.faults (all_written answer)
 
 module _ (program : List ℕ) (failed : Ending) (code : PlainCode) (input : List ℕ) (new : MachineView) (steps : ℕ) (a b : SinkSide) where
   -- a run that was not cut short goes as its code is due

@@ -12,16 +12,20 @@ ghost use Rattle.alma_source.specs.Verdict.{Verdict};
 
 /// What is due from a run of a program is what its meaning says: its prints and its end, or a front of them where the steps ran out.
 pub fn a_run_is_what_its_program_means()
-    ensures means { (program : List ℕ) (failed : Ending) (p : Program) (input : List ℕ) (steps : ℕ) (due : Due)
-        → length input ≤ input_limit → (sense program failed).means (Runs p input steps) due
+    ensures means { (program : List ℕ) (failed : Ending) (p : Program) (input : List ℕ)
+        (steps : ℕ) (due : Due) → length input ≤ input_limit
+        → (sense program failed).means (Runs p input steps) due
         → IsMeant program failed p input steps due }
 {}
 
 /// A call in which nothing fails, and whose files are there, shows what its plan may come to.
 pub fn an_undisturbed_call_shows_what_is_due()
-    ensures shown { (program : List ℕ) (failed : Ending) (plan : Plan Verdict Last) (before after : Outside)
-        (status : ℕ) → Causes (sense program failed) program plan before after status
-        → IsUndisturbed before after status → (MayLack (sense program failed) before.files.told plan → ⊥)
+    ensures shown { (program : List ℕ) (failed : Ending) (plan : Plan Verdict Last)
+        (before after : Outside) (status : ℕ)
+        → Causes (sense program failed) program plan before after status
+        → IsUndisturbed before after status
+        → (MayLack (sense program failed) before.files.told plan → ⊥)
         → (reading : Reading) × (due : Due)
-        × MayCome (sense program failed) program plan before reading due × ShowsDue before after status due }
+        × MayCome (sense program failed) program plan before reading due
+        × ShowsDue before after status due }
 {}

@@ -1,3 +1,5 @@
 pub mod Fronts
 pub mod Unread
 pub mod Meant
+pub mod Sizes
+pub mod Told

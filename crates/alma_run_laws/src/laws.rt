@@ -15,13 +15,14 @@ pub fn a_run_is_what_its_program_means()
     ensures shows { (code : PlainCode) (p : Program) (input : List ℕ) (steps : ℕ)
         → Implements code p → length input ≤ input_limit
         → Shows p input steps (printed_by code input steps)
-        (shown_end (state_after code input steps).mode (line_in code (state_after code input steps))) }
+        (shown_end (state_after code input steps).mode
+        (line_in code (state_after code input steps))) }
 {}
 
 /// Where the meaning comes to its end at some level, 32 steps for each of its visits, and 32 more, are enough for its result.
 pub fn enough_steps_show_the_result()
-    ensures result { (p : Program) (input : List ℕ) (steps : ℕ) (printed : List ℕ) (end : End) (level : ℕ)
-        → Shows p input steps printed end
+    ensures result { (p : Program) (input : List ℕ) (steps : ℕ) (printed : List ℕ) (end : End)
+        (level : ℕ) → Shows p input steps printed end
         → (end_of (first (ev_program level p input)) ≡ CutOff → ⊥)
         → 32 * (visit_count (first (ev_program level p input)) + 1) ≤ steps
         → result level p input ≡ (printed, end) }

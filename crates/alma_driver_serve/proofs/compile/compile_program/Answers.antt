@@ -1,6 +1,7 @@
 use Rattle.alma_code.specs.Plain.{code_of}
 use Rattle.alma_ir.specs.View.{program_of}
-use Rattle.alma_driver_outcome.proofs.DriverLemmas.{unlowered, compiled_within, works_compiled, works_refused}
+use Rattle.alma_driver_outcome.proofs.DriverLemmas.{unlowered, works_compiled, works_refused}
+use Rattle.alma_run_laws.proofs.Sizes.{compiled_within}
 use Rattle.alma_driver_serve.proofs.compile.compile_program.Goals as goal
 
 pub returns-in-Ok-clause-course : goal.returns-in-Ok-clause-course

@@ -1,7 +1,8 @@
 use Rattle.alma_code.specs.Plain.{code_of}
 use Rattle.alma_ir.specs.View.{program_of}
 use Rattle.alma_driver_outcome.specs.Showing.{shown_of}
-use Rattle.alma_driver_outcome.proofs.DriverLemmas.{unlowered, compiled_within, runs_compiled, runs_refused}
+use Rattle.alma_driver_outcome.proofs.DriverLemmas.{unlowered, runs_compiled, runs_refused}
+use Rattle.alma_run_laws.proofs.Sizes.{compiled_within}
 use Rattle.alma_driver_serve.proofs.source.run_program.Goals as goal
 
 pub returns-in-Ok : goal.returns-in-Ok

@@ -3,7 +3,8 @@ use Rattle.alma_code.specs.Plain.{code_of}
 use Rattle.alma_object_format.specs.Object.{object_bytes}
 use Rattle.alma_plan.proofs.Courses.{course_starved, course_stored, course_unstored, course_starved_store}
 use Rattle.alma_plan_run.specs.Programs.{Stores, sense, storing}
-use Rattle.alma_plan_run.proofs.Storing.{is_object, stored_as, told_stays}
+use Rattle.alma_plan_run.proofs.Storing.{is_object, stored_as}
+use Rattle.alma_run_laws.proofs.Told.{told_stays}
 use Rattle.alma_plan_run.proofs.object.store_code.Goals as goal
 
 pub returns-in_default : goal.returns-in_default

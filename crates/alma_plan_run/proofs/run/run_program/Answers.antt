@@ -1,6 +1,7 @@
 use Rattle.alma_ir.specs.View.{program_of}
 use Rattle.alma_plan.proofs.Courses.{course_starved}
-use Rattle.alma_plan_run.proofs.Sizes.{course_within, course_large, compiled_within, refused_large}
+use Rattle.alma_plan_run.proofs.Sizes.{course_within, course_large}
+use Rattle.alma_run_laws.proofs.Sizes.{compiled_within, refused_large}
 use Rattle.alma_plan_run.proofs.run.run_program.Goals as goal
 
 pub returns-in-Ok : goal.returns-in-Ok
