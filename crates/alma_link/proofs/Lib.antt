@@ -2,3 +2,4 @@ mod WordLemmas
 mod UnitLemmas
 mod Plans
 mod TextLemmas
+mod Calls

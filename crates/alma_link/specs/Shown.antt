@@ -20,7 +20,8 @@ use Rattle.alma_link.specs.Words.{Run, request, request_of}
 -- each file has the source of its place, which is within its length
 abbrev pub HaveSources : (told : List ℕ → Told) → (files sources : List (List ℕ)) → Type 0
 HaveSources told [] [] = Unit {0}
-HaveSources told (file ∷ files) (source ∷ sources) = (told file ≡ Has source) × (length source ≤ source_limit) × HaveSources told files sources
+HaveSources told (file ∷ files) (source ∷ sources) =
+    (told file ≡ Has source) × (length source ≤ source_limit) × HaveSources told files sources
 HaveSources told [] (source ∷ sources) = ⊥
 HaveSources told (file ∷ files) [] = ⊥
 
