@@ -72,7 +72,8 @@ module _ (p : Program) (input : List ℕ) (steps : ℕ) (due : Due) (lists : Lis
       let e : Events NoYield = ev_program (suc steps) (listing_of p) input in
       let here = prefix_of_prefix due.out (prints (first e)) (prints e) (front_prints (first e) due.out covers.visits covers.front)
       (first_prints e) in
-      front (ends ∙ ap listing_end cut) (prefix_of_prefix due.out (prints e) _ here (lists (suc steps) input).prefix) covers (may_run_out out)
+      front (ends ∙ ap listing_end cut) (prefix_of_prefix due.out (prints e) _ here (lists (suc steps) input).prefix) covers
+      (may_run_out out)
 
 pub lists_every_alternative : ListsEveryAlternative
 lists_every_alternative p input steps due checked stays short means =
