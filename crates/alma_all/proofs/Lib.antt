@@ -3,3 +3,4 @@ mod WordCourses
 mod Returns
 mod Plans
 mod Listings
+mod Calls

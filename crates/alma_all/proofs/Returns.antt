@@ -74,7 +74,7 @@ or_parts : (a b : Bool) → (a || b) ≡ false → (a ≡ false) × (b ≡ false
 or_parts true b e = cc e
 or_parts false b e = (refl, e)
 
-all_there : (xs : List Phrase) → list_any is_return xs ≡ false → AllByRecursion IsNoReturn xs
+pub all_there : (xs : List Phrase) → list_any is_return xs ≡ false → AllByRecursion IsNoReturn xs
 all_there [] h = tt
 all_there (x ∷ xs) h =
     let parts = or_parts (is_return x) (list_any is_return xs) h in (is_no_return x parts.0, all_there xs parts.1)
