@@ -1,2 +1,3 @@
 mod Computed
 mod ComputedLinks
+mod ComputedNodes

@@ -1,6 +1,5 @@
 // The head of a routine.
-ghost use Rattle.std.specs.Prelude.{◌≡◌, length, IfOk};
-
+use alma_base::NoMemory;
 use alma_code::{CodeParam, Head, ParamKind, RoutineHead, Run, SlotKind};
 use std::alloc::Global;
 use std::test::Fail;
@@ -13,10 +12,31 @@ fn last_run<H: Head>(head: &H) -> Option<Run> {
     }
 }
 
+// How the last parameter takes its argument.
+fn last_param<H: Head>(head: &H) -> Option<ParamKind> {
+    match head.param_count() {
+        0 => None,
+        count => Some(head.param(count - 1).kind),
+    }
+}
+
+// The slots, the declared cells, the parameters and the runs of a head; its last run and parameter; whether it has a result.
+pub(crate) type Shown = ([u32; 4], Option<Run>, Option<ParamKind>, bool);
+
+// What a head shows.
+pub(crate) fn show<H: Head>(head: &H) -> Shown {
+    let (run, param) = (last_run(head), last_param(head));
+    let counts = [
+        head.slots(),
+        head.declared(),
+        head.param_count(),
+        head.run_count(),
+    ];
+    (counts, run, param, head.has_result())
+}
+
 // A routine of a place and two numbers, whose parameter is a MIX of one cell.
-fn mix_routine(alloc: Global) -> Result<RoutineHead, Fail>
-    ensures { IfOk result (λ routine. length routine.params.items ≡ 1) }
-{
+fn mix_routine(alloc: Global) -> Result<RoutineHead, NoMemory> {
     let place = Run {
         kind: SlotKind::Place(1),
         end: 1,
@@ -42,21 +62,20 @@ fn mix_routine(alloc: Global) -> Result<RoutineHead, Fail>
     })
 }
 
+// What its head shows.
+fn show_mix(alloc: Global) -> Result<Shown, NoMemory> {
+    let routine = mix_routine(alloc)?;
+    Ok(show(&routine))
+}
+
 #[test]
 fn a_routine_is_a_head(rt: HostRuntime) -> Result<(), Fail> {
-    let routine = mix_routine(rt.alloc())?;
     let numbers = Run {
         kind: SlotKind::Number,
         end: 3,
     };
-    assert_eq!(rt; last_run(&routine), Some(numbers));
-    assert_eq!(rt;
-        (routine.param_count(), routine.param(0).kind),
-        (1, ParamKind::Mix)
-    );
-    assert_eq!(rt;
-        (routine.slots(), routine.declared(), routine.has_result()),
-        (3, 1, true)
-    );
+    let found = show_mix(rt.alloc())?;
+    let want = ([3, 1, 1, 2], Some(numbers), Some(ParamKind::Mix), true);
+    assert_eq!(rt; found, want);
     Ok(())
 }

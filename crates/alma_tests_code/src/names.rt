@@ -1,7 +1,7 @@
 // What each table answers on its happy path and at its limits.
 ghost use Rattle.std.specs.Prelude.{◌≡◌, ◌+◌, ◌^◌, ◌<◌, ◌≤◌, ◌≤ℤ◌, pos, Some, slice_get, length, IfOk, OnOk};
 ghost use Rattle.alma_names.specs.Scopes.{first_blocks, with_new_block, entry_count};
-ghost use Rattle.alma_names.specs.Shapes.{integer};
+ghost use Rattle.alma_names.specs.Shapes.{integer, first_shapes};
 
 use alma_base::{NoMemory, Range};
 use alma_names::{
@@ -55,14 +55,16 @@ enum Element {
     Row(i64),
 }
 
-// The cells of ARRAY [1..count] OF element, in a table of its own.
-fn row_cells(alloc: Global, count: i64, element: Element) -> Result<u32, ShapeError>
-    requires { pos 1 ≤ℤ count }
+// The cells of ARRAY [1..count] OF element, in a new table.
+fn add_cells(
+    alloc: Global,
+    shapes: &mut Shapes,
+    count: i64,
+    element: Element,
+) -> Result<u32, ShapeError>
+    requires new { shapes.old ≡ first_shapes }
+    requires count { pos 1 ≤ℤ count }
 {
-    let mut shapes = match Shapes::new(alloc) {
-        Ok(shapes) => shapes,
-        Err(_error) => return Err(ShapeError::Memory),
-    };
     let element = match element {
         Element::Char => CHAR,
         Element::Nothing => shapes.add(
@@ -71,10 +73,20 @@ fn row_cells(alloc: Global, count: i64, element: Element) -> Result<u32, ShapeEr
                 fields: Vec::new(alloc),
             },
         )?,
-        Element::Row(n) => add_row(alloc, &mut shapes, n.max(1), CHAR)?,
+        Element::Row(n) => add_row(alloc, shapes, n.max(1), CHAR)?,
     };
-    let id = add_row(alloc, &mut shapes, count, element)?;
+    let id = add_row(alloc, shapes, count, element)?;
     Ok(shapes.cells(id))
+}
+
+// The same in a table of its own.
+fn row_cells(alloc: Global, count: i64, element: Element) -> Result<u32, ShapeError>
+    requires { pos 1 ≤ℤ count }
+{
+    match Shapes::new(alloc) {
+        Ok(mut shapes) => add_cells(alloc, &mut shapes, count, element),
+        Err(_error) => Err(ShapeError::Memory),
+    }
 }
 
 #[test]
@@ -132,28 +144,67 @@ fn add_record(
     Ok(shapes.add(alloc, Shape::Fields { fields })?)
 }
 
-#[test]
-fn fields_stand_behind_each_other(rt: HostRuntime) -> Result<(), Fail> {
-    let alloc = rt.alloc();
-    let mut shapes = Shapes::new(alloc)?;
+// A record with no fields, ARRAY [1..3] OF CHAR, and the record of both.
+#[derive(Clone, Copy)]
+struct Ids {
+    nothing: ShapeId,
+    row: ShapeId,
+    record: ShapeId,
+}
+
+// Adds them to a new table.
+fn add_all(alloc: Global, shapes: &mut Shapes) -> Result<Ids, Fail>
+    requires { shapes.old ≡ first_shapes }
+    ensures row { IfOk result (λ ids. ids.row.0 < length shapes.new) }
+    ensures record { IfOk result (λ ids. ids.record.0 < length shapes.new) }
+{
     let nothing = shapes.add(
         alloc,
         Shape::Fields {
             fields: Vec::new(alloc),
         },
     )?;
-    let row = add_row(alloc, &mut shapes, 3, CHAR)?;
-    let record = add_record(alloc, &mut shapes, nothing, row)?;
-    assert_eq!(rt; shapes.cells(record), 4);
-    for (id, name, want) in [
-        (record, b"a", Some((0, nothing))),
-        (record, b"b", Some((0, row))),
-        (record, b"A", Some((3, INTEGER))),
-        (record, b"B", None),
-        (row, b"a", None),
-    ] {
-        assert_eq!(rt; shapes.field(id, name), want, "at {name:?}");
-    }
+    let row = add_row(alloc, shapes, 3, CHAR)?;
+    let record = add_record(alloc, shapes, nothing, row)?;
+    Ok(Ids {
+        nothing,
+        row,
+        record,
+    })
+}
+
+// A field's offset and shape.
+type Found = Option<(u32, ShapeId)>;
+
+// The fields of the record, one that it has not, and one of the row.
+fn find_fields(shapes: &Shapes, ids: Ids) -> [Found; 5]
+    requires row { ids.row.0 < length shapes.now }
+    requires record { ids.record.0 < length shapes.now }
+{
+    [
+        shapes.field(ids.record, b"a"),
+        shapes.field(ids.record, b"b"),
+        shapes.field(ids.record, b"A"),
+        shapes.field(ids.record, b"B"),
+        shapes.field(ids.row, b"a"),
+    ]
+}
+
+// The shapes, the cells of the record, and those fields.
+fn show_fields(alloc: Global) -> Result<(Ids, u32, [Found; 5]), Fail> {
+    let mut shapes = Shapes::new(alloc)?;
+    let ids = add_all(alloc, &mut shapes)?;
+    let cells = shapes.cells(ids.record);
+    Ok((ids, cells, find_fields(&shapes, ids)))
+}
+
+#[test]
+fn fields_stand_behind_each_other(rt: HostRuntime) -> Result<(), Fail> {
+    let (ids, cells, found) = show_fields(rt.alloc())?;
+    let first = Some((0, ids.nothing));
+    let second = Some((0, ids.row));
+    let want = [first, second, Some((3, INTEGER)), None, None];
+    assert_eq!(rt; (cells, found), (4, want));
     Ok(())
 }
 
@@ -188,28 +239,46 @@ fn make_colours(alloc: Global) -> Result<Colours, Fail> {
 }
 
 // The least and the greatest value of a shape, and its base.
-fn bounds(shapes: &Shapes, id: ShapeId) -> (Option<(i64, i64)>, ShapeId)
+type Bounds = (Option<(i64, i64)>, ShapeId);
+
+// Those of a shape.
+fn bounds(shapes: &Shapes, id: ShapeId) -> Bounds
     requires { id.0 < length shapes.now }
 {
     let range = shapes.range(id).map(|range| (range.low, range.high));
     (range, shapes.base(id))
 }
 
+// Those of the shapes that each table has, and of the three others.
+fn all_bounds(made: &Colours) -> [Bounds; 6] {
+    [
+        bounds(&made.shapes, INTEGER),
+        bounds(&made.shapes, CHAR),
+        bounds(&made.shapes, BOOLEAN),
+        bounds(&made.shapes, made.all),
+        bounds(&made.shapes, made.some),
+        bounds(&made.shapes, made.row),
+    ]
+}
+
+// How many cells the array has, and whether it is one.
+fn show_row(made: &Colours) -> (u32, bool) {
+    let is_row = matches!(made.shapes.get(made.row), Shape::Row { .. });
+    (made.shapes.cells(made.row), is_row)
+}
+
 #[test]
 fn ranges_and_bases(rt: HostRuntime) -> Result<(), Fail> {
     let made = make_colours(rt.alloc())?;
-    for (id, range, base) in [
-        (INTEGER, Some((i64::MIN, i64::MAX)), INTEGER),
-        (CHAR, Some((0, 255)), CHAR),
-        (BOOLEAN, Some((0, 1)), BOOLEAN),
-        (made.all, Some((0, 2)), made.all),
-        (made.some, Some((1, 2)), made.all),
-        (made.row, None, made.row),
-    ] {
-        assert_eq!(rt; bounds(&made.shapes, id), (range, base), "at {id:?}");
-    }
-    let is_row = matches!(made.shapes.get(made.row), Shape::Row { .. });
-    assert_eq!(rt; (made.shapes.cells(made.row), is_row), (2, true));
+    let want = [
+        (Some((i64::MIN, i64::MAX)), INTEGER),
+        (Some((0, 255)), CHAR),
+        (Some((0, 1)), BOOLEAN),
+        (Some((0, 2)), made.all),
+        (Some((1, 2)), made.all),
+        (None, made.row),
+    ];
+    assert_eq!(rt; (all_bounds(&made), show_row(&made)), (want, (2, true)));
     Ok(())
 }
 
@@ -246,17 +315,28 @@ fn declare_in_two(alloc: Global, scopes: &mut Scopes, outer: u32, inner: u32) ->
 }
 
 // What `x` stands for at a token in both blocks, and at the token 9 where the higher one is closed.
-fn meanings(
+type Meanings = (Option<Entry>, Option<Entry>);
+
+// Declares it in both.
+fn mean_in_two(
     alloc: Global,
+    scopes: &mut Scopes,
     outer: u32,
     inner: u32,
     at: u32,
-) -> Result<(Option<Entry>, Option<Entry>), Fail> {
-    let mut scopes = one_block(alloc)?;
-    declare_in_two(alloc, &mut scopes, outer, inner)?;
-    let both = meaning(&scopes, b"x", at);
+) -> Result<Meanings, Fail>
+    requires { scopes.old ≡ with_new_block first_blocks }
+{
+    declare_in_two(alloc, scopes, outer, inner)?;
+    let both = meaning(scopes, b"x", at);
     scopes.pop_block();
-    Ok((both, meaning(&scopes, b"x", 9)))
+    Ok((both, meaning(scopes, b"x", 9)))
+}
+
+// The same in blocks of their own.
+fn meanings(alloc: Global, outer: u32, inner: u32, at: u32) -> Result<Meanings, Fail> {
+    let mut scopes = one_block(alloc)?;
+    mean_in_two(alloc, &mut scopes, outer, inner, at)
 }
 
 const TWO_BLOCKS: [(u32, u32, u32, Option<Entry>); 9] = [
@@ -294,21 +374,33 @@ fn declare_both(alloc: Global, scopes: &mut Scopes) -> Result<(Id, Id), DeclareE
     Ok((small, large))
 }
 
-#[test]
-fn names_that_differ_in_case_are_two(rt: HostRuntime) -> Result<(), Fail> {
-    let alloc = rt.alloc();
-    let mut scopes = one_block(alloc)?;
-    let (small, large) = declare_both(alloc, &mut scopes)?;
+// Whether each of both is found, whether the second is refused once more, and what it stands for.
+type Cases = (bool, bool, Option<Entry>);
+
+// Declares both, and the second once more.
+fn declare_again(alloc: Global, scopes: &mut Scopes) -> Result<Cases, DeclareError>
+    requires { scopes.old ≡ with_new_block first_blocks }
+{
+    let (small, large) = declare_both(alloc, scopes)?;
     let found = (scopes.find(b"x", 0), scopes.find(b"X", 0));
     let again = scopes.declare(alloc, b"X", 0, Entry::Bad);
-    assert_eq!(rt;
-        (found, again, meaning(&scopes, b"X", 0)),
-        (
-            (Some(small), Some(large)),
-            Err(DeclareError::Twice(large)),
-            Some(INNER)
-        )
-    );
+    Ok((
+        found == (Some(small), Some(large)),
+        again == Err(DeclareError::Twice(large)),
+        meaning(scopes, b"X", 0),
+    ))
+}
+
+// The same in a block of its own.
+fn show_cases(alloc: Global) -> Result<Cases, Fail> {
+    let mut scopes = one_block(alloc)?;
+    Ok(declare_again(alloc, &mut scopes)?)
+}
+
+#[test]
+fn names_that_differ_in_case_are_two(rt: HostRuntime) -> Result<(), Fail> {
+    let found = show_cases(rt.alloc())?;
+    assert_eq!(rt; found, (true, true, Some(INNER)));
     Ok(())
 }
 
@@ -321,22 +413,42 @@ const PREDECLARED: [(&str, Option<Entry>); 6] = [
     ("true", None),
 ];
 
+// What a name stands for outside each module.
+fn predeclared(alloc: Global, name: &[u8]) -> Result<Option<Entry>, NoMemory> {
+    let scopes = Scopes::new(alloc)?;
+    Ok(meaning(&scopes, name, 0))
+}
+
 #[test]
 fn predeclared_names_stand_for_types_and_truths(rt: HostRuntime) -> Result<(), Fail> {
-    let scopes = Scopes::new(rt.alloc())?;
     for (name, want) in &PREDECLARED {
-        assert_eq!(rt; meaning(&scopes, name.as_bytes(), 0), *want, "at {name}");
+        let found = predeclared(rt.alloc(), name.as_bytes())?;
+        assert_eq!(rt; found, *want, "at {name}");
     }
     Ok(())
 }
 
+// What TRUE stands for before and behind its declaration at the token 4.
+fn redeclare(
+    alloc: Global,
+    scopes: &mut Scopes,
+) -> Result<(Option<Entry>, Option<Entry>), DeclareError>
+    requires { scopes.old ≡ with_new_block first_blocks }
+{
+    scopes.declare(alloc, b"TRUE", 4, OUTER)?;
+    Ok((meaning(scopes, b"TRUE", 3), meaning(scopes, b"TRUE", 4)))
+}
+
+// The same in a block of its own.
+fn redeclared(alloc: Global) -> Result<(Option<Entry>, Option<Entry>), Fail> {
+    let mut scopes = one_block(alloc)?;
+    Ok(redeclare(alloc, &mut scopes)?)
+}
+
 #[test]
 fn predeclared_names_may_be_declared_again(rt: HostRuntime) -> Result<(), Fail> {
-    let alloc = rt.alloc();
-    let mut scopes = one_block(alloc)?;
-    scopes.declare(alloc, b"TRUE", 4, OUTER)?;
     assert_eq!(rt;
-        (meaning(&scopes, b"TRUE", 3), meaning(&scopes, b"TRUE", 4)),
+        redeclared(rt.alloc())?,
         (Some(Entry::Constant(BOOLEAN, 1)), Some(OUTER))
     );
     Ok(())

@@ -1,6 +1,7 @@
 // The bytes of two small objects: what is read of them, and what is refused.
 ghost use Rattle.std.specs.Prelude.{◌<◌};
 
+use crate::code::{Shown, show};
 use alma_base::NoMemory;
 use alma_code::{Head, Instr, Run, SlotKind};
 use alma_object::{ObjectFault, ObjectView, encode};
@@ -35,45 +36,58 @@ pub(crate) fn opened(bytes: &[u8]) -> Result<ObjectView<'_>, &'static str> {
     ObjectView::new(bytes).ok().ok_or("an object")
 }
 
-#[test]
-fn an_object_is_read(rt: HostRuntime) -> Result<(), Fail> {
-    let view = opened(&FIRST)?;
-    assert_eq!(rt; view.version(), 1);
-    assert_eq!(rt;
-        (view.routine_count(), view.code_count(), view.global_count()),
-        (1, 1, 0)
-    );
-    assert!(rt; matches!(view.instr(0), Instr::Return));
-    let more = [
+// The version of an object, and how many routines, instructions and globals it has.
+pub(crate) fn counts(view: &ObjectView<'_>) -> (u16, [u32; 3]) {
+    let counts = [view.routine_count(), view.code_count(), view.global_count()];
+    (view.version(), counts)
+}
+
+// Whether the first instruction is Return.
+fn returns_first(view: &ObjectView<'_>) -> bool {
+    view.code_count() > 0 && matches!(view.instr(0), Instr::Return)
+}
+
+// Whether there is a second routine, a global, a range, a text or a read.
+fn has_more(view: &ObjectView<'_>) -> [bool; 5] {
+    [
         view.routine(1).is_some(),
         view.global(0).is_some(),
         view.range(0).is_some(),
         view.text(0).is_some(),
         view.has_read(),
-    ];
-    assert_eq!(rt; more, [false; 5]);
+    ]
+}
+
+#[test]
+fn an_object_is_read(rt: HostRuntime) -> Result<(), Fail> {
+    let view = opened(&FIRST)?;
+    assert_eq!(rt;
+        (counts(&view), returns_first(&view), has_more(&view)),
+        ((1, [1, 1, 0]), true, [false; 5])
+    );
     Ok(())
+}
+
+// The name of a routine, the ends of its code, and what its head shows.
+type RoutineShown<'b> = (&'b [u8], [u32; 2], Shown);
+
+// What the first routine shows.
+fn show_routine<'b>(view: &ObjectView<'b>) -> Option<RoutineShown<'b>> {
+    let routine = view.routine(0)?;
+    let ends = [routine.code_start(), routine.code_end()];
+    Some((routine.name(), ends, show(&routine)))
 }
 
 #[test]
 fn a_routine_of_an_object_is_read(rt: HostRuntime) -> Result<(), Fail> {
     let view = opened(&FIRST)?;
-    let routine = view.routine(0).ok_or("a routine")?;
-    assert_eq!(rt; routine.name(), b"A".as_slice());
-    let ends = [routine.code_start(), routine.code_end()];
-    assert_eq!(rt; ends, [0, 1]);
-    let counts = [
-        routine.slots(),
-        routine.declared(),
-        routine.param_count(),
-        routine.run_count(),
-    ];
-    assert_eq!(rt; (counts, routine.has_result()), ([1, 0, 0, 1], false));
     let run = Run {
         kind: SlotKind::Number,
         end: 1,
     };
-    assert_eq!(rt; routine.run(0), run);
+    let head = ([1, 0, 0, 1], Some(run), None, false);
+    let want = (b"A".as_slice(), [0, 1], head);
+    assert_eq!(rt; show_routine(&view), Some(want));
     Ok(())
 }
 
@@ -133,13 +147,22 @@ fn a_byte_after_the_object(rt: HostRuntime) {
 #[test]
 fn version_two(rt: HostRuntime) -> Result<(), Fail> {
     let view = opened(&SECOND)?;
-    assert_eq!(rt; (view.version(), view.code_count()), (2, 1));
-    assert!(rt; matches!(view.instr(0), Instr::Return));
     assert_eq!(rt;
-        ObjectView::new(&SECOND[..107]).err(),
-        Some(ObjectFault::Cut(107))
+        (counts(&view), returns_first(&view)),
+        ((2, [1, 1, 0]), true)
     );
     Ok(())
+}
+
+#[test]
+fn version_two_is_cut(rt: HostRuntime) {
+    let fault = ObjectView::new(&SECOND[..107]).err();
+    assert_eq!(rt; fault, Some(ObjectFault::Cut(107)));
+}
+
+// Whether the code is one instruction, which puts an own link into slot 0.
+fn has_own_link(view: &ObjectView<'_>) -> bool {
+    view.code_count() == 1 && matches!(view.instr(0), Instr::Own { to: 0 })
 }
 
 #[test]
@@ -147,8 +170,7 @@ fn version_two_has_own_links(rt: HostRuntime) -> Result<(), Fail> {
     let mut own = SECOND;
     own[91] = 0x31;
     let view = opened(&own)?;
-    assert_eq!(rt; view.code_count(), 1);
-    assert!(rt; matches!(view.instr(0), Instr::Own { to: 0 }));
+    assert!(rt; has_own_link(&view));
     Ok(())
 }
 

@@ -1,10 +1,9 @@
 // The same objects, and which rule they break with one byte altered.
 ghost use Rattle.std.specs.Prelude.{◌<◌};
 
-use crate::object::{FIRST, SECOND, opened};
+use crate::object::{FIRST, SECOND};
 use alma_object::ObjectView;
 use alma_verify::{VerifyFault, verify};
-use std::test::Fail;
 
 // What the verifier says of an object, where the bytes are one.
 fn verdict(bytes: &[u8]) -> Option<Result<(), VerifyFault>> {
@@ -27,14 +26,24 @@ fn with_byte(at: usize, byte: u8) -> Option<Result<(), VerifyFault>>
     verdict(&bytes)
 }
 
+// The version of an object that is verified, and how many instructions its view has.
+fn verified_counts(bytes: &[u8]) -> Option<(u16, u32)> {
+    let view = ObjectView::new(bytes).ok()?;
+    let verified = verify(view).ok()?;
+    let view = verified.view();
+    Some((view.version(), view.code_count()))
+}
+
 #[test]
-fn objects_of_both_versions_are_sound(rt: HostRuntime) -> Result<(), Fail> {
+fn objects_of_both_versions_are_sound(rt: HostRuntime) {
     let verdicts = [verdict(&FIRST), verdict(&SECOND)];
     assert_eq!(rt; verdicts, [Some(Ok(())); 2]);
-    let verified = verify(opened(&SECOND)?).ok().ok_or("sound")?;
-    let view = verified.view();
-    assert_eq!(rt; (view.version(), view.code_count()), (2, 1));
-    Ok(())
+}
+
+#[test]
+fn a_verified_object_has_its_own_view(rt: HostRuntime) {
+    let found = [verified_counts(&FIRST), verified_counts(&SECOND)];
+    assert_eq!(rt; found, [Some((1, 1)), Some((2, 1))]);
 }
 
 #[test]

@@ -1,30 +1,31 @@
 // Division, what READ finds, and what WRITE prints.
-use alma_base::{ReadInt, Value, div_down, mod_down, read_int, write_value};
+use alma_base::{NoMemory, ReadInt, Value, div_down, mod_down, read_int, write_value};
+use std::alloc::Global;
 use std::test::Fail;
 
-const QUOTIENTS: [(i64, i64, i64, i64); 10] = [
-    (7, 2, 3, 1),
-    (-7, 2, -4, 1),
-    (7, -2, -4, -1),
-    (-7, -2, 3, -1),
-    (6, -2, -3, 0),
-    (-6, 2, -3, 0),
-    (0, -5, 0, 0),
-    (i64::MIN, 1, i64::MIN, 0),
-    (i64::MIN, 3, -3074457345618258603, 1),
-    (i64::MAX, -1, -9223372036854775807, 0),
+// Two numbers, and their DIV and MOD.
+const QUOTIENTS: [(i64, i64, Option<i64>, i64); 11] = [
+    (7, 2, Some(3), 1),
+    (-7, 2, Some(-4), 1),
+    (7, -2, Some(-4), -1),
+    (-7, -2, Some(3), -1),
+    (6, -2, Some(-3), 0),
+    (-6, 2, Some(-3), 0),
+    (0, -5, Some(0), 0),
+    (i64::MIN, 1, Some(i64::MIN), 0),
+    (i64::MIN, 3, Some(-3074457345618258603), 1),
+    (i64::MAX, -1, Some(-9223372036854775807), 0),
+    (i64::MIN, -1, None, 0),
 ];
 
 #[test]
 fn division_rounds_down(rt: HostRuntime) {
     for (a, b, quotient, rest) in QUOTIENTS {
         if b != 0 {
-            assert_eq!(rt; div_down(a, b), Some(quotient), "{a} DIV {b}");
-            assert_eq!(rt; mod_down(a, b), rest, "{a} MOD {b}");
+            let found = (div_down(a, b), mod_down(a, b));
+            assert_eq!(rt; found, (quotient, rest), "{a} and {b}");
         }
     }
-    assert_eq!(rt; div_down(i64::MIN, -1), None);
-    assert_eq!(rt; mod_down(i64::MIN, -1), 0);
 }
 
 const READINGS: [(&[u8], usize, ReadInt); 17] = [
@@ -55,13 +56,24 @@ fn a_number_is_read_behind_blanks_and_a_sign(rt: HostRuntime) {
     }
 }
 
+// The values, printed one behind another.
+fn printed(alloc: Global, values: &[Value]) -> Result<Vec<u8>, NoMemory> {
+    let mut out = Vec::new(alloc);
+    for value in values {
+        write_value(&mut out, value)?;
+    }
+    Ok(out)
+}
+
 #[test]
 fn values_print(rt: HostRuntime) -> Result<(), Fail> {
-    let mut out = Vec::new(rt.alloc());
-    write_value(&mut out, &Value::Int(i64::MIN))?;
-    write_value(&mut out, &Value::Char(b' '))?;
-    write_value(&mut out, &Value::Bool(true))?;
-    write_value(&mut out, &Value::Bool(false))?;
+    let values = [
+        Value::Int(i64::MIN),
+        Value::Char(b' '),
+        Value::Bool(true),
+        Value::Bool(false),
+    ];
+    let out = printed(rt.alloc(), &values)?;
     assert_eq!(rt;
         out.as_slice(),
         b"-9223372036854775808 TRUEFALSE".as_slice()

@@ -1,15 +1,17 @@
 // The fakes in memory, what is read and written whole over them, and the adapters over the real system.
+use alma_base::NoMemory;
 use alma_io::{
     Failed, Fetch, Files, MemFiles, MemSink, MemSource, ReadAll, Sink, Source, StdFiles, StdSink,
     StdSource, StoreFault, WriteFault, read_all, write_all,
 };
-use std::alloc::Allocator;
+use std::alloc::{Alloc, Allocator, Global};
 use std::io::{ErrorKind, Read, Seek, SeekFrom, Write};
+use std::path::PathBuf;
 use std::test::Fail;
 use std::{fs, io};
 
 // How much of a file one call reads.
-const CHUNK: usize = 65_536;
+const CHUNK: u32 = 65_536;
 
 /// A reader and writer that is interrupted at the first call, moves one byte at the second, and then fails.
 #[derive(Drop)]
@@ -52,55 +54,120 @@ impl Write for Flaky {
     }
 }
 
-#[test]
-fn a_reader_is_read_to_its_end_or_fault(rt: HostRuntime) {
+// What three reads of two bytes at most answer.
+fn three_reads<S: Source>(source: &mut S) -> [Result<usize, Failed>; 3] {
     let mut buf = [0u8; 2];
+    let first = source.read(&mut buf);
+    let second = source.read(&mut buf);
+    [first, second, source.read(&mut buf)]
+}
+
+#[test]
+fn a_reader_is_read_to_its_end(rt: HostRuntime) {
     let mut source = StdSource::new(b"abc".as_slice());
-    for want in [2, 1, 0] {
-        assert_eq!(rt; source.read(&mut buf), Ok(want));
-    }
+    assert_eq!(rt; three_reads(&mut source), [Ok(2), Ok(1), Ok(0)]);
+}
+
+#[test]
+fn a_reader_is_read_to_its_fault(rt: HostRuntime) {
     let mut source = StdSource::new(Flaky { calls: 0 });
-    assert_eq!(rt; source.read(&mut buf), Ok(1));
-    assert_eq!(rt; source.read(&mut buf), Err(Failed));
-    assert_eq!(rt; source.read(&mut buf), Err(Failed));
+    assert_eq!(rt; three_reads(&mut source), [Ok(1), Err(Failed), Err(Failed)]);
+}
+
+// What writes of three pieces answer.
+fn three_writes<W: Write>(writer: &mut W, pieces: [&[u8]; 3]) -> [Result<usize, Failed>; 3] {
+    let mut sink = StdSink::new(writer);
+    let first = sink.write(pieces[0]);
+    let second = sink.write(pieces[1]);
+    [first, second, sink.write(pieces[2])]
+}
+
+#[test]
+fn a_writer_takes_each_piece(rt: HostRuntime) {
+    let mut bytes = Vec::new(rt.alloc());
+    let taken = three_writes(&mut bytes, [b"abc", b"de", b"f"]);
+    assert_eq!(rt;
+        (taken, bytes.as_slice()),
+        ([Ok(3), Ok(2), Ok(1)], b"abcdef".as_slice())
+    );
 }
 
 #[test]
 fn a_writer_is_written_until_its_fault(rt: HostRuntime) {
-    let mut bytes = Vec::new(rt.alloc());
-    let mut sink = StdSink::new(&mut bytes);
-    assert_eq!(rt; sink.write(b"abc"), Ok(3));
-    assert_eq!(rt; sink.write(b"de"), Ok(2));
-    assert_eq!(rt; bytes.as_slice(), b"abcde".as_slice());
-    let mut sink = StdSink::new(Flaky { calls: 0 });
-    assert_eq!(rt; sink.write(b"abc"), Ok(1));
-    assert_eq!(rt; sink.write(b"abc"), Err(Failed));
-    assert_eq!(rt; sink.write(b"abc"), Err(Failed));
+    let mut flaky = Flaky { calls: 0 };
+    let taken = three_writes(&mut flaky, [b"abc", b"abc", b"abc"]);
+    assert_eq!(rt; taken, [Ok(1), Err(Failed), Err(Failed)]);
+}
+
+// Whether a fetch answers this.
+fn fetches<F: Files>(
+    files: &mut F,
+    alloc: Global,
+    name: &str,
+    limit: u32,
+    want: Result<&[u8], Fetch>,
+) -> bool {
+    match files.fetch(alloc, name, limit as usize) {
+        Ok(bytes) => want == Ok(bytes.as_slice()),
+        Err(fault) => want == Err(fault),
+    }
+}
+
+// Whether bytes of this length are stored, fetched whole, and too many for a lower limit.
+fn keeps<F: Files>(files: &mut F, alloc: Global, name: &str, bytes: &[u8], len: u32) -> [bool; 3] {
+    let is_stored = files.store(alloc, name, bytes) == Ok(());
+    let is_whole = fetches(files, alloc, name, len, Ok(bytes));
+    let want = if len > 0 {
+        Err(Fetch::TooLong)
+    } else {
+        Ok(bytes)
+    };
+    let shorter = len.saturating_sub(1);
+    [
+        is_stored,
+        is_whole,
+        fetches(files, alloc, name, shorter, want),
+    ]
+}
+
+// The same of so many bytes in a file of the system.
+fn system_keeps<R: fs::Files>(
+    rt: &R,
+    alloc: Global,
+    name: &str,
+    len: u32,
+) -> Result<[bool; 3], NoMemory> {
+    let bytes = vec![in alloc; 7; len as usize]?;
+    Ok(keeps(&mut StdFiles::new(rt), alloc, name, &bytes, len))
 }
 
 #[test]
 fn a_file_is_stored_and_fetched_up_to_its_limit(rt: HostRuntime) -> Result<(), Fail> {
     let name = "alma_io_test.bin";
-    let _ = fs::remove_file(&rt, name);
-    let mut files = StdFiles::new(&rt);
-    assert_eq!(rt; files.fetch(rt.alloc(), name, 9).err(), Some(Fetch::Failed));
     for len in [0, 5, CHUNK, CHUNK + 1, 1_048_576] {
-        let bytes = vec![in rt.alloc(); 7; len]?;
-        assert_eq!(rt; files.store(rt.alloc(), name, &bytes), Ok(()));
-        match files.fetch(rt.alloc(), name, len) {
-            Ok(fetched) => assert_eq!(rt; fetched.as_slice(), bytes.as_slice()),
-            Err(_) => panic!(rt; "no file of {len} bytes"),
-        }
-        let shorter = len.saturating_sub(1);
-        let want = if len > 0 { Some(Fetch::TooLong) } else { None };
-        assert_eq!(rt; files.fetch(rt.alloc(), name, shorter).err(), want);
+        let kept = system_keeps(&rt, rt.alloc(), name, len)?;
+        assert_eq!(rt; kept, [true; 3], "{len} bytes");
     }
     fs::remove_file(&rt, name)?;
-    assert_eq!(rt;
-        files.store(rt.alloc(), "no_folder/x", b"x"),
-        Err(StoreFault::Failed)
-    );
     Ok(())
+}
+
+#[test]
+fn a_file_that_is_not_there_is_a_failed_fetch(rt: HostRuntime) {
+    let mut files = StdFiles::new(&rt);
+    let fetched = files.fetch(rt.alloc(), "alma_io_absent.bin", 9).err();
+    assert_eq!(rt; fetched, Some(Fetch::Failed));
+}
+
+// How a store in the file system ends.
+fn store<R: fs::Files>(rt: &R, alloc: Global, name: &str, bytes: &[u8]) -> Result<(), StoreFault> {
+    StdFiles::new(rt).store(alloc, name, bytes)
+}
+
+#[test]
+fn no_file_is_stored_in_a_folder_that_is_not_there(rt: HostRuntime) {
+    let stored = store(&rt, rt.alloc(), "no_folder/x", b"x");
+    assert_eq!(rt; stored, Err(StoreFault::Failed));
 }
 
 /// The file system on a disk where each file takes four bytes.
@@ -210,37 +277,121 @@ impl<R: fs::Files> fs::Files for FullDisk<'_, R> {
     fn set_permissions(&self, path: &str, permissions: fs::Permissions) -> io::Result<()> {
         self.rt.set_permissions(path, permissions)
     }
+
+    fn canonicalize<B: Allocator>(&self, alloc: B, path: &str) -> io::Result<PathBuf<B>> {
+        self.rt.canonicalize(alloc, path)
+    }
+
+    fn read_link<B: Allocator>(&self, alloc: B, path: &str) -> io::Result<PathBuf<B>> {
+        self.rt.read_link(alloc, path)
+    }
+
+    fn hard_link(&self, original: &str, link: &str) -> io::Result<()> {
+        self.rt.hard_link(original, link)
+    }
+
+    fn symlink(&self, original: &str, link: &str) -> io::Result<()> {
+        self.rt.symlink(original, link)
+    }
+
+    fn chown(&self, path: &str, uid: Option<u32>, gid: Option<u32>) -> io::Result<()> {
+        self.rt.chown(path, uid, gid)
+    }
+
+    fn lchown(&self, path: &str, uid: Option<u32>, gid: Option<u32>) -> io::Result<()> {
+        self.rt.lchown(path, uid, gid)
+    }
+
+    fn create_dir_with_mode(&self, path: &str, mode: u32) -> io::Result<()> {
+        self.rt.create_dir_with_mode(path, mode)
+    }
+}
+
+// How a store of `older` ends, and then one over it on the full disk.
+fn store_on_full<R: fs::Files>(
+    rt: &R,
+    alloc: Global,
+    name: &str,
+    bytes: &[u8],
+) -> [Result<(), StoreFault>; 2] {
+    let older = store(rt, alloc, name, b"older");
+    let disk = FullDisk { rt };
+    [older, store(&disk, alloc, name, bytes)]
+}
+
+// Whether a file holds these bytes.
+fn holds<R: fs::Files + Alloc>(rt: &R, name: &str, bytes: &[u8]) -> io::Result<bool> {
+    let found = fs::read(rt, name)?;
+    Ok(found.as_slice() == bytes)
+}
+
+// Whether a file holds these bytes, and whether a part is there. The file goes.
+fn left_by<R: fs::Files + Alloc>(
+    rt: &R,
+    name: &str,
+    part: &str,
+    bytes: &[u8],
+) -> io::Result<(bool, bool)> {
+    let is_held = holds(rt, name, bytes)?;
+    let has_part = fs::exists(rt, part)?;
+    fs::remove_file(rt, name)?;
+    Ok((is_held, has_part))
 }
 
 #[test]
 fn a_full_disk_keeps_the_old_file(rt: HostRuntime) -> Result<(), Fail> {
     let name = "alma_io_full.bin";
-    let part = "alma_io_full.bin.part";
-    let mut files = StdFiles::new(&rt);
-    assert_eq!(rt; files.store(rt.alloc(), name, b"older"), Ok(()));
-    let disk = FullDisk { rt: &rt };
-    let mut full = StdFiles::new(&disk);
-    assert_eq!(rt;
-        full.store(rt.alloc(), name, b"newer"),
-        Err(StoreFault::Failed)
-    );
-    assert_eq!(rt; fs::read(&rt, name)?.as_slice(), b"older".as_slice());
-    assert!(rt; !fs::exists(&rt, part)?, "the part is taken away");
-    assert_eq!(rt; full.store(rt.alloc(), name, b"new"), Ok(()));
-    assert_eq!(rt; fs::read(&rt, name)?.as_slice(), b"new".as_slice());
-    fs::write(&rt, part, b"another")?;
-    assert_eq!(rt; files.store(rt.alloc(), name, b"straight"), Ok(()));
-    assert_eq!(rt; fs::read(&rt, name)?.as_slice(), b"straight".as_slice());
-    assert_eq!(rt; fs::read(&rt, part)?.as_slice(), b"another".as_slice());
-    fs::remove_file(&rt, part)?;
-    fs::remove_file(&rt, name)?;
+    let stored = store_on_full(&rt, rt.alloc(), name, b"newer");
+    let left = left_by(&rt, name, "alma_io_full.bin.part", b"older")?;
+    let faults = [Ok(()), Err(StoreFault::Failed)];
+    assert_eq!(rt; (stored, left), (faults, (true, false)));
+    Ok(())
+}
+
+#[test]
+fn a_file_that_the_disk_takes_stands_for_the_old_one(rt: HostRuntime) -> Result<(), Fail> {
+    let name = "alma_io_fits.bin";
+    let stored = store_on_full(&rt, rt.alloc(), name, b"new");
+    let left = left_by(&rt, name, "alma_io_fits.bin.part", b"new")?;
+    assert_eq!(rt; (stored, left), ([Ok(()); 2], (true, false)));
+    Ok(())
+}
+
+// How a store over a file ends beside which a part stands.
+fn store_beside<R: fs::Files>(
+    rt: &R,
+    alloc: Global,
+    name: &str,
+    part: &str,
+) -> io::Result<Result<(), StoreFault>> {
+    fs::write(rt, name, b"older")?;
+    fs::write(rt, part, b"another")?;
+    Ok(store(rt, alloc, name, b"straight"))
+}
+
+// Whether the file has what was stored, and the part is as it was. Both go.
+fn are_left<R: fs::Files + Alloc>(rt: &R, name: &str, part: &str) -> io::Result<[bool; 2]> {
+    let is_stored = holds(rt, name, b"straight")?;
+    let is_kept = holds(rt, part, b"another")?;
+    fs::remove_file(rt, part)?;
+    fs::remove_file(rt, name)?;
+    Ok([is_stored, is_kept])
+}
+
+#[test]
+fn a_part_of_another_stays_and_the_file_is_written_straight(rt: HostRuntime) -> Result<(), Fail> {
+    let name = "alma_io_part.bin";
+    let part = "alma_io_part.bin.part";
+    let stored = store_beside(&rt, rt.alloc(), name, part)?;
+    let left = are_left(&rt, name, part)?;
+    assert_eq!(rt; (stored, left), (Ok(()), [true; 2]));
     Ok(())
 }
 
 struct Whole {
     piece: usize,
     fails: &'static [u64],
-    limit: usize,
+    limit: u32,
     // What two calls in a row make of "abcdef".
     outcomes: [Result<&'static [u8], ReadAll>; 2],
 }
@@ -284,18 +435,32 @@ const WHOLE_ROWS: [Whole; 6] = [
     },
 ];
 
+// Whether reading all answers this.
+fn reads_all<S: Source>(
+    source: &mut S,
+    alloc: Global,
+    limit: u32,
+    want: Result<&[u8], ReadAll>,
+) -> bool {
+    match read_all(alloc, source, limit as usize) {
+        Ok(bytes) => want == Ok(bytes.as_slice()),
+        Err(fault) => want == Err(fault),
+    }
+}
+
+// Whether the two calls of a row have its outcomes.
+fn reads_twice(alloc: Global, row: &Whole) -> Result<[bool; 2], NoMemory> {
+    let mut source = MemSource::new(alloc, b"abcdef", row.piece.max(1), row.fails)?;
+    let first = reads_all(&mut source, alloc, row.limit, row.outcomes[0]);
+    let second = reads_all(&mut source, alloc, row.limit, row.outcomes[1]);
+    Ok([first, second])
+}
+
 #[test]
 fn all_is_read_or_the_limit_or_a_fault_is_met(rt: HostRuntime) -> Result<(), Fail> {
-    for row in &WHOLE_ROWS {
-        assert!(rt; row.piece > 0);
-        assert!(rt; row.limit < 10);
-        let mut source = MemSource::new(rt.alloc(), b"abcdef", row.piece, row.fails)?;
-        for outcome in row.outcomes {
-            match (read_all(rt.alloc(), &mut source, row.limit), outcome) {
-                (Ok(bytes), Ok(want)) => assert_eq!(rt; bytes.as_slice(), want),
-                (got, want) => assert_eq!(rt; got.err(), want.err()),
-            }
-        }
+    for (number, row) in WHOLE_ROWS.iter().enumerate() {
+        let found = reads_twice(rt.alloc(), row)?;
+        assert_eq!(rt; found, [true; 2], "row {number}");
     }
     Ok(())
 }
@@ -353,13 +518,18 @@ const WRITTEN_ROWS: [Written; 6] = [
     },
 ];
 
+// How the write of a row ends, and whether the sink has its bytes then.
+fn write_row(alloc: Global, row: &Written) -> Result<(Result<(), WriteFault>, bool), NoMemory> {
+    let mut sink = MemSink::new(alloc, row.room, row.piece.max(1), row.fails)?;
+    let outcome = write_all(&mut sink, b"abcdef");
+    Ok((outcome, sink.bytes() == row.bytes))
+}
+
 #[test]
 fn all_is_written_or_the_front_that_went_out(rt: HostRuntime) -> Result<(), Fail> {
-    for row in &WRITTEN_ROWS {
-        assert!(rt; row.piece > 0);
-        let mut sink = MemSink::new(rt.alloc(), row.room, row.piece, row.fails)?;
-        assert_eq!(rt; write_all(&mut sink, b"abcdef"), row.outcome);
-        assert_eq!(rt; sink.bytes(), row.bytes);
+    for (number, row) in WRITTEN_ROWS.iter().enumerate() {
+        let found = write_row(rt.alloc(), row)?;
+        assert_eq!(rt; found, (row.outcome, true), "row {number}");
     }
     Ok(())
 }
@@ -368,7 +538,7 @@ struct Stored {
     fails: &'static [u64],
     stored: Result<(), StoreFault>,
     name: &'static str,
-    limit: usize,
+    limit: u32,
     fetched: Result<&'static [u8], Fetch>,
     got: Option<&'static [u8]>,
 }
@@ -432,22 +602,42 @@ const STORED_ROWS: [Stored; 7] = [
     },
 ];
 
+// Puts the files in that are there before a row.
+fn put_two(files: &mut MemFiles, alloc: Global) -> Result<(), NoMemory> {
+    files.put(alloc, "a.al", b"first")?;
+    files.put(alloc, "b.al", b"other")
+}
+
+// Whether a file has these bytes, or is not there where there are none.
+fn has(files: &MemFiles, name: &str, want: Option<&[u8]>) -> bool {
+    match files.get(name) {
+        Some(bytes) => want == Some(bytes),
+        None => want.is_none(),
+    }
+}
+
+// How a file is stored, and whether what is fetched and got behind that is as the row says.
+type Shown = (Result<(), StoreFault>, bool, bool);
+
+// What a row shows.
+fn show_files(files: &mut MemFiles, alloc: Global, row: &Stored) -> Shown {
+    let stored = files.store(alloc, "b.al", b"later");
+    let is_fetched = fetches(files, alloc, row.name, row.limit, row.fetched);
+    (stored, is_fetched, has(files, row.name, row.got))
+}
+
+// What a row shows of files of its own.
+fn files_of(alloc: Global, row: &Stored) -> Result<Shown, NoMemory> {
+    let mut files = MemFiles::new(alloc, row.fails)?;
+    put_two(&mut files, alloc)?;
+    Ok(show_files(&mut files, alloc, row))
+}
+
 #[test]
 fn files_are_stored_and_fetched_and_fail_as_listed(rt: HostRuntime) -> Result<(), Fail> {
-    for row in &STORED_ROWS {
-        assert!(rt; row.limit < 10);
-        let mut files = MemFiles::new(rt.alloc(), row.fails)?;
-        files.put(rt.alloc(), "a.al", b"first")?;
-        files.put(rt.alloc(), "b.al", b"other")?;
-        assert_eq!(rt; files.store(rt.alloc(), "b.al", b"later"), row.stored);
-        match (files.fetch(rt.alloc(), row.name, row.limit), row.fetched) {
-            (Ok(bytes), Ok(want)) => assert_eq!(rt; bytes.as_slice(), want),
-            (got, want) => assert_eq!(rt; got.err(), want.err()),
-        }
-        match (files.get(row.name), row.got) {
-            (Some(bytes), Some(want)) => assert_eq!(rt; bytes, want),
-            (got, want) => assert_eq!(rt; got.is_some(), want.is_some()),
-        }
+    for (number, row) in STORED_ROWS.iter().enumerate() {
+        let found = files_of(rt.alloc(), row)?;
+        assert_eq!(rt; found, (row.stored, true, true), "row {number}");
     }
     Ok(())
 }
@@ -492,15 +682,28 @@ const TAKEN_ROWS: [Taken; 4] = [
     },
 ];
 
+// Whether writes of "abc" take as much as is listed, each in turn.
+fn takes<K: Sink>(sink: &mut K, writes: &[Option<usize>]) -> bool {
+    for want in writes {
+        if sink.write(b"abc").ok() != *want {
+            return false;
+        }
+    }
+    true
+}
+
+// Whether the writes of a row take as much as is listed, and whether the sink has its bytes then.
+fn sink_takes(alloc: Global, row: &Taken) -> Result<(bool, bool), NoMemory> {
+    let mut sink = MemSink::new(alloc, row.room, row.piece.max(1), row.fails)?;
+    let takes = takes(&mut sink, row.writes);
+    Ok((takes, sink.bytes() == row.bytes))
+}
+
 #[test]
 fn a_sink_takes_pieces_and_fails_as_listed_or_full(rt: HostRuntime) -> Result<(), Fail> {
-    for row in &TAKEN_ROWS {
-        assert!(rt; row.piece > 0);
-        let mut sink = MemSink::new(rt.alloc(), row.room, row.piece, row.fails)?;
-        for want in row.writes {
-            assert_eq!(rt; sink.write(b"abc").ok(), *want);
-        }
-        assert_eq!(rt; sink.bytes(), row.bytes);
+    for (number, row) in TAKEN_ROWS.iter().enumerate() {
+        let found = sink_takes(rt.alloc(), row)?;
+        assert_eq!(rt; found, (true, true), "row {number}");
     }
     Ok(())
 }
@@ -535,18 +738,35 @@ const GIVEN_ROWS: [Given; 4] = [
     },
 ];
 
+// Whether a read of three bytes at most gives these, or fails where there are none.
+fn gives_next<S: Source>(source: &mut S, want: Option<&[u8]>) -> bool {
+    let mut buf = [0u8; 3];
+    match source.read(&mut buf) {
+        Ok(count) => want == Some(&buf[..count]),
+        Err(Failed) => want.is_none(),
+    }
+}
+
+// Whether reads give what is listed, each in turn.
+fn gives<S: Source>(source: &mut S, reads: &[Option<&[u8]>]) -> bool {
+    for want in reads {
+        if !gives_next(source, *want) {
+            return false;
+        }
+    }
+    true
+}
+
+// Whether the reads of a row give what is listed.
+fn source_gives(alloc: Global, row: &Given) -> Result<bool, NoMemory> {
+    let mut source = MemSource::new(alloc, b"abcde", row.piece.max(1), row.fails)?;
+    Ok(gives(&mut source, row.reads))
+}
+
 #[test]
 fn a_source_gives_pieces_and_fails_as_listed(rt: HostRuntime) -> Result<(), Fail> {
-    for row in &GIVEN_ROWS {
-        assert!(rt; row.piece > 0);
-        let mut source = MemSource::new(rt.alloc(), b"abcde", row.piece, row.fails)?;
-        for want in row.reads {
-            let mut buf = [0u8; 3];
-            match (source.read(&mut buf), want) {
-                (Ok(count), Some(front)) => assert_eq!(rt; &buf[..count], *front),
-                (got, _) => assert!(rt; got.is_err() && want.is_none()),
-            }
-        }
+    for (number, row) in GIVEN_ROWS.iter().enumerate() {
+        assert!(rt; source_gives(rt.alloc(), row)?, "row {number}");
     }
     Ok(())
 }

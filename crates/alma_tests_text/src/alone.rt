@@ -2,10 +2,10 @@
 use alma_base::CheckFault;
 use alma_check_expr::{const_value, shape_of};
 use alma_check_type::Reader;
-use alma_parse::{ParseError, parse};
+use alma_parse::parse;
 use alma_rules::CheckError;
-use alma_scan::scan;
-use alma_tree::{Block, Decl};
+use alma_scan::{ScanError, Token, scan};
+use alma_tree::{Block, ConstEntry, Decl, TypeEntry};
 use std::alloc::Global;
 use std::test::Fail;
 
@@ -71,55 +71,78 @@ fn broken(error: CheckError) -> Answer {
     }
 }
 
-/// What the first declaration of a block is; its phrase begins two tokens behind its name.
-fn first_of(alloc: Global, reader: &mut Reader<'_, '_>, block: &Block) -> Answer {
-    match block.decls.first() {
-        Some(Decl::Const { entries, .. }) => match entries.first() {
-            Some(entry) => {
-                let at = entry.name.token.saturating_add(2);
-                match const_value(alloc, reader, &entry.value, at) {
-                    Ok(Some((shape, value))) => Answer::Constant(shape.0, value),
-                    Ok(None) => Answer::Nothing,
-                    Err(error) => broken(error),
-                }
-            }
+/// What a constant is; its expression begins two tokens behind its name.
+fn constant(alloc: Global, reader: &Reader<'_, '_>, entry: &ConstEntry) -> Answer {
+    let at = entry.name.token.saturating_add(2);
+    match const_value(alloc, reader, &entry.value, at) {
+        Ok(Some((shape, value))) => Answer::Constant(shape.0, value),
+        Ok(None) => Answer::Nothing,
+        Err(error) => broken(error),
+    }
+}
+
+/// What a type is; its expression begins two tokens behind its name.
+fn named_type(alloc: Global, reader: &mut Reader<'_, '_>, entry: &TypeEntry) -> Answer {
+    let at = entry.name.token.saturating_add(2);
+    match shape_of(alloc, reader, &entry.type_node, at) {
+        Ok(Some(shape)) => Answer::Type(shape.0),
+        Ok(None) => Answer::Nothing,
+        Err(error) => broken(error),
+    }
+}
+
+/// What a declaration declares first.
+fn declared(alloc: Global, reader: &mut Reader<'_, '_>, decl: &Decl) -> Answer {
+    match decl {
+        Decl::Const { entries, .. } => match entries.first() {
+            Some(entry) => constant(alloc, reader, entry),
             None => Answer::Nothing,
         },
-        Some(Decl::Type { entries, .. }) => match entries.first() {
-            Some(entry) => {
-                let at = entry.name.token.saturating_add(2);
-                match shape_of(alloc, reader, &entry.type_node, at) {
-                    Ok(Some(shape)) => Answer::Type(shape.0),
-                    Ok(None) => Answer::Nothing,
-                    Err(error) => broken(error),
-                }
-            }
+        Decl::Type { entries, .. } => match entries.first() {
+            Some(entry) => named_type(alloc, reader, entry),
             None => Answer::Nothing,
         },
         _ => Answer::Nothing,
     }
 }
 
-fn what_stands_in(alloc: Global, source: &[u8]) -> Result<Answer, Fail> {
-    let tokens = scan(alloc, source)?;
+/// What the first declaration of a block is.
+fn first_of(alloc: Global, reader: &mut Reader<'_, '_>, block: &Block) -> Answer {
+    match block.decls.first() {
+        Some(decl) => declared(alloc, reader, decl),
+        None => Answer::Nothing,
+    }
+}
+
+/// What stands first in a block of these tokens.
+fn read_first(alloc: Global, source: &[u8], tokens: &[Token<'_>], block: &Block) -> Answer {
+    match Reader::new(alloc, source, tokens, 0) {
+        Ok(mut reader) => first_of(alloc, &mut reader, block),
+        Err(_) => Answer::Memory,
+    }
+}
+
+/// What stands first in a module of these tokens.
+fn parse_first(alloc: Global, source: &[u8], tokens: &[Token<'_>]) -> Answer {
     if tokens.len() > 1_048_576 {
-        return Err(ParseError::Memory.into());
+        return Answer::Memory;
     }
-    let module = parse(alloc, &tokens)?;
-    match Reader::new(alloc, source, &tokens, 0) {
-        Ok(mut reader) => Ok(first_of(alloc, &mut reader, &module.block)),
-        Err(_) => Ok(Answer::Memory),
+    match parse(alloc, tokens) {
+        Ok(module) => read_first(alloc, source, tokens, &module.block),
+        Err(_) => Answer::Nothing,
     }
+}
+
+fn what_stands_in(alloc: Global, source: &[u8]) -> Result<Answer, ScanError> {
+    let tokens = scan(alloc, source)?;
+    Ok(parse_first(alloc, source, &tokens))
 }
 
 #[test]
 fn phrases_alone(rt: HostRuntime) -> Result<(), Fail> {
     for (number, row) in ROWS.iter().enumerate() {
-        assert_eq!(rt;
-            what_stands_in(rt.alloc(), row.source)?,
-            row.answer,
-            "row {number}"
-        );
+        let found = what_stands_in(rt.alloc(), row.source)?;
+        assert_eq!(rt; found, row.answer, "row {number}");
     }
     Ok(())
 }

@@ -1,5 +1,8 @@
 // What the parser makes of sources: a tree, or the first token at which no program goes on.
-use alma_base::SyntaxFault;
+ghost use Rattle.std.specs.Prelude.{◌<◌, length};
+
+use crate::scan::put_copies;
+use alma_base::{NoMemory, SyntaxFault};
 use alma_parse::{ParseError, parse};
 use alma_scan::{Token, scan};
 use std::alloc::Global;
@@ -89,91 +92,120 @@ const ROWS: [Row; 13] = [
     },
 ];
 
+/// A fault and its token.
+type Refusal = (SyntaxFault, usize);
+
 /// Where the tokens are refused, or none where they are a program.
-fn refusal(alloc: Global, tokens: &[Token<'_>]) -> Result<Option<(SyntaxFault, usize)>, Fail> {
+fn refusal(alloc: Global, tokens: &[Token<'_>]) -> Result<Option<Refusal>, ParseError> {
     if tokens.len() > 1_048_576 {
-        return Err(ParseError::Memory.into());
+        return Err(ParseError::Memory);
     }
     match parse(alloc, tokens) {
         Ok(_module) => Ok(None),
         Err(ParseError::Syntax(fault, place)) => Ok(Some((fault, place))),
-        Err(memory) => Err(memory.into()),
+        Err(memory) => Err(memory),
     }
+}
+
+/// The same of a source.
+fn refusal_in(alloc: Global, source: &[u8]) -> Result<Option<Refusal>, Fail> {
+    let tokens = scan(alloc, source)?;
+    Ok(refusal(alloc, &tokens)?)
 }
 
 #[test]
 fn sources(rt: HostRuntime) -> Result<(), Fail> {
     for (number, row) in ROWS.iter().enumerate() {
-        let tokens = scan(rt.alloc(), row.source)?;
-        assert_eq!(rt; refusal(rt.alloc(), &tokens)?, row.refusal, "row {number}");
+        let found = refusal_in(rt.alloc(), row.source)?;
+        assert_eq!(rt; found, row.refusal, "row {number}");
     }
     Ok(())
 }
 
 /// A module whose body is a number in so many parentheses.
-fn nested(alloc: Global, depth: usize) -> Result<Vec<u8>, Fail> {
+fn nested(alloc: Global, depth: usize) -> Result<Vec<u8>, NoMemory> {
     let mut source = Vec::new(alloc);
-    source.extend_from_slice(b"MODULE A; BEGIN ")?;
-    for _ in 0..depth {
-        source.push(b'(')?;
+    for (piece, count) in [
+        (b"MODULE A; BEGIN ".as_slice(), 1),
+        (b"(".as_slice(), depth),
+        (b"1".as_slice(), 1),
+        (b")".as_slice(), depth),
+        (b" END A.".as_slice(), 1),
+    ] {
+        put_copies(&mut source, piece, count)?;
     }
-    source.push(b'1')?;
-    for _ in 0..depth {
-        source.push(b')')?;
-    }
-    source.extend_from_slice(b" END A.")?;
     Ok(source)
+}
+
+/// Where such a module is refused.
+fn nested_refusal(alloc: Global, depth: usize) -> Result<Option<Refusal>, Fail> {
+    let source = nested(alloc, depth)?;
+    refusal_in(alloc, &source)
 }
 
 #[test]
 fn depths(rt: HostRuntime) -> Result<(), Fail> {
-    for (depth, want) in [(99, None), (100, Some((SyntaxFault::TooDeep, 103)))] {
-        let source = nested(rt.alloc(), depth)?;
-        let tokens = scan(rt.alloc(), &source)?;
-        assert_eq!(rt; refusal(rt.alloc(), &tokens)?, want, "at {depth}");
-    }
+    let found = [
+        nested_refusal(rt.alloc(), 99)?,
+        nested_refusal(rt.alloc(), 100)?,
+    ];
+    assert_eq!(rt; found, [None, Some((SyntaxFault::TooDeep, 103))]);
     Ok(())
 }
 
-/// The tokens with so many copies of the one at this place.
-fn changed<'s>(
+/// Tokens, and others behind them.
+fn joined<'s>(
     alloc: Global,
-    tokens: &[Token<'s>],
-    place: usize,
-    copies: usize,
-) -> Result<Vec<Token<'s>>, Fail> {
-    let mut changed = Vec::new(alloc);
-    for (index, token) in tokens.iter().enumerate() {
-        let count = if index == place { copies } else { 1 };
-        for _ in 0..count {
-            changed.push(*token)?;
-        }
-    }
-    Ok(changed)
+    front: &[Token<'s>],
+    back: &[Token<'s>],
+) -> Result<Vec<Token<'s>>, NoMemory> {
+    let mut tokens = Vec::from_slice(alloc, front)?;
+    tokens.extend_from_slice(back)?;
+    Ok(tokens)
 }
 
-/// Whether the tokens are a program, or are refused no earlier than here.
-fn is_refused_behind(alloc: Global, tokens: &[Token<'_>], place: usize) -> Result<bool, Fail> {
-    match refusal(alloc, tokens)? {
+/// Whether tokens with others behind them are a program, or are refused no earlier than here.
+fn is_refused_behind(
+    alloc: Global,
+    front: &[Token<'_>],
+    back: &[Token<'_>],
+    place: usize,
+) -> Result<bool, Fail> {
+    let tokens = joined(alloc, front, back)?;
+    match refusal(alloc, &tokens)? {
         None => Ok(true),
         Some((_, refused)) => Ok(place <= refused && refused <= tokens.len()),
     }
 }
 
+/// The same of tokens without the one at this place, and with two of it.
+fn are_refused_behind(alloc: Global, tokens: &[Token<'_>], place: usize) -> Result<bool, Fail>
+    requires { place < length tokens.now }
+{
+    let (front, back) = (&tokens[..place], &tokens[place + 1..]);
+    let without = is_refused_behind(alloc, front, back, place)?;
+    let (front, back) = (&tokens[..place + 1], &tokens[place..]);
+    Ok(without && is_refused_behind(alloc, front, back, place)?)
+}
+
+/// The first place where one token less, or one more, is refused earlier.
+fn early_refusal(alloc: Global, tokens: &[Token<'_>]) -> Result<Option<usize>, Fail> {
+    for place in 0..tokens.len() {
+        if !are_refused_behind(alloc, tokens, place)? {
+            return Ok(Some(place));
+        }
+    }
+    Ok(None)
+}
+
+/// The same of the tokens of a source.
+fn early_refusal_in(alloc: Global, source: &[u8]) -> Result<Option<usize>, Fail> {
+    let tokens = scan(alloc, source)?;
+    early_refusal(alloc, &tokens)
+}
+
 #[test]
 fn changed_tokens(rt: HostRuntime) -> Result<(), Fail> {
-    let tokens = scan(rt.alloc(), EVERY)?;
-    for place in 0..tokens.len() {
-        let missing = changed(rt.alloc(), &tokens, place, 0)?;
-        assert!(rt;
-            is_refused_behind(rt.alloc(), &missing, place)?,
-            "without {place}"
-        );
-        let doubled = changed(rt.alloc(), &tokens, place, 2)?;
-        assert!(rt;
-            is_refused_behind(rt.alloc(), &doubled, place)?,
-            "doubled {place}"
-        );
-    }
+    assert_eq!(rt; early_refusal_in(rt.alloc(), EVERY)?, None);
     Ok(())
 }

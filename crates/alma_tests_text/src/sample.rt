@@ -1,6 +1,7 @@
 // The first sources of a sample.
 ghost use Rattle.std.specs.Prelude.{◌≤◌};
 
+use alma_base::NoMemory;
 use alma_driver_words::sample_source;
 use std::alloc::Global;
 use std::test::Fail;
@@ -16,21 +17,23 @@ const TWO: &[u8] = b"v[48] := 6;\nv[30] := 2;\n";
 const SIX: &[u8] =
     b"v[48] := 6;\nv[30] := 2;\nv[67] := 5;\nEITHER v[80] = 4 ORELSE v[80] := 4 END;\nFORALL SOME n := 0 TO 0 DO TRUE END DO v[38] := n END;\nCOMMIT SOME n := 0 TO 4 DO v[40] := n END END;\n";
 
-/// A sample with these lines between its head and its tail.
-fn with_lines(alloc: Global, lines: &[u8]) -> Result<Vec<u8>, Fail> {
-    let mut source = Vec::from_slice(alloc, HEAD)?;
-    source.extend_from_slice(lines)?;
-    source.extend_from_slice(TAIL)?;
-    Ok(source)
+/// Whether bytes are a sample with these lines between its head and its tail.
+fn has_lines(sample: &[u8], lines: &[u8]) -> bool {
+    let Some(rest) = sample.strip_prefix(HEAD) else {
+        return false;
+    };
+    match rest.strip_prefix(lines) {
+        Some(tail) => tail == TAIL,
+        None => false,
+    }
 }
 
-/// Whether a sample of so many lines has these lines, and is so long.
-fn is_sample(alloc: Global, count: u32, lines: &[u8], len: usize) -> Result<bool, Fail>
+/// Whether a sample of so many lines has these lines, and its length.
+fn sample_shows(alloc: Global, count: u32, lines: &[u8]) -> Result<(bool, usize), NoMemory>
     requires { count ≤ 5000 }
 {
     let sample = sample_source(alloc, count)?;
-    let want = with_lines(alloc, lines)?;
-    Ok(sample == want && sample.len() == len)
+    Ok((has_lines(&sample, lines), sample.len()))
 }
 
 #[test]
@@ -41,7 +44,8 @@ fn samples_have_the_lines_of_their_numbers(rt: HostRuntime) -> Result<(), Fail> 
         (2, TWO, 152),
         (6, SIX, 306),
     ] {
-        assert!(rt; is_sample(rt.alloc(), count, lines, len)?, "{count} lines");
+        let found = sample_shows(rt.alloc(), count, lines)?;
+        assert_eq!(rt; found, (true, len), "{count} lines");
     }
     Ok(())
 }

@@ -1,6 +1,6 @@
 // What the scanner makes of sources: tokens with their offsets, faults, places.
-use alma_base::LexFault;
-use alma_scan::{LexStop, ScanError, Scanner, place, scan};
+use alma_base::{LexFault, NoMemory};
+use alma_scan::{LexStop, ScanError, Scanner, Token, place, scan};
 use alma_tree::Kind;
 use std::alloc::Global;
 use std::test::Fail;
@@ -234,58 +234,71 @@ const WORD_KINDS: [Kind; 40] = [
     Kind::Writeln,
 ];
 
-/// The kinds and the offsets of the tokens of a source, and the fault behind them.
-fn scanned(
-    alloc: Global,
-    source: &[u8],
-) -> Result<(Vec<(Kind, usize)>, Option<(LexFault, usize)>), Fail> {
-    let mut scanner = Scanner::new(source);
-    let mut tokens = Vec::new(alloc);
-    for _ in 0..=source.len() {
+/// Whether a scanner gives these tokens next.
+fn gives(scanner: &mut Scanner<'_>, tokens: &[(Kind, usize)]) -> bool {
+    for want in tokens {
         match scanner.next() {
-            Ok(Some(token)) => tokens.push((token.kind, token.start))?,
-            Ok(None) => return Ok((tokens, None)),
-            Err(stop) => return Ok((tokens, Some((stop.fault, stop.at)))),
+            Ok(Some(token)) if (token.kind, token.start) == *want => {}
+            _ => return false,
         }
     }
-    Ok((tokens, None))
+    true
+}
+
+/// Whether a scanner is at the end, or at this fault.
+fn ends(scanner: &mut Scanner<'_>, stop: Option<(LexFault, usize)>) -> bool {
+    match scanner.next() {
+        Ok(Some(_)) => false,
+        Ok(None) => stop.is_none(),
+        Err(found) => stop == Some((found.fault, found.at)),
+    }
 }
 
 /// Whether the tokens and the fault of a source are those expected.
-fn is_expected(alloc: Global, row: &Row) -> Result<bool, Fail> {
-    let (tokens, stop) = scanned(alloc, row.source)?;
-    Ok(tokens.as_slice() == row.tokens && stop == row.stop)
+fn is_expected(row: &Row) -> bool {
+    let mut scanner = Scanner::new(row.source);
+    gives(&mut scanner, row.tokens) && ends(&mut scanner, row.stop)
 }
 
 #[test]
-fn sources(rt: HostRuntime) -> Result<(), Fail> {
+fn sources(rt: HostRuntime) {
     for (number, row) in ROWS.iter().enumerate() {
-        assert!(rt; is_expected(rt.alloc(), row)?, "row {number}");
+        assert!(rt; is_expected(row), "row {number}");
     }
-    Ok(())
 }
 
-/// The kinds of all tokens of a source.
-fn kinds(alloc: Global, source: &[u8]) -> Result<Vec<Kind>, Fail> {
-    let tokens = scan(alloc, source)?;
-    let mut kinds = Vec::new(alloc);
-    for token in &tokens {
-        kinds.push(token.kind)?;
+/// Whether tokens are of these kinds.
+fn are_of_kinds(tokens: &[Token<'_>], want: &[Kind]) -> bool {
+    for (place, token) in tokens.iter().enumerate() {
+        if want.get(place) != Some(&token.kind) {
+            return false;
+        }
     }
-    Ok(kinds)
+    tokens.len() == want.len()
 }
 
 /// Whether a source has tokens of these kinds, and no other.
-fn has_kinds(alloc: Global, source: &[u8], want: &[Kind]) -> Result<bool, Fail> {
-    let kinds = kinds(alloc, source)?;
-    Ok(kinds.as_slice() == want)
+fn has_kinds(alloc: Global, source: &[u8], want: &[Kind]) -> Result<bool, ScanError> {
+    let tokens = scan(alloc, source)?;
+    Ok(are_of_kinds(&tokens, want))
 }
 
 #[test]
 fn spellings(rt: HostRuntime) -> Result<(), Fail> {
-    assert!(rt; has_kinds(rt.alloc(), SYMBOLS, &SYMBOL_KINDS)?, "symbols");
-    assert!(rt; has_kinds(rt.alloc(), WORDS, &WORD_KINDS)?, "words");
+    let found = [
+        has_kinds(rt.alloc(), SYMBOLS, &SYMBOL_KINDS)?,
+        has_kinds(rt.alloc(), WORDS, &WORD_KINDS)?,
+    ];
+    assert_eq!(rt; found, [true; 2]);
     Ok(())
+}
+
+/// What a scanner answers twice behind the first token of a source.
+fn behind_one(source: &[u8]) -> [Result<Option<Token<'_>>, LexStop>; 2] {
+    let mut scanner = Scanner::new(source);
+    let _semicolon = scanner.next();
+    let first = scanner.next();
+    [first, scanner.next()]
 }
 
 #[test]
@@ -294,23 +307,27 @@ fn stops_for_good(rt: HostRuntime) {
         fault: LexFault::OpenString,
         at: 2,
     };
-    let mut faulty = Scanner::new(b"; '");
-    let mut whole = Scanner::new(b"; ");
-    let _semicolon = faulty.next();
-    let _semicolon = whole.next();
-    for _ in 0..2 {
-        assert_eq!(rt; faulty.next(), Err(stop));
-        assert_eq!(rt; whole.next(), Ok(None));
-    }
+    let found = [behind_one(b"; '"), behind_one(b"; ")];
+    assert_eq!(rt; found, [[Err(stop), Err(stop)], [Ok(None), Ok(None)]]);
 }
 
-/// So many copies of a pattern, and then an end.
-fn repeated(alloc: Global, pattern: &[u8], count: usize, end: &[u8]) -> Result<Vec<u8>, Fail> {
-    let mut bytes = Vec::new(alloc);
+/// Puts so many copies of a pattern behind bytes.
+pub(crate) fn put_copies(
+    bytes: &mut Vec<u8>,
+    pattern: &[u8],
+    count: usize,
+) -> Result<(), NoMemory> {
     for _ in 0..count {
         bytes.extend_from_slice(pattern)?;
     }
-    bytes.extend_from_slice(end)?;
+    Ok(())
+}
+
+/// So many copies of a pattern, and then an end.
+fn repeated(alloc: Global, pattern: &[u8], count: usize, end: &[u8]) -> Result<Vec<u8>, NoMemory> {
+    let mut bytes = Vec::new(alloc);
+    put_copies(&mut bytes, pattern, count)?;
+    put_copies(&mut bytes, end, 1)?;
     Ok(bytes)
 }
 
@@ -325,7 +342,7 @@ fn repeated_outcome(
     pattern: &[u8],
     count: usize,
     end: &[u8],
-) -> Result<Result<usize, ScanError>, Fail> {
+) -> Result<Result<usize, ScanError>, NoMemory> {
     let source = repeated(alloc, pattern, count, end)?;
     Ok(outcome(alloc, &source))
 }
@@ -345,28 +362,31 @@ fn long_sources(rt: HostRuntime) -> Result<(), Fail> {
     Ok(())
 }
 
-/// A comment in so many others, and a word behind them.
-fn nested(alloc: Global, depth: usize) -> Result<Vec<u8>, Fail> {
+/// The number of tokens, or the fault, of a comment in so many others, and a word behind them.
+fn nested_outcome(alloc: Global, depth: usize) -> Result<Result<usize, ScanError>, NoMemory> {
     let closings = repeated(alloc, b"*)", depth, b" END")?;
-    repeated(alloc, b"(*", depth, &closings)
+    repeated_outcome(alloc, b"(*", depth, &closings)
 }
 
 #[test]
 fn deep_comment(rt: HostRuntime) -> Result<(), Fail> {
-    let source = nested(rt.alloc(), 262_143)?;
-    assert_eq!(rt; outcome(rt.alloc(), &source), Ok(1));
+    assert_eq!(rt; nested_outcome(rt.alloc(), 262_143)?, Ok(1));
     Ok(())
+}
+
+/// The text of the second of three tokens. The list of them ends here.
+fn second_text(alloc: Global, source: &[u8]) -> Result<Option<&[u8]>, ScanError> {
+    let tokens = scan(alloc, source)?;
+    match tokens.as_slice() {
+        [_, second, _] => Ok(Some(second.text)),
+        _ => Ok(None),
+    }
 }
 
 #[test]
 fn text_outlives_the_list(rt: HostRuntime) -> Result<(), Fail> {
-    let alloc = rt.alloc();
-    let source = Vec::from_slice(alloc, b"MODULE Kept;")?;
-    let tokens = scan(alloc, &source)?;
-    assert_eq!(rt; tokens.len(), 3);
-    let text = tokens[1].text;
-    drop(tokens);
-    assert_eq!(rt; text, b"Kept".as_slice());
+    let text = second_text(rt.alloc(), b"MODULE Kept;")?;
+    assert_eq!(rt; text, Some(b"Kept".as_slice()));
     Ok(())
 }
 

@@ -9,17 +9,21 @@ use std::test::Fail;
 
 const NAME: Name = Name { node: 0, token: 0 };
 
+// A value on the heap.
+fn boxed<T: Drop>(alloc: Global, value: T) -> Result<Box<T>, NoMemory> {
+    Ok(Box::new(alloc, value)?)
+}
+
 fn expr_of(alloc: Global, primary: Primary) -> Result<Expr, NoMemory> {
-    let first = Factor::Plain { node: 0, primary };
     let term = Term {
         node: 0,
-        first,
+        first: Factor::Plain { node: 0, primary },
         more: Vec::new(alloc),
     };
     let left = Simple {
         node: 0,
         sign: None,
-        first: Box::new(alloc, term)?,
+        first: boxed(alloc, term)?,
         more: Vec::new(alloc),
     };
     Ok(Expr {
@@ -32,7 +36,7 @@ fn expr_of(alloc: Global, primary: Primary) -> Result<Expr, NoMemory> {
 fn stmts_of(alloc: Global, first: Stmt) -> Result<Stmts, NoMemory> {
     Ok(Stmts {
         node: 0,
-        first: Box::new(alloc, first)?,
+        first: boxed(alloc, first)?,
         more: Vec::new(alloc),
     })
 }
@@ -51,9 +55,31 @@ fn module_of(alloc: Global, body: Option<Stmts>) -> Module {
     }
 }
 
+/// The depth of a short spelling.
+fn depth_of(kinds: &[Kind]) -> Option<u32> {
+    if kinds.len() > 99 {
+        return None;
+    }
+    Some(depth(kinds))
+}
+
+/// Whether a module is spelled so, and the depth of its spelling.
+type Spelled = (bool, Option<u32>);
+
+/// The same of a module that is at hand.
+fn spell_to(alloc: Global, module: &Module, kinds: &[Kind]) -> Result<Spelled, NoMemory> {
+    let spelling = spell(alloc, module)?;
+    Ok((spelling.as_slice() == kinds, depth_of(&spelling)))
+}
+
+/// The same of the empty module.
+fn spell_empty(alloc: Global, kinds: &[Kind]) -> Result<Spelled, NoMemory> {
+    let module = module_of(alloc, None);
+    spell_to(alloc, &module, kinds)
+}
+
 #[test]
 fn the_empty_module(rt: HostRuntime) -> Result<(), Fail> {
-    let spelling = spell(rt.alloc(), &module_of(rt.alloc(), None))?;
     let kinds = [
         Kind::Module,
         Kind::Name,
@@ -62,7 +88,8 @@ fn the_empty_module(rt: HostRuntime) -> Result<(), Fail> {
         Kind::Name,
         Kind::Dot,
     ];
-    assert_eq!(rt; spelling.as_slice(), kinds.as_slice());
+    let (is_spelled, _depth) = spell_empty(rt.alloc(), &kinds)?;
+    assert!(rt; is_spelled);
     Ok(())
 }
 
@@ -77,20 +104,27 @@ fn returning(alloc: Global) -> Result<Module, NoMemory> {
     Ok(module_of(alloc, Some(body)))
 }
 
+/// The same of that module.
+fn spell_returning(alloc: Global, kinds: &[Kind]) -> Result<Spelled, NoMemory> {
+    let module = returning(alloc)?;
+    spell_to(alloc, &module, kinds)
+}
+
 #[test]
 fn a_statement(rt: HostRuntime) -> Result<(), Fail> {
-    let module = returning(rt.alloc())?;
-    let spelling = spell(rt.alloc(), &module)?;
-    let front = [
+    let kinds = [
         Kind::Module,
         Kind::Name,
         Kind::Semicolon,
         Kind::Begin,
         Kind::Return,
         Kind::Number,
+        Kind::End,
+        Kind::Name,
+        Kind::Dot,
     ];
-    assert_eq!(rt; spelling.len(), 9);
-    assert_eq!(rt; (&spelling[..6], depth(&spelling)), (front.as_slice(), 1));
+    let found = spell_returning(rt.alloc(), &kinds)?;
+    assert_eq!(rt; found, (true, Some(1)));
     Ok(())
 }
 
@@ -102,12 +136,16 @@ fn depths(rt: HostRuntime) {
         Kind::CloseBracket,
         Kind::Until,
     ];
-    let depths = [
+    let found = [
         depth(&[]),
         depth(&[Kind::CloseParen, Kind::OpenParen, Kind::OpenParen]),
         depth(&crossed),
     ];
-    assert_eq!(rt; depths, [0, 1, 2]);
+    assert_eq!(rt; found, [0, 1, 2]);
+}
+
+#[test]
+fn kinds_are_told_apart(rt: HostRuntime) {
     let same = [Kind::Name.is(Kind::Name), Kind::Less.is(Kind::LessEq)];
     assert_eq!(rt; same, [true, false]);
 }
