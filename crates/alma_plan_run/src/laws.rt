@@ -1,5 +1,5 @@
 //! Laws of what is due from programs, each as the contract of a function that does nothing.
-ghost use Rattle.std.specs.Prelude.{◌≤◌, ⊥, List, ℕ, length};
+ghost use Rattle.std.specs.Prelude.{◌≤◌, List, ℕ, length};
 ghost use Rattle.alma_base.specs.Limits.{input_limit};
 ghost use Rattle.alma_ir.specs.Tree.{Program};
 ghost use Rattle.alma_plan.specs.Causes.{Causes, MayCome};

@@ -6,7 +6,7 @@ ghost use Rattle.alma_code.specs.Reads.{code_reads};
 ghost use Rattle.alma_ir.specs.Tree.{Program};
 ghost use Rattle.alma_lower_implements.specs.Implements.{Implements, state_after, printed_by, line_in};
 ghost use Rattle.alma_mean.specs.Events.{End, first, end_of, visit_count, CutOff};
-ghost use Rattle.alma_mean.specs.Meaning.{ev_program, result};
+ghost use Rattle.alma_mean.specs.Meaning.{ev_program, result as meant_at};
 ghost use Rattle.alma_run_laws.specs.Shown.{Shows, shown_end};
 
 /// What so many steps of code print that implements a program, and where they come to, is what the program means: its result, or a
@@ -25,7 +25,7 @@ pub fn enough_steps_show_the_result()
         (level : ℕ) → Shows p input steps printed end
         → (end_of (first (ev_program level p input)) ≡ CutOff → ⊥)
         → 32 * (visit_count (first (ev_program level p input)) + 1) ≤ steps
-        → result level p input ≡ (printed, end) }
+        → meant_at level p input ≡ (printed, end) }
 {}
 
 /// Code without a reading instruction runs alike on each input.
