@@ -6,3 +6,4 @@ pub mod Sources
 pub mod Owns
 pub mod MeantLemmas
 pub mod UndisturbedLemmas
+pub mod ToldLemmas
