@@ -1,7 +1,6 @@
 -- The ends of a call: their statuses and their texts.
 use Rattle.std.specs.Prelude.{Bool, true, false, List, ℕ, [], ◌++◌, codes, decimal, Option, Some, None}
 use Rattle.alma_base.specs.Fault.{run_fault_text}
-use Rattle.alma_base.specs.declared.place.Place.{Place}
 use Rattle.alma_io.specs.declared.files.Fetch.{Fetch}
 use Rattle.alma_io.specs.declared.files.Fetch.TheVariants as fetch
 use Rattle.alma_io.specs.declared.files.StoreFault.{StoreFault}
@@ -22,7 +21,6 @@ use Rattle.alma_io.specs.declared.whole.ReadAll.{ReadAll}
 use Rattle.alma_io.specs.declared.whole.ReadAll.TheVariants as whole
 use Rattle.alma_driver_words.specs.declared.words.WordsError.{WordsError}
 use Rattle.alma_driver_words.specs.declared.words.WordsError.TheVariants as words
-use Rattle.alma_source.specs.declared.fault.SourceFault.{SourceFault}
 use Rattle.alma_source.specs.Texts.{refusal_text}
 use Rattle.alma_driver_outcome.specs.declared.end.Counts.{Counts}
 use Rattle.alma_driver_outcome.specs.declared.end.End.{End}
