@@ -4,7 +4,7 @@ use Rattle.std.specs.Prelude.{Bool, true, false, ◌||◌, codes}
 use Rattle.std.specs.List.{list_any, AllByRecursion}
 use Rattle.alma_ir.specs.Checked.{HaveNoReturn, IsNoReturn}
 use Rattle.alma_ir.specs.Phrases.{Phrase, StmtPhrase, TestPhrase, ExprPhrase, ArgPhrase, DesigPhrase, SelPhrase, stmts_phrases}
-use Rattle.alma_ir.specs.Tree.{Program, Stmt, TestStmt, Assign, CopyCells, If, While, Repeat, ForTo, SomeOf, Case, Either, Forall, Commit}
+use Rattle.alma_ir.specs.Tree.{Program, TestStmt, Assign, CopyCells, If, While, Repeat, ForTo, SomeOf, Case, Either, Forall, Commit}
 use Rattle.alma_ir.specs.Tree.{Return, Read, WriteExpr, WriteText, WriteLine, routine_at}
 use Rattle.alma_io.specs.Sides.{SinkSide, SourceSide, FilesSide}
 use Rattle.alma_listing.specs.Lister.{listing_of}

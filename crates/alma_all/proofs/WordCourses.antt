@@ -1,6 +1,6 @@
 -- What comes of words that cannot stand.
-use Rattle.std.proofs.Common.{◌≡◌, ℕ, List, [], ◌∷◌, length, map, refl, sym, arith}
-use Rattle.std.specs.Prelude.{Bool, true, false, String, eqb}
+use Rattle.std.proofs.Common.{◌≡◌, ℕ, List, [], ◌∷◌, length, refl, sym, arith}
+use Rattle.std.specs.Prelude.{true, false, String, eqb}
 use Rattle.std.proofs.lemmas.Bool.{eqb-true}
 use Rattle.std.specs.String.{string_bytes}
 use Rattle.std.specs.declared.alloc.Global.{Global}

@@ -1,11 +1,11 @@
 -- The number of steps that an option names.
-use Rattle.std.proofs.Common.{◌≡◌, ◌≤◌, ◌∙◌, ◌^◌, ℕ, List, [], ◌∷◌, ◌++◌, length, refl, sym, ap, subst, arith}
+use Rattle.std.proofs.Common.{◌≡◌, ◌≤◌, ◌∙◌, ℕ, List, [], ◌∷◌, ◌++◌, length, refl, sym, ap, subst}
 use Rattle.std.proofs.lemmas.Bool.{and_parts, leb-true, le-leb, eq-eqb, eqb-true}
-use Rattle.std.specs.Prelude.{Bool, true, false, ◌&&◌, leb, eqb, cond, codes, Option, None, Some, ◌≢◌, MatchOption}
+use Rattle.std.specs.Prelude.{Bool, true, false, ◌&&◌, leb, eqb, cond, Option, None, Some, ◌≢◌, MatchOption}
 use Rattle.alma_base.specs.Reading.{is_digit}
 use Rattle.alma_scan.specs.Bytes.{AllIn, value_of}
 use Rattle.alma_driver_words.specs.Words.{NamesSteps, greatest_steps}
-use Rattle.alma_all.specs.All.{behind, are_digits, names_steps, steps_named, steps_in}
+use Rattle.alma_all.specs.All.{behind, are_digits, names_steps, steps_named}
 
 -- a text behind its front
 pub behind_front : (front text : List ℕ) → behind front (front ++ text) ≡ Some text

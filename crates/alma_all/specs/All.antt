@@ -1,5 +1,5 @@
 -- What a call of the program comes to: its plan.
-use Rattle.std.specs.Prelude.{ℕ, ◌*◌, List, [], ◌∷◌, length, Bool, true, false, ◌&&◌, leb, eqb, cond, codes, Option, None, Some}
+use Rattle.std.specs.Prelude.{ℕ, List, [], ◌∷◌, length, Bool, true, false, ◌&&◌, leb, eqb, cond, codes, Option, None, Some}
 use Rattle.std.specs.List.{list_any}
 use Rattle.alma_base.specs.Reading.{is_digit}
 use Rattle.alma_ir.specs.Phrases.{Phrase, StmtPhrase, stmts_phrases}
@@ -8,7 +8,7 @@ use Rattle.alma_scan.specs.Bytes.{value_of}
 use Rattle.alma_driver_words.specs.Words.{default_steps, greatest_steps}
 use Rattle.alma_listing.specs.Lister.{listing_of}
 use Rattle.alma_source.specs.Verdict.{Verdict}
-use Rattle.alma_plan.specs.Plan.{Ending, Plan, Sense, Ends, bad_word, silent, success, tells}
+use Rattle.alma_plan.specs.Plan.{Plan, Sense, Ends, bad_word, silent, success, tells}
 use Rattle.alma_plan.specs.Words.{is_file_name}
 use Rattle.alma_plan_run.specs.Programs.{Last, Tells, read_source, run_plan, sense}
 

@@ -1,5 +1,5 @@
 -- What a call shows of the alternatives of a program, in the words of a reader of its meaning.
-use Rattle.std.specs.Prelude.{◌≡◌, ◌<◌, ◌≤◌, ◌+◌, ◌*◌, ◌/◌, ℕ, suc, Bool, true, false, List, [], ◌∷◌, length, codes, Some}
+use Rattle.std.specs.Prelude.{◌≡◌, ◌<◌, ◌≤◌, ◌+◌, ◌*◌, ◌/◌, ℕ, suc, true, false, List, [], ◌∷◌, length, codes, Some}
 use Rattle.alma_base.specs.Limits.{input_limit, size_limit, source_limit}
 use Rattle.alma_driver_words.specs.Words.{default_steps}
 use Rattle.alma_io.specs.Files.{Has}
