@@ -1,9 +1,9 @@
 -- The nodes of a program, by computation.
 use Rattle.std.specs.Prelude.{◌≡◌, ◌*◌}
 use Rattle.std.proofs.Common.{refl}
-use Rattle.alma_ir.specs.Count.{nodes, saturate}
+use Rattle.alma_ir.specs.Count.{nodes}
 use Rattle.alma_tests_code.specs.Programs.{true_program}
 
 -- each side computes
-pub true_is_three : saturate (16 * nodes true_program) ≡ 80
+pub true_is_three : 16 * nodes true_program ≡ 80
 true_is_three = refl
