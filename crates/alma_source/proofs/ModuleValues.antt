@@ -1,16 +1,13 @@
 -- For each plain tree a value of the parser's types that is seen as it, its leaves and nodes numbered as its tokens stand.
-use Rattle.std.proofs.Common.{◌≡◌, ◌<◌, ◌+◌, ◌^◌, ◌∙◌, ℕ, List, [], ◌∷◌, length, Option, None, Some, refl, ap, ap₂, arith}
+use Rattle.std.proofs.Common.{◌≡◌, ◌<◌, ◌^◌, ◌∙◌, ℕ, List, [], ◌∷◌, length, Option, None, Some, refl, ap, ap₂, arith}
 use Rattle.alma_tree.specs.declared.kind.Kind.{Kind}
 use Rattle.alma_tree.specs.declared.leaf.Mode.{Mode}
 use Rattle.alma_tree.specs.declared.leaf.Mode.TheVariants as modes
-use Rattle.alma_tree.specs.declared.leaf.Name.{Name}
-use Rattle.alma_tree.specs.declared.leaf.Names.{Names}
 use Rattle.alma_tree.specs.declared.type_node.TypeNode as dy
 use Rattle.alma_tree.specs.declared.type_node.Arrays as dz
 use Rattle.alma_tree.specs.declared.type_node.Dimensions as dv
 use Rattle.alma_tree.specs.declared.type_node.PlainType as dq
 use Rattle.alma_tree.specs.declared.type_node.FieldList as dw
-use Rattle.alma_tree.specs.declared.module.Block as db
 use Rattle.alma_tree.specs.declared.module.Decl as dh
 use Rattle.alma_tree.specs.declared.module.Module.{Module}
 use Rattle.alma_tree.specs.Tree as tree
@@ -320,6 +317,31 @@ body_part (tree.body s) p =
     let one = stmts s (next p) in
     record { value = Some one.value; seen = ap tree.body one.seen; to = one.to; walk = one_token p ⊳ one.walk }
 
+-- a procedure, of its parts, and the declarations behind it
+more_procedure : {heading : tree.Params} {result : tree.ResultName} {b : tree.Block} {more : tree.DeclTail} {total : ℕ} {k l m n i j : Kind}
+    {before inside left ahead rest : List Kind} (p : Place total (k ∷ l ∷ before))
+    (given : Part view.params_of number.numbers_of_params heading total inside (counted (next (next p))).at)
+    (gives : Part view.result_of number.numbers_of_result result total (m ∷ left) given.to.at)
+    (inner : Part view.view_block number.number_block b total (n ∷ i ∷ j ∷ ahead) (next gives.to).at)
+    → Parts view.decls_of number.numbers_of_decls more total rest (counted (next (counted (next (next inner.to))))).at
+    → Parts view.decls_of number.numbers_of_decls (tree.more_decl (tree.procedure heading result b) more) total rest p.at
+more_procedure p given gives inner others =
+    let closed = next inner.to in
+    let ended = next (counted (next closed)) in
+    let value : dh.Decl = dh.Procedure ended.at.node (name_at (next p)) given.value gives.value inner.value (name_at closed) in
+    record {
+      items = value ∷ others.items;
+      seen = ap₂ tree.more_decl (seen.procedure_laid ended.at.node (name_at (next p)) given.value gives.value inner.value (name_at closed)
+          ∙ ap₃ tree.procedure given.seen gives.seen inner.seen) others.seen;
+      to = others.to;
+      walk = of_step (laid.procedure_laid ended.at.node (name_at (next p)) given.value gives.value inner.value (name_at closed))
+          (one_token p ⊳ one_name (next p) ⊳ given.walk ⊳ gives.walk ⊳ one_token gives.to ⊳ inner.walk ⊳ one_token inner.to
+          ⊳ one_name closed ⊳ one_token (counted (next closed)) ⊳ one_node ended)
+          ⊳ others.walk;
+      few = one_more p (stayed p) (one_name (next p) ⊳ given.walk ⊳ gives.walk ⊳ one_token gives.to ⊳ inner.walk ⊳ one_token inner.to
+          ⊳ one_name closed ⊳ one_token (counted (next closed)) ⊳ one_node ended) (length others.items) others.to.at.token others.few;
+    }
+
 mutual
   block : (t : tree.Block) {total : ℕ} {rest : List Kind} (p : Place total (spell.spell_block t rest))
       → Part view.view_block number.number_block t total rest p.at
@@ -367,25 +389,11 @@ mutual
         few = one_more p (stayed p) (one.walk ⊳ one_node one.to) (length others.items) others.to.at.token others.few;
       }
   decl_tail (tree.more_decl (tree.procedure heading result b) more) p =
-      let named = counted (next (next p)) in
-      let given = params_part heading named in
+      let given = params_part heading (counted (next (next p))) in
       let gives = result_part result given.to in
       let inner = block b (next gives.to) in
-      let closed = next inner.to in
-      let ended = next (counted (next closed)) in
-      let others = decl_tail more (counted ended) in
-      let n = ended.at.node in
-      let walk = one_name (next p) ⊳ given.walk ⊳ gives.walk ⊳ one_token gives.to ⊳ inner.walk ⊳ one_token inner.to ⊳ one_name closed
-          ⊳ one_token (counted (next closed)) ⊳ one_node ended in
-      record {
-        items = dh.Procedure n (name_at (next p)) given.value gives.value inner.value (name_at closed) ∷ others.items;
-        seen = ap₂ tree.more_decl (seen.procedure_laid n (name_at (next p)) given.value gives.value inner.value (name_at closed)
-            ∙ ap₃ tree.procedure given.seen gives.seen inner.seen) others.seen;
-        to = others.to;
-        walk = of_step (laid.procedure_laid n (name_at (next p)) given.value gives.value inner.value (name_at closed)) (one_token p ⊳ walk)
-            ⊳ others.walk;
-        few = one_more p (stayed p) walk (length others.items) others.to.at.token others.few;
-      }
+      let others = decl_tail more (counted (next (counted (next (next inner.to))))) in
+      more_procedure p given gives inner others
 
 -- ---- the module
 
@@ -405,23 +413,25 @@ all_numbered m total to walk =
     let all : to.at.token ≡ total = omega (arith, to.all) in
     (to.at.node, walk.steps ∙ ap (λ n. Some (record { token = n; node = to.at.node })) all)
 
--- each plain tree is that of a numbered value, where its tokens are few enough for vectors
-pub numbered_module : (t : tree.Module) → length (spell.spelling t) < 2 ^ 63 → Numbered t
-unfolding start
-numbered_module (tree.module_of b) small =
-    let p = start (spell.spelling (tree.module_of b)) small in
+module_part : (t : tree.Module) {total : ℕ} (p : Place total (spell.spelling t))
+    → Part view.view_module number.number_module t total [] p.at
+module_part (tree.module_of b) p =
     let named = counted (next (next p)) in
     let inner = block b (next named) in
     let closed = next inner.to in
     let dotted = counted (next closed) in
     let ended = next dotted in
-    let value : Module
-    = record { node = ended.at.node; name = name_at (next p); block = inner.value; end_name = name_at closed } in
-    let walk : Walk (number.number_module value) (record { token = 0; node = 0 }) (counted ended).at
-    = one_token p ⊳ one_name (next p) ⊳ one_token named ⊳ inner.walk ⊳ one_token inner.to ⊳ one_name closed ⊳ one_token dotted
-    ⊳ one_node ended in
     record {
-      value = value;
+      value = record { node = ended.at.node; name = name_at (next p); block = inner.value; end_name = name_at closed };
       seen = ap tree.module_of inner.seen;
-      numbered = all_numbered value (length (spell.spelling (tree.module_of b))) (counted ended) walk;
+      to = counted ended;
+      walk = one_token p ⊳ one_name (next p) ⊳ one_token named ⊳ inner.walk ⊳ one_token inner.to ⊳ one_name closed ⊳ one_token dotted
+          ⊳ one_node ended;
     }
+
+-- each plain tree is that of a numbered value, where its tokens are few enough for vectors
+pub numbered_module : (t : tree.Module) → length (spell.spelling t) < 2 ^ 63 → Numbered t
+unfolding start
+numbered_module t small =
+    let m = module_part t (start (spell.spelling t) small) in
+    record { value = m.value; seen = m.seen; numbered = all_numbered m.value (length (spell.spelling t)) m.to m.walk }

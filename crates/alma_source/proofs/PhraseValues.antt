@@ -1,5 +1,5 @@
 -- For each plain phrase a value of the parser's types that is seen as it, numbered from a place on.
-use Rattle.std.proofs.Common.{◌≡◌, ◌∙◌, ℕ, List, [], ◌∷◌, length, Option, None, Some, refl, ap, ap₂}
+use Rattle.std.proofs.Common.{◌≡◌, ◌∙◌, ℕ, List, ◌∷◌, length, Option, None, Some, refl, ap, ap₂}
 use Rattle.alma_tree.specs.declared.kind.Kind.{Kind}
 use Rattle.alma_tree.specs.declared.leaf.Sign.{Sign}
 use Rattle.alma_tree.specs.declared.leaf.Sign.TheVariants as signs
@@ -19,7 +19,6 @@ use Rattle.alma_tree.specs.declared.phrase.Factor as dr
 use Rattle.alma_tree.specs.declared.phrase.Primary as dp
 use Rattle.alma_tree.specs.declared.phrase.Args as dg
 use Rattle.alma_tree.specs.declared.phrase.Exprs as dx
-use Rattle.alma_tree.specs.declared.phrase.Desig as dd
 use Rattle.alma_tree.specs.declared.phrase.Selector as dj
 use Rattle.alma_tree.specs.Tree as tree
 use Rattle.alma_tree.specs.Spelling as spell
