@@ -1,2 +1,5 @@
+pub mod ModuleValues
+pub mod Numbering
+pub mod PhraseValues
 pub mod RefusalLemmas
 pub mod Verdicts

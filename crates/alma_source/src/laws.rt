@@ -1,5 +1,6 @@
 //! Laws of sources: functions without work, whose contracts are the laws.
-ghost use Rattle.std.specs.Prelude.{◌≡◌, List, ℕ};
+ghost use Rattle.std.specs.Prelude.{◌≡◌, ◌≤◌, List, length, ℕ};
+ghost use Rattle.alma_base.specs.Limits.{source_limit};
 ghost use Rattle.alma_grammar.specs.Laws.{IsProgram};
 ghost use Rattle.alma_ir.specs.Tree.{Program};
 ghost use Rattle.alma_scan.specs.Tokens.{Lexeme, Tokens};
@@ -41,4 +42,10 @@ pub fn a_source_has_one_refusal()
 pub fn a_source_has_one_verdict()
     ensures same { (source : List ℕ) (one other : Verdict) → IsVerdict source one
         → IsVerdict source other → one ≡ other }
+{}
+
+/// A source within its length has a verdict: it is a program, or it is refused for a fault.
+pub fn each_source_has_a_verdict()
+    ensures some { (source : List ℕ) → length source ≤ source_limit
+        → (verdict : Verdict) × IsVerdict source verdict }
 {}
