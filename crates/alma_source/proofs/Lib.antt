@@ -1,5 +1,5 @@
-pub mod ModuleValues
-pub mod Numbering
-pub mod PhraseValues
+mod ModuleValues
+mod Numbering
+mod PhraseValues
 pub mod RefusalLemmas
 pub mod Verdicts

@@ -25,20 +25,20 @@ pub fn a_source_outside_the_grammar_has_no_tree()
         → IsParsed source tokens tree → ⊥ }
 {}
 
-/// A source is one program.
+/// A source is one program at most.
 pub fn a_source_is_one_program()
     ensures same { (source : List ℕ) (p q : Program) → IsProgramOf source p
         → IsProgramOf source q → p ≡ q }
 {}
 
-/// A source is refused for one fault, and at one place.
+/// A source is refused for one fault at most, and at one place.
 pub fn a_source_has_one_refusal()
     ensures same { (source : List ℕ) (fault other : SourceFault) (offset place : ℕ) →
         IsRefused source fault offset → IsRefused source other place → (fault ≡ other) ×
         (offset ≡ place) }
 {}
 
-/// A source comes to one verdict.
+/// A source comes to one verdict at most.
 pub fn a_source_has_one_verdict()
     ensures same { (source : List ℕ) (one other : Verdict) → IsVerdict source one
         → IsVerdict source other → one ≡ other }
