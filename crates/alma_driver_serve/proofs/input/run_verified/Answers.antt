@@ -1,5 +1,5 @@
 use Rattle.std.proofs.Common.{ap, sym, ◌≡◌, ◌∙◌}
-use Rattle.std.specs.Prelude.{true, false}
+use Rattle.std.specs.Prelude.{false}
 use Rattle.alma_object.specs.View.{code_of_view}
 use Rattle.alma_verify.specs.Verified.{code_of_verified}
 use Rattle.alma_code.specs.Reads.{code_reads}
