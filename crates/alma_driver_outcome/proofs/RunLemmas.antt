@@ -8,7 +8,8 @@ use Rattle.alma_code.specs.Lines.{known_line}
 use Rattle.alma_code.specs.Machine.{Mode, Going, Failing, Ended, Stuck, State, start}
 use Rattle.alma_code.specs.Plain.{PlainCode}
 use Rattle.alma_code.specs.Reads.{code_reads}
-use Rattle.alma_lower_implements.specs.Implements.{Implements, state_after, line_in}
+use Rattle.alma_lower_implements.specs.Implements.{Implements, printed_by, state_after, line_in}
+use Rattle.alma_lower_sound.specs.Reads.{program_reads}
 use Rattle.alma_machine.specs.declared.machine.RunEnd.{RunEnd}
 use Rattle.alma_machine.specs.declared.machine.RunEnd.TheVariants as run
 use Rattle.alma_machine.specs.Runs.{run_end_of, made}
@@ -21,7 +22,8 @@ use Rattle.alma_driver_outcome.specs.declared.end.Counts.{Counts}
 use Rattle.alma_driver_outcome.specs.Ends.{mode_end, run_end, counts_in}
 use Rattle.alma_driver_outcome.specs.Outcome.{Due, code_end, code_due, InputOutcome, unread, taken, past_input, AreCounts, told_end}
 use Rattle.alma_driver_outcome.specs.Outcome.{MeansOn, ProgramOutcome, ran, too_much_code, IsTaken, Meant, meant_on, too_long, too_large}
-use Rattle.alma_driver_outcome.specs.Showing.{Showing, Prints}
+use Rattle.alma_driver_outcome.specs.Outcome.{TraceMeant, traced_on, trace_too_long, trace_too_large}
+use Rattle.alma_driver_outcome.specs.Showing.{Showing, Prints, Traces}
 use Rattle.alma_driver_outcome.specs.Course.{Goes}
 
 -- ---- a run of the machine
@@ -146,23 +148,57 @@ code_means p code input steps stats implements short =
 -- a run on this input is what the program means on it
 means_due : (left : Option (List ℕ)) (p : Program) (code : PlainCode) (input : List ℕ) (steps : ℕ) (stats : Bool) (due : Due)
     → size_of p ≤ size_limit
-    → Implements code p → length input ≤ input_limit → IsTaken left (code_reads code) input → due ≡ code_due code input steps (Prints stats)
+    → Implements code p → code_reads code ≡ program_reads p → length input ≤ input_limit → IsTaken left (code_reads code) input
+    → due ≡ code_due code input steps (Prints stats)
     → Meant left p steps stats due
-means_due left p code input steps stats due size implements short is e =
-    subst (Meant left p steps stats) (sym e) (meant_on input size is (code_means p code input steps stats implements short))
+means_due left p code input steps stats due size implements reads short is e =
+    subst (Meant left p steps stats) (sym e) (meant_on input size reads is (code_means p code input steps stats implements short))
 
 input_means : (left : Option (List ℕ)) (p : Program) (code : PlainCode) (steps : ℕ) (stats : Bool) (due : Due) → size_of p ≤ size_limit
-    → Implements code p
+    → Implements code p → code_reads code ≡ program_reads p
     → InputOutcome left code steps (Prints stats) due → Meant left p steps stats due
-input_means left p code steps stats due size implements (unread q e) =
-    means_due left p code [] steps stats due size implements (omega arith) (subst (λ (r : Bool). IsTaken left r []) (sym q) refl) e
-input_means left p code steps stats due size implements (taken input q l short e) =
-    means_due left p code input steps stats due size implements short (subst (λ (r : Bool). IsTaken left r input) (sym q) (l, short)) e
-input_means left p code steps stats due size implements (past_input q more e) = too_long size more e
+input_means left p code steps stats due size implements reads (unread q e) =
+    means_due left p code [] steps stats due size implements reads (omega arith) (subst (λ (r : Bool). IsTaken left r []) (sym q) refl) e
+input_means left p code steps stats due size implements reads (taken input q l short e) =
+    means_due left p code input steps stats due size implements reads short
+    (subst (λ (r : Bool). IsTaken left r input) (sym q) (l, short)) e
+input_means left p code steps stats due size implements reads (past_input q more e) = too_long size more e
 
 -- what a run of a program comes to is what the program means
 pub outcome_means : (left : Option (List ℕ)) (p : Program) (steps : ℕ) (stats : Bool) (due : Due)
     → ProgramOutcome left p steps (Prints stats) due → Meant left p steps stats due
 outcome_means left p steps stats due (ran code size sound implements reads names o) =
-    input_means left p code steps stats due size implements o
+    input_means left p code steps stats due size implements reads o
 outcome_means left p steps stats due (too_much_code size e) = too_large size e
+
+-- ---- a trace of such a run
+
+-- it ends on this input as the program does on it
+traced_due : (left : Option (List ℕ)) (p : Program) (code : PlainCode) (input : List ℕ) (steps : ℕ) (names : List (List ℕ)) (due : Due)
+    → size_of p ≤ size_limit
+    → Implements code p → code_reads code ≡ program_reads p → length input ≤ input_limit → IsTaken left (code_reads code) input
+    → due ≡ code_due code input steps (Traces names)
+    → TraceMeant left p steps due
+traced_due left p code input steps names due size implements reads short is e =
+    let s = state_after code input steps in
+    subst (TraceMeant left p steps) (sym e)
+    (traced_on input (printed_by code input steps) (shown_end s.mode (line_in code s)) size reads is
+    (code_shows code p input steps implements short) (told_is s.mode (line_in code s) None))
+
+input_traced : (left : Option (List ℕ)) (p : Program) (code : PlainCode) (steps : ℕ) (names : List (List ℕ)) (due : Due)
+    → size_of p ≤ size_limit
+    → Implements code p → code_reads code ≡ program_reads p
+    → InputOutcome left code steps (Traces names) due → TraceMeant left p steps due
+input_traced left p code steps names due size implements reads (unread q e) =
+    traced_due left p code [] steps names due size implements reads (omega arith) (subst (λ (r : Bool). IsTaken left r []) (sym q) refl) e
+input_traced left p code steps names due size implements reads (taken input q l short e) =
+    traced_due left p code input steps names due size implements reads short
+    (subst (λ (r : Bool). IsTaken left r input) (sym q) (l, short)) e
+input_traced left p code steps names due size implements reads (past_input q more e) = trace_too_long size more e
+
+-- what a trace of a program comes to ends as the program means
+pub trace_means : (left : Option (List ℕ)) (p : Program) (steps : ℕ) (names : List (List ℕ)) (due : Due)
+    → ProgramOutcome left p steps (Traces names) due → TraceMeant left p steps due
+trace_means left p steps names due (ran code size sound implements reads kept o) =
+    input_traced left p code steps names due size implements reads o
+trace_means left p steps names due (too_much_code size e) = trace_too_large size e

@@ -138,10 +138,18 @@ IsTaken left true input = MayBeLeft left input × (length input ≤ input_limit)
 -- What it says by what is left of the input: the program runs on that, or, where it is not read, on an empty input; or the
 -- input is too long; or the refusal of its size.
 pub data Meant (left : Option (List ℕ)) (p : Program) (steps : ℕ) (stats : Bool) (due : Due) : Type 0 where
-  meant_on : (input : List ℕ) → size_of p ≤ size_limit → IsTaken left due.reads input → MeansOn p input steps stats due
-      → Meant left p steps stats due
+  meant_on : (input : List ℕ) → size_of p ≤ size_limit → due.reads ≡ program_reads p → IsTaken left due.reads input
+      → MeansOn p input steps stats due → Meant left p steps stats due
   too_long : size_of p ≤ size_limit → MayHaveMore left input_limit → due ≡ long_input → Meant left p steps stats due
   too_large : size_limit < size_of p → due ≡ silent (TooMuchCode (size_of p)) → Meant left p steps stats due
+
+-- What it says of a trace of such a run: it ends as the meaning does, all of whose prints the traced run made, or its steps ran out,
+-- and the run made a front of them.
+pub data TraceMeant (left : Option (List ℕ)) (p : Program) (steps : ℕ) (due : Due) : Type 0 where
+  traced_on : (input printed : List ℕ) (end : events.End) → size_of p ≤ size_limit → due.reads ≡ program_reads p
+      → IsTaken left due.reads input → Shows p input steps printed end → due.end ≡ told_end end None → TraceMeant left p steps due
+  trace_too_long : size_of p ≤ size_limit → MayHaveMore left input_limit → due ≡ long_input → TraceMeant left p steps due
+  trace_too_large : size_limit < size_of p → due ≡ silent (TooMuchCode (size_of p)) → TraceMeant left p steps due
 
 -- ---- sources and objects
 

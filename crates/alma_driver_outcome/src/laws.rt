@@ -2,7 +2,7 @@
 ghost use Rattle.std.specs.Prelude.{◌≡◌, ◌≤◌, ◌+◌, ◌*◌, Bool, List, ℕ, Option, Some, map};
 ghost use Rattle.alma_base.specs.Limits.{size_limit};
 ghost use Rattle.alma_source.specs.Refusal.{IsProgramOf};
-ghost use Rattle.alma_driver_outcome.specs.Outcome.{Due, Stored, ProgramOutcome, CompileOutcome, SourceOutcome, Meant, ListOutcome, ExecOutcome};
+ghost use Rattle.alma_driver_outcome.specs.Outcome.{Due, Stored, ProgramOutcome, CompileOutcome, SourceOutcome, Meant, TraceMeant, ListOutcome, ExecOutcome};
 ghost use Rattle.alma_driver_outcome.specs.Causes.{Causes};
 ghost use Rattle.alma_driver_outcome.specs.Headline.{AsksToRun, IsUndisturbed, IsInputLeft, RunEnds, ShowsResult};
 ghost use Rattle.alma_driver_outcome.specs.Stored.{SpellsCodeOf};
@@ -16,7 +16,7 @@ ghost use Rattle.alma_ir.specs.Tree as tree;
 ghost use Rattle.alma_lower_sound.specs.Reads.{program_reads};
 ghost use Rattle.alma_run_laws.specs.Shown.{size_of};
 ghost use Rattle.alma_driver_outcome.specs.Outside.{Outside};
-ghost use Rattle.alma_driver_outcome.specs.Showing.{Prints};
+ghost use Rattle.alma_driver_outcome.specs.Showing.{Prints, Traces};
 ghost use Rattle.alma_ir.specs.Tree.{Program};
 ghost use Rattle.alma_mean.specs.Events.{first, end_of, visit_count, CutOff};
 ghost use Rattle.alma_mean.specs.Meaning.{ev_program, result as meant_at};
@@ -26,6 +26,12 @@ ghost use Rattle.alma_mean.specs.Meaning.{ev_program, result as meant_at};
 pub fn a_run_is_what_its_program_means()
     ensures means { (left : Option (List ℕ)) (p : Program) (steps : ℕ) (stats : Bool) (due : Due)
         → ProgramOutcome left p steps (Prints stats) due → Meant left p steps stats due }
+{}
+
+/// What a trace of a program comes to ends as the meaning does on the input that is read; or its steps ran out.
+pub fn a_trace_ends_as_its_program_means()
+    ensures ends { (left : Option (List ℕ)) (p : Program) (steps : ℕ) (names : List (List ℕ)) (due : Due)
+        → ProgramOutcome left p steps (Traces names) due → TraceMeant left p steps due }
 {}
 
 /// Listing bytes comes to one end and one text.
