@@ -1,8 +1,10 @@
-//! Worked codes and a worked program, and tests of names, code and objects.
+//! Worked codes, and tests of names, programs, code and objects.
 #![tactic(auto)]
 
 #[cfg(test)]
 mod code;
+#[cfg(test)]
+mod ir;
 #[cfg(test)]
 mod names;
 #[cfg(test)]

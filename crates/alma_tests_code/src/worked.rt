@@ -1,5 +1,5 @@
-//! Small codes that are run and judged by computing, and a program that is counted, each in the contract of a function that does nothing.
-ghost use Rattle.std.specs.Prelude.{◌≡◌, ◌-◌, ◌*◌, ◌^◌, true, false, pos, negsuc, [], ◌∷◌, length, take, codes, None};
+//! Small codes that are run and judged by computing, each in the contract of a function that does nothing.
+ghost use Rattle.std.specs.Prelude.{◌≡◌, ◌-◌, ◌^◌, true, false, pos, negsuc, [], ◌∷◌, length, take, codes, None};
 ghost use Rattle.std.specs.Fmt.{decimal, signed_decimal};
 ghost use Rattle.alma_base.specs.declared.fault.RunFault.TheVariants as fault;
 ghost use Rattle.alma_code.specs.declared.cell.Cell.TheVariants as cell;
@@ -11,8 +11,6 @@ ghost use Rattle.alma_code.specs.Picture.{cell_at, last_frame, top_of, entry_at}
 ghost use Rattle.alma_code.specs.Machine.{step, start};
 ghost use Rattle.alma_code.specs.Records.{KeepsCounts, KeepsRecords};
 ghost use Rattle.alma_code.specs.Rules.{IsTable, code_fault};
-ghost use Rattle.alma_ir.specs.Count.{nodes};
-ghost use Rattle.alma_tests_code.specs.Programs.{true_program};
 ghost use Rattle.alma_tests_code.specs.Links.{LinksRun, LinksRefused, LinesTell, TextsTell};
 ghost use Rattle.alma_tests_code.specs.Codes.{Ends, Prints, Breaks, state_after, change_of, param_of, numbers_to, places_to, marks_to, routine_to, code_with, main_with, plain_main, least, branch_undone, choices_cut, sum_carried, carry_grows, left_unknown, right_unknown, both_unknown, out_of_range, cells_equated, mix_called, frame_again, function_called, frame_too_large, input_again, read_one, loop_counts, values_print, operation, index_outside, part_named, global_written, array_copied, copy_overlaps, equation_overlaps, equation_stops, jump_if_zero, bound_to, byte_read, small_read, nothing_held, kept_below, unset_argument, loop_by};
 
@@ -400,10 +398,4 @@ pub fn lines_tell()
 #[tactic(auto, using(crate::proofs::ComputedLinks::texts_tell))]
 pub fn texts_tell()
     ensures { TextsTell }
-{}
-
-/// A TRUE is three nodes, a WRITELN one and their routine one, and `size` of alma_ir answers 16 for each.
-#[tactic(auto, using(crate::proofs::ComputedNodes::true_is_three))]
-pub fn a_true_is_three_nodes()
-    ensures { 16 * nodes true_program ≡ 80 }
 {}
