@@ -13,10 +13,10 @@ use Rattle.alma_plan.specs.Causes.{Causes}
 use Rattle.alma_plan.specs.Outside.{Outside}
 use Rattle.alma_plan.specs.Plan.{Due, Plan, Reading, Asks, Comes, MayLack, success}
 use Rattle.alma_plan.specs.Words.{is_file_name}
-use Rattle.alma_plan_run.proofs.ToldLemmas.{run_asks, source_asks, RunComes, run_comes, SourceComes, source_comes}
-use Rattle.alma_plan_run.proofs.UndisturbedLemmas.{call_shows_due}
-use Rattle.alma_plan_run.specs.Programs.{Last}
-use Rattle.alma_plan_run.specs.Undisturbed.{IsUndisturbed, ShowsDue}
+use Rattle.alma_plan.proofs.ToldLemmas.{run_asks, source_asks, RunComes, run_comes, SourceComes, source_comes}
+use Rattle.alma_plan.proofs.UndisturbedLemmas.{call_shows_due}
+use Rattle.alma_plan.specs.Programs.{Last}
+use Rattle.alma_plan.specs.Undisturbed.{IsUndisturbed, ShowsDue}
 use Rattle.alma_resolved.proofs.ConditionsMet.{fits_checked}
 use Rattle.alma_resolved.proofs.FramesKept.{program_keeps_frames}
 use Rattle.alma_resolved.proofs.GlobalsKept.{program_has_globals}
@@ -106,7 +106,7 @@ pub call_lists : (words : List (List ℕ)) (file source input : List ℕ) (steps
 call_lists words file source input steps before after status asks causes calm =
     let causes' = subst (λ (plan : Plan Verdict Last). Causes all_sense program plan before after status)
     (plan_is words file steps asks.named asks.asks) causes in
-    let due = call_shows_due program success (asked file steps) before after status causes' calm
+    let due = call_shows_due (sense program success) program (asked file steps) before after status causes' calm
     (lacks_none before.files.told file source steps asks.told) in
     source_ends file source input steps before after status asks.source_short asks.left asks.input_short due.0 due.1 due.3
     (source_comes program success before.files.told before.input.left due.0 due.1 file source (λ p. list_plan p steps) asks.told

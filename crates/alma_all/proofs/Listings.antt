@@ -11,7 +11,7 @@ use Rattle.alma_listing.specs.Listing.{Lists, global_cells}
 use Rattle.alma_listing.proofs.Listed.{each_is_listed}
 use Rattle.alma_listing.proofs.Results.{listers_give_listings}
 use Rattle.alma_plan.specs.Plan.{Due, success}
-use Rattle.alma_plan_run.proofs.MeantLemmas.{run_is_meant}
+use Rattle.alma_plan.proofs.MeantLemmas.{run_is_meant}
 use Rattle.alma_run_laws.specs.Shown as run
 use Rattle.alma_all.specs.All.{program}
 use Rattle.alma_all.specs.Shown.{listing_end, MayRunOut, whole, front, IsListed, ListsEveryAlternative}

@@ -11,7 +11,7 @@ use Rattle.alma_listing.specs.Lister.{listing_of}
 use Rattle.alma_plan.proofs.Courses.{course_ends, gains_none}
 use Rattle.alma_plan.specs.Course.{Follows, whole}
 use Rattle.alma_plan.specs.Plan.{Ending, silent, tells}
-use Rattle.alma_plan_run.specs.Programs.{Tells, run_plan}
+use Rattle.alma_plan.specs.Programs.{Tells, run_plan}
 use Rattle.alma_all.specs.All.{program, all_sense, is_return, body_returns, list_plan, unless_returns}
 
 -- a phrase that is no RETURN

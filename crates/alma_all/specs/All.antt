@@ -10,7 +10,7 @@ use Rattle.alma_listing.specs.Lister.{listing_of}
 use Rattle.alma_source.specs.Verdict.{Verdict}
 use Rattle.alma_plan.specs.Plan.{Plan, Sense, Ends, bad_word, silent, success, tells}
 use Rattle.alma_plan.specs.Words.{is_file_name}
-use Rattle.alma_plan_run.specs.Programs.{Last, Tells, read_source, run_plan, sense}
+use Rattle.alma_plan.specs.Programs.{Last, Tells, read_source, run_plan, sense}
 
 -- the name of the program
 abbrev pub program : List ℕ

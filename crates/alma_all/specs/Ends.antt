@@ -1,7 +1,7 @@
 -- The ends of a call, as they are due.
 use Rattle.std.specs.Prelude.{List, ℕ, [], ◌∷◌, codes}
 use Rattle.alma_plan.specs.Plan.{Ending, bad_word, success, tells}
-use Rattle.alma_plan_run.specs.Ends.{file_end, program_end}
+use Rattle.alma_plan.specs.Ends.{file_end, program_end}
 use Rattle.alma_all.specs.declared.end.AllEnd.{AllEnd}
 use Rattle.alma_all.specs.declared.end.AllEnd.TheVariants.{BadWord, NoProgram, ModuleReturn, Run}
 use Rattle.alma_all.specs.All.{program}

@@ -15,9 +15,9 @@ use Rattle.alma_listing.specs.Listing.{alternatives, global_cells, listed, listi
 use Rattle.alma_plan.specs.Outside.{Outside}
 use Rattle.alma_plan.specs.Plan.{Due, Ending, silent, success, tells}
 use Rattle.alma_plan.specs.Words.{is_file_name}
-use Rattle.alma_plan_run.specs.Meant.{meant_ending}
-use Rattle.alma_plan_run.specs.Programs.{Runs, refused, too_much_code}
-use Rattle.alma_plan_run.specs.Undisturbed.{ShowsDue}
+use Rattle.alma_plan.specs.Meant.{meant_ending}
+use Rattle.alma_plan.specs.Programs.{Runs, refused, too_much_code}
+use Rattle.alma_plan.specs.Undisturbed.{ShowsDue}
 use Rattle.alma_run_laws.specs.Shown.{size_of}
 use Rattle.alma_source.specs.Refusal.{IsProgramOf, IsRefused, place_of}
 use Rattle.alma_source.specs.declared.fault.SourceFault.{SourceFault}

@@ -1,5 +1,5 @@
 // How a call ends.
-use alma_plan_run::{FileStop, ProgramEnd};
+use alma_plan::{FileStop, ProgramEnd};
 
 /// How a call ends, but for what becomes of its text on err.
 #[derive(Clone, Copy)]

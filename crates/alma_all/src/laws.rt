@@ -2,7 +2,7 @@
 ghost use Rattle.std.specs.Prelude.{List, ℕ};
 ghost use Rattle.alma_plan.specs.Causes.{Causes};
 ghost use Rattle.alma_plan.specs.Outside.{Outside};
-ghost use Rattle.alma_plan_run.specs.Undisturbed.{IsUndisturbed};
+ghost use Rattle.alma_plan.specs.Undisturbed.{IsUndisturbed};
 ghost use Rattle.alma_all.specs.All.{program, all_plan, all_sense};
 ghost use Rattle.alma_all.specs.Shown.{ListEnds, ListsEveryAlternative, ListsSource};
 

@@ -11,8 +11,7 @@ use crate::serve::perform;
 use crate::words::file_word;
 use alma_base::Status;
 use alma_io::{Files, Sink, Source};
-use alma_plan::{Refusal, refuse, refuse_with};
-use alma_plan_run::{tell_file, tell_program};
+use alma_plan::{Refusal, refuse, refuse_with, tell_file, tell_program};
 use std::alloc::Global;
 
 // Says on err how the call ends: the status of that, or that of a write fault where err fails.

@@ -15,8 +15,7 @@ use alma_driver_words::DEFAULT_STEPS;
 use alma_io::{Files, Sink, Source};
 use alma_ir::Program;
 use alma_listing::{AllError, listing_program};
-use alma_plan::{Stop, is_file_name, split_word};
-use alma_plan_run::{FileStop, ProgramEnd, run_program};
+use alma_plan::{FileStop, ProgramEnd, Stop, is_file_name, run_program, split_word};
 use alma_unit::read_unit;
 use std::alloc::Global;
 

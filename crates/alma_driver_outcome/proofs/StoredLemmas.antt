@@ -3,38 +3,13 @@ use Rattle.std.proofs.Common.{◌≡◌, ◌≤◌, ℕ, List, ap, sym, subst}
 use Rattle.std.specs.Prelude.{Bool, Option, Some, None}
 use Rattle.alma_base.specs.Limits.{size_limit}
 use Rattle.alma_ir.specs.Tree.{Program}
-use Rattle.alma_code.specs.Plain.{PlainCode}
-use Rattle.alma_code.specs.Reads.{code_reads}
-use Rattle.alma_code.specs.Rules.{IsSound, code_fault}
-use Rattle.alma_code_laws.proofs.Verdicts.{sound_where_no_fault}
-use Rattle.alma_object.specs.Object.{IsObject}
-use Rattle.alma_object.specs.Fields.{FitsFields}
-use Rattle.alma_object.proofs.Clean.{object_clean}
-use Rattle.alma_object.proofs.Again.{code_again}
 use Rattle.alma_verify.specs.Bytes.{object_code}
-use Rattle.alma_lower_sound.specs.Reads.{program_reads}
-use Rattle.alma_lower.specs.Names.{KeepsNames}
-use Rattle.alma_lower_implements.specs.Implements.{Implements}
 use Rattle.alma_run_laws.specs.Shown.{size_of}
+use Rattle.alma_run_laws.specs.Stored.{SpellsCodeOf}
+use Rattle.alma_run_laws.proofs.Spelled.{spells_code, spelled_sound}
 use Rattle.alma_driver_outcome.specs.Showing.{Prints}
 use Rattle.alma_driver_outcome.specs.Outcome.{Due, Stored, ProgramOutcome, ran, CompileOutcome, made, past_size, SourceOutcome}
 use Rattle.alma_driver_outcome.specs.Outcome.{stopped, compiled, executed, unsound, ExecOutcome, opened, unopened}
-use Rattle.alma_driver_outcome.specs.Stored.{SpellsCodeOf}
-
--- the object of a code that fits is read back as that code
-spells_code : (p : Program) (code : PlainCode) (bytes : List ℕ) → IsSound code → Implements code p → code_reads code ≡ program_reads p
-    → KeepsNames code p
-    → IsObject code bytes → FitsFields code → SpellsCodeOf p bytes
-spells_code p code bytes sound implements reads names is fits =
-    let again : code ≡ object_code bytes = sym (code_again code bytes is fits) in
-    record {
-      clean = object_clean code bytes is fits;
-      object = subst (λ (c : PlainCode). IsObject c bytes) again is;
-      sound = subst IsSound again sound;
-      implements = subst (λ (c : PlainCode). Implements c p) again implements;
-      reads = subst (λ (c : PlainCode). code_reads c ≡ program_reads p) again reads;
-      names = subst (λ (c : PlainCode). KeepsNames c p) again names;
-    }
 
 -- nothing is stored where nothing is due to be
 stores_none : (due : Due) (stored : Stored) → due.stored ≡ None → due.stored ≡ Some stored → ⊥
@@ -65,8 +40,7 @@ spelled_runs : (left : Option (List ℕ)) (p : Program) (bytes : List ℕ) (step
 spelled_runs left p bytes steps stats running size is (opened clean (executed c o)) =
     ran (object_code bytes) size is.sound is.implements is.reads is.names o
 spelled_runs left p bytes steps stats running size is (opened clean (unsound fault c e)) =
-    let none : code_fault (object_code bytes) ≡ None = (sound_where_no_fault (object_code bytes) is.sound.table).0 is.sound in
-    cc (none, c)
+    cc (spelled_sound p bytes is, c)
 spelled_runs left p bytes steps stats running size is (unopened fault c e) = cc (is.clean, c)
 
 -- and so it is of a source

@@ -6,5 +6,4 @@ pub mod Outcome
 pub mod Course
 pub mod Causes
 pub mod Headline
-pub mod Stored
 pub mod Variables

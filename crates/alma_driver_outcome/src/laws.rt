@@ -5,7 +5,7 @@ ghost use Rattle.alma_source.specs.Refusal.{IsProgramOf};
 ghost use Rattle.alma_driver_outcome.specs.Outcome.{Due, Stored, ProgramOutcome, CompileOutcome, SourceOutcome, Meant, TraceMeant, ListOutcome, ExecOutcome};
 ghost use Rattle.alma_driver_outcome.specs.Causes.{Causes};
 ghost use Rattle.alma_driver_outcome.specs.Headline.{AsksToRun, IsUndisturbed, IsInputLeft, RunEnds, ShowsResult};
-ghost use Rattle.alma_driver_outcome.specs.Stored.{SpellsCodeOf};
+ghost use Rattle.alma_run_laws.specs.Stored.{SpellsCodeOf};
 ghost use Rattle.alma_driver_outcome.specs.Variables.{variable_word};
 ghost use Rattle.alma_lower.specs.Names.{KeepsNames};
 ghost use Rattle.alma_code.specs.Plain.{PlainCode};

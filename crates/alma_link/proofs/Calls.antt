@@ -10,11 +10,11 @@ use Rattle.alma_lower_sound.specs.Reads.{program_reads}
 use Rattle.alma_plan.specs.Causes.{Causes}
 use Rattle.alma_plan.specs.Outside.{Outside}
 use Rattle.alma_plan.specs.Plan.{Due, Plan, Reading, Asks, Comes, silent}
-use Rattle.alma_plan_run.specs.Programs.{Last, sense, refused}
-use Rattle.alma_plan_run.specs.Undisturbed.{IsUndisturbed, ShowsDue}
-use Rattle.alma_plan_run.proofs.MeantLemmas.{run_is_meant}
-use Rattle.alma_plan_run.proofs.UndisturbedLemmas.{call_shows_due}
-use Rattle.alma_plan_run.proofs.ToldLemmas.{RunComes, SourceComes, run_asks, run_comes, source_asks, source_comes}
+use Rattle.alma_plan.specs.Programs.{Last, sense, refused}
+use Rattle.alma_plan.specs.Undisturbed.{IsUndisturbed, ShowsDue}
+use Rattle.alma_plan.proofs.MeantLemmas.{run_is_meant}
+use Rattle.alma_plan.proofs.UndisturbedLemmas.{call_shows_due}
+use Rattle.alma_plan.proofs.ToldLemmas.{RunComes, SourceComes, run_asks, run_comes, source_asks, source_comes}
 use Rattle.alma_source.specs.Refusal.{IsProgramOf, place_of}
 use Rattle.alma_source.specs.Verdict.{Verdict}
 use Rattle.alma_source.specs.declared.fault.SourceFault.{SourceFault}
@@ -131,7 +131,7 @@ pub call_ends : (words files sources : List (List ℕ)) (input : List ℕ) (befo
 call_ends words files sources input before after status a causes quiet =
     let plan = plan_of words files a.asks in
     let h =
-    call_shows_due program failed (files_plan Run [] files) before after status
+    call_shows_due (sense program failed) program (files_plan Run [] files) before after status
     (subst (λ (p : Plan Verdict Last). Causes (sense program failed) program p before after status) plan causes) quiet
     (λ lack. files_lack before.files.told lack.0 lack.2 [] files sources a.told lack.1) in
     files_end files sources input before after status h.0 h.1 a.left a.input_short h.3

@@ -11,8 +11,8 @@ use Rattle.alma_plan.specs.Causes.{HasOwnEnds}
 use Rattle.alma_plan.specs.Course.{Follows, whole}
 use Rattle.alma_plan.specs.Plan.{Ending, Ends, bad_word, silent, tells}
 use Rattle.alma_plan.proofs.Courses.{course_ends, course_starved, gains_none}
-use Rattle.alma_plan_run.specs.Programs.{Tells, sense}
-use Rattle.alma_plan_run.proofs.Owns.{own_read_source, own_run_plan, own_status, own_store_plan, own_tells}
+use Rattle.alma_plan.specs.Programs.{Tells, sense}
+use Rattle.alma_plan.proofs.Owns.{own_read_source, own_run_plan, own_status, own_store_plan, own_tells}
 use Rattle.alma_link.specs.Words.{Task, Run, Compile, Request, request_of}
 use Rattle.alma_driver_words.specs.Words.{default_steps}
 use Rattle.alma_link.specs.Link.{program, failed, join_text, task_plan, unless_fault, join_plan, files_plan, request_plan}

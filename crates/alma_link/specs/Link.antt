@@ -4,7 +4,7 @@ use Rattle.alma_driver_words.specs.Words.{default_steps}
 use Rattle.alma_ir.specs.Tree.{Program, routine_at}
 use Rattle.alma_join.specs.Joined.{JoinFault, Missing, Twice, HeadDiffers, TooLarge, join_fault, joined}
 use Rattle.alma_plan.specs.Plan.{Ending, Plan, Ends, ending_of, silent, tells, bad_word}
-use Rattle.alma_plan_run.specs.Programs.{Last, Tells, read_source, run_plan, store_plan}
+use Rattle.alma_plan.specs.Programs.{Last, Tells, read_source, run_plan, store_plan}
 use Rattle.alma_source.specs.Verdict.{Verdict}
 use Rattle.alma_link.specs.Words.{Task, Run, Compile, Request, request_of}
 

@@ -7,9 +7,9 @@ use Rattle.alma_join.specs.Joined.{JoinFault, join_fault, joined}
 use Rattle.alma_lower_sound.specs.Reads.{program_reads}
 use Rattle.alma_plan.specs.Outside.{Outside}
 use Rattle.alma_plan.specs.Plan.{Due, silent, tells}
-use Rattle.alma_plan_run.specs.Meant.{IsMeant}
-use Rattle.alma_plan_run.specs.Programs.{refused, too_much_code}
-use Rattle.alma_plan_run.specs.Undisturbed.{ShowsDue}
+use Rattle.alma_plan.specs.Meant.{IsMeant}
+use Rattle.alma_plan.specs.Programs.{refused, too_much_code}
+use Rattle.alma_plan.specs.Undisturbed.{ShowsDue}
 use Rattle.alma_run_laws.specs.Shown.{size_of}
 use Rattle.alma_source.specs.Refusal.{IsProgramOf, IsRefused, place_of}
 use Rattle.alma_source.specs.declared.fault.SourceFault.{SourceFault}

@@ -1,6 +1,6 @@
 // How a call ends.
 use alma_join::JoinError;
-use alma_plan_run::{FileStop, ProgramEnd};
+use alma_plan::{FileStop, ProgramEnd};
 
 /// How a call ends, but for what becomes of its text on err.
 #[derive(Clone, Copy)]

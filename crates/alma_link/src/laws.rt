@@ -4,8 +4,8 @@ ghost use Rattle.alma_link.specs.Link.{failed, link_plan, program};
 ghost use Rattle.alma_link.specs.Shown.{AsksToRunModules, ModulesEnd};
 ghost use Rattle.alma_plan.specs.Causes.{Causes};
 ghost use Rattle.alma_plan.specs.Outside.{Outside};
-ghost use Rattle.alma_plan_run.specs.Programs.{sense};
-ghost use Rattle.alma_plan_run.specs.Undisturbed.{IsUndisturbed};
+ghost use Rattle.alma_plan.specs.Programs.{sense};
+ghost use Rattle.alma_plan.specs.Undisturbed.{IsUndisturbed};
 
 /// A call that runs modules, where memory is found and nothing fails outside, refuses the first file that holds no module, tells the
 /// first fault for which the modules cannot be joined, or that the joined program is too large; or it prints what the joined program

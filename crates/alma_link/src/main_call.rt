@@ -7,7 +7,7 @@ ghost use Rattle.alma_plan.specs.Course.{Answers, Reports};
 ghost use Rattle.alma_plan.specs.Outside.{outside_of};
 ghost use Rattle.alma_plan.specs.Plan.{tells};
 ghost use Rattle.alma_plan.specs.Words.{texts};
-ghost use Rattle.alma_plan_run.specs.Programs.{sense};
+ghost use Rattle.alma_plan.specs.Programs.{sense};
 ghost use Rattle.alma_link.specs.Ends.{join_end, link_end};
 ghost use Rattle.alma_link.specs.Link.{failed, link_plan, program, unit_at};
 
@@ -17,8 +17,7 @@ use alma_base::Status;
 use alma_io::{Files, Sink, Source};
 use alma_ir::Program;
 use alma_join::JoinError;
-use alma_plan::{Refusal, Stop, refuse, report};
-use alma_plan_run::{tell_file, tell_program};
+use alma_plan::{Refusal, Stop, refuse, report, tell_file, tell_program};
 use itoa::Buffer;
 use std::alloc::Global;
 

@@ -2,6 +2,10 @@ pub mod Outside
 pub mod Plan
 pub mod Course
 pub mod Causes
+pub mod Undisturbed
 pub mod Refusals
 pub mod Objects
 pub mod Words
+pub mod Programs
+pub mod Meant
+pub mod Ends

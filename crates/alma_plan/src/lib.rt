@@ -1,15 +1,27 @@
-//! What the top calls of programs share: plans of what is read, how a call may go by its plan, and how its end is reported.
+//! What the top calls of programs share: plans of what is read, how a call may go by its plan, and how its end is reported; and
+//! programs as parts of plans: a file that holds a source, and the run or the object of a program.
 #![tactic(auto)]
 
+mod end;
+pub mod laws;
 mod object;
 mod open;
 mod refusal;
+mod run;
+mod source;
 mod stop;
+mod store;
+mod telling;
 mod words;
 mod writing;
 
+pub use end::ProgramEnd;
 pub use open::open_code;
 pub use refusal::{Refusal, refuse, refuse_with};
+pub use run::run_program;
+pub use source::{FileStop, tell_file};
 pub use stop::Stop;
+pub use store::store_program;
+pub use telling::{tell_program, tell_refusal};
 pub use words::{is_file_name, split_word};
 pub use writing::{report, write_parts};

@@ -3,3 +3,4 @@ pub mod Unread
 pub mod Meant
 pub mod Sizes
 pub mod Told
+pub mod Spelled

@@ -1,5 +1,5 @@
 use Rattle.alma_plan.specs.Plan.{success}
-use Rattle.alma_plan_run.proofs.Sources.{course_read_source, course_unread_source}
+use Rattle.alma_plan.proofs.Sources.{course_read_source, course_unread_source}
 use Rattle.alma_all.specs.All.{program, list_plan}
 use Rattle.alma_all.proofs.serve.list_file.Goals as goal
 

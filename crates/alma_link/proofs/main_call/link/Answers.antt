@@ -2,7 +2,7 @@ use Rattle.std.specs.Prelude.{map}
 use Rattle.alma_ir.specs.View.{program_of}
 use Rattle.alma_plan.specs.Words.{texts}
 use Rattle.alma_plan.proofs.CauseLemmas.{causes_of}
-use Rattle.alma_plan_run.specs.Programs.{sense}
+use Rattle.alma_plan.specs.Programs.{sense}
 use Rattle.alma_source.proofs.Verdicts.{one_verdict}
 use Rattle.alma_link.specs.Ends.{link_end}
 use Rattle.alma_link.specs.Link.{failed, link_plan, program}

@@ -1,0 +1,34 @@
+use Rattle.std.proofs.Common.{◌≡◌, ap, ◌∙◌, refl}
+use Rattle.alma_code.specs.Lines.{line_at}
+use Rattle.alma_verify.specs.Verified.{code_of_verified}
+use Rattle.alma_lower_implements.specs.Implements.{line_in}
+use Rattle.alma_plan.specs.Course.{hungry}
+use Rattle.alma_plan.proofs.Courses.{gains_none}
+use Rattle.alma_plan.specs.Ends.{run_end}
+use Rattle.alma_plan.proofs.Running.{goes_run}
+use Rattle.alma_plan.proofs.run.run_on.Goals as goal
+
+pub returns-in-Ok : goal.returns-in-Ok
+returns-in-Ok g c = λ program failed.
+    let h = c.run-end.ensures in
+    let code = code_of_verified c.args.code in
+    let new = c.run-end.new.self.state in
+    let same = c.view.ensures ∙ h.same.0 ∙ ap (λ m. m.code) c.in-Ok.ensures in
+    let line : c.line_of-line.result ≡ line_in code new = c.line_of-line.ensures ∙ ap (λ k. line_at k c.at.result) same
+    ∙ ap (line_at code) c.at.ensures in
+    let is : c.end_of.result ≡ run_end c.run-end.result (line_in code new) = c.end_of.ensures ∙ ap (run_end c.run-end.result) line in
+    rw is (goes_run program failed code c.args.input.now c.run-end.new.self c.args.steps (g.O.Sink.side c.args.out.now)
+    (g.O.Sink.side c.run-end.new.out) c.in-Ok.machine c.run-end.result c.in-Ok.ensures
+    (record {
+      answered = h.answer;
+      state = h.state;
+      out = h.out;
+      few = h.few;
+      memory = h.memory;
+      write_fault = h.write_fault;
+      cause =
+          h.cause;
+    }))
+
+pub returns-in-Err : goal.returns-in-Err
+returns-in-Err g c = λ program failed. hungry refl (gains_none _)

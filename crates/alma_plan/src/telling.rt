@@ -1,0 +1,107 @@
+// What is said on err of the end of a program, and of a file that is refused.
+ghost use Rattle.std.specs.Prelude.{[], ◌++◌, codes, decimal};
+ghost use Rattle.alma_plan.specs.Course.{Reports};
+ghost use Rattle.alma_plan.specs.Plan.{ending_of, tells};
+ghost use Rattle.alma_plan.specs.Ends.{program_end};
+ghost use Rattle.alma_plan.specs.Programs.{fault_words, named_words, refused};
+ghost use Rattle.alma_source.specs.Texts.{refusal_line};
+
+use crate::end::ProgramEnd;
+use crate::refusal::{Refusal, refuse, refuse_with};
+use crate::writing::report;
+use alma_base::{Place, RunFault, Status};
+use alma_code::End;
+use alma_io::Sink;
+use alma_source::SourceFault;
+use itoa::Buffer;
+
+// Says that a run stopped in a fault of this name, with its line where that is known.
+fn tell_named<'t, E: Sink>(err: &mut E, program: &'t [u8], name: &'t [u8], line: u32) -> Status
+    ensures { Reports (tells program.now 4 (named_words name.now line)) (E.side err.old)
+        (E.side err.new) result.0 }
+{
+    let front = b": fault ".as_slice();
+    let end = b"\n".as_slice();
+    if line == 0 {
+        return report(err, 4, &[program, front, name, end]);
+    }
+    let mut digits = Buffer::new();
+    let middle = b" line ".as_slice();
+    let number = digits.format(line).as_bytes();
+    report(err, 4, &[program, front, name, middle, number, end])
+}
+
+// Says that a run stopped in a fault.
+fn tell_fault<E: Sink>(err: &mut E, program: &[u8], fault: RunFault, line: u32) -> Status
+    ensures { Reports (tells program.now 4 (fault_words fault line)) (E.side err.old)
+        (E.side err.new) result.0 }
+{
+    tell_named(err, program, fault.text().as_bytes(), line)
+}
+
+// Says that all steps were made.
+fn tell_steps_out<E: Sink>(err: &mut E, program: &[u8]) -> Status
+    ensures { Reports (tells program.now 5 (codes "steps out")) (E.side err.old) (E.side err.new)
+        result.0 }
+{
+    refuse_with(err, program, 5, b"steps out")
+}
+
+// Says the size of a program that is too large.
+fn tell_size<E: Sink>(err: &mut E, program: &[u8], size: u64) -> Status
+    ensures { Reports (tells program.now 11 (codes "too much code " ++ decimal size)) (E.side err.old)
+        (E.side err.new) result.0 }
+{
+    let mut digits = Buffer::new();
+    let front = b": too much code ".as_slice();
+    let number = digits.format(size).as_bytes();
+    let end = b"\n".as_slice();
+    report(err, 11, &[program, front, number, end])
+}
+
+/// Says on err, in the name of a program, how the run of another ended, where one that failed ends with this status and
+/// without a word: the status, or that of a write fault where err fails.
+pub fn tell_program<E: Sink>(err: &mut E, program: &[u8], failed: u8, end: ProgramEnd) -> Status
+    ensures { Reports (program_end program.now (ending_of failed []) end) (E.side err.old)
+        (E.side err.new) result.0 }
+{
+    match end {
+        ProgramEnd::Ended(End::Succeeded, _) | ProgramEnd::Stored => Status(0),
+        ProgramEnd::Ended(End::Failed, _) => Status(failed),
+        ProgramEnd::Ended(End::Fault(fault), line) => tell_fault(err, program, fault, line),
+        ProgramEnd::StepsOut => tell_steps_out(err, program),
+        ProgramEnd::TooMuchCode(size) => tell_size(err, program, size),
+        ProgramEnd::Stopped(stop) => refuse(err, program, Refusal::Stopped(stop)),
+    }
+}
+
+// Says on err for which fault, of this name, a file is refused, and where.
+fn tell_refusal_named<'t, E: Sink>(
+    err: &mut E,
+    file: &'t [u8],
+    name: &'t [u8],
+    place: Place,
+) -> Status
+    ensures { Reports (ending_of 3 (refusal_line file.now (decimal place.line)
+        (decimal place.column) name.now)) (E.side err.old) (E.side err.new) result.0 }
+{
+    let mut line_digits = Buffer::new();
+    let mut column_digits = Buffer::new();
+    let line = line_digits.format(place.line).as_bytes();
+    let column = column_digits.format(place.column).as_bytes();
+    let colon = b":".as_slice();
+    let blank = b": ".as_slice();
+    let end = b"\n".as_slice();
+    report(
+        err,
+        3,
+        &[file, colon, line, colon, column, blank, name, end],
+    )
+}
+
+/// Says on err for which fault a file is refused, and where: status 3, or that of a write fault where err fails.
+pub fn tell_refusal<E: Sink>(err: &mut E, file: &[u8], fault: SourceFault, place: Place) -> Status
+    ensures { Reports (refused file.now fault place) (E.side err.old) (E.side err.new) result.0 }
+{
+    tell_refusal_named(err, file, fault.text().as_bytes(), place)
+}

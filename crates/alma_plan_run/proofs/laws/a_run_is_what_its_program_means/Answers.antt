@@ -1,5 +1,0 @@
-use Rattle.alma_plan_run.proofs.MeantLemmas.{run_is_meant}
-use Rattle.alma_plan_run.proofs.laws.a_run_is_what_its_program_means.Goals as goal
-
-pub returns : goal.returns
-returns c = record { means = run_is_meant }

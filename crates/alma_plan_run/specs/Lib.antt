@@ -1,4 +1,0 @@
-pub mod Programs
-pub mod Meant
-pub mod Undisturbed
-pub mod Ends
