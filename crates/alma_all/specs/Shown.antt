@@ -1,7 +1,7 @@
 -- What a call shows of the alternatives of a program, in the words of a reader of its meaning.
 use Rattle.std.specs.Prelude.{◌≡◌, ◌<◌, ◌≤◌, ◌+◌, ◌*◌, ◌/◌, ℕ, suc, true, false, List, [], ◌∷◌, length, codes, Some}
 use Rattle.alma_base.specs.Limits.{input_limit, size_limit, source_limit}
-use Rattle.alma_driver_words.specs.Words.{default_steps}
+use Rattle.alma_driver_words.specs.Words.{IsSetting, Steps, default_steps}
 use Rattle.alma_io.specs.Files.{Has}
 use Rattle.alma_ir.specs.Checked.{IsChecked, HaveNoReturn}
 use Rattle.alma_ir.specs.Tree.{Program, routine_at}
@@ -21,7 +21,7 @@ use Rattle.alma_plan.specs.Undisturbed.{ShowsDue}
 use Rattle.alma_run_laws.specs.Shown.{size_of}
 use Rattle.alma_source.specs.Refusal.{IsProgramOf, IsRefused, place_of}
 use Rattle.alma_source.specs.declared.fault.SourceFault.{SourceFault}
-use Rattle.alma_all.specs.All.{program, all_sense, body_returns, steps_in}
+use Rattle.alma_all.specs.All.{program, all_sense, body_returns}
 
 -- how a call ends behind all alternatives: where these close in a failure that is success, and a fault is told with its line
 abbrev pub listing_end : End → Ending
@@ -58,12 +58,16 @@ ListsEveryAlternative =
 
 -- the words ask for the alternatives of the program of this file, in so many steps
 pub data AsksToList (words : List (List ℕ)) (file : List ℕ) (steps : ℕ) : Type 0 where
-  plain : words ≡ file ∷ [] → steps ≡ default_steps → AsksToList words file steps
-  within : (option : List ℕ) → words ≡ file ∷ option ∷ [] → steps_in option ≡ Some steps → AsksToList words file steps
+  plain : words ≡ file ∷ [] → is_file_name file ≡ true → steps ≡ default_steps → AsksToList words file steps
+  within : (option : List ℕ) → words ≡ file ∷ option ∷ [] → is_file_name file ≡ true → IsSetting option (Steps steps)
+      → AsksToList words file steps
+
+-- the words are such words
+abbrev pub IsRequest : (words : List (List ℕ)) → Type 0
+IsRequest words = (file : List ℕ) × (steps : ℕ) × AsksToList words file steps
 
 -- that file has this source, and where its program reads, this input is left; both are within their lengths
 pub record ListsSource (words : List (List ℕ)) (before : Outside) (file source input : List ℕ) (steps : ℕ) : Type 0 where
-  pub named : is_file_name file ≡ true
   pub asks : AsksToList words file steps
   pub told : before.files.told file ≡ Has source
   pub source_short : length source ≤ source_limit

@@ -1,10 +1,11 @@
 //! Laws of what is listed: functions without work, whose contracts are the laws.
-ghost use Rattle.std.specs.Prelude.{List, ℕ};
+ghost use Rattle.std.specs.Prelude.{◌≡◌, ◌⊎◌, List, ℕ};
 ghost use Rattle.alma_plan.specs.Causes.{Causes};
 ghost use Rattle.alma_plan.specs.Outside.{Outside};
 ghost use Rattle.alma_plan.specs.Undisturbed.{IsUndisturbed};
-ghost use Rattle.alma_all.specs.All.{program, all_plan, all_sense};
-ghost use Rattle.alma_all.specs.Shown.{ListEnds, ListsEveryAlternative, ListsSource};
+ghost use Rattle.alma_plan.specs.Words.{IsBadWord};
+ghost use Rattle.alma_all.specs.All.{all_plan, all_sense, asked, bad, program};
+ghost use Rattle.alma_all.specs.Shown.{AsksToList, IsRequest, ListEnds, ListsEveryAlternative, ListsSource};
 
 /// Where a call lists the alternatives of a program on an input, it prints what the meaning of the program prints, and the
 /// line of each of its alternatives, in their order, and ends behind them as the meaning does; or its steps ran out, and
@@ -13,6 +14,17 @@ ghost use Rattle.alma_all.specs.Shown.{ListEnds, ListsEveryAlternative, ListsSou
 /// the number of its variables.
 pub fn every_alternative_is_listed()
     ensures listed { ListsEveryAlternative }
+{}
+
+/// Words name a file and, where they say so, a number of steps, and the plan goes by these; or they have a first word that cannot stand
+/// where it is, and the plan tells that.
+pub fn words_are_a_request_or_have_a_bad_word()
+    ensures request { (words : List (List ℕ)) (file : List ℕ) (steps : ℕ) → AsksToList words file steps
+        → all_plan words ≡ asked file steps }
+    ensures bad_word { (words : List (List ℕ)) (k : ℕ) → IsBadWord IsRequest words k
+        → all_plan words ≡ bad k }
+    ensures one_of_both { (words : List (List ℕ)) → IsRequest words
+        ⊎ ((k : ℕ) × IsBadWord IsRequest words k) }
 {}
 
 /// A call that lists the alternatives of a source, where memory is found and nothing fails outside, refuses the source for its one

@@ -6,3 +6,5 @@ pub mod Due
 pub mod Ends
 pub mod Inner
 pub mod Kept
+pub mod Words
+pub mod Shown

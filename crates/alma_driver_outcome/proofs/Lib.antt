@@ -5,5 +5,4 @@ pub mod Unread
 pub mod HeadlineLemmas
 pub mod InputLemmas
 pub mod StoredLemmas
-pub mod VariableLemmas
 pub mod ReportLemmas

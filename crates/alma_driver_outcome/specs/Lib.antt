@@ -6,4 +6,3 @@ pub mod Outcome
 pub mod Course
 pub mod Causes
 pub mod Headline
-pub mod Variables

@@ -6,7 +6,7 @@ ghost use Rattle.alma_driver_outcome.specs.Outcome.{Due, Stored, ProgramOutcome,
 ghost use Rattle.alma_driver_outcome.specs.Causes.{Causes};
 ghost use Rattle.alma_driver_outcome.specs.Headline.{AsksToRun, IsUndisturbed, IsInputLeft, RunEnds, ShowsResult};
 ghost use Rattle.alma_run_laws.specs.Stored.{SpellsCodeOf};
-ghost use Rattle.alma_driver_outcome.specs.Variables.{variable_word};
+ghost use Rattle.alma_run_laws.specs.Variables.{variable_word};
 ghost use Rattle.alma_lower.specs.Names.{KeepsNames};
 ghost use Rattle.alma_code.specs.Plain.{PlainCode};
 ghost use Rattle.alma_code.specs.Plain as plain;

@@ -1,4 +1,4 @@
--- What a call that runs modules shows, in the words of a reader of their joined program's meaning.
+-- What a call shows that runs modules, or stores their object, in the words of a reader of their joined program's meaning.
 use Rattle.std.specs.Prelude.{◌≡◌, ◌<◌, ◌≤◌, ℕ, true, List, [], ◌∷◌, length, Ok, None, Some}
 use Rattle.alma_base.specs.Limits.{input_limit, size_limit, source_limit}
 use Rattle.alma_io.specs.Files.{Told, Has}
@@ -8,14 +8,15 @@ use Rattle.alma_lower_sound.specs.Reads.{program_reads}
 use Rattle.alma_plan.specs.Outside.{Outside}
 use Rattle.alma_plan.specs.Plan.{Due, silent, tells}
 use Rattle.alma_plan.specs.Meant.{IsMeant}
-use Rattle.alma_plan.specs.Programs.{refused, too_much_code}
+use Rattle.alma_plan.specs.Programs.{refused, storing, too_much_code}
 use Rattle.alma_plan.specs.Undisturbed.{ShowsDue}
 use Rattle.alma_run_laws.specs.Shown.{size_of}
+use Rattle.alma_run_laws.specs.Stored.{SpellsCodeOf}
 use Rattle.alma_source.specs.Refusal.{IsProgramOf, IsRefused, place_of}
 use Rattle.alma_source.specs.declared.fault.SourceFault.{SourceFault}
 use Rattle.alma_driver_words.specs.Words.{default_steps}
 use Rattle.alma_link.specs.Link.{program, failed, join_text}
-use Rattle.alma_link.specs.Words.{Run, request, request_of}
+use Rattle.alma_link.specs.Words.{Task, AsksForTask}
 
 -- each file has the source of its place, which is within its length
 abbrev pub HaveSources : (told : List ℕ → Told) → (files sources : List (List ℕ)) → Type 0
@@ -32,13 +33,15 @@ AreModulesOf (source ∷ sources) (p ∷ units) = IsProgramOf source p × AreMod
 AreModulesOf [] (p ∷ units) = ⊥
 AreModulesOf (source ∷ sources) [] = ⊥
 
--- the words ask to run the modules of these files, which have these sources; and where the joined program reads, this input is left,
--- within its length
-pub record AsksToRunModules (words : List (List ℕ)) (before : Outside) (files sources : List (List ℕ)) (input : List ℕ) : Type 0 where
-  pub asks : request_of words ≡ Ok (request Run files)
+-- the words ask for this task with the modules of these files, which have these sources
+pub record AsksForModules (task : Task) (words : List (List ℕ)) (before : Outside) (files sources : List (List ℕ)) : Type 0 where
+  pub asks : AsksForTask task files words
   pub told : HaveSources before.files.told files sources
+
+-- where the joined program of the modules reads, this input is left, within its length
+pub record IsGiven (before : Outside) (sources : List (List ℕ)) (input : List ℕ) : Type 0 where
   pub left : (units : List Program) → AreModulesOf sources units → program_reads (joined units) ≡ true → before.input.left ≡ Some input
-  pub input_short : length input ≤ input_limit
+  pub short : length input ≤ input_limit
 
 -- this file is the first whose source, this one, is refused, with this fault and there: those before hold programs
 pub data IsFirstRefused (file source : List ℕ) (fault : SourceFault) (offset : ℕ) : (files sources : List (List ℕ)) → Type 0 where
@@ -48,22 +51,31 @@ pub data IsFirstRefused (file source : List ℕ) (fault : SourceFault) (offset :
       → IsFirstRefused file source fault offset files sources
       → IsFirstRefused file source fault offset (other ∷ files) (text ∷ sources)
 
--- What such a call shows, where nothing fails.
-pub data ModulesEnd (files sources : List (List ℕ)) (input : List ℕ) (before after : Outside) (status : ℕ) : Type 0 where
-  -- the first file that holds no module is refused
+-- What a call for modules shows, where nothing fails and this is what comes of their joined program.
+pub data ModulesEnd (Performs : Program → Type 0) (files sources : List (List ℕ)) (before after : Outside) (status : ℕ) : Type 0 where
+  -- the first file that holds no module has this fault at this place, and no other: it is refused for that
   refuses : (file source : List ℕ) (fault : SourceFault) (offset : ℕ) → IsFirstRefused file source fault offset files sources
+      → ((other : SourceFault) (place : ℕ) → IsRefused source other place → (fault ≡ other) × (offset ≡ place))
       → ShowsDue before after status (silent (refused file fault (place_of source offset)))
-      → ModulesEnd files sources input before after status
+      → ModulesEnd Performs files sources before after status
   -- all hold modules, and these cannot be joined: the first fault is told
   unjoined : (units : List Program) (fault : JoinFault) → AreModulesOf sources units → join_fault units ≡ Some fault
       → ShowsDue before after status (silent (tells program 13 (join_text units fault)))
-      → ModulesEnd files sources input before after status
+      → ModulesEnd Performs files sources before after status
   -- the joined program is too large
   too_large : (units : List Program) → AreModulesOf sources units → join_fault units ≡ None → size_limit < size_of (joined units)
       → ShowsDue before after status (silent (too_much_code program (joined units)))
-      → ModulesEnd files sources input before after status
-  -- else it was run: what its meaning says, or a front of that
-  runs : (units : List Program) (due : Due) → AreModulesOf sources units → join_fault units ≡ None
-      → size_of (joined units) ≤ size_limit → IsMeant program failed (joined units) input default_steps due
-      → ShowsDue before after status due
-      → ModulesEnd files sources input before after status
+      → ModulesEnd Performs files sources before after status
+  -- else the task is performed with it
+  performs : (units : List Program) → AreModulesOf sources units → join_fault units ≡ None → size_of (joined units) ≤ size_limit
+      → Performs (joined units)
+      → ModulesEnd Performs files sources before after status
+
+-- a program was run: what its meaning says, or a front of that
+abbrev pub ShowsRun : (input : List ℕ) → (before after : Outside) → (status : ℕ) → Program → Type 0
+ShowsRun input before after status p = (due : Due) × IsMeant program failed p input default_steps due × ShowsDue before after status due
+
+-- its object was stored under a name: bytes that spell sound code of the program
+abbrev pub ShowsObject : (object : List ℕ) → (before after : Outside) → (status : ℕ) → Program → Type 0
+ShowsObject object before after status p =
+    (bytes : List ℕ) × SpellsCodeOf p bytes × ShowsDue before after status (storing object bytes)

@@ -1,7 +1,7 @@
 -- What the words of a call ask for.
-use Rattle.std.specs.Prelude.{◌+◌, ℕ, Bool, true, false, ◌&&◌, List, [], ◌∷◌, codes, ltb, cond, Option, None, Some, Result, Ok, Err}
+use Rattle.std.specs.Prelude.{◌≡◌, ◌≤◌, ◌+◌, ℕ, Bool, true, false, ◌&&◌, List, [], ◌∷◌, codes, length, ltb, cond, Option, None, Some, Result, Ok, Err}
 use Rattle.std.specs.Str.{bytes_eq}
-use Rattle.alma_plan.specs.Words.{is_file_name}
+use Rattle.alma_plan.specs.Words.{AreFileNames, is_file_name}
 
 -- the greatest number of files
 abbrev pub greatest_files : ℕ
@@ -50,3 +50,23 @@ request_behind false false words = Err 1
 abbrev pub request_of : List (List ℕ) → Result Request ℕ
 request_of [] = Err 1
 request_of (word ∷ words) = request_behind (bytes_eq word (codes "run")) (bytes_eq word (codes "compile")) words
+
+-- ---- the same, as a reader knows it
+
+-- from 1 to 16 files
+pub record AreFiles (files : List (List ℕ)) : Type 0 where
+  pub names : AreFileNames files
+  pub some : 1 ≤ length files
+  pub few : length files ≤ greatest_files
+
+-- the words ask for a task with these files
+abbrev pub AsksForTask : Task → (files words : List (List ℕ)) → Type 0
+AsksForTask Run files words = (words ≡ codes "run" ∷ files) × AreFiles files
+AsksForTask (Compile object) files words = (words ≡ codes "compile" ∷ object ∷ files) × (is_file_name object ≡ true) × AreFiles files
+
+abbrev pub AsksFor : Request → (words : List (List ℕ)) → Type 0
+AsksFor r words = AsksForTask r.task r.files words
+
+-- they ask for something
+abbrev pub IsRequest : (words : List (List ℕ)) → Type 0
+IsRequest words = (r : Request) × AsksFor r words

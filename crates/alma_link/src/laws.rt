@@ -1,11 +1,23 @@
 //! Laws of linked modules: functions without work, whose contracts are the laws.
-ghost use Rattle.std.specs.Prelude.{List, ℕ};
+ghost use Rattle.std.specs.Prelude.{◌≡◌, ◌⊎◌, List, ℕ, Ok, Err};
 ghost use Rattle.alma_link.specs.Link.{failed, link_plan, program};
-ghost use Rattle.alma_link.specs.Shown.{AsksToRunModules, ModulesEnd};
+ghost use Rattle.alma_link.specs.Shown.{AsksForModules, IsGiven, ModulesEnd, ShowsObject, ShowsRun};
+ghost use Rattle.alma_link.specs.Words.{AsksFor, Compile, IsRequest, Request, Run, request_of};
 ghost use Rattle.alma_plan.specs.Causes.{Causes};
 ghost use Rattle.alma_plan.specs.Outside.{Outside};
 ghost use Rattle.alma_plan.specs.Programs.{sense};
 ghost use Rattle.alma_plan.specs.Undisturbed.{IsUndisturbed};
+ghost use Rattle.alma_plan.specs.Words.{IsBadWord};
+
+/// Words ask for a task with from 1 to 16 files, and the request is that; or they have a first word that cannot stand where it is, and
+/// that is told.
+pub fn words_are_a_request_or_have_a_bad_word()
+    ensures request { (words : List (List ℕ)) (r : Request) → AsksFor r words → request_of words ≡ Ok r }
+    ensures bad_word { (words : List (List ℕ)) (k : ℕ) → IsBadWord IsRequest words k
+        → request_of words ≡ Err k }
+    ensures one_of_both { (words : List (List ℕ)) → IsRequest words
+        ⊎ ((k : ℕ) × IsBadWord IsRequest words k) }
+{}
 
 /// A call that runs modules, where memory is found and nothing fails outside, refuses the first file that holds no module, tells the
 /// first fault for which the modules cannot be joined, or that the joined program is too large; or it prints what the joined program
@@ -13,8 +25,19 @@ ghost use Rattle.alma_plan.specs.Undisturbed.{IsUndisturbed};
 /// each 32 steps.
 pub fn a_run_of_modules_shows_what_they_mean_joined()
     ensures shown { (words files sources : List (List ℕ)) (input : List ℕ) (before after : Outside)
-        (status : ℕ) → AsksToRunModules words before files sources input
+        (status : ℕ) → AsksForModules Run words before files sources → IsGiven before sources input
         → Causes (sense program failed) program (link_plan words) before after status
         → IsUndisturbed before after status
-        → ModulesEnd files sources input before after status }
+        → ModulesEnd (ShowsRun input before after status) files sources before after status }
+{}
+
+/// A call that compiles modules refuses them so too; or it stores, under the name that the words give, the object of a sound code that
+/// implements their joined program.
+pub fn a_compile_of_modules_stores_what_they_mean_joined()
+    ensures stored { (words files sources : List (List ℕ)) (object : List ℕ)
+        (before after : Outside) (status : ℕ)
+        → AsksForModules (Compile object) words before files sources
+        → Causes (sense program failed) program (link_plan words) before after status
+        → IsUndisturbed before after status
+        → ModulesEnd (ShowsObject object before after status) files sources before after status }
 {}

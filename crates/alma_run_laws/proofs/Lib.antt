@@ -4,3 +4,4 @@ pub mod Meant
 pub mod Sizes
 pub mod Told
 pub mod Spelled
+pub mod VariableLemmas

@@ -10,7 +10,7 @@ use Rattle.alma_code.specs.Plain as plain
 use Rattle.alma_code.specs.Machine.{State}
 use Rattle.alma_code.specs.TraceText.{same_name, cells_text, value_of_name, watched_words}
 use Rattle.alma_lower.specs.Names.{KeepsNames, variable_of}
-use Rattle.alma_driver_outcome.specs.Variables.{value_of_variable, variable_word}
+use Rattle.alma_run_laws.specs.Variables.{value_of_variable, variable_word}
 
 -- a name has one value among the variables, and as code names them
 one_value : (frames : List PlainFrame) (gs : List Global) (name : List ℕ)
