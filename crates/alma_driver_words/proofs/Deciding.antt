@@ -9,7 +9,8 @@ use Rattle.alma_scan.specs.Bytes.{AllIn, value_of}
 use Rattle.alma_driver_words.specs.declared.command.Command as command
 use Rattle.alma_driver_words.specs.declared.command.Command.TheVariants as commands
 use Rattle.alma_driver_words.specs.Words.{IsFileName, greatest_steps, IsNumeral, NamesSteps, NamesLines, IsName}
-use Rattle.alma_driver_words.specs.Words.{Setting, Steps, Stats, Watch, IsSetting, AreSettings, Allows, steps_named, stats_count, names_watched}
+use Rattle.alma_driver_words.specs.Words.{Setting, Steps, Stats, Watch, IsSetting}
+use Rattle.alma_driver_words.specs.Words.{AreSettings, Allows, steps_named, stats_count, names_watched}
 use Rattle.alma_driver_words.specs.Words.{Request, Check, Compile, Listing, Run, Exec, Trace, Sample, Asks, IsBadWord, steps_of, is_some}
 use Rattle.alma_driver_words.specs.Inner.Commands.{word_of}
 use Rattle.alma_driver_words.specs.Inner.Settings.{AreOptions, IsBadOption}

@@ -15,7 +15,7 @@ use Rattle.alma_scan.specs.Tokens.{HasToken}
 use Rattle.alma_driver_words.specs.Words.{IsName}
 use Rattle.alma_driver_words.proofs.Decidable.{Decidable, both, passed, all_in, is_nothing}
 
--- a letter and then letters and digits, and no reserved word
+-- a letter or _, and then letters, digits and _, which are no reserved word
 abbrev IsFreeWord : List ℕ → Type 0
 IsFreeWord text = IsWord text × (look_up reserved_words text ≡ None)
 
@@ -24,7 +24,7 @@ is_word : (text : List ℕ) → Decidable (IsWord text)
 is_word [] = inr (λ h. h)
 is_word (b ∷ bytes) = both (is_letter b ≡ true) (AllIn is_word_byte bytes) (passed (is_letter b)) (all_in is_word_byte bytes)
 
--- whether it is no reserved one
+-- whether a text is such a word
 is_free_word : (text : List ℕ) → Decidable (IsFreeWord text)
 is_free_word text =
     both (IsWord text) (look_up reserved_words text ≡ None) (is_word text) (is_nothing Kind (look_up reserved_words text))
@@ -40,14 +40,14 @@ is_kind_name _ = false
 abbrev no_names : List Spelling → Bool
 no_names table = list_all (λ entry. not (is_kind_name entry.kind)) table
 
--- a kind of another sort is not that of names
+-- another kind is not that of names
 not_name : (k : Kind) → not (is_kind_name k) ≡ true → Some k ≡ Some kinds.Name → ⊥
 not_name k other e =
     let same : k ≡ kinds.Name = cc e in
     let never : false ≡ true = subst (λ (x : Kind). not (is_kind_name x) ≡ true) same other in
     absurd (cc never)
 
--- it gives no text that kind
+-- such a table gives no text that kind
 no_look_up : (table : List Spelling) (text : List ℕ) → no_names table ≡ true → look_up table text ≡ Some kinds.Name → ⊥
 no_look_up [] text none e = cc e
 no_look_up (entry ∷ table) text none e =
