@@ -33,7 +33,7 @@ one_tag : (word : List ℕ) (first second : Setting) → IsSetting word first �
 one_tag word first second h k = sym (tag_of word first h) ∙ tag_of word second k
 
 -- a word is one option
-one_setting : (word : List ℕ) (first second : Setting) → IsSetting word first → IsSetting word second → first ≡ second
+pub one_setting : (word : List ℕ) (first second : Setting) → IsSetting word first → IsSetting word second → first ≡ second
 unfolding tag
 one_setting word (Steps steps) (Steps others) h k =
     let same : h.0 ≡ k.0 = cc (h.1, k.1) in
@@ -71,7 +71,7 @@ are_once (word ∷ words) (setting ∷ settings) (other ∷ others) h k =
     ∙ ap (λ (s : List Setting). other ∷ s) (are_once words settings others h.1 k.1)
 
 -- one word more is one option more
-are_more : (words : List (List ℕ)) (settings : List Setting) (word : List ℕ) (setting : Setting) → AreSettings words settings
+pub are_more : (words : List (List ℕ)) (settings : List Setting) (word : List ℕ) (setting : Setting) → AreSettings words settings
     → IsSetting word setting
     → AreSettings (words ++ word ∷ []) (settings ++ setting ∷ [])
 are_more [] [] word setting h k = (k, tt)
@@ -257,7 +257,7 @@ options_more allowance words index old new setting lt g is room more = record {
 }
 
 -- what the last of so many options is
-last_setting : (words : List (List ℕ)) (word : List ℕ) (first second : List Setting) → AreSettings words first
+pub last_setting : (words : List (List ℕ)) (word : List ℕ) (first second : List Setting) → AreSettings words first
     → AreSettings (words ++ word ∷ []) second
     → (setting : Setting) × (second ≡ first ++ setting ∷ []) × IsSetting word setting
 last_setting words word first second h k =

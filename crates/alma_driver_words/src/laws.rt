@@ -1,5 +1,5 @@
 //! Laws of the definitions that the contracts cite: functions without work, whose contracts are the laws.
-ghost use Rattle.std.specs.Prelude.{◌≡◌, ◌≤◌, List, ℕ, length};
+ghost use Rattle.std.specs.Prelude.{◌≡◌, ◌≤◌, ◌⊎◌, List, ℕ, length};
 ghost use Rattle.alma_driver_words.specs.Sample.{sample_text};
 ghost use Rattle.alma_driver_words.specs.Words.{Request, Asks, IsBadWord};
 ghost use Rattle.alma_driver_words.specs.Limits.{IsWithinLimits};
@@ -12,6 +12,12 @@ pub fn words_have_one_answer()
         ≡ k }
     ensures apart { (words : List (List ℕ)) (request : Request) (k : ℕ) → Asks words request
         → IsBadWord words k → ⊥ }
+{}
+
+/// Any words are a request, or one is the first that cannot stand where it is, or they end too early.
+pub fn words_have_an_answer()
+    ensures some { (words : List (List ℕ)) → ((request : Request) × Asks words request)
+        ⊎ ((k : ℕ) × IsBadWord words k) }
 {}
 
 /// What words ask for is within the limits.
