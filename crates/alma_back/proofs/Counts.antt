@@ -1,19 +1,15 @@
 -- Numbers of steps, and names.
-use Rattle.std.proofs.Common.{◌≡◌, ◌≤◌, ◌∙◌, ◌↔◌, ℕ, List, [], ◌∷◌, ◌++◌, length, refl, sym, ap, subst, arith, zero-add, true≢false}
-use Rattle.std.proofs.lemmas.Bool.{and_parts, leb-true, le-leb, ne_eqb}
-use Rattle.std.proofs.lemmas.List.{append-nil, length-append}
-use Rattle.std.specs.Prelude.{Bool, true, false, not, ◌&&◌, leb, cond, is_none, bytes_eq, if◌then◌else◌, Option, None, Some, IsTrue, nat_eq}
+use Rattle.std.proofs.Common.{◌≡◌, ◌≤◌, ◌∙◌, ◌↔◌, ℕ, List, [], ◌∷◌, length, refl, sym, ap, subst, arith, true≢false}
+use Rattle.std.proofs.lemmas.Bool.{and_parts, leb-true, le-leb}
+use Rattle.std.specs.Prelude.{Bool, true, false, ◌&&◌, leb, cond, is_none, Option, None, Some, IsTrue}
 use Rattle.std.specs.List.{list_all}
 use Rattle.alma_base.specs.Bytes.{is_letter, is_word_byte}
 use Rattle.alma_base.specs.Reading.{is_digit}
 use Rattle.alma_tree.specs.declared.kind.Kind.{Kind}
-use Rattle.alma_tree.specs.declared.kind.Kind.TheVariants as kinds
 use Rattle.alma_scan.specs.Bytes.{AllIn, value_of}
-use Rattle.alma_scan.specs.Comments as gaps
-use Rattle.alma_scan.specs.Spellings.{Spelling, Spells, IsWord, look_up, symbols, reserved_words}
-use Rattle.alma_scan.specs.Spellings as spelled
-use Rattle.alma_scan.specs.Tokens.{HasToken}
+use Rattle.alma_scan.specs.Spellings.{IsWord, look_up, reserved_words}
 use Rattle.alma_driver_words.specs.Words.{IsNumeral, IsName}
+use Rattle.alma_driver_words.proofs.NameTests.{IsFreeWord, name_is_free, one_name}
 use Rattle.alma_back.specs.Script.{is_count, count_in, is_word, is_name, name_in, greatest_steps}
 
 -- each byte passes a test
@@ -84,31 +80,7 @@ count_none text other = sym (no_count text (λ (k : Counts text). other (value_o
 
 -- ---- names
 
-abbrev is_kind_name : Kind → Bool
-is_kind_name kinds.Name = true
-is_kind_name _ = false
-
-abbrev no_names : List Spelling → Bool
-no_names table = list_all (λ entry. not (is_kind_name entry.kind)) table
-
-not_name : (k : Kind) → not (is_kind_name k) ≡ true → Some k ≡ Some kinds.Name → ⊥
-not_name k other e =
-    let same : k ≡ kinds.Name = cc e in
-    let no : false ≡ true = subst (λ (x : Kind). not (is_kind_name x) ≡ true) same other in
-    absurd (cc no)
-
--- a table without one gives no text that kind
-no_look_up : (table : List Spelling) (text : List ℕ) → no_names table ≡ true → look_up table text ≡ Some kinds.Name → ⊥
-no_look_up [] text none e = cc e
-no_look_up (entry ∷ table) text none e =
-    let parts = and_parts (not (is_kind_name entry.kind)) (no_names table) none in
-    by (bytes_eq entry.text text) parts.0 (no_look_up table text parts.1) e
-  where
-    by : (b : Bool) → not (is_kind_name entry.kind) ≡ true → (look_up table text ≡ Some kinds.Name → ⊥)
-        → (if b then Some entry.kind else look_up table text) ≡ Some kinds.Name → ⊥
-    by true other rest e = not_name entry.kind other e
-    by false other rest e = rest e
-
+-- a word of a script is one of the language
 word_is : (text : List ℕ) → IsWord text → is_word text ≡ true
 word_is [] h = absurd h
 word_is (b ∷ bytes) h = ap (λ x. x && list_all is_word_byte bytes) h.0 ∙ all_pass is_word_byte bytes h.1
@@ -119,49 +91,22 @@ is_word_of (b ∷ bytes) h =
     let parts = and_parts (is_letter b) (list_all is_word_byte bytes) h in
     (parts.0, pass_all is_word_byte bytes parts.1)
 
--- a spelling of a name
-spelled_name : (text : List ℕ) → Spells kinds.Name text → is_name text ≡ true
-spelled_name text (spelled.name e word free) =
-    ap (λ b. b && is_none (look_up reserved_words text)) (word_is text word) ∙ ap (λ o. is_none o) free
-spelled_name text (spelled.number e digits small) = cc e
-spelled_name text (spelled.literal e is) = cc e
-spelled_name text (spelled.symbol e) = absurd (no_look_up symbols text refl e)
-spelled_name text (spelled.reserved e) = absurd (no_look_up reserved_words text refl e)
+-- so is one that is not reserved
+free_is : (text : List ℕ) → IsFreeWord text → is_name text ≡ true
+free_is text h = ap (λ b. b && is_none (look_up reserved_words text)) (word_is text h.0) ∙ ap (λ o. is_none o) h.1
 
 none_of : (o : Option Kind) → is_none o ≡ true → o ≡ None
 none_of None e = refl
 none_of (Some k) e = cc e
 
--- it opens no comment
-no_paren : (b : ℕ) → is_letter b ≡ true → nat_eq b 40 ≡ false
-no_paren b h = ne_eqb b 40 (λ (e : b ≡ 40). cc (subst (λ (x : ℕ). is_letter x ≡ true) e h))
-
-no_comment : (text : List ℕ) → is_word text ≡ true → gaps.opens text ≡ false
-no_comment [] h = refl
-no_comment (a ∷ []) h = refl
-no_comment (a ∷ b ∷ bytes) h = ap (λ x. x && nat_eq b 42) (no_paren a (and_parts (is_letter a) (list_all is_word_byte (b ∷ bytes)) h).0)
-
--- such a text is one name
-named : (text : List ℕ) → is_name text ≡ true → IsName text
-named text h =
+free_of : (text : List ℕ) → is_name text ≡ true → IsFreeWord text
+free_of text h =
     let parts = and_parts (is_word text) (is_none (look_up reserved_words text)) h in
-    let all : text ++ [] ≡ text = append-nil text in
-    let token : HasToken (length text) text (record { kind = kinds.Name; text = text; start = 0 }) [] = record {
-      gap = subst (λ (t : List ℕ). gaps.Gap text t) (sym all) (gaps.none text);
-      is_token = record {
-        spelled = spelled.name refl (is_word_of text parts.0) (none_of (look_up reserved_words text) parts.1);
-        longest = λ other longer after e spells.
-            omega (arith, ap (λ (t : List ℕ). length t) (sym all ∙ e), length-append longer after);
-        no_digit = λ e. tt;
-        no_comment = ap gaps.opens all ∙ no_comment text parts.0;
-      };
-      start = zero-add (length (text ++ [])) ∙ ap (λ (t : List ℕ). length t) all;
-    } in
-    ([], token, gaps.none [])
+    (is_word_of text parts.0, none_of (look_up reserved_words text) parts.1)
 
 -- a text is a name of a script where it is one name of the language
 pub names : (text : List ℕ) → IsTrue (is_name text) ↔ IsName text
-names text = (named text, λ n. spelled_name text n.1.is_token.spelled)
+names text = (λ h. one_name text (free_of text h), λ n. free_is text (name_is_free text n))
 
 -- a text that is tested
 pub name_found : (text : List ℕ) → IsName text → Some text ≡ name_in text
@@ -172,4 +117,4 @@ name_none text b false_is is = by (is_name text) refl
   where
     by : (n : Bool) → is_name text ≡ n → None ≡ name_in text
     by false e = ap (λ x. cond x (Some text) None) (sym e)
-    by true e = absurd (true≢false (sym (is.1 (named text e)) ∙ false_is))
+    by true e = absurd (true≢false (sym (is.1 ((names text).0 e)) ∙ false_is))

@@ -2,8 +2,8 @@ pub mod NumberLemmas
 pub mod NameLemmas
 pub mod SettingLemmas
 pub mod WordLemmas
+pub mod NameTests
 mod Decidable
-mod NameTests
 mod Deciding
 mod Lengths
 mod Lines

@@ -16,7 +16,7 @@ use Rattle.alma_driver_words.specs.Words.{IsName}
 use Rattle.alma_driver_words.proofs.Decidable.{Decidable, both, passed, all_in, is_nothing}
 
 -- a letter or _, and then letters, digits and _, which are no reserved word
-abbrev IsFreeWord : List ℕ → Type 0
+abbrev pub IsFreeWord : List ℕ → Type 0
 IsFreeWord text = IsWord text × (look_up reserved_words text ≡ None)
 
 -- whether a text is a word
@@ -80,7 +80,7 @@ no_comment (a ∷ []) h = refl
 no_comment (a ∷ b ∷ bytes) h = ap (λ x. x && nat_eq b 42) (no_paren a h.0)
 
 -- the word is its only token
-one_name : (text : List ℕ) → IsFreeWord text → IsName text
+pub one_name : (text : List ℕ) → IsFreeWord text → IsName text
 one_name text h =
     let all : text ++ [] ≡ text = append-nil text in
     let token : HasToken (length text) text (record { kind = kinds.Name; text = text; start = 0 }) [] = record {
@@ -96,10 +96,14 @@ one_name text h =
     } in
     ([], token, gaps.none [])
 
+-- and one name is such a word
+pub name_is_free : (text : List ℕ) → IsName text → IsFreeWord text
+name_is_free text n = spelled_name text n.1.is_token.spelled
+
 -- whether a text is one name
 pub is_name : (text : List ℕ) → Decidable (IsName text)
 is_name text = by (is_free_word text)
   where
     by : Decidable (IsFreeWord text) → Decidable (IsName text)
     by (inl free) = inl (one_name text free)
-    by (inr never) = inr (λ h. never (spelled_name text h.1.is_token.spelled))
+    by (inr never) = inr (λ n. never (name_is_free text n))
