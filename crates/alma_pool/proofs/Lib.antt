@@ -6,3 +6,6 @@ pub mod Opening
 pub mod Playing
 pub mod Showing
 pub mod Judging
+pub mod WordLemmas
+pub mod Objects
+pub mod Calls
