@@ -6,4 +6,5 @@ pub mod Dashing
 pub mod Fitting
 pub mod Forms
 pub mod Needing
+pub mod Quieting
 pub mod Stepping
