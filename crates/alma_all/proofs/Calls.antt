@@ -1,5 +1,5 @@
 -- What a call shows that lists the alternatives of a source, where nothing fails.
-use Rattle.std.proofs.Common.{◌≡◌, ◌≤◌, ◌∙◌, ℕ, List, [], ◌∷◌, length, ap, refl, subst, sym, inl, inr, Some}
+use Rattle.std.proofs.Common.{◌≡◌, ◌≤◌, ◌∙◌, ℕ, List, length, refl, subst, sym, inl, inr, Some}
 use Rattle.std.specs.Prelude.{◌⊎◌, Bool, true, false}
 use Rattle.alma_base.specs.Limits.{input_limit, source_limit}
 use Rattle.alma_io.specs.Files.{Told, Has}
@@ -12,7 +12,6 @@ use Rattle.alma_listing.specs.Lister.{listing_of}
 use Rattle.alma_plan.specs.Causes.{Causes}
 use Rattle.alma_plan.specs.Outside.{Outside}
 use Rattle.alma_plan.specs.Plan.{Due, Plan, Reading, Asks, Comes, MayLack, success}
-use Rattle.alma_plan.specs.Words.{is_file_name}
 use Rattle.alma_plan.proofs.ToldLemmas.{run_asks, source_asks, RunComes, run_comes, SourceComes, source_comes}
 use Rattle.alma_plan.proofs.UndisturbedLemmas.{call_shows_due}
 use Rattle.alma_plan.specs.Programs.{Last}
@@ -29,17 +28,11 @@ use Rattle.alma_rules.specs.View.{view_module}
 use Rattle.alma_source.proofs.RefusalLemmas.{one_refusal}
 use Rattle.alma_source.specs.Refusal.{IsProgramOf}
 use Rattle.alma_source.specs.Verdict.{Verdict}
-use Rattle.alma_all.specs.All.{program, all_plan, all_sense, asked, body_returns, list_plan, unless_returns, with_file, with_steps}
-use Rattle.alma_all.specs.Shown.{AsksToList, plain, within, ListsSource, ListEnds, refuses, returns, too_large, lists}
+use Rattle.alma_all.specs.All.{program, all_plan, all_sense, asked, body_returns, list_plan, unless_returns}
+use Rattle.alma_all.specs.Shown.{ListsSource, ListEnds, refuses, returns, too_large, lists}
 use Rattle.alma_all.proofs.Listings.{lists_every_alternative}
+use Rattle.alma_all.proofs.Requests.{plan_is}
 use Rattle.alma_all.proofs.Returns.{all_there}
-
--- words that ask for the alternatives have the plan of that
-plan_is : (words : List (List ℕ)) (file : List ℕ) (steps : ℕ) → is_file_name file ≡ true → AsksToList words file steps
-    → all_plan words ≡ asked file steps
-plan_is words file steps named (plain is by) = ap all_plan is ∙ ap (λ b. with_file b file []) named ∙ ap (asked file) (sym by)
-plan_is words file steps named (within option is by) =
-    ap all_plan is ∙ ap (λ b. with_file b file (option ∷ [])) named ∙ ap (λ o. with_steps file o []) by
 
 module _ (told : List ℕ → Told) where
   -- a program asks for no file
@@ -105,7 +98,7 @@ pub call_lists : (words : List (List ℕ)) (file source input : List ℕ) (steps
     → IsUndisturbed before after status → ListEnds file source input steps before after status
 call_lists words file source input steps before after status asks causes calm =
     let causes' = subst (λ (plan : Plan Verdict Last). Causes all_sense program plan before after status)
-    (plan_is words file steps asks.named asks.asks) causes in
+    (plan_is words file steps asks.asks) causes in
     let due = call_shows_due (sense program success) program (asked file steps) before after status causes' calm
     (lacks_none before.files.told file source steps asks.told) in
     source_ends file source input steps before after status asks.source_short asks.left asks.input_short due.0 due.1 due.3

@@ -3,4 +3,5 @@ mod WordCourses
 mod Returns
 mod Plans
 mod Listings
+mod Requests
 mod Calls

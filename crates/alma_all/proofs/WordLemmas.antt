@@ -1,11 +1,11 @@
 -- The number of steps that an option names.
 use Rattle.std.proofs.Common.{◌≡◌, ◌≤◌, ◌∙◌, ℕ, List, [], ◌∷◌, ◌++◌, length, refl, sym, ap, subst}
 use Rattle.std.proofs.lemmas.Bool.{and_parts, leb-true, le-leb, eq-eqb, eqb-true}
-use Rattle.std.specs.Prelude.{Bool, true, false, ◌&&◌, leb, eqb, cond, Option, None, Some, ◌≢◌, MatchOption}
+use Rattle.std.specs.Prelude.{Bool, true, false, ◌&&◌, leb, eqb, cond, codes, Option, None, Some, ◌≢◌, MatchOption}
 use Rattle.alma_base.specs.Reading.{is_digit}
 use Rattle.alma_scan.specs.Bytes.{AllIn, value_of}
-use Rattle.alma_driver_words.specs.Words.{NamesSteps, greatest_steps}
-use Rattle.alma_all.specs.All.{behind, are_digits, names_steps, steps_named}
+use Rattle.alma_driver_words.specs.Words.{IsSetting, NamesSteps, Steps, greatest_steps}
+use Rattle.alma_all.specs.All.{behind, are_digits, names_steps, steps_in, steps_named}
 
 -- a text behind its front
 pub behind_front : (front text : List ℕ) → behind front (front ++ text) ≡ Some text
@@ -55,31 +55,52 @@ steps_are text steps h =
     ∙ le-leb (value_of text) greatest_steps (subst (λ n. n ≤ greatest_steps) (sym value) h.greatest) in
     ap (λ b. cond b (Some (value_of text)) None) all ∙ ap Some value
 
+-- digits that name a number of steps name their value
+digits_name : (text : List ℕ) → names_steps text ≡ true → NamesSteps text (value_of text)
+digits_name text e =
+    let a = and_parts (are_digits text) _ e in
+    let b = and_parts (leb 1 (length text)) _ a.1 in
+    let c = and_parts (leb (length text) 19) _ b.1 in
+    let d = and_parts (leb 1 (value_of text)) _ c.1 in
+    record {
+      numeral = record {
+        digits = are_all text a.0;
+        some = leb-true 1 (length text) b.0;
+        short = leb-true (length text) 19 c.0;
+        value =
+            refl;
+      };
+      least = leb-true 1 (value_of text) d.0;
+      greatest = leb-true (value_of text) greatest_steps d.1;
+    }
+
 -- and none that they do not
 pub no_steps : (text : List ℕ) → ((steps : ℕ) → NamesSteps text steps → ⊥) → steps_named (Some text) ≡ None
 no_steps text other = by (names_steps text) refl
   where
     by : (b : Bool) → names_steps text ≡ b → cond b (Some (value_of text)) None ≡ None
     by false e = refl
-    by true e =
-        let a = and_parts (are_digits text) _ e in
-        let b = and_parts (leb 1 (length text)) _ a.1 in
-        let c = and_parts (leb (length text) 19) _ b.1 in
-        let d = and_parts (leb 1 (value_of text)) _ c.1 in
-        absurd (other (value_of text) (record {
-          numeral = record {
-            digits = are_all text a.0;
-            some = leb-true 1 (length text) b.0;
-            short = leb-true (length text) 19 c.0;
-            value =
-                refl;
-          };
-          least = leb-true 1 (value_of text) d.0;
-          greatest = leb-true (value_of text) greatest_steps d.1;
-        }))
+    by true e = absurd (other (value_of text) (digits_name text e))
 
 -- what reading the number answers is that of the definition
 pub steps_found : (text : List ℕ) (r : Option ℕ) → MatchOption r ((steps : ℕ) → NamesSteps text steps → ⊥) (λ steps. NamesSteps text steps)
     → r ≡ steps_named (Some text)
 steps_found text None h = sym (no_steps text h)
 steps_found text (Some steps) h = sym (steps_are text steps h)
+
+-- ---- the option, as a reader knows it
+
+pub option_is : (option : List ℕ) (steps : ℕ) → IsSetting option (Steps steps) → steps_in option ≡ Some steps
+option_is option steps (digits, is, names) =
+    ap steps_in is ∙ ap steps_named (behind_front (codes "--steps=") digits) ∙ steps_are digits steps names
+
+pub is_option : (option : List ℕ) (steps : ℕ) → steps_in option ≡ Some steps → IsSetting option (Steps steps)
+is_option option steps e = by (behind (codes "--steps=") option) refl e
+  where
+    named : (text : List ℕ) (b : Bool) → names_steps text ≡ b → cond b (Some (value_of text)) None ≡ Some steps → NamesSteps text steps
+    named text true is e = subst (λ (n : ℕ). NamesSteps text n) (cc e) (digits_name text is)
+    named text false is e = cc e
+
+    by : (o : Option (List ℕ)) → behind (codes "--steps=") option ≡ o → steps_named o ≡ Some steps → IsSetting option (Steps steps)
+    by None is e = cc e
+    by (Some text) is e = (text, found (codes "--steps=") option text is, named text (names_steps text) refl e)

@@ -2,4 +2,5 @@ mod WordLemmas
 mod UnitLemmas
 mod Plans
 mod TextLemmas
+mod Requests
 mod Calls

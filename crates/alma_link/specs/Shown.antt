@@ -1,5 +1,5 @@
 -- What a call shows that runs modules, or stores their object, in the words of a reader of their joined program's meaning.
-use Rattle.std.specs.Prelude.{◌≡◌, ◌<◌, ◌≤◌, ℕ, true, List, [], ◌∷◌, length, Ok, None, Some}
+use Rattle.std.specs.Prelude.{◌≡◌, ◌<◌, ◌≤◌, ℕ, true, List, [], ◌∷◌, length, None, Some}
 use Rattle.alma_base.specs.Limits.{input_limit, size_limit, source_limit}
 use Rattle.alma_io.specs.Files.{Told, Has}
 use Rattle.alma_ir.specs.Tree.{Program}

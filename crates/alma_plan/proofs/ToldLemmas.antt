@@ -12,9 +12,9 @@ use Rattle.alma_io.specs.Whole.{MayHaveMore}
 use Rattle.alma_ir.specs.Tree.{Program}
 use Rattle.alma_lower_implements.specs.Implements.{state_after, printed_by, line_in}
 use Rattle.alma_lower_sound.specs.Reads.{program_reads}
-use Rattle.alma_plan.specs.Plan.{Due, Ending, Plan, Reading, Asks, Comes, MayBeLeft, silent}
-use Rattle.alma_plan.specs.Programs.{Last, Runs, Means, sense, mode_end, refused, too_much_code, unless_large, run_on, run_plan}
-use Rattle.alma_plan.specs.Programs.{accepted, read_source}
+use Rattle.alma_plan.specs.Plan.{Due, Ending, Plan, Reading, Asks, Comes, Ends, MayBeLeft, silent}
+use Rattle.alma_plan.specs.Programs.{Last, Runs, Stores, Means, sense, mode_end, refused, too_much_code, unless_large, run_on, run_plan}
+use Rattle.alma_plan.specs.Programs.{accepted, read_source, store_plan, within_size}
 use Rattle.alma_run_laws.proofs.Unread.{after_alike, prints_alike}
 use Rattle.alma_run_laws.specs.Shown.{size_of}
 use Rattle.alma_source.specs.Refusal.{IsProgramOf, IsRefused, place_of}
@@ -47,14 +47,20 @@ module _ (program : List ℕ) (failed : Ending) where
     run_on_asks true p steps name asks = asks
     run_on_asks false p steps name asks = asks
 
-    unless_asks : (large : Bool) (p : Program) (steps : ℕ) (name : List ℕ)
-        → AsksOf (unless_large large program p (run_on (program_reads p) p steps)) name → ⊥
-    unless_asks true p steps name asks = asks
-    unless_asks false p steps name asks = run_on_asks (program_reads p) p steps name asks
+    -- nor is one asked for where a program is too large
+    unless_asks : (large : Bool) (p : Program) (next : Plan Verdict Last) (name : List ℕ) → (AsksOf next name → ⊥)
+        → AsksOf (unless_large large program p next) name → ⊥
+    unless_asks true p next name none asks = asks
+    unless_asks false p next name none asks = none asks
 
     -- a plan to run asks for no file
     pub run_asks : (p : Program) (steps : ℕ) (name : List ℕ) → AsksOf (run_plan program p steps) name → ⊥
-    run_asks p steps name asks = unless_asks (ltb size_limit (size_of p)) p steps name asks
+    run_asks p steps name asks =
+        unless_asks (ltb size_limit (size_of p)) p (run_on (program_reads p) p steps) name (run_on_asks (program_reads p) p steps name) asks
+
+    -- and none to store an object
+    pub store_asks : (p : Program) (object name : List ℕ) → AsksOf (store_plan program p object) name → ⊥
+    store_asks p object name asks = unless_asks (ltb size_limit (size_of p)) p (Ends (Stores p object)) name (λ none. none) asks
 
     judged_asks : (file name : List ℕ) (next : Program → Plan Verdict Last) (verdict : Verdict)
         → AsksOf (accepted file next verdict) name → (p : Program) × AsksOf (next p) name
@@ -84,25 +90,45 @@ module _ (program : List ℕ) (failed : Ending) where
         subst (λ (bytes : List ℕ). Means program failed (Runs p bytes steps) due) (sym same) h.4
     run_on_comes false p input steps is has short h = run_alike p input steps due is h.1
 
+    -- a program is refused, where it is too large, or goes on
+    abbrev pub IsLargeOr : Program → (goes_on : Type 0) → Type 0
+    IsLargeOr p goes_on =
+        ((size_limit < size_of p) × (due ≡ silent (too_much_code program p)))
+        ⊎ ((size_of p ≤ size_limit) × goes_on)
+
+    sized_comes : (p : Program) (next : Plan Verdict Last) → ComesOf (within_size program p next) → IsLargeOr p (ComesOf next)
+    sized_comes p next c = by (cases_lt size_limit (size_of p))
+      where
+        sized : (large : Bool) → ltb size_limit (size_of p) ≡ large → ComesOf (unless_large large program p next)
+        sized large e = subst (λ (b : Bool). ComesOf (unless_large b program p next)) e c
+
+        by : (size_limit < size_of p) ⊎ (size_of p ≤ size_limit) → IsLargeOr p (ComesOf next)
+        by (inl past) = inl (past, (sized true (lt-ltb size_limit (size_of p) past)).1)
+        by (inr small) = inr (small, sized false (le-ltb size_limit (size_of p) small))
+
     -- what a run of a program comes to: its refusal, where it is too large, or what its run on the input means
     abbrev pub RunComes : (p : Program) (input : List ℕ) (steps : ℕ) → Type 0
-    RunComes p input steps =
-        ((size_limit < size_of p) × (due ≡ silent (too_much_code program p)))
-        ⊎ ((size_of p ≤ size_limit) × Means program failed (Runs p input steps) due)
+    RunComes p input steps = IsLargeOr p (Means program failed (Runs p input steps) due)
 
     -- a plan to run comes to that where the input is told that the program reads
     pub run_comes : (p : Program) (input : List ℕ) (steps : ℕ) → (program_reads p ≡ true → left ≡ Some input)
         → length input ≤ input_limit → ComesOf (run_plan program p steps) → RunComes p input steps
-    run_comes p input steps has short c = by (cases_lt size_limit (size_of p))
+    run_comes p input steps has short c = by (sized_comes p (run_on (program_reads p) p steps) c)
       where
-        sized : (large : Bool) → ltb size_limit (size_of p) ≡ large
-            → ComesOf (unless_large large program p (run_on (program_reads p) p steps))
-        sized large e = subst (λ (b : Bool). ComesOf (unless_large b program p (run_on (program_reads p) p steps))) e c
+        by : IsLargeOr p (ComesOf (run_on (program_reads p) p steps)) → RunComes p input steps
+        by (inl large) = inl large
+        by (inr small) = inr (small.0, run_on_comes (program_reads p) p input steps refl has short small.1)
 
-        by : (size_limit < size_of p) ⊎ (size_of p ≤ size_limit) → RunComes p input steps
-        by (inl past) = inl (past, (sized true (lt-ltb size_limit (size_of p) past)).1)
-        by (inr small) =
-            inr (small, run_on_comes (program_reads p) p input steps refl has short (sized false (le-ltb size_limit (size_of p) small)))
+    -- what storing the object of a program comes to: its refusal, where it is too large, or what the object means
+    abbrev pub StoreComes : (p : Program) (object : List ℕ) → Type 0
+    StoreComes p object = IsLargeOr p (Means program failed (Stores p object) due)
+
+    pub store_comes : (p : Program) (object : List ℕ) → ComesOf (store_plan program p object) → StoreComes p object
+    store_comes p object c = by (sized_comes p (Ends (Stores p object)) c)
+      where
+        by : IsLargeOr p (ComesOf (Ends (Stores p object))) → StoreComes p object
+        by (inl large) = inl large
+        by (inr small) = inr (small.0, small.1.1)
 
     -- what a source comes to
     abbrev pub SourceComes : (file source : List ℕ) (next : Program → Plan Verdict Last) → Type 0
