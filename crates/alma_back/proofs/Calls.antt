@@ -47,7 +47,8 @@ module _ (p : Program) where
   shows_value : (s : Standing) (name : List ℕ) → KeepsNames s.code p → ShowsLine p s (Value name) (line_text s (Value name))
   shows_value s name names =
       let value = value_of_name (state_of s).now s.code.globals name in
-      let word : name ++ 61 ∷ value ≡ variable_word (state_of s).now p.globals name = cc (variables_shown s.code p (name ∷ []) (state_of s) names) in
+      let word : name ++ 61 ∷ value ≡ variable_word (state_of s).now p.globals name =
+      cc (variables_shown s.code p (name ∷ []) (state_of s) names) in
       sym (append_assoc name (61 ∷ value) (codes "\n")) ∙ ap (λ (bytes : List ℕ). bytes ++ codes "\n") word
 
   shows_line : (s : Standing) (line : Line) → IsRunOf s.code s.input → ShowsLine p s line (line_text s line)
@@ -138,8 +139,8 @@ unrefused p bytes spells =
 -- ---- the call
 
 pub walk_shows : (words : List (List ℕ)) (p : Program) (lines : List Line) (input : List ℕ) (before after : Outside) (status : ℕ)
-    → WalksProgram words before p lines input → Causes plain program (back_plan words) before after status
-    → IsUndisturbed before after status → ShowsWalk p lines input before after status
+    (w : WalksProgram words before p lines input) → Causes plain program (back_plan words) before after status
+    → IsUndisturbed before after status → ShowsWalk p lines input w.bytes before after status
 walk_shows words p lines input before after status w causes calm =
     let code = object_code w.bytes in
     let told = before.files.told in
@@ -154,9 +155,7 @@ walk_shows words p lines input before after status w causes calm =
     let is : h.1 ≡ prints (session code input lines) =
     judged_comes told before.input.left h.0 h.1 code lines input w.input_short w.bytes w.text w.script_good (unrefused p w.bytes w.spells)
     refl (λ reads. w.left (sym w.spells.reads ∙ reads)) read in (
-      code,
       session code input lines,
-      w.spells.implements,
       shows_lines p (begun code input) lines
       (record { implements = w.spells.implements; names = w.spells.names; short = w.input_short }),
       subst (ShowsDue before after status) is h.3,
