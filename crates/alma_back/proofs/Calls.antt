@@ -1,19 +1,17 @@
 -- What a call shows that walks a program, where nothing fails.
 use Rattle.std.proofs.Common.{◌≡◌, ◌∙◌, ◌≤◌, ◌<◌, ℕ, List, [], ◌∷◌, ◌++◌, length, refl, ap, sym, subst, inl, inr, arith}
 use Rattle.std.proofs.lemmas.List.{append_assoc}
-use Rattle.std.specs.Prelude.{◌⊎◌, Bool, true, false, codes, Option, None, Some, Result, Ok, Err}
+use Rattle.std.specs.Prelude.{Bool, true, false, codes, Option, None, Some, Result, Ok, Err}
 use Rattle.alma_base.specs.Limits.{input_limit, object_limit}
-use Rattle.alma_code.specs.Machine.{State}
 use Rattle.alma_code.specs.Plain.{PlainCode}
 use Rattle.alma_code.specs.Reads.{code_reads}
 use Rattle.alma_code.specs.Rules.{code_fault}
 use Rattle.alma_code.specs.TraceText.{value_of_name}
-use Rattle.alma_io.specs.Files.{Told, Missing, Has, MayHave, MayPass}
+use Rattle.alma_io.specs.Files.{Told, Has, MayHave, MayPass}
 use Rattle.alma_io.specs.Whole.{MayHaveMore}
 use Rattle.alma_ir.specs.Tree.{Program}
 use Rattle.alma_lower.specs.Names.{KeepsNames}
 use Rattle.alma_lower_implements.specs.Implements.{Implements, line_in}
-use Rattle.alma_lower_sound.specs.Reads.{program_reads}
 use Rattle.alma_plan.specs.Causes.{Causes}
 use Rattle.alma_plan.specs.Objects.{object_refusal, refusal_by, rule_refusal}
 use Rattle.alma_plan.specs.Outside.{Outside}
@@ -65,9 +63,9 @@ module _ (p : Program) where
   shows_lines : (s : Standing) (lines : List Line) → IsRunOf s.code s.input → ShowsLines p s lines (shown s lines)
   shows_lines s [] is = none s
   shows_lines s (line ∷ lines) is =
-      let next = kept_after IsRunOf s line is in
-      one_more s line lines (line_text (after_line s line) line) (shown (after_line s line) lines) (shows_line (after_line s line) line next)
-      (shows_lines (after_line s line) lines next)
+      let next = after_line s line in
+      let still : IsRunOf next.code next.input = kept_after IsRunOf s line is in
+      one_more s line lines (line_text next line) (shown next lines) (shows_line next line still) (shows_lines next lines still)
 
 -- ---- no file is missing
 
@@ -157,6 +155,6 @@ walk_shows words p lines input before after status w causes calm =
     refl (λ reads. w.left (sym w.spells.reads ∙ reads)) read in (
       session code input lines,
       shows_lines p (begun code input) lines
-      (record { implements = w.spells.implements; names = w.spells.names; short = w.input_short }),
+          (record { implements = w.spells.implements; names = w.spells.names; short = w.input_short }),
       subst (ShowsDue before after status) is h.3,
     )
