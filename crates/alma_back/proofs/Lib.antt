@@ -4,3 +4,6 @@ pub mod Walks
 pub mod Shown
 pub mod Judging
 pub mod Keeping
+mod WordLemmas
+mod Alike
+mod Calls

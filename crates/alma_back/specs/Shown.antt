@@ -1,10 +1,8 @@
 -- What a call shows of a program that is walked, in the words of a reader of its meaning.
 use Rattle.std.specs.Prelude.{◌≡◌, ◌≤◌, List, ℕ, true, [], ◌∷◌, ◌++◌, codes, decimal, length, Ok, Some}
 use Rattle.alma_base.specs.Limits.{input_limit, object_limit}
-use Rattle.alma_code.specs.Plain.{PlainCode}
 use Rattle.alma_io.specs.Files.{Has}
 use Rattle.alma_ir.specs.Tree.{Program}
-use Rattle.alma_lower_implements.specs.Implements.{Implements}
 use Rattle.alma_lower_sound.specs.Reads.{program_reads}
 use Rattle.alma_mean.specs.Events.{End}
 use Rattle.alma_plan.specs.Outside.{Outside}
@@ -13,6 +11,7 @@ use Rattle.alma_plan.specs.Undisturbed.{ShowsDue}
 use Rattle.alma_run_laws.specs.Shown.{Shows}
 use Rattle.alma_run_laws.specs.Stored.{SpellsCodeOf}
 use Rattle.alma_run_laws.specs.Variables.{variable_word}
+use Rattle.alma_verify.specs.Bytes.{object_code}
 use Rattle.alma_back.specs.Due.{script_limit}
 use Rattle.alma_back.specs.Script.{Line, Forward, Backward, Value, Output, lines_in}
 use Rattle.alma_back.specs.Session.{after_line, at_text}
@@ -53,8 +52,7 @@ pub data ShowsLines (p : Program) : Standing → List Line → (text : List ℕ)
       → ShowsLines p (after_line s line) lines rest
       → ShowsLines p s (line ∷ lines) (text ++ rest)
 
--- what such a call shows, where nothing fails: a walk of a run of code that implements the program
-abbrev pub ShowsWalk : Program → List Line → (input : List ℕ) → (before after : Outside) → (status : ℕ) → Type 0
-ShowsWalk p lines input before after status =
-    (code : PlainCode) × (text : List ℕ) × Implements code p × ShowsLines p (begun code input) lines text
-    × ShowsDue before after status (prints text)
+-- what such a call shows, where nothing fails: a walk of a run of the code that the object's bytes spell
+abbrev pub ShowsWalk : Program → List Line → (input bytes : List ℕ) → (before after : Outside) → (status : ℕ) → Type 0
+ShowsWalk p lines input bytes before after status =
+    (text : List ℕ) × ShowsLines p (begun (object_code bytes) input) lines text × ShowsDue before after status (prints text)

@@ -1,0 +1,160 @@
+-- What a call shows that walks a program, where nothing fails.
+use Rattle.std.proofs.Common.{◌≡◌, ◌∙◌, ◌≤◌, ◌<◌, ℕ, List, [], ◌∷◌, ◌++◌, length, refl, ap, sym, subst, inl, inr, arith}
+use Rattle.std.proofs.lemmas.List.{append_assoc}
+use Rattle.std.specs.Prelude.{Bool, true, false, codes, Option, None, Some, Result, Ok, Err}
+use Rattle.alma_base.specs.Limits.{input_limit, object_limit}
+use Rattle.alma_code.specs.Plain.{PlainCode}
+use Rattle.alma_code.specs.Reads.{code_reads}
+use Rattle.alma_code.specs.Rules.{code_fault}
+use Rattle.alma_code.specs.TraceText.{value_of_name}
+use Rattle.alma_io.specs.Files.{Told, Has, MayHave, MayPass}
+use Rattle.alma_io.specs.Whole.{MayHaveMore}
+use Rattle.alma_ir.specs.Tree.{Program}
+use Rattle.alma_lower.specs.Names.{KeepsNames}
+use Rattle.alma_lower_implements.specs.Implements.{Implements, line_in}
+use Rattle.alma_plan.specs.Causes.{Causes}
+use Rattle.alma_plan.specs.Objects.{object_refusal, refusal_by, rule_refusal}
+use Rattle.alma_plan.specs.Outside.{Outside}
+use Rattle.alma_plan.specs.Plan.{Due, Ending, Plan, Fetches, Reading, Asks, Comes, MayBeLeft, MayLack, plain, prints}
+use Rattle.alma_plan.specs.Undisturbed.{IsUndisturbed, ShowsDue}
+use Rattle.alma_plan.proofs.UndisturbedLemmas.{call_shows_due}
+use Rattle.alma_run_laws.proofs.Meant.{code_shows}
+use Rattle.alma_run_laws.proofs.Spelled.{spelled_sound}
+use Rattle.alma_run_laws.proofs.VariableLemmas.{variables_shown}
+use Rattle.alma_run_laws.specs.Shown.{shown_end}
+use Rattle.alma_run_laws.specs.Stored.{SpellsCodeOf}
+use Rattle.alma_run_laws.specs.Variables.{variable_word}
+use Rattle.alma_verify.specs.Bytes.{object_code}
+use Rattle.alma_back.specs.Due.{asked, back_plan, judged, judged_by, program, script_limit, walked, walked_on}
+use Rattle.alma_back.specs.Script.{Line, Forward, Backward, Value, Output, lines_in}
+use Rattle.alma_back.specs.Session.{after_line, line_text, session, shown}
+use Rattle.alma_back.specs.Shown.{ShowsLine, ShowsLines, none, one_more, ShowsWalk, WalksProgram}
+use Rattle.alma_back.specs.Standing.{Standing, begun, state_of, output_of}
+use Rattle.alma_back.proofs.Alike.{kept_after, shown_alike}
+use Rattle.alma_back.proofs.WordLemmas.{request_plan}
+
+-- ---- what lines show
+
+module _ (p : Program) where
+  -- the code implements the program and keeps its names, and the input is within its length
+  record IsRunOf (code : PlainCode) (input : List ℕ) : Type 0 where
+    implements : Implements code p
+    names : KeepsNames code p
+    short : length input ≤ input_limit
+
+  shows_value : (s : Standing) (name : List ℕ) → KeepsNames s.code p → ShowsLine p s (Value name) (line_text s (Value name))
+  shows_value s name names =
+      let value = value_of_name (state_of s).now s.code.globals name in
+      let word : name ++ 61 ∷ value ≡ variable_word (state_of s).now p.globals name =
+      cc (variables_shown s.code p (name ∷ []) (state_of s) names) in
+      sym (append_assoc name (61 ∷ value) (codes "\n")) ∙ ap (λ (bytes : List ℕ). bytes ++ codes "\n") word
+
+  shows_line : (s : Standing) (line : Line) → IsRunOf s.code s.input → ShowsLine p s line (line_text s line)
+  shows_line s (Forward more) is = refl
+  shows_line s (Backward less) is = refl
+  shows_line s (Value name) is = shows_value s name is.names
+  shows_line s Output is = (
+    output_of s,
+    shown_end (state_of s).mode (line_in s.code (state_of s)),
+    code_shows s.code p s.input s.steps is.implements is.short,
+    refl,
+  )
+
+  shows_lines : (s : Standing) (lines : List Line) → IsRunOf s.code s.input → ShowsLines p s lines (shown s lines)
+  shows_lines s [] is = none s
+  shows_lines s (line ∷ lines) is =
+      let next = after_line s line in
+      let still : IsRunOf next.code next.input = kept_after IsRunOf s line is in
+      one_more s line lines (line_text next line) (shown next lines) (shows_line next line still) (shows_lines next lines still)
+
+-- ---- no file is missing
+
+module _ (told : List ℕ → Told) where
+  on_asks : (reads : Bool) (code : PlainCode) (lines : List Line) (name : List ℕ) → Asks plain told (walked_on reads code lines) name → ⊥
+  on_asks true code lines name asks = asks
+  on_asks false code lines name asks = asks
+
+  walked_asks : (refusal : Option Ending) (code : PlainCode) (lines : List Line) (name : List ℕ)
+      → Asks plain told (walked refusal code lines) name → ⊥
+  walked_asks None code lines name asks = on_asks (code_reads code) code lines name asks
+  walked_asks (Some end) code lines name asks = asks
+
+  judged_asks : (r : Result (List Line) ℕ) (object name : List ℕ) → Asks plain told (judged_by r object) name → ⊥
+  judged_asks (Ok lines) object name asks = walked_asks (object_refusal program object) (object_code object) lines name asks
+  judged_asks (Err line) object name asks = asks
+
+  -- both files that are asked for are there
+  lacks_none : (object script bytes text : List ℕ) → told object ≡ Has bytes → told script ≡ Has text
+      → MayLack plain told (asked object script) → ⊥
+  lacks_none object script bytes text has too lacks = by lacks.1
+    where
+      by : Asks plain told (asked object script) lacks.0 → ⊥
+      by (inl same) = cc (has, same, lacks.2)
+      by (inr (got, may, within, inl same)) = cc (too, same, lacks.2)
+      by (inr (got, may, within, inr h)) = judged_asks (lines_in h.0) got lacks.0 h.3
+
+-- ---- what comes of the files and the input
+
+module _ (told : List ℕ → Told) (left : Option (List ℕ)) (reading : Reading) (due : Due) where
+  abbrev ComesOf : Plan ⊥ Due → Type 0
+  ComesOf plan = Comes plain program told left plan reading due
+
+  -- a file that is told, and is within its length, is fetched
+  fetched : (name bytes : List ℕ) (limit : ℕ) (next : List ℕ → Plan ⊥ Due) → told name ≡ Has bytes → length bytes ≤ limit
+      → ComesOf (Fetches name limit next) → ComesOf (next bytes)
+  fetched name bytes limit next has short (inl h) = cc (sym has ∙ h.0)
+  fetched name bytes limit next has short (inr (inl h)) =
+      let more : limit < length bytes = subst (λ (t : Told). MayPass t limit) has h.0 in
+      absurd (omega (arith, short, more))
+  fetched name bytes limit next has short (inr (inr h)) =
+      let same : bytes ≡ h.0 = subst (λ (t : Told). MayHave t h.0) has h.1 in
+      subst (λ (got : List ℕ). ComesOf (next got)) (sym same) h.3
+
+  module _ (code : PlainCode) (lines : List Line) (input : List ℕ) (short : length input ≤ input_limit) where
+    on_comes : (reads : Bool) → code_reads code ≡ reads → (code_reads code ≡ true → left ≡ Some input)
+        → ComesOf (walked_on reads code lines) → due ≡ prints (session code input lines)
+    on_comes true is has (inl h) =
+        let more : input_limit < length input = subst (λ (l : Option (List ℕ)). MayHaveMore l input_limit) (has is) h.0 in
+        absurd (omega (arith, short, more))
+    on_comes true is has (inr h) =
+        let same : input ≡ h.0 = subst (λ (l : Option (List ℕ)). MayBeLeft l h.0) (has is) h.1 in
+        h.4 ∙ ap (λ (bytes : List ℕ). prints (session code bytes lines)) (sym same)
+    on_comes false quiet has h = h.1 ∙ ap prints (sym (shown_alike input (begun code []) lines quiet))
+
+    judged_comes : (bytes text : List ℕ) → lines_in text ≡ Ok lines → object_refusal program bytes ≡ None → object_code bytes ≡ code
+        → (code_reads code ≡ true → left ≡ Some input) → ComesOf (judged bytes text) → due ≡ prints (session code input lines)
+    judged_comes bytes text good sound is has come =
+        let read = subst (λ (r : Result (List Line) ℕ). ComesOf (judged_by r bytes)) good come in
+        let opened = subst (λ (refusal : Option Ending). ComesOf (walked refusal (object_code bytes) lines)) sound read in
+        on_comes (code_reads code) refl has (subst (λ (c : PlainCode). ComesOf (walked_on (code_reads c) c lines)) is opened)
+
+-- an object that spells code of a program is not refused
+unrefused : (p : Program) (bytes : List ℕ) → SpellsCodeOf p bytes → object_refusal program bytes ≡ None
+unrefused p bytes spells =
+    ap (λ fault. refusal_by program fault (code_fault (object_code bytes))) spells.clean
+    ∙ ap (λ rule. rule_refusal program rule) (spelled_sound p bytes spells)
+
+-- ---- the call
+
+pub walk_shows : (words : List (List ℕ)) (p : Program) (lines : List Line) (input : List ℕ) (before after : Outside) (status : ℕ)
+    (w : WalksProgram words before p lines input) → Causes plain program (back_plan words) before after status
+    → IsUndisturbed before after status → ShowsWalk p lines input w.bytes before after status
+walk_shows words p lines input before after status w causes calm =
+    let code = object_code w.bytes in
+    let told = before.files.told in
+    let causes' = subst (λ (plan : Plan ⊥ Due). Causes plain program plan before after status)
+    (request_plan words w.object w.script w.asks) causes in
+    let h = call_shows_due plain program (asked w.object w.script) before after status causes' calm
+    (lacks_none told w.object w.script w.bytes w.text w.object_told w.script_told) in
+    let opened = fetched told before.input.left h.0 h.1 w.object w.bytes object_limit
+    (λ bytes. Fetches w.script script_limit (λ text. judged bytes text)) w.object_told w.object_short h.2 in
+    let read = fetched told before.input.left h.0 h.1 w.script w.text script_limit (λ text. judged w.bytes text) w.script_told
+    w.script_short opened in
+    let is : h.1 ≡ prints (session code input lines) =
+    judged_comes told before.input.left h.0 h.1 code lines input w.input_short w.bytes w.text w.script_good (unrefused p w.bytes w.spells)
+    refl (λ reads. w.left (sym w.spells.reads ∙ reads)) read in (
+      session code input lines,
+      shows_lines p (begun code input) lines
+          (record { implements = w.spells.implements; names = w.spells.names; short = w.input_short }),
+      subst (ShowsDue before after status) is h.3,
+    )
