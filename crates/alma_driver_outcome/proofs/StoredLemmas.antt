@@ -1,5 +1,5 @@
 -- What is stored for a program is read back, and runs as the program does.
-use Rattle.std.proofs.Common.{◌≡◌, ◌≤◌, ℕ, List, ap, sym, subst}
+use Rattle.std.proofs.Common.{◌≡◌, ◌≤◌, ℕ, List, ap, subst}
 use Rattle.std.specs.Prelude.{Bool, Option, Some, None}
 use Rattle.alma_base.specs.Limits.{size_limit}
 use Rattle.alma_ir.specs.Tree.{Program}

@@ -1,4 +1,3 @@
-use Rattle.alma_plan.specs.Plan.{success}
 use Rattle.alma_plan.specs.Words.{texts}
 use Rattle.alma_plan.proofs.CauseLemmas.{causes_of}
 use Rattle.alma_source.proofs.Verdicts.{one_verdict}

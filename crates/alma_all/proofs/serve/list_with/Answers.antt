@@ -1,4 +1,4 @@
-use Rattle.std.proofs.Common.{◌∙◌, [], ap, refl, sym}
+use Rattle.std.proofs.Common.{◌∙◌, sym}
 use Rattle.alma_all.proofs.WordCourses.{course_bad, some_word, no_word}
 use Rattle.alma_all.proofs.serve.list_with.Goals as goal
 

@@ -1,4 +1,4 @@
-use Rattle.std.proofs.Common.{◌^◌, ◌<◌, ◌≤◌, ◌≡◌, ◌+◌, ◌∙◌, ◌++◌, ℕ, List, length, sym, ap, subst, arith}
+use Rattle.std.proofs.Common.{◌<◌, ◌≤◌, ◌≡◌, ◌+◌, ◌∙◌, ◌++◌, ℕ, List, length, sym, ap, subst, arith}
 use Rattle.std.specs.Prelude.{Option, OnOk, MatchOption}
 use Rattle.alma_code.specs.Plain.{kinds_at}
 use Rattle.alma_machine.proofs.Counting.{few_kinds}
