@@ -62,7 +62,7 @@ pub data AsksToList (words : List (List ℕ)) (file : List ℕ) (steps : ℕ) : 
   within : (option : List ℕ) → words ≡ file ∷ option ∷ [] → is_file_name file ≡ true → IsSetting option (Steps steps)
       → AsksToList words file steps
 
--- the words are such words
+-- the words ask for alternatives
 abbrev pub IsRequest : (words : List (List ℕ)) → Type 0
 IsRequest words = (file : List ℕ) × (steps : ℕ) × AsksToList words file steps
 

@@ -36,7 +36,7 @@ pub record WalksProgram (words : List (List ℕ)) (before : Outside) (p : Progra
   pub input_short : length input ≤ input_limit
 
 -- What a line shows of a run of the program that stands there: the number of its steps; a variable of the program, by its cells there;
--- or how many bytes were printed: those that its meaning prints, or a front of them that such steps show.
+-- or how many bytes were printed: those that its meaning prints, or a front of them that so many steps show.
 abbrev pub ShowsLine : Program → Standing → Line → (text : List ℕ) → Type 0
 ShowsLine p s (Forward more) text = text ≡ at_text s
 ShowsLine p s (Backward less) text = text ≡ at_text s

@@ -7,6 +7,6 @@ pub record AsksToWalk (words : List (List ℕ)) (object script : List ℕ) : Typ
   pub are : words ≡ object ∷ script ∷ []
   pub names : AreFileNames words
 
--- the words are such words
+-- the words ask for a walk
 abbrev pub IsRequest : (words : List (List ℕ)) → Type 0
 IsRequest words = (object : List ℕ) × (script : List ℕ) × AsksToWalk words object script

@@ -24,8 +24,8 @@ pub fn names_are_those_that_are_watched()
     ensures names { (text : List ℕ) → IsTrue (is_name text) ↔ IsName text }
 {}
 
-/// Words name an object and a script, and the plan goes by these; or they have a first word that cannot stand where it is, and the plan
-/// tells that.
+/// Words name an object and a script, and the plan goes by these; or one is the first that cannot stand where it is, or they end too
+/// early, and the plan tells that.
 pub fn words_are_a_request_or_have_a_bad_word()
     ensures request { (words : List (List ℕ)) (object script : List ℕ) → AsksToWalk words object script
         → back_plan words ≡ asked object script }

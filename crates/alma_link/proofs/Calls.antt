@@ -121,13 +121,13 @@ module _ (task : Task) (Performs : Program → Type 0) (files sources : List (Li
   abbrev TaskComes : Program → Type 0
   TaskComes p = IsLargeOr program failed before.files.told before.input.left reading due p (Performs p)
 
-  module _ (task_comes : (units : List Program) → AreModulesOf sources units → MayComeOf (task_plan task (joined units))
+  module _ (task_comes : (units : List Program) → AreModulesOf sources units → join_fault units ≡ None → MayComeOf (task_plan task (joined units))
       → TaskComes (joined units)) where
     -- the modules are joined, or not
     joined_ends : (units : List Program) (fault : Option JoinFault) → AreModulesOf sources units → join_fault units ≡ fault
         → MayComeOf (unless_fault fault task units) → End
     joined_ends units (Some fault) are is c = unjoined units fault are is (subst (ShowsDue before after status) c.1 shows)
-    joined_ends units None are is c = by (task_comes units are c)
+    joined_ends units None are is c = by (task_comes units are is c)
       where
         by : TaskComes (joined units) → End
         by (inl h) = too_large units are is h.0 (subst (ShowsDue before after status) h.1 shows)
@@ -152,7 +152,8 @@ module _ (task : Task) (words files sources : List (List ℕ)) (before after : O
   Come reading due plan = Comes (sense program failed) program before.files.told before.input.left plan reading due
 
   call_ends : (Performs : Program → Type 0)
-      → ((reading : Reading) (due : Due) (units : List Program) → AreModulesOf sources units → ShowsDue before after status due
+      → ((reading : Reading) (due : Due) (units : List Program) → AreModulesOf sources units → join_fault units ≡ None
+      → ShowsDue before after status due
       → Come reading due (task_plan task (joined units))
       → IsLargeOr program failed before.files.told before.input.left reading due (joined units) (Performs (joined units)))
       → ModulesEnd Performs files sources before after status
@@ -162,7 +163,7 @@ module _ (task : Task) (words files sources : List (List ℕ)) (before after : O
       call_shows_due (sense program failed) program (files_plan task [] files) before after status
       (subst (λ (p : Plan Verdict Last). Causes (sense program failed) program p before after status) plan causes) calm
       (λ lack. files_lack task before.files.told lack.0 lack.2 [] files sources asks.told lack.1) in
-      files_end task Performs files sources before after status h.0 h.1 h.3 (λ units are c. task_comes h.0 h.1 units are h.3 c)
+      files_end task Performs files sources before after status h.0 h.1 h.3 (λ units are is c. task_comes h.0 h.1 units are is h.3 c)
       (files_come task before.files.told before.input.left h.0 h.1 [] files sources asks.told h.2)
 
 -- a call that runs them
@@ -172,9 +173,9 @@ pub run_ends : (words files sources : List (List ℕ)) (input : List ℕ) (befor
     → ModulesEnd (ShowsRun input before after status) files sources before after status
 run_ends words files sources input before after status asks given causes calm =
     call_ends Run words files sources before after status asks causes calm (ShowsRun input before after status)
-    (λ reading due units are shows c. by reading due (joined units) shows
+    (λ reading due units are is shows c. by reading due (joined units) shows
     (run_comes program failed before.files.told before.input.left reading due (joined units) input default_steps
-    (given.left units are) given.short c))
+    (given.left units are is) given.short c))
   where
     by : (reading : Reading) (due : Due) (p : Program) → ShowsDue before after status due
         → RunComes program failed before.files.told before.input.left reading due p input default_steps
@@ -189,7 +190,7 @@ pub compile_ends : (words files sources : List (List ℕ)) (object : List ℕ) (
     → ModulesEnd (ShowsObject object before after status) files sources before after status
 compile_ends words files sources object before after status asks causes calm =
     call_ends (Compile object) words files sources before after status asks causes calm (ShowsObject object before after status)
-    (λ reading due units are shows c. by reading due (joined units) shows
+    (λ reading due units are is shows c. by reading due (joined units) shows
     (store_comes program failed before.files.told before.input.left reading due (joined units) object c))
   where
     by : (reading : Reading) (due : Due) (p : Program) → ShowsDue before after status due

@@ -12,7 +12,7 @@ use Rattle.alma_link.specs.Words.{request_behind, request_of, AreFiles, AsksForT
 
 -- what reading words answers: the request that they are, or their bad word
 abbrev Reads : List (List ℕ) → Result Request ℕ → Type 0
-Reads words (Ok r) = AsksFor r words
+Reads words (Ok r) = AsksFor words r
 Reads words (Err k) = IsBadWord IsRequest words k
 
 -- the parts of equal lists of words
@@ -42,7 +42,7 @@ one_file = record { names = (refl, tt); some = omega arith; few = omega arith }
 -- ---- the files behind the words of a task
 
 module _ (task : Task) (head : List (List ℕ)) (before : ℕ) (sized : length head ≡ before)
-    (forth : (files : List (List ℕ)) → AreFiles files → AsksForTask task files (head ++ files))
+    (forth : (files : List (List ℕ)) → AreFiles files → AsksForTask (head ++ files) task files)
     (back : (files : List (List ℕ)) → IsRequest (head ++ files) → AreFiles files) where
   -- the files are some, or a word that stands behind the task's is bad
   abbrev ReadsFiles : List (List ℕ) → Option ℕ → Type 0
@@ -54,7 +54,7 @@ module _ (task : Task) (head : List (List ℕ)) (before : ℕ) (sized : length h
     codes "a" ∷ [],
     (
       request task (codes "a" ∷ []),
-      subst (λ (words : List (List ℕ)). AsksForTask task (codes "a" ∷ []) words)
+      subst (λ (words : List (List ℕ)). AsksForTask words task (codes "a" ∷ []))
           (sym (append_assoc head [] (codes "a" ∷ []))) (forth (codes "a" ∷ []) one_file),
     ),
   )
@@ -130,7 +130,7 @@ module _ (task : Task) (head : List (List ℕ)) (before : ℕ) (sized : length h
 -- ---- `run`
 
 -- words behind it that ask for something are files
-run_files : (files : List (List ℕ)) (t : Task) (others : List (List ℕ)) → AsksForTask t others (codes "run" ∷ files) → AreFiles files
+run_files : (files : List (List ℕ)) (t : Task) (others : List (List ℕ)) → AsksForTask (codes "run" ∷ files) t others → AreFiles files
 run_files files Run others asks =
     subst AreFiles (sym (rest_same (codes "run") (codes "run") files others asks.0)) asks.1
 run_files files (Compile object) others asks = absurd (not_both (first_same (codes "run") (codes "compile") files (object ∷ others) asks.0))
@@ -142,7 +142,7 @@ read_run files =
 -- ---- `compile`
 
 -- words behind it that ask for something are an object and files
-compile_files : (words : List (List ℕ)) (t : Task) (others : List (List ℕ)) → AsksForTask t others (codes "compile" ∷ words)
+compile_files : (words : List (List ℕ)) (t : Task) (others : List (List ℕ)) → AsksForTask (codes "compile" ∷ words) t others
     → (object : List ℕ) × (files : List (List ℕ)) × (words ≡ object ∷ files) × (is_file_name object ≡ true) × AreFiles files
 compile_files words Run others asks = absurd (not_both (sym (first_same (codes "compile") (codes "run") words others asks.0)))
 compile_files words (Compile object) others asks =
@@ -180,7 +180,7 @@ nothing_begins : Begins IsRequest []
 nothing_begins = (codes "run" ∷ codes "a" ∷ [], (request Run (codes "a" ∷ []), (refl, one_file)))
 
 -- a request has a first word, which is that of its task
-has_first : (words : List (List ℕ)) (t : Task) (files : List (List ℕ)) → AsksForTask t files words
+has_first : (words : List (List ℕ)) (t : Task) (files : List (List ℕ)) → AsksForTask words t files
     → (word : List ℕ) × (rest : List (List ℕ)) × (words ≡ word ∷ rest) × ((word ≡ codes "run") ⊎ (word ≡ codes "compile"))
 has_first words Run files asks = (codes "run", files, asks.0, inl refl)
 has_first words (Compile object) files asks = (codes "compile", object ∷ files, asks.0, inr refl)
@@ -217,7 +217,7 @@ read_words (word ∷ words) = by (bytes_eq word (codes "run")) (bytes_eq word (c
 -- ---- words have one answer
 
 -- words are one request
-same_task : (words : List (List ℕ)) (t u : Task) (files others : List (List ℕ)) → AsksForTask t files words → AsksForTask u others words
+same_task : (words : List (List ℕ)) (t u : Task) (files others : List (List ℕ)) → AsksForTask words t files → AsksForTask words u others
     → request t files ≡ request u others
 same_task words Run Run files others a b =
     ap (request Run) (rest_same (codes "run") (codes "run") files others (sym a.0 ∙ b.0))
@@ -230,7 +230,7 @@ same_task words (Compile object) (Compile other) files others a b =
     ap (λ (name : List ℕ). request (Compile name) files) (first_same object other files others rest)
     ∙ ap (request (Compile other)) (rest_same object other files others rest)
 
-pub request_is : (words : List (List ℕ)) (r : Request) → AsksFor r words → request_of words ≡ Ok r
+pub request_is : (words : List (List ℕ)) (r : Request) → AsksFor words r → request_of words ≡ Ok r
 request_is words r asks = by (request_of words) (read_words words)
   where
     by : (answer : Result Request ℕ) → Reads words answer → answer ≡ Ok r

@@ -35,12 +35,13 @@ AreModulesOf (source ∷ sources) [] = ⊥
 
 -- the words ask for this task with the modules of these files, which have these sources
 pub record AsksForModules (task : Task) (words : List (List ℕ)) (before : Outside) (files sources : List (List ℕ)) : Type 0 where
-  pub asks : AsksForTask task files words
+  pub asks : AsksForTask words task files
   pub told : HaveSources before.files.told files sources
 
--- where the joined program of the modules reads, this input is left, within its length
+-- where the modules can be joined, and the joined program reads, this input is left, within its length
 pub record IsGiven (before : Outside) (sources : List (List ℕ)) (input : List ℕ) : Type 0 where
-  pub left : (units : List Program) → AreModulesOf sources units → program_reads (joined units) ≡ true → before.input.left ≡ Some input
+  pub left : (units : List Program) → AreModulesOf sources units → join_fault units ≡ None → program_reads (joined units) ≡ true
+      → before.input.left ≡ Some input
   pub short : length input ≤ input_limit
 
 -- this file is the first whose source, this one, is refused, with this fault and there: those before hold programs
@@ -51,7 +52,7 @@ pub data IsFirstRefused (file source : List ℕ) (fault : SourceFault) (offset :
       → IsFirstRefused file source fault offset files sources
       → IsFirstRefused file source fault offset (other ∷ files) (text ∷ sources)
 
--- What a call for modules shows, where nothing fails and this is what comes of their joined program.
+-- What a call for modules shows, where nothing fails; `Performs` is what becomes of their joined program.
 pub data ModulesEnd (Performs : Program → Type 0) (files sources : List (List ℕ)) (before after : Outside) (status : ℕ) : Type 0 where
   -- the first file that holds no module has this fault at this place, and no other: it is refused for that
   refuses : (file source : List ℕ) (fault : SourceFault) (offset : ℕ) → IsFirstRefused file source fault offset files sources
@@ -75,7 +76,7 @@ pub data ModulesEnd (Performs : Program → Type 0) (files sources : List (List 
 abbrev pub ShowsRun : (input : List ℕ) → (before after : Outside) → (status : ℕ) → Program → Type 0
 ShowsRun input before after status p = (due : Due) × IsMeant program failed p input default_steps due × ShowsDue before after status due
 
--- its object was stored under a name: bytes that spell sound code of the program
+-- its object was stored under a name (where the file of that is told): bytes that spell sound code of the program
 abbrev pub ShowsObject : (object : List ℕ) → (before after : Outside) → (status : ℕ) → Program → Type 0
 ShowsObject object before after status p =
     (bytes : List ℕ) × SpellsCodeOf p bytes × ShowsDue before after status (storing object bytes)

@@ -61,13 +61,13 @@ pub record AreFiles (files : List (List ℕ)) : Type 0 where
   pub few : length files ≤ greatest_files
 
 -- the words ask for a task with these files
-abbrev pub AsksForTask : Task → (files words : List (List ℕ)) → Type 0
-AsksForTask Run files words = (words ≡ codes "run" ∷ files) × AreFiles files
-AsksForTask (Compile object) files words = (words ≡ codes "compile" ∷ object ∷ files) × (is_file_name object ≡ true) × AreFiles files
+abbrev pub AsksForTask : (words : List (List ℕ)) → Task → (files : List (List ℕ)) → Type 0
+AsksForTask words Run files = (words ≡ codes "run" ∷ files) × AreFiles files
+AsksForTask words (Compile object) files = (words ≡ codes "compile" ∷ object ∷ files) × (is_file_name object ≡ true) × AreFiles files
 
-abbrev pub AsksFor : Request → (words : List (List ℕ)) → Type 0
-AsksFor r words = AsksForTask r.task r.files words
+abbrev pub AsksFor : (words : List (List ℕ)) → Request → Type 0
+AsksFor words r = AsksForTask words r.task r.files
 
 -- they ask for something
 abbrev pub IsRequest : (words : List (List ℕ)) → Type 0
-IsRequest words = (r : Request) × AsksFor r words
+IsRequest words = (r : Request) × AsksFor words r

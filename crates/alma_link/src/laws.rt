@@ -1,20 +1,22 @@
 //! Laws of linked modules: functions without work, whose contracts are the laws.
-ghost use Rattle.std.specs.Prelude.{◌≡◌, ◌⊎◌, List, ℕ, Ok, Err};
-ghost use Rattle.alma_link.specs.Link.{failed, link_plan, program};
+ghost use Rattle.std.specs.Prelude.{◌≡◌, ◌⊎◌, List, ℕ, []};
+ghost use Rattle.alma_link.specs.Link.{failed, files_plan, link_plan, program};
 ghost use Rattle.alma_link.specs.Shown.{AsksForModules, IsGiven, ModulesEnd, ShowsObject, ShowsRun};
-ghost use Rattle.alma_link.specs.Words.{AsksFor, Compile, IsRequest, Request, Run, request_of};
+ghost use Rattle.alma_link.specs.Words.{AsksFor, Compile, IsRequest, Request, Run};
 ghost use Rattle.alma_plan.specs.Causes.{Causes};
 ghost use Rattle.alma_plan.specs.Outside.{Outside};
-ghost use Rattle.alma_plan.specs.Programs.{sense};
+ghost use Rattle.alma_plan.specs.Plan.{Ends, bad_word, silent};
+ghost use Rattle.alma_plan.specs.Programs.{Tells, sense};
 ghost use Rattle.alma_plan.specs.Undisturbed.{IsUndisturbed};
 ghost use Rattle.alma_plan.specs.Words.{IsBadWord};
 
-/// Words ask for a task with from 1 to 16 files, and the request is that; or they have a first word that cannot stand where it is, and
-/// that is told.
+/// Words ask for a task with from 1 to 16 files, and the plan is that of the task; or one is the first that cannot stand where it is, or
+/// they end too early, and the plan tells that.
 pub fn words_are_a_request_or_have_a_bad_word()
-    ensures request { (words : List (List ℕ)) (r : Request) → AsksFor r words → request_of words ≡ Ok r }
+    ensures request { (words : List (List ℕ)) (r : Request) → AsksFor words r
+        → link_plan words ≡ files_plan r.task [] r.files }
     ensures bad_word { (words : List (List ℕ)) (k : ℕ) → IsBadWord IsRequest words k
-        → request_of words ≡ Err k }
+        → link_plan words ≡ Ends (Tells (silent (bad_word program k))) }
     ensures one_of_both { (words : List (List ℕ)) → IsRequest words
         ⊎ ((k : ℕ) × IsBadWord IsRequest words k) }
 {}
@@ -31,8 +33,8 @@ pub fn a_run_of_modules_shows_what_they_mean_joined()
         → ModulesEnd (ShowsRun input before after status) files sources before after status }
 {}
 
-/// A call that compiles modules refuses them so too; or it stores, under the name that the words give, the object of a sound code that
-/// implements their joined program.
+/// A call that compiles modules, where memory is found and nothing fails outside, refuses as a run does; or it stores, under the name that
+/// the words give, the object of a sound code that implements their joined program.
 pub fn a_compile_of_modules_stores_what_they_mean_joined()
     ensures stored { (words files sources : List (List ℕ)) (object : List ℕ)
         (before after : Outside) (status : ℕ)

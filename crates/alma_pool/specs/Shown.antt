@@ -51,12 +51,12 @@ meant_words CutOff = codes "waiting"
 
 -- The text is the lines of these programs, which stand behind so many others, one after another: of each what its meaning prints on the
 -- input, and how it ends, or a front of that, in as many steps as it has turns.
-pub data ShowsEach (input : List ℕ) (turns : List ℕ) : (before : ℕ) → List Program → (text : List ℕ) → Type 0 where
-  none : (before : ℕ) → ShowsEach input turns before [] []
-  one_more : (before : ℕ) (p : Program) (programs : List Program) (printed rest : List ℕ) (end : End)
-      → Shows p input (turns_of before turns) printed end
-      → ShowsEach input turns (before + 1) programs rest
-      → ShowsEach input turns before (p ∷ programs) (program_lines (before + 1) (meant_words end) printed ++ rest)
+pub data ShowsEach (input : List ℕ) (turns : List ℕ) : (ahead : ℕ) → List Program → (text : List ℕ) → Type 0 where
+  none : (ahead : ℕ) → ShowsEach input turns ahead [] []
+  one_more : (ahead : ℕ) (p : Program) (programs : List Program) (printed rest : List ℕ) (end : End)
+      → Shows p input (turns_of ahead turns) printed end
+      → ShowsEach input turns (ahead + 1) programs rest
+      → ShowsEach input turns ahead (p ∷ programs) (program_lines (ahead + 1) (meant_words end) printed ++ rest)
 
 -- what such a call shows, where nothing fails
 abbrev pub ShowsPrograms : (turns : List ℕ) → List Program → (input : List ℕ) → (before after : Outside) → (status : ℕ) → Type 0

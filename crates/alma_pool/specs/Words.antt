@@ -6,13 +6,13 @@ use Rattle.alma_plan.specs.Words.{AreFileNames}
 abbrev pub greatest_programs : ℕ
 greatest_programs = 16
 
--- the words name a file of turns, and from 1 to 16 objects
-pub record AsksToPlay (words : List (List ℕ)) (turns : List ℕ) (objects : List (List ℕ)) : Type 0 where
-  pub are : words ≡ turns ∷ objects
+-- the words name a file of turns, and from 1 to 16 files of objects
+pub record AsksToPlay (words : List (List ℕ)) (file : List ℕ) (files : List (List ℕ)) : Type 0 where
+  pub are : words ≡ file ∷ files
   pub names : AreFileNames words
-  pub some : 1 ≤ length objects
-  pub few : length objects ≤ greatest_programs
+  pub some : 1 ≤ length files
+  pub few : length files ≤ greatest_programs
 
--- the words are such words
+-- the words ask that programs take turns
 abbrev pub IsRequest : (words : List (List ℕ)) → Type 0
-IsRequest words = (turns : List ℕ) × (objects : List (List ℕ)) × AsksToPlay words turns objects
+IsRequest words = (file : List ℕ) × (files : List (List ℕ)) × AsksToPlay words file files

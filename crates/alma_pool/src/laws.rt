@@ -18,11 +18,11 @@ pub fn programs_run_alone()
     ensures front { PrintsFront }
 {}
 
-/// Words name a file of turns and from 1 to 16 objects, and the plan goes by these; or they have a first word that cannot stand where it
-/// is, and the plan tells that.
+/// Words name a file of turns and from 1 to 16 objects, and the plan goes by these; or one is the first that cannot stand where it is, or
+/// they end too early, and the plan tells that.
 pub fn words_are_a_request_or_have_a_bad_word()
-    ensures request { (words objects : List (List ℕ)) (turns : List ℕ) → AsksToPlay words turns objects
-        → pool_plan words ≡ asked (turns ∷ objects) }
+    ensures request { (words files : List (List ℕ)) (file : List ℕ) → AsksToPlay words file files
+        → pool_plan words ≡ asked (file ∷ files) }
     ensures bad_word { (words : List (List ℕ)) (k : ℕ) → IsBadWord IsRequest words k
         → pool_plan words ≡ Ends (silent (bad_word program k)) }
     ensures one_of_both { (words : List (List ℕ)) → IsRequest words
