@@ -99,7 +99,7 @@ pub call_lists : (words : List (List ℕ)) (file source input : List ℕ) (steps
 call_lists words file source input steps before after status asks causes calm =
     let causes' = subst (λ (plan : Plan Verdict Last). Causes all_sense program plan before after status)
     (plan_is words file steps asks.asks) causes in
-    let due = call_shows_due (sense program success) program (asked file steps) before after status causes' calm
+    let due = call_shows_due all_sense program (asked file steps) before after status causes' calm
     (lacks_none before.files.told file source steps asks.told) in
     source_ends file source input steps before after status asks.source_short asks.left asks.input_short due.0 due.1 due.3
     (source_comes program success before.files.told before.input.left due.0 due.1 file source (λ p. list_plan p steps) asks.told

@@ -121,8 +121,8 @@ module _ (task : Task) (Performs : Program → Type 0) (files sources : List (Li
   abbrev TaskComes : Program → Type 0
   TaskComes p = IsLargeOr program failed before.files.told before.input.left reading due p (Performs p)
 
-  module _ (task_comes : (units : List Program) → AreModulesOf sources units → join_fault units ≡ None → MayComeOf (task_plan task (joined units))
-      → TaskComes (joined units)) where
+  module _ (task_comes : (units : List Program) → AreModulesOf sources units → join_fault units ≡ None
+      → MayComeOf (task_plan task (joined units)) → TaskComes (joined units)) where
     -- the modules are joined, or not
     joined_ends : (units : List Program) (fault : Option JoinFault) → AreModulesOf sources units → join_fault units ≡ fault
         → MayComeOf (unless_fault fault task units) → End

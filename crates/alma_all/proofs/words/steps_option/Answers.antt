@@ -1,4 +1,4 @@
-use Rattle.std.proofs.Common.{◌≡◌, ◌∙◌, ap, sym}
+use Rattle.std.proofs.Common.{◌≡◌, ◌∙◌, ◌++◌, ap, sym, rules}
 use Rattle.std.specs.Prelude.{codes}
 use Rattle.alma_all.specs.All.{behind, steps_named}
 use Rattle.alma_all.proofs.WordLemmas.{behind_front, steps_found}
