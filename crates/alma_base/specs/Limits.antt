@@ -5,10 +5,6 @@ use Rattle.std.specs.Prelude.{ℕ}
 abbrev pub source_limit : ℕ
 source_limit = 1048576
 
--- the greatest number of brackets that are open at one place of a source
-abbrev pub bracket_limit : ℕ
-bracket_limit = 100
-
 -- the greatest number of cells of a type, of elements of an array, and of declared cells of a frame and of all live frames
 abbrev pub cell_limit : ℕ
 cell_limit = 1048576

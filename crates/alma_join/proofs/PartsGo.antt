@@ -7,7 +7,7 @@ use Rattle.std.proofs.lemmas.List.{append-nil, append_assoc}
 use Rattle.alma_copy.specs.Moved.{moved_stmts, moved_global}
 use Rattle.alma_copy.specs.Numbers.{slot_behind}
 use Rattle.alma_ir.specs.Tree as ir
-use Rattle.alma_ir.specs.Tree.{Stmts, Program, Routine, routine_at}
+use Rattle.alma_ir.specs.Tree.{Stmts, Program, routine_at}
 use Rattle.alma_ir.specs.View.{routine_of, global_of, stmts_list}
 use Rattle.alma_join.proofs.Alone.{append_none}
 use Rattle.alma_join.specs.Joined.{Kept, kept_in, kept_of, new_slot, own_slots, body_moves, procedure_moves, moved_procedure}

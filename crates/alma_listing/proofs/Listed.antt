@@ -17,8 +17,8 @@ use Rattle.alma_ir.specs.Lines.{stmt_count, body_with_lines, stmts_with}
 use Rattle.alma_ir.specs.Phrases.{Phrase, StmtPhrase, TestPhrase, ExprPhrase, ArgPhrase, DesigPhrase, SelPhrase, stmts_phrases}
 use Rattle.alma_ir.specs.Checked.{IsChecked, IsNoReturn, HaveNoReturn, CalleeExists}
 use Rattle.alma_mean.specs.Store.{Store, Frame, Unknown}
-use Rattle.alma_mean.specs.Events.{Events, NoYield, Visit, Print, Alt, Flow, Go, Fail, Fault, Cut, Failed, join, bind, node, visit_each}
-use Rattle.alma_mean.specs.Events.{at_line, visit_count, prints}
+use Rattle.alma_mean.specs.Events.{Events, NoYield, Visit, Print, Alt, Go, Fail, Fault, Cut, Failed, join, bind, node, visit_each}
+use Rattle.alma_mean.specs.Events.{at_line, visit_count}
 use Rattle.alma_mean.specs.Events as events
 use Rattle.alma_mean.specs.Arithmetic.{fault_unless}
 use Rattle.alma_mean.specs.Rows.{enter, frame_of, declared_cells}

@@ -1,5 +1,5 @@
 -- What a code keeps whose slots are renamed.
-use Rattle.std.proofs.Common.{◌≡◌, ℕ, List, length, sym, ap, ◌∙◌, subst}
+use Rattle.std.proofs.Common.{◌≡◌, sym, ap, ◌∙◌, subst}
 use Rattle.std.specs.Prelude.{Result, Ok, Err, IfOk}
 use Rattle.alma_code.specs.Lines.{last_line}
 use Rattle.alma_code.specs.Plain.{PlainCode}

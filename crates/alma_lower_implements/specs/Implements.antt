@@ -9,7 +9,7 @@ use Rattle.alma_code.specs.Machine.{Mode, Going, Failing, Ended, Stuck, State, s
 use Rattle.alma_code.specs.Lines.{line_at}
 use Rattle.alma_ir.specs.Tree.{Program}
 use Rattle.alma_mean.specs.Events as events
-use Rattle.alma_mean.specs.Events.{Events, NoYield, Visit, Print, Alt, Flow, first, end_of, visit_count, CutOff}
+use Rattle.alma_mean.specs.Events.{Events, Visit, Print, first, end_of, visit_count, CutOff}
 use Rattle.alma_mean.specs.Meaning.{ev_program, result}
 
 -- the state of the machine after n steps from the start, and what these steps print

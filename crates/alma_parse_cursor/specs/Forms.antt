@@ -7,7 +7,6 @@ use Rattle.alma_grammar.specs.Parts.{label_tail, after_desig, expr_parts, exprs_
 use Rattle.alma_grammar.specs.Parts.{plain_part, plain_tail, field_list_part, field_list_tail, names_parts, type_parts, const_tail}
 use Rattle.alma_grammar.specs.Parts.{type_tail, var_tail}
 use Rattle.alma_grammar.specs.Parts.{params_part, result_part, block_parts, formal_parts, formal_tail}
-use Rattle.alma_tree.specs.Numbers.{token}
 use Rattle.alma_parse_cursor.specs.declared.form.StmtForm.{StmtForm}
 use Rattle.alma_parse_cursor.specs.declared.form.StmtForm.TheVariants as stmt_forms
 use Rattle.alma_parse_cursor.specs.declared.form.SelectorForm.{SelectorForm}

@@ -1,10 +1,10 @@
 -- What the functions of the parser give.
-use Rattle.std.specs.Prelude.{◌≡◌, ◌≤◌, ◌<◌, ◌+◌, ℕ, suc, Bool, true, false, List, [], ◌∷◌, Option, Some, map, length, nat_eq, nat_lt}
+use Rattle.std.specs.Prelude.{◌≡◌, ◌≤◌, ◌<◌, ◌+◌, ℕ, suc, Bool, true, false, List, [], ◌∷◌, Some, map, length, nat_eq, nat_lt}
 use Rattle.alma_tree.specs.declared.kind.Kind.{Kind}
 use Rattle.alma_tree.specs.Kinds.{code}
 use Rattle.alma_tree.specs.Numbers as numbers
 use Rattle.alma_tree.specs.Numbers.{Step, token}
-use Rattle.alma_grammar.specs.Parts.{Part, one}
+use Rattle.alma_grammar.specs.Parts.{Part}
 use Rattle.alma_grammar.specs.Reading.{reading, End, unexpected, too_deep}
 use Rattle.alma_scan.specs.declared.scanner.Token.{Token}
 use Rattle.alma_parse_cursor.specs.declared.cursor.Cursor.{Cursor}

@@ -16,8 +16,8 @@ use Rattle.alma_rules.specs.Places.{width, mark_type}
 use Rattle.alma_rules.specs.Types.{redeclared, read_constant, read_type, read_type_name, all_names, last_token}
 use Rattle.alma_rules.specs.Decls.{Frame, with_faults, with_scene, limited, constant_in, read_consts, type_in, read_types, with_variable}
 use Rattle.alma_rules.specs.Decls.{variable_in, variables_in, variables_of, read_vars, declared_cells, param_kind, with_param, param_in}
-use Rattle.alma_rules.specs.Decls.{params_in, formal_in, read_formals, formals_of, too_deep, all_formals, heading_with, function_heading}
-use Rattle.alma_rules.specs.Decls.{result_rules, headed, with_depth, read_heading, read_decl, read_decls, decl_routines}
+use Rattle.alma_rules.specs.Decls.{params_in, formal_in, read_formals, formals_of, too_deep}
+use Rattle.alma_rules.specs.Decls.{headed, with_depth, read_heading, read_decl, read_decls, decl_routines}
 use Rattle.alma_rules.specs.Decls as decls
 use Rattle.alma_rules.proofs.Limited.{limited_case}
 use Rattle.alma_resolved.proofs.HeadsSound.{first_frame}

@@ -1,5 +1,4 @@
 pub mod Outcome
-pub mod Sorted
 pub mod Ranks
 pub mod Within
 pub mod Ordered

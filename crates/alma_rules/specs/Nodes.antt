@@ -2,7 +2,6 @@
 use Rattle.std.specs.Prelude.{ℕ, ◌+◌, ℤ, pos, Bool, true, false, ◌||◌, nat_eq, List, [], ◌∷◌, ◌++◌, length, Option, None, Some, unwrap_or}
 use Rattle.alma_base.specs.Choice.{if_true}
 use Rattle.alma_base.specs.declared.fault.CheckFault.{CheckFault}
-use Rattle.alma_base.specs.declared.number.Range.{Range}
 use Rattle.alma_tree.specs.declared.leaf.Relation.{Relation}
 use Rattle.alma_tree.specs.declared.leaf.Sign.{Sign}
 use Rattle.alma_ir.specs.Tree as ir
@@ -143,9 +142,6 @@ relation_at s k relation j = with (related s relation) (at_node k (relation_rule
 abbrev pub as_test : Judged Typing → Judged ir.Test
 as_test j = with (λ t. test_of t.meaning) j
 
-abbrev pub as_expr : Judged Typing → Judged ir.Expr
-as_expr j = with (λ t. value_of t.meaning) j
-
 -- ---- statements
 
 -- a condition, or an expression as a statement
@@ -180,9 +176,6 @@ loop_of s n p = ir.a_loop (desig_of p.0) (range s p.0.shape) n (n + 1) (value_of
 abbrev pub loop_at : Scene → ℕ → ℕ → Judged Located → Judged Typing → Judged Typing → Judged ℤ → Judged ir.Stmts → Judged ir.Loop
 loop_at s n k var low high by body =
     with (loop_of s n) (at_node k (loop_rules s var.value low.value high.value) (both var (both low (both high (both by body)))))
-
-abbrev pub one_case : Span × List Span → List Range
-one_case p = p.0.range ∷ ranges_of p.1
 
 -- a label with the labels before it in its CASE
 abbrev pub label_at : Scene → Option Typing → List Span → ℕ → Judged Typing → Judged Typing → Judged Span

@@ -279,13 +279,6 @@ pub record Module : Type 0 where
 abbrev pub expr_node : Expr → ℕ
 expr_node (expr n s c) = n
 
-abbrev pub term_node : Term → ℕ
-term_node (term n f more) = n
-
-abbrev pub factor_node : Factor → ℕ
-factor_node (not_factor n p) = n
-factor_node (factor n p) = n
-
 abbrev pub primary_node : Primary → ℕ
 primary_node (number n t) = n
 primary_node (literal n t) = n

@@ -24,7 +24,7 @@ use Rattle.alma_tree.specs.Tree as tree
 use Rattle.alma_tree.specs.Spelling as spell
 use Rattle.alma_tree.specs.View as view
 use Rattle.alma_tree.specs.Numbers as number
-use Rattle.alma_tree.specs.Numbers.{Cursor, Step, token, node, stay, ◌>>◌}
+use Rattle.alma_tree.specs.Numbers.{Cursor, token, node, ◌>>◌}
 use Rattle.alma_tree.proofs.Rows as seen
 use Rattle.alma_tree.proofs.NumberRows as laid
 use Rattle.alma_source.proofs.Numbering.{Place, next, counted, leaf_at, name_at, Walk, ◌⊳◌, of_step, stayed, one_token, one_node, one_leaf}

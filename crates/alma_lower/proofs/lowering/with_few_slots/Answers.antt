@@ -1,4 +1,4 @@
-use Rattle.std.proofs.Common.{ℕ, ◌*◌, ◌≤◌, ◌∙◌, subst, sym, arith}
+use Rattle.std.proofs.Common.{ℕ, ◌*◌, ◌≤◌, ◌∙◌, subst, sym}
 use Rattle.alma_ir.specs.Count.{nodes}
 use Rattle.alma_ir.specs.View.{program_of}
 use Rattle.alma_lower_sound.proofs.Counts.{code_keeps_counts, code_keeps_version}
