@@ -10,12 +10,12 @@ use Rattle.alma_lower_sound.specs.Reads.{program_reads}
 use Rattle.alma_listing.proofs.ReadsAlike.{each_reads_alike}
 use Rattle.alma_listing.specs.Lister.{listing_of}
 use Rattle.alma_plan.specs.Causes.{Causes}
-use Rattle.alma_plan.specs.Outside.{Outside}
+use Rattle.alma_io.specs.Outside.{Outside, IsUndisturbed}
 use Rattle.alma_plan.specs.Plan.{Due, Plan, Reading, Asks, Comes, MayLack, success}
 use Rattle.alma_plan.proofs.ToldLemmas.{run_asks, source_asks, RunComes, run_comes, SourceComes, source_comes}
 use Rattle.alma_plan.proofs.UndisturbedLemmas.{call_shows_due}
 use Rattle.alma_plan.specs.Programs.{Last}
-use Rattle.alma_plan.specs.Undisturbed.{IsUndisturbed, ShowsDue}
+use Rattle.alma_plan.specs.Undisturbed.{ShowsDue}
 use Rattle.alma_resolved.proofs.ConditionsMet.{fits_checked}
 use Rattle.alma_resolved.proofs.FramesKept.{program_keeps_frames}
 use Rattle.alma_resolved.proofs.GlobalsKept.{program_has_globals}

@@ -12,7 +12,7 @@ use Rattle.alma_mean.specs.Laws.{IsPrefix, ends_in_cut}
 use Rattle.alma_mean.specs.Meaning.{ev_program}
 use Rattle.alma_listing.specs.Lister.{listing_of}
 use Rattle.alma_listing.specs.Listing.{alternatives, global_cells, listed, listing}
-use Rattle.alma_plan.specs.Outside.{Outside}
+use Rattle.alma_io.specs.Outside.{Outside}
 use Rattle.alma_plan.specs.Plan.{Due, Ending, silent, success, tells}
 use Rattle.alma_plan.specs.Words.{is_file_name}
 use Rattle.alma_plan.specs.Meant.{meant_ending}

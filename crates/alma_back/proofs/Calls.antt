@@ -14,9 +14,9 @@ use Rattle.alma_lower.specs.Names.{KeepsNames}
 use Rattle.alma_lower_implements.specs.Implements.{Implements, line_in}
 use Rattle.alma_plan.specs.Causes.{Causes}
 use Rattle.alma_plan.specs.Objects.{object_refusal, refusal_by, rule_refusal}
-use Rattle.alma_plan.specs.Outside.{Outside}
+use Rattle.alma_io.specs.Outside.{Outside, IsUndisturbed}
 use Rattle.alma_plan.specs.Plan.{Due, Ending, Plan, Fetches, Reading, Asks, Comes, MayBeLeft, MayLack, plain, prints}
-use Rattle.alma_plan.specs.Undisturbed.{IsUndisturbed, ShowsDue}
+use Rattle.alma_plan.specs.Undisturbed.{ShowsDue}
 use Rattle.alma_plan.proofs.UndisturbedLemmas.{call_shows_due}
 use Rattle.alma_run_laws.proofs.Meant.{code_shows}
 use Rattle.alma_run_laws.proofs.Spelled.{spelled_sound}

@@ -1,6 +1,6 @@
 -- Of contracts between the functions of this crate.
 use Rattle.std.specs.Prelude.{◌≡◌, ◌≤◌, List, ℕ, [], ◌∷◌, map, Result, Ok, Err}
-use Rattle.alma_plan.specs.Outside.{HasRisen}
+use Rattle.alma_io.specs.Outside.{HasRisen}
 use Rattle.alma_plan.specs.declared.refusal.Refusal.TheVariants.{Stopped}
 use Rattle.alma_plan.specs.declared.stop.Stop.{Stop}
 use Rattle.alma_plan.specs.declared.stop.Stop.TheVariants.{Read, Write, Memory, TooLong}

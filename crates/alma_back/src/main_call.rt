@@ -2,7 +2,7 @@
 ghost use Rattle.std.specs.Prelude.{◌++◌, codes, decimal};
 ghost use Rattle.alma_plan.specs.Causes.{Causes};
 ghost use Rattle.alma_plan.specs.Course.{Answers, Reports};
-ghost use Rattle.alma_plan.specs.Outside.{outside_of};
+ghost use Rattle.alma_io.specs.Outside.{outside_of};
 ghost use Rattle.alma_plan.specs.Plan.{tells, plain};
 ghost use Rattle.alma_plan.specs.Words.{texts};
 ghost use Rattle.alma_back.specs.Due.{program, back_plan};

@@ -16,18 +16,18 @@ use Rattle.alma_code.specs.declared.step.End.TheVariants as code_end
 use Rattle.alma_driver_outcome.specs.Words.{read_by, limit_of}
 use Rattle.alma_driver_outcome.specs.Showing.{Showing, Prints, Traces, counts_shown}
 use Rattle.alma_io.specs.Sides.{SinkSide, SourceSide, FilesSide}
-use Rattle.alma_driver_outcome.specs.Outside.{FilesStay, Outside}
+use Rattle.alma_io.specs.Outside.{FilesStay, Outside, Stored, OthersStay, WriteFailed, WritesGrew, ReadsGrew, Become}
 use Rattle.alma_driver_outcome.specs.declared.end.Counts.{Counts}
 use Rattle.alma_driver_outcome.specs.Ends.{mode_end, counts_in, status_of, text_of}
-use Rattle.alma_driver_outcome.specs.Outcome.{Due, Stored, InputOutcome, unread, taken, past_input, ProgramOutcome, ran, too_much_code}
+use Rattle.alma_driver_outcome.specs.Outcome.{Due, InputOutcome, unread, taken, past_input, ProgramOutcome, ran, too_much_code}
 use Rattle.alma_driver_outcome.specs.Outcome.{CompileOutcome, made, past_size, IsSourceEnd, refused, SourceOutcome, stopped, compiled}
 use Rattle.alma_driver_outcome.specs.Outcome.{CheckOutcome, ListOutcome, listed, no_object, CodeOutcome, executed, unsound, ExecOutcome}
 use Rattle.alma_driver_outcome.specs.Outcome.{opened, unopened, SampleOutcome, summed, FileOutcome, RequestOutcome, absent, past_limit}
 use Rattle.alma_driver_outcome.specs.Outcome.{fetched, unfetched, Outcome, bad_word, asks, AskToRead, Lacks}
-use Rattle.alma_driver_outcome.specs.Course.{Gains, FailsWithin, GainsPrefix, Goes, OthersStay, FailsToStore, Keeps, Stores, done, failed}
+use Rattle.alma_driver_outcome.specs.Course.{Gains, FailsWithin, GainsPrefix, Goes, FailsToStore, Keeps, Stores, done, failed}
 use Rattle.alma_driver_outcome.specs.Course.{Works, Takes, ReadsWhole, Moves, MayRead, ReadsOnly, FailsToRead, Serves, FailsToFetch}
 use Rattle.alma_driver_outcome.specs.Course.{Performs, Reports, Answers}
-use Rattle.alma_driver_outcome.specs.Causes.{Causes, WriteFailed, WritesGrew, FetchFailed, InputFailed, ReadsGrew, Become, IsStoredName}
+use Rattle.alma_driver_outcome.specs.Causes.{Causes, FetchFailed, InputFailed, IsStoredName}
 use Rattle.alma_driver_outcome.specs.declared.end.End.{End}
 use Rattle.alma_driver_outcome.specs.declared.end.End.TheVariants.{Succeeded, Failed, BadWord, Refused, Faulted, StepsOut, ReadFault}
 use Rattle.alma_driver_outcome.specs.declared.end.End.TheVariants.{WriteFault, Memory, BadObject, BadCode, TooLong, TooMuchCode}

@@ -40,19 +40,19 @@ use Rattle.alma_driver_words.specs.Words.{Request, Check, Compile, Listing, Run,
 use Rattle.alma_driver_outcome.specs.Words.{read_by, limit_of, IsReadBy}
 use Rattle.alma_driver_outcome.specs.Showing.{Showing, Prints}
 use Rattle.alma_io.specs.Sides.{SinkSide, SourceSide, FilesSide}
-use Rattle.alma_driver_outcome.specs.Outside.{FilesStay}
+use Rattle.alma_io.specs.Outside.{FilesStay, Stored, OthersStay}
 use Rattle.alma_base.specs.declared.place.Place.{Place}
 use Rattle.alma_scan.specs.Places.{line_at, column_at}
 use Rattle.alma_source.specs.Refusal.{IsRefused, IsProgramOf, place_of}
 use Rattle.alma_source.specs.declared.fault.SourceFault.{SourceFault}
 use Rattle.alma_driver_outcome.specs.Ends.{lower_end, words_end, fetch_end, store_end, input_end}
-use Rattle.alma_driver_outcome.specs.Outcome.{Due, Stored, due_of, silent, storing, code_due, long_input, MayBeLeft, InputOutcome, unread}
+use Rattle.alma_driver_outcome.specs.Outcome.{Due, due_of, silent, storing, code_due, long_input, MayBeLeft, InputOutcome, unread}
 use Rattle.alma_driver_outcome.specs.Outcome.{taken, past_input, ProgramOutcome, ran, too_much_code, CompileOutcome, made}
 use Rattle.alma_driver_outcome.specs.Outcome.{past_size, IsSourceEnd, refused, IsStop, SourceOutcome, stopped, compiled, CheckOutcome}
 use Rattle.alma_driver_outcome.specs.Outcome.{ListOutcome, listed, no_object, CodeOutcome, executed, unsound, ExecOutcome, opened, unopened}
 use Rattle.alma_driver_outcome.specs.Outcome.{FileOutcome, SampleOutcome, summed, RequestOutcome, absent, past_limit, fetched, unfetched}
 use Rattle.alma_driver_outcome.specs.Outcome.{Outcome, bad_word, asks, AskToRead}
-use Rattle.alma_driver_outcome.specs.Course.{Gains, GainsPrefix, Goes, OthersStay, Keeps, done, failed, Works, Takes, ReadsWhole, Moves}
+use Rattle.alma_driver_outcome.specs.Course.{Gains, GainsPrefix, Goes, Keeps, done, failed, Works, Takes, ReadsWhole, Moves}
 use Rattle.alma_driver_outcome.specs.Course.{MayRead, ReadsOnly, FailsToRead, Runs, Serves, Performs}
 use Rattle.alma_driver_words.specs.declared.words.WordsError.{WordsError}
 use Rattle.alma_driver_words.specs.declared.words.WordsError.TheVariants as words

@@ -19,7 +19,7 @@ use Rattle.alma_driver_words.specs.Words.{Request, Run, file_of}
 use Rattle.alma_driver_words.proofs.WordLemmas.{one_request}
 use Rattle.alma_driver_outcome.specs.Words.{read_by}
 use Rattle.alma_driver_outcome.specs.Showing.{Prints}
-use Rattle.alma_driver_outcome.specs.Outside.{Outside}
+use Rattle.alma_io.specs.Outside.{Outside, IsUndisturbed}
 use Rattle.alma_driver_outcome.specs.Ends.{status_of, text_of, counts_text}
 use Rattle.alma_source.specs.Refusal.{IsProgramOf, place_of}
 use Rattle.alma_driver_outcome.specs.Outcome.{Due, silent, code_due, MayBeLeft, InputOutcome, unread, taken, past_input, ProgramOutcome}
@@ -28,7 +28,7 @@ use Rattle.alma_driver_outcome.specs.Outcome.{compiled, RequestOutcome, absent, 
 use Rattle.alma_driver_outcome.specs.Outcome.{Lacks}
 use Rattle.alma_driver_outcome.specs.Course.{Gains}
 use Rattle.alma_driver_outcome.specs.Causes.{Causes, FetchFailed, InputFailed}
-use Rattle.alma_driver_outcome.specs.Headline.{AsksToRun, IsUndisturbed, ShowsResult, RunEnds, refuses, too_large, ended, ran_out}
+use Rattle.alma_driver_outcome.specs.Headline.{AsksToRun, ShowsResult, RunEnds, refuses, too_large, ended, ran_out}
 use Rattle.alma_driver_outcome.specs.Headline.{meant_status, meant_text}
 use Rattle.alma_driver_outcome.specs.declared.end.Counts.{Counts}
 use Rattle.alma_driver_outcome.specs.declared.end.End.{End}

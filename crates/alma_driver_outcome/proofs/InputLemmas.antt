@@ -16,7 +16,7 @@ use Rattle.alma_driver_outcome.specs.declared.end.Counts.{Counts}
 use Rattle.alma_driver_outcome.specs.declared.end.End.{End}
 use Rattle.alma_driver_outcome.specs.declared.end.End.TheVariants.{TooLong}
 use Rattle.alma_driver_outcome.specs.Ends.{mode_end, counts_in}
-use Rattle.alma_driver_outcome.specs.Outside.{Outside}
+use Rattle.alma_io.specs.Outside.{Outside, IsUndisturbed}
 use Rattle.alma_driver_outcome.specs.Showing.{Prints}
 use Rattle.alma_source.specs.Refusal.{IsProgramOf}
 use Rattle.alma_driver_outcome.specs.Outcome.{Due, InputOutcome, unread, taken, past_input, ProgramOutcome, ran, too_much_code}
@@ -24,7 +24,7 @@ use Rattle.alma_driver_outcome.specs.Outcome.{IsSourceEnd, refused, SourceOutcom
 use Rattle.alma_driver_outcome.specs.Course.{Takes, IsReadWhole}
 use Rattle.alma_source.proofs.RefusalLemmas.{one_program, refused_no_program}
 use Rattle.alma_driver_outcome.specs.Causes.{Causes}
-use Rattle.alma_driver_outcome.specs.Headline.{AsksToRun, IsUndisturbed, IsInputLeft}
+use Rattle.alma_driver_outcome.specs.Headline.{AsksToRun, IsInputLeft}
 use Rattle.alma_driver_outcome.proofs.CauseLemmas.{IsWhole}
 use Rattle.alma_driver_outcome.proofs.HeadlineLemmas.{words_run, whole_run}
 

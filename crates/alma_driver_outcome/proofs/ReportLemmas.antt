@@ -8,7 +8,8 @@ use Rattle.alma_base.specs.Fault.{run_fault_text}
 use Rattle.alma_base.specs.declared.fault.RunFault.{RunFault}
 use Rattle.alma_code.specs.Lines.{known_line}
 use Rattle.alma_object_format.specs.declared.fault.ObjectFault.{ObjectFault}
-use Rattle.alma_driver_outcome.specs.Ends.{line_text, fault_text, object_fault_name, object_fault_number, number_text, object_text}
+use Rattle.alma_object_format.specs.Fault.{object_fault_name, object_fault_number}
+use Rattle.alma_driver_outcome.specs.Ends.{line_text, fault_text, number_text, object_text}
 use Rattle.alma_driver_outcome.specs.Ends.{rule_line, counts_line}
 use Rattle.std.specs.Borrow.{Bor}
 use Rattle.std.specs.Io.KnownBytes.{Appends}

@@ -8,7 +8,8 @@ use Rattle.alma_run_laws.specs.Shown.{size_of}
 use Rattle.alma_run_laws.specs.Stored.{SpellsCodeOf}
 use Rattle.alma_run_laws.proofs.Spelled.{spells_code, spelled_sound}
 use Rattle.alma_driver_outcome.specs.Showing.{Prints}
-use Rattle.alma_driver_outcome.specs.Outcome.{Due, Stored, ProgramOutcome, ran, CompileOutcome, made, past_size, SourceOutcome}
+use Rattle.alma_io.specs.Outside.{Stored}
+use Rattle.alma_driver_outcome.specs.Outcome.{Due, ProgramOutcome, ran, CompileOutcome, made, past_size, SourceOutcome}
 use Rattle.alma_driver_outcome.specs.Outcome.{stopped, compiled, executed, unsound, ExecOutcome, opened, unopened}
 
 -- nothing is stored where nothing is due to be

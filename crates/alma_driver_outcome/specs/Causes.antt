@@ -1,31 +1,12 @@
 -- When a fault is answered, that none is hidden, and what out gained by then.
-use Rattle.std.specs.Prelude.{◌≡◌, ◌<◌, ◌⊎◌, List, ℕ, [], Option, None, Some}
+use Rattle.std.specs.Prelude.{◌≡◌, ◌⊎◌, List, ℕ, [], Some}
 use Rattle.std.specs.Io.KnownBytes.{Appends}
 use Rattle.alma_io.specs.Causes.{Rose}
 use Rattle.alma_driver_words.specs.Words.{file_of}
-use Rattle.alma_io.specs.Sides.{FilesSide}
-use Rattle.alma_driver_outcome.specs.Outside.{FilesStay, Outside}
+use Rattle.alma_io.specs.Outside.{FilesStay, Outside, Stored, OthersStay, Become, WriteFailed, WritesGrew, ReadsGrew}
 use Rattle.alma_driver_outcome.specs.Ends.{status_of, text_of}
-use Rattle.alma_driver_outcome.specs.Outcome.{Due, Stored, Outcome, AskToRead, Lacks}
-use Rattle.alma_driver_outcome.specs.Course.{Gains, GainsPrefix, HasStored, OthersStay, Takes, ReadsWhole, MayRead}
-
--- a write or a store failed in the call
-abbrev pub WriteFailed : Outside → Outside → Type 0
-WriteFailed before after =
-    Rose before.out.faults after.out.faults ⊎ (Rose before.err.faults after.err.faults
-    ⊎ Rose before.files.store_faults after.files.store_faults)
-
--- a count of failed writes or stores is greater now
-abbrev pub WritesGrew : Outside → Outside → Type 0
-WritesGrew before after =
-    (before.out.faults < after.out.faults) ⊎ ((before.err.faults < after.err.faults)
-    ⊎ (before.files.store_faults < after.files.store_faults))
-
--- a fetch or a read of the input failed in the call
-abbrev pub ReadFailed : Outside → Outside → Type 0
-ReadFailed before after =
-    ((name : List ℕ) × Rose (before.files.fetch_faults name) (after.files.fetch_faults name))
-    ⊎ Rose before.input.faults after.input.faults
+use Rattle.alma_driver_outcome.specs.Outcome.{Due, Outcome, AskToRead, Lacks}
+use Rattle.alma_driver_outcome.specs.Course.{Gains, GainsPrefix, Takes, ReadsWhole, MayRead}
 
 -- the fetch of a file that the words ask to read failed in the call
 abbrev pub FetchFailed : (words : List (List ℕ)) → Outside → Outside → Type 0
@@ -36,16 +17,6 @@ FetchFailed words before after =
 abbrev pub InputFailed : (words : List (List ℕ)) → Outside → Outside → Type 0
 InputFailed words before after =
     Rose before.input.faults after.input.faults × MayRead (Outcome words before.files.told before.input.left)
-
--- a count of failed fetches or reads is greater now
-abbrev pub ReadsGrew : Outside → Outside → Type 0
-ReadsGrew before after =
-    ((name : List ℕ) × (before.files.fetch_faults name < after.files.fetch_faults name)) ⊎ (before.input.faults < after.input.faults)
-
--- the files are what they become where this is to be stored
-abbrev pub Become : FilesSide → FilesSide → Option Stored → Type 0
-Become old new None = FilesStay old new
-Become old new (Some stored) = HasStored old new stored
 
 -- a file that is to be stored
 abbrev pub IsStoredName : (Due → Type 0) → List ℕ → Type 0

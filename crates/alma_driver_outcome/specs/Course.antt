@@ -2,14 +2,13 @@
 use Rattle.std.specs.Prelude.{◌≡◌, ◌≢◌, ◌⊎◌, ◌+◌, Bool, true, false, List, ℕ, [], None, Some}
 use Rattle.alma_base.specs.Limits.{input_limit}
 use Rattle.std.specs.Io.KnownBytes.{Appends, Consumes, IsAtEnd}
-use Rattle.alma_io.specs.Files.{NowHas}
 use Rattle.alma_io.specs.Fronts.{AppendsFront}
 use Rattle.alma_io.specs.Whole.{LosesAtMost}
 use Rattle.alma_driver_words.specs.Words.{file_of}
 use Rattle.alma_io.specs.Sides.{SinkSide, SourceSide, FilesSide}
-use Rattle.alma_driver_outcome.specs.Outside.{Outside, HasRisen, FilesStay}
+use Rattle.alma_io.specs.Outside.{Outside, HasRisen, FilesStay, Stored, OthersStay, HasStored}
 use Rattle.alma_driver_outcome.specs.Ends.{status_of, text_of}
-use Rattle.alma_driver_outcome.specs.Outcome.{Due, Stored, Outcome, AskToRead}
+use Rattle.alma_driver_outcome.specs.Outcome.{Due, Outcome, AskToRead}
 use Rattle.alma_driver_outcome.specs.declared.end.End.{End}
 use Rattle.alma_driver_outcome.specs.declared.end.End.TheVariants.{ReadFault, WriteFault, Memory, TooLong}
 
@@ -75,16 +74,6 @@ Runs outcome input input' out out' end =
     FailsToRead outcome input input' out out' end ⊎ (ReadsOnly outcome input input' × Goes (Moves outcome input input') out out' end)
 
 -- ---- the files
-
--- the files tell what they told of all other names
-abbrev pub OthersStay : FilesSide → FilesSide → (name : List ℕ) → Type 0
-OthersStay old new name = (other : List ℕ) → other ≢ name → new.told other ≡ old.told other
-
--- The file has these bytes, if it is told; all others stay, and no store failed.
-abbrev pub HasStored : FilesSide → FilesSide → Stored → Type 0
-HasStored old new stored =
-    OthersStay old new stored.name × NowHas (old.told stored.name) (new.told stored.name) stored.bytes
-    × (new.store_faults ≡ old.store_faults)
 
 -- a store of the file failed; all others stay, and of this one nothing is said
 abbrev pub FailsToStore : FilesSide → FilesSide → Stored → Type 0

@@ -6,7 +6,7 @@ use Rattle.alma_io.specs.declared.files.Fetch.TheVariants as fetch
 use Rattle.alma_io.specs.declared.files.StoreFault.{StoreFault}
 use Rattle.alma_io.specs.declared.files.StoreFault.TheVariants as store
 use Rattle.alma_object_format.specs.declared.fault.ObjectFault.{ObjectFault}
-use Rattle.alma_object_format.specs.declared.fault.ObjectFault.TheVariants as object
+use Rattle.alma_object_format.specs.Fault.{object_fault_name, object_fault_number}
 use Rattle.alma_lower.specs.declared.lowering.LowerError.{LowerError}
 use Rattle.alma_lower.specs.declared.lowering.LowerError.TheVariants as lower
 use Rattle.alma_code.specs.declared.step.End as code
@@ -68,26 +68,6 @@ line_text (Some line) = codes " line " ++ decimal line
 -- the text of a run that stopped in a fault
 abbrev pub fault_text : RunFault → (line : ℕ) → List ℕ
 fault_text fault line = codes "alma: fault " ++ (run_fault_text fault ++ (line_text (known_line line) ++ codes "\n"))
-
--- the name of a fault of an object
-abbrev pub object_fault_name : ObjectFault → List ℕ
-object_fault_name object.Magic = codes "Magic"
-object_fault_name (object.Version version) = codes "Version"
-object_fault_name (object.Cut length) = codes "Cut"
-object_fault_name (object.Trailing offset) = codes "Trailing"
-object_fault_name (object.BadCount offset) = codes "BadCount"
-object_fault_name (object.BadOpcode offset) = codes "BadOpcode"
-object_fault_name (object.BadName offset) = codes "BadName"
-
--- its number, which Magic has not
-abbrev pub object_fault_number : ObjectFault → Option ℕ
-object_fault_number object.Magic = None
-object_fault_number (object.Version version) = Some version
-object_fault_number (object.Cut length) = Some length
-object_fault_number (object.Trailing offset) = Some offset
-object_fault_number (object.BadCount offset) = Some offset
-object_fault_number (object.BadOpcode offset) = Some offset
-object_fault_number (object.BadName offset) = Some offset
 
 -- the number of a fault, if it has one
 abbrev pub number_text : Option ℕ → List ℕ

@@ -9,8 +9,7 @@ use Rattle.alma_lower_implements.specs.Implements.{Covers}
 use Rattle.alma_lower_sound.specs.Reads.{program_reads}
 use Rattle.alma_driver_words.specs.Words.{Asks, Run, file_of}
 use Rattle.alma_io.specs.Sides.{SourceSide}
-use Rattle.alma_driver_outcome.specs.Outside.{Outside}
-use Rattle.alma_driver_outcome.specs.Causes.{ReadFailed, WriteFailed}
+use Rattle.alma_io.specs.Outside.{Outside}
 use Rattle.alma_driver_outcome.specs.Course.{Gains}
 use Rattle.alma_driver_outcome.specs.Ends.{counts_text, fault_text, text_of}
 use Rattle.alma_driver_outcome.specs.Outcome.{AreCounts}
@@ -29,12 +28,6 @@ pub record AsksToRun (words : List (List ℕ)) (before : Outside) (source input 
   pub source_short : length source ≤ source_limit
   pub left : (p : Program) → IsProgramOf source p → program_reads p ≡ true → before.input.left ≡ Some input
   pub input_short : length input ≤ input_limit
-
--- no count of faults rose in the call, and memory was found
-pub record IsUndisturbed (before after : Outside) (status : ℕ) : Type 0 where
-  pub no_read_failed : ReadFailed before after → ⊥
-  pub no_write_failed : WriteFailed before after → ⊥
-  pub memory : status ≡ 8 → ⊥
 
 -- what out and err gained
 abbrev pub Shows : (before after : Outside) → (out err : List ℕ) → Type 0

@@ -1,6 +1,5 @@
 pub mod Words
 pub mod Showing
-pub mod Outside
 pub mod Ends
 pub mod Outcome
 pub mod Course

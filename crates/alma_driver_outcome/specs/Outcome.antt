@@ -2,6 +2,7 @@
 use Rattle.std.specs.Prelude.{◌≡◌, ◌<◌, ◌≤◌, ◌⊎◌, Bool, true, false, List, ℕ, [], length, Option, None, Some}
 use Rattle.alma_base.specs.Limits.{size_limit, input_limit}
 use Rattle.alma_io.specs.Files.{Told, Missing, MayHave, MayPass}
+use Rattle.alma_io.specs.Outside.{Stored}
 use Rattle.alma_io.specs.Whole.{MayHaveMore}
 use Rattle.alma_ir.specs.Tree.{Program}
 use Rattle.alma_mean.specs.Events as events
@@ -31,11 +32,6 @@ use Rattle.alma_driver_outcome.specs.declared.end.Counts.{Counts}
 use Rattle.alma_driver_outcome.specs.declared.end.End.{End}
 use Rattle.alma_driver_outcome.specs.declared.end.End.TheVariants.{Succeeded, Failed, Faulted, BadWord, Refused, StepsOut, ReadFault}
 use Rattle.alma_driver_outcome.specs.declared.end.End.TheVariants.{Memory, BadObject, BadCode, TooLong, TooMuchCode}
-
--- bytes under the name of a file
-pub record Stored : Type 0 where
-  pub name : List ℕ
-  pub bytes : List ℕ
 
 -- what is due from a call: its end, the bytes that it writes to out, what it stores, and whether it reads the input
 pub record Due : Type 0 where

@@ -2,12 +2,10 @@
 #![tactic(auto)]
 
 mod end;
-mod fault;
 pub mod laws;
 mod showing;
 mod writing;
 
 pub use end::{Counts, End, end_of, line_of};
-pub use fault::{object_fault_name, object_fault_number};
 pub use showing::Showing;
 pub use writing::{report, write_parts};

@@ -8,7 +8,6 @@ ghost use Rattle.alma_driver_outcome.specs.Course.{Reports};
 ghost use Rattle.alma_source.specs.Texts.{refusal_line, refusal_text};
 
 use crate::end::{Counts, End};
-use crate::fault::{object_fault_name, object_fault_number};
 use alma_base::{Place, RunFault, Status};
 use alma_code::VerifyFault;
 use alma_io::{Sink, WriteFault, write_all};
@@ -109,9 +108,9 @@ fn write_object_fault<E: Sink>(err: &mut E, fault: ObjectFault) -> Result<(), Wr
     ensures cause { HasCause (E.side err.old).faults (E.side err.new).faults result }
 {
     let front = b"alma: object ".as_slice();
-    let name = object_fault_name(fault);
+    let name = fault.name();
     let end = b"\n".as_slice();
-    match object_fault_number(fault) {
+    match fault.number() {
         None => write_parts(err, &[front, name, end]),
         Some(number) => {
             let mut digits = Buffer::new();

@@ -1,5 +1,5 @@
--- Counts of statements as sums, and what one value counts.
-use Rattle.std.proofs.Common.{◌≡◌, ℕ, suc, ◌+◌, List, [], ◌++◌, refl, ap, arith}
+-- What is counted as a sum, and what one value counts.
+use Rattle.std.proofs.Common.{◌≡◌, ℕ, ◌+◌, List, [], ◌∷◌, ◌++◌, refl, length, ap, ◌∙◌, arith}
 use Rattle.std.specs.Prelude.{Vec, Some, None, sum_by}
 use Rattle.std.specs.declared.alloc.Global.{Global}
 use Rattle.alma_ir.specs.declared.phrase.Stmt as S
@@ -16,361 +16,452 @@ use Rattle.alma_ir.specs.declared.phrase.Link.{Link}
 use Rattle.alma_ir.specs.declared.phrase.Call.{Call}
 use Rattle.alma_ir.specs.View.{stmt_of, test_of, expr_of, arg_of, sel_of, desig_of, loop_of, stmts_list, tests_list, args_list, sels_list}
 use Rattle.alma_ir.specs.View.{arms_list, cases_list, branches_list, links_list}
+use Rattle.alma_ir.specs.Tree.{Stmt, TestStmt, Assign, CopyCells, If, While, Repeat, ForTo, SomeOf, Case, Either, Forall, Commit, Return}
+use Rattle.alma_ir.specs.Tree.{Read, WriteExpr, WriteText, WriteLine}
+use Rattle.alma_ir.specs.Checked.{text_bytes}
 use Rattle.alma_ir.specs.Lines.{stmt_count}
+use Rattle.alma_ir.specs.Measures.{own, weight, amount, parts}
+use Rattle.alma_ir.specs.Phrases.{Phrase, StmtPhrase, TestPhrase, ExprPhrase, ArgPhrase, DesigPhrase, SelPhrase}
+use Rattle.alma_ir.specs.declared.inside.Measure.{Measure}
+use Rattle.alma_ir.specs.declared.inside.Measure.TheVariants as measure
 use Rattle.alma_ir.specs.Phrases.{stmts_phrases, stmt_phrases, arms_phrases, cases_phrases, branches_phrases, loop_phrases, test_phrases}
 use Rattle.alma_ir.specs.Phrases.{tests_phrases, expr_phrases, links_phrases, args_phrases, arg_phrases, desig_phrases, sels_phrases}
 use Rattle.alma_ir.specs.Phrases.{sel_phrases}
-use Rattle.alma_ir.proofs.LinesBack.{count_sum}
 use Rattle.alma_ir.proofs.Views
 use Rattle.std.proofs.lemmas.List.Recursion.{is_sum_by}
 
--- what an element of a list counts
-abbrev pub of_stmt : S.Stmt → ℕ
-of_stmt x = stmt_count (stmt_phrases (stmt_of x))
+module _ (m : Measure) where
+  amount_sum : (xs ys : List Phrase) → amount m (xs ++ ys) ≡ amount m xs + amount m ys
+  unfolding amount
+  amount_sum [] ys = omega arith
+  amount_sum (x ∷ xs) ys = omega (arith, amount_sum xs ys)
 
-abbrev pub of_test : T.Test → ℕ
-of_test x = stmt_count (test_phrases (test_of x))
+  -- what an element of a list counts
+  abbrev pub of_stmt : S.Stmt → ℕ
+  of_stmt x = own m (stmt_of x) + amount m (parts (stmt_of x))
 
-abbrev pub of_arg : A.Arg → ℕ
-of_arg x = stmt_count (arg_phrases (arg_of x))
+  abbrev pub of_test : T.Test → ℕ
+  of_test x = amount m (test_phrases (test_of x))
 
-abbrev pub of_sel : L.Sel → ℕ
-of_sel x = stmt_count (sel_phrases (sel_of x))
+  abbrev pub of_arg : A.Arg → ℕ
+  of_arg x = amount m (arg_phrases (arg_of x))
 
-abbrev pub of_link : Link → ℕ
-of_link x = stmt_count (expr_phrases (expr_of x.operand))
+  abbrev pub of_sel : L.Sel → ℕ
+  of_sel x = amount m (sel_phrases (sel_of x))
 
-abbrev pub of_arm : Arm → ℕ
-of_arm x = stmt_count (test_phrases (test_of x.cond)) + stmt_count (stmts_phrases (stmts_list x.body.items))
+  abbrev pub of_link : Link → ℕ
+  of_link x = amount m (expr_phrases (expr_of x.operand))
 
-abbrev pub of_case : CaseArm → ℕ
-of_case x = stmt_count (stmts_phrases (stmts_list x.body.items))
+  abbrev pub of_arm : Arm → ℕ
+  of_arm x = amount m (test_phrases (test_of x.cond)) + amount m (stmts_phrases (stmts_list x.body.items))
 
-abbrev pub of_branch : Branch → ℕ
-of_branch x = stmt_count (stmts_phrases (stmts_list x.body.items))
+  abbrev pub of_case : CaseArm → ℕ
+  of_case x = amount m (stmts_phrases (stmts_list x.body.items))
 
-pub stmts_sum : (xs : List S.Stmt) → stmt_count (stmts_phrases (stmts_list xs)) ≡ sum_by of_stmt xs
-unfolding stmts_phrases
-stmts_sum = is_sum_by (λ xs. stmt_count (stmts_phrases (stmts_list xs))) of_stmt refl
-    (λ x rest. count_sum (stmt_phrases (stmt_of x)) (stmts_phrases (stmts_list rest)))
+  abbrev pub of_branch : Branch → ℕ
+  of_branch x = amount m (stmts_phrases (stmts_list x.body.items))
 
-pub tests_sum : (xs : List T.Test) → stmt_count (tests_phrases (tests_list xs)) ≡ sum_by of_test xs
-unfolding stmts_phrases
-tests_sum = is_sum_by (λ xs. stmt_count (tests_phrases (tests_list xs))) of_test refl
-    (λ x rest. count_sum (test_phrases (test_of x)) (tests_phrases (tests_list rest)))
+  stmt_first : (x : Stmt) → stmt_phrases x ≡ StmtPhrase x ∷ parts x
+  unfolding stmts_phrases amount
+  stmt_first (TestStmt t) = refl
+  stmt_first (Assign d e range) = refl
+  stmt_first (CopyCells d e) = refl
+  stmt_first (If arms rest) = refl
+  stmt_first (While t body) = refl
+  stmt_first (Repeat body t) = refl
+  stmt_first (ForTo l) = refl
+  stmt_first (SomeOf l) = refl
+  stmt_first (Case e arms rest) = refl
+  stmt_first (Either branches) = refl
+  stmt_first (Forall x y) = refl
+  stmt_first (Commit x) = refl
+  stmt_first (Return e) = refl
+  stmt_first (Read d how range) = refl
+  stmt_first (WriteExpr e how) = refl
+  stmt_first (WriteText text) = refl
+  stmt_first WriteLine = refl
 
-pub args_sum : (xs : List A.Arg) → stmt_count (args_phrases (args_list xs)) ≡ sum_by of_arg xs
-unfolding stmts_phrases
-args_sum = is_sum_by (λ xs. stmt_count (args_phrases (args_list xs))) of_arg refl
-    (λ x rest. count_sum (arg_phrases (arg_of x)) (args_phrases (args_list rest)))
+  pub stmts_sum : (xs : List S.Stmt) → amount m (stmts_phrases (stmts_list xs)) ≡ sum_by of_stmt xs
+  unfolding stmts_phrases amount
+  stmts_sum = is_sum_by (λ xs. amount m (stmts_phrases (stmts_list xs))) of_stmt refl
+      (λ x rest. amount_sum (stmt_phrases (stmt_of x)) (stmts_phrases (stmts_list rest))
+      ∙ ap (λ xs. amount m xs + amount m (stmts_phrases (stmts_list rest))) (stmt_first (stmt_of x)))
 
-pub sels_sum : (xs : List L.Sel) → stmt_count (sels_phrases (sels_list xs)) ≡ sum_by of_sel xs
-unfolding stmts_phrases
-sels_sum = is_sum_by (λ xs. stmt_count (sels_phrases (sels_list xs))) of_sel refl
-    (λ x rest. count_sum (sel_phrases (sel_of x)) (sels_phrases (sels_list rest)))
+  pub tests_sum : (xs : List T.Test) → amount m (tests_phrases (tests_list xs)) ≡ sum_by of_test xs
+  unfolding stmts_phrases amount
+  tests_sum = is_sum_by (λ xs. amount m (tests_phrases (tests_list xs))) of_test refl
+      (λ x rest. amount_sum (test_phrases (test_of x)) (tests_phrases (tests_list rest)))
 
-pub links_sum : (xs : List Link) → stmt_count (links_phrases (links_list xs)) ≡ sum_by of_link xs
-unfolding stmts_phrases
-links_sum = is_sum_by (λ xs. stmt_count (links_phrases (links_list xs))) of_link refl
-    (λ x rest. count_sum (expr_phrases (expr_of x.operand)) (links_phrases (links_list rest)))
+  pub args_sum : (xs : List A.Arg) → amount m (args_phrases (args_list xs)) ≡ sum_by of_arg xs
+  unfolding stmts_phrases amount
+  args_sum = is_sum_by (λ xs. amount m (args_phrases (args_list xs))) of_arg refl
+      (λ x rest. amount_sum (arg_phrases (arg_of x)) (args_phrases (args_list rest)))
 
-pub arms_sum : (xs : List Arm) → stmt_count (arms_phrases (arms_list xs)) ≡ sum_by of_arm xs
-unfolding stmts_phrases
-arms_sum = is_sum_by (λ xs. stmt_count (arms_phrases (arms_list xs))) of_arm refl
-    (λ x rest. omega (
-      arith,
-      count_sum (test_phrases (test_of x.cond) ++ stmts_phrases (stmts_list x.body.items))
-          (arms_phrases (arms_list rest)),
-      count_sum (test_phrases (test_of x.cond)) (stmts_phrases (stmts_list x.body.items)),
-    ))
+  pub sels_sum : (xs : List L.Sel) → amount m (sels_phrases (sels_list xs)) ≡ sum_by of_sel xs
+  unfolding stmts_phrases amount
+  sels_sum = is_sum_by (λ xs. amount m (sels_phrases (sels_list xs))) of_sel refl
+      (λ x rest. amount_sum (sel_phrases (sel_of x)) (sels_phrases (sels_list rest)))
 
-pub cases_sum : (xs : List CaseArm) → stmt_count (cases_phrases (cases_list xs)) ≡ sum_by of_case xs
-unfolding stmts_phrases
-cases_sum = is_sum_by (λ xs. stmt_count (cases_phrases (cases_list xs))) of_case refl
-    (λ x rest. count_sum (stmts_phrases (stmts_list x.body.items)) (cases_phrases (cases_list rest)))
+  pub links_sum : (xs : List Link) → amount m (links_phrases (links_list xs)) ≡ sum_by of_link xs
+  unfolding stmts_phrases amount
+  links_sum = is_sum_by (λ xs. amount m (links_phrases (links_list xs))) of_link refl
+      (λ x rest. amount_sum (expr_phrases (expr_of x.operand)) (links_phrases (links_list rest)))
 
-pub branches_sum : (xs : List Branch) → stmt_count (branches_phrases (branches_list xs)) ≡ sum_by of_branch xs
-unfolding stmts_phrases
-branches_sum = is_sum_by (λ xs. stmt_count (branches_phrases (branches_list xs))) of_branch refl
-    (λ x rest. count_sum (stmts_phrases (stmts_list x.body.items)) (branches_phrases (branches_list rest)))
+  pub arms_sum : (xs : List Arm) → amount m (arms_phrases (arms_list xs)) ≡ sum_by of_arm xs
+  unfolding stmts_phrases amount
+  arms_sum = is_sum_by (λ xs. amount m (arms_phrases (arms_list xs))) of_arm refl
+      (λ x rest. omega (
+        arith,
+        amount_sum (test_phrases (test_of x.cond) ++ stmts_phrases (stmts_list x.body.items))
+            (arms_phrases (arms_list rest)),
+        amount_sum (test_phrases (test_of x.cond)) (stmts_phrases (stmts_list x.body.items)),
+      ))
 
--- ---- what a value made by a variant counts
+  pub cases_sum : (xs : List CaseArm) → amount m (cases_phrases (cases_list xs)) ≡ sum_by of_case xs
+  unfolding stmts_phrases amount
+  cases_sum = is_sum_by (λ xs. amount m (cases_phrases (cases_list xs))) of_case refl
+      (λ x rest. amount_sum (stmts_phrases (stmts_list x.body.items)) (cases_phrases (cases_list rest)))
 
-pub teststmt_count : (t : T.Test) → stmt_count (stmt_phrases (stmt_of (S.Test t))) ≡ 1 + stmt_count (test_phrases (test_of t))
-unfolding stmts_phrases
-teststmt_count t = omega (arith, ap (λ x. stmt_count (stmt_phrases x)) (Views.teststmt_view t))
+  pub branches_sum : (xs : List Branch) → amount m (branches_phrases (branches_list xs)) ≡ sum_by of_branch xs
+  unfolding stmts_phrases amount
+  branches_sum = is_sum_by (λ xs. amount m (branches_phrases (branches_list xs))) of_branch refl
+      (λ x rest. amount_sum (stmts_phrases (stmts_list x.body.items)) (branches_phrases (branches_list rest)))
 
-pub assign_count : (d : D.Desig) (e : E.Expr) (r : _)
-    → stmt_count (stmt_phrases (stmt_of (S.Assign d e r))) ≡ 1 + stmt_count (desig_phrases (desig_of d))
-    + stmt_count (expr_phrases (expr_of e))
-unfolding stmts_phrases
-assign_count d e r = omega (
-  arith,
-  ap (λ x. stmt_count (stmt_phrases x)) (Views.assign_view d e r),
-  count_sum (desig_phrases (desig_of d)) (expr_phrases (expr_of e)),
-)
+  -- ---- what a value made by a variant counts
 
-pub copycells_count : (d d' : D.Desig) → stmt_count (stmt_phrases (stmt_of (S.CopyCells d d'))) ≡ 1 + stmt_count
-    (desig_phrases (desig_of d)) + stmt_count (desig_phrases (desig_of d'))
-unfolding stmts_phrases
-copycells_count d d' = omega (
-  arith,
-  ap (λ x. stmt_count (stmt_phrases x)) (Views.copycells_view d d'),
-  count_sum (desig_phrases (desig_of d)) (desig_phrases (desig_of d')),
-)
+  pub teststmt_count : (t : T.Test) → amount m (parts (stmt_of (S.Test t))) ≡ amount m (test_phrases (test_of t))
+  unfolding stmts_phrases amount
+  teststmt_count t = omega (arith, ap (λ x. amount m (parts x)) (Views.teststmt_view t))
 
-pub if_count : (a : Vec Arm Global) (v : Vec S.Stmt Global)
-    → stmt_count (stmt_phrases (stmt_of (S.If a v))) ≡ 1 + stmt_count (arms_phrases (arms_list a.items))
-    + stmt_count (stmts_phrases (stmts_list v.items))
-unfolding stmts_phrases
-if_count a v = omega (
-  arith,
-  ap (λ x. stmt_count (stmt_phrases x)) (Views.if_view a v),
-  count_sum (arms_phrases (arms_list a.items)) (stmts_phrases (stmts_list v.items)),
-)
+  pub assign_count : (d : D.Desig) (e : E.Expr) (r : _) → amount m (parts (stmt_of (S.Assign d e r)))
+      ≡ amount m (desig_phrases (desig_of d)) + amount m (expr_phrases (expr_of e))
+  unfolding stmts_phrases amount
+  assign_count d e r = omega (
+    arith,
+    ap (λ x. amount m (parts x)) (Views.assign_view d e r),
+    amount_sum (desig_phrases (desig_of d))
+        (expr_phrases (expr_of e)),
+  )
 
-pub while_count : (t : T.Test) (v : Vec S.Stmt Global)
-    → stmt_count (stmt_phrases (stmt_of (S.While t v))) ≡ 1 + stmt_count (test_phrases (test_of t))
-    + stmt_count (stmts_phrases (stmts_list v.items))
-unfolding stmts_phrases
-while_count t v = omega (
-  arith,
-  ap (λ x. stmt_count (stmt_phrases x)) (Views.while_view t v),
-  count_sum (test_phrases (test_of t)) (stmts_phrases (stmts_list v.items)),
-)
+  pub copycells_count : (d d' : D.Desig) → amount m (parts (stmt_of (S.CopyCells d d')))
+      ≡ amount m (desig_phrases (desig_of d)) + amount m (desig_phrases (desig_of d'))
+  unfolding stmts_phrases amount
+  copycells_count d d' = omega (
+    arith,
+    ap (λ x. amount m (parts x)) (Views.copycells_view d d'),
+    amount_sum
+        (desig_phrases (desig_of d)) (desig_phrases (desig_of d')),
+  )
 
-pub repeat_count : (v : Vec S.Stmt Global) (t : T.Test)
-    → stmt_count (stmt_phrases (stmt_of (S.Repeat v t))) ≡ 1 + stmt_count (stmts_phrases (stmts_list v.items))
-    + stmt_count (test_phrases (test_of t))
-unfolding stmts_phrases
-repeat_count v t = omega (
-  arith,
-  ap (λ x. stmt_count (stmt_phrases x)) (Views.repeat_view v t),
-  count_sum (stmts_phrases (stmts_list v.items)) (test_phrases (test_of t)),
-)
+  pub if_count : (a : Vec Arm Global) (v : Vec S.Stmt Global)
+      → amount m (parts (stmt_of (S.If a v))) ≡ amount m (arms_phrases (arms_list a.items)) + amount m
+      (stmts_phrases (stmts_list v.items))
+  unfolding stmts_phrases amount
+  if_count a v = omega (
+    arith,
+    ap (λ x. amount m (parts x)) (Views.if_view a v),
+    amount_sum (arms_phrases (arms_list a.items))
+        (stmts_phrases (stmts_list v.items)),
+  )
 
-pub forto_count : (l : Loop) → stmt_count (stmt_phrases (stmt_of (S.ForTo l))) ≡ 1 + stmt_count (loop_phrases (loop_of l))
-unfolding stmts_phrases
-forto_count l = omega (arith, ap (λ x. stmt_count (stmt_phrases x)) (Views.forto_view l))
+  pub while_count : (t : T.Test) (v : Vec S.Stmt Global) → amount m (parts (stmt_of (S.While t v)))
+      ≡ amount m (test_phrases (test_of t)) + amount m (stmts_phrases (stmts_list v.items))
+  unfolding stmts_phrases amount
+  while_count t v = omega (
+    arith,
+    ap (λ x. amount m (parts x)) (Views.while_view t v),
+    amount_sum (test_phrases (test_of t))
+        (stmts_phrases (stmts_list v.items)),
+  )
 
-pub someof_count : (l : Loop) → stmt_count (stmt_phrases (stmt_of (S.SomeOf l))) ≡ 1 + stmt_count (loop_phrases (loop_of l))
-unfolding stmts_phrases
-someof_count l = omega (arith, ap (λ x. stmt_count (stmt_phrases x)) (Views.someof_view l))
+  pub repeat_count : (v : Vec S.Stmt Global) (t : T.Test) → amount m (parts (stmt_of (S.Repeat v t)))
+      ≡ amount m (stmts_phrases (stmts_list v.items)) + amount m (test_phrases (test_of t))
+  unfolding stmts_phrases amount
+  repeat_count v t = omega (
+    arith,
+    ap (λ x. amount m (parts x)) (Views.repeat_view v t),
+    amount_sum
+        (stmts_phrases (stmts_list v.items)) (test_phrases (test_of t)),
+  )
 
-pub case_none_count : (e : E.Expr) (v : Vec CaseArm Global)
-    → stmt_count (stmt_phrases (stmt_of (S.Case e v None))) ≡ 1 + stmt_count (expr_phrases (expr_of e))
-    + stmt_count (cases_phrases (cases_list v.items))
-unfolding stmts_phrases
-case_none_count e v =
-    let view : stmt_count (stmt_phrases (stmt_of (S.Case e v None))) ≡ suc
-    (stmt_count ((expr_phrases (expr_of e) ++ cases_phrases (cases_list v.items)) ++ [])) =
-    ap (λ x. stmt_count (stmt_phrases x)) (Views.case_view e v None) in
-    omega (
-      arith,
-      view,
-      count_sum (expr_phrases (expr_of e) ++ cases_phrases (cases_list v.items)) [],
-      count_sum (expr_phrases (expr_of e)) (cases_phrases (cases_list v.items)),
-    )
+  pub forto_count : (l : Loop) → amount m (parts (stmt_of (S.ForTo l))) ≡ amount m (loop_phrases (loop_of l))
+  unfolding stmts_phrases amount
+  forto_count l = omega (arith, ap (λ x. amount m (parts x)) (Views.forto_view l))
 
-pub case_some_count : (e : E.Expr) (v : Vec CaseArm Global) (w : Vec S.Stmt Global)
-    → stmt_count (stmt_phrases (stmt_of (S.Case e v (Some w)))) ≡ 1 + stmt_count (expr_phrases (expr_of e))
-    + stmt_count (cases_phrases (cases_list v.items)) + stmt_count (stmts_phrases (stmts_list w.items))
-unfolding stmts_phrases
-case_some_count e v w =
-    let view : stmt_count (stmt_phrases (stmt_of (S.Case e v (Some w)))) ≡ suc
-    (stmt_count ((expr_phrases (expr_of e) ++ cases_phrases (cases_list v.items)) ++ stmts_phrases (stmts_list w.items))) =
-    ap (λ x. stmt_count (stmt_phrases x)) (Views.case_view e v (Some w)) in
-    omega (
-      arith,
-      view,
-      count_sum (expr_phrases (expr_of e) ++ cases_phrases (cases_list v.items)) (stmts_phrases (stmts_list w.items)),
-      count_sum (expr_phrases (expr_of e)) (cases_phrases (cases_list v.items)),
-    )
+  pub someof_count : (l : Loop) → amount m (parts (stmt_of (S.SomeOf l))) ≡ amount m (loop_phrases (loop_of l))
+  unfolding stmts_phrases amount
+  someof_count l = omega (arith, ap (λ x. amount m (parts x)) (Views.someof_view l))
 
-pub return_none_count : stmt_count (stmt_phrases (stmt_of (S.Return None))) ≡ 1
-unfolding stmts_phrases
-return_none_count = omega (arith, ap (λ x. stmt_count (stmt_phrases x)) (Views.return_view None))
+  pub case_none_count : (e : E.Expr) (v : Vec CaseArm Global)
+      → amount m (parts (stmt_of (S.Case e v None)))
+      ≡ amount m (expr_phrases (expr_of e)) + amount m (cases_phrases (cases_list v.items))
+  unfolding stmts_phrases amount
+  case_none_count e v =
+      let view : amount m (parts (stmt_of (S.Case e v None)))
+      ≡ (amount m ((expr_phrases (expr_of e) ++ cases_phrases (cases_list v.items)) ++ [])) = ap
+      (λ x. amount m (parts x)) (Views.case_view e v None) in
+      omega (
+        arith,
+        view,
+        amount_sum (expr_phrases (expr_of e) ++ cases_phrases (cases_list v.items)) [],
+        amount_sum
+            (expr_phrases (expr_of e)) (cases_phrases (cases_list v.items)),
+      )
 
-pub return_some_count : (e : E.Expr) → stmt_count (stmt_phrases (stmt_of (S.Return (Some e)))) ≡ 1 + stmt_count (expr_phrases (expr_of e))
-unfolding stmts_phrases
-return_some_count e = omega (arith, ap (λ x. stmt_count (stmt_phrases x)) (Views.return_view (Some e)))
+  pub case_some_count : (e : E.Expr) (v : Vec CaseArm Global) (w : Vec S.Stmt Global)
+      → amount m (parts (stmt_of (S.Case e v (Some w))))
+      ≡ amount m (expr_phrases (expr_of e)) + amount m (cases_phrases (cases_list v.items)) + amount m
+      (stmts_phrases (stmts_list w.items))
+  unfolding stmts_phrases amount
+  case_some_count e v w =
+      let view : amount m (parts (stmt_of (S.Case e v (Some w))))
+      ≡ (amount m ((expr_phrases (expr_of e) ++ cases_phrases (cases_list v.items)) ++ stmts_phrases (stmts_list w.items))) = ap
+      (λ x. amount m (parts x)) (Views.case_view e v (Some w)) in
+      omega (
+        arith,
+        view,
+        amount_sum (expr_phrases (expr_of e) ++ cases_phrases (cases_list v.items))
+            (stmts_phrases (stmts_list w.items)),
+        amount_sum (expr_phrases (expr_of e)) (cases_phrases (cases_list v.items)),
+      )
 
-pub either_count : (v : Vec Branch Global)
-    → stmt_count (stmt_phrases (stmt_of (S.Either v))) ≡ 1 + stmt_count (branches_phrases (branches_list v.items))
-unfolding stmts_phrases
-either_count v = omega (arith, ap (λ x. stmt_count (stmt_phrases x)) (Views.either_view v))
+  pub return_none_count : amount m (parts (stmt_of (S.Return None))) ≡ 0
+  unfolding stmts_phrases amount
+  return_none_count = omega (arith, ap (λ x. amount m (parts x)) (Views.return_view None))
 
-pub forall_count : (v w : Vec S.Stmt Global)
-    → stmt_count (stmt_phrases (stmt_of (S.Forall v w))) ≡ 1 + stmt_count (stmts_phrases (stmts_list v.items))
-    + stmt_count (stmts_phrases (stmts_list w.items))
-unfolding stmts_phrases
-forall_count v w = omega (
-  arith,
-  ap (λ x. stmt_count (stmt_phrases x)) (Views.forall_view v w),
-  count_sum (stmts_phrases (stmts_list v.items)) (stmts_phrases (stmts_list w.items)),
-)
+  pub return_some_count : (e : E.Expr) → amount m (parts (stmt_of (S.Return (Some e)))) ≡ amount m (expr_phrases (expr_of e))
+  unfolding stmts_phrases amount
+  return_some_count e = omega (arith, ap (λ x. amount m (parts x)) (Views.return_view (Some e)))
 
-pub commit_count : (v : Vec S.Stmt Global)
-    → stmt_count (stmt_phrases (stmt_of (S.Commit v))) ≡ 1 + stmt_count (stmts_phrases (stmts_list v.items))
-unfolding stmts_phrases
-commit_count v = omega (arith, ap (λ x. stmt_count (stmt_phrases x)) (Views.commit_view v))
+  pub either_count : (v : Vec Branch Global) → amount m (parts (stmt_of (S.Either v)))
+      ≡ amount m (branches_phrases (branches_list v.items))
+  unfolding stmts_phrases amount
+  either_count v = omega (arith, ap (λ x. amount m (parts x)) (Views.either_view v))
 
-pub read_count : (d : D.Desig) (how r : _)
-    → stmt_count (stmt_phrases (stmt_of (S.Read d how r))) ≡ 1 + stmt_count (desig_phrases (desig_of d))
-unfolding stmts_phrases
-read_count d how r = omega (arith, ap (λ x. stmt_count (stmt_phrases x)) (Views.read_view d how r))
+  pub forall_count : (v w : Vec S.Stmt Global) → amount m (parts (stmt_of (S.Forall v w)))
+      ≡ amount m (stmts_phrases (stmts_list v.items)) + amount m (stmts_phrases (stmts_list w.items))
+  unfolding stmts_phrases amount
+  forall_count v w = omega (
+    arith,
+    ap (λ x. amount m (parts x)) (Views.forall_view v w),
+    amount_sum
+        (stmts_phrases (stmts_list v.items)) (stmts_phrases (stmts_list w.items)),
+  )
 
-pub writeexpr_count : (e : E.Expr) (how : _)
-    → stmt_count (stmt_phrases (stmt_of (S.WriteExpr e how))) ≡ 1 + stmt_count (expr_phrases (expr_of e))
-unfolding stmts_phrases
-writeexpr_count e how = omega (arith, ap (λ x. stmt_count (stmt_phrases x)) (Views.writeexpr_view e how))
+  pub commit_count : (v : Vec S.Stmt Global) → amount m (parts (stmt_of (S.Commit v)))
+      ≡ amount m (stmts_phrases (stmts_list v.items))
+  unfolding stmts_phrases amount
+  commit_count v = omega (arith, ap (λ x. amount m (parts x)) (Views.commit_view v))
 
-pub writetext_count : (v : _) → stmt_count (stmt_phrases (stmt_of (S.WriteText v))) ≡ 1
-unfolding stmts_phrases
-writetext_count v = omega (arith, ap (λ x. stmt_count (stmt_phrases x)) (Views.writetext_view v))
+  pub read_count : (d : D.Desig) (how r : _) → amount m (parts (stmt_of (S.Read d how r))) ≡ amount m (desig_phrases (desig_of d))
+  unfolding stmts_phrases amount
+  read_count d how r = omega (arith, ap (λ x. amount m (parts x)) (Views.read_view d how r))
 
-pub writeline_count : stmt_count (stmt_phrases (stmt_of S.WriteLine)) ≡ 1
-unfolding stmts_phrases
-writeline_count = omega (arith, ap (λ x. stmt_count (stmt_phrases x)) (Views.writeline_view))
+  pub writeexpr_count : (e : E.Expr) (how : _) → amount m (parts (stmt_of (S.WriteExpr e how)))
+      ≡ amount m (expr_phrases (expr_of e))
+  unfolding stmts_phrases amount
+  writeexpr_count e how = omega (arith, ap (λ x. amount m (parts x)) (Views.writeexpr_view e how))
 
-pub value_count : (e : E.Expr) → stmt_count (test_phrases (test_of (T.Value e))) ≡ stmt_count (expr_phrases (expr_of e))
-unfolding stmts_phrases
-value_count e = omega (arith, ap (λ x. stmt_count (test_phrases x)) (Views.value_view e))
+  pub writetext_count : (v : _) → amount m (parts (stmt_of (S.WriteText v))) ≡ 0
+  unfolding stmts_phrases amount
+  writetext_count v = omega (arith, ap (λ x. amount m (parts x)) (Views.writetext_view v))
 
-pub bind_count : (d : D.Desig) (e : E.Expr) (r left : _)
-    → stmt_count (test_phrases (test_of (T.Bind d e r left))) ≡ stmt_count (desig_phrases (desig_of d))
-    + stmt_count (expr_phrases (expr_of e))
-unfolding stmts_phrases
-bind_count d e r left = omega (
-  arith,
-  ap (λ x. stmt_count (test_phrases x)) (Views.bind_view d e r left),
-  count_sum (desig_phrases (desig_of d)) (expr_phrases (expr_of e)),
-)
+  pub writeline_count : amount m (parts (stmt_of S.WriteLine)) ≡ 0
+  unfolding stmts_phrases amount
+  writeline_count = omega (arith, ap (λ x. amount m (parts x)) (Views.writeline_view))
 
-pub unify_count : (d : D.Desig) (r : _) (d' : D.Desig) (r' : _)
-    → stmt_count (test_phrases (test_of (T.Unify d r d' r'))) ≡ stmt_count (desig_phrases (desig_of d))
-    + stmt_count (desig_phrases (desig_of d'))
-unfolding stmts_phrases
-unify_count d r d' r' = omega (
-  arith,
-  ap (λ x. stmt_count (test_phrases x)) (Views.unify_view d r d' r'),
-  count_sum (desig_phrases (desig_of d)) (desig_phrases (desig_of d')),
-)
+  pub value_count : (e : E.Expr) → amount m (test_phrases (test_of (T.Value e))) ≡ amount m (expr_phrases (expr_of e))
+  unfolding stmts_phrases amount
+  value_count e = omega (arith, ap (λ x. amount m (test_phrases x)) (Views.value_view e))
 
-pub samecells_count : (d d' : D.Desig) → stmt_count (test_phrases (test_of (T.SameCells d d'))) ≡ stmt_count (desig_phrases (desig_of d))
-    + stmt_count (desig_phrases (desig_of d'))
-unfolding stmts_phrases
-samecells_count d d' = omega (
-  arith,
-  ap (λ x. stmt_count (test_phrases x)) (Views.samecells_view d d'),
-  count_sum (desig_phrases (desig_of d)) (desig_phrases (desig_of d')),
-)
+  pub bind_count : (d : D.Desig) (e : E.Expr) (r left : _) → amount m (test_phrases (test_of (T.Bind d e r left)))
+      ≡ amount m (desig_phrases (desig_of d)) + amount m (expr_phrases (expr_of e))
+  unfolding stmts_phrases amount
+  bind_count d e r left = omega (
+    arith,
+    ap (λ x. amount m (test_phrases x)) (Views.bind_view d e r left),
+    amount_sum
+        (desig_phrases (desig_of d)) (expr_phrases (expr_of e)),
+  )
 
-pub seq_count : (v : Vec S.Stmt Global) → stmt_count (test_phrases (test_of (T.Seq v))) ≡ stmt_count (stmts_phrases (stmts_list v.items))
-unfolding stmts_phrases
-seq_count v = omega (arith, ap (λ x. stmt_count (test_phrases x)) (Views.seq_view v))
+  pub unify_count : (d : D.Desig) (r : _) (d' : D.Desig) (r' : _)
+      → amount m (test_phrases (test_of (T.Unify d r d' r')))
+      ≡ amount m (desig_phrases (desig_of d)) + amount m (desig_phrases (desig_of d'))
+  unfolding stmts_phrases amount
+  unify_count d r d' r' = omega (
+    arith,
+    ap (λ x. amount m (test_phrases x)) (Views.unify_view d r d' r'),
+    amount_sum
+        (desig_phrases (desig_of d)) (desig_phrases (desig_of d')),
+  )
 
-pub and_count : (v : Vec T.Test Global) → stmt_count (test_phrases (test_of (T.And v))) ≡ stmt_count (tests_phrases (tests_list v.items))
-unfolding stmts_phrases
-and_count v = omega (arith, ap (λ x. stmt_count (test_phrases x)) (Views.and_view v))
+  pub samecells_count : (d d' : D.Desig) → amount m (test_phrases (test_of (T.SameCells d d')))
+      ≡ amount m (desig_phrases (desig_of d)) + amount m (desig_phrases (desig_of d'))
+  unfolding stmts_phrases amount
+  samecells_count d d' = omega (
+    arith,
+    ap (λ x. amount m (test_phrases x)) (Views.samecells_view d d'),
+    amount_sum
+        (desig_phrases (desig_of d)) (desig_phrases (desig_of d')),
+  )
 
-pub or_count : (v : Vec T.Test Global) → stmt_count (test_phrases (test_of (T.Or v))) ≡ stmt_count (tests_phrases (tests_list v.items))
-unfolding stmts_phrases
-or_count v = omega (arith, ap (λ x. stmt_count (test_phrases x)) (Views.or_view v))
+  pub seq_count : (v : Vec S.Stmt Global) → amount m (test_phrases (test_of (T.Seq v))) ≡ amount m (stmts_phrases (stmts_list v.items))
+  unfolding stmts_phrases amount
+  seq_count v = omega (arith, ap (λ x. amount m (test_phrases x)) (Views.seq_view v))
 
-pub not_count : (t : _) → stmt_count (test_phrases (test_of (T.Not t))) ≡ stmt_count (test_phrases (test_of t.value))
-unfolding stmts_phrases
-not_count t = omega (arith, ap (λ x. stmt_count (test_phrases x)) (Views.not_view t))
+  pub and_count : (v : Vec T.Test Global) → amount m (test_phrases (test_of (T.And v))) ≡ amount m (tests_phrases (tests_list v.items))
+  unfolding stmts_phrases amount
+  and_count v = omega (arith, ap (λ x. amount m (test_phrases x)) (Views.and_view v))
 
-pub calltest_count : (c : Call) → stmt_count (test_phrases (test_of (T.Call c))) ≡ stmt_count (args_phrases (args_list c.args.items))
-unfolding stmts_phrases
-calltest_count c = omega (arith, ap (λ x. stmt_count (test_phrases x)) (Views.calltest_view c))
+  pub or_count : (v : Vec T.Test Global) → amount m (test_phrases (test_of (T.Or v))) ≡ amount m (tests_phrases (tests_list v.items))
+  unfolding stmts_phrases amount
+  or_count v = omega (arith, ap (λ x. amount m (test_phrases x)) (Views.or_view v))
 
-pub const_count : (n : _) → stmt_count (expr_phrases (expr_of (E.Const n))) ≡ 0
-unfolding stmts_phrases
-const_count n = omega (arith, ap (λ x. stmt_count (expr_phrases x)) (Views.const_view n))
+  pub not_count : (t : _) → amount m (test_phrases (test_of (T.Not t))) ≡ amount m (test_phrases (test_of t.value))
+  unfolding stmts_phrases amount
+  not_count t = omega (arith, ap (λ x. amount m (test_phrases x)) (Views.not_view t))
 
-pub load_count : (d : D.Desig) → stmt_count (expr_phrases (expr_of (E.Load d))) ≡ stmt_count (desig_phrases (desig_of d))
-unfolding stmts_phrases
-load_count d = omega (arith, ap (λ x. stmt_count (expr_phrases x)) (Views.load_view d))
+  pub calltest_count : (c : Call) → amount m (test_phrases (test_of (T.Call c))) ≡ amount m (args_phrases (args_list c.args.items))
+  unfolding stmts_phrases amount
+  calltest_count c = omega (arith, ap (λ x. amount m (test_phrases x)) (Views.calltest_view c))
 
-pub chain_count : (neg : _) (e : _) (v : Vec Link Global)
-    → stmt_count (expr_phrases (expr_of (E.Chain neg e v))) ≡ stmt_count (expr_phrases (expr_of e.value))
-    + stmt_count (links_phrases (links_list v.items))
-unfolding stmts_phrases
-chain_count neg e v = omega (
-  arith,
-  ap (λ x. stmt_count (expr_phrases x)) (Views.chain_view neg e v),
-  count_sum (expr_phrases (expr_of e.value)) (links_phrases (links_list v.items)),
-)
+  pub const_count : (n : _) → amount m (expr_phrases (expr_of (E.Const n))) ≡ 0
+  unfolding stmts_phrases amount
+  const_count n = omega (arith, ap (λ x. amount m (expr_phrases x)) (Views.const_view n))
 
-pub compare_count : (c a b : _) → stmt_count (expr_phrases (expr_of (E.Compare c a b))) ≡ stmt_count (expr_phrases (expr_of a.value))
-    + stmt_count (expr_phrases (expr_of b.value))
-unfolding stmts_phrases
-compare_count c a b = omega (
-  arith,
-  ap (λ x. stmt_count (expr_phrases x)) (Views.compare_view c a b),
-  count_sum (expr_phrases (expr_of a.value)) (expr_phrases (expr_of b.value)),
-)
+  pub load_count : (d : D.Desig) → amount m (expr_phrases (expr_of (E.Load d))) ≡ amount m (desig_phrases (desig_of d))
+  unfolding stmts_phrases amount
+  load_count d = omega (arith, ap (λ x. amount m (expr_phrases x)) (Views.load_view d))
 
-pub truth_count : (t : _) → stmt_count (expr_phrases (expr_of (E.Truth t))) ≡ stmt_count (test_phrases (test_of t.value))
-unfolding stmts_phrases
-truth_count t = omega (arith, ap (λ x. stmt_count (expr_phrases x)) (Views.truth_view t))
+  pub chain_count : (neg : _) (e : _) (v : Vec Link Global) → amount m (expr_phrases (expr_of (E.Chain neg e v)))
+      ≡ amount m (expr_phrases (expr_of e.value)) + amount m (links_phrases (links_list v.items))
+  unfolding stmts_phrases amount
+  chain_count neg e v = omega (
+    arith,
+    ap (λ x. amount m (expr_phrases x)) (Views.chain_view neg e v),
+    amount_sum
+        (expr_phrases (expr_of e.value)) (links_phrases (links_list v.items)),
+  )
 
-pub known_count : (d : D.Desig) → stmt_count (expr_phrases (expr_of (E.Known d))) ≡ stmt_count (desig_phrases (desig_of d))
-unfolding stmts_phrases
-known_count d = omega (arith, ap (λ x. stmt_count (expr_phrases x)) (Views.known_view d))
+  pub compare_count : (c a b : _) → amount m (expr_phrases (expr_of (E.Compare c a b)))
+      ≡ amount m (expr_phrases (expr_of a.value)) + amount m (expr_phrases (expr_of b.value))
+  unfolding stmts_phrases amount
+  compare_count c a b = omega (
+    arith,
+    ap (λ x. amount m (expr_phrases x)) (Views.compare_view c a b),
+    amount_sum
+        (expr_phrases (expr_of a.value)) (expr_phrases (expr_of b.value)),
+  )
 
-pub chr_count : (e : _) → stmt_count (expr_phrases (expr_of (E.Chr e))) ≡ stmt_count (expr_phrases (expr_of e.value))
-unfolding stmts_phrases
-chr_count e = omega (arith, ap (λ x. stmt_count (expr_phrases x)) (Views.chr_view e))
+  pub truth_count : (t : _) → amount m (expr_phrases (expr_of (E.Truth t))) ≡ amount m (test_phrases (test_of t.value))
+  unfolding stmts_phrases amount
+  truth_count t = omega (arith, ap (λ x. amount m (expr_phrases x)) (Views.truth_view t))
 
-pub callexpr_count : (c : Call) → stmt_count (expr_phrases (expr_of (E.Call c))) ≡ stmt_count (args_phrases (args_list c.args.items))
-unfolding stmts_phrases
-callexpr_count c = omega (arith, ap (λ x. stmt_count (expr_phrases x)) (Views.callexpr_view c))
+  pub known_count : (d : D.Desig) → amount m (expr_phrases (expr_of (E.Known d))) ≡ amount m (desig_phrases (desig_of d))
+  unfolding stmts_phrases amount
+  known_count d = omega (arith, ap (λ x. amount m (expr_phrases x)) (Views.known_view d))
 
-pub byvalue_count : (e : E.Expr) (r : _) → stmt_count (arg_phrases (arg_of (A.Value e r))) ≡ stmt_count (expr_phrases (expr_of e))
-unfolding stmts_phrases
-byvalue_count e r = omega (arith, ap (λ x. stmt_count (arg_phrases x)) (Views.byvalue_view e r))
+  pub chr_count : (e : _) → amount m (expr_phrases (expr_of (E.Chr e))) ≡ amount m (expr_phrases (expr_of e.value))
+  unfolding stmts_phrases amount
+  chr_count e = omega (arith, ap (λ x. amount m (expr_phrases x)) (Views.chr_view e))
 
-pub bycells_count : (d : D.Desig) → stmt_count (arg_phrases (arg_of (A.Cells d))) ≡ stmt_count (desig_phrases (desig_of d))
-unfolding stmts_phrases
-bycells_count d = omega (arith, ap (λ x. stmt_count (arg_phrases x)) (Views.bycells_view d))
+  pub callexpr_count : (c : Call) → amount m (expr_phrases (expr_of (E.Call c))) ≡ amount m (args_phrases (args_list c.args.items))
+  unfolding stmts_phrases amount
+  callexpr_count c = omega (arith, ap (λ x. amount m (expr_phrases x)) (Views.callexpr_view c))
 
-pub byplace_count : (d : D.Desig) → stmt_count (arg_phrases (arg_of (A.Place d))) ≡ stmt_count (desig_phrases (desig_of d))
-unfolding stmts_phrases
-byplace_count d = omega (arith, ap (λ x. stmt_count (arg_phrases x)) (Views.byplace_view d))
+  pub byvalue_count : (e : E.Expr) (r : _) → amount m (arg_phrases (arg_of (A.Value e r))) ≡ amount m (expr_phrases (expr_of e))
+  unfolding stmts_phrases amount
+  byvalue_count e r = omega (arith, ap (λ x. amount m (arg_phrases x)) (Views.byvalue_view e r))
 
-pub mixvalue_count : (e : E.Expr) (r : _) → stmt_count (arg_phrases (arg_of (A.MixValue e r))) ≡ stmt_count (expr_phrases (expr_of e))
-unfolding stmts_phrases
-mixvalue_count e r = omega (arith, ap (λ x. stmt_count (arg_phrases x)) (Views.mixvalue_view e r))
+  pub bycells_count : (d : D.Desig) → amount m (arg_phrases (arg_of (A.Cells d))) ≡ amount m (desig_phrases (desig_of d))
+  unfolding stmts_phrases amount
+  bycells_count d = omega (arith, ap (λ x. amount m (arg_phrases x)) (Views.bycells_view d))
 
-pub mixplace_count : (d : D.Desig) → stmt_count (arg_phrases (arg_of (A.MixPlace d))) ≡ stmt_count (desig_phrases (desig_of d))
-unfolding stmts_phrases
-mixplace_count d = omega (arith, ap (λ x. stmt_count (arg_phrases x)) (Views.mixplace_view d))
+  pub byplace_count : (d : D.Desig) → amount m (arg_phrases (arg_of (A.Place d))) ≡ amount m (desig_phrases (desig_of d))
+  unfolding stmts_phrases amount
+  byplace_count d = omega (arith, ap (λ x. amount m (arg_phrases x)) (Views.byplace_view d))
 
-pub field_count : (o c : _) → stmt_count (sel_phrases (sel_of (L.Field o c))) ≡ 0
-unfolding stmts_phrases
-field_count o c = omega (arith, ap (λ x. stmt_count (sel_phrases x)) (Views.field_view o c))
+  pub mixvalue_count : (e : E.Expr) (r : _) → amount m (arg_phrases (arg_of (A.MixValue e r))) ≡ amount m (expr_phrases (expr_of e))
+  unfolding stmts_phrases amount
+  mixvalue_count e r = omega (arith, ap (λ x. amount m (arg_phrases x)) (Views.mixvalue_view e r))
 
-pub index_count : (e : E.Expr) (r c : _) → stmt_count (sel_phrases (sel_of (L.Index e r c))) ≡ stmt_count (expr_phrases (expr_of e))
-unfolding stmts_phrases
-index_count e r c = omega (arith, ap (λ x. stmt_count (sel_phrases x)) (Views.index_view e r c))
+  pub mixplace_count : (d : D.Desig) → amount m (arg_phrases (arg_of (A.MixPlace d))) ≡ amount m (desig_phrases (desig_of d))
+  unfolding stmts_phrases amount
+  mixplace_count d = omega (arith, ap (λ x. amount m (arg_phrases x)) (Views.mixplace_view d))
 
-pub loop_count : (l : Loop) → stmt_count (loop_phrases (loop_of l)) ≡ stmt_count (desig_phrases (desig_of l.var)) + stmt_count
-    (expr_phrases (expr_of l.from)) + stmt_count (expr_phrases (expr_of l.to)) + stmt_count (stmts_phrases (stmts_list l.body.items))
-unfolding stmts_phrases
-loop_count l = omega (
-  arith,
-  count_sum ((desig_phrases (desig_of l.var) ++ expr_phrases (expr_of l.from)) ++ expr_phrases (expr_of l.to))
-      (stmts_phrases (stmts_list l.body.items)),
-  count_sum (desig_phrases (desig_of l.var) ++ expr_phrases (expr_of l.from)) (expr_phrases (expr_of l.to)),
-  count_sum (desig_phrases (desig_of l.var)) (expr_phrases (expr_of l.from)),
-)
+  pub field_count : (o c : _) → amount m (sel_phrases (sel_of (L.Field o c))) ≡ 0
+  unfolding stmts_phrases amount
+  field_count o c = omega (arith, ap (λ x. amount m (sel_phrases x)) (Views.field_view o c))
 
-pub desig_count : (d : D.Desig) → stmt_count (desig_phrases (desig_of d)) ≡ stmt_count (sels_phrases (sels_list d.sels.items))
-unfolding stmts_phrases
-desig_count d = refl
+  pub index_count : (e : E.Expr) (r c : _) → amount m (sel_phrases (sel_of (L.Index e r c))) ≡ amount m (expr_phrases (expr_of e))
+  unfolding stmts_phrases amount
+  index_count e r c = omega (arith, ap (λ x. amount m (sel_phrases x)) (Views.index_view e r c))
+
+  pub loop_count : (l : Loop) → amount m (loop_phrases (loop_of l))
+      ≡ amount m (desig_phrases (desig_of l.var)) + amount m (expr_phrases (expr_of l.from)) + amount m
+      (expr_phrases (expr_of l.to)) + amount m (stmts_phrases (stmts_list l.body.items))
+  unfolding stmts_phrases amount
+  loop_count l = omega (
+    arith,
+    amount_sum ((desig_phrases (desig_of l.var) ++ expr_phrases (expr_of l.from)) ++ expr_phrases (expr_of l.to))
+        (stmts_phrases (stmts_list l.body.items)),
+    amount_sum (desig_phrases (desig_of l.var) ++ expr_phrases (expr_of l.from))
+        (expr_phrases (expr_of l.to)),
+    amount_sum (desig_phrases (desig_of l.var)) (expr_phrases (expr_of l.from)),
+  )
+
+  pub desig_count : (d : D.Desig) → amount m (desig_phrases (desig_of d)) ≡ amount m (sels_phrases (sels_list d.sels.items))
+  unfolding stmts_phrases amount
+  desig_count d = omega arith
+
+-- ---- what the public functions count
+
+pub statements_amount : (xs : List Phrase) → amount measure.Statements xs ≡ stmt_count xs
+unfolding amount
+statements_amount [] = refl
+statements_amount (StmtPhrase x ∷ rest) = omega (arith, statements_amount rest)
+statements_amount (TestPhrase t ∷ rest) = omega (arith, statements_amount rest)
+statements_amount (ExprPhrase e ∷ rest) = omega (arith, statements_amount rest)
+statements_amount (ArgPhrase a ∷ rest) = omega (arith, statements_amount rest)
+statements_amount (DesigPhrase d ∷ rest) = omega (arith, statements_amount rest)
+statements_amount (SelPhrase x ∷ rest) = omega (arith, statements_amount rest)
+
+texts_weight : (x : Phrase) → weight measure.TextBytes x ≡ text_bytes x
+texts_weight (StmtPhrase x) = refl
+texts_weight (TestPhrase t) = refl
+texts_weight (ExprPhrase e) = refl
+texts_weight (ArgPhrase a) = refl
+texts_weight (DesigPhrase d) = refl
+texts_weight (SelPhrase x) = refl
+
+pub texts_amount : (xs : List Phrase) → amount measure.TextBytes xs ≡ sum_by text_bytes xs
+unfolding amount
+texts_amount = is_sum_by (amount measure.TextBytes) text_bytes refl (λ x rest. ap (λ n. n + amount measure.TextBytes rest) (texts_weight x))
+
+-- a statement that prints no text has no bytes of texts
+pub no_bytes : (x : S.Stmt) → ((text : _) → x ≡ S.WriteText text → ⊥) → text_bytes (StmtPhrase (stmt_of x)) ≡ 0
+unfolding stmt_of
+no_bytes (S.Test t) h = refl
+no_bytes (S.Assign' r c v sels e range) h = refl
+no_bytes (S.CopyCells' r c v sels r2 c2 v2 sels2) h = refl
+no_bytes (S.If' v arms w rest) h = refl
+no_bytes (S.While' t v body) h = refl
+no_bytes (S.Repeat' v body t) h = refl
+no_bytes (S.ForTo' r c v sels range counter limit from to by w body) h = refl
+no_bytes (S.SomeOf' r c v sels range counter limit from to by w body) h = refl
+no_bytes (S.Case' e v arms rest) h = refl
+no_bytes (S.Either' v branches) h = refl
+no_bytes (S.Forall' v a w b) h = refl
+no_bytes (S.Commit' v a) h = refl
+no_bytes (S.Return' e) h = refl
+no_bytes (S.Read' r c v sels how range) h = refl
+no_bytes (S.WriteExpr e how) h = refl
+no_bytes (S.WriteText v) h = absurd (h v refl)
+no_bytes S.WriteLine h = refl
+
+pub text_bytes_of : (v : _) → text_bytes (StmtPhrase (stmt_of (S.WriteText v))) ≡ length v.items
+unfolding stmt_of
+text_bytes_of v = refl
 
 -- all of these, for tactics
 pub ruleset counted = (

@@ -1,29 +1,46 @@
-// How many statements stand in a phrase, at any depth.
+// How many statements stand in a phrase, at any depth, and how many bytes their texts have.
 #![tactic(auto, using(crate::proofs::Counted::counted, std::proofs::lemmas::Grind::common_steps))]
 
-ghost use Rattle.std.specs.Prelude.{◌≡◌, ℕ, IfOk};
+ghost use Rattle.std.specs.Prelude.{◌≡◌, ℕ, IfOk, sum_by};
 ghost use Rattle.alma_ir.specs.View.{stmts_list, stmt_of, arms_list, cases_list, branches_list, loop_of, tests_list, test_of, expr_of, links_list, args_list, arg_of, desig_of, sel_of};
+ghost use Rattle.alma_ir.specs.Checked.{text_bytes};
 ghost use Rattle.alma_ir.specs.Count.{saturate};
 ghost use Rattle.alma_ir.specs.Lines.{stmt_count};
-ghost use Rattle.alma_ir.specs.Phrases.{stmts_phrases, stmt_phrases, arms_phrases, cases_phrases, branches_phrases, loop_phrases, tests_phrases, test_phrases, expr_phrases, links_phrases, args_phrases, arg_phrases, desig_phrases, sel_phrases};
+ghost use Rattle.alma_ir.specs.Measures.{own, amount, parts};
+ghost use Rattle.alma_ir.specs.Phrases.{stmts_phrases, arms_phrases, cases_phrases, branches_phrases, loop_phrases, tests_phrases, test_phrases, expr_phrases, links_phrases, args_phrases, arg_phrases, desig_phrases, sel_phrases};
 
 use crate::phrase::{Arg, Arm, Branch, CaseArm, Desig, Expr, Link, Loop, Sel, Stmt, Test};
 use alma_base::NoMemory;
 
+/// What is counted: each statement, or each byte of its text.
+#[derive(Clone, Copy)]
+pub enum Measure {
+    Statements,
+    TextBytes,
+}
+
 /// How many statements a list has, with those inside them; NoMemory where a u64 does not hold their number.
-#[tactic(auto)]
+#[tactic(auto, using(crate::proofs::Counted::statements_amount))]
 pub fn stmts_inside(body: &[Stmt]) -> Result<usize, NoMemory>
     ensures { IfOk result (λ n. n ≡ stmt_count (stmts_phrases (stmts_list body.now))) }
 {
-    exact(count_stmts(body))
+    exact(count_stmts(Measure::Statements, body))
 }
 
 /// How many statements stand inside a designator; NoMemory where a u64 does not hold their number.
-#[tactic(auto)]
+#[tactic(auto, using(crate::proofs::Counted::statements_amount))]
 pub fn desig_inside(desig: &Desig) -> Result<usize, NoMemory>
     ensures { IfOk result (λ n. n ≡ stmt_count (desig_phrases (desig_of desig.now))) }
 {
-    exact(count_desig(desig))
+    exact(count_desig(Measure::Statements, desig))
+}
+
+/// How many bytes the texts have that stand in a list of statements, or 2^64-1 where that is smaller.
+#[tactic(auto, using(crate::proofs::Counted::texts_amount))]
+pub fn text_bytes_inside(body: &[Stmt]) -> u64
+    ensures { result ≡ saturate (sum_by text_bytes (stmts_phrases (stmts_list body.now))) }
+{
+    count_stmts(Measure::TextBytes, body)
 }
 
 // A number that was counted, where the count was not cut off.
@@ -37,205 +54,230 @@ fn exact(count: u64) -> Result<usize, NoMemory>
     Ok(count as usize)
 }
 
+// What a statement counts by itself.
+#[tactic(auto)]
+fn count_own(measure: Measure, stmt: &Stmt) -> u64
+    ensures { result ≡ saturate (own measure (stmt_of stmt.now)) }
+{
+    match measure {
+        Measure::Statements => 1,
+        Measure::TextBytes => match stmt {
+            Stmt::WriteText(text) => text.len() as u64,
+            _ => 0,
+        },
+    }
+}
+
 #[cycle(count)]
-fn count_stmts(body: &[Stmt]) -> u64
-    ensures { result ≡ saturate (stmt_count (stmts_phrases (stmts_list body.now))) }
+fn count_stmts(measure: Measure, body: &[Stmt]) -> u64
+    ensures { result ≡ saturate (amount measure (stmts_phrases (stmts_list body.now))) }
 {
     let mut total: u64 = 0;
     for stmt in body {
-        total = total.saturating_add(count_stmt(stmt));
+        total = total
+            .saturating_add(count_own(measure, stmt))
+            .saturating_add(count_stmt(measure, stmt));
     }
     total
 }
 
+// What stands inside of a statement.
 #[cycle(count)]
-fn count_stmt(stmt: &Stmt) -> u64
-    ensures { result ≡ saturate (stmt_count (stmt_phrases (stmt_of stmt.now))) }
+fn count_stmt(measure: Measure, stmt: &Stmt) -> u64
+    ensures { result ≡ saturate (amount measure (parts (stmt_of stmt.now))) }
 {
     match stmt {
-        Stmt::Test(test) => count_test(test).saturating_add(1),
-        Stmt::Assign(desig, value, _) => count_desig(desig)
-            .saturating_add(count_expr(value))
-            .saturating_add(1),
-        Stmt::CopyCells(desig, from) => count_desig(desig)
-            .saturating_add(count_desig(from))
-            .saturating_add(1),
-        Stmt::If(arms, rest) => count_arms(arms)
-            .saturating_add(count_stmts(rest))
-            .saturating_add(1),
-        Stmt::While(test, body) => count_test(test)
-            .saturating_add(count_stmts(body))
-            .saturating_add(1),
-        Stmt::Repeat(body, test) => count_stmts(body)
-            .saturating_add(count_test(test))
-            .saturating_add(1),
-        Stmt::ForTo(each) => count_loop(each).saturating_add(1),
-        Stmt::SomeOf(each) => count_loop(each).saturating_add(1),
+        Stmt::Test(test) => count_test(measure, test),
+        Stmt::Assign(desig, value, _) => count_desig(measure, desig).saturating_add(count_expr(
+            measure, value,
+        )),
+        Stmt::CopyCells(desig, from) => count_desig(measure, desig).saturating_add(count_desig(
+            measure, from,
+        )),
+        Stmt::If(arms, rest) => count_arms(measure, arms).saturating_add(count_stmts(
+            measure, rest,
+        )),
+        Stmt::While(test, body) => count_test(measure, test).saturating_add(count_stmts(
+            measure, body,
+        )),
+        Stmt::Repeat(body, test) => count_stmts(measure, body).saturating_add(count_test(
+            measure, test,
+        )),
+        Stmt::ForTo(each) => count_loop(measure, each),
+        Stmt::SomeOf(each) => count_loop(measure, each),
         Stmt::Case(value, arms, rest) => {
-            let total = count_expr(value)
-                .saturating_add(count_cases(arms))
-                .saturating_add(1);
+            let total = count_expr(measure, value).saturating_add(count_cases(measure, arms));
             match rest {
                 None => total,
-                Some(rest) => total.saturating_add(count_stmts(rest)),
+                Some(rest) => total.saturating_add(count_stmts(measure, rest)),
             }
         }
-        Stmt::Either(branches) => count_branches(branches).saturating_add(1),
-        Stmt::Forall(each, body) => count_stmts(each)
-            .saturating_add(count_stmts(body))
-            .saturating_add(1),
-        Stmt::Commit(body) => count_stmts(body).saturating_add(1),
+        Stmt::Either(branches) => count_branches(measure, branches),
+        Stmt::Forall(each, body) => count_stmts(measure, each).saturating_add(count_stmts(
+            measure, body,
+        )),
+        Stmt::Commit(body) => count_stmts(measure, body),
         Stmt::Return(value) => match value {
-            None => 1,
-            Some(value) => count_expr(value).saturating_add(1),
+            None => 0,
+            Some(value) => count_expr(measure, value),
         },
-        Stmt::Read(desig, _, _) => count_desig(desig).saturating_add(1),
-        Stmt::WriteExpr(value, _) => count_expr(value).saturating_add(1),
-        Stmt::WriteText(_) | Stmt::WriteLine => 1,
+        Stmt::Read(desig, _, _) => count_desig(measure, desig),
+        Stmt::WriteExpr(value, _) => count_expr(measure, value),
+        Stmt::WriteText(_) | Stmt::WriteLine => 0,
     }
 }
 
 #[cycle(count)]
-fn count_arms(arms: &[Arm]) -> u64
-    ensures { result ≡ saturate (stmt_count (arms_phrases (arms_list arms.now))) }
+fn count_arms(measure: Measure, arms: &[Arm]) -> u64
+    ensures { result ≡ saturate (amount measure (arms_phrases (arms_list arms.now))) }
 {
     let mut total: u64 = 0;
     for arm in arms {
         total = total
-            .saturating_add(count_test(&arm.cond))
-            .saturating_add(count_stmts(&arm.body));
+            .saturating_add(count_test(measure, &arm.cond))
+            .saturating_add(count_stmts(measure, &arm.body));
     }
     total
 }
 
 #[cycle(count)]
-fn count_cases(arms: &[CaseArm]) -> u64
-    ensures { result ≡ saturate (stmt_count (cases_phrases (cases_list arms.now))) }
+fn count_cases(measure: Measure, arms: &[CaseArm]) -> u64
+    ensures { result ≡ saturate (amount measure (cases_phrases (cases_list arms.now))) }
 {
     let mut total: u64 = 0;
     for arm in arms {
-        total = total.saturating_add(count_stmts(&arm.body));
+        total = total.saturating_add(count_stmts(measure, &arm.body));
     }
     total
 }
 
 #[cycle(count)]
-fn count_branches(branches: &[Branch]) -> u64
-    ensures { result ≡ saturate (stmt_count (branches_phrases (branches_list branches.now))) }
+fn count_branches(measure: Measure, branches: &[Branch]) -> u64
+    ensures { result ≡ saturate (amount measure (branches_phrases (branches_list branches.now))) }
 {
     let mut total: u64 = 0;
     for branch in branches {
-        total = total.saturating_add(count_stmts(&branch.body));
+        total = total.saturating_add(count_stmts(measure, &branch.body));
     }
     total
 }
 
 #[cycle(count)]
-fn count_loop(each: &Loop) -> u64
-    ensures { result ≡ saturate (stmt_count (loop_phrases (loop_of each.now))) }
+fn count_loop(measure: Measure, each: &Loop) -> u64
+    ensures { result ≡ saturate (amount measure (loop_phrases (loop_of each.now))) }
 {
-    count_desig(&each.var)
-        .saturating_add(count_expr(&each.from))
-        .saturating_add(count_expr(&each.to))
-        .saturating_add(count_stmts(&each.body))
+    count_desig(measure, &each.var)
+        .saturating_add(count_expr(measure, &each.from))
+        .saturating_add(count_expr(measure, &each.to))
+        .saturating_add(count_stmts(measure, &each.body))
 }
 
 #[cycle(count)]
-fn count_tests(tests: &[Test]) -> u64
-    ensures { result ≡ saturate (stmt_count (tests_phrases (tests_list tests.now))) }
+fn count_tests(measure: Measure, tests: &[Test]) -> u64
+    ensures { result ≡ saturate (amount measure (tests_phrases (tests_list tests.now))) }
 {
     let mut total: u64 = 0;
     for test in tests {
-        total = total.saturating_add(count_test(test));
+        total = total.saturating_add(count_test(measure, test));
     }
     total
 }
 
 #[cycle(count)]
-fn count_test(test: &Test) -> u64
-    ensures { result ≡ saturate (stmt_count (test_phrases (test_of test.now))) }
+fn count_test(measure: Measure, test: &Test) -> u64
+    ensures { result ≡ saturate (amount measure (test_phrases (test_of test.now))) }
 {
     match test {
-        Test::Value(value) => count_expr(value),
-        Test::Bind(desig, value, _, _) => count_desig(desig).saturating_add(count_expr(value)),
-        Test::Unify(left, _, right, _) => count_desig(left).saturating_add(count_desig(right)),
-        Test::SameCells(left, right) => count_desig(left).saturating_add(count_desig(right)),
-        Test::Seq(body) => count_stmts(body),
-        Test::And(tests) => count_tests(tests),
-        Test::Or(tests) => count_tests(tests),
-        Test::Not(test) => count_test(test),
-        Test::Call(call) => count_args(&call.args),
+        Test::Value(value) => count_expr(measure, value),
+        Test::Bind(desig, value, _, _) => count_desig(measure, desig).saturating_add(count_expr(
+            measure, value,
+        )),
+        Test::Unify(left, _, right, _) => count_desig(measure, left).saturating_add(count_desig(
+            measure, right,
+        )),
+        Test::SameCells(left, right) => count_desig(measure, left).saturating_add(count_desig(
+            measure, right,
+        )),
+        Test::Seq(body) => count_stmts(measure, body),
+        Test::And(tests) => count_tests(measure, tests),
+        Test::Or(tests) => count_tests(measure, tests),
+        Test::Not(test) => count_test(measure, test),
+        Test::Call(call) => count_args(measure, &call.args),
     }
 }
 
 #[cycle(count)]
-fn count_expr(expr: &Expr) -> u64
-    ensures { result ≡ saturate (stmt_count (expr_phrases (expr_of expr.now))) }
+fn count_expr(measure: Measure, expr: &Expr) -> u64
+    ensures { result ≡ saturate (amount measure (expr_phrases (expr_of expr.now))) }
 {
     match expr {
         Expr::Const(_) => 0,
-        Expr::Load(desig) => count_desig(desig),
-        Expr::Chain(_, first, links) => count_expr(first).saturating_add(count_links(links)),
-        Expr::Compare(_, left, right) => count_expr(left).saturating_add(count_expr(right)),
-        Expr::Truth(test) => count_test(test),
-        Expr::Known(desig) => count_desig(desig),
-        Expr::Chr(value) => count_expr(value),
-        Expr::Call(call) => count_args(&call.args),
+        Expr::Load(desig) => count_desig(measure, desig),
+        Expr::Chain(_, first, links) => count_expr(measure, first).saturating_add(count_links(
+            measure, links,
+        )),
+        Expr::Compare(_, left, right) => count_expr(measure, left).saturating_add(count_expr(
+            measure, right,
+        )),
+        Expr::Truth(test) => count_test(measure, test),
+        Expr::Known(desig) => count_desig(measure, desig),
+        Expr::Chr(value) => count_expr(measure, value),
+        Expr::Call(call) => count_args(measure, &call.args),
     }
 }
 
 #[cycle(count)]
-fn count_links(links: &[Link]) -> u64
-    ensures { result ≡ saturate (stmt_count (links_phrases (links_list links.now))) }
+fn count_links(measure: Measure, links: &[Link]) -> u64
+    ensures { result ≡ saturate (amount measure (links_phrases (links_list links.now))) }
 {
     let mut total: u64 = 0;
     for link in links {
-        total = total.saturating_add(count_expr(&link.operand));
+        total = total.saturating_add(count_expr(measure, &link.operand));
     }
     total
 }
 
 #[cycle(count)]
-fn count_args(args: &[Arg]) -> u64
-    ensures { result ≡ saturate (stmt_count (args_phrases (args_list args.now))) }
+fn count_args(measure: Measure, args: &[Arg]) -> u64
+    ensures { result ≡ saturate (amount measure (args_phrases (args_list args.now))) }
 {
     let mut total: u64 = 0;
     for arg in args {
-        total = total.saturating_add(count_arg(arg));
+        total = total.saturating_add(count_arg(measure, arg));
     }
     total
 }
 
 #[cycle(count)]
-fn count_arg(arg: &Arg) -> u64
-    ensures { result ≡ saturate (stmt_count (arg_phrases (arg_of arg.now))) }
+fn count_arg(measure: Measure, arg: &Arg) -> u64
+    ensures { result ≡ saturate (amount measure (arg_phrases (arg_of arg.now))) }
 {
     match arg {
-        Arg::Value(value, _) => count_expr(value),
-        Arg::Cells(desig) => count_desig(desig),
-        Arg::Place(desig) => count_desig(desig),
-        Arg::MixValue(value, _) => count_expr(value),
-        Arg::MixPlace(desig) => count_desig(desig),
+        Arg::Value(value, _) => count_expr(measure, value),
+        Arg::Cells(desig) => count_desig(measure, desig),
+        Arg::Place(desig) => count_desig(measure, desig),
+        Arg::MixValue(value, _) => count_expr(measure, value),
+        Arg::MixPlace(desig) => count_desig(measure, desig),
     }
 }
 
 #[cycle(count)]
-fn count_desig(desig: &Desig) -> u64
-    ensures { result ≡ saturate (stmt_count (desig_phrases (desig_of desig.now))) }
+fn count_desig(measure: Measure, desig: &Desig) -> u64
+    ensures { result ≡ saturate (amount measure (desig_phrases (desig_of desig.now))) }
 {
     let mut total: u64 = 0;
     for sel in &desig.sels {
-        total = total.saturating_add(count_sel(sel));
+        total = total.saturating_add(count_sel(measure, sel));
     }
     total
 }
 
 #[cycle(count)]
-fn count_sel(sel: &Sel) -> u64
-    ensures { result ≡ saturate (stmt_count (sel_phrases (sel_of sel.now))) }
+fn count_sel(measure: Measure, sel: &Sel) -> u64
+    ensures { result ≡ saturate (amount measure (sel_phrases (sel_of sel.now))) }
 {
     match sel {
         Sel::Field(_, _) => 0,
-        Sel::Index(value, _, _) => count_expr(value),
+        Sel::Index(value, _, _) => count_expr(measure, value),
     }
 }

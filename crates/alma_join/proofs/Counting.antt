@@ -3,18 +3,16 @@ use Rattle.std.proofs.Common.{◌≡◌, ℕ, zero, suc, ◌+◌, ◌<◌, ◌�
 use Rattle.std.proofs.Common.{Some, refl, sym, ap, ◌∙◌, arith, add-one, drop-cons}
 use Rattle.std.specs.Prelude.{sum_by}
 use Rattle.std.proofs.lemmas.List.{drop_all, length-map}
-use Rattle.std.proofs.lemmas.List.Sums.{sum_by-cons}
 use Rattle.alma_base.specs.Choice.{if_true}
 use Rattle.alma_ir.specs.Count.{saturate}
 use Rattle.alma_ir.specs.Tree.{Program}
 use Rattle.alma_ir.specs.declared.phrase.Stmt.{Stmt}
 use Rattle.alma_ir.specs.declared.program.Program as whole
 use Rattle.alma_join.specs.Joined as joined
-use Rattle.alma_join.specs.Texts.{text_count}
 use Rattle.alma_join.specs.Totals.{AreTotals}
 use Rattle.alma_join.specs.declared.size.Totals as memory
 use Rattle.alma_ir.specs.Checked.{link_slots, text_bytes}
-use Rattle.alma_ir.specs.Phrases.{Phrase, stmts_phrases}
+use Rattle.alma_ir.specs.Phrases.{stmts_phrases}
 use Rattle.alma_ir.specs.View.{routine_of, global_of, stmts_list, program_of}
 use Rattle.alma_ir.specs.declared.program.Routine.{Routine}
 use Rattle.alma_ir.specs.declared.program.Global as variable
@@ -44,14 +42,9 @@ globals_sum = sum_mapped _ global_of
 pub texts_sum : (rs : List Routine) → sum_by (λ r. sum_by text_bytes (stmts_phrases r.body)) (map routine_of rs) ≡ sum_by of_texts rs
 texts_sum = sum_mapped _ routine_of
 
-texts_are : (xs : List Phrase) → text_count xs ≡ sum_by text_bytes xs
-texts_are [] = refl
-texts_are (x ∷ xs) = ap (λ n. text_bytes x + n) (texts_are xs) ∙ sym (sum_by-cons text_bytes x xs)
-
-pub by_texts : (xs ys : List Stmt) → xs ≡ ys → saturate (text_count (stmts_phrases (stmts_list xs)))
+pub by_texts : (xs ys : List Stmt) → xs ≡ ys → saturate (sum_by text_bytes (stmts_phrases (stmts_list xs)))
     ≡ saturate (sum_by text_bytes (stmts_phrases (stmts_list ys)))
-by_texts xs ys e = ap (λ l. saturate (text_count (stmts_phrases (stmts_list l)))) e
-    ∙ ap saturate (texts_are (stmts_phrases (stmts_list ys)))
+by_texts xs ys e = ap (λ l. saturate (sum_by text_bytes (stmts_phrases (stmts_list l)))) e
 
 -- a length in memory
 pub counted_len : (n v m : ℕ) → n ≡ v → m ≡ v → n < 2 ^ 64 → n ≡ saturate m

@@ -10,7 +10,6 @@ pub mod Rows
 pub mod Sharing
 pub mod Units
 pub mod Whole
-pub mod Bytes
 pub mod Counting
 pub mod Sums
 pub mod Alone

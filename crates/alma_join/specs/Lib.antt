@@ -3,7 +3,6 @@ pub mod Directory
 pub mod Fault
 pub mod Numbers
 pub mod Parts
-pub mod Texts
 pub mod Totals
 pub mod Joined
 pub mod Worked

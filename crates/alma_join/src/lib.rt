@@ -10,7 +10,6 @@ pub mod laws;
 mod part;
 mod program;
 mod size;
-mod texts;
 
 pub use error::JoinError;
 pub use program::join;

@@ -8,9 +8,8 @@ ghost use Rattle.alma_ir.specs.View.{program_of, routine_of, global_of};
 ghost use Rattle.alma_join.specs.Joined as joined;
 ghost use Rattle.alma_join.specs.Totals.{AreTotals};
 
-use crate::texts::count_stmts;
 use alma_base::{CELL_LIMIT, POOL_LIMIT, RECORD_LIMIT};
-use alma_ir::{Global, Program, Routine};
+use alma_ir::{Global, Program, Routine, text_bytes_inside};
 
 /// The greatest number of slots of a routine of a program.
 const BODY_SLOT_LIMIT: u64 = 4_194_304;
@@ -74,7 +73,7 @@ fn count_texts(routines: &[Routine]) -> u64
 {
     let mut total: u64 = 0;
     for routine in routines {
-        total = total.saturating_add(count_stmts(&routine.body));
+        total = total.saturating_add(text_bytes_inside(&routine.body));
     }
     total
 }

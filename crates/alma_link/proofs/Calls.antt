@@ -6,10 +6,10 @@ use Rattle.alma_io.specs.Files.{Told, Missing, Has}
 use Rattle.alma_ir.specs.Tree.{Program}
 use Rattle.alma_join.specs.Joined.{JoinFault, join_fault, joined}
 use Rattle.alma_plan.specs.Causes.{Causes}
-use Rattle.alma_plan.specs.Outside.{Outside}
+use Rattle.alma_io.specs.Outside.{Outside, IsUndisturbed}
 use Rattle.alma_plan.specs.Plan.{Due, Plan, Reading, Asks, Comes, silent}
 use Rattle.alma_plan.specs.Programs.{Last, sense, refused}
-use Rattle.alma_plan.specs.Undisturbed.{IsUndisturbed, ShowsDue}
+use Rattle.alma_plan.specs.Undisturbed.{ShowsDue}
 use Rattle.alma_plan.proofs.MeantLemmas.{run_is_meant}
 use Rattle.alma_plan.proofs.UndisturbedLemmas.{call_shows_due}
 use Rattle.alma_plan.proofs.ToldLemmas.{IsLargeOr, RunComes, SourceComes, StoreComes, run_asks, run_comes, source_asks, source_comes}

@@ -5,7 +5,7 @@ use Rattle.alma_io.specs.Files.{Told, Has}
 use Rattle.alma_ir.specs.Tree.{Program}
 use Rattle.alma_join.specs.Joined.{JoinFault, join_fault, joined}
 use Rattle.alma_lower_sound.specs.Reads.{program_reads}
-use Rattle.alma_plan.specs.Outside.{Outside}
+use Rattle.alma_io.specs.Outside.{Outside}
 use Rattle.alma_plan.specs.Plan.{Due, silent, tells}
 use Rattle.alma_plan.specs.Meant.{IsMeant}
 use Rattle.alma_plan.specs.Programs.{refused, storing, too_much_code}

@@ -4,10 +4,9 @@ ghost use Rattle.alma_link.specs.Link.{failed, files_plan, link_plan, program};
 ghost use Rattle.alma_link.specs.Shown.{AsksForModules, IsGiven, ModulesEnd, ShowsObject, ShowsRun};
 ghost use Rattle.alma_link.specs.Words.{AsksFor, Compile, IsRequest, Request, Run};
 ghost use Rattle.alma_plan.specs.Causes.{Causes};
-ghost use Rattle.alma_plan.specs.Outside.{Outside};
+ghost use Rattle.alma_io.specs.Outside.{Outside, IsUndisturbed};
 ghost use Rattle.alma_plan.specs.Plan.{Ends, bad_word, silent};
 ghost use Rattle.alma_plan.specs.Programs.{Tells, sense};
-ghost use Rattle.alma_plan.specs.Undisturbed.{IsUndisturbed};
 ghost use Rattle.alma_plan.specs.Words.{IsBadWord};
 
 /// Words ask for a task with from 1 to 16 files, and the plan is that of the task; or one is the first that cannot stand where it is, or

@@ -4,7 +4,7 @@ ghost use Rattle.alma_ir.specs.Tree.{routine_at};
 ghost use Rattle.alma_ir.specs.View.{program_of};
 ghost use Rattle.alma_plan.specs.Causes.{Causes};
 ghost use Rattle.alma_plan.specs.Course.{Answers, Reports};
-ghost use Rattle.alma_plan.specs.Outside.{outside_of};
+ghost use Rattle.alma_io.specs.Outside.{outside_of};
 ghost use Rattle.alma_plan.specs.Plan.{tells};
 ghost use Rattle.alma_plan.specs.Words.{texts};
 ghost use Rattle.alma_plan.specs.Programs.{sense};

@@ -9,7 +9,7 @@ use Rattle.alma_ir.specs.Tree as tree
 use Rattle.alma_ir.specs.View.{program_of}
 use Rattle.alma_ir.specs.declared.program.Program.{Program}
 use Rattle.alma_plan.specs.Course.{Follows, whole}
-use Rattle.alma_plan.specs.Outside.{FilesStay}
+use Rattle.alma_io.specs.Outside.{FilesStay}
 use Rattle.alma_plan.specs.Plan.{Ending, Plan, Judges, silent}
 use Rattle.alma_plan.proofs.Courses.{course_ends, course_fetched, course_judged, course_unfetched, gains_none}
 use Rattle.alma_source.specs.Verdict.{Verdict, Accepted, Rejected}

@@ -4,7 +4,7 @@ use Rattle.alma_code.specs.Plain.{PlainCode}
 use Rattle.alma_code.specs.Records.{KeepsCounts, KeepsRecords, KeepsVersion}
 use Rattle.alma_ir.specs.Tree.{Program}
 use Rattle.alma_object_format.specs.Object.{IsObject, object_bytes}
-use Rattle.alma_plan.specs.Plan.{Stored}
+use Rattle.alma_io.specs.Outside.{Stored}
 use Rattle.alma_plan.specs.Programs.{IsCodeOf}
 
 -- the bytes under the name

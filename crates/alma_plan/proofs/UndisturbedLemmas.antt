@@ -2,9 +2,9 @@
 use Rattle.std.proofs.Common.{ℕ, List, inl, inr}
 use Rattle.std.specs.Prelude.{◌⊎◌}
 use Rattle.alma_plan.specs.Causes.{Causes, FetchFailed, InputFailed, MayCome}
-use Rattle.alma_plan.specs.Outside.{Outside}
+use Rattle.alma_io.specs.Outside.{Outside, IsUndisturbed}
 use Rattle.alma_plan.specs.Plan.{Due, MayLack, Plan, Reading, Sense}
-use Rattle.alma_plan.specs.Undisturbed.{IsUndisturbed, ShowsDue}
+use Rattle.alma_plan.specs.Undisturbed.{ShowsDue}
 
 module _ {V L : Type 0} (sense : Sense V L) (program : List ℕ) (plan : Plan V L) (before after : Outside) (status : ℕ) where
   -- no file is missing, and nothing that reads failed

@@ -1,30 +1,13 @@
 -- When a fault is answered, that none is hidden, and what out, err and the files became by then.
-use Rattle.std.specs.Prelude.{◌≡◌, ◌≢◌, ◌<◌, ◌⊎◌, List, ℕ, [], Some}
+use Rattle.std.specs.Prelude.{◌≡◌, ◌≢◌, ◌⊎◌, List, ℕ, [], Some}
 use Rattle.std.specs.Io.KnownBytes.{Appends}
 use Rattle.alma_io.specs.Causes.{Rose}
-use Rattle.alma_plan.specs.Outside.{FilesStay, Outside}
-use Rattle.alma_plan.specs.Plan.{Stored, Ending, Due, Plan, Sense, Fetches, Judges, Reads, Ends, Reading, Asks, MayLack, Lacks, Comes}
+use Rattle.alma_io.specs.Outside.{FilesStay, Outside, Stored, OthersStay, Become, WriteFailed, WritesGrew, ReadsGrew}
+use Rattle.alma_plan.specs.Plan.{Ending, Due, Plan, Sense, Fetches, Judges, Reads, Ends, Reading, Asks, MayLack, Lacks, Comes}
 use Rattle.alma_plan.specs.Plan.{read_fault, write_fault, no_memory}
-use Rattle.alma_plan.specs.Course.{Gains, Takes, OthersStay, Become, MayRead, GainsPrefix, Reports}
+use Rattle.alma_plan.specs.Course.{Gains, Takes, MayRead, GainsPrefix, Reports}
 
 -- ---- what a call met
-
--- a write or a store failed in the call
-abbrev pub WriteFailed : Outside → Outside → Type 0
-WriteFailed before after =
-    Rose before.out.faults after.out.faults ⊎ (Rose before.err.faults after.err.faults
-    ⊎ Rose before.files.store_faults after.files.store_faults)
-
--- a count of failed writes or stores is greater now
-abbrev pub WritesGrew : Outside → Outside → Type 0
-WritesGrew before after =
-    (before.out.faults < after.out.faults) ⊎ ((before.err.faults < after.err.faults)
-    ⊎ (before.files.store_faults < after.files.store_faults))
-
--- a count of failed fetches or reads is greater now
-abbrev pub ReadsGrew : Outside → Outside → Type 0
-ReadsGrew before after =
-    ((name : List ℕ) × (before.files.fetch_faults name < after.files.fetch_faults name)) ⊎ (before.input.faults < after.input.faults)
 
 -- the fetch of a file that the plan may ask for failed in the call
 abbrev pub FetchFailed : {V L : Type 0} → Sense V L → Plan V L → Outside → Outside → Type 0

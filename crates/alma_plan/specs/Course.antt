@@ -1,13 +1,12 @@
 -- How a call that goes by a plan may come to an end: to what is due, or into a fault or want of memory.
-use Rattle.std.specs.Prelude.{◌≡◌, ◌≢◌, ◌⊎◌, ◌+◌, ◌≤◌, List, ℕ, [], length, None, Some, Option}
+use Rattle.std.specs.Prelude.{◌≡◌, ◌⊎◌, ◌+◌, ◌≤◌, List, ℕ, [], length, None, Some}
 use Rattle.std.specs.Io.KnownBytes.{Appends, Consumes, IsAtEnd}
 use Rattle.alma_base.specs.Limits.{input_limit}
-use Rattle.alma_io.specs.Files.{NowHas}
 use Rattle.alma_io.specs.Fronts.{AppendsFront}
 use Rattle.alma_io.specs.Sides.{SinkSide, SourceSide, FilesSide}
 use Rattle.alma_io.specs.Whole.{LosesAtMost, LosesBytes}
-use Rattle.alma_plan.specs.Outside.{Outside, HasRisen, FilesStay}
-use Rattle.alma_plan.specs.Plan.{Stored, Ending, Due, Plan, Sense, Reading, Kept, Finished, Passed, Asks, Comes, read_fault, write_fault}
+use Rattle.alma_io.specs.Outside.{Outside, HasRisen, FilesStay, Stored, OthersStay, Become}
+use Rattle.alma_plan.specs.Plan.{Ending, Due, Plan, Sense, Reading, Kept, Finished, Passed, Asks, Comes, read_fault, write_fault}
 use Rattle.alma_plan.specs.Plan.{no_memory}
 
 -- ---- the outputs
@@ -39,17 +38,6 @@ abbrev pub IsBegun : SourceSide → SourceSide → Type 0
 IsBegun old new = LosesAtMost old.left new.left (input_limit + 1) × (new.faults ≡ old.faults)
 
 -- ---- the files
-
--- the files tell what they told of all other names
-abbrev pub OthersStay : FilesSide → FilesSide → (name : List ℕ) → Type 0
-OthersStay old new name = (other : List ℕ) → other ≢ name → new.told other ≡ old.told other
-
--- the files are what they become where this is to be stored
-abbrev pub Become : FilesSide → FilesSide → Option Stored → Type 0
-Become old new None = FilesStay old new
-Become old new (Some stored) =
-    OthersStay old new stored.name × NowHas (old.told stored.name) (new.told stored.name) stored.bytes
-    × (new.store_faults ≡ old.store_faults)
 
 -- ---- the call
 

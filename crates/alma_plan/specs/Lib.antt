@@ -1,4 +1,3 @@
-pub mod Outside
 pub mod Plan
 pub mod Course
 pub mod Causes

@@ -2,14 +2,10 @@
 use Rattle.std.specs.Prelude.{◌≡◌, ◌≤◌, ◌⊎◌, List, ℕ, [], ◌++◌, codes, decimal, length, Option, None, Some}
 use Rattle.alma_base.specs.Limits.{input_limit}
 use Rattle.alma_io.specs.Files.{Told, Missing, Has, MayHave, MayPass}
+use Rattle.alma_io.specs.Outside.{Stored}
 use Rattle.alma_io.specs.Whole.{MayHaveMore}
 
 -- ---- what is due
-
--- bytes under the name of a file
-pub record Stored : Type 0 where
-  pub name : List ℕ
-  pub bytes : List ℕ
 
 -- how a call ends: its status, and its text on err
 pub record Ending : Type 0 where

@@ -6,7 +6,7 @@ use Rattle.alma_io.specs.declared.files.Fetch.TheVariants as fetch
 use Rattle.alma_io.specs.declared.whole.ReadAll.{ReadAll}
 use Rattle.alma_io.specs.declared.whole.ReadAll.TheVariants as whole
 use Rattle.alma_object_format.specs.declared.fault.ObjectFault.{ObjectFault}
-use Rattle.alma_object_format.specs.declared.fault.ObjectFault.TheVariants as object
+use Rattle.alma_object_format.specs.Fault.{object_fault_name, object_fault_number}
 use Rattle.alma_plan.specs.Plan.{Ending, tells, bad_word}
 use Rattle.alma_plan.specs.declared.refusal.Refusal.{Refusal}
 use Rattle.alma_plan.specs.declared.refusal.Refusal.TheVariants.{BadWord, BadObject, BadCode, Stopped}
@@ -44,26 +44,6 @@ read_stop whole.TooLong = TooLong
 read_stop whole.Memory = Memory
 
 -- ---- objects
-
--- the name of a fault of an object
-abbrev pub object_fault_name : ObjectFault → List ℕ
-object_fault_name object.Magic = codes "Magic"
-object_fault_name (object.Version version) = codes "Version"
-object_fault_name (object.Cut length) = codes "Cut"
-object_fault_name (object.Trailing offset) = codes "Trailing"
-object_fault_name (object.BadCount offset) = codes "BadCount"
-object_fault_name (object.BadOpcode offset) = codes "BadOpcode"
-object_fault_name (object.BadName offset) = codes "BadName"
-
--- its number, which Magic has not
-abbrev pub object_fault_number : ObjectFault → Option ℕ
-object_fault_number object.Magic = None
-object_fault_number (object.Version version) = Some version
-object_fault_number (object.Cut length) = Some length
-object_fault_number (object.Trailing offset) = Some offset
-object_fault_number (object.BadCount offset) = Some offset
-object_fault_number (object.BadOpcode offset) = Some offset
-object_fault_number (object.BadName offset) = Some offset
 
 -- the name, with the number where there is one
 abbrev pub numbered : (name : List ℕ) → Option ℕ → List ℕ

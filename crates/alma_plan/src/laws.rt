@@ -3,11 +3,11 @@ ghost use Rattle.std.specs.Prelude.{◌≤◌, List, ℕ, length};
 ghost use Rattle.alma_base.specs.Limits.{input_limit};
 ghost use Rattle.alma_ir.specs.Tree.{Program};
 ghost use Rattle.alma_plan.specs.Causes.{Causes, MayCome};
-ghost use Rattle.alma_plan.specs.Outside.{Outside};
+ghost use Rattle.alma_io.specs.Outside.{Outside, IsUndisturbed};
 ghost use Rattle.alma_plan.specs.Plan.{Due, Ending, MayLack, Plan, Reading, plain as no_source};
 ghost use Rattle.alma_plan.specs.Meant.{IsMeant};
 ghost use Rattle.alma_plan.specs.Programs.{Last, Runs, sense};
-ghost use Rattle.alma_plan.specs.Undisturbed.{IsUndisturbed, ShowsDue};
+ghost use Rattle.alma_plan.specs.Undisturbed.{ShowsDue};
 ghost use Rattle.alma_source.specs.Verdict.{Verdict};
 
 /// What is due from a run of a program is what its meaning says: its prints and its end, or a front of them where the steps ran out.

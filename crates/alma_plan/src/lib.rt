@@ -4,7 +4,6 @@
 
 mod end;
 pub mod laws;
-mod object;
 mod open;
 mod refusal;
 mod run;

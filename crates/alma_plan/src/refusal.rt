@@ -4,7 +4,6 @@ ghost use Rattle.alma_plan.specs.Plan.{bad_word, tells};
 ghost use Rattle.alma_plan.specs.Course.{Reports};
 ghost use Rattle.alma_plan.specs.Refusals.{numbered, object_fault_text, rule_fault_text, refusal_end};
 
-use crate::object::{object_fault_name, object_fault_number};
 use crate::stop::Stop;
 use crate::writing::report;
 use alma_base::Status;
@@ -68,12 +67,7 @@ fn refuse_object<E: Sink>(err: &mut E, program: &[u8], fault: ObjectFault) -> St
     ensures { Reports (tells program.now 9 (object_fault_text fault)) (E.side err.old)
         (E.side err.new) result.0 }
 {
-    refuse_named(
-        err,
-        program,
-        object_fault_name(fault),
-        object_fault_number(fault),
-    )
+    refuse_named(err, program, fault.name(), fault.number())
 }
 
 // Says that code is not sound.

@@ -11,9 +11,9 @@ use Rattle.alma_io.specs.Whole.{MayHaveMore}
 use Rattle.alma_ir.specs.Tree.{Program}
 use Rattle.alma_lower_sound.specs.Reads.{program_reads}
 use Rattle.alma_plan.specs.Causes.{Causes}
-use Rattle.alma_plan.specs.Outside.{Outside}
+use Rattle.alma_io.specs.Outside.{Outside, IsUndisturbed}
 use Rattle.alma_plan.specs.Plan.{Due, Ending, Plan, Fetches, Reading, Asks, Comes, MayBeLeft, plain, prints}
-use Rattle.alma_plan.specs.Undisturbed.{IsUndisturbed, ShowsDue}
+use Rattle.alma_plan.specs.Undisturbed.{ShowsDue}
 use Rattle.alma_plan.proofs.UndisturbedLemmas.{call_shows_due}
 use Rattle.alma_pool.specs.Due.{program, turns_limit, turns_in, bad_turn_behind, pool_text, opening, played_on, played, judged_by, judged}
 use Rattle.alma_pool.specs.Due.{fetching, asked, pool_plan}

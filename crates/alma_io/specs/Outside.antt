@@ -1,0 +1,77 @@
+-- What is outside of a call as it stands at one moment, what becomes of it, and what failed.
+use Rattle.std.specs.Prelude.{◌≡◌, ◌≢◌, ◌≤◌, ◌<◌, ◌⊎◌, List, ℕ, Option, None, Some}
+use Rattle.alma_io.specs.Causes.{Rose}
+use Rattle.alma_io.specs.Files.{NowHas}
+use Rattle.alma_io.specs.Sides.{SinkSide, SourceSide, FilesSide}
+
+-- all sides
+pub record Outside : Type 0 where
+  pub files : FilesSide
+  pub input : SourceSide
+  pub out : SinkSide
+  pub err : SinkSide
+
+-- the same by its parts
+abbrev pub outside_of : FilesSide → SourceSide → SinkSide → SinkSide → Outside
+outside_of files input out err = record { files = files; input = input; out = out; err = err }
+
+-- ---- the files
+
+-- bytes under the name of a file
+pub record Stored : Type 0 where
+  pub name : List ℕ
+  pub bytes : List ℕ
+
+-- the files tell what they told, and no store failed
+abbrev pub FilesStay : FilesSide → FilesSide → Type 0
+FilesStay old new = ((name : List ℕ) → new.told name ≡ old.told name) × (new.store_faults ≡ old.store_faults)
+
+-- the files tell what they told of all other names
+abbrev pub OthersStay : FilesSide → FilesSide → (name : List ℕ) → Type 0
+OthersStay old new name = (other : List ℕ) → other ≢ name → new.told other ≡ old.told other
+
+-- the file has these bytes, if it is told; all others stay, and no store failed
+abbrev pub HasStored : FilesSide → FilesSide → Stored → Type 0
+HasStored old new stored =
+    OthersStay old new stored.name × NowHas (old.told stored.name) (new.told stored.name) stored.bytes
+    × (new.store_faults ≡ old.store_faults)
+
+-- the files are what they become where this is to be stored
+abbrev pub Become : FilesSide → FilesSide → Option Stored → Type 0
+Become old new None = FilesStay old new
+Become old new (Some stored) = HasStored old new stored
+
+-- ---- what failed
+
+-- a fault came: the count never falls, and it grew or stands at its last value
+abbrev pub HasRisen : ℕ → ℕ → Type 0
+HasRisen before now = (before ≤ now) × Rose before now
+
+-- a write or a store failed in the call
+abbrev pub WriteFailed : Outside → Outside → Type 0
+WriteFailed before after =
+    Rose before.out.faults after.out.faults ⊎ (Rose before.err.faults after.err.faults
+    ⊎ Rose before.files.store_faults after.files.store_faults)
+
+-- a count of failed writes or stores is greater now
+abbrev pub WritesGrew : Outside → Outside → Type 0
+WritesGrew before after =
+    (before.out.faults < after.out.faults) ⊎ ((before.err.faults < after.err.faults)
+    ⊎ (before.files.store_faults < after.files.store_faults))
+
+-- the fetch of a file or a read of the input failed in the call
+abbrev pub ReadFailed : Outside → Outside → Type 0
+ReadFailed before after =
+    ((name : List ℕ) × Rose (before.files.fetch_faults name) (after.files.fetch_faults name))
+    ⊎ Rose before.input.faults after.input.faults
+
+-- a count of failed fetches or reads is greater now
+abbrev pub ReadsGrew : Outside → Outside → Type 0
+ReadsGrew before after =
+    ((name : List ℕ) × (before.files.fetch_faults name < after.files.fetch_faults name)) ⊎ (before.input.faults < after.input.faults)
+
+-- no count of faults rose in the call, and memory was found
+pub record IsUndisturbed (before after : Outside) (status : ℕ) : Type 0 where
+  pub no_read_failed : ReadFailed before after → ⊥
+  pub no_write_failed : WriteFailed before after → ⊥
+  pub memory : status ≢ 8
