@@ -1,28 +1,26 @@
 -- What a call shows that walks a program, where nothing fails.
-use Rattle.std.proofs.Common.{◌≡◌, ◌∙◌, ◌≤◌, ◌<◌, ℕ, List, [], ◌∷◌, ◌++◌, length, refl, ap, sym, subst, inl, inr, arith}
+use Rattle.std.proofs.Common.{◌≡◌, ◌∙◌, ◌≤◌, ℕ, List, [], ◌∷◌, ◌++◌, length, refl, ap, sym, subst, inl, inr}
 use Rattle.std.proofs.lemmas.List.{append_assoc}
 use Rattle.std.specs.Prelude.{Bool, true, false, codes, Option, None, Some, Result, Ok, Err}
 use Rattle.alma_base.specs.Limits.{input_limit, object_limit}
 use Rattle.alma_code.specs.Plain.{PlainCode}
 use Rattle.alma_code.specs.Reads.{code_reads}
-use Rattle.alma_code.specs.Rules.{code_fault}
 use Rattle.alma_code.specs.TraceText.{value_of_name}
-use Rattle.alma_io.specs.Files.{Told, Has, MayHave, MayPass}
-use Rattle.alma_io.specs.Whole.{MayHaveMore}
+use Rattle.alma_io.specs.Files.{Told, Has}
 use Rattle.alma_ir.specs.Tree.{Program}
 use Rattle.alma_lower.specs.Names.{KeepsNames}
 use Rattle.alma_lower_implements.specs.Implements.{Implements, line_in}
 use Rattle.alma_plan.specs.Causes.{Causes}
-use Rattle.alma_plan.specs.Objects.{object_refusal, refusal_by, rule_refusal}
+use Rattle.alma_plan.specs.Objects.{object_refusal}
 use Rattle.alma_io.specs.Outside.{Outside, IsUndisturbed}
-use Rattle.alma_plan.specs.Plan.{Due, Ending, Plan, Fetches, Reading, Asks, Comes, MayBeLeft, MayLack, plain, prints}
+use Rattle.alma_plan.specs.Plan.{Due, Ending, Plan, Fetches, Reading, Asks, Comes, MayLack, plain, prints}
 use Rattle.alma_plan.specs.Undisturbed.{ShowsDue}
+use Rattle.alma_plan.proofs.SpelledObjects.{spelled_accepted, spelled_short}
+use Rattle.alma_plan.proofs.ToldLemmas.{fetch_comes, read_comes}
 use Rattle.alma_plan.proofs.UndisturbedLemmas.{call_shows_due}
 use Rattle.alma_run_laws.proofs.Meant.{code_shows}
-use Rattle.alma_run_laws.proofs.Spelled.{spelled_sound}
 use Rattle.alma_run_laws.proofs.VariableLemmas.{variables_shown}
 use Rattle.alma_run_laws.specs.Shown.{shown_end}
-use Rattle.alma_run_laws.specs.Stored.{SpellsCodeOf}
 use Rattle.alma_run_laws.specs.Variables.{variable_word}
 use Rattle.alma_verify.specs.Bytes.{object_code}
 use Rattle.alma_back.specs.Due.{asked, back_plan, judged, judged_by, program, script_limit, walked, walked_on}
@@ -99,26 +97,11 @@ module _ (told : List ℕ → Told) (left : Option (List ℕ)) (reading : Readin
   abbrev ComesOf : Plan ⊥ Due → Type 0
   ComesOf plan = Comes plain program told left plan reading due
 
-  -- a file that is told, and is within its length, is fetched
-  fetched : (name bytes : List ℕ) (limit : ℕ) (next : List ℕ → Plan ⊥ Due) → told name ≡ Has bytes → length bytes ≤ limit
-      → ComesOf (Fetches name limit next) → ComesOf (next bytes)
-  fetched name bytes limit next has short (inl h) = cc (sym has ∙ h.0)
-  fetched name bytes limit next has short (inr (inl h)) =
-      let more : limit < length bytes = subst (λ (t : Told). MayPass t limit) has h.0 in
-      absurd (omega (arith, short, more))
-  fetched name bytes limit next has short (inr (inr h)) =
-      let same : bytes ≡ h.0 = subst (λ (t : Told). MayHave t h.0) has h.1 in
-      subst (λ (got : List ℕ). ComesOf (next got)) (sym same) h.3
-
   module _ (code : PlainCode) (lines : List Line) (input : List ℕ) (short : length input ≤ input_limit) where
     on_comes : (reads : Bool) → code_reads code ≡ reads → (code_reads code ≡ true → left ≡ Some input)
         → ComesOf (walked_on reads code lines) → due ≡ prints (session code input lines)
-    on_comes true is has (inl h) =
-        let more : input_limit < length input = subst (λ (l : Option (List ℕ)). MayHaveMore l input_limit) (has is) h.0 in
-        absurd (omega (arith, short, more))
-    on_comes true is has (inr h) =
-        let same : input ≡ h.0 = subst (λ (l : Option (List ℕ)). MayBeLeft l h.0) (has is) h.1 in
-        h.4 ∙ ap (λ (bytes : List ℕ). prints (session code bytes lines)) (sym same)
+    on_comes true is has c =
+        read_comes plain program told left reading due input (λ bytes. prints (session code bytes lines)) (has is) short c
     on_comes false quiet has h = h.1 ∙ ap prints (sym (shown_alike input (begun code []) lines quiet))
 
     judged_comes : (bytes text : List ℕ) → lines_in text ≡ Ok lines → object_refusal program bytes ≡ None → object_code bytes ≡ code
@@ -127,12 +110,6 @@ module _ (told : List ℕ → Told) (left : Option (List ℕ)) (reading : Readin
         let read = subst (λ (r : Result (List Line) ℕ). ComesOf (judged_by r bytes)) good come in
         let opened = subst (λ (refusal : Option Ending). ComesOf (walked refusal (object_code bytes) lines)) sound read in
         on_comes (code_reads code) refl has (subst (λ (c : PlainCode). ComesOf (walked_on (code_reads c) c lines)) is opened)
-
--- an object that spells code of a program is not refused
-unrefused : (p : Program) (bytes : List ℕ) → SpellsCodeOf p bytes → object_refusal program bytes ≡ None
-unrefused p bytes spells =
-    ap (λ fault. refusal_by program fault (code_fault (object_code bytes))) spells.clean
-    ∙ ap (λ rule. rule_refusal program rule) (spelled_sound p bytes spells)
 
 -- ---- the call
 
@@ -146,12 +123,14 @@ walk_shows words p lines input before after status w causes calm =
     (request_plan words w.object w.script w.asks) causes in
     let h = call_shows_due plain program (asked w.object w.script) before after status causes' calm
     (lacks_none told w.object w.script w.bytes w.text w.object_told w.script_told) in
-    let opened = fetched told before.input.left h.0 h.1 w.object w.bytes object_limit
-    (λ bytes. Fetches w.script script_limit (λ text. judged bytes text)) w.object_told w.object_short h.2 in
-    let read = fetched told before.input.left h.0 h.1 w.script w.text script_limit (λ text. judged w.bytes text) w.script_told
+    let opened = fetch_comes plain program told before.input.left h.0 h.1 w.object w.bytes object_limit
+    (λ bytes. Fetches w.script script_limit (λ text. judged bytes text)) w.object_told
+    (spelled_short p w.bytes w.spells) h.2 in
+    let read = fetch_comes plain program told before.input.left h.0 h.1 w.script w.text script_limit (λ text. judged w.bytes text) w.script_told
     w.script_short opened in
     let is : h.1 ≡ prints (session code input lines) =
-    judged_comes told before.input.left h.0 h.1 code lines input w.input_short w.bytes w.text w.script_good (unrefused p w.bytes w.spells)
+    judged_comes told before.input.left h.0 h.1 code lines input w.input_short w.bytes w.text w.script_good
+    (spelled_accepted program p w.bytes w.spells)
     refl (λ reads. w.left (sym w.spells.reads ∙ reads)) read in (
       session code input lines,
       shows_lines p (begun code input) lines

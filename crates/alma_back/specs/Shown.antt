@@ -1,6 +1,6 @@
 -- What a call shows of a program that is walked, in the words of a reader of its meaning.
 use Rattle.std.specs.Prelude.{◌≡◌, ◌≤◌, List, ℕ, true, [], ◌∷◌, ◌++◌, codes, decimal, length, Ok, Some}
-use Rattle.alma_base.specs.Limits.{input_limit, object_limit}
+use Rattle.alma_base.specs.Limits.{input_limit}
 use Rattle.alma_io.specs.Files.{Has}
 use Rattle.alma_ir.specs.Tree.{Program}
 use Rattle.alma_lower_sound.specs.Reads.{program_reads}
@@ -27,7 +27,6 @@ pub record WalksProgram (words : List (List ℕ)) (before : Outside) (p : Progra
   pub text : List ℕ
   pub asks : AsksToWalk words object script
   pub object_told : before.files.told object ≡ Has bytes
-  pub object_short : length bytes ≤ object_limit
   pub spells : SpellsCodeOf p bytes
   pub script_told : before.files.told script ≡ Has text
   pub script_short : length text ≤ script_limit

@@ -13,3 +13,4 @@ pub mod Sources
 pub mod Owns
 pub mod MeantLemmas
 pub mod ToldLemmas
+pub mod SpelledObjects

@@ -1,4 +1,4 @@
--- What plans of programs come to where their files and the input are told.
+-- What plans come to where their files and the input are told.
 use Rattle.std.proofs.Common.{◌≡◌, ◌∙◌, ◌≤◌, ◌<◌, ℕ, List, [], length, refl, ap, sym, subst, inl, inr, arith}
 use Rattle.std.proofs.lemmas.Bool.{cases_lt, lt-ltb, le-ltb}
 use Rattle.std.specs.Prelude.{◌⊎◌, Bool, true, false, ltb, Option, None, Some}
@@ -7,12 +7,12 @@ use Rattle.alma_base.specs.declared.place.Place.{Place}
 use Rattle.alma_code.specs.Machine.{State, start}
 use Rattle.alma_code.specs.Plain.{PlainCode}
 use Rattle.alma_code.specs.Reads.{code_reads}
-use Rattle.alma_io.specs.Files.{Told, Has, MayHave, MayPass}
+use Rattle.alma_io.specs.Files.{Told, Missing, Has, MayHave, MayPass}
 use Rattle.alma_io.specs.Whole.{MayHaveMore}
 use Rattle.alma_ir.specs.Tree.{Program}
 use Rattle.alma_lower_implements.specs.Implements.{state_after, printed_by, line_in}
 use Rattle.alma_lower_sound.specs.Reads.{program_reads}
-use Rattle.alma_plan.specs.Plan.{Due, Ending, Plan, Reading, Asks, Comes, Ends, MayBeLeft, silent}
+use Rattle.alma_plan.specs.Plan.{Due, Ending, Plan, Sense, Reading, Asks, Comes, Fetches, Judges, Reads, Ends, MayBeLeft, silent}
 use Rattle.alma_plan.specs.Programs.{Last, Runs, Stores, Means, sense, mode_end, refused, too_much_code, unless_large, run_on, run_plan}
 use Rattle.alma_plan.specs.Programs.{accepted, read_source, store_plan, within_size}
 use Rattle.alma_run_laws.proofs.Unread.{after_alike, prints_alike}
@@ -20,6 +20,39 @@ use Rattle.alma_run_laws.specs.Shown.{size_of}
 use Rattle.alma_source.specs.Refusal.{IsProgramOf, IsRefused, place_of}
 use Rattle.alma_source.specs.Verdict.{Verdict, Accepted, Rejected, IsVerdict}
 use Rattle.alma_source.specs.declared.fault.SourceFault.{SourceFault}
+
+-- ---- any plan
+
+module _ {V L : Type 0} (sense : Sense V L) (program : List ℕ) (told : List ℕ → Told) where
+  -- a plan that fetches a file that is told asks for no missing file but behind its bytes
+  pub fetch_asks : (file bytes name : List ℕ) (limit : ℕ) (next : List ℕ → Plan V L) → told file ≡ Has bytes → told name ≡ Missing
+      → Asks sense told (Fetches file limit next) name → (other : List ℕ) × Asks sense told (next other) name
+  fetch_asks file bytes name limit next has missing (inl same) = cc (sym missing ∙ ap told (sym same) ∙ has)
+  fetch_asks file bytes name limit next has missing (inr h) = (h.0, h.3)
+
+  module _ (left : Option (List ℕ)) (reading : Reading) (due : Due) where
+    -- it goes on with these bytes, where they are within the limit
+    pub fetch_comes : (file bytes : List ℕ) (limit : ℕ) (next : List ℕ → Plan V L) → told file ≡ Has bytes → length bytes ≤ limit
+        → Comes sense program told left (Fetches file limit next) reading due → Comes sense program told left (next bytes) reading due
+    fetch_comes file bytes limit next has short (inl h) = cc (sym has ∙ h.0)
+    fetch_comes file bytes limit next has short (inr (inl h)) =
+        let more : limit < length bytes = subst (λ (t : Told). MayPass t limit) has h.0 in
+        absurd (omega (arith, short, more))
+    fetch_comes file bytes limit next has short (inr (inr h)) =
+        let same : bytes ≡ h.0 = subst (λ (t : Told). MayHave t h.0) has h.1 in
+        subst (λ (got : List ℕ). Comes sense program told left (next got) reading due) (sym same) h.3
+
+    -- a plan that reads the input comes to what its last value means on an input that is left, within its length
+    pub read_comes : (input : List ℕ) (last : List ℕ → L) → left ≡ Some input → length input ≤ input_limit
+        → Comes sense program told left (Reads last) reading due → sense.means (last input) due
+    read_comes input last has short (inl h) =
+        let more : input_limit < length input = subst (λ (l : Option (List ℕ)). MayHaveMore l input_limit) has h.0 in
+        absurd (omega (arith, short, more))
+    read_comes input last has short (inr h) =
+        let same : input ≡ h.0 = subst (λ (l : Option (List ℕ)). MayBeLeft l h.0) has h.1 in
+        subst (λ (bytes : List ℕ). sense.means (last bytes) due) (sym same) h.4
+
+-- ---- plans of programs
 
 module _ (program : List ℕ) (failed : Ending) where
   -- what is due from a state and prints
@@ -82,12 +115,8 @@ module _ (program : List ℕ) (failed : Ending) where
     run_on_comes : (reads : Bool) (p : Program) (input : List ℕ) (steps : ℕ) → program_reads p ≡ reads
         → (program_reads p ≡ true → left ≡ Some input)
         → length input ≤ input_limit → ComesOf (run_on reads p steps) → Means program failed (Runs p input steps) due
-    run_on_comes true p input steps is has short (inl h) =
-        let more : input_limit < length input = subst (λ (l : Option (List ℕ)). MayHaveMore l input_limit) (has is) h.0 in
-        absurd (omega (arith, short, more))
-    run_on_comes true p input steps is has short (inr h) =
-        let same : input ≡ h.0 = subst (λ (l : Option (List ℕ)). MayBeLeft l h.0) (has is) h.1 in
-        subst (λ (bytes : List ℕ). Means program failed (Runs p bytes steps) due) (sym same) h.4
+    run_on_comes true p input steps is has short c =
+        read_comes (sense program failed) program told left reading due input (λ bytes. Runs p bytes steps) (has is) short c
     run_on_comes false p input steps is has short h = run_alike p input steps due is h.1
 
     -- a program is refused, where it is too large, or goes on
@@ -146,10 +175,7 @@ module _ (program : List ℕ) (failed : Ending) where
     -- a plan to read a source that is told comes to its refusal, or goes on behind its program
     pub source_comes : (file source : List ℕ) (next : Program → Plan Verdict Last) → told file ≡ Has source → length source ≤ source_limit
         → ComesOf (read_source file next) → SourceComes file source next
-    source_comes file source next has short (inl h) = cc (sym has ∙ h.0)
-    source_comes file source next has short (inr (inl h)) =
-        let more : MayPass (Has source) source_limit = subst (λ (t : Told). MayPass t source_limit) has h.0 in
-        absurd (omega (arith, short, more))
-    source_comes file source next has short (inr (inr h)) =
-        let same : source ≡ h.0 = subst (λ (t : Told). MayHave t h.0) has h.1 in
-        judged_comes file source next h.3.0 (subst (λ (bytes : List ℕ). IsVerdict bytes h.3.0) (sym same) h.3.1) h.3.2
+    source_comes file source next has short c =
+        let judged = fetch_comes (sense program failed) program told left reading due file source source_limit
+        (λ bytes. Judges bytes (accepted file next)) has short c in
+        judged_comes file source next judged.0 judged.1 judged.2

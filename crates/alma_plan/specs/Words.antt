@@ -17,7 +17,7 @@ abbrev pub AreFileNames : List (List ℕ) → Type 0
 AreFileNames [] = Unit {0}
 AreFileNames (word ∷ words) = (is_file_name word ≡ true) × AreFileNames words
 
--- ---- bad words, where a program is asked for something by words of this form
+-- ---- bad words, where a program is asked for something by words of the form `Asks`
 
 module _ (Asks : List (List ℕ) → Type 0) where
   -- words that ask for something begin with these

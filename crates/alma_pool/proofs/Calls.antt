@@ -1,19 +1,20 @@
 -- What a call shows whose words ask that programs take turns.
-use Rattle.std.proofs.Common.{◌≡◌, ◌≤◌, ◌<◌, ◌∙◌, ℕ, List, [], ◌∷◌, ◌++◌, length, refl, sym, ap, subst, inl, inr, arith, append_assoc}
+use Rattle.std.proofs.Common.{◌≡◌, ◌≤◌, ◌∙◌, ℕ, List, [], ◌∷◌, ◌++◌, length, refl, sym, ap, subst, append_assoc}
 use Rattle.std.proofs.lemmas.List.{append-nil}
 use Rattle.std.specs.Prelude.{Bool, true, false, Option, None, Some, Result, Ok, Err}
 use Rattle.std.specs.List.{list_any}
 use Rattle.alma_base.specs.Limits.{input_limit, object_limit}
 use Rattle.alma_code.specs.Plain.{PlainCode}
 use Rattle.alma_code.specs.Reads.{code_reads}
-use Rattle.alma_io.specs.Files.{Told, Missing, Has, MayHave, MayPass}
-use Rattle.alma_io.specs.Whole.{MayHaveMore}
+use Rattle.alma_io.specs.Files.{Told, Missing, Has}
 use Rattle.alma_ir.specs.Tree.{Program}
 use Rattle.alma_lower_sound.specs.Reads.{program_reads}
 use Rattle.alma_plan.specs.Causes.{Causes}
 use Rattle.alma_io.specs.Outside.{Outside, IsUndisturbed}
-use Rattle.alma_plan.specs.Plan.{Due, Ending, Plan, Fetches, Reading, Asks, Comes, MayBeLeft, plain, prints}
+use Rattle.alma_plan.specs.Plan.{Due, Ending, Plan, Reading, Asks, Comes, plain, prints}
 use Rattle.alma_plan.specs.Undisturbed.{ShowsDue}
+use Rattle.alma_plan.proofs.SpelledObjects.{spelled_short}
+use Rattle.alma_plan.proofs.ToldLemmas.{fetch_asks, fetch_comes, read_comes}
 use Rattle.alma_plan.proofs.UndisturbedLemmas.{call_shows_due}
 use Rattle.alma_pool.specs.Due.{program, turns_limit, turns_in, bad_turn_behind, pool_text, opening, played_on, played, judged_by, judged}
 use Rattle.alma_pool.specs.Due.{fetching, asked, pool_plan}
@@ -21,33 +22,14 @@ use Rattle.alma_pool.specs.Shown.{HaveObjectsOf, PlaysPrograms, ShowsPrograms}
 use Rattle.alma_pool.proofs.Objects.{object_codes, pool_alike, objects_count, objects_open, objects_read, objects_show}
 use Rattle.alma_pool.proofs.WordLemmas.{request_planned}
 
--- ---- files that are told
-
 module _ (told : List ℕ → Told) where
   -- the plan may ask for this file
   abbrev AsksOf : Plan ⊥ Due → (name : List ℕ) → Type 0
   AsksOf plan name = Asks plain told plan name
 
-  -- a plan that fetches a file that is told asks for that file, or goes on with its bytes
-  fetch_asks : (file bytes name : List ℕ) (limit : ℕ) (next : List ℕ → Plan ⊥ Due) → told file ≡ Has bytes → told name ≡ Missing
-      → AsksOf (Fetches file limit next) name → (other : List ℕ) × AsksOf (next other) name
-  fetch_asks file bytes name limit next has missing (inl same) = cc (sym missing ∙ ap told (sym same) ∙ has)
-  fetch_asks file bytes name limit next has missing (inr h) = (h.0, h.3)
-
-  module _ (left : Option (List ℕ)) (reading : Reading) (due : Due) where
-    abbrev ComesOf : Plan ⊥ Due → Type 0
-    ComesOf plan = Comes plain program told left plan reading due
-
-    -- it goes on with these bytes, where they are within the limit
-    fetch_comes : (file bytes : List ℕ) (limit : ℕ) (next : List ℕ → Plan ⊥ Due) → told file ≡ Has bytes → length bytes ≤ limit
-        → ComesOf (Fetches file limit next) → ComesOf (next bytes)
-    fetch_comes file bytes limit next has short (inl h) = cc (sym has ∙ h.0)
-    fetch_comes file bytes limit next has short (inr (inl h)) =
-        let more : limit < length bytes = subst (λ (t : Told). MayPass t limit) has h.0 in
-        absurd (omega (arith, short, more))
-    fetch_comes file bytes limit next has short (inr (inr h)) =
-        let same : bytes ≡ h.0 = subst (λ (t : Told). MayHave t h.0) has h.1 in
-        subst (λ (b : List ℕ). ComesOf (next b)) (sym same) h.3
+  -- it may come to that
+  abbrev ComesOf : (left : Option (List ℕ)) → Reading → Due → Plan ⊥ Due → Type 0
+  ComesOf left reading due plan = Comes plain program told left plan reading due
 
 -- ---- no file is missing
 
@@ -70,13 +52,13 @@ module _ (told : List ℕ → Told) (name : List ℕ) (missing : told name ≡ M
   files_lack turns got (file ∷ files) [] programs has asks = has
   files_lack turns got (file ∷ files) (bytes ∷ objects) [] has asks = has
   files_lack turns got (file ∷ files) (bytes ∷ objects) (p ∷ programs) has asks =
-      let more = fetch_asks told file bytes name object_limit (λ b. fetching turns (got ++ b ∷ []) files) has.0 missing asks in
-      files_lack turns (got ++ more.0 ∷ []) files objects programs has.3 more.1
+      let more = fetch_asks plain program told file bytes name object_limit (λ b. fetching turns (got ++ b ∷ []) files) has.0 missing asks in
+      files_lack turns (got ++ more.0 ∷ []) files objects programs has.2 more.1
 
   pub call_lacks : (file turns : List ℕ) (files objects : List (List ℕ)) (programs : List Program) → told file ≡ Has turns
       → HaveObjectsOf told files objects programs → AsksOf told (asked (file ∷ files)) name → ⊥
   call_lacks file turns files objects programs has all asks =
-      let more = fetch_asks told file turns name turns_limit (λ b. fetching b [] files) has missing asks in
+      let more = fetch_asks plain program told file turns name turns_limit (λ b. fetching b [] files) has missing asks in
       files_lack more.0 [] files objects programs all more.1
 
 -- ---- what comes of the files
@@ -89,12 +71,8 @@ module _ (told : List ℕ → Told) (left : Option (List ℕ)) (reading : Readin
   -- all codes are there, and the input, where one of them reads
   played_comes : (reads : Bool) (all : List PlainCode) → list_any code_reads all ≡ reads
       → (reads ≡ true → left ≡ Some input) → MayCome (played_on reads all turns) → due ≡ prints (pool_text 0 all input turns)
-  played_comes true all is there (inl h) =
-      let more : input_limit < length input = subst (λ (l : Option (List ℕ)). MayHaveMore l input_limit) (there refl) h.0 in
-      absurd (omega (arith, short, more))
-  played_comes true all is there (inr h) =
-      let same : input ≡ h.0 = subst (λ (l : Option (List ℕ)). MayBeLeft l h.0) (there refl) h.1 in
-      h.4 ∙ ap (λ (bytes : List ℕ). prints (pool_text 0 all bytes turns)) (sym same)
+  played_comes true all is there c =
+      read_comes plain program told left reading due input (λ bytes. prints (pool_text 0 all bytes turns)) (there refl) short c
   played_comes false all is there h = h.1 ∙ ap (λ (text : List ℕ). prints text) (pool_alike 0 all [] input turns is)
 
 -- the objects are fetched, behind those that were
@@ -109,9 +87,9 @@ files_come told left reading due turns got [] (bytes ∷ objects) programs has c
 files_come told left reading due turns got (file ∷ files) [] programs has c = absurd has
 files_come told left reading due turns got (file ∷ files) (bytes ∷ objects) [] has c = absurd has
 files_come told left reading due turns got (file ∷ files) (bytes ∷ objects) (p ∷ programs) has c =
-    let next = fetch_comes told left reading due file bytes object_limit (λ b. fetching turns (got ++ b ∷ []) files) has.0 has.1 c in
+    let next = fetch_comes plain program told left reading due file bytes object_limit (λ b. fetching turns (got ++ b ∷ []) files) has.0 (spelled_short p bytes has.1) c in
     subst (λ (all : List (List ℕ)). ComesOf told left reading due (judged turns all)) (append_assoc got (bytes ∷ []) objects)
-    (files_come told left reading due turns (got ++ bytes ∷ []) files objects programs has.3 next)
+    (files_come told left reading due turns (got ++ bytes ∷ []) files objects programs has.2 next)
 
 -- ---- the call
 

@@ -1,26 +1,21 @@
 -- Objects that spell code of programs, one after another.
 use Rattle.std.proofs.Common.{◌≡◌, ◌≤◌, ◌+◌, ◌∙◌, ℕ, suc, List, [], ◌∷◌, ◌++◌, length, refl, sym, ap, subst, append_assoc}
 use Rattle.std.proofs.lemmas.List.{append-nil}
-use Rattle.std.specs.Prelude.{◌||◌, Bool, true, false, Option, None, Ok, map}
+use Rattle.std.specs.Prelude.{◌||◌, Bool, true, false, Option, Ok, map}
 use Rattle.std.specs.List.{list_any}
 use Rattle.alma_base.specs.Limits.{input_limit}
 use Rattle.alma_code.specs.declared.step.End.TheVariants as ended
 use Rattle.alma_code.specs.Machine.{Mode, Going, Failing, Ended, Stuck, State, after, prints, start}
 use Rattle.alma_code.specs.Plain.{PlainCode}
 use Rattle.alma_code.specs.Reads.{code_reads}
-use Rattle.alma_code.specs.Rules.{code_fault}
-use Rattle.alma_code.specs.declared.step.VerifyFault.{VerifyFault}
 use Rattle.alma_io.specs.Files.{Told}
 use Rattle.alma_ir.specs.Tree.{Program}
 use Rattle.alma_lower_implements.specs.Implements.{state_after, printed_by, line_in}
 use Rattle.alma_lower_sound.specs.Reads.{program_reads}
-use Rattle.alma_object_format.specs.declared.fault.ObjectFault.{ObjectFault}
-use Rattle.alma_plan.specs.Objects.{object_refusal, refusal_by}
 use Rattle.alma_plan.specs.Plan.{Ending}
 use Rattle.alma_run_laws.specs.Shown.{shown_end}
-use Rattle.alma_run_laws.specs.Stored.{SpellsCodeOf}
 use Rattle.alma_run_laws.proofs.Meant.{code_shows}
-use Rattle.alma_run_laws.proofs.Spelled.{spelled_sound}
+use Rattle.alma_plan.proofs.SpelledObjects.{spelled_accepted}
 use Rattle.alma_run_laws.proofs.Unread.{after_alike, prints_alike}
 use Rattle.alma_verify.specs.Bytes.{object_code}
 use Rattle.alma_pool.specs.Due.{program, or_refused, opening, end_text, program_lines, program_text, pool_text}
@@ -31,13 +26,7 @@ use Rattle.alma_pool.specs.Shown.{HaveObjectsOf, ShowsEach, none as none_shown, 
 abbrev pub object_codes : List (List ℕ) → List PlainCode
 object_codes objects = map object_code objects
 
--- ---- code that spells a program
-
--- no object of it is refused
-spelled_clean : (p : Program) (bytes : List ℕ) → SpellsCodeOf p bytes → object_refusal program bytes ≡ None
-spelled_clean p bytes is =
-    ap (λ (fault : Option ObjectFault). refusal_by program fault (code_fault (object_code bytes))) is.clean
-    ∙ ap (λ (fault : Option VerifyFault). refusal_by program None fault) (spelled_sound p bytes is)
+-- ---- ends
 
 -- the words for an end of the machine are those for the end that it shows
 words_agree : (m : Mode) (line : ℕ) → meant_words (shown_end m line) ≡ end_text (ended_in m)
@@ -88,7 +77,7 @@ module _ (told : List ℕ → Told) where
   objects_count [] (bytes ∷ objects) programs has = absurd has
   objects_count (file ∷ files) [] programs has = absurd has
   objects_count (file ∷ files) (bytes ∷ objects) [] has = absurd has
-  objects_count (file ∷ files) (bytes ∷ objects) (p ∷ programs) has = ap suc (objects_count files objects programs has.3)
+  objects_count (file ∷ files) (bytes ∷ objects) (p ∷ programs) has = ap suc (objects_count files objects programs has.2)
 
   -- they are opened
   pub objects_open : (got : List PlainCode) (files objects : List (List ℕ)) (programs : List Program)
@@ -100,8 +89,8 @@ module _ (told : List ℕ → Told) where
   objects_open got (file ∷ files) (bytes ∷ objects) [] has = absurd has
   objects_open got (file ∷ files) (bytes ∷ objects) (p ∷ programs) has =
       let rest = opening (got ++ object_code bytes ∷ []) objects in
-      ap (λ (refused : Option Ending). or_refused refused rest) (spelled_clean p bytes has.2)
-      ∙ objects_open (got ++ object_code bytes ∷ []) files objects programs has.3
+      ap (λ (refused : Option Ending). or_refused refused rest) (spelled_accepted program p bytes has.1)
+      ∙ objects_open (got ++ object_code bytes ∷ []) files objects programs has.2
       ∙ ap (λ (all : List PlainCode). Ok all) (append_assoc got (object_code bytes ∷ []) (object_codes objects))
 
   -- one of the codes reads where one of the programs does
@@ -113,8 +102,8 @@ module _ (told : List ℕ → Told) where
   objects_read (file ∷ files) [] programs has = absurd has
   objects_read (file ∷ files) (bytes ∷ objects) [] has = absurd has
   objects_read (file ∷ files) (bytes ∷ objects) (p ∷ programs) has =
-      ap (λ (b : Bool). b || list_any code_reads (object_codes objects)) has.2.reads
-      ∙ ap (λ (b : Bool). program_reads p || b) (objects_read files objects programs has.3)
+      ap (λ (b : Bool). b || list_any code_reads (object_codes objects)) has.1.reads
+      ∙ ap (λ (b : Bool). program_reads p || b) (objects_read files objects programs has.2)
 
   -- what they print shows the programs
   pub objects_show : (before : ℕ) (files objects : List (List ℕ)) (programs : List Program) (input turns : List ℕ)
@@ -135,5 +124,5 @@ module _ (told : List ℕ → Told) where
       subst (λ (words : List ℕ). ShowsEach input turns before (p ∷ programs) (program_lines (before + 1) words printed ++ rest))
       (words_agree s.mode (line_in code s))
       (one_more_shown before p programs printed rest (shown_end s.mode (line_in code s))
-      (code_shows code p input steps has.2.implements short)
-      (objects_show (before + 1) files objects programs input turns short has.3))
+      (code_shows code p input steps has.1.implements short)
+      (objects_show (before + 1) files objects programs input turns short has.2))

@@ -2,7 +2,7 @@
 use Rattle.std.specs.Prelude.{◌≡◌, ◌≤◌, ◌+◌, List, ℕ, true, [], ◌∷◌, ◌++◌, codes, length, None, Some}
 use Rattle.std.specs.List.{list_any}
 use Rattle.alma_base.specs.Fault.{run_fault_text}
-use Rattle.alma_base.specs.Limits.{input_limit, object_limit}
+use Rattle.alma_base.specs.Limits.{input_limit}
 use Rattle.alma_io.specs.Files.{Told, Has}
 use Rattle.alma_ir.specs.Tree.{Program}
 use Rattle.alma_lower_sound.specs.Reads.{program_reads}
@@ -16,12 +16,11 @@ use Rattle.alma_pool.specs.Due.{turns_limit, bad_turn_behind, turns_in, program_
 use Rattle.alma_pool.specs.Pool.{turns_of}
 use Rattle.alma_pool.specs.Words.{AsksToPlay}
 
--- each file has the object of its place, which is within its length and spells code of the program of its place, as `alma compile`
--- stores it
+-- each file has the object of its place, which spells code of the program of its place, as `alma compile` stores it
 abbrev pub HaveObjectsOf : (told : List ℕ → Told) → (files objects : List (List ℕ)) → List Program → Type 0
 HaveObjectsOf told [] [] [] = Unit {0}
 HaveObjectsOf told (file ∷ files) (bytes ∷ objects) (p ∷ programs) =
-    (told file ≡ Has bytes) × (length bytes ≤ object_limit) × SpellsCodeOf p bytes × HaveObjectsOf told files objects programs
+    (told file ≡ Has bytes) × SpellsCodeOf p bytes × HaveObjectsOf told files objects programs
 HaveObjectsOf told [] [] (p ∷ programs) = ⊥
 HaveObjectsOf told [] (bytes ∷ objects) programs = ⊥
 HaveObjectsOf told (file ∷ files) [] programs = ⊥

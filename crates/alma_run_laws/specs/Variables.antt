@@ -1,4 +1,4 @@
--- What a trace shows of the variables of a source.
+-- What a trace or a walk shows of the variables of a source.
 use Rattle.std.specs.Prelude.{ℕ, List, [], ◌∷◌, ◌++◌, codes}
 use Rattle.alma_base.specs.Choice.{if_true}
 use Rattle.alma_ir.specs.Tree.{Global}
