@@ -4,7 +4,7 @@ use Rattle.std.specs.Prelude.{Bool, true, false, codes, Option, None, Some}
 use Rattle.alma_ir.specs.Tree.{Program}
 use Rattle.alma_plan.specs.Causes.{HasOwnEnds}
 use Rattle.alma_plan.specs.Plan.{bad_word, silent, success, tells}
-use Rattle.alma_plan.specs.Words.{is_file_name}
+use Rattle.alma_driver_words.specs.Words.{is_file_name}
 use Rattle.alma_plan.proofs.Owns.{own_status, own_tells, own_read_source, own_run_plan}
 use Rattle.alma_listing.specs.Lister.{listing_of}
 use Rattle.alma_all.specs.All.{program, all_sense, all_plan, asked, bad, body_returns, list_plan, unless_returns, steps_in, with_file}

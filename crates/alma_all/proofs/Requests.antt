@@ -1,10 +1,10 @@
 -- Words are a request, or have a first bad word.
 use Rattle.std.proofs.Common.{◌≡◌, ◌∙◌, ℕ, List, [], ◌∷◌, ap, refl, sym, inl, inr}
 use Rattle.std.specs.Prelude.{◌⊎◌, Bool, true, false, codes, Option, None, Some}
-use Rattle.alma_driver_words.specs.Words.{default_steps}
-use Rattle.alma_plan.specs.Words.{Begins, IsBadWord, is_file_name}
-use Rattle.alma_plan.proofs.BadWords.{Found, asks_begins, bad_behind, bad_end}
-use Rattle.alma_plan.proofs.BadWords as found
+use Rattle.alma_driver_words.specs.Words.{default_steps, is_file_name}
+use Rattle.alma_driver_words.specs.BadWords.{Begins, IsBadWord}
+use Rattle.alma_driver_words.proofs.BadWords.{Found, asks_begins, bad_behind, bad_end}
+use Rattle.alma_driver_words.proofs.BadWords as found
 use Rattle.alma_all.specs.All.{all_plan, asked, bad, steps_in, with_file, with_options, with_steps}
 use Rattle.alma_all.specs.Shown.{AsksToList, IsRequest, plain, within}
 use Rattle.alma_all.proofs.WordLemmas.{option_is, is_option}

@@ -8,7 +8,7 @@ use Rattle.alma_io.specs.Sides.{SinkSide, SourceSide, FilesSide}
 use Rattle.alma_plan.proofs.Courses.{course_ends, gains_none}
 use Rattle.alma_plan.specs.Course.{Follows, whole}
 use Rattle.alma_plan.specs.Plan.{bad_word, silent}
-use Rattle.alma_plan.specs.Words.{texts}
+use Rattle.alma_driver_words.specs.Words.{texts}
 use Rattle.alma_plan.specs.Programs.{Tells}
 use Rattle.alma_all.specs.All.{program, all_sense, bad}
 

@@ -5,11 +5,10 @@ use Rattle.alma_base.specs.Reading.{is_digit}
 use Rattle.alma_ir.specs.Phrases.{Phrase, StmtPhrase, stmts_phrases}
 use Rattle.alma_ir.specs.Tree.{Program, Return, routine_at}
 use Rattle.alma_scan.specs.Bytes.{value_of}
-use Rattle.alma_driver_words.specs.Words.{default_steps, greatest_steps}
+use Rattle.alma_driver_words.specs.Words.{default_steps, greatest_steps, is_file_name}
 use Rattle.alma_listing.specs.Lister.{listing_of}
 use Rattle.alma_source.specs.Verdict.{Verdict}
 use Rattle.alma_plan.specs.Plan.{Plan, Sense, Ends, bad_word, silent, success, tells}
-use Rattle.alma_plan.specs.Words.{is_file_name}
 use Rattle.alma_plan.specs.Programs.{Last, Tells, read_source, run_plan, sense}
 
 -- the name of the program

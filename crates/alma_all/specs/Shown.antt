@@ -1,7 +1,7 @@
 -- What a call shows of the alternatives of a program, in the words of a reader of its meaning.
 use Rattle.std.specs.Prelude.{◌≡◌, ◌<◌, ◌≤◌, ◌+◌, ◌*◌, ◌/◌, ℕ, suc, true, false, List, [], ◌∷◌, length, codes, Some}
 use Rattle.alma_base.specs.Limits.{input_limit, size_limit, source_limit}
-use Rattle.alma_driver_words.specs.Words.{IsSetting, Steps, default_steps}
+use Rattle.alma_driver_words.specs.Words.{IsSetting, Steps, default_steps, is_file_name}
 use Rattle.alma_io.specs.Files.{Has}
 use Rattle.alma_ir.specs.Checked.{IsChecked, HaveNoReturn}
 use Rattle.alma_ir.specs.Tree.{Program, routine_at}
@@ -14,7 +14,6 @@ use Rattle.alma_listing.specs.Lister.{listing_of}
 use Rattle.alma_listing.specs.Listing.{alternatives, global_cells, listed, listing}
 use Rattle.alma_io.specs.Outside.{Outside}
 use Rattle.alma_plan.specs.Plan.{Due, Ending, silent, success, tells}
-use Rattle.alma_plan.specs.Words.{is_file_name}
 use Rattle.alma_plan.specs.Meant.{meant_ending}
 use Rattle.alma_plan.specs.Programs.{Runs, refused, too_much_code}
 use Rattle.alma_plan.specs.Undisturbed.{ShowsDue}

@@ -2,7 +2,7 @@
 ghost use Rattle.std.specs.Prelude.{◌≡◌, ◌⊎◌, List, ℕ};
 ghost use Rattle.alma_plan.specs.Causes.{Causes};
 ghost use Rattle.alma_io.specs.Outside.{Outside, IsUndisturbed};
-ghost use Rattle.alma_plan.specs.Words.{IsBadWord};
+ghost use Rattle.alma_driver_words.specs.BadWords.{IsBadWord};
 ghost use Rattle.alma_all.specs.All.{all_plan, all_sense, asked, bad, program};
 ghost use Rattle.alma_all.specs.Shown.{AsksToList, IsRequest, ListEnds, ListsEveryAlternative, ListsSource};
 

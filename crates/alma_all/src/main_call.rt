@@ -2,7 +2,7 @@
 ghost use Rattle.alma_plan.specs.Causes.{Causes};
 ghost use Rattle.alma_plan.specs.Course.{Answers, Reports};
 ghost use Rattle.alma_io.specs.Outside.{outside_of};
-ghost use Rattle.alma_plan.specs.Words.{texts};
+ghost use Rattle.alma_driver_words.specs.Words.{texts};
 ghost use Rattle.alma_all.specs.All.{program, all_sense, all_plan};
 ghost use Rattle.alma_all.specs.Ends.{all_end};
 

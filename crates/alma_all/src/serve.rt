@@ -4,18 +4,18 @@ ghost use Rattle.alma_io.specs.Sides.{FilesSide};
 ghost use Rattle.alma_ir.specs.Checked.{IsChecked};
 ghost use Rattle.alma_ir.specs.View.{program_of};
 ghost use Rattle.alma_plan.specs.Course.{Follows};
-ghost use Rattle.alma_plan.specs.Words.{texts};
+ghost use Rattle.alma_driver_words.specs.Words.{texts};
 ghost use Rattle.alma_resolved.specs.Room.{HasRoom};
 ghost use Rattle.alma_all.specs.All.{program as program_name, all_sense, all_plan, asked, list_plan, with_options, with_steps};
 ghost use Rattle.alma_all.specs.Ends.{all_end, file_of};
 
 use crate::end::AllEnd;
 use crate::words::steps_option;
-use alma_driver_words::DEFAULT_STEPS;
+use alma_driver_words::{DEFAULT_STEPS, is_file_name, split_word};
 use alma_io::{Files, Sink, Source};
 use alma_ir::Program;
 use alma_listing::{AllError, listing_program};
-use alma_plan::{FileStop, ProgramEnd, Stop, is_file_name, run_program, split_word};
+use alma_plan::{FileStop, ProgramEnd, Stop, run_program};
 use alma_unit::read_unit;
 use std::alloc::Global;
 

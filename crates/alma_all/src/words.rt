@@ -2,7 +2,7 @@
 ghost use Rattle.std.specs.Prelude.{◌≡◌};
 ghost use Rattle.alma_all.specs.All.{steps_in};
 ghost use Rattle.alma_all.specs.Ends.{file_of};
-ghost use Rattle.alma_plan.specs.Words.{texts};
+ghost use Rattle.alma_driver_words.specs.Words.{texts};
 
 use alma_driver_words::named_steps;
 

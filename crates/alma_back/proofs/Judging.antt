@@ -12,7 +12,7 @@ use Rattle.alma_plan.specs.Course.{Follows, Goes, cut_short, hungry_within, whol
 use Rattle.alma_plan.specs.Objects.{object_refusal}
 use Rattle.alma_plan.specs.Plan.{Plan, Due, Ending, IsDue, line_of, silent, prints, plain}
 use Rattle.alma_plan.specs.Refusals.{refusal_end}
-use Rattle.alma_plan.specs.Words.{is_file_name}
+use Rattle.alma_driver_words.specs.Words.{is_file_name}
 use Rattle.alma_plan.specs.declared.refusal.Refusal.{Refusal}
 use Rattle.alma_plan.specs.declared.refusal.Refusal.TheVariants.{Stopped, BadWord}
 use Rattle.alma_plan.specs.declared.stop.Stop.{Stop}

@@ -1,8 +1,9 @@
 -- Words that ask to walk, and those that have a first bad word.
 use Rattle.std.proofs.Common.{◌≡◌, ◌∙◌, ℕ, List, [], ◌∷◌, refl, ap, subst, inl, inr}
 use Rattle.std.specs.Prelude.{◌⊎◌, Bool, true, false, codes, cond}
-use Rattle.alma_plan.specs.Words.{AreFileNames, Begins, IsBadWord, is_file_name}
-use Rattle.alma_plan.proofs.BadWords.{Found, bad_behind, bad_end, bad_is_told, one_of_both}
+use Rattle.alma_driver_words.specs.BadWords.{Begins, IsBadWord}
+use Rattle.alma_driver_words.specs.Words.{AreFileNames, is_file_name}
+use Rattle.alma_driver_words.proofs.BadWords.{Found, bad_behind, bad_end, bad_is_told, one_of_both}
 use Rattle.alma_back.specs.Due.{asked, back_plan, bad, with_script}
 use Rattle.alma_back.specs.Words.{AsksToWalk, IsRequest}
 

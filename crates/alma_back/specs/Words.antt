@@ -1,6 +1,6 @@
 -- The words of a call, as a reader knows them.
 use Rattle.std.specs.Prelude.{◌≡◌, List, ℕ, [], ◌∷◌}
-use Rattle.alma_plan.specs.Words.{AreFileNames}
+use Rattle.alma_driver_words.specs.Words.{AreFileNames}
 
 -- the words name an object and a script
 pub record AsksToWalk (words : List (List ℕ)) (object script : List ℕ) : Type 0 where

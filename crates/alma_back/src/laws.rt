@@ -4,7 +4,7 @@ ghost use Rattle.alma_ir.specs.Tree.{Program};
 ghost use Rattle.alma_plan.specs.Causes.{Causes};
 ghost use Rattle.alma_io.specs.Outside.{Outside, IsUndisturbed};
 ghost use Rattle.alma_plan.specs.Plan.{plain};
-ghost use Rattle.alma_plan.specs.Words.{IsBadWord};
+ghost use Rattle.alma_driver_words.specs.BadWords.{IsBadWord};
 ghost use Rattle.alma_back.specs.Due.{asked, back_plan, bad, program};
 ghost use Rattle.alma_driver_words.specs.Words.{IsName};
 ghost use Rattle.alma_back.specs.Laws.{BackUndoesStep, WalksAreRuns};

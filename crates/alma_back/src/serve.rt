@@ -2,15 +2,16 @@
 ghost use Rattle.std.specs.Prelude.{◌≡◌, IfOk, IfErr};
 ghost use Rattle.alma_plan.specs.Course.{Follows};
 ghost use Rattle.alma_plan.specs.Plan.{Fetches, plain};
-ghost use Rattle.alma_plan.specs.Words.{texts};
+ghost use Rattle.alma_driver_words.specs.Words.{texts};
 ghost use Rattle.alma_back.specs.Due.{program, script_limit, judged, asked, bad, back_plan};
 ghost use Rattle.alma_back.specs.Ends.{back_end};
 
 use crate::end::BackEnd;
 use crate::walk::judge;
 use alma_base::OBJECT_LIMIT;
+use alma_driver_words::{is_file_name, split_word};
 use alma_io::{Files, Sink, Source};
-use alma_plan::{Refusal, Stop, is_file_name, split_word};
+use alma_plan::{Refusal, Stop};
 use std::alloc::Global;
 
 /// The greatest number of bytes of a script.

@@ -223,7 +223,7 @@ request_absent told left r name due is none (unfetched same o) = cc (is, same)
 outcome_absent : (told : List ℕ → Told) (left : Option (List ℕ)) (words : List (List ℕ)) (due : Due) → Lacks words told
     → Outcome words told left due
     → due.end ≡ ReadFault
-outcome_absent told left words due l (bad_word k bad e) = absurd (bad.none l.0 l.2)
+outcome_absent told left words due l (bad_word k bad e) = absurd (bad.none (l.0, l.2))
 outcome_absent told left words due l (asks r k o) =
     let is : read_by r ≡ Some l.1 = subst (λ (q : Request). read_by q ≡ Some l.1) (one_request words l.0 r l.2 k) l.3 in
     request_absent told left r l.1 due is l.4 o

@@ -159,7 +159,7 @@ pub words_run : (words : List (List ℕ)) (before : Outside) (source input : Lis
     → AsksToRun words before source input steps stats
     → Outcome words before.files.told before.input.left due
     → SourceOutcome source (λ p. ProgramOutcome before.input.left p steps (Prints stats)) due
-words_run words before source input steps stats due a (bad_word k bad e) = absurd (bad.none (Run a.name steps stats) a.asks)
+words_run words before source input steps stats due a (bad_word k bad e) = absurd (bad.none (Run a.name steps stats, a.asks))
 words_run words before source input steps stats due a (asks r h o) =
     let same : r ≡ Run a.name steps stats = one_request words r (Run a.name steps stats) h a.asks in
     source_run before.files.told a.name source steps stats before.input.left due a.told a.source_short

@@ -8,13 +8,13 @@ use Rattle.alma_base.specs.Reading.{is_digit}
 use Rattle.alma_scan.specs.Bytes.{AllIn, value_of}
 use Rattle.alma_driver_words.specs.declared.command.Command as command
 use Rattle.alma_driver_words.specs.declared.command.Command.TheVariants as commands
-use Rattle.alma_driver_words.specs.Words.{IsFileName, greatest_steps, IsNumeral, NamesSteps, NamesLines, IsName}
+use Rattle.alma_driver_words.specs.Words.{IsFileName, greatest_steps, IsNumeral, NamesSteps, NamesLines, IsName, is_file_name}
 use Rattle.alma_driver_words.specs.Words.{Setting, Steps, Stats, Watch, IsSetting}
 use Rattle.alma_driver_words.specs.Words.{AreSettings, Allows, steps_named, stats_count, names_watched}
 use Rattle.alma_driver_words.specs.Words.{Request, Check, Compile, Listing, Run, Exec, Trace, Sample, Asks, IsBadWord, steps_of, is_some}
 use Rattle.alma_driver_words.specs.Inner.Commands.{word_of}
 use Rattle.alma_driver_words.specs.Inner.Settings.{AreOptions, IsBadOption}
-use Rattle.alma_driver_words.proofs.Decidable.{Decidable, no_more, same_number, same_text, all_in, has_front}
+use Rattle.alma_driver_words.proofs.Decidable.{Decidable, no_more, passed, same_text, all_in, has_front}
 use Rattle.alma_driver_words.proofs.NameTests.{is_name}
 use Rattle.alma_driver_words.proofs.SettingLemmas.{one_setting, are_more, last_setting, without_names, without_stats}
 use Rattle.alma_driver_words.proofs.WordLemmas.{bad_none, bad_command, bad_name, bad_behind_check, bad_behind_list, bad_object}
@@ -24,13 +24,8 @@ use Rattle.alma_driver_words.proofs.WordLemmas.{bad_trace_option}
 -- ---- single words
 
 -- whether a word may name a file
-is_file_name : (word : List ℕ) → Decidable (IsFileName word)
-is_file_name [] = inr (λ h. h)
-is_file_name (byte ∷ bytes) = by (same_number byte 45)
-  where
-    by : Decidable (byte ≡ 45) → Decidable (byte ≢ 45)
-    by (inl same) = inr (λ other. other same)
-    by (inr other) = inl other
+names_file : (word : List ℕ) → Decidable (IsFileName word)
+names_file word = passed (is_file_name word)
 
 -- whether a text is a numeral, which has its value
 is_numeral : (most : ℕ) (text : List ℕ) → Decidable (IsNumeral most text (value_of text))
@@ -197,7 +192,7 @@ HasAnswer words = ((request : Request) × Asks words request) ⊎ ((k : ℕ) × 
 -- words behind `check`
 check_words : (words : List (List ℕ)) → HasAnswer (codes "check" ∷ words)
 check_words [] = inr (2, bad_name commands.Check [] tt tt)
-check_words (name ∷ words) = by (is_file_name name) words
+check_words (name ∷ words) = by (names_file name) words
   where
     by : Decidable (IsFileName name) → (more : List (List ℕ)) → HasAnswer (codes "check" ∷ name ∷ more)
     by (inr never) more = inr (2, bad_name commands.Check (name ∷ more) tt never)
@@ -207,7 +202,7 @@ check_words (name ∷ words) = by (is_file_name name) words
 -- words behind `list`
 list_words : (words : List (List ℕ)) → HasAnswer (codes "list" ∷ words)
 list_words [] = inr (2, bad_name commands.List [] tt tt)
-list_words (object ∷ words) = by (is_file_name object) words
+list_words (object ∷ words) = by (names_file object) words
   where
     by : Decidable (IsFileName object) → (more : List (List ℕ)) → HasAnswer (codes "list" ∷ object ∷ more)
     by (inr never) more = inr (2, bad_name commands.List (object ∷ more) tt never)
@@ -217,7 +212,7 @@ list_words (object ∷ words) = by (is_file_name object) words
 -- words behind `compile` and a name
 object_words : (name : List ℕ) → IsFileName name → (words : List (List ℕ)) → HasAnswer (codes "compile" ∷ name ∷ words)
 object_words name named [] = inr (3, bad_object name [] named tt)
-object_words name named (object ∷ words) = by (is_file_name object) words
+object_words name named (object ∷ words) = by (names_file object) words
   where
     by : Decidable (IsFileName object) → (more : List (List ℕ)) → HasAnswer (codes "compile" ∷ name ∷ object ∷ more)
     by (inr never) more = inr (3, bad_object name (object ∷ more) named never)
@@ -227,7 +222,7 @@ object_words name named (object ∷ words) = by (is_file_name object) words
 -- words behind `compile`
 compile_words : (words : List (List ℕ)) → HasAnswer (codes "compile" ∷ words)
 compile_words [] = inr (2, bad_name commands.Compile [] tt tt)
-compile_words (name ∷ words) = by (is_file_name name)
+compile_words (name ∷ words) = by (names_file name)
   where
     by : Decidable (IsFileName name) → HasAnswer (codes "compile" ∷ name ∷ words)
     by (inr never) = inr (2, bad_name commands.Compile (name ∷ words) tt never)
@@ -236,7 +231,7 @@ compile_words (name ∷ words) = by (is_file_name name)
 -- words behind `run`
 run_words : (words : List (List ℕ)) → HasAnswer (codes "run" ∷ words)
 run_words [] = inr (2, bad_name commands.Run [] tt tt)
-run_words (name ∷ words) = by (is_file_name name) (all_options 1 0 words)
+run_words (name ∷ words) = by (names_file name) (all_options 1 0 words)
   where
     by : Decidable (IsFileName name) → HasOptions 1 0 words words → HasAnswer (codes "run" ∷ name ∷ words)
     by (inr never) options = inr (2, bad_name commands.Run (name ∷ words) tt never)
@@ -247,7 +242,7 @@ run_words (name ∷ words) = by (is_file_name name) (all_options 1 0 words)
 -- words behind `exec`
 exec_words : (words : List (List ℕ)) → HasAnswer (codes "exec" ∷ words)
 exec_words [] = inr (2, bad_name commands.Exec [] tt tt)
-exec_words (object ∷ words) = by (is_file_name object) (all_options 1 0 words)
+exec_words (object ∷ words) = by (names_file object) (all_options 1 0 words)
   where
     by : Decidable (IsFileName object) → HasOptions 1 0 words words → HasAnswer (codes "exec" ∷ object ∷ words)
     by (inr never) options = inr (2, bad_name commands.Exec (object ∷ words) tt never)
@@ -258,7 +253,7 @@ exec_words (object ∷ words) = by (is_file_name object) (all_options 1 0 words)
 -- words behind `trace`
 trace_words : (words : List (List ℕ)) → HasAnswer (codes "trace" ∷ words)
 trace_words [] = inr (2, bad_name commands.Trace [] tt tt)
-trace_words (name ∷ words) = by (is_file_name name) (all_options 0 8 words)
+trace_words (name ∷ words) = by (names_file name) (all_options 0 8 words)
   where
     by : Decidable (IsFileName name) → HasOptions 0 8 words words → HasAnswer (codes "trace" ∷ name ∷ words)
     by (inr never) options = inr (2, bad_name commands.Trace (name ∷ words) tt never)

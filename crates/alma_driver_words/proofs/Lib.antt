@@ -1,6 +1,7 @@
 pub mod NumberLemmas
 pub mod NameLemmas
 pub mod SettingLemmas
+pub mod BadWords
 pub mod WordLemmas
 pub mod NameTests
 mod Decidable

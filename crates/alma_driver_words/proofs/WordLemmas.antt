@@ -1,6 +1,6 @@
 -- Which word is the first that cannot stand.
 use Rattle.std.proofs.Common.{◌≡◌, ◌≢◌, ◌<◌, ◌≤◌, ◌+◌, ◌∙◌, ℕ, suc, List, [], ◌∷◌, ◌++◌, length, take, drop, get_or, refl, sym, ap, subst}
-use Rattle.std.proofs.Common.{append_assoc, append-nil, arith, add-one, take-take, nat_eq, if◌then◌else◌}
+use Rattle.std.proofs.Common.{append-nil, arith, add-one, take-take, nat_eq, if◌then◌else◌}
 use Rattle.std.proofs.lemmas.List.{take-append-drop}
 use Rattle.std.specs.Prelude.{codes, Bool, true, false, Err}
 use Rattle.alma_scan.specs.Bytes.{value_of}
@@ -8,12 +8,14 @@ use Rattle.alma_driver_words.specs.declared.command.Command as command
 use Rattle.alma_driver_words.specs.declared.command.Command.TheVariants as commands
 use Rattle.alma_driver_words.specs.declared.words.WordsError.{WordsError}
 use Rattle.alma_driver_words.specs.declared.words.WordsError.TheVariants.{Bad, Memory}
-use Rattle.alma_driver_words.specs.Words.{Request, Check, Compile, Listing, Run, Exec, Trace, Sample, Asks, Begins, IsBadWord, Reads}
+use Rattle.alma_driver_words.specs.BadWords as form
+use Rattle.alma_driver_words.specs.Words.{Request, Check, Compile, Listing, Run, Exec, Trace, Sample, Asks, AreRequest, IsBadWord, Reads}
 use Rattle.alma_driver_words.specs.Words.{IsFileName, NamesLines, Options, default_steps}
 use Rattle.alma_driver_words.specs.Limits.{IsWithinLimits}
 use Rattle.alma_driver_words.specs.Inner.Commands.{word_of}
 use Rattle.alma_driver_words.specs.Inner.Settings.{AreOptions, IsBadOption, ReadsOptions}
 use Rattle.alma_driver_words.specs.Inner.Names.{LacksName, LacksLines, ReadsOne}
+use Rattle.alma_driver_words.proofs.BadWords.{take_begins}
 use Rattle.alma_driver_words.proofs.SettingLemmas.{no_options, options_front, without_names, without_stats, one_meaning, options_within}
 use Rattle.alma_driver_words.proofs.SettingLemmas.{names_within}
 
@@ -25,18 +27,18 @@ first_of first second words others e = cc e
 rest_of : (first second : List ℕ) (words others : List (List ℕ)) → first ∷ words ≡ second ∷ others → words ≡ others
 rest_of first second words others e = cc e
 
--- what begins a request does so in each front
-begins_front : (words more : List (List ℕ)) → Begins (words ++ more) → Begins words
-begins_front words more b = (more ++ b.0, b.1, subst (λ (z : List (List ℕ)). Asks z b.1) (append_assoc words more b.0) b.2)
+-- a request begins with these words
+abbrev Begins : List (List ℕ) → Type 0
+Begins words = form.Begins AreRequest words
 
+-- what begins a request does so in each front
 begins_before : (words : List (List ℕ)) (k : ℕ) → Begins (take k words) → (j : ℕ) → j < k + 1 → Begins (take j words)
 begins_before words k b j h =
     let front : take j (take k words) ≡ take j words = take-take j k words (omega arith) in
-    subst Begins front (begins_front (take j (take k words)) (drop j (take k words))
-    (subst Begins (sym (take-append-drop j (take k words))) b))
+    subst Begins front (take_begins AreRequest j (take k words) b)
 
 a_name : IsFileName (97 ∷ [])
-a_name e = absurd (omega (arith, e))
+a_name = refl
 
 -- ---- commands
 
@@ -119,18 +121,18 @@ bad_behind : (c : command.Command) (rest : List (List ℕ)) (k : ℕ) → Begins
     → (k < length rest → (more : List (List ℕ)) (request : Request) → Behind c (take (suc k) rest ++ more) request → ⊥)
     → k ≤ length rest → ((request : Request) → Behind c rest request → ⊥) → IsBadWord (word_of c ∷ rest) (k + 2)
 bad_behind c rest k front here end none = record {
-  before = λ j h. begins_before (word_of c ∷ rest) (suc k) (front.0, front.1, behind_asks c (take k rest ++ front.0) front.1 front.2) j
+  before = λ j h. begins_before (word_of c ∷ rest) (suc k) (front.0, (front.1, behind_asks c (take k rest ++ front.0) front.1 front.2)) j
       (omega (arith, h));
   here = λ l b.
       let at : k + 2 ≡ suc (suc k) = omega arith in
       let moved : Begins (word_of c ∷ take (suc k) rest) = subst (λ (n : ℕ). Begins (take n (word_of c ∷ rest))) at b in
-      here (omega (arith, l)) moved.0 moved.1 (asks_behind c (take (suc k) rest ++ moved.0) moved.1 moved.2);
+      here (omega (arith, l)) moved.0 moved.1.0 (asks_behind c (take (suc k) rest ++ moved.0) moved.1.0 moved.1.1);
   end = omega (arith, end);
-  none = λ request a. none request (asks_behind c rest request a);
+  none = λ asks. none asks.0 (asks_behind c rest asks.0 asks.1);
 }
 
 begins_none : Begins []
-begins_none = (word_of commands.Check ∷ (97 ∷ []) ∷ [], Check (97 ∷ []), (refl, a_name))
+begins_none = (word_of commands.Check ∷ (97 ∷ []) ∷ [], (Check (97 ∷ []), (refl, a_name)))
 
 none_asked : (request : Request) → Asks [] request → ⊥
 none_asked request a = let own = asks_own [] request a in absurd (omega (arith, ap length own.2))
@@ -140,7 +142,7 @@ bad_none = record {
   before = begins_before [] 0 begins_none;
   here = λ h b. absurd (omega arith);
   end = omega arith;
-  none = none_asked;
+  none = λ asks. none_asked asks.0 asks.1;
 }
 
 not_command : (word : List ℕ) (words : List (List ℕ)) → ((c : command.Command) → word ≢ word_of c) → (request : Request)
@@ -151,9 +153,9 @@ not_command word words h request a = let own = asks_own (word ∷ words) request
 pub bad_command : (word : List ℕ) (words : List (List ℕ)) → ((c : command.Command) → word ≢ word_of c) → IsBadWord (word ∷ words) 1
 bad_command word words h = record {
   before = begins_before (word ∷ words) 0 begins_none;
-  here = λ _ b. not_command word b.0 h b.1 b.2;
+  here = λ _ b. not_command word b.0 h b.1.0 b.1.1;
   end = omega arith;
-  none = not_command word words h;
+  none = λ asks. not_command word words h asks.0 asks.1;
 }
 
 -- ---- names of files
@@ -413,10 +415,3 @@ pub one_request : (words : List (List ℕ)) (first second : Request) → Asks wo
 one_request words first second h k =
     let own = asks_own words first h in
     one_behind own.0 own.1 first second own.3 (asks_behind own.0 own.1 second (subst (λ (w : List (List ℕ)). Asks w second) own.2 k))
-
-not_before : (words : List (List ℕ)) (j k : ℕ) → IsBadWord words j → IsBadWord words k → j < k → ⊥
-not_before words j k first second h = first.here (omega (arith, second.end, h)) (second.before j h)
-
--- no two words are the first that cannot stand
-pub one_bad_word : (words : List (List ℕ)) (j k : ℕ) → IsBadWord words j → IsBadWord words k → j ≡ k
-one_bad_word words j k first second = omega (arith, not_before words j k first second, not_before words k j second first)

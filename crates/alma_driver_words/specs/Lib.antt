@@ -1,3 +1,4 @@
+pub mod BadWords
 pub mod Words
 pub mod Limits
 -- What the contracts of private functions say.

@@ -1,12 +1,13 @@
 -- What the words of a call ask for.
-use Rattle.std.specs.Prelude.{◌≡◌, ◌≢◌, ◌<◌, ◌≤◌, ◌+◌, ◌^◌, Bool, true, false, List, ℕ, zero, suc, [], ◌∷◌, ◌++◌, length, take, map, codes}
-use Rattle.std.specs.Prelude.{String, Result, Ok, Err}
+use Rattle.std.specs.Prelude.{◌≡◌, ◌<◌, ◌≤◌, ◌+◌, ◌^◌, Bool, true, false, List, ℕ, zero, suc, [], ◌∷◌, ◌++◌, length, map, codes}
+use Rattle.std.specs.Prelude.{not, eqb, String, Result, Ok, Err}
 use Rattle.std.specs.declared.alloc.Global.{Global}
 use Rattle.std.specs.String.{string_bytes}
 use Rattle.alma_base.specs.Reading.{is_digit}
 use Rattle.alma_tree.specs.declared.kind.Kind.TheVariants as kinds
 use Rattle.alma_scan.specs.Bytes.{AllIn, value_of}
 use Rattle.alma_scan.specs.Tokens.{Tokens}
+use Rattle.alma_driver_words.specs.BadWords as form
 use Rattle.alma_driver_words.specs.declared.words.Request as read
 use Rattle.alma_driver_words.specs.declared.words.Request.TheVariants as read_request
 use Rattle.alma_driver_words.specs.declared.words.WordsError.{WordsError}
@@ -15,9 +16,17 @@ use Rattle.alma_driver_words.specs.declared.words.WordsError.TheVariants.{Bad, M
 -- ---- single words
 
 -- a word that may name a file: not empty, and without '-' in front
+abbrev pub is_file_name : List ℕ → Bool
+is_file_name [] = false
+is_file_name (byte ∷ bytes) = not (eqb byte 45)
+
 abbrev pub IsFileName : List ℕ → Type 0
-IsFileName [] = ⊥
-IsFileName (byte ∷ bytes) = byte ≢ 45
+IsFileName word = is_file_name word ≡ true
+
+-- each word may name a file
+abbrev pub AreFileNames : List (List ℕ) → Type 0
+AreFileNames [] = Unit {0}
+AreFileNames (word ∷ words) = IsFileName word × AreFileNames words
 
 -- the greatest number of steps that words may name
 abbrev pub greatest_steps : ℕ
@@ -141,16 +150,13 @@ Asks words (Trace name steps watch) =
     (options : List (List ℕ)) × (words ≡ codes "trace" ∷ name ∷ options) × IsFileName name × Options 0 8 options steps false watch
 Asks words (Sample lines) = (digits : List ℕ) × (words ≡ codes "sample" ∷ digits ∷ []) × NamesLines digits lines
 
--- a request begins with these words
-abbrev pub Begins : List (List ℕ) → Type 0
-Begins words = (more : List (List ℕ)) × (request : Request) × Asks (words ++ more) request
+-- they ask for something
+abbrev pub AreRequest : List (List ℕ) → Type 0
+AreRequest words = (request : Request) × Asks words request
 
--- Word k, from 1, is the first that cannot stand where it is; or the words end too early, and k is one more than they are.
-pub record IsBadWord (words : List (List ℕ)) (k : ℕ) : Type 0 where
-  pub before : (j : ℕ) → j < k → Begins (take j words)
-  pub here : k ≤ length words → Begins (take k words) → ⊥
-  pub end : k ≤ length words + 1
-  pub none : (request : Request) → Asks words request → ⊥
+-- word k is the first that cannot stand where it is in a request, or they end too early
+abbrev pub IsBadWord : List (List ℕ) → (k : ℕ) → Type 0
+IsBadWord words k = form.IsBadWord AreRequest words k
 
 -- ---- what reading the words answers
 

@@ -14,4 +14,4 @@ pub use number::{named_steps, numeral};
 pub use options::DEFAULT_STEPS;
 pub use sample::sample_source;
 pub use setting::is_name;
-pub use words::{Request, WordsError, file_word, read_words};
+pub use words::{Request, WordsError, file_word, is_file_name, read_words, split_word};

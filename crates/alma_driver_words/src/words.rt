@@ -1,6 +1,6 @@
 // The words of a call.
 ghost use Rattle.std.specs.Prelude.{◌≡◌, ◌∷◌, [], ◌↔◌, codes, IsTrue, MatchOption};
-ghost use Rattle.alma_driver_words.specs.Words.{Reads, texts, file_of, IsFileName};
+ghost use Rattle.alma_driver_words.specs.Words.{Reads, texts, file_of, IsFileName, is_file_name as is_file_name_of};
 ghost use Rattle.alma_driver_words.specs.Inner.Names.{LacksName, ReadsOne};
 
 use crate::command::{Command, command_of};
@@ -60,18 +60,18 @@ impl From<NoMemory> for WordsError {
     }
 }
 
-// A word that may name a file.
-fn is_file_name(word: &str) -> bool
-    ensures { IsTrue result ↔ IsFileName word.now }
+/// A word that may name a file.
+pub fn is_file_name(word: &str) -> bool
+    ensures { result ≡ is_file_name_of word.now }
 {
-    match word.as_bytes().first() {
-        Some(byte) => *byte != b'-',
-        None => false,
+    match word.as_bytes() {
+        [byte, ..] => *byte != b'-',
+        [] => false,
     }
 }
 
-// The first word and the rest.
-fn split_word(words: &[String]) -> Option<(&str, &[String])>
+/// The first word and the rest.
+pub fn split_word(words: &[String]) -> Option<(&str, &[String])>
     ensures { MatchOption result (texts words.now ≡ []) (λ split. texts words.now ≡ split.0.now
         ∷ texts split.1.now) }
 {

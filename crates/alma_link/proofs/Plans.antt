@@ -15,8 +15,7 @@ use Rattle.alma_plan.specs.Programs.{Tells, sense}
 use Rattle.alma_plan.proofs.Owns.{own_read_source, own_run_plan, own_status, own_store_plan, own_tells}
 use Rattle.alma_link.specs.Words.{Task, Run, Compile, Request, request_of}
 use Rattle.alma_driver_words.specs.Words.{default_steps}
-use Rattle.alma_link.specs.Link.{program, failed, join_text, task_plan, unless_fault, join_plan, files_plan, request_plan}
-use Rattle.alma_link.specs.Link.{link_plan}
+use Rattle.alma_link.specs.Link.{program, failed, join_text, task_plan, unless_fault, join_plan, files_plan, request_plan, link_plan}
 use Rattle.alma_link.specs.Ends.{join_end}
 
 -- an end without a print

@@ -5,8 +5,9 @@ use Rattle.std.proofs.lemmas.List.{append_assoc, append-nil, length-append}
 use Rattle.std.proofs.lemmas.Slice.Eq.{bytes_eq-Decides}
 use Rattle.std.specs.Prelude.{◌⊎◌, Bool, true, false, ◌&&◌, codes, cond, ltb, Option, None, Some, Result, Ok, Err}
 use Rattle.std.specs.Str.{bytes_eq}
-use Rattle.alma_plan.specs.Words.{AreFileNames, Begins, IsBadWord, is_file_name}
-use Rattle.alma_plan.proofs.BadWords.{asks_begins, bad_behind, bad_end, one_bad_word}
+use Rattle.alma_driver_words.specs.BadWords.{Begins, IsBadWord}
+use Rattle.alma_driver_words.specs.Words.{AreFileNames, is_file_name}
+use Rattle.alma_driver_words.proofs.BadWords.{asks_begins, bad_behind, bad_end, one_bad_word}
 use Rattle.alma_link.specs.Words.{Task, Run, Compile, Request, request, greatest_files, bad_file, unless_bad, with_files, compile_request}
 use Rattle.alma_link.specs.Words.{request_behind, request_of, AreFiles, AsksForTask, AsksFor, IsRequest}
 

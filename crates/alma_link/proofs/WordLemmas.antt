@@ -5,7 +5,7 @@ use Rattle.std.proofs.lemmas.List.{length-map}
 use Rattle.std.specs.Prelude.{◌⊎◌, Bool, true, false, ◌&&◌, None, Some, String, ltb, cond}
 use Rattle.std.specs.declared.alloc.Global.{Global}
 use Rattle.std.specs.String.{string_bytes}
-use Rattle.alma_plan.specs.Words.{texts, is_file_name}
+use Rattle.alma_driver_words.specs.Words.{texts, is_file_name}
 use Rattle.alma_link.specs.Words.{greatest_files, bad_file}
 
 -- the number of files, as words behind so many

@@ -5,7 +5,7 @@ use Rattle.alma_join.specs.declared.error.JoinError.{JoinError}
 use Rattle.alma_join.specs.declared.error.JoinError.TheVariants as join
 use Rattle.alma_join.specs.Joined as fault
 use Rattle.alma_plan.specs.Plan.{Ending, bad_word, no_memory, tells}
-use Rattle.alma_plan.specs.Words.{texts}
+use Rattle.alma_driver_words.specs.Words.{texts}
 use Rattle.alma_plan.specs.Ends.{file_end, program_end}
 use Rattle.alma_link.specs.declared.end.LinkEnd.{LinkEnd}
 use Rattle.alma_link.specs.declared.end.LinkEnd.TheVariants.{BadWord, Unread, Unjoined, Performed}

@@ -2,7 +2,7 @@
 use Rattle.std.specs.Prelude.{◌≡◌, ◌≤◌, ◌+◌, ℕ, Bool, true, false, ◌&&◌, List, [], ◌∷◌, codes, length, ltb, cond, Option, None, Some}
 use Rattle.std.specs.Prelude.{Result, Ok, Err}
 use Rattle.std.specs.Str.{bytes_eq}
-use Rattle.alma_plan.specs.Words.{AreFileNames, is_file_name}
+use Rattle.alma_driver_words.specs.Words.{AreFileNames, is_file_name}
 
 -- the greatest number of files
 abbrev pub greatest_files : ℕ

@@ -7,7 +7,7 @@ ghost use Rattle.alma_plan.specs.Causes.{Causes};
 ghost use Rattle.alma_io.specs.Outside.{Outside, IsUndisturbed};
 ghost use Rattle.alma_plan.specs.Plan.{Ends, bad_word, silent};
 ghost use Rattle.alma_plan.specs.Programs.{Tells, sense};
-ghost use Rattle.alma_plan.specs.Words.{IsBadWord};
+ghost use Rattle.alma_driver_words.specs.BadWords.{IsBadWord};
 
 /// Words ask for a task with from 1 to 16 files, and the plan is that of the task; or one is the first that cannot stand where it is, or
 /// they end too early, and the plan tells that.

@@ -6,7 +6,7 @@ ghost use Rattle.alma_plan.specs.Causes.{Causes};
 ghost use Rattle.alma_plan.specs.Course.{Answers, Reports};
 ghost use Rattle.alma_io.specs.Outside.{outside_of};
 ghost use Rattle.alma_plan.specs.Plan.{tells};
-ghost use Rattle.alma_plan.specs.Words.{texts};
+ghost use Rattle.alma_driver_words.specs.Words.{texts};
 ghost use Rattle.alma_plan.specs.Programs.{sense};
 ghost use Rattle.alma_link.specs.Ends.{join_end, link_end};
 ghost use Rattle.alma_link.specs.Link.{failed, link_plan, program, unit_at};

@@ -5,7 +5,7 @@ ghost use Rattle.alma_ir.specs.Checked.{IsChecked};
 ghost use Rattle.alma_ir.specs.View.{program_of};
 ghost use Rattle.alma_join.specs.Joined.{AreUnits};
 ghost use Rattle.alma_plan.specs.Course.{Follows};
-ghost use Rattle.alma_plan.specs.Words.{texts};
+ghost use Rattle.alma_driver_words.specs.Words.{texts};
 ghost use Rattle.alma_plan.specs.Ends.{program_end};
 ghost use Rattle.alma_plan.specs.Programs.{sense};
 ghost use Rattle.alma_link.specs.Ends.{link_end, task_of};
@@ -14,11 +14,11 @@ ghost use Rattle.alma_link.specs.Words.{greatest_files};
 
 use crate::end::LinkEnd;
 use crate::words::{Task, request_of};
-use alma_driver_words::DEFAULT_STEPS;
+use alma_driver_words::{DEFAULT_STEPS, split_word};
 use alma_io::{Files, Sink, Source};
 use alma_ir::Program;
 use alma_join::join;
-use alma_plan::{FileStop, ProgramEnd, Stop, run_program, split_word, store_program};
+use alma_plan::{FileStop, ProgramEnd, Stop, run_program, store_program};
 use alma_unit::read_unit;
 use std::alloc::Global;
 

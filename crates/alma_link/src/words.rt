@@ -1,10 +1,10 @@
 // What the words of a call ask for.
 ghost use Rattle.std.specs.Prelude.{◌≡◌, ◌≤◌, ◌<◌, ◌+◌, length, Ok, Err, IfOk, MatchResult};
-ghost use Rattle.alma_plan.specs.Words.{texts};
+ghost use Rattle.alma_driver_words.specs.Words.{texts};
 ghost use Rattle.alma_link.specs.Ends.{request_in, task_of};
 ghost use Rattle.alma_link.specs.Words.{bad_file as bad_file_of, compile_request as compile_request_of, greatest_files, request_of as request_named, with_files as with_files_of};
 
-use alma_plan::{is_file_name, split_word};
+use alma_driver_words::{is_file_name, split_word};
 
 /// The greatest number of files.
 const GREATEST_FILES: usize = 16;

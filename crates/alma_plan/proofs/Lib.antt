@@ -4,7 +4,6 @@ pub mod Courses
 pub mod CauseLemmas
 pub mod PlainEnds
 pub mod UndisturbedLemmas
-pub mod BadWords
 mod TextLemmas
 mod Running
 mod Sizes

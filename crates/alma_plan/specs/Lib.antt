@@ -4,7 +4,6 @@ pub mod Causes
 pub mod Undisturbed
 pub mod Refusals
 pub mod Objects
-pub mod Words
 pub mod Programs
 pub mod Meant
 pub mod Ends

@@ -11,7 +11,6 @@ mod source;
 mod stop;
 mod store;
 mod telling;
-mod words;
 mod writing;
 
 pub use end::ProgramEnd;
@@ -22,5 +21,4 @@ pub use source::{FileStop, tell_file};
 pub use stop::Stop;
 pub use store::store_program;
 pub use telling::{tell_program, tell_refusal};
-pub use words::{is_file_name, split_word};
 pub use writing::{report, write_parts};

@@ -5,8 +5,9 @@ use Rattle.std.proofs.lemmas.Bool.{and_parts, cases_lt, lt-ltb, le-ltb, ltb-true
 use Rattle.std.proofs.lemmas.List.{append-nil, length-append}
 use Rattle.std.specs.Prelude.{◌⊎◌, Bool, true, false, ◌&&◌, Option, None, Some, ltb, cond, codes}
 use Rattle.alma_plan.specs.Plan.{Ends, bad_word, silent}
-use Rattle.alma_plan.specs.Words.{AreFileNames, Begins, IsBadWord, is_file_name}
-use Rattle.alma_plan.proofs.BadWords.{Found, bad_behind, bad_end, bad_is_told, one_of_both}
+use Rattle.alma_driver_words.specs.BadWords.{Begins, IsBadWord}
+use Rattle.alma_driver_words.specs.Words.{AreFileNames, is_file_name}
+use Rattle.alma_driver_words.proofs.BadWords.{Found, bad_behind, bad_end, bad_is_told, one_of_both}
 use Rattle.alma_pool.specs.Due.{program, unless, bad_word_behind, asked, planned, pool_plan}
 use Rattle.alma_pool.specs.Words.{AsksToPlay, IsRequest}
 

@@ -11,7 +11,7 @@ use Rattle.alma_code.specs.Reads.{code_reads}
 use Rattle.alma_verify.specs.Bytes.{object_code}
 use Rattle.alma_plan.specs.Plan.{Due, Ending, Plan, Fetches, Reads, Ends, silent, prints, tells, bad_word}
 use Rattle.alma_plan.specs.Objects.{object_refusal}
-use Rattle.alma_plan.specs.Words.{is_file_name}
+use Rattle.alma_driver_words.specs.Words.{is_file_name}
 use Rattle.alma_pool.specs.Pool.{Lone, lone, turns_of}
 
 -- the name of the program

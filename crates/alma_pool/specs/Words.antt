@@ -1,6 +1,6 @@
 -- The words of a call, as a reader knows them.
 use Rattle.std.specs.Prelude.{◌≡◌, ◌≤◌, List, ℕ, ◌∷◌, length}
-use Rattle.alma_plan.specs.Words.{AreFileNames}
+use Rattle.alma_driver_words.specs.Words.{AreFileNames}
 
 -- the greatest number of programs
 abbrev pub greatest_programs : ℕ

@@ -4,7 +4,7 @@ ghost use Rattle.alma_ir.specs.Tree.{Program};
 ghost use Rattle.alma_plan.specs.Causes.{Causes};
 ghost use Rattle.alma_io.specs.Outside.{Outside, IsUndisturbed};
 ghost use Rattle.alma_plan.specs.Plan.{Ends, bad_word, plain, silent};
-ghost use Rattle.alma_plan.specs.Words.{IsBadWord};
+ghost use Rattle.alma_driver_words.specs.BadWords.{IsBadWord};
 ghost use Rattle.alma_pool.specs.Due.{asked, pool_plan, program};
 ghost use Rattle.alma_pool.specs.Laws.{RunAlone, PrintsFront};
 ghost use Rattle.alma_pool.specs.Shown.{PlaysPrograms, ShowsPrograms};

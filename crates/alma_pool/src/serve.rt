@@ -1,7 +1,7 @@
 // From the words to an end.
 ghost use Rattle.std.specs.Prelude.{◌≡◌, ◌≤◌, length};
 ghost use Rattle.alma_plan.specs.Course.{Follows};
-ghost use Rattle.alma_plan.specs.Words.{texts};
+ghost use Rattle.alma_driver_words.specs.Words.{texts};
 ghost use Rattle.alma_plan.specs.Plan.{plain};
 ghost use Rattle.alma_pool.specs.Due.{program, fetching, asked, pool_plan, bad_word_behind, turns_limit};
 ghost use Rattle.alma_pool.specs.Ends.{pool_end};
@@ -11,8 +11,9 @@ use crate::end::PoolEnd;
 use crate::play::judge;
 use crate::turns::TURNS_LIMIT;
 use alma_base::OBJECT_LIMIT;
+use alma_driver_words::{is_file_name, split_word};
 use alma_io::{Files, Sink, Source};
-use alma_plan::{Refusal, Stop, is_file_name, split_word};
+use alma_plan::{Refusal, Stop};
 use std::alloc::Global;
 
 // Fetches the objects of these names, behind those that were, and then makes the turns.

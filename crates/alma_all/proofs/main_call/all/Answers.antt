@@ -1,4 +1,4 @@
-use Rattle.alma_plan.specs.Words.{texts}
+use Rattle.alma_driver_words.specs.Words.{texts}
 use Rattle.alma_plan.proofs.CauseLemmas.{causes_of}
 use Rattle.alma_source.proofs.Verdicts.{one_verdict}
 use Rattle.alma_all.specs.All.{program, all_sense, all_plan}

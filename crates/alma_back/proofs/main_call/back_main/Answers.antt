@@ -1,4 +1,4 @@
-use Rattle.alma_plan.specs.Words.{texts}
+use Rattle.alma_driver_words.specs.Words.{texts}
 use Rattle.alma_plan.proofs.CauseLemmas.{causes_of, plain_has_one}
 use Rattle.alma_plan.specs.Plan.{plain}
 use Rattle.alma_back.specs.Due.{program, back_plan}

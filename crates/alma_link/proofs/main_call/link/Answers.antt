@@ -1,6 +1,6 @@
 use Rattle.std.specs.Prelude.{map}
 use Rattle.alma_ir.specs.View.{program_of}
-use Rattle.alma_plan.specs.Words.{texts}
+use Rattle.alma_driver_words.specs.Words.{texts}
 use Rattle.alma_plan.proofs.CauseLemmas.{causes_of}
 use Rattle.alma_plan.specs.Programs.{sense}
 use Rattle.alma_source.proofs.Verdicts.{one_verdict}

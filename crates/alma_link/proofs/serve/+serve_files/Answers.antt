@@ -4,7 +4,7 @@ use Rattle.std.specs.Prelude.{map}
 use Rattle.std.specs.String.{string_bytes}
 use Rattle.alma_ir.specs.View.{program_of}
 use Rattle.alma_plan.proofs.Courses.{course_starved}
-use Rattle.alma_plan.specs.Words.{texts}
+use Rattle.alma_driver_words.specs.Words.{texts}
 use Rattle.alma_plan.proofs.Sources.{course_read_source, course_unread_source}
 use Rattle.alma_link.specs.Ends.{task_of}
 use Rattle.alma_link.specs.Link.{program, failed, files_plan}

@@ -1,5 +1,5 @@
 use Rattle.std.proofs.Common.{◌∙◌, refl, sym, arith}
-use Rattle.alma_plan.specs.Words.{texts}
+use Rattle.alma_driver_words.specs.Words.{texts}
 use Rattle.alma_link.proofs.WordLemmas.{files_within, same_count}
 use Rattle.alma_link.proofs.words.with_files.Goals as goal
 

@@ -3,7 +3,7 @@ use Rattle.std.proofs.lemmas.List.{map-append}
 use Rattle.std.specs.Global.{Vec}
 use Rattle.alma_base.specs.Limits.{object_limit}
 use Rattle.alma_plan.proofs.Courses.{course_fetched, course_unfetched}
-use Rattle.alma_plan.specs.Words.{texts}
+use Rattle.alma_driver_words.specs.Words.{texts}
 use Rattle.alma_plan.specs.Plan.{plain}
 use Rattle.alma_pool.specs.Due.{program, fetching}
 use Rattle.alma_pool.specs.Inner.{all_bytes}

@@ -2,7 +2,7 @@ use Rattle.std.proofs.Common.{[], refl}
 use Rattle.alma_plan.proofs.Courses.{course_ends, course_fetched, course_unfetched, gains_none}
 use Rattle.alma_plan.specs.Course.{whole}
 use Rattle.alma_plan.specs.Plan.{silent, bad_word, plain}
-use Rattle.alma_plan.specs.Words.{texts}
+use Rattle.alma_driver_words.specs.Words.{texts}
 use Rattle.alma_pool.specs.Due.{program, fetching, turns_limit}
 use Rattle.alma_pool.proofs.serve.serve.Goals as goal
 

@@ -4,7 +4,7 @@ use Rattle.std.proofs.lemmas.Bool.{cases_lt}
 use Rattle.std.proofs.lemmas.List.{append-nil, length-append, take-append-drop, take-append-le}
 use Rattle.std.proofs.Math.Seq.{take-append-add}
 use Rattle.std.specs.Prelude.{◌⊎◌}
-use Rattle.alma_plan.specs.Words.{Begins, IsBadWord}
+use Rattle.alma_driver_words.specs.BadWords.{Begins, IsBadWord}
 
 module _ (Asks : List (List ℕ) → Type 0) where
   -- ---- words that begin a request
