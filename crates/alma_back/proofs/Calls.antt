@@ -126,8 +126,8 @@ walk_shows words p lines input before after status w causes calm =
     let opened = fetch_comes plain program told before.input.left h.0 h.1 w.object w.bytes object_limit
     (λ bytes. Fetches w.script script_limit (λ text. judged bytes text)) w.object_told
     (spelled_short p w.bytes w.spells) h.2 in
-    let read = fetch_comes plain program told before.input.left h.0 h.1 w.script w.text script_limit (λ text. judged w.bytes text) w.script_told
-    w.script_short opened in
+    let read = fetch_comes plain program told before.input.left h.0 h.1 w.script w.text script_limit (λ text. judged w.bytes text)
+    w.script_told w.script_short opened in
     let is : h.1 ≡ prints (session code input lines) =
     judged_comes told before.input.left h.0 h.1 code lines input w.input_short w.bytes w.text w.script_good
     (spelled_accepted program p w.bytes w.spells)

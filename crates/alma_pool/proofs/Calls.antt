@@ -52,7 +52,8 @@ module _ (told : List ℕ → Told) (name : List ℕ) (missing : told name ≡ M
   files_lack turns got (file ∷ files) [] programs has asks = has
   files_lack turns got (file ∷ files) (bytes ∷ objects) [] has asks = has
   files_lack turns got (file ∷ files) (bytes ∷ objects) (p ∷ programs) has asks =
-      let more = fetch_asks plain program told file bytes name object_limit (λ b. fetching turns (got ++ b ∷ []) files) has.0 missing asks in
+      let more = fetch_asks plain program told file bytes name object_limit (λ b. fetching turns (got ++ b ∷ []) files) has.0 missing
+      asks in
       files_lack turns (got ++ more.0 ∷ []) files objects programs has.2 more.1
 
   pub call_lacks : (file turns : List ℕ) (files objects : List (List ℕ)) (programs : List Program) → told file ≡ Has turns
@@ -87,7 +88,8 @@ files_come told left reading due turns got [] (bytes ∷ objects) programs has c
 files_come told left reading due turns got (file ∷ files) [] programs has c = absurd has
 files_come told left reading due turns got (file ∷ files) (bytes ∷ objects) [] has c = absurd has
 files_come told left reading due turns got (file ∷ files) (bytes ∷ objects) (p ∷ programs) has c =
-    let next = fetch_comes plain program told left reading due file bytes object_limit (λ b. fetching turns (got ++ b ∷ []) files) has.0 (spelled_short p bytes has.1) c in
+    let next = fetch_comes plain program told left reading due file bytes object_limit (λ b. fetching turns (got ++ b ∷ []) files)
+    has.0 (spelled_short p bytes has.1) c in
     subst (λ (all : List (List ℕ)). ComesOf told left reading due (judged turns all)) (append_assoc got (bytes ∷ []) objects)
     (files_come told left reading due turns (got ++ bytes ∷ []) files objects programs has.2 next)
 
