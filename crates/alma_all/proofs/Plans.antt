@@ -2,7 +2,7 @@
 use Rattle.std.proofs.Common.{ℕ, List, [], ◌∷◌, arith, inl, inr}
 use Rattle.std.specs.Prelude.{Bool, true, false, codes, Option, None, Some}
 use Rattle.alma_ir.specs.Tree.{Program}
-use Rattle.alma_plan.specs.Causes.{HasOwnEnds}
+use Rattle.alma_plan.proofs.OwnEnds.{HasOwnEnds}
 use Rattle.alma_plan.specs.Plan.{bad_word, silent, success, tells}
 use Rattle.alma_driver_words.specs.Words.{is_file_name}
 use Rattle.alma_plan.proofs.Owns.{own_status, own_tells, own_read_source, own_run_plan}

@@ -131,9 +131,9 @@ walk_shows words p lines input before after status w causes calm =
     let is : h.1 ≡ prints (session code input lines) =
     judged_comes told before.input.left h.0 h.1 code lines input w.input_short w.bytes w.text w.script_good
     (spelled_accepted program p w.bytes w.spells)
-    refl (λ reads. w.left (sym w.spells.reads ∙ reads)) read in (
+    refl (λ reads. w.left (sym w.spells.code.reads ∙ reads)) read in (
       session code input lines,
       shows_lines p (begun code input) lines
-          (record { implements = w.spells.implements; names = w.spells.names; short = w.input_short }),
+          (record { implements = w.spells.code.implements; names = w.spells.code.names; short = w.input_short }),
       subst (ShowsDue before after status) is h.3,
     )

@@ -7,7 +7,7 @@ use Rattle.alma_code.specs.Reads.{code_reads}
 use Rattle.alma_io.specs.Fronts.{AppendsFront}
 use Rattle.alma_io.specs.Sides.{SinkSide, SourceSide, FilesSide}
 use Rattle.alma_verify.specs.Bytes.{object_code}
-use Rattle.alma_plan.specs.Causes.{HasOwnEnds}
+use Rattle.alma_plan.proofs.OwnEnds.{HasOwnEnds}
 use Rattle.alma_plan.specs.Course.{Follows, Goes, cut_short, hungry_within, whole}
 use Rattle.alma_plan.specs.Objects.{object_refusal}
 use Rattle.alma_plan.specs.Plan.{Plan, Due, Ending, IsDue, line_of, silent, prints, plain}

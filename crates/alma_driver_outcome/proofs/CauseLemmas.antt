@@ -103,11 +103,11 @@ input_reads left code steps showing due (past_input some more e) q = cc (sym (ap
 
 program_reads : (left : Option (List ℕ)) (p : Program) (steps : ℕ) (showing : Showing) (due : Due) → ProgramOutcome left p steps showing due
     → due.end ≡ ReadFault → ⊥
-program_reads left p steps showing due (ran code size sound implements reads names o) q = input_reads left code steps showing due o q
+program_reads left p steps showing due (ran code size is_code o) q = input_reads left code steps showing due o q
 program_reads left p steps showing due (too_much_code size e) q = cc (sym (ap (λ (d : Due). d.end) e) ∙ q)
 
 compile_reads : (p : Program) (object : List ℕ) (due : Due) → CompileOutcome p object due → due.end ≡ ReadFault → ⊥
-compile_reads p object due (made code bytes size sound implements reads names is fits e) q = cc (sym (ap (λ (d : Due). d.end) e) ∙ q)
+compile_reads p object due (made code bytes size is_code is fits e) q = cc (sym (ap (λ (d : Due). d.end) e) ∙ q)
 compile_reads p object due (past_size size e) q = cc (sym (ap (λ (d : Due). d.end) e) ∙ q)
 
 source_end_reads : (source : List ℕ) (end : End) → IsSourceEnd source end → end ≡ ReadFault → ⊥
@@ -170,7 +170,7 @@ not_stored due stored none some = cc (none, some)
 -- a call that stores succeeds
 compile_succeeds : (p : Program) (object : List ℕ) (due : Due) (stored : Stored) → CompileOutcome p object due → due.stored ≡ Some stored
     → due.end ≡ Succeeded None
-compile_succeeds p object due stored (made code bytes size sound implements reads names is fits e) s = ap (λ (d : Due). d.end) e
+compile_succeeds p object due stored (made code bytes size is_code is fits e) s = ap (λ (d : Due). d.end) e
 compile_succeeds p object due stored (past_size size e) s = absurd (not_stored due stored (ap (λ (d : Due). d.stored) e) s)
 
 source_succeeds : (source object : List ℕ) (due : Due) (stored : Stored) → SourceOutcome source (λ p. CompileOutcome p object) due

@@ -280,7 +280,7 @@ pub runs_compiled : (p : Program) (code : PlainCode) (steps : ℕ) (showing : Sh
     → Runs (InputOutcome i.left code steps showing) i j a b end → Runs (ProgramOutcome i.left p steps showing) i j a b end
 runs_compiled p code steps showing i j a b end sound implements reads names within g =
     runs_map (InputOutcome i.left code steps showing) (ProgramOutcome i.left p steps showing)
-    (λ due o. ran code within sound implements reads names o) i j a b end g
+    (λ due o. ran code within (record { sound = sound; implements = implements; reads = reads; names = names }) o) i j a b end g
 
 -- ---- listing
 
@@ -459,7 +459,8 @@ works_compiled p code object f f' a end sound implements reads names version cou
     let is : IsObject code (object_bytes code) =
     record { version = version; counts = counts; records = records; table = sound.table; spelled = refl } in
     works_map (IsStoring object (object_bytes code)) (CompileOutcome p object)
-    (λ due e. made code (object_bytes code) within sound implements reads names is fits e) f f' a a end w
+    (λ due e. made code (object_bytes code) within
+    (record { sound = sound; implements = implements; reads = reads; names = names }) is fits e) f f' a a end w
 
 -- a program that was not compiled is not stored
 pub works_refused : (p : Program) (object : List ℕ) (error : LowerError) (f : FilesSide) (a : SinkSide) → IsUnlowered p error
@@ -503,7 +504,7 @@ input_keeps left code steps showing due (past_input q m e) = ap (λ (d : Due). d
 
 program_keeps : (left : Option (List ℕ)) (p : Program) (steps : ℕ) (showing : Showing) (due : Due) → ProgramOutcome left p steps showing due
     → due.stored ≡ None
-program_keeps left p steps showing due (ran code size sound implements reads names o) = input_keeps left code steps showing due o
+program_keeps left p steps showing due (ran code size is_code o) = input_keeps left code steps showing due o
 program_keeps left p steps showing due (too_much_code size e) = ap (λ (d : Due). d.stored) e
 
 pub run_keeps : (left : Option (List ℕ)) (source : List ℕ) (steps : ℕ) (showing : Showing) (due : Due)
@@ -521,7 +522,7 @@ list_still bytes due (listed clean is e) = ap (λ (d : Due). d.reads) e
 list_still bytes due (no_object fault is e) = ap (λ (d : Due). d.reads) e
 
 program_still : (p : Program) (object : List ℕ) (due : Due) → CompileOutcome p object due → due.reads ≡ false
-program_still p object due (made code bytes size sound implements reads names is fits e) = ap (λ (d : Due). d.reads) e
+program_still p object due (made code bytes size is_code is fits e) = ap (λ (d : Due). d.reads) e
 program_still p object due (past_size size e) = ap (λ (d : Due). d.reads) e
 
 compile_still : (source object : List ℕ) (due : Due) → SourceOutcome source (λ p. CompileOutcome p object) due → due.reads ≡ false

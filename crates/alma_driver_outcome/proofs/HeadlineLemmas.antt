@@ -112,9 +112,9 @@ module _ (words : List (List ℕ)) (source input : List ℕ) (steps : ℕ) (stat
   ends_program : (p : Program) (due : Due) → (program_reads p ≡ true → before.input.left ≡ Some input) → length input ≤ input_limit
       → IsProgramOf source p → IsShown words before after status due → ProgramOutcome before.input.left p steps (Prints stats) due
       → RunEnds words source input steps stats before after status
-  ends_program p due told short is h (ran code size sound implements reads names o) =
+  ends_program p due told short is h (ran code size is_code o) =
       ends_meant p due is size h
-      (run_means before.input.left input p code steps stats due (λ r. told (sym reads ∙ r)) short implements o)
+      (run_means before.input.left input p code steps stats due (λ r. told (sym is_code.reads ∙ r)) short is_code.implements o)
   ends_program p due told short is h (too_much_code size e) =
       let s : IsShown words before after status (silent (TooMuchCode (size_of p))) = subst (IsShown words before after status) e h in
       too_large p is size s.status_is (s.out, s.err)

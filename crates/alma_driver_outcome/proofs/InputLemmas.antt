@@ -71,8 +71,9 @@ input_left words source input steps stats before after status p a w is small =
 
     by_program : (q : Program) → IsProgramOf source q → ProgramOutcome before.input.left q steps (Prints stats) w.0
         → IsInputLeft (program_reads q) before.input after.input
-    by_program q isq (ran code size sound implements reads names o) =
-        subst (λ (r : Bool). IsInputLeft r before.input after.input) reads (by_input code (λ r. a.left q isq (sym reads ∙ r)) o)
+    by_program q isq (ran code size is_code o) =
+        subst (λ (r : Bool). IsInputLeft r before.input after.input) is_code.reads
+        (by_input code (λ r. a.left q isq (sym is_code.reads ∙ r)) o)
     by_program q isq (too_much_code size e) = absurd (omega (arith, size, small, ap size_of (one_program source q p isq is)))
 
     by_source : SourceOutcome source (λ q. ProgramOutcome before.input.left q steps (Prints stats)) w.0

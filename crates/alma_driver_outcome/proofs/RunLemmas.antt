@@ -167,8 +167,8 @@ input_means left p code steps stats due size implements reads (past_input q more
 -- what a run of a program comes to is what the program means
 pub outcome_means : (left : Option (List ℕ)) (p : Program) (steps : ℕ) (stats : Bool) (due : Due)
     → ProgramOutcome left p steps (Prints stats) due → Meant left p steps stats due
-outcome_means left p steps stats due (ran code size sound implements reads names o) =
-    input_means left p code steps stats due size implements reads o
+outcome_means left p steps stats due (ran code size is_code o) =
+    input_means left p code steps stats due size is_code.implements is_code.reads o
 outcome_means left p steps stats due (too_much_code size e) = too_large size e
 
 -- ---- a trace of such a run
@@ -199,6 +199,6 @@ input_traced left p code steps names due size implements reads (past_input q mor
 -- what a trace of a program comes to ends as the program means
 pub trace_means : (left : Option (List ℕ)) (p : Program) (steps : ℕ) (names : List (List ℕ)) (due : Due)
     → ProgramOutcome left p steps (Traces names) due → TraceMeant left p steps due
-trace_means left p steps names due (ran code size sound implements reads kept o) =
-    input_traced left p code steps names due size implements reads o
+trace_means left p steps names due (ran code size is_code o) =
+    input_traced left p code steps names due size is_code.implements is_code.reads o
 trace_means left p steps names due (too_much_code size e) = trace_too_large size e

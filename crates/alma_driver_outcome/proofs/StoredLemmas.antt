@@ -23,23 +23,23 @@ stored_is due stored given e s = cc (e, s)
 -- so is what compiling stores
 pub spells_stored : (p : Program) (object : List ℕ) (due : Due) (stored : Stored) → CompileOutcome p object due → due.stored ≡ Some stored
     → SpellsCodeOf p stored.bytes
-spells_stored p object due stored (made code bytes size sound implements reads names is fits e) s =
+spells_stored p object due stored (made code bytes size is_code is fits e) s =
     let given : Stored = record { name = object; bytes = bytes } in
     subst (λ (x : Stored). SpellsCodeOf p x.bytes) (stored_is due stored given (ap (λ (d : Due). d.stored) e) s)
-    (spells_code p code bytes sound implements reads names is fits)
+    (spells_code p code bytes is_code is fits)
 spells_stored p object due stored (past_size size e) s = absurd (stores_none due stored (ap (λ (d : Due). d.stored) e) s)
 
 -- the size of a program that is stored is within its limit
 stored_within : (p : Program) (object : List ℕ) (due : Due) (stored : Stored) → CompileOutcome p object due → due.stored ≡ Some stored
     → size_of p ≤ size_limit
-stored_within p object due stored (made code bytes size sound implements reads names is fits e) s = size
+stored_within p object due stored (made code bytes size is_code is fits e) s = size
 stored_within p object due stored (past_size size e) s = absurd (stores_none due stored (ap (λ (d : Due). d.stored) e) s)
 
 -- running such bytes is running the program
 spelled_runs : (left : Option (List ℕ)) (p : Program) (bytes : List ℕ) (steps : ℕ) (stats : Bool) (running : Due) → size_of p ≤ size_limit
     → SpellsCodeOf p bytes → ExecOutcome left bytes steps stats running → ProgramOutcome left p steps (Prints stats) running
 spelled_runs left p bytes steps stats running size is (opened clean (executed c o)) =
-    ran (object_code bytes) size is.sound is.implements is.reads is.names o
+    ran (object_code bytes) size is.code o
 spelled_runs left p bytes steps stats running size is (opened clean (unsound fault c e)) =
     cc (spelled_sound p bytes is, c)
 spelled_runs left p bytes steps stats running size is (unopened fault c e) = cc (is.clean, c)

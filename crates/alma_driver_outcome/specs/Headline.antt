@@ -30,8 +30,8 @@ pub record AsksToRun (words : List (List ℕ)) (before : Outside) (source input 
   pub input_short : length input ≤ input_limit
 
 -- what out and err gained
-abbrev pub Shows : (before after : Outside) → (out err : List ℕ) → Type 0
-Shows before after out err = Gains before.out after.out out × Gains before.err after.err err
+abbrev pub GainsBoth : (before after : Outside) → (out err : List ℕ) → Type 0
+GainsBoth before after out err = Gains before.out after.out out × Gains before.err after.err err
 
 -- what becomes of an input that is told: nothing of it is left where it is read, and else it stays
 abbrev pub IsInputLeft : (reads : Bool) → SourceSide → SourceSide → Type 0
@@ -58,7 +58,7 @@ pub record ShowsResult (stats : Bool) (meant : List ℕ × End) (before after : 
   pub status_is : status ≡ meant_status meant.1
   pub counts : Option Counts
   pub counted : AreCounts stats counts
-  pub shows : Shows before after meant.0 (counts_text counts ++ meant_text meant.1)
+  pub shows : GainsBoth before after meant.0 (counts_text counts ++ meant_text meant.1)
 
 -- the steps ran out: out gained a front of the prints of the meaning, which covers one visit for each 32 steps
 pub record ShowsFront (words : List (List ℕ)) (stats : Bool) (p : Program) (input : List ℕ) (steps : ℕ) (before after : Outside)
@@ -69,7 +69,7 @@ pub record ShowsFront (words : List (List ℕ)) (stats : Bool) (p : Program) (in
   pub few : MayRunOut p input steps
   pub counts : Option Counts
   pub counted : AreCounts stats counts
-  pub shows : Shows before after printed (text_of (file_of words) (StepsOut counts))
+  pub shows : GainsBoth before after printed (text_of (file_of words) (StepsOut counts))
 
 -- What a call that asks to run a source shows.
 pub data RunEnds (words : List (List ℕ)) (source input : List ℕ) (steps : ℕ) (stats : Bool) (before after : Outside) (status : ℕ) : Type 0
@@ -77,11 +77,11 @@ pub data RunEnds (words : List (List ℕ)) (source input : List ℕ) (steps : �
     -- the source has this fault at this place, and no other: it is refused for that
     refuses : (fault : SourceFault) (offset : ℕ) → IsRefused source fault offset
         → ((other : SourceFault) (place : ℕ) → IsRefused source other place → (fault ≡ other) × (offset ≡ place))
-        → status ≡ 3 → Shows before after [] (text_of (file_of words) (Refused fault (place_of source offset)))
+        → status ≡ 3 → GainsBoth before after [] (text_of (file_of words) (Refused fault (place_of source offset)))
         → RunEnds words source input steps stats before after status
     -- the source is a program whose size is past its limit: it is refused with that number
     too_large : (p : Program) → IsProgramOf source p → size_limit < size_of p → status ≡ 11
-        → Shows before after [] (text_of (file_of words) (TooMuchCode (size_of p)))
+        → GainsBoth before after [] (text_of (file_of words) (TooMuchCode (size_of p)))
         → RunEnds words source input steps stats before after status
     -- the source is a program: its result, or a front of its prints
     ended : (p : Program) → IsProgramOf source p → size_of p ≤ size_limit

@@ -11,7 +11,7 @@ use Rattle.alma_code.specs.ListText.{list_text}
 use Rattle.alma_code.specs.Plain.{PlainCode}
 use Rattle.alma_code.specs.Reads.{code_reads}
 use Rattle.alma_code.specs.Machine.{State}
-use Rattle.alma_code.specs.Rules.{IsSound, code_fault}
+use Rattle.alma_code.specs.Rules.{code_fault}
 use Rattle.alma_object_format.specs.declared.fault.ObjectFault.{ObjectFault}
 use Rattle.alma_object.specs.Object.{IsObject}
 use Rattle.alma_object.specs.Fields.{FitsFields}
@@ -19,9 +19,9 @@ use Rattle.alma_object.specs.Walk.{object_fault}
 use Rattle.alma_verify.specs.Bytes.{object_code}
 use Rattle.alma_driver_words.specs.Sample.{sample_text}
 use Rattle.alma_lower_sound.specs.Reads.{program_reads}
-use Rattle.alma_lower.specs.Names.{KeepsNames}
-use Rattle.alma_lower_implements.specs.Implements.{Implements, state_after, line_in}
+use Rattle.alma_lower_implements.specs.Implements.{state_after, line_in}
 use Rattle.alma_run_laws.specs.Shown.{Shows, size_of}
+use Rattle.alma_run_laws.specs.Stored.{IsCodeFor}
 use Rattle.alma_driver_words.specs.Words.{Request, Check, Compile, Listing, Run, Exec, Trace, Sample, Asks, IsBadWord, default_steps}
 use Rattle.alma_driver_outcome.specs.Words.{read_by, limit_of, IsReadBy}
 use Rattle.alma_driver_outcome.specs.Showing.{Showing, Prints, Traces, counts_shown, text_shown}
@@ -87,20 +87,17 @@ pub data InputOutcome (left : Option (List ℕ)) (code : PlainCode) (steps : ℕ
 
 -- ---- programs
 
--- What a run of a program for so many steps comes to: what a sound code that implements it, reads exactly where it does, and keeps its
--- names, comes to in so many steps, or the refusal of its size.
+-- what a run of a program for so many steps comes to: what code of it comes to in so many steps, or the refusal of its size
 pub data ProgramOutcome (left : Option (List ℕ)) (p : Program) (steps : ℕ) (showing : Showing) (due : Due) : Type 0 where
-  ran : (code : PlainCode) → size_of p ≤ size_limit → IsSound code → Implements code p → code_reads code ≡ program_reads p
-      → KeepsNames code p
+  ran : (code : PlainCode) → size_of p ≤ size_limit → IsCodeFor p code
       → InputOutcome left code steps showing due
       → ProgramOutcome left p steps showing due
   too_much_code : size_limit < size_of p → due ≡ silent (TooMuchCode (size_of p)) → ProgramOutcome left p steps showing due
 
--- What compiling a program under a name comes to: the object of a sound code that implements it, reads exactly where it does, keeps
--- its names, and has numbers that fit their fields, so that it is read back as that code, is stored there; or the refusal of its size.
+-- What compiling a program under a name comes to: the object of code of it whose numbers fit their fields, so that it is read back as
+-- that code, is stored there; or the refusal of its size.
 pub data CompileOutcome (p : Program) (object : List ℕ) (due : Due) : Type 0 where
-  made : (code : PlainCode) (bytes : List ℕ) → size_of p ≤ size_limit → IsSound code → Implements code p → code_reads code ≡ program_reads p
-      → KeepsNames code p
+  made : (code : PlainCode) (bytes : List ℕ) → size_of p ≤ size_limit → IsCodeFor p code
       → IsObject code bytes → FitsFields code → due ≡ storing object bytes → CompileOutcome p object due
   past_size : size_limit < size_of p → due ≡ silent (TooMuchCode (size_of p)) → CompileOutcome p object due
 

@@ -202,7 +202,7 @@ compile_ends words files sources object before after status asks causes calm =
           small,
           (
             bytes,
-            spells_code p code bytes is_code.sound is_code.implements is_code.reads is_code.names is fits,
+            spells_code p code bytes is_code is fits,
             subst (ShowsDue before after status) due_is shows,
           ),
         )

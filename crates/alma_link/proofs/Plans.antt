@@ -7,7 +7,7 @@ use Rattle.alma_join.specs.declared.error.JoinError.{JoinError}
 use Rattle.alma_join.specs.declared.error.JoinError.TheVariants as join
 use Rattle.alma_join.specs.Fault.{IsJoinError}
 use Rattle.alma_join.specs.Joined.{JoinFault, Missing, Twice, HeadDiffers, TooLarge, join_fault, joined}
-use Rattle.alma_plan.specs.Causes.{HasOwnEnds}
+use Rattle.alma_plan.proofs.OwnEnds.{HasOwnEnds}
 use Rattle.alma_plan.specs.Course.{Follows, whole}
 use Rattle.alma_plan.specs.Plan.{Ending, Ends, bad_word, silent, tells}
 use Rattle.alma_plan.proofs.Courses.{course_ends, course_starved, gains_none}

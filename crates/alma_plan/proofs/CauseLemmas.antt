@@ -12,7 +12,8 @@ use Rattle.alma_plan.specs.Plan.{MayLack, Lacks, Comes}
 use Rattle.alma_plan.specs.Course.{Gains, Takes, MayRead, ReadsOnly, GainsPrefix, Follows, unfetched, unread, unwritten}
 use Rattle.alma_plan.specs.Course.{unstored, starved, done, Reports, said, unsaid, Answers}
 use Rattle.alma_plan.specs.Causes.{FetchFailed, InputFailed, MayCome, IsStoredName, MayEnd, unread_end}
-use Rattle.alma_plan.specs.Causes.{unwritten_end, starved_end, due_end, HasOwnEnds, HaveOneVerdict, Causes}
+use Rattle.alma_plan.specs.Causes.{unwritten_end, starved_end, due_end, Causes}
+use Rattle.alma_plan.proofs.OwnEnds.{HasOwnEnds, HaveOneVerdict}
 
 -- all bytes are a prefix
 whole_front : (a b : Option (List ℕ)) (bytes : List ℕ) → Appends a b bytes → AppendsFront a b bytes

@@ -1,3 +1,4 @@
+pub mod OwnEnds
 pub mod PartLemmas
 pub mod RefusalLemmas
 pub mod Courses

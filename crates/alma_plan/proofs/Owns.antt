@@ -8,7 +8,7 @@ use Rattle.alma_code.specs.Machine.{Mode, Going, Failing, Ended, Stuck}
 use Rattle.alma_ir.specs.Tree.{Program}
 use Rattle.alma_lower_implements.specs.Implements.{state_after, line_in}
 use Rattle.alma_lower_sound.specs.Reads.{program_reads}
-use Rattle.alma_plan.specs.Causes.{IsOwn, HasOwnEnds}
+use Rattle.alma_plan.proofs.OwnEnds.{IsOwn, HasOwnEnds}
 use Rattle.alma_plan.specs.Plan.{Due, Ending, Plan, Ends, silent}
 use Rattle.alma_source.specs.Verdict.{Verdict, Accepted, Rejected}
 use Rattle.alma_plan.specs.Programs.{Last, Tells, Runs, Stores, sense, end_of, mode_end, accepted, read_source, refused, run_on}

@@ -7,7 +7,7 @@ use Rattle.alma_object_format.specs.Walk.{object_fault}
 use Rattle.alma_object_format.specs.declared.fault.ObjectFault.{ObjectFault}
 use Rattle.alma_verify.specs.Bytes.{object_code}
 use Rattle.alma_plan.specs.Plan.{Due, Ending, IsDue, plain}
-use Rattle.alma_plan.specs.Causes.{IsOwn}
+use Rattle.alma_plan.proofs.OwnEnds.{IsOwn}
 use Rattle.alma_plan.specs.Objects.{rule_refusal, refusal_by, object_refusal}
 
 -- a last value is due

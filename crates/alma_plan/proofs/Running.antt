@@ -15,7 +15,8 @@ use Rattle.alma_ir.specs.Tree.{Program}
 use Rattle.alma_plan.specs.Course.{Goes, cut_short, hungry, hungry_within, whole}
 use Rattle.alma_plan.specs.Plan.{Due, Ending}
 use Rattle.alma_plan.specs.Ends.{program_end, run_end}
-use Rattle.alma_plan.specs.Programs.{Runs, IsCodeOf, mode_end, code_due, IsRun, Means}
+use Rattle.alma_run_laws.specs.Stored.{IsCodeFor}
+use Rattle.alma_plan.specs.Programs.{Runs, mode_end, code_due, IsRun, Means}
 
 module _ (program : List ℕ) (failed : Ending) where
   -- the answer of a run that was not cut short is by the mode in which it is left
@@ -72,15 +73,15 @@ module _ (program : List ℕ) (failed : Ending) (code : PlainCode) (input : List
 
 module _ (program : List ℕ) (failed : Ending) (p : Program) (code : PlainCode) where
   -- what is due from the code of a program is from the program
-  due_of_program : (input : List ℕ) (steps : ℕ) (due : Due) → IsCodeOf p code → IsRun program failed code input steps due
+  due_of_program : (input : List ℕ) (steps : ℕ) (due : Due) → IsCodeFor p code → IsRun program failed code input steps due
       → Means program failed (Runs p input steps) due
   due_of_program input steps due is e = (code, is, e)
 
-  pub run_is_due : (steps : ℕ) → IsCodeOf p code → (input : List ℕ) → (due : Due) × Means program failed (Runs p input steps) due
+  pub run_is_due : (steps : ℕ) → IsCodeFor p code → (input : List ℕ) → (due : Due) × Means program failed (Runs p input steps) due
   run_is_due steps is input = (code_due program failed code input steps, (code, is, refl))
 
   -- a run of the code of a program goes as the program's
-  pub goes_program : (input : List ℕ) (steps : ℕ) (a b : SinkSide) (end : Ending) → IsCodeOf p code
+  pub goes_program : (input : List ℕ) (steps : ℕ) (a b : SinkSide) (end : Ending) → IsCodeFor p code
       → Goes program (IsRun program failed code input steps) a b end
       → Goes program (Means program failed (Runs p input steps)) a b end
   goes_program input steps a b end is (cut_short due may e out) = cut_short due (due_of_program input steps due is may) e out

@@ -3,7 +3,7 @@ use Rattle.std.specs.Prelude.{◌≡◌, ◌≢◌, ◌⊎◌, List, ℕ, [], So
 use Rattle.std.specs.Io.KnownBytes.{Appends}
 use Rattle.alma_io.specs.Causes.{Rose}
 use Rattle.alma_io.specs.Outside.{FilesStay, Outside, Stored, OthersStay, Become, WriteFailed, WritesGrew, ReadsGrew}
-use Rattle.alma_plan.specs.Plan.{Ending, Due, Plan, Sense, Fetches, Judges, Reads, Ends, Reading, Asks, MayLack, Lacks, Comes}
+use Rattle.alma_plan.specs.Plan.{Ending, Due, Plan, Sense, Reading, Asks, MayLack, Lacks, Comes}
 use Rattle.alma_plan.specs.Plan.{read_fault, write_fault, no_memory}
 use Rattle.alma_plan.specs.Course.{Gains, Takes, MayRead, GainsPrefix, Reports}
 
@@ -35,22 +35,6 @@ pub data MayEnd (program : List ℕ) (may : Reading → Due → Type 0) (end : E
   unwritten_end : end ≡ write_fault program → MayEnd program may end
   starved_end : end ≡ no_memory program → MayEnd program may end
   due_end : (reading : Reading) (due : Due) → may reading due → due.end ≡ end → MayEnd program may end
-
-module _ {V L : Type 0} (sense : Sense V L) where
-  -- what a last value means is an end of the program's own: no fault of the outside, and no want of memory
-  abbrev pub IsOwn : L → Type 0
-  IsOwn last = (due : Due) → sense.means last due → (due.end.status ≢ 6) × (due.end.status ≢ 7) × (due.end.status ≢ 8)
-
-  -- so do all last values of a plan
-  abbrev pub HasOwnEnds : Plan V L → Type 0
-  HasOwnEnds (Fetches name limit next) = (bytes : List ℕ) → HasOwnEnds (next bytes)
-  HasOwnEnds (Judges source next) = (verdict : V) → HasOwnEnds (next verdict)
-  HasOwnEnds (Reads last) = (bytes : List ℕ) → IsOwn (last bytes)
-  HasOwnEnds (Ends last) = IsOwn last
-
--- a source comes to one verdict
-abbrev pub HaveOneVerdict : {V L : Type 0} → Sense V L → Type 0
-HaveOneVerdict {V} sense = (source : List ℕ) (one other : V) → sense.judged source one → sense.judged source other → one ≡ other
 
 -- ---- the call
 

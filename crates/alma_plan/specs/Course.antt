@@ -37,8 +37,6 @@ Takes Passed old new = LosesBytes old.left new.left (input_limit + 1) × (new.fa
 abbrev pub IsBegun : SourceSide → SourceSide → Type 0
 IsBegun old new = LosesAtMost old.left new.left (input_limit + 1) × (new.faults ≡ old.faults)
 
--- ---- the files
-
 -- ---- the call
 
 module _ (may : Reading → Due → Type 0) where

@@ -9,15 +9,13 @@ use Rattle.alma_code.specs.declared.step.End.TheVariants as ended
 use Rattle.alma_code.specs.Lines.{known_line}
 use Rattle.alma_code.specs.Machine.{Mode, Going, Failing, Ended, Stuck}
 use Rattle.alma_code.specs.Plain.{PlainCode}
-use Rattle.alma_code.specs.Reads.{code_reads}
-use Rattle.alma_code.specs.Rules.{IsSound}
 use Rattle.alma_ir.specs.Tree.{Program}
-use Rattle.alma_lower.specs.Names.{KeepsNames}
-use Rattle.alma_lower_implements.specs.Implements.{Implements, state_after, printed_by, line_in}
+use Rattle.alma_lower_implements.specs.Implements.{state_after, printed_by, line_in}
 use Rattle.alma_lower_sound.specs.Reads.{program_reads}
 use Rattle.alma_object.specs.Fields.{FitsFields}
 use Rattle.alma_object_format.specs.Object.{IsObject}
 use Rattle.alma_run_laws.specs.Shown.{size_of}
+use Rattle.alma_run_laws.specs.Stored.{IsCodeFor}
 use Rattle.alma_source.specs.Texts.{refusal_text}
 use Rattle.alma_source.specs.Verdict.{Verdict, Accepted, Rejected, IsVerdict}
 use Rattle.alma_source.specs.declared.fault.SourceFault.{SourceFault}
@@ -31,13 +29,6 @@ pub data Last : Type 0 where
   Tells : (due : Due) → Last
   Runs : (p : Program) (input : List ℕ) (steps : ℕ) → Last
   Stores : (p : Program) (object : List ℕ) → Last
-
--- the code is sound, implements the program, reads exactly where it does, and keeps its names
-pub record IsCodeOf (p : Program) (code : PlainCode) : Type 0 where
-  pub sound : IsSound code
-  pub implements : Implements code p
-  pub reads : code_reads code ≡ program_reads p
-  pub names : KeepsNames code p
 
 -- the line of a fault, if it is known
 abbrev pub line_words : Option ℕ → List ℕ
@@ -84,9 +75,9 @@ module _ (program : List ℕ) (failed : Ending) where
   -- what last values mean
   abbrev pub Means : Last → Due → Type 0
   Means (Tells told) due = due ≡ told
-  Means (Runs p input steps) due = (code : PlainCode) × IsCodeOf p code × IsRun code input steps due
+  Means (Runs p input steps) due = (code : PlainCode) × IsCodeFor p code × IsRun code input steps due
   Means (Stores p object) due =
-      (code : PlainCode) × (bytes : List ℕ) × IsCodeOf p code × IsObject code bytes × FitsFields code
+      (code : PlainCode) × (bytes : List ℕ) × IsCodeFor p code × IsObject code bytes × FitsFields code
       × (due ≡ storing object bytes)
 
   -- what plans of programs say

@@ -14,7 +14,8 @@ ghost use Rattle.alma_object.specs.View.{code_of_view};
 ghost use Rattle.alma_plan.specs.Course.{Follows, Goes};
 ghost use Rattle.alma_plan.specs.Plan.{Ending};
 ghost use Rattle.alma_plan.specs.Ends.{program_end, run_end};
-ghost use Rattle.alma_plan.specs.Programs.{IsCodeOf, IsRun, run_on as run_on_input, run_plan, sense};
+ghost use Rattle.alma_run_laws.specs.Stored.{IsCodeFor};
+ghost use Rattle.alma_plan.specs.Programs.{IsRun, run_on as run_on_input, run_plan, sense};
 ghost use Rattle.alma_verify.specs.Verified.{code_of_verified};
 
 use crate::end::ProgramEnd;
@@ -86,7 +87,7 @@ fn run_verified<I: Source, O: Sink>(
     out: &mut O,
 ) -> ProgramEnd
     requires few { steps ≤ 2 ^ 62 }
-    ensures { (p : tree.Program) → IsCodeOf p (code_of_verified code.entry)
+    ensures { (p : tree.Program) → IsCodeFor p (code_of_verified code.entry)
         → (program : List ℕ) (failed : Ending) (files : FilesSide)
         → Follows (sense program failed) program (run_on_input (program_reads p) p steps) files files
         (I.side input.old) (I.side input.new) (O.side out.old) (O.side out.new)
@@ -114,7 +115,7 @@ fn run_code<I: Source, O: Sink>(
     requires counts { KeepsCounts (code_of code.now) }
     requires records { KeepsRecords (code_of code.now) }
     requires few { steps ≤ 2 ^ 62 }
-    ensures { (p : tree.Program) → IsCodeOf p (code_of code.now)
+    ensures { (p : tree.Program) → IsCodeFor p (code_of code.now)
         → (program : List ℕ) (failed : Ending) (files : FilesSide)
         → Follows (sense program failed) program (run_on_input (program_reads p) p steps) files files
         (I.side input.old) (I.side input.new) (O.side out.old) (O.side out.new)

@@ -8,7 +8,8 @@ ghost use Rattle.alma_ir.specs.View.{program_of};
 ghost use Rattle.alma_plan.specs.Course.{Follows};
 ghost use Rattle.alma_plan.specs.Plan.{Ending, Ends};
 ghost use Rattle.alma_plan.specs.Ends.{program_end};
-ghost use Rattle.alma_plan.specs.Programs.{IsCodeOf, Stores, sense, store_plan};
+ghost use Rattle.alma_run_laws.specs.Stored.{IsCodeFor};
+ghost use Rattle.alma_plan.specs.Programs.{Stores, sense, store_plan};
 ghost use Rattle.std.specs.Prelude.{List, ℕ};
 
 use crate::end::ProgramEnd;
@@ -26,7 +27,7 @@ fn store_code<F: Files>(alloc: Global, code: &Code, object: &str, files: &mut F)
     requires version { KeepsVersion (code_of code.now) }
     requires counts { KeepsCounts (code_of code.now) }
     requires records { KeepsRecords (code_of code.now) }
-    ensures { (p : tree.Program) → IsCodeOf p (code_of code.now)
+    ensures { (p : tree.Program) → IsCodeFor p (code_of code.now)
         → (name : List ℕ) (failed : Ending) (input : SourceSide) (out : SinkSide)
         → Follows (sense name failed) name (Ends (Stores p object.now)) (F.side files.old)
         (F.side files.new) input input out out (program_end name failed result) }

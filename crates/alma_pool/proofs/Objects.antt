@@ -102,7 +102,7 @@ module _ (told : List ℕ → Told) where
   objects_read (file ∷ files) [] programs has = absurd has
   objects_read (file ∷ files) (bytes ∷ objects) [] has = absurd has
   objects_read (file ∷ files) (bytes ∷ objects) (p ∷ programs) has =
-      ap (λ (b : Bool). b || list_any code_reads (object_codes objects)) has.1.reads
+      ap (λ (b : Bool). b || list_any code_reads (object_codes objects)) has.1.code.reads
       ∙ ap (λ (b : Bool). program_reads p || b) (objects_read files objects programs has.2)
 
   -- what they print shows the programs
@@ -124,5 +124,5 @@ module _ (told : List ℕ → Told) where
       subst (λ (words : List ℕ). ShowsEach input turns before (p ∷ programs) (program_lines (before + 1) words printed ++ rest))
       (words_agree s.mode (line_in code s))
       (one_more_shown before p programs printed rest (shown_end s.mode (line_in code s))
-      (code_shows code p input steps has.1.implements short)
+      (code_shows code p input steps has.1.code.implements short)
       (objects_show (before + 1) files objects programs input turns short has.2))

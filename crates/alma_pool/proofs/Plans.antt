@@ -7,7 +7,7 @@ use Rattle.alma_code.specs.Reads.{code_reads}
 use Rattle.alma_verify.specs.Bytes.{object_code}
 use Rattle.alma_plan.specs.Objects.{object_refusal}
 use Rattle.alma_plan.specs.Plan.{Ending, silent, prints, plain}
-use Rattle.alma_plan.specs.Causes.{HasOwnEnds}
+use Rattle.alma_plan.proofs.OwnEnds.{HasOwnEnds}
 use Rattle.alma_plan.proofs.PlainEnds.{own_status, refusal_status}
 use Rattle.alma_pool.specs.Due.{program, pool_text, or_refused, opening, played_on, played, judged_by, fetching, asked, planned, pool_plan}
 use Rattle.alma_pool.specs.Due.{bad_word_behind}

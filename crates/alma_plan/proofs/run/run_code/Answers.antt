@@ -1,6 +1,6 @@
 use Rattle.std.proofs.Common.{sym, subst, ◌∙◌}
 use Rattle.alma_plan.proofs.Courses.{course_starved}
-use Rattle.alma_plan.specs.Programs.{IsCodeOf}
+use Rattle.alma_run_laws.specs.Stored.{IsCodeFor}
 use Rattle.alma_plan.proofs.run.run_code.Goals as goal
 
 pub open_encoded-verified-requires-clause-object : goal.open_encoded-verified-requires-clause-object
@@ -14,7 +14,7 @@ open_encoded-verified-requires-clause-object g c = record {
 
 pub returns-in-Ok : goal.returns-in-Ok
 returns-in-Ok g c = λ p is program failed files.
-    c.run_verified.ensures p (subst (IsCodeOf p) (sym c.open_encoded-verified.ensures) is) program failed files
+    c.run_verified.ensures p (subst (IsCodeFor p) (sym c.open_encoded-verified.ensures) is) program failed files
 
 pub returns-in-Err : goal.returns-in-Err
 returns-in-Err g c = λ p is program failed files. course_starved program _ _ files _ _
