@@ -14,7 +14,7 @@ use Rattle.alma_plan.specs.Plan.{Due, success}
 use Rattle.alma_plan.proofs.MeantLemmas.{run_is_meant}
 use Rattle.alma_run_laws.specs.Shown as run
 use Rattle.alma_all.specs.All.{program}
-use Rattle.alma_all.specs.Shown.{listing_end, MayRunOut, whole, front, IsListed, ListsEveryAlternative}
+use Rattle.alma_all.specs.Shown.{listing_end, ListingMayRunOut, whole, front, IsListed, ListsEveryAlternative}
 
 -- events that do not end in a cut have no end there
 no_cut : {A : Type 0} (e : Events A) → ends_in_cut e ≡ false → end_of (first e) ≡ CutOff → ⊥
@@ -55,7 +55,7 @@ prefix_of_prefix x y z h k = (h.0 ++ k.0, sym (append_assoc x h.0 k.0) ∙ ap (�
 
 module _ (p : Program) (input : List ℕ) (steps : ℕ) (due : Due) (lists : Lists (listing_of p) p) where
   -- where the run of the listing program may run out, so may the listing
-  may_run_out : run.MayRunOut (listing_of p) input steps → MayRunOut p input steps
+  may_run_out : run.MayRunOut (listing_of p) input steps → ListingMayRunOut p input steps
   may_run_out out level uncut =
       let high : ℕ = level + 128 * (global_cells p + 1) in
       let e : Events NoYield = ev_program high (listing_of p) input in

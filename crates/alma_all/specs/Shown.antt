@@ -32,8 +32,8 @@ most_visits level p input =
     visit_count (ev_program level p input) + 128 * (global_cells p + length p.globals + 1) * alternatives (ev_program level p input)
 
 -- so many steps may not be enough: at 32 for each visit, and 32 more, they would be
-abbrev pub MayRunOut : Program → (input : List ℕ) → (steps : ℕ) → Type 0
-MayRunOut p input steps =
+abbrev pub ListingMayRunOut : Program → (input : List ℕ) → (steps : ℕ) → Type 0
+ListingMayRunOut p input steps =
     (level : ℕ) → ends_in_cut (ev_program level p input) ≡ false
     → steps < 32 * (most_visits (level + 128 * (global_cells p + 1)) p input + 1)
 
@@ -44,7 +44,7 @@ pub data IsListed (p : Program) (input : List ℕ) (steps : ℕ) (due : Due) : T
       → IsListed p input steps due
   -- the steps ran out: a front of them, which covers one visit of the listing program for each 32 steps
   front : due.end ≡ tells program 5 (codes "steps out") → IsPrefix due.out (listed p.globals (ev_program (suc steps) p input))
-      → Covers (first (ev_program (suc steps) (listing_of p) input)) due.out (steps / 32) → MayRunOut p input steps
+      → Covers (first (ev_program (suc steps) (listing_of p) input)) due.out (steps / 32) → ListingMayRunOut p input steps
       → IsListed p input steps due
 
 -- what a run of the listing program comes to lists every alternative of the program
