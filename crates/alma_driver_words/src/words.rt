@@ -9,6 +9,9 @@ use crate::options::{Allowance, read_options};
 use alma_base::NoMemory;
 use std::alloc::Global;
 
+/// The greatest number of names that words watch.
+const GREATEST_WATCHES: usize = 8;
+
 /// What the options of `run` and `exec` may be.
 const RUN_OPTIONS: Allowance = Allowance {
     stats: true,
@@ -18,7 +21,7 @@ const RUN_OPTIONS: Allowance = Allowance {
 /// What the options of `trace` may be.
 const TRACE_OPTIONS: Allowance = Allowance {
     stats: false,
-    watches: 8,
+    watches: GREATEST_WATCHES,
 };
 
 /// What the words ask for.
