@@ -1,6 +1,7 @@
 -- What the words of a call ask for.
 use Rattle.std.specs.Prelude.{◌≡◌, ◌<◌, ◌≤◌, ◌+◌, ◌^◌, Bool, true, false, List, ℕ, zero, suc, [], ◌∷◌, ◌++◌, length, map, codes}
-use Rattle.std.specs.Prelude.{not, eqb, String, Result, Ok, Err}
+use Rattle.std.specs.Prelude.{not, eqb, leb, ◌&&◌, String, Result, Ok, Err}
+use Rattle.std.specs.List.{list_all}
 use Rattle.std.specs.declared.alloc.Global.{Global}
 use Rattle.std.specs.String.{string_bytes}
 use Rattle.alma_base.specs.Reading.{is_digit}
@@ -58,6 +59,11 @@ pub record IsNumeral (most : ℕ) (text : List ℕ) (number : ℕ) : Type 0 wher
   pub some : 1 ≤ length text
   pub short : length text ≤ most
   pub value : value_of text ≡ number
+
+-- one digit at least and so many at most, whose value is from 1 to the greatest
+abbrev pub is_numeral : (most greatest : ℕ) → List ℕ → Bool
+is_numeral most greatest text = list_all is_digit text &&
+    (leb 1 (length text) && (leb (length text) most && (leb 1 (value_of text) && leb (value_of text) greatest)))
 
 -- digits name a number of steps from 1 on
 pub record NamesSteps (text : List ℕ) (steps : ℕ) : Type 0 where
