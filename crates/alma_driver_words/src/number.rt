@@ -53,8 +53,6 @@ pub fn named_lines(digits: &str) -> Option<u32>
     ensures { MatchOption result ((lines : ℕ) → NamesLines digits.now lines → ⊥)
         (λ lines. NamesLines digits.now lines) }
 {
-    match numeral(digits.as_bytes(), LINES_DIGITS, GREATEST_LINES) {
-        Some(lines) => Some(lines as u32),
-        None => None,
-    }
+    let lines = numeral(digits.as_bytes(), LINES_DIGITS, GREATEST_LINES)?;
+    Some(lines as u32)
 }

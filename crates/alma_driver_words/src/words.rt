@@ -89,15 +89,11 @@ fn split_name(words: &[String]) -> Option<(&str, &[String])>
     ensures { MatchOption result (LacksName (texts words.now)) (λ split. (texts words.now
         ≡ split.0.now ∷ texts split.1.now) × IsFileName split.0.now) }
 {
-    match split_word(words) {
-        Some((name, rest)) => {
-            if is_file_name(name) {
-                Some((name, rest))
-            } else {
-                None
-            }
-        }
-        None => None,
+    let (name, rest) = split_word(words)?;
+    if is_file_name(name) {
+        Some((name, rest))
+    } else {
+        None
     }
 }
 
