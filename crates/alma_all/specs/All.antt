@@ -1,11 +1,10 @@
 -- What a call of the program comes to: its plan.
-use Rattle.std.specs.Prelude.{ℕ, List, [], ◌∷◌, length, Bool, true, false, ◌&&◌, leb, eqb, cond, codes, Option, None, Some}
+use Rattle.std.specs.Prelude.{ℕ, List, [], ◌∷◌, Bool, true, false, eqb, cond, codes, Option, None, Some}
 use Rattle.std.specs.List.{list_any}
-use Rattle.alma_base.specs.Reading.{is_digit}
 use Rattle.alma_ir.specs.Phrases.{Phrase, StmtPhrase, stmts_phrases}
 use Rattle.alma_ir.specs.Tree.{Program, Return, routine_at}
 use Rattle.alma_scan.specs.Bytes.{value_of}
-use Rattle.alma_driver_words.specs.Words.{default_steps, greatest_steps, is_file_name}
+use Rattle.alma_driver_words.specs.Words.{default_steps, greatest_steps, is_file_name, is_numeral, steps_digits}
 use Rattle.alma_listing.specs.Lister.{listing_of}
 use Rattle.alma_source.specs.Verdict.{Verdict}
 use Rattle.alma_plan.specs.Plan.{Plan, Sense, Ends, bad_word, silent, success, tells}
@@ -27,15 +26,9 @@ behind [] text = Some text
 behind (x ∷ front) [] = None
 behind (x ∷ front) (y ∷ text) = cond (eqb x y) (behind front text) None
 
--- all are digits
-abbrev pub are_digits : List ℕ → Bool
-are_digits [] = true
-are_digits (c ∷ text) = is_digit c && are_digits text
-
--- one to nineteen digits name a number of steps from 1 on
+-- digits name a number of steps from 1 on
 abbrev pub names_steps : List ℕ → Bool
-names_steps text = are_digits text && (leb 1 (length text)
-    && (leb (length text) 19 && (leb 1 (value_of text) && leb (value_of text) greatest_steps)))
+names_steps text = is_numeral steps_digits greatest_steps text
 
 abbrev pub steps_named : Option (List ℕ) → Option ℕ
 steps_named None = None

@@ -10,8 +10,7 @@ ghost use Rattle.alma_all.specs.All.{program as program_name, all_sense, all_pla
 ghost use Rattle.alma_all.specs.Ends.{all_end, file_of};
 
 use crate::end::AllEnd;
-use crate::words::steps_option;
-use alma_driver_words::{DEFAULT_STEPS, is_file_name, split_word};
+use alma_driver_words::{DEFAULT_STEPS, is_file_name, split_word, steps_option};
 use alma_io::{Files, Sink, Source};
 use alma_ir::Program;
 use alma_listing::{AllError, listing_program};

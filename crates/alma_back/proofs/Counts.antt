@@ -1,40 +1,23 @@
 -- Numbers of steps, and names.
-use Rattle.std.proofs.Common.{◌≡◌, ◌≤◌, ◌∙◌, ◌↔◌, ℕ, List, [], ◌∷◌, length, refl, sym, ap, subst, arith, true≢false}
-use Rattle.std.proofs.lemmas.Bool.{and_parts, leb-true, le-leb}
-use Rattle.std.specs.Prelude.{Bool, true, false, ◌&&◌, leb, cond, is_none, Option, None, Some, IsTrue}
+use Rattle.std.proofs.Common.{◌≡◌, ◌≤◌, ◌∙◌, ◌↔◌, ℕ, List, [], ◌∷◌, refl, sym, ap, arith, true≢false}
+use Rattle.std.proofs.lemmas.Bool.{and_parts}
+use Rattle.std.specs.Prelude.{Bool, true, false, ◌&&◌, cond, is_none, Option, None, Some, IsTrue}
 use Rattle.std.specs.List.{list_all}
 use Rattle.alma_base.specs.Bytes.{is_letter, is_word_byte}
-use Rattle.alma_base.specs.Reading.{is_digit}
 use Rattle.alma_tree.specs.declared.kind.Kind.{Kind}
-use Rattle.alma_scan.specs.Bytes.{AllIn, value_of}
+use Rattle.alma_scan.specs.Bytes.{value_of}
 use Rattle.alma_scan.specs.Spellings.{IsWord, look_up, reserved_words}
 use Rattle.alma_driver_words.specs.Words.{IsNumeral, IsName}
+use Rattle.alma_driver_words.proofs.NumberLemmas.{all_pass, pass_all, numeral_passes, passes_numeral}
 use Rattle.alma_driver_words.proofs.NameTests.{IsFreeWord, name_is_free, one_name}
 use Rattle.alma_back.specs.Script.{is_count, count_in, is_word, is_name, name_in, greatest_steps}
-
--- each byte passes a test
-all_pass : (test : ℕ → Bool) (text : List ℕ) → AllIn test text → list_all test text ≡ true
-all_pass test [] h = refl
-all_pass test (c ∷ text) h = ap (λ b. b && list_all test text) h.0 ∙ all_pass test text h.1
-
-pass_all : (test : ℕ → Bool) (text : List ℕ) → list_all test text ≡ true → AllIn test text
-pass_all test [] h = tt
-pass_all test (c ∷ text) h = let parts = and_parts (test c) (list_all test text) h in (parts.0, pass_all test text parts.1)
 
 -- ---- numbers
 
 -- a number that digits name is one of steps, unless it is 0
 count_is : (text : List ℕ) (count : ℕ) → IsNumeral 7 text count → count ≤ greatest_steps → 1 ≤ count → count_in text ≡ Some count
 count_is text count h small some =
-    let value : value_of text ≡ count = h.value in
-    let all : is_count text ≡ true =
-    ap (λ b. b && (leb 1 (length text) && (leb (length text) 7 && (leb 1 (value_of text) && leb (value_of text) greatest_steps))))
-    (all_pass is_digit text h.digits)
-    ∙ ap (λ b. b && (leb (length text) 7 && (leb 1 (value_of text) && leb (value_of text) greatest_steps))) (le-leb 1 (length text) h.some)
-    ∙ ap (λ b. b && (leb 1 (value_of text) && leb (value_of text) greatest_steps)) (le-leb (length text) 7 h.short)
-    ∙ ap (λ b. b && leb (value_of text) greatest_steps) (le-leb 1 (value_of text) (subst (λ n. 1 ≤ n) (sym value) some))
-    ∙ le-leb (value_of text) greatest_steps (subst (λ n. n ≤ greatest_steps) (sym value) small) in
-    ap (λ b. cond b (Some (value_of text)) None) all ∙ ap Some value
+    ap (λ b. cond b (Some (value_of text)) None) (numeral_passes 7 greatest_steps text count h some small) ∙ ap Some h.value
 
 -- what a number of steps is
 record Counts (text : List ℕ) : Type 0 where
@@ -44,20 +27,7 @@ record Counts (text : List ℕ) : Type 0 where
 
 counts : (text : List ℕ) → is_count text ≡ true → Counts text
 counts text e =
-    let a = and_parts (list_all is_digit text) _ e in
-    let b = and_parts (leb 1 (length text)) _ a.1 in
-    let c = and_parts (leb (length text) 7) _ b.1 in
-    let d = and_parts (leb 1 (value_of text)) _ c.1 in
-    record {
-      numeral = record {
-        digits = pass_all is_digit text a.0;
-        some = leb-true 1 (length text) b.0;
-        short = leb-true (length text) 7 c.0;
-        value = refl;
-      };
-      small = leb-true (value_of text) greatest_steps d.1;
-      some = leb-true 1 (value_of text) d.0;
-    }
+    let passed = passes_numeral 7 greatest_steps text e in record { numeral = passed.0; small = passed.2; some = passed.1 }
 
 -- where none is named
 no_count : (text : List ℕ) → (Counts text → ⊥) → count_in text ≡ None

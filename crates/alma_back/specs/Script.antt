@@ -1,11 +1,11 @@
 -- What a script is.
-use Rattle.std.specs.Prelude.{◌+◌, ℕ, Bool, false, ◌&&◌, eqb, leb, cond, is_none, List, [], ◌∷◌, ◌++◌, length, Option, None, Some}
+use Rattle.std.specs.Prelude.{◌+◌, ℕ, Bool, false, ◌&&◌, eqb, cond, is_none, List, [], ◌∷◌, ◌++◌, length, Option, None, Some}
 use Rattle.std.specs.Prelude.{option_map, Result, Ok, Err}
 use Rattle.std.specs.List.{list_all}
 use Rattle.alma_base.specs.Bytes.{is_letter, is_word_byte}
-use Rattle.alma_base.specs.Reading.{is_digit}
 use Rattle.alma_scan.specs.Bytes.{value_of}
 use Rattle.alma_scan.specs.Spellings.{look_up, reserved_words}
+use Rattle.alma_driver_words.specs.Words.{is_numeral}
 
 -- ---- a line
 
@@ -22,8 +22,7 @@ greatest_steps = 1000000
 
 -- one to seven digits, whose value is from 1 to 1,000,000
 abbrev pub is_count : List ℕ → Bool
-is_count text = list_all is_digit text &&
-    (leb 1 (length text) && (leb (length text) 7 && (leb 1 (value_of text) && leb (value_of text) greatest_steps)))
+is_count text = is_numeral 7 greatest_steps text
 
 abbrev pub count_in : List ℕ → Option ℕ
 count_in text = cond (is_count text) (Some (value_of text)) None

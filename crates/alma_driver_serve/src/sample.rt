@@ -5,6 +5,7 @@ ghost use Rattle.alma_base.specs.Limits.{source_limit};
 ghost use Rattle.alma_io.specs.Causes.{HasCause};
 ghost use Rattle.alma_io.specs.Fronts.{AppendsFront};
 ghost use Rattle.alma_driver_words.specs.Sample.{sample_text};
+ghost use Rattle.alma_driver_words.specs.Words.{greatest_lines};
 ghost use Rattle.alma_driver_outcome.specs.declared.end.End.TheVariants.{Succeeded};
 ghost use Rattle.alma_driver_outcome.specs.Ends.{sample_line, summary_line};
 ghost use Rattle.alma_driver_outcome.specs.Outcome.{due_of, IsSampled, SampleOutcome};
@@ -131,7 +132,7 @@ fn sum_up<O: Sink>(alloc: Global, lines: u32, source: &[u8], out: &mut O) -> End
 
 /// Makes a source of so many lines, runs it on an empty input, and writes the line that sums up the run.
 pub fn sample<O: Sink>(alloc: Global, lines: u32, out: &mut O) -> End
-    requires few { lines ≤ 5000 }
+    requires few { lines ≤ greatest_lines }
     ensures { Goes (SampleOutcome lines)
         (O.side out.old) (O.side out.new) result }
 {

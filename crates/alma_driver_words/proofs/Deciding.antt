@@ -8,7 +8,8 @@ use Rattle.alma_base.specs.Reading.{is_digit}
 use Rattle.alma_scan.specs.Bytes.{AllIn, value_of}
 use Rattle.alma_driver_words.specs.declared.command.Command as command
 use Rattle.alma_driver_words.specs.declared.command.Command.TheVariants as commands
-use Rattle.alma_driver_words.specs.Words.{IsFileName, greatest_steps, IsNumeral, NamesSteps, NamesLines, IsName, is_file_name}
+use Rattle.alma_driver_words.specs.Words.{IsFileName, IsNumeral, NamesSteps, NamesLines, IsName, is_file_name}
+use Rattle.alma_driver_words.specs.Words.{greatest_steps, steps_digits, greatest_lines, lines_digits, greatest_watches}
 use Rattle.alma_driver_words.specs.Words.{Setting, Steps, Stats, Watch, IsSetting}
 use Rattle.alma_driver_words.specs.Words.{AreSettings, Allows, steps_named, stats_count, names_watched}
 use Rattle.alma_driver_words.specs.Words.{Request, Check, Compile, Listing, Run, Exec, Trace, Sample, Asks, IsBadWord, steps_of, is_some}
@@ -28,8 +29,8 @@ names_file : (word : List ℕ) → Decidable (IsFileName word)
 names_file word = passed (is_file_name word)
 
 -- whether a text is a numeral, which has its value
-is_numeral : (most : ℕ) (text : List ℕ) → Decidable (IsNumeral most text (value_of text))
-is_numeral most text = by (all_in is_digit text) (no_more 1 (length text)) (no_more (length text) most)
+names_number : (most : ℕ) (text : List ℕ) → Decidable (IsNumeral most text (value_of text))
+names_number most text = by (all_in is_digit text) (no_more 1 (length text)) (no_more (length text) most)
   where
     by : Decidable (AllIn is_digit text) → Decidable (1 ≤ length text) → Decidable (length text ≤ most)
         → Decidable (IsNumeral most text (value_of text))
@@ -44,25 +45,26 @@ own_value most text number h = subst (IsNumeral most text) (sym h.value) h
 
 -- whether a text names a number of steps
 names_steps : (text : List ℕ) → Decidable ((steps : ℕ) × NamesSteps text steps)
-names_steps text = by (is_numeral 19 text) (no_more 1 (value_of text)) (no_more (value_of text) greatest_steps)
+names_steps text = by (names_number steps_digits text) (no_more 1 (value_of text)) (no_more (value_of text) greatest_steps)
   where
-    by : Decidable (IsNumeral 19 text (value_of text)) → Decidable (1 ≤ value_of text) → Decidable (value_of text ≤ greatest_steps)
-        → Decidable ((steps : ℕ) × NamesSteps text steps)
+    by : Decidable (IsNumeral steps_digits text (value_of text)) → Decidable (1 ≤ value_of text)
+        → Decidable (value_of text ≤ greatest_steps) → Decidable ((steps : ℕ) × NamesSteps text steps)
     by (inl numeral) (inl least) (inl greatest) =
         inl (value_of text, record { numeral = numeral; least = least; greatest = greatest })
     by (inl numeral) (inl least) (inr never) =
         inr (λ h. never (subst (λ (n : ℕ). n ≤ greatest_steps) (sym h.1.numeral.value) h.1.greatest))
     by (inl numeral) (inr never) greatest = inr (λ h. never (subst (λ (n : ℕ). 1 ≤ n) (sym h.1.numeral.value) h.1.least))
-    by (inr never) least greatest = inr (λ h. never (own_value 19 text h.0 h.1.numeral))
+    by (inr never) least greatest = inr (λ h. never (own_value steps_digits text h.0 h.1.numeral))
 
 -- whether a text names a number of lines
 names_lines : (text : List ℕ) → Decidable ((lines : ℕ) × NamesLines text lines)
-names_lines text = by (is_numeral 4 text) (no_more (value_of text) 5000)
+names_lines text = by (names_number lines_digits text) (no_more (value_of text) greatest_lines)
   where
-    by : Decidable (IsNumeral 4 text (value_of text)) → Decidable (value_of text ≤ 5000) → Decidable ((lines : ℕ) × NamesLines text lines)
+    by : Decidable (IsNumeral lines_digits text (value_of text)) → Decidable (value_of text ≤ greatest_lines)
+        → Decidable ((lines : ℕ) × NamesLines text lines)
     by (inl numeral) (inl greatest) = inl (value_of text, record { numeral = numeral; greatest = greatest })
-    by (inl numeral) (inr never) = inr (λ h. never (subst (λ (n : ℕ). n ≤ 5000) (sym h.1.numeral.value) h.1.greatest))
-    by (inr never) greatest = inr (λ h. never (own_value 4 text h.0 h.1.numeral))
+    by (inl numeral) (inr never) = inr (λ h. never (subst (λ (n : ℕ). n ≤ greatest_lines) (sym h.1.numeral.value) h.1.greatest))
+    by (inr never) greatest = inr (λ h. never (own_value lines_digits text h.0 h.1.numeral))
 
 -- ---- options
 
@@ -253,12 +255,15 @@ exec_words (object ∷ words) = by (names_file object) (all_options 1 0 words)
 -- words behind `trace`
 trace_words : (words : List (List ℕ)) → HasAnswer (codes "trace" ∷ words)
 trace_words [] = inr (2, bad_name commands.Trace [] tt tt)
-trace_words (name ∷ words) = by (names_file name) (all_options 0 8 words)
+trace_words (name ∷ words) = by (names_file name) (all_options 0 greatest_watches words)
   where
-    by : Decidable (IsFileName name) → HasOptions 0 8 words words → HasAnswer (codes "trace" ∷ name ∷ words)
+    by : Decidable (IsFileName name) → HasOptions 0 greatest_watches words words → HasAnswer (codes "trace" ∷ name ∷ words)
     by (inr never) options = inr (2, bad_name commands.Trace (name ∷ words) tt never)
     by (inl is) (inl o) =
-        inl (Trace name (steps_of (steps_named o.settings)) (names_watched o.settings), (words, refl, is, without_stats 8 words o))
+        inl (
+          Trace name (steps_of (steps_named o.settings)) (names_watched o.settings),
+          (words, refl, is, without_stats greatest_watches words o),
+        )
     by (inl is) (inr bad) = inr (bad.0 + 3, bad_trace_option name words bad.0 is bad.1)
 
 -- words behind `sample`

@@ -4,6 +4,8 @@ use Rattle.std.proofs.lemmas.List.{length-append}
 use Rattle.std.proofs.lemmas.Fmt.{length-decimal-le}
 use Rattle.std.proofs.lemmas.Nat.{mod_below}
 use Rattle.std.specs.Fmt.{decimal}
+use Rattle.alma_base.specs.Limits.{source_limit}
+use Rattle.alma_driver_words.specs.Words.{greatest_lines}
 use Rattle.alma_driver_words.specs.Sample.{form_line, line_of, lines_from, next_number, head_text, tail_text, sample_text}
 
 -- two texts, one behind the other
@@ -65,7 +67,7 @@ lines_length (suc count) number =
     omega (arith, both)
 
 -- so is what stands round them
-pub whole_length : (lines : ℕ) → lines ≤ 5000 → length (head_text ++ (lines_from lines 12345 ++ tail_text)) ≤ 1048576
+pub whole_length : (lines : ℕ) → lines ≤ greatest_lines → length (head_text ++ (lines_from lines 12345 ++ tail_text)) ≤ source_limit
 whole_length lines few =
     let head : length head_text ≤ 100 = omega arith in
     let tail : length tail_text ≤ 100 = omega arith in
@@ -76,6 +78,6 @@ whole_length lines few =
     omega (arith, whole, few)
 
 -- a sample of up to 5,000 lines is short
-pub sample_length : (lines : ℕ) → lines ≤ 5000 → length (sample_text lines) ≤ 1048576
+pub sample_length : (lines : ℕ) → lines ≤ greatest_lines → length (sample_text lines) ≤ source_limit
 unfolding sample_text
 sample_length lines few = whole_length lines few

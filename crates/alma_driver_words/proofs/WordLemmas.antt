@@ -9,12 +9,12 @@ use Rattle.alma_driver_words.specs.declared.command.Command.TheVariants as comma
 use Rattle.alma_driver_words.specs.declared.words.WordsError.{WordsError}
 use Rattle.alma_driver_words.specs.declared.words.WordsError.TheVariants.{Bad, Memory}
 use Rattle.alma_driver_words.specs.BadWords as form
-use Rattle.alma_driver_words.specs.Words.{Request, Check, Compile, Listing, Run, Exec, Trace, Sample, Asks, AreRequest, IsBadWord, Reads}
-use Rattle.alma_driver_words.specs.Words.{IsFileName, NamesLines, Options, default_steps}
+use Rattle.alma_driver_words.specs.Words.{Request, Check, Compile, Listing, Run, Exec, Trace, Sample, Asks, IsRequest, IsBadWord, Reads}
+use Rattle.alma_driver_words.specs.Words.{IsFileName, NamesLines, Options, default_steps, greatest_watches}
 use Rattle.alma_driver_words.specs.Limits.{IsWithinLimits}
 use Rattle.alma_driver_words.specs.Inner.Commands.{word_of}
 use Rattle.alma_driver_words.specs.Inner.Settings.{AreOptions, IsBadOption, ReadsOptions}
-use Rattle.alma_driver_words.specs.Inner.Names.{LacksName, LacksLines, ReadsOne}
+use Rattle.alma_driver_words.specs.Inner.Names.{LacksName, ReadsOne}
 use Rattle.alma_driver_words.proofs.BadWords.{take_begins}
 use Rattle.alma_driver_words.proofs.SettingLemmas.{no_options, options_front, without_names, without_stats, one_meaning, options_within}
 use Rattle.alma_driver_words.proofs.SettingLemmas.{names_within}
@@ -29,13 +29,13 @@ rest_of first second words others e = cc e
 
 -- a request begins with these words
 abbrev Begins : List (List ℕ) → Type 0
-Begins words = form.Begins AreRequest words
+Begins words = form.Begins IsRequest words
 
 -- what begins a request does so in each front
 begins_before : (words : List (List ℕ)) (k : ℕ) → Begins (take k words) → (j : ℕ) → j < k + 1 → Begins (take j words)
 begins_before words k b j h =
     let front : take j (take k words) ≡ take j words = take-take j k words (omega arith) in
-    subst Begins front (take_begins AreRequest j (take k words) b)
+    subst Begins front (take_begins IsRequest j (take k words) b)
 
 a_name : IsFileName (97 ∷ [])
 a_name = refl
@@ -78,7 +78,7 @@ Behind commands.Exec words request =
     × Options 1 0 options steps stats [] × (request ≡ Exec object steps stats)
 Behind commands.Trace words request =
     (name : List ℕ) × (options : List (List ℕ)) × (steps : ℕ) × (watch : List (List ℕ)) × (words ≡ name ∷ options) × IsFileName name
-    × Options 0 8 options steps false watch × (request ≡ Trace name steps watch)
+    × Options 0 greatest_watches options steps false watch × (request ≡ Trace name steps watch)
 Behind commands.Sample words request =
     (digits : List ℕ) × (lines : ℕ) × (words ≡ digits ∷ []) × NamesLines digits lines × (request ≡ Sample lines)
 
@@ -196,7 +196,7 @@ begins_named commands.Exec t = (
 begins_named commands.Trace t = (
   (97 ∷ []) ∷ [],
   Trace (97 ∷ []) default_steps [],
-  (97 ∷ [], [], default_steps, [], refl, a_name, no_options 0 8, refl),
+  (97 ∷ [], [], default_steps, [], refl, a_name, no_options 0 greatest_watches, refl),
 )
 begins_named commands.Sample t = absurd t
 
@@ -241,6 +241,11 @@ bad_behind_object name object word words h k =
     (λ lt more request b. absurd (omega (arith, ap length b.2))) (omega arith) (λ request b. absurd (omega (arith, ap length b.2)))
 
 -- ---- samples
+
+-- no number of lines stands in front
+abbrev pub LacksLines : List (List ℕ) → Type 0
+LacksLines [] = Unit {0}
+LacksLines (word ∷ words) = (lines : ℕ) → NamesLines word lines → ⊥
 
 has_lines : (words : List (List ℕ)) (request : Request) → LacksLines words → Behind commands.Sample words request → ⊥
 has_lines words request l b = subst LacksLines b.2 l b.1 b.3
@@ -292,12 +297,12 @@ exec_takes object h = record {
       subst (AreOptions 1 0) same record { settings = b.6.settings; are = b.6.are; allowed = b.6.allowed };
 }
 
-trace_takes : (name : List ℕ) → IsFileName name → TakesOptions commands.Trace 0 8 name
+trace_takes : (name : List ℕ) → IsFileName name → TakesOptions commands.Trace 0 greatest_watches name
 trace_takes name h = record {
-  begins = λ words o. (Trace name _ _, (name, words, _, _, refl, h, without_stats 8 words o, refl));
+  begins = λ words o. (Trace name _ _, (name, words, _, _, refl, h, without_stats greatest_watches words o, refl));
   are = λ words request b.
       let same : b.1 ≡ words = sym (rest_of name b.0 words b.1 b.4) in
-      subst (AreOptions 0 8) same record { settings = b.6.settings; are = b.6.are; allowed = b.6.allowed };
+      subst (AreOptions 0 greatest_watches) same record { settings = b.6.settings; are = b.6.are; allowed = b.6.allowed };
 }
 
 -- no options go on past a bad one
@@ -330,9 +335,9 @@ pub bad_exec_option : (object : List ℕ) (words : List (List ℕ)) (index : ℕ
     → IsBadWord (codes "exec" ∷ object ∷ words) (index + 3)
 bad_exec_option object words index h bad = bad_option commands.Exec 1 0 object words index (exec_takes object h) bad
 
-pub bad_trace_option : (name : List ℕ) (words : List (List ℕ)) (index : ℕ) → IsFileName name → IsBadOption 0 8 words index
+pub bad_trace_option : (name : List ℕ) (words : List (List ℕ)) (index : ℕ) → IsFileName name → IsBadOption 0 greatest_watches words index
     → IsBadWord (codes "trace" ∷ name ∷ words) (index + 3)
-bad_trace_option name words index h bad = bad_option commands.Trace 0 8 name words index (trace_takes name h) bad
+bad_trace_option name words index h bad = bad_option commands.Trace 0 greatest_watches name words index (trace_takes name h) bad
 
 -- ---- what a `?` hands on
 
@@ -357,7 +362,7 @@ exec_error object words (Bad k) n h = subst (IsBadWord (codes "exec" ∷ object 
 exec_error object words Memory n h = tt
 
 pub trace_error : (name : List ℕ) (words : List (List ℕ)) (e : WordsError) → IsFileName name
-    → ReadsOptions (record { stats = false; watches = 8 }) words (Err e)
+    → ReadsOptions (record { stats = false; watches = greatest_watches }) words (Err e)
     → Reads (codes "trace" ∷ name ∷ words) (Err e)
 trace_error name words (Bad k) n h = subst (IsBadWord (codes "trace" ∷ name ∷ words)) (sym h.1) (bad_trace_option name words h.0 n h.2)
 trace_error name words Memory n h = tt
@@ -371,7 +376,10 @@ within_limits words (Compile name object) a = tt
 within_limits words (Listing object) a = tt
 within_limits words (Run name steps stats) a = options_within 1 0 a.0 steps stats [] a.3
 within_limits words (Exec object steps stats) a = options_within 1 0 a.0 steps stats [] a.3
-within_limits words (Trace name steps watch) a = (options_within 0 8 a.0 steps false watch a.3, names_within 0 8 a.0 steps false watch a.3)
+within_limits words (Trace name steps watch) a = (
+  options_within 0 greatest_watches a.0 steps false watch a.3,
+  names_within 0 greatest_watches a.0 steps false watch a.3,
+)
 within_limits words (Sample lines) a = a.2.greatest
 
 -- ---- one answer
@@ -402,8 +410,8 @@ one_behind commands.Exec words first second h k =
 one_behind commands.Trace words first second h k =
     let whole : h.0 ∷ h.1 ≡ k.0 ∷ k.1 = sym h.4 ∙ k.4 in
     let same : h.0 ≡ k.0 = first_of h.0 k.0 h.1 k.1 whole in
-    let options = subst (λ (o : List (List ℕ)). Options 0 8 o h.2 false h.3) (rest_of h.0 k.0 h.1 k.1 whole) h.6 in
-    let one = one_meaning 0 8 k.1 h.2 k.2 false false h.3 k.3 options k.6 in
+    let options = subst (λ (o : List (List ℕ)). Options 0 greatest_watches o h.2 false h.3) (rest_of h.0 k.0 h.1 k.1 whole) h.6 in
+    let one = one_meaning 0 greatest_watches k.1 h.2 k.2 false false h.3 k.3 options k.6 in
     h.7 ∙ ap (λ (n : List ℕ). Trace n h.2 h.3) same ∙ ap (λ (n : ℕ). Trace k.0 n h.3) one.0 ∙ ap (Trace k.0 k.2) one.2 ∙ sym k.7
 one_behind commands.Sample words first second h k =
     let same : h.0 ≡ k.0 = first_of h.0 k.0 [] [] (sym h.2 ∙ k.2) in

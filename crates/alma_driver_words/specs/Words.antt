@@ -1,6 +1,7 @@
 -- What the words of a call ask for.
-use Rattle.std.specs.Prelude.{◌≡◌, ◌<◌, ◌≤◌, ◌+◌, ◌^◌, Bool, true, false, List, ℕ, zero, suc, [], ◌∷◌, ◌++◌, length, map, codes}
-use Rattle.std.specs.Prelude.{not, eqb, String, Result, Ok, Err}
+use Rattle.std.specs.Prelude.{◌≡◌, ◌≤◌, ◌^◌, Bool, true, false, List, ℕ, zero, suc, [], ◌∷◌, ◌++◌, length, map, codes}
+use Rattle.std.specs.Prelude.{not, eqb, leb, ◌&&◌, String, Result, Ok, Err}
+use Rattle.std.specs.List.{list_all}
 use Rattle.std.specs.declared.alloc.Global.{Global}
 use Rattle.std.specs.String.{string_bytes}
 use Rattle.alma_base.specs.Reading.{is_digit}
@@ -32,9 +33,25 @@ AreFileNames (word ∷ words) = IsFileName word × AreFileNames words
 abbrev pub greatest_steps : ℕ
 greatest_steps = 2 ^ 62
 
+-- the greatest number of digits by which they name it
+abbrev pub steps_digits : ℕ
+steps_digits = 19
+
 -- the number of steps where the words name none
 abbrev pub default_steps : ℕ
 default_steps = 1000000000
+
+-- the greatest number of lines of a sample
+abbrev pub greatest_lines : ℕ
+greatest_lines = 5000
+
+-- the greatest number of digits by which words name it
+abbrev pub lines_digits : ℕ
+lines_digits = 4
+
+-- the greatest number of names that words watch
+abbrev pub greatest_watches : ℕ
+greatest_watches = 8
 
 -- so many digits at most, one at least, and their value
 pub record IsNumeral (most : ℕ) (text : List ℕ) (number : ℕ) : Type 0 where
@@ -43,16 +60,21 @@ pub record IsNumeral (most : ℕ) (text : List ℕ) (number : ℕ) : Type 0 wher
   pub short : length text ≤ most
   pub value : value_of text ≡ number
 
--- one to nineteen digits name a number of steps from 1 on
+-- one digit at least and so many at most, whose value is from 1 to the greatest
+abbrev pub is_numeral : (most greatest : ℕ) → List ℕ → Bool
+is_numeral most greatest text = list_all is_digit text &&
+    (leb 1 (length text) && (leb (length text) most && (leb 1 (value_of text) && leb (value_of text) greatest)))
+
+-- digits name a number of steps from 1 on
 pub record NamesSteps (text : List ℕ) (steps : ℕ) : Type 0 where
-  pub numeral : IsNumeral 19 text steps
+  pub numeral : IsNumeral steps_digits text steps
   pub least : 1 ≤ steps
   pub greatest : steps ≤ greatest_steps
 
--- one to four digits name a number of lines of a sample
+-- digits name a number of lines of a sample
 pub record NamesLines (text : List ℕ) (lines : ℕ) : Type 0 where
-  pub numeral : IsNumeral 4 text lines
-  pub greatest : lines ≤ 5000
+  pub numeral : IsNumeral lines_digits text lines
+  pub greatest : lines ≤ greatest_lines
 
 -- the text is one name of the language, and no reserved word
 abbrev pub IsName : List ℕ → Type 0
@@ -147,16 +169,17 @@ Asks words (Run name steps stats) =
 Asks words (Exec object steps stats) =
     (options : List (List ℕ)) × (words ≡ codes "exec" ∷ object ∷ options) × IsFileName object × Options 1 0 options steps stats []
 Asks words (Trace name steps watch) =
-    (options : List (List ℕ)) × (words ≡ codes "trace" ∷ name ∷ options) × IsFileName name × Options 0 8 options steps false watch
+    (options : List (List ℕ)) × (words ≡ codes "trace" ∷ name ∷ options) × IsFileName name
+    × Options 0 greatest_watches options steps false watch
 Asks words (Sample lines) = (digits : List ℕ) × (words ≡ codes "sample" ∷ digits ∷ []) × NamesLines digits lines
 
 -- they ask for something
-abbrev pub AreRequest : List (List ℕ) → Type 0
-AreRequest words = (request : Request) × Asks words request
+abbrev pub IsRequest : List (List ℕ) → Type 0
+IsRequest words = (request : Request) × Asks words request
 
 -- word k is the first that cannot stand where it is in a request, or they end too early
 abbrev pub IsBadWord : List (List ℕ) → (k : ℕ) → Type 0
-IsBadWord words k = form.IsBadWord AreRequest words k
+IsBadWord words k = form.IsBadWord IsRequest words k
 
 -- ---- what reading the words answers
 

@@ -1,7 +1,8 @@
 //! Laws of the definitions that the contracts cite: functions without work, whose contracts are the laws.
 ghost use Rattle.std.specs.Prelude.{◌≡◌, ◌≤◌, ◌⊎◌, List, ℕ, length};
 ghost use Rattle.alma_driver_words.specs.Sample.{sample_text};
-ghost use Rattle.alma_driver_words.specs.Words.{Request, Asks, IsBadWord};
+ghost use Rattle.alma_base.specs.Limits.{source_limit};
+ghost use Rattle.alma_driver_words.specs.Words.{Request, Asks, IsBadWord, greatest_lines};
 ghost use Rattle.alma_driver_words.specs.Limits.{IsWithinLimits};
 
 /// Words are no two requests, no two words are the first bad one, and words with a bad one are no request.
@@ -29,5 +30,6 @@ pub fn requests_are_within_limits()
 /// A sample of up to 5,000 lines is a source that is not too long.
 #[tactic(auto, using(crate::proofs::Lengths::sample_length))]
 pub fn samples_are_short()
-    ensures short { (lines : ℕ) → lines ≤ 5000 → length (sample_text lines) ≤ 1048576 }
+    ensures short { (lines : ℕ) → lines ≤ greatest_lines → length (sample_text lines)
+        ≤ source_limit }
 {}

@@ -10,8 +10,8 @@ mod sample_line;
 mod setting;
 mod words;
 
-pub use number::{named_steps, numeral};
+pub use number::numeral;
 pub use options::DEFAULT_STEPS;
 pub use sample::sample_source;
-pub use setting::is_name;
+pub use setting::{is_name, steps_option};
 pub use words::{Request, WordsError, file_word, is_file_name, read_words, split_word};

@@ -42,9 +42,9 @@ pub fn named_steps(digits: &str) -> Option<u64>
     ensures { MatchOption result ((steps : ℕ) → NamesSteps digits.now steps → ⊥)
         (λ steps. NamesSteps digits.now steps) }
 {
-    match numeral(digits.as_bytes(), STEPS_DIGITS, GREATEST_STEPS) {
-        Some(steps) => if steps == 0 { None } else { Some(steps) },
-        None => None,
+    match numeral(digits.as_bytes(), STEPS_DIGITS, GREATEST_STEPS)? {
+        0 => None,
+        steps => Some(steps),
     }
 }
 
@@ -53,8 +53,6 @@ pub fn named_lines(digits: &str) -> Option<u32>
     ensures { MatchOption result ((lines : ℕ) → NamesLines digits.now lines → ⊥)
         (λ lines. NamesLines digits.now lines) }
 {
-    match numeral(digits.as_bytes(), LINES_DIGITS, GREATEST_LINES) {
-        Some(lines) => Some(lines as u32),
-        None => None,
-    }
+    let lines = numeral(digits.as_bytes(), LINES_DIGITS, GREATEST_LINES)?;
+    Some(lines as u32)
 }

@@ -57,13 +57,11 @@ impl<'w> Options<'w> {
             (λ setting. plain.IsSetting word.now (setting_in setting) × Takes allowance self.now
             (setting_in setting)) }
     {
-        match setting_of(word) {
-            Some(setting) => if self.takes(allowance, setting) {
-                Some(setting)
-            } else {
-                None
-            },
-            None => None,
+        let setting = setting_of(word)?;
+        if self.takes(allowance, setting) {
+            Some(setting)
+        } else {
+            None
         }
     }
 

@@ -1,5 +1,7 @@
 // The source of a sample: its head, the lines of its numbers, and its tail.
 ghost use Rattle.std.specs.Prelude.{◌≡◌, ◌++◌, ◌≤◌, length, OnOk, IfOk};
+ghost use Rattle.alma_base.specs.Limits.{source_limit};
+ghost use Rattle.alma_driver_words.specs.Words.{greatest_lines};
 ghost use Rattle.alma_driver_words.specs.Sample.{next_number, lines_from, sample_text};
 
 use crate::sample_line::{push_line, push_texts};
@@ -28,9 +30,9 @@ fn push_lines(text: &mut Vec<u8>, lines: u32) -> Result<(), NoMemory>
 /// A source with this many lines between its first and its last.
 #[tactic(auto, using(crate::proofs::Lengths::sample_length), unfolding(crate::specs::Sample::sample_text))]
 pub fn sample_source(alloc: Global, lines: u32) -> Result<Vec<u8>, NoMemory>
-    requires few { lines ≤ 5000 }
+    requires few { lines ≤ greatest_lines }
     ensures text { IfOk result (λ source. source.items ≡ sample_text lines) }
-    ensures short { length (sample_text lines) ≤ 1048576 }
+    ensures short { length (sample_text lines) ≤ source_limit }
 {
     let mut text = Vec::new(alloc);
     push_texts(

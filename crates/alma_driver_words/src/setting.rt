@@ -30,15 +30,12 @@ pub fn is_name(word: &[u8]) -> bool
     }
 }
 
-// The number of steps that an option gives.
-fn steps_option(word: &str) -> Option<u64>
+/// The number of steps that an option gives.
+pub fn steps_option(word: &str) -> Option<u64>
     ensures { MatchOption result ((steps : ℕ) → plain.IsSetting word.now (plain.Steps steps) → ⊥)
         (λ steps. plain.IsSetting word.now (plain.Steps steps)) }
 {
-    match word.strip_prefix("--steps=") {
-        Some(digits) => named_steps(digits),
-        None => None,
-    }
+    named_steps(word.strip_prefix("--steps=")?)
 }
 
 // The name that an option watches.
@@ -46,13 +43,11 @@ fn watch_option(word: &str) -> Option<&str>
     ensures { MatchOption result ((name : List ℕ) → plain.IsSetting word.now (plain.Watch name) → ⊥)
         (λ name. plain.IsSetting word.now (plain.Watch name.now)) }
 {
-    match word.strip_prefix("--watch=") {
-        Some(name) => if is_name(name.as_bytes()) {
-            Some(name)
-        } else {
-            None
-        },
-        None => None,
+    let name = word.strip_prefix("--watch=")?;
+    if is_name(name.as_bytes()) {
+        Some(name)
+    } else {
+        None
     }
 }
 

@@ -9,6 +9,9 @@ use crate::options::{Allowance, read_options};
 use alma_base::NoMemory;
 use std::alloc::Global;
 
+/// The greatest number of names that words watch.
+const GREATEST_WATCHES: usize = 8;
+
 /// What the options of `run` and `exec` may be.
 const RUN_OPTIONS: Allowance = Allowance {
     stats: true,
@@ -18,7 +21,7 @@ const RUN_OPTIONS: Allowance = Allowance {
 /// What the options of `trace` may be.
 const TRACE_OPTIONS: Allowance = Allowance {
     stats: false,
-    watches: 8,
+    watches: GREATEST_WATCHES,
 };
 
 /// What the words ask for.
@@ -86,15 +89,11 @@ fn split_name(words: &[String]) -> Option<(&str, &[String])>
     ensures { MatchOption result (LacksName (texts words.now)) (λ split. (texts words.now
         ≡ split.0.now ∷ texts split.1.now) × IsFileName split.0.now) }
 {
-    match split_word(words) {
-        Some((name, rest)) => {
-            if is_file_name(name) {
-                Some((name, rest))
-            } else {
-                None
-            }
-        }
-        None => None,
+    let (name, rest) = split_word(words)?;
+    if is_file_name(name) {
+        Some((name, rest))
+    } else {
+        None
     }
 }
 

@@ -3,17 +3,12 @@ use Rattle.std.specs.Prelude.{◌≡◌, List, ℕ, [], ◌∷◌, codes, Result
 use Rattle.std.specs.Borrow.{Bor}
 use Rattle.alma_driver_words.specs.declared.words.WordsError.{WordsError}
 use Rattle.alma_driver_words.specs.declared.words.WordsError.TheVariants.{Bad, Memory}
-use Rattle.alma_driver_words.specs.Words.{IsFileName, NamesLines, IsBadWord}
+use Rattle.alma_driver_words.specs.Words.{IsFileName, IsBadWord}
 
 -- no name of a file stands in front
 abbrev pub LacksName : List (List ℕ) → Type 0
 LacksName [] = Unit {0}
 LacksName (word ∷ words) = IsFileName word → ⊥
-
--- no number of lines stands in front
-abbrev pub LacksLines : List (List ℕ) → Type 0
-LacksLines [] = Unit {0}
-LacksLines (word ∷ words) = (lines : ℕ) → NamesLines word lines → ⊥
 
 -- What reading the one name behind `check` or `list` may answer.
 abbrev pub ReadsOne : List (List ℕ) → Result (Bor (List ℕ)) WordsError → Type 0
