@@ -14,15 +14,18 @@ use alma_io::{Files, Sink, Source};
 use alma_plan::{Refusal, refuse, refuse_with, tell_file, tell_program};
 use std::alloc::Global;
 
+/// The name of the program.
+const PROGRAM: &[u8] = b"alma_all";
+
 // Says on err how the call ends: the status of that, or that of a write fault where err fails.
 fn tell<E: Sink>(err: &mut E, file: &str, end: AllEnd) -> Status
     ensures { Reports (all_end file.now end) (E.side err.old) (E.side err.new) result.0 }
 {
     match end {
-        AllEnd::BadWord(word) => refuse(err, b"alma_all", Refusal::BadWord(word)),
-        AllEnd::NoProgram(stop) => tell_file(err, b"alma_all", file.as_bytes(), stop),
-        AllEnd::ModuleReturn => refuse_with(err, b"alma_all", 13, b"ModuleReturn"),
-        AllEnd::Run(end) => tell_program(err, b"alma_all", 0, end),
+        AllEnd::BadWord(word) => refuse(err, PROGRAM, Refusal::BadWord(word)),
+        AllEnd::NoProgram(stop) => tell_file(err, PROGRAM, file.as_bytes(), stop),
+        AllEnd::ModuleReturn => refuse_with(err, PROGRAM, 13, b"ModuleReturn"),
+        AllEnd::Run(end) => tell_program(err, PROGRAM, 0, end),
     }
 }
 

@@ -3,21 +3,15 @@
 // The program: its words, the file system, and the standard streams.
 
 use alma_back::back_main;
-use alma_io::{Sink, StdFiles, StdSink, StdSource, all_words, write_all};
+use alma_io::{StdFiles, StdSink, StdSource, all_words};
+use alma_plan::{Refusal, Stop, refuse};
 use std::process::ExitCode;
-
-/// The status where the words themselves find no memory.
-fn out_of_memory<E: Sink>(err: &mut E) -> u8 {
-    match write_all(err, b"alma_back: out of memory\n") {
-        Ok(()) => 8,
-        Err(_) => 7,
-    }
-}
 
 fn main(rt: HostRuntime) -> ExitCode {
     let mut err = StdSink::new(rt.stderr());
     let Ok(words) = all_words(rt.alloc(), &rt) else {
-        return ExitCode::from(out_of_memory(&mut err));
+        let stop = Refusal::Stopped(Stop::Memory);
+        return ExitCode::from(refuse(&mut err, b"alma_back", stop).0);
     };
     let mut files = StdFiles::new(&rt);
     let mut input = StdSource::new(rt.stdin());

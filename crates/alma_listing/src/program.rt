@@ -21,6 +21,7 @@ use std::alloc::Global;
 pub enum AllError {
     /// A RETURN stands in the body of the module.
     ModuleReturn,
+    /// Memory ran out.
     Memory,
 }
 

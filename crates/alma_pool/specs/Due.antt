@@ -13,6 +13,7 @@ use Rattle.alma_plan.specs.Plan.{Due, Ending, Plan, Fetches, Reads, Ends, silent
 use Rattle.alma_plan.specs.Objects.{object_refusal}
 use Rattle.alma_driver_words.specs.Words.{is_file_name}
 use Rattle.alma_pool.specs.Pool.{Lone, lone, turns_of}
+use Rattle.alma_pool.specs.Words.{greatest_programs}
 
 -- the name of the program
 abbrev pub program : List ℕ
@@ -37,7 +38,8 @@ too_few seen = cond (ltb seen 2) (Some (seen + 1)) None
 -- many
 abbrev pub bad_word_behind : (seen : ℕ) → List (List ℕ) → Option ℕ
 bad_word_behind seen [] = too_few seen
-bad_word_behind seen (word ∷ words) = unless (is_file_name word && ltb seen 17) (seen + 1) (bad_word_behind (seen + 1) words)
+bad_word_behind seen (word ∷ words) =
+    unless (is_file_name word && ltb seen (1 + greatest_programs)) (seen + 1) (bad_word_behind (seen + 1) words)
 
 -- the byte may stand in a file of turns of so many programs: a line feed, or the letter of a program; that of the first is `a`
 abbrev pub is_turn : (programs byte : ℕ) → Bool

@@ -17,13 +17,9 @@ pub fn open_all(alloc: Global, objects: &[Vec<u8>]) -> Result<Vec<Verified<'_>>,
 {
     let mut verified = Vec::new(alloc);
     for bytes in objects {
-        match open_code(bytes) {
-            Ok(code) => {
-                if verified.push(code).is_err() {
-                    return Err(Refusal::Stopped(Stop::Memory));
-                }
-            }
-            Err(refusal) => return Err(refusal),
+        let code = open_code(bytes)?;
+        if verified.push(code).is_err() {
+            return Err(Refusal::Stopped(Stop::Memory));
         }
     }
     Ok(verified)

@@ -20,7 +20,7 @@ struct Player<'b, 'i> {
     end: Option<End>,
 }
 
-/// Gives a program one step, and nothing where it has ended.
+// Gives a program one step, and nothing where it has ended.
 fn play(player: &mut Player<'_, '_>) -> Result<(), NoMemory>
     requires ready { IsReady player.old.machine player.old.end }
     requires few { player.old.machine.state.steps < 2 ^ 62 }

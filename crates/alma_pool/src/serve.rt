@@ -1,11 +1,12 @@
 // From the words to an end.
-ghost use Rattle.std.specs.Prelude.{◌≡◌, ◌≤◌, length};
+ghost use Rattle.std.specs.Prelude.{◌≡◌, ◌≤◌, ◌+◌, length};
 ghost use Rattle.alma_plan.specs.Course.{Follows};
 ghost use Rattle.alma_driver_words.specs.Words.{texts};
 ghost use Rattle.alma_plan.specs.Plan.{plain};
 ghost use Rattle.alma_pool.specs.Due.{program, fetching, asked, pool_plan, bad_word_behind, turns_limit};
 ghost use Rattle.alma_pool.specs.Ends.{pool_end};
 ghost use Rattle.alma_pool.specs.Inner.{all_bytes};
+ghost use Rattle.alma_pool.specs.Words.{greatest_programs};
 
 use crate::end::PoolEnd;
 use crate::play::judge;
@@ -15,6 +16,9 @@ use alma_driver_words::{is_file_name, split_word};
 use alma_io::{Files, Sink, Source};
 use alma_plan::{Refusal, Stop};
 use std::alloc::Global;
+
+/// The greatest number of programs.
+const GREATEST_PROGRAMS: usize = 16;
 
 // Fetches the objects of these names, behind those that were, and then makes the turns.
 fn serve_objects<F: Files, I: Source, O: Sink>(
@@ -47,13 +51,13 @@ fn serve_objects<F: Files, I: Source, O: Sink>(
 
 // The first word, from 1, that cannot stand where it is, or one more than there are, behind so many.
 fn bad_word(seen: usize, words: &[String]) -> Option<usize>
-    requires { seen ≤ 17 }
+    requires { seen ≤ 1 + greatest_programs }
     ensures { result ≡ bad_word_behind seen (texts words.now) }
 {
     match words {
         [] => { if seen < 2 { Some(seen + 1) } else { None } }
         [word, rest @ ..] => {
-            if is_file_name(word.as_str()) && seen < 17 {
+            if is_file_name(word.as_str()) && seen < 1 + GREATEST_PROGRAMS {
                 bad_word(seen + 1, rest)
             } else {
                 Some(seen + 1)

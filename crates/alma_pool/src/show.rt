@@ -75,6 +75,7 @@ fn show_one<O: Sink>(pool: &Pool<'_, '_>, k: usize, out: &mut O) -> Result<(), W
         (program_text (k + 1) (seen_of (program_at pool.now k)))) }
     ensures cause { HasCause (O.side out.old).faults (O.side out.new).faults result }
 {
+    // The count bounds `k + 1`: it is a usize, and `k` is below it.
     let _count = pool.count();
     let ended = pool.end(k);
     show_parts(

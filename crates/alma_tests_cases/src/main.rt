@@ -6,14 +6,14 @@ mod case;
 mod devices;
 mod example;
 mod example_run;
+mod examples;
 mod field;
-mod gallery;
 
 use crate::call::is_answered;
 use crate::case::name_of;
+use crate::examples::run_examples;
 use alma_io::{Files, StdFiles};
 use anyhow::{Result, anyhow};
-use gallery::run_examples;
 use serde_json::Value;
 use std::alloc::Global;
 
@@ -35,7 +35,7 @@ const NAMES: [&str; 14] = [
 ];
 
 // The most bytes of a file of cases.
-const LIMIT: usize = 16_777_216;
+const CASES_LIMIT: usize = 16_777_216;
 
 // How many cases a file has, and how many of them are not answered as they must be.
 #[derive(Clone, Copy)]
@@ -48,7 +48,7 @@ fn main(rt: HostRuntime) -> Result<()> {
     let alloc = rt.alloc();
     let mut files = StdFiles::new(&rt);
     for name in NAMES {
-        let Ok(text) = files.fetch(alloc, name, LIMIT) else {
+        let Ok(text) = files.fetch(alloc, name, CASES_LIMIT) else {
             return Err(anyhow!("cannot read a file of cases"));
         };
         let count = run_cases(&rt, &text)?;

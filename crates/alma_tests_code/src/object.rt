@@ -24,7 +24,7 @@ pub(crate) const SECOND: [u8; 108] = [
     0, 0, 0x41, 0x26, 0, 0, 0, 0, 0, 0, 0, 0, 0, 0, 0, 0, 0, 0, 0, 0,
 ];
 
-fn with_byte(at: usize, byte: u8) -> [u8; 104]
+pub(crate) fn with_byte(at: usize, byte: u8) -> [u8; 104]
     requires { at < 104 }
 {
     let mut bytes = FIRST;
@@ -111,26 +111,19 @@ fn fault_with(at: usize, byte: u8) -> Option<ObjectFault>
 #[test]
 fn one_byte_altered(rt: HostRuntime) {
     for (at, byte, want) in [
-        (0, 0, Some(ObjectFault::Magic)),
-        (8, 3, Some(ObjectFault::Version(3))),
-        (10, 0, Some(ObjectFault::BadCount(10))),
-        (42, 2, Some(ObjectFault::BadCount(58))),
-        (46, 2, Some(ObjectFault::BadName(46))),
-        (50, 1, Some(ObjectFault::BadCount(50))),
-        (86, 0x31, Some(ObjectFault::BadName(86))),
-        (88, 1, Some(ObjectFault::BadOpcode(87))),
-        (87, 0, Some(ObjectFault::BadOpcode(87))),
-        (87, 0x31, Some(ObjectFault::BadOpcode(87))),
-        // These break rules of sound code alone.
-        (66, 2, None),
-        (70, 1, None),
-        (74, 2, None),
-        (82, 2, None),
-        (87, 0x1a, None),
-        (87, 0x2f, None),
+        (0, 0, ObjectFault::Magic),
+        (8, 3, ObjectFault::Version(3)),
+        (10, 0, ObjectFault::BadCount(10)),
+        (42, 2, ObjectFault::BadCount(58)),
+        (46, 2, ObjectFault::BadName(46)),
+        (50, 1, ObjectFault::BadCount(50)),
+        (86, 0x31, ObjectFault::BadName(86)),
+        (88, 1, ObjectFault::BadOpcode(87)),
+        (87, 0, ObjectFault::BadOpcode(87)),
+        (87, 0x31, ObjectFault::BadOpcode(87)),
     ] {
         assert!(rt; at < 104);
-        assert_eq!(rt; fault_with(at, byte), want, "{byte} at {at}");
+        assert_eq!(rt; fault_with(at, byte), Some(want), "{byte} at {at}");
     }
 }
 

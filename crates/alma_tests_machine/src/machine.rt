@@ -261,7 +261,7 @@ fn small(alloc: Global, instrs: &[Instr]) -> Result<Code, NoMemory>
 }
 
 // Its object.
-fn object(alloc: Global, instrs: &[Instr]) -> Result<Vec<u8>, NoMemory>
+pub fn object(alloc: Global, instrs: &[Instr]) -> Result<Vec<u8>, NoMemory>
     requires { length instrs.now ≤ 99 }
 {
     let code = small(alloc, instrs)?;

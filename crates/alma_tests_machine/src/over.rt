@@ -5,9 +5,9 @@ ghost use Rattle.alma_code.specs.Plain.{head_at};
 ghost use Rattle.alma_object.specs.View.{head_of_view};
 ghost use Rattle.alma_verify.specs.Verified.{code_of_verified};
 
-use crate::machine::{next_step, opened};
+use crate::machine::{next_step, object, opened};
 use alma_base::NoMemory;
-use alma_code::End;
+use alma_code::{End, Instr};
 use alma_machine::{CodeView, Machine, Step};
 use alma_memory::Memory;
 use alma_object::RoutineView;
@@ -15,13 +15,8 @@ use alma_verify::Verified;
 use std::alloc::Global;
 use std::test::Fail;
 
-// The object of a module A that only returns.
-const RETURNS: [u8; 104] = [
-    65, 76, 77, 65, 48, 79, 66, 74, 1, 0, 1, 0, 0, 0, 0, 0, 0, 0, 0, 0, 0, 0, 1, 0, 0, 0, 0, 0, 0,
-    0, 0, 0, 0, 0, 1, 0, 0, 0, 0, 0, 0, 0, 1, 0, 0, 0, 1, 0, 0, 0, 0, 0, 0, 0, 1, 0, 0, 0, 1, 0, 0,
-    0, 1, 0, 0, 0, 0, 0, 0, 0, 0, 0, 0, 0, 0, 0, 0, 0, 0, 0, 0, 0, 1, 0, 0, 0, 65, 38, 0, 0, 0, 0,
-    0, 0, 0, 0, 0, 0, 0, 0, 0, 0, 0, 0,
-];
+// Only returns.
+const RETURNS: [Instr; 1] = [Instr::Return];
 
 // The head of the module body.
 fn body_head<'b>(code: &Verified<'b>) -> RoutineView<'b>
@@ -78,7 +73,8 @@ fn first_step(alloc: Global, code: Verified<'_>) -> Result<(Option<Step>, Standi
 
 #[test]
 fn a_module_that_only_returns_succeeds_at_once(rt: HostRuntime) -> Result<(), Fail> {
-    let code = opened(&RETURNS).ok_or("sound")?;
+    let object = object(rt.alloc(), &RETURNS)?;
+    let code = opened(&object).ok_or("sound")?;
     let found = first_step(rt.alloc(), code)?;
     let step = Step::Done(End::Succeeded);
     assert_eq!(rt; found, (Some(step), (false, 0, 1, 0)));

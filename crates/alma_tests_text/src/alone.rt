@@ -1,5 +1,5 @@
 // What one constant or type expression alone is, where memory is ample.
-use alma_base::CheckFault;
+use alma_base::{CheckFault, SOURCE_LIMIT};
 use alma_check_expr::{const_value, shape_of};
 use alma_check_type::Reader;
 use alma_parse::parse;
@@ -124,7 +124,7 @@ fn read_first(alloc: Global, source: &[u8], tokens: &[Token<'_>], block: &Block)
 
 /// What stands first in a module of these tokens.
 fn parse_first(alloc: Global, source: &[u8], tokens: &[Token<'_>]) -> Answer {
-    if tokens.len() > 1_048_576 {
+    if tokens.len() > SOURCE_LIMIT {
         return Answer::Memory;
     }
     match parse(alloc, tokens) {

@@ -1,4 +1,4 @@
-//! Tests of trees, tokens, spellings and the parser.
+//! Tests of trees, tokens, spellings and the parser, of constants and types alone, and of samples.
 #![tactic(auto)]
 
 #[cfg(test)]

@@ -2,7 +2,7 @@
 ghost use Rattle.std.specs.Prelude.{◌<◌, length};
 
 use crate::scan::put_copies;
-use alma_base::{NoMemory, SyntaxFault};
+use alma_base::{NoMemory, SOURCE_LIMIT, SyntaxFault};
 use alma_parse::{ParseError, parse};
 use alma_scan::{Token, scan};
 use std::alloc::Global;
@@ -37,7 +37,7 @@ struct Row {
     refusal: Option<(SyntaxFault, usize)>,
 }
 
-const ROWS: [Row; 13] = [
+const ROWS: [Row; 12] = [
     Row {
         source: EVERY,
         refusal: None,
@@ -79,10 +79,6 @@ const ROWS: [Row; 13] = [
         refusal: Some((SyntaxFault::Unexpected, 7)),
     },
     Row {
-        source: b"MODULE A; END A. .",
-        refusal: Some((SyntaxFault::Unexpected, 6)),
-    },
-    Row {
         source: b"MODULE A; END A..",
         refusal: Some((SyntaxFault::Unexpected, 5)),
     },
@@ -97,7 +93,7 @@ type Refusal = (SyntaxFault, usize);
 
 /// Where the tokens are refused, or none where they are a program.
 fn refusal(alloc: Global, tokens: &[Token<'_>]) -> Result<Option<Refusal>, ParseError> {
-    if tokens.len() > 1_048_576 {
+    if tokens.len() > SOURCE_LIMIT {
         return Err(ParseError::Memory);
     }
     match parse(alloc, tokens) {
