@@ -8,14 +8,15 @@ use Rattle.std.proofs.lemmas.List.Sums.{sum_by-cons}
 use Rattle.alma_base.specs.Choice.{if_true}
 use Rattle.alma_ir.specs.Tree.{Stmts, Program, Routine, Global, routine_at, no_routine, no_stmts, more_stmts}
 use Rattle.alma_ir.specs.Checked.{IsChecked}
-use Rattle.alma_copy.specs.Moved.{Moves, moved_stmts}
-use Rattle.alma_join.specs.Joined.{is_bare, Kept, kept_from, kept_in, matches, first_match, number_of_kept, new_number, new_slot}
-use Rattle.alma_join.specs.Joined.{own_slots, body_moves, procedure_moves, moved_procedure, moved_global, joined, HasNoImport}
+use Rattle.alma_copy.specs.Moved.{Moves, moved_stmts, moved_routine}
+use Rattle.alma_copy.specs.Numbers.{slot_behind}
+use Rattle.alma_join.specs.Joined.{is_bare, Kept, kept_from, kept_in, matches, first_match, number_of_kept, new_number}
+use Rattle.alma_join.specs.Joined.{own_slots, body_moves, procedure_moves, global_behind, joined, HasNoImport}
 use Rattle.alma_join.specs.Joined.{AloneIsItself}
 use Rattle.alma_rules.specs.Parts.{append_stmts}
 use Rattle.alma_copy.proofs.Stays.{stmts_stay}
 
-slot_stays : (n : ℕ) → new_slot 0 n ≡ n
+pub slot_stays : (n : ℕ) → slot_behind 0 n ≡ n
 slot_stays zero = refl
 slot_stays (suc n) = omega arith
 
@@ -23,7 +24,7 @@ pub append_none : (x : Stmts) → append_stmts x no_stmts ≡ x
 append_none no_stmts = refl
 append_none (more_stmts line x rest) = ap (more_stmts line x) (append_none rest)
 
-globals_stay : (gs : List Global) → map (moved_global 0) gs ≡ gs
+globals_stay : (gs : List Global) → map (global_behind 0) gs ≡ gs
 globals_stay [] = refl
 globals_stay (g ∷ gs) = λ i. record g { slot = slot_stays g.slot i } ∷ globals_stay gs i
 
@@ -54,10 +55,10 @@ none_from p (x ∷ xs) k h =
     )
 
 procedures_stay : (p : Program) (m : Moves) → ((x : Stmts) → moved_stmts m x ≡ x) → ((n : ℕ) → m.routine n ≡ n)
-    → (xs : List Routine) (k : ℕ) → NoneBare p k xs → map (moved_procedure m) (kept_from 1 p k xs) ≡ xs
+    → (xs : List Routine) (k : ℕ) → NoneBare p k xs → map (λ y. moved_routine m y.routine) (kept_from 1 p k xs) ≡ xs
 procedures_stay p m body outer [] k h = refl
 procedures_stay p m body outer (x ∷ xs) k h =
-    ap (λ b. map (moved_procedure m) (if_true b (λ _. kept_from 1 p (suc k) xs)
+    ap (λ b. map (λ y. moved_routine m y.routine) (if_true b (λ _. kept_from 1 p (suc k) xs)
     (λ _. record { unit = 1; number = k; routine = x } ∷ kept_from 1 p (suc k) xs))) h.0
     ∙ (λ i. record x { body = body x.body i; outer = outer x.outer i } ∷ procedures_stay p m body outer xs (suc k) h.1 i)
 
@@ -91,13 +92,13 @@ module _ (name : List ℕ) (gs : List Global) (body : Routine) (rest : List Rout
         ≡ x = λ x. stmts_stay (body_moves all 1 p 0) slot_stays slot_stays numbers_stay x in
         let in_procedure : (x : Stmts) → moved_stmts (procedure_moves all 1 p 0) x
         ≡ x = λ x. stmts_stay (procedure_moves all 1 p 0) (λ n. refl) slot_stays numbers_stay x in
-        let globals : map (moved_global 0) gs ++ [] ≡ gs = append-nil (map (moved_global 0) gs) ∙ globals_stay gs in
+        let globals : map (global_behind 0) gs ++ [] ≡ gs = append-nil (map (global_behind 0) gs) ∙ globals_stay gs in
         let stmts : append_stmts (moved_stmts (body_moves all 1 p 0) body.body) no_stmts ≡ body.body = append_none _ ∙ in_body body.body in
         let lines : body.lines ++ [] ≡ body.lines = append-nil body.lines in
         let declared : sum_by (λ u. (routine_at u 0).declared) (p ∷ [])
         ≡ body.declared = sum_by-cons (λ u. (routine_at u 0).declared) p [] ∙ omega arith in
         let slots : 1 + sum_by own_slots (p ∷ []) ≡ body.slots = omega (arith, sum_by-cons own_slots p [], has_slots) in
-        let procedures : map (moved_procedure (procedure_moves all 1 p 0)) (kept_from 1 p 1 rest) ++ [] ≡ rest =
+        let procedures : map (λ y. moved_routine (procedure_moves all 1 p 0) y.routine) (kept_from 1 p 1 rest) ++ [] ≡ rest =
         append-nil _ ∙ procedures_stay p (procedure_moves all 1 p 0) in_procedure numbers_stay rest 1 none in
         λ i. record {
           name = name;

@@ -8,7 +8,7 @@ use Rattle.alma_ir.specs.declared.program.Global as variable
 use Rattle.alma_ir.specs.Tree.{Routine, Program, routine_at}
 use Rattle.alma_ir.specs.Tree as ir
 use Rattle.alma_ir.specs.View.{routine_of, global_of, stmts_list, stmt_of}
-use Rattle.alma_join.specs.Joined.{Kept, is_bare, kept_of, moved_procedure}
+use Rattle.alma_join.specs.Joined.{Kept, is_bare, kept_of}
 use Rattle.alma_join.proofs.Keeping.{Passed, passed_none, passed_bare, passed_kept, passed_all}
 use Rattle.alma_rules.specs.Parts.{append_stmts}
 
@@ -39,7 +39,7 @@ globals_more m old new longer more i x copy within is h put e =
 pub record CopiedAs (m : Moves) (p : Program) (old new : List memory.Routine) (r unit : ℕ) : Type 0 where
   pub front : List Kept
   pub passed : Passed unit p r front
-  pub copied : map routine_of new ≡ map routine_of old ++ map (moved_procedure m) front
+  pub copied : map routine_of new ≡ map routine_of old ++ map (λ k. moved_routine m k.routine) front
 
 pub record ProceduresCopied (m : Moves) (p : Program) (old new : List memory.Routine) (r : ℕ) : Type 0 where
   pub as_unit : (unit : ℕ) → CopiedAs m p old new r unit
@@ -73,12 +73,13 @@ copied_kept m p old new longer r x copy within bare is h put e = record { as_uni
       passed = passed_kept unit p r k.front within k.passed bare;
       copied =
           ap (map routine_of) put ∙ map-append routine_of new (copy ∷ []) ∙ (λ j. k.copied j ++ (e ∙ ap (moved_routine m) (sym is)) j ∷ [])
-          ∙ append_assoc (map routine_of old) (map (moved_procedure m) k.front) (moved_routine m (routine_at p r) ∷ [])
-          ∙ ap (λ l. map routine_of old ++ l) (sym (map-append (moved_procedure m) k.front
+          ∙ append_assoc (map routine_of old) (map (λ k. moved_routine m k.routine) k.front) (moved_routine m (routine_at p r) ∷ [])
+          ∙ ap (λ l. map routine_of old ++ l) (sym (map-append (λ k. moved_routine m k.routine) k.front
           (record { unit = unit; number = r; routine = routine_at p r } ∷ [])));
     }
 
 pub copied_all : (m : Moves) (p : Program) (old new : List memory.Routine) (r : ℕ) → length p.routines ≤ r
-    → ProceduresCopied m p old new r → (unit : ℕ) → map routine_of new ≡ map routine_of old ++ map (moved_procedure m) (kept_of unit p)
+    → ProceduresCopied m p old new r → (unit : ℕ)
+    → map routine_of new ≡ map routine_of old ++ map (λ k. moved_routine m k.routine) (kept_of unit p)
 copied_all m p old new r past h unit = let k = h.as_unit unit in k.copied
-    ∙ ap (λ l. map routine_of old ++ map (moved_procedure m) l) (passed_all unit p r k.front past k.passed)
+    ∙ ap (λ l. map routine_of old ++ map (λ k. moved_routine m k.routine) l) (passed_all unit p r k.front past k.passed)

@@ -16,7 +16,7 @@ use Rattle.alma_join.specs.Joined.{Kept, is_empty, is_bare, kept_in, same_name, 
 use Rattle.alma_join.specs.Joined.{same_head, matches, first_match, number_of_kept, JoinFault, Missing, Twice, HeadDiffers, match_fault}
 use Rattle.alma_join.specs.Joined.{or_next, fault_from, import_fault, size_fault, no_totals, join_fault, joined, AreUnits}
 use Rattle.alma_join.proofs.KeptLists.{by_test, no_kept, unit_at, behind_first, fewer_behind}
-use Rattle.alma_join.proofs.Places.{number, Stands, moved_routine, Home, home, count_is, number_low, number_high, SameHead}
+use Rattle.alma_join.proofs.Places.{number, Stands, joined_routine, Home, home, count_is, number_low, number_high, SameHead}
 use Rattle.alma_join.proofs.Places.{checked, head}
 
 -- ---- no fault
@@ -224,7 +224,7 @@ module _ (units : List Program) (are : AreUnits units) (fine : import_fault (kep
       let is : IsMatch all 1 m.one = (subst (AllByRecursion (IsMatch all 1)) m.only (each_match all 1 (suc i) x.name)).0 in
       let at : number units i c ≡ suc is.place = number_of_import i c m.one low bare m.only ∙ is.is_number ∙ omega arith in
       let h : Home units is.place = home units is.place is.few in
-      let standing : routine_at (joined units) (number units i c) ≡ moved_routine units h.unit h.own = ap (routine_at (joined units)) at
+      let standing : routine_at (joined units) (number units i c) ≡ joined_routine units h.unit h.own = ap (routine_at (joined units)) at
       ∙ h.is_routine in
       let y : Routine = routine_at (unit_at units h.unit) h.own in
       let matched : m.one.1 ≡ y = is.is_routine ∙ h.kept in

@@ -11,7 +11,7 @@ use Rattle.alma_ir.specs.Checked.{PartsExist, CellsAgree, RangesOrdered, HasStep
 use Rattle.alma_ir.specs.Checked.{AreLaidOut, param_slots, HasOneCellAs, DeclaredFits, IsNested, HeadRangesOrdered, IsOrdered}
 use Rattle.alma_ir.specs.Checked.{RoutineKeepsLimits, HasLines, NamesSpelled, IsName, link_slots}
 use Rattle.alma_ir.proofs.Each.{each_follows}
-use Rattle.alma_join.specs.Joined.{kept_in, join_fault, own_slots, procedure_moves, moved_global, joined_body, joined, AreUnits}
+use Rattle.alma_join.specs.Joined.{kept_in, join_fault, own_slots, procedure_moves, global_behind, joined_body, joined, AreUnits}
 use Rattle.alma_join.specs.Joined.{JoinedIsChecked}
 use Rattle.alma_join.proofs.Moving.{stmts_moved}
 use Rattle.alma_join.proofs.Forms.{parts_moved, cells_moved, ranges_moved, steps_moved, choices_moved, returns_moved, stays_moved}
@@ -125,7 +125,7 @@ module _ (units : List Program) (are : AreUnits units) where
 
   globals_checked : AllByRecursion (IsGlobal q) q.globals
   globals_checked =
-      each_global units (IsGlobal q) (λ i lt. each_follows (IsGlobal (u i)) (λ g. IsGlobal q (moved_global (before_at units i) g))
+      each_global units (IsGlobal q) (λ i lt. each_follows (IsGlobal (u i)) (λ g. IsGlobal q (global_behind (before_at units i) g))
       (λ g k. record {
         slots = numbers_own units are i 0 g.slot g.cells (body_stands units are i lt) (λ e. k.position) k.slots;
         position = slot_low (before_at units i) g.slot k.position;

@@ -7,8 +7,9 @@ use Rattle.std.proofs.lemmas.Bool.{eq-eqb, ne_eqb, and_from, and_left, and_right
 use Rattle.alma_base.specs.Choice.{if_true}
 use Rattle.alma_ir.specs.Tree.{Program, Routine, routine_at, no_routine}
 use Rattle.alma_ir.proofs.Each.{each_of_append, each_follows}
+use Rattle.alma_copy.specs.Moved.{moved_routine}
 use Rattle.alma_join.specs.Joined.{Kept, is_bare, kept_from, kept_of, kept_in, number_of_kept, own_slots, procedure_moves}
-use Rattle.alma_join.specs.Joined.{moved_procedure, joined_procedures}
+use Rattle.alma_join.specs.Joined.{joined_procedures, no_program}
 
 -- a fact of both outcomes of a test is one of the choice
 pub by_test : {A : Type 0} (P : A → Type 0) (b : Bool) (x y : Unit {0} → A) → (b ≡ true → P (x tt)) → (b ≡ false → P (y tt))
@@ -24,9 +25,6 @@ each_at P (x ∷ xs) d h (suc i) lt = each_at P xs d h.1 i (omega (arith, lt))
 
 abbrev pub no_kept : Kept
 no_kept = record { unit = 0; number = 0; routine = no_routine }
-
-abbrev pub no_program : Program
-no_program = record { name = []; globals = []; routines = [] }
 
 -- the module at this place, from 0, and the slots of those before it
 abbrev pub unit_at : List Program → ℕ → Program
@@ -230,7 +228,7 @@ pub record IsMoved (all : List Kept) (ps : List Program) (unit before : ℕ) (k 
   pub stays : is_bare (unit_at ps index) k.number k.routine ≡ false
   pub slots : ℕ
   pub slots_are : slots ≡ before + before_at ps index
-  pub moved : x ≡ moved_procedure (procedure_moves all k.unit (unit_at ps index) slots) k
+  pub moved : x ≡ moved_routine (procedure_moves all k.unit (unit_at ps index) slots) k.routine
 
 pairs_from : (F : Kept → Routine → Type 0) (f : Kept → Routine) (unit : ℕ) (p : Program) (r : ℕ) (xs : List Routine)
     → ((j n : ℕ) → n ≡ r + j → j < length xs → is_bare p n (get_or xs j no_routine) ≡ false
@@ -250,16 +248,16 @@ pub pairs_in : (all : List Kept) (ps : List Program) (unit before : ℕ)
 pairs_in all [] unit before = tt
 pairs_in all (p ∷ ps) unit before =
     pairs_two (IsMoved all (p ∷ ps) unit before) (kept_of unit p)
-    (map (moved_procedure (procedure_moves all unit p before)) (kept_of unit p)) (kept_in (suc unit) ps)
+    (map (λ k. moved_routine (procedure_moves all unit p before) k.routine) (kept_of unit p)) (kept_in (suc unit) ps)
     (joined_procedures all (suc unit) (before + own_slots p) ps)
-    (pairs_from (IsMoved all (p ∷ ps) unit before) (moved_procedure (procedure_moves all unit p before)) unit p 1 (drop 1 p.routines) first)
+    (pairs_from (IsMoved all (p ∷ ps) unit before) (λ k. moved_routine (procedure_moves all unit p before) k.routine) unit p 1
+    (drop 1 p.routines) first)
     (pairs_follow (IsMoved all ps (suc unit) (before + own_slots p)) (IsMoved all (p ∷ ps) unit before) later (kept_in (suc unit) ps)
     (joined_procedures all (suc unit) (before + own_slots p) ps) (pairs_in all ps (suc unit) (before + own_slots p)))
   where
     first : (j n : ℕ) → n ≡ 1 + j → j < length (drop 1 p.routines) → is_bare p n (get_or (drop 1 p.routines) j no_routine) ≡ false
         → IsMoved all (p ∷ ps) unit before (record { unit = unit; number = n; routine = get_or (drop 1 p.routines) j no_routine })
-        (moved_procedure (procedure_moves all unit p before)
-        (record { unit = unit; number = n; routine = get_or (drop 1 p.routines) j no_routine }))
+        (moved_routine (procedure_moves all unit p before) (get_or (drop 1 p.routines) j no_routine))
     first j n e lt stays = let next : suc j ≡ n = omega (arith, e) in record {
       index = 0;
       exists = omega arith;

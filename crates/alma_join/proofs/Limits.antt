@@ -14,9 +14,9 @@ use Rattle.alma_ir.specs.Lines.{stmt_count}
 use Rattle.alma_ir.specs.Checked.{link_slots, text_bytes, HasLines, KeepsLimits}
 use Rattle.alma_ir.proofs.Each.{each_of_append}
 use Rattle.alma_ir.proofs.LinesBack.{count_sum}
-use Rattle.alma_copy.specs.Moved.{Moves, moved_stmts}
-use Rattle.alma_join.specs.Joined.{Kept, is_bare, kept_from, kept_of, kept_in, own_slots, body_moves, procedure_moves, moved_procedure}
-use Rattle.alma_join.specs.Joined.{moved_global, joined_globals, joined_stmts, joined_lines, joined_procedures, TooLarge, Totals}
+use Rattle.alma_copy.specs.Moved.{Moves, moved_stmts, moved_routine}
+use Rattle.alma_join.specs.Joined.{Kept, is_bare, kept_from, kept_of, kept_in, own_slots, body_moves, procedure_moves}
+use Rattle.alma_join.specs.Joined.{global_behind, joined_globals, joined_stmts, joined_lines, joined_procedures, TooLarge, Totals}
 use Rattle.alma_join.specs.Joined.{no_totals, with_unit, passes, size_fault, first_of, joined_body, joined}
 use Rattle.alma_join.proofs.Moving.{stmts_moved, append_phrases}
 use Rattle.alma_join.proofs.Forms.{texts_moved, count_moved}
@@ -116,21 +116,23 @@ first_within f [] some = absurd (omega (arith, some))
 first_within f (p ∷ ps) some = omega (arith, sum_by-cons f p ps)
 
 -- what is counted of a routine, and of its procedure in the joined program, is the same
-module _ (f : Routine → ℕ) (stays : (m : Moves) (k : Kept) → f (moved_procedure m k) ≡ f k.routine) (nothing : f no_routine ≡ 0) where
+module _ (f : Routine → ℕ) (stays : (m : Moves) (k : Kept) → f (moved_routine m k.routine) ≡ f k.routine) (nothing : f no_routine ≡ 0) where
   kept_within : (m : Moves) (unit : ℕ) (p : Program) (r : ℕ) (xs : List Routine)
-      → sum_by f (map (moved_procedure m) (kept_from unit p r xs)) ≤ sum_by f xs
+      → sum_by f (map (λ k. moved_routine m k.routine) (kept_from unit p r xs)) ≤ sum_by f xs
   kept_within m unit p r [] = omega arith
   kept_within m unit p r (x ∷ xs) =
-      let rest : sum_by f (map (moved_procedure m) (kept_from unit p (suc r) xs)) ≤ sum_by f xs = kept_within m unit p (suc r) xs in
+      let rest : sum_by f (map (λ k. moved_routine m k.routine) (kept_from unit p (suc r) xs)) ≤ sum_by f xs =
+      kept_within m unit p (suc r) xs in
       let here : Kept = record { unit = unit; number = r; routine = x } in
-      by_test (λ ks. sum_by f (map (moved_procedure m) ks) ≤ sum_by f (x ∷ xs)) (is_bare p r x) (λ _. kept_from unit p (suc r) xs)
+      by_test (λ ks. sum_by f (map (λ k. moved_routine m k.routine) ks) ≤ sum_by f (x ∷ xs)) (is_bare p r x)
+      (λ _. kept_from unit p (suc r) xs)
       (λ _. here ∷ kept_from unit p (suc r) xs) (λ t. omega (arith, rest, sum_by-cons f x xs))
       (λ t. omega (
         arith,
         rest,
         stays m here,
         sum_by-cons f x xs,
-        sum_by-cons f (moved_procedure m here) (map (moved_procedure m) (kept_from unit p (suc r) xs)),
+        sum_by-cons f (moved_routine m x) (map (λ k. moved_routine m k.routine) (kept_from unit p (suc r) xs)),
       ))
 
   behind_body : (rs : List Routine) (p : Program) → p.routines ≡ rs
@@ -147,7 +149,8 @@ module _ (f : Routine → ℕ) (stays : (m : Moves) (k : Kept) → f (moved_proc
       let m : Moves = procedure_moves all unit p before in
       omega (
         arith,
-        sum_by-append f (map (moved_procedure m) (kept_of unit p)) (joined_procedures all (suc unit) (before + own_slots p) ps),
+        sum_by-append f (map (λ k. moved_routine m k.routine) (kept_of unit p))
+            (joined_procedures all (suc unit) (before + own_slots p) ps),
         kept_within m unit p 1 (drop 1 p.routines),
         behind_body p.routines p refl,
         sum_by-cons (λ x. f (routine_at x 0)) p ps,
@@ -162,18 +165,18 @@ globals_count before [] = refl
 globals_count before (p ∷ ps) =
     omega (
       arith,
-      length-append (map (moved_global before) p.globals) (joined_globals (before + own_slots p) ps),
-      length-map p.globals (moved_global before),
+      length-append (map (global_behind before) p.globals) (joined_globals (before + own_slots p) ps),
+      length-map p.globals (global_behind before),
       globals_count (before + own_slots p) ps,
       sum_by-cons (λ x. length x.globals) p ps,
     )
 
-names_stay : (before : ℕ) (gs : List Global) → sum_by (λ g. length g.name) (map (moved_global before) gs) ≡ sum_by (λ g. length g.name) gs
+names_stay : (before : ℕ) (gs : List Global) → sum_by (λ g. length g.name) (map (global_behind before) gs) ≡ sum_by (λ g. length g.name) gs
 names_stay before [] = refl
 names_stay before (g ∷ gs) = omega (
   arith,
   sum_by-cons (λ x. length x.name) g gs,
-  sum_by-cons (λ x. length x.name) (moved_global before g) (map (moved_global before) gs),
+  sum_by-cons (λ x. length x.name) (global_behind before g) (map (global_behind before) gs),
   names_stay before gs,
 )
 
@@ -183,7 +186,7 @@ globals_names before [] = refl
 globals_names before (p ∷ ps) =
     omega (
       arith,
-      sum_by-append (λ g. length g.name) (map (moved_global before) p.globals) (joined_globals (before + own_slots p) ps),
+      sum_by-append (λ g. length g.name) (map (global_behind before) p.globals) (joined_globals (before + own_slots p) ps),
       names_stay before p.globals,
       globals_names (before + own_slots p) ps,
       sum_by-cons (λ x. sum_by (λ g. length g.name) x.globals) p ps,

@@ -4,13 +4,13 @@ use Rattle.std.proofs.Common.{arith, add-one}
 use Rattle.std.specs.Prelude.{sum_by}
 use Rattle.std.specs.List.{AllByRecursion}
 use Rattle.std.proofs.lemmas.List.{append-nil, append_assoc}
-use Rattle.alma_copy.specs.Moved.{moved_stmts, moved_global}
+use Rattle.alma_copy.specs.Moved.{moved_stmts, moved_routine, moved_global}
 use Rattle.alma_copy.specs.Numbers.{slot_behind}
 use Rattle.alma_ir.specs.Tree as ir
 use Rattle.alma_ir.specs.Tree.{Stmts, Program, routine_at}
 use Rattle.alma_ir.specs.View.{routine_of, global_of, stmts_list}
-use Rattle.alma_join.proofs.Alone.{append_none}
-use Rattle.alma_join.specs.Joined.{Kept, kept_in, kept_of, new_slot, own_slots, body_moves, procedure_moves, moved_procedure}
+use Rattle.alma_join.proofs.Alone.{append_none, slot_stays}
+use Rattle.alma_join.specs.Joined.{Kept, kept_in, kept_of, own_slots, body_moves, procedure_moves}
 use Rattle.alma_join.specs.Joined.{joined_globals, joined_stmts, joined_lines, joined_procedures}
 use Rattle.alma_join.specs.declared.part.Parts.{Parts}
 use Rattle.alma_join.specs.Numbers.{NumbersUnit, NumbersUnits}
@@ -20,19 +20,11 @@ use Rattle.alma_rules.specs.Parts.{append_stmts}
 
 -- ---- the numbers of a unit
 
-slot_same : (before n : ℕ) → slot_behind before n ≡ new_slot before n
-slot_same before zero = refl
-slot_same before (suc n) = refl
-
-slot_stays : (n : ℕ) → slot_behind 0 n ≡ n
-slot_stays zero = refl
-slot_stays (suc n) = omega arith
-
 body_same : (all : List Kept) (unit : ℕ) (p : Program) (numbers : List ℕ) (before : ℕ) → NumbersUnit all unit p numbers
     → body_numbers numbers before ≡ body_moves all unit p before
 body_same all unit p numbers before h = λ i. record {
-  own = λ n. slot_same before n i;
-  global = λ n. slot_same before n i;
+  own = slot_behind before;
+  global = slot_behind before;
   routine = λ r. h.at r i;
 }
 
@@ -40,7 +32,7 @@ procedures_same : (all : List Kept) (unit : ℕ) (p : Program) (numbers : List �
     → procedure_numbers numbers before ≡ procedure_moves all unit p before
 procedures_same all unit p numbers before h = λ i. record {
   own = λ n. slot_stays n i;
-  global = λ n. slot_same before n i;
+  global = slot_behind before;
   routine = λ r. h.at r i;
 }
 
@@ -133,9 +125,9 @@ module _ (units : List Program) (i : ℕ) (p : Program) (within : i < length uni
 
   procedures_go : map routine_of b.procedures.items ++ joined_procedures all (i + 1 + 1) b.slots rest ≡ joined_procedures all 1 0 units
   procedures_go =
-      (λ j. (adds.procedures (i + 1) ∙ ap (λ m. map routine_of a.procedures.items ++ map (moved_procedure m)
+      (λ j. (adds.procedures (i + 1) ∙ ap (λ m. map routine_of a.procedures.items ++ map (λ k. moved_routine m k.routine)
       (kept_of (i + 1) p)) procedures_are) j ++ joined_procedures all (add-one (i + 1) j) (adds.slots j) rest)
-      ∙ append_assoc (map routine_of a.procedures.items) (map (moved_procedure (procedure_moves all (i + 1) p a.slots))
+      ∙ append_assoc (map routine_of a.procedures.items) (map (λ k. moved_routine (procedure_moves all (i + 1) p a.slots) k.routine)
       (kept_of (i + 1) p)) (joined_procedures all (suc (i + 1)) (a.slots + own_slots p) rest)
       ∙ ap (λ us. map routine_of a.procedures.items ++ joined_procedures all (i + 1) a.slots us) (sym rest_is) ∙ h.procedures
 

@@ -13,13 +13,14 @@ use Rattle.alma_ir.specs.Phrases.{Phrase, stmts_phrases}
 use Rattle.alma_ir.specs.Checked.{IsChecked, EachRoutine, EachPhrase, AreNumbers, IsOutside, HoldsPlace, LeavesPosition, LeadOut, outer_at}
 use Rattle.alma_ir.specs.Checked.{param_slots}
 use Rattle.alma_ir.proofs.Each.{each_of_append, each_follows}
-use Rattle.alma_copy.specs.Moved.{Moves, moved_stmts}
-use Rattle.alma_join.specs.Joined.{Kept, is_empty, is_bare, kept_in, number_of_kept, matches, first_match, new_number, new_slot}
-use Rattle.alma_join.specs.Joined.{own_slots, body_moves, procedure_moves, moved_procedure, moved_global, joined_globals, joined_stmts}
-use Rattle.alma_join.specs.Joined.{joined_procedures, first_of, joined_body, joined, AreUnits}
+use Rattle.alma_copy.specs.Moved.{Moves, moved_stmts, moved_routine}
+use Rattle.alma_copy.specs.Numbers.{slot_behind}
+use Rattle.alma_join.specs.Joined.{Kept, is_empty, is_bare, kept_in, number_of_kept, matches, first_match, new_number}
+use Rattle.alma_join.specs.Joined.{own_slots, body_moves, procedure_moves, global_behind, joined_globals, joined_stmts}
+use Rattle.alma_join.specs.Joined.{joined_procedures, no_program, first_of, joined_body, joined, AreUnits}
 use Rattle.alma_join.proofs.Moving.{moved_phrase, stmts_moved, append_phrases}
 use Rattle.alma_join.proofs.Forms.{each_of_map}
-use Rattle.alma_join.proofs.KeptLists.{each_at, no_kept, no_program, unit_at, before_at, ascend_in, number_is, Found, found}
+use Rattle.alma_join.proofs.KeptLists.{each_at, no_kept, unit_at, before_at, ascend_in, number_is, Found, found}
 use Rattle.alma_join.proofs.KeptLists.{has_in, IsMoved, pairs_in, pairs_at, pairs_length}
 
 -- ---- numbers and slots
@@ -30,11 +31,11 @@ number units i r = new_number (kept_in 1 units) (suc i) (unit_at units i) r
 
 -- the new slot of each slot of a routine
 abbrev pub own_slot : List Program → (i r slot : ℕ) → ℕ
-own_slot units i zero slot = new_slot (before_at units i) slot
+own_slot units i zero slot = slot_behind (before_at units i) slot
 own_slot units i (suc r) slot = slot
 
 abbrev pub moves : List Program → (i r : ℕ) → Moves
-moves units i r = record { own = own_slot units i r; global = new_slot (before_at units i); routine = number units i }
+moves units i r = record { own = own_slot units i r; global = slot_behind (before_at units i); routine = number units i }
 
 -- a routine of the module at this place that stays, or its body
 pub record Stands (units : List Program) (i r : ℕ) : Type 0 where
@@ -43,12 +44,9 @@ pub record Stands (units : List Program) (i r : ℕ) : Type 0 where
   pub stays : 0 < r → is_bare (unit_at units i) r (routine_at (unit_at units i) r) ≡ false
 
 -- a procedure as it stands in the joined program
-abbrev pub moved_routine : List Program → (i r : ℕ) → Routine
-moved_routine units i r = record (routine_at (unit_at units i) r) {
-  body = moved_stmts (procedure_moves (kept_in 1 units) (suc i) (unit_at units i) (before_at units i))
-      (routine_at (unit_at units i) r).body;
-  outer = number units i (routine_at (unit_at units i) r).outer;
-}
+abbrev pub joined_routine : List Program → (i r : ℕ) → Routine
+joined_routine units i r = moved_routine (procedure_moves (kept_in 1 units) (suc i) (unit_at units i) (before_at units i))
+    (routine_at (unit_at units i) r)
 
 none_is : (o : Option Range) → IsNone o → o ≡ None
 none_is None h = refl
@@ -91,7 +89,7 @@ pub record Home (units : List Program) (n : ℕ) : Type 0 where
   pub stands : Stands units unit own
   pub low : 0 < own
   pub place : number units unit own ≡ suc n
-  pub is_routine : routine_at (joined units) (suc n) ≡ moved_routine units unit own
+  pub is_routine : routine_at (joined units) (suc n) ≡ joined_routine units unit own
   pub of_unit : (get_or (kept_in 1 units) n no_kept).unit ≡ suc unit
   pub of_number : (get_or (kept_in 1 units) n no_kept).number ≡ own
   pub kept : (get_or (kept_in 1 units) n no_kept).routine ≡ routine_at (unit_at units unit) own
@@ -116,8 +114,8 @@ module _ (units : List Program) where
         low = m.low;
         place = number_stays all (suc m.index) (unit_at units m.index) k.number m.low stays
             ∙ ap (λ u. number_of_kept all 1 u k.number) (sym of_unit) ∙ number_is all 1 n (ascend_in 1 units) lt ∙ omega arith;
-        is_routine = m.moved ∙ λ t. moved_procedure (procedure_moves all (of_unit t) (unit_at units m.index) (slots t))
-            (record { unit = k.unit; number = k.number; routine = m.is_routine t });
+        is_routine = m.moved ∙ λ t. moved_routine (procedure_moves all (of_unit t) (unit_at units m.index) (slots t))
+            (m.is_routine t);
         of_unit = of_unit;
         of_number = refl;
         kept = m.is_routine;
@@ -145,9 +143,9 @@ module _ (units : List Program) where
   placed : (i r : ℕ) (h : Homed i r) → number units i r ≡ suc h.at
   placed i r h = (λ t. number units (sym h.same_unit t) (sym h.same_number t)) ∙ h.house.place
 
-  pub routine_is : (i r : ℕ) → Stands units i r → 0 < r → routine_at (joined units) (number units i r) ≡ moved_routine units i r
+  pub routine_is : (i r : ℕ) → Stands units i r → 0 < r → routine_at (joined units) (number units i r) ≡ joined_routine units i r
   routine_is i r s low = let h = homed i r s low in ap (routine_at (joined units)) (placed i r h) ∙ h.house.is_routine
-      ∙ λ t. moved_routine units (h.same_unit t) (h.same_number t)
+      ∙ λ t. joined_routine units (h.same_unit t) (h.same_number t)
 
   pub count_is : length (joined units).routines ≡ suc (length (kept_in 1 units))
   count_is = ap suc (sym (pairs_length (IsMoved all units 1 0) all (joined_procedures all 1 0 units) (pairs_in all units 1 0)))
@@ -179,7 +177,7 @@ module _ (units : List Program) where
   pub body_apart : (i j from cells slot : ℕ) → i < length units → j < length units → from + cells ≤ (routine_at (unit_at units j) 0).slots
       → 0 < from
       → slot < (routine_at (unit_at units i) 0).slots → 0 < slot → (j ≡ i → IsOutside from cells slot)
-      → IsOutside (new_slot (before_at units j) from) cells (new_slot (before_at units i) slot)
+      → IsOutside (slot_behind (before_at units j) from) cells (slot_behind (before_at units i) slot)
   body_apart i j zero cells slot lt lt2 fits some high low h = absurd (omega (arith, some))
   body_apart i j (suc from) cells zero lt lt2 fits some high low h = absurd (omega (arith, low))
   body_apart i j (suc from) cells (suc slot) lt lt2 fits some high low h = elim (cases_eq j i) [
@@ -211,20 +209,20 @@ module _ (units : List Program) where
       (λ i u b lt e1 e2. h (suc i) u b (omega (arith, lt)) (omega (arith, e1)) (omega (arith, e2)))))
 
   globals_each : (Q : Global → Type 0) (ps : List Program) (before : ℕ)
-      → ((i b : ℕ) → i < length ps → b ≡ before + before_at ps i → AllByRecursion (λ g. Q (moved_global b g)) (unit_at ps i).globals)
+      → ((i b : ℕ) → i < length ps → b ≡ before + before_at ps i → AllByRecursion (λ g. Q (global_behind b g)) (unit_at ps i).globals)
       → AllByRecursion Q (joined_globals before ps)
   globals_each Q [] before h = tt
   globals_each Q (p ∷ ps) before h =
       each_of_append Q _ (joined_globals (before + own_slots p) ps)
-      (each_of_map Q (moved_global before) p.globals (h 0 before (omega arith) (omega arith)))
+      (each_of_map Q (global_behind before) p.globals (h 0 before (omega arith) (omega arith)))
       (globals_each Q ps (before + own_slots p) (λ i b lt e. h (suc i) b (omega (arith, lt)) (omega (arith, e))))
 
   pub each_global : (Q : Global → Type 0)
-      → ((i : ℕ) → i < length units → AllByRecursion (λ g. Q (moved_global (before_at units i) g)) (unit_at units i).globals)
+      → ((i : ℕ) → i < length units → AllByRecursion (λ g. Q (global_behind (before_at units i) g)) (unit_at units i).globals)
       → AllByRecursion Q (joined units).globals
   each_global Q h = globals_each Q units 0
       (λ i b lt e. let same : before_at units i ≡ b = omega (arith, e) in subst
-      (λ n. AllByRecursion (λ g. Q (moved_global n g)) (unit_at units i).globals) same (h i lt))
+      (λ n. AllByRecursion (λ g. Q (global_behind n g)) (unit_at units i).globals) same (h i lt))
 
   -- ---- heads
 
@@ -257,7 +255,7 @@ module _ (units : List Program) where
               ∙ sym (ap (number units i) outer_zero);
         }
     head i (suc r) s =
-        let is : routine_at (joined units) (number units i (suc r)) ≡ moved_routine units i (suc r) =
+        let is : routine_at (joined units) (number units i (suc r)) ≡ joined_routine units i (suc r) =
         routine_is i (suc r) s (omega arith) in
         record {
           params = ap (λ x. x.params) is;
@@ -334,11 +332,11 @@ module _ (units : List Program) where
     -- ---- facts of all routines
 
     pub each_routine : (Fact : ℕ → Routine → Type 0) → Fact 0 (joined_body units)
-        → ((i r : ℕ) → Stands units i r → 0 < r → Fact (number units i r) (moved_routine units i r)) → EachRoutine (joined units) Fact
+        → ((i r : ℕ) → Stands units i r → 0 < r → Fact (number units i r) (joined_routine units i r)) → EachRoutine (joined units) Fact
     each_routine Fact body procedure zero lt = body
     each_routine Fact body procedure (suc n) lt =
         let h : Home units n = home n (omega (arith, lt, count_is)) in subst (Fact (suc n)) (sym h.is_routine)
-        (subst (λ k. Fact k (moved_routine units h.unit h.own)) h.place (procedure h.unit h.own h.stands h.low))
+        (subst (λ k. Fact k (joined_routine units h.unit h.own)) h.place (procedure h.unit h.own h.stands h.low))
 
     phrases_at : (P : ℕ → ℕ → Routine → Phrase → Type 0) (Q : ℕ → Routine → Phrase → Type 0)
         → ((i r : ℕ) → Stands units i r → (x : Phrase) → P i r (routine_at (unit_at units i) r) x
@@ -378,6 +376,6 @@ module _ (units : List Program) where
       where
         by_own : (i r : ℕ) → Stands units i r → 0 < r
             → AllByRecursion (Q (number units i r) (routine_at (joined units) (number units i r)))
-            (stmts_phrases (moved_routine units i r).body)
+            (stmts_phrases (joined_routine units i r).body)
         by_own i zero s low = absurd (omega (arith, low))
         by_own i (suc r) s low = phrases_at P Q move h i (suc r) s

@@ -10,7 +10,8 @@ use Rattle.alma_ir.specs.Checked.{EachPhrase, AreNumbers, IsOutside, HoldPlace, 
 use Rattle.alma_ir.specs.Checked.{IsHiddenSlot, LoopLeaves, LoopIsApart, loops_of, IsGlobal, param_slots}
 use Rattle.alma_ir.proofs.Each.{each_of_both, each_follows}
 use Rattle.alma_copy.specs.Moved.{moved_stmts, moved_loop}
-use Rattle.alma_join.specs.Joined.{new_slot, joined, AreUnits}
+use Rattle.alma_copy.specs.Numbers.{slot_behind}
+use Rattle.alma_join.specs.Joined.{joined, AreUnits}
 use Rattle.alma_join.proofs.Moving.{moved_phrase, loop_moved}
 use Rattle.alma_join.proofs.Forms.{each_of_map, loops_moved}
 use Rattle.alma_join.proofs.KeptLists.{unit_at, before_at}
@@ -20,11 +21,11 @@ use Rattle.alma_join.proofs.Places.{each_phrase}
 
 -- ---- slots
 
-pub slot_low : (before slot : ℕ) → 0 < slot → 0 < new_slot before slot
+pub slot_low : (before slot : ℕ) → 0 < slot → 0 < slot_behind before slot
 slot_low before zero low = absurd (omega (arith, low))
 slot_low before (suc slot) low = omega arith
 
-slot_same : (before a b : ℕ) → new_slot before a ≡ new_slot before b → a ≡ b
+slot_same : (before a b : ℕ) → slot_behind before a ≡ slot_behind before b → a ≡ b
 slot_same before zero zero e = refl
 slot_same before zero (suc b) e = absurd (omega (arith, e))
 slot_same before (suc a) zero e = absurd (omega (arith, e))
@@ -113,13 +114,13 @@ module _ (units : List Program) (are : AreUnits units) where
   module _ (i slot : ℕ) (lt : i < length units) (k : IsHiddenSlot (u i) 0 slot) where
     local_apart : (j s from cells : ℕ) → Stands units j s → AreNumbers (routine_at (u j) s) from cells × LeavesPosition s from
         → (j ≡ i → s ≡ 0 → IsOutside from cells slot)
-        → number units j s ≡ 0 → IsOutside (own_slot units j s from) cells (new_slot (before_at units i) slot)
+        → number units j s ≡ 0 → IsOutside (own_slot units j s from) cells (slot_behind (before_at units i) slot)
     local_apart j zero from cells s h leaves e = body_apart units i j from cells slot lt s.exists h.0.exist (h.1 refl) k.exists
         (k.position refl) (λ same. leaves same refl)
     local_apart j (suc r) from cells s h leaves e = absurd (omega (arith, e, number_low units j (suc r) s (omega arith)))
 
     body_leaves : (j s : ℕ) → Stands units j s → (x : Phrase) → Leaves i 0 slot j s (routine_at (u j) s) x
-        → RootLeaves q (number units j s) 0 (new_slot (before_at units i) slot) (moved_phrase (moves units j s) x)
+        → RootLeaves q (number units j s) 0 (slot_behind (before_at units i) slot) (moved_phrase (moves units j s) x)
     unfolding moved_stmts
     body_leaves j r s (StmtPhrase x) h = tt
     body_leaves j r s (TestPhrase x) h = tt
@@ -136,10 +137,11 @@ module _ (units : List Program) (are : AreUnits units) where
     body_leaves j r s (SelPhrase x) h = tt
 
     body_global : (j : ℕ) → j < length units
-        → AllByRecursion (λ g. IsOutside (new_slot (before_at units j) g.slot) g.cells (new_slot (before_at units i) slot)) (u j).globals
+        → AllByRecursion (λ g. IsOutside (slot_behind (before_at units j) g.slot) g.cells (slot_behind (before_at units i) slot))
+        (u j).globals
     body_global j few =
         each_follows (λ g. IsGlobal (u j) g × (j ≡ i → IsOutside g.slot g.cells slot))
-        (λ g. IsOutside (new_slot (before_at units j) g.slot) g.cells (new_slot (before_at units i) slot))
+        (λ g. IsOutside (slot_behind (before_at units j) g.slot) g.cells (slot_behind (before_at units i) slot))
         (λ g h. body_apart units i j g.slot g.cells slot lt few h.0.slots.exist h.0.position k.exists (k.position refl) h.1) (u j).globals
         (each_of_both (IsGlobal (u j)) (λ g. j ≡ i → IsOutside g.slot g.cells slot) (u j).globals (checked units are j few).globals
         (elim (cases_eq j i) [
@@ -149,22 +151,22 @@ module _ (units : List Program) (are : AreUnits units) where
               (checked units are j few).globals
         ]))
 
-    body_high : (n : ℕ) → n ≡ slot → new_slot (before_at units i) n < (routine_at q 0).slots
+    body_high : (n : ℕ) → n ≡ slot → slot_behind (before_at units i) n < (routine_at q 0).slots
     body_high zero e = absurd (omega (arith, e, k.position refl))
     body_high (suc n) e = omega (arith, e, k.exists, before_fits units i lt)
 
-    body_hidden : IsHiddenSlot q 0 (new_slot (before_at units i) slot)
+    body_hidden : IsHiddenSlot q 0 (slot_behind (before_at units i) slot)
     body_hidden =
         let none : (routine_at q 0).params ≡ [] = (head units are i 0 (body_stands units are i lt)).params
         ∙ (checked units are i lt).body_takes_nothing.0 in
         record {
           exists = body_high slot refl;
           position = λ e. slot_low (before_at units i) slot (k.position refl);
-          params = subst (λ ps. AllByRecursion (λ z. IsOutside z.slot (param_slots z) (new_slot (before_at units i) slot)) ps)
+          params = subst (λ ps. AllByRecursion (λ z. IsOutside z.slot (param_slots z) (slot_behind (before_at units i) slot)) ps)
               (sym none) tt;
-          globals = λ e. each_global units (λ g. IsOutside g.slot g.cells (new_slot (before_at units i) slot)) body_global;
+          globals = λ e. each_global units (λ g. IsOutside g.slot g.cells (slot_behind (before_at units i) slot)) body_global;
           roots = each_phrase units are (Leaves i 0 slot)
-              (λ holder routine x. RootLeaves q holder 0 (new_slot (before_at units i) slot) x) body_leaves (all_leave i 0 slot k);
+              (λ holder routine x. RootLeaves q holder 0 (slot_behind (before_at units i) slot) x) body_leaves (all_leave i 0 slot k);
         }
 
   -- a slot of a procedure

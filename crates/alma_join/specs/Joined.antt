@@ -14,7 +14,8 @@ use Rattle.alma_ir.specs.Tree.{Stmts, Routine, Global, Program, routine_at, no_s
 use Rattle.alma_ir.specs.Phrases.{stmts_phrases}
 use Rattle.alma_ir.specs.Checked.{IsChecked, param_slots, link_slots, text_bytes}
 use Rattle.alma_rules.specs.Parts.{append_stmts}
-use Rattle.alma_copy.specs.Moved.{Moves, moved_stmts}
+use Rattle.alma_copy.specs.Moved.{Moves, moved_stmts, moved_routine}
+use Rattle.alma_copy.specs.Numbers.{slot_behind}
 
 -- ---- imports
 
@@ -87,11 +88,6 @@ new_number all unit p zero = 0
 new_number all unit p (suc r) =
     if_true (is_bare p (suc r) (routine_at p (suc r))) (λ _. first_match (matches all 1 unit (routine_at p (suc r)).name))
     (λ _. number_of_kept all 1 unit (suc r))
-
--- a slot of the module's body; the input position stays
-abbrev pub new_slot : (before : ℕ) → ℕ → ℕ
-new_slot before zero = zero
-new_slot before (suc slot) = suc slot + before
 
 -- the slots of a module's body without the input position
 abbrev pub own_slots : Program → ℕ
@@ -207,24 +203,20 @@ join_fault units = or_next (import_fault (kept_in 1 units) 1 units) (λ _. size_
 
 -- how the body of a module, and how its procedures, are numbered anew
 abbrev pub body_moves : List Kept → (unit : ℕ) → Program → (before : ℕ) → Moves
-body_moves all unit p before = record { own = new_slot before; global = new_slot before; routine = new_number all unit p }
+body_moves all unit p before = record { own = slot_behind before; global = slot_behind before; routine = new_number all unit p }
 
 -- in a procedure its own slots stay
 abbrev pub procedure_moves : List Kept → (unit : ℕ) → Program → (before : ℕ) → Moves
-procedure_moves all unit p before = record { own = λ slot. slot; global = new_slot before; routine = new_number all unit p }
+procedure_moves all unit p before = record { own = λ slot. slot; global = slot_behind before; routine = new_number all unit p }
 
--- a procedure that stays, numbered anew; its head is as it was
-abbrev pub moved_procedure : Moves → Kept → Routine
-moved_procedure m k = record k.routine { body = moved_stmts m k.routine.body; outer = m.routine k.routine.outer }
-
--- a variable at its new slot
-abbrev pub moved_global : (before : ℕ) → Global → Global
-moved_global before g = record g { slot = new_slot before g.slot }
+-- a variable moved behind so many slots
+abbrev pub global_behind : (before : ℕ) → Global → Global
+global_behind before g = record g { slot = slot_behind before g.slot }
 
 -- the parts of all modules in order, `before` the slots of the modules before
 abbrev pub joined_globals : (before : ℕ) → List Program → List Global
 joined_globals before [] = []
-joined_globals before (p ∷ ps) = map (moved_global before) p.globals ++ joined_globals (before + own_slots p) ps
+joined_globals before (p ∷ ps) = map (global_behind before) p.globals ++ joined_globals (before + own_slots p) ps
 
 -- the statements of all bodies
 abbrev pub joined_stmts : List Kept → (unit before : ℕ) → List Program → Stmts
@@ -241,11 +233,16 @@ joined_lines (p ∷ ps) = (routine_at p 0).lines ++ joined_lines ps
 abbrev pub joined_procedures : List Kept → (unit before : ℕ) → List Program → List Routine
 joined_procedures all unit before [] = []
 joined_procedures all unit before (p ∷ ps) =
-    map (moved_procedure (procedure_moves all unit p before)) (kept_of unit p) ++ joined_procedures all (suc unit) (before + own_slots p) ps
+    map (λ k. moved_routine (procedure_moves all unit p before) k.routine) (kept_of unit p)
+    ++ joined_procedures all (suc unit) (before + own_slots p) ps
+
+-- the program that holds nothing, where there is none
+abbrev pub no_program : Program
+no_program = record { name = []; globals = []; routines = [] }
 
 -- the first module
 abbrev pub first_of : List Program → Program
-first_of [] = record { name = []; globals = []; routines = [] }
+first_of [] = no_program
 first_of (p ∷ ps) = p
 
 -- the body of the joined module
@@ -267,10 +264,14 @@ joined units = record {
 
 -- ---- what is promised
 
--- one to sixteen checked programs
+-- the greatest number of modules that are joined
+abbrev pub greatest_units : ℕ
+greatest_units = 16
+
+-- checked programs: one or more, and at most so many
 pub record AreUnits (units : List Program) : Type 0 where
   pub some : 0 < length units
-  pub few : length units ≤ 16
+  pub few : length units ≤ greatest_units
   pub checked : AllByRecursion IsChecked units
 
 -- with no fault the joined program is a checked one

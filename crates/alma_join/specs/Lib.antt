@@ -1,8 +1,9 @@
+pub mod Joined
+pub mod Fault
+pub mod Worked
+-- What the contracts of private functions say.
 pub mod Bare
 pub mod Directory
-pub mod Fault
 pub mod Numbers
 pub mod Parts
 pub mod Totals
-pub mod Joined
-pub mod Worked

@@ -1,10 +1,10 @@
 -- The parts of a joined program, unit after unit.
 use Rattle.std.specs.Prelude.{◌≡◌, ℕ, ◌+◌, ◌-◌, List, ◌∷◌, ◌++◌, map, sum_by}
-use Rattle.alma_copy.specs.Moved.{Moves, moved_stmts, moved_global}
+use Rattle.alma_copy.specs.Moved.{Moves, moved_stmts, moved_routine, moved_global}
 use Rattle.alma_copy.specs.Numbers.{slot_behind, number_in}
 use Rattle.alma_ir.specs.Tree.{Routine, Program, routine_at}
 use Rattle.alma_ir.specs.View.{routine_of, global_of, stmts_list}
-use Rattle.alma_join.specs.Joined.{kept_in, kept_of, own_slots, moved_procedure, joined_globals, joined_stmts, joined_lines}
+use Rattle.alma_join.specs.Joined.{kept_in, kept_of, own_slots, joined_globals, joined_stmts, joined_lines}
 use Rattle.alma_join.specs.Joined.{joined_procedures}
 use Rattle.alma_join.specs.declared.part.Parts.{Parts}
 use Rattle.alma_rules.specs.Parts.{append_stmts}
@@ -33,7 +33,7 @@ pub record AddsUnit (a b : Parts) (p : Program) (numbers : List ℕ) : Type 0 wh
       (moved_stmts (body_numbers numbers a.slots) (routine_at p 0).body)
   pub lines : b.lines.items ≡ a.lines.items ++ (routine_at p 0).lines
   pub procedures : (unit : ℕ) → map routine_of b.procedures.items
-      ≡ map routine_of a.procedures.items ++ map (moved_procedure (procedure_numbers numbers a.slots)) (kept_of unit p)
+      ≡ map routine_of a.procedures.items ++ map (λ k. moved_routine (procedure_numbers numbers a.slots) k.routine) (kept_of unit p)
   pub declared : b.declared ≡ a.declared + (routine_at p 0).declared
   pub slots : b.slots ≡ a.slots + own_slots p
 

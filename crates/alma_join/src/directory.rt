@@ -3,7 +3,7 @@ ghost use Rattle.std.specs.Prelude.{◌≡◌, ℕ, ◌+◌, ◌≤◌, List, []
 ghost use Rattle.std.specs.Global as heap;
 ghost use Rattle.indexmap.specs.IndexMap.{get};
 ghost use Rattle.alma_ir.specs.View.{program_of, routine_of};
-ghost use Rattle.alma_join.specs.Joined.{Kept, kept_of, kept_in, matches};
+ghost use Rattle.alma_join.specs.Joined.{Kept, kept_of, kept_in, matches, greatest_units};
 ghost use Rattle.alma_join.specs.Directory.{entries_in, plain_export, alike, others, Holds, Enters, EntersOne, IsAnswer};
 
 use crate::bare::mark_bare;
@@ -60,7 +60,7 @@ fn add_entry<'p>(
 }
 
 /// The number behind this one.
-pub fn following(number: u32) -> Result<u32, NoMemory>
+pub fn successor(number: u32) -> Result<u32, NoMemory>
     ensures { IfOk result (λ n. n ≡ number + 1) }
 {
     number.checked_add(1).ok_or(NoMemory)
@@ -76,7 +76,7 @@ fn add_routine<'p>(
     ensures { OnOk result (EntersOne directory.old directory.new unit (routine_of routine.now)) }
 {
     let number = directory.next;
-    directory.next = following(number)?;
+    directory.next = successor(number)?;
     if routine.level == 1 {
         let export = Export {
             unit,
@@ -109,7 +109,7 @@ fn add_unit<'p>(
 
 /// The directory of all modules.
 pub fn directory_of<'p>(alloc: Global, units: &'p [Program]) -> Result<Directory<'p>, NoMemory>
-    requires few { length units.now ≤ 16 }
+    requires few { length units.now ≤ greatest_units }
     ensures { IfOk result (λ d. Holds d (kept_in 1 (map program_of units.now))) }
 {
     let mut directory = Directory {

@@ -15,7 +15,9 @@ pub enum JoinError {
     Twice(u32, u32),
     /// The match has other parameters or another result.
     HeadDiffers(u32, u32),
+    /// The unit with which a bound is first passed.
     TooLarge(u32),
+    /// Memory ran out.
     Memory,
 }
 

@@ -1,14 +1,14 @@
 // The new numbers of all routines, and the faults of imports.
 ghost use Rattle.std.specs.Prelude.{◌≡◌, true, false, ◌+◌, ◌<◌, ◌≤◌, List, [], length, map, None, IfOk, IfErr, OnOk};
 ghost use Rattle.alma_ir.specs.View.{program_of, routine_of};
-ghost use Rattle.alma_join.specs.Joined.{Kept, kept_in, kept_of, matches, match_fault, import_fault};
+ghost use Rattle.alma_join.specs.Joined.{Kept, kept_in, kept_of, matches, match_fault, import_fault, greatest_units};
 ghost use Rattle.alma_join.specs.Directory.{Holds};
 ghost use Rattle.alma_join.specs.Fault.{IsErrorOf};
 ghost use Rattle.alma_join.specs.Numbers.{Resolves, StandsAt, unit_fault, NumbersUnit, NumbersUnits, numbers_in};
 ghost use Rattle.alma_join.specs.declared.error.JoinError.TheVariants.{Memory};
 
 use crate::bare::mark_bare;
-use crate::directory::{Directory, Matches, directory_of, following, matches_of};
+use crate::directory::{Directory, Matches, directory_of, matches_of, successor};
 use crate::error::JoinError;
 use crate::head::same_head;
 use alma_base::NoMemory;
@@ -51,7 +51,7 @@ fn take_number(next: &mut u32) -> Result<u32, NoMemory>
     ensures next { OnOk result (next.new ≡ next.old + 1) }
 {
     let number = *next;
-    *next = following(number)?;
+    *next = successor(number)?;
     Ok(number)
 }
 
@@ -111,7 +111,7 @@ fn number_units(
     directory: &Directory<'_>,
     units: &[Program],
 ) -> Result<Vec<Vec<u32>>, JoinError>
-    requires few { length units.now ≤ 16 }
+    requires few { length units.now ≤ greatest_units }
     requires holds { Holds directory.now (kept_in 1 (map program_of units.now)) }
     ensures numbers { IfOk result (λ tables. NumbersUnits (kept_in 1 (map program_of units.now)) 1
         (map program_of units.now) (map numbers_in tables.items)) }
@@ -131,7 +131,7 @@ fn number_units(
 
 /// The new numbers of all units, or the first fault of an import.
 pub fn number_all(alloc: Global, units: &[Program]) -> Result<Vec<Vec<u32>>, JoinError>
-    requires few { length units.now ≤ 16 }
+    requires few { length units.now ≤ greatest_units }
     ensures numbers { IfOk result (λ tables. NumbersUnits (kept_in 1 (map program_of units.now)) 1
         (map program_of units.now) (map numbers_in tables.items)) }
     ensures sound { IfOk result (λ tables. import_fault (kept_in 1 (map program_of units.now)) 1

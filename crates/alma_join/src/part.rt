@@ -1,12 +1,11 @@
 // The parts of a joined program, unit after unit.
 ghost use Rattle.std.specs.Prelude.{◌≡◌, ℕ, ◌+◌, ◌<◌, ◌≤◌, ◌++◌, length, map, IfOk, OnOk};
 ghost use Rattle.std.specs.List.{AllByRecursion};
-ghost use Rattle.alma_copy.specs.Moved.{moved_stmts};
-ghost use Rattle.alma_copy.specs.Moved as copy;
+ghost use Rattle.alma_copy.specs.Moved.{moved_global, moved_routine, moved_stmts};
 ghost use Rattle.alma_copy.specs.Numbers.{moves_of};
 ghost use Rattle.alma_ir.specs.Tree.{routine_at};
 ghost use Rattle.alma_ir.specs.View.{program_of, routine_of, global_of, stmts_list};
-ghost use Rattle.alma_join.specs.Joined.{kept_in, kept_of, moved_procedure};
+ghost use Rattle.alma_join.specs.Joined.{kept_in, kept_of};
 ghost use Rattle.alma_join.specs.Numbers.{NumbersUnits, numbers_in};
 ghost use Rattle.alma_join.specs.Parts.{AddsUnit, AddsBody, ArePartsOf};
 ghost use Rattle.alma_rules.specs.Parts.{append_stmts};
@@ -45,7 +44,7 @@ fn add_globals(
     moves: &Moves<'_>,
 ) -> Result<(), NoMemory>
     ensures { OnOk result (map global_of globals.new.items ≡ map global_of globals.old.items
-        ++ map (copy.moved_global (moves_of moves.now)) (map global_of more.now)) }
+        ++ map (moved_global (moves_of moves.now)) (map global_of more.now)) }
 {
     for global in more {
         globals.push(copy_global(alloc, global, moves)?)?;
@@ -62,7 +61,8 @@ fn add_procedures(
 ) -> Result<(), NoMemory>
     ensures { OnOk result ((unit : ℕ) → map routine_of procedures.new.items
         ≡ map routine_of procedures.old.items
-        ++ map (moved_procedure (moves_of moves.now)) (kept_of unit (program_of program.now))) }
+        ++ map (λ k. moved_routine (moves_of moves.now) k.routine)
+        (kept_of unit (program_of program.now))) }
 {
     let bare = mark_bare(alloc, program)?;
     for r in 1..program.routines.len() {

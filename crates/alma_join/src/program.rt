@@ -6,7 +6,7 @@ ghost use Rattle.alma_join.specs.Joined.{AreUnits, joined, join_fault};
 ghost use Rattle.alma_join.specs.Fault.{IsJoinError};
 ghost use Rattle.alma_join.specs.Parts.{with_body};
 
-use crate::directory::following;
+use crate::directory::successor;
 use crate::error::JoinError;
 use crate::import::number_all;
 use crate::laws::joined_is_checked;
@@ -22,7 +22,7 @@ fn program_with(alloc: Global, first: &Program, parts: Parts) -> Result<Program,
     ensures { IfOk result (λ p. program_of p ≡ with_body (program_of first.now) parts) }
 {
     let head = &first.routines[0];
-    let slots = following(parts.slots)?;
+    let slots = successor(parts.slots)?;
     let name = head.name.to_vec(alloc)?;
     let params = head.params.to_vec(alloc)?;
     let mut routines = Vec::new(alloc);

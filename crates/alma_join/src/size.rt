@@ -11,8 +11,8 @@ ghost use Rattle.alma_join.specs.Totals.{AreTotals};
 use alma_base::{CELL_LIMIT, POOL_LIMIT, RECORD_LIMIT};
 use alma_ir::{Global, Program, Routine, text_bytes_inside};
 
-/// The greatest number of slots of a routine of a program.
-const BODY_SLOT_LIMIT: u64 = 4_194_304;
+/// The greatest number of slots of a routine of a checked program.
+const ROUTINE_SLOT_LIMIT: u64 = 4_194_304;
 
 /// Six quantities that a program bounds, each stopped at 2^64-1.
 #[derive(Clone, Copy)]
@@ -121,7 +121,7 @@ fn passes(totals: Totals) -> bool
     ensures { (all : joined.Totals) → AreTotals totals all → result ≡ joined.passes all }
 {
     totals.declared > CELL_LIMIT as u64
-        || totals.slots > BODY_SLOT_LIMIT
+        || totals.slots > ROUTINE_SLOT_LIMIT
         || totals.globals > RECORD_LIMIT as u64
         || totals.params > RECORD_LIMIT as u64
         || totals.names > POOL_LIMIT as u64
@@ -130,7 +130,7 @@ fn passes(totals: Totals) -> bool
 
 /// The first module with which a bound is passed, where one is.
 pub fn first_too_large(units: &[Program]) -> Option<u32>
-    requires few { length units.now ≤ 16 }
+    requires few { length units.now ≤ joined.greatest_units }
     ensures { joined.size_fault joined.no_totals 1 (map program_of units.now)
         ≡ option_map joined.TooLarge result }
 {

@@ -2,7 +2,7 @@
 use Rattle.std.specs.Prelude.{◌-◌, ℕ, List, [], ◌∷◌, ◌++◌, codes, decimal, get_or, Option, None, Some, Result, Ok, Err}
 use Rattle.alma_driver_words.specs.Words.{default_steps}
 use Rattle.alma_ir.specs.Tree.{Program, routine_at}
-use Rattle.alma_join.specs.Joined.{JoinFault, Missing, Twice, HeadDiffers, TooLarge, join_fault, joined}
+use Rattle.alma_join.specs.Joined.{JoinFault, Missing, Twice, HeadDiffers, TooLarge, join_fault, joined, no_program}
 use Rattle.alma_plan.specs.Plan.{Ending, Plan, Ends, ending_of, silent, tells, bad_word}
 use Rattle.alma_plan.specs.Programs.{Last, Tells, read_source, run_plan, store_plan}
 use Rattle.alma_source.specs.Verdict.{Verdict}
@@ -18,13 +18,9 @@ failed = ending_of 1 []
 
 -- ---- faults of modules
 
--- a module without anything, where there is none
-abbrev pub no_unit : Program
-no_unit = record { name = []; globals = []; routines = [] }
-
 -- the module of a number, from 1
 abbrev pub unit_at : List Program → (unit : ℕ) → Program
-unit_at units unit = get_or units (unit - 1) no_unit
+unit_at units unit = get_or units (unit - 1) no_program
 
 -- what is said of an import, by its module and its number there: its fault, the number of the module, and its name
 abbrev pub import_text : (fault : List ℕ) → List Program → (unit routine : ℕ) → List ℕ

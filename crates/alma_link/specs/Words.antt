@@ -3,10 +3,11 @@ use Rattle.std.specs.Prelude.{◌≡◌, ◌≤◌, ◌+◌, ℕ, Bool, true, fa
 use Rattle.std.specs.Prelude.{Result, Ok, Err}
 use Rattle.std.specs.Str.{bytes_eq}
 use Rattle.alma_driver_words.specs.Words.{AreFileNames, is_file_name}
+use Rattle.alma_join.specs.Joined.{greatest_units}
 
 -- the greatest number of files
 abbrev pub greatest_files : ℕ
-greatest_files = 16
+greatest_files = greatest_units
 
 -- what is done with the joined program: it is run, or its object is stored under a name
 pub data Task : Type 0 where
