@@ -116,8 +116,8 @@ module _ (words : List (List ℕ)) (turns : List ℕ) (programs : List Program) 
       → due ≡ prints (pool_text 0 (object_codes a.objects) input (turns_in turns))
   call_due reading due c =
       let all = object_codes a.objects in
-      let fetched = fetch_comes plain program before.files.told before.input.left reading due a.file turns turns_limit (λ b. fetching b [] a.files)
-      a.turns_told a.turns_short c in
+      let fetched = fetch_comes plain program before.files.told before.input.left reading due a.file turns turns_limit
+      (λ b. fetching b [] a.files) a.turns_told a.turns_short c in
       let there = files_come before.files.told before.input.left reading due turns [] a.files a.objects programs a.told fetched in
       let good = subst (λ (bad : Option ℕ). MayComeOf reading due (judged_by bad turns a.objects)) turns_are_good there in
       let opened = subst (λ (r : Result (List PlainCode) Ending). MayComeOf reading due (played r (turns_in turns)))
