@@ -28,7 +28,7 @@ use Rattle.alma_rules.specs.View.{view_module}
 use Rattle.alma_source.proofs.RefusalLemmas.{one_refusal}
 use Rattle.alma_source.specs.Refusal.{IsProgramOf}
 use Rattle.alma_source.specs.Verdict.{Verdict}
-use Rattle.alma_all.specs.All.{program, all_plan, all_sense, asked, body_returns, list_plan, unless_returns}
+use Rattle.alma_all.specs.All.{program, all_plan, all_sense, file_plan, body_returns, list_plan, unless_returns}
 use Rattle.alma_all.specs.Shown.{ListsSource, ListEnds, refuses, returns, too_large, lists}
 use Rattle.alma_all.proofs.Listings.{lists_every_alternative}
 use Rattle.alma_all.proofs.Requests.{plan_is}
@@ -41,7 +41,7 @@ module _ (told : List ℕ → Told) where
   unless_asks false p steps name asks = run_asks program success told (listing_of p) steps name asks
 
   -- the one file that is asked for is there
-  lacks_none : (file source : List ℕ) (steps : ℕ) → told file ≡ Has source → MayLack all_sense told (asked file steps) → ⊥
+  lacks_none : (file source : List ℕ) (steps : ℕ) → told file ≡ Has source → MayLack all_sense told (file_plan file steps) → ⊥
   lacks_none file source steps has lacks =
       by (source_asks program success told file source lacks.0 (λ p. list_plan p steps) has lacks.1)
     where
@@ -99,7 +99,7 @@ pub call_lists : (words : List (List ℕ)) (file source input : List ℕ) (steps
 call_lists words file source input steps before after status asks causes calm =
     let causes' = subst (λ (plan : Plan Verdict Last). Causes all_sense program plan before after status)
     (plan_is words file steps asks.asks) causes in
-    let due = call_shows_due all_sense program (asked file steps) before after status causes' calm
+    let due = call_shows_due all_sense program (file_plan file steps) before after status causes' calm
     (lacks_none before.files.told file source steps asks.told) in
     source_ends file source input steps before after status asks.source_short asks.left asks.input_short due.0 due.1 due.3
     (source_comes program success before.files.told before.input.left due.0 due.1 file source (λ p. list_plan p steps) asks.told

@@ -7,7 +7,7 @@ use Rattle.alma_plan.specs.Plan.{bad_word, silent, success, tells}
 use Rattle.alma_driver_words.specs.Words.{is_file_name}
 use Rattle.alma_plan.proofs.Owns.{own_status, own_tells, own_read_source, own_run_plan}
 use Rattle.alma_listing.specs.Lister.{listing_of}
-use Rattle.alma_all.specs.All.{program, all_sense, all_plan, asked, bad, body_returns, list_plan, unless_returns, steps_in, with_file}
+use Rattle.alma_all.specs.All.{program, all_sense, all_plan, file_plan, bad, body_returns, list_plan, unless_returns, steps_in, with_file}
 use Rattle.alma_all.specs.All.{with_options, with_steps}
 
 own_bad : (word : ℕ) → HasOwnEnds all_sense (bad word)
@@ -17,7 +17,7 @@ own_unless : (returns : Bool) (p : Program) (steps : ℕ) → HasOwnEnds all_sen
 own_unless true p steps = own_tells program success (silent (tells program 13 (codes "ModuleReturn"))) (own_status 13 (inr (omega arith)))
 own_unless false p steps = own_run_plan program success (own_status 0 (inl (omega arith))) (listing_of p) steps
 
-own_asked : (file : List ℕ) (steps : ℕ) → HasOwnEnds all_sense (asked file steps)
+own_asked : (file : List ℕ) (steps : ℕ) → HasOwnEnds all_sense (file_plan file steps)
 own_asked file steps = own_read_source program success file (λ p. list_plan p steps) (λ p. own_unless (body_returns p) p steps)
 
 own_steps : (file : List ℕ) (steps : Option ℕ) (more : List (List ℕ)) → HasOwnEnds all_sense (with_steps file steps more)

@@ -5,13 +5,13 @@ use Rattle.alma_driver_words.specs.Words.{default_steps, is_file_name}
 use Rattle.alma_driver_words.specs.BadWords.{Begins, IsBadWord}
 use Rattle.alma_driver_words.proofs.BadWords.{Found, asks_begins, bad_behind, bad_end}
 use Rattle.alma_driver_words.proofs.BadWords as found
-use Rattle.alma_all.specs.All.{all_plan, asked, bad, steps_in, with_file, with_options, with_steps}
+use Rattle.alma_all.specs.All.{all_plan, file_plan, bad, steps_in, with_file, with_options, with_steps}
 use Rattle.alma_all.specs.Shown.{AsksToList, IsRequest, plain, within}
 use Rattle.alma_all.proofs.WordLemmas.{option_is, is_option}
 
 -- words that ask for the alternatives have the plan of that
-pub plan_is : (words : List (List ℕ)) (file : List ℕ) (steps : ℕ) → AsksToList words file steps → all_plan words ≡ asked file steps
-plan_is words file steps (plain is named by) = ap all_plan is ∙ ap (λ b. with_file b file []) named ∙ ap (asked file) (sym by)
+pub plan_is : (words : List (List ℕ)) (file : List ℕ) (steps : ℕ) → AsksToList words file steps → all_plan words ≡ file_plan file steps
+plan_is words file steps (plain is named by) = ap all_plan is ∙ ap (λ b. with_file b file []) named ∙ ap (file_plan file) (sym by)
 plan_is words file steps (within option is named by) =
     ap all_plan is ∙ ap (λ b. with_file b file (option ∷ [])) named ∙ ap (λ o. with_steps file o []) (option_is option steps by)
 

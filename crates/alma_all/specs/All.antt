@@ -58,8 +58,8 @@ abbrev pub list_plan : Program → (steps : ℕ) → Plan Verdict Last
 list_plan p steps = unless_returns (body_returns p) p steps
 
 -- those of the program of a file
-abbrev pub asked : (file : List ℕ) → (steps : ℕ) → Plan Verdict Last
-asked file steps = read_source file (λ p. list_plan p steps)
+abbrev pub file_plan : (file : List ℕ) → (steps : ℕ) → Plan Verdict Last
+file_plan file steps = read_source file (λ p. list_plan p steps)
 
 -- a word that cannot stand where it is, or one more than there are
 abbrev pub bad : (word : ℕ) → Plan Verdict Last
@@ -68,12 +68,12 @@ bad word = Ends (Tells (silent (bad_word program word)))
 -- a file, the number of steps that the second word names, and the words behind
 abbrev pub with_steps : (file : List ℕ) → Option ℕ → (more : List (List ℕ)) → Plan Verdict Last
 with_steps file None more = bad 2
-with_steps file (Some steps) [] = asked file steps
+with_steps file (Some steps) [] = file_plan file steps
 with_steps file (Some steps) (word ∷ more) = bad 3
 
 -- a file, and the words behind it
 abbrev pub with_options : (file : List ℕ) → (options : List (List ℕ)) → Plan Verdict Last
-with_options file [] = asked file default_steps
+with_options file [] = file_plan file default_steps
 with_options file (option ∷ more) = with_steps file (steps_in option) more
 
 abbrev pub with_file : (is_file : Bool) → (file : List ℕ) → (options : List (List ℕ)) → Plan Verdict Last

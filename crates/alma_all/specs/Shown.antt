@@ -11,11 +11,11 @@ use Rattle.alma_mean.specs.Events.{End, CutOff, first, visit_count}
 use Rattle.alma_mean.specs.Laws.{IsPrefix, ends_in_cut}
 use Rattle.alma_mean.specs.Meaning.{ev_program}
 use Rattle.alma_listing.specs.Lister.{listing_of}
-use Rattle.alma_listing.specs.Listing.{alternatives, global_cells, listed, listing}
+use Rattle.alma_listing.specs.Listing.{alternatives, global_cells, listing_of, listing}
 use Rattle.alma_io.specs.Outside.{Outside}
 use Rattle.alma_plan.specs.Plan.{Due, Ending, silent, success, tells}
 use Rattle.alma_plan.specs.Meant.{meant_ending}
-use Rattle.alma_plan.specs.Programs.{Runs, refused, too_much_code}
+use Rattle.alma_plan.specs.Programs.{Runs, refuse_source, too_much_code}
 use Rattle.alma_plan.specs.Undisturbed.{ShowsDue}
 use Rattle.alma_run_laws.specs.Shown.{size_of}
 use Rattle.alma_source.specs.Refusal.{IsProgramOf, IsRefused, place_of}
@@ -43,7 +43,7 @@ pub data IsListed (p : Program) (input : List ℕ) (steps : ℕ) (due : Due) : T
   whole : (end : End) → listing (suc steps) p input ≡ (due.out, end) → due.end ≡ listing_end end → (end ≡ CutOff → ⊥)
       → IsListed p input steps due
   -- the steps ran out: a front of them, which covers one visit of the listing program for each 32 steps
-  front : due.end ≡ tells program 5 (codes "steps out") → IsPrefix due.out (listed p.globals (ev_program (suc steps) p input))
+  front : due.end ≡ tells program 5 (codes "steps out") → IsPrefix due.out (listing_of p.globals (ev_program (suc steps) p input))
       → Covers (first (ev_program (suc steps) (listing_of p) input)) due.out (steps / 32) → ListingMayRunOut p input steps
       → IsListed p input steps due
 
@@ -78,7 +78,7 @@ pub data ListEnds (file source input : List ℕ) (steps : ℕ) (before after : O
   -- the source has this fault at this place, and no other: it is refused for that
   refuses : (fault : SourceFault) (offset : ℕ) → IsRefused source fault offset
       → ((other : SourceFault) (place : ℕ) → IsRefused source other place → (fault ≡ other) × (offset ≡ place))
-      → ShowsDue before after status (silent (refused file fault (place_of source offset)))
+      → ShowsDue before after status (silent (refuse_source file fault (place_of source offset)))
       → ListEnds file source input steps before after status
   -- a RETURN stands in the body of the program's module
   returns : (p : Program) → IsProgramOf source p → body_returns p ≡ true

@@ -6,7 +6,7 @@ ghost use Rattle.alma_ir.specs.View.{program_of};
 ghost use Rattle.alma_plan.specs.Course.{Follows};
 ghost use Rattle.alma_driver_words.specs.Words.{texts};
 ghost use Rattle.alma_resolved.specs.Room.{HasRoom};
-ghost use Rattle.alma_all.specs.All.{program as program_name, all_sense, all_plan, asked, list_plan, with_options, with_steps};
+ghost use Rattle.alma_all.specs.All.{program as program_name, all_sense, all_plan, file_plan, list_plan, with_options, with_steps};
 ghost use Rattle.alma_all.specs.Ends.{all_end, file_of};
 
 use crate::end::AllEnd;
@@ -51,7 +51,7 @@ fn list_file<F: Files, I: Source, O: Sink>(
     out: &mut O,
 ) -> AllEnd
     requires few { steps ≤ 2 ^ 62 }
-    ensures { Follows all_sense program_name (asked file.now steps) (F.side files.old) (F.side files.new)
+    ensures { Follows all_sense program_name (file_plan file.now steps) (F.side files.old) (F.side files.new)
         (I.side input.old) (I.side input.new) (O.side out.old) (O.side out.new)
         (all_end file.now result) }
 {

@@ -23,9 +23,9 @@ use Rattle.alma_run_laws.proofs.VariableLemmas.{variables_shown}
 use Rattle.alma_run_laws.specs.Shown.{shown_end}
 use Rattle.alma_run_laws.specs.Variables.{variable_word}
 use Rattle.alma_verify.specs.Bytes.{object_code}
-use Rattle.alma_back.specs.Due.{asked, back_plan, judged, judged_by, program, script_limit, walked, walked_on}
+use Rattle.alma_back.specs.Due.{fetch_plan, back_plan, verify_plan, judged_by, program, script_limit, walk_plan, walked_on}
 use Rattle.alma_back.specs.Script.{Line, Forward, Backward, Value, Output, lines_in}
-use Rattle.alma_back.specs.Session.{after_line, line_text, session, shown}
+use Rattle.alma_back.specs.Session.{after_line, line_text, session, lines_text}
 use Rattle.alma_back.specs.Shown.{ShowsLine, ShowsLines, none, one_more, ShowsWalk, WalksProgram}
 use Rattle.alma_back.specs.Standing.{Standing, begun, state_of, output_of}
 use Rattle.alma_back.proofs.Alike.{kept_after, shown_alike}
@@ -58,12 +58,12 @@ module _ (p : Program) where
     refl,
   )
 
-  shows_lines : (s : Standing) (lines : List Line) → IsRunOf s.code s.input → ShowsLines p s lines (shown s lines)
+  shows_lines : (s : Standing) (lines : List Line) → IsRunOf s.code s.input → ShowsLines p s lines (lines_text s lines)
   shows_lines s [] is = none s
   shows_lines s (line ∷ lines) is =
       let next = after_line s line in
       let still : IsRunOf next.code next.input = kept_after IsRunOf s line is in
-      one_more s line lines (line_text next line) (shown next lines) (shows_line next line still) (shows_lines next lines still)
+      one_more s line lines (line_text next line) (lines_text next lines) (shows_line next line still) (shows_lines next lines still)
 
 -- ---- no file is missing
 
@@ -73,7 +73,7 @@ module _ (told : List ℕ → Told) where
   on_asks false code lines name asks = asks
 
   walked_asks : (refusal : Option Ending) (code : PlainCode) (lines : List Line) (name : List ℕ)
-      → Asks plain told (walked refusal code lines) name → ⊥
+      → Asks plain told (walk_plan refusal code lines) name → ⊥
   walked_asks None code lines name asks = on_asks (code_reads code) code lines name asks
   walked_asks (Some end) code lines name asks = asks
 
@@ -83,10 +83,10 @@ module _ (told : List ℕ → Told) where
 
   -- both files that are asked for are there
   lacks_none : (object script bytes text : List ℕ) → told object ≡ Has bytes → told script ≡ Has text
-      → MayLack plain told (asked object script) → ⊥
+      → MayLack plain told (fetch_plan object script) → ⊥
   lacks_none object script bytes text has too lacks = by lacks.1
     where
-      by : Asks plain told (asked object script) lacks.0 → ⊥
+      by : Asks plain told (fetch_plan object script) lacks.0 → ⊥
       by (inl same) = cc (has, same, lacks.2)
       by (inr (got, may, within, inl same)) = cc (too, same, lacks.2)
       by (inr (got, may, within, inr h)) = judged_asks (lines_in h.0) got lacks.0 h.3
@@ -105,10 +105,10 @@ module _ (told : List ℕ → Told) (left : Option (List ℕ)) (reading : Readin
     on_comes false quiet has h = h.1 ∙ ap prints (sym (shown_alike input (begun code []) lines quiet))
 
     judged_comes : (bytes text : List ℕ) → lines_in text ≡ Ok lines → object_refusal program bytes ≡ None → object_code bytes ≡ code
-        → (code_reads code ≡ true → left ≡ Some input) → ComesOf (judged bytes text) → due ≡ prints (session code input lines)
+        → (code_reads code ≡ true → left ≡ Some input) → ComesOf (verify_plan bytes text) → due ≡ prints (session code input lines)
     judged_comes bytes text good sound is has come =
         let read = subst (λ (r : Result (List Line) ℕ). ComesOf (judged_by r bytes)) good come in
-        let opened = subst (λ (refusal : Option Ending). ComesOf (walked refusal (object_code bytes) lines)) sound read in
+        let opened = subst (λ (refusal : Option Ending). ComesOf (walk_plan refusal (object_code bytes) lines)) sound read in
         on_comes (code_reads code) refl has (subst (λ (c : PlainCode). ComesOf (walked_on (code_reads c) c lines)) is opened)
 
 -- ---- the call
@@ -121,12 +121,12 @@ walk_shows words p lines input before after status w causes calm =
     let told = before.files.told in
     let causes' = subst (λ (plan : Plan ⊥ Due). Causes plain program plan before after status)
     (request_plan words w.object w.script w.asks) causes in
-    let h = call_shows_due plain program (asked w.object w.script) before after status causes' calm
+    let h = call_shows_due plain program (fetch_plan w.object w.script) before after status causes' calm
     (lacks_none told w.object w.script w.bytes w.text w.object_told w.script_told) in
     let opened = fetch_comes plain program told before.input.left h.0 h.1 w.object w.bytes object_limit
-    (λ bytes. Fetches w.script script_limit (λ text. judged bytes text)) w.object_told
+    (λ bytes. Fetches w.script script_limit (λ text. verify_plan bytes text)) w.object_told
     (spelled_short p w.bytes w.spells) h.2 in
-    let read = fetch_comes plain program told before.input.left h.0 h.1 w.script w.text script_limit (λ text. judged w.bytes text)
+    let read = fetch_comes plain program told before.input.left h.0 h.1 w.script w.text script_limit (λ text. verify_plan w.bytes text)
     w.script_told w.script_short opened in
     let is : h.1 ≡ prints (session code input lines) =
     judged_comes told before.input.left h.0 h.1 code lines input w.input_short w.bytes w.text w.script_good

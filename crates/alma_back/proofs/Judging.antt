@@ -21,7 +21,7 @@ use Rattle.alma_plan.proofs.Courses.{course_ends, course_starved, gains_none}
 use Rattle.alma_plan.proofs.PlainEnds.{own_status, refusal_status}
 use Rattle.alma_back.specs.declared.end.BackEnd.{BackEnd}
 use Rattle.alma_back.specs.declared.end.BackEnd.TheVariants.{Walked, BadLine, Refused}
-use Rattle.alma_back.specs.Due.{program, walked_on, walked, judged_by, judged, asked, bad, with_script, back_plan}
+use Rattle.alma_back.specs.Due.{program, walked_on, walk_plan, judged_by, verify_plan, fetch_plan, bad, with_script, back_plan}
 use Rattle.alma_back.specs.Ends.{back_end}
 use Rattle.alma_back.specs.Inner.{IsUnread, StopsAt}
 use Rattle.alma_back.specs.Script.{Line, lines_in}
@@ -57,17 +57,17 @@ silent_end end files input out = whole (silent end) refl refl refl (gains_none o
 module _ (object : List ℕ) (files : FilesSide) (input : SourceSide) (out : SinkSide) where
   -- the object is refused
   pub walked_refused : (lines : List Line) (refusal : Refusal) → object_refusal program object ≡ Some (refusal_end program refusal)
-      → Follows plain program (walked (object_refusal program object) (object_code object) lines) files files input input out out
+      → Follows plain program (walk_plan (object_refusal program object) (object_code object) lines) files files input input out out
       (refusal_end program refusal)
   walked_refused lines refusal e =
-      subst (λ (o : Option Ending). Follows plain program (walked o (object_code object) lines) files files input input out out
+      subst (λ (o : Option Ending). Follows plain program (walk_plan o (object_code object) lines) files files input input out out
       (refusal_end program refusal)) (sym e)
       (course_ends plain program (silent (refusal_end program refusal)) files input out out (refusal_end program refusal)
       (silent_end (refusal_end program refusal) files input out))
 
   -- the script was not read
   pub judged_unread : (script : List ℕ) (end : BackEnd) → IsUnread script end
-      → Follows plain program (judged object script) files files input input out out (back_end end)
+      → Follows plain program (verify_plan object script) files files input input out out (back_end end)
   judged_unread script Walked h = absurd h
   judged_unread script (BadLine line) h =
       subst (λ (r : Result (List Line) ℕ). Follows plain program (judged_by r object) files files input input out out
@@ -75,24 +75,25 @@ module _ (object : List ℕ) (files : FilesSide) (input : SourceSide) (out : Sin
       (course_ends plain program (silent (back_end (BadLine line))) files input out out (back_end (BadLine line))
       (silent_end (back_end (BadLine line)) files input out))
   judged_unread script (Refused refusal) h =
-      subst (λ (r : Refusal). Follows plain program (judged object script) files files input input out out (refusal_end program r)) (sym h)
+      subst (λ (r : Refusal). Follows plain program (verify_plan object script) files files input input out out (refusal_end program r))
+      (sym h)
       (course_starved program _ _ files input out)
 
   module _ (input' : SourceSide) (out' : SinkSide) (end : Ending) where
     -- the object is opened
     pub walked_opened_to : (code : PlainCode) (lines : List Line) → object_refusal program object ≡ None → code ≡ object_code object
         → Follows plain program (walked_on (code_reads code) code lines) files files input input' out out' end
-        → Follows plain program (walked (object_refusal program object) (object_code object) lines) files files input input' out out' end
+        → Follows plain program (walk_plan (object_refusal program object) (object_code object) lines) files files input input' out out' end
     walked_opened_to code lines sound is follows =
-        subst (λ (o : Option Ending). Follows plain program (walked o (object_code object) lines) files files input input' out out' end)
+        subst (λ (o : Option Ending). Follows plain program (walk_plan o (object_code object) lines) files files input input' out out' end)
         (sym sound)
         (subst (λ (k : PlainCode). Follows plain program (walked_on (code_reads k) k lines) files files input input' out out' end) is
         follows)
 
     -- the script was read
     pub judged_read_to : (script : List ℕ) (lines : List Line) → lines_in script ≡ Ok lines
-        → Follows plain program (walked (object_refusal program object) (object_code object) lines) files files input input' out out' end
-        → Follows plain program (judged object script) files files input input' out out' end
+        → Follows plain program (walk_plan (object_refusal program object) (object_code object) lines) files files input input' out out' end
+        → Follows plain program (verify_plan object script) files files input input' out out' end
     judged_read_to script lines is follows =
         subst (λ (r : Result (List Line) ℕ). Follows plain program (judged_by r object) files files input input' out out' end)
         (sym is) follows
@@ -114,7 +115,7 @@ own_on true code lines = λ bytes. own_status (prints (session code bytes lines)
 own_on false code lines = own_status (prints (session code [] lines)) 0 refl (inl (omega arith))
 
 own_walked : (refusal : Option Ending) (code : PlainCode) (lines : List Line) → ((end : Ending) → refusal ≡ Some end → end.status ≡ 9)
-    → HasOwnEnds plain (walked refusal code lines)
+    → HasOwnEnds plain (walk_plan refusal code lines)
 own_walked None code lines refused = own_on (code_reads code) code lines
 own_walked (Some end) code lines refused = own_status (silent end) 9 (refused end refl) (inr (omega arith))
 
@@ -126,12 +127,12 @@ own_cond : (b : Bool) (p q : Plan ⊥ Due) → HasOwnEnds plain p → HasOwnEnds
 own_cond true p q h k = h
 own_cond false p q h k = k
 
-own_asked : (object script : List ℕ) → HasOwnEnds plain (asked object script)
+own_asked : (object script : List ℕ) → HasOwnEnds plain (fetch_plan object script)
 own_asked object script = λ bytes lines. own_judged (lines_in lines) bytes
 
 own_script : (object : List ℕ) (words : List (List ℕ)) → HasOwnEnds plain (with_script object words)
 own_script object [] = own_bad 2
-own_script object (script ∷ []) = own_cond (is_file_name script) (asked object script) (bad 2) (own_asked object script) (own_bad 2)
+own_script object (script ∷ []) = own_cond (is_file_name script) (fetch_plan object script) (bad 2) (own_asked object script) (own_bad 2)
 own_script object (script ∷ word ∷ words) = own_cond (is_file_name script) (bad 3) (bad 2) (own_bad 3) (own_bad 2)
 
 pub own_plan : (words : List (List ℕ)) → HasOwnEnds plain (back_plan words)

@@ -5,7 +5,7 @@ use Rattle.std.proofs.lemmas.List.{same_from_push, length_push}
 use Rattle.std.specs.Prelude.{true}
 use Rattle.alma_code.specs.declared.step.Step.{Step}
 use Rattle.alma_code.specs.Fits.{Fits}
-use Rattle.alma_code.specs.Machine.{Mode, Going, Failing, Ended, Stuck, State, Stepped, step, after, prints, start}
+use Rattle.alma_code.specs.Machine.{Mode, Going, Failing, Ended, Stuck, State, StepResult, step, after, prints, start}
 use Rattle.alma_code.specs.Picture.{PlainFrame, PlainEntry}
 use Rattle.alma_code.specs.Plain.{PlainCode}
 use Rattle.alma_code.specs.Rules.{IsSound}
@@ -13,7 +13,7 @@ use Rattle.alma_code_laws.proofs.Runs.{start_fits, stays_fit}
 use Rattle.alma_memory.specs.Machine.{Scene, MachinePicture}
 use Rattle.alma_machine.specs.Stands.{Stands}
 use Rattle.alma_machine.proofs.Budget.{after_more, prints_more}
-use Rattle.alma_machine_acts.specs.Steps.{IsLive, stepped}
+use Rattle.alma_machine_acts.specs.Steps.{IsLive, step_result}
 use Rattle.alma_machine_acts.specs.declared.registers.Registers.{Registers}
 use Rattle.alma_back.specs.declared.back.Old.{Old}
 use Rattle.alma_back.specs.Kept.{state_in, scene_of, is_failing, mode_by, old_of, state_at, printed_at, olds_before, scenes_before}
@@ -101,14 +101,14 @@ module _ (code : PlainCode) (input : List ℕ) where
         })
 
     module _ (r' : Registers MachinePicture) (answer : Step) (bytes : List ℕ) (on : can_go (state_at code input n).mode ≡ true)
-        (is : stepped answer bytes (state_in r') ≡ step code input (state_in r))
+        (is : step_result answer bytes (state_in r') ≡ step code input (state_in r))
         (steps : r'.steps ≡ r.steps + 1) (choices : r'.choices ≤ r.choices + 1) (fails : r'.fails ≤ r.fails + 1)
         (past : r'.memory.past ≡ scene_of (state_in r) ∷ r.memory.past) where
-      made : stepped answer bytes (state_in r') ≡ step code input (state_at code input n)
+      made : step_result answer bytes (state_in r') ≡ step code input (state_at code input n)
       made = is ∙ ap (step code input) h.state
 
       state_is : state_in r' ≡ state_at code input (suc n)
-      state_is = ap (λ (x : Stepped). x.state) made ∙ sym (after_suc n)
+      state_is = ap (λ (x : StepResult). x.state) made ∙ sym (after_suc n)
 
       next_counted : IsCounted code input (suc n)
       next_counted =
@@ -139,7 +139,7 @@ module _ (code : PlainCode) (input : List ℕ) where
             ∙ ap (λ (s : State). olds_before code input n ++ old_of s printed ∷ []) h.state
             ∙ ap (λ (p : ℕ). olds_before code input n ++ old_of (state_at code input n) p ∷ []) h.printed_is;
         printed_is = ap (λ (p : ℕ). p + length bytes) h.printed_is
-            ∙ ap (λ (x : Stepped). printed_at code input n + length x.printed) made ∙ sym (printed_suc n);
+            ∙ ap (λ (x : StepResult). printed_at code input n + length x.printed) made ∙ sym (printed_suc n);
         counted = λ k within. at_last (IsCounted code input) n k within h.counted next_counted;
         live = λ k within. live_to k (n - k) within refl;
       }

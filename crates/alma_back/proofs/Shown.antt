@@ -10,7 +10,7 @@ use Rattle.alma_io.proofs.Known.{appends_none, appends_trans}
 use Rattle.alma_plan.proofs.PartLemmas.{front_after}
 use Rattle.alma_back.specs.declared.script.Line as read
 use Rattle.alma_back.specs.Inner.{line_of, lines_of}
-use Rattle.alma_back.specs.Session.{ahead, after_line, line_text, shown}
+use Rattle.alma_back.specs.Session.{ahead, after_line, line_text, lines_text}
 use Rattle.alma_back.specs.Standing.{Standing, runs}
 use Rattle.alma_back.proofs.Walks.{step_of, no_step}
 
@@ -43,10 +43,11 @@ shown_none side all = record { done = []; all_is = refl; out = appends_none side
 
 -- the next line
 pub shown_next : (s : Standing) (lines : List read.Line) (i : ℕ) (line d : read.Line) → i < length lines → line ≡ get_or lines i d
-    → shown s (lines_of (drop i lines)) ≡ line_text (after_line s (line_of line)) (line_of line) ++ shown (after_line s (line_of line))
+    → lines_text s (lines_of (drop i lines)) ≡ line_text (after_line s (line_of line)) (line_of line)
+    ++ lines_text (after_line s (line_of line))
     (lines_of (drop (i + 1) lines))
 shown_next s lines i line d within is =
-    ap (λ xs. shown s (lines_of xs)) (drop_more lines i d within ∙ ap (λ x. x ∷ drop (i + 1) lines) (sym is))
+    ap (λ xs. lines_text s (lines_of xs)) (drop_more lines i d within ∙ ap (λ x. x ∷ drop (i + 1) lines) (sym is))
 
 module _ (old mid new : SinkSide) (all rest text behind : List ℕ) (h : HasShown old mid all rest) (next : rest ≡ text ++ behind) where
   -- it is out
@@ -64,7 +65,7 @@ module _ (old mid new : SinkSide) (all rest text behind : List ℕ) (h : HasShow
 
 -- all is out
 pub shown_all : (old new : SinkSide) (all : List ℕ) (s : Standing) (lines : List read.Line) (i : ℕ) → length lines ≤ i
-    → HasShown old new all (shown s (lines_of (drop i lines))) → Appends old.written new.written all
+    → HasShown old new all (lines_text s (lines_of (drop i lines))) → Appends old.written new.written all
 shown_all old new all s lines i past h =
-    let none : all ≡ h.done = h.all_is ∙ ap (λ xs. h.done ++ shown s (lines_of xs)) (drop_all i lines past) ∙ append-nil h.done in
+    let none : all ≡ h.done = h.all_is ∙ ap (λ xs. h.done ++ lines_text s (lines_of xs)) (drop_all i lines past) ∙ append-nil h.done in
     subst (λ (bytes : List ℕ). Appends old.written new.written bytes) (sym none) h.out

@@ -4,16 +4,17 @@ use Rattle.std.specs.Prelude.{◌⊎◌, Bool, true, false, codes, cond}
 use Rattle.alma_driver_words.specs.BadWords.{Begins, IsBadWord}
 use Rattle.alma_driver_words.specs.Words.{AreFileNames, is_file_name}
 use Rattle.alma_driver_words.proofs.BadWords.{Found, bad_behind, bad_end, bad_is_told, one_of_both}
-use Rattle.alma_back.specs.Due.{asked, back_plan, bad, with_script}
+use Rattle.alma_back.specs.Due.{fetch_plan, back_plan, bad, with_script}
 use Rattle.alma_back.specs.Words.{AsksToWalk, IsRequest}
 
 -- ---- the plan of a request
 
-pub request_plan : (words : List (List ℕ)) (object script : List ℕ) → AsksToWalk words object script → back_plan words ≡ asked object script
+pub request_plan : (words : List (List ℕ)) (object script : List ℕ) → AsksToWalk words object script
+    → back_plan words ≡ fetch_plan object script
 request_plan words object script asks =
     let names : AreFileNames (object ∷ script ∷ []) = subst AreFileNames asks.are asks.names in
     ap back_plan asks.are ∙ ap (λ b. cond b (with_script object (script ∷ [])) (bad 1)) names.0
-    ∙ ap (λ b. cond b (asked object script) (bad 2)) names.1.0
+    ∙ ap (λ b. cond b (fetch_plan object script) (bad 2)) names.1.0
 
 -- ---- words that begin a request
 
@@ -70,7 +71,7 @@ module _ (object : List ℕ) (named : is_file_name object ≡ true) where
   two_asked : (script : List ℕ) (b : Bool) → is_file_name script ≡ b → Asked (object ∷ script ∷ [])
   two_asked script true e = inl (asks_both object script named e)
   two_asked script false e =
-      inr (2, second_bad script [] e, past (script ∷ []) ∙ ap (λ b. cond b (asked object script) (bad 2)) e)
+      inr (2, second_bad script [] e, past (script ∷ []) ∙ ap (λ b. cond b (fetch_plan object script) (bad 2)) e)
 
   more_asked : (script word : List ℕ) (words : List (List ℕ)) (b : Bool) → is_file_name script ≡ b → Asked (object ∷ script ∷ word ∷ words)
   more_asked script word words true e = inr (

@@ -26,21 +26,21 @@ walked_on true code lines = Reads (λ input. prints (session code input lines))
 walked_on false code lines = Ends (prints (session code [] lines))
 
 -- the code of an object, unless that is refused
-abbrev pub walked : Option Ending → PlainCode → List Line → Plan ⊥ Due
-walked (Some end) code lines = Ends (silent end)
-walked None code lines = walked_on (code_reads code) code lines
+abbrev pub walk_plan : Option Ending → PlainCode → List Line → Plan ⊥ Due
+walk_plan (Some end) code lines = Ends (silent end)
+walk_plan None code lines = walked_on (code_reads code) code lines
 
 -- both files are there: the first bad line of the script comes before any fault of the object
 abbrev pub judged_by : Result (List Line) ℕ → (object : List ℕ) → Plan ⊥ Due
 judged_by (Err line) object = Ends (silent (tells program 13 (codes "bad line " ++ decimal line)))
-judged_by (Ok lines) object = walked (object_refusal program object) (object_code object) lines
+judged_by (Ok lines) object = walk_plan (object_refusal program object) (object_code object) lines
 
-abbrev pub judged : (object script : List ℕ) → Plan ⊥ Due
-judged object script = judged_by (lines_in script) object
+abbrev pub verify_plan : (object script : List ℕ) → Plan ⊥ Due
+verify_plan object script = judged_by (lines_in script) object
 
 -- the files of these names are fetched
-abbrev pub asked : (object script : List ℕ) → Plan ⊥ Due
-asked object script = Fetches object object_limit (λ bytes. Fetches script script_limit (λ lines. judged bytes lines))
+abbrev pub fetch_plan : (object script : List ℕ) → Plan ⊥ Due
+fetch_plan object script = Fetches object object_limit (λ bytes. Fetches script script_limit (λ lines. verify_plan bytes lines))
 
 -- a word that cannot stand where it is, or one more than there are
 abbrev pub bad : (word : ℕ) → Plan ⊥ Due
@@ -49,7 +49,7 @@ bad word = Ends (silent (bad_word program word))
 -- the words behind an object's name: the name of a script, and no more
 abbrev pub with_script : (object : List ℕ) → (words : List (List ℕ)) → Plan ⊥ Due
 with_script object [] = bad 2
-with_script object (script ∷ []) = cond (is_file_name script) (asked object script) (bad 2)
+with_script object (script ∷ []) = cond (is_file_name script) (fetch_plan object script) (bad 2)
 with_script object (script ∷ word ∷ words) = cond (is_file_name script) (bad 3) (bad 2)
 
 abbrev pub back_plan : (words : List (List ℕ)) → Plan ⊥ Due

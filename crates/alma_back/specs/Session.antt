@@ -2,13 +2,13 @@
 use Rattle.std.specs.Prelude.{◌-◌, ℕ, zero, suc, List, [], ◌∷◌, ◌++◌, codes, decimal, length}
 use Rattle.alma_code.specs.Plain.{PlainCode}
 use Rattle.alma_code.specs.TraceText.{value_of_name}
-use Rattle.alma_back.specs.Standing.{Standing, begun, stepped, state_of, output_of}
+use Rattle.alma_back.specs.Standing.{Standing, begun, next_standing, state_of, output_of}
 use Rattle.alma_back.specs.Script.{Line, Forward, Backward, Value, Output}
 
 -- the run so many steps on, or at its end
 abbrev pub ahead : Standing → (more : ℕ) → Standing
 ahead s zero = s
-ahead s (suc more) = ahead (stepped s) more
+ahead s (suc more) = ahead (next_standing s) more
 
 -- the run so many steps back, or at its start
 abbrev pub behind : Standing → (less : ℕ) → Standing
@@ -41,10 +41,10 @@ line_text s (Value name) = value_text s name
 line_text s Output = printed_text s
 
 -- what lines show, one after another
-abbrev pub shown : Standing → List Line → List ℕ
-shown s [] = []
-shown s (line ∷ lines) = line_text (after_line s line) line ++ shown (after_line s line) lines
+abbrev pub lines_text : Standing → List Line → List ℕ
+lines_text s [] = []
+lines_text s (line ∷ lines) = line_text (after_line s line) line ++ lines_text (after_line s line) lines
 
 -- what the lines of a script show of a run from its start
 abbrev pub session : PlainCode → (input : List ℕ) → List Line → List ℕ
-session code input lines = shown (begun code input) lines
+session code input lines = lines_text (begun code input) lines

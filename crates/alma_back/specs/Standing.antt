@@ -34,18 +34,18 @@ pub data Move : Type 0 where
   Back : Move
 
 -- after a step, which an ended run does not make
-abbrev pub stepped : Standing → Standing
-stepped s = cond (runs s) (record s { steps = s.steps + 1 }) s
+abbrev pub next_standing : Standing → Standing
+next_standing s = cond (runs s) (record s { steps = s.steps + 1 }) s
 
 -- after one step back, which a run at its start does not make
 abbrev pub stepped_back : Standing → Standing
 stepped_back s = record s { steps = s.steps - 1 }
 
-abbrev pub moved : Standing → Move → Standing
-moved s Step = stepped s
-moved s Back = stepped_back s
+abbrev pub move_by : Standing → Move → Standing
+move_by s Step = next_standing s
+move_by s Back = stepped_back s
 
 -- after a list of moves
-abbrev pub walked : Standing → List Move → Standing
-walked s [] = s
-walked s (move ∷ moves) = walked (moved s move) moves
+abbrev pub move_all : Standing → List Move → Standing
+move_all s [] = s
+move_all s (move ∷ moves) = move_all (move_by s move) moves

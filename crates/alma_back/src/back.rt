@@ -10,7 +10,7 @@ ghost use Rattle.alma_code.specs.declared.cell.Cell.TheVariants as cell;
 ghost use Rattle.alma_object.specs.View.{head_of_view};
 ghost use Rattle.alma_verify.specs.Verified.{code_of_verified};
 ghost use Rattle.alma_memory.specs.Machine.{Scene};
-ghost use Rattle.alma_machine_acts.specs.Steps.{stepped};
+ghost use Rattle.alma_machine_acts.specs.Steps.{step_result};
 ghost use Rattle.alma_machine.specs.Stands.{Stands};
 ghost use Rattle.alma_back.specs.Kept.{state_in, scene_of, mode_by, old_of as old_of_state};
 ghost use Rattle.alma_back.specs.Standing.{begun, state_of, output_of, runs, stepped_back};
@@ -66,7 +66,7 @@ fn step_on(
     requires stands { Stands (code_of_verified code.now) (state_in registers.old) }
     requires few { registers.old.steps + 1 < 2 ^ 63 }
     requires lawful { length input.now ≤ input_limit }
-    ensures step { IfOk result (λ answer. stepped answer text.new.items (state_in registers.new)
+    ensures step { IfOk result (λ answer. step_result answer text.new.items (state_in registers.new)
         ≡ step (code_of_verified code.now) input.now (state_in registers.old)) }
     ensures counted { OnOk result (registers.new.steps ≡ registers.old.steps + 1) }
     ensures choices { OnOk result (registers.new.choices ≤ registers.old.choices + 1) }

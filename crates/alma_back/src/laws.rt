@@ -5,7 +5,7 @@ ghost use Rattle.alma_plan.specs.Causes.{Causes};
 ghost use Rattle.alma_io.specs.Outside.{Outside, IsUndisturbed};
 ghost use Rattle.alma_plan.specs.Plan.{plain};
 ghost use Rattle.alma_driver_words.specs.BadWords.{IsBadWord};
-ghost use Rattle.alma_back.specs.Due.{asked, back_plan, bad, program};
+ghost use Rattle.alma_back.specs.Due.{fetch_plan, back_plan, bad, program};
 ghost use Rattle.alma_driver_words.specs.Words.{IsName};
 ghost use Rattle.alma_back.specs.Laws.{BackUndoesStep, WalksAreRuns};
 ghost use Rattle.alma_back.specs.Script.{Line, is_name};
@@ -27,7 +27,7 @@ pub fn names_are_those_that_are_watched()
 /// early, and the plan tells that.
 pub fn words_are_a_request_or_have_a_bad_word()
     ensures request { (words : List (List ℕ)) (object script : List ℕ) → AsksToWalk words object script
-        → back_plan words ≡ asked object script }
+        → back_plan words ≡ fetch_plan object script }
     ensures bad_word { (words : List (List ℕ)) (k : ℕ) → IsBadWord IsRequest words k
         → back_plan words ≡ bad k }
     ensures one_of_both { (words : List (List ℕ)) → IsRequest words

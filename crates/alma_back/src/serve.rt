@@ -3,7 +3,7 @@ ghost use Rattle.std.specs.Prelude.{◌≡◌, IfOk, IfErr};
 ghost use Rattle.alma_plan.specs.Course.{Follows};
 ghost use Rattle.alma_plan.specs.Plan.{Fetches, plain};
 ghost use Rattle.alma_driver_words.specs.Words.{texts};
-ghost use Rattle.alma_back.specs.Due.{program, script_limit, judged, asked, bad, back_plan};
+ghost use Rattle.alma_back.specs.Due.{program, script_limit, verify_plan, fetch_plan, bad, back_plan};
 ghost use Rattle.alma_back.specs.Ends.{back_end};
 
 use crate::end::BackEnd;
@@ -20,7 +20,7 @@ const SCRIPT_LIMIT: usize = 1_048_576;
 // The names of an object and of a script, or the first word, from 1, that cannot stand where it is, or one more than there are.
 fn file_words(words: &[String]) -> Result<(&str, &str), usize>
     ensures names { IfOk result (λ names. back_plan (texts words.now)
-        ≡ asked names.0.now names.1.now) }
+        ≡ fetch_plan names.0.now names.1.now) }
     ensures bad { IfErr result (λ word. back_plan (texts words.now) ≡ bad word) }
 {
     let Some((object, rest)) = split_word(words) else {
@@ -51,7 +51,7 @@ fn serve_script<F: Files, I: Source, O: Sink>(
     input: &mut I,
     out: &mut O,
 ) -> BackEnd
-    ensures { Follows plain program (Fetches script.now script_limit (judged object.now))
+    ensures { Follows plain program (Fetches script.now script_limit (verify_plan object.now))
         (F.side files.old) (F.side files.new) (I.side input.old) (I.side input.new)
         (O.side out.old) (O.side out.new) (back_end result) }
 {
@@ -70,7 +70,7 @@ fn serve<F: Files, I: Source, O: Sink>(
     input: &mut I,
     out: &mut O,
 ) -> BackEnd
-    ensures { Follows plain program (asked object.now script.now) (F.side files.old)
+    ensures { Follows plain program (fetch_plan object.now script.now) (F.side files.old)
         (F.side files.new) (I.side input.old) (I.side input.new) (O.side out.old)
         (O.side out.new) (back_end result) }
 {

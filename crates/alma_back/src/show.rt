@@ -4,7 +4,7 @@ ghost use Rattle.std.specs.Io.KnownBytes.{Appends};
 ghost use Rattle.alma_io.specs.Fronts.{AppendsFront};
 ghost use Rattle.alma_back.specs.Inner.{line_of, lines_of, IsShort, StopsAt};
 ghost use Rattle.alma_back.specs.Script.{greatest_steps};
-ghost use Rattle.alma_back.specs.Session.{ahead, behind, after_line, line_text, shown, value_text};
+ghost use Rattle.alma_back.specs.Session.{ahead, behind, after_line, line_text, lines_text, value_text};
 
 use crate::back::Back;
 use crate::script::Line;
@@ -113,9 +113,9 @@ pub fn show_lines<O: Sink>(
     requires fresh { back.old.steps ≡ 0 }
     requires few { length lines.now * greatest_steps < 2 ^ 39 }
     ensures ok { OnOk result (Appends (O.side out.old).written (O.side out.new).written
-        (shown back.old (lines_of lines.now))) }
+        (lines_text back.old (lines_of lines.now))) }
     ensures front { OnErr result (AppendsFront (O.side out.old).written (O.side out.new).written
-        (shown back.old (lines_of lines.now))) }
+        (lines_text back.old (lines_of lines.now))) }
     ensures cause { StopsAt (O.side out.old).faults (O.side out.new).faults result }
 {
     let mut text = Vec::new(alloc);

@@ -8,7 +8,7 @@ ghost use Rattle.alma_verify.specs.Verified.{code_of_verified};
 ghost use Rattle.alma_plan.specs.Course.{Follows, Goes};
 ghost use Rattle.alma_plan.specs.Objects.{object_refusal};
 ghost use Rattle.alma_plan.specs.Plan.{Reads, prints, IsDue, plain};
-ghost use Rattle.alma_back.specs.Due.{program, judged, walked, walked_on, script_limit};
+ghost use Rattle.alma_back.specs.Due.{program, verify_plan, walk_plan, walked_on, script_limit};
 ghost use Rattle.alma_back.specs.Ends.{back_end};
 ghost use Rattle.alma_back.specs.Inner.{lines_of, IsShort};
 ghost use Rattle.alma_back.specs.Script.{greatest_steps};
@@ -101,7 +101,7 @@ fn walk_object<I: Source, O: Sink>(
     requires short { All IsShort lines.now }
     requires few { length lines.now * greatest_steps < 2 ^ 39 }
     ensures { (files : FilesSide) → Follows plain program
-        (walked (object_refusal program object.now) (object_code object.now) (lines_of lines.now))
+        (walk_plan (object_refusal program object.now) (object_code object.now) (lines_of lines.now))
         files files (I.side input.old) (I.side input.new) (O.side out.old) (O.side out.new)
         (back_end result) }
 {
@@ -120,7 +120,7 @@ pub fn judge<I: Source, O: Sink>(
     out: &mut O,
 ) -> BackEnd
     requires { length script.now ≤ script_limit }
-    ensures { (files : FilesSide) → Follows plain program (judged object.now script.now) files files
+    ensures { (files : FilesSide) → Follows plain program (verify_plan object.now script.now) files files
         (I.side input.old) (I.side input.new) (O.side out.old) (O.side out.new) (back_end result) }
 {
     match read_lines(alloc, script) {

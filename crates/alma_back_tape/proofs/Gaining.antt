@@ -15,8 +15,8 @@ use Rattle.alma_back_tape.specs.declared.change.Note.{Note}
 use Rattle.alma_back_tape.specs.declared.change.Entry.{Entry}
 use Rattle.alma_back_tape.specs.declared.change.Change.{Change as Made}
 use Rattle.alma_back_tape.specs.declared.change.Change.TheVariants.{Kept}
-use Rattle.alma_back_tape.specs.Inner.Gained.{Gained}
-use Rattle.alma_back_tape.specs.Inner.Keeping.{entry_with_changes, entries_with_changes, gained}
+use Rattle.alma_back_tape.specs.Inner.PlainGain.{PlainGain}
+use Rattle.alma_back_tape.specs.Inner.Keeping.{entry_with_changes, entries_with_changes, gain_of}
 use Rattle.alma_back_tape.specs.Inner.Reel.{Reel, entry_of, held_of, unwind, front, last_or, no_entry, no_gain, entries_without}
 use Rattle.alma_back_tape.specs.Inner.Reel.{without_gain}
 use Rattle.alma_back_tape.specs.Inner.Past.{IsGood, Rises, all_finishes, finishes}
@@ -51,14 +51,14 @@ lost places cs rising =
 
 -- the entries before one of them gained
 pub entries_lost : (at : ℕ) (places : List (SlotPlace × Cell)) (es : List Entry) → at < length es → IsRising (get_or es at no_entry).carry →
-    entries_without (gained at places es) (entries_with_changes at (carry_of_entries places) es) ≡ es
+    entries_without (gain_of at places es) (entries_with_changes at (carry_of_entries places) es) ≡ es
 entries_lost at places es lt rising =
     let e : Entry = get_or es at no_entry in
     let f : Entry = entry_with_changes e (carry_of_entries places) in
     let same : get_or (set es at f) at no_entry ≡ f = get_or-set_same es at f no_entry lt in
-    let back : without_gain (gained at places es) f ≡ e = ap (λ cs. record e { carry = cs }) (lost places e.carry rising) in
-    set-set es at f (without_gain (gained at places es) (get_or (set es at f) at no_entry))
-    ∙ (ap (λ x. set es at (without_gain (gained at places es) x)) same ∙ (ap (set es at) back ∙ set-get_or es at no_entry))
+    let back : without_gain (gain_of at places es) f ≡ e = ap (λ cs. record e { carry = cs }) (lost places e.carry rising) in
+    set-set es at f (without_gain (gain_of at places es) (get_or (set es at f) at no_entry))
+    ∙ (ap (λ x. set es at (without_gain (gain_of at places es) x)) same ∙ (ap (set es at) back ∙ set-get_or es at no_entry))
 
 -- a carry that gains
 pub kept_one : (cs cs' : List Made) (r r' : Reel) (at : ℕ) (places : List (SlotPlace × Cell)) → IsGood (reverse cs) r
@@ -66,13 +66,13 @@ pub kept_one : (cs cs' : List Made) (r r' : Reel) (at : ℕ) (places : List (Slo
     → at < length r.entries → IsRising (get_or r.entries at no_entry).carry
     → r' ≡ record r {
       entries = entries_with_changes at (carry_of_entries places) r.entries;
-      kept = r.kept ++ gained at places r.entries ∷ [];
+      kept = r.kept ++ gain_of at places r.entries ∷ [];
     } → Moves cs cs' r r'
 kept_one cs cs' r r' at places good changes lt rising same =
     let old = good_wound (reverse cs) r good in
     let e : Entry = get_or r.entries at no_entry in
     let f : Entry = entry_with_changes e (carry_of_entries places) in
-    let g : Gained = gained at places r.entries in
+    let g : PlainGain = gain_of at places r.entries in
     let s : Reel = record r { entries = set r.entries at f; kept = r.kept ++ g ∷ [] } in
     let last : last_or s.kept no_gain ≡ g = last-push r.kept g no_gain in
     let wide : length s.entries ≡ length r.entries = length-set r.entries at f in
@@ -81,8 +81,8 @@ kept_one cs cs' r r' at places good changes lt rising same =
     let moves : Moves cs cs' r s = moved cs cs' r s Kept tt changes
     (record { fits = old.fits; rises = rises_set 0 (length r.trail) r.entries at f no_entry refl old.rises }) (
       omega (arith, length_push r.kept g),
-      subst (λ (x : Gained). x.at < length s.entries) (sym last) here,
-      subst (λ (x : Gained). length x.had ≤ length x.places) (sym last) few,
+      subst (λ (x : PlainGain). x.at < length s.entries) (sym last) here,
+      subst (λ (x : PlainGain). length x.had ≤ length x.places) (sym last) few,
     )
     (same_reel refl refl (ap (λ x. entries_without x s.entries) last ∙ entries_lost at places r.entries lt rising) refl refl
     (front-push r.kept g)) good in

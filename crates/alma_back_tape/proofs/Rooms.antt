@@ -6,14 +6,14 @@ use Rattle.alma_code.specs.declared.cell.ChoiceKind.TheVariants.{Branch, Forall,
 use Rattle.alma_back_tape.specs.declared.change.Entry.{Entry}
 use Rattle.alma_code.specs.Picture.{PlainFrame}
 use Rattle.alma_back_tape.specs.declared.change.Note.{Note}
-use Rattle.alma_back_tape.specs.Inner.Gained.{Gained}
+use Rattle.alma_back_tape.specs.Inner.PlainGain.{PlainGain}
 use Rattle.alma_back_tape.specs.Inner.Reel.{Reel}
 use Rattle.alma_back_tape.specs.Inner.Past.{finishes, all_finishes, HasRooms}
 use Rattle.alma_back_tape.specs.declared.journal.Journal.{Journal}
 use Rattle.alma_back_tape.specs.declared.change.Change.TheVariants.{Pushed}
 
 -- a reel by its parts
-abbrev pub reel : List PlainFrame → List Note → List Entry → List Note → List Entry → List Gained → Reel
+abbrev pub reel : List PlainFrame → List Note → List Entry → List Note → List Entry → List PlainGain → Reel
 reel frames trail entries redo dropped kept =
     record { frames = frames; trail = trail; entries = entries; redo = redo; dropped = dropped; kept = kept }
 
@@ -56,7 +56,8 @@ pushed_rooms j j' e rooms some trail redo dropped choice room entries changes wi
     }
 
 -- reels with the same parts are the same
-pub same_reel : {f f' : List PlainFrame} {t t' : List Note} {e e' : List Entry} {r r' : List Note} {d d' : List Entry} {k k' : List Gained}
+pub same_reel : {f f' : List PlainFrame} {t t' : List Note} {e e' : List Entry} {r r' : List Note} {d d' : List Entry}
+    {k k' : List PlainGain}
     → f ≡ f' → t ≡ t' → e ≡ e' → r ≡ r' → d ≡ d' → k ≡ k' → reel f t e r d k ≡ reel f' t' e' r' d' k'
 same_reel {f} {f'} {t} {t'} {e} {e'} {r} {r'} {d} {d'} {k} {k'} a b c x y z =
     ap (λ q. reel q t e r d k) a ∙ ap (λ q. reel f' q e r d k) b ∙ ap (λ q. reel f' t' q r d k) c ∙ ap (λ q. reel f' t' e' q d k) x

@@ -31,9 +31,9 @@ pub struct Gain {
 }
 
 impl Model for Gain {
-    ghost use Rattle.alma_back_tape.specs.Inner.Gained.{Gained};
+    ghost use Rattle.alma_back_tape.specs.Inner.PlainGain.{PlainGain};
 
-    ghost Value = { Gained };
+    ghost Value = { PlainGain };
 
     ghost view = { λ g. record {
       at = g.at;

@@ -3,7 +3,7 @@ ghost use Rattle.std.specs.Prelude.{◌≡◌, ◌<◌, ◌≤◌, length, drop,
 ghost use Rattle.alma_code.specs.Carries.{diffs, held_after_keep};
 ghost use Rattle.alma_memory_store.specs.Carries.{IsRising, carry_of_entries};
 ghost use Rattle.alma_memory_store.specs.Past.{SameGain};
-ghost use Rattle.alma_back_tape.specs.Inner.Keeping.{entries_with_changes, gained};
+ghost use Rattle.alma_back_tape.specs.Inner.Keeping.{entries_with_changes, gain_of};
 ghost use Rattle.alma_back_tape.specs.Inner.Past.{Fits, HasRooms, IsTape, Rests, picture_of, scenes};
 ghost use Rattle.alma_back_tape.specs.Inner.Reel.{entries_without, no_entry, unwind};
 
@@ -44,7 +44,7 @@ fn gain(
     ensures items { entries.new.items ≡ (if is_ok result
         then entries_with_changes at (carry_of_entries places.items) entries.old.items
         else entries.old.items) }
-    ensures gain { IfOk result (λ gain. gain ≡ gained at places.items entries.old.items) }
+    ensures gain { IfOk result (λ gain. gain ≡ gain_of at places.items entries.old.items) }
     ensures rising { OnOk result
         (IsRising (slice_index_or entries.old.items at no_entry).carry) }
     ensures len { vec_len entries.new ≡ vec_len entries.old }

@@ -1,7 +1,7 @@
 -- What is told of a constant.
 use Rattle.std.proofs.Common.{◌≡◌, ℕ, List, [], Option, None, Some, Result, Ok, Err, refl, ap, ◌∙◌}
 use Rattle.std.specs.Prelude.{option_map, IfOk}
-use Rattle.alma_rules.specs.Judged.{Broken, Judged}
+use Rattle.alma_rules.specs.Judgement.{BrokenRule, Judgement}
 use Rattle.alma_rules.specs.Numbered as tree
 use Rattle.alma_rules.specs.Scene.{Scene, in_constant}
 use Rattle.alma_rules.specs.Parts.{Typing}
@@ -19,15 +19,15 @@ pub constant_fine : (a s : Scene) (e : tree.Expr) (n : ℕ) (v : Option Typing) 
     → told (reading_with bound_of (read_constant s e)) ≡ a_told None s (option_map bound_of v)
 constant_fine a s e n v same h = rw (← same, h) refl
 
-constant_lost : (s : Scene) (j : Judged Typing) (b : Broken) → Whole j.faults j.value → first j.faults ≡ Some b
+constant_lost : (s : Scene) (j : Judgement Typing) (b : BrokenRule) → Whole j.faults j.value → first j.faults ≡ Some b
     → a_told (first j.faults) s (option_map bound_of j.value) ≡ a_told (Some b) s None
 constant_lost s j b p h = told_as _ _ s _ _ h (go j.faults j.value p h)
   where
-    go : (a : List Broken) (v : Option Typing) → Whole a v → first a ≡ Some b → option_map bound_of v ≡ None
+    go : (a : List BrokenRule) (v : Option Typing) → Whole a v → first a ≡ Some b → option_map bound_of v ≡ None
     go a None p h = refl
     go a (Some x) p h = absurd (let e : first a ≡ None = ap first (whole_gives a (Some x) p tt) in cc)
 
-pub constant_stops : (a s : Scene) (e : tree.Expr) (b : Broken) → a ≡ s → first (judge_expr (in_constant a) 0 e).faults ≡ Some b
+pub constant_stops : (a s : Scene) (e : tree.Expr) (b : BrokenRule) → a ≡ s → first (judge_expr (in_constant a) 0 e).faults ≡ Some b
     → told (reading_with bound_of (read_constant s e)) ≡ a_told (Some b) s None
 constant_stops a s e b same h = rw (← same) (constant_lost a (judge_expr (in_constant a) 0 e) b (expr_whole (in_constant a) 0 e) h)
 

@@ -19,7 +19,7 @@ use Rattle.alma_names.specs.declared.block.Entry.TheVariants as entry
 use Rattle.alma_names.specs.Blocks.{shape_id}
 use Rattle.alma_rules.specs.Numbered as tree
 use Rattle.alma_rules.specs.View as view
-use Rattle.alma_rules.specs.Judged.{Broken, broken_at}
+use Rattle.alma_rules.specs.Judgement.{BrokenRule, broken_at}
 use Rattle.alma_rules.specs.Answers.{first}
 use Rattle.alma_rules.specs.Scene.{Scene, cells, is_first, is_structured}
 use Rattle.alma_rules.specs.Types as types
@@ -32,60 +32,63 @@ use Rattle.alma_check_type.specs.declared.reading.Reading.{Reading as CodeReadin
 use Rattle.alma_check_type.specs.Told.{Told, told, tells, fault_of}
 use Rattle.alma_check_block.specs.declared.frame.Frame.{Frame}
 use Rattle.alma_check_block.proofs.Texts.{ok_eq}
-use Rattle.alma_check_block.specs.Shown.{ToldFrame, told_frame, shown, formals_view, param_shaped}
+use Rattle.alma_check_block.specs.Shown.{ToldFrame, told_frame, frame_with_scene, formals_view, param_shaped}
 
 -- the same with another scene
 abbrev pub moved : ToldFrame → Scene → ToldFrame
 moved u s = record u { scene = s }
 
-pub scene_is : (s : Scene) (x : Frame) (f : rules.Frame) → shown s x ≡ told_frame f → s ≡ f.scene
+pub scene_is : (s : Scene) (x : Frame) (f : rules.Frame) → frame_with_scene s x ≡ told_frame f → s ≡ f.scene
 scene_is s x f h = ap (λ (u : ToldFrame). u.scene) h
 
-pub at_scene : (s : Scene) (x : Frame) (f : rules.Frame) → shown s x ≡ told_frame f → shown f.scene x ≡ told_frame f
+pub at_scene : (s : Scene) (x : Frame) (f : rules.Frame) → frame_with_scene s x ≡ told_frame f → frame_with_scene f.scene x ≡ told_frame f
 at_scene s x f h = ap (λ u. moved u f.scene) h
 
 -- a name in front of what it stands for
-pub entered_by : (s t : Scene) (x : Frame) (f : rules.Frame) (name : tree.Name) (from : ℕ) (faults : List Broken) (e : Entry)
-    → shown f.scene x ≡ told_frame (rules.with_faults (rules.with_faults f (broken_at name.node (types.redeclared s name))) faults)
-    → t ≡ types.declared s name from e → shown t x ≡ told_frame (rules.entered f name from faults s e)
+pub entered_by : (s t : Scene) (x : Frame) (f : rules.Frame) (name : tree.Name) (from : ℕ) (faults : List BrokenRule) (e : Entry)
+    → frame_with_scene f.scene x ≡ told_frame
+    (rules.with_faults (rules.with_faults f (broken_at name.node (types.redeclaration_rules s name))) faults)
+    → t ≡ types.declare_name s name from e → frame_with_scene t x ≡ told_frame (rules.enter f name from faults s e)
 entered_by s t x f name from faults e h d =
     ap (λ u. moved u t) h
-    ∙ ap (λ i. moved (told_frame (rules.with_faults (rules.with_faults f (broken_at name.node (types.redeclared s name))) faults)) i) d
+    ∙ ap (λ i. moved (told_frame (rules.with_faults (rules.with_faults f (broken_at name.node (types.redeclaration_rules s name))) faults))
+    i) d
 
 -- a name whose type is Bad
 pub bad_entered : (s : Scene) (f : rules.Frame) (from : ℕ) (name : tree.Name) → s ≡ f.scene
-    → told_frame (rules.entered f name from [] s entry.Bad) ≡ told_frame (rules.variable_in f from None name)
+    → told_frame (rules.enter f name from [] s entry.Bad) ≡ told_frame (rules.variable_in f from None name)
 bad_entered s f from name e =
-    ap (λ i. told_frame (rules.entered f name from [] i entry.Bad)) e
-    ∙ ap (λ xs. told_frame (let g : rules.Frame = record f { faults = xs; scene = types.declared f.scene name from entry.Bad } in g))
-    (append-nil (f.faults ++ broken_at name.node (types.redeclared f.scene name)))
+    ap (λ i. told_frame (rules.enter f name from [] i entry.Bad)) e
+    ∙ ap (λ xs. told_frame (let g : rules.Frame = record f { faults = xs; scene = types.declare_name f.scene name from entry.Bad } in g))
+    (append-nil (f.faults ++ broken_at name.node (types.redeclaration_rules f.scene name)))
 
 -- ---- the limit
 
 -- a name that does not fit, with the scene behind it
 pub refused : (s t : Scene) (x : Frame) (f : rules.Frame) (name : tree.Name)
-    → shown s x ≡ told_frame (rules.with_faults f (broken_at name.node (fault.TooLarge ∷ [])))
-    → shown t x ≡ told_frame (rules.too_large f name t)
+    → frame_with_scene s x ≡ told_frame (rules.with_faults f (broken_at name.node (fault.TooLarge ∷ [])))
+    → frame_with_scene t x ≡ told_frame (rules.too_large f name t)
 refused s t x f name h = ap (λ u. moved u t) h
 
 -- a frame with one more that fits
 pub let_in : {E : Type 0} (r : Result (Unit {0}) E) (u : ToldFrame) (b : Bool) (n : ℕ) (name : tree.Name) (f g : rules.Frame)
-    → b ≡ nat_le n cell_limit → b ≡ true → n ≡ g.declared → OnOk r (u ≡ told_frame g) → OnOk r (u ≡ told_frame (rules.limited name f g))
+    → b ≡ nat_le n cell_limit → b ≡ true → n ≡ g.declared → OnOk r (u ≡ told_frame g)
+    → OnOk r (u ≡ told_frame (rules.within_limit name f g))
 let_in r u b n name f g is h e k =
-    ok_eq r u (told_frame g) (told_frame (rules.limited name f g))
+    ok_eq r u (told_frame g) (told_frame (rules.within_limit name f g))
     (ap (λ x. told_frame x) (sym (limited_here name f g (ap (λ m. nat_le m cell_limit) (sym e) ∙ (sym is ∙ h))))) k
 
 -- a frame without one that does not
 pub left_out : {E : Type 0} (r : Result (Unit {0}) E) (t : Scene) (x : Frame) (b : Bool) (n : ℕ) (name : tree.Name) (f g : rules.Frame)
-    → ((u : Scene) → shown u x ≡ told_frame (rules.too_large f name u)) → b ≡ nat_le n cell_limit → b ≡ false → n ≡ g.declared
-    → OnOk r (t ≡ g.scene) → OnOk r (shown t x ≡ told_frame (rules.limited name f g))
+    → ((u : Scene) → frame_with_scene u x ≡ told_frame (rules.too_large f name u)) → b ≡ nat_le n cell_limit → b ≡ false → n ≡ g.declared
+    → OnOk r (t ≡ g.scene) → OnOk r (frame_with_scene t x ≡ told_frame (rules.within_limit name f g))
 left_out (Ok u) t x b n name f g k is h e q =
     k t ∙ (ap (λ i. told_frame (rules.too_large f name i)) q
     ∙ ap (λ y. told_frame y) (sym (limited_out name f g (ap (λ m. nat_le m cell_limit) (sym e) ∙ (sym is ∙ h)))))
 left_out (Err u) t x b n name f g k is h e q = tt
 
 -- the declared cells with so many more of a shape
-pub more_cells : (F : ℕ → ℕ) (s : Scene) (x : Frame) (f : rules.Frame) (env : Env) (n shape : ℕ) → shown s x ≡ told_frame f
+pub more_cells : (F : ℕ → ℕ) (s : Scene) (x : Frame) (f : rules.Frame) (env : Env) (n shape : ℕ) → frame_with_scene s x ≡ told_frame f
     → scene_of env somewhere ≡ s → n ≡ F (cells (scene_of env somewhere) shape) → x.declared + n ≡ f.declared + F (cells f.scene shape)
 more_cells F s x f env n shape h e k =
     ap (λ (u : ToldFrame). u.declared + n) h
@@ -94,75 +97,77 @@ more_cells F s x f env n shape h e k =
 -- ---- variables
 
 pub variable_first : (f : rules.Frame) (from : ℕ) (shape : ℕ) (name : tree.Name) → is_first f.scene name ≡ true
-    → rules.variable_in f from (Some shape) name ≡ rules.limited name f (rules.with_variable f name from shape)
+    → rules.variable_in f from (Some shape) name ≡ rules.within_limit name f (rules.with_variable f name from shape)
 variable_first f from shape name h = go (is_first f.scene name) h
   where
-    go : (b : Bool) → b ≡ true → if_true b (λ u. rules.limited name f (rules.with_variable f name from shape))
-        (λ u. rules.with_faults f (broken_at name.node (types.redeclared f.scene name)))
-        ≡ rules.limited name f (rules.with_variable f name from shape)
+    go : (b : Bool) → b ≡ true → if_true b (λ u. rules.within_limit name f (rules.with_variable f name from shape))
+        (λ u. rules.with_faults f (broken_at name.node (types.redeclaration_rules f.scene name)))
+        ≡ rules.within_limit name f (rules.with_variable f name from shape)
     go true e = refl
     go false e = absurd (true≢false (sym e))
 
 pub variable_later : (f : rules.Frame) (from : ℕ) (shape : ℕ) (name : tree.Name) → is_first f.scene name ≡ false
-    → rules.variable_in f from (Some shape) name ≡ rules.with_faults f (broken_at name.node (types.redeclared f.scene name))
+    → rules.variable_in f from (Some shape) name ≡ rules.with_faults f (broken_at name.node (types.redeclaration_rules f.scene name))
 variable_later f from shape name h = go (is_first f.scene name) h
   where
-    go : (b : Bool) → b ≡ false → if_true b (λ u. rules.limited name f (rules.with_variable f name from shape))
-        (λ u. rules.with_faults f (broken_at name.node (types.redeclared f.scene name)))
-        ≡ rules.with_faults f (broken_at name.node (types.redeclared f.scene name))
+    go : (b : Bool) → b ≡ false → if_true b (λ u. rules.within_limit name f (rules.with_variable f name from shape))
+        (λ u. rules.with_faults f (broken_at name.node (types.redeclaration_rules f.scene name)))
+        ≡ rules.with_faults f (broken_at name.node (types.redeclaration_rules f.scene name))
     go true e = absurd (true≢false e)
     go false e = refl
 
 -- the scene behind a variable
-pub variable_scene : (s : Scene) (x : Frame) (f : rules.Frame) (name : tree.Name) (from shape : ℕ) (a : Access) → shown s x ≡ told_frame f
+pub variable_scene : (s : Scene) (x : Frame) (f : rules.Frame) (name : tree.Name) (from shape : ℕ) (a : Access)
+    → frame_with_scene s x ≡ told_frame f
     → a ≡ rules.variable_access s x.slots
-    → types.declared s name from (entry.Variable (shape_id shape) a) ≡ (rules.with_variable f name from shape).scene
+    → types.declare_name s name from (entry.Variable (shape_id shape) a) ≡ (rules.with_variable f name from shape).scene
 variable_scene s x f name from shape a h k =
-    ap (λ i. types.declared s name from (entry.Variable (shape_id shape) i)) k
-    ∙ (ap (λ (u : ToldFrame). types.declared s name from (entry.Variable (shape_id shape) (rules.variable_access s u.slots))) h
-    ∙ ap (λ i. types.declared i name from (entry.Variable (shape_id shape) (rules.variable_access i f.slots))) (scene_is s x f h))
+    ap (λ i. types.declare_name s name from (entry.Variable (shape_id shape) i)) k
+    ∙ (ap (λ (u : ToldFrame). types.declare_name s name from (entry.Variable (shape_id shape) (rules.variable_access s u.slots))) h
+    ∙ ap (λ i. types.declare_name i name from (entry.Variable (shape_id shape) (rules.variable_access i f.slots))) (scene_is s x f h))
 
 -- ---- parameters
 
 -- the scene behind a parameter
 pub param_scene : (s : Scene) (x : Frame) (f : rules.Frame) (name : tree.Name) (from : ℕ) (mode : Option Mode) (shape : ℕ) (a : Access)
-    → shown s x ≡ told_frame f → a ≡ rules.param_access mode x.slots
-    → types.declared s name from (entry.Variable (shape_id shape) a) ≡ types.declared f.scene name from
+    → frame_with_scene s x ≡ told_frame f → a ≡ rules.param_access mode x.slots
+    → types.declare_name s name from (entry.Variable (shape_id shape) a) ≡ types.declare_name f.scene name from
     (entry.Variable (shape_id shape) (rules.param_access mode f.slots))
 param_scene s x f name from mode shape a h k =
-    ap (λ i. types.declared s name from (entry.Variable (shape_id shape) i)) k
-    ∙ (ap (λ (u : ToldFrame). types.declared s name from (entry.Variable (shape_id shape) (rules.param_access mode u.slots))) h
-    ∙ ap (λ i. types.declared i name from (entry.Variable (shape_id shape) (rules.param_access mode f.slots))) (scene_is s x f h))
+    ap (λ i. types.declare_name s name from (entry.Variable (shape_id shape) i)) k
+    ∙ (ap (λ (u : ToldFrame). types.declare_name s name from (entry.Variable (shape_id shape) (rules.param_access mode u.slots))) h
+    ∙ ap (λ i. types.declare_name i name from (entry.Variable (shape_id shape) (rules.param_access mode f.slots))) (scene_is s x f h))
 
 pub param_first : (f : rules.Frame) (from : ℕ) (mode : Option Mode) (shape : ℕ) (name : tree.Name) → is_first f.scene name ≡ true
-    → param_shaped f from mode shape name ≡ rules.limited name f
+    → param_shaped f from mode shape name ≡ rules.within_limit name f
     (rules.with_param f name from mode shape (rules.param_kind (is_structured f.scene shape) mode))
 param_first f from mode shape name h = go (is_first f.scene name) h
   where
     go : (b : Bool) → b ≡ true
-        → if_true b (λ u. rules.limited name f (rules.with_param f name from mode shape
+        → if_true b (λ u. rules.within_limit name f (rules.with_param f name from mode shape
         (rules.param_kind (is_structured f.scene shape) mode)))
-        (λ u. rules.with_faults f (broken_at name.node (types.redeclared f.scene name)))
-        ≡ rules.limited name f (rules.with_param f name from mode shape (rules.param_kind (is_structured f.scene shape) mode))
+        (λ u. rules.with_faults f (broken_at name.node (types.redeclaration_rules f.scene name)))
+        ≡ rules.within_limit name f (rules.with_param f name from mode shape (rules.param_kind (is_structured f.scene shape) mode))
     go true e = refl
     go false e = absurd (true≢false (sym e))
 
 pub param_later : (f : rules.Frame) (from : ℕ) (mode : Option Mode) (shape : ℕ) (name : tree.Name) → is_first f.scene name ≡ false
-    → param_shaped f from mode shape name ≡ rules.with_faults f (broken_at name.node (types.redeclared f.scene name))
+    → param_shaped f from mode shape name ≡ rules.with_faults f (broken_at name.node (types.redeclaration_rules f.scene name))
 param_later f from mode shape name h = go (is_first f.scene name) h
   where
     go : (b : Bool) → b ≡ false
-        → if_true b (λ u. rules.limited name f (rules.with_param f name from mode shape
+        → if_true b (λ u. rules.within_limit name f (rules.with_param f name from mode shape
         (rules.param_kind (is_structured f.scene shape) mode)))
-        (λ u. rules.with_faults f (broken_at name.node (types.redeclared f.scene name)))
-        ≡ rules.with_faults f (broken_at name.node (types.redeclared f.scene name))
+        (λ u. rules.with_faults f (broken_at name.node (types.redeclaration_rules f.scene name)))
+        ≡ rules.with_faults f (broken_at name.node (types.redeclaration_rules f.scene name))
     go true e = absurd (true≢false e)
     go false e = refl
 
 -- one more formal
 pub formal_pushed : (s : Scene) (x : Frame) (v : Vec (Option CodeFormal) Global) (o : Option CodeFormal) (g : rules.Frame)
-    → shown s x ≡ told_frame g
-    → v.items ≡ x.formals.items ++ o ∷ [] → shown s (record x { formals = v }) ≡ told_frame (rules.with_formal g (option_map formal_view o))
+    → frame_with_scene s x ≡ told_frame g
+    → v.items ≡ x.formals.items ++ o ∷ [] → frame_with_scene s (record x { formals = v }) ≡ told_frame
+    (rules.with_formal g (option_map formal_view o))
 formal_pushed s x v o g h e =
     let all : formals_view v.items ≡ g.formals ++ option_map formal_view o ∷ [] =
     ap (λ xs. formals_view xs) e ∙ map-append (λ z. option_map formal_view z) x.formals.items (o ∷ [])
@@ -178,9 +183,9 @@ scene_in F s t u e h = ap F (sym e) ∙ h
 pub read_in : (F : Scene → Told ℕ) (v : CodeReading ℕ) (a s : Scene) → a ≡ s → F a ≡ tells v a → F s ≡ tells v s
 read_in F v a s e h = subst (λ i. F i ≡ tells v i) e h
 
-pub read_moves : (s t : Scene) (x : Frame) (f : rules.Frame) (r : types.Reading ℕ) (v : CodeReading ℕ) → shown s x ≡ told_frame f
+pub read_moves : (s t : Scene) (x : Frame) (f : rules.Frame) (r : types.Reading ℕ) (v : CodeReading ℕ) → frame_with_scene s x ≡ told_frame f
     → told r ≡ tells v t
-    → shown t x ≡ told_frame (rules.with_scene f r.scene)
+    → frame_with_scene t x ≡ told_frame (rules.with_scene f r.scene)
 read_moves s t x f r v h k = ap (λ u. moved u t) h ∙ ap (λ i. moved (told_frame f) i) (sym (ap (λ (u : Told ℕ). u.scene) k))
 
 pub read_fault : (r : types.Reading ℕ) (v : CodeReading ℕ) (t : Scene) → told r ≡ tells v t → fault_of v.fault ≡ first r.faults
@@ -189,9 +194,10 @@ read_fault r v t k = sym (ap (λ (u : Told ℕ). u.fault) k)
 pub read_value : (r : types.Reading ℕ) (v : CodeReading ℕ) (t : Scene) → told r ≡ tells v t → v.value ≡ r.value
 read_value r v t k = sym (ap (λ (u : Told ℕ). u.value) k)
 
-pub twice_at : (s t : Scene) (name : tree.Name) (b : Option Broken) → s ≡ t → b ≡ first (broken_at name.node (types.redeclared s name))
-    → b ≡ first (broken_at name.node (types.redeclared t name))
-twice_at s t name b e h = h ∙ ap (λ i. first (broken_at name.node (types.redeclared i name))) e
+pub twice_at : (s t : Scene) (name : tree.Name) (b : Option BrokenRule) → s ≡ t
+    → b ≡ first (broken_at name.node (types.redeclaration_rules s name))
+    → b ≡ first (broken_at name.node (types.redeclaration_rules t name))
+twice_at s t name b e h = h ∙ ap (λ i. first (broken_at name.node (types.redeclaration_rules i name))) e
 
 -- ---- one more entry
 

@@ -4,17 +4,17 @@ use Rattle.std.proofs.Common.{sym, ap, ◌∙◌, append_assoc, append-nil, Vec,
 use Rattle.std.specs.Prelude.{option_map, is_some, IfOk, OnOk}
 use Rattle.std.proofs.lemmas.List.{drop_all, map-append, get_or_default}
 use Rattle.alma_base.specs.declared.fault.CheckFault.{CheckFault}
-use Rattle.alma_rules.specs.Judged.{Broken, broken_at, unbroken}
+use Rattle.alma_rules.specs.Judgement.{BrokenRule, broken_at, if_unbroken}
 use Rattle.alma_rules.specs.Answers.{first}
 use Rattle.alma_rules.specs.Scene.{Scene, Heading, FormalOf, nothing, a_value}
 use Rattle.alma_rules.specs.Decls as rules
 use Rattle.alma_rules.proofs.Exprs.{next_of}
 use Rattle.alma_check_rules.specs.declared.env.Formal.{Formal}
 use Rattle.alma_check_rules.specs.Views.{formal_view}
-use Rattle.alma_check_type.specs.declared.reading.Broken.{Broken as CodeBroken}
+use Rattle.alma_check_type.specs.declared.reading.BrokenRule.{BrokenRule as CodeBroken}
 use Rattle.alma_check_type.specs.Told.{fault_of}
 use Rattle.alma_check_block.specs.declared.frame.Frame.{Frame}
-use Rattle.alma_check_block.specs.Shown.{ToldFrame, told_frame, shown, formals_view, formals_in}
+use Rattle.alma_check_block.specs.Shown.{ToldFrame, told_frame, frame_with_scene, formals_view, formals_in}
 use Rattle.alma_check_block.proofs.Frames.{moved}
 
 -- ---- all formals
@@ -66,31 +66,31 @@ formal_is all i lt = get_or_default all i None (formal_at all i) lt
 
 -- ---- the heading of a frame
 
-pub broken_lost : {A : Type 0} (b : Option CodeBroken) (xs : List Broken) (v : Option A) → fault_of b ≡ first xs → is_some b ≡ true
-    → unbroken xs v ≡ None
+pub broken_lost : {A : Type 0} (b : Option CodeBroken) (xs : List BrokenRule) (v : Option A) → fault_of b ≡ first xs → is_some b ≡ true
+    → if_unbroken xs v ≡ None
 broken_lost None xs v h e = absurd (true≢false (sym e))
 broken_lost (Some b) [] v h e = absurd (cc)
 broken_lost (Some b) (x ∷ xs) v h e = refl
 
-pub unbroken_kept : {A : Type 0} (b : Option CodeBroken) (xs : List Broken) (v : Option A) → fault_of b ≡ first xs → is_some b ≡ false
-    → unbroken xs v ≡ v
+pub unbroken_kept : {A : Type 0} (b : Option CodeBroken) (xs : List BrokenRule) (v : Option A) → fault_of b ≡ first xs → is_some b ≡ false
+    → if_unbroken xs v ≡ v
 unbroken_kept (Some b) xs v h e = absurd (true≢false e)
 unbroken_kept None [] v h e = refl
 unbroken_kept None (x ∷ xs) v h e = absurd (cc)
 
-module _ (s : Scene) (x : Frame) (f : rules.Frame) (h : shown s x ≡ told_frame f) where
+module _ (s : Scene) (x : Frame) (f : rules.Frame) (h : frame_with_scene s x ≡ told_frame f) where
   fault_is : fault_of x.fault ≡ first f.faults
   fault_is = ap (λ (u : ToldFrame). u.fault) h
 
   pub heading_broken : (returns : Option ℕ) → is_some x.fault ≡ true
-      → None ≡ unbroken f.faults (option_map (rules.heading_with f returns) (rules.all_formals f.formals))
+      → None ≡ if_unbroken f.faults (option_map (rules.heading_with f returns) (rules.all_formals f.formals))
   heading_broken returns e = sym (broken_lost x.fault f.faults (option_map (rules.heading_with f returns) (rules.all_formals f.formals))
       fault_is e)
 
   pub heading_is : (returns : Option ℕ) (v : Option (Vec Formal Global)) → is_some x.fault ≡ false
       → formals_in v ≡ rules.all_formals (formals_view x.formals.items)
       → option_map (λ ys. let g : Heading = record { formals = ys; result = returns; params = x.params.items } in g) (formals_in v)
-      ≡ unbroken f.faults (option_map (rules.heading_with f returns) (rules.all_formals f.formals))
+      ≡ if_unbroken f.faults (option_map (rules.heading_with f returns) (rules.all_formals f.formals))
   heading_is returns v e k =
       ap (λ p. option_map (λ ys. let g : Heading = record { formals = ys; result = returns; params = p } in g) (formals_in v))
       (ap (λ (u : ToldFrame). u.params) h)
@@ -99,27 +99,28 @@ module _ (s : Scene) (x : Frame) (f : rules.Frame) (h : shown s x ≡ told_frame
 
 -- ---- the result type
 
-pub function_frame : (s t : Scene) (x : Frame) (f : rules.Frame) (faults bs : List Broken) (v : Option ℕ)
-    → shown s x ≡ told_frame (rules.with_faults (rules.with_faults f faults) bs)
-    → t ≡ record s { returns = a_value v } → shown t x ≡ told_frame (rules.with_returns (rules.with_faults f (faults ++ bs)) (a_value v))
+pub function_frame : (s t : Scene) (x : Frame) (f : rules.Frame) (faults bs : List BrokenRule) (v : Option ℕ)
+    → frame_with_scene s x ≡ told_frame (rules.with_faults (rules.with_faults f faults) bs)
+    → t ≡ record s { returns = a_value v } → frame_with_scene t x ≡ told_frame
+    (rules.with_returns (rules.with_faults f (faults ++ bs)) (a_value v))
 function_frame s t x f faults bs v h d =
-    ap (λ i. shown i x) d
+    ap (λ i. frame_with_scene i x) d
     ∙ ap (λ (u : ToldFrame). moved u (let i : Scene = record u.scene { returns = a_value v } in i)) h
     ∙ ap (λ xs. told_frame (rules.with_returns (let g : rules.Frame = record f { faults = xs } in g) (a_value v)))
     (append_assoc f.faults faults bs)
 
-pub proper_frame : (s t : Scene) (x : Frame) (f : rules.Frame) → shown s x ≡ told_frame f → t ≡ record s { returns = nothing }
-    → shown t x ≡ told_frame (rules.with_returns f nothing)
-proper_frame s t x f h d = ap (λ i. shown i x) d
+pub proper_frame : (s t : Scene) (x : Frame) (f : rules.Frame) → frame_with_scene s x ≡ told_frame f → t ≡ record s { returns = nothing }
+    → frame_with_scene t x ≡ told_frame (rules.with_returns f nothing)
+proper_frame s t x f h d = ap (λ i. frame_with_scene i x) d
     ∙ ap (λ (u : ToldFrame). moved u (let i : Scene = record u.scene { returns = nothing } in i)) h
 
-pub faults_joined : (s : Scene) (x : Frame) (f : rules.Frame) (faults bs : List Broken)
-    → shown s x ≡ told_frame (rules.with_faults (rules.with_faults f faults) bs)
-    → shown s x ≡ told_frame (rules.with_faults f (faults ++ bs))
+pub faults_joined : (s : Scene) (x : Frame) (f : rules.Frame) (faults bs : List BrokenRule)
+    → frame_with_scene s x ≡ told_frame (rules.with_faults (rules.with_faults f faults) bs)
+    → frame_with_scene s x ≡ told_frame (rules.with_faults f (faults ++ bs))
 faults_joined s x f faults bs h = h ∙ ap (λ xs. told_frame (let g : rules.Frame = record f { faults = xs } in g))
     (append_assoc f.faults faults bs)
 
-pub result_at : (s t : Scene) (node : ℕ) (v w : Option ℕ) (b : Option Broken) → s ≡ t → v ≡ w
+pub result_at : (s t : Scene) (node : ℕ) (v w : Option ℕ) (b : Option BrokenRule) → s ≡ t → v ≡ w
     → b ≡ first (broken_at node (rules.result_rules s v)) → b ≡ first (broken_at node (rules.result_rules t w))
 result_at s t node v w b e k h = h ∙ ap (λ i. first (broken_at node (rules.result_rules i v))) e
     ∙ ap (λ o. first (broken_at node (rules.result_rules t o))) k
@@ -134,22 +135,22 @@ ok_to (Err x) f a b e h = tt
 
 -- ---- depth
 
-depth_none : (faults : List CheckFault) (node : ℕ) (h : rules.Headed) → None ≡ first (broken_at node faults)
+depth_none : (faults : List CheckFault) (node : ℕ) (h : rules.FramedHeading) → None ≡ first (broken_at node faults)
     → rules.with_depth faults node h ≡ h
 depth_none [] node h e = refl
 depth_none (x ∷ xs) node h e = absurd (cc)
 
-pub depth_kept : (faults : List CheckFault) (node : ℕ) (h : rules.Headed) (b : Option CodeBroken) → b ≡ None
+pub depth_kept : (faults : List CheckFault) (node : ℕ) (h : rules.FramedHeading) (b : Option CodeBroken) → b ≡ None
     → fault_of b ≡ first (broken_at node faults) → h ≡ rules.with_depth faults node h
 depth_kept faults node h b e k = sym (depth_none faults node h (sym (ap (λ o. fault_of o) e) ∙ k))
 
-pub depth_frame : (faults : List CheckFault) (node : ℕ) (h : rules.Headed) (b : CodeBroken)
+pub depth_frame : (faults : List CheckFault) (node : ℕ) (h : rules.FramedHeading) (b : CodeBroken)
     → fault_of (Some b) ≡ first (broken_at node faults)
     → told_frame (rules.with_faults h.frame (broken_at node faults)) ≡ told_frame (rules.with_depth faults node h).frame
 depth_frame [] node h b e = absurd (cc)
 depth_frame (x ∷ xs) node h b e = refl
 
-pub depth_heading : (faults : List CheckFault) (node : ℕ) (h : rules.Headed) (b : CodeBroken)
+pub depth_heading : (faults : List CheckFault) (node : ℕ) (h : rules.FramedHeading) (b : CodeBroken)
     → fault_of (Some b) ≡ first (broken_at node faults) → None ≡ (rules.with_depth faults node h).heading
 depth_heading [] node h b e = absurd (cc)
 depth_heading (x ∷ xs) node h b e = refl

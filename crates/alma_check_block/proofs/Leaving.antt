@@ -11,23 +11,23 @@ use Rattle.alma_names.specs.declared.block.Entry.TheVariants as entry
 use Rattle.alma_names.specs.Blocks.{shape_id}
 use Rattle.alma_names.specs.Scopes.{Blocks, with_declared, with_new_block, without_top_block}
 use Rattle.alma_rules.specs.Numbered as tree
-use Rattle.alma_rules.specs.Judged.{broken_at}
+use Rattle.alma_rules.specs.Judgement.{broken_at}
 use Rattle.alma_rules.specs.Scene.{Scene, Returns, nothing, Heading, is_first, is_structured, text_at}
 use Rattle.alma_rules.specs.Types as types
 use Rattle.alma_rules.specs.Decls as rules
-use Rattle.alma_check_type.specs.Around.{Outer, outer_of, left}
+use Rattle.alma_check_type.specs.Around.{Outer, outer_of, leave_block}
 use Rattle.alma_check_type.specs.Told.{fault_of}
 use Rattle.alma_rules.specs.Answers.{first}
 use Rattle.alma_rules.proofs.Limited.{limited_scene}
 use Rattle.alma_check_block.specs.declared.frame.Frame.{Frame}
-use Rattle.alma_check_block.specs.Shown.{ToldFrame, told_frame, shown}
+use Rattle.alma_check_block.specs.Shown.{ToldFrame, told_frame, frame_with_scene}
 use Rattle.alma_check_block.proofs.Frames.{moved, scene_is}
 
 -- what is outside of the top block of a scene
 abbrev outside : Scene → Scene
 outside t = record t { blocks = record { below = t.blocks.below; top = [] }; declares = []; routine = 0; returns = nothing }
 
-declared_out : (s : Scene) (name : tree.Name) (from : ℕ) (e : Entry) → outside (types.declared s name from e) ≡ outside s
+declared_out : (s : Scene) (name : tree.Name) (from : ℕ) (e : Entry) → outside (types.declare_name s name from e) ≡ outside s
 declared_out s name from e = by (is_first s name)
   where
     by : (b : Bool) → outside (if b then record s
@@ -41,11 +41,11 @@ param_out f from mode None name = declared_out f.scene name from entry.Bad
 param_out f from mode (Some shape) name =
     by (is_first f.scene name) (declared_out f.scene name from (entry.Variable (shape_id shape) (rules.param_access mode f.slots)))
   where
-    by : (b : Bool) → outside (types.declared f.scene name from (entry.Variable (shape_id shape) (rules.param_access mode f.slots)))
+    by : (b : Bool) → outside (types.declare_name f.scene name from (entry.Variable (shape_id shape) (rules.param_access mode f.slots)))
         ≡ outside f.scene
-        → outside (if_true b (λ u. rules.limited name f
+        → outside (if_true b (λ u. rules.within_limit name f
         (rules.with_param f name from mode shape (rules.param_kind (is_structured f.scene shape) mode)))
-        (λ u. rules.with_faults f (broken_at name.node (types.redeclared f.scene name)))).scene
+        (λ u. rules.with_faults f (broken_at name.node (types.redeclaration_rules f.scene name)))).scene
         ≡ outside f.scene
     by true e = ap outside (limited_scene name f
         (rules.with_param f name from mode shape (rules.param_kind (is_structured f.scene shape) mode))) ∙ e
@@ -87,7 +87,7 @@ block_out s r returns names (tree.block n ds body) =
       returns = returns;
     } in i) (r + 1) ds
 
-headed_out : (f : rules.Frame) (o : Option tree.Name) → outside (rules.headed f o).frame.scene ≡ outside f.scene
+headed_out : (f : rules.Frame) (o : Option tree.Name) → outside (rules.heading_at f o).frame.scene ≡ outside f.scene
 headed_out f None = refl
 headed_out f (Some name) = refl
 
@@ -103,8 +103,8 @@ head_out s r n params result b =
     read : rules.Frame
     read = rules.read_formals begun (rules.formals_of params)
 
-    by : (d : List CheckFault) → outside (rules.with_depth d n (rules.headed read result)).frame.scene ≡ outside
-        (rules.headed read result).frame.scene
+    by : (d : List CheckFault) → outside (rules.with_depth d n (rules.heading_at read result)).frame.scene ≡ outside
+        (rules.heading_at read result).frame.scene
     by [] = refl
     by (x ∷ xs) = refl
 
@@ -129,9 +129,9 @@ closed b =
 
 -- behind the block of a heading
 pub head_left : (s : Scene) (r n : ℕ) (params : Option tree.Params) (result : Option tree.Name) (b : tree.Block)
-    → left (rules.read_heading s r n params result b).frame.scene (outer_of s) ≡ s
+    → leave_block (rules.read_heading s r n params result b).frame.scene (outer_of s) ≡ s
 head_left s r n params result b =
-    ap (λ i. left i (outer_of s)) (head_out s r n params result b)
+    ap (λ i. leave_block i (outer_of s)) (head_out s r n params result b)
     ∙ ap (λ x. let i : Scene = record s { blocks = x } in i) (closed s.blocks)
 
 more_than_none : {A : Type 0} (xs : List A) (x : A) → 0 < length (xs ++ x ∷ [])
@@ -147,37 +147,40 @@ head_inside s r n params result b = subst (λ i. 0 < length i.blocks.below) (sym
 
 module _ (s : Scene) (f : rules.Frame) (r n : ℕ) (name : tree.Name) (params : Option tree.Params) (result : Option tree.Name)
     (b : tree.Block) where
-  abbrev head : rules.Headed
+  abbrev head : rules.FramedHeading
   head = rules.read_heading s r n params result b
 
   -- the frame behind its heading, of which the rules are told in a scene
   abbrev noted : Scene → rules.Frame
   noted i =
       record f {
-        faults = f.faults ++ broken_at name.node (types.redeclared i name) ++ (rules.read_heading i r n params result b).frame.faults;
+        faults = f.faults ++ broken_at name.node (types.redeclaration_rules i name)
+            ++ (rules.read_heading i r n params result b).frame.faults;
         scene = record i { headings = set i.headings r (rules.read_heading i r n params result b).heading };
       }
 
-  pub heading_fault : (t : Scene) (y : Frame) → shown t y ≡ told_frame head.frame → fault_of y.fault ≡ first head.frame.faults
+  pub heading_fault : (t : Scene) (y : Frame) → frame_with_scene t y ≡ told_frame head.frame → fault_of y.fault ≡ first head.frame.faults
   heading_fault t y h = ap (λ (u : ToldFrame). u.fault) h
 
-  pub heading_inside : (t : Scene) (y : Frame) → shown t y ≡ told_frame head.frame → 0 < length t.blocks.below
+  pub heading_inside : (t : Scene) (y : Frame) → frame_with_scene t y ≡ told_frame head.frame → 0 < length t.blocks.below
   heading_inside t y h = subst (λ i. 0 < length i.blocks.below) (sym (scene_is t y head.frame h)) (head_inside s r n params result b)
 
-  behind_heading : (t j : Scene) (y : Frame) (o : Outer) → shown t y ≡ told_frame head.frame → o ≡ outer_of s → j ≡ left t o → j ≡ s
-  behind_heading t j y o h e d = d ∙ ap (λ i. left i o) (scene_is t y head.frame h) ∙ ap (λ x. left head.frame.scene x) e
+  behind_heading : (t j : Scene) (y : Frame) (o : Outer) → frame_with_scene t y ≡ told_frame head.frame → o ≡ outer_of s
+      → j ≡ leave_block t o → j ≡ s
+  behind_heading t j y o h e d = d ∙ ap (λ i. leave_block i o) (scene_is t y head.frame h) ∙ ap (λ x. leave_block head.frame.scene x) e
       ∙ head_left s r n params result b
 
-  pub procedure_read : (t j k : Scene) (x y z : Frame) (o : Outer) (v : Option Heading) → shown s x ≡ told_frame f
-      → shown s z ≡ told_frame (rules.with_faults (rules.with_faults f (broken_at name.node (types.redeclared s name))) head.frame.faults)
-      → shown t y ≡ told_frame head.frame → o ≡ outer_of s → j ≡ left t o → v ≡ head.heading
+  pub procedure_read : (t j k : Scene) (x y z : Frame) (o : Outer) (v : Option Heading) → frame_with_scene s x ≡ told_frame f
+      → frame_with_scene s z ≡ told_frame (rules.with_faults (rules.with_faults f (broken_at name.node (types.redeclaration_rules s name)))
+      head.frame.faults)
+      → frame_with_scene t y ≡ told_frame head.frame → o ≡ outer_of s → j ≡ leave_block t o → v ≡ head.heading
       → k ≡ record j { headings = set j.headings r v }
-      → shown k z ≡ told_frame (rules.heading_in f r name (rules.read_heading f.scene r n params result b))
+      → frame_with_scene k z ≡ told_frame (rules.heading_in f r name (rules.read_heading f.scene r n params result b))
   procedure_read t j k x y z o v h g q e d u m =
       let same : k ≡ record s { headings = set s.headings r head.heading } =
       m ∙ ap (λ i. let w : Scene = record i { headings = set i.headings r v } in w) (behind_heading t j y o q e d)
       ∙ ap (λ hd. let w : Scene = record s { headings = set s.headings r hd } in w) u in
       ap (λ w. moved w k) g
-      ∙ ap (λ i. moved (told_frame (rules.with_faults (rules.with_faults f (broken_at name.node (types.redeclared s name)))
+      ∙ ap (λ i. moved (told_frame (rules.with_faults (rules.with_faults f (broken_at name.node (types.redeclaration_rules s name)))
       head.frame.faults)) i) same
       ∙ ap (λ i. told_frame (noted i)) (scene_is s x f h)

@@ -11,7 +11,7 @@ use Rattle.alma_rules.specs.View as view
 use Rattle.alma_rules.specs.Scene.{Scene, nothing}
 use Rattle.alma_rules.specs.Decls as rules
 use Rattle.alma_rules.proofs.Exprs.{next_of}
-use Rattle.alma_check_type.specs.Around.{entered}
+use Rattle.alma_check_type.specs.Around.{enter_block}
 use Rattle.alma_rules.proofs.TypeRows.{procedure_is}
 use Rattle.alma_check_block.proofs.Frames.{none_counted, more_counted}
 
@@ -73,10 +73,10 @@ routines_end s n i all h = ap (λ xs. rules.with_routines s n (view.decls_of xs)
 -- ---- the block
 
 pub opened_by : (s j k : Scene) (r first : ℕ) (ds : List (List ℕ × ℕ)) (ps : Option tree.Params) (b : db.Block) → first ≡ r + 1
-    → ds ≡ rules.with_texts s (rules.formal_names (rules.formals_of ps) ++ rules.block_names (view.view_block b)) → j ≡ entered s ds r
+    → ds ≡ rules.with_texts s (rules.formal_names (rules.formals_of ps) ++ rules.block_names (view.view_block b)) → j ≡ enter_block s ds r
     → k ≡ rules.with_routines j first (view.decls_of b.decls.items)
     → k ≡ rules.with_block s r nothing (rules.formal_names (rules.formals_of ps)) (view.view_block b)
 opened_by s j k r first ds ps b e d h g =
     g ∙ ap (λ i. rules.with_routines i first (view.decls_of b.decls.items)) h
-    ∙ ap (λ n. rules.with_routines (entered s ds r) n (view.decls_of b.decls.items)) e
-    ∙ ap (λ x. rules.with_routines (entered s x r) (r + 1) (view.decls_of b.decls.items)) d
+    ∙ ap (λ n. rules.with_routines (enter_block s ds r) n (view.decls_of b.decls.items)) e
+    ∙ ap (λ x. rules.with_routines (enter_block s x r) (r + 1) (view.decls_of b.decls.items)) d

@@ -11,13 +11,13 @@ use Rattle.alma_tree.specs.declared.leaf.Names.{Names}
 use Rattle.alma_names.specs.Shapes.{PlainField}
 use Rattle.alma_rules.specs.Numbered as tree
 use Rattle.alma_rules.specs.View as view
-use Rattle.alma_rules.specs.Judged.{Broken}
+use Rattle.alma_rules.specs.Judgement.{BrokenRule}
 use Rattle.alma_rules.specs.Scene.{Scene}
 use Rattle.alma_rules.specs.Types as types
 use Rattle.std.proofs.lemmas.List.{drop_all}
 use Rattle.alma_rules.proofs.Exprs.{next_of}
 use Rattle.alma_check_type.specs.Told.{Told, told, told_both, told_with, told_at, told_index, told_type, onward, join, alone, a_told}
-use Rattle.alma_check_type.specs.Inner.Fields.{ToldFields, Knows, nothing_told, shaped, joined, told_on, told_list, told_record}
+use Rattle.alma_check_type.specs.Inner.Fields.{ToldFields, Knows, nothing_told, shape_fields, join_fields, told_on, told_list, told_record}
 use Rattle.alma_rules.proofs.TypeRows.{type_is, record_is}
 use Rattle.alma_check_block.proofs.TypeTokens.{type_tokens}
 use Rattle.alma_check_type.proofs.FieldSteps.{fields_told}
@@ -34,7 +34,7 @@ module _ (s : Scene) where
       → told (types.read_type s (tree.type_node n dims p)) ≡ told_type n
       (told_both (told (types.read_arrays s dims)) (told (types.read_plain (types.read_arrays s dims).scene p)))
   type_at n dims p =
-      let r : types.Reading (List ℕ × types.Formed) = types.reading_then (types.read_arrays s dims) (λ i. types.read_plain i p) in
+      let r : types.Reading (List ℕ × types.ShapeOrLimit) = types.reading_then (types.read_arrays s dims) (λ i. types.read_plain i p) in
       ap told (type_eq n dims p)
       ∙ ap (told_with types.number_in) (at_told n types.size_rules (types.reading_change types.rows_of r)
       ∙ ap (told_at n types.size_rules) (change_told types.rows_of r))
@@ -50,7 +50,7 @@ module _ (s : Scene) where
   arrays_eq n d rest = refl
 
   -- arrays begin with no index
-  pub arrays_at : (n : ℕ) (d : tree.Dimensions) (rest : tree.DimensionTail) (f : Option Broken) (v : Option (List ℕ)) (i : Scene)
+  pub arrays_at : (n : ℕ) (d : tree.Dimensions) (rest : tree.DimensionTail) (f : Option BrokenRule) (v : Option (List ℕ)) (i : Scene)
       → onward None (Some []) (told (types.read_dimensions s d)) ≡ a_told f i v
       → told (types.read_arrays s (tree.arrays n d rest)) ≡ onward f v (told (types.read_dimension_tail i rest))
   arrays_at n d rest f v i h =
@@ -69,7 +69,8 @@ module _ (s : Scene) where
   unfolding types.read_type
   no_dimensions_eq = refl
 
-  dimension_tail_at : (f : Option Broken) (v : Option (List ℕ)) (d : tree.Dimensions) (rest : tree.DimensionTail) (f' : Option Broken)
+  dimension_tail_at : (f : Option BrokenRule) (v : Option (List ℕ)) (d : tree.Dimensions) (rest : tree.DimensionTail)
+      (f' : Option BrokenRule)
       (v' : Option (List ℕ)) (i : Scene)
       → onward f v (told (types.read_dimensions s d)) ≡ a_told f' i v'
       → onward f v (told (types.read_dimension_tail s (tree.more_dimensions d rest))) ≡ onward f' v'
@@ -81,8 +82,8 @@ module _ (s : Scene) where
       ∙ onward_both f v a (told (types.read_dimension_tail a.scene rest))
       ∙ ap (λ (t : Told (List ℕ)). onward t.fault t.value (told (types.read_dimension_tail t.scene rest))) h
 
-  pub dimensions_next : (f : Option Broken) (v : Option (List ℕ)) (k : ℕ) (all : List dv.Dimensions) (x : dv.Dimensions)
-      (f' : Option Broken) (v' : Option (List ℕ)) (i : Scene)
+  pub dimensions_next : (f : Option BrokenRule) (v : Option (List ℕ)) (k : ℕ) (all : List dv.Dimensions) (x : dv.Dimensions)
+      (f' : Option BrokenRule) (v' : Option (List ℕ)) (i : Scene)
       → k < length all → x ≡ get_or all k x → onward f v (told (types.read_dimensions s (view.view_dimension x))) ≡ a_told f' i v'
       → onward f v (told (types.read_dimension_tail s (view.dimensions_of (drop k all)))) ≡ onward f' v'
       (told (types.read_dimension_tail i (view.dimensions_of (drop (k + 1) all))))
@@ -90,13 +91,13 @@ module _ (s : Scene) where
       ap (λ xs. onward f v (told (types.read_dimension_tail s (view.dimensions_of xs)))) (next_of all k x lt is)
       ∙ dimension_tail_at f v (view.view_dimension x) (view.dimensions_of (drop (k + 1) all)) f' v' i h
 
-  onward_nothing : (f : Option Broken) (v : Option (List ℕ)) → onward f v (a_told None s (Some [])) ≡ a_told f s v
+  onward_nothing : (f : Option BrokenRule) (v : Option (List ℕ)) → onward f v (a_told None s (Some [])) ≡ a_told f s v
   onward_nothing None None = refl
   onward_nothing None (Some xs) = ap (λ ys. a_told None s (Some ys)) (append-nil xs)
   onward_nothing (Some b) None = refl
   onward_nothing (Some b) (Some xs) = ap (λ ys. a_told (Some b) s (Some ys)) (append-nil xs)
 
-  pub dimensions_end : (f : Option Broken) (v : Option (List ℕ)) (k : ℕ) (all : List dv.Dimensions) → length all ≤ k
+  pub dimensions_end : (f : Option BrokenRule) (v : Option (List ℕ)) (k : ℕ) (all : List dv.Dimensions) → length all ≤ k
       → onward f v (told (types.read_dimension_tail s (view.dimensions_of (drop k all)))) ≡ a_told f s v
   dimensions_end f v k all h =
       ap (λ xs. onward f v (told (types.read_dimension_tail s (view.dimensions_of xs)))) (drop_all k all h)
@@ -107,14 +108,14 @@ module _ (s : Scene) where
       (types.index_type_rules (types.read_plain s p).scene) (told (types.read_plain s p))
   index_told p = at_told (tree.plain_node p) (types.index_type_rules (types.read_plain s p).scene) (types.read_plain s p)
 
-  index_on : (f : Option Broken) (v : Option (List ℕ)) (p : tree.PlainType) (rest : tree.PlainTail) (f' : Option Broken)
+  index_on : (f : Option BrokenRule) (v : Option (List ℕ)) (p : tree.PlainType) (rest : tree.PlainTail) (f' : Option BrokenRule)
       (v' : Option (List ℕ)) (i : Scene)
       → onward f v (told_index (tree.plain_node p) (told (types.read_plain s p))) ≡ a_told f' i v'
       → onward f v (told (types.reading_with types.cons_index
       (types.reading_then (types.index_at p (types.read_plain s p)) (λ j. types.read_plains j rest)))) ≡ onward f' v'
       (told (types.read_plains i rest))
   index_on f v p rest f' v' i h =
-      let a : Told types.Formed = told (types.index_at p (types.read_plain s p)) in
+      let a : Told types.ShapeOrLimit = told (types.index_at p (types.read_plain s p)) in
       ap (λ t. onward f v (told_with types.cons_index t))
       (then_told (types.index_at p (types.read_plain s p)) (λ j. types.read_plains j rest))
       ∙ onward_cons f v a (told (types.read_plains a.scene rest))
@@ -135,13 +136,14 @@ module _ (s : Scene) where
   unfolding types.read_type
   no_plain_eq = refl
 
-  pub dimensions_at : (f : Option Broken) (v : Option (List ℕ)) (p : tree.PlainType) (rest : tree.PlainTail) (f' : Option Broken)
+  pub dimensions_at : (f : Option BrokenRule) (v : Option (List ℕ)) (p : tree.PlainType) (rest : tree.PlainTail) (f' : Option BrokenRule)
       (v' : Option (List ℕ)) (i : Scene)
       → onward f v (told_index (tree.plain_node p) (told (types.read_plain s p))) ≡ a_told f' i v'
       → onward f v (told (types.read_dimensions s (tree.dimensions p rest))) ≡ onward f' v' (told (types.read_plains i rest))
   dimensions_at f v p rest f' v' i h = ap (λ r. onward f v (told r)) (dimensions_eq p rest) ∙ index_on f v p rest f' v' i h
 
-  pub plains_next : (f : Option Broken) (v : Option (List ℕ)) (k : ℕ) (all : List dq.PlainType) (x : dq.PlainType) (f' : Option Broken)
+  pub plains_next : (f : Option BrokenRule) (v : Option (List ℕ)) (k : ℕ) (all : List dq.PlainType) (x : dq.PlainType)
+      (f' : Option BrokenRule)
       (v' : Option (List ℕ)) (i : Scene)
       → k < length all → x ≡ get_or all k x → onward f v
       (told_index (tree.plain_node (view.view_plain_type x)) (told (types.read_plain s (view.view_plain_type x)))) ≡ a_told f' i v'
@@ -152,7 +154,7 @@ module _ (s : Scene) where
       ∙ ap (λ r. onward f v (told r)) (plains_eq (view.view_plain_type x) (view.plains_of (drop (k + 1) all)))
       ∙ index_on f v (view.view_plain_type x) (view.plains_of (drop (k + 1) all)) f' v' i h
 
-  pub plains_end : (f : Option Broken) (v : Option (List ℕ)) (k : ℕ) (all : List dq.PlainType) → length all ≤ k
+  pub plains_end : (f : Option BrokenRule) (v : Option (List ℕ)) (k : ℕ) (all : List dq.PlainType) → length all ≤ k
       → onward f v (told (types.read_plains s (view.plains_of (drop k all)))) ≡ a_told f s v
   plains_end f v k all h =
       ap (λ xs. onward f v (told (types.read_plains s (view.plains_of xs)))) (drop_all k all h)
@@ -224,7 +226,7 @@ module _ (s : Scene) where
   list_nothing : (t : ToldFields) → told_on t (a_told None s (Some [])) ≡ told_list t s
   list_nothing t = go t.fault t.value
     where
-      go : (f : Option Broken) (v : Option (List PlainField)) → onward f v (a_told None s (Some [])) ≡ a_told f s v
+      go : (f : Option BrokenRule) (v : Option (List PlainField)) → onward f v (a_told None s (Some [])) ≡ a_told f s v
       go None None = refl
       go None (Some xs) = ap (λ ys. a_told None s (Some ys)) (append-nil xs)
       go (Some b) None = refl
@@ -307,7 +309,7 @@ type_by s t a h =
 pub no_arrays_by : (s : Scene) (xs : List ℕ) → xs ≡ [] → told (types.read_arrays s (view.arrays_of None)) ≡ a_told None s (Some xs)
 no_arrays_by s xs e = no_arrays_at s ∙ ap (λ ys. a_told None s (Some ys)) (sym e)
 
-pub arrays_by : (s : Scene) (a : dz.Arrays) (xs : List ℕ) (f : Option Broken) (v : Option (List ℕ)) (i : Scene) → xs ≡ []
+pub arrays_by : (s : Scene) (a : dz.Arrays) (xs : List ℕ) (f : Option BrokenRule) (v : Option (List ℕ)) (i : Scene) → xs ≡ []
     → onward None (Some xs) (told (types.read_dimensions s (view.view_dimension (dz.out-Arrays a).first))) ≡ a_told f i v
     → told (types.read_arrays s (view.arrays_of (Some a))) ≡ onward f v
     (told (types.read_dimension_tail i (view.dimensions_of (dz.out-Arrays a).more.items)))
@@ -323,8 +325,8 @@ empty_by s l n t before es is k = rw is (empty_on s t before n, subst (λ ns. Kn
 
 pub fields_on : {X E : Type 0} (s j : Scene) (before : List tree.Name) (n : ℕ) (names : Names) (y : dy.TypeNode) (t : ToldFields)
     (look : X → ToldFields) (es : X → List (Vec ℕ Global × ℕ)) (r : Result X E)
-    → IfOk r (λ x. (told_list (joined
-    (shaped (told (types.read_type s (view.view_type_node y))).scene.tokens before
+    → IfOk r (λ x. (told_list (join_fields
+    (shape_fields (told (types.read_type s (view.view_type_node y))).scene.tokens before
     (told (types.read_type s (view.view_type_node y))).value (types.all_names (view.view_names names)) t)
     (told (types.read_type s (view.view_type_node y)))) (told (types.read_type s (view.view_type_node y))).scene ≡ told_list (look x) j)
     × Knows j.tokens (es x) (before ++ types.all_names (view.view_names names)))
@@ -334,7 +336,7 @@ fields_on s j before n names y t look es (Ok x) h =
     let r : types.Reading ℕ = types.read_type s (view.view_type_node y) in (
       ap (λ z. told_on t (told z)) (fields_eq s before n (view.view_names names) (view.view_type_node y))
           ∙ fields_told s before (types.all_names (view.view_names names)) t r
-          ∙ ap (λ k. told_list (joined (shaped k before r.value (types.all_names (view.view_names names)) t) (told r)) r.scene)
+          ∙ ap (λ k. told_list (join_fields (shape_fields k before r.value (types.all_names (view.view_names names)) t) (told r)) r.scene)
           (sym (type_tokens s (view.view_type_node y)))
           ∙ h.0,
       h.1,
@@ -353,7 +355,7 @@ record_by s n f more o t i e h =
     (ap (λ u. told_on u (told (types.read_fields s [] (view.view_field_list f.value)))) (sym e) ∙ h)
 
 -- the name of a type, in a scene that is another's
-pub name_by : {X E : Type 0} (a s : Scene) (n : ℕ) (name : tree.Name) (f : X → Scene → Told types.Formed) (r : Result X E) → a ≡ s
+pub name_by : {X E : Type 0} (a s : Scene) (n : ℕ) (name : tree.Name) (f : X → Scene → Told types.ShapeOrLimit) (r : Result X E) → a ≡ s
     → IfOk r (λ x. told (types.reading_with types.formed (types.read_type_name a name)) ≡ f x a)
     → IfOk r (λ x. told (types.read_plain s (tree.type_name n name)) ≡ f x s)
 name_by a s n name f (Ok x) e h = name_at s n name

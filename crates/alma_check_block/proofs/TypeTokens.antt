@@ -6,10 +6,11 @@ use Rattle.alma_names.specs.Shapes.{PlainShape, row, sub, listed, fields, is_too
 use Rattle.alma_names.specs.declared.block.Entry.{Entry}
 use Rattle.alma_names.specs.Scopes.{with_declared}
 use Rattle.alma_rules.specs.Numbered as tree
-use Rattle.alma_rules.specs.Judged.{Broken}
+use Rattle.alma_rules.specs.Judgement.{BrokenRule}
 use Rattle.alma_rules.specs.Scene.{Scene, base, is_first, text_at}
-use Rattle.alma_rules.specs.Types.{Reading, reading_at, reading_then, reading_with, subrange_rules, reading_change, changed, add_shape}
-use Rattle.alma_rules.specs.Types.{Formed, formed, too_large, row_on, rows_on, rows_of, record_of, subrange_of, subrange_from, declared}
+use Rattle.alma_rules.specs.Types.{Reading, reading_at, reading_then, reading_with, subrange_rules, reading_change, with_change, add_shape}
+use Rattle.alma_rules.specs.Types.{ShapeOrLimit, formed, too_large, row_on, rows_on, rows_of, record_of, subrange_of, subrange_from}
+use Rattle.alma_rules.specs.Types.{declare_name}
 use Rattle.alma_rules.specs.Types.{value_entry, declare_values, listed_in, read_listed, all_first, redeclared_all, all_names, last_token}
 use Rattle.alma_rules.specs.Types.{field_names, joined_fields, read_constant, read_type, read_arrays, read_dimension_tail, read_dimensions}
 use Rattle.alma_rules.specs.Types.{read_plains, read_plain, read_fields, read_field_tail}
@@ -17,20 +18,20 @@ use Rattle.alma_rules.specs.Types.{read_plains, read_plain, read_fields, read_fi
 shape_tokens : (s : Scene) (x : PlainShape) → (add_shape s x).0.tokens ≡ s.tokens
 shape_tokens s x = go (is_too_large s.shapes x)
   where
-    go : (b : Bool) → (if_true {A = Scene × Formed} b (λ _. (s, too_large))
+    go : (b : Bool) → (if_true {A = Scene × ShapeOrLimit} b (λ _. (s, too_large))
         (λ _. (record s { shapes = s.shapes ++ placed_shape (cell_counts s.shapes) x ∷ [] }, formed (length s.shapes)))).0.tokens ≡ s.tokens
     go true = refl
     go false = refl
 
-row_tokens : (i : ℕ) (p : Scene × Formed) → (row_on i p).0.tokens ≡ p.0.tokens
+row_tokens : (i : ℕ) (p : Scene × ShapeOrLimit) → (row_on i p).0.tokens ≡ p.0.tokens
 row_tokens i (s, formed e) = shape_tokens s (row i e)
 row_tokens i (s, too_large) = refl
 
-rows_tokens : (s : Scene) (is : List ℕ) (f : Formed) → (rows_on s is f).0.tokens ≡ s.tokens
+rows_tokens : (s : Scene) (is : List ℕ) (f : ShapeOrLimit) → (rows_on s is f).0.tokens ≡ s.tokens
 rows_tokens s [] f = refl
 rows_tokens s (i ∷ is) f = row_tokens i (rows_on s is f) ∙ rows_tokens s is f
 
-declared_tokens : (s : Scene) (name : tree.Name) (from : ℕ) (e : Entry) → (declared s name from e).tokens ≡ s.tokens
+declared_tokens : (s : Scene) (name : tree.Name) (from : ℕ) (e : Entry) → (declare_name s name from e).tokens ≡ s.tokens
 declared_tokens s name from e = go (is_first s name)
   where
     go : (b : Bool) → (if b then record s
@@ -41,12 +42,12 @@ declared_tokens s name from e = go (is_first s name)
 values_tokens : (s : Scene) (from : ℕ) (shape : Option ℕ) (i : ℕ) (xs : List tree.Name)
     → (declare_values s from shape i xs).tokens ≡ s.tokens
 values_tokens s from shape i [] = refl
-values_tokens s from shape i (x ∷ xs) = values_tokens (declared s x from (value_entry shape i)) from shape (i + 1) xs
+values_tokens s from shape i (x ∷ xs) = values_tokens (declare_name s x from (value_entry shape i)) from shape (i + 1) xs
     ∙ declared_tokens s x from (value_entry shape i)
 
-changed_tokens : {A B : Type 0} (f : Scene → A → Scene × B) (s : Scene) (faults : List Broken) (v : Option A)
+changed_tokens : {A B : Type 0} (f : Scene → A → Scene × B) (s : Scene) (faults : List BrokenRule) (v : Option A)
     → ((a : A) → (f s a).0.tokens ≡ s.tokens)
-    → (changed s faults (option_map (f s) v)).scene.tokens ≡ s.tokens
+    → (with_change s faults (option_map (f s) v)).scene.tokens ≡ s.tokens
 changed_tokens f s faults None h = refl
 changed_tokens f s faults (Some a) h = h a
 
@@ -59,7 +60,7 @@ sub_tokens s b None high = refl
 sub_tokens s b (Some l) None = refl
 sub_tokens s b (Some l) (Some h) = shape_tokens s (sub b (record { low = l; high = h }))
 
-listed_tokens : (faults : List Broken) (from : ℕ) (xs : List tree.Name) (p : Scene × Formed)
+listed_tokens : (faults : List BrokenRule) (from : ℕ) (xs : List tree.Name) (p : Scene × ShapeOrLimit)
     → (listed_in faults from xs p).scene.tokens ≡ p.0.tokens
 listed_tokens faults from xs (s, formed shape) = values_tokens s from (Some shape) 0 xs
 listed_tokens faults from xs (s, too_large) = values_tokens s from None 0 xs
@@ -67,7 +68,7 @@ listed_tokens faults from xs (s, too_large) = values_tokens s from None 0 xs
 names_tokens : (s : Scene) (xs : List tree.Name) (from : ℕ) → (read_listed s xs from).scene.tokens ≡ s.tokens
 names_tokens s xs from = go (all_first s xs)
   where
-    go : (b : Bool) → (if_true {A = Reading Formed} b (λ _. listed_in [] from xs (add_shape s (listed (length xs))))
+    go : (b : Bool) → (if_true {A = Reading ShapeOrLimit} b (λ _. listed_in [] from xs (add_shape s (listed (length xs))))
         (λ _. record { faults = redeclared_all s xs; scene = declare_values s from None 0 xs; value = None })).scene.tokens ≡ s.tokens
     go true = listed_tokens [] from xs (add_shape s (listed (length xs))) ∙ shape_tokens s (listed (length xs))
     go false = values_tokens s from None 0 xs

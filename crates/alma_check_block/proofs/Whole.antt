@@ -6,13 +6,13 @@ use Rattle.alma_base.specs.declared.fault.CheckFault.{CheckFault}
 use Rattle.alma_tree.specs.declared.leaf.Sign.{Sign}
 use Rattle.alma_ir.specs.Tree as ir
 use Rattle.alma_rules.specs.Numbered as tree
-use Rattle.alma_rules.specs.Judged.{Judged, Broken, at_node, broken_at, unless, both_of, both, with, fine}
+use Rattle.alma_rules.specs.Judgement.{Judgement, BrokenRule, at_node, broken_at, unless, both_of, both, with, fine}
 use Rattle.alma_rules.specs.Scene.{Scene, FormalOf, found, in_constant, inside_of, literal_at, row_at}
-use Rattle.alma_rules.specs.Parts.{Typing, Denoted, denoted, a_constant, a_variable, a_routine, no_array, Operands, Span, select_in}
+use Rattle.alma_rules.specs.Parts.{Typing, Denotation, denotation, a_constant, a_variable, a_routine, no_array, Operands, Span, select_in}
 use Rattle.alma_rules.specs.Parts.{select_index, located_in, write_stmts, one_stmt}
 use Rattle.alma_rules.specs.ExprRules.{as_variable, as_value, as_procedure, Use, Operand, array_rules}
 use Rattle.alma_rules.specs.StmtRules.{write_rules}
-use Rattle.alma_rules.specs.Nodes.{condition_at, read_at, first_add, first_mul, indexed, in_parens, as_sequence, or_sequence, only_of}
+use Rattle.alma_rules.specs.Nodes.{condition_at, read_at, first_add, first_mul, index_at, in_parens, as_sequence, or_sequence, only_of}
 use Rattle.alma_rules.specs.Nodes.{sum_at, product_at, loop_variable, text_item, item_of, item_literal, text_rules}
 use Rattle.alma_rules.specs.Walk.{judge_stmts, judge_stmt_tail, judge_stmt, judge_elsifs, judge_else, judge_by, judge_arm, judge_arm_tail}
 use Rattle.alma_rules.specs.Walk.{judge_label, judge_high, judge_labels, judge_case_else, judge_orelses, judge_returned, judge_reads}
@@ -26,10 +26,10 @@ IsThere None = ⊥
 IsThere (Some x) = Unit {0}
 
 -- where there is a value no rule is broken
-unfoldable pub Whole : {A : Type 0} → List Broken → Option A → Type 0
+unfoldable pub Whole : {A : Type 0} → List BrokenRule → Option A → Type 0
 Whole a v = IsThere v → a ≡ []
 
-pub whole_gives : {A : Type 0} (a : List Broken) (v : Option A) → Whole a v → IsThere v → a ≡ []
+pub whole_gives : {A : Type 0} (a : List BrokenRule) (v : Option A) → Whole a v → IsThere v → a ≡ []
 unfolding Whole
 whole_gives a v p t = p t
 
@@ -37,23 +37,23 @@ whole_fine : {A : Type 0} (v : Option A) → Whole [] v
 unfolding Whole
 whole_fine v t = refl
 
-whole_map : {A B : Type 0} (a : List Broken) (f : A → B) (v : Option A) → Whole a v → Whole a (option_map f v)
+whole_map : {A B : Type 0} (a : List BrokenRule) (f : A → B) (v : Option A) → Whole a v → Whole a (option_map f v)
 unfolding Whole
 whole_map a f None p t = absurd t
 whole_map a f (Some x) p t = p tt
 
-whole_some : {A B : Type 0} (a : List Broken) (f : A → Option B) (v : Option A) → Whole a v → Whole a (option_and_then f v)
+whole_some : {A B : Type 0} (a : List BrokenRule) (f : A → Option B) (v : Option A) → Whole a v → Whole a (option_and_then f v)
 unfolding Whole
 whole_some a f None p t = absurd t
 whole_some a f (Some x) p t = p tt
 
-whole_both : {A B : Type 0} (a b : List Broken) (v : Option A) (w : Option B) → Whole a v → Whole b w → Whole (a ++ b) (both_of v w)
+whole_both : {A B : Type 0} (a b : List BrokenRule) (v : Option A) (w : Option B) → Whole a v → Whole b w → Whole (a ++ b) (both_of v w)
 unfolding Whole
 whole_both a b (Some x) (Some y) p q t = rw (p tt, q tt) refl
 whole_both a b (Some x) None p q t = absurd t
 whole_both a b None w p q t = absurd t
 
-whole_node : {A : Type 0} (n : ℕ) (a : List Broken) (fs : List CheckFault) (v : Option A) → Whole a v
+whole_node : {A : Type 0} (n : ℕ) (a : List BrokenRule) (fs : List CheckFault) (v : Option A) → Whole a v
     → Whole (a ++ broken_at n fs) (unless fs v)
 unfolding Whole
 whole_node n a [] v p t = rw (p t) refl
@@ -62,28 +62,28 @@ whole_node n a (f ∷ fs) v p t = absurd t
 -- ---- designators
 
 -- a value that is no index on another type than an array
-abbrev pub IsPlace : Option Denoted → Type 0
+abbrev pub IsPlace : Option Denotation → Type 0
 IsPlace None = ⊥
 IsPlace (Some (a_constant shape v)) = Unit {0}
 IsPlace (Some (a_variable l)) = Unit {0}
 IsPlace (Some (a_routine number up heading)) = Unit {0}
 IsPlace (Some no_array) = ⊥
 
-unfoldable pub Placed : List Broken → Option Denoted → Type 0
+unfoldable pub Placed : List BrokenRule → Option Denotation → Type 0
 Placed a v = IsPlace v → a ≡ []
 
-place_there : (v : Option Denoted) → IsPlace v → IsThere v
+place_there : (v : Option Denotation) → IsPlace v → IsThere v
 place_there None p = p
 place_there (Some (a_constant shape v)) p = tt
 place_there (Some (a_variable l)) p = tt
 place_there (Some (a_routine number up heading)) p = tt
 place_there (Some no_array) p = absurd p
 
-placed : (a : List Broken) (v : Option Denoted) → Whole a v → Placed a v
+placed : (a : List BrokenRule) (v : Option Denotation) → Whole a v → Placed a v
 unfolding Whole Placed
 placed a v p t = p (place_there v t)
 
-array_whole : (k : ℕ) (a : List Broken) (v : Option Denoted) → Placed a v
+array_whole : (k : ℕ) (a : List BrokenRule) (v : Option Denotation) → Placed a v
     → Whole (a ++ broken_at k (array_rules v)) (unless (array_rules v) v)
 unfolding Whole Placed
 array_whole k a None p t = absurd t
@@ -92,7 +92,7 @@ array_whole k a (Some (a_variable l)) p t = rw (p tt) refl
 array_whole k a (Some (a_routine number up heading)) p t = rw (p tt) refl
 array_whole k a (Some no_array) p t = absurd t
 
-index_placed : (s : Scene) (a b : List Broken) (v : Option Denoted) (i : Option Typing) → Placed a v → Whole b i
+index_placed : (s : Scene) (a b : List BrokenRule) (v : Option Denotation) (i : Option Typing) → Placed a v → Whole b i
     → Placed (a ++ b) (select_index s v i)
 unfolding Whole Placed
 index_placed s a b None i p q t = absurd t
@@ -110,36 +110,36 @@ index_placed s a b (Some (a_variable l)) i p q t = go (row_at s l.shape) i q t
 
 -- ---- nodes
 
-sum_whole : (s : Scene) (k : ℕ) (sign : Option Sign) (rest : tree.TermTail) (j : Judged (Typing × Operands)) → Whole j.faults j.value
+sum_whole : (s : Scene) (k : ℕ) (sign : Option Sign) (rest : tree.TermTail) (j : Judgement (Typing × Operands)) → Whole j.faults j.value
     → Whole (sum_at s k sign rest j).faults (sum_at s k sign rest j).value
 sum_whole s k None tree.no_term j p = whole_map _ _ _ p
 sum_whole s k None (tree.more_term o t rest) j p = whole_map _ _ _ (whole_node k _ _ _ p)
 sum_whole s k (Some sign) tree.no_term j p = whole_map _ _ _ (whole_node k _ _ _ p)
 sum_whole s k (Some sign) (tree.more_term o t rest) j p = whole_map _ _ _ (whole_node k _ _ _ p)
 
-product_whole : (s : Scene) (o : Operand) (k : ℕ) (rest : tree.FactorTail) (j : Judged (Typing × Operands)) → Whole j.faults j.value
+product_whole : (s : Scene) (o : Operand) (k : ℕ) (rest : tree.FactorTail) (j : Judgement (Typing × Operands)) → Whole j.faults j.value
     → Whole (product_at s o k rest j).faults (product_at s o k rest j).value
 product_whole s o k tree.no_factor j p = whole_node k _ _ _ (whole_map _ _ _ p)
 product_whole s o k (tree.more_factor q f rest) j p = whole_map _ _ _ (whole_node k _ _ _ p)
 
-abbrev IfWhole : Option (Judged Typing) → Type 0
+abbrev IfWhole : Option (Judgement Typing) → Type 0
 IfWhole None = Unit {0}
 IfWhole (Some j) = Whole j.faults j.value
 
-only_whole : (rest : tree.StmtTail) (o : Option (Judged Typing)) → IfWhole o → IfWhole (only_of rest o)
+only_whole : (rest : tree.StmtTail) (o : Option (Judgement Typing)) → IfWhole o → IfWhole (only_of rest o)
 only_whole tree.no_stmt o p = p
 only_whole (tree.more_stmt x rest) o p = tt
 
-paren_whole : (s : Scene) (k : ℕ) (o : Option (Judged Typing)) (j : Judged ir.Stmts) → IfWhole o → Whole j.faults j.value
+paren_whole : (s : Scene) (k : ℕ) (o : Option (Judgement Typing)) (j : Judgement ir.Stmts) → IfWhole o → Whole j.faults j.value
     → Whole (or_sequence o (in_parens s k) (λ u. as_sequence s k j)).faults (or_sequence o (in_parens s k) (λ u. as_sequence s k j)).value
 paren_whole s k None j p q = whole_map _ _ _ (whole_node k _ _ _ q)
 paren_whole s k (Some i) j p q = whole_map _ _ _ (whole_node k _ _ _ p)
 
-text_whole : (s : Scene) (n j : ℕ) (text : List ℕ) (item : Judged Typing) (node : ℕ) → Whole item.faults item.value
+text_whole : (s : Scene) (n j : ℕ) (text : List ℕ) (item : Judgement Typing) (node : ℕ) → Whole item.faults item.value
     → Whole (text_item s n j text item node).faults (text_item s n j text item node).value
 text_whole s n j text item node p = go (nat_eq (length text) 1)
   where
-    choice : Bool → Judged ir.Stmts
+    choice : Bool → Judgement ir.Stmts
     choice b = if_true b (λ _. with (write_stmts s) (at_node node (write_rules s) item))
         (λ _. at_node j (text_rules s) (fine n (one_stmt (ir.WriteText text))))
 
@@ -147,26 +147,26 @@ text_whole s n j text item node p = go (nat_eq (length text) 1)
     go true = whole_map _ _ _ (whole_node node _ _ _ p)
     go false = whole_node j [] _ _ (whole_fine _)
 
-item_whole : (s : Scene) (n node : ℕ) (l : Option (ℕ × ℕ)) (item : Judged Typing) → Whole item.faults item.value
+item_whole : (s : Scene) (n node : ℕ) (l : Option (ℕ × ℕ)) (item : Judgement Typing) → Whole item.faults item.value
     → Whole (item_of s n node l item).faults (item_of s n node l item).value
 item_whole s n node None item p = whole_map _ _ _ (whole_node node _ _ _ p)
 item_whole s n node (Some l) item p = text_whole s n l.0 (literal_at s l.1) item node p
 
 -- what is judged, but for the next free slot
-abbrev judged_as : {A : Type 0} → List Broken → Option A → Judged A
+abbrev judged_as : {A : Type 0} → List BrokenRule → Option A → Judgement A
 judged_as a v = record { faults = a; next = 0; value = v }
 
-condition_whole : (s : Scene) (e : tree.Expr) (a : List Broken) (v : Option Typing) → Whole a v
+condition_whole : (s : Scene) (e : tree.Expr) (a : List BrokenRule) (v : Option Typing) → Whole a v
     → Whole (condition_at s e (judged_as a v)).faults (condition_at s e (judged_as a v)).value
 condition_whole s e a v p = whole_map _ _ _ (whole_node (tree.expr_node e) _ _ _ p)
 
-read_whole : (s : Scene) (d : tree.Desig) (a : List Broken) (v : Option Denoted) → Whole a v
+read_whole : (s : Scene) (d : tree.Desig) (a : List BrokenRule) (v : Option Denotation) → Whole a v
     → Whole (read_at s d (judged_as a v)).faults (read_at s d (judged_as a v)).value
 read_whole s d a v p = whole_map _ _ _ (whole_node (tree.desig_node d) _ _ _ (whole_some _ _ _ p))
 
 loop_name_whole : (s : Scene) (n : ℕ) (name : tree.Name) → Whole (loop_variable s n name).faults (loop_variable s n name).value
 loop_name_whole s n name = whole_node name.node [] _ _
-    (whole_some [] located_in (denoted s (found s name)) (whole_fine (denoted s (found s name))))
+    (whole_some [] located_in (denotation s (found s name)) (whole_fine (denotation s (found s name))))
 
 -- ---- the walk
 
@@ -292,7 +292,7 @@ mutual
   pub expr_whole : (s : Scene) (n : ℕ) (e : tree.Expr) → Whole (judge_expr s n e).faults (judge_expr s n e).value
   expr_whole s n (tree.expr k left right) = compared_whole s k (judge_simple s n left) right (simple_whole s n left)
 
-  compared_whole : (s : Scene) (k : ℕ) (j : Judged Typing) (c : tree.Compared) → Whole j.faults j.value
+  compared_whole : (s : Scene) (k : ℕ) (j : Judgement Typing) (c : tree.Compared) → Whole j.faults j.value
       → Whole (judge_compared s k j c).faults (judge_compared s k j c).value
   compared_whole s k j tree.no_relation p = p
   compared_whole s k j (tree.compared r right) p = whole_map _ _ _ (whole_node k _ _ _ (whole_both _ _ _ _ p (simple_whole s j.next right)))
@@ -366,25 +366,25 @@ mutual
       whole_node k _ _ _ (selectors_whole s (Rattle.alma_rules.specs.Nodes.judge_name s n name) more
       (whole_node name.node [] _ _ (whole_fine _)))
 
-  selectors_whole : (s : Scene) (d : Judged Denoted) (x : tree.SelectorTail) → Whole d.faults d.value
+  selectors_whole : (s : Scene) (d : Judgement Denotation) (x : tree.SelectorTail) → Whole d.faults d.value
       → Whole (judge_selectors s d x).faults (judge_selectors s d x).value
   selectors_whole s d tree.no_selector p = p
   selectors_whole s d (tree.more_selector x rest) p = selectors_whole s (judge_selector s d x) rest (selector_whole s d x p)
 
-  selector_whole : (s : Scene) (d : Judged Denoted) (x : tree.Selector) → Whole d.faults d.value
+  selector_whole : (s : Scene) (d : Judgement Denotation) (x : tree.Selector) → Whole d.faults d.value
       → Whole (judge_selector s d x).faults (judge_selector s d x).value
   selector_whole s d (tree.field k name) p = whole_some _ _ _ (whole_node k _ _ _ p)
   selector_whole s d (tree.index k items) p = array_whole k _ _ (indices_placed s d items (placed _ _ p))
 
-  indices_placed : (s : Scene) (d : Judged Denoted) (x : tree.Exprs) → Placed d.faults d.value
+  indices_placed : (s : Scene) (d : Judgement Denotation) (x : tree.Exprs) → Placed d.faults d.value
       → Placed (judge_indices s d x).faults (judge_indices s d x).value
   indices_placed s d (tree.exprs e rest) p =
-      index_tail_placed s (indexed s d (tree.expr_node e) (judge_expr s d.next e)) rest
+      index_tail_placed s (index_at s d (tree.expr_node e) (judge_expr s d.next e)) rest
       (index_placed s _ _ _ _ p (whole_node (tree.expr_node e) _ _ _ (expr_whole s d.next e)))
 
-  index_tail_placed : (s : Scene) (d : Judged Denoted) (x : tree.ExprTail) → Placed d.faults d.value
+  index_tail_placed : (s : Scene) (d : Judgement Denotation) (x : tree.ExprTail) → Placed d.faults d.value
       → Placed (judge_index_tail s d x).faults (judge_index_tail s d x).value
   index_tail_placed s d tree.no_expr p = p
   index_tail_placed s d (tree.more_expr e rest) p =
-      index_tail_placed s (indexed s d (tree.expr_node e) (judge_expr s d.next e)) rest
+      index_tail_placed s (index_at s d (tree.expr_node e) (judge_expr s d.next e)) rest
       (index_placed s _ _ _ _ p (whole_node (tree.expr_node e) _ _ _ (expr_whole s d.next e)))

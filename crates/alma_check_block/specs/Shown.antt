@@ -7,10 +7,10 @@ use Rattle.alma_ir.specs.declared.program.Param.{Param}
 use Rattle.alma_ir.specs.Tree as ir
 use Rattle.alma_ir.specs.View.{global_of}
 use Rattle.alma_rules.specs.Numbered as tree
-use Rattle.alma_rules.specs.Judged.{Broken, broken_at}
+use Rattle.alma_rules.specs.Judgement.{BrokenRule, broken_at}
 use Rattle.alma_rules.specs.Scene.{Scene, FormalOf, is_first, is_structured}
 use Rattle.alma_rules.specs.Answers.{first}
-use Rattle.alma_rules.specs.Types.{redeclared}
+use Rattle.alma_rules.specs.Types.{redeclaration_rules}
 use Rattle.alma_rules.specs.Decls as rules
 use Rattle.alma_check_rules.specs.declared.env.Formal.{Formal}
 use Rattle.alma_check_rules.specs.Views.{formal_view}
@@ -26,7 +26,7 @@ formals_in v = option_map (λ x. map formal_view x.items) v
 
 -- what is told of a frame: its first broken rule, and all the rest of it
 pub record ToldFrame : Type 0 where
-  pub fault : Option Broken
+  pub fault : Option BrokenRule
   pub scene : Scene
   pub slots : ℕ
   pub declared : ℕ
@@ -46,8 +46,8 @@ told_frame f = record {
 }
 
 -- the code's frame, with the scene of its reader
-abbrev pub shown : Scene → Frame → ToldFrame
-shown s x = record {
+abbrev pub frame_with_scene : Scene → Frame → ToldFrame
+frame_with_scene s x = record {
   fault = fault_of x.fault;
   scene = s;
   slots = x.slots;
@@ -60,5 +60,5 @@ shown s x = record {
 -- a parameter whose type is not Bad, apart from its formal
 abbrev pub param_shaped : rules.Frame → (from : ℕ) → Option Mode → (shape : ℕ) → tree.Name → rules.Frame
 param_shaped f from mode shape name = if_true (is_first f.scene name)
-    (λ _. rules.limited name f (rules.with_param f name from mode shape (rules.param_kind (is_structured f.scene shape) mode)))
-    (λ _. rules.with_faults f (broken_at name.node (redeclared f.scene name)))
+    (λ _. rules.within_limit name f (rules.with_param f name from mode shape (rules.param_kind (is_structured f.scene shape) mode)))
+    (λ _. rules.with_faults f (broken_at name.node (redeclaration_rules f.scene name)))

@@ -7,13 +7,13 @@ ghost use Rattle.alma_check_type.specs.Told.{told, tells, tells_of, bound_of, fo
 
 use alma_base::NoMemory;
 use alma_check_phrases::check_expr;
-use alma_check_rules::{Place, Typed};
-use alma_check_type::{Bound, Broken, Formed, Reader, Reading, join_subrange};
+use alma_check_rules::{Place, TypedExpr};
+use alma_check_type::{Bound, BrokenRule, Reader, Reading, ShapeOrLimit, join_subrange};
 use alma_rules::Stop;
 use alma_tree::Expr;
 use std::alloc::Global;
 
-fn bound(typed: &Option<Typed>) -> Option<Bound>
+fn bound(typed: &Option<TypedExpr>) -> Option<Bound>
     ensures { result ≡ option_map bound_of (typing_in typed.now) }
 {
     match typed {
@@ -46,7 +46,7 @@ pub fn read_constant(
             value: bound(&typed),
         }),
         Err(Stop::Fault(fault, node)) => Ok(Reading {
-            fault: Some(Broken { node, fault }),
+            fault: Some(BrokenRule { node, fault }),
             value: None,
         }),
         Err(Stop::Memory) => Err(NoMemory),
@@ -60,7 +60,7 @@ pub fn read_subrange(
     node: u32,
     low: &Expr,
     high: &Expr,
-) -> Result<Reading<Formed>, NoMemory>
+) -> Result<Reading<ShapeOrLimit>, NoMemory>
     ensures { IfOk result (λ r. told (types.reading_change types.subrange_of (types.reading_at node
         (types.subrange_rules reader.old) (types.reading_then
         (types.read_constant reader.old (view_expr low.now))

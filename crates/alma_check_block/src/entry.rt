@@ -1,6 +1,6 @@
 // Constants and types.
 ghost use Rattle.std.specs.Prelude.{◌≡◌, ◌+◌, List, Option, option_map, OnOk, IfOk};
-ghost use Rattle.alma_rules.specs.Judged.{Broken as RuleBroken};
+ghost use Rattle.alma_rules.specs.Judgement.{BrokenRule as RuleBroken};
 ghost use Rattle.alma_rules.specs.Answers.{first};
 ghost use Rattle.alma_rules.specs.Parts.{Typing};
 ghost use Rattle.alma_rules.specs.Places.{width, mark_expr, mark_type};
@@ -8,14 +8,14 @@ ghost use Rattle.alma_rules.specs.Types as types;
 ghost use Rattle.alma_rules.specs.Decls as rules;
 ghost use Rattle.alma_rules.specs.View as view;
 ghost use Rattle.alma_check_type.specs.Told.{fault_of, bound_of};
-ghost use Rattle.alma_check_block.specs.Shown.{shown, told_frame};
+ghost use Rattle.alma_check_block.specs.Shown.{frame_with_scene, told_frame};
 
 use crate::constant::read_constant;
 use crate::frame::Frame;
 use crate::type_node::read_type;
 use alma_base::NoMemory;
 use alma_check_marks::{width_of_expr, width_of_type};
-use alma_check_type::{Bound, Broken, Reader, redeclared};
+use alma_check_type::{Bound, BrokenRule, Reader, redeclared};
 use alma_names::{Entry, ShapeId};
 use alma_tree::{ConstEntry, Expr, Name, TypeEntry, TypeNode};
 use std::alloc::Global;
@@ -27,12 +27,12 @@ pub fn enter_name(
     frame: &mut Frame,
     name: &Name,
     from: u32,
-    fault: Option<Broken>,
+    fault: Option<BrokenRule>,
     entry: Entry,
 ) -> Result<(), NoMemory>
-    ensures { (f : rules.Frame) (faults : List RuleBroken) → shown f.scene frame.old ≡ told_frame f
-        → fault_of fault ≡ first faults → OnOk result (shown reader.new frame.new ≡ told_frame
-        (rules.entered f (view.view_name name.now) from faults reader.old entry)) }
+    ensures { (f : rules.Frame) (faults : List RuleBroken) → frame_with_scene f.scene frame.old ≡ told_frame f
+        → fault_of fault ≡ first faults → OnOk result (frame_with_scene reader.new frame.new ≡ told_frame
+        (rules.enter f (view.view_name name.now) from faults reader.old entry)) }
 {
     let twice = redeclared(reader, name);
     reader.declare(alloc, name, from, entry)?;
@@ -89,8 +89,8 @@ fn read_const(
     frame: &mut Frame,
     entry: &ConstEntry,
 ) -> Result<(), NoMemory>
-    ensures { (f : rules.Frame) → shown reader.old frame.old ≡ told_frame f
-        → OnOk result (shown reader.new frame.new ≡ told_frame (rules.constant_in f
+    ensures { (f : rules.Frame) → frame_with_scene reader.old frame.old ≡ told_frame f
+        → OnOk result (frame_with_scene reader.new frame.new ≡ told_frame (rules.constant_in f
         (view.view_const entry.now) (types.read_constant f.scene
         (view.view_expr entry.now.value)))) }
 {
@@ -115,8 +115,8 @@ pub fn read_consts(
     frame: &mut Frame,
     entries: &[ConstEntry],
 ) -> Result<(), NoMemory>
-    ensures { (f : rules.Frame) → shown reader.old frame.old ≡ told_frame f
-        → OnOk result (shown reader.new frame.new ≡ told_frame (rules.read_consts f
+    ensures { (f : rules.Frame) → frame_with_scene reader.old frame.old ≡ told_frame f
+        → OnOk result (frame_with_scene reader.new frame.new ≡ told_frame (rules.read_consts f
         (view.consts_of entries.now))) }
 {
     for entry in entries {
@@ -131,8 +131,8 @@ fn read_type_entry(
     frame: &mut Frame,
     entry: &TypeEntry,
 ) -> Result<(), NoMemory>
-    ensures { (f : rules.Frame) → shown reader.old frame.old ≡ told_frame f
-        → OnOk result (shown reader.new frame.new ≡ told_frame (rules.type_in f
+    ensures { (f : rules.Frame) → frame_with_scene reader.old frame.old ≡ told_frame f
+        → OnOk result (frame_with_scene reader.new frame.new ≡ told_frame (rules.type_in f
         (view.view_type_entry entry.now) (types.read_type f.scene
         (view.view_type_node entry.now.type_node)))) }
 {
@@ -157,8 +157,8 @@ pub fn read_types(
     frame: &mut Frame,
     entries: &[TypeEntry],
 ) -> Result<(), NoMemory>
-    ensures { (f : rules.Frame) → shown reader.old frame.old ≡ told_frame f
-        → OnOk result (shown reader.new frame.new ≡ told_frame (rules.read_types f
+    ensures { (f : rules.Frame) → frame_with_scene reader.old frame.old ≡ told_frame f
+        → OnOk result (frame_with_scene reader.new frame.new ≡ told_frame (rules.read_types f
         (view.types_of entries.now))) }
 {
     for entry in entries {

@@ -5,7 +5,7 @@ ghost use Rattle.alma_rules.specs.Scene.{is_structured, cells};
 ghost use Rattle.alma_rules.specs.Types as types;
 ghost use Rattle.alma_rules.specs.Decls as rules;
 ghost use Rattle.alma_rules.specs.View as view;
-ghost use Rattle.alma_check_block.specs.Shown.{shown, told_frame, param_shaped};
+ghost use Rattle.alma_check_block.specs.Shown.{frame_with_scene, told_frame, param_shaped};
 
 use crate::entry::enter_name;
 use crate::frame::Frame;
@@ -81,8 +81,8 @@ fn push_param(
 ) -> Result<(), NoMemory>
     requires fits { frame.old.declared + rules.declared_cells mode (cells reader.old shape)
         ≤ cell_limit }
-    ensures { (f : rules.Frame) → shown reader.old frame.old ≡ told_frame f
-        → OnOk result (shown reader.new frame.new ≡ told_frame (rules.with_param f
+    ensures { (f : rules.Frame) → frame_with_scene reader.old frame.old ≡ told_frame f
+        → OnOk result (frame_with_scene reader.new frame.new ≡ told_frame (rules.with_param f
         (view.view_name name.now) from mode shape (rules.param_kind (is_structured f.scene shape)
         mode))) }
 {
@@ -112,8 +112,8 @@ fn take_param(
     mode: Option<Mode>,
     shape: u32,
 ) -> Result<(), NoMemory>
-    ensures { (f : rules.Frame) → shown reader.old frame.old ≡ told_frame f
-        → OnOk result (shown reader.new frame.new ≡ told_frame (rules.limited
+    ensures { (f : rules.Frame) → frame_with_scene reader.old frame.old ≡ told_frame f
+        → OnOk result (frame_with_scene reader.new frame.new ≡ told_frame (rules.within_limit
         (view.view_name name.now) f (rules.with_param f (view.view_name name.now) from mode shape
         (rules.param_kind (is_structured f.scene shape) mode)))) }
 {
@@ -135,8 +135,8 @@ fn place_param(
     mode: Option<Mode>,
     shape: u32,
 ) -> Result<(), NoMemory>
-    ensures { (f : rules.Frame) → shown reader.old frame.old ≡ told_frame f
-        → OnOk result (shown reader.new frame.new ≡ told_frame (param_shaped f from mode shape
+    ensures { (f : rules.Frame) → frame_with_scene reader.old frame.old ≡ told_frame f
+        → OnOk result (frame_with_scene reader.new frame.new ≡ told_frame (param_shaped f from mode shape
         (view.view_name name.now))) }
 {
     if reader.is_first(name) {
@@ -156,8 +156,8 @@ fn declare_shaped(
     mode: Option<Mode>,
     shape: u32,
 ) -> Result<(), NoMemory>
-    ensures { (f : rules.Frame) → shown reader.old frame.old ≡ told_frame f
-        → OnOk result (shown reader.new frame.new ≡ told_frame (rules.param_in f from mode
+    ensures { (f : rules.Frame) → frame_with_scene reader.old frame.old ≡ told_frame f
+        → OnOk result (frame_with_scene reader.new frame.new ≡ told_frame (rules.param_in f from mode
         (Some shape) (view.view_name name.now))) }
 {
     place_param(alloc, reader, frame, name, from, mode, shape)?;
@@ -176,8 +176,8 @@ fn declare_bad(
     from: u32,
     mode: Option<Mode>,
 ) -> Result<(), NoMemory>
-    ensures { (f : rules.Frame) → shown reader.old frame.old ≡ told_frame f
-        → OnOk result (shown reader.new frame.new ≡ told_frame (rules.param_in f from mode None
+    ensures { (f : rules.Frame) → frame_with_scene reader.old frame.old ≡ told_frame f
+        → OnOk result (frame_with_scene reader.new frame.new ≡ told_frame (rules.param_in f from mode None
         (view.view_name name.now))) }
 {
     enter_name(alloc, reader, frame, name, from, None, Entry::Bad)?;
@@ -194,8 +194,8 @@ fn declare_param(
     mode: Option<Mode>,
     shape: Option<u32>,
 ) -> Result<(), NoMemory>
-    ensures { (f : rules.Frame) → shown reader.old frame.old ≡ told_frame f
-        → OnOk result (shown reader.new frame.new ≡ told_frame (rules.param_in f from mode shape
+    ensures { (f : rules.Frame) → frame_with_scene reader.old frame.old ≡ told_frame f
+        → OnOk result (frame_with_scene reader.new frame.new ≡ told_frame (rules.param_in f from mode shape
         (view.view_name name.now))) }
 {
     match shape {
@@ -213,8 +213,8 @@ fn declare_params(
     mode: Option<Mode>,
     shape: Option<u32>,
 ) -> Result<(), NoMemory>
-    ensures { (f : rules.Frame) → shown reader.old frame.old ≡ told_frame f
-        → OnOk result (shown reader.new frame.new ≡ told_frame (rules.params_in f from mode shape
+    ensures { (f : rules.Frame) → frame_with_scene reader.old frame.old ≡ told_frame f
+        → OnOk result (frame_with_scene reader.new frame.new ≡ told_frame (rules.params_in f from mode shape
         (view.names_of names.now))) }
 {
     for name in names {
@@ -230,8 +230,8 @@ fn read_formal(
     frame: &mut Frame,
     formal: &Formal,
 ) -> Result<(), NoMemory>
-    ensures { (f : rules.Frame) → shown reader.old frame.old ≡ told_frame f
-        → OnOk result (shown reader.new frame.new ≡ told_frame (rules.formal_in f
+    ensures { (f : rules.Frame) → frame_with_scene reader.old frame.old ≡ told_frame f
+        → OnOk result (frame_with_scene reader.new frame.new ≡ told_frame (rules.formal_in f
         (view.view_formal formal.now) (types.read_type_name f.scene
         (view.view_name formal.now.type_name)))) }
 {
@@ -251,8 +251,8 @@ fn read_formals(
     frame: &mut Frame,
     formals: &[Formal],
 ) -> Result<(), NoMemory>
-    ensures { (f : rules.Frame) → shown reader.old frame.old ≡ told_frame f
-        → OnOk result (shown reader.new frame.new ≡ told_frame (rules.read_formals f
+    ensures { (f : rules.Frame) → frame_with_scene reader.old frame.old ≡ told_frame f
+        → OnOk result (frame_with_scene reader.new frame.new ≡ told_frame (rules.read_formals f
         (view.more_formals_of formals.now))) }
 {
     for formal in formals {
@@ -268,8 +268,8 @@ pub fn read_params(
     frame: &mut Frame,
     params: &Option<Params>,
 ) -> Result<(), NoMemory>
-    ensures { (f : rules.Frame) → shown reader.old frame.old ≡ told_frame f
-        → OnOk result (shown reader.new frame.new ≡ told_frame (rules.read_formals f
+    ensures { (f : rules.Frame) → frame_with_scene reader.old frame.old ≡ told_frame f
+        → OnOk result (frame_with_scene reader.new frame.new ≡ told_frame (rules.read_formals f
         (rules.formals_of (view.params_of params.now)))) }
 {
     match params {

@@ -1,17 +1,17 @@
 // The frame of a routine, as far as its declarations are read.
 ghost use Rattle.std.specs.Prelude.{◌≡◌, ◌+◌, List, nat_le};
 ghost use Rattle.alma_base.specs.Limits.{cell_limit};
-ghost use Rattle.alma_rules.specs.Judged.{Broken as RuleBroken};
+ghost use Rattle.alma_rules.specs.Judgement.{BrokenRule as RuleBroken};
 ghost use Rattle.alma_rules.specs.Scene.{Scene};
 ghost use Rattle.alma_rules.specs.Answers.{first};
 ghost use Rattle.alma_rules.specs.Decls as rules;
 ghost use Rattle.alma_rules.specs.View.{view_name};
 ghost use Rattle.alma_check_type.specs.Told.{fault_of};
-ghost use Rattle.alma_check_block.specs.Shown.{shown, told_frame};
+ghost use Rattle.alma_check_block.specs.Shown.{frame_with_scene, told_frame};
 
 use alma_base::{CELL_LIMIT, CheckFault};
 use alma_check_rules::Formal;
-use alma_check_type::{Broken, earlier};
+use alma_check_type::{BrokenRule, earlier};
 use alma_ir::Param;
 use alma_tree::Name;
 use std::alloc::Global;
@@ -20,7 +20,7 @@ use std::alloc::Global;
 #[derive(Drop)]
 pub struct Frame {
     /// The first broken rule.
-    pub fault: Option<Broken>,
+    pub fault: Option<BrokenRule>,
     /// The next free slot.
     pub slots: u32,
     /// The declared cells so far.
@@ -33,7 +33,7 @@ pub struct Frame {
 
 /// The frame before any declaration, whose first free slot is this.
 pub fn new_frame(alloc: Global, slots: u32) -> Frame
-    ensures { (s : Scene) → shown s result ≡ told_frame (rules.new_frame s slots) }
+    ensures { (s : Scene) → frame_with_scene s result ≡ told_frame (rules.new_frame s slots) }
 {
     Frame {
         fault: None,
@@ -47,10 +47,10 @@ pub fn new_frame(alloc: Global, slots: u32) -> Frame
 
 impl Frame {
     /// Notes a broken rule behind those so far.
-    pub fn add_fault(&mut self, fault: Option<Broken>)
+    pub fn add_fault(&mut self, fault: Option<BrokenRule>)
         ensures { (s : Scene) (f : rules.Frame) (faults : List RuleBroken)
-            → shown s self.old ≡ told_frame f → fault_of fault ≡ first faults
-            → shown s self.new ≡ told_frame (rules.with_faults f faults) }
+            → frame_with_scene s self.old ≡ told_frame f → fault_of fault ≡ first faults
+            → frame_with_scene s self.new ≡ told_frame (rules.with_faults f faults) }
     {
         self.fault = earlier(self.fault, fault);
     }
@@ -64,10 +64,10 @@ impl Frame {
 
     /// Notes that a name does not fit; the scene is the one behind it.
     pub fn refuse(&mut self, name: &Name)
-        ensures { (s t : Scene) (f : rules.Frame) → shown s self.old ≡ told_frame f
-            → shown t self.new ≡ told_frame (rules.too_large f (view_name name.now) t) }
+        ensures { (s t : Scene) (f : rules.Frame) → frame_with_scene s self.old ≡ told_frame f
+            → frame_with_scene t self.new ≡ told_frame (rules.too_large f (view_name name.now) t) }
     {
-        self.add_fault(Some(Broken {
+        self.add_fault(Some(BrokenRule {
             node: name.node,
             fault: CheckFault::TooLarge,
         }));

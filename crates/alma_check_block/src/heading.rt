@@ -1,7 +1,7 @@
 // Headings.
 ghost use Rattle.std.specs.Prelude.{◌≡◌, ℕ, List, Some, option_map, OnOk, IfOk};
 ghost use Rattle.alma_base.specs.declared.fault.CheckFault.{CheckFault as Rule};
-ghost use Rattle.alma_rules.specs.Judged.{broken_at, unbroken};
+ghost use Rattle.alma_rules.specs.Judgement.{broken_at, if_unbroken};
 ghost use Rattle.alma_rules.specs.Scene.{Scene};
 ghost use Rattle.alma_rules.specs.Answers.{first};
 ghost use Rattle.alma_rules.specs.Decls as rules;
@@ -9,14 +9,14 @@ ghost use Rattle.alma_rules.specs.View as view;
 ghost use Rattle.alma_check_rules.specs.Views.{heading_view};
 ghost use Rattle.alma_check_type.specs.Told.{fault_of};
 ghost use Rattle.alma_check_type.specs.Around.{outer_of};
-ghost use Rattle.alma_check_block.specs.Shown.{shown, told_frame, formals_view, formals_in};
+ghost use Rattle.alma_check_block.specs.Shown.{frame_with_scene, told_frame, formals_view, formals_in};
 
 use crate::formal::read_params;
 use crate::frame::{Frame, new_frame};
 use crate::open::open_block;
 use alma_base::{CheckFault, NoMemory};
 use alma_check_rules::{Formal, Heading, Returns};
-use alma_check_type::{Around, Broken, Reader, read_type_name};
+use alma_check_type::{Around, BrokenRule, Reader, read_type_name};
 use alma_ir::Param;
 use alma_tree::{Block, Name, Params};
 use std::alloc::Global;
@@ -55,8 +55,8 @@ fn form_heading(
     frame: &Frame,
     returns: Option<u32>,
 ) -> Result<Option<Heading>, NoMemory>
-    ensures { (s : Scene) (f : rules.Frame) → shown s frame.now ≡ told_frame f
-        → IfOk result (λ h. option_map heading_view h ≡ unbroken f.faults
+    ensures { (s : Scene) (f : rules.Frame) → frame_with_scene s frame.now ≡ told_frame f
+        → IfOk result (λ h. option_map heading_view h ≡ if_unbroken f.faults
         (option_map (rules.heading_with f returns) (rules.all_formals f.formals))) }
 {
     if frame.fault.is_some() {
@@ -73,7 +73,7 @@ fn form_heading(
 }
 
 // The fault of a result type that is structured.
-fn structured_result(reader: &Reader, name: &Name, shape: Option<u32>) -> Option<Broken>
+fn structured_result(reader: &Reader, name: &Name, shape: Option<u32>) -> Option<BrokenRule>
     ensures { fault_of result ≡ first (broken_at name.now.node
         (rules.result_rules reader.now shape)) }
 {
@@ -83,7 +83,7 @@ fn structured_result(reader: &Reader, name: &Name, shape: Option<u32>) -> Option
             if !reader.env().is_structured(shape) {
                 return None;
             }
-            Some(Broken {
+            Some(BrokenRule {
                 node: name.node,
                 fault: CheckFault::TypeMismatch,
             })
@@ -98,11 +98,11 @@ fn read_function(
     frame: &mut Frame,
     name: &Name,
 ) -> Result<Option<Heading>, NoMemory>
-    ensures frame { (f : rules.Frame) → shown reader.old frame.old ≡ told_frame f
-        → OnOk result (shown reader.new frame.new ≡ told_frame (rules.headed f
+    ensures frame { (f : rules.Frame) → frame_with_scene reader.old frame.old ≡ told_frame f
+        → OnOk result (frame_with_scene reader.new frame.new ≡ told_frame (rules.heading_at f
         (Some (view.view_name name.now))).frame) }
-    ensures heading { (f : rules.Frame) → shown reader.old frame.old ≡ told_frame f
-        → IfOk result (λ h. option_map heading_view h ≡ (rules.headed f
+    ensures heading { (f : rules.Frame) → frame_with_scene reader.old frame.old ≡ told_frame f
+        → IfOk result (λ h. option_map heading_view h ≡ (rules.heading_at f
         (Some (view.view_name name.now))).heading) }
 {
     let reading = read_type_name(reader.env(), name)?;
@@ -123,11 +123,11 @@ fn read_result(
     frame: &mut Frame,
     returns: &Option<Name>,
 ) -> Result<Option<Heading>, NoMemory>
-    ensures frame { (f : rules.Frame) → shown reader.old frame.old ≡ told_frame f
-        → OnOk result (shown reader.new frame.new ≡ told_frame (rules.headed f
+    ensures frame { (f : rules.Frame) → frame_with_scene reader.old frame.old ≡ told_frame f
+        → OnOk result (frame_with_scene reader.new frame.new ≡ told_frame (rules.heading_at f
         (view.result_of returns.now)).frame) }
-    ensures heading { (f : rules.Frame) → shown reader.old frame.old ≡ told_frame f
-        → IfOk result (λ h. option_map heading_view h ≡ (rules.headed f
+    ensures heading { (f : rules.Frame) → frame_with_scene reader.old frame.old ≡ told_frame f
+        → IfOk result (λ h. option_map heading_view h ≡ (rules.heading_at f
         (view.result_of returns.now)).heading) }
 {
     match returns {
@@ -140,24 +140,28 @@ fn read_result(
 }
 
 // The fault of a procedure that stands inside eight others.
-fn too_deep(reader: &Reader, node: u32) -> Option<Broken>
+fn too_deep(reader: &Reader, node: u32) -> Option<BrokenRule>
     ensures { fault_of result ≡ first (broken_at node (rules.too_deep reader.now)) }
 {
     if reader.env().scopes.depth() < 9 {
         return None;
     }
-    Some(Broken {
+    Some(BrokenRule {
         node,
         fault: CheckFault::NestedProcedure,
     })
 }
 
 // The heading of a procedure that stands too deep is Bad.
-fn at_depth(frame: &mut Frame, deep: Option<Broken>, heading: Option<Heading>) -> Option<Heading>
-    ensures frame { (s : Scene) (h : rules.Headed) (faults : List Rule) (node : ℕ)
-        → shown s frame.old ≡ told_frame h.frame → fault_of deep ≡ first (broken_at node faults)
-        → shown s frame.new ≡ told_frame (rules.with_depth faults node h).frame }
-    ensures heading { (h : rules.Headed) (faults : List Rule) (node : ℕ)
+fn at_depth(
+    frame: &mut Frame,
+    deep: Option<BrokenRule>,
+    heading: Option<Heading>,
+) -> Option<Heading>
+    ensures frame { (s : Scene) (h : rules.FramedHeading) (faults : List Rule) (node : ℕ)
+        → frame_with_scene s frame.old ≡ told_frame h.frame → fault_of deep ≡ first (broken_at node faults)
+        → frame_with_scene s frame.new ≡ told_frame (rules.with_depth faults node h).frame }
+    ensures heading { (h : rules.FramedHeading) (faults : List Rule) (node : ℕ)
         → option_map heading_view heading ≡ h.heading
         → fault_of deep ≡ first (broken_at node faults)
         → option_map heading_view result ≡ (rules.with_depth faults node h).heading }
@@ -182,7 +186,7 @@ pub fn read_heading(
     returns: &Option<Name>,
     block: &Block,
 ) -> Result<Headed, NoMemory>
-    ensures frame { IfOk result (λ x. shown reader.new x.frame ≡ told_frame
+    ensures frame { IfOk result (λ x. frame_with_scene reader.new x.frame ≡ told_frame
         (rules.read_heading reader.old routine node (view.params_of params.now)
         (view.result_of returns.now) (view.view_block block.now)).frame) }
     ensures heading { IfOk result (λ x. option_map heading_view x.heading ≡

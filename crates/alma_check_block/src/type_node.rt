@@ -9,8 +9,8 @@ ghost use Rattle.alma_check_type.specs.Inner.Fields as spec;
 use crate::constant::read_subrange;
 use alma_base::NoMemory;
 use alma_check_type::{
-    Fields, Formed, Reader, Reading, join_fields, join_index, join_record, join_type, no_fields,
-    plain_node, read_listed, read_named,
+    Fields, Reader, Reading, ShapeOrLimit, join_fields, join_index, join_record, join_type,
+    no_fields, plain_node, read_listed, read_named,
 };
 use alma_tree::{Arrays, Dimensions, FieldList, PlainType, TypeNode};
 use std::alloc::Global;
@@ -111,7 +111,7 @@ fn read_plain(
     alloc: Global,
     reader: &mut Reader,
     plain: &PlainType,
-) -> Result<Reading<Formed>, NoMemory>
+) -> Result<Reading<ShapeOrLimit>, NoMemory>
     ensures { IfOk result (λ r. told (types.read_plain reader.old
         (view_plain_type plain.now)) ≡ tells_of formed_of r reader.new) }
 {

@@ -5,7 +5,7 @@ ghost use Rattle.alma_rules.specs.Scene.{cells};
 ghost use Rattle.alma_rules.specs.Types as types;
 ghost use Rattle.alma_rules.specs.Decls as rules;
 ghost use Rattle.alma_rules.specs.View as view;
-ghost use Rattle.alma_check_block.specs.Shown.{shown, told_frame};
+ghost use Rattle.alma_check_block.specs.Shown.{frame_with_scene, told_frame};
 
 use crate::entry::{behind_type, enter_name};
 use crate::frame::Frame;
@@ -36,8 +36,8 @@ fn push_variable(
     shape: u32,
 ) -> Result<(), NoMemory>
     requires fits { frame.old.declared + cells reader.old shape ≤ cell_limit }
-    ensures { (f : rules.Frame) → shown reader.old frame.old ≡ told_frame f
-        → OnOk result (shown reader.new frame.new ≡ told_frame (rules.with_variable f
+    ensures { (f : rules.Frame) → frame_with_scene reader.old frame.old ≡ told_frame f
+        → OnOk result (frame_with_scene reader.new frame.new ≡ told_frame (rules.with_variable f
         (view.view_name name.now) from shape)) }
 {
     let slot = frame.slots;
@@ -63,8 +63,8 @@ fn place_variable(
     from: u32,
     shape: u32,
 ) -> Result<(), NoMemory>
-    ensures { (f : rules.Frame) → shown reader.old frame.old ≡ told_frame f
-        → OnOk result (shown reader.new frame.new ≡ told_frame (rules.limited
+    ensures { (f : rules.Frame) → frame_with_scene reader.old frame.old ≡ told_frame f
+        → OnOk result (frame_with_scene reader.new frame.new ≡ told_frame (rules.within_limit
         (view.view_name name.now) f (rules.with_variable f (view.view_name name.now) from
         shape))) }
 {
@@ -85,8 +85,8 @@ fn declare_shaped(
     from: u32,
     shape: u32,
 ) -> Result<(), NoMemory>
-    ensures { (f : rules.Frame) → shown reader.old frame.old ≡ told_frame f
-        → OnOk result (shown reader.new frame.new ≡ told_frame (rules.variable_in f from
+    ensures { (f : rules.Frame) → frame_with_scene reader.old frame.old ≡ told_frame f
+        → OnOk result (frame_with_scene reader.new frame.new ≡ told_frame (rules.variable_in f from
         (Some shape) (view.view_name name.now))) }
 {
     if reader.is_first(name) {
@@ -104,8 +104,8 @@ fn declare_variable(
     from: u32,
     shape: Option<u32>,
 ) -> Result<(), NoMemory>
-    ensures { (f : rules.Frame) → shown reader.old frame.old ≡ told_frame f
-        → OnOk result (shown reader.new frame.new ≡ told_frame (rules.variable_in f from shape
+    ensures { (f : rules.Frame) → frame_with_scene reader.old frame.old ≡ told_frame f
+        → OnOk result (frame_with_scene reader.new frame.new ≡ told_frame (rules.variable_in f from shape
         (view.view_name name.now))) }
 {
     match shape {
@@ -122,8 +122,8 @@ fn declare_variables(
     from: u32,
     shape: Option<u32>,
 ) -> Result<(), NoMemory>
-    ensures { (f : rules.Frame) → shown reader.old frame.old ≡ told_frame f
-        → OnOk result (shown reader.new frame.new ≡ told_frame (rules.variables_in f from shape
+    ensures { (f : rules.Frame) → frame_with_scene reader.old frame.old ≡ told_frame f
+        → OnOk result (frame_with_scene reader.new frame.new ≡ told_frame (rules.variables_in f from shape
         (view.names_of names.now))) }
 {
     for name in names {
@@ -139,8 +139,8 @@ fn read_var(
     frame: &mut Frame,
     entry: &VarEntry,
 ) -> Result<(), NoMemory>
-    ensures { (f : rules.Frame) → shown reader.old frame.old ≡ told_frame f
-        → OnOk result (shown reader.new frame.new ≡ told_frame (rules.variables_of f
+    ensures { (f : rules.Frame) → frame_with_scene reader.old frame.old ≡ told_frame f
+        → OnOk result (frame_with_scene reader.new frame.new ≡ told_frame (rules.variables_of f
         (view.view_var entry.now) (types.read_type f.scene
         (view.view_type_node entry.now.type_node)))) }
 {
@@ -161,8 +161,8 @@ pub fn read_vars(
     frame: &mut Frame,
     entries: &[VarEntry],
 ) -> Result<(), NoMemory>
-    ensures { (f : rules.Frame) → shown reader.old frame.old ≡ told_frame f
-        → OnOk result (shown reader.new frame.new ≡ told_frame (rules.read_vars f
+    ensures { (f : rules.Frame) → frame_with_scene reader.old frame.old ≡ told_frame f
+        → OnOk result (frame_with_scene reader.new frame.new ≡ told_frame (rules.read_vars f
         (view.vars_of entries.now))) }
 {
     for entry in entries {

@@ -32,11 +32,11 @@ pub no_arguments : (v : Vec A.Arg Global) → v.items ≡ [] → args_list v.ite
 no_arguments v h = ap args_list h
 
 pub call_without : (c : parts.Callee) (args : ir.Args) → None ≡ c.heading.result
-    → parts.called (c, args) ≡ parts.boolean_typing (parts.a_test (ir.CallTest c.number args c.up))
+    → parts.typing_of_call (c, args) ≡ parts.boolean_typing (parts.a_test (ir.CallTest c.number args c.up))
 call_without c args h = rw (sym h) refl
 
 pub call_giving : (c : parts.Callee) (args : ir.Args) (shape : ℕ) → Some shape ≡ c.heading.result
-    → parts.called (c, args) ≡ record { shape = shape; constant = None; meaning = parts.plain (ir.CallExpr c.number args c.up) }
+    → parts.typing_of_call (c, args) ≡ record { shape = shape; constant = None; meaning = parts.plain (ir.CallExpr c.number args c.up) }
 call_giving c args shape h = rw (sym h) refl
 
 -- one more operand

@@ -51,7 +51,7 @@ loop_in x = option_map loop_of x
 abbrev pub items_in : {A : Type 0} → Option (Vec A Global) → Option (List A)
 items_in v = option_map (λ x. x.items) v
 
-abbrev pub pushed : {A : Type 0} → Option (List A) → Option A → Option (List A)
-pushed None x = None
-pushed (Some xs) None = None
-pushed (Some xs) (Some x) = Some (xs ++ x ∷ [])
+abbrev pub push : {A : Type 0} → Option (List A) → Option A → Option (List A)
+push None x = None
+push (Some xs) None = None
+push (Some xs) (Some x) = Some (xs ++ x ∷ [])

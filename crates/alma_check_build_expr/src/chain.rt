@@ -3,16 +3,16 @@ ghost use Rattle.std.specs.Prelude.{◌≡◌, true, false, is_some, Option, Non
 ghost use Rattle.alma_ir.specs.Tree as ir;
 ghost use Rattle.alma_ir.specs.View.{test_of, links_list, tests_list};
 ghost use Rattle.alma_rules.specs.View.{terms_of, factors_of};
-ghost use Rattle.alma_rules.specs.Judged.{both_of, holds};
+ghost use Rattle.alma_rules.specs.Judgement.{both_of, holds};
 ghost use Rattle.alma_rules.specs.Parts as parts;
 ghost use Rattle.alma_rules.specs.ExprRules as rules;
 ghost use Rattle.alma_rules.specs.Nodes as nodes;
-ghost use Rattle.alma_check_rules.specs.Views.{scene_of, typing_in, typing_of, meaning_view, operator_view, operand_view, operands_view, operands_in, operands_of, join_view, gathered};
+ghost use Rattle.alma_check_rules.specs.Views.{scene_of, typing_in, typing_of, meaning_view, operator_view, operand_view, operands_view, operands_in, operands_of, join_view, gather};
 ghost use Rattle.alma_check_build_expr.specs.First.{first_of};
 
 use crate::expression::{as_test, as_value, no_place};
 use alma_base::{div_down, mod_down};
-use alma_check_rules::{Behind, Env, Join, Meaning, Operand, Operator, Place, Typed};
+use alma_check_rules::{Behind, Env, Join, Meaning, Operand, Operator, Place, TypedExpr};
 use alma_ir::{Expr, Link, Op, Test};
 use alma_tree::{AddLink, AddOperator, MulLink, MulOperator, Sign};
 use std::alloc::{AllocError, Global};
@@ -99,9 +99,9 @@ pub fn first_mul(more: &[MulLink]) -> Operand
 pub fn add(
     kept: Option<Vec<Behind>>,
     operator: Operator,
-    typed: Option<Typed>,
+    typed: Option<TypedExpr>,
 ) -> Result<Option<Vec<Behind>>, AllocError>
-    ensures { IfOk result (λ k. operands_in k ≡ gathered (operator_view operator) (operands_in kept)
+    ensures { IfOk result (λ k. operands_in k ≡ gather (operator_view operator) (operands_in kept)
         (typing_in typed)) }
 {
     match kept {
@@ -173,8 +173,8 @@ fn apply_operator(value: Option<i64>, behind: &Behind) -> Option<i64>
 }
 
 // The value of a sum or a product, from left to right.
-fn folded(sign: Option<Sign>, first: &Typed, rest: &[Behind]) -> Option<i64>
-    ensures { result ≡ parts.folded sign (typing_of first.now, operands_view rest.now) }
+fn folded(sign: Option<Sign>, first: &TypedExpr, rest: &[Behind]) -> Option<i64>
+    ensures { result ≡ parts.chain_value sign (typing_of first.now, operands_view rest.now) }
 {
     let mut value = apply_sign(sign, first.constant);
     for behind in rest {
@@ -183,7 +183,7 @@ fn folded(sign: Option<Sign>, first: &Typed, rest: &[Behind]) -> Option<i64>
     value
 }
 
-fn has_no_value(sign: Option<Sign>, first: &Option<Typed>, rest: &Option<Vec<Behind>>) -> bool
+fn has_no_value(sign: Option<Sign>, first: &Option<TypedExpr>, rest: &Option<Vec<Behind>>) -> bool
     ensures { result ≡ holds (rules.has_no_value sign) (both_of (typing_in first.now)
         (operands_in rest.now)) }
 {
@@ -202,7 +202,7 @@ pub fn no_constant_sum(
     place: Place,
     sign: Option<Sign>,
     logical: bool,
-    first: &Option<Typed>,
+    first: &Option<TypedExpr>,
     rest: &Option<Vec<Behind>>,
 ) -> bool
     ensures { result ≡ rules.no_constant_sum (scene_of env.now place) sign logical
@@ -299,7 +299,7 @@ fn chain_of(
     alloc: Global,
     join: Join,
     sign: Option<Sign>,
-    first: Typed,
+    first: TypedExpr,
     rest: Vec<Behind>,
 ) -> Result<Meaning, AllocError>
     ensures { IfOk result (λ m. meaning_view m ≡ parts.chain_of (join_view join) sign
@@ -329,16 +329,16 @@ fn chained(
     alloc: Global,
     join: Join,
     sign: Option<Sign>,
-    first: Typed,
+    first: TypedExpr,
     rest: Vec<Behind>,
-) -> Result<Typed, AllocError>
-    ensures { IfOk result (λ t. typing_of t ≡ parts.chained (join_view join) sign
+) -> Result<TypedExpr, AllocError>
+    ensures { IfOk result (λ t. typing_of t ≡ parts.chain_typing (join_view join) sign
         (typing_of first, operands_of rest)) }
 {
     let shape = chain_shape(&rest);
     let constant = folded(sign, &first, &rest);
     let meaning = chain_of(alloc, join, sign, first, rest)?;
-    Ok(Typed {
+    Ok(TypedExpr {
         shape,
         constant,
         meaning,
@@ -350,10 +350,10 @@ pub fn chained_in(
     alloc: Global,
     join: Join,
     sign: Option<Sign>,
-    first: Option<Typed>,
+    first: Option<TypedExpr>,
     rest: Option<Vec<Behind>>,
-) -> Result<Option<Typed>, AllocError>
-    ensures { IfOk result (λ t. typing_in t ≡ option_map (parts.chained (join_view join) sign)
+) -> Result<Option<TypedExpr>, AllocError>
+    ensures { IfOk result (λ t. typing_in t ≡ option_map (parts.chain_typing (join_view join) sign)
         (both_of (typing_in first) (operands_in rest))) }
 {
     match first {
@@ -366,7 +366,7 @@ pub fn chained_in(
 }
 
 /// A sum or a product of one operand.
-pub fn alone(first: Option<Typed>, rest: Option<Vec<Behind>>) -> Option<Typed>
+pub fn alone(first: Option<TypedExpr>, rest: Option<Vec<Behind>>) -> Option<TypedExpr>
     ensures { typing_in result ≡ option_map (λ p. p.0) (both_of (typing_in first)
         (operands_in rest)) }
 {

@@ -2,13 +2,13 @@
 ghost use Rattle.std.specs.Prelude.{◌≡◌, Option, None, Some, option_map, option_and_then, IfOk};
 ghost use Rattle.alma_ir.specs.View.{expr_of, test_of, arg_of, desig_of, sels_list, sel_of};
 ghost use Rattle.alma_ir.specs.Tree as ir;
-ghost use Rattle.alma_rules.specs.Judged.{both_of};
+ghost use Rattle.alma_rules.specs.Judgement.{both_of};
 ghost use Rattle.alma_rules.specs.Parts as parts;
 ghost use Rattle.alma_rules.specs.Nodes as nodes;
 ghost use Rattle.alma_check_rules.specs.Views.{argument_in, located_of, scene_of, headings_in, denoted_in, typing_in, typing_of, located_in, callee_in, formal_view, meaning_view, args_of, args_in, stmts_in, somewhere};
 
 use alma_base::Range;
-use alma_check_rules::{Callee, Denoted, Env, Formal, Located, Meaning, Typed};
+use alma_check_rules::{Callee, Denotation, Env, Formal, Location, Meaning, TypedExpr};
 use alma_ir::{Arg, Call, Desig, Expr, Sel, Stmt, Test};
 use alma_tree::Mode;
 use std::alloc::{AllocError, Global};
@@ -48,18 +48,18 @@ pub fn no_place(meaning: Meaning) -> Meaning
     }
 }
 
-pub fn without_place(typed: Option<Typed>) -> Option<Typed>
+pub fn without_place(typed: Option<TypedExpr>) -> Option<TypedExpr>
     ensures { typing_in result ≡ option_map parts.without_place (typing_in typed) }
 {
     match typed {
         None => None,
         Some(
-            Typed {
+            TypedExpr {
                 shape,
                 constant,
                 meaning,
             },
-        ) => Some(Typed {
+        ) => Some(TypedExpr {
             shape,
             constant,
             meaning: no_place(meaning),
@@ -68,48 +68,48 @@ pub fn without_place(typed: Option<Typed>) -> Option<Typed>
 }
 
 /// A test, as a part of type BOOLEAN.
-pub fn boolean(meaning: Meaning) -> Typed
+pub fn boolean(meaning: Meaning) -> TypedExpr
     ensures { typing_of result ≡ parts.boolean_typing (meaning_view meaning) }
 {
-    Typed {
+    TypedExpr {
         shape: 2,
         constant: None,
         meaning,
     }
 }
 
-pub fn integer(value: i64) -> Typed
+pub fn integer(value: i64) -> TypedExpr
     ensures { typing_of result ≡ parts.integer_typing value }
 {
-    Typed {
+    TypedExpr {
         shape: 0,
         constant: Some(value),
         meaning: Meaning::Plain(Expr::Const(value)),
     }
 }
 
-pub fn character(value: i64) -> Typed
+pub fn character(value: i64) -> TypedExpr
     ensures { typing_of result ≡ parts.char_typing value }
 {
-    Typed {
+    TypedExpr {
         shape: 1,
         constant: Some(value),
         meaning: Meaning::Plain(Expr::Const(value)),
     }
 }
 
-pub fn ord(alloc: Global, typed: Option<Typed>) -> Result<Option<Typed>, AllocError>
+pub fn ord(alloc: Global, typed: Option<TypedExpr>) -> Result<Option<TypedExpr>, AllocError>
     ensures { IfOk result (λ t. typing_in t ≡ option_map nodes.ord_typing (typing_in typed)) }
 {
     match typed {
         None => Ok(None),
         Some(
-            Typed {
+            TypedExpr {
                 shape: _,
                 constant,
                 meaning,
             },
-        ) => Ok(Some(Typed {
+        ) => Ok(Some(TypedExpr {
             shape: 0,
             constant,
             meaning: Meaning::Plain(as_value(alloc, meaning)?),
@@ -117,20 +117,20 @@ pub fn ord(alloc: Global, typed: Option<Typed>) -> Result<Option<Typed>, AllocEr
     }
 }
 
-pub fn chr(alloc: Global, typed: Option<Typed>) -> Result<Option<Typed>, AllocError>
+pub fn chr(alloc: Global, typed: Option<TypedExpr>) -> Result<Option<TypedExpr>, AllocError>
     ensures { IfOk result (λ t. typing_in t ≡ option_map nodes.chr_typing (typing_in typed)) }
 {
     match typed {
         None => Ok(None),
         Some(
-            Typed {
+            TypedExpr {
                 shape: _,
                 constant,
                 meaning,
             },
         ) => {
             let value = Box::new(alloc, as_value(alloc, meaning)?)?;
-            Ok(Some(Typed {
+            Ok(Some(TypedExpr {
                 shape: 1,
                 constant,
                 meaning: Meaning::Plain(Expr::Chr(value)),
@@ -139,13 +139,13 @@ pub fn chr(alloc: Global, typed: Option<Typed>) -> Result<Option<Typed>, AllocEr
     }
 }
 
-pub fn negate(alloc: Global, typed: Option<Typed>) -> Result<Option<Typed>, AllocError>
+pub fn negate(alloc: Global, typed: Option<TypedExpr>) -> Result<Option<TypedExpr>, AllocError>
     ensures { IfOk result (λ t. typing_in t ≡ option_map nodes.not_typing (typing_in typed)) }
 {
     match typed {
         None => Ok(None),
         Some(
-            Typed {
+            TypedExpr {
                 shape: _,
                 constant: _,
                 meaning,
@@ -157,7 +157,7 @@ pub fn negate(alloc: Global, typed: Option<Typed>) -> Result<Option<Typed>, Allo
     }
 }
 
-pub fn sequence(body: Option<Vec<Stmt>>) -> Option<Typed>
+pub fn sequence(body: Option<Vec<Stmt>>) -> Option<TypedExpr>
     ensures { typing_in result ≡ option_map (λ b. parts.boolean_typing (parts.a_test (ir.Seq b)))
         (stmts_in body) }
 {
@@ -184,10 +184,10 @@ fn call_value(routine: u32, args: Vec<Arg>, up: u32) -> Meaning
 // ---- designators
 
 /// The designator alone, without the type of its cells.
-pub fn desig(located: Located) -> Desig
+pub fn desig(located: Location) -> Desig
     ensures { desig_of result ≡ parts.desig_of (located_of located) }
 {
-    let Located {
+    let Location {
         shape: _,
         root,
         cells,
@@ -196,7 +196,7 @@ pub fn desig(located: Located) -> Desig
     Desig { root, cells, sels }
 }
 
-pub fn known(located: Option<Located>) -> Option<Typed>
+pub fn known(located: Option<Location>) -> Option<TypedExpr>
     ensures { typing_in result ≡ option_map nodes.known_typing (located_in located) }
 {
     match located {
@@ -205,29 +205,29 @@ pub fn known(located: Option<Located>) -> Option<Typed>
     }
 }
 
-pub fn as_located(env: &Env, found: Option<Denoted>) -> Option<Located>
+pub fn as_located(env: &Env, found: Option<Denotation>) -> Option<Location>
     ensures { located_in result ≡ option_and_then parts.located_in
         (denoted_in (headings_in env.now) found) }
 {
     match found {
-        Some(Denoted::Variable(located)) => Some(located),
-        Some(Denoted::Constant(_, _)) | Some(Denoted::Routine(_, _)) => None,
-        Some(Denoted::NoArray) | None => None,
+        Some(Denotation::Variable(located)) => Some(located),
+        Some(Denotation::Constant(_, _)) | Some(Denotation::Routine(_, _)) => None,
+        Some(Denotation::NoArray) | None => None,
     }
 }
 
-pub fn as_callee(env: &Env, found: Option<Denoted>) -> Option<Callee>
+pub fn as_callee(env: &Env, found: Option<Denotation>) -> Option<Callee>
     ensures { callee_in (headings_in env.now) result ≡ option_and_then parts.callee_in
         (denoted_in (headings_in env.now) found) }
 {
     match found {
-        Some(Denoted::Routine(number, up)) => Some(Callee { number, up }),
-        Some(Denoted::Constant(_, _)) | Some(Denoted::Variable(_)) => None,
-        Some(Denoted::NoArray) | None => None,
+        Some(Denotation::Routine(number, up)) => Some(Callee { number, up }),
+        Some(Denotation::Constant(_, _)) | Some(Denotation::Variable(_)) => None,
+        Some(Denotation::NoArray) | None => None,
     }
 }
 
-fn variable(located: Located) -> Typed
+fn variable(located: Location) -> TypedExpr
     ensures { typing_of result ≡ record {
       shape = located.shape;
       constant = None;
@@ -236,7 +236,7 @@ fn variable(located: Located) -> Typed
     } }
 {
     let shape = located.shape;
-    Typed {
+    TypedExpr {
         shape,
         constant: None,
         meaning: Meaning::Place(desig(located)),
@@ -244,26 +244,26 @@ fn variable(located: Located) -> Typed
 }
 
 /// A designator as an expression.
-pub fn as_typed(alloc: Global, env: &Env, found: Option<Denoted>) -> Option<Typed>
+pub fn as_typed(alloc: Global, env: &Env, found: Option<Denotation>) -> Option<TypedExpr>
     ensures { typing_in result ≡ option_and_then parts.typing_in
         (denoted_in (headings_in env.now) found) }
 {
     match found {
-        Some(Denoted::Constant(shape, value)) => Some(Typed {
+        Some(Denotation::Constant(shape, value)) => Some(TypedExpr {
             shape,
             constant: Some(value),
             meaning: Meaning::Plain(Expr::Const(value)),
         }),
-        Some(Denoted::Variable(located)) => Some(variable(located)),
-        Some(Denoted::Routine(routine, up)) => {
+        Some(Denotation::Variable(located)) => Some(variable(located)),
+        Some(Denotation::Routine(routine, up)) => {
             let args = Vec::new(alloc);
             Some(boolean(call_test(routine, args, up)))
         }
-        Some(Denoted::NoArray) | None => None,
+        Some(Denotation::NoArray) | None => None,
     }
 }
 
-fn narrowed(located: Located, shape: u32, sel: Sel) -> Result<Located, AllocError>
+fn narrowed(located: Location, shape: u32, sel: Sel) -> Result<Location, AllocError>
     ensures { IfOk result (λ l. located_of l ≡ record {
       shape = shape;
       root = located.root;
@@ -272,7 +272,7 @@ fn narrowed(located: Located, shape: u32, sel: Sel) -> Result<Located, AllocErro
       sels = parts.with_sel (sels_list located.sels.items) (sel_of sel);
     }) }
 {
-    let Located {
+    let Location {
         shape: _,
         root,
         cells,
@@ -280,7 +280,7 @@ fn narrowed(located: Located, shape: u32, sel: Sel) -> Result<Located, AllocErro
     } = located;
     let mut sels = sels;
     sels.push(sel)?;
-    Ok(Located {
+    Ok(Location {
         shape,
         root,
         cells,
@@ -291,23 +291,23 @@ fn narrowed(located: Located, shape: u32, sel: Sel) -> Result<Located, AllocErro
 pub fn select_field(
     env: &Env,
     name: &[u8],
-    found: Option<Denoted>,
-) -> Result<Option<Denoted>, AllocError>
+    found: Option<Denotation>,
+) -> Result<Option<Denotation>, AllocError>
     ensures { IfOk result (λ d. denoted_in (headings_in env.now) d ≡ option_and_then
         (parts.select_field (scene_of env.now somewhere) name.now)
         (denoted_in (headings_in env.now) found)) }
 {
     match found {
-        Some(Denoted::Variable(located)) => match env.field(located.shape, name) {
+        Some(Denotation::Variable(located)) => match env.field(located.shape, name) {
             None => Ok(None),
             Some((offset, shape)) => {
                 let sel = Sel::Field(offset, env.cells(shape));
-                Ok(Some(Denoted::Variable(narrowed(located, shape, sel)?)))
+                Ok(Some(Denotation::Variable(narrowed(located, shape, sel)?)))
             }
         },
-        Some(Denoted::Constant(shape, value)) => Ok(Some(Denoted::Constant(shape, value))),
-        Some(Denoted::Routine(routine, up)) => Ok(Some(Denoted::Routine(routine, up))),
-        Some(Denoted::NoArray) => Ok(Some(Denoted::NoArray)),
+        Some(Denotation::Constant(shape, value)) => Ok(Some(Denotation::Constant(shape, value))),
+        Some(Denotation::Routine(routine, up)) => Ok(Some(Denotation::Routine(routine, up))),
+        Some(Denotation::NoArray) => Ok(Some(Denotation::NoArray)),
         None => Ok(None),
     }
 }
@@ -316,21 +316,21 @@ pub fn select_field(
 fn select_element(
     alloc: Global,
     env: &Env,
-    located: Located,
-    typed: Option<Typed>,
-) -> Result<Option<Denoted>, AllocError>
+    located: Location,
+    typed: Option<TypedExpr>,
+) -> Result<Option<Denotation>, AllocError>
     ensures { IfOk result (λ d. denoted_in (headings_in env.now) d ≡ parts.select_index
         (scene_of env.now somewhere) (Some (parts.a_variable (located_of located)))
         (typing_in typed)) }
 {
     match env.row(located.shape) {
-        None => Ok(Some(Denoted::NoArray)),
+        None => Ok(Some(Denotation::NoArray)),
         Some((index, element)) => match typed {
             None => Ok(None),
             Some(typed) => {
                 let value = as_value(alloc, typed.meaning)?;
                 let sel = Sel::Index(value, env.range(index), env.cells(element));
-                Ok(Some(Denoted::Variable(narrowed(located, element, sel)?)))
+                Ok(Some(Denotation::Variable(narrowed(located, element, sel)?)))
             }
         },
     }
@@ -339,23 +339,23 @@ fn select_element(
 pub fn select_index(
     alloc: Global,
     env: &Env,
-    found: Option<Denoted>,
-    typed: Option<Typed>,
-) -> Result<Option<Denoted>, AllocError>
+    found: Option<Denotation>,
+    typed: Option<TypedExpr>,
+) -> Result<Option<Denotation>, AllocError>
     ensures { IfOk result (λ d. denoted_in (headings_in env.now) d ≡ parts.select_index
         (scene_of env.now somewhere) (denoted_in (headings_in env.now) found) (typing_in typed)) }
 {
     match found {
         None => Ok(None),
-        Some(Denoted::NoArray) => Ok(Some(Denoted::NoArray)),
-        Some(Denoted::Variable(located)) => select_element(alloc, env, located, typed),
-        Some(Denoted::Constant(shape, value)) => match typed {
+        Some(Denotation::NoArray) => Ok(Some(Denotation::NoArray)),
+        Some(Denotation::Variable(located)) => select_element(alloc, env, located, typed),
+        Some(Denotation::Constant(shape, value)) => match typed {
             None => Ok(None),
-            Some(_typed) => Ok(Some(Denoted::Constant(shape, value))),
+            Some(_typed) => Ok(Some(Denotation::Constant(shape, value))),
         },
-        Some(Denoted::Routine(routine, up)) => match typed {
+        Some(Denotation::Routine(routine, up)) => match typed {
             None => Ok(None),
-            Some(_typed) => Ok(Some(Denoted::Routine(routine, up))),
+            Some(_typed) => Ok(Some(Denotation::Routine(routine, up))),
         },
     }
 }
@@ -409,7 +409,7 @@ pub fn argument(
     alloc: Global,
     env: &Env,
     formal: Option<Formal>,
-    typed: Option<Typed>,
+    typed: Option<TypedExpr>,
 ) -> Result<Option<Arg>, AllocError>
     ensures { IfOk result (λ a. option_map arg_of a ≡ option_map
         (parts.argument_of (scene_of env.now somewhere) (option_map formal_view formal))
@@ -431,8 +431,8 @@ pub fn argument(
 }
 
 /// A call of a function is plain, and one of a procedure without result is a test.
-pub fn call(env: &Env, callee: Option<Callee>, args: Option<Vec<Arg>>) -> Option<Typed>
-    ensures { typing_in result ≡ option_map parts.called
+pub fn call(env: &Env, callee: Option<Callee>, args: Option<Vec<Arg>>) -> Option<TypedExpr>
+    ensures { typing_in result ≡ option_map parts.typing_of_call
         (both_of (callee_in (headings_in env.now) callee) (args_in args)) }
 {
     match callee {
@@ -441,7 +441,7 @@ pub fn call(env: &Env, callee: Option<Callee>, args: Option<Vec<Arg>>) -> Option
             None => None,
             Some(args) => match env.result(callee.number) {
                 None => Some(boolean(call_test(callee.number, args, callee.up))),
-                Some(shape) => Some(Typed {
+                Some(shape) => Some(TypedExpr {
                     shape,
                     constant: None,
                     meaning: call_value(callee.number, args, callee.up),

@@ -2,12 +2,12 @@
 ghost use Rattle.std.specs.Prelude.{◌≡◌, Some, option_map, IfOk};
 ghost use Rattle.alma_ir.specs.View.{expr_of};
 ghost use Rattle.alma_ir.specs.Tree as ir;
-ghost use Rattle.alma_rules.specs.Judged.{both_of};
+ghost use Rattle.alma_rules.specs.Judgement.{both_of};
 ghost use Rattle.alma_rules.specs.Parts as parts;
 ghost use Rattle.alma_check_rules.specs.Views.{scene_of, typing_in, typing_of, meaning_view, somewhere};
 
 use crate::expression::{as_value, boolean};
-use alma_check_rules::{Env, Meaning, Typed};
+use alma_check_rules::{Env, Meaning, TypedExpr};
 use alma_ir::{Cmp, Expr, Test};
 use alma_tree::Relation;
 use std::alloc::{AllocError, Global};
@@ -43,7 +43,12 @@ fn compare(alloc: Global, cmp: Cmp, left: Meaning, right: Meaning) -> Result<Mea
 }
 
 // An equation with exactly one designator binds it; one of two unifies them, or their cells.
-fn equation(alloc: Global, env: &Env, left: Typed, right: Typed) -> Result<Meaning, AllocError>
+fn equation(
+    alloc: Global,
+    env: &Env,
+    left: TypedExpr,
+    right: TypedExpr,
+) -> Result<Meaning, AllocError>
     ensures { IfOk result (λ m. meaning_view m ≡ parts.equation_of (scene_of env.now somewhere)
         (typing_of left) (typing_of right) (meaning_view left.meaning)
         (meaning_view right.meaning)) }
@@ -114,8 +119,8 @@ fn relation_of(
     alloc: Global,
     env: &Env,
     relation: Relation,
-    left: Typed,
-    right: Typed,
+    left: TypedExpr,
+    right: TypedExpr,
 ) -> Result<Meaning, AllocError>
     ensures { IfOk result (λ m. meaning_view m ≡ parts.relation_of
         (scene_of env.now somewhere) relation (typing_of left, typing_of right)) }
@@ -137,11 +142,11 @@ fn relate_to(
     alloc: Global,
     env: &Env,
     relation: Relation,
-    left: Typed,
-    right: Option<Typed>,
-) -> Result<Option<Typed>, AllocError>
+    left: TypedExpr,
+    right: Option<TypedExpr>,
+) -> Result<Option<TypedExpr>, AllocError>
     ensures { IfOk result (λ t. typing_in t ≡ option_map
-        (parts.related (scene_of env.now somewhere) relation)
+        (parts.relation_typing (scene_of env.now somewhere) relation)
         (both_of (Some (typing_of left)) (typing_in right))) }
 {
     match right {
@@ -155,11 +160,11 @@ pub fn relate(
     alloc: Global,
     env: &Env,
     relation: Relation,
-    left: Option<Typed>,
-    right: Option<Typed>,
-) -> Result<Option<Typed>, AllocError>
+    left: Option<TypedExpr>,
+    right: Option<TypedExpr>,
+) -> Result<Option<TypedExpr>, AllocError>
     ensures { IfOk result (λ t. typing_in t ≡ option_map
-        (parts.related (scene_of env.now somewhere) relation)
+        (parts.relation_typing (scene_of env.now somewhere) relation)
         (both_of (typing_in left) (typing_in right))) }
 {
     match left {

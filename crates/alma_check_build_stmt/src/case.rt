@@ -1,7 +1,7 @@
 // CASE. A part is None where a name in use there is Bad, and then so is the whole.
 ghost use Rattle.std.specs.Prelude.{◌≡◌, option_map, IfOk};
 ghost use Rattle.alma_ir.specs.Tree as ir;
-ghost use Rattle.alma_rules.specs.Judged.{both_of};
+ghost use Rattle.alma_rules.specs.Judgement.{both_of};
 ghost use Rattle.alma_rules.specs.Parts as parts;
 ghost use Rattle.alma_rules.specs.Nodes as nodes;
 ghost use Rattle.alma_check_rules.specs.Views.{typing_in, spans_in, spans_view, stmts_in};
@@ -10,7 +10,7 @@ ghost use Rattle.alma_check_build_expr.specs.Lists.{cases_in, else_in};
 use crate::statement::single;
 use alma_base::Range;
 use alma_check_build_expr::as_value;
-use alma_check_rules::{Span, Typed};
+use alma_check_rules::{Span, TypedExpr};
 use alma_ir::{CaseArm, Stmt};
 use std::alloc::{AllocError, Global};
 
@@ -50,7 +50,7 @@ pub fn case_arm(
 /// CASE, with all its arms and the ELSE part.
 pub fn case_stmt(
     alloc: Global,
-    typed: Option<Typed>,
+    typed: Option<TypedExpr>,
     arms: Option<Vec<CaseArm>>,
     other: Option<Option<Vec<Stmt>>>,
 ) -> Result<Option<Vec<Stmt>>, AllocError>

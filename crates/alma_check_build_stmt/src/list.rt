@@ -1,6 +1,6 @@
 // Lists of parts. A list is None where one of its parts is Bad.
 ghost use Rattle.std.specs.Prelude.{◌≡◌, ◌∷◌, [], IfOk};
-ghost use Rattle.alma_check_build_expr.specs.Lists.{items_in, pushed};
+ghost use Rattle.alma_check_build_expr.specs.Lists.{items_in, push};
 
 use std::alloc::{AllocError, Global};
 
@@ -18,7 +18,7 @@ pub fn with_part<T: Drop>(
     parts: Option<Vec<T>>,
     part: Option<T>,
 ) -> Result<Option<Vec<T>>, AllocError>
-    ensures { IfOk result (λ k. items_in k ≡ pushed (items_in parts) part) }
+    ensures { IfOk result (λ k. items_in k ≡ push (items_in parts) part) }
 {
     match parts {
         None => Ok(None),

@@ -2,7 +2,7 @@
 ghost use Rattle.std.specs.Prelude.{◌≡◌, None, Some, option_map, IfOk};
 ghost use Rattle.alma_ir.specs.View.{stmt_of, return_option};
 ghost use Rattle.alma_ir.specs.Tree as ir;
-ghost use Rattle.alma_rules.specs.Judged.{both_of};
+ghost use Rattle.alma_rules.specs.Judgement.{both_of};
 ghost use Rattle.alma_rules.specs.Parts as parts;
 ghost use Rattle.alma_rules.specs.Nodes as nodes;
 ghost use Rattle.alma_check_rules.specs.Views.{scene_of, typing_in, located_in, located_of, meaning_view, stmts_in, stmts_of, somewhere};
@@ -10,7 +10,7 @@ ghost use Rattle.alma_check_build_expr.specs.Lists.{test_in, arms_in, branches_i
 
 use crate::list::one;
 use alma_check_build_expr::{as_test, as_value, desig};
-use alma_check_rules::{Env, Located, Meaning, Typed};
+use alma_check_rules::{Env, Location, Meaning, TypedExpr};
 use alma_ir::{Arm, Branch, Expr, ReadAs, Stmt, Test, WriteAs};
 use std::alloc::{AllocError, Global};
 
@@ -29,7 +29,7 @@ pub fn nothing(alloc: Global) -> Option<Vec<Stmt>>
 }
 
 /// An expression as a condition.
-pub fn condition(typed: Option<Typed>) -> Option<Test>
+pub fn condition(typed: Option<TypedExpr>) -> Option<Test>
     ensures { test_in result ≡ option_map (λ t. parts.test_of t.meaning) (typing_in typed) }
 {
     match typed {
@@ -54,7 +54,7 @@ pub fn test_stmt(alloc: Global, test: Option<Test>) -> Result<Option<Vec<Stmt>>,
 fn assigned_to(
     alloc: Global,
     env: &Env,
-    located: Located,
+    located: Location,
     meaning: Meaning,
 ) -> Result<Stmt, AllocError>
     ensures { IfOk result (λ x. stmt_of x ≡ parts.assigned_to (scene_of env.now somewhere)
@@ -82,10 +82,10 @@ fn assigned_to(
 pub fn assigned(
     alloc: Global,
     env: &Env,
-    located: Option<Located>,
-    typed: Option<Typed>,
+    located: Option<Location>,
+    typed: Option<TypedExpr>,
 ) -> Result<Option<Vec<Stmt>>, AllocError>
-    ensures { IfOk result (λ v. stmts_in v ≡ option_map (parts.assigned
+    ensures { IfOk result (λ v. stmts_in v ≡ option_map (parts.assignment_stmts
         (scene_of env.now somewhere)) (both_of (located_in located) (typing_in typed))) }
 {
     match located {
@@ -230,7 +230,7 @@ pub fn bare_return(alloc: Global) -> Result<Option<Vec<Stmt>>, AllocError>
 }
 
 /// RETURN with an expression.
-pub fn returned(alloc: Global, typed: Option<Typed>) -> Result<Option<Vec<Stmt>>, AllocError>
+pub fn returned(alloc: Global, typed: Option<TypedExpr>) -> Result<Option<Vec<Stmt>>, AllocError>
     ensures { IfOk result (λ v. stmts_in v ≡ option_map parts.one_stmt
         (option_map (λ t. ir.Return (ir.some_result (parts.value_of t.meaning)))
         (typing_in typed))) }
@@ -258,7 +258,7 @@ fn read_as(env: &Env, shape: u32) -> ReadAs
 pub fn read(
     alloc: Global,
     env: &Env,
-    located: Option<Located>,
+    located: Option<Location>,
 ) -> Result<Option<Vec<Stmt>>, AllocError>
     ensures { IfOk result (λ v. stmts_in v ≡ option_map (parts.read_stmts
         (scene_of env.now somewhere)) (located_in located)) }
@@ -289,7 +289,7 @@ fn write_as(env: &Env, shape: u32) -> WriteAs
 pub fn write(
     alloc: Global,
     env: &Env,
-    typed: Option<Typed>,
+    typed: Option<TypedExpr>,
 ) -> Result<Option<Vec<Stmt>>, AllocError>
     ensures { IfOk result (λ v. stmts_in v ≡ option_map (parts.write_stmts
         (scene_of env.now somewhere)) (typing_in typed)) }

@@ -2,7 +2,7 @@
 ghost use Rattle.std.specs.Prelude.{◌≡◌, ◌+◌, ◌<◌, ◌^◌, option_map, IfOk};
 ghost use Rattle.alma_ir.specs.Tree as ir;
 ghost use Rattle.alma_ir.specs.View.{expr_of};
-ghost use Rattle.alma_rules.specs.Judged.{both_of};
+ghost use Rattle.alma_rules.specs.Judgement.{both_of};
 ghost use Rattle.alma_rules.specs.Parts as parts;
 ghost use Rattle.alma_rules.specs.Nodes as nodes;
 ghost use Rattle.alma_check_rules.specs.Views.{scene_of, typing_in, located_in, stmts_in, somewhere};
@@ -11,7 +11,7 @@ ghost use Rattle.alma_check_build_stmt.specs.Turns.{turns_of};
 
 use crate::statement::single;
 use alma_check_build_expr::{as_value, desig};
-use alma_check_rules::{Env, Located, Typed};
+use alma_check_rules::{Env, Location, TypedExpr};
 use alma_ir::{Expr, Loop, Stmt};
 use std::alloc::{AllocError, Global};
 
@@ -20,9 +20,9 @@ pub fn loop_of(
     alloc: Global,
     env: &Env,
     counter: u32,
-    variable: Option<Located>,
-    low: Option<Typed>,
-    high: Option<Typed>,
+    variable: Option<Location>,
+    low: Option<TypedExpr>,
+    high: Option<TypedExpr>,
     by: Option<i64>,
     body: Option<Vec<Stmt>>,
 ) -> Result<Option<Loop>, AllocError>
@@ -37,7 +37,7 @@ pub fn loop_of(
 }
 
 // A bound as a value.
-fn value(alloc: Global, typed: Option<Typed>) -> Result<Option<Expr>, AllocError>
+fn value(alloc: Global, typed: Option<TypedExpr>) -> Result<Option<Expr>, AllocError>
     ensures { IfOk result (λ v. option_map expr_of v
         ≡ option_map (λ t. parts.value_of t.meaning) (typing_in typed)) }
 {
@@ -51,7 +51,7 @@ fn value(alloc: Global, typed: Option<Typed>) -> Result<Option<Expr>, AllocError
 fn turns(
     env: &Env,
     counter: u32,
-    variable: Option<Located>,
+    variable: Option<Location>,
     from: Option<Expr>,
     to: Option<Expr>,
     by: Option<i64>,

@@ -1,1 +1,1 @@
-pub mod Armed
+pub mod JudgesArms

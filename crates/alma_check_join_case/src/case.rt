@@ -4,16 +4,16 @@
 ghost use Rattle.std.specs.Prelude.{◌≡◌, ℕ, option_map, option_and_then};
 ghost use Rattle.alma_ir.specs.Tree as ir;
 ghost use Rattle.alma_ir.specs.View.{else_option};
-ghost use Rattle.alma_rules.specs.Judged.{Judged, of_value, both, both_of, with};
+ghost use Rattle.alma_rules.specs.Judgement.{Judgement, of_value, both, both_of, with};
 ghost use Rattle.alma_rules.specs.Answers.{Answers};
 ghost use Rattle.alma_rules.specs.Parts as parts;
 ghost use Rattle.alma_rules.specs.Nodes as nodes;
 ghost use Rattle.alma_check_rules.specs.Views.{scene_of, typing_in, typing_of, span_view, spans_view, spans_in, stmts_of, stmts_in, somewhere};
 ghost use Rattle.alma_check_build_expr.specs.Lists.{cases_of, cases_in, else_in};
-ghost use Rattle.alma_check_join_case.specs.Armed.{Armed};
+ghost use Rattle.alma_check_join_case.specs.JudgesArms.{JudgesArms};
 
 use alma_check_build_stmt::{case_arm, case_stmt};
-use alma_check_rules::{Env, Labels, Span, Typed, pass_case, pass_label, span_of};
+use alma_check_rules::{Env, Labels, Span, TypedExpr, pass_case, pass_label, span_of};
 use alma_ir::{CaseArm, Stmt};
 use alma_rules::Stop;
 use std::alloc::Global;
@@ -22,12 +22,12 @@ use std::alloc::Global;
 pub fn join_label(
     env: &Env,
     node: u32,
-    case: &Option<Typed>,
+    case: &Option<TypedExpr>,
     earlier: &Labels,
-    low: Option<Typed>,
-    high: Result<Option<Typed>, Stop>,
+    low: Option<TypedExpr>,
+    high: Result<Option<TypedExpr>, Stop>,
 ) -> Result<Option<Span>, Stop>
-    ensures { (j : Judged parts.Typing) (n m : ℕ) → Answers j typing_of m high
+    ensures { (j : Judgement parts.Typing) (n m : ℕ) → Answers j typing_of m high
         → Answers (nodes.label_at (scene_of env.now somewhere) (typing_in case.now) (spans_view
         earlier.now) node (of_value n (typing_in low)) j) span_view m result }
 {
@@ -40,11 +40,11 @@ pub fn join_label(
 pub fn join_single(
     env: &Env,
     node: u32,
-    case: &Option<Typed>,
+    case: &Option<TypedExpr>,
     earlier: &Labels,
-    low: Result<Option<Typed>, Stop>,
+    low: Result<Option<TypedExpr>, Stop>,
 ) -> Result<Option<Span>, Stop>
-    ensures { (j : Judged parts.Typing) (m : ℕ) → Answers j typing_of m low
+    ensures { (j : Judgement parts.Typing) (m : ℕ) → Answers j typing_of m low
         → Answers (nodes.label_at (scene_of env.now somewhere) (typing_in case.now) (spans_view
         earlier.now) node j (of_value j.next j.value)) span_view m result }
 {
@@ -59,7 +59,7 @@ pub fn join_arm(
     labels: Option<Vec<Span>>,
     body: Result<Option<Vec<Stmt>>, Stop>,
 ) -> Result<Option<Vec<CaseArm>>, Stop>
-    ensures { (j : Judged ir.Stmts) (n m : ℕ) → Answers j stmts_of m body
+    ensures { (j : Judgement ir.Stmts) (n m : ℕ) → Answers j stmts_of m body
         → Answers (with nodes.arm_of (both (of_value n (spans_in labels)) j)) cases_of m result }
 {
     let body = body?;
@@ -69,26 +69,26 @@ pub fn join_arm(
 
 /// The value of a CASE with its arms.
 #[derive(Drop)]
-pub struct Cased {
-    pub typed: Option<Typed>,
+pub struct CaseWithArms {
+    pub typed: Option<TypedExpr>,
     pub arms: Option<Vec<CaseArm>>,
 }
 
 /// The value of a CASE, behind its arms.
 pub fn join_arms(
-    typed: Option<Typed>,
+    typed: Option<TypedExpr>,
     arms: Result<Option<Vec<CaseArm>>, Stop>,
-) -> Result<Cased, Stop>
-    ensures { (j : Judged ir.CaseArms) (m : ℕ) → Answers j cases_of m arms
-        → Armed (typing_in typed) j m result }
+) -> Result<CaseWithArms, Stop>
+    ensures { (j : Judgement ir.CaseArms) (m : ℕ) → Answers j cases_of m arms
+        → JudgesArms (typing_in typed) j m result }
 {
     let arms = arms?;
-    Ok(Cased { typed, arms })
+    Ok(CaseWithArms { typed, arms })
 }
 
 /// The ELSE part of a CASE.
 pub fn join_else(body: Result<Option<Vec<Stmt>>, Stop>) -> Result<Option<Option<Vec<Stmt>>>, Stop>
-    ensures { (j : Judged ir.Stmts) (m : ℕ) → Answers j stmts_of m body
+    ensures { (j : Judgement ir.Stmts) (m : ℕ) → Answers j stmts_of m body
         → Answers (with ir.else_part j) else_option m result }
 {
     let body = body?;
@@ -109,10 +109,10 @@ pub fn join_case(
     alloc: Global,
     env: &Env,
     node: u32,
-    case: Cased,
+    case: CaseWithArms,
     other: Result<Option<Option<Vec<Stmt>>>, Stop>,
 ) -> Result<Option<Vec<Stmt>>, Stop>
-    ensures { (j : Judged ir.Else) (n a m : ℕ) → Answers j else_option m other
+    ensures { (j : Judgement ir.Else) (n a m : ℕ) → Answers j else_option m other
         → Answers (nodes.one (nodes.case_at (scene_of env.now somewhere) node (of_value n (typing_in
         case.typed)) (of_value a (cases_in case.arms)) j)) stmts_of m result }
 {
@@ -122,7 +122,7 @@ pub fn join_case(
     Ok(whole)
 }
 
-fn span_in(env: &Env, low: &Option<Typed>, high: &Option<Typed>) -> Option<Span>
+fn span_in(env: &Env, low: &Option<TypedExpr>, high: &Option<TypedExpr>) -> Option<Span>
     ensures { option_map span_view result ≡ option_and_then (parts.span_of (scene_of env.now
         somewhere)) (both_of (typing_in low.now) (typing_in high.now)) }
 {

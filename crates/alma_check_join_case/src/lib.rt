@@ -4,4 +4,4 @@
 
 mod case;
 
-pub use case::{Cased, join_arm, join_arms, join_case, join_else, join_label, join_single};
+pub use case::{CaseWithArms, join_arm, join_arms, join_case, join_else, join_label, join_single};

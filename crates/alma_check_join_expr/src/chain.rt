@@ -1,6 +1,6 @@
 // Sums and products behind all their operands.
 ghost use Rattle.std.specs.Prelude.{◌≡◌, ℕ, List, Option, None, Some};
-ghost use Rattle.alma_rules.specs.Judged.{Judged, of_value, both, both_of};
+ghost use Rattle.alma_rules.specs.Judgement.{Judgement, of_value, both, both_of};
 ghost use Rattle.alma_rules.specs.View.{terms_of, factors_of};
 ghost use Rattle.alma_rules.specs.Answers.{Answers};
 ghost use Rattle.alma_rules.specs.Parts as parts;
@@ -10,7 +10,7 @@ ghost use Rattle.alma_check_join_expr.specs.Single.{one_term, one_factor};
 
 use alma_base::CheckFault;
 use alma_check_build_expr::{alone, any_and, any_or, chained_in, no_constant_sum};
-use alma_check_rules::{Behind, Env, Join, Operand, Place, Typed, pass_operand};
+use alma_check_rules::{Behind, Env, Join, Operand, Place, TypedExpr, pass_operand};
 use alma_rules::Stop;
 use alma_tree::{AddLink, MulLink, Sign};
 use std::alloc::Global;
@@ -25,9 +25,9 @@ fn join_chain(
     node: u32,
     sign: Option<Sign>,
     logical: bool,
-    first: Option<Typed>,
+    first: Option<TypedExpr>,
     rest: Option<Vec<Behind>>,
-) -> Result<Option<Typed>, Stop>
+) -> Result<Option<TypedExpr>, Stop>
     ensures { (m : ℕ) → Answers (nodes.chain_at (scene_of env.now place) (join_view join)
         (operand_view operand) node sign logical
         (of_value m (both_of (typing_in first) (operands_in rest)))) typing_of m result }
@@ -62,10 +62,10 @@ pub fn join_sum(
     node: u32,
     sign: Option<Sign>,
     more: &[AddLink],
-    first: Option<Typed>,
+    first: Option<TypedExpr>,
     rest: Result<Option<Vec<Behind>>, Stop>,
-) -> Result<Option<Typed>, Stop>
-    ensures { (j : Judged parts.Operands) (n m : ℕ) → Answers j operands_of m rest
+) -> Result<Option<TypedExpr>, Stop>
+    ensures { (j : Judgement parts.Operands) (n m : ℕ) → Answers j operands_of m rest
         → Answers (nodes.sum_at (scene_of env.now place) node sign (terms_of more.now)
         (both (of_value n (typing_in first)) j)) typing_of m result }
 {
@@ -107,10 +107,10 @@ pub fn join_product(
     operand: Operand,
     node: u32,
     more: &[MulLink],
-    first: Option<Typed>,
+    first: Option<TypedExpr>,
     rest: Result<Option<Vec<Behind>>, Stop>,
-) -> Result<Option<Typed>, Stop>
-    ensures { (j : Judged parts.Operands) (n m : ℕ) → Answers j operands_of m rest
+) -> Result<Option<TypedExpr>, Stop>
+    ensures { (j : Judgement parts.Operands) (n m : ℕ) → Answers j operands_of m rest
         → Answers (nodes.product_at (scene_of env.now place) (operand_view operand) node
         (factors_of more.now) (both (of_value n (typing_in first)) j)) typing_of m result }
 {

@@ -4,7 +4,7 @@
 ghost use Rattle.std.specs.Prelude.{◌≡◌, ℕ, List, Option, None, Some, option_map, IfOk};
 ghost use Rattle.alma_ir.specs.Tree as ir;
 ghost use Rattle.alma_ir.specs.View.{arg_of};
-ghost use Rattle.alma_rules.specs.Judged.{Judged, fine, of_value, both, both_of, with, with_some, at_node};
+ghost use Rattle.alma_rules.specs.Judgement.{Judgement, fine, of_value, both, both_of, with, with_some, at_node};
 ghost use Rattle.alma_rules.specs.Scene.{literal_at, number_at};
 ghost use Rattle.alma_rules.specs.Answers.{Answers};
 ghost use Rattle.alma_rules.specs.Parts as parts;
@@ -17,9 +17,10 @@ use alma_check_build_expr::{
     relate, select_field, select_index, sequence, without_place,
 };
 use alma_check_rules::{
-    Argument, Callee, Denoted, Env, Formal, Found, Operand, Place, Typed, Use, pass_argument,
-    pass_array, pass_call, pass_chr, pass_constant, pass_desig, pass_field, pass_index, pass_known,
-    pass_literal, pass_name, pass_not, pass_operand, pass_relation, pass_simple, pass_test,
+    Argument, Callee, Denotation, Env, Formal, Found, Operand, Place, TypedExpr, Use,
+    pass_argument, pass_array, pass_call, pass_chr, pass_constant, pass_desig, pass_field,
+    pass_index, pass_known, pass_literal, pass_name, pass_not, pass_operand, pass_relation,
+    pass_simple, pass_test,
 };
 use alma_ir::{Arg, Stmt};
 use alma_rules::Stop;
@@ -33,10 +34,10 @@ pub fn join_relation(
     place: Place,
     node: u32,
     relation: Relation,
-    left: Option<Typed>,
-    right: Result<Option<Typed>, Stop>,
-) -> Result<Option<Typed>, Stop>
-    ensures { (j : Judged parts.Typing) (n m : ℕ) → Answers j typing_of m right
+    left: Option<TypedExpr>,
+    right: Result<Option<TypedExpr>, Stop>,
+) -> Result<Option<TypedExpr>, Stop>
+    ensures { (j : Judgement parts.Typing) (n m : ℕ) → Answers j typing_of m right
         → Answers (nodes.relation_at (scene_of env.now place) node relation (both (of_value n
         (typing_in left)) j)) typing_of m result }
 {
@@ -51,9 +52,9 @@ pub fn join_factor(
     env: &Env,
     node: u32,
     operand: Operand,
-    typed: Result<Option<Typed>, Stop>,
-) -> Result<Option<Typed>, Stop>
-    ensures { (j : Judged parts.Typing) (m : ℕ) → Answers j typing_of m typed
+    typed: Result<Option<TypedExpr>, Stop>,
+) -> Result<Option<TypedExpr>, Stop>
+    ensures { (j : Judgement parts.Typing) (m : ℕ) → Answers j typing_of m typed
         → Answers (at_node node (rules.operand_rules (scene_of env.now somewhere) (operand_view
         operand)) j) typing_of m result }
 {
@@ -70,9 +71,9 @@ pub fn join_not(
     node: u32,
     inner: u32,
     operand: Operand,
-    typed: Result<Option<Typed>, Stop>,
-) -> Result<Option<Typed>, Stop>
-    ensures { (j : Judged parts.Typing) (m : ℕ) → Answers j typing_of m typed
+    typed: Result<Option<TypedExpr>, Stop>,
+) -> Result<Option<TypedExpr>, Stop>
+    ensures { (j : Judgement parts.Typing) (m : ℕ) → Answers j typing_of m typed
         → Answers (at_node node (rules.not_rules (scene_of env.now place) (operand_view operand))
         (with nodes.not_typing (at_node inner (rules.test_rules (scene_of env.now somewhere)) j)))
         typing_of m result }
@@ -89,9 +90,9 @@ pub fn join_ord(
     alloc: Global,
     env: &Env,
     node: u32,
-    operand: Result<Option<Typed>, Stop>,
-) -> Result<Option<Typed>, Stop>
-    ensures { (j : Judged parts.Typing) (m : ℕ) → Answers j typing_of m operand
+    operand: Result<Option<TypedExpr>, Stop>,
+) -> Result<Option<TypedExpr>, Stop>
+    ensures { (j : Judgement parts.Typing) (m : ℕ) → Answers j typing_of m operand
         → Answers (with nodes.ord_typing (at_node node (rules.simple_rules (scene_of env.now
         somewhere)) j)) typing_of m result }
 {
@@ -107,9 +108,9 @@ pub fn join_chr(
     env: &Env,
     place: Place,
     node: u32,
-    operand: Result<Option<Typed>, Stop>,
-) -> Result<Option<Typed>, Stop>
-    ensures { (j : Judged parts.Typing) (m : ℕ) → Answers j typing_of m operand
+    operand: Result<Option<TypedExpr>, Stop>,
+) -> Result<Option<TypedExpr>, Stop>
+    ensures { (j : Judgement parts.Typing) (m : ℕ) → Answers j typing_of m operand
         → Answers (with nodes.chr_typing (at_node node (rules.chr_rules (scene_of env.now place))
         j)) typing_of m result }
 {
@@ -124,10 +125,10 @@ pub fn join_known(
     env: &Env,
     place: Place,
     node: u32,
-    desig: Result<Option<Denoted>, Stop>,
-) -> Result<Option<Typed>, Stop>
-    ensures { (j : Judged parts.Denoted) (m : ℕ) → Answers j (denoted_of (headings_in env.now)) m
-        desig → Answers (with nodes.known_typing (at_node node (rules.known_rules (scene_of env.now
+    desig: Result<Option<Denotation>, Stop>,
+) -> Result<Option<TypedExpr>, Stop>
+    ensures { (j : Judgement parts.Denotation) (m : ℕ) → Answers j (denoted_of (headings_in env.now))
+        m desig → Answers (with nodes.known_typing (at_node node (rules.known_rules (scene_of env.now
         place)) (with_some parts.located_in j))) typing_of m result }
 {
     let found = desig?;
@@ -140,10 +141,10 @@ pub fn join_known(
 pub fn join_value(
     alloc: Global,
     env: &Env,
-    desig: Result<Option<Denoted>, Stop>,
-) -> Result<Option<Typed>, Stop>
-    ensures { (j : Judged parts.Denoted) (m : ℕ) → Answers j (denoted_of (headings_in env.now)) m
-        desig → Answers (with_some parts.typing_in j) typing_of m result }
+    desig: Result<Option<Denotation>, Stop>,
+) -> Result<Option<TypedExpr>, Stop>
+    ensures { (j : Judgement parts.Denotation) (m : ℕ) → Answers j (denoted_of (headings_in env.now))
+        m desig → Answers (with_some parts.typing_in j) typing_of m result }
 {
     let found = desig?;
     Ok(as_typed(alloc, env, found))
@@ -154,8 +155,8 @@ pub fn join_field(
     env: &Env,
     node: u32,
     name: &[u8],
-    found: Option<Denoted>,
-) -> Result<Option<Denoted>, Stop>
+    found: Option<Denotation>,
+) -> Result<Option<Denotation>, Stop>
     ensures { (n : ℕ) → Answers (with_some (parts.select_field (scene_of env.now somewhere)
         name.now) (at_node node (rules.field_rules (scene_of env.now somewhere) name.now) (of_value
         n (denoted_in (headings_in env.now) found)))) (denoted_of (headings_in env.now)) n result }
@@ -170,11 +171,11 @@ pub fn join_index(
     alloc: Global,
     env: &Env,
     node: u32,
-    found: Option<Denoted>,
-    index: Result<Option<Typed>, Stop>,
-) -> Result<Option<Denoted>, Stop>
-    ensures { (j : Judged parts.Typing) (n m : ℕ) → Answers j typing_of m index
-        → Answers (nodes.indexed (scene_of env.now somewhere) (of_value n (denoted_in (headings_in
+    found: Option<Denotation>,
+    index: Result<Option<TypedExpr>, Stop>,
+) -> Result<Option<Denotation>, Stop>
+    ensures { (j : Judgement parts.Typing) (n m : ℕ) → Answers j typing_of m index
+        → Answers (nodes.index_at (scene_of env.now somewhere) (of_value n (denoted_in (headings_in
         env.now) found)) node j) (denoted_of (headings_in env.now)) m result }
 {
     let typed = index?;
@@ -187,9 +188,9 @@ pub fn join_index(
 pub fn join_array(
     env: &Env,
     node: u32,
-    part: Result<Option<Denoted>, Stop>,
-) -> Result<Option<Denoted>, Stop>
-    ensures { (j : Judged parts.Denoted) (m : ℕ) → Answers j (denoted_of (headings_in env.now)) m
+    part: Result<Option<Denotation>, Stop>,
+) -> Result<Option<Denotation>, Stop>
+    ensures { (j : Judgement parts.Denotation) (m : ℕ) → Answers j (denoted_of (headings_in env.now)) m
         part → Answers (at_node node rules.array_rules j) (denoted_of (headings_in env.now)) m
         result }
 {
@@ -206,9 +207,9 @@ pub fn join_desig(
     wanted: Use,
     selected: bool,
     found: Found,
-    part: Result<Option<Denoted>, Stop>,
-) -> Result<Option<Denoted>, Stop>
-    ensures { (j : Judged parts.Denoted) (m : ℕ) → Answers j (denoted_of (headings_in env.now)) m
+    part: Result<Option<Denotation>, Stop>,
+) -> Result<Option<Denotation>, Stop>
+    ensures { (j : Judgement parts.Denotation) (m : ℕ) → Answers j (denoted_of (headings_in env.now)) m
         part → Answers (at_node node (rules.desig_rules (scene_of env.now place) (use_view wanted)
         selected (found_view (headings_in env.now) found)) j) (denoted_of (headings_in env.now)) m
         result }
@@ -226,9 +227,9 @@ pub fn check_found(
     env: &Env,
     node: u32,
     found: Found,
-) -> Result<Option<Denoted>, Stop>
+) -> Result<Option<Denotation>, Stop>
     ensures { (n : ℕ) → Answers (at_node node (rules.name_rules (found_view (headings_in env.now)
-        found)) (of_value n (parts.denoted (scene_of env.now somewhere) (found_view (headings_in
+        found)) (of_value n (parts.denotation (scene_of env.now somewhere) (found_view (headings_in
         env.now) found)))) (denoted_of (headings_in env.now)) n result }
 {
     pass_name(env, node, found)?;
@@ -236,7 +237,7 @@ pub fn check_found(
 }
 
 /// A number.
-pub fn check_number(env: &Env, token: u32) -> Result<Option<Typed>, Stop>
+pub fn check_number(env: &Env, token: u32) -> Result<Option<TypedExpr>, Stop>
     ensures { (n : ℕ) → Answers (fine n (parts.integer_typing (number_at (scene_of env.now
         somewhere) token))) typing_of n result }
 {
@@ -256,7 +257,12 @@ fn first_byte(text: &[u8]) -> i64
 }
 
 /// A literal as an expression.
-pub fn check_literal(env: &Env, place: Place, node: u32, token: u32) -> Result<Option<Typed>, Stop>
+pub fn check_literal(
+    env: &Env,
+    place: Place,
+    node: u32,
+    token: u32,
+) -> Result<Option<TypedExpr>, Stop>
     ensures { (n : ℕ) → Answers (at_node node (rules.literal_rules (scene_of env.now place)
         (literal_at (scene_of env.now somewhere) token)) (fine n (nodes.literal_typing (scene_of
         env.now somewhere) token))) typing_of n result }
@@ -276,8 +282,8 @@ pub fn join_call(
     callee: Option<Callee>,
     count: usize,
     args: Result<Option<Vec<Arg>>, Stop>,
-) -> Result<Option<Typed>, Stop>
-    ensures { (j : Judged ir.Args) (n m : ℕ) → Answers j args_of m args
+) -> Result<Option<TypedExpr>, Stop>
+    ensures { (j : Judgement ir.Args) (n m : ℕ) → Answers j args_of m args
         → Answers (nodes.called_at (scene_of env.now place) node (of_value n (callee_in (headings_in
         env.now) callee)) count j) typing_of m result }
 {
@@ -287,9 +293,12 @@ pub fn join_call(
 }
 
 /// The routine that a designator names.
-pub fn join_callee(env: &Env, desig: Result<Option<Denoted>, Stop>) -> Result<Option<Callee>, Stop>
-    ensures { (j : Judged parts.Denoted) (m : ℕ) → Answers j (denoted_of (headings_in env.now)) m
-        desig → Answers (with_some parts.callee_in j) (callee_of (headings_in env.now)) m result }
+pub fn join_callee(
+    env: &Env,
+    desig: Result<Option<Denotation>, Stop>,
+) -> Result<Option<Callee>, Stop>
+    ensures { (j : Judgement parts.Denotation) (m : ℕ) → Answers j (denoted_of (headings_in env.now))
+        m desig → Answers (with_some parts.callee_in j) (callee_of (headings_in env.now)) m result }
 {
     let found = desig?;
     Ok(as_callee(env, found))
@@ -302,9 +311,9 @@ pub fn join_argument(
     node: u32,
     formal: Option<Formal>,
     kind: Argument,
-    typed: Result<Option<Typed>, Stop>,
+    typed: Result<Option<TypedExpr>, Stop>,
 ) -> Result<Option<Arg>, Stop>
-    ensures { (j : Judged parts.Typing) (m : ℕ) → Answers j typing_of m typed
+    ensures { (j : Judgement parts.Typing) (m : ℕ) → Answers j typing_of m typed
         → Answers (with (parts.argument_of (scene_of env.now somewhere) (option_map formal_view
         formal)) (at_node node (rules.argument_rules (scene_of env.now somewhere) (option_map
         formal_view formal) (argument_view kind)) j)) arg_of m result }
@@ -321,9 +330,9 @@ pub fn join_argument(
 pub fn join_parens(
     env: &Env,
     node: u32,
-    typed: Result<Option<Typed>, Stop>,
-) -> Result<Option<Typed>, Stop>
-    ensures { (j : Judged parts.Typing) (m : ℕ) → Answers j typing_of m typed
+    typed: Result<Option<TypedExpr>, Stop>,
+) -> Result<Option<TypedExpr>, Stop>
+    ensures { (j : Judgement parts.Typing) (m : ℕ) → Answers j typing_of m typed
         → Answers (nodes.in_parens (scene_of env.now somewhere) node j) typing_of m result }
 {
     let typed = typed?;
@@ -337,8 +346,8 @@ pub fn join_sequence(
     place: Place,
     node: u32,
     body: Result<Option<Vec<Stmt>>, Stop>,
-) -> Result<Option<Typed>, Stop>
-    ensures { (j : Judged ir.Stmts) (m : ℕ) → Answers j stmts_of m body
+) -> Result<Option<TypedExpr>, Stop>
+    ensures { (j : Judgement ir.Stmts) (m : ℕ) → Answers j stmts_of m body
         → Answers (nodes.as_sequence (scene_of env.now place) node j) typing_of m result }
 {
     let body = body?;

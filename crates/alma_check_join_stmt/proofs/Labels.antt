@@ -4,9 +4,9 @@ use Rattle.std.specs.Prelude.{option_map, option_to_list}
 use Rattle.alma_rules.specs.Parts as parts
 use Rattle.alma_check_rules.specs.declared.part.Span.{Span}
 use Rattle.alma_check_rules.specs.Views.{span_view, spans_view, spans_in}
-use Rattle.alma_check_build_expr.specs.Lists.{items_in, pushed}
+use Rattle.alma_check_build_expr.specs.Lists.{items_in, push}
 use Rattle.alma_rules.proofs.Onwards.{nothing_behind, append_more}
-use Rattle.alma_check_join_stmt.specs.Noted.{Grown}
+use Rattle.alma_check_join_stmt.specs.Noted.{GrowsBy}
 use Rattle.alma_check_join_stmt.proofs.Steps.{spans_push}
 
 -- what a list begins with stays where more comes behind
@@ -23,8 +23,8 @@ front [] ys = refl
 front (o ∷ os) ys = ap (λ k. o ∷ k) (front os ys)
 
 pub label_grown : (k kept : Option (Vec Span Global)) (v : Option Span) (old xs new : List parts.Span)
-    → items_in k ≡ pushed (items_in kept) v
-    → new ≡ xs ++ option_to_list (option_map span_view v) → Grown old (spans_in kept) xs → Grown old (spans_in k) new
+    → items_in k ≡ push (items_in kept) v
+    → new ≡ xs ++ option_to_list (option_map span_view v) → GrowsBy old (spans_in kept) xs → GrowsBy old (spans_in k) new
 label_grown None None v old xs new is h g = ap (take (length old)) h ∙ front_stays old xs _ g
 label_grown None (Some ls) None old xs new is h g = ap (take (length old)) (h ∙ nothing_behind xs ∙ g) ∙ front old (spans_view ls.items)
 label_grown None (Some ls) (Some x) old xs new is h g = absurd (cc)

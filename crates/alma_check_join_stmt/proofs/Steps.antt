@@ -7,12 +7,12 @@ use Rattle.alma_ir.specs.declared.phrase.Arm.{Arm}
 use Rattle.alma_ir.specs.declared.phrase.CaseArm.{CaseArm}
 use Rattle.alma_ir.specs.declared.phrase.Branch.{Branch}
 use Rattle.alma_ir.specs.View.{args_list, arms_list, cases_list, branches_list, arg_of, test_of, stmts_list}
-use Rattle.alma_rules.specs.Judged.{Judged, of_value, and_then, both_of, with}
+use Rattle.alma_rules.specs.Judgement.{Judgement, of_value, and_then, both_of, with}
 use Rattle.alma_rules.specs.Parts as parts
 use Rattle.alma_check_rules.specs.declared.part.Span.{Span}
-use Rattle.alma_check_rules.specs.Views.{span_view, spans_view, spans_in, args_in, gathered}
+use Rattle.alma_check_rules.specs.Views.{span_view, spans_view, spans_in, args_in, gather}
 use Rattle.alma_rules.specs.Nodes as nodes
-use Rattle.alma_check_build_expr.specs.Lists.{arms_in, branches_in, guarded_of, items_in, pushed}
+use Rattle.alma_check_build_expr.specs.Lists.{arms_in, branches_in, guarded_of, items_in, push}
 use Rattle.alma_rules.specs.Appends.{append_args, append_arms, append_branches}
 use Rattle.alma_rules.proofs.Onwards.{onward_stops, onward_bad, onward_none, onward_some, passed_on, no_memory_on, append_more}
 use Rattle.alma_check_join_stmt.specs.Onward.{onward_operands, onward_args, onward_stmts, onward_arms, onward_cases, onward_branches}
@@ -53,17 +53,17 @@ spans_push (y ∷ xs) x = ap (λ l. span_view y ∷ l) (spans_push xs x)
 
 -- ---- a list with one more part, and the rest
 
-pub operand_added : (o : parts.Operator) (xs : Option parts.Operands) (v : Option parts.Typing) (j : Judged parts.Typing) (m : ℕ)
-    (rest : ℕ → Judged parts.Operands) → j ≡ of_value m v
-    → onward_operands xs (with (nodes.cons_operand o) (and_then j rest)) ≡ onward_operands (gathered o xs v) (rest m)
+pub operand_added : (o : parts.Operator) (xs : Option parts.Operands) (v : Option parts.Typing) (j : Judgement parts.Typing) (m : ℕ)
+    (rest : ℕ → Judgement parts.Operands) → j ≡ of_value m v
+    → onward_operands xs (with (nodes.cons_operand o) (and_then j rest)) ≡ onward_operands (gather o xs v) (rest m)
 operand_added o None v j m rest h = onward_none (λ (a b : parts.Operands). a ++ b) (nodes.cons_operand o) j m v rest h
 operand_added o (Some xs) None j m rest h = onward_bad (λ (a b : parts.Operands). a ++ b) (nodes.cons_operand o) (Some xs) j m rest h
 operand_added o (Some xs) (Some t) j m rest h =
     onward_some (λ (a b : parts.Operands). a ++ b) (nodes.cons_operand o) xs (xs ++ (o, t) ∷ []) t j m rest h
     (λ b. sym (append_more xs ((o, t) ∷ []) b))
 
-pub arg_added : (k kept : Option (Vec Arg Global)) (v : Option Arg) (j : Judged ir.Arg) (m : ℕ) (rest : ℕ → Judged ir.Args)
-    → j ≡ of_value m (option_map arg_of v) → items_in k ≡ pushed (items_in kept) v
+pub arg_added : (k kept : Option (Vec Arg Global)) (v : Option Arg) (j : Judgement ir.Arg) (m : ℕ) (rest : ℕ → Judgement ir.Args)
+    → j ≡ of_value m (option_map arg_of v) → items_in k ≡ push (items_in kept) v
     → onward_args (args_in kept) (with nodes.cons_arg (and_then j rest)) ≡ onward_args (args_in k) (rest m)
 arg_added None None v j m rest h is = onward_none append_args nodes.cons_arg j m _ rest h
 arg_added None (Some xs) None j m rest h is = onward_bad append_args nodes.cons_arg (Some (args_list xs.items)) j m rest h
@@ -75,8 +75,9 @@ arg_added (Some ys) (Some xs) (Some x) j m rest h is =
     onward_some append_args nodes.cons_arg (args_list xs.items) (args_list ys.items) (arg_of x) j m rest h
     (λ b. args_push xs.items x b ∙ ap (λ l. append_args (args_list l) b) (sym e))
 
-pub arm_added : (k kept : Option (Vec Arm Global)) (v : Option Arm) (j : Judged (ir.Test × ir.Stmts)) (m : ℕ) (rest : ℕ → Judged ir.Arms)
-    → j ≡ of_value m (option_map guarded_of v) → items_in k ≡ pushed (items_in kept) v
+pub arm_added : (k kept : Option (Vec Arm Global)) (v : Option Arm) (j : Judgement (ir.Test × ir.Stmts)) (m : ℕ)
+    (rest : ℕ → Judgement ir.Arms)
+    → j ≡ of_value m (option_map guarded_of v) → items_in k ≡ push (items_in kept) v
     → onward_arms (arms_in kept) (with (λ p. ir.more_arms p.0.0 p.0.1 p.1) (and_then j rest)) ≡ onward_arms (arms_in k) (rest m)
 arm_added None None v j m rest h is = onward_none append_arms (λ p. ir.more_arms p.0.0 p.0.1 p.1) j m _ rest h
 arm_added None (Some xs) None j m rest h is =
@@ -89,8 +90,9 @@ arm_added (Some ys) (Some xs) (Some x) j m rest h is =
     onward_some append_arms (λ p. ir.more_arms p.0.0 p.0.1 p.1) (arms_list xs.items) (arms_list ys.items) (guarded_of x) j m rest h
     (λ b. arms_push xs.items x b ∙ ap (λ l. append_arms (arms_list l) b) (sym e))
 
-pub branch_added : (k kept : Option (Vec Branch Global)) (v : Option Branch) (j : Judged ir.Stmts) (m : ℕ) (rest : ℕ → Judged ir.Branches)
-    → j ≡ of_value m (option_map (λ b. stmts_list b.body.items) v) → items_in k ≡ pushed (items_in kept) v
+pub branch_added : (k kept : Option (Vec Branch Global)) (v : Option Branch) (j : Judgement ir.Stmts) (m : ℕ)
+    (rest : ℕ → Judgement ir.Branches)
+    → j ≡ of_value m (option_map (λ b. stmts_list b.body.items) v) → items_in k ≡ push (items_in kept) v
     → onward_branches (branches_in kept) (with (λ p. ir.more_branches p.0 p.1) (and_then j rest)) ≡ onward_branches (branches_in k) (rest m)
 branch_added None None v j m rest h is = onward_none append_branches (λ p. ir.more_branches p.0 p.1) j m _ rest h
 branch_added None (Some xs) None j m rest h is =
@@ -104,8 +106,9 @@ branch_added (Some ys) (Some xs) (Some x) j m rest h is =
     j m rest h
     (λ b. branches_push xs.items x b ∙ ap (λ l. append_branches (branches_list l) b) (sym e))
 
-pub span_added : (k kept : Option (Vec Span Global)) (v : Option Span) (j : Judged parts.Span) (m : ℕ) (rest : ℕ → Judged (List parts.Span))
-    → j ≡ of_value m (option_map span_view v) → items_in k ≡ pushed (items_in kept) v
+pub span_added : (k kept : Option (Vec Span Global)) (v : Option Span) (j : Judgement parts.Span) (m : ℕ)
+    (rest : ℕ → Judgement (List parts.Span))
+    → j ≡ of_value m (option_map span_view v) → items_in k ≡ push (items_in kept) v
     → onward_spans (spans_in kept) (with nodes.cons_span (and_then j rest)) ≡ onward_spans (spans_in k) (rest m)
 span_added None None v j m rest h is = onward_none (λ (a b : List parts.Span). a ++ b) nodes.cons_span j m _ rest h
 span_added None (Some xs) None j m rest h is =
@@ -120,14 +123,14 @@ span_added (Some ys) (Some xs) (Some x) j m rest h is =
     ∙ ap (λ l. spans_view l ++ b) (sym e))
 
 -- statements and arms of CASE behind others
-pub stmts_added : (xs v : Option ir.Stmts) (j : Judged ir.Stmts) (m : ℕ) (rest : ℕ → Judged ir.Stmts) → j ≡ of_value m v
+pub stmts_added : (xs v : Option ir.Stmts) (j : Judgement ir.Stmts) (m : ℕ) (rest : ℕ → Judgement ir.Stmts) → j ≡ of_value m v
     → onward_stmts xs (with parts.joined_stmts (and_then j rest)) ≡ onward_stmts (option_map parts.joined_stmts (both_of xs v)) (rest m)
 stmts_added None v j m rest h = onward_none parts.append_stmts parts.joined_stmts j m v rest h
 stmts_added (Some xs) None j m rest h = onward_bad parts.append_stmts parts.joined_stmts (Some xs) j m rest h
 stmts_added (Some xs) (Some x) j m rest h =
     onward_some parts.append_stmts parts.joined_stmts xs (parts.append_stmts xs x) x j m rest h (λ b. stmts_join xs x b)
 
-pub cases_added : (xs v : Option ir.CaseArms) (j : Judged ir.CaseArms) (m : ℕ) (rest : ℕ → Judged ir.CaseArms) → j ≡ of_value m v
+pub cases_added : (xs v : Option ir.CaseArms) (j : Judgement ir.CaseArms) (m : ℕ) (rest : ℕ → Judgement ir.CaseArms) → j ≡ of_value m v
     → onward_cases xs (with nodes.joined_cases (and_then j rest)) ≡ onward_cases (option_map nodes.joined_cases (both_of xs v)) (rest m)
 cases_added None v j m rest h = onward_none parts.append_cases nodes.joined_cases j m v rest h
 cases_added (Some xs) None j m rest h = onward_bad parts.append_cases nodes.joined_cases (Some xs) j m rest h

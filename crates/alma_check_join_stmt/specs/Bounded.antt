@@ -4,7 +4,7 @@ use Rattle.alma_base.specs.declared.fault.CheckFault.{CheckFault}
 use Rattle.alma_rules.specs.declared.error.Stop.{Stop}
 use Rattle.alma_rules.specs.declared.error.Stop.TheVariants.{Memory}
 use Rattle.alma_rules.specs.Numbered as tree
-use Rattle.alma_rules.specs.Judged.{Broken, Judged, of_value, broken_at}
+use Rattle.alma_rules.specs.Judgement.{BrokenRule, Judgement, of_value, broken_at}
 use Rattle.alma_rules.specs.Scene.{Scene, Heading, Found as RuleFound}
 use Rattle.alma_rules.specs.Parts as parts
 use Rattle.alma_rules.specs.Nodes as nodes
@@ -35,14 +35,14 @@ Starts hs n rules x old new (Ok s) = (s.counter ≡ old) × (new ≡ old + 2) ×
 Starts hs n rules x old new (Err e) = Stops (broken_at n (rules x)) e
 
 -- what a loop starts with, its first bound, and the second, which is judged
-abbrev pub HeadOf : Start → Option parts.Typing → Judged parts.Typing → ℕ → Result Head Stop → Type 0
+abbrev pub HeadOf : Start → Option parts.Typing → Judgement parts.Typing → ℕ → Result Head Stop → Type 0
 HeadOf s low j m (Ok h) = (h.counter ≡ s.counter) × (h.found ≡ s.found) × (typing_in h.bounds.low ≡ low)
     × (j ≡ of_value m (typing_in h.bounds.high))
 HeadOf s low j m (Err e) = Stops j.faults e
 
 -- the variable of a loop, by what its name stands for
-abbrev pub variable_of : Env → Found → Option parts.Located
-variable_of e f = option_and_then parts.located_in (parts.denoted (scene_of e somewhere) (found_view (headings_in e) f))
+abbrev pub variable_of : Env → Found → Option parts.Location
+variable_of e f = option_and_then parts.located_in (parts.denotation (scene_of e somewhere) (found_view (headings_in e) f))
 
 -- the head of a loop at the slot `n`, in which no rule is broken; the slot behind it is `next`
 pub record IsHead (e : Env) (p : Place) (name : tree.Name) (first second : tree.Expr) (n next : ℕ) (h : Head) : Type 0 where
@@ -52,17 +52,17 @@ pub record IsHead (e : Env) (p : Place) (name : tree.Name) (first second : tree.
   pub high : judge_expr (scene_of e p) (judge_expr (scene_of e p) (n + 2) first).next second ≡ of_value next (typing_in h.bounds.high)
 
 -- the rules that are broken in the head of a loop: of its name, its first bound and its second
-abbrev pub head_faults : Scene → ℕ → tree.Name → (first second : tree.Expr) → List Broken
+abbrev pub head_faults : Scene → ℕ → tree.Name → (first second : tree.Expr) → List BrokenRule
 head_faults s n name first second =
     (nodes.loop_variable s n name).faults ++ ((judge_expr s (n + 2) first).faults
     ++ (judge_expr s (judge_expr s (n + 2) first).next second).faults)
 
 -- the head of a loop is judged
-abbrev pub Headed : Env → Place → tree.Name → (first second : tree.Expr) → (n next : ℕ) → Result Head Stop → Type 0
-Headed e p name first second n next (Ok h) = IsHead e p name first second n next h
-Headed e p name first second n next (Err x) = Stops (head_faults (scene_of e p) n name first second) x
+abbrev pub JudgesHead : Env → Place → tree.Name → (first second : tree.Expr) → (n next : ℕ) → Result Head Stop → Type 0
+JudgesHead e p name first second n next (Ok h) = IsHead e p name first second n next h
+JudgesHead e p name first second n next (Err x) = Stops (head_faults (scene_of e p) n name first second) x
 
 -- the bounds of a loop, and the step, which is judged
-abbrev pub Turned : Bounds → Judged ℤ → ℕ → Result Turns Stop → Type 0
-Turned b j m (Ok t) = (typing_in t.low ≡ typing_in b.low) × (typing_in t.high ≡ typing_in b.high) × (j ≡ of_value m t.by)
-Turned b j m (Err e) = Stops j.faults e
+abbrev pub JudgesTurns : Bounds → Judgement ℤ → ℕ → Result Turns Stop → Type 0
+JudgesTurns b j m (Ok t) = (typing_in t.low ≡ typing_in b.low) × (typing_in t.high ≡ typing_in b.high) × (j ≡ of_value m t.by)
+JudgesTurns b j m (Err e) = Stops j.faults e

@@ -3,9 +3,9 @@ use Rattle.std.specs.Prelude.{◌≡◌, ℕ, ◌++◌, Bool, true, false, take,
 use Rattle.alma_rules.specs.Parts as parts
 
 -- the labels that are noted: all of an arm behind those before it; where one of them is Bad, those before it and some more
-abbrev pub Grown : List parts.Span → Option (List parts.Span) → List parts.Span → Type 0
-Grown old (Some ls) new = new ≡ old ++ ls
-Grown old None new = take (length old) new ≡ old
+abbrev pub GrowsBy : List parts.Span → Option (List parts.Span) → List parts.Span → Type 0
+GrowsBy old (Some ls) new = new ≡ old ++ ls
+GrowsBy old None new = take (length old) new ≡ old
 
 -- of the labels that are noted, those that stand before the next arm
 abbrev pub trail_for_entries : ℕ → Bool → List parts.Span → List parts.Span

@@ -1,28 +1,28 @@
 -- Parts of one kind in front of those that are still judged.
 use Rattle.std.specs.Prelude.{List, ◌++◌, Option}
 use Rattle.alma_ir.specs.Tree as ir
-use Rattle.alma_rules.specs.Judged.{Judged}
+use Rattle.alma_rules.specs.Judgement.{Judgement}
 use Rattle.alma_rules.specs.Parts as parts
 use Rattle.alma_rules.specs.Onward.{onward}
 use Rattle.alma_rules.specs.Appends.{append_args, append_arms, append_branches}
 
-abbrev pub onward_operands : Option parts.Operands → Judged parts.Operands → Judged parts.Operands
+abbrev pub onward_operands : Option parts.Operands → Judgement parts.Operands → Judgement parts.Operands
 onward_operands xs j = onward (λ a b. a ++ b) xs j
 
-abbrev pub onward_args : Option ir.Args → Judged ir.Args → Judged ir.Args
+abbrev pub onward_args : Option ir.Args → Judgement ir.Args → Judgement ir.Args
 onward_args xs j = onward append_args xs j
 
-abbrev pub onward_stmts : Option ir.Stmts → Judged ir.Stmts → Judged ir.Stmts
+abbrev pub onward_stmts : Option ir.Stmts → Judgement ir.Stmts → Judgement ir.Stmts
 onward_stmts xs j = onward parts.append_stmts xs j
 
-abbrev pub onward_arms : Option ir.Arms → Judged ir.Arms → Judged ir.Arms
+abbrev pub onward_arms : Option ir.Arms → Judgement ir.Arms → Judgement ir.Arms
 onward_arms xs j = onward append_arms xs j
 
-abbrev pub onward_cases : Option ir.CaseArms → Judged ir.CaseArms → Judged ir.CaseArms
+abbrev pub onward_cases : Option ir.CaseArms → Judgement ir.CaseArms → Judgement ir.CaseArms
 onward_cases xs j = onward parts.append_cases xs j
 
-abbrev pub onward_branches : Option ir.Branches → Judged ir.Branches → Judged ir.Branches
+abbrev pub onward_branches : Option ir.Branches → Judgement ir.Branches → Judgement ir.Branches
 onward_branches xs j = onward append_branches xs j
 
-abbrev pub onward_spans : Option (List parts.Span) → Judged (List parts.Span) → Judged (List parts.Span)
+abbrev pub onward_spans : Option (List parts.Span) → Judgement (List parts.Span) → Judgement (List parts.Span)
 onward_spans xs j = onward (λ a b. a ++ b) xs j

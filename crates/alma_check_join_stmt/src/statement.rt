@@ -4,7 +4,7 @@
 ghost use Rattle.std.specs.Prelude.{ℕ};
 ghost use Rattle.alma_ir.specs.Tree as ir;
 ghost use Rattle.alma_ir.specs.View.{test_of};
-ghost use Rattle.alma_rules.specs.Judged.{Judged, fine, of_value, both, with, with_some, at_node};
+ghost use Rattle.alma_rules.specs.Judgement.{Judgement, fine, of_value, both, with, with_some, at_node};
 ghost use Rattle.alma_rules.specs.Answers.{Answers};
 ghost use Rattle.alma_rules.specs.Parts as parts;
 ghost use Rattle.alma_rules.specs.ExprRules as rules;
@@ -19,16 +19,19 @@ use alma_check_build_stmt::{
     line, read, repeat_stmt, returned, test_stmt, text, while_stmt, write,
 };
 use alma_check_rules::{
-    Denoted, Env, Located, Place, Typed, pass_assign, pass_bare_return, pass_constant, pass_read,
-    pass_return, pass_test, pass_write,
+    Denotation, Env, Location, Place, TypedExpr, pass_assign, pass_bare_return, pass_constant,
+    pass_read, pass_return, pass_test, pass_write,
 };
 use alma_ir::{Arm, Branch, Stmt, Test};
 use alma_rules::Stop;
 use std::alloc::Global;
 
 /// The variable that a designator names.
-pub fn join_place(env: &Env, desig: Result<Option<Denoted>, Stop>) -> Result<Option<Located>, Stop>
-    ensures { (j : Judged parts.Denoted) (m : ℕ) → Answers j (denoted_of (headings_in env.now)) m
+pub fn join_place(
+    env: &Env,
+    desig: Result<Option<Denotation>, Stop>,
+) -> Result<Option<Location>, Stop>
+    ensures { (j : Judgement parts.Denotation) (m : ℕ) → Answers j (denoted_of (headings_in env.now)) m
         desig → Answers (with_some parts.located_in j) located_of m result }
 {
     let found = desig?;
@@ -39,9 +42,9 @@ pub fn join_place(env: &Env, desig: Result<Option<Denoted>, Stop>) -> Result<Opt
 pub fn join_condition(
     env: &Env,
     node: u32,
-    typed: Result<Option<Typed>, Stop>,
+    typed: Result<Option<TypedExpr>, Stop>,
 ) -> Result<Option<Test>, Stop>
-    ensures { (j : Judged parts.Typing) (m : ℕ) → Answers j typing_of m typed
+    ensures { (j : Judgement parts.Typing) (m : ℕ) → Answers j typing_of m typed
         → Answers (nodes.as_test (at_node node (rules.test_rules (scene_of env.now somewhere)) j))
         test_of m result }
 {
@@ -52,7 +55,7 @@ pub fn join_condition(
 
 /// An expression as a statement.
 pub fn join_test(alloc: Global, test: Result<Option<Test>, Stop>) -> Result<Option<Vec<Stmt>>, Stop>
-    ensures { (j : Judged ir.Test) (m : ℕ) → Answers j test_of m test
+    ensures { (j : Judgement ir.Test) (m : ℕ) → Answers j test_of m test
         → Answers (nodes.one (with ir.TestStmt j)) stmts_of m result }
 {
     let test = test?;
@@ -65,11 +68,11 @@ pub fn join_assign(
     alloc: Global,
     env: &Env,
     node: u32,
-    located: Option<Located>,
-    typed: Result<Option<Typed>, Stop>,
+    located: Option<Location>,
+    typed: Result<Option<TypedExpr>, Stop>,
 ) -> Result<Option<Vec<Stmt>>, Stop>
-    ensures { (j : Judged parts.Typing) (n m : ℕ) → Answers j typing_of m typed
-        → Answers (with (parts.assigned (scene_of env.now somewhere)) (at_node node
+    ensures { (j : Judgement parts.Typing) (n m : ℕ) → Answers j typing_of m typed
+        → Answers (with (parts.assignment_stmts (scene_of env.now somewhere)) (at_node node
         (stmt_rules.assign_rules (scene_of env.now somewhere)) (both (of_value n (located_in
         located)) j))) stmts_of m result }
 {
@@ -86,7 +89,7 @@ pub fn join_guarded(
     test: Option<Test>,
     body: Result<Option<Vec<Stmt>>, Stop>,
 ) -> Result<Option<Arm>, Stop>
-    ensures { (j : Judged ir.Stmts) (n m : ℕ) → Answers j stmts_of m body
+    ensures { (j : Judgement ir.Stmts) (n m : ℕ) → Answers j stmts_of m body
         → Answers (both (of_value n (test_in test)) j) guarded_of m result }
 {
     let body = body?;
@@ -99,7 +102,7 @@ pub fn join_if(
     arms: Option<Vec<Arm>>,
     other: Result<Option<Vec<Stmt>>, Stop>,
 ) -> Result<Option<Vec<Stmt>>, Stop>
-    ensures { (j : Judged ir.Stmts) (n m : ℕ) → Answers j stmts_of m other
+    ensures { (j : Judgement ir.Stmts) (n m : ℕ) → Answers j stmts_of m other
         → Answers (nodes.one (with (λ p. ir.If p.0 p.1) (both (of_value n (arms_in arms)) j)))
         stmts_of m result }
 {
@@ -114,7 +117,7 @@ pub fn join_while(
     test: Option<Test>,
     body: Result<Option<Vec<Stmt>>, Stop>,
 ) -> Result<Option<Vec<Stmt>>, Stop>
-    ensures { (j : Judged ir.Stmts) (n m : ℕ) → Answers j stmts_of m body
+    ensures { (j : Judgement ir.Stmts) (n m : ℕ) → Answers j stmts_of m body
         → Answers (nodes.one (with (λ p. ir.While p.0 p.1) (both (of_value n (test_in test)) j)))
         stmts_of m result }
 {
@@ -129,7 +132,7 @@ pub fn join_repeat(
     body: Option<Vec<Stmt>>,
     test: Result<Option<Test>, Stop>,
 ) -> Result<Option<Vec<Stmt>>, Stop>
-    ensures { (j : Judged ir.Test) (n m : ℕ) → Answers j test_of m test
+    ensures { (j : Judgement ir.Test) (n m : ℕ) → Answers j test_of m test
         → Answers (nodes.one (with (λ p. ir.Repeat p.0 p.1) (both (of_value n (stmts_in body)) j)))
         stmts_of m result }
 {
@@ -145,7 +148,7 @@ pub fn join_either(
     alloc: Global,
     branches: Result<Option<Vec<Branch>>, Stop>,
 ) -> Result<Option<Vec<Stmt>>, Stop>
-    ensures { (j : Judged ir.Branches) (m : ℕ) → Answers j branches_of m branches
+    ensures { (j : Judgement ir.Branches) (m : ℕ) → Answers j branches_of m branches
         → Answers (nodes.one (with ir.Either j)) stmts_of m result }
 {
     let branches = branches?;
@@ -159,7 +162,7 @@ pub fn join_forall(
     choice: Option<Vec<Stmt>>,
     body: Result<Option<Vec<Stmt>>, Stop>,
 ) -> Result<Option<Vec<Stmt>>, Stop>
-    ensures { (j : Judged ir.Stmts) (n m : ℕ) → Answers j stmts_of m body
+    ensures { (j : Judgement ir.Stmts) (n m : ℕ) → Answers j stmts_of m body
         → Answers (nodes.one (with (λ p. ir.Forall p.0 p.1) (both (of_value n (stmts_in choice))
         j))) stmts_of m result }
 {
@@ -173,7 +176,7 @@ pub fn join_commit(
     alloc: Global,
     body: Result<Option<Vec<Stmt>>, Stop>,
 ) -> Result<Option<Vec<Stmt>>, Stop>
-    ensures { (j : Judged ir.Stmts) (m : ℕ) → Answers j stmts_of m body
+    ensures { (j : Judgement ir.Stmts) (m : ℕ) → Answers j stmts_of m body
         → Answers (nodes.one (with ir.Commit j)) stmts_of m result }
 {
     let body = body?;
@@ -204,9 +207,9 @@ pub fn join_return(
     env: &Env,
     place: Place,
     node: u32,
-    typed: Result<Option<Typed>, Stop>,
+    typed: Result<Option<TypedExpr>, Stop>,
 ) -> Result<Option<Vec<Stmt>>, Stop>
-    ensures { (j : Judged parts.Typing) (m : ℕ) → Answers j typing_of m typed
+    ensures { (j : Judgement parts.Typing) (m : ℕ) → Answers j typing_of m typed
         → Answers (nodes.one (nodes.return_at (scene_of env.now place) node j)) stmts_of m result }
 {
     let typed = typed?;
@@ -220,9 +223,9 @@ pub fn join_read(
     alloc: Global,
     env: &Env,
     node: u32,
-    located: Result<Option<Located>, Stop>,
+    located: Result<Option<Location>, Stop>,
 ) -> Result<Option<Vec<Stmt>>, Stop>
-    ensures { (j : Judged parts.Located) (m : ℕ) → Answers j located_of m located
+    ensures { (j : Judgement parts.Location) (m : ℕ) → Answers j located_of m located
         → Answers (with (parts.read_stmts (scene_of env.now somewhere)) (at_node node
         (stmt_rules.read_rules (scene_of env.now somewhere)) j)) stmts_of m result }
 {
@@ -237,9 +240,9 @@ pub fn join_item(
     alloc: Global,
     env: &Env,
     node: u32,
-    typed: Result<Option<Typed>, Stop>,
+    typed: Result<Option<TypedExpr>, Stop>,
 ) -> Result<Option<Vec<Stmt>>, Stop>
-    ensures { (j : Judged parts.Typing) (m : ℕ) → Answers j typing_of m typed
+    ensures { (j : Judgement parts.Typing) (m : ℕ) → Answers j typing_of m typed
         → Answers (with (parts.write_stmts (scene_of env.now somewhere)) (at_node node
         (stmt_rules.write_rules (scene_of env.now somewhere)) j)) stmts_of m result }
 {
@@ -267,7 +270,7 @@ pub fn check_text(
 
 /// WRITELN, behind its items.
 pub fn join_line(items: Result<Option<Vec<Stmt>>, Stop>) -> Result<Option<Vec<Stmt>>, Stop>
-    ensures { (j : Judged ir.Stmts) (m : ℕ) → Answers j stmts_of m items
+    ensures { (j : Judgement ir.Stmts) (m : ℕ) → Answers j stmts_of m items
         → Answers (with nodes.with_line j) stmts_of m result }
 {
     let items = items?;

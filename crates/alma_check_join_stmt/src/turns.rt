@@ -3,7 +3,7 @@
 
 ghost use Rattle.std.specs.Prelude.{◌≡◌, ℤ, ◌+◌, ◌<◌, ◌^◌, ℕ, pos, None, option_and_then, IfOk};
 ghost use Rattle.alma_ir.specs.Tree as ir;
-ghost use Rattle.alma_rules.specs.Judged.{Judged, fine, of_value, with, with_some, at_node};
+ghost use Rattle.alma_rules.specs.Judgement.{Judgement, fine, of_value, with, with_some, at_node};
 ghost use Rattle.alma_rules.specs.View.{view_name};
 ghost use Rattle.alma_rules.specs.Scene.{found};
 ghost use Rattle.alma_rules.specs.Answers.{Answers};
@@ -11,11 +11,11 @@ ghost use Rattle.alma_rules.specs.Parts as parts;
 ghost use Rattle.alma_rules.specs.StmtRules as stmt_rules;
 ghost use Rattle.alma_rules.specs.Nodes as nodes;
 ghost use Rattle.alma_check_rules.specs.Views.{scene_of, typing_in, typing_of, headings_in, found_view, stmts_of, somewhere};
-ghost use Rattle.alma_check_join_stmt.specs.Bounded.{Finds, TakesLoop, Starts, HeadOf, Turned};
+ghost use Rattle.alma_check_join_stmt.specs.Bounded.{Finds, TakesLoop, Starts, HeadOf, JudgesTurns};
 
 use alma_check_build_expr::as_located;
 use alma_check_build_stmt::{for_stmt, loop_of, some_stmt};
-use alma_check_rules::{Env, Found, Place, Typed, pass_by, pass_loop, pass_loop_name};
+use alma_check_rules::{Env, Found, Place, TypedExpr, pass_by, pass_loop, pass_loop_name};
 use alma_ir::Stmt;
 use alma_rules::Stop;
 use alma_tree::Name;
@@ -78,8 +78,8 @@ pub fn start_loop(env: &Env, place: Place, slot: &mut u32, name: &Name) -> Resul
 /// The bounds of a loop.
 #[derive(Drop)]
 pub struct Bounds {
-    pub low: Option<Typed>,
-    pub high: Option<Typed>,
+    pub low: Option<TypedExpr>,
+    pub high: Option<TypedExpr>,
 }
 
 /// What stands in front of a loop's body, or of its step: what it starts with, and its bounds.
@@ -93,18 +93,18 @@ pub struct Head {
 /// The bounds and the step of a loop.
 #[derive(Drop)]
 pub struct Turns {
-    pub low: Option<Typed>,
-    pub high: Option<Typed>,
+    pub low: Option<TypedExpr>,
+    pub high: Option<TypedExpr>,
     pub by: Option<i64>,
 }
 
 /// The head of a loop, behind the second bound.
 pub fn join_head(
     start: Start,
-    low: Option<Typed>,
-    high: Result<Option<Typed>, Stop>,
+    low: Option<TypedExpr>,
+    high: Result<Option<TypedExpr>, Stop>,
 ) -> Result<Head, Stop>
-    ensures { (j : Judged parts.Typing) (m : ℕ) → Answers j typing_of m high
+    ensures { (j : Judgement parts.Typing) (m : ℕ) → Answers j typing_of m high
         → HeadOf start (typing_in low) j m result }
 {
     let high = high?;
@@ -117,7 +117,7 @@ pub fn join_head(
 
 /// The bounds and the step of a loop, behind the step.
 pub fn join_by(bounds: Bounds, by: Result<Option<i64>, Stop>) -> Result<Turns, Stop>
-    ensures { (j : Judged ℤ) (m : ℕ) → Answers j (λ v. v) m by → Turned bounds j m result }
+    ensures { (j : Judgement ℤ) (m : ℕ) → Answers j (λ v. v) m by → JudgesTurns bounds j m result }
 {
     let by = by?;
     Ok(Turns {
@@ -131,9 +131,9 @@ pub fn join_by(bounds: Bounds, by: Result<Option<i64>, Stop>) -> Result<Turns, S
 pub fn join_step(
     env: &Env,
     node: u32,
-    typed: Result<Option<Typed>, Stop>,
+    typed: Result<Option<TypedExpr>, Stop>,
 ) -> Result<Option<i64>, Stop>
-    ensures { (j : Judged parts.Typing) (m : ℕ) → Answers j typing_of m typed
+    ensures { (j : Judgement parts.Typing) (m : ℕ) → Answers j typing_of m typed
         → Answers (with_some nodes.constant_in (at_node node (stmt_rules.by_rules (scene_of env.now
         somewhere)) j)) (λ v. v) m result }
 {
@@ -142,7 +142,7 @@ pub fn join_step(
     Ok(constant(typed))
 }
 
-fn constant(typed: Option<Typed>) -> Option<i64>
+fn constant(typed: Option<TypedExpr>) -> Option<i64>
     ensures { result ≡ option_and_then nodes.constant_in (typing_in typed) }
 {
     match typed {
@@ -162,9 +162,9 @@ pub fn join_for(
     body: Result<Option<Vec<Stmt>>, Stop>,
 ) -> Result<Option<Vec<Stmt>>, Stop>
     requires limit { counter + 1 < 2 ^ 32 }
-    ensures { (j : Judged ir.Stmts) (n a b c m : ℕ) → Answers j stmts_of m body
+    ensures { (j : Judgement ir.Stmts) (n a b c m : ℕ) → Answers j stmts_of m body
         → Answers (nodes.one (with ir.ForTo (nodes.loop_at (scene_of env.now somewhere) counter node
-        (of_value n (option_and_then parts.located_in (parts.denoted (scene_of env.now somewhere)
+        (of_value n (option_and_then parts.located_in (parts.denotation (scene_of env.now somewhere)
         (found_view (headings_in env.now) found)))) (of_value a (typing_in turns.low)) (of_value b
         (typing_in turns.high)) (of_value c turns.by) j))) stmts_of m result }
 {
@@ -189,9 +189,9 @@ pub fn join_some(
     body: Result<Option<Vec<Stmt>>, Stop>,
 ) -> Result<Option<Vec<Stmt>>, Stop>
     requires limit { counter + 1 < 2 ^ 32 }
-    ensures { (j : Judged ir.Stmts) (n a b m : ℕ) → Answers j stmts_of m body
+    ensures { (j : Judgement ir.Stmts) (n a b m : ℕ) → Answers j stmts_of m body
         → Answers (nodes.one (with ir.SomeOf (nodes.loop_at (scene_of env.now somewhere) counter
-        node (of_value n (option_and_then parts.located_in (parts.denoted (scene_of env.now
+        node (of_value n (option_and_then parts.located_in (parts.denotation (scene_of env.now
         somewhere) (found_view (headings_in env.now) found)))) (of_value a (typing_in bounds.low))
         (of_value b (typing_in bounds.high)) (fine b (pos 1)) j))) stmts_of m result }
 {

@@ -12,28 +12,28 @@ mark_of (variants.Node n t) = places.node_at n t
 mark_of (variants.Statement t) = places.stmt_at t
 
 -- the marks so far, and the token behind what has been walked
-abbrev pub marked : Marks → places.Marked
-marked m = record { marks = map mark_of m.marks.items; end = m.end }
+abbrev pub marks_of : Marks → places.PhraseMarks
+marks_of m = record { marks = map mark_of m.marks.items; end = m.end }
 
 -- one phrase has been walked behind others
-pub record Goes (old new : places.Marked) (f : places.Step) : Type 0 where
-  pub same : new ≡ places.followed old f
+pub record Goes (old new : places.PhraseMarks) (f : places.Step) : Type 0 where
+  pub same : new ≡ places.step_on old f
 
 -- a node of what has been walked since a token
-pub record Noted (old new : places.Marked) (n at : ℕ) : Type 0 where
+pub record HasNode (old new : places.PhraseMarks) (n at : ℕ) : Type 0 where
   pub same : new ≡ places.marked_node n at old
 
 -- where memory was left, the phrase has been walked
 abbrev pub Walks : {T E : Type 0} → Result T E → (old new : Marks) → places.Step → Type 0
-Walks r old new f = OnOk r (Goes (marked old) (marked new) f)
+Walks r old new f = OnOk r (Goes (marks_of old) (marks_of new) f)
 
 -- a statement, and its first word
 abbrev pub begun : places.Step
 begun = places.statement >> places.token
 
 -- the head of a FOR or SOME: a statement with its first word, the variable and the word behind it
-abbrev pub opened : ℕ → places.Step
-opened variable = places.statement >> places.token >> places.whole variable places.token >> places.token
+abbrev pub loop_head : ℕ → places.Step
+loop_head variable = places.statement >> places.token >> places.whole variable places.token >> places.token
 
 -- a word and the bracket behind it
 abbrev pub two_words : places.Step

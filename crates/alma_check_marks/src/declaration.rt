@@ -3,7 +3,7 @@ ghost use Rattle.std.specs.Prelude.{◌≡◌, IfOk};
 ghost use Rattle.alma_rules.specs.Places as places;
 ghost use Rattle.alma_rules.specs.Modules as modules;
 ghost use Rattle.alma_rules.specs.View as view;
-ghost use Rattle.alma_check_marks.specs.Marking.{marked, Walks};
+ghost use Rattle.alma_check_marks.specs.Marking.{marks_of, Walks};
 
 use crate::expression::mark_expr;
 use crate::mark::{Marks, first_token, marks_from};
@@ -198,7 +198,7 @@ fn mark_decl(marks: &mut Marks, decl: &Decl) -> Result<(), NoMemory>
 
 /// The marks of a module, from its first token.
 pub fn mark_module(alloc: Global, whole: &Module) -> Result<Marks, NoMemory>
-    ensures { IfOk result (λ m. marked m ≡ places.mark_module (view.view_module whole.now) 0) }
+    ensures { IfOk result (λ m. marks_of m ≡ places.mark_module (view.view_module whole.now) 0) }
 {
     let mut marks = marks_from(alloc, 0);
     marks.token()?;

@@ -1,7 +1,7 @@
 // Marks, one behind another.
 ghost use Rattle.std.specs.Prelude.{◌≡◌, IsOk, OnOk};
 ghost use Rattle.alma_rules.specs.Places as places;
-ghost use Rattle.alma_check_marks.specs.Marking.{begun, marked, one_more, opened, two_words, Noted, Walks};
+ghost use Rattle.alma_check_marks.specs.Marking.{begun, marks_of, one_more, loop_head, two_words, HasNode, Walks};
 
 use alma_base::NoMemory;
 use std::alloc::Global;
@@ -22,7 +22,7 @@ pub struct Marks {
 
 /// Where nothing has been walked yet, in front of a token.
 pub fn marks_from(alloc: Global, end: u32) -> Marks
-    ensures { marked result ≡ places.stay end }
+    ensures { marks_of result ≡ places.stay end }
 {
     Marks {
         marks: Vec::new(alloc),
@@ -46,7 +46,7 @@ impl Marks {
 
     /// A node of what has been walked since a token.
     pub fn node(&mut self, node: u32, token: u32) -> Result<(), NoMemory>
-        ensures { OnOk result (Noted (marked self.old) (marked self.new) node token) }
+        ensures { OnOk result (HasNode (marks_of self.old) (marks_of self.new) node token) }
     {
         self.marks.push(Mark::Node { node, token })?;
         Ok(())
@@ -71,7 +71,7 @@ impl Marks {
 
     // The head of a FOR or SOME: what begins it, the variable and the word behind it.
     pub(crate) fn opening(&mut self, variable: u32) -> Result<(), NoMemory>
-        ensures { Walks result self.old self.new (opened variable) }
+        ensures { Walks result self.old self.new (loop_head variable) }
     {
         self.begin()?;
         self.leaf(variable)?;
@@ -130,7 +130,7 @@ pub(crate) fn node_behind(
     token: u32,
 ) -> Result<(), NoMemory>
     ensures done { OnOk result (IsOk walked) }
-    ensures noted { OnOk result (Noted (marked marks.old) (marked marks.new) node token) }
+    ensures noted { OnOk result (HasNode (marks_of marks.old) (marks_of marks.new) node token) }
 {
     walked?;
     marks.node(node, token)?;
@@ -146,7 +146,7 @@ pub(crate) fn closed(
 ) -> Result<(), NoMemory>
     ensures done { OnOk result (IsOk walked) }
     ensures noted { OnOk result
-        (Noted (places.followed (marked marks.old) places.token) (marked marks.new) node token) }
+        (HasNode (places.step_on (marks_of marks.old) places.token) (marks_of marks.new) node token) }
 {
     walked?;
     marks.token()?;
@@ -156,7 +156,7 @@ pub(crate) fn closed(
 
 /// The first token of a node.
 pub fn first_token(marks: &Marks, node: u32) -> u32
-    ensures { result ≡ places.node_token node (marked marks.now).marks }
+    ensures { result ≡ places.node_token node (marks_of marks.now).marks }
 {
     for mark in &marks.marks {
         if let Mark::Node {

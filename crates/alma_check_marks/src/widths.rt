@@ -2,7 +2,7 @@
 ghost use Rattle.std.specs.Prelude.{◌≡◌, ◌-◌, IfOk};
 ghost use Rattle.alma_rules.specs.Places as places;
 ghost use Rattle.alma_rules.specs.View as view;
-ghost use Rattle.alma_check_marks.specs.Marking.{marked};
+ghost use Rattle.alma_check_marks.specs.Marking.{marks_of};
 
 use crate::expression::mark_expr;
 use crate::mark::{Mark, Marks, first_token, marks_from};
@@ -33,7 +33,7 @@ pub fn width_of_type(alloc: Global, tree: &TypeNode) -> Result<u32, NoMemory>
 
 // The marks of a body from a token on.
 fn mark_body_at(alloc: Global, body: &Stmts, at: u32) -> Result<Marks, NoMemory>
-    ensures { IfOk result (λ m. marked m ≡ places.mark_stmts (view.view_stmts body.now) at) }
+    ensures { IfOk result (λ m. marks_of m ≡ places.mark_stmts (view.view_stmts body.now) at) }
 {
     let mut marks = marks_from(alloc, at);
     mark_stmts(&mut marks, body)?;
@@ -42,7 +42,7 @@ fn mark_body_at(alloc: Global, body: &Stmts, at: u32) -> Result<Marks, NoMemory>
 
 // The first tokens of the statements that are marked.
 fn tokens_in(alloc: Global, marks: &Marks) -> Result<Vec<u32>, NoMemory>
-    ensures { IfOk result (λ v. v.items ≡ places.stmt_tokens (marked marks.now).marks) }
+    ensures { IfOk result (λ v. v.items ≡ places.stmt_tokens (marks_of marks.now).marks) }
 {
     let mut tokens = Vec::new(alloc);
     for mark in &marks.marks {

@@ -5,7 +5,7 @@ use Rattle.alma_tree.specs.declared.phrase.Expr as de
 use Rattle.alma_tree.specs.declared.phrase.Exprs as dx
 use Rattle.alma_ir.specs.Tree as ir
 use Rattle.alma_rules.specs.View as view
-use Rattle.alma_rules.specs.Judged.{Judged, and_then, with}
+use Rattle.alma_rules.specs.Judgement.{Judgement, and_then, with}
 use Rattle.alma_rules.specs.Scene.{Scene, FormalOf}
 use Rattle.alma_rules.specs.Nodes as nodes
 use Rattle.alma_rules.specs.Walk.{judge_expr, judge_arguments, judge_argument_tail}
@@ -35,7 +35,7 @@ dropped_again (suc k) (x ∷ xs) = dropped_again k xs ∙ ap (λ n. drop n (x �
 
 module _ (s : Scene) where
   -- an argument with its formal, where there is one
-  abbrev pub argument : ℕ → Option FormalOf → de.Expr → Judged ir.Arg
+  abbrev pub argument : ℕ → Option FormalOf → de.Expr → Judgement ir.Arg
   argument n f e = nodes.judged_argument s f (view.view_expr e) (judge_expr s n (view.view_expr e))
 
   -- the first argument, with which the list begins

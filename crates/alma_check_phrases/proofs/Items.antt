@@ -2,7 +2,7 @@
 use Rattle.std.proofs.Common.{◌≡◌, ℕ, List, Option, None, Some, refl, ap, ◌∙◌}
 use Rattle.std.specs.Prelude.{Bool, true, false, nat_eq, length, option_and_then, if◌then◌else◌}
 use Rattle.alma_ir.specs.Tree as ir
-use Rattle.alma_rules.specs.Judged.{Judged, fine, at_node, with}
+use Rattle.alma_rules.specs.Judgement.{Judgement, fine, at_node, with}
 use Rattle.alma_rules.specs.Scene.{Scene, literal_at}
 use Rattle.alma_rules.specs.Parts as parts
 use Rattle.alma_rules.specs.StmtRules as stmt_rules
@@ -14,14 +14,14 @@ use Rattle.alma_check_join_expr.specs.Exactly.{text_of}
 abbrev literal_by : (k : ℕ) (text : List ℕ) → Bool → Option (ℕ × List ℕ)
 literal_by k text b = if b then None else Some (k, text)
 
-module _ (s : Scene) (n node : ℕ) (item : Judged parts.Typing) where
+module _ (s : Scene) (n node : ℕ) (item : Judgement parts.Typing) where
   -- an item by the test whether its literal is a CHAR
-  abbrev text_by : ℕ → List ℕ → Bool → Judged ir.Stmts
+  abbrev text_by : ℕ → List ℕ → Bool → Judgement ir.Stmts
   text_by k text b = if_true b (λ _. with (parts.write_stmts s) (at_node node (stmt_rules.write_rules s) item))
       (λ _. at_node k (nodes.text_rules s) (fine n (parts.one_stmt (ir.WriteText text))))
 
   -- a literal as an item
-  abbrev text_of_some : Option (ℕ × List ℕ) → Judged ir.Stmts
+  abbrev text_of_some : Option (ℕ × List ℕ) → Judgement ir.Stmts
   text_of_some None = with (parts.write_stmts s) (at_node node (stmt_rules.write_rules s) item)
   text_of_some (Some p) = at_node p.0 (nodes.text_rules s) (fine n (parts.one_stmt (ir.WriteText p.1)))
 

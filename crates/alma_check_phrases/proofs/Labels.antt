@@ -4,7 +4,7 @@ use Rattle.std.proofs.Common.{sym, subst, ap, ◌∙◌}
 use Rattle.std.specs.Prelude.{is_some, unwrap_or, option_to_list, Bool, true, false, Result, Ok, Err, IsOk, OnOk}
 use Rattle.alma_rules.specs.Numbered as tree
 use Rattle.alma_rules.specs.Scene.{Scene}
-use Rattle.alma_rules.specs.Judged.{and_then, with}
+use Rattle.alma_rules.specs.Judgement.{and_then, with}
 use Rattle.alma_rules.specs.Nodes as nodes
 use Rattle.alma_rules.specs.Walk as walk
 use Rattle.alma_rules.specs.Parts as parts
@@ -18,11 +18,11 @@ use Rattle.alma_rules.proofs.Cases as cases
 use Rattle.alma_tree.specs.declared.phrase.Arm as da
 use Rattle.alma_tree.specs.declared.phrase.Label as dl
 use Rattle.alma_rules.specs.View as view
-use Rattle.alma_check_join_stmt.specs.Noted.{Grown, trail_for_entries}
+use Rattle.alma_check_join_stmt.specs.Noted.{GrowsBy, trail_for_entries}
 
 -- of the labels noted, those of an arm stay where none of them is Bad
 pub settled : (old mid new : List parts.Span) (before : ℕ) (labels : Option (Vec Span Global)) → before ≡ length old
-    → Grown old (spans_in labels) mid
+    → GrowsBy old (spans_in labels) mid
     → new ≡ trail_for_entries before (is_some labels) mid → new ≡ old ++ unwrap_or (spans_in labels) []
 settled old mid new before None h g is = is ∙ ap (λ k. take k mid) h ∙ g ∙ sym (nothing_behind old)
 settled old mid new before (Some ls) h g is = is ∙ g
@@ -63,7 +63,7 @@ module _ (s : Scene) where
       (λ m. walk.judge_arm_tail s m case new (view.arms_of (drop (i + 1) all))))
   arms_turn n i case earlier new all y h is e = cases.arms_next s n i case earlier all y h is ∙ rw (sym e) refl
 
-pub grown_begin : (old : List parts.Span) (xs : Option (List parts.Span)) → xs ≡ Some [] → Grown old xs old
+pub grown_begin : (old : List parts.Span) (xs : Option (List parts.Span)) → xs ≡ Some [] → GrowsBy old xs old
 grown_begin old xs h = rw h (sym (nothing_behind old))
 
 -- what is said of a value, where there is one

@@ -10,7 +10,7 @@ use Rattle.alma_rules.specs.declared.error.Stop.{Stop}
 use Rattle.alma_rules.specs.declared.error.Stop.TheVariants.{Fault, Memory}
 use Rattle.alma_rules.specs.Numbered as tree
 use Rattle.alma_rules.specs.View.{view_name}
-use Rattle.alma_rules.specs.Judged.{Broken, Judged, fine, of_value, broken_at, with}
+use Rattle.alma_rules.specs.Judgement.{BrokenRule, Judgement, fine, of_value, broken_at, with}
 use Rattle.alma_rules.specs.Answers.{Stops, Answers}
 use Rattle.alma_rules.specs.Scene.{found}
 use Rattle.alma_rules.specs.Parts as parts
@@ -23,29 +23,29 @@ use Rattle.alma_check_rules.specs.Views.{scene_of, somewhere, headings_in, found
 use Rattle.alma_check_join_stmt.specs.declared.turns.Start.{Start}
 use Rattle.alma_check_join_stmt.specs.declared.turns.Head.{Head}
 use Rattle.alma_check_join_stmt.specs.declared.turns.Turns.{Turns}
-use Rattle.alma_check_join_stmt.specs.Bounded.{Starts, HeadOf, Headed, IsHead, head_faults, variable_of}
+use Rattle.alma_check_join_stmt.specs.Bounded.{Starts, HeadOf, JudgesHead, IsHead, head_faults, variable_of}
 use Rattle.alma_rules.proofs.Judging.{stops_more}
 use Rattle.alma_rules.proofs.Onwards.{judged}
 use Rattle.alma_rules.proofs.Turns as turns
 use Rattle.alma_check_phrases.proofs.Same.{found_same}
 
 -- what is judged, where it breaks no rule
-whole_of : {A : Type 0} (j : Judged A) → j.faults ≡ [] → j ≡ of_value j.next j.value
+whole_of : {A : Type 0} (j : Judgement A) → j.faults ≡ [] → j ≡ of_value j.next j.value
 whole_of j h = ap (λ fs. judged fs j.next j.value) h
 
 -- nothing is broken in front
-stops_behind : (xs ys : List Broken) (x : Stop) → xs ≡ [] → Stops ys x → Stops (xs ++ ys) x
+stops_behind : (xs ys : List BrokenRule) (x : Stop) → xs ≡ [] → Stops ys x → Stops (xs ++ ys) x
 stops_behind xs ys x none h = rw none h
 
-none_of : {A : Type 0} (j : Judged A) (i : ℕ) (v : Option A) → j ≡ of_value i v → j.faults ≡ []
-none_of j i v h = ap (λ (k : Judged _). k.faults) h
+none_of : {A : Type 0} (j : Judgement A) (i : ℕ) (v : Option A) → j ≡ of_value i v → j.faults ≡ []
+none_of j i v h = ap (λ (k : Judgement _). k.faults) h
 
 -- it goes on at the same slot, with a value by another name
-as_next : {A : Type 0} (j : Judged A) (i : ℕ) (v w : Option A) → j ≡ of_value i v → w ≡ v → j ≡ of_value j.next w
-as_next j i v w h is = whole_of j (none_of j i v h) ∙ ap (of_value j.next) (ap (λ (k : Judged _). k.value) h ∙ sym is)
+as_next : {A : Type 0} (j : Judgement A) (i : ℕ) (v w : Option A) → j ≡ of_value i v → w ≡ v → j ≡ of_value j.next w
+as_next j i v w h is = whole_of j (none_of j i v h) ∙ ap (of_value j.next) (ap (λ (k : Judgement _). k.value) h ∙ sym is)
 
 -- the first of two lists that is not empty stops
-first_of : (xs ys : List Broken) (x : Stop) (P : Type 0) → (Stops xs x → P) → (xs ≡ [] → Stops ys x → P) → Stops (xs ++ ys) x → P
+first_of : (xs ys : List BrokenRule) (x : Stop) (P : Type 0) → (Stops xs x → P) → (xs ≡ [] → Stops ys x → P) → Stops (xs ++ ys) x → P
 first_of [] ys x P f g h = g refl h
 first_of (b ∷ bs) ys (Fault k n) P f g h = f h
 first_of (b ∷ bs) ys Memory P f g h = f tt
@@ -60,14 +60,14 @@ module _ (e : Env) (p : Place) (n : ℕ) (name : Name) where
       → nodes.loop_variable (scene_of e p) n (view_name name) ≡ of_value n (variable_of e s.found)
   variable_is s is h =
       turns.variable_fine (scene_of e p) n (view_name name) (rules_there h)
-      ∙ ap (λ (x : _). of_value n (option_and_then parts.located_in (parts.denoted (scene_of e somewhere) x)))
+      ∙ ap (λ (x : _). of_value n (option_and_then parts.located_in (parts.denotation (scene_of e somewhere) x)))
       (found_same e p (view_name name) ∙ sym is)
 
   module _ (low high : tree.Expr) where
     -- an error that `?` hands on
     pub head_passed : (next : ℕ) (r : Result Head Stop) (x : Stop) → IsErrAnd r (λ y. y ≡ x)
         → Stops (head_faults (scene_of e p) n (view_name name) low high) x
-        → Headed e p (view_name name) low high n next r
+        → JudgesHead e p (view_name name) low high n next r
     head_passed next (Ok h) x is t = absurd is
     head_passed next (Err y) x is t = rw is t
 
@@ -92,24 +92,24 @@ module _ (e : Env) (p : Place) (n : ℕ) (name : Name) where
       -- behind the second bound
       pub headed : (i next : ℕ) (start : Option parts.Typing) (r : Result Head Stop)
           → walk.judge_expr (scene_of e p) first low ≡ of_value i start
-          → HeadOf s start (walk.judge_expr (scene_of e p) i high) next r → Headed e p (view_name name) low high n next r
+          → HeadOf s start (walk.judge_expr (scene_of e p) i high) next r → JudgesHead e p (view_name name) low high n next r
       headed i next start (Ok h) is t =
           let there = rw started.1 at is in
           record {
             counter = t.0 ∙ started.0;
             variable = variable_is s started.2 started.3 ∙ ap (λ f. of_value n (variable_of e f)) (sym t.1);
             low = as_next (walk.judge_expr (scene_of e p) (n + 2) low) i start (typing_in h.bounds.low) there t.2;
-            high = ap (λ (j : Judged parts.Typing). walk.judge_expr (scene_of e p) j.next high) there ∙ t.3;
+            high = ap (λ (j : Judgement parts.Typing). walk.judge_expr (scene_of e p) j.next high) there ∙ t.3;
           }
       headed i next start (Err x) is t =
           let there = rw started.1 at is in
           stops_behind (nodes.loop_variable (scene_of e p) n (view_name name)).faults _ x
           (none_of _ _ _ (variable_is s started.2 started.3))
           (stops_behind (walk.judge_expr (scene_of e p) (n + 2) low).faults _ x (none_of _ _ _ there)
-          (subst (λ (j : Judged parts.Typing). Stops (walk.judge_expr (scene_of e p) j.next high).faults x) (sym there) t))
+          (subst (λ (j : Judgement parts.Typing). Stops (walk.judge_expr (scene_of e p) j.next high).faults x) (sym there) t))
 
 -- the slots of a loop that starts have numbers
-pub head_limit : (s : Start) (low : Option parts.Typing) (j : Judged parts.Typing) (m : ℕ) (r : Result Head Stop) → HeadOf s low j m r
+pub head_limit : (s : Start) (low : Option parts.Typing) (j : Judgement parts.Typing) (m : ℕ) (r : Result Head Stop) → HeadOf s low j m r
     → s.counter + 1 < 2 ^ 32 → IfOk r (λ h. h.counter + 1 < 2 ^ 32)
 head_limit s low j m (Ok h) is l = rw is.0 l
 head_limit s low j m (Err e) is l = tt
@@ -120,9 +120,9 @@ module _ (e : Env) (p : Place) (n k : ℕ) (name : Name) (low high : tree.Expr) 
 
   -- a head that stops is one of three parts that stops
   by_part : (P : Type 0) (x : Stop) → (Stops (nodes.loop_variable (scene_of e p) n (view_name name)).faults x → P)
-      → ((v : Option parts.Located) → nodes.loop_variable (scene_of e p) n (view_name name) ≡ of_value
+      → ((v : Option parts.Location) → nodes.loop_variable (scene_of e p) n (view_name name) ≡ of_value
       (nodes.loop_variable (scene_of e p) n (view_name name)).next v → Stops (walk.judge_expr (scene_of e p) (n + 2) low).faults x → P)
-      → ((v : Option parts.Located) (w : Option parts.Typing)
+      → ((v : Option parts.Location) (w : Option parts.Typing)
       → nodes.loop_variable (scene_of e p) n (view_name name) ≡ of_value (nodes.loop_variable (scene_of e p) n (view_name name)).next v
       → walk.judge_expr (scene_of e p) (n + 2) low ≡ of_value (walk.judge_expr (scene_of e p) (n + 2) low).next w
       → Stops (walk.judge_expr (scene_of e p) (walk.judge_expr (scene_of e p) (n + 2) low).next high).faults x → P)

@@ -1,7 +1,7 @@
 // IF, WHILE and REPEAT.
 ghost use Rattle.alma_rules.specs.Numbered as tree;
 ghost use Rattle.alma_rules.specs.View as view;
-ghost use Rattle.alma_rules.specs.Judged.{and_then};
+ghost use Rattle.alma_rules.specs.Judgement.{and_then};
 ghost use Rattle.alma_rules.specs.Answers.{Answers};
 ghost use Rattle.alma_rules.specs.Nodes as nodes;
 ghost use Rattle.alma_rules.specs.Walk as walk;

@@ -16,7 +16,7 @@ use alma_check_join_expr::{
     argument_kind, formal_of, join_argument, join_call, join_callee, join_value,
 };
 use alma_check_join_stmt::add_argument;
-use alma_check_rules::{Callee, Env, Formal, Place, Typed, Use};
+use alma_check_rules::{Callee, Env, Formal, Place, TypedExpr, Use};
 use alma_ir::Arg;
 use alma_rules::Stop;
 use alma_tree::{Args, Desig, Expr, Exprs, Stmts};
@@ -32,7 +32,7 @@ pub fn check_named<S>(
     desig: &Desig,
     args: &Option<Args>,
     inside: &S,
-) -> Result<Option<Typed>, Stop>
+) -> Result<Option<TypedExpr>, Stop>
 where
     S: Fn(Global, &Env, Place, &mut u32, &Stmts) -> StmtsJudged,
     requires judges { JudgesStmts (S.IsAlwaysCallable inside.now) (S.post inside.now) }

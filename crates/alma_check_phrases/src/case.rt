@@ -8,14 +8,14 @@ ghost use Rattle.alma_rules.specs.Walk as walk;
 ghost use Rattle.alma_check_rules.specs.Views.{scene_of, typing_in, stmts_of, span_view, spans_view, spans_of, spans_in};
 ghost use Rattle.alma_check_build_expr.specs.Lists.{arms_of, cases_of};
 ghost use Rattle.alma_rules.specs.Arms.{arms_judged, labels_judged};
-ghost use Rattle.alma_check_join_stmt.specs.Noted.{Grown};
+ghost use Rattle.alma_check_join_stmt.specs.Noted.{GrowsBy};
 ghost use Rattle.alma_check_phrases.specs.Inside.{JudgesStmts};
 
 use crate::expression::{StmtsJudged, check_expr};
 use crate::walk::nested;
 use alma_check_join_case::{join_arm, join_arms, join_case, join_else, join_label, join_single};
 use alma_check_join_stmt::{add_cases, add_label, settle};
-use alma_check_rules::{Env, Labels, Place, Span, Typed};
+use alma_check_rules::{Env, Labels, Place, Span, TypedExpr};
 use alma_ir::{CaseArm, Stmt as IrStmt};
 use alma_rules::Stop;
 use alma_tree::{Arm, Expr, Label, Stmts};
@@ -53,7 +53,7 @@ fn check_arms<S>(
     env: &Env,
     place: Place,
     slot: &mut u32,
-    case: &Option<Typed>,
+    case: &Option<TypedExpr>,
     first: &Arm,
     more: &[Arm],
     inside: &S,
@@ -78,7 +78,7 @@ fn check_arm<S>(
     env: &Env,
     place: Place,
     slot: &mut u32,
-    case: &Option<Typed>,
+    case: &Option<TypedExpr>,
     spans: &mut Labels,
     arm: &Arm,
     inside: &S,
@@ -137,7 +137,7 @@ fn check_labels<S>(
     env: &Env,
     place: Place,
     slot: &mut u32,
-    case: &Option<Typed>,
+    case: &Option<TypedExpr>,
     spans: &mut Labels,
     first: &Label,
     more: &[Label],
@@ -149,7 +149,7 @@ where
     ensures judged { Answers (labels_judged (scene_of env.now place) slot.old (typing_in case.now)
         (spans_view spans.old) (view.view_label first.now) (view.labels_of more.now)) spans_of
         slot.new result }
-    ensures spans { IfOk result (λ v. Grown (spans_view spans.old) (spans_in v)
+    ensures spans { IfOk result (λ v. GrowsBy (spans_view spans.old) (spans_in v)
         (spans_view spans.new)) }
 {
     let span = check_label(alloc, env, place, slot, case, spans, first, inside);
@@ -166,7 +166,7 @@ fn check_label<S>(
     env: &Env,
     place: Place,
     slot: &mut u32,
-    case: &Option<Typed>,
+    case: &Option<TypedExpr>,
     spans: &Labels,
     label: &Label,
     inside: &S,

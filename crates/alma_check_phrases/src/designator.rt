@@ -1,7 +1,7 @@
 // Designators and their selectors.
 ghost use Rattle.alma_rules.specs.Numbered as tree;
 ghost use Rattle.alma_rules.specs.View.{view_desig, view_selector, view_expr, view_exprs, selectors_of};
-ghost use Rattle.alma_rules.specs.Judged.{of_value};
+ghost use Rattle.alma_rules.specs.Judgement.{of_value};
 ghost use Rattle.alma_rules.specs.Answers.{Answers};
 ghost use Rattle.alma_rules.specs.Nodes as nodes;
 ghost use Rattle.alma_rules.specs.Walk.{judge_expr, judge_desig, judge_selectors, judge_selector, judge_indices};
@@ -10,7 +10,7 @@ ghost use Rattle.alma_check_phrases.specs.Inside.{JudgesStmts};
 
 use crate::expression::{StmtsJudged, check_expr};
 use alma_check_join_expr::{check_found, join_array, join_desig, join_field, join_index};
-use alma_check_rules::{Denoted, Env, Place, Use};
+use alma_check_rules::{Denotation, Env, Place, Use};
 use alma_rules::Stop;
 use alma_tree::{Desig, Expr, Exprs, Selector, Stmts};
 use std::alloc::Global;
@@ -24,7 +24,7 @@ pub fn check_desig<S>(
     wanted: Use,
     desig: &Desig,
     inside: &S,
-) -> Result<Option<Denoted>, Stop>
+) -> Result<Option<Denotation>, Stop>
 where
     S: Fn(Global, &Env, Place, &mut u32, &Stmts) -> StmtsJudged,
     requires judges { JudgesStmts (S.IsAlwaysCallable inside.now) (S.post inside.now) }
@@ -51,10 +51,10 @@ fn check_selectors<S>(
     env: &Env,
     place: Place,
     slot: &mut u32,
-    start: Option<Denoted>,
+    start: Option<Denotation>,
     more: &[Selector],
     inside: &S,
-) -> Result<Option<Denoted>, Stop>
+) -> Result<Option<Denotation>, Stop>
 where
     S: Fn(Global, &Env, Place, &mut u32, &Stmts) -> StmtsJudged,
     requires judges { JudgesStmts (S.IsAlwaysCallable inside.now) (S.post inside.now) }
@@ -75,10 +75,10 @@ fn check_selector<S>(
     env: &Env,
     place: Place,
     slot: &mut u32,
-    found: Option<Denoted>,
+    found: Option<Denotation>,
     selector: &Selector,
     inside: &S,
-) -> Result<Option<Denoted>, Stop>
+) -> Result<Option<Denotation>, Stop>
 where
     S: Fn(Global, &Env, Place, &mut u32, &Stmts) -> StmtsJudged,
     requires judges { JudgesStmts (S.IsAlwaysCallable inside.now) (S.post inside.now) }
@@ -101,10 +101,10 @@ fn check_indices<S>(
     env: &Env,
     place: Place,
     slot: &mut u32,
-    found: Option<Denoted>,
+    found: Option<Denotation>,
     indices: &Exprs,
     inside: &S,
-) -> Result<Option<Denoted>, Stop>
+) -> Result<Option<Denotation>, Stop>
 where
     S: Fn(Global, &Env, Place, &mut u32, &Stmts) -> StmtsJudged,
     requires judges { JudgesStmts (S.IsAlwaysCallable inside.now) (S.post inside.now) }
@@ -125,14 +125,14 @@ fn check_index<S>(
     env: &Env,
     place: Place,
     slot: &mut u32,
-    found: Option<Denoted>,
+    found: Option<Denotation>,
     index: &Expr,
     inside: &S,
-) -> Result<Option<Denoted>, Stop>
+) -> Result<Option<Denotation>, Stop>
 where
     S: Fn(Global, &Env, Place, &mut u32, &Stmts) -> StmtsJudged,
     requires judges { JudgesStmts (S.IsAlwaysCallable inside.now) (S.post inside.now) }
-    ensures { Answers (nodes.indexed (scene_of env.now place)
+    ensures { Answers (nodes.index_at (scene_of env.now place)
         (of_value slot.old (denoted_in (headings_in env.now) found))
         (tree.expr_node (view_expr index.now))
         (judge_expr (scene_of env.now place) slot.old (view_expr index.now)))

@@ -16,7 +16,7 @@ use alma_check_join_expr::{
     join_product, join_relation, join_sum,
 };
 use alma_check_join_stmt::add_operand;
-use alma_check_rules::{Behind, Env, Operand, Place, Typed, Use};
+use alma_check_rules::{Behind, Env, Operand, Place, TypedExpr, Use};
 use alma_ir::Stmt as IrStmt;
 use alma_rules::Stop;
 use alma_tree::{AddLink, Expr, Factor, MulLink, Primary, Simple, Stmts, Term};
@@ -34,7 +34,7 @@ pub fn check_expr<S>(
     slot: &mut u32,
     expr: &Expr,
     inside: &S,
-) -> Result<Option<Typed>, Stop>
+) -> Result<Option<TypedExpr>, Stop>
 where
     S: Fn(Global, &Env, Place, &mut u32, &Stmts) -> StmtsJudged,
     requires judges { JudgesStmts (S.IsAlwaysCallable inside.now) (S.post inside.now) }
@@ -59,7 +59,7 @@ fn check_simple<S>(
     slot: &mut u32,
     simple: &Simple,
     inside: &S,
-) -> Result<Option<Typed>, Stop>
+) -> Result<Option<TypedExpr>, Stop>
 where
     S: Fn(Global, &Env, Place, &mut u32, &Stmts) -> StmtsJudged,
     requires judges { JudgesStmts (S.IsAlwaysCallable inside.now) (S.post inside.now) }
@@ -116,7 +116,7 @@ fn check_term<S>(
     operand: Operand,
     term: &Term,
     inside: &S,
-) -> Result<Option<Typed>, Stop>
+) -> Result<Option<TypedExpr>, Stop>
 where
     S: Fn(Global, &Env, Place, &mut u32, &Stmts) -> StmtsJudged,
     requires judges { JudgesStmts (S.IsAlwaysCallable inside.now) (S.post inside.now) }
@@ -166,7 +166,7 @@ fn check_factor<S>(
     operand: Operand,
     factor: &Factor,
     inside: &S,
-) -> Result<Option<Typed>, Stop>
+) -> Result<Option<TypedExpr>, Stop>
 where
     S: Fn(Global, &Env, Place, &mut u32, &Stmts) -> StmtsJudged,
     requires judges { JudgesStmts (S.IsAlwaysCallable inside.now) (S.post inside.now) }
@@ -209,7 +209,7 @@ fn check_primary<S>(
     slot: &mut u32,
     primary: &Primary,
     inside: &S,
-) -> Result<Option<Typed>, Stop>
+) -> Result<Option<TypedExpr>, Stop>
 where
     S: Fn(Global, &Env, Place, &mut u32, &Stmts) -> StmtsJudged,
     requires judges { JudgesStmts (S.IsAlwaysCallable inside.now) (S.post inside.now) }

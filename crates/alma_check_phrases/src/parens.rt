@@ -10,7 +10,7 @@ ghost use Rattle.alma_check_phrases.specs.Inside.{JudgesStmts};
 
 use crate::expression::{StmtsJudged, check_expr};
 use alma_check_join_expr::{join_parens, join_sequence};
-use alma_check_rules::{Env, Place, Typed};
+use alma_check_rules::{Env, Place, TypedExpr};
 use alma_rules::Stop;
 use alma_tree::{Stmt, Stmts};
 use std::alloc::Global;
@@ -24,7 +24,7 @@ pub fn check_parens<S>(
     node: u32,
     body: &Stmts,
     inside: &S,
-) -> Result<Option<Typed>, Stop>
+) -> Result<Option<TypedExpr>, Stop>
 where
     S: Fn(Global, &Env, Place, &mut u32, &Stmts) -> StmtsJudged,
     requires judges { JudgesStmts (S.IsAlwaysCallable inside.now) (S.post inside.now) }
@@ -51,7 +51,7 @@ fn check_sequence<S>(
     node: u32,
     body: &Stmts,
     inside: &S,
-) -> Result<Option<Typed>, Stop>
+) -> Result<Option<TypedExpr>, Stop>
 where
     S: Fn(Global, &Env, Place, &mut u32, &Stmts) -> StmtsJudged,
     requires judges { JudgesStmts (S.IsAlwaysCallable inside.now) (S.post inside.now) }

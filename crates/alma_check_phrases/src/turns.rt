@@ -5,7 +5,7 @@ ghost use Rattle.alma_rules.specs.View as view;
 ghost use Rattle.alma_rules.specs.Answers.{Answers};
 ghost use Rattle.alma_rules.specs.Walk as walk;
 ghost use Rattle.alma_check_rules.specs.Views.{scene_of, stmts_of};
-ghost use Rattle.alma_check_join_stmt.specs.Bounded.{Headed};
+ghost use Rattle.alma_check_join_stmt.specs.Bounded.{JudgesHead};
 ghost use Rattle.alma_check_phrases.specs.Inside.{JudgesStmts};
 
 use crate::expression::{StmtsJudged, check_expr};
@@ -31,7 +31,7 @@ fn check_head<S>(
 where
     S: Fn(Global, &Env, Place, &mut u32, &Stmts) -> StmtsJudged,
     requires judges { JudgesStmts (S.IsAlwaysCallable inside.now) (S.post inside.now) }
-    ensures judged { Headed env.now place (view.view_name variable.now) (view.view_expr from.now)
+    ensures judged { JudgesHead env.now place (view.view_name variable.now) (view.view_expr from.now)
         (view.view_expr to.now) slot.old slot.new result }
     ensures limit { IfOk result (λ h. h.counter + 1 < 2 ^ 32) }
 {

@@ -9,7 +9,7 @@ ghost use Rattle.alma_check_phrases.specs.Inside.{JudgesAt, JudgesStmts};
 
 use crate::expression::StmtsJudged;
 use crate::sequence::statements;
-use alma_check_rules::{Env, Place, Typed};
+use alma_check_rules::{Env, Place, TypedExpr};
 use alma_ir::Stmt as IrStmt;
 use alma_rules::Stop;
 use alma_tree::{Expr, Stmts};
@@ -22,7 +22,7 @@ pub fn check_expr(
     place: Place,
     slot: &mut u32,
     expr: &Expr,
-) -> Result<Option<Typed>, Stop>
+) -> Result<Option<TypedExpr>, Stop>
     ensures { Answers (judge_expr (scene_of env.now place) slot.old (view_expr expr.now)) typing_of
         slot.new result }
 {

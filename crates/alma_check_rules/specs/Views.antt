@@ -24,10 +24,10 @@ use Rattle.alma_check_rules.specs.declared.env.Returns.{Returns}
 use Rattle.alma_check_rules.specs.declared.env.Returns.TheVariants as returned
 use Rattle.alma_check_rules.specs.declared.part.Meaning.{Meaning}
 use Rattle.alma_check_rules.specs.declared.part.Meaning.TheVariants as meanings
-use Rattle.alma_check_rules.specs.declared.part.Typed.{Typed}
-use Rattle.alma_check_rules.specs.declared.part.Located.{Located}
-use Rattle.alma_check_rules.specs.declared.part.Denoted.{Denoted}
-use Rattle.alma_check_rules.specs.declared.part.Denoted.TheVariants as denotes
+use Rattle.alma_check_rules.specs.declared.part.TypedExpr.{TypedExpr}
+use Rattle.alma_check_rules.specs.declared.part.Location.{Location}
+use Rattle.alma_check_rules.specs.declared.part.Denotation.{Denotation}
+use Rattle.alma_check_rules.specs.declared.part.Denotation.TheVariants as denotes
 use Rattle.alma_check_rules.specs.declared.part.Callee.{Callee}
 use Rattle.alma_check_rules.specs.declared.part.Behind.{Behind}
 use Rattle.alma_check_rules.specs.declared.part.Join.{Join}
@@ -92,10 +92,10 @@ meaning_view (meanings.Place d) = parts.a_place (desig_of d)
 meaning_view (meanings.Plain e) = parts.plain (expr_of e)
 meaning_view (meanings.Test t) = parts.a_test (test_of t)
 
-abbrev pub typing_of : Typed → parts.Typing
+abbrev pub typing_of : TypedExpr → parts.Typing
 typing_of t = record { shape = t.shape; constant = t.constant; meaning = meaning_view t.meaning }
 
-abbrev pub located_of : Located → parts.Located
+abbrev pub located_of : Location → parts.Location
 located_of l = record { shape = l.shape; root = l.root; cells = l.cells; sels = sels_list l.sels.items }
 
 -- the heading of a routine; it is there where a routine is denoted
@@ -105,7 +105,7 @@ no_heading = record { formals = []; result = None; params = [] }
 abbrev pub known_heading : List (Option RuleHeading) → ℕ → RuleHeading
 known_heading hs r = unwrap_or (get_or hs r None) no_heading
 
-abbrev pub denoted_of : List (Option RuleHeading) → Denoted → parts.Denoted
+abbrev pub denoted_of : List (Option RuleHeading) → Denotation → parts.Denotation
 denoted_of hs (denotes.Constant shape v) = parts.a_constant shape v
 denoted_of hs (denotes.Variable l) = parts.a_variable (located_of l)
 denoted_of hs (denotes.Routine r up) = parts.a_routine r up (known_heading hs r)
@@ -130,13 +130,13 @@ argument_view arguments.OfVariable = rules.of_variable
 
 -- ---- parts that there may not be, since a name in use is Bad
 
-abbrev pub typing_in : Option Typed → Option parts.Typing
+abbrev pub typing_in : Option TypedExpr → Option parts.Typing
 typing_in t = option_map typing_of t
 
-abbrev pub located_in : Option Located → Option parts.Located
+abbrev pub located_in : Option Location → Option parts.Location
 located_in l = option_map located_of l
 
-abbrev pub denoted_in : List (Option RuleHeading) → Option Denoted → Option parts.Denoted
+abbrev pub denoted_in : List (Option RuleHeading) → Option Denotation → Option parts.Denotation
 denoted_in hs d = option_map (denoted_of hs) d
 
 abbrev pub headings_in : Env → List (Option RuleHeading)
@@ -184,10 +184,10 @@ argument_in (Some modes.Mix) r (parts.a_place d) = ir.MixPlace d
 argument_in (Some modes.Mix) r m = ir.MixValue (parts.value_of m) r
 
 -- operands gathered, with one more behind an operator
-abbrev pub gathered : parts.Operator → Option parts.Operands → Option parts.Typing → Option parts.Operands
-gathered o None t = None
-gathered o (Some xs) None = None
-gathered o (Some xs) (Some t) = Some (xs ++ (o, t) ∷ [])
+abbrev pub gather : parts.Operator → Option parts.Operands → Option parts.Typing → Option parts.Operands
+gather o None t = None
+gather o (Some xs) None = None
+gather o (Some xs) (Some t) = Some (xs ++ (o, t) ∷ [])
 
 -- labels of CASE
 abbrev pub span_view : Span → parts.Span

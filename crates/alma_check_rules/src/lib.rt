@@ -13,7 +13,8 @@ mod stmt_rule;
 pub use env::{Env, Formal, Found, Heading, Place, Returns};
 pub use labels::Labels;
 pub use part::{
-    Argument, Behind, Callee, Denoted, Join, Located, Meaning, Operand, Operator, Span, Typed, Use,
+    Argument, Behind, Callee, Denotation, Join, Location, Meaning, Operand, Operator, Span,
+    TypedExpr, Use,
 };
 pub use rule::{
     no_integer, pass_argument, pass_array, pass_call, pass_chr, pass_constant, pass_desig,

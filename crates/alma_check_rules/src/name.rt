@@ -2,11 +2,11 @@
 ghost use Rattle.std.specs.Prelude.{◌≡◌, option_map, IfOk};
 ghost use Rattle.alma_rules.specs.View.{view_name};
 ghost use Rattle.alma_rules.specs.Scene.{root_from, found_as, found};
-ghost use Rattle.alma_rules.specs.Parts.{denoted};
+ghost use Rattle.alma_rules.specs.Parts.{denotation};
 ghost use Rattle.alma_check_rules.specs.Views.{scene_of, found_view, headings_view, denoted_of, somewhere};
 
 use crate::env::{Env, Found};
-use crate::part::{Denoted, Located};
+use crate::part::{Denotation, Location};
 use alma_ir::Root;
 use alma_names::{Access, Entry};
 use alma_tree::Name;
@@ -82,15 +82,15 @@ impl<'e, 's> Env<'e, 's> {
     }
 
     /// What a designator of a bare name denotes.
-    pub fn denoted(&self, alloc: Global, found: Found) -> Option<Denoted>
+    pub fn denoted(&self, alloc: Global, found: Found) -> Option<Denotation>
         ensures { option_map (denoted_of (headings_view self.now.headings.items)) result
-            ≡ denoted (scene_of self.now somewhere) (found_view
+            ≡ denotation (scene_of self.now somewhere) (found_view
             (headings_view self.now.headings.items) found) }
     {
         match found {
             Found::Absent | Found::Bad | Found::Named(_) => None,
-            Found::Constant(shape, value) => Some(Denoted::Constant(shape, value)),
-            Found::Variable(shape, root) => Some(Denoted::Variable(Located {
+            Found::Constant(shape, value) => Some(Denotation::Constant(shape, value)),
+            Found::Variable(shape, root) => Some(Denotation::Variable(Location {
                 shape,
                 root,
                 cells: self.cells(shape),
@@ -98,7 +98,7 @@ impl<'e, 's> Env<'e, 's> {
             })),
             Found::Routine(routine, up) => match self.heading(routine) {
                 None => None,
-                Some(_heading) => Some(Denoted::Routine(routine, up)),
+                Some(_heading) => Some(Denotation::Routine(routine, up)),
             },
         }
     }

@@ -12,7 +12,7 @@ pub enum Meaning {
 
 /// An expression: the number of its shape, its value in a constant place, and what it stands for.
 #[derive(Drop)]
-pub struct Typed {
+pub struct TypedExpr {
     pub shape: u32,
     pub constant: Option<i64>,
     pub meaning: Meaning,
@@ -20,7 +20,7 @@ pub struct Typed {
 
 /// A variable or a part of one: its shape, where the variable stands, its cells, and the selectors.
 #[derive(Drop)]
-pub struct Located {
+pub struct Location {
     pub shape: u32,
     pub root: Root,
     pub cells: u32,
@@ -30,9 +30,9 @@ pub struct Located {
 /// What a designator names: a constant, a variable, a routine by its number with the links up to the one round it, or nothing, since an
 /// index stands on a type that is no array.
 #[derive(Drop)]
-pub enum Denoted {
+pub enum Denotation {
     Constant(u32, i64),
-    Variable(Located),
+    Variable(Location),
     Routine(u32, u32),
     NoArray,
 }
@@ -79,7 +79,7 @@ pub struct Callee {
 #[derive(Drop)]
 pub struct Behind {
     pub operator: Operator,
-    pub operand: Typed,
+    pub operand: TypedExpr,
 }
 
 /// What joins the operands of a logical chain.

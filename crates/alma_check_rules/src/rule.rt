@@ -1,13 +1,13 @@
 // The rules of one node, in the order of the faults.
 ghost use Rattle.std.specs.Prelude.{◌≡◌, ◌&&◌, Option, None, Some, not, option_map, length};
-ghost use Rattle.alma_rules.specs.Judged.{holds, both_of};
+ghost use Rattle.alma_rules.specs.Judgement.{holds, both_of};
 ghost use Rattle.alma_rules.specs.Answers.{Passes};
 ghost use Rattle.alma_rules.specs.Parts as parts;
 ghost use Rattle.alma_rules.specs.ExprRules as rules;
 ghost use Rattle.alma_check_rules.specs.Views.{scene_of, found_view, headings_in, denoted_in, typing_in, located_in, operand_view, use_view, argument_view, formal_view, operator_view, somewhere, callee_in};
 
 use crate::env::{Env, Formal, Found, Place};
-use crate::part::{Argument, Callee, Denoted, Located, Operand, Operator, Typed, Use};
+use crate::part::{Argument, Callee, Denotation, Location, Operand, Operator, TypedExpr, Use};
 use alma_base::CheckFault;
 use alma_rules::Stop;
 use alma_tree::{Mode, Relation};
@@ -15,7 +15,7 @@ use alma_tree::{Mode, Relation};
 // ---- names and designators
 
 pub fn pass_name(env: &Env, node: u32, found: Found) -> Result<(), Stop>
-    ensures { Passes node (rules.name_rules {A = parts.Denoted}
+    ensures { Passes node (rules.name_rules {A = parts.Denotation}
         (found_view (headings_in env.now) found) None) result }
 {
     match found {
@@ -110,31 +110,31 @@ pub fn pass_desig(
     Ok(())
 }
 
-fn not_record(env: &Env, found: &Option<Denoted>) -> bool
+fn not_record(env: &Env, found: &Option<Denotation>) -> bool
     ensures { result ≡ holds (rules.not_record (scene_of env.now somewhere))
         (denoted_in (headings_in env.now) found.now) }
 {
     match found {
-        Some(Denoted::Variable(located)) => !env.is_record(located.shape),
-        Some(Denoted::Constant(_, _)) | Some(Denoted::Routine(_, _)) => false,
-        Some(Denoted::NoArray) | None => false,
+        Some(Denotation::Variable(located)) => !env.is_record(located.shape),
+        Some(Denotation::Constant(_, _)) | Some(Denotation::Routine(_, _)) => false,
+        Some(Denotation::NoArray) | None => false,
     }
 }
 
-fn no_field(env: &Env, name: &[u8], found: &Option<Denoted>) -> bool
+fn no_field(env: &Env, name: &[u8], found: &Option<Denotation>) -> bool
     ensures { result ≡ holds (rules.no_field (scene_of env.now somewhere) name.now)
         (denoted_in (headings_in env.now) found.now) }
 {
     match found {
-        Some(Denoted::Variable(located)) => {
+        Some(Denotation::Variable(located)) => {
             env.is_record(located.shape) && env.field(located.shape, name).is_none()
         }
-        Some(Denoted::Constant(_, _)) | Some(Denoted::Routine(_, _)) => false,
-        Some(Denoted::NoArray) | None => false,
+        Some(Denotation::Constant(_, _)) | Some(Denotation::Routine(_, _)) => false,
+        Some(Denotation::NoArray) | None => false,
     }
 }
 
-pub fn pass_field(env: &Env, node: u32, name: &[u8], found: &Option<Denoted>) -> Result<(), Stop>
+pub fn pass_field(env: &Env, node: u32, name: &[u8], found: &Option<Denotation>) -> Result<(), Stop>
     ensures { Passes node (rules.field_rules (scene_of env.now somewhere) name.now
         (denoted_in (headings_in env.now) found.now)) result }
 {
@@ -147,30 +147,30 @@ pub fn pass_field(env: &Env, node: u32, name: &[u8], found: &Option<Denoted>) ->
     Ok(())
 }
 
-pub fn pass_array(env: &Env, node: u32, found: &Option<Denoted>) -> Result<(), Stop>
+pub fn pass_array(env: &Env, node: u32, found: &Option<Denotation>) -> Result<(), Stop>
     ensures { Passes node (rules.array_rules (denoted_in (headings_in env.now) found.now)) result }
 {
     match found {
-        Some(Denoted::NoArray) => Err(Stop::Fault(CheckFault::NotArray, node)),
-        Some(Denoted::Constant(_, _)) | Some(Denoted::Routine(_, _)) => Ok(()),
-        Some(Denoted::Variable(_)) | None => Ok(()),
+        Some(Denotation::NoArray) => Err(Stop::Fault(CheckFault::NotArray, node)),
+        Some(Denotation::Constant(_, _)) | Some(Denotation::Routine(_, _)) => Ok(()),
+        Some(Denotation::Variable(_)) | None => Ok(()),
     }
 }
 
 // An index of another base than the index type.
-fn other_index(env: &Env, found: &Option<Denoted>, typed: &Option<Typed>) -> bool
+fn other_index(env: &Env, found: &Option<Denotation>, typed: &Option<TypedExpr>) -> bool
     ensures { result ≡ holds (rules.other_index_of (scene_of env.now somewhere)
         (denoted_in (headings_in env.now) found.now)) (typing_in typed.now) }
 {
     match typed {
         None => false,
         Some(typed) => match found {
-            Some(Denoted::Variable(located)) => match env.row(located.shape) {
+            Some(Denotation::Variable(located)) => match env.row(located.shape) {
                 None => false,
                 Some((index, _)) => env.base(index) != env.base(typed.shape),
             },
-            Some(Denoted::Constant(_, _)) | Some(Denoted::Routine(_, _)) => false,
-            Some(Denoted::NoArray) | None => false,
+            Some(Denotation::Constant(_, _)) | Some(Denotation::Routine(_, _)) => false,
+            Some(Denotation::NoArray) | None => false,
         },
     }
 }
@@ -178,8 +178,8 @@ fn other_index(env: &Env, found: &Option<Denoted>, typed: &Option<Typed>) -> boo
 pub fn pass_index(
     env: &Env,
     node: u32,
-    found: &Option<Denoted>,
-    typed: &Option<Typed>,
+    found: &Option<Denotation>,
+    typed: &Option<TypedExpr>,
 ) -> Result<(), Stop>
     ensures { Passes node (rules.index_rules (scene_of env.now somewhere)
         (denoted_in (headings_in env.now) found.now) (typing_in typed.now)) result }
@@ -192,7 +192,7 @@ pub fn pass_index(
 
 // ---- types of expressions
 
-fn not_test(env: &Env, typed: &Option<Typed>) -> bool
+fn not_test(env: &Env, typed: &Option<TypedExpr>) -> bool
     ensures { result ≡ holds (rules.not_test (scene_of env.now somewhere)) (typing_in typed.now) }
 {
     match typed {
@@ -202,7 +202,7 @@ fn not_test(env: &Env, typed: &Option<Typed>) -> bool
 }
 
 /// Whether a value that is known to have a type is no integer.
-pub fn no_integer(env: &Env, typed: &Option<Typed>) -> bool
+pub fn no_integer(env: &Env, typed: &Option<TypedExpr>) -> bool
     ensures { result ≡ holds (rules.no_integer (scene_of env.now somewhere)) (typing_in typed.now) }
 {
     match typed {
@@ -212,7 +212,7 @@ pub fn no_integer(env: &Env, typed: &Option<Typed>) -> bool
 }
 
 /// Whether a value that is known to have a type is an array or a record.
-pub fn structured(env: &Env, typed: &Option<Typed>) -> bool
+pub fn structured(env: &Env, typed: &Option<TypedExpr>) -> bool
     ensures { result ≡ holds (rules.structured (scene_of env.now somewhere)) (typing_in typed.now) }
 {
     match typed {
@@ -245,7 +245,7 @@ fn arithmetic_operand(operand: Operand) -> bool
     }
 }
 
-fn no_operand(env: &Env, operand: Operand, typed: &Option<Typed>) -> bool
+fn no_operand(env: &Env, operand: Operand, typed: &Option<TypedExpr>) -> bool
     ensures { result ≡ holds (rules.no_operand (scene_of env.now somewhere) (operand_view operand))
         (typing_in typed.now) }
 {
@@ -269,7 +269,7 @@ pub fn pass_operand(
     env: &Env,
     node: u32,
     operand: Operand,
-    typed: &Option<Typed>,
+    typed: &Option<TypedExpr>,
 ) -> Result<(), Stop>
     ensures { Passes node (rules.operand_rules (scene_of env.now somewhere) (operand_view operand)
         (typing_in typed.now)) result }
@@ -297,7 +297,7 @@ pub fn pass_not(
     place: Place,
     node: u32,
     operand: Operand,
-    typed: &Option<Typed>,
+    typed: &Option<TypedExpr>,
 ) -> Result<(), Stop>
     ensures { Passes node (rules.not_rules (scene_of env.now place) (operand_view operand)
         (typing_in typed.now)) result }
@@ -308,7 +308,7 @@ pub fn pass_not(
     pass_operand(env, node, operand, typed)
 }
 
-pub fn pass_test(env: &Env, node: u32, typed: &Option<Typed>) -> Result<(), Stop>
+pub fn pass_test(env: &Env, node: u32, typed: &Option<TypedExpr>) -> Result<(), Stop>
     ensures { Passes node (rules.test_rules (scene_of env.now somewhere) (typing_in typed.now))
         result }
 {
@@ -318,7 +318,7 @@ pub fn pass_test(env: &Env, node: u32, typed: &Option<Typed>) -> Result<(), Stop
     Ok(())
 }
 
-pub fn pass_simple(env: &Env, node: u32, typed: &Option<Typed>) -> Result<(), Stop>
+pub fn pass_simple(env: &Env, node: u32, typed: &Option<TypedExpr>) -> Result<(), Stop>
     ensures { Passes node (rules.simple_rules (scene_of env.now somewhere) (typing_in typed.now))
         result }
 {
@@ -373,7 +373,7 @@ pub fn pass_call(
     Ok(())
 }
 
-fn structured_place(env: &Env, located: &Option<Located>) -> bool
+fn structured_place(env: &Env, located: &Option<Location>) -> bool
     ensures { result ≡ holds (rules.structured_place (scene_of env.now somewhere))
         (located_in located.now) }
 {
@@ -383,7 +383,12 @@ fn structured_place(env: &Env, located: &Option<Located>) -> bool
     }
 }
 
-pub fn pass_known(env: &Env, place: Place, node: u32, located: &Option<Located>) -> Result<(), Stop>
+pub fn pass_known(
+    env: &Env,
+    place: Place,
+    node: u32,
+    located: &Option<Location>,
+) -> Result<(), Stop>
     ensures { Passes node (rules.known_rules (scene_of env.now place) (located_in located.now))
         result }
 {
@@ -406,7 +411,7 @@ fn is_char(constant: Option<i64>) -> bool
     }
 }
 
-fn no_char(env: &Env, place: Place, typed: &Option<Typed>) -> bool
+fn no_char(env: &Env, place: Place, typed: &Option<TypedExpr>) -> bool
     ensures { result ≡ holds (rules.no_char (scene_of env.now place)) (typing_in typed.now) }
 {
     match typed {
@@ -415,7 +420,7 @@ fn no_char(env: &Env, place: Place, typed: &Option<Typed>) -> bool
     }
 }
 
-pub fn pass_chr(env: &Env, place: Place, node: u32, typed: &Option<Typed>) -> Result<(), Stop>
+pub fn pass_chr(env: &Env, place: Place, node: u32, typed: &Option<TypedExpr>) -> Result<(), Stop>
     ensures { Passes node (rules.chr_rules (scene_of env.now place) (typing_in typed.now)) result }
 {
     if no_integer(env, typed) {
@@ -440,8 +445,8 @@ pub fn pass_relation(
     place: Place,
     node: u32,
     relation: Relation,
-    left: &Option<Typed>,
-    right: &Option<Typed>,
+    left: &Option<TypedExpr>,
+    right: &Option<TypedExpr>,
 ) -> Result<(), Stop>
     ensures { Passes node (rules.relation_rules (scene_of env.now place) relation
         (both_of (typing_in left.now) (typing_in right.now))) result }
@@ -466,7 +471,7 @@ pub fn pass_relation(
 
 // ---- arguments
 
-fn not_fitting(env: &Env, formal: Formal, typed: &Option<Typed>) -> bool
+fn not_fitting(env: &Env, formal: Formal, typed: &Option<TypedExpr>) -> bool
     ensures { result ≡ holds (rules.not_fitting (scene_of env.now somewhere) (formal_view formal))
         (typing_in typed.now) }
 {
@@ -485,7 +490,7 @@ fn is_var(mode: Option<Mode>) -> bool
     }
 }
 
-fn other_type(formal: Formal, typed: &Option<Typed>) -> bool
+fn other_type(formal: Formal, typed: &Option<TypedExpr>) -> bool
     ensures { result ≡ holds (rules.other_type (formal_view formal)) (typing_in typed.now) }
 {
     match typed {
@@ -499,7 +504,7 @@ pub fn pass_argument(
     node: u32,
     formal: Option<Formal>,
     kind: Argument,
-    typed: &Option<Typed>,
+    typed: &Option<TypedExpr>,
 ) -> Result<(), Stop>
     ensures { Passes node (rules.argument_rules (scene_of env.now somewhere)
         (option_map formal_view formal) (argument_view kind) (typing_in typed.now)) result }

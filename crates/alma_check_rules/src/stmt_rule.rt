@@ -1,7 +1,7 @@
 // The rules of one node of a statement, in the order of the faults.
 ghost use Rattle.std.specs.Prelude.{◌≡◌, ◌&&◌, true, false, Option, None, Some, not, option_map, length};
 ghost use Rattle.alma_base.specs.Numbers as numbers;
-ghost use Rattle.alma_rules.specs.Judged.{holds, both_of};
+ghost use Rattle.alma_rules.specs.Judgement.{holds, both_of};
 ghost use Rattle.alma_rules.specs.Answers.{Passes};
 ghost use Rattle.alma_rules.specs.Parts as parts;
 ghost use Rattle.alma_rules.specs.StmtRules as rules;
@@ -9,7 +9,7 @@ ghost use Rattle.alma_check_rules.specs.Views.{scene_of, found_view, headings_in
 
 use crate::env::{Env, Found, Place, Returns};
 use crate::labels::Labels;
-use crate::part::{Located, Span, Typed};
+use crate::part::{Location, Span, TypedExpr};
 use crate::rule::{no_integer, structured};
 use alma_base::{CheckFault, Range};
 use alma_rules::Stop;
@@ -18,8 +18,8 @@ use alma_rules::Stop;
 pub fn pass_assign(
     env: &Env,
     node: u32,
-    located: &Option<Located>,
-    typed: &Option<Typed>,
+    located: &Option<Location>,
+    typed: &Option<TypedExpr>,
 ) -> Result<(), Stop>
     ensures { Passes node (rules.assign_rules (scene_of env.now somewhere)
         (both_of (located_in located.now) (typing_in typed.now))) result }
@@ -71,7 +71,7 @@ pub fn pass_loop_name(env: &Env, place: Place, node: u32, found: Found) -> Resul
 }
 
 // A bound, or the end of a label, of another base than this shape's.
-fn other_base(env: &Env, shape: u32, typed: &Option<Typed>) -> bool
+fn other_base(env: &Env, shape: u32, typed: &Option<TypedExpr>) -> bool
     ensures { result ≡ holds (rules.other_base (scene_of env.now somewhere) shape)
         (typing_in typed.now) }
 {
@@ -85,9 +85,9 @@ fn other_base(env: &Env, shape: u32, typed: &Option<Typed>) -> bool
 pub fn pass_loop(
     env: &Env,
     node: u32,
-    variable: &Option<Located>,
-    low: &Option<Typed>,
-    high: &Option<Typed>,
+    variable: &Option<Location>,
+    low: &Option<TypedExpr>,
+    high: &Option<TypedExpr>,
 ) -> Result<(), Stop>
     ensures { Passes node (rules.loop_rules {A = parts.Typing} (scene_of env.now somewhere)
         (located_in variable.now) (typing_in low.now) (typing_in high.now) None) result }
@@ -115,7 +115,7 @@ fn is_zero(constant: Option<i64>) -> bool
     }
 }
 
-fn zero_step(env: &Env, typed: &Option<Typed>) -> bool
+fn zero_step(env: &Env, typed: &Option<TypedExpr>) -> bool
     ensures { result ≡ holds (rules.zero_step (scene_of env.now somewhere)) (typing_in typed.now) }
 {
     match typed {
@@ -125,7 +125,7 @@ fn zero_step(env: &Env, typed: &Option<Typed>) -> bool
 }
 
 /// The step behind BY.
-pub fn pass_by(env: &Env, node: u32, typed: &Option<Typed>) -> Result<(), Stop>
+pub fn pass_by(env: &Env, node: u32, typed: &Option<TypedExpr>) -> Result<(), Stop>
     ensures { Passes node (rules.by_rules (scene_of env.now somewhere)
         (typing_in typed.now)) result }
 {
@@ -141,7 +141,7 @@ pub fn pass_by(env: &Env, node: u32, typed: &Option<Typed>) -> Result<(), Stop>
 // ---- CASE
 
 /// CASE, behind its value.
-pub fn pass_case(env: &Env, node: u32, typed: &Option<Typed>) -> Result<(), Stop>
+pub fn pass_case(env: &Env, node: u32, typed: &Option<TypedExpr>) -> Result<(), Stop>
     ensures { Passes node (rules.case_rules {A = parts.Typing} (scene_of env.now somewhere)
         (typing_in typed.now) None) result }
 {
@@ -152,7 +152,12 @@ pub fn pass_case(env: &Env, node: u32, typed: &Option<Typed>) -> Result<(), Stop
 }
 
 // A label of another base than the value of its CASE.
-fn other_label(env: &Env, case: &Option<Typed>, low: &Option<Typed>, high: &Option<Typed>) -> bool
+fn other_label(
+    env: &Env,
+    case: &Option<TypedExpr>,
+    low: &Option<TypedExpr>,
+    high: &Option<TypedExpr>,
+) -> bool
     ensures { result ≡ holds (rules.other_label (scene_of env.now somewhere) (typing_in low.now)
         (typing_in high.now)) (typing_in case.now) }
 {
@@ -179,7 +184,7 @@ fn is_above(low: Option<i64>, high: Option<i64>) -> bool
 }
 
 /// The values of a label, where both its ends have one.
-pub fn span_of(env: &Env, low: &Typed, high: &Typed) -> Option<Span>
+pub fn span_of(env: &Env, low: &TypedExpr, high: &TypedExpr) -> Option<Span>
     ensures { option_map span_view result ≡ parts.span_of (scene_of env.now somewhere)
         (typing_of low.now, typing_of high.now) }
 {
@@ -208,14 +213,14 @@ fn shares_with(earlier: &Labels, span: Option<Span>) -> bool
 }
 
 // The two ends are of one base, and the first is above the second.
-fn low_above_high(env: &Env, low: &Typed, high: &Typed) -> bool
+fn low_above_high(env: &Env, low: &TypedExpr, high: &TypedExpr) -> bool
     ensures { result ≡ rules.low_above_high (scene_of env.now somewhere)
         (typing_of low.now, typing_of high.now) }
 {
     env.base(low.shape) == env.base(high.shape) && is_above(low.constant, high.constant)
 }
 
-fn label_twice(env: &Env, earlier: &Labels, low: &Typed, high: &Typed) -> bool
+fn label_twice(env: &Env, earlier: &Labels, low: &TypedExpr, high: &TypedExpr) -> bool
     ensures { result ≡ rules.label_twice (scene_of env.now somewhere) (spans_view earlier.now)
         (parts.span_of (scene_of env.now somewhere)) (typing_of low.now, typing_of high.now) }
 {
@@ -228,10 +233,10 @@ fn label_twice(env: &Env, earlier: &Labels, low: &Typed, high: &Typed) -> bool
 pub fn pass_label(
     env: &Env,
     node: u32,
-    case: &Option<Typed>,
+    case: &Option<TypedExpr>,
     earlier: &Labels,
-    low: &Option<Typed>,
-    high: &Option<Typed>,
+    low: &Option<TypedExpr>,
+    high: &Option<TypedExpr>,
 ) -> Result<(), Stop>
     ensures { Passes node (rules.label_rules {A = parts.Typing} (scene_of env.now somewhere)
         (typing_in case.now) (spans_view earlier.now) (parts.span_of (scene_of env.now somewhere))
@@ -259,7 +264,7 @@ pub fn pass_label(
 
 // ---- RETURN, READ and WRITE
 
-fn other_result(env: &Env, typed: &Option<Typed>) -> bool
+fn other_result(env: &Env, typed: &Option<TypedExpr>) -> bool
     ensures { result ≡ holds (rules.other_result (scene_of env.now somewhere)
         (returns_view env.now.returns)) (typing_in typed.now) }
 {
@@ -281,7 +286,12 @@ fn other_form(with_value: bool, returns: Returns) -> bool
 }
 
 /// RETURN with an expression.
-pub fn pass_return(env: &Env, place: Place, node: u32, typed: &Option<Typed>) -> Result<(), Stop>
+pub fn pass_return(
+    env: &Env,
+    place: Place,
+    node: u32,
+    typed: &Option<TypedExpr>,
+) -> Result<(), Stop>
     ensures { Passes node (rules.return_rules (scene_of env.now place) true (typing_in typed.now))
         result }
 {
@@ -311,7 +321,7 @@ pub fn pass_bare_return(env: &Env, place: Place, node: u32) -> Result<(), Stop>
 }
 
 /// A designator that READ fills.
-pub fn pass_read(env: &Env, node: u32, located: &Option<Located>) -> Result<(), Stop>
+pub fn pass_read(env: &Env, node: u32, located: &Option<Location>) -> Result<(), Stop>
     ensures { Passes node (rules.read_rules (scene_of env.now somewhere) (located_in located.now))
         result }
 {
@@ -327,7 +337,7 @@ pub fn pass_read(env: &Env, node: u32, located: &Option<Located>) -> Result<(), 
 }
 
 /// An item of WRITE.
-pub fn pass_write(env: &Env, node: u32, typed: &Option<Typed>) -> Result<(), Stop>
+pub fn pass_write(env: &Env, node: u32, typed: &Option<TypedExpr>) -> Result<(), Stop>
     ensures { Passes node (rules.write_rules (scene_of env.now somewhere) (typing_in typed.now))
         result }
 {

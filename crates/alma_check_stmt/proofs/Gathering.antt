@@ -4,11 +4,12 @@ use Rattle.std.proofs.Common.{append-nil, subst}
 use Rattle.std.specs.Prelude.{option_map}
 use Rattle.alma_ir.specs.Tree as ir
 use Rattle.alma_rules.specs.Numbered as tree
-use Rattle.alma_rules.specs.Judged.{Broken, Judged, better, least, both_of, broken_at}
+use Rattle.alma_rules.specs.Judgement.{BrokenRule, Judgement, better, least, both_of, broken_at}
 use Rattle.alma_rules.specs.Answers.{first}
 use Rattle.alma_rules.specs.Scene.{Scene}
 use Rattle.alma_rules.specs.Decls.{Frame, decls_routines, decl_routines, read_decls}
-use Rattle.alma_rules.specs.Modules.{Bodied, bodied_both, cons_routine, no_routines, judge_body, body_lines, judge_bodies, judge_decl}
+use Rattle.alma_rules.specs.Modules.{RoutineBodies, bodied_both, cons_routine, no_routines, judge_body, body_lines, judge_bodies}
+use Rattle.alma_rules.specs.Modules.{judge_decl}
 use Rattle.alma_rules.specs.Modules.{judge_block, routine_of, routine_at, with_shapes, end_rules}
 use Rattle.alma_rules.specs.Walk.{judge_stmts}
 use Rattle.alma_rules.specs.Rising.{rise_block, IsRising}
@@ -16,18 +17,18 @@ use Rattle.alma_rules.proofs.Leasts as leasts
 use Rattle.alma_rules.proofs.Within.{Within, none}
 use Rattle.alma_rules.proofs.Ordered.{stmts_in}
 use Rattle.alma_rules.proofs.DeclsOrdered.{decls_in}
-use Rattle.alma_check_stmt.specs.Inner.Gathered.{unless_broken, Stage, stage, gathered, through_decls, through_decl, through_block}
-use Rattle.alma_check_stmt.specs.Inner.Gathered.{with_fault, with_least, quiet, through_read, counted, joined_lists, Adds, AreRising}
+use Rattle.alma_check_stmt.specs.Inner.Gathered.{unless_broken, Stage, stage, gather, through_decls, through_decl, through_block}
+use Rattle.alma_check_stmt.specs.Inner.Gathered.{with_fault, with_least, quiet, through_read, next_routine, joined_lists, Adds, AreRising}
 use Rattle.alma_check_stmt.specs.Inner.Gathered.{IsRisingBody}
 use Rattle.alma_check_stmt.proofs.Headings.{inner_frame}
 
 -- ---- broken rules
 
-pub better_none : (a : Option Broken) → better a None ≡ a
+pub better_none : (a : Option BrokenRule) → better a None ≡ a
 better_none None = refl
 better_none (Some x) = refl
 
-pub better_assoc : (a b c : Option Broken) → better a (better b c) ≡ better (better a b) c
+pub better_assoc : (a b c : Option BrokenRule) → better a (better b c) ≡ better (better a b) c
 better_assoc None b c = refl
 better_assoc (Some x) None c = refl
 better_assoc (Some x) (Some y) None = refl
@@ -41,7 +42,7 @@ joined_three (Some x) None w = refl
 joined_three (Some x) (Some y) None = refl
 joined_three (Some x) (Some y) (Some z) = ap Some (sym (append_assoc x y z))
 
-masked_three : (f g h : Option Broken) (u v w : Option (List ir.Routine))
+masked_three : (f g h : Option BrokenRule) (u v w : Option (List ir.Routine))
     → unless_broken (better f (better g h)) (joined_lists u (joined_lists v w)) ≡ unless_broken (better (better f g) h)
     (joined_lists (unless_broken (better f g) (joined_lists u v)) w)
 masked_three None None None u v w = joined_three u v w
@@ -49,14 +50,14 @@ masked_three None None (Some z) u v w = refl
 masked_three None (Some y) h u v w = refl
 masked_three (Some x) g h u v w = refl
 
-pub stage_as : (f g : Option Broken) (u v : Option (List ir.Routine)) (m n : ℕ) (s t : Scene) → f ≡ g → u ≡ v → m ≡ n → s ≡ t
+pub stage_as : (f g : Option BrokenRule) (u v : Option (List ir.Routine)) (m n : ℕ) (s t : Scene) → f ≡ g → u ≡ v → m ≡ n → s ≡ t
     → (let a : Stage = record { fault = f; routines = u; next = m; scene = s } in a)
     ≡ record { fault = g; routines = v; next = n; scene = t }
 stage_as f g u v m n s t a b c d = rw (a, b, c, d) refl
 
 -- ---- declarations
 
-pub gathered_both : (t : Stage) (m n : ℕ) (a b : Bodied) → gathered t (m + n) (bodied_both a b) ≡ gathered (gathered t m a) n b
+pub gathered_both : (t : Stage) (m n : ℕ) (a b : RoutineBodies) → gather t (m + n) (bodied_both a b) ≡ gather (gather t m a) n b
 gathered_both t m n a b =
     let e : least (a.faults ++ b.faults) ≡ better (least a.faults) (least b.faults) = leasts.least_joined a.faults b.faults in
     stage_as _ _ _ _ _ _ _ _ (ap (better t.fault) e ∙ better_assoc t.fault (least a.faults) (least b.faults))
@@ -71,39 +72,39 @@ through_more t d rest =
     gathered_both t (decl_routines d) (decls_routines rest) (judge_decl t.scene t.next d)
     (judge_bodies (with_shapes t.scene (judge_decl t.scene t.next d).shapes) (t.next + decl_routines d) rest)
 
-nothing_joined : (f : Option Broken) (v : Option (List ir.Routine))
+nothing_joined : (f : Option BrokenRule) (v : Option (List ir.Routine))
     → unless_broken (better f None) (joined_lists (unless_broken f v) (Some [])) ≡ unless_broken f v
 nothing_joined None None = refl
 nothing_joined None (Some xs) = ap Some (append-nil xs)
 nothing_joined (Some b) v = refl
 
-pub nothing_gathered : (f : Option Broken) (v : Option (List ir.Routine)) (n : ℕ) (s : Scene)
-    → gathered (stage f v n s) 0 (no_routines s.shapes) ≡ stage f v n s
+pub nothing_gathered : (f : Option BrokenRule) (v : Option (List ir.Routine)) (n : ℕ) (s : Scene)
+    → gather (stage f v n s) 0 (no_routines s.shapes) ≡ stage f v n s
 nothing_gathered f v n s = stage_as _ _ _ _ _ _ _ _ (better_none f) (nothing_joined f v) (omega arith) refl
 
-pub through_none : (f : Option Broken) (v : Option (List ir.Routine)) (n : ℕ) (s : Scene)
+pub through_none : (f : Option BrokenRule) (v : Option (List ir.Routine)) (n : ℕ) (s : Scene)
     → through_decls (stage f v n s) tree.no_decl ≡ stage f v n s
 unfolding judge_block decls_routines
 through_none f v n s = nothing_gathered f v n s
 
-pub through_const : (f : Option Broken) (v : Option (List ir.Routine)) (n : ℕ) (s : Scene) (k : ℕ) (xs : List tree.ConstEntry)
+pub through_const : (f : Option BrokenRule) (v : Option (List ir.Routine)) (n : ℕ) (s : Scene) (k : ℕ) (xs : List tree.ConstEntry)
     → through_decl (stage f v n s) (tree.const_decl k xs) ≡ stage f v n s
 unfolding judge_block decls_routines
 through_const f v n s k xs = nothing_gathered f v n s
 
-pub through_type : (f : Option Broken) (v : Option (List ir.Routine)) (n : ℕ) (s : Scene) (k : ℕ) (xs : List tree.TypeEntry)
+pub through_type : (f : Option BrokenRule) (v : Option (List ir.Routine)) (n : ℕ) (s : Scene) (k : ℕ) (xs : List tree.TypeEntry)
     → through_decl (stage f v n s) (tree.type_decl k xs) ≡ stage f v n s
 unfolding judge_block decls_routines
 through_type f v n s k xs = nothing_gathered f v n s
 
-pub through_var : (f : Option Broken) (v : Option (List ir.Routine)) (n : ℕ) (s : Scene) (k : ℕ) (xs : List tree.VarEntry)
+pub through_var : (f : Option BrokenRule) (v : Option (List ir.Routine)) (n : ℕ) (s : Scene) (k : ℕ) (xs : List tree.VarEntry)
     → through_decl (stage f v n s) (tree.var_decl k xs) ≡ stage f v n s
 unfolding judge_block decls_routines
 through_var f v n s k xs = nothing_gathered f v n s
 
 -- ---- procedures
 
-masked_procedure : (f a b c : Option Broken) (u v : Option (List ir.Routine))
+masked_procedure : (f a b c : Option BrokenRule) (u v : Option (List ir.Routine))
     → unless_broken (better f (better (better a b) c)) (joined_lists u v) ≡ unless_broken (better (better (better f a) b) c)
     (unless_broken (better (better f a) b) (joined_lists (unless_broken (better f a) u) v))
 masked_procedure None None None None u v = refl
@@ -112,19 +113,19 @@ masked_procedure None None (Some y) c u v = refl
 masked_procedure None (Some x) b c u v = refl
 masked_procedure (Some w) a b c u v = refl
 
-better_four : (f a b c : Option Broken) → better f (better (better a b) c) ≡ better (better (better f a) b) c
+better_four : (f a b c : Option BrokenRule) → better f (better (better a b) c) ≡ better (better (better f a) b) c
 better_four f a b c = better_assoc f (better a b) c ∙ ap (λ x. better x c) (better_assoc f a b)
 
 -- a block, of which the rules broken in its declarations are gathered first
-pub block_gathered : (t : Stage) (g : Frame) (name : tree.Name) (outer end k l : ℕ) (i : Bodied) (body : Option tree.Stmts)
-    (j : Judged ir.Stmts) (faults : List Broken) → t.next + k ≡ t.next + 1 + l
-    → gathered t k (record {
+pub block_gathered : (t : Stage) (g : Frame) (name : tree.Name) (outer end k l : ℕ) (i : RoutineBodies) (body : Option tree.Stmts)
+    (j : Judgement ir.Stmts) (faults : List BrokenRule) → t.next + k ≡ t.next + 1 + l
+    → gather t k (record {
       faults = g.faults ++ i.faults ++ j.faults ++ faults;
       shapes = i.shapes;
       value =
           (routine_at g name outer end i body j).value;
     })
-    ≡ with_least (record (gathered (with_least (counted t) g.faults) l (routine_at (quiet g) name outer end i body j))
+    ≡ with_least (record (gather (with_least (next_routine t) g.faults) l (routine_at (quiet g) name outer end i body j))
     { scene = with_shapes t.scene i.shapes }) faults
 block_gathered t g name outer end k l i body j faults n =
     let e : least (g.faults ++ i.faults ++ j.faults ++ faults) ≡ better (better (least g.faults) (least (i.faults ++ j.faults)))
@@ -145,7 +146,7 @@ body_quiet g (Some body) = refl
 pub through_procedure : (t : Stage) (n : ℕ) (name : tree.Name) (params : Option tree.Params) (result : Option tree.Name) (m : ℕ)
     (decls : tree.DeclTail) (body : Option tree.Stmts) (end_name : tree.Name)
     → through_decl t (tree.procedure n name params result (tree.block m decls body) end_name)
-    ≡ (let v : Stage = through_read (counted t) (inner_frame t.scene t.next n params result m decls body) name t.scene.routine
+    ≡ (let v : Stage = through_read (next_routine t) (inner_frame t.scene t.next n params result m decls body) name t.scene.routine
     (end_name.token - 1) decls body in
     with_least (record v { scene = with_shapes t.scene v.scene.shapes }) (broken_at end_name.node (end_rules t.scene name end_name)))
 unfolding judge_block decls_routines
@@ -158,7 +159,8 @@ through_procedure t n name params result m decls body end_name =
 
 -- ---- the routine of a block
 
-masked_block : (f b o : Option Broken) (v v' u : Option (List ir.Routine)) (j : Judged ir.Stmts) (routine : ℕ → ir.Stmts → ir.Routine)
+masked_block : (f b o : Option BrokenRule) (v v' u : Option (List ir.Routine)) (j : Judgement ir.Stmts)
+    (routine : ℕ → ir.Stmts → ir.Routine)
     → unless_broken o v' ≡ unless_broken o (joined_lists v (option_map (λ (x : ir.Stmts). routine j.next x ∷ []) j.value))
     → unless_broken (better f (better b o)) (joined_lists (unless_broken f v)
     (option_map (λ (p : List ir.Routine × ir.Stmts). routine j.next p.1 ∷ p.0) (both_of u j.value)))
@@ -177,16 +179,17 @@ masked_block None None None v v' u j routine e = rw e (by v u j.value)
     by (Some xs) (Some rs) None = refl
     by (Some xs) (Some rs) (Some w) = ap Some (sym (append_assoc xs (routine j.next w ∷ []) rs))
 
-pub block_by : (x o : Option Broken) (v v' : Option (List ir.Routine)) (n : ℕ) (s : Scene) (f : Frame) (name : tree.Name) (outer end : ℕ)
+pub block_by : (x o : Option BrokenRule) (v v' : Option (List ir.Routine)) (n : ℕ) (s : Scene) (f : Frame) (name : tree.Name)
+    (outer end : ℕ)
     (decls : tree.DeclTail) (body : Option tree.Stmts)
     → f.faults ≡ [] → least (judge_body f body).faults ≡ first (judge_body f body).faults
     → Adds (judge_body f body) (λ slots b. routine_of f name outer slots (body_lines f.scene end body) b) o v v'
     → through_block (stage x v n s) f name outer end decls body ≡ with_fault (through_decls (stage x v' n s) decls) o
 block_by x o v v' n s f name outer end decls body q l a =
-    let i : Bodied = judge_bodies s n decls in
-    let j : Judged ir.Stmts = judge_body f body in
+    let i : RoutineBodies = judge_bodies s n decls in
+    let j : Judgement ir.Stmts = judge_body f body in
     let e : least (f.faults ++ i.faults ++ j.faults) ≡ better (least i.faults) o =
-    ap (λ (fs : List Broken). least (fs ++ i.faults ++ j.faults)) q ∙ leasts.least_joined i.faults j.faults
+    ap (λ (fs : List BrokenRule). least (fs ++ i.faults ++ j.faults)) q ∙ leasts.least_joined i.faults j.faults
     ∙ ap (better (least i.faults)) (l ∙ sym a.broken) in
     stage_as _ _ _ _ _ _ _ _ (ap (better x) e ∙ better_assoc x (least i.faults) o)
     (ap (λ y. unless_broken (better x y) (joined_lists (unless_broken x v)

@@ -12,7 +12,7 @@ use Rattle.alma_rules.specs.Numbered as tree
 use Rattle.alma_rules.specs.Scene.{Scene, Heading}
 use Rattle.alma_rules.specs.Decls.{Frame, decls_routines, decl_routines, read_heading, read_decl, read_decls}
 use Rattle.alma_rules.specs.Modules.{frame_of, with_shapes}
-use Rattle.alma_check_type.specs.Around.{cleared, left, outer_of}
+use Rattle.alma_check_type.specs.Around.{clear, leave_block, outer_of}
 use Rattle.alma_check_stmt.specs.Inner.Gathered.{AreEmpty, IsEmptyInside, AreEmptyInside}
 use Rattle.alma_check_stmt.proofs.Stays.{consts_same, types_same, vars_same, head_same, ground, ground_steady, headings_steady}
 
@@ -128,22 +128,22 @@ set_none hs i = by (nat_lt i (length hs)) refl
         let le : length hs ≤ i = ltb-false i (length hs) h in
         ap (λ ys. get_or ys i None) (set_past hs i None le) ∙ get_or_past hs i None le
 
-cleared_long : (a n : ℕ) (hs : List (Option Heading)) → length (cleared a n hs) ≡ length hs
+cleared_long : (a n : ℕ) (hs : List (Option Heading)) → length (clear a n hs) ≡ length hs
 cleared_long a zero hs = refl
-cleared_long a (suc n) hs = length-set (cleared a n hs) (a + n) None ∙ cleared_long a n hs
+cleared_long a (suc n) hs = length-set (clear a n hs) (a + n) None ∙ cleared_long a n hs
 
-cleared_inside : (a n i : ℕ) (hs : List (Option Heading)) → a ≤ i → i < a + n → get_or (cleared a n hs) i None ≡ None
+cleared_inside : (a n i : ℕ) (hs : List (Option Heading)) → a ≤ i → i < a + n → get_or (clear a n hs) i None ≡ None
 cleared_inside a zero i hs le lt = absurd (let bad : ⊥ = omega (arith, le, lt) in bad)
 cleared_inside a (suc n) i hs le lt = by (eqb_tells i (a + n)) (cleared_inside a n i hs le)
   where
     by : ((nat_eq i (a + n) ≡ true) × (i ≡ a + n)) ⊎ ((nat_eq i (a + n) ≡ false) × (i ≢ a + n))
-        → (i < a + n → get_or (cleared a n hs) i None ≡ None) → get_or (set (cleared a n hs) (a + n) None) i None ≡ None
-    by (inl e) h = subst (λ j. get_or (set (cleared a n hs) (a + n) None) j None ≡ None) (sym e.1) (set_none (cleared a n hs) (a + n))
-    by (inr e) h = get_or-set_other (cleared a n hs) (a + n) i None None e.1 ∙ h (omega (arith, lt, e.1))
+        → (i < a + n → get_or (clear a n hs) i None ≡ None) → get_or (set (clear a n hs) (a + n) None) i None ≡ None
+    by (inl e) h = subst (λ j. get_or (set (clear a n hs) (a + n) None) j None ≡ None) (sym e.1) (set_none (clear a n hs) (a + n))
+    by (inr e) h = get_or-set_other (clear a n hs) (a + n) i None None e.1 ∙ h (omega (arith, lt, e.1))
 
-cleared_outside : (a n i : ℕ) (hs : List (Option Heading)) → (i < a) ⊎ (a + n ≤ i) → get_or (cleared a n hs) i None ≡ get_or hs i None
+cleared_outside : (a n i : ℕ) (hs : List (Option Heading)) → (i < a) ⊎ (a + n ≤ i) → get_or (clear a n hs) i None ≡ get_or hs i None
 cleared_outside a zero i hs h = refl
-cleared_outside a (suc n) i hs h = get_or-set_other (cleared a n hs) (a + n) i None None (apart h) ∙ cleared_outside a n i hs (less h)
+cleared_outside a (suc n) i hs h = get_or-set_other (clear a n hs) (a + n) i None None (apart h) ∙ cleared_outside a n i hs (less h)
   where
     apart : (i < a) ⊎ (a + suc n ≤ i) → i ≡ a + n → ⊥
     apart (inl l) e = omega (arith, l, e)
@@ -155,16 +155,16 @@ cleared_outside a (suc n) i hs h = get_or-set_other (cleared a n hs) (a + n) i N
 
 -- as they were before the declarations
 pub decls_cleared : (f : Frame) (r : ℕ) (x : tree.DeclTail) → AreEmpty f.scene.headings r (decls_routines x)
-    → cleared r (decls_routines x) (read_decls f r x).scene.headings ≡ f.scene.headings
+    → clear r (decls_routines x) (read_decls f r x).scene.headings ≡ f.scene.headings
 decls_cleared f r x h =
-    ext_get_or None (cleared r n (read_decls f r x).scene.headings) f.scene.headings
+    ext_get_or None (clear r n (read_decls f r x).scene.headings) f.scene.headings
     (cleared_long r n (read_decls f r x).scene.headings ∙ decls_long f r x) (λ i lt. by i (nat_lt i r) refl (nat_lt i (r + n)) refl)
   where
     n : ℕ
     n = decls_routines x
 
     outside : (i : ℕ) → (i < r) ⊎ (r + decls_routines x ≤ i)
-        → get_or (cleared r (decls_routines x) (read_decls f r x).scene.headings) i None ≡ get_or f.scene.headings i None
+        → get_or (clear r (decls_routines x) (read_decls f r x).scene.headings) i None ≡ get_or f.scene.headings i None
     outside i p = cleared_outside r (decls_routines x) i (read_decls f r x).scene.headings p
         ∙ decls_heads f r x i (λ q. far p (proc_in r x i q))
       where
@@ -173,7 +173,7 @@ decls_cleared f r x h =
         far (inr l) e = omega (arith, l, e.1)
 
     by : (i : ℕ) (b : Bool) → nat_lt i r ≡ b → (c : Bool) → nat_lt i (r + decls_routines x) ≡ c
-        → get_or (cleared r (decls_routines x) (read_decls f r x).scene.headings) i None ≡ get_or f.scene.headings i None
+        → get_or (clear r (decls_routines x) (read_decls f r x).scene.headings) i None ≡ get_or f.scene.headings i None
     by i true p c q = outside i (inl (ltb-true i r p))
     by i false p false q = outside i (inr (ltb-false i (r + decls_routines x) q))
     by i false p true q =
@@ -190,7 +190,7 @@ closed_blocks b t e =
 
 closed_by : (s t : Scene) (shapes : List PlainShape) (hs : List (Option Heading))
     → ground t ≡ record (ground s) { below = s.blocks.below ++ s.blocks.top ∷ [] } → hs ≡ s.headings
-    → record (left (with_shapes t shapes) (outer_of s)) { headings = hs } ≡ with_shapes s shapes
+    → record (leave_block (with_shapes t shapes) (outer_of s)) { headings = hs } ≡ with_shapes s shapes
 closed_by s t shapes hs g h =
     rw (
       h,
@@ -225,13 +225,13 @@ inner_ground s r n params result m decls body =
 pub scene_closed : (s : Scene) (r n : ℕ) (params : Option tree.Params) (result : Option tree.Name) (m : ℕ) (decls : tree.DeclTail)
     (body : Option tree.Stmts) (shapes : List PlainShape)
     → AreEmpty s.headings (r + 1) (decls_routines decls)
-    → record (left (with_shapes (inner_frame s r n params result m decls body).scene shapes) (outer_of s))
-    { headings = cleared (r + 1) (decls_routines decls) (inner_frame s r n params result m decls body).scene.headings } ≡ with_shapes s
+    → record (leave_block (with_shapes (inner_frame s r n params result m decls body).scene shapes) (outer_of s))
+    { headings = clear (r + 1) (decls_routines decls) (inner_frame s r n params result m decls body).scene.headings } ≡ with_shapes s
     shapes
 scene_closed s r n params result m decls body shapes e =
     let h = frame_of (read_heading s r n params result (tree.block m decls body)) in
     closed_by s (inner_frame s r n params result m decls body).scene shapes
-    (cleared (r + 1) (decls_routines decls) (inner_frame s r n params result m decls body).scene.headings)
+    (clear (r + 1) (decls_routines decls) (inner_frame s r n params result m decls body).scene.headings)
     (inner_ground s r n params result m decls body)
     (decls_cleared (frame_of (read_heading s r n params result (tree.block m decls body))) (r + 1) decls
     (heading_empty s r n params result (tree.block m decls body) (r + 1) (decls_routines decls) e)

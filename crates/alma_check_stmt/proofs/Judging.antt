@@ -12,8 +12,8 @@ use Rattle.alma_ir.specs.Checked.{IsChecked}
 use Rattle.alma_rules.specs.declared.error.CheckError.{CheckError}
 use Rattle.alma_rules.specs.Answers.{Resolves}
 use Rattle.alma_rules.specs.Numbered as tree
-use Rattle.alma_rules.specs.Modules.{broken, resolved}
-use Rattle.alma_check_type.specs.declared.reading.Broken.{Broken as CodeBroken}
+use Rattle.alma_rules.specs.Modules.{broken_rules, resolution}
+use Rattle.alma_check_type.specs.declared.reading.BrokenRule.{BrokenRule as CodeBroken}
 use Rattle.alma_check_type.specs.Told.{fault_of}
 use Rattle.alma_check_stmt.specs.Inner.Shown.{unless_bad, routines_in}
 use Rattle.alma_check_stmt.specs.declared.module.Whole.{Whole}
@@ -30,7 +30,7 @@ named_judged source tokens m name globals checked (Ok w) a b d h = rw (a, b, d) 
 named_judged source tokens m name globals checked (Err e) a b d h = tt
 
 pub resolved_checked : (source : List ℕ) (tokens : List Lexeme) (m : tree.Module) (r : Result Program CheckError)
-    → Resolves source tokens m program_of r → ((p : ir.Program) → resolved source tokens m ≡ Some p → IsChecked p)
+    → Resolves source tokens m program_of r → ((p : ir.Program) → resolution source tokens m ≡ Some p → IsChecked p)
     → IfOk r (λ p. IsChecked (program_of p))
 resolved_checked source tokens m (Ok p) h f = f (program_of p) h.1
 resolved_checked source tokens m (Err e) h f = tt
@@ -45,13 +45,13 @@ fine_judged source tokens m f b rs name globals e1 e2 h =
 -- where no rule is broken no routine is Bad
 bad_never : (source : List ℕ) (tokens : List Lexeme) (m : tree.Module) (b : Bool) (rs : List ir.Routine) (name : List ℕ)
     (globals : List ir.Global) → IsJudged source tokens m None (unless_bad b rs) name globals
-    → (broken source tokens m ≡ [] → (p : ir.Program) × (resolved source tokens m ≡ Some p)) → b ≡ false
+    → (broken_rules source tokens m ≡ [] → (p : ir.Program) × (resolution source tokens m ≡ Some p)) → b ≡ false
 bad_never source tokens m false rs name globals h law = refl
 bad_never source tokens m true rs name globals h law = absurd (unbroken_is_fine source tokens m name globals h law)
 
 pub never_bad : (source : List ℕ) (tokens : List Lexeme) (m : tree.Module) (f : Option CodeBroken) (b : Bool) (rs : List ir.Routine)
     (name : List ℕ) (globals : List ir.Global) → IsJudged source tokens m (fault_of f) (unless_bad b rs) name globals
-    → (broken source tokens m ≡ [] → (p : ir.Program) × (resolved source tokens m ≡ Some p)) → f ≡ None → b ≡ false
+    → (broken_rules source tokens m ≡ [] → (p : ir.Program) × (resolution source tokens m ≡ Some p)) → f ≡ None → b ≡ false
 never_bad source tokens m f b rs name globals h law e =
     bad_never source tokens m b rs name globals
     (subst (λ (x : Option CodeBroken). IsJudged source tokens m (fault_of x) (unless_bad b rs) name globals) e h) law

@@ -4,7 +4,7 @@ use Rattle.alma_ir.specs.Tree as ir
 use Rattle.alma_ir.specs.declared.phrase.Stmt.{Stmt}
 use Rattle.alma_rules.specs.declared.error.Stop.{Stop}
 use Rattle.alma_rules.specs.Numbered as tree
-use Rattle.alma_rules.specs.Judged.{Judged}
+use Rattle.alma_rules.specs.Judgement.{Judgement}
 use Rattle.alma_rules.specs.Answers.{Answers}
 use Rattle.alma_rules.specs.Scene.{Scene}
 use Rattle.alma_rules.specs.Walk.{judge_stmts}
@@ -21,4 +21,4 @@ own_same s x n (Some b) e = ap (λ k. judge_stmts s k b) e
 
 pub own_answers : (s : Scene) (x : Frame) (n m : ℕ) (b : Option tree.Stmts) (r : Result (Option (Vec Stmt Global)) Stop) → n ≡ x.slots
     → Answers (judge_body (new_frame s n) b) stmts_of m r → Answers (judge_body (frame_in s x) b) stmts_of m r
-own_answers s x n m b r e h = subst (λ (j : Judged ir.Stmts). Answers j stmts_of m r) (own_same s x n b e) h
+own_answers s x n m b r e h = subst (λ (j : Judgement ir.Stmts). Answers j stmts_of m r) (own_same s x n b e) h

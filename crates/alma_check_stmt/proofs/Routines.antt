@@ -10,14 +10,14 @@ use Rattle.alma_names.specs.Shapes.{PlainShape}
 use Rattle.alma_ir.specs.Tree as ir
 use Rattle.alma_rules.specs.Numbered as tree
 use Rattle.alma_rules.specs.View as view
-use Rattle.alma_rules.specs.Judged.{Broken, broken_at}
+use Rattle.alma_rules.specs.Judgement.{BrokenRule, broken_at}
 use Rattle.alma_rules.specs.Scene.{Scene}
 use Rattle.alma_rules.specs.Decls.{Frame, block_routines, decls_routines, decl_routines, read_heading, read_decls}
 use Rattle.alma_rules.specs.Modules.{judge_body, body_lines, judge_bodies, judge_decl, routine_of, with_shapes, end_rules}
 use Rattle.alma_rules.proofs.Exprs.{next_of}
-use Rattle.alma_check_type.specs.Around.{cleared, left, outer_of}
+use Rattle.alma_check_type.specs.Around.{clear, leave_block, outer_of}
 use Rattle.alma_check_stmt.specs.Inner.Gathered.{Stage, stage, through_decls, through_decl, through_block, through_read, read_stage}
-use Rattle.alma_check_stmt.specs.Inner.Gathered.{with_fault, with_least, counted, quiet, Adds, AreEmpty, AreEmptyInside, IsRisingBody}
+use Rattle.alma_check_stmt.specs.Inner.Gathered.{with_fault, with_least, next_routine, quiet, Adds, AreEmpty, AreEmptyInside, IsRisingBody}
 use Rattle.alma_check_stmt.specs.Inner.Gathered.{AreReady, IsReady, IsReadyInside}
 use Rattle.alma_check_stmt.proofs.Headings.{inner_frame, inner_ground, heading_ground, heading_empty, scene_closed, decls_ground}
 use Rattle.alma_check_stmt.proofs.Headings.{read_inside}
@@ -97,7 +97,7 @@ first_of source s next i all x lt is h =
     first_ready source s next (view.view_decl x) (view.decls_of (drop (i + 1) all))
     (subst (λ xs. AreReady source s next (view.decls_of xs)) (next_of all i x lt is) h)
 
-pub rest_of : (source : List ℕ) (s t : Scene) (i : ℕ) (all : List dh.Decl) (x : dh.Decl) (f g : Option Broken)
+pub rest_of : (source : List ℕ) (s t : Scene) (i : ℕ) (all : List dh.Decl) (x : dh.Decl) (f g : Option BrokenRule)
     (v w : Option (List ir.Routine)) (next k : ℕ) → i < length all → x ≡ get_or all i x
     → AreReady source s next (view.decls_of (drop i all)) → through_decl (stage f v next s) (view.view_decl x) ≡ stage g w k t
     → AreReady source t k (view.decls_of (drop (i + 1) all))
@@ -114,13 +114,13 @@ decls_next t u i all x lt is e =
     ∙ (through_more t (view.view_decl x) (view.decls_of (drop (i + 1) all))
     ∙ ap (λ (y : Stage). through_decls y (view.decls_of (drop (i + 1) all))) e)
 
-pub decls_end : (f : Option Broken) (v : Option (List ir.Routine)) (n : ℕ) (s : Scene) (i : ℕ) (all : List dh.Decl) → length all ≤ i
+pub decls_end : (f : Option BrokenRule) (v : Option (List ir.Routine)) (n : ℕ) (s : Scene) (i : ℕ) (all : List dh.Decl) → length all ≤ i
     → through_decls (stage f v n s) (view.decls_of (drop i all)) ≡ stage f v n s
 decls_end f v n s i all le = ap (λ xs. through_decls (stage f v n s) (view.decls_of xs)) (drop_all i all le) ∙ through_none f v n s
 
 -- ---- blocks
 
-pub declared_by : (x x' o : Option Broken) (v v' : Option (List ir.Routine)) (n n' : ℕ) (s : Scene) (f : Frame) (name : tree.Name)
+pub declared_by : (x x' o : Option BrokenRule) (v v' : Option (List ir.Routine)) (n n' : ℕ) (s : Scene) (f : Frame) (name : tree.Name)
     (outer end : ℕ) (decls : tree.DeclTail) (body : Option tree.Stmts) (t u : Stage)
     → f.faults ≡ [] → IsRisingBody body
     → Adds (judge_body f body) (λ slots b. routine_of f name outer slots (body_lines f.scene end body) b) o v v'
@@ -147,13 +147,14 @@ pub is_open : (s s' : Scene) (r n : ℕ) (params : Option tree.Params) (result :
 is_open s s' r n params result m decls body shapes e =
     rw (e, ap (λ g. g.below) (inner_ground s r n params result m decls body)) (omega (arith, length_push s.blocks.below s.blocks.top))
 
-pub procedure_by : (f0 f2 : Option Broken) (v0 v2 : Option (List ir.Routine)) (n n2 : ℕ) (s0 s2 s4 : Scene) (k : ℕ) (name : tree.Name)
+pub procedure_by : (f0 f2 : Option BrokenRule) (v0 v2 : Option (List ir.Routine)) (n n2 : ℕ) (s0 s2 s4 : Scene) (k : ℕ) (name : tree.Name)
     (params : Option tree.Params) (result : Option tree.Name) (m : ℕ) (decls : tree.DeclTail) (body : Option tree.Stmts)
     (end_name : tree.Name) (w : Stage)
     → AreEmpty s0.headings (n + 1) (decls_routines decls)
-    → through_read (counted (stage f0 v0 n s0)) (inner_frame s0 n k params result m decls body) name s0.routine (end_name.token - 1) decls
+    → through_read (next_routine (stage f0 v0 n s0)) (inner_frame s0 n k params result m decls body) name s0.routine (end_name.token - 1)
+    decls
     body ≡ stage f2 v2 n2 s2
-    → s4 ≡ record (left s2 (outer_of s0)) { headings = cleared (n + 1) (n2 - (n + 1)) s2.headings }
+    → s4 ≡ record (leave_block s2 (outer_of s0)) { headings = clear (n + 1) (n2 - (n + 1)) s2.headings }
     → w ≡ with_least (stage f2 v2 n2 s4) (broken_at end_name.node (end_rules s4 name end_name))
     → through_decl (stage f0 v0 n s0) (tree.procedure k name params result (tree.block m decls body) end_name) ≡ w
 procedure_by f0 f2 v0 v2 n n2 s0 s2 s4 k name params result m decls body end_name w empty e c d =

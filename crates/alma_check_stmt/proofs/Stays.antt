@@ -11,18 +11,22 @@ use Rattle.alma_names.specs.Blocks.{shape_id}
 use Rattle.alma_names.specs.Scopes.{Blocks, with_declared, with_new_block}
 use Rattle.alma_scan.specs.Tokens.{Lexeme}
 use Rattle.alma_rules.specs.Numbered as tree
-use Rattle.alma_rules.specs.Judged.{Broken, broken_at}
+use Rattle.alma_rules.specs.Judgement.{BrokenRule, broken_at}
 use Rattle.alma_rules.specs.Scene.{Scene, Returns, nothing, a_value, is_first, is_structured, text_at, base}
 use Rattle.alma_rules.specs.Places.{width, mark_type}
-use Rattle.alma_rules.specs.Types.{Reading, reading_change, changed, reading_then, add_shape, Formed, formed, too_large, row_on, rows_on}
+use Rattle.alma_rules.specs.Types.{Reading, reading_change, with_change, reading_then, add_shape, ShapeOrLimit, formed, too_large, row_on}
+use Rattle.alma_rules.specs.Types.{rows_on}
 use Rattle.alma_rules.specs.Types.{rows_of, subrange_from, subrange_of, record_of, value_entry, declare_values, listed_in, all_first}
-use Rattle.alma_rules.specs.Types.{redeclared_all, read_listed, all_names, last_token, declared, redeclared, read_constant, read_type}
+use Rattle.alma_rules.specs.Types.{redeclared_all, read_listed, all_names, last_token, declare_name, redeclaration_rules, read_constant}
+use Rattle.alma_rules.specs.Types.{read_type}
 use Rattle.alma_rules.specs.Types.{read_arrays, read_dimension_tail, read_dimensions, read_plains, read_plain, read_fields, read_field_tail}
 use Rattle.alma_rules.specs.Types.{field_names, read_type_name, subrange_rules, reading_at, joined_fields, reading_with}
-use Rattle.alma_rules.specs.Decls.{Frame, with_faults, with_scene, limited, constant_in, read_consts, type_in, read_types, with_variable}
+use Rattle.alma_rules.specs.Decls.{Frame, with_faults, with_scene, within_limit, constant_in, read_consts, type_in, read_types}
+use Rattle.alma_rules.specs.Decls.{with_variable}
 use Rattle.alma_rules.specs.Decls.{variable_access, variable_in, variables_in, variables_of, read_vars, with_texts, block_names, with_block}
 use Rattle.alma_rules.specs.Decls.{with_routine, with_routines, decl_routines, param_access, param_kind, with_param, param_in, params_in}
-use Rattle.alma_rules.specs.Decls.{formal_in, read_formals, formals_of, formal_names, too_deep, headed, with_depth, new_frame, read_heading}
+use Rattle.alma_rules.specs.Decls.{formal_in, read_formals, formals_of, formal_names, too_deep, heading_at, with_depth, new_frame}
+use Rattle.alma_rules.specs.Decls.{read_heading}
 use Rattle.alma_rules.proofs.Limited.{limited_scene}
 
 -- what is the same in scenes with other shapes, other names in the top block, and another RETURN
@@ -33,7 +37,7 @@ pub record Steady {A : Type 0} (F : Scene → A) : Type 0 where
 -- ---- names and shapes
 
 declared_same : {A : Type 0} (F : Scene → A) → Steady F → (s : Scene) (name : tree.Name) (from : ℕ) (e : Entry)
-    → F (declared s name from e) ≡ F s
+    → F (declare_name s name from e) ≡ F s
 declared_same {A} F h s name from e = by (is_first s name)
   where
     by : (b : Bool) → F (if b then record s
@@ -44,16 +48,16 @@ declared_same {A} F h s name from e = by (is_first s name)
 add_same : {A : Type 0} (F : Scene → A) → Steady F → (s : Scene) (x : PlainShape) → F (add_shape s x).0 ≡ F s
 add_same {A} F h s x = by (is_too_large s.shapes x)
   where
-    by : (b : Bool) → F (if_true {A = Scene × Formed} b (λ u. (s, too_large))
+    by : (b : Bool) → F (if_true {A = Scene × ShapeOrLimit} b (λ u. (s, too_large))
         (λ u. (record s { shapes = s.shapes ++ placed_shape (cell_counts s.shapes) x ∷ [] }, formed (length s.shapes)))).0 ≡ F s
     by true = refl
     by false = h.same s (s.shapes ++ placed_shape (cell_counts s.shapes) x ∷ []) s.blocks s.returns refl
 
-row_same : {A : Type 0} (F : Scene → A) → Steady F → (i : ℕ) (p : Scene × Formed) → F (row_on i p).0 ≡ F p.0
+row_same : {A : Type 0} (F : Scene → A) → Steady F → (i : ℕ) (p : Scene × ShapeOrLimit) → F (row_on i p).0 ≡ F p.0
 row_same F h i (s, formed e) = add_same F h s (row i e)
 row_same F h i (s, too_large) = refl
 
-rows_same : {A : Type 0} (F : Scene → A) → Steady F → (s : Scene) (is : List ℕ) (f : Formed) → F (rows_on s is f).0 ≡ F s
+rows_same : {A : Type 0} (F : Scene → A) → Steady F → (s : Scene) (is : List ℕ) (f : ShapeOrLimit) → F (rows_on s is f).0 ≡ F s
 rows_same F h s [] f = refl
 rows_same F h s (i ∷ is) f = row_same F h i (rows_on s is f) ∙ rows_same F h s is f
 
@@ -65,10 +69,11 @@ subrange_same F h s b (Some l) (Some u) = add_same F h s (sub b (record { low = 
 values_same : {A : Type 0} (F : Scene → A) → Steady F → (s : Scene) (from : ℕ) (shape : Option ℕ) (i : ℕ) (xs : List tree.Name)
     → F (declare_values s from shape i xs) ≡ F s
 values_same F h s from shape i [] = refl
-values_same F h s from shape i (x ∷ xs) = values_same F h (declared s x from (value_entry shape i)) from shape (i + 1) xs
+values_same F h s from shape i (x ∷ xs) = values_same F h (declare_name s x from (value_entry shape i)) from shape (i + 1) xs
     ∙ declared_same F h s x from (value_entry shape i)
 
-listed_same : {A : Type 0} (F : Scene → A) → Steady F → (faults : List Broken) (from : ℕ) (xs : List tree.Name) (p : Scene × Formed)
+listed_same : {A : Type 0} (F : Scene → A) → Steady F
+    → (faults : List BrokenRule) (from : ℕ) (xs : List tree.Name) (p : Scene × ShapeOrLimit)
     → F (listed_in faults from xs p).scene ≡ F p.0
 listed_same F h faults from xs (s, formed shape) = values_same F h s from (Some shape) 0 xs
 listed_same F h faults from xs (s, too_large) = values_same F h s from None 0 xs
@@ -77,7 +82,7 @@ read_listed_same : {A : Type 0} (F : Scene → A) → Steady F → (s : Scene) (
     → F (read_listed s xs from).scene ≡ F s
 read_listed_same {A} F h s xs from = by (all_first s xs)
   where
-    by : (b : Bool) → F (if_true {A = Reading Formed} b (λ u. listed_in [] from xs (add_shape s (listed (length xs))))
+    by : (b : Bool) → F (if_true {A = Reading ShapeOrLimit} b (λ u. listed_in [] from xs (add_shape s (listed (length xs))))
         (λ u. record { faults = redeclared_all s xs; scene = declare_values s from None 0 xs; value = None })).scene ≡ F s
     by true = listed_same F h [] from xs (add_shape s (listed (length xs))) ∙ add_same F h s (listed (length xs))
     by false = values_same F h s from None 0 xs
@@ -87,7 +92,7 @@ change_same : {A B C : Type 0} (F : Scene → A) (f : Scene → B → Scene × C
     → F (reading_change f r).scene ≡ F r.scene
 change_same {A} {B} {C} F f h r = by r.value
   where
-    by : (v : Option B) → F (changed r.scene r.faults (option_map (f r.scene) v)).scene ≡ F r.scene
+    by : (v : Option B) → F (with_change r.scene r.faults (option_map (f r.scene) v)).scene ≡ F r.scene
     by None = refl
     by (Some x) = h r.scene x
 
@@ -158,9 +163,9 @@ variable_same F h f from None name = declared_same F h f.scene name from entry.B
 variable_same {A} F h f from (Some shape) name =
     by (is_first f.scene name) (declared_same F h f.scene name from (entry.Variable (shape_id shape) (variable_access f.scene f.slots)))
   where
-    by : (b : Bool) → F (declared f.scene name from (entry.Variable (shape_id shape) (variable_access f.scene f.slots))) ≡ F f.scene
-        → F (if_true b (λ u. limited name f (with_variable f name from shape))
-        (λ u. with_faults f (broken_at name.node (redeclared f.scene name)))).scene ≡ F f.scene
+    by : (b : Bool) → F (declare_name f.scene name from (entry.Variable (shape_id shape) (variable_access f.scene f.slots))) ≡ F f.scene
+        → F (if_true b (λ u. within_limit name f (with_variable f name from shape))
+        (λ u. with_faults f (broken_at name.node (redeclaration_rules f.scene name)))).scene ≡ F f.scene
     by true e = ap F (limited_scene name f (with_variable f name from shape)) ∙ e
     by false e = refl
 
@@ -186,9 +191,9 @@ param_same F h f from mode None name = declared_same F h f.scene name from entry
 param_same {A} F h f from mode (Some shape) name =
     by (is_first f.scene name) (declared_same F h f.scene name from (entry.Variable (shape_id shape) (param_access mode f.slots)))
   where
-    by : (b : Bool) → F (declared f.scene name from (entry.Variable (shape_id shape) (param_access mode f.slots))) ≡ F f.scene
-        → F (if_true b (λ u. limited name f (with_param f name from mode shape (param_kind (is_structured f.scene shape) mode)))
-        (λ u. with_faults f (broken_at name.node (redeclared f.scene name)))).scene ≡ F f.scene
+    by : (b : Bool) → F (declare_name f.scene name from (entry.Variable (shape_id shape) (param_access mode f.slots))) ≡ F f.scene
+        → F (if_true b (λ u. within_limit name f (with_param f name from mode shape (param_kind (is_structured f.scene shape) mode)))
+        (λ u. with_faults f (broken_at name.node (redeclaration_rules f.scene name)))).scene ≡ F f.scene
     by true e = ap F (limited_scene name f (with_param f name from mode shape (param_kind (is_structured f.scene shape) mode))) ∙ e
     by false e = refl
 
@@ -226,7 +231,7 @@ pub block_same : {A : Type 0} (F : Scene → A) → Steady F → (s : Scene) (r 
     → F (with_block s r returns names b) ≡ F (begun s r returns names b)
 block_same F h s r returns names (tree.block n ds body) = routines_same F h (begun s r returns names (tree.block n ds body)) (r + 1) ds
 
-headed_same : {A : Type 0} (F : Scene → A) → Steady F → (f : Frame) (o : Option tree.Name) → F (headed f o).frame.scene ≡ F f.scene
+headed_same : {A : Type 0} (F : Scene → A) → Steady F → (f : Frame) (o : Option tree.Name) → F (heading_at f o).frame.scene ≡ F f.scene
 headed_same F h f None = h.same f.scene f.scene.shapes f.scene.blocks nothing refl
 headed_same F h f (Some name) = h.same f.scene f.scene.shapes f.scene.blocks (a_value (read_type_name f.scene name).value) refl
 
@@ -242,8 +247,8 @@ head_same {A} F h s r n params result b =
     ∙ (formals_same F h (first_frame s r params b) (formals_of params) ∙ block_same F h s r nothing (formal_names (formals_of params)) b))
   where
     by : (d : List CheckFault) → F (with_depth d n
-        (headed (read_formals (first_frame s r params b) (formals_of params)) result)).frame.scene ≡ F
-        (headed (read_formals (first_frame s r params b) (formals_of params)) result).frame.scene
+        (heading_at (read_formals (first_frame s r params b) (formals_of params)) result)).frame.scene ≡ F
+        (heading_at (read_formals (first_frame s r params b) (formals_of params)) result).frame.scene
     by [] = refl
     by (x ∷ xs) = refl
 

@@ -6,11 +6,12 @@ use Rattle.alma_base.specs.declared.fault.CheckFault.TheVariants as fault
 use Rattle.alma_scan.specs.Tokens.{Lexeme}
 use Rattle.alma_ir.specs.Tree as ir
 use Rattle.alma_rules.specs.Numbered as tree
-use Rattle.alma_rules.specs.Judged.{Broken, least, broken_at, when}
+use Rattle.alma_rules.specs.Judgement.{BrokenRule, least, broken_at, when}
 use Rattle.alma_rules.specs.Scene.{Scene, nothing, text_of, text_at}
 use Rattle.alma_rules.specs.Decls.{Frame, with_block, new_frame, block_routines, decls_routines, read_decls}
-use Rattle.alma_rules.specs.Modules.{Bodied, judge_block, judge_bodies, judge_body, judge_module, first_scene, module_frame, broken}
-use Rattle.alma_rules.specs.Modules.{resolved, end_rules, with_shapes}
+use Rattle.alma_rules.specs.Modules.{RoutineBodies, judge_block, judge_bodies, judge_body, judge_module, first_scene, module_frame}
+use Rattle.alma_rules.specs.Modules.{broken_rules}
+use Rattle.alma_rules.specs.Modules.{resolution, end_rules, with_shapes}
 use Rattle.alma_rules.specs.Rising.{IsRising}
 use Rattle.alma_check_stmt.specs.Inner.Gathered.{Stage, stage, through_read, with_least, unless_broken, joined_lists, IsReady}
 use Rattle.alma_check_stmt.specs.Whole.{IsJudged}
@@ -67,7 +68,7 @@ joined_none (Some xs) = refl
 
 -- what is left of a stage without its scene
 record Rest : Type 0 where
-  fault : Option Broken
+  fault : Option BrokenRule
   routines : Option (List ir.Routine)
 
 abbrev rest : Stage → Rest
@@ -80,29 +81,29 @@ module_rest : (source : List ℕ) (tokens : List Lexeme) (n : ℕ) (name : tree.
     rest (with_least (through_read (stage None (Some []) 1 (module_frame source tokens m).scene) g name 0 (end_name.token - 1) decls body)
     (broken_at end_name.node (end_rules (first_scene source tokens m) name end_name)))
     ≡ record {
-      fault = least (broken source tokens m);
+      fault = least (broken_rules source tokens m);
       routines =
-          unless_broken (least (broken source tokens m)) (judge_module source tokens m).value;
+          unless_broken (least (broken_rules source tokens m)) (judge_module source tokens m).value;
     })
 unfolding judge_block
 module_rest source tokens n name k decls body end_name =
     let m = whole n name k decls body end_name in
     let g : Frame = read_decls (module_frame source tokens m) 1 decls in
-    let i : Bodied = judge_bodies g.scene 1 decls in
-    let E : List Broken = broken_at end_name.node (end_rules (first_scene source tokens m) name end_name) in
+    let i : RoutineBodies = judge_bodies g.scene 1 decls in
+    let E : List BrokenRule = broken_at end_name.node (end_rules (first_scene source tokens m) name end_name) in
     let t : Stage = stage None (Some []) 0 (module_frame source tokens m).scene in
     rw (body_quiet g body) (sym
     (ap rest (block_gathered t g name 0 (end_name.token - 1) (1 + decls_routines decls) (decls_routines decls) i body
     (judge_body g body) E (omega arith))))
     ∙ ap (λ v. let x : Rest = record {
-      fault = least (broken source tokens m);
+      fault = least (broken_rules source tokens m);
       routines =
-          unless_broken (least (broken source tokens m)) v;
+          unless_broken (least (broken_rules source tokens m)) v;
     } in x) (joined_none (judge_module source tokens m).value)
 
 pub module_by : (source : List ℕ) (tokens : List Lexeme) (n : ℕ) (name : tree.Name) (k : ℕ) (decls : tree.DeclTail)
     (body : Option tree.Stmts) (end_name : tree.Name)
-    (s1 s2 : Scene) (f : Frame) (t0 : Stage) (next n2 n3 : ℕ) (f2 f3 : Option Broken) (v2 v3 : Option (List ir.Routine))
+    (s1 s2 : Scene) (f : Frame) (t0 : Stage) (next n2 n3 : ℕ) (f2 f3 : Option BrokenRule) (v2 v3 : Option (List ir.Routine))
     (globals : List ir.Global) (text : List ℕ)
     → s1 ≡ entry_scene source tokens n name k decls body end_name → f ≡ new_frame s1 1 → next ≡ 1 → t0 ≡ stage None (Some []) 1 s1
     → through_read t0 (read_decls f next decls) name 0 (end_name.token - 1) decls body ≡ stage f2 v2 n2 s2
@@ -127,14 +128,14 @@ module_by source tokens n name k decls body end_name s1 s2 f t0 next n2 n3 f2 f3
     (end_rules (first_scene source tokens m) name end_name) =
     ap (broken_at end_name.node) (end_same s2 (first_scene source tokens m) name end_name toks) in
     let all : rest (stage f3 v3 n3 s2) ≡ record {
-      fault = least (broken source tokens m);
+      fault = least (broken_rules source tokens m);
       routines =
-          unless_broken (least (broken source tokens m)) (judge_module source tokens m).value;
+          unless_broken (least (broken_rules source tokens m)) (judge_module source tokens m).value;
     } =
     ap rest (w ∙ (ap (with_least (stage f2 v2 n2 s2)) ends
     ∙ ap (λ (y : Stage). with_least y (broken_at end_name.node (end_rules (first_scene source tokens m) name end_name))) (sym e2)))
     ∙ module_rest source tokens n name k decls body end_name in
-    let l : f3 ≡ least (broken source tokens m) = ap (λ (y : Rest). y.fault) all in
+    let l : f3 ≡ least (broken_rules source tokens m) = ap (λ (y : Rest). y.fault) all in
     record {
       least_is = l;
       routines_are = ap (λ (y : Rest). y.routines) all ∙ ap (λ y. unless_broken y (judge_module source tokens m).value) (sym l);
@@ -144,27 +145,27 @@ module_by source tokens n name k decls body end_name s1 s2 f t0 next n2 n3 f2 f3
 
 -- ---- what is resolved
 
-least_none : (fs : List Broken) → None ≡ least fs → fs ≡ []
+least_none : (fs : List BrokenRule) → None ≡ least fs → fs ≡ []
 least_none [] h = refl
 least_none (b ∷ bs) h = absurd (cc)
 
 pub unbroken_resolves : (source : List ℕ) (tokens : List Lexeme) (m : tree.Module) (rs : List ir.Routine) (name : List ℕ)
     (globals : List ir.Global) → IsJudged source tokens m None (Some rs) name globals
     → record {
-      quiet : broken source tokens m ≡ [];
-      is : resolved source tokens m ≡ Some (record { name = name; globals = globals; routines = rs });
+      quiet : broken_rules source tokens m ≡ [];
+      is : resolution source tokens m ≡ Some (record { name = name; globals = globals; routines = rs });
     }
 unbroken_resolves source tokens m rs name globals h =
-    let e : broken source tokens m ≡ [] = least_none (broken source tokens m) h.least_is in
+    let e : broken_rules source tokens m ≡ [] = least_none (broken_rules source tokens m) h.least_is in
     record { quiet = e; is = rw (e, sym h.routines_are, h.name_is, h.globals_are) refl }
 
 -- where no rule is broken no routine is Bad, since there is a resolved program then
 pub unbroken_is_fine : (source : List ℕ) (tokens : List Lexeme) (m : tree.Module) (name : List ℕ) (globals : List ir.Global)
     → IsJudged source tokens m None None name globals
-    → (broken source tokens m ≡ [] → (p : ir.Program) × (resolved source tokens m ≡ Some p)) → ⊥
+    → (broken_rules source tokens m ≡ [] → (p : ir.Program) × (resolution source tokens m ≡ Some p)) → ⊥
 unbroken_is_fine source tokens m name globals h law =
-    let e : broken source tokens m ≡ [] = least_none (broken source tokens m) h.least_is in
-    let none : resolved source tokens m ≡ None = rw (e, sym h.routines_are) refl in
+    let e : broken_rules source tokens m ≡ [] = least_none (broken_rules source tokens m) h.least_is in
+    let none : resolution source tokens m ≡ None = rw (e, sym h.routines_are) refl in
     let some = law e in
     let same : None ≡ Some some.0 = sym none ∙ some.1 in
     cc

@@ -3,7 +3,7 @@ ghost use Rattle.std.specs.Prelude.{◌≡◌, ℕ, List, IfOk, OnOk};
 ghost use Rattle.alma_ir.specs.Tree as ir;
 ghost use Rattle.alma_ir.specs.View.{routine_of};
 ghost use Rattle.alma_rules.specs.Numbered as tree;
-ghost use Rattle.alma_rules.specs.Judged.{Judged};
+ghost use Rattle.alma_rules.specs.Judgement.{Judgement};
 ghost use Rattle.alma_rules.specs.Answers.{Answers};
 ghost use Rattle.alma_rules.specs.Scene as scenes;
 ghost use Rattle.alma_rules.specs.Decls as rules;
@@ -21,7 +21,7 @@ use alma_base::{NoMemory, Range};
 use alma_check_block::Frame;
 use alma_check_phrases::check_stmts;
 use alma_check_rules::{Place, Returns};
-use alma_check_type::{Broken, Reader};
+use alma_check_type::{BrokenRule, Reader};
 use alma_ir::{Param, Routine, Stmt};
 use alma_rules::Stop;
 use alma_tree::{Name, Stmts};
@@ -144,8 +144,8 @@ fn add_routine(
     outline: Outline,
     slots: u32,
     body: Result<Option<Vec<Stmt>>, Stop>,
-) -> Result<Option<Broken>, NoMemory>
-    ensures added { (j : Judged ir.Stmts) (f : rules.Frame) (name : tree.Name) (outer : ℕ)
+) -> Result<Option<BrokenRule>, NoMemory>
+    ensures added { (j : Judgement ir.Stmts) (f : rules.Frame) (name : tree.Name) (outer : ℕ)
         (lines : List ℕ) → Answers j stmts_of slots body → IsOutline outline f name outer lines
         → IfOk result (λ o. Adds j (λ n b. modules.routine_of f name outer n lines b) (fault_of o)
         (routines_in checked.old) (routines_in checked.new)) }
@@ -154,7 +154,7 @@ fn add_routine(
 {
     match body {
         Err(Stop::Memory) => Err(NoMemory),
-        Err(Stop::Fault(fault, node)) => Ok(Some(Broken { node, fault })),
+        Err(Stop::Fault(fault, node)) => Ok(Some(BrokenRule { node, fault })),
         Ok(None) => {
             checked.is_bad = true;
             Ok(None)
@@ -175,7 +175,7 @@ pub fn check_own(
     frame: &mut Frame,
     site: Site,
     body: &Option<Stmts>,
-) -> Result<Option<Broken>, NoMemory>
+) -> Result<Option<BrokenRule>, NoMemory>
     requires { lines.now ≡ reader.now.source }
     ensures added { IfOk result (λ o. Adds (modules.judge_body (frame_in reader.now frame.old)
         (view.body_of body.now)) (λ n b. modules.routine_of (frame_in reader.now frame.old)

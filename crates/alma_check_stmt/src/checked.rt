@@ -1,20 +1,20 @@
 // How far a module is checked.
 ghost use Rattle.std.specs.Prelude.{◌≡◌, [], Some, None, OnOk};
-ghost use Rattle.alma_rules.specs.Judged as judged;
+ghost use Rattle.alma_rules.specs.Judgement as judged;
 ghost use Rattle.alma_rules.specs.Scene.{Scene};
 ghost use Rattle.alma_check_type.specs.Told.{broken_of, fault_of};
-ghost use Rattle.alma_check_stmt.specs.Inner.Gathered.{stage, with_fault, counted};
+ghost use Rattle.alma_check_stmt.specs.Inner.Gathered.{stage, with_fault, next_routine};
 ghost use Rattle.alma_check_stmt.specs.Inner.Shown.{stand};
 
 use alma_base::{CheckFault, NoMemory};
-use alma_check_type::Broken;
+use alma_check_type::BrokenRule;
 use alma_ir::Routine;
 use std::alloc::Global;
 
 /// The least broken rule so far, the routines, whether one of them is Bad, and the number of the next one.
 #[derive(Drop)]
 pub struct Checked {
-    pub fault: Option<Broken>,
+    pub fault: Option<BrokenRule>,
     pub routines: Vec<Routine>,
     pub is_bad: bool,
     pub next: u32,
@@ -53,14 +53,14 @@ fn rank(fault: CheckFault) -> u32
 }
 
 // Whether a broken rule stands before another.
-fn is_before(first: Broken, second: Broken) -> bool
+fn is_before(first: BrokenRule, second: BrokenRule) -> bool
     ensures { result ≡ judged.is_before (broken_of first) (broken_of second) }
 {
     first.node < second.node || first.node == second.node && rank(first.fault) < rank(second.fault)
 }
 
 // The lesser of two broken rules.
-fn better(first: Option<Broken>, second: Option<Broken>) -> Option<Broken>
+fn better(first: Option<BrokenRule>, second: Option<BrokenRule>) -> Option<BrokenRule>
     ensures { fault_of result ≡ judged.better (fault_of first) (fault_of second) }
 {
     match first {
@@ -92,7 +92,7 @@ pub fn nothing_checked(alloc: Global) -> Checked
 
 impl Checked {
     /// Notes a rule that may be broken.
-    pub fn add_fault(&mut self, fault: Option<Broken>)
+    pub fn add_fault(&mut self, fault: Option<BrokenRule>)
         ensures { (s : Scene) → stand self.new s ≡ with_fault (stand self.old s) (fault_of fault) }
     {
         self.fault = better(self.fault, fault);
@@ -100,7 +100,7 @@ impl Checked {
 
     /// Begins the next routine.
     pub fn count(&mut self) -> Result<(), NoMemory>
-        ensures { OnOk result ((s : Scene) → stand self.new s ≡ counted (stand self.old s)) }
+        ensures { OnOk result ((s : Scene) → stand self.new s ≡ next_routine (stand self.old s)) }
     {
         match self.next.checked_add(1) {
             None => Err(NoMemory),

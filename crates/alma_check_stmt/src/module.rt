@@ -23,7 +23,7 @@ use crate::routine::{check_block, check_end};
 use alma_base::NoMemory;
 use alma_check_block::{count_routines, new_frame, open_block};
 use alma_check_marks::first_token_of;
-use alma_check_type::{Broken, Reader};
+use alma_check_type::{BrokenRule, Reader};
 use alma_ir::Program;
 use alma_resolved::conditions::trees_of_the_parser_stand_so;
 use alma_resolved::laws::unbroken_trees_have_a_program;
@@ -131,7 +131,7 @@ fn judge_whole(
 }
 
 // The least of the broken rules, with the first token of its node.
-fn broken_rule(alloc: Global, module: &Module, broken: Broken) -> CheckError
+fn broken_rule(alloc: Global, module: &Module, broken: BrokenRule) -> CheckError
     ensures { (source : List ℕ) (tokens : List Lexeme)
         → modules.check_fault source tokens (view_module module.now) ≡ fault_of (Some broken)
         → Resolves source tokens (view_module module.now) program_of (Err result) }

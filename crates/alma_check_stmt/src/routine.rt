@@ -2,7 +2,7 @@
 ghost use Rattle.std.specs.Prelude.{◌≡◌, None, map, IfOk, OnOk};
 ghost use Rattle.alma_ir.specs.View.{global_of};
 ghost use Rattle.alma_rules.specs.Numbered as tree;
-ghost use Rattle.alma_rules.specs.Judged.{broken_at, least};
+ghost use Rattle.alma_rules.specs.Judgement.{broken_at, least};
 ghost use Rattle.alma_rules.specs.Decls as rules;
 ghost use Rattle.alma_rules.specs.Modules as modules;
 ghost use Rattle.alma_rules.specs.View as view;
@@ -17,7 +17,7 @@ use crate::checked::Checked;
 use crate::line::Lines;
 use alma_base::{CheckFault, NoMemory};
 use alma_check_block::{Frame, read_decls, read_heading};
-use alma_check_type::{Around, Broken, Reader};
+use alma_check_type::{Around, BrokenRule, Reader};
 use alma_tree::{Block, Decl, Name, Params};
 use std::alloc::Global;
 
@@ -54,14 +54,14 @@ fn open_procedure(
 }
 
 // The name behind the END of a block, where it is not that of its heading.
-fn end_fault(reader: &Reader, name: &Name, end_name: &Name) -> Option<Broken>
+fn end_fault(reader: &Reader, name: &Name, end_name: &Name) -> Option<BrokenRule>
     ensures { fault_of result ≡ least (broken_at end_name.now.node (modules.end_rules reader.now
         (view.view_name name.now) (view.view_name end_name.now))) }
 {
     if reader.env().text(name.token) == reader.env().text(end_name.token) {
         return None;
     }
-    Some(Broken {
+    Some(BrokenRule {
         node: end_name.node,
         fault: CheckFault::NameMismatch,
     })

@@ -10,7 +10,7 @@ use Rattle.alma_names.specs.Scopes.{Blocks, entries_of, with_new_block, without_
 use Rattle.alma_rules.specs.Decls.{has_text, with_text, block_routines}
 use Rattle.alma_rules.specs.Scene.{Heading, Scene, first_token, is_first, text_at}
 use Rattle.alma_check_type.specs.Told.{IsCounted}
-use Rattle.alma_check_type.specs.Around.{cleared}
+use Rattle.alma_check_type.specs.Around.{clear}
 use Rattle.alma_check_type.specs.Outermost.{outermost}
 use Rattle.alma_rules.specs.Modules.{first_scene}
 use Rattle.alma_scan.specs.Tokens.{Lexeme}
@@ -163,11 +163,11 @@ name_new text token es key new h k n =
 -- ---- headings
 
 pub cleared_next : (first r : ℕ) (hs : List (Option Heading)) → first ≤ r
-    → cleared first (r + 1 - first) hs ≡ set (cleared first (r - first) hs) r None
+    → clear first (r + 1 - first) hs ≡ set (clear first (r - first) hs) r None
 cleared_next first r hs le =
     let n : r + 1 - first ≡ suc (r - first) = omega arith in
     let m : first + (r - first) ≡ r = omega arith in
-    ap (λ k. cleared first k hs) n ∙ ap (λ k. set (cleared first (r - first) hs) k None) m
+    ap (λ k. clear first k hs) n ∙ ap (λ k. set (clear first (r - first) hs) k None) m
 
 -- ---- the outermost scene is that in which a module is judged
 

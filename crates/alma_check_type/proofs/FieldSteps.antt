@@ -12,15 +12,15 @@ use Rattle.alma_names.specs.Shapes.{PlainField, fields}
 use Rattle.alma_scan.specs.Tokens.{Lexeme}
 use Rattle.alma_rules.specs.Numbered as tree
 use Rattle.alma_rules.specs.View.{view_name, names_of}
-use Rattle.alma_rules.specs.Judged.{Broken, both_of, broken_at, unbroken, when}
+use Rattle.alma_rules.specs.Judgement.{BrokenRule, both_of, broken_at, if_unbroken, when}
 use Rattle.alma_rules.specs.Scene.{Scene}
 use Rattle.alma_rules.specs.Answers.{first}
-use Rattle.alma_rules.specs.Types.{Reading, Formed, add_shape, is_field, redeclared_fields, fields_with, fields_of_type}
+use Rattle.alma_rules.specs.Types.{Reading, ShapeOrLimit, add_shape, is_field, redeclared_fields, fields_with, fields_of_type}
 use Rattle.alma_rules.proofs.Exprs.{next_of}
 use Rattle.alma_check_type.specs.Told.{Told, told, earlier, join, a_told}
 use Rattle.alma_check_type.specs.Inner.Tables.{field_view, fields_view}
 use Rattle.alma_check_type.specs.Inner.Fields.{text_in, among, Knows, ToldFields, unless_bad, field_at, field_as, with_field, with_fields}
-use Rattle.alma_check_type.specs.Inner.Fields.{begun, shape_or_zero, shaped, joined, told_list, told_on, told_record}
+use Rattle.alma_check_type.specs.Inner.Fields.{begun, shape_or_zero, shape_fields, join_fields, told_list, told_on, told_record}
 use Rattle.alma_check_type.proofs.BlockSteps.{inserted}
 use Rattle.alma_check_type.proofs.Tells.{first_joined, earlier_none, earlier_assoc, told_as}
 
@@ -112,7 +112,7 @@ knows_same tokens es before x k there text = k text
 
 -- ---- fields
 
-abbrev pub a_fields : Option Broken → Option (List PlainField) → ToldFields
+abbrev pub a_fields : Option BrokenRule → Option (List PlainField) → ToldFields
 a_fields f v = record { fault = f; value = v }
 
 bad_more : (b : Bool) (fs : List PlainField) (x : PlainField)
@@ -122,7 +122,7 @@ bad_more false fs x = refl
 
 -- the name is new, or it is there already
 pub field_new : (tokens : List Lexeme) (es new : List (Vec ℕ Global × ℕ)) (before : List tree.Name) (x : tree.Name) (key : Vec ℕ Global)
-    (shape : ℕ) (f : Option Broken) (b : Bool)
+    (shape : ℕ) (f : Option BrokenRule) (b : Bool)
     → Knows tokens es before → is_some (lookup (λ k. bytes_eq (text_in tokens x.token) k.items) es) ≡ false
     → key.items ≡ text_in tokens x.token → new ≡ es ++ (key, shape) ∷ []
     → a_fields f (unless_bad b (fields_view new)) ≡ with_field tokens before shape x (a_fields f (unless_bad b (fields_view es)))
@@ -181,28 +181,28 @@ module _ (s : Scene) (shape : ℕ) where
   join_none None = refl
   join_none (Some fs) = refl
 
-  pushed_on : (v : Option (List PlainField)) (rest : List Broken) (x : PlainField) (ys : List PlainField)
-      → option_map join (both_of (option_map (λ (l : List PlainField). l ++ x ∷ []) v) (unbroken rest (Some ys))) ≡ option_map join
-      (both_of v (unbroken rest (Some (x ∷ ys))))
+  pushed_on : (v : Option (List PlainField)) (rest : List BrokenRule) (x : PlainField) (ys : List PlainField)
+      → option_map join (both_of (option_map (λ (l : List PlainField). l ++ x ∷ []) v) (if_unbroken rest (Some ys))) ≡ option_map join
+      (both_of v (if_unbroken rest (Some (x ∷ ys))))
   pushed_on None rest x ys = refl
   pushed_on (Some fs) [] x ys = ap Some (append_assoc fs (x ∷ []) ys)
   pushed_on (Some fs) (b ∷ bs) x ys = refl
 
   fields_value : (before xs : List tree.Name) (t : ToldFields)
       → (with_fields s.tokens before shape xs t).value ≡ option_map join
-      (both_of t.value (unbroken (redeclared_fields s before xs) (Some (fields_with s xs shape))))
+      (both_of t.value (if_unbroken (redeclared_fields s before xs) (Some (fields_with s xs shape))))
   fields_value before [] t = join_nothing t.value
   fields_value before (x ∷ xs) t = rw (is_field_among s x before)
       (go (among s.tokens (text_in s.tokens x.token) before) (fields_value (before ++ x ∷ []) xs))
     where
-      rest : List Broken
+      rest : List BrokenRule
       rest = redeclared_fields s (before ++ x ∷ []) xs
 
       go : (b : Bool) → ((u : ToldFields) → (with_fields s.tokens (before ++ x ∷ []) shape xs u).value ≡ option_map join
-          (both_of u.value (unbroken rest (Some (fields_with s xs shape)))))
+          (both_of u.value (if_unbroken rest (Some (fields_with s xs shape)))))
           → (with_fields s.tokens (before ++ x ∷ []) shape xs (field_as b s.tokens shape x t)).value
           ≡ option_map join (both_of t.value
-          (unbroken (broken_at x.node (when b fault.Redeclared) ++ rest) (Some (field_at s.tokens shape x ∷ fields_with s xs shape))))
+          (if_unbroken (broken_at x.node (when b fault.Redeclared) ++ rest) (Some (field_at s.tokens shape x ∷ fields_with s xs shape))))
       go true f = fields_lost (before ++ x ∷ []) xs (field_as true s.tokens shape x t) refl ∙ sym (join_none t.value)
       go false f = f (field_as false s.tokens shape x t) ∙ pushed_on t.value rest (field_at s.tokens shape x) (fields_with s xs shape)
 
@@ -210,17 +210,17 @@ begun_fault : (v : Option ℕ) (t : ToldFields) → (begun v t).fault ≡ t.faul
 begun_fault None t = refl
 begun_fault (Some shape) t = refl
 
-unbroken_none : (bs : List Broken) → unbroken {A = List PlainField} bs None ≡ None
+unbroken_none : (bs : List BrokenRule) → if_unbroken {A = List PlainField} bs None ≡ None
 unbroken_none [] = refl
 unbroken_none (b ∷ bs) = refl
 
 -- the fields of a list
 pub fields_told : (s : Scene) (before names : List tree.Name) (t : ToldFields) (r : Reading ℕ)
     → told_on t (told (fields_of_type s names (redeclared_fields s before names) r)) ≡ told_list
-    (joined (shaped s.tokens before r.value names t) (told r)) r.scene
+    (join_fields (shape_fields s.tokens before r.value names t) (told r)) r.scene
 fields_told s before names t r = told_as _ _ r.scene _ _ faults (go r.value)
   where
-    twice : List Broken
+    twice : List BrokenRule
     twice = redeclared_fields s before names
 
     faults : earlier t.fault (first (twice ++ r.faults)) ≡ earlier
@@ -231,7 +231,7 @@ fields_told s before names t r = told_as _ _ r.scene _ _ faults (go r.value)
         ∙ ap (λ f. earlier f (first r.faults)) (ap (λ f. earlier f (first twice)) (sym (begun_fault r.value t))
         ∙ sym (fields_fault s (shape_or_zero r.value) before names (begun r.value t)))
 
-    go : (v : Option ℕ) → option_map join (both_of t.value (unbroken twice (option_map (fields_with s names) v)))
+    go : (v : Option ℕ) → option_map join (both_of t.value (if_unbroken twice (option_map (fields_with s names) v)))
         ≡ (with_fields s.tokens before (shape_or_zero v) names (begun v t)).value
     go None = ap (λ w. option_map join (both_of t.value w)) (unbroken_none twice) ∙ join_none s 0 t.value
         ∙ sym (fields_lost s 0 before names (begun None t) refl)
@@ -308,7 +308,7 @@ field_by_once view P tokens before x shape t (Err e) gone h = tt
 
 -- a name is entered
 pub entered : (tokens : List Lexeme) (es new : List (Vec ℕ Global × ℕ)) (before : List tree.Name) (x : tree.Name) (key : Vec ℕ Global)
-    (shape : ℕ) (f : Option Broken) (b : Bool)
+    (shape : ℕ) (f : Option BrokenRule) (b : Bool)
     → Knows tokens es before → among tokens (text_in tokens x.token) before ≡ false → key.items ≡ text_in tokens x.token
     → new ≡ insert_entry (λ i j. bytes_eq i.items j.items) es key shape
     → (a_fields f (unless_bad b (fields_view new)) ≡ field_as false tokens shape x (a_fields f (unless_bad b (fields_view es))))
@@ -348,29 +348,30 @@ opened P r x h p = subst (λ (q : Result _ _). IfOk q P) h p
 pub fields_by : (i : Scene) (before : List tree.Name) (x : tree.Name) (more : List tree.Name) (v : Option ℕ) (n : ℕ)
     (o b f a r : ToldFields) (t : Told ℕ) (ea er : List (Vec ℕ Global × ℕ))
     → t.scene ≡ i → n ≡ shape_or_zero v → b ≡ begun v o → f ≡ with_field i.tokens before n x b
-    → a ≡ with_fields i.tokens (before ++ x ∷ []) n more f → r ≡ joined a t → v ≡ t.value → er ≡ ea
+    → a ≡ with_fields i.tokens (before ++ x ∷ []) n more f → r ≡ join_fields a t → v ≡ t.value → er ≡ ea
     → Knows i.tokens ea ((before ++ x ∷ []) ++ more)
-    → (told_list (joined (shaped t.scene.tokens before t.value (x ∷ more) o) t) t.scene ≡ told_list r i)
+    → (told_list (join_fields (shape_fields t.scene.tokens before t.value (x ∷ more) o) t) t.scene ≡ told_list r i)
     × Knows i.tokens er (before ++ (x ∷ more))
 fields_by i before x more v n o b f a r t ea er sc hn hb hf ha hr hv he k =
-    let all : r ≡ joined (shaped i.tokens before t.value (x ∷ more) o) t =
-    hr ∙ ap (λ u. joined u t) (
+    let all : r ≡ join_fields (shape_fields i.tokens before t.value (x ∷ more) o) t =
+    hr ∙ ap (λ u. join_fields u t) (
     ha ∙ ap (with_fields i.tokens (before ++ x ∷ []) n more) (hf ∙ ap (with_field i.tokens before n x) hb)
     ∙ ap (λ m. with_fields i.tokens (before ++ x ∷ []) m more (with_field i.tokens before m x (begun v o))) hn
     ∙ ap (λ w. with_fields i.tokens (before ++ x ∷ []) (shape_or_zero w) more (with_field i.tokens before (shape_or_zero w) x (begun w o)))
     hv) in (
-      ap (λ (j : Scene). told_list (joined (shaped j.tokens before t.value (x ∷ more) o) t) j) sc ∙ ap (λ u. told_list u i) (sym all),
+      ap (λ (j : Scene). told_list (join_fields (shape_fields j.tokens before t.value (x ∷ more) o) t) j) sc
+          ∙ ap (λ u. told_list u i) (sym all),
       subst (λ es. Knows i.tokens es (before ++ (x ∷ more))) (sym he)
           (subst (λ ns. Knows i.tokens ea ns) (append_assoc before (x ∷ []) more) k),
     )
 
 -- a record of its fields
-module _ (f : Option Broken) (b : Bool) (fs : List PlainField) (s : Scene) (t : Told (List PlainField))
+module _ (f : Option BrokenRule) (b : Bool) (fs : List PlainField) (s : Scene) (t : Told (List PlainField))
     (is : t ≡ told_list (a_fields f (unless_bad b fs)) s) where
   pub record_bad : b ≡ true → told_record t ≡ a_told f s None
   record_bad h = rw (is, h) refl
 
-  pub record_fine : (p : Scene × Formed) → b ≡ false → p ≡ add_shape s (fields fs) → told_record t ≡ a_told f p.0 (Some p.1)
+  pub record_fine : (p : Scene × ShapeOrLimit) → b ≡ false → p ≡ add_shape s (fields fs) → told_record t ≡ a_told f p.0 (Some p.1)
   record_fine p h e = rw (is, h, e) refl
 
 pub knows_empty : (tokens : List Lexeme) (es : List (Vec ℕ Global × ℕ)) → length es ≡ 0 → Knows tokens es []

@@ -9,11 +9,12 @@ use Rattle.alma_tree.specs.declared.leaf.Name.{Name}
 use Rattle.alma_names.specs.Shapes.{listed}
 use Rattle.alma_rules.specs.Numbered as tree
 use Rattle.alma_rules.specs.View.{view_name, names_of}
-use Rattle.alma_rules.specs.Judged.{Broken, broken_at, when}
+use Rattle.alma_rules.specs.Judgement.{BrokenRule, broken_at, when}
 use Rattle.alma_rules.specs.Scene.{Scene, is_first}
 use Rattle.alma_rules.specs.Answers.{first}
-use Rattle.alma_rules.specs.Types.{redeclared, redeclared_all, all_first, last_token, declared, value_entry, declare_values, read_listed}
-use Rattle.alma_rules.specs.Types.{listed_in, add_shape, Formed, formed, too_large}
+use Rattle.alma_rules.specs.Types.{redeclaration_rules, redeclared_all, all_first, last_token, declare_name, value_entry, declare_values}
+use Rattle.alma_rules.specs.Types.{read_listed}
+use Rattle.alma_rules.specs.Types.{listed_in, add_shape, ShapeOrLimit, formed, too_large}
 use Rattle.alma_rules.proofs.Exprs.{next_of}
 use Rattle.alma_check_type.specs.Told.{Told, told, a_told}
 use Rattle.alma_check_type.specs.Inner.Tables.{shape_of_formed, last_of}
@@ -21,7 +22,7 @@ use Rattle.alma_check_type.specs.Inner.Tables.{shape_of_formed, last_of}
 -- ---- names that are declared earlier
 
 pub twice_first : (s : Scene) (x : tree.Name) (xs : List tree.Name) → is_first s x ≡ false
-    → first (broken_at x.node (redeclared s x)) ≡ first (redeclared_all s (x ∷ xs))
+    → first (broken_at x.node (redeclaration_rules s x)) ≡ first (redeclared_all s (x ∷ xs))
 twice_first s x xs h = rw h refl
 
 pub once_first : (s : Scene) (x : tree.Name) (xs : List tree.Name) → is_first s x ≡ true
@@ -30,7 +31,7 @@ once_first s x xs h = rw h refl
 
 module _ (s : Scene) (i : ℕ) (all : List Name) (x : Name) (lt : i < length all) (is : x ≡ get_or all i x) where
   pub twice_next : is_first s (view_name x) ≡ false
-      → first (broken_at x.node (redeclared s (view_name x))) ≡ first (redeclared_all s (names_of (drop i all)))
+      → first (broken_at x.node (redeclaration_rules s (view_name x))) ≡ first (redeclared_all s (names_of (drop i all)))
   twice_next h = twice_first s (view_name x) (names_of (drop (i + 1) all)) h
       ∙ ap (λ xs. first (redeclared_all s (names_of xs))) (sym (next_of all i x lt is))
 
@@ -42,7 +43,7 @@ module _ (s : Scene) (i : ℕ) (all : List Name) (x : Name) (lt : i < length all
   pub last_next : (t : ℕ) → last_of t (names_of (drop i all)) ≡ last_of x.token (names_of (drop (i + 1) all))
   last_next t = ap (λ xs. last_of t (names_of xs)) (next_of all i x lt is)
 
-  pub values_next : (from n m : ℕ) (shape : Option ℕ) (r : Scene) → r ≡ declared s (view_name x) from (value_entry shape n) → m ≡ n + 1
+  pub values_next : (from n m : ℕ) (shape : Option ℕ) (r : Scene) → r ≡ declare_name s (view_name x) from (value_entry shape n) → m ≡ n + 1
       → declare_values s from shape n (names_of (drop i all)) ≡ declare_values r from shape m (names_of (drop (i + 1) all))
   values_next from n m shape r h e =
       ap (λ xs. declare_values s from shape n (names_of xs)) (next_of all i x lt is)
@@ -78,7 +79,7 @@ all_once s (x ∷ xs) h = go (is_first s x) h (all_once s xs)
     go true h f = f h
     go false h f = absurd (cc)
 
-some_twice : (s : Scene) (xs : List tree.Name) (b : Broken) → first (redeclared_all s xs) ≡ Some b → all_first s xs ≡ false
+some_twice : (s : Scene) (xs : List tree.Name) (b : BrokenRule) → first (redeclared_all s xs) ≡ Some b → all_first s xs ≡ false
 some_twice s [] b h = absurd (cc)
 some_twice s (x ∷ xs) b h = go (is_first s x) h (some_twice s xs b)
   where
@@ -88,7 +89,7 @@ some_twice s (x ∷ xs) b h = go (is_first s x) h (some_twice s xs b)
     go false h f = refl
 
 module _ (s : Scene) (xs : List tree.Name) (from : ℕ) where
-  pub listed_twice : (b : Broken) → first (redeclared_all s xs) ≡ Some b
+  pub listed_twice : (b : BrokenRule) → first (redeclared_all s xs) ≡ Some b
       → told (read_listed s xs from) ≡ a_told (Some b) (declare_values s from None 0 xs) None
   listed_twice b h = go (all_first s xs) (some_twice s xs b h)
     where
@@ -99,12 +100,13 @@ module _ (s : Scene) (xs : List tree.Name) (from : ℕ) where
       go true e = absurd (true≢false e)
       go false e = ap (λ f. a_told f (declare_values s from None 0 xs) None) h
 
-  listed_told : (p : Scene × Formed) → told (listed_in [] from xs p) ≡ a_told None (declare_values p.0 from (shape_of_formed p.1) 0 xs)
+  listed_told : (p : Scene × ShapeOrLimit)
+      → told (listed_in [] from xs p) ≡ a_told None (declare_values p.0 from (shape_of_formed p.1) 0 xs)
       (Some p.1)
   listed_told (i, formed shape) = refl
   listed_told (i, too_large) = refl
 
-  pub listed_once : (p : Scene × Formed) → first (redeclared_all s xs) ≡ None → p ≡ add_shape s (listed (length xs))
+  pub listed_once : (p : Scene × ShapeOrLimit) → first (redeclared_all s xs) ≡ None → p ≡ add_shape s (listed (length xs))
       → told (read_listed s xs from) ≡ a_told None (declare_values p.0 from (shape_of_formed p.1) 0 xs) (Some p.1)
   listed_once p h e = go (all_first s xs) (all_once s xs h)
     where
@@ -117,18 +119,19 @@ module _ (s : Scene) (xs : List tree.Name) (from : ℕ) where
 
 -- ---- calls
 
-pub listed_by_twice : (s j : Scene) (xs : List tree.Name) (from : ℕ) (b : Broken) → Some b ≡ first (redeclared_all s xs)
+pub listed_by_twice : (s j : Scene) (xs : List tree.Name) (from : ℕ) (b : BrokenRule) → Some b ≡ first (redeclared_all s xs)
     → j ≡ declare_values s from None 0 xs → told (read_listed s xs from) ≡ a_told (Some b) j None
 listed_by_twice s j xs from b h e = listed_twice s xs from b (sym h) ∙ ap (λ i. a_told (Some b) i None) (sym e)
 
-pub listed_by_once : (s i j : Scene) (xs : List tree.Name) (from n : ℕ) (f : Formed) (shape : Option ℕ) → None ≡ first (redeclared_all s xs)
+pub listed_by_once : (s i j : Scene) (xs : List tree.Name) (from n : ℕ) (f : ShapeOrLimit) (shape : Option ℕ)
+    → None ≡ first (redeclared_all s xs)
     → n ≡ length xs → (i, f) ≡ add_shape s (listed n)
     → shape ≡ shape_of_formed f → j ≡ declare_values i from shape 0 xs → told (read_listed s xs from) ≡ a_told None j (Some f)
 listed_by_once s i j xs from n f shape h len e is d =
     listed_once s xs from (i, f) (sym h) (e ∙ ap (λ k. add_shape s (listed k)) len)
     ∙ ap (λ k. a_told None k (Some f)) (ap (λ v. declare_values i from v 0 xs) (sym is) ∙ sym d)
 
-pub listed_from : {X E : Type 0} (s : Scene) (xs : List tree.Name) (from k : ℕ) (f : X → Told Formed) (r : Result X E) → from ≡ k
+pub listed_from : {X E : Type 0} (s : Scene) (xs : List tree.Name) (from k : ℕ) (f : X → Told ShapeOrLimit) (r : Result X E) → from ≡ k
     → IfOk r (λ x. told (read_listed s xs from) ≡ f x) → IfOk r (λ x. told (read_listed s xs k) ≡ f x)
 listed_from s xs from k f r e h = subst (λ n. IfOk r (λ x. told (read_listed s xs n) ≡ f x)) e h
 

@@ -10,8 +10,8 @@ use Rattle.std.proofs.lemmas.Slice.Eq.{bytes_eq-Decides}
 use Rattle.alma_names.specs.declared.shapes.FieldOf.{FieldOf}
 use Rattle.alma_names.specs.Shapes.{PlainField, field_of, fields_of, names_of, AllBelow}
 use Rattle.alma_rules.specs.Scene.{Scene}
-use Rattle.alma_rules.specs.Judged.{Broken}
-use Rattle.alma_rules.specs.Types.{Formed, number_in, size_rules, row_on, rows_on}
+use Rattle.alma_rules.specs.Judgement.{BrokenRule}
+use Rattle.alma_rules.specs.Types.{ShapeOrLimit, number_in, size_rules, row_on, rows_on}
 use Rattle.alma_check_type.specs.Told.{Told, told_with, told_at, told_type, a_told}
 use Rattle.alma_check_rules.specs.declared.env.Env.{Env}
 use Rattle.alma_check_rules.specs.Views.{scene_of, somewhere}
@@ -19,15 +19,16 @@ use Rattle.alma_check_type.specs.Inner.Tables.{field_view, fields_view}
 
 -- ---- arrays
 
-rows_last : (xs : List ℕ) (x : ℕ) (s : Scene) (f : Formed) → rows_on s (xs ++ x ∷ []) f ≡ rows_on (row_on x (s, f)).0 xs (row_on x (s, f)).1
+rows_last : (xs : List ℕ) (x : ℕ) (s : Scene) (f : ShapeOrLimit)
+    → rows_on s (xs ++ x ∷ []) f ≡ rows_on (row_on x (s, f)).0 xs (row_on x (s, f)).1
 rows_last [] x s f = refl
 rows_last (y ∷ ys) x s f = ap (row_on y) (rows_last ys x s f)
 
-rows_more : (is : List ℕ) (k : ℕ) → k < length is → (s : Scene) (f : Formed)
+rows_more : (is : List ℕ) (k : ℕ) → k < length is → (s : Scene) (f : ShapeOrLimit)
     → rows_on s (take (k + 1) is) f ≡ rows_on (row_on (get_or is k 0) (s, f)).0 (take k is) (row_on (get_or is k 0) (s, f)).1
 rows_more is k lt s f = ap (λ xs. rows_on s xs f) (take_more is k 0 lt) ∙ rows_last (take k is) (get_or is k 0) s f
 
-pub rows_next : (s : Scene) (f : Formed) (is : List ℕ) (n k : ℕ) (p : Scene × Formed) → n ≡ length is → k < n
+pub rows_next : (s : Scene) (f : ShapeOrLimit) (is : List ℕ) (n k : ℕ) (p : Scene × ShapeOrLimit) → n ≡ length is → k < n
     → p ≡ row_on (get_or is (n - 1 - k) 0) (s, f)
     → rows_on s (take (n - k) is) f ≡ rows_on p.0 (take (n - (k + 1)) is) p.1
 rows_next s f is n k p len lt h =
@@ -35,7 +36,7 @@ rows_next s f is n k p len lt h =
     let b : n - 1 - k ≡ n - (k + 1) = omega arith in
     let c : n - 1 - k < length is = omega arith in
     ap (λ m. rows_on s (take m is) f) a ∙ rows_more is (n - 1 - k) c s f
-    ∙ ap (λ (q : Scene × Formed). rows_on q.0 (take (n - 1 - k) is) q.1) (sym h)
+    ∙ ap (λ (q : Scene × ShapeOrLimit). rows_on q.0 (take (n - 1 - k) is) q.1) (sym h)
     ∙ ap (λ m. rows_on p.0 (take m is) p.1) b
 
 -- ---- fields
@@ -111,15 +112,17 @@ listed_end n k es xs is le = is.list ∙ ap fields_view (take_all k es le)
 
 -- ---- a type of its indices and its element
 
-pub type_formed : (n : ℕ) (f : Option Broken) (s : Scene) (is : List ℕ) (e x : Formed) (j : Scene) (t : Told ℕ) → (j, x) ≡ rows_on s is e
+pub type_formed : (n : ℕ) (f : Option BrokenRule) (s : Scene) (is : List ℕ) (e x : ShapeOrLimit) (j : Scene) (t : Told ℕ)
+    → (j, x) ≡ rows_on s is e
     → told_with number_in (told_at n size_rules (a_told f j (Some x))) ≡ t → told_type n (a_told f s (Some (is, e))) ≡ t
-type_formed n f s is e x j t h k = ap (λ (p : Scene × Formed). told_with number_in (told_at n size_rules (a_told f p.0 (Some p.1)))) (sym h)
+type_formed n f s is e x j t h k = ap (λ (p : Scene × ShapeOrLimit). told_with number_in (told_at n size_rules (a_told f p.0 (Some p.1))))
+    (sym h)
     ∙ k
 
 -- ---- the arrays of some indices, and none
 
-pub rows_begin : (s : Scene) (f : Formed) (is : List ℕ) (n : ℕ) → n ≡ length is → rows_on s is f ≡ rows_on s (take (n - 0) is) f
+pub rows_begin : (s : Scene) (f : ShapeOrLimit) (is : List ℕ) (n : ℕ) → n ≡ length is → rows_on s is f ≡ rows_on s (take (n - 0) is) f
 rows_begin s f is n h = let le : length is ≤ n - 0 = omega arith in ap (λ xs. rows_on s xs f) (sym (take_all (n - 0) is le))
 
-pub rows_end : (s : Scene) (f : Formed) (is : List ℕ) (n k : ℕ) → n ≤ k → rows_on s (take (n - k) is) f ≡ (s, f)
+pub rows_end : (s : Scene) (f : ShapeOrLimit) (is : List ℕ) (n k : ℕ) → n ≤ k → rows_on s (take (n - k) is) f ≡ (s, f)
 rows_end s f is n k h = let e : n - k ≡ 0 = omega arith in ap (λ m. rows_on s (take m is) f) e

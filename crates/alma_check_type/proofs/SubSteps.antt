@@ -3,7 +3,7 @@ use Rattle.std.proofs.Common.{◌≡◌, ℕ, List, [], ◌∷◌, Option, None,
 use Rattle.std.specs.Prelude.{option_map}
 use Rattle.alma_base.specs.declared.fault.CheckFault.{CheckFault}
 use Rattle.alma_rules.specs.Numbered as tree
-use Rattle.alma_rules.specs.Judged.{Broken, both_of, broken_at, unless}
+use Rattle.alma_rules.specs.Judgement.{BrokenRule, both_of, broken_at, unless}
 use Rattle.alma_rules.specs.Scene.{Scene}
 use Rattle.alma_rules.specs.Parts.{Typing}
 use Rattle.alma_rules.specs.Answers.{first}
@@ -14,7 +14,7 @@ use Rattle.alma_check_type.specs.Told.{told, told_both, told_at, told_change, to
 use Rattle.alma_check_type.specs.Told.{first_rule}
 use Rattle.alma_check_type.proofs.Tells.{then_told, at_told, change_told, earlier_none}
 
-by_bounds : (n : ℕ) (s : Scene) (f : Option Broken) (v w : Option Typing)
+by_bounds : (n : ℕ) (s : Scene) (f : Option BrokenRule) (v w : Option Typing)
     → told_change subrange_of (told_at n (subrange_rules s) (a_told f s (both_of v w))) ≡ told_sub n
     (a_told f s (both_of (option_map bound_of v) (option_map bound_of w)))
 by_bounds n s f None w = refl
@@ -37,7 +37,7 @@ sub_told s n low high =
     ∙ by_bounds n s (earlier (first (read_constant s low).faults) (first (read_constant s high).faults)) (read_constant s low).value
     (read_constant s high).value
 
-module _ (n : ℕ) (s : Scene) (f : Option Broken) (p : Bound × Bound) where
+module _ (n : ℕ) (s : Scene) (f : Option BrokenRule) (p : Bound × Bound) where
   pub sub_broken : (rule : CheckFault) → Some rule ≡ first_rule (pair_rules s p)
       → a_told (earlier f (Some (record { node = n; fault = rule }))) s None ≡ told_sub n (a_told f s (Some p))
   sub_broken rule h = go (pair_rules s p) h

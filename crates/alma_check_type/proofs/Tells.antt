@@ -2,30 +2,31 @@
 use Rattle.std.proofs.Common.{◌≡◌, ℕ, List, [], ◌∷◌, ◌++◌, Option, None, Some, refl, sym, ap, ◌∙◌, append_assoc}
 use Rattle.std.specs.Prelude.{option_map}
 use Rattle.alma_base.specs.declared.fault.CheckFault.{CheckFault}
-use Rattle.alma_rules.specs.Judged.{Broken, both_of, broken_at, unless}
+use Rattle.alma_rules.specs.Judgement.{BrokenRule, both_of, broken_at, unless}
 use Rattle.alma_rules.specs.Numbered as tree
 use Rattle.alma_rules.specs.Scene.{Scene, Found, found}
 use Rattle.alma_rules.specs.Answers.{first}
-use Rattle.alma_rules.specs.Types.{Reading, reading_then, reading_at, reading_change, changed, type_name_rules, shape_in, read_type_name}
-use Rattle.alma_rules.specs.Types.{Formed, cons_index}
+use Rattle.alma_rules.specs.Types.{Reading, reading_then, reading_at, reading_change, with_change, type_name_rules, shape_in}
+use Rattle.alma_rules.specs.Types.{read_type_name}
+use Rattle.alma_rules.specs.Types.{ShapeOrLimit, cons_index}
 use Rattle.alma_check_type.specs.Told.{Told, told, told_both, told_with, told_at, told_changed, told_change, earlier, onward, join, alone}
 use Rattle.alma_check_type.specs.Told.{a_told}
 
 -- ---- told of parts
 
-pub first_joined : (xs ys : List Broken) → first (xs ++ ys) ≡ earlier (first xs) (first ys)
+pub first_joined : (xs ys : List BrokenRule) → first (xs ++ ys) ≡ earlier (first xs) (first ys)
 first_joined [] ys = refl
 first_joined (x ∷ xs) ys = refl
 
-pub earlier_none : (a : Option Broken) → earlier a None ≡ a
+pub earlier_none : (a : Option BrokenRule) → earlier a None ≡ a
 earlier_none None = refl
 earlier_none (Some x) = refl
 
-pub earlier_assoc : (a b c : Option Broken) → earlier a (earlier b c) ≡ earlier (earlier a b) c
+pub earlier_assoc : (a b c : Option BrokenRule) → earlier a (earlier b c) ≡ earlier (earlier a b) c
 earlier_assoc None b c = refl
 earlier_assoc (Some x) b c = refl
 
-pub told_as : {A : Type 0} (a b : Option Broken) (s : Scene) (v w : Option A) → a ≡ b → v ≡ w → a_told a s v ≡ a_told b s w
+pub told_as : {A : Type 0} (a b : Option BrokenRule) (s : Scene) (v w : Option A) → a ≡ b → v ≡ w → a_told a s v ≡ a_told b s w
 told_as a b s v w p q = rw (p, q) refl
 
 pub then_told : {A B : Type 0} (a : Reading A) (f : Scene → Reading B) → told (reading_then a f) ≡ told_both (told a) (told (f a.scene))
@@ -35,8 +36,8 @@ pub at_told : {A : Type 0} (n : ℕ) (rules : Option A → List CheckFault) (r :
     → told (reading_at n rules r) ≡ told_at n rules (told r)
 at_told n rules r = ap (λ x. a_told x r.scene (unless (rules r.value) r.value)) (first_joined r.faults (broken_at n (rules r.value)))
 
-changed_told : {B : Type 0} (s : Scene) (faults : List Broken) (v : Option (Scene × B))
-    → told (changed s faults v) ≡ told_changed (first faults) s v
+changed_told : {B : Type 0} (s : Scene) (faults : List BrokenRule) (v : Option (Scene × B))
+    → told (with_change s faults v) ≡ told_changed (first faults) s v
 changed_told s faults None = refl
 changed_told s faults (Some p) = refl
 
@@ -60,17 +61,17 @@ joined_three (Some x) (Some y) None = refl
 joined_three (Some x) (Some y) (Some z) = ap Some (sym (append_assoc x y z))
 
 -- a list behind a part of it, and then another
-pub onward_both : {A : Type 0} (f : Option Broken) (v : Option (List A)) (a b : Told (List A))
+pub onward_both : {A : Type 0} (f : Option BrokenRule) (v : Option (List A)) (a b : Told (List A))
     → onward f v (told_with join (told_both a b)) ≡ onward (onward f v a).fault (onward f v a).value b
 onward_both f v a b = told_as _ _ b.scene _ _ (earlier_assoc f a.fault b.fault) (joined_three v a.value b.value)
 
-cons_alone : (v : Option Formed) (w : Option (List ℕ))
+cons_alone : (v : Option ShapeOrLimit) (w : Option (List ℕ))
     → option_map cons_index (both_of v w) ≡ option_map join (both_of (option_map alone v) w)
 cons_alone None w = refl
 cons_alone (Some x) None = refl
 cons_alone (Some x) (Some ys) = refl
 
-pub onward_cons : (f : Option Broken) (v : Option (List ℕ)) (a : Told Formed) (b : Told (List ℕ))
+pub onward_cons : (f : Option BrokenRule) (v : Option (List ℕ)) (a : Told ShapeOrLimit) (b : Told (List ℕ))
     → onward f v (told_with cons_index (told_both a b)) ≡ onward (onward f v (told_with alone a)).fault
     (onward f v (told_with alone a)).value b
 onward_cons f v a b =

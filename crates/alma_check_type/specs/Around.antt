@@ -13,8 +13,8 @@ abbrev pub outer_of : Scene → Outer
 outer_of s = record { declares = s.declares; routine = s.routine; returns = s.returns }
 
 -- the scene of a new block of a routine, with the names that it declares
-abbrev pub entered : Scene → (declares : List (List ℕ × ℕ)) → (routine : ℕ) → Scene
-entered s declares routine =
+abbrev pub enter_block : Scene → (declares : List (List ℕ × ℕ)) → (routine : ℕ) → Scene
+enter_block s declares routine =
     record s {
       blocks = with_new_block s.blocks;
       declares = declares;
@@ -23,8 +23,8 @@ entered s declares routine =
     }
 
 -- the scene behind a block
-abbrev pub left : Scene → Outer → Scene
-left s outer =
+abbrev pub leave_block : Scene → Outer → Scene
+leave_block s outer =
     record s {
       blocks = without_top_block s.blocks;
       declares = outer.declares;
@@ -33,6 +33,6 @@ left s outer =
     }
 
 -- the headings of which so many from one on are forgotten
-abbrev pub cleared : (first count : ℕ) → List (Option Heading) → List (Option Heading)
-cleared first zero headings = headings
-cleared first (suc n) headings = set (cleared first n headings) (first + n) None
+abbrev pub clear : (first count : ℕ) → List (Option Heading) → List (Option Heading)
+clear first zero headings = headings
+clear first (suc n) headings = set (clear first n headings) (first + n) None

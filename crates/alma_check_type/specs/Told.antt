@@ -4,22 +4,22 @@ use Rattle.std.specs.Prelude.{◌≡◌, ℕ, List, [], ◌∷◌, ◌++◌, Opt
 use Rattle.alma_base.specs.declared.fault.CheckFault.{CheckFault}
 use Rattle.alma_base.specs.declared.fault.CheckFault.TheVariants as fault
 use Rattle.alma_names.specs.Scopes.{Blocks, entry_count}
-use Rattle.alma_rules.specs.Judged.{Broken, both_of, broken_at, unless, when}
+use Rattle.alma_rules.specs.Judgement.{BrokenRule, both_of, broken_at, unless, when}
 use Rattle.alma_rules.specs.Scene.{Scene, base}
 use Rattle.alma_rules.specs.Parts.{Typing}
 use Rattle.alma_rules.specs.StmtRules.{is_above}
 use Rattle.alma_rules.specs.Answers.{first}
-use Rattle.alma_rules.specs.Types.{Reading, Formed as RuleFormed, formed, too_large, number_in, index_type_rules, size_rules, rows_of}
+use Rattle.alma_rules.specs.Types.{Reading, ShapeOrLimit as RuleFormed, formed, too_large, number_in, index_type_rules, size_rules, rows_of}
 use Rattle.alma_rules.specs.Types.{subrange_from}
-use Rattle.alma_check_type.specs.declared.reading.Broken.{Broken as CodeBroken}
+use Rattle.alma_check_type.specs.declared.reading.BrokenRule.{BrokenRule as CodeBroken}
 use Rattle.alma_check_type.specs.declared.reading.Reading.{Reading as CodeReading}
-use Rattle.alma_check_type.specs.declared.reading.Formed.{Formed}
-use Rattle.alma_check_type.specs.declared.reading.Formed.TheVariants as formeds
+use Rattle.alma_check_type.specs.declared.reading.ShapeOrLimit.{ShapeOrLimit}
+use Rattle.alma_check_type.specs.declared.reading.ShapeOrLimit.TheVariants as formeds
 use Rattle.alma_check_type.specs.declared.reading.Bound.{Bound}
 
 -- what is told of a phrase: its first broken rule, the scene behind it, and its value, None where it is Bad
 pub record Told (A : Type 0) : Type 0 where
-  pub fault : Option Broken
+  pub fault : Option BrokenRule
   pub scene : Scene
   pub value : Option A
 
@@ -27,14 +27,14 @@ abbrev pub told : {A : Type 0} → Reading A → Told A
 told r = record { fault = first r.faults; scene = r.scene; value = r.value }
 
 -- the same from its parts
-abbrev pub a_told : {A : Type 0} → Option Broken → Scene → Option A → Told A
+abbrev pub a_told : {A : Type 0} → Option BrokenRule → Scene → Option A → Told A
 a_told f s v = record { fault = f; scene = s; value = v }
 
 -- the broken rule that one of the code stands for
-abbrev pub broken_of : CodeBroken → Broken
+abbrev pub broken_of : CodeBroken → BrokenRule
 broken_of b = record { node = b.node; fault = b.fault }
 
-abbrev pub fault_of : Option CodeBroken → Option Broken
+abbrev pub fault_of : Option CodeBroken → Option BrokenRule
 fault_of b = option_map broken_of b
 
 -- what a call tells, with the scene that it leaves
@@ -46,7 +46,7 @@ abbrev pub tells : {A : Type 0} → CodeReading A → Scene → Told A
 tells r s = record { fault = fault_of r.fault; scene = s; value = r.value }
 
 -- of two broken rules the earlier one
-abbrev pub earlier : Option Broken → Option Broken → Option Broken
+abbrev pub earlier : Option BrokenRule → Option BrokenRule → Option BrokenRule
 earlier None b = b
 earlier (Some a) b = Some a
 
@@ -66,7 +66,7 @@ abbrev pub told_with : {A B : Type 0} → (A → B) → Told A → Told B
 told_with f t = record { fault = t.fault; scene = t.scene; value = option_map f t.value }
 
 -- a value that changes the scene
-abbrev pub told_changed : {B : Type 0} → Option Broken → Scene → Option (Scene × B) → Told B
+abbrev pub told_changed : {B : Type 0} → Option BrokenRule → Scene → Option (Scene × B) → Told B
 told_changed fault s None = record { fault = fault; scene = s; value = None }
 told_changed fault s (Some p) = record { fault = fault; scene = p.0; value = Some p.1 }
 
@@ -74,7 +74,7 @@ abbrev pub told_change : {A B : Type 0} → (Scene → A → Scene × B) → Tol
 told_change f t = told_changed t.fault t.scene (option_map (f t.scene) t.value)
 
 -- a shape of the table, or one past a limit
-abbrev pub formed_of : Formed → RuleFormed
+abbrev pub formed_of : ShapeOrLimit → RuleFormed
 formed_of (formeds.Shape shape) = formed shape
 formed_of formeds.TooLarge = too_large
 
@@ -89,7 +89,7 @@ abbrev pub join : {A : Type 0} → List A × List A → List A
 join p = p.0 ++ p.1
 
 -- what is told of a list, behind a part of it that is read
-abbrev pub onward : {A : Type 0} → Option Broken → Option (List A) → Told (List A) → Told (List A)
+abbrev pub onward : {A : Type 0} → Option BrokenRule → Option (List A) → Told (List A) → Told (List A)
 onward fault value t = record { fault = earlier fault t.fault; scene = t.scene; value = option_map join (both_of value t.value) }
 
 abbrev pub items_of : Vec ℕ Global → List ℕ

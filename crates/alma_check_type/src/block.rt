@@ -3,7 +3,7 @@ ghost use Rattle.std.specs.Prelude.{◌≡◌, ◌-◌, ◌<◌, IfOk, OnOk, len
 ghost use Rattle.alma_names.specs.Scopes.{without_top_block};
 ghost use Rattle.alma_rules.specs.Decls.{with_text};
 ghost use Rattle.alma_check_rules.specs.Views.{declares_view, heading_view, headings_view, returns_view};
-ghost use Rattle.alma_check_type.specs.Around.{Outer, outer_of, entered, left, cleared};
+ghost use Rattle.alma_check_type.specs.Around.{Outer, outer_of, enter_block, leave_block, clear};
 
 use crate::reader::Reader;
 use alma_base::NoMemory;
@@ -49,7 +49,7 @@ impl<'e, 's> Reader<'e, 's> {
         declares: IndexMap<Vec<u8>, u32>,
         routine: u32,
     ) -> Result<Around, NoMemory>
-        ensures scene { OnOk result (self.new ≡ entered
+        ensures scene { OnOk result (self.new ≡ enter_block
             self.old (declares_view declares) routine) }
         ensures around { IfOk result (λ around. around ≡ outer_of self.old) }
     {
@@ -80,7 +80,7 @@ impl<'e, 's> Reader<'e, 's> {
     /// Ends a block, behind which that round it goes on.
     pub fn leave(&mut self, around: Around)
         requires { 0 < length self.old.blocks.below }
-        ensures { self.new ≡ left self.old around }
+        ensures { self.new ≡ leave_block self.old around }
     {
         self.close();
         self.env.declares = around.declares;
@@ -108,7 +108,7 @@ impl<'e, 's> Reader<'e, 's> {
     /// Forgets the headings of the routines from one number up to another.
     pub fn clear_headings(&mut self, first: u32, end: u32)
         ensures { self.new ≡ record self.old {
-          headings = cleared first (end - first)
+          headings = clear first (end - first)
               self.old.headings;
         } }
     {

@@ -9,7 +9,7 @@ ghost use Rattle.alma_check_type.specs.Told.{Told, tells, tells_of, fault_of, fo
 ghost use Rattle.alma_check_type.specs.Inner.Fields as spec;
 
 use crate::reader::Reader;
-use crate::reading::{Broken, Formed, Reading, earlier};
+use crate::reading::{BrokenRule, Reading, ShapeOrLimit, earlier};
 use crate::shape::add_record;
 use alma_base::{CheckFault, NoMemory};
 use alma_tree::{Name, Names};
@@ -20,7 +20,7 @@ use std::alloc::Global;
 /// the fields are Bad, the shapes say nothing.
 #[derive(Drop)]
 pub struct Fields {
-    pub fault: Option<Broken>,
+    pub fault: Option<BrokenRule>,
     pub is_bad: bool,
     pub names: IndexMap<Vec<u8>, u32>,
 }
@@ -56,7 +56,7 @@ fn twice(fields: Fields, name: &Name) -> Fields
         ≡ spec.field_as true tokens shape (view_name name.now) (spec.told_fields fields) }
     ensures names { result.names.entries ≡ fields.names.entries }
 {
-    let broken = Broken {
+    let broken = BrokenRule {
         node: name.node,
         fault: CheckFault::Redeclared,
     };
@@ -152,7 +152,7 @@ fn begin(fields: Fields, shape: Option<u32>) -> Fields
 }
 
 // Fields with a rule that is broken behind them.
-fn behind(fields: Fields, fault: Option<Broken>) -> Fields
+fn behind(fields: Fields, fault: Option<BrokenRule>) -> Fields
     ensures told { spec.told_fields result ≡ spec.behind (spec.told_fields fields)
         (fault_of fault) }
     ensures names { result.names.entries ≡ fields.names.entries }
@@ -184,7 +184,7 @@ pub fn join_fields(
     ensures { (before : List tree.Name) (t : Told ℕ)
         → spec.Knows t.scene.tokens fields.names.entries before
         → IfOk shape (λ x. t ≡ tells x reader.now)
-        → IfOk result (λ r. (spec.told_list (spec.joined (spec.shaped t.scene.tokens before
+        → IfOk result (λ r. (spec.told_list (spec.join_fields (spec.shape_fields t.scene.tokens before
         t.value (types.all_names (view_names names.now)) (spec.told_fields fields)) t) t.scene
         ≡ spec.told_list (spec.told_fields r) reader.now)
         × spec.Knows reader.now.tokens r.names.entries
@@ -203,7 +203,7 @@ pub fn join_record(
     alloc: Global,
     reader: &mut Reader,
     fields: Result<Fields, NoMemory>,
-) -> Result<Reading<Formed>, NoMemory>
+) -> Result<Reading<ShapeOrLimit>, NoMemory>
     ensures { (t : Told (List PlainField)) → IfOk fields (λ x. t
         ≡ spec.told_list (spec.told_fields x) reader.old)
         → IfOk result (λ r. spec.told_record t ≡ tells_of formed_of r

@@ -1,7 +1,7 @@
 // Types, put together of their parts.
 ghost use Rattle.std.specs.Prelude.{◌≡◌, Some, IfOk};
 ghost use Rattle.alma_rules.specs.Numbered as tree;
-ghost use Rattle.alma_rules.specs.Judged.{both_of};
+ghost use Rattle.alma_rules.specs.Judgement.{both_of};
 ghost use Rattle.alma_rules.specs.Scene.{Scene};
 ghost use Rattle.alma_rules.specs.Types as types;
 ghost use Rattle.alma_rules.specs.View.{view_plain_type};
@@ -9,7 +9,7 @@ ghost use Rattle.alma_check_rules.specs.Views.{scene_of, somewhere};
 ghost use Rattle.alma_check_type.specs.Told.{Told, tells, tells_of, a_told, fault_of, earlier, formed_of, items_of, items_in, onward, told_at, told_with, told_number, told_index, told_type};
 
 use crate::reader::Reader;
-use crate::reading::{Broken, Formed, Reading, earlier};
+use crate::reading::{BrokenRule, Reading, ShapeOrLimit, earlier};
 use crate::shape::add_rows;
 use alma_base::{CheckFault, NoMemory};
 use alma_check_build_stmt::with_part;
@@ -30,26 +30,26 @@ pub fn plain_node(plain: &PlainType) -> u32
 }
 
 // Whether a type is no index type.
-fn is_bad_index(env: &Env, index: Formed) -> bool
+fn is_bad_index(env: &Env, index: ShapeOrLimit) -> bool
     ensures { result ≡ types.bad_index (scene_of env.now somewhere) (formed_of index) }
 {
     match index {
-        Formed::Shape(shape) => shape == 0 || env.is_structured(shape),
-        Formed::TooLarge => true,
+        ShapeOrLimit::Shape(shape) => shape == 0 || env.is_structured(shape),
+        ShapeOrLimit::TooLarge => true,
     }
 }
 
-fn number(formed: Formed) -> u32
+fn number(formed: ShapeOrLimit) -> u32
     ensures { result ≡ types.number_in (formed_of formed) }
 {
     match formed {
-        Formed::Shape(shape) => shape,
-        Formed::TooLarge => 0,
+        ShapeOrLimit::Shape(shape) => shape,
+        ShapeOrLimit::TooLarge => 0,
     }
 }
 
 // The number of an index type.
-fn index_number(reader: &Reader, node: u32, index: Reading<Formed>) -> Reading<u32>
+fn index_number(reader: &Reader, node: u32, index: Reading<ShapeOrLimit>) -> Reading<u32>
     ensures { told_number node (tells_of formed_of index reader.now) ≡ tells result reader.now }
 {
     match index.value {
@@ -59,7 +59,7 @@ fn index_number(reader: &Reader, node: u32, index: Reading<Formed>) -> Reading<u
         },
         Some(formed) => {
             if is_bad_index(reader.env(), formed) {
-                let broken = Broken {
+                let broken = BrokenRule {
                     node,
                     fault: CheckFault::IndexType,
                 };
@@ -81,9 +81,9 @@ pub fn join_index(
     reader: &Reader,
     rows: Reading<Vec<u32>>,
     node: u32,
-    index: Result<Reading<Formed>, NoMemory>,
+    index: Result<Reading<ShapeOrLimit>, NoMemory>,
 ) -> Result<Reading<Vec<u32>>, NoMemory>
-    ensures { (t : Told types.Formed) → IfOk index (λ x. t ≡ tells_of formed_of x reader.now)
+    ensures { (t : Told types.ShapeOrLimit) → IfOk index (λ x. t ≡ tells_of formed_of x reader.now)
         → IfOk result (λ r. onward (fault_of rows.fault) (items_in rows.value) (told_index node t)
         ≡ tells_of items_of r reader.now) }
 {
@@ -95,17 +95,17 @@ pub fn join_index(
 }
 
 // A type that is past a limit or not.
-fn sized(node: u32, fault: Option<Broken>, formed: Formed) -> Reading<u32>
+fn sized(node: u32, fault: Option<BrokenRule>, formed: ShapeOrLimit) -> Reading<u32>
     ensures { (s : Scene) → told_with types.number_in (told_at node types.size_rules
         (a_told (fault_of fault) s (Some (formed_of formed)))) ≡ tells result s }
 {
     match formed {
-        Formed::Shape(shape) => Reading {
+        ShapeOrLimit::Shape(shape) => Reading {
             fault,
             value: Some(shape),
         },
-        Formed::TooLarge => {
-            let broken = Broken {
+        ShapeOrLimit::TooLarge => {
+            let broken = BrokenRule {
                 node,
                 fault: CheckFault::TooLarge,
             };
@@ -122,9 +122,9 @@ fn form_type(
     alloc: Global,
     reader: &mut Reader,
     node: u32,
-    fault: Option<Broken>,
+    fault: Option<BrokenRule>,
     indices: &[u32],
-    element: Formed,
+    element: ShapeOrLimit,
 ) -> Result<Reading<u32>, NoMemory>
     ensures { IfOk result (λ r. told_type node (a_told (fault_of fault) reader.old
         (Some (indices.now, formed_of element))) ≡ tells r reader.new) }
@@ -139,9 +139,9 @@ pub fn join_type(
     reader: &mut Reader,
     node: u32,
     rows: Reading<Vec<u32>>,
-    element: Result<Reading<Formed>, NoMemory>,
+    element: Result<Reading<ShapeOrLimit>, NoMemory>,
 ) -> Result<Reading<u32>, NoMemory>
-    ensures { (t : Told types.Formed) → IfOk element (λ x. t ≡ tells_of formed_of x
+    ensures { (t : Told types.ShapeOrLimit) → IfOk element (λ x. t ≡ tells_of formed_of x
         reader.old) → IfOk result (λ r. told_type node
         (a_told (earlier (fault_of rows.fault) t.fault) t.scene
         (both_of (items_in rows.value) t.value)) ≡ tells r reader.new) }

@@ -18,6 +18,6 @@ pub use join::{join_index, join_type, plain_node};
 pub use listed::{last_token, read_listed, redeclared};
 pub use name::{read_named, read_type_name};
 pub use reader::Reader;
-pub use reading::{Bound, Broken, Formed, Reading, earlier};
+pub use reading::{Bound, BrokenRule, Reading, ShapeOrLimit, earlier};
 pub use shape::add_rows;
 pub use subrange::join_subrange;

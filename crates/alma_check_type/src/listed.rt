@@ -2,7 +2,7 @@
 #![tactic(auto, using(crate::proofs::ListedSteps::lists, crate::proofs::Tells::steps, std::proofs::lemmas::Grind::common_steps))]
 
 ghost use Rattle.std.specs.Prelude.{◌≡◌, ◌+◌, ◌<◌, Some, None, length, OnOk, IfOk};
-ghost use Rattle.alma_rules.specs.Judged.{broken_at};
+ghost use Rattle.alma_rules.specs.Judgement.{broken_at};
 ghost use Rattle.alma_rules.specs.Answers.{first};
 ghost use Rattle.alma_rules.specs.Types as types;
 ghost use Rattle.alma_rules.specs.View.{view_name, view_names, names_of};
@@ -10,7 +10,7 @@ ghost use Rattle.alma_check_type.specs.Inner.Tables.{shape_of_formed};
 ghost use Rattle.alma_check_type.specs.Told.{told, tells_of, broken_of, fault_of, formed_of};
 
 use crate::reader::Reader;
-use crate::reading::{Broken, Formed, Reading};
+use crate::reading::{BrokenRule, Reading, ShapeOrLimit};
 use crate::shape::add_listed;
 use alma_base::{CheckFault, NoMemory};
 use alma_names::{Entry, ShapeId};
@@ -18,21 +18,21 @@ use alma_tree::{Name, Names};
 use std::alloc::Global;
 
 /// A name that its block declares earlier in the text.
-pub fn redeclared(reader: &Reader, name: &Name) -> Option<Broken>
+pub fn redeclared(reader: &Reader, name: &Name) -> Option<BrokenRule>
     ensures { fault_of result ≡ first (broken_at name.now.node
-        (types.redeclared reader.now (view_name name.now))) }
+        (types.redeclaration_rules reader.now (view_name name.now))) }
 {
     if reader.is_first(name) {
         return None;
     }
-    Some(Broken {
+    Some(BrokenRule {
         node: name.node,
         fault: CheckFault::Redeclared,
     })
 }
 
 // The first of some names that their block declares earlier in the text.
-fn redeclared_in(reader: &Reader, names: &[Name]) -> Option<Broken>
+fn redeclared_in(reader: &Reader, names: &[Name]) -> Option<BrokenRule>
     ensures { fault_of result ≡ first (types.redeclared_all reader.now
         (names_of names.now)) }
 {
@@ -44,7 +44,7 @@ fn redeclared_in(reader: &Reader, names: &[Name]) -> Option<Broken>
     None
 }
 
-fn redeclared_all(reader: &Reader, names: &Names) -> Option<Broken>
+fn redeclared_all(reader: &Reader, names: &Names) -> Option<BrokenRule>
     ensures { fault_of result ≡ first (types.redeclared_all reader.now
         (types.all_names (view_names names.now))) }
 {
@@ -123,12 +123,12 @@ fn count(names: &Names) -> Result<u32, NoMemory>
 }
 
 // The shape, where it is not past a limit.
-fn shape_of(formed: Formed) -> Option<u32>
+fn shape_of(formed: ShapeOrLimit) -> Option<u32>
     ensures { result ≡ shape_of_formed (formed_of formed) }
 {
     match formed {
-        Formed::Shape(shape) => Some(shape),
-        Formed::TooLarge => None,
+        ShapeOrLimit::Shape(shape) => Some(shape),
+        ShapeOrLimit::TooLarge => None,
     }
 }
 
@@ -146,8 +146,8 @@ fn read_twice(
     reader: &mut Reader,
     names: &Names,
     from: u32,
-    broken: Broken,
-) -> Result<Reading<Formed>, NoMemory>
+    broken: BrokenRule,
+) -> Result<Reading<ShapeOrLimit>, NoMemory>
     ensures { Some (broken_of broken) ≡ first (types.redeclared_all reader.old
         (types.all_names (view_names names.now))) → IfOk result (λ r. told (types.read_listed
         reader.old (types.all_names (view_names names.now)) from)
@@ -166,7 +166,7 @@ fn read_once(
     reader: &mut Reader,
     names: &Names,
     from: u32,
-) -> Result<Reading<Formed>, NoMemory>
+) -> Result<Reading<ShapeOrLimit>, NoMemory>
     ensures { None ≡ first (types.redeclared_all reader.old
         (types.all_names (view_names names.now))) → IfOk result (λ r. told (types.read_listed
         reader.old (types.all_names (view_names names.now)) from)
@@ -186,7 +186,7 @@ pub fn read_listed(
     alloc: Global,
     reader: &mut Reader,
     names: &Names,
-) -> Result<Reading<Formed>, NoMemory>
+) -> Result<Reading<ShapeOrLimit>, NoMemory>
     ensures { IfOk result (λ r. told (types.read_listed reader.old
         (types.all_names (view_names names.now)) (types.last_token (view_name names.now.first)
         (names_of names.now.more.items) + 2)) ≡ tells_of formed_of r reader.new) }

@@ -5,7 +5,7 @@ ghost use Rattle.alma_rules.specs.View.{view_name};
 ghost use Rattle.alma_check_rules.specs.Views.{scene_of, somewhere};
 ghost use Rattle.alma_check_type.specs.Told.{told, tells, tells_of, formed_of};
 
-use crate::reading::{Broken, Formed, Reading};
+use crate::reading::{BrokenRule, Reading, ShapeOrLimit};
 use alma_base::{CheckFault, NoMemory};
 use alma_check_rules::{Env, Found};
 use alma_tree::Name;
@@ -18,7 +18,7 @@ pub fn read_type_name(env: &Env, name: &Name) -> Result<Reading<u32>, NoMemory>
     let node = name.node;
     match env.found(name)? {
         Found::Absent => Ok(Reading {
-            fault: Some(Broken {
+            fault: Some(BrokenRule {
                 node,
                 fault: CheckFault::Undeclared,
             }),
@@ -33,7 +33,7 @@ pub fn read_type_name(env: &Env, name: &Name) -> Result<Reading<u32>, NoMemory>
             value: Some(shape),
         }),
         Found::Constant(_, _) | Found::Variable(_, _) | Found::Routine(_, _) => Ok(Reading {
-            fault: Some(Broken {
+            fault: Some(BrokenRule {
                 node,
                 fault: CheckFault::NotType,
             }),
@@ -43,7 +43,7 @@ pub fn read_type_name(env: &Env, name: &Name) -> Result<Reading<u32>, NoMemory>
 }
 
 /// The name of a type in place of a type.
-pub fn read_named(env: &Env, name: &Name) -> Result<Reading<Formed>, NoMemory>
+pub fn read_named(env: &Env, name: &Name) -> Result<Reading<ShapeOrLimit>, NoMemory>
     ensures { IfOk result (λ r. told (types.reading_with types.formed (types.read_type_name
         (scene_of env.now somewhere) (view_name name.now)))
         ≡ tells_of formed_of r (scene_of env.now somewhere)) }
@@ -51,6 +51,6 @@ pub fn read_named(env: &Env, name: &Name) -> Result<Reading<Formed>, NoMemory>
     let shape = read_type_name(env, name)?;
     Ok(Reading {
         fault: shape.fault,
-        value: shape.value.map(Formed::Shape),
+        value: shape.value.map(ShapeOrLimit::Shape),
     })
 }

@@ -10,7 +10,7 @@ ghost use Rattle.alma_check_rules.specs.Views.{scene_of, somewhere, headings_vie
 ghost use Rattle.alma_check_type.specs.Told.{IsCounted, formed_of};
 ghost use Rattle.alma_check_type.specs.Outermost.{outermost};
 
-use crate::reading::Formed;
+use crate::reading::ShapeOrLimit;
 use alma_base::NoMemory;
 use alma_check_rules::{Env, Heading, Returns};
 use alma_names::{DeclareError, Entry, Scopes, Shape, ShapeError, Shapes};
@@ -108,7 +108,7 @@ impl<'e, 's> Reader<'e, 's> {
         from: u32,
         entry: Entry,
     ) -> Result<(), NoMemory>
-        ensures { OnOk result (self.new ≡ types.declared
+        ensures { OnOk result (self.new ≡ types.declare_name
             self.old (view_name name.now) from entry) }
     {
         if !self.is_first(name) {
@@ -129,7 +129,7 @@ impl<'e, 's> Reader<'e, 's> {
     }
 
     /// Adds a shape to the table, where it is not past a limit.
-    pub fn add(&mut self, alloc: Global, shape: Shape) -> Result<Formed, NoMemory>
+    pub fn add(&mut self, alloc: Global, shape: Shape) -> Result<ShapeOrLimit, NoMemory>
         requires names { NamesOnlyBelow (length self.old.shapes) (plain_of shape) }
         requires index { HasIndex self.old.shapes (plain_of shape) }
         requires count { HasCount (plain_of shape) }
@@ -143,8 +143,8 @@ impl<'e, 's> Reader<'e, 's> {
             return Err(NoMemory);
         }
         match self.env.shapes.add(alloc, shape) {
-            Ok(id) => Ok(Formed::Shape(id.0)),
-            Err(ShapeError::TooLarge) => Ok(Formed::TooLarge),
+            Ok(id) => Ok(ShapeOrLimit::Shape(id.0)),
+            Err(ShapeError::TooLarge) => Ok(ShapeOrLimit::TooLarge),
             Err(ShapeError::Memory) => Err(NoMemory),
         }
     }

@@ -6,7 +6,7 @@ use alma_base::CheckFault;
 
 /// A rule that is broken at a node.
 #[derive(Clone, Copy)]
-pub struct Broken {
+pub struct BrokenRule {
     pub node: u32,
     pub fault: CheckFault,
 }
@@ -14,13 +14,13 @@ pub struct Broken {
 /// The first broken rule of a phrase, and its value, which is None where it is Bad.
 #[derive(Drop)]
 pub struct Reading<T> {
-    pub fault: Option<Broken>,
+    pub fault: Option<BrokenRule>,
     pub value: Option<T>,
 }
 
 /// A shape of the table by its number, or one past a limit, which is in no table.
 #[derive(Clone, Copy)]
-pub enum Formed {
+pub enum ShapeOrLimit {
     Shape(u32),
     TooLarge,
 }
@@ -33,7 +33,7 @@ pub struct Bound {
 }
 
 /// Of two broken rules the earlier one.
-pub fn earlier(first: Option<Broken>, second: Option<Broken>) -> Option<Broken>
+pub fn earlier(first: Option<BrokenRule>, second: Option<BrokenRule>) -> Option<BrokenRule>
     ensures { fault_of result ≡ earlier (fault_of first) (fault_of second) }
 {
     match first {

@@ -8,7 +8,7 @@ ghost use Rattle.alma_check_type.specs.Told.{formed_of};
 ghost use Rattle.alma_check_type.specs.Inner.Tables.{Shows, may_index, field_view, fields_view};
 
 use crate::reader::Reader;
-use crate::reading::Formed;
+use crate::reading::ShapeOrLimit;
 use alma_base::{NoMemory, Range};
 use alma_check_rules::Env;
 use alma_names::{FieldOf, Shape, ShapeId};
@@ -45,7 +45,7 @@ fn may_base(env: &Env, base: u32, range: Range) -> bool
 }
 
 /// An enumeration of so many names.
-pub fn add_listed(alloc: Global, reader: &mut Reader, count: u32) -> Result<Formed, NoMemory>
+pub fn add_listed(alloc: Global, reader: &mut Reader, count: u32) -> Result<ShapeOrLimit, NoMemory>
     requires { 0 < count }
     ensures { IfOk result (λ f. (reader.new, formed_of f) ≡ types.add_shape
         reader.old (shapes.listed count)) }
@@ -59,7 +59,7 @@ pub fn add_sub(
     reader: &mut Reader,
     base: u32,
     range: Range,
-) -> Result<Formed, NoMemory>
+) -> Result<ShapeOrLimit, NoMemory>
     ensures { IfOk result (λ f. (reader.new, formed_of f) ≡ types.add_shape
         reader.old (shapes.sub base range)) }
 {
@@ -71,7 +71,12 @@ pub fn add_sub(
 }
 
 // An array with this index.
-fn add_row(alloc: Global, reader: &mut Reader, index: u32, element: u32) -> Result<Formed, NoMemory>
+fn add_row(
+    alloc: Global,
+    reader: &mut Reader,
+    index: u32,
+    element: u32,
+) -> Result<ShapeOrLimit, NoMemory>
     ensures { IfOk result (λ f. (reader.new, formed_of f) ≡ types.add_shape
         reader.old (shapes.row index element)) }
 {
@@ -92,14 +97,14 @@ fn add_row_on(
     alloc: Global,
     reader: &mut Reader,
     index: u32,
-    element: Formed,
-) -> Result<Formed, NoMemory>
+    element: ShapeOrLimit,
+) -> Result<ShapeOrLimit, NoMemory>
     ensures { IfOk result (λ f. (reader.new, formed_of f) ≡ types.row_on index
         (reader.old, formed_of element)) }
 {
     match element {
-        Formed::Shape(element) => add_row(alloc, reader, index, element),
-        Formed::TooLarge => Ok(Formed::TooLarge),
+        ShapeOrLimit::Shape(element) => add_row(alloc, reader, index, element),
+        ShapeOrLimit::TooLarge => Ok(ShapeOrLimit::TooLarge),
     }
 }
 
@@ -108,8 +113,8 @@ pub fn add_rows(
     alloc: Global,
     reader: &mut Reader,
     indices: &[u32],
-    element: Formed,
-) -> Result<Formed, NoMemory>
+    element: ShapeOrLimit,
+) -> Result<ShapeOrLimit, NoMemory>
     ensures { IfOk result (λ f. (reader.new, formed_of f) ≡ types.rows_on
         reader.old indices.now (formed_of element)) }
 {
@@ -173,7 +178,7 @@ pub fn add_record(
     alloc: Global,
     reader: &mut Reader,
     fields: &IndexMap<Vec<u8>, u32>,
-) -> Result<Formed, NoMemory>
+) -> Result<ShapeOrLimit, NoMemory>
     ensures { IfOk result (λ f. (reader.new, formed_of f) ≡ types.add_shape
         reader.old (shapes.fields (fields_view fields.now.entries))) }
 {

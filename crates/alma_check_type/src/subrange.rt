@@ -5,7 +5,7 @@ ghost use Rattle.alma_check_rules.specs.Views.{scene_of, somewhere};
 ghost use Rattle.alma_check_type.specs.Told.{tells, tells_of, a_told, fault_of, formed_of, told_both, told_sub, sub_of, pair_rules, first_rule};
 
 use crate::reader::Reader;
-use crate::reading::{Bound, Broken, Formed, Reading, earlier};
+use crate::reading::{Bound, BrokenRule, Reading, ShapeOrLimit, earlier};
 use crate::shape::add_sub;
 use alma_base::{CheckFault, NoMemory, Range};
 use alma_check_rules::Env;
@@ -42,14 +42,14 @@ fn form_subrange(
     reader: &mut Reader,
     low: Bound,
     high: Bound,
-) -> Result<Formed, NoMemory>
+) -> Result<ShapeOrLimit, NoMemory>
     ensures { IfOk result (λ f. (reader.new, formed_of f) ≡ sub_of reader.old (low, high)) }
 {
     let base = reader.env().base(low.shape);
     match low.constant {
-        None => Ok(Formed::TooLarge),
+        None => Ok(ShapeOrLimit::TooLarge),
         Some(low) => match high.constant {
-            None => Ok(Formed::TooLarge),
+            None => Ok(ShapeOrLimit::TooLarge),
             Some(high) => add_sub(alloc, reader, base, Range { low, high }),
         },
     }
@@ -60,16 +60,16 @@ fn read_between(
     alloc: Global,
     reader: &mut Reader,
     node: u32,
-    fault: Option<Broken>,
+    fault: Option<BrokenRule>,
     low: Bound,
     high: Bound,
-) -> Result<Reading<Formed>, NoMemory>
+) -> Result<Reading<ShapeOrLimit>, NoMemory>
     ensures { IfOk result (λ r. told_sub node (a_told (fault_of fault) reader.old
         (Some (low, high))) ≡ tells_of formed_of r reader.new) }
 {
     match bounds_fault(reader.env(), low, high) {
         Some(rule) => {
-            let broken = Broken { node, fault: rule };
+            let broken = BrokenRule { node, fault: rule };
             Ok(Reading {
                 fault: earlier(fault, Some(broken)),
                 value: None,
@@ -89,7 +89,7 @@ pub fn join_subrange(
     node: u32,
     low: Reading<Bound>,
     high: Reading<Bound>,
-) -> Result<Reading<Formed>, NoMemory>
+) -> Result<Reading<ShapeOrLimit>, NoMemory>
     ensures { IfOk result (λ r. told_sub node (told_both (tells low reader.old)
         (tells high reader.old)) ≡ tells_of formed_of r reader.new) }
 {

@@ -62,7 +62,7 @@ pub record State : Type 0 where
   pub fails : ℕ
 
 -- what a step answers, what it prints, and the state after it
-pub record Stepped : Type 0 where
+pub record StepResult : Type 0 where
   pub answer : Step
   pub printed : List ℕ
   pub state : State
@@ -70,35 +70,35 @@ pub record Stepped : Type 0 where
 -- ---- how a step ends
 
 -- with an answer, and no print
-abbrev pub answers_with : Step → State → Stepped
+abbrev pub answers_with : Step → State → StepResult
 answers_with a s = record { answer = a; printed = []; state = s }
 
 -- with nothing to tell
-abbrev pub quiet_step : State → Stepped
+abbrev pub quiet_step : State → StepResult
 quiet_step s = answers_with answer.Went s
 
 -- with a print, which may be of no bytes
-abbrev pub prints_bytes : List ℕ → State → Stepped
+abbrev pub prints_bytes : List ℕ → State → StepResult
 prints_bytes bytes s = record { answer = answer.Printed; printed = bytes; state = s }
 
 -- at what a sound code never comes to
-abbrev pub gets_stuck : State → Stepped
+abbrev pub gets_stuck : State → StepResult
 gets_stuck s = quiet_step (record s { mode = Stuck })
 
 -- with the end of the run; the next address stays behind the instruction that ended it
-abbrev pub ends_run : End → State → Stepped
+abbrev pub ends_run : End → State → StepResult
 ends_run e s = answers_with (answer.Done e) (record s { mode = Ended e })
 
 -- with a fault; what was written before it in the same step stays written
-abbrev pub ends_in_fault : RunFault → State → Stepped
+abbrev pub ends_in_fault : RunFault → State → StepResult
 ends_in_fault f s = ends_run (end.Fault f) s
 
 -- with a failure: the next step is a pop
-abbrev pub fails_now : State → Stepped
+abbrev pub fails_now : State → StepResult
 fails_now s = quiet_step (record s { mode = Failing })
 
 -- with a jump
-abbrev pub goes_to : ℕ → State → Stepped
+abbrev pub goes_to : ℕ → State → StepResult
 goes_to at s = quiet_step (record s { at = at })
 
 -- ---- slots of the top frame
@@ -116,7 +116,7 @@ abbrev pub kind_of : State → ℕ → Option SlotKind
 kind_of s n = slice_get (last_frame s.now).kinds n
 
 -- a cell that is read as a number
-abbrev pub as_number : Option Cell → State → (ℤ → Stepped) → Stepped
+abbrev pub as_number : Option Cell → State → (ℤ → StepResult) → StepResult
 as_number (Some (cell.Int v)) s k = k v
 as_number (Some cell.Unknown) s k = ends_in_fault fault.Unknown s
 as_number (Some cell.Unset) s k = gets_stuck s
@@ -125,7 +125,7 @@ as_number (Some (cell.Mark h)) s k = gets_stuck s
 as_number None s k = gets_stuck s
 
 -- a cell that is read as a place
-abbrev pub as_place : Option Cell → State → (CellPlace → Stepped) → Stepped
+abbrev pub as_place : Option Cell → State → (CellPlace → StepResult) → StepResult
 as_place (Some (cell.Place p)) s k = k p
 as_place (Some cell.Unset) s k = ends_in_fault fault.Unknown s
 as_place (Some cell.Unknown) s k = gets_stuck s
@@ -138,7 +138,7 @@ abbrev pub slot_in : State → (frame n : ℕ) → Option Cell
 slot_in s frame n = slice_get (get_or s.now frame no_frame).cells n
 
 -- a cell that is read as a mark
-abbrev pub as_mark : Option Cell → State → (ℕ → Stepped) → Stepped
+abbrev pub as_mark : Option Cell → State → (ℕ → StepResult) → StepResult
 as_mark (Some (cell.Mark h)) s k = k h
 as_mark (Some cell.Unset) s k = ends_in_fault fault.Unknown s
 as_mark (Some cell.Unknown) s k = gets_stuck s
@@ -147,19 +147,19 @@ as_mark (Some (cell.Place p)) s k = gets_stuck s
 as_mark None s k = gets_stuck s
 
 -- goes on with the number in a slot
-abbrev pub number : State → ℕ → (ℤ → Stepped) → Stepped
+abbrev pub number : State → ℕ → (ℤ → StepResult) → StepResult
 number s n k = as_number (slot_of s n) s k
 
 -- goes on with the place in a slot
-abbrev pub place : State → ℕ → (CellPlace → Stepped) → Stepped
+abbrev pub place : State → ℕ → (CellPlace → StepResult) → StepResult
 place s n k = as_place (slot_of s n) s k
 
 -- goes on with the mark in a slot
-abbrev pub mark : State → ℕ → (ℕ → Stepped) → Stepped
+abbrev pub mark : State → ℕ → (ℕ → StepResult) → StepResult
 mark s n k = as_mark (slot_of s n) s k
 
 -- goes on with the frame that the link in a slot names
-abbrev pub link : State → ℕ → (ℕ → Stepped) → Stepped
+abbrev pub link : State → ℕ → (ℕ → StepResult) → StepResult
 link s n k = as_place (slot_of s n) s (λ p. k p.frame)
 
 -- the state after a write to a slot of a frame
@@ -171,7 +171,7 @@ abbrev pub with_slot : State → ℕ → Cell → State
 with_slot s n c = with_cell s (top s) n c
 
 -- goes on where the slot that is written is a number slot
-abbrev pub to_number : Option SlotKind → State → (Unit {0} → Stepped) → Stepped
+abbrev pub to_number : Option SlotKind → State → (Unit {0} → StepResult) → StepResult
 to_number (Some slot.Number) s k = k tt
 to_number (Some (slot.Place l)) s k = gets_stuck s
 to_number (Some slot.Mark) s k = gets_stuck s
@@ -179,7 +179,7 @@ to_number (Some (slot.Link r)) s k = gets_stuck s
 to_number None s k = gets_stuck s
 
 -- goes on where it is a place slot, with the length that its places have
-abbrev pub to_place : Option SlotKind → State → (ℕ → Stepped) → Stepped
+abbrev pub to_place : Option SlotKind → State → (ℕ → StepResult) → StepResult
 to_place (Some (slot.Place l)) s k = k l
 to_place (Some slot.Number) s k = gets_stuck s
 to_place (Some slot.Mark) s k = gets_stuck s
@@ -187,7 +187,7 @@ to_place (Some (slot.Link r)) s k = gets_stuck s
 to_place None s k = gets_stuck s
 
 -- goes on where it is a mark slot
-abbrev pub to_mark : Option SlotKind → State → (Unit {0} → Stepped) → Stepped
+abbrev pub to_mark : Option SlotKind → State → (Unit {0} → StepResult) → StepResult
 to_mark (Some slot.Mark) s k = k tt
 to_mark (Some slot.Number) s k = gets_stuck s
 to_mark (Some (slot.Place l)) s k = gets_stuck s
@@ -195,7 +195,7 @@ to_mark (Some (slot.Link r)) s k = gets_stuck s
 to_mark None s k = gets_stuck s
 
 -- goes on where it is a link slot
-abbrev pub to_link : Option SlotKind → State → (Unit {0} → Stepped) → Stepped
+abbrev pub to_link : Option SlotKind → State → (Unit {0} → StepResult) → StepResult
 to_link (Some (slot.Link r)) s k = k tt
 to_link (Some slot.Number) s k = gets_stuck s
 to_link (Some (slot.Place l)) s k = gets_stuck s
@@ -203,17 +203,17 @@ to_link (Some slot.Mark) s k = gets_stuck s
 to_link None s k = gets_stuck s
 
 -- slot n := the number
-abbrev pub put_number : State → ℕ → ℤ → Stepped
+abbrev pub put_number : State → ℕ → ℤ → StepResult
 put_number s n v = to_number (kind_of s n) s (λ _. quiet_step (with_slot s n (cell.Int v)))
 
 -- slot n := the place in a frame, of as many cells as the slot's places have; the first cell may
 -- depend on that length
-abbrev pub put_place : State → ℕ → ℕ → (ℕ → ℕ) → Stepped
+abbrev pub put_place : State → ℕ → ℕ → (ℕ → ℕ) → StepResult
 put_place s n frame first = to_place (kind_of s n) s
     (λ l. quiet_step (with_slot s n (cell.Place (record { frame = frame; slot = first l; len = l }))))
 
 -- slot n := the mark
-abbrev pub put_mark : State → ℕ → ℕ → Stepped
+abbrev pub put_mark : State → ℕ → ℕ → StepResult
 put_mark s n h = to_mark (kind_of s n) s (λ _. quiet_step (with_slot s n (cell.Mark h)))
 
 -- a link to a frame
@@ -221,17 +221,17 @@ abbrev pub link_to : (frame : ℕ) → CellPlace
 link_to frame = record { frame = frame; slot = 0; len = 0 }
 
 -- slot n := the link to a frame
-abbrev pub put_link : State → ℕ → (frame : ℕ) → Stepped
+abbrev pub put_link : State → ℕ → (frame : ℕ) → StepResult
 put_link s n frame = to_link (kind_of s n) s (λ _. quiet_step (with_slot s n (cell.Place (link_to frame))))
 
 -- goes on with a result that is in INTEGER
-abbrev pub integer_result : State → ℤ → (ℤ → Stepped) → Stepped
+abbrev pub integer_result : State → ℤ → (ℤ → StepResult) → StepResult
 integer_result s v k = if_true (is_integer v) (λ _. k v) (λ _. ends_in_fault fault.Overflow s)
 
 -- ---- cells at places
 
 -- a cell that is looked at as the content of a number slot
-abbrev pub as_content : Bool → Cell → State → (Option ℤ → Stepped) → Stepped
+abbrev pub as_content : Bool → Cell → State → (Option ℤ → StepResult) → StepResult
 as_content true (cell.Int v) s k = k (Some v)
 as_content true cell.Unknown s k = k None
 as_content true cell.Unset s k = gets_stuck s
@@ -240,15 +240,15 @@ as_content true (cell.Mark h) s k = gets_stuck s
 as_content false c s k = gets_stuck s
 
 -- goes on with the content of a live number slot of a frame
-abbrev pub content : State → ℕ → ℕ → (Option ℤ → Stepped) → Stepped
+abbrev pub content : State → ℕ → ℕ → (Option ℤ → StepResult) → StepResult
 content s frame n k = as_content (number_at s.now frame n) (cell_at s.now frame n cell.Unset) s k
 
 -- a live number slot of a frame := the number
-abbrev pub store : State → ℕ → ℕ → ℤ → (State → Stepped) → Stepped
+abbrev pub store : State → ℕ → ℕ → ℤ → (State → StepResult) → StepResult
 store s frame n v k = if_true (number_at s.now frame n) (λ _. k (with_cell s frame n (cell.Int v))) (λ _. gets_stuck s)
 
 -- goes on with a content that is known
-abbrev pub with_known_content : State → Option ℤ → (ℤ → Stepped) → Stepped
+abbrev pub with_known_content : State → Option ℤ → (ℤ → StepResult) → StepResult
 with_known_content s (Some v) k = k v
 with_known_content s None k = ends_in_fault fault.Unknown s
 
@@ -260,45 +260,45 @@ is_known None = false
 -- ---- ranges
 
 -- goes on with a range that is there
-abbrev pub as_range : Option Range → State → (Range → Stepped) → Stepped
+abbrev pub as_range : Option Range → State → (Range → StepResult) → StepResult
 as_range (Some r) s k = k r
 as_range None s k = gets_stuck s
 
 -- goes on where the number is in the range
-abbrev pub range_check : Range → RunFault → State → ℤ → (Unit {0} → Stepped) → Stepped
+abbrev pub range_check : Range → RunFault → State → ℤ → (Unit {0} → StepResult) → StepResult
 range_check r f s v k = if_true (within r v) k (λ _. ends_in_fault f s)
 
 -- the same where there is a range; with none any number will do
-abbrev pub optional_range_check : Option Range → State → ℤ → (Unit {0} → Stepped) → Stepped
+abbrev pub optional_range_check : Option Range → State → ℤ → (Unit {0} → StepResult) → StepResult
 optional_range_check (Some r) s v k = range_check r fault.Range s v k
 optional_range_check None s v k = k tt
 
 -- a cell with this content has the number, or gets it
-abbrev pub binds_content : State → CellPlace → Range → ℤ → Option ℤ → Stepped
+abbrev pub binds_content : State → CellPlace → Range → ℤ → Option ℤ → StepResult
 binds_content s p r v (Some u) = if_true (int_eq u v) (λ _. quiet_step s) (λ _. fails_now s)
 binds_content s p r v None = range_check r fault.Range s v (λ _. store s p.frame p.slot v quiet_step)
 
 -- ---- equations
 
 -- the equation of two cells by their contents: an unknown one gets the other's number
-abbrev pub equation_of_contents : State → (f i : ℕ) → Option Range → Option ℤ → (g j : ℕ) → Option Range → Option ℤ → (State → Stepped)
-    → Stepped
+abbrev pub equation_of_contents : State → (f i : ℕ) → Option Range → Option ℤ → (g j : ℕ) → Option Range → Option ℤ → (State → StepResult)
+    → StepResult
 equation_of_contents s f i r None g j t None k = ends_in_fault fault.Unknown s
 equation_of_contents s f i r None g j t (Some v) k = optional_range_check r s v (λ _. store s f i v k)
 equation_of_contents s f i r (Some u) g j t None k = optional_range_check t s u (λ _. store s g j u k)
 equation_of_contents s f i r (Some u) g j t (Some v) k = if_true (int_eq u v) (λ _. k s) (λ _. fails_now s)
 
 -- the equation of two cells
-abbrev pub equation : State → (f i : ℕ) → Option Range → (g j : ℕ) → Option Range → (State → Stepped) → Stepped
+abbrev pub equation : State → (f i : ℕ) → Option Range → (g j : ℕ) → Option Range → (State → StepResult) → StepResult
 equation s f i r g j t k = content s f i (λ u. content s g j (λ v. equation_of_contents s f i r u g j t v k))
 
 -- the equations of n cells, one after another: each sees what the one before wrote
-abbrev pub equations : ℕ → State → (f i g j : ℕ) → Stepped
+abbrev pub equations : ℕ → State → (f i g j : ℕ) → StepResult
 equations zero s f i g j = quiet_step s
 equations (suc n) s f i g j = equation s f i None g j None (λ t. equations n t f (suc i) g (suc j))
 
 -- n cells := cells of these frames, which are the frames as they were before
-abbrev pub copies_cells : ℕ → (before : List PlainFrame) → State → (f i g j : ℕ) → Stepped
+abbrev pub copies_cells : ℕ → (before : List PlainFrame) → State → (f i g j : ℕ) → StepResult
 copies_cells zero before s f i g j = quiet_step s
 copies_cells (suc n) before s f i g j =
     if_true (number_at s.now f i && number_at before g j)
@@ -326,15 +326,15 @@ state_after_push s kind resume =
     record s { held = s.held ++ record { kind = kind; resume = resume; frames = s.now; carry = [] } ∷ []; choices = s.choices + 1 }
 
 -- answers the new height
-abbrev pub answer_of_push : State → Stepped
+abbrev pub answer_of_push : State → StepResult
 answer_of_push s = answers_with (answer.Chose (length s.held)) s
 
 -- answers the height after entries fell
-abbrev pub answer_of_fall : State → Stepped
+abbrev pub answer_of_fall : State → StepResult
 answer_of_fall s = answers_with (answer.Cut (length s.held)) s
 
 -- drops the entries above a height, where there are any
-abbrev pub cut_to : State → ℕ → Stepped
+abbrev pub cut_to : State → ℕ → StepResult
 cut_to s h = if_true (nat_lt h (length s.held)) (λ _. answer_of_fall (record s { held = take h s.held })) (λ _. quiet_step s)
 
 -- the state after the carry of an entry is laid over the frames
@@ -347,21 +347,21 @@ overlay s h = if_true (is_forall_at s.held h) (λ _. state_with_carry s h) (λ _
 
 -- keeps the Body on top in the Forall at a height below it, whichever Forall that is; else does
 -- nothing
-abbrev pub keep : State → ℕ → Stepped
+abbrev pub keep : State → ℕ → StepResult
 keep s h =
     if_true (is_forall_at s.held h && (nat_lt h (length s.held) && is_kind choice.Body (kind_at s.held (length s.held))))
     (λ _. answer_of_fall (record s { held = held_after_keep s.held h s.now }))
     (λ _. quiet_step s)
 
 -- lays the carry of the Done on top over and drops that entry; else does nothing
-abbrev pub finish : State → Stepped
+abbrev pub finish : State → StepResult
 finish s =
     if_true (is_kind choice.Done (kind_at s.held (length s.held)))
     (λ _. answer_of_fall (record (state_with_carry s (length s.held)) { held = take (length s.held - 1) s.held }))
     (λ _. quiet_step s)
 
 -- a pop of the entries that are left: with none the run ends, and no pop is counted
-abbrev pub pop_or_end : State → List PlainEntry → Stepped
+abbrev pub pop_or_end : State → List PlainEntry → StepResult
 pop_or_end s [] = ends_run end.Failed s
 pop_or_end s (e ∷ rest) =
     answers_with (answer.Popped (length s.held))
@@ -375,7 +375,7 @@ pop_or_end s (e ∷ rest) =
     })
 
 -- what a failing machine does: it takes the top copy; a Forall that becomes a Done is a pop too
-abbrev pub pop : State → Stepped
+abbrev pub pop : State → StepResult
 pop s = pop_or_end s s.held
 
 -- ---- calls
@@ -386,7 +386,7 @@ numbers_at zero frames f i = true
 numbers_at (suc n) frames f i = number_at frames f i && numbers_at n frames f (suc i)
 
 -- a cell that is read as the argument of a parameter
-abbrev pub as_argument : ParamKind → ℕ → Option Cell → State → (Cell → Stepped) → Stepped
+abbrev pub as_argument : ParamKind → ℕ → Option Cell → State → (Cell → StepResult) → StepResult
 as_argument kind n None s k = gets_stuck s
 as_argument kind n (Some cell.Unknown) s k = ends_in_fault fault.Unknown s
 as_argument kind n (Some cell.Unset) s k = ends_in_fault fault.Unknown s
@@ -405,13 +405,13 @@ as_argument param.Link n (Some (cell.Place p)) s k =
     if_true (nat_eq p.slot 0 && nat_eq p.len 0) (λ _. k (cell.Place p)) (λ _. gets_stuck s)
 
 -- the argument slots from n on are all read, in order, before anything else is done
-abbrev pub arguments : List CodeParam → State → ℕ → (List Cell → Stepped) → Stepped
+abbrev pub arguments : List CodeParam → State → ℕ → (List Cell → StepResult) → StepResult
 arguments [] s n k = k []
 arguments (p ∷ ps) s n k = as_argument p.kind p.cells (slot_of s n) s (λ c. arguments ps s (suc n) (λ cs. k (c ∷ cs)))
 
 -- enters a routine: DepthFull comes before CellsFull, and only then are the cells of arguments
 -- copied
-abbrev pub enters_routine : State → ℕ → ℕ → PlainHead → List Cell → Stepped
+abbrev pub enters_routine : State → ℕ → ℕ → PlainHead → List Cell → StepResult
 enters_routine s r start h args =
     if_true (nat_lt (length s.now) frame_limit)
     (λ _. if_true (nat_le (live_cells s.now + h.declared) cell_limit)
@@ -421,7 +421,7 @@ enters_routine s r start h args =
     (λ _. ends_in_fault fault.DepthFull s)
 
 -- goes on with the head of a routine that is there
-abbrev pub as_routine : Option PlainRoutine → State → (PlainHead → Stepped) → Stepped
+abbrev pub as_routine : Option PlainRoutine → State → (PlainHead → StepResult) → StepResult
 as_routine (Some r) s k = k r.head
 as_routine None s k = gets_stuck s
 
@@ -430,11 +430,11 @@ abbrev pub state_after_leave : State → State
 state_after_leave s = record s { at = (last_frame s.now).back; now = without_last s.now }
 
 -- answers how many frames are left
-abbrev pub answers_return : State → Stepped
+abbrev pub answers_return : State → StepResult
 answers_return s = answers_with (answer.Returned (length s.now)) s
 
 -- the slot of the caller that the Call before the return address names := the number
-abbrev pub result_to : Option Instr → State → ℤ → Stepped
+abbrev pub result_to : Option Instr → State → ℤ → StepResult
 result_to (Some (I.Call r first to)) s v =
     to_number (kind_of s to) s (λ _. answers_return (with_slot s to (cell.Int v)))
 result_to _ s v = gets_stuck s
@@ -442,33 +442,33 @@ result_to _ s v = gets_stuck s
 -- ---- input
 
 -- a cell that is read as the input position
-abbrev pub as_position : Option Cell → State → (ℕ → Stepped) → Stepped
+abbrev pub as_position : Option Cell → State → (ℕ → StepResult) → StepResult
 as_position (Some (cell.Int (pos n))) s k = k n
 as_position _ s k = gets_stuck s
 
 -- goes on with the input position, which is slot 0 of frame 0
-abbrev pub position : State → (ℕ → Stepped) → Stepped
+abbrev pub position : State → (ℕ → StepResult) → StepResult
 position s k = as_position (slice_get (get_or s.now 0 no_frame).cells 0) s k
 
 -- the number goes to the place and the position behind it; with fault Range neither moves
-abbrev pub take_input : State → Range → CellPlace → ℤ → ℕ → Stepped
+abbrev pub take_input : State → Range → CellPlace → ℤ → ℕ → StepResult
 take_input s r p v behind = range_check r fault.Range s v (λ _. store s 0 0 (pos behind) (λ t. store t p.frame p.slot v quiet_step))
 
 -- what was found where a number is read
-abbrev pub takes_read : State → Range → CellPlace → ReadInt → Stepped
+abbrev pub takes_read : State → Range → CellPlace → ReadInt → StepResult
 takes_read s r p NoNumber = fails_now s
 takes_read s r p TooLarge = ends_in_fault fault.ReadRange s
 takes_read s r p (Number v behind) = take_input s r p v behind
 
 -- what was found where a byte is read
-abbrev pub byte_or_failure : State → Range → CellPlace → ℕ → Option ℕ → Stepped
+abbrev pub byte_or_failure : State → Range → CellPlace → ℕ → Option ℕ → StepResult
 byte_or_failure s r p at None = fails_now s
 byte_or_failure s r p at (Some byte) = take_input s r p (pos byte) (at + 1)
 
 -- ---- texts and faults by their numbers
 
 -- prints a text that is there
-abbrev pub as_text : Option (List ℕ) → State → Stepped
+abbrev pub as_text : Option (List ℕ) → State → StepResult
 as_text (Some t) s = prints_bytes t s
 as_text None s = gets_stuck s
 
@@ -479,7 +479,7 @@ run_faults =
     ∷ fault.NoReturn ∷ fault.ReadRange ∷ fault.DepthFull ∷ fault.CellsFull ∷ []
 
 -- ends in a fault that is there
-abbrev pub as_fault : Option RunFault → State → Stepped
+abbrev pub as_fault : Option RunFault → State → StepResult
 as_fault (Some f) s = ends_in_fault f s
 as_fault None s = gets_stuck s
 
@@ -487,12 +487,12 @@ as_fault None s = gets_stuck s
 
 module _ (code : PlainCode) (input : List ℕ) where
   -- goes on with a range of the code
-  abbrev pub range_at : State → ℕ → (Range → Stepped) → Stepped
+  abbrev pub range_at : State → ℕ → (Range → StepResult) → StepResult
   range_at s r k = as_range (slice_get code.ranges r) s k
 
   -- what an instruction does in a state that already goes on at the next address; words are read in
   -- their order
-  unfoldable pub act : Instr → State → Stepped
+  unfoldable pub act : Instr → State → StepResult
   act (I.Const a v) s = put_number s a v
   act (I.Move a b) s = number s b (λ v. put_number s a v)
   act (I.Add a b c) s = number s b (λ x. number s c (λ y. integer_result s (x +ℤ y) (λ v. put_number s a v)))
@@ -573,20 +573,20 @@ module _ (code : PlainCode) (input : List ℕ) where
   with_step_counted s = record s { steps = s.steps + 1 }
 
   -- takes the instruction at the address
-  abbrev pub fetch_and_act : Option Instr → State → Stepped
+  abbrev pub fetch_and_act : Option Instr → State → StepResult
   fetch_and_act (Some i) s = act i (record (with_step_counted s) { at = s.at + 1; last = s.at })
   fetch_and_act None s = gets_stuck s
 
   -- a step is one instruction, or a pop after one that failed; the pop that ends the run is a step
   -- too, and an ended machine does not change
-  abbrev pub step_in : Mode → State → Stepped
+  abbrev pub step_in : Mode → State → StepResult
   step_in Going s = fetch_and_act (slice_get code.instrs s.at) s
   step_in Failing s = pop (with_step_counted s)
   step_in (Ended e) s = answers_with (answer.Done e) s
   step_in Stuck s = gets_stuck s
 
   -- one step
-  abbrev pub step : State → Stepped
+  abbrev pub step : State → StepResult
   step s = step_in s.mode s
 
   -- the state after n steps

@@ -11,7 +11,7 @@ use Rattle.alma_code.specs.declared.step.End.{End}
 use Rattle.alma_code.specs.declared.step.End.TheVariants as end
 use Rattle.alma_code.specs.Plain.{PlainCode, PlainGlobal, routine_at}
 use Rattle.alma_code.specs.Picture.{PlainFrame, cell_at}
-use Rattle.alma_code.specs.Machine.{State, Stepped, step, start}
+use Rattle.alma_code.specs.Machine.{State, StepResult, step, start}
 use Rattle.alma_code.specs.ListText.{text_line}
 
 -- ---- watched values
@@ -82,7 +82,7 @@ unless_done answer.Printed rest = rest tt
 abbrev pub trace_lines : PlainCode → (input : List ℕ) (names : List (List ℕ)) (steps : ℕ) → State → List (List (List ℕ))
 trace_lines code input names zero s = (codes "end" ∷ codes "steps" ∷ []) ∷ []
 trace_lines code input names (suc n) s =
-    let x : Stepped = step code input s in
+    let x : StepResult = step code input s in
     step_words code names x.answer x.printed x.state ++ unless_done x.answer (λ _. trace_lines code input names n x.state)
 
 -- the whole text

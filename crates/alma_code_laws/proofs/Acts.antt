@@ -40,7 +40,7 @@ use Rattle.alma_code.specs.Rules.{rule_7, rule_8, rule_9, rule_10, rule_11, rule
 use Rattle.alma_code.specs.Rules.{fit_arguments, holds_first, holds_result, can_call, cells_in}
 use Rattle.alma_base.specs.Choice.{if_true}
 use Rattle.alma_code.specs.Picture.{kind_at}
-use Rattle.alma_code.specs.Machine.{State, Stepped, quiet_step, goes_to, fails_now, top, binds_content, number, place, put_number}
+use Rattle.alma_code.specs.Machine.{State, StepResult, quiet_step, goes_to, fails_now, top, binds_content, number, place, put_number}
 use Rattle.alma_code.specs.Machine.{put_place, store, with_cell, with_slot, gets_stuck, state_after_push, cut_to, equations, copies_cells}
 use Rattle.alma_code.specs.Machine.{to_number, state_after_leave, answers_return, result_to, as_position, position, take_input, takes_read}
 use Rattle.alma_code.specs.Machine.{byte_or_failure, is_kind, is_forall_at, state_with_carry, overlay, finish, keep}
@@ -152,7 +152,7 @@ module _ (code : PlainCode) where
       (and_from (nat_le (start_at code r) (suc at)) (nat_lt (suc at) (end_at code r)) (le-leb (start_at code r) (suc at) low) lt)
 
   -- two numbers that are read
-  pub two_good : (r at : ℕ) (s : State) (b c : ℕ) (k : ℤ → ℤ → Stepped) → Here r at s → names_slot code r (W.Number b) ≡ true
+  pub two_good : (r at : ℕ) (s : State) (b c : ℕ) (k : ℤ → ℤ → StepResult) → Here r at s → names_slot code r (W.Number b) ≡ true
       → names_slot code r (W.Number c) ≡ true →
       ((x y : ℤ) → Good code (k x y)) → Good code (number s b (λ x. number s c (λ y. k x y)))
   two_good r at s b c k h wb wc good =
@@ -183,7 +183,7 @@ module _ (code : PlainCode) where
       subst (λ i. IsCell code rs p.frame i) z (fits.cells 0 (omega arith))
 
   -- a place of one cell that is read
-  pub one_good : (r at : ℕ) (s : State) (n : ℕ) (k : CellPlace → Stepped) → Here r at s → names_slot code r (W.Place n) ≡ true
+  pub one_good : (r at : ℕ) (s : State) (n : ℕ) (k : CellPlace → StepResult) → Here r at s → names_slot code r (W.Place n) ≡ true
       → nat_eq (length_in code r n) 1 ≡ true →
       ((p : CellPlace) → p.frame < length s.now → IsCell code (routines_of s.now) p.frame p.slot → Good code (k p))
       → Good code (place s n k)
@@ -379,7 +379,7 @@ module _ (code : PlainCode) where
       ap is_number (ap (λ ks. slice_get ks 0) (ff.kinds ∙ ap (kinds_at code) (ff.main refl)) ∙ here.first)
 
   -- a cell that is an input position is read as one
-  position_cell : (c : Cell) (s : State) (k : ℕ → Stepped) → IsPosition c → ((n : ℕ) → Good code (k n))
+  position_cell : (c : Cell) (s : State) (k : ℕ → StepResult) → IsPosition c → ((n : ℕ) → Good code (k n))
       → Good code (as_position (Some c) s k)
   position_cell (cell.Int (pos n)) s k h good = good n
   position_cell (cell.Int (negsuc n)) s k h good = absurd h
@@ -394,7 +394,7 @@ module _ (code : PlainCode) where
   has_cell (c ∷ cs) h = refl
 
   -- the input position is read
-  pub position_good : (r : ℕ) (s : State) (k : ℕ → Stepped) → Ready code r s
+  pub position_good : (r : ℕ) (s : State) (k : ℕ → StepResult) → Ready code r s
       → ((n : ℕ) → slice_get (get_or s.now 0 no_frame).cells 0 ≡ Some (get_or (get_or s.now 0 no_frame).cells 0 cell.Unset)
       → 0 < length s.now → Good code (k n)) → Good code (position s k)
   position_good r s k h good =

@@ -29,7 +29,7 @@ use Rattle.alma_code.specs.Rules.{fits_argument, has_position, kind_in, is_free,
 use Rattle.alma_code.specs.Rules.{holds_first, holds_result, can_call}
 use Rattle.alma_base.specs.Choice.{if_true}
 use Rattle.alma_code.specs.Picture.{live_cells}
-use Rattle.alma_code.specs.Machine.{State, Stepped, top, gets_stuck, as_argument, arguments, as_routine, enters_routine, numbers_at}
+use Rattle.alma_code.specs.Machine.{State, StepResult, top, gets_stuck, as_argument, arguments, as_routine, enters_routine, numbers_at}
 use Rattle.alma_code.specs.Machine.{slot_of}
 use Rattle.alma_code.specs.Fits.{routines_of, IsPosition, FitsFrame, FitsFrames, IsContent, IsCell, IsPlace, IsLink, FitsSlot}
 use Rattle.alma_code.proofs.Heads.{place_of_is, number_is, link_of_is}
@@ -49,7 +49,7 @@ module _ (code : PlainCode) where
       subst (λ m. IsCell code (routines_of s.now) f m) x (c (suc k) (omega arith))))
 
   -- the content of a number slot is read as an argument
-  value_good : (r : ℕ) (s : State) (n : ℕ) (kind : ParamKind) (c : Cell) (k : Cell → Stepped) → Ready code r s → (kind ≡ param.Value)
+  value_good : (r : ℕ) (s : State) (n : ℕ) (kind : ParamKind) (c : Cell) (k : Cell → StepResult) → Ready code r s → (kind ≡ param.Value)
       ⊎ (kind ≡ param.Mix) → IsContent c →
       ((c : Cell) → FitsParam (IsPlace code (routines_of s.now) (top s)) (IsLink code (routines_of s.now) (top s)) kind n c
       → Good code (k c)) → Good code (as_argument kind n (Some c) s k)
@@ -84,7 +84,7 @@ module _ (code : PlainCode) where
   TakesPlace param.Link = ⊥
 
   -- the cell of a place slot is read as an argument
-  spot_good : (r : ℕ) (s : State) (n : ℕ) (kind : ParamKind) (c : Cell) (k : Cell → Stepped) → Ready code r s → TakesPlace kind
+  spot_good : (r : ℕ) (s : State) (n : ℕ) (kind : ParamKind) (c : Cell) (k : Cell → StepResult) → Ready code r s → TakesPlace kind
       → FitsSlot code (routines_of s.now) (top s) (slot.Place (size_of kind n)) c →
       ((c : Cell) → FitsParam (IsPlace code (routines_of s.now) (top s)) (IsLink code (routines_of s.now) (top s)) kind n c
       → Good code (k c)) → Good code (as_argument kind n (Some c) s k)
@@ -113,7 +113,7 @@ module _ (code : PlainCode) where
   spot_good r s n param.Cells (cell.Mark m) k h w f good = absurd f
 
   -- a number slot is read as an argument
-  number_argument : (r : ℕ) (s : State) (i n : ℕ) (kind : ParamKind) (k : Cell → Stepped) → Ready code r s → (kind ≡ param.Value)
+  number_argument : (r : ℕ) (s : State) (i n : ℕ) (kind : ParamKind) (k : Cell → StepResult) → Ready code r s → (kind ≡ param.Value)
       ⊎ (kind ≡ param.Mix) → is_number (kind_in code r i) ≡ true →
       ((c : Cell) → FitsParam (IsPlace code (routines_of s.now) (top s)) (IsLink code (routines_of s.now) (top s)) kind n c
       → Good code (k c)) → Good code (as_argument kind n (slot_of s i) s k)
@@ -122,7 +122,7 @@ module _ (code : PlainCode) where
       subst (λ o. Good code (as_argument kind n o s k)) (sym has.is) (value_good r s n kind has.cell k h w has.fits good)
 
   -- a place slot is read as an argument
-  place_argument : (r : ℕ) (s : State) (i n : ℕ) (kind : ParamKind) (k : Cell → Stepped) → Ready code r s → TakesPlace kind
+  place_argument : (r : ℕ) (s : State) (i n : ℕ) (kind : ParamKind) (k : Cell → StepResult) → Ready code r s → TakesPlace kind
       → is_place_of (size_of kind n) (kind_in code r i) ≡ true →
       ((c : Cell) → FitsParam (IsPlace code (routines_of s.now) (top s)) (IsLink code (routines_of s.now) (top s)) kind n c
       → Good code (k c)) → Good code (as_argument kind n (slot_of s i) s k)
@@ -131,7 +131,7 @@ module _ (code : PlainCode) where
       subst (λ o. Good code (as_argument kind n o s k)) (sym has.is) (spot_good r s n kind has.cell k h w has.fits good)
 
   -- the cell of a link slot is read as an argument
-  link_cell_good : (r : ℕ) (s : State) (n : ℕ) (c : Cell) (k : Cell → Stepped) → Ready code r s
+  link_cell_good : (r : ℕ) (s : State) (n : ℕ) (c : Cell) (k : Cell → StepResult) → Ready code r s
       → FitsSlot code (routines_of s.now) (top s) (slot.Link n) c →
       ((c : Cell) → FitsParam (IsPlace code (routines_of s.now) (top s)) (IsLink code (routines_of s.now) (top s)) param.Link n c
       → Good code (k c)) → Good code (as_argument param.Link n (Some c) s k)
@@ -145,7 +145,7 @@ module _ (code : PlainCode) where
   link_cell_good r s n (cell.Mark m) k h f good = absurd f
 
   -- a link slot is read as an argument
-  link_argument : (r : ℕ) (s : State) (i n : ℕ) (k : Cell → Stepped) → Ready code r s → is_link_of n (kind_in code r i) ≡ true →
+  link_argument : (r : ℕ) (s : State) (i n : ℕ) (k : Cell → StepResult) → Ready code r s → is_link_of n (kind_in code r i) ≡ true →
       ((c : Cell) → FitsParam (IsPlace code (routines_of s.now) (top s)) (IsLink code (routines_of s.now) (top s)) param.Link n c
       → Good code (k c)) → Good code (as_argument param.Link n (slot_of s i) s k)
   link_argument r s i n k h e good =
@@ -153,7 +153,7 @@ module _ (code : PlainCode) where
       subst (λ o. Good code (as_argument param.Link n o s k)) (sym has.is) (link_cell_good r s n has.cell k h has.fits good)
 
   -- a slot that can be the argument of a parameter is read as one
-  argument_good : (r : ℕ) (s : State) (i n : ℕ) (kind : ParamKind) (k : Cell → Stepped) → Ready code r s
+  argument_good : (r : ℕ) (s : State) (i n : ℕ) (kind : ParamKind) (k : Cell → StepResult) → Ready code r s
       → fits_argument code r kind n i ≡ true →
       ((c : Cell) → FitsParam (IsPlace code (routines_of s.now) (top s)) (IsLink code (routines_of s.now) (top s)) kind n c
       → Good code (k c)) → Good code (as_argument kind n (slot_of s i) s k)
@@ -182,7 +182,7 @@ module _ (code : PlainCode) where
   }
 
   -- the argument slots of a call are read
-  pub arguments_good : (r : ℕ) (s : State) (ps : List CodeParam) (i : ℕ) (k : List Cell → Stepped) → Ready code r s
+  pub arguments_good : (r : ℕ) (s : State) (ps : List CodeParam) (i : ℕ) (k : List Cell → StepResult) → Ready code r s
       → fit_arguments code r ps i ≡ true →
       ((cs : List Cell) → FitsParams (IsPlace code (routines_of s.now) (top s)) (IsLink code (routines_of s.now) (top s)) ps cs
       → Good code (k cs)) → Good code (arguments ps s i k)

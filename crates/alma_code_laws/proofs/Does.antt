@@ -27,7 +27,8 @@ use Rattle.alma_code.specs.Head.{PlainHead}
 use Rattle.alma_code.specs.Picture.{PlainFrame, PlainEntry, cell_at, live_cells, kind_at}
 use Rattle.alma_code.specs.Carries.{number_at, held_after_keep}
 use Rattle.alma_code.specs.Plain.{PlainRoutine}
-use Rattle.alma_code.specs.Machine.{State, Stepped, quiet_step, slot_of, kind_of, as_number, as_place, as_mark, number, place, mark, link}
+use Rattle.alma_code.specs.Machine.{State, StepResult, quiet_step, slot_of, kind_of, as_number, as_place, as_mark, number, place, mark}
+use Rattle.alma_code.specs.Machine.{link}
 use Rattle.alma_code.specs.Machine.{with_cell, to_number, to_place, to_mark, to_link, put_number, put_place, put_mark, put_link}
 use Rattle.alma_code.specs.Machine.{integer_result, as_content, content, store, with_known_content, as_range, range_check}
 use Rattle.alma_code.specs.Machine.{optional_range_check, binds_content, equation_of_contents, equation, equations, copies_cells, is_kind}
@@ -50,7 +51,7 @@ copy_of kind before behind = if is_kind choice.Body (Some kind) then behind else
 
 -- The stack becomes what it was; its lowest entries; that with the top entry kept in another; or that with one entry more, of which
 -- the step tells the height; no instruction answers a pop. Before are the frames before the step.
-pub data Does (old : List PlainEntry) (before : List PlainFrame) (r : Stepped) : Type 0 where
+pub data Does (old : List PlainEntry) (before : List PlainFrame) (r : StepResult) : Type 0 where
   stays : r.state.held ≡ old → is_quiet r.answer ≡ true → Does old before r
   falls : (n : ℕ) → r.state.held ≡ take n old → is_quiet r.answer ≡ true → Does old before r
   keeps : (h : ℕ) (now : List PlainFrame) → r.state.held ≡ held_after_keep old h now → is_quiet r.answer ≡ true → Does old before r
@@ -58,16 +59,16 @@ pub data Does (old : List PlainEntry) (before : List PlainFrame) (r : Stepped) :
       → r.answer ≡ answer.Chose (length r.state.held) → Does old before r
 
 module _ (old : List PlainEntry) (before : List PlainFrame) where
-  abbrev D : Stepped → Type 0
+  abbrev D : StepResult → Type 0
   D r = Does old before r
 
   -- ---- words that look at one thing
 
-  pub if_true_does : (b : Bool) (k z : Unit {0} → Stepped) → D (k tt) → D (z tt) → D (if_true b k z)
+  pub if_true_does : (b : Bool) (k z : Unit {0} → StepResult) → D (k tt) → D (z tt) → D (if_true b k z)
   if_true_does true k z h g = h
   if_true_does false k z h g = g
 
-  pub number_in : (o : Option Cell) (s : State) (k : ℤ → Stepped) → s.held ≡ old → ((v : ℤ) → D (k v)) → D (as_number o s k)
+  pub number_in : (o : Option Cell) (s : State) (k : ℤ → StepResult) → s.held ≡ old → ((v : ℤ) → D (k v)) → D (as_number o s k)
   number_in (Some (cell.Int v)) s k e h = h v
   number_in (Some cell.Unknown) s k e h = stays e refl
   number_in (Some cell.Unset) s k e h = stays e refl
@@ -75,7 +76,8 @@ module _ (old : List PlainEntry) (before : List PlainFrame) where
   number_in (Some (cell.Mark m)) s k e h = stays e refl
   number_in None s k e h = stays e refl
 
-  pub place_in : (o : Option Cell) (s : State) (k : CellPlace → Stepped) → s.held ≡ old → ((p : CellPlace) → D (k p)) → D (as_place o s k)
+  pub place_in : (o : Option Cell) (s : State) (k : CellPlace → StepResult) → s.held ≡ old → ((p : CellPlace) → D (k p))
+      → D (as_place o s k)
   place_in (Some (cell.Place p)) s k e h = h p
   place_in (Some cell.Unset) s k e h = stays e refl
   place_in (Some cell.Unknown) s k e h = stays e refl
@@ -83,7 +85,7 @@ module _ (old : List PlainEntry) (before : List PlainFrame) where
   place_in (Some (cell.Mark m)) s k e h = stays e refl
   place_in None s k e h = stays e refl
 
-  pub mark_in : (o : Option Cell) (s : State) (k : ℕ → Stepped) → s.held ≡ old → ((m : ℕ) → D (k m)) → D (as_mark o s k)
+  pub mark_in : (o : Option Cell) (s : State) (k : ℕ → StepResult) → s.held ≡ old → ((m : ℕ) → D (k m)) → D (as_mark o s k)
   mark_in (Some (cell.Mark m)) s k e h = h m
   mark_in (Some cell.Unset) s k e h = stays e refl
   mark_in (Some cell.Unknown) s k e h = stays e refl
@@ -91,35 +93,35 @@ module _ (old : List PlainEntry) (before : List PlainFrame) where
   mark_in (Some (cell.Place p)) s k e h = stays e refl
   mark_in None s k e h = stays e refl
 
-  pub number_slot : (o : Option SlotKind) (s : State) (k : Unit {0} → Stepped) → s.held ≡ old → D (k tt) → D (to_number o s k)
+  pub number_slot : (o : Option SlotKind) (s : State) (k : Unit {0} → StepResult) → s.held ≡ old → D (k tt) → D (to_number o s k)
   number_slot (Some slot.Number) s k e h = h
   number_slot (Some (slot.Place l)) s k e h = stays e refl
   number_slot (Some slot.Mark) s k e h = stays e refl
   number_slot (Some (slot.Link r)) s k e h = stays e refl
   number_slot None s k e h = stays e refl
 
-  pub place_slot : (o : Option SlotKind) (s : State) (k : ℕ → Stepped) → s.held ≡ old → ((l : ℕ) → D (k l)) → D (to_place o s k)
+  pub place_slot : (o : Option SlotKind) (s : State) (k : ℕ → StepResult) → s.held ≡ old → ((l : ℕ) → D (k l)) → D (to_place o s k)
   place_slot (Some (slot.Place l)) s k e h = h l
   place_slot (Some slot.Number) s k e h = stays e refl
   place_slot (Some slot.Mark) s k e h = stays e refl
   place_slot (Some (slot.Link r)) s k e h = stays e refl
   place_slot None s k e h = stays e refl
 
-  pub mark_slot : (o : Option SlotKind) (s : State) (k : Unit {0} → Stepped) → s.held ≡ old → D (k tt) → D (to_mark o s k)
+  pub mark_slot : (o : Option SlotKind) (s : State) (k : Unit {0} → StepResult) → s.held ≡ old → D (k tt) → D (to_mark o s k)
   mark_slot (Some slot.Mark) s k e h = h
   mark_slot (Some slot.Number) s k e h = stays e refl
   mark_slot (Some (slot.Place l)) s k e h = stays e refl
   mark_slot (Some (slot.Link r)) s k e h = stays e refl
   mark_slot None s k e h = stays e refl
 
-  pub link_slot : (o : Option SlotKind) (s : State) (k : Unit {0} → Stepped) → s.held ≡ old → D (k tt) → D (to_link o s k)
+  pub link_slot : (o : Option SlotKind) (s : State) (k : Unit {0} → StepResult) → s.held ≡ old → D (k tt) → D (to_link o s k)
   link_slot (Some (slot.Link r)) s k e h = h
   link_slot (Some slot.Number) s k e h = stays e refl
   link_slot (Some (slot.Place l)) s k e h = stays e refl
   link_slot (Some slot.Mark) s k e h = stays e refl
   link_slot None s k e h = stays e refl
 
-  pub content_in : (b : Bool) (c : Cell) (s : State) (k : Option ℤ → Stepped) → s.held ≡ old → ((u : Option ℤ) → D (k u))
+  pub content_in : (b : Bool) (c : Cell) (s : State) (k : Option ℤ → StepResult) → s.held ≡ old → ((u : Option ℤ) → D (k u))
       → D (as_content b c s k)
   content_in true (cell.Int v) s k e h = h (Some v)
   content_in true cell.Unknown s k e h = h None
@@ -128,26 +130,26 @@ module _ (old : List PlainEntry) (before : List PlainFrame) where
   content_in true (cell.Mark m) s k e h = stays e refl
   content_in false c s k e h = stays e refl
 
-  pub known_in : (o : Option ℤ) (s : State) (k : ℤ → Stepped) → s.held ≡ old → ((v : ℤ) → D (k v)) → D (with_known_content s o k)
+  pub known_in : (o : Option ℤ) (s : State) (k : ℤ → StepResult) → s.held ≡ old → ((v : ℤ) → D (k v)) → D (with_known_content s o k)
   known_in (Some v) s k e h = h v
   known_in None s k e h = stays e refl
 
-  pub range_in : (o : Option Range) (s : State) (k : Range → Stepped) → s.held ≡ old → ((t : Range) → D (k t)) → D (as_range o s k)
+  pub range_in : (o : Option Range) (s : State) (k : Range → StepResult) → s.held ≡ old → ((t : Range) → D (k t)) → D (as_range o s k)
   range_in (Some t) s k e h = h t
   range_in None s k e h = stays e refl
 
   -- ---- words of slots
 
-  pub number_does : (s : State) (n : ℕ) (k : ℤ → Stepped) → s.held ≡ old → ((v : ℤ) → D (k v)) → D (number s n k)
+  pub number_does : (s : State) (n : ℕ) (k : ℤ → StepResult) → s.held ≡ old → ((v : ℤ) → D (k v)) → D (number s n k)
   number_does s n k e h = number_in (slot_of s n) s k e h
 
-  pub place_does : (s : State) (n : ℕ) (k : CellPlace → Stepped) → s.held ≡ old → ((p : CellPlace) → D (k p)) → D (place s n k)
+  pub place_does : (s : State) (n : ℕ) (k : CellPlace → StepResult) → s.held ≡ old → ((p : CellPlace) → D (k p)) → D (place s n k)
   place_does s n k e h = place_in (slot_of s n) s k e h
 
-  pub mark_does : (s : State) (n : ℕ) (k : ℕ → Stepped) → s.held ≡ old → ((m : ℕ) → D (k m)) → D (mark s n k)
+  pub mark_does : (s : State) (n : ℕ) (k : ℕ → StepResult) → s.held ≡ old → ((m : ℕ) → D (k m)) → D (mark s n k)
   mark_does s n k e h = mark_in (slot_of s n) s k e h
 
-  pub link_does : (s : State) (n : ℕ) (k : ℕ → Stepped) → s.held ≡ old → ((f : ℕ) → D (k f)) → D (link s n k)
+  pub link_does : (s : State) (n : ℕ) (k : ℕ → StepResult) → s.held ≡ old → ((f : ℕ) → D (k f)) → D (link s n k)
   link_does s n k e h = place_in (slot_of s n) s (λ p. k p.frame) e (λ p. h p.frame)
 
   pub put_number_does : (s : State) (n : ℕ) (v : ℤ) → s.held ≡ old → D (put_number s n v)
@@ -162,24 +164,24 @@ module _ (old : List PlainEntry) (before : List PlainFrame) where
   pub put_link_does : (s : State) (n frame : ℕ) → s.held ≡ old → D (put_link s n frame)
   put_link_does s n frame e = link_slot (kind_of s n) s _ e (stays e refl)
 
-  pub integer_does : (s : State) (v : ℤ) (k : ℤ → Stepped) → s.held ≡ old → D (k v) → D (integer_result s v k)
+  pub integer_does : (s : State) (v : ℤ) (k : ℤ → StepResult) → s.held ≡ old → D (k v) → D (integer_result s v k)
   integer_does s v k e h = if_true_does (is_integer v) _ _ h (stays e refl)
 
-  pub check_does : (r : Range) (f : RunFault) (s : State) (v : ℤ) (k : Unit {0} → Stepped) → s.held ≡ old → D (k tt)
+  pub check_does : (r : Range) (f : RunFault) (s : State) (v : ℤ) (k : Unit {0} → StepResult) → s.held ≡ old → D (k tt)
       → D (range_check r f s v k)
   check_does r f s v k e h = if_true_does (within r v) k _ h (stays e refl)
 
-  pub optional_check_does : (o : Option Range) (s : State) (v : ℤ) (k : Unit {0} → Stepped) → s.held ≡ old → D (k tt)
+  pub optional_check_does : (o : Option Range) (s : State) (v : ℤ) (k : Unit {0} → StepResult) → s.held ≡ old → D (k tt)
       → D (optional_range_check o s v k)
   optional_check_does (Some r) s v k e h = check_does r fault.Range s v k e h
   optional_check_does None s v k e h = h
 
   -- ---- cells at places
 
-  pub content_does : (s : State) (f n : ℕ) (k : Option ℤ → Stepped) → s.held ≡ old → ((u : Option ℤ) → D (k u)) → D (content s f n k)
+  pub content_does : (s : State) (f n : ℕ) (k : Option ℤ → StepResult) → s.held ≡ old → ((u : Option ℤ) → D (k u)) → D (content s f n k)
   content_does s f n k e h = content_in (number_at s.now f n) (cell_at s.now f n cell.Unset) s k e h
 
-  pub store_does : (s : State) (f n : ℕ) (v : ℤ) (k : State → Stepped) → s.held ≡ old → D (k (with_cell s f n (cell.Int v)))
+  pub store_does : (s : State) (f n : ℕ) (v : ℤ) (k : State → StepResult) → s.held ≡ old → D (k (with_cell s f n (cell.Int v)))
       → D (store s f n v k)
   store_does s f n v k e h = if_true_does (number_at s.now f n) _ _ h (stays e refl)
 
@@ -188,7 +190,7 @@ module _ (old : List PlainEntry) (before : List PlainFrame) where
   binds_does s p r v None e = check_does r fault.Range s v _ e (store_does s p.frame p.slot v quiet_step e (stays e refl))
 
   pub contents_do : (s : State) (f i : ℕ) (r : Option Range) (u : Option ℤ) (g j : ℕ) (t : Option Range) (v : Option ℤ)
-      (k : State → Stepped)
+      (k : State → StepResult)
       → s.held ≡ old → ((x : State) → x.held ≡ old → D (k x)) → D (equation_of_contents s f i r u g j t v k)
   contents_do s f i r None g j t None k e h = stays e refl
   contents_do s f i r None g j t (Some v) k e h =
@@ -197,7 +199,7 @@ module _ (old : List PlainEntry) (before : List PlainFrame) where
       optional_check_does t s u _ e (store_does s g j u k e (h (with_cell s g j (cell.Int u)) e))
   contents_do s f i r (Some u) g j t (Some v) k e h = if_true_does (int_eq u v) _ _ (h s e) (stays e refl)
 
-  pub equation_does : (s : State) (f i : ℕ) (r : Option Range) (g j : ℕ) (t : Option Range) (k : State → Stepped)
+  pub equation_does : (s : State) (f i : ℕ) (r : Option Range) (g j : ℕ) (t : Option Range) (k : State → StepResult)
       → s.held ≡ old → ((x : State) → x.held ≡ old → D (k x)) → D (equation s f i r g j t k)
   equation_does s f i r g j t k e h = content_does s f i _ e (λ u. content_does s g j _ e (λ v. contents_do s f i r u g j t v k e h))
 
@@ -228,7 +230,8 @@ module _ (old : List PlainEntry) (before : List PlainFrame) where
 
   -- ---- calls
 
-  pub argument_does : (kind : ParamKind) (n : ℕ) (o : Option Cell) (s : State) (k : Cell → Stepped) → s.held ≡ old → ((c : Cell) → D (k c))
+  pub argument_does : (kind : ParamKind) (n : ℕ) (o : Option Cell) (s : State) (k : Cell → StepResult) → s.held ≡ old
+      → ((c : Cell) → D (k c))
       → D (as_argument kind n o s k)
   argument_does kind n None s k e h = stays e refl
   argument_does kind n (Some cell.Unknown) s k e h = stays e refl
@@ -247,7 +250,7 @@ module _ (old : List PlainEntry) (before : List PlainFrame) where
   argument_does param.Link n (Some (cell.Place p)) s k e h =
       if_true_does (nat_eq p.slot 0 && nat_eq p.len 0) _ _ (h (cell.Place p)) (stays e refl)
 
-  pub arguments_do : (ps : List CodeParam) (s : State) (n : ℕ) (k : List Cell → Stepped) → s.held ≡ old → ((cs : List Cell) → D (k cs))
+  pub arguments_do : (ps : List CodeParam) (s : State) (n : ℕ) (k : List Cell → StepResult) → s.held ≡ old → ((cs : List Cell) → D (k cs))
       → D (arguments ps s n k)
   arguments_do [] s n k e h = h []
   arguments_do (p ∷ ps) s n k e h = argument_does p.kind p.cells (slot_of s n) s _ e (λ c. arguments_do ps s (suc n) _ e (λ cs. h (c ∷ cs)))
@@ -257,7 +260,7 @@ module _ (old : List PlainEntry) (before : List PlainFrame) where
       if_true_does (nat_lt (length s.now) frame_limit) _ _
       (if_true_does (nat_le (live_cells s.now + h.declared) cell_limit) _ _ (stays e refl) (stays e refl)) (stays e refl)
 
-  pub routine_does : (o : Option PlainRoutine) (s : State) (k : PlainHead → Stepped) → s.held ≡ old → ((h : PlainHead) → D (k h))
+  pub routine_does : (o : Option PlainRoutine) (s : State) (k : PlainHead → StepResult) → s.held ≡ old → ((h : PlainHead) → D (k h))
       → D (as_routine o s k)
   routine_does (Some r) s k e h = h r.head
   routine_does None s k e h = stays e refl
@@ -319,7 +322,7 @@ module _ (old : List PlainEntry) (before : List PlainFrame) where
 
   -- ---- input, texts and faults
 
-  pub position_in : (o : Option Cell) (s : State) (k : ℕ → Stepped) → s.held ≡ old → ((n : ℕ) → D (k n)) → D (as_position o s k)
+  pub position_in : (o : Option Cell) (s : State) (k : ℕ → StepResult) → s.held ≡ old → ((n : ℕ) → D (k n)) → D (as_position o s k)
   position_in (Some (cell.Int (pos n))) s k e h = h n
   position_in (Some (cell.Int (negsuc n))) s k e h = stays e refl
   position_in (Some cell.Unknown) s k e h = stays e refl
@@ -328,7 +331,7 @@ module _ (old : List PlainEntry) (before : List PlainFrame) where
   position_in (Some (cell.Mark m)) s k e h = stays e refl
   position_in None s k e h = stays e refl
 
-  pub position_does : (s : State) (k : ℕ → Stepped) → s.held ≡ old → ((n : ℕ) → D (k n)) → D (position s k)
+  pub position_does : (s : State) (k : ℕ → StepResult) → s.held ≡ old → ((n : ℕ) → D (k n)) → D (position s k)
   position_does s k e h = position_in _ s k e h
 
   pub input_does : (s : State) (r : Range) (p : CellPlace) (v : ℤ) (behind : ℕ) → s.held ≡ old → D (take_input s r p v behind)

@@ -18,7 +18,7 @@ use Rattle.alma_code.specs.Plain.{PlainCode, head_at, kinds_at}
 use Rattle.alma_code.specs.Layout.{kinds_of}
 use Rattle.alma_code.specs.Kinds.{is_link, numbers_from}
 use Rattle.alma_code.specs.Rules.{kind_in, link_in, is_free, is_address, names_slot, names_routine, last_end, rule_2}
-use Rattle.alma_code.specs.Machine.{State, Stepped, quiet_step, top, slot_in, as_place, link, link_to, to_link, put_link, with_slot}
+use Rattle.alma_code.specs.Machine.{State, StepResult, quiet_step, top, slot_in, as_place, link, link_to, to_link, put_link, with_slot}
 use Rattle.alma_code.specs.Fits.{routines_of, IsCell, IsPlace, IsLink, FitsSlot}
 use Rattle.alma_code_laws.proofs.Ready.{Ready, Good, link_is, went_good, slot_ready, has_slot}
 use Rattle.alma_code_laws.proofs.Acts.{first_is, head_slots, numbers_from_at}
@@ -87,7 +87,7 @@ module _ (code : PlainCode) where
       }
 
   -- what fits a link slot of a frame is read as a link
-  as_link_good : (r : ℕ) (s : State) (f q : ℕ) (c : Cell) (k : CellPlace → Stepped) → Ready code r s
+  as_link_good : (r : ℕ) (s : State) (f q : ℕ) (c : Cell) (k : CellPlace → StepResult) → Ready code r s
       → FitsSlot code (routines_of s.now) f (slot.Link q) c →
       ((p : CellPlace) → IsLink code (routines_of s.now) f q p → Good code (k p)) → Good code (as_place (Some c) s k)
   as_link_good r s f q (cell.Place p) k h fits good = good p fits
@@ -97,7 +97,7 @@ module _ (code : PlainCode) where
   as_link_good r s f q (cell.Mark m) k h fits good = absurd fits
 
   -- what fits a place slot of a frame is read as a place
-  as_held_good : (r : ℕ) (s : State) (f l : ℕ) (c : Cell) (k : CellPlace → Stepped) → Ready code r s
+  as_held_good : (r : ℕ) (s : State) (f l : ℕ) (c : Cell) (k : CellPlace → StepResult) → Ready code r s
       → FitsSlot code (routines_of s.now) f (slot.Place l) c →
       ((p : CellPlace) → p.len ≡ l → IsPlace code (routines_of s.now) f p → Good code (k p)) → Good code (as_place (Some c) s k)
   as_held_good r s f l (cell.Place p) k h fits good = good p fits.0 fits.1
@@ -107,7 +107,7 @@ module _ (code : PlainCode) where
   as_held_good r s f l (cell.Mark m) k h fits good = absurd fits
 
   -- a link slot is read
-  pub link_good : (r : ℕ) (s : State) (n q : ℕ) (k : ℕ → Stepped) → Ready code r s → kind_in code r n ≡ Some (slot.Link q) →
+  pub link_good : (r : ℕ) (s : State) (n q : ℕ) (k : ℕ → StepResult) → Ready code r s → kind_in code r n ≡ Some (slot.Link q) →
       ((f : ℕ) → f ≤ top s → get_or (routines_of s.now) f 0 ≡ q → Good code (k f)) → Good code (link s n k)
   link_good r s n q k h e good =
       let has = has_slot code r s n (slot.Link q) h e in
@@ -115,7 +115,7 @@ module _ (code : PlainCode) where
       (as_link_good r s (top s) q has.cell (λ p. k p.frame) h has.fits (λ p fits. good p.frame fits.frame fits.routine))
 
   -- a link slot of a frame is read
-  pub link_in_good : (r : ℕ) (s : State) (f n q q2 : ℕ) (k : CellPlace → Stepped) → Ready code r s → f ≤ top s
+  pub link_in_good : (r : ℕ) (s : State) (f n q q2 : ℕ) (k : CellPlace → StepResult) → Ready code r s → f ≤ top s
       → get_or (routines_of s.now) f 0 ≡ q → kind_in code q n ≡ Some (slot.Link q2) →
       ((p : CellPlace) → p.frame ≤ top s → get_or (routines_of s.now) p.frame 0 ≡ q2 → Good code (k p))
       → Good code (as_place (slot_in s f n) s k)
@@ -125,7 +125,7 @@ module _ (code : PlainCode) where
       (as_link_good r s f q2 has.cell k h has.fits (λ p fits. good p (omega (arith, le, fits.frame)) fits.routine))
 
   -- a place slot of a frame is read
-  pub place_in_good : (r : ℕ) (s : State) (f n q l : ℕ) (k : CellPlace → Stepped) → Ready code r s → f ≤ top s
+  pub place_in_good : (r : ℕ) (s : State) (f n q l : ℕ) (k : CellPlace → StepResult) → Ready code r s → f ≤ top s
       → get_or (routines_of s.now) f 0 ≡ q → kind_in code q n ≡ Some (slot.Place l) →
       ((p : CellPlace) → p.len ≡ l → IsPlace code (routines_of s.now) (top s) p → Good code (k p))
       → Good code (as_place (slot_in s f n) s k)

@@ -23,7 +23,7 @@ use Rattle.alma_code.specs.Plain.{PlainCode, kinds_at}
 use Rattle.alma_base.specs.Numbers.{within, is_integer, int_eq}
 use Rattle.alma_code.specs.Kinds.{is_number, is_place, is_mark, is_link}
 use Rattle.alma_code.specs.Rules.{place_length, link_routine, kind_in, is_free, is_address}
-use Rattle.alma_code.specs.Machine.{Going, State, Stepped, quiet_step, ends_run, ends_in_fault, fails_now, answers_with, top, slot_of}
+use Rattle.alma_code.specs.Machine.{Going, State, StepResult, quiet_step, ends_run, ends_in_fault, fails_now, answers_with, top, slot_of}
 use Rattle.alma_code.specs.Machine.{kind_of, as_number, as_place, as_mark, number, place, mark, with_cell, with_slot, to_number, to_place}
 use Rattle.alma_code.specs.Machine.{to_mark, put_number, put_place, put_mark, integer_result, as_content, content, store}
 use Rattle.alma_code.specs.Machine.{with_known_content, as_range, range_check, optional_range_check, equation_of_contents, equation}
@@ -75,7 +75,7 @@ module _ (code : PlainCode) where
     pub going : s.mode ≡ Going
 
   -- the state after a step fits
-  abbrev pub Good : Stepped → Type 0
+  abbrev pub Good : StepResult → Type 0
   Good x = Fits code x.state
 
   -- the machine goes on at an address of the routine
@@ -136,7 +136,7 @@ module _ (code : PlainCode) where
       }
 
   -- a content is read as a number
-  as_number_good : (r : ℕ) (s : State) (c : Cell) (k : ℤ → Stepped) → Ready r s → IsContent c → ((v : ℤ) → Good (k v))
+  as_number_good : (r : ℕ) (s : State) (c : Cell) (k : ℤ → StepResult) → Ready r s → IsContent c → ((v : ℤ) → Good (k v))
       → Good (as_number (Some c) s k)
   as_number_good r s (cell.Int v) k h fits good = good v
   as_number_good r s cell.Unknown k h fits good = record { frames = h.frames; held = h.held; mode = tt }
@@ -145,14 +145,15 @@ module _ (code : PlainCode) where
   as_number_good r s (cell.Mark m) k h fits good = absurd fits
 
   -- a number slot is read
-  pub number_good : (r : ℕ) (s : State) (n : ℕ) (k : ℤ → Stepped) → Ready r s → is_number (kind_in code r n) ≡ true → ((v : ℤ) → Good (k v))
+  pub number_good : (r : ℕ) (s : State) (n : ℕ) (k : ℤ → StepResult) → Ready r s → is_number (kind_in code r n) ≡ true
+      → ((v : ℤ) → Good (k v))
       → Good (number s n k)
   number_good r s n k h e good =
       let has = has_slot r s n slot.Number h (number_is (kind_in code r n) e) in
       subst (λ o. Good (as_number o s k)) (sym has.is) (as_number_good r s has.cell k h has.fits good)
 
   -- what fits a place slot is read as a place
-  as_place_good : (r : ℕ) (s : State) (l : ℕ) (c : Cell) (k : CellPlace → Stepped) → Ready r s
+  as_place_good : (r : ℕ) (s : State) (l : ℕ) (c : Cell) (k : CellPlace → StepResult) → Ready r s
       → FitsSlot code (routines_of s.now) (top s) (slot.Place l) c →
       ((p : CellPlace) → p.len ≡ l → IsPlace code (routines_of s.now) (top s) p → Good (k p)) → Good (as_place (Some c) s k)
   as_place_good r s l (cell.Place p) k h fits good = good p fits.0 fits.1
@@ -162,14 +163,14 @@ module _ (code : PlainCode) where
   as_place_good r s l (cell.Mark m) k h fits good = absurd fits
 
   -- a place slot is read
-  pub place_good : (r : ℕ) (s : State) (n l : ℕ) (k : CellPlace → Stepped) → Ready r s → kind_in code r n ≡ Some (slot.Place l) →
+  pub place_good : (r : ℕ) (s : State) (n l : ℕ) (k : CellPlace → StepResult) → Ready r s → kind_in code r n ≡ Some (slot.Place l) →
       ((p : CellPlace) → p.len ≡ l → IsPlace code (routines_of s.now) (top s) p → Good (k p)) → Good (place s n k)
   place_good r s n l k h e good =
       let has = has_slot r s n (slot.Place l) h e in
       subst (λ o. Good (as_place o s k)) (sym has.is) (as_place_good r s l has.cell k h has.fits good)
 
   -- what fits a mark slot is read as a mark
-  as_mark_good : (r : ℕ) (s : State) (c : Cell) (k : ℕ → Stepped) → Ready r s → FitsSlot code (routines_of s.now) (top s) slot.Mark c
+  as_mark_good : (r : ℕ) (s : State) (c : Cell) (k : ℕ → StepResult) → Ready r s → FitsSlot code (routines_of s.now) (top s) slot.Mark c
       → ((v : ℕ) → Good (k v)) → Good (as_mark (Some c) s k)
   as_mark_good r s (cell.Mark m) k h fits good = good m
   as_mark_good r s cell.Unset k h fits good = record { frames = h.frames; held = h.held; mode = tt }
@@ -178,7 +179,7 @@ module _ (code : PlainCode) where
   as_mark_good r s (cell.Place p) k h fits good = absurd fits
 
   -- a mark slot is read
-  pub mark_good : (r : ℕ) (s : State) (n : ℕ) (k : ℕ → Stepped) → Ready r s → is_mark (kind_in code r n) ≡ true → ((v : ℕ) → Good (k v))
+  pub mark_good : (r : ℕ) (s : State) (n : ℕ) (k : ℕ → StepResult) → Ready r s → is_mark (kind_in code r n) ≡ true → ((v : ℕ) → Good (k v))
       → Good (mark s n k)
   mark_good r s n k h e good =
       let has = has_slot r s n slot.Mark h (mark_is (kind_in code r n) e) in
@@ -251,7 +252,7 @@ module _ (code : PlainCode) where
       (went_good r (with_slot s n (cell.Place p)) (slot_ready r s n (slot.Place l) (cell.Place p) h e free (refl, fits)) at)
 
   -- a result that may be outside INTEGER
-  pub fitted_good : (r : ℕ) (s : State) (v : ℤ) (k : ℤ → Stepped) → Ready r s → Good (k v) → Good (integer_result s v k)
+  pub fitted_good : (r : ℕ) (s : State) (v : ℤ) (k : ℤ → StepResult) → Ready r s → Good (k v) → Good (integer_result s v k)
   fitted_good r s v k h good = if_true_keeps Good (is_integer v) (λ _. k v) (λ _. ends_in_fault fault.Overflow s) (λ _. good)
       (λ _. record { frames = h.frames; held = h.held; mode = tt })
 
@@ -297,7 +298,7 @@ module _ (code : PlainCode) where
       subst (λ k. FitsSlot code (routines_of s.now) f k (cell_at s.now f i cell.Unset)) there.1 ((h.frames.each f lf).cells i there.0)
 
   -- a content is looked at
-  as_content_good : (c : Cell) (s : State) (k : Option ℤ → Stepped) → IsContent c → ((o : Option ℤ) → Good (k o))
+  as_content_good : (c : Cell) (s : State) (k : Option ℤ → StepResult) → IsContent c → ((o : Option ℤ) → Good (k o))
       → Good (as_content true c s k)
   as_content_good (cell.Int v) s k fits good = good (Some v)
   as_content_good cell.Unknown s k fits good = good None
@@ -306,7 +307,7 @@ module _ (code : PlainCode) where
   as_content_good (cell.Mark m) s k fits good = absurd fits
 
   -- the cell at a place is looked at
-  pub content_good : (r : ℕ) (s : State) (f i : ℕ) (k : Option ℤ → Stepped) → Ready r s → f < length s.now
+  pub content_good : (r : ℕ) (s : State) (f i : ℕ) (k : Option ℤ → StepResult) → Ready r s → f < length s.now
       → IsCell code (routines_of s.now) f i →
       ((o : Option ℤ) → Good (k o)) → Good (content s f i k)
   content_good r s f i k h lf c good =
@@ -314,7 +315,7 @@ module _ (code : PlainCode) where
       (as_content_good (cell_at s.now f i cell.Unset) s k (content_is r s f i h lf c) good)
 
   -- the cell at a place is written
-  pub store_good : (r : ℕ) (s : State) (f i : ℕ) (v : ℤ) (k : State → Stepped) → Ready r s → f < length s.now
+  pub store_good : (r : ℕ) (s : State) (f i : ℕ) (v : ℤ) (k : State → StepResult) → Ready r s → f < length s.now
       → IsCell code (routines_of s.now) f i →
       (Ready r (with_cell s f i (cell.Int v)) → Good (k (with_cell s f i (cell.Int v)))) → Good (store s f i v k)
   store_good r s f i v k h lf c good =
@@ -326,26 +327,26 @@ module _ (code : PlainCode) where
       (λ z. absurd (omega arith))))
 
   -- a content that may be unknown
-  pub known_good : (r : ℕ) (s : State) (o : Option ℤ) (k : ℤ → Stepped) → Ready r s → ((v : ℤ) → Good (k v))
+  pub known_good : (r : ℕ) (s : State) (o : Option ℤ) (k : ℤ → StepResult) → Ready r s → ((v : ℤ) → Good (k v))
       → Good (with_known_content s o k)
   known_good r s (Some v) k h good = good v
   known_good r s None k h good = record { frames = h.frames; held = h.held; mode = tt }
 
   -- a number that may be out of range
-  pub ranged_good : (r : ℕ) (s : State) (t : Range) (f : RunFault) (v : ℤ) (k : Unit {0} → Stepped) → Ready r s
+  pub ranged_good : (r : ℕ) (s : State) (t : Range) (f : RunFault) (v : ℤ) (k : Unit {0} → StepResult) → Ready r s
       → (within t v ≡ true → Good (k tt)) → Good (range_check t f s v k)
   ranged_good r s t f v k h good = if_true_keeps Good (within t v) k (λ _. ends_in_fault f s) good
       (λ _. record { frames = h.frames; held = h.held; mode = tt })
 
   -- a number that may be out of range, where there is a range
-  pub ranged_if_good : (r : ℕ) (s : State) (o : Option Range) (v : ℤ) (k : Unit {0} → Stepped) → Ready r s → Good (k tt)
+  pub ranged_if_good : (r : ℕ) (s : State) (o : Option Range) (v : ℤ) (k : Unit {0} → StepResult) → Ready r s → Good (k tt)
       → Good (optional_range_check o s v k)
   ranged_if_good r s (Some t) v k h good = ranged_good r s t fault.Range v k h (λ _. good)
   ranged_if_good r s None v k h good = good
 
   -- two contents are equated
   equated_good : (r : ℕ) (s : State) (f i : ℕ) (a : Option Range) (u : Option ℤ) (g j : ℕ) (b : Option Range) (v : Option ℤ)
-      (k : State → Stepped) → Ready r s →
+      (k : State → StepResult) → Ready r s →
       f < length s.now → IsCell code (routines_of s.now) f i → g < length s.now → IsCell code (routines_of s.now) g j →
       ((t : State) → Ready r t → routines_of t.now ≡ routines_of s.now → t.at ≡ s.at → Good (k t))
       → Good (equation_of_contents s f i a u g j b v k)
@@ -360,7 +361,7 @@ module _ (code : PlainCode) where
       if_true_keeps Good (int_eq u v) (λ _. k s) (λ _. fails_now s) (λ _. good s h refl refl) (λ _. fails_good r s h)
 
   -- two cells are equated
-  pub equation_good : (r : ℕ) (s : State) (f i : ℕ) (a : Option Range) (g j : ℕ) (b : Option Range) (k : State → Stepped) → Ready r s →
+  pub equation_good : (r : ℕ) (s : State) (f i : ℕ) (a : Option Range) (g j : ℕ) (b : Option Range) (k : State → StepResult) → Ready r s →
       f < length s.now → IsCell code (routines_of s.now) f i → g < length s.now → IsCell code (routines_of s.now) g j →
       ((t : State) → Ready r t → routines_of t.now ≡ routines_of s.now → t.at ≡ s.at → Good (k t)) → Good (equation s f i a g j b k)
   equation_good r s f i a g j b k h lf ci lg cj good =
@@ -369,7 +370,7 @@ module _ (code : PlainCode) where
       (λ v. equated_good r s f i a u g j b v k h lf ci lg cj good))
 
   -- a range that is there
-  pub as_range_good : (s : State) (n : ℕ) (k : Range → Stepped) → nat_lt n (length code.ranges) ≡ true
+  pub as_range_good : (s : State) (n : ℕ) (k : Range → StepResult) → nat_lt n (length code.ranges) ≡ true
       → ((t : Range) → slice_get code.ranges n ≡ Some t → Good (k t)) →
       Good (as_range (slice_get code.ranges n) s k)
   as_range_good s n k lt good =

@@ -16,7 +16,7 @@ use Rattle.alma_code.specs.Picture.{PlainFrame, PlainEntry, no_entry, top_of, en
 use Rattle.alma_code.specs.Picture.{stack_after_pop}
 use Rattle.alma_code.specs.Carries.{diffs, with_carry, held_after_keep}
 use Rattle.alma_code.specs.Plain.{PlainCode}
-use Rattle.alma_code.specs.Machine.{Mode, Going, Failing, Ended, Stuck, State, Stepped, is_kind, step, step_in, fetch_and_act}
+use Rattle.alma_code.specs.Machine.{Mode, Going, Failing, Ended, Stuck, State, StepResult, is_kind, step, step_in, fetch_and_act}
 use Rattle.alma_code.specs.Machine.{with_step_counted, pop_or_end, after}
 use Rattle.alma_code_laws.specs.Undo.{Stands, frames_at_choice, GivesBack}
 use Rattle.alma_code_laws.proofs.Does.{Does, stays, falls, keeps, pushes, is_quiet, entry_of, copy_of}
@@ -126,7 +126,7 @@ same_pops h old new e le low = λ i lt.
     ]
 
 -- what a step does keeps the frames of the entries that stand before and behind it
-does_same : (h : ℕ) (old : List PlainEntry) (before : List PlainFrame) (r : Stepped) → Does old before r → h ≤ length old
+does_same : (h : ℕ) (old : List PlainEntry) (before : List PlainFrame) (r : StepResult) → Does old before r → h ≤ length old
     → h ≤ length r.state.held → Same h old r.state.held
 does_same h old before r (stays e q) a b = same_refl h old r.state.held e
 does_same h old before r (falls n e q) a b = same_falls h n old r.state.held e b
@@ -195,7 +195,7 @@ top_grown old x =
     let at : length old ≡ length (old ++ x ∷ []) - 1 = omega (arith, len) in
     subst (λ k. get_or (old ++ x ∷ []) k no_entry ≡ x) at (get_or-append_seam old x [] no_entry)
 
-push_copies : (s : State) (r : Stepped) (h : ℕ) → Does s.held s.now r → r.answer ≡ answer.Chose h → Copied s r.state h
+push_copies : (s : State) (r : StepResult) (h : ℕ) → Does s.held s.now r → r.answer ≡ answer.Chose h → Copied s r.state h
 push_copies s r h (stays e q) is = absurd (no_push r.answer h q is)
 push_copies s r h (falls n e q) is = absurd (no_push r.answer h q is)
 push_copies s r h (keeps g now e q) is = absurd (no_push r.answer h q is)
@@ -237,7 +237,7 @@ pop_takes [] s h e is = absurd (no_pop (pop_or_end s []).answer h refl is)
 pop_takes (x ∷ rest) s h e is = record { height = ap height_of (sym is); frames = refl }
 
 -- no instruction answers a pop
-never_pops : (s : State) (r : Stepped) (h : ℕ) → Does s.held s.now r → r.answer ≡ answer.Popped h → ⊥
+never_pops : (s : State) (r : StepResult) (h : ℕ) → Does s.held s.now r → r.answer ≡ answer.Popped h → ⊥
 never_pops s r h (stays e q) is = no_pop r.answer h q is
 never_pops s r h (falls n e q) is = no_pop r.answer h q is
 never_pops s r h (keeps g now e q) is = no_pop r.answer h q is

@@ -16,7 +16,7 @@ use Rattle.alma_code.specs.declared.step.End.TheVariants as code_end
 use Rattle.alma_driver_outcome.specs.Words.{read_by, limit_of}
 use Rattle.alma_driver_outcome.specs.Showing.{Showing, Prints, Traces, counts_shown}
 use Rattle.alma_io.specs.Sides.{SinkSide, SourceSide, FilesSide}
-use Rattle.alma_io.specs.Outside.{FilesStay, Outside, Stored, OthersStay, WriteFailed, WritesGrew, ReadsGrew, Become}
+use Rattle.alma_io.specs.Outside.{FilesStay, Outside, StoredFile, OthersStay, WriteFailed, WritesGrew, ReadsGrew, Become}
 use Rattle.alma_driver_outcome.specs.declared.end.Counts.{Counts}
 use Rattle.alma_driver_outcome.specs.Ends.{mode_end, counts_in, status_of, text_of}
 use Rattle.alma_driver_outcome.specs.Outcome.{Due, InputOutcome, unread, taken, past_input, ProgramOutcome, ran, too_much_code}
@@ -164,22 +164,23 @@ outcome_reads told left words due (bad_word k h e) q = cc (sym (ap (λ (d : Due)
 outcome_reads told left words due (asks r h o) q = request_reads told left words r due h o q
 
 -- what is due stores nothing, and so not this
-not_stored : (due : Due) (stored : Stored) → due.stored ≡ None → due.stored ≡ Some stored → ⊥
+not_stored : (due : Due) (stored : StoredFile) → due.stored ≡ None → due.stored ≡ Some stored → ⊥
 not_stored due stored none some = cc (none, some)
 
 -- a call that stores succeeds
-compile_succeeds : (p : Program) (object : List ℕ) (due : Due) (stored : Stored) → CompileOutcome p object due → due.stored ≡ Some stored
+compile_succeeds : (p : Program) (object : List ℕ) (due : Due) (stored : StoredFile) → CompileOutcome p object due
+    → due.stored ≡ Some stored
     → due.end ≡ Succeeded None
 compile_succeeds p object due stored (made code bytes size is_code is fits e) s = ap (λ (d : Due). d.end) e
 compile_succeeds p object due stored (past_size size e) s = absurd (not_stored due stored (ap (λ (d : Due). d.stored) e) s)
 
-source_succeeds : (source object : List ℕ) (due : Due) (stored : Stored) → SourceOutcome source (λ p. CompileOutcome p object) due
+source_succeeds : (source object : List ℕ) (due : Due) (stored : StoredFile) → SourceOutcome source (λ p. CompileOutcome p object) due
     → due.stored ≡ Some stored
     → due.end ≡ Succeeded None
 source_succeeds source object due stored (stopped end h e) s = absurd (not_stored due stored (ap (λ (d : Due). d.stored) e) s)
 source_succeeds source object due stored (compiled p is o) s = compile_succeeds p object due stored o s
 
-file_succeeds : (left : Option (List ℕ)) (r : Request) (bytes : List ℕ) (due : Due) (stored : Stored) → FileOutcome left r bytes due
+file_succeeds : (left : Option (List ℕ)) (r : Request) (bytes : List ℕ) (due : Due) (stored : StoredFile) → FileOutcome left r bytes due
     → due.stored ≡ Some stored
     → due.end ≡ Succeeded None
 file_succeeds left (Check name) bytes due stored o s = absurd (not_stored due stored (check_keeps bytes due o) s)
@@ -193,7 +194,7 @@ file_succeeds left (Trace name steps watch) bytes due stored o s =
     absurd (not_stored due stored (run_keeps left bytes steps (Traces watch) due o) s)
 file_succeeds left (Sample lines) bytes due stored o s = absurd (not_stored due stored (sample_keeps lines due o) s)
 
-request_succeeds : (told : List ℕ → Told) (left : Option (List ℕ)) (r : Request) (due : Due) (stored : Stored)
+request_succeeds : (told : List ℕ → Told) (left : Option (List ℕ)) (r : Request) (due : Due) (stored : StoredFile)
     → RequestOutcome told left r due
     → due.stored ≡ Some stored → due.end ≡ Succeeded None
 request_succeeds told left r due stored (absent name is none e) s = absurd (not_stored due stored (ap (λ (d : Due). d.stored) e) s)
@@ -201,7 +202,7 @@ request_succeeds told left r due stored (past_limit name is past e) s = absurd (
 request_succeeds told left r due stored (fetched name bytes is has short o) s = file_succeeds left r bytes due stored o s
 request_succeeds told left r due stored (unfetched is o) s = file_succeeds left r [] due stored o s
 
-outcome_succeeds : (told : List ℕ → Told) (left : Option (List ℕ)) (words : List (List ℕ)) (due : Due) (stored : Stored)
+outcome_succeeds : (told : List ℕ → Told) (left : Option (List ℕ)) (words : List (List ℕ)) (due : Due) (stored : StoredFile)
     → Outcome words told left due
     → due.stored ≡ Some stored → due.end ≡ Succeeded None
 outcome_succeeds told left words due stored (bad_word k h e) s = absurd (not_stored due stored (ap (λ (d : Due). d.stored) e) s)
@@ -237,7 +238,7 @@ data Course (P : Due → Type 0) (f f' : FilesSide) (a b : SinkSide) (end : End)
   over : (status_of end ≡ 7 → ⊥) → (status_of end ≡ 8 → ⊥) → (due : Due) → due.end ≡ end → P due → Gains a b due.out
       → Become f f' due.stored
       → Course P f f' a b end
-  unstored : end ≡ WriteFault → (due : Due) (stored : Stored) → P due → due.stored ≡ Some stored → Gains a b due.out
+  unstored : end ≡ WriteFault → (due : Due) (stored : StoredFile) → P due → due.stored ≡ Some stored → Gains a b due.out
       → FailsToStore f f' stored
       → Course P f f' a b end
 
@@ -251,7 +252,7 @@ kept_course P f f' a b end s (broken q due o w) = cut q due o.0 w s
 kept_course P f f' a b end s (starved q g k) = hungry q (prefix_kept P a b g) k s
 kept_course P f f' a b end s (ended n m due q o g) = over n m due q o.0 g (subst (Become f f') (sym o.1) s)
 
-stored_course : (P : Due → Type 0) → ((due : Due) (stored : Stored) → P due → due.stored ≡ Some stored → due.end ≡ Succeeded None)
+stored_course : (P : Due → Type 0) → ((due : Due) (stored : StoredFile) → P due → due.stored ≡ Some stored → due.end ≡ Succeeded None)
     → (f f' : FilesSide) (a b : SinkSide) (end : End) → Stores P f f' a b end → Course P f f' a b end
 stored_course P succeeds f f' a b end (done due stored o s g has e) =
     let is : end ≡ Succeeded None = sym e ∙ succeeds due stored o s in
@@ -266,7 +267,7 @@ DueOf words before = Outcome words before.files.told before.input.left
 abbrev MovesOf : List (List ℕ) → Outside → Outside → Due → Type 0
 MovesOf words before after = Moves (DueOf words before) before.input after.input
 
-moves_succeed : (words : List (List ℕ)) (before after : Outside) (due : Due) (stored : Stored) → MovesOf words before after due
+moves_succeed : (words : List (List ℕ)) (before after : Outside) (due : Due) (stored : StoredFile) → MovesOf words before after due
     → due.stored ≡ Some stored
     → due.end ≡ Succeeded None
 moves_succeed words before after due stored m s = outcome_succeeds before.files.told before.input.left words due stored m.0 s
@@ -383,7 +384,7 @@ FilesAre words before after =
     FilesStay before.files after.files
     ⊎ ((name : List ℕ) × IsStoredName (Outcome words before.files.told before.input.left) name × OthersStay before.files after.files name)
 
-become_are : (words : List (List ℕ)) (before after : Outside) (due : Due) (stored : Option Stored)
+become_are : (words : List (List ℕ)) (before after : Outside) (due : Due) (stored : Option StoredFile)
     → Outcome words before.files.told before.input.left due
     → due.stored ≡ stored → Become before.files after.files stored → FilesAre words before after
 become_are words before after due None o e s = inl s
@@ -456,7 +457,7 @@ whole_of words before after status x no_six no_write no_want = by_parts (ways wo
   by_parts (no_read f p) (inl r) = absurd (no_six (r.0 ∙ ap status_of p.1.0))
   by_parts (works f i p) (inl r) = by_course p r.0 r.1
 
-become_quiet : (f f' : FilesSide) (stored : Option Stored) → Become f f' stored → f'.store_faults ≡ f.store_faults
+become_quiet : (f f' : FilesSide) (stored : Option StoredFile) → Become f f' stored → f'.store_faults ≡ f.store_faults
 become_quiet f f' None s = s.1
 become_quiet f f' (Some stored) s = s.2
 

@@ -40,7 +40,7 @@ use Rattle.alma_driver_words.specs.Words.{Request, Check, Compile, Listing, Run,
 use Rattle.alma_driver_outcome.specs.Words.{read_by, limit_of, IsReadBy}
 use Rattle.alma_driver_outcome.specs.Showing.{Showing, Prints}
 use Rattle.alma_io.specs.Sides.{SinkSide, SourceSide, FilesSide}
-use Rattle.alma_io.specs.Outside.{FilesStay, Stored, OthersStay}
+use Rattle.alma_io.specs.Outside.{FilesStay, StoredFile, OthersStay}
 use Rattle.alma_base.specs.declared.place.Place.{Place}
 use Rattle.alma_scan.specs.Places.{line_at, column_at}
 use Rattle.alma_source.specs.Refusal.{IsRefused, IsProgramOf, place_of}
@@ -407,7 +407,7 @@ abbrev pub IsStoring : (name bytes : List ℕ) → Due → Type 0
 IsStoring name bytes due = due ≡ storing name bytes
 
 -- the bytes under the name
-abbrev stored_as : (name bytes : List ℕ) → Stored
+abbrev stored_as : (name bytes : List ℕ) → StoredFile
 stored_as name bytes = record { name = name; bytes = bytes }
 
 -- bytes that were stored

@@ -3,7 +3,7 @@ use Rattle.std.specs.Prelude.{◌≡◌, ◌⊎◌, List, ℕ, [], Some}
 use Rattle.std.specs.Io.KnownBytes.{Appends}
 use Rattle.alma_io.specs.Causes.{Rose}
 use Rattle.alma_driver_words.specs.Words.{file_of}
-use Rattle.alma_io.specs.Outside.{FilesStay, Outside, Stored, OthersStay, Become, WriteFailed, WritesGrew, ReadsGrew}
+use Rattle.alma_io.specs.Outside.{FilesStay, Outside, StoredFile, OthersStay, Become, WriteFailed, WritesGrew, ReadsGrew}
 use Rattle.alma_driver_outcome.specs.Ends.{status_of, text_of}
 use Rattle.alma_driver_outcome.specs.Outcome.{Due, Outcome, AskToRead, Lacks}
 use Rattle.alma_driver_outcome.specs.Course.{Gains, GainsPrefix, Takes, ReadsWhole, MayRead}
@@ -20,7 +20,7 @@ InputFailed words before after =
 
 -- a file that is to be stored
 abbrev pub IsStoredName : (Due → Type 0) → List ℕ → Type 0
-IsStoredName outcome name = (due : Due) × (stored : Stored) × outcome due × (due.stored ≡ Some stored) × (stored.name ≡ name)
+IsStoredName outcome name = (due : Due) × (stored : StoredFile) × outcome due × (due.stored ≡ Some stored) × (stored.name ≡ name)
 
 -- What each status says of the call, and what a call shows that met a fault.
 pub record Causes (words : List (List ℕ)) (before after : Outside) (status : ℕ) : Type 0 where

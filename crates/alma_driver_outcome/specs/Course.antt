@@ -6,7 +6,7 @@ use Rattle.alma_io.specs.Fronts.{AppendsFront}
 use Rattle.alma_io.specs.Whole.{LosesAtMost}
 use Rattle.alma_driver_words.specs.Words.{file_of}
 use Rattle.alma_io.specs.Sides.{SinkSide, SourceSide, FilesSide}
-use Rattle.alma_io.specs.Outside.{Outside, HasRisen, FilesStay, Stored, OthersStay, HasStored}
+use Rattle.alma_io.specs.Outside.{Outside, HasRisen, FilesStay, StoredFile, OthersStay, HasStored}
 use Rattle.alma_driver_outcome.specs.Ends.{status_of, text_of}
 use Rattle.alma_driver_outcome.specs.Outcome.{Due, Outcome, AskToRead}
 use Rattle.alma_driver_outcome.specs.declared.end.End.{End}
@@ -76,7 +76,7 @@ Runs outcome input input' out out' end =
 -- ---- the files
 
 -- a store of the file failed; all others stay, and of this one nothing is said
-abbrev pub FailsToStore : FilesSide → FilesSide → Stored → Type 0
+abbrev pub FailsToStore : FilesSide → FilesSide → StoredFile → Type 0
 FailsToStore old new stored = OthersStay old new stored.name × HasRisen old.store_faults new.store_faults
 
 -- what is due is this, and nothing is to be stored
@@ -85,9 +85,9 @@ Keeps outcome due = outcome due × (due.stored ≡ None)
 
 -- What is due was stored, and the call is at its end; or it was to be stored, and that failed. Out gained what is due.
 pub data Stores (outcome : Due → Type 0) (files files' : FilesSide) (out out' : SinkSide) (end : End) : Type 0 where
-  done : (due : Due) (stored : Stored) → outcome due → due.stored ≡ Some stored → Gains out out' due.out → HasStored files files' stored
+  done : (due : Due) (stored : StoredFile) → outcome due → due.stored ≡ Some stored → Gains out out' due.out → HasStored files files' stored
       → due.end ≡ end → Stores outcome files files' out out' end
-  failed : (due : Due) (stored : Stored) → outcome due → due.stored ≡ Some stored → Gains out out' due.out
+  failed : (due : Due) (stored : StoredFile) → outcome due → due.stored ≡ Some stored → Gains out out' due.out
       → FailsToStore files files' stored
       → end ≡ WriteFault → Stores outcome files files' out out' end
 

@@ -2,7 +2,7 @@
 use Rattle.std.specs.Prelude.{◌≡◌, ◌<◌, ◌≤◌, ◌⊎◌, Bool, true, false, List, ℕ, [], length, Option, None, Some}
 use Rattle.alma_base.specs.Limits.{size_limit, input_limit}
 use Rattle.alma_io.specs.Files.{Told, Missing, MayHave, MayPass}
-use Rattle.alma_io.specs.Outside.{Stored}
+use Rattle.alma_io.specs.Outside.{StoredFile}
 use Rattle.alma_io.specs.Whole.{MayHaveMore}
 use Rattle.alma_ir.specs.Tree.{Program}
 use Rattle.alma_mean.specs.Events as events
@@ -37,7 +37,7 @@ use Rattle.alma_driver_outcome.specs.declared.end.End.TheVariants.{Memory, BadOb
 pub record Due : Type 0 where
   pub end : End
   pub out : List ℕ
-  pub stored : Option Stored
+  pub stored : Option StoredFile
   pub reads : Bool
 
 -- an end with these bytes on out, where nothing is stored and the input stays

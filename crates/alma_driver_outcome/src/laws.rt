@@ -2,7 +2,7 @@
 ghost use Rattle.std.specs.Prelude.{◌≡◌, ◌≤◌, ◌+◌, ◌*◌, Bool, List, ℕ, Option, Some, map};
 ghost use Rattle.alma_base.specs.Limits.{size_limit};
 ghost use Rattle.alma_source.specs.Refusal.{IsProgramOf};
-ghost use Rattle.alma_io.specs.Outside.{Stored, IsUndisturbed, Outside};
+ghost use Rattle.alma_io.specs.Outside.{StoredFile, IsUndisturbed, Outside};
 ghost use Rattle.alma_driver_outcome.specs.Outcome.{Due, ProgramOutcome, CompileOutcome, SourceOutcome, Meant, TraceMeant, ListOutcome, ExecOutcome};
 ghost use Rattle.alma_driver_outcome.specs.Causes.{Causes};
 ghost use Rattle.alma_driver_outcome.specs.Headline.{AsksToRun, IsInputLeft, RunEnds, ShowsResult};
@@ -49,7 +49,7 @@ pub fn an_execution_has_one_outcome()
 
 /// The bytes that compiling a program stores are read back as a sound code that implements it.
 pub fn what_is_stored_implements_its_program()
-    ensures object { (p : Program) (object : List ℕ) (due : Due) (stored : Stored)
+    ensures object { (p : Program) (object : List ℕ) (due : Due) (stored : StoredFile)
         → CompileOutcome p object due → due.stored ≡ Some stored
         → SpellsCodeOf p stored.bytes }
 {}
@@ -57,7 +57,7 @@ pub fn what_is_stored_implements_its_program()
 /// What `exec` comes to of the bytes that compiling a source stores is what `run` of that source comes to.
 pub fn a_stored_object_runs_as_its_source()
     ensures runs { (source object : List ℕ) (left : Option (List ℕ)) (steps : ℕ) (stats : Bool)
-        (compiling running : Due) (stored : Stored)
+        (compiling running : Due) (stored : StoredFile)
         → SourceOutcome source (λ p. CompileOutcome p object) compiling
         → compiling.stored ≡ Some stored → ExecOutcome left stored.bytes steps stats running
         → SourceOutcome source (λ p. ProgramOutcome left p steps (Prints stats)) running }

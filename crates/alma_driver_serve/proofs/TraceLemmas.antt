@@ -11,7 +11,7 @@ use Rattle.alma_io.specs.Fronts.{AppendsFront}
 use Rattle.alma_code.specs.declared.step.Step.{Step}
 use Rattle.alma_code.specs.declared.step.Step.TheVariants as answer
 use Rattle.alma_code.specs.ListText.{text_line}
-use Rattle.alma_code.specs.Machine.{State, Stepped, start, step, after}
+use Rattle.alma_code.specs.Machine.{State, StepResult, start, step, after}
 use Rattle.alma_code.specs.Plain.{PlainCode}
 use Rattle.alma_code.specs.TraceText.{trace_text, unless_done}
 use Rattle.alma_lower_implements.specs.Implements.{line_in}
@@ -22,7 +22,7 @@ use Rattle.alma_machine.specs.View.{MachineView}
 use Rattle.alma_trace.specs.declared.watch.Watch.{Watch}
 use Rattle.alma_trace.specs.Cuts.{OnCut}
 use Rattle.alma_trace.specs.Resolved.{IsResolved}
-use Rattle.alma_trace.specs.Traced.{traced, traced_within, traced_words, run_lines, steps_end}
+use Rattle.alma_trace.specs.Traced.{text_of_run, traced_within, traced_words, run_lines, steps_end}
 use Rattle.alma_trace.proofs.Naming.{traces_are_the_trace_text}
 use Rattle.alma_io.specs.Sides.{SinkSide}
 use Rattle.alma_driver_outcome.specs.Ends.{run_end}
@@ -56,7 +56,7 @@ lines_front : (code : PlainCode) (input : List ℕ) (watches : List Watch) (end 
 lines_front code input watches end zero n s le = (run_lines code input watches end n s, refl)
 lines_front code input watches end (suc m) zero s le = absurd (omega (arith, le))
 lines_front code input watches end (suc m) (suc n) s le =
-    let x : Stepped = step code input s in
+    let x : StepResult = step code input s in
     let words : List (List (List ℕ)) = traced_words code watches x.answer x.printed x.state in
     let less : List (List (List ℕ)) = run_lines code input watches [] m x.state in
     let more : List (List (List ℕ)) = run_lines code input watches end n x.state in
@@ -66,17 +66,17 @@ lines_front code input watches end (suc m) (suc n) s le =
 
 -- the text of the steps that were made begins the text of all
 within_front : (code : PlainCode) (input : List ℕ) (watches : List Watch) (m n : ℕ) (s : State) → m ≤ n
-    → (rest : List ℕ) × (traced code input watches n s ≡ traced_within code input watches m n s ++ rest)
+    → (rest : List ℕ) × (text_of_run code input watches n s ≡ traced_within code input watches m n s ++ rest)
 within_front code input watches m n s le = by (nat_eq m n) refl
   where
     by : (b : Bool) → nat_eq m n ≡ b
-        → (rest : List ℕ) × (traced code input watches n s ≡ traced_within code input watches m n s ++ rest)
+        → (rest : List ℕ) × (text_of_run code input watches n s ≡ traced_within code input watches m n s ++ rest)
     by true e =
         let same : m ≡ n = eqb-true m n e in
         let end : steps_end ≡ if_true (nat_eq m n) (λ _. steps_end) (λ _. []) =
         sym (ap (λ (b : Bool). if_true b (λ _. steps_end) (λ _. [])) e) in (
           [],
-          ap (λ (k : ℕ). traced code input watches k s) (sym same)
+          ap (λ (k : ℕ). text_of_run code input watches k s) (sym same)
               ∙ ap (λ (z : List (List (List ℕ))). flat_map text_line (run_lines code input watches z m s)) end
               ∙ sym (append-nil (traced_within code input watches m n s)),
         )
@@ -99,7 +99,7 @@ front_further a b less more rest is h = (h.0, h.1 ++ rest, is ∙ ap (λ (z : Li
 pub record HasTraced (old new : MachineView) (watches : List Watch) (steps : ℕ) (answer : RunEnd) (a b : SinkSide) : Type 0 where
   pub answered : OnWhole answer (answer ≡ run_end_of (after old.code old.input steps old.state).mode)
   pub state : OnWhole answer (new.state ≡ after old.code old.input steps old.state)
-  pub out : OnWhole answer (Appends a.written b.written (traced old.code old.input watches steps old.state))
+  pub out : OnWhole answer (Appends a.written b.written (text_of_run old.code old.input watches steps old.state))
   pub few : new.state.steps ≤ old.state.steps + steps
   pub front : OnCut answer (AppendsFront a.written b.written (traced_within old.code old.input watches (made old new) steps old.state))
   pub cause : HasCause a.faults b.faults (all_written answer)
@@ -114,7 +114,7 @@ due_traced code input watches steps = code_due code input steps (Traces (names_o
 
 -- the text that is out is the one that traces the code
 out_traced : (code : PlainCode) (input : List ℕ) (watches : List Watch) (steps : ℕ) (a b : Option (List ℕ)) → All (IsResolved code) watches
-    → Appends a b (traced code input watches steps (start code)) → Appends a b (trace_text code input (names_of watches) steps)
+    → Appends a b (text_of_run code input watches steps (start code)) → Appends a b (trace_text code input (names_of watches) steps)
 out_traced code input watches steps a b named h = subst (Appends a b) (traces_are_the_trace_text code input watches steps named) h
 
 -- and so is a front of it
@@ -125,7 +125,8 @@ front_traced : (code : PlainCode) (input : List ℕ) (watches : List Watch) (m s
 front_traced code input watches m steps a b named le h =
     let more = within_front code input watches m steps (start code) le in
     subst (AppendsFront a b) (traces_are_the_trace_text code input watches steps named)
-    (front_further a b (traced_within code input watches m steps (start code)) (traced code input watches steps (start code)) more.0 more.1
+    (front_further a b (traced_within code input watches m steps (start code)) (text_of_run code input watches steps (start code)) more.0
+    more.1
     h)
 
 -- a traced run from the start goes as its code is due

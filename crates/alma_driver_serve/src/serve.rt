@@ -1,6 +1,6 @@
 // From the words to an end.
 ghost use Rattle.std.specs.Prelude.{◌≡◌, ◌≤◌, Some, length};
-ghost use Rattle.alma_driver_words.specs.Words.{asked, texts};
+ghost use Rattle.alma_driver_words.specs.Words.{request_of, texts};
 ghost use Rattle.alma_driver_words.specs.Limits.{IsWithinLimits};
 ghost use Rattle.alma_driver_outcome.specs.Words.{limit_of, read_by, IsReadBy};
 ghost use Rattle.alma_driver_outcome.specs.Outcome.{FileOutcome, RequestOutcome, Outcome, AskToRead};
@@ -27,10 +27,10 @@ fn serve_file<F: Files, I: Source, O: Sink>(
     input: &mut I,
     out: &mut O,
 ) -> End
-    requires within { IsWithinLimits (asked request.now) }
-    requires short { length bytes.now ≤ limit_of (asked request.now) }
+    requires within { IsWithinLimits (request_of request.now) }
+    requires short { length bytes.now ≤ limit_of (request_of request.now) }
     ensures fetch_count { (F.side files.new).fetch_faults ≡ (F.side files.old).fetch_faults }
-    ensures course { Serves (FileOutcome (I.side input.old).left (asked request.now) bytes.now)
+    ensures course { Serves (FileOutcome (I.side input.old).left (request_of request.now) bytes.now)
         (F.side files.old) (F.side files.new) (I.side input.old) (I.side input.new) (O.side out.old)
         (O.side out.new) result }
 {
@@ -56,10 +56,10 @@ fn serve_named<F: Files, I: Source, O: Sink>(
     input: &mut I,
     out: &mut O,
 ) -> End
-    requires within { IsWithinLimits (asked request.now) }
-    requires read { read_by (asked request.now) ≡ Some file.now }
-    ensures { Performs (IsReadBy (asked request.now))
-        (RequestOutcome (F.side files.old).told (I.side input.old).left (asked request.now))
+    requires within { IsWithinLimits (request_of request.now) }
+    requires read { read_by (request_of request.now) ≡ Some file.now }
+    ensures { Performs (IsReadBy (request_of request.now))
+        (RequestOutcome (F.side files.old).told (I.side input.old).left (request_of request.now))
         (F.side files.old) (F.side files.new) (I.side input.old) (I.side input.new) (O.side out.old)
         (O.side out.new) result }
 {
@@ -77,9 +77,9 @@ fn serve<F: Files, I: Source, O: Sink>(
     input: &mut I,
     out: &mut O,
 ) -> End
-    requires { IsWithinLimits (asked request.now) }
-    ensures { Performs (IsReadBy (asked request.now))
-        (RequestOutcome (F.side files.old).told (I.side input.old).left (asked request.now))
+    requires { IsWithinLimits (request_of request.now) }
+    ensures { Performs (IsReadBy (request_of request.now))
+        (RequestOutcome (F.side files.old).told (I.side input.old).left (request_of request.now))
         (F.side files.old) (F.side files.new) (I.side input.old) (I.side input.new) (O.side out.old)
         (O.side out.new) result }
 {

@@ -188,18 +188,18 @@ abbrev pub texts : List (String Global) → List (List ℕ)
 texts words = map (λ word. string_bytes word) words
 
 -- the request that a read one is
-abbrev pub asked : read.Request → Request
-asked (read_request.Check file) = Check file.now
-asked (read_request.Compile file object) = Compile file.now object.now
-asked (read_request.List object) = Listing object.now
-asked (read_request.Run file steps stats) = Run file.now steps stats
-asked (read_request.Exec object steps stats) = Exec object.now steps stats
-asked (read_request.Trace file steps watch) = Trace file.now steps (map (λ name. name.now) watch.items)
-asked (read_request.Sample lines) = Sample lines
+abbrev pub request_of : read.Request → Request
+request_of (read_request.Check file) = Check file.now
+request_of (read_request.Compile file object) = Compile file.now object.now
+request_of (read_request.List object) = Listing object.now
+request_of (read_request.Run file steps stats) = Run file.now steps stats
+request_of (read_request.Exec object steps stats) = Exec object.now steps stats
+request_of (read_request.Trace file steps watch) = Trace file.now steps (map (λ name. name.now) watch.items)
+request_of (read_request.Sample lines) = Sample lines
 
 -- What reading these words may answer: the request that they are, or the first word that cannot stand. Want of memory is free.
 abbrev pub Reads : List (List ℕ) → Result read.Request WordsError → Type 0
-Reads words (Ok request) = Asks words (asked request)
+Reads words (Ok request) = Asks words (request_of request)
 Reads words (Err (Bad k)) = IsBadWord words k
 Reads words (Err Memory) = Unit {0}
 

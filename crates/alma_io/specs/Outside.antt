@@ -18,7 +18,7 @@ outside_of files input out err = record { files = files; input = input; out = ou
 -- ---- the files
 
 -- bytes under the name of a file
-pub record Stored : Type 0 where
+pub record StoredFile : Type 0 where
   pub name : List ℕ
   pub bytes : List ℕ
 
@@ -31,13 +31,13 @@ abbrev pub OthersStay : FilesSide → FilesSide → (name : List ℕ) → Type 0
 OthersStay old new name = (other : List ℕ) → other ≢ name → new.told other ≡ old.told other
 
 -- the file has these bytes, if it is told; all others stay, and no store failed
-abbrev pub HasStored : FilesSide → FilesSide → Stored → Type 0
+abbrev pub HasStored : FilesSide → FilesSide → StoredFile → Type 0
 HasStored old new stored =
     OthersStay old new stored.name × NowHas (old.told stored.name) (new.told stored.name) stored.bytes
     × (new.store_faults ≡ old.store_faults)
 
 -- the files are what they become where this is to be stored
-abbrev pub Become : FilesSide → FilesSide → Option Stored → Type 0
+abbrev pub Become : FilesSide → FilesSide → Option StoredFile → Type 0
 Become old new None = FilesStay old new
 Become old new (Some stored) = HasStored old new stored
 

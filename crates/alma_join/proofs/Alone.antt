@@ -11,7 +11,7 @@ use Rattle.alma_ir.specs.Checked.{IsChecked}
 use Rattle.alma_copy.specs.Moved.{Moves, moved_stmts, moved_routine}
 use Rattle.alma_copy.specs.Numbers.{slot_behind}
 use Rattle.alma_join.specs.Joined.{is_bare, Kept, kept_from, kept_in, matches, first_match, number_of_kept, new_number}
-use Rattle.alma_join.specs.Joined.{own_slots, body_moves, procedure_moves, global_behind, joined, HasNoImport}
+use Rattle.alma_join.specs.Joined.{own_slots, body_moves, procedure_moves, global_behind, joined_program, HasNoImport}
 use Rattle.alma_join.specs.Joined.{AloneIsItself}
 use Rattle.alma_rules.specs.Parts.{append_stmts}
 use Rattle.alma_copy.proofs.Stays.{stmts_stay}
@@ -86,7 +86,7 @@ module _ (name : List ℕ) (gs : List Global) (body : Routine) (rest : List Rout
           | inr ge ↦ ap (is_bare p (suc j)) (get_or_past rest j no_routine ge)
         ]
 
-    itself : joined (p ∷ []) ≡ p
+    itself : joined_program (p ∷ []) ≡ p
     itself =
         let in_body : (x : Stmts) → moved_stmts (body_moves all 1 p 0) x
         ≡ x = λ x. stmts_stay (body_moves all 1 p 0) slot_stays slot_stays numbers_stay x in
@@ -109,7 +109,7 @@ module _ (name : List ℕ) (gs : List Global) (body : Routine) (rest : List Rout
 
 by_routines : (name : List ℕ) (gs : List Global) (rs : List Routine) → IsChecked (record { name = name; globals = gs; routines = rs })
     → HasNoImport (record { name = name; globals = gs; routines = rs })
-    → joined (record { name = name; globals = gs; routines = rs } ∷ []) ≡ record { name = name; globals = gs; routines = rs }
+    → joined_program (record { name = name; globals = gs; routines = rs } ∷ []) ≡ record { name = name; globals = gs; routines = rs }
 by_routines name gs [] h none = absurd (omega (arith, h.body.0))
 by_routines name gs (body ∷ rest) h none =
     let q : Program = record { name = name; globals = gs; routines = body ∷ rest } in

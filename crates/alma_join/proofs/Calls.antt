@@ -10,7 +10,7 @@ use Rattle.alma_ir.specs.Phrases.{Phrase, StmtPhrase, TestPhrase, ExprPhrase, Ar
 use Rattle.alma_ir.specs.Checked.{EachPhrase, CalleeExists, ResultAgrees, LinksAgree, CallLeads, ArgFits, ArgsFit, CallFits}
 use Rattle.alma_ir.proofs.Each.{each_of_both}
 use Rattle.alma_copy.specs.Moved.{Moves, moved_stmts, moved_arg, moved_args}
-use Rattle.alma_join.specs.Joined.{kept_in, import_fault, joined, AreUnits}
+use Rattle.alma_join.specs.Joined.{kept_in, import_fault, joined_program, AreUnits}
 use Rattle.alma_join.proofs.Moving.{moved_phrase}
 use Rattle.alma_join.proofs.Forms.{desig_stays}
 use Rattle.alma_join.proofs.KeptLists.{unit_at}
@@ -51,23 +51,24 @@ IsCall b p r routine c up args =
 module _ (units : List Program) (are : AreUnits units) (fine : import_fault (kept_in 1 units) 1 units ≡ None) where
   leads_moved : (i r : ℕ) → Stands units i r → (c up : ℕ) → Called units i c
       → LinksAgree (unit_at units i) r (routine_at (unit_at units i) r) c up
-      → LinksAgree (joined units) (number units i r) (routine_at (joined units) (number units i r)) (number units i c) up
+      → LinksAgree (joined_program units) (number units i r) (routine_at (joined_program units) (number units i r)) (number units i c) up
   leads_moved i r s c up d h =
       let links = outer_moves units are up i r s in
       (omega (arith, h.0, d.level, (head units are i r s).level), links.0 ∙ ap (number units i) h.1 ∙ sym d.outer)
 
   call_moved : (b : Bool) (i r : ℕ) → Stands units i r → (c up : ℕ) (args : Args)
       → IsCall b (unit_at units i) r (routine_at (unit_at units i) r) c up args
-      → IsCall b (joined units) (number units i r) (routine_at (joined units) (number units i r)) (number units i c) up
+      → IsCall b (joined_program units) (number units i r) (routine_at (joined_program units) (number units i r)) (number units i c) up
       (moved_args (moves units i r) args)
   call_moved b i r s c up args h =
       let d : Called units i c = called units are fine i c s.exists h.0.0.0 h.0.0.1 in
       let fit = args_moved (moves units i r) (routine_at (unit_at units i) c).params
-      (routine_at (joined units) (number units i c)).params d.params args h.1.1 in
+      (routine_at (joined_program units) (number units i c)).params d.params args h.1.1 in
       (((d.low, d.high), d.result ∙ h.0.1), (leads_moved i r s c up d h.1.0, fit))
 
   calls_moved : (i r : ℕ) → Stands units i r → (x : Phrase) → Calls (unit_at units i) r (routine_at (unit_at units i) r) x
-      → Calls (joined units) (number units i r) (routine_at (joined units) (number units i r)) (moved_phrase (moves units i r) x)
+      → Calls (joined_program units) (number units i r) (routine_at (joined_program units) (number units i r))
+      (moved_phrase (moves units i r) x)
   unfolding moved_stmts
   calls_moved i r s (StmtPhrase x) h = ((tt, tt), (tt, tt))
   calls_moved i r s (TestPhrase (Value e)) h = ((tt, tt), (tt, tt))
@@ -101,5 +102,5 @@ module _ (units : List Program) (are : AreUnits units) (fine : import_fault (kep
       (each_of_both (λ x. CalleeExists p x) (λ x. ResultAgrees p x) xs (c.callees r few) (c.results r few))
       (each_of_both (CallLeads p r (routine_at p r)) (λ x. CallFits p x) xs (c.links r few) (c.arguments r few))
 
-  pub calls_checked : EachPhrase (joined units) (Calls (joined units))
-  calls_checked = each_phrase units are (λ i. Calls (unit_at units i)) (Calls (joined units)) calls_moved calls_together
+  pub calls_checked : EachPhrase (joined_program units) (Calls (joined_program units))
+  calls_checked = each_phrase units are (λ i. Calls (unit_at units i)) (Calls (joined_program units)) calls_moved calls_together

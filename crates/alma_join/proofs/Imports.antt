@@ -14,7 +14,7 @@ use Rattle.alma_ir.specs.Checked.{IsChecked, param_slots}
 use Rattle.alma_ir.proofs.Each.{each_follows}
 use Rattle.alma_join.specs.Joined.{Kept, is_empty, is_bare, kept_in, same_name, same_kind, same_range, same_params, same_result}
 use Rattle.alma_join.specs.Joined.{same_head, matches, first_match, number_of_kept, JoinFault, Missing, Twice, HeadDiffers, match_fault}
-use Rattle.alma_join.specs.Joined.{or_next, fault_from, import_fault, size_fault, no_totals, join_fault, joined, AreUnits}
+use Rattle.alma_join.specs.Joined.{or_next, fault_from, import_fault, size_fault, no_totals, join_fault, joined_program, AreUnits}
 use Rattle.alma_join.proofs.KeptLists.{by_test, no_kept, unit_at, behind_first, fewer_behind}
 use Rattle.alma_join.proofs.Places.{number, Stands, joined_routine, Home, home, count_is, number_low, number_high, SameHead}
 use Rattle.alma_join.proofs.Places.{checked, head}
@@ -186,11 +186,11 @@ level_one p c r low high one =
 -- the head of a called routine, or of its match, in the joined program
 pub record Called (units : List Program) (i c : ℕ) : Type 0 where
   pub low : 0 < number units i c
-  pub high : number units i c < length (joined units).routines
-  pub result : is_some (routine_at (joined units) (number units i c)).result ≡ is_some (routine_at (unit_at units i) c).result
-  pub level : (routine_at (joined units) (number units i c)).level ≡ (routine_at (unit_at units i) c).level
-  pub outer : (routine_at (joined units) (number units i c)).outer ≡ number units i (routine_at (unit_at units i) c).outer
-  pub params : Alike (routine_at (unit_at units i) c).params (routine_at (joined units) (number units i c)).params
+  pub high : number units i c < length (joined_program units).routines
+  pub result : is_some (routine_at (joined_program units) (number units i c)).result ≡ is_some (routine_at (unit_at units i) c).result
+  pub level : (routine_at (joined_program units) (number units i c)).level ≡ (routine_at (unit_at units i) c).level
+  pub outer : (routine_at (joined_program units) (number units i c)).outer ≡ number units i (routine_at (unit_at units i) c).outer
+  pub params : Alike (routine_at (unit_at units i) c).params (routine_at (joined_program units) (number units i c)).params
 
 module _ (units : List Program) (are : AreUnits units) (fine : import_fault (kept_in 1 units) 1 units ≡ None) where
   -- a routine that stays
@@ -224,7 +224,8 @@ module _ (units : List Program) (are : AreUnits units) (fine : import_fault (kep
       let is : IsMatch all 1 m.one = (subst (AllByRecursion (IsMatch all 1)) m.only (each_match all 1 (suc i) x.name)).0 in
       let at : number units i c ≡ suc is.place = number_of_import i c m.one low bare m.only ∙ is.is_number ∙ omega arith in
       let h : Home units is.place = home units is.place is.few in
-      let standing : routine_at (joined units) (number units i c) ≡ joined_routine units h.unit h.own = ap (routine_at (joined units)) at
+      let standing : routine_at (joined_program units) (number units i c) ≡ joined_routine units h.unit h.own =
+      ap (routine_at (joined_program units)) at
       ∙ h.is_routine in
       let y : Routine = routine_at (unit_at units h.unit) h.own in
       let matched : m.one.1 ≡ y = is.is_routine ∙ h.kept in

@@ -11,7 +11,7 @@ use Rattle.alma_ir.specs.Checked.{PartsExist, CellsAgree, RangesOrdered, HasStep
 use Rattle.alma_ir.specs.Checked.{AreLaidOut, param_slots, HasOneCellAs, DeclaredFits, IsNested, HeadRangesOrdered, IsOrdered}
 use Rattle.alma_ir.specs.Checked.{RoutineKeepsLimits, HasLines, NamesSpelled, IsName, link_slots}
 use Rattle.alma_ir.proofs.Each.{each_follows}
-use Rattle.alma_join.specs.Joined.{kept_in, join_fault, own_slots, procedure_moves, global_behind, joined_body, joined, AreUnits}
+use Rattle.alma_join.specs.Joined.{kept_in, join_fault, own_slots, procedure_moves, global_behind, joined_body, joined_program, AreUnits}
 use Rattle.alma_join.specs.Joined.{JoinedIsChecked}
 use Rattle.alma_join.proofs.Moving.{stmts_moved}
 use Rattle.alma_join.proofs.Forms.{parts_moved, cells_moved, ranges_moved, steps_moved, choices_moved, returns_moved, stays_moved}
@@ -56,7 +56,7 @@ module _ (units : List Program) (are : AreUnits units) where
   u i = unit_at units i
 
   abbrev q : Program
-  q = joined units
+  q = joined_program units
 
   -- ---- the body
 

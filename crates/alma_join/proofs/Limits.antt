@@ -17,7 +17,7 @@ use Rattle.alma_ir.proofs.LinesBack.{count_sum}
 use Rattle.alma_copy.specs.Moved.{Moves, moved_stmts, moved_routine}
 use Rattle.alma_join.specs.Joined.{Kept, is_bare, kept_from, kept_of, kept_in, own_slots, body_moves, procedure_moves}
 use Rattle.alma_join.specs.Joined.{global_behind, joined_globals, joined_stmts, joined_lines, joined_procedures, TooLarge, Totals}
-use Rattle.alma_join.specs.Joined.{no_totals, with_unit, passes, size_fault, first_of, joined_body, joined}
+use Rattle.alma_join.specs.Joined.{no_totals, with_unit, passes, size_fault, first_of, joined_body, joined_program}
 use Rattle.alma_join.proofs.Moving.{stmts_moved, append_phrases}
 use Rattle.alma_join.proofs.Forms.{texts_moved, count_moved}
 use Rattle.alma_join.proofs.KeptLists.{by_test}
@@ -253,8 +253,9 @@ no_texts : sum_by text_bytes (stmts_phrases no_stmts) ≡ 0
 unfolding stmts_phrases
 no_texts = refl
 
-module _ (ps : List Program) (some : 0 < length ps) (little : HoldLittle ps) (takes_nothing : (routine_at (joined ps) 0).params ≡ [])
-    (level_zero : (routine_at (joined ps) 0).level ≡ 0) where
+module _ (ps : List Program) (some : 0 < length ps) (little : HoldLittle ps)
+    (takes_nothing : (routine_at (joined_program ps) 0).params ≡ [])
+    (level_zero : (routine_at (joined_program ps) 0).level ≡ 0) where
   abbrev body : Routine
   body = joined_body ps
 
@@ -267,7 +268,7 @@ module _ (ps : List Program) (some : 0 < length ps) (little : HoldLittle ps) (ta
       let link : link_slots body.level ≡ 0 = ap link_slots level_zero in
       omega (arith, none, link)
 
-  pub limits_kept : KeepsLimits (joined ps)
+  pub limits_kept : KeepsLimits (joined_program ps)
   limits_kept = record {
     globals = omega (arith, little.globals, globals_count 0 ps);
     params = omega (

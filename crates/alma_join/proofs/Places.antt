@@ -17,7 +17,7 @@ use Rattle.alma_copy.specs.Moved.{Moves, moved_stmts, moved_routine}
 use Rattle.alma_copy.specs.Numbers.{slot_behind}
 use Rattle.alma_join.specs.Joined.{Kept, is_empty, is_bare, kept_in, number_of_kept, matches, first_match, new_number}
 use Rattle.alma_join.specs.Joined.{own_slots, body_moves, procedure_moves, global_behind, joined_globals, joined_stmts}
-use Rattle.alma_join.specs.Joined.{joined_procedures, no_program, first_of, joined_body, joined, AreUnits}
+use Rattle.alma_join.specs.Joined.{joined_procedures, no_program, first_of, joined_body, joined_program, AreUnits}
 use Rattle.alma_join.proofs.Moving.{moved_phrase, stmts_moved, append_phrases}
 use Rattle.alma_join.proofs.Forms.{each_of_map}
 use Rattle.alma_join.proofs.KeptLists.{each_at, no_kept, unit_at, before_at, ascend_in, number_is, Found, found}
@@ -89,7 +89,7 @@ pub record Home (units : List Program) (n : ℕ) : Type 0 where
   pub stands : Stands units unit own
   pub low : 0 < own
   pub place : number units unit own ≡ suc n
-  pub is_routine : routine_at (joined units) (suc n) ≡ joined_routine units unit own
+  pub is_routine : routine_at (joined_program units) (suc n) ≡ joined_routine units unit own
   pub of_unit : (get_or (kept_in 1 units) n no_kept).unit ≡ suc unit
   pub of_number : (get_or (kept_in 1 units) n no_kept).number ≡ own
   pub kept : (get_or (kept_in 1 units) n no_kept).routine ≡ routine_at (unit_at units unit) own
@@ -143,18 +143,18 @@ module _ (units : List Program) where
   placed : (i r : ℕ) (h : Homed i r) → number units i r ≡ suc h.at
   placed i r h = (λ t. number units (sym h.same_unit t) (sym h.same_number t)) ∙ h.house.place
 
-  pub routine_is : (i r : ℕ) → Stands units i r → 0 < r → routine_at (joined units) (number units i r) ≡ joined_routine units i r
-  routine_is i r s low = let h = homed i r s low in ap (routine_at (joined units)) (placed i r h) ∙ h.house.is_routine
+  pub routine_is : (i r : ℕ) → Stands units i r → 0 < r → routine_at (joined_program units) (number units i r) ≡ joined_routine units i r
+  routine_is i r s low = let h = homed i r s low in ap (routine_at (joined_program units)) (placed i r h) ∙ h.house.is_routine
       ∙ λ t. joined_routine units (h.same_unit t) (h.same_number t)
 
-  pub count_is : length (joined units).routines ≡ suc (length (kept_in 1 units))
+  pub count_is : length (joined_program units).routines ≡ suc (length (kept_in 1 units))
   count_is = ap suc (sym (pairs_length (IsMoved all units 1 0) all (joined_procedures all 1 0 units) (pairs_in all units 1 0)))
 
   -- a procedure stands behind the body, and in the program
   pub number_low : (i r : ℕ) → Stands units i r → 0 < r → 0 < number units i r
   number_low i r s low = omega (arith, placed i r (homed i r s low))
 
-  pub number_high : (i r : ℕ) → Stands units i r → number units i r < length (joined units).routines
+  pub number_high : (i r : ℕ) → Stands units i r → number units i r < length (joined_program units).routines
   number_high i zero s = omega (arith, count_is)
   number_high i (suc r) s = let h = homed i (suc r) s (omega arith) in omega (arith, placed i (suc r) h, h.few, count_is)
 
@@ -219,7 +219,7 @@ module _ (units : List Program) where
 
   pub each_global : (Q : Global → Type 0)
       → ((i : ℕ) → i < length units → AllByRecursion (λ g. Q (global_behind (before_at units i) g)) (unit_at units i).globals)
-      → AllByRecursion Q (joined units).globals
+      → AllByRecursion Q (joined_program units).globals
   each_global Q h = globals_each Q units 0
       (λ i b lt e. let same : before_at units i ≡ b = omega (arith, e) in subst
       (λ n. AllByRecursion (λ g. Q (global_behind n g)) (unit_at units i).globals) same (h i lt))
@@ -228,10 +228,10 @@ module _ (units : List Program) where
 
   -- what the head of a routine says in the joined program
   pub record SameHead (i r : ℕ) : Type 0 where
-    pub params : (routine_at (joined units) (number units i r)).params ≡ (routine_at (unit_at units i) r).params
-    pub result : (routine_at (joined units) (number units i r)).result ≡ (routine_at (unit_at units i) r).result
-    pub level : (routine_at (joined units) (number units i r)).level ≡ (routine_at (unit_at units i) r).level
-    pub outer : (routine_at (joined units) (number units i r)).outer ≡ number units i (routine_at (unit_at units i) r).outer
+    pub params : (routine_at (joined_program units) (number units i r)).params ≡ (routine_at (unit_at units i) r).params
+    pub result : (routine_at (joined_program units) (number units i r)).result ≡ (routine_at (unit_at units i) r).result
+    pub level : (routine_at (joined_program units) (number units i r)).level ≡ (routine_at (unit_at units i) r).level
+    pub outer : (routine_at (joined_program units) (number units i r)).outer ≡ number units i (routine_at (unit_at units i) r).outer
 
   module _ (are : AreUnits units) where
     pub checked : (i : ℕ) → i < length units → IsChecked (unit_at units i)
@@ -255,7 +255,7 @@ module _ (units : List Program) where
               ∙ sym (ap (number units i) outer_zero);
         }
     head i (suc r) s =
-        let is : routine_at (joined units) (number units i (suc r)) ≡ joined_routine units i (suc r) =
+        let is : routine_at (joined_program units) (number units i (suc r)) ≡ joined_routine units i (suc r) =
         routine_is i (suc r) s (omega arith) in
         record {
           params = ap (λ x. x.params) is;
@@ -278,12 +278,12 @@ module _ (units : List Program) where
 
     -- links lead to the same routines
     pub outer_moves : (links i r : ℕ) → Stands units i r
-        → (outer_at (joined units) (number units i r) links ≡ number units i (outer_at (unit_at units i) r links))
+        → (outer_at (joined_program units) (number units i r) links ≡ number units i (outer_at (unit_at units i) r links))
         × Stands units i (outer_at (unit_at units i) r links)
     outer_moves zero i r s = (refl, s)
     outer_moves (suc links) i r s =
         let further = outer_moves links i (routine_at (unit_at units i) r).outer (outer_stands i r s) in
-        (ap (λ n. outer_at (joined units) n links) (head i r s).outer ∙ further.0, further.1)
+        (ap (λ n. outer_at (joined_program units) n links) (head i r s).outer ∙ further.0, further.1)
 
     level_out : (p : Program) → IsChecked p → (links r : ℕ) → r < length p.routines → links ≤ (routine_at p r).level
         → (routine_at p (outer_at p r links)).level + links ≡ (routine_at p r).level
@@ -311,11 +311,11 @@ module _ (units : List Program) where
 
     pub numbers_own : (i r slot cells : ℕ) → Stands units i r → LeavesPosition r slot
         → AreNumbers (routine_at (unit_at units i) r) slot cells
-        → AreNumbers (routine_at (joined units) (number units i r)) (own_slot units i r slot) cells
+        → AreNumbers (routine_at (joined_program units) (number units i r)) (own_slot units i r slot) cells
     numbers_own i zero zero cells s position h = absurd (omega (arith, position refl))
     numbers_own i zero (suc slot) cells s position h =
         let c = checked i s.exists in
-        let none : (routine_at (joined units) 0).params ≡ [] = (head i 0 s).params ∙ c.body_takes_nothing.0 in
+        let none : (routine_at (joined_program units) 0).params ≡ [] = (head i 0 s).params ∙ c.body_takes_nothing.0 in
         record {
           exist = omega (arith, h.exist, before_fits units i s.exists, c.body.1);
           kinds = subst
@@ -325,14 +325,15 @@ module _ (units : List Program) where
         (record { exist = h.exist; kinds = h.kinds })
 
     pub numbers_out : (i r slot cells : ℕ) → Stands units i r → 0 < r → AreNumbers (routine_at (unit_at units i) r) slot cells
-        → AreNumbers (routine_at (joined units) (number units i r)) slot cells
+        → AreNumbers (routine_at (joined_program units) (number units i r)) slot cells
     numbers_out i zero slot cells s low h = absurd (omega (arith, low))
     numbers_out i (suc r) slot cells s low h = numbers_own i (suc r) slot cells s (λ e. absurd (omega (arith, e))) h
 
     -- ---- facts of all routines
 
     pub each_routine : (Fact : ℕ → Routine → Type 0) → Fact 0 (joined_body units)
-        → ((i r : ℕ) → Stands units i r → 0 < r → Fact (number units i r) (joined_routine units i r)) → EachRoutine (joined units) Fact
+        → ((i r : ℕ) → Stands units i r → 0 < r → Fact (number units i r) (joined_routine units i r))
+        → EachRoutine (joined_program units) Fact
     each_routine Fact body procedure zero lt = body
     each_routine Fact body procedure (suc n) lt =
         let h : Home units n = home n (omega (arith, lt, count_is)) in subst (Fact (suc n)) (sym h.is_routine)
@@ -340,24 +341,24 @@ module _ (units : List Program) where
 
     phrases_at : (P : ℕ → ℕ → Routine → Phrase → Type 0) (Q : ℕ → Routine → Phrase → Type 0)
         → ((i r : ℕ) → Stands units i r → (x : Phrase) → P i r (routine_at (unit_at units i) r) x
-        → Q (number units i r) (routine_at (joined units) (number units i r)) (moved_phrase (moves units i r) x))
+        → Q (number units i r) (routine_at (joined_program units) (number units i r)) (moved_phrase (moves units i r) x))
         → ((i : ℕ) → i < length units → EachPhrase (unit_at units i) (P i)) → (i r : ℕ) → Stands units i r
-        → AllByRecursion (Q (number units i r) (routine_at (joined units) (number units i r)))
+        → AllByRecursion (Q (number units i r) (routine_at (joined_program units) (number units i r)))
         (stmts_phrases (moved_stmts (moves units i r) (routine_at (unit_at units i) r).body))
     phrases_at P Q move h i r s =
         let routine : Routine = routine_at (unit_at units i) r in
-        subst (AllByRecursion (Q (number units i r) (routine_at (joined units) (number units i r))))
+        subst (AllByRecursion (Q (number units i r) (routine_at (joined_program units) (number units i r))))
         (sym (stmts_moved (moves units i r) routine.body))
-        (each_of_map (Q (number units i r) (routine_at (joined units) (number units i r))) (moved_phrase (moves units i r))
+        (each_of_map (Q (number units i r) (routine_at (joined_program units) (number units i r))) (moved_phrase (moves units i r))
         (stmts_phrases routine.body)
-        (each_follows (P i r routine) (λ x. Q (number units i r) (routine_at (joined units) (number units i r))
+        (each_follows (P i r routine) (λ x. Q (number units i r) (routine_at (joined_program units) (number units i r))
         (moved_phrase (moves units i r) x)) (move i r s) (stmts_phrases routine.body) (h i s.exists r s.high)))
 
     -- a fact of each phrase, from a fact of each phrase of each module
     pub each_phrase : (P : ℕ → ℕ → Routine → Phrase → Type 0) (Q : ℕ → Routine → Phrase → Type 0)
         → ((i r : ℕ) → Stands units i r → (x : Phrase) → P i r (routine_at (unit_at units i) r) x
-        → Q (number units i r) (routine_at (joined units) (number units i r)) (moved_phrase (moves units i r) x))
-        → ((i : ℕ) → i < length units → EachPhrase (unit_at units i) (P i)) → EachPhrase (joined units) Q
+        → Q (number units i r) (routine_at (joined_program units) (number units i r)) (moved_phrase (moves units i r) x))
+        → ((i : ℕ) → i < length units → EachPhrase (unit_at units i) (P i)) → EachPhrase (joined_program units) Q
     each_phrase P Q move h zero lt =
         body_each (Q 0 (joined_body units)) all units 1 0 (λ i u b few e1 e2.
         let unit : suc i ≡ u = omega (arith, e1) in
@@ -369,13 +370,14 @@ module _ (units : List Program) where
         (phrases_at P Q move h i 0 (body_stands i few))))
     each_phrase P Q move h (suc n) lt =
         let o : Home units n = home n (omega (arith, lt, count_is)) in
-        subst (λ k. AllByRecursion (Q k (routine_at (joined units) k)) (stmts_phrases (routine_at (joined units) k).body)) o.place
-        (subst (λ x. AllByRecursion (Q (number units o.unit o.own) (routine_at (joined units) (number units o.unit o.own)))
+        subst (λ k. AllByRecursion (Q k (routine_at (joined_program units) k)) (stmts_phrases (routine_at (joined_program units) k).body))
+        o.place
+        (subst (λ x. AllByRecursion (Q (number units o.unit o.own) (routine_at (joined_program units) (number units o.unit o.own)))
         (stmts_phrases x)) (sym (ap (λ x. x.body) (routine_is o.unit o.own o.stands o.low)))
         (by_own o.unit o.own o.stands o.low))
       where
         by_own : (i r : ℕ) → Stands units i r → 0 < r
-            → AllByRecursion (Q (number units i r) (routine_at (joined units) (number units i r)))
+            → AllByRecursion (Q (number units i r) (routine_at (joined_program units) (number units i r)))
             (stmts_phrases (joined_routine units i r).body)
         by_own i zero s low = absurd (omega (arith, low))
         by_own i (suc r) s low = phrases_at P Q move h i (suc r) s

@@ -11,7 +11,7 @@ use Rattle.alma_ir.specs.Checked.{IsHiddenSlot, LoopLeaves, LoopIsApart, loops_o
 use Rattle.alma_ir.proofs.Each.{each_of_both, each_follows}
 use Rattle.alma_copy.specs.Moved.{moved_stmts, moved_loop}
 use Rattle.alma_copy.specs.Numbers.{slot_behind}
-use Rattle.alma_join.specs.Joined.{joined, AreUnits}
+use Rattle.alma_join.specs.Joined.{joined_program, AreUnits}
 use Rattle.alma_join.proofs.Moving.{moved_phrase, loop_moved}
 use Rattle.alma_join.proofs.Forms.{each_of_map, loops_moved}
 use Rattle.alma_join.proofs.KeptLists.{unit_at, before_at}
@@ -40,7 +40,7 @@ module _ (units : List Program) (are : AreUnits units) where
   u i = unit_at units i
 
   abbrev q : Program
-  q = joined units
+  q = joined_program units
 
   -- ---- roots
 

@@ -3,7 +3,7 @@ use Rattle.std.proofs.Common.{◌≡◌, ◌+◌, ◌<◌, List, [], ◌∷◌, 
 use Rattle.alma_ir.specs.declared.program.Program as whole
 use Rattle.alma_ir.specs.Tree.{Program, routine_at}
 use Rattle.alma_ir.specs.View.{program_of}
-use Rattle.alma_join.specs.Joined.{or_next, import_fault, size_fault, no_totals, kept_in, join_fault, first_of, joined}
+use Rattle.alma_join.specs.Joined.{or_next, import_fault, size_fault, no_totals, kept_in, join_fault, first_of, joined_program}
 use Rattle.alma_join.specs.declared.part.Parts.{Parts}
 use Rattle.alma_join.specs.Parts.{ArePartsOf, with_body}
 
@@ -13,7 +13,7 @@ first_is [] x some is = absurd (omega (arith, some))
 first_is (y ∷ units) x some is = ap program_of is
 
 pub whole_is : (units : List Program) (p : Program) (parts : Parts) → p ≡ first_of units → ArePartsOf parts units
-    → with_body p parts ≡ joined units
+    → with_body p parts ≡ joined_program units
 whole_is units p parts first h = λ i. record {
   name = (first i).name;
   globals = h.globals i;

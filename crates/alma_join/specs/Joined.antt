@@ -255,8 +255,8 @@ joined_body units = record (routine_at (first_of units) 0) {
 }
 
 -- the whole
-abbrev pub joined : List Program → Program
-joined units = record {
+abbrev pub joined_program : List Program → Program
+joined_program units = record {
   name = (first_of units).name;
   globals = joined_globals 0 units;
   routines = joined_body units ∷ joined_procedures (kept_in 1 units) 1 0 units;
@@ -276,7 +276,7 @@ pub record AreUnits (units : List Program) : Type 0 where
 
 -- with no fault the joined program is a checked one
 abbrev pub JoinedIsChecked : Type 0
-JoinedIsChecked = (units : List Program) → AreUnits units → join_fault units ≡ None → IsChecked (joined units)
+JoinedIsChecked = (units : List Program) → AreUnits units → join_fault units ≡ None → IsChecked (joined_program units)
 
 -- no procedure of the program is bare
 abbrev pub HasNoImport : Program → Type 0
@@ -284,4 +284,4 @@ HasNoImport p = (r : ℕ) → 0 < r → r < length p.routines → is_bare p r (r
 
 -- and a program with no import, alone, is itself
 abbrev pub AloneIsItself : Type 0
-AloneIsItself = (p : Program) → IsChecked p → HasNoImport p → joined (p ∷ []) ≡ p
+AloneIsItself = (p : Program) → IsChecked p → HasNoImport p → joined_program (p ∷ []) ≡ p

@@ -2,7 +2,7 @@
 ghost use Rattle.std.specs.Prelude.{◌≡◌, ◌+◌, ◌<◌, ◌∷◌, length, map, None, IfOk, IfErr};
 ghost use Rattle.alma_ir.specs.Checked.{IsChecked};
 ghost use Rattle.alma_ir.specs.View.{program_of, routine_of, global_of, stmts_list};
-ghost use Rattle.alma_join.specs.Joined.{AreUnits, joined, join_fault};
+ghost use Rattle.alma_join.specs.Joined.{AreUnits, joined_program, join_fault};
 ghost use Rattle.alma_join.specs.Fault.{IsJoinError};
 ghost use Rattle.alma_join.specs.Parts.{with_body};
 
@@ -51,7 +51,7 @@ fn program_with(alloc: Global, first: &Program, parts: Parts) -> Result<Program,
 /// u32, which is not so within the limits of a program.
 pub fn join(alloc: Global, units: &[Program]) -> Result<Program, JoinError>
     requires units { AreUnits (map program_of units.now) }
-    ensures joined { IfOk result (λ p. program_of p ≡ joined (map program_of units.now)) }
+    ensures joined { IfOk result (λ p. program_of p ≡ joined_program (map program_of units.now)) }
     ensures sound { IfOk result (λ p. join_fault (map program_of units.now) ≡ None) }
     ensures checked { IfOk result (λ p. IsChecked (program_of p)) }
     ensures refused { IfErr result (λ e. IsJoinError e (map program_of units.now)) }

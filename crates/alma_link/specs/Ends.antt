@@ -12,7 +12,7 @@ use Rattle.alma_link.specs.declared.end.LinkEnd.TheVariants.{BadWord, Unread, Un
 use Rattle.alma_link.specs.declared.words.Task as word_task
 use Rattle.alma_link.specs.declared.words.Task.TheVariants as word
 use Rattle.alma_link.specs.declared.words.Request as words
-use Rattle.alma_link.specs.Link.{program, failed, join_text}
+use Rattle.alma_link.specs.Link.{program, failure, join_text}
 use Rattle.alma_link.specs.Words.{Task, Run, Compile, Request, request}
 
 -- the task and the request that words name
@@ -36,4 +36,4 @@ abbrev pub link_end : List Program → LinkEnd → Ending
 link_end units (BadWord word) = bad_word program word
 link_end units (Unread file stop) = file_end program file.now stop
 link_end units (Unjoined error) = join_end units error
-link_end units (Performed end) = program_end program failed end
+link_end units (Performed end) = program_end program failure end

@@ -2,7 +2,7 @@
 use Rattle.std.specs.Prelude.{◌-◌, ℕ, List, [], ◌∷◌, ◌++◌, codes, decimal, get_or, Option, None, Some, Result, Ok, Err}
 use Rattle.alma_driver_words.specs.Words.{default_steps}
 use Rattle.alma_ir.specs.Tree.{Program, routine_at}
-use Rattle.alma_join.specs.Joined.{JoinFault, Missing, Twice, HeadDiffers, TooLarge, join_fault, joined, no_program}
+use Rattle.alma_join.specs.Joined.{JoinFault, Missing, Twice, HeadDiffers, TooLarge, join_fault, joined_program, no_program}
 use Rattle.alma_plan.specs.Plan.{Ending, Plan, Ends, ending_of, silent, tells, bad_word}
 use Rattle.alma_plan.specs.Programs.{Last, Tells, read_source, run_plan, store_plan}
 use Rattle.alma_source.specs.Verdict.{Verdict}
@@ -13,8 +13,8 @@ abbrev pub program : List ℕ
 program = codes "alma_link"
 
 -- how a run ends that fails
-abbrev pub failed : Ending
-failed = ending_of 1 []
+abbrev pub failure : Ending
+failure = ending_of 1 []
 
 -- ---- faults of modules
 
@@ -42,7 +42,7 @@ task_plan (Compile object) p = store_plan program p object
 
 -- modules without a fault are joined, and others are refused
 abbrev pub unless_fault : Option JoinFault → Task → List Program → Plan Verdict Last
-unless_fault None task units = task_plan task (joined units)
+unless_fault None task units = task_plan task (joined_program units)
 unless_fault (Some fault) task units = Ends (Tells (silent (tells program 13 (join_text units fault))))
 
 -- all modules are there

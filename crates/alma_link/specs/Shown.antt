@@ -3,19 +3,19 @@ use Rattle.std.specs.Prelude.{◌≡◌, ◌<◌, ◌≤◌, ℕ, true, List, []
 use Rattle.alma_base.specs.Limits.{input_limit, size_limit, source_limit}
 use Rattle.alma_io.specs.Files.{Told, Has}
 use Rattle.alma_ir.specs.Tree.{Program}
-use Rattle.alma_join.specs.Joined.{JoinFault, join_fault, joined}
+use Rattle.alma_join.specs.Joined.{JoinFault, join_fault, joined_program}
 use Rattle.alma_lower_sound.specs.Reads.{program_reads}
 use Rattle.alma_io.specs.Outside.{Outside}
 use Rattle.alma_plan.specs.Plan.{Due, silent, tells}
 use Rattle.alma_plan.specs.Meant.{IsMeant}
-use Rattle.alma_plan.specs.Programs.{refused, storing, too_much_code}
+use Rattle.alma_plan.specs.Programs.{refuse_source, storing, too_much_code}
 use Rattle.alma_plan.specs.Undisturbed.{ShowsDue}
 use Rattle.alma_run_laws.specs.Shown.{size_of}
 use Rattle.alma_run_laws.specs.Stored.{SpellsCodeOf}
 use Rattle.alma_source.specs.Refusal.{IsProgramOf, IsRefused, place_of}
 use Rattle.alma_source.specs.declared.fault.SourceFault.{SourceFault}
 use Rattle.alma_driver_words.specs.Words.{default_steps}
-use Rattle.alma_link.specs.Link.{program, failed, join_text}
+use Rattle.alma_link.specs.Link.{program, failure, join_text}
 use Rattle.alma_link.specs.Words.{Task, AsksForTask}
 
 -- each file has the source of its place, which is within its length
@@ -40,7 +40,7 @@ pub record AsksForModules (task : Task) (words : List (List ℕ)) (before : Outs
 
 -- where the modules can be joined, and the joined program reads, this input is left, within its length
 pub record IsGiven (before : Outside) (sources : List (List ℕ)) (input : List ℕ) : Type 0 where
-  pub left : (units : List Program) → AreModulesOf sources units → join_fault units ≡ None → program_reads (joined units) ≡ true
+  pub left : (units : List Program) → AreModulesOf sources units → join_fault units ≡ None → program_reads (joined_program units) ≡ true
       → before.input.left ≡ Some input
   pub short : length input ≤ input_limit
 
@@ -57,24 +57,24 @@ pub data ModulesEnd (Performs : Program → Type 0) (files sources : List (List 
   -- the first file that holds no module has this fault at this place, and no other: it is refused for that
   refuses : (file source : List ℕ) (fault : SourceFault) (offset : ℕ) → IsFirstRefused file source fault offset files sources
       → ((other : SourceFault) (place : ℕ) → IsRefused source other place → (fault ≡ other) × (offset ≡ place))
-      → ShowsDue before after status (silent (refused file fault (place_of source offset)))
+      → ShowsDue before after status (silent (refuse_source file fault (place_of source offset)))
       → ModulesEnd Performs files sources before after status
   -- all hold modules, and these cannot be joined: the first fault is told
   unjoined : (units : List Program) (fault : JoinFault) → AreModulesOf sources units → join_fault units ≡ Some fault
       → ShowsDue before after status (silent (tells program 13 (join_text units fault)))
       → ModulesEnd Performs files sources before after status
   -- the joined program is too large
-  too_large : (units : List Program) → AreModulesOf sources units → join_fault units ≡ None → size_limit < size_of (joined units)
-      → ShowsDue before after status (silent (too_much_code program (joined units)))
+  too_large : (units : List Program) → AreModulesOf sources units → join_fault units ≡ None → size_limit < size_of (joined_program units)
+      → ShowsDue before after status (silent (too_much_code program (joined_program units)))
       → ModulesEnd Performs files sources before after status
   -- else the task is performed with it
-  performs : (units : List Program) → AreModulesOf sources units → join_fault units ≡ None → size_of (joined units) ≤ size_limit
-      → Performs (joined units)
+  performs : (units : List Program) → AreModulesOf sources units → join_fault units ≡ None → size_of (joined_program units) ≤ size_limit
+      → Performs (joined_program units)
       → ModulesEnd Performs files sources before after status
 
 -- a program was run: what its meaning says, or a front of that
 abbrev pub ShowsRun : (input : List ℕ) → (before after : Outside) → (status : ℕ) → Program → Type 0
-ShowsRun input before after status p = (due : Due) × IsMeant program failed p input default_steps due × ShowsDue before after status due
+ShowsRun input before after status p = (due : Due) × IsMeant program failure p input default_steps due × ShowsDue before after status due
 
 -- its object was stored under a name (where the file of that is told): bytes that spell sound code of the program
 abbrev pub ShowsObject : (object : List ℕ) → (before after : Outside) → (status : ℕ) → Program → Type 0

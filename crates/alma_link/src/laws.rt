@@ -1,6 +1,6 @@
 //! Laws of linked modules: functions without work, whose contracts are the laws.
 ghost use Rattle.std.specs.Prelude.{◌≡◌, ◌⊎◌, List, ℕ, []};
-ghost use Rattle.alma_link.specs.Link.{failed, files_plan, link_plan, program};
+ghost use Rattle.alma_link.specs.Link.{failure, files_plan, link_plan, program};
 ghost use Rattle.alma_link.specs.Shown.{AsksForModules, IsGiven, ModulesEnd, ShowsObject, ShowsRun};
 ghost use Rattle.alma_link.specs.Words.{AsksFor, Compile, IsRequest, Request, Run};
 ghost use Rattle.alma_plan.specs.Causes.{Causes};
@@ -27,7 +27,7 @@ pub fn words_are_a_request_or_have_a_bad_word()
 pub fn a_run_of_modules_shows_what_they_mean_joined()
     ensures shown { (words files sources : List (List ℕ)) (input : List ℕ) (before after : Outside)
         (status : ℕ) → AsksForModules Run words before files sources → IsGiven before sources input
-        → Causes (sense program failed) program (link_plan words) before after status
+        → Causes (sense program failure) program (link_plan words) before after status
         → IsUndisturbed before after status
         → ModulesEnd (ShowsRun input before after status) files sources before after status }
 {}
@@ -38,7 +38,7 @@ pub fn a_compile_of_modules_stores_what_they_mean_joined()
     ensures stored { (words files sources : List (List ℕ)) (object : List ℕ)
         (before after : Outside) (status : ℕ)
         → AsksForModules (Compile object) words before files sources
-        → Causes (sense program failed) program (link_plan words) before after status
+        → Causes (sense program failure) program (link_plan words) before after status
         → IsUndisturbed before after status
         → ModulesEnd (ShowsObject object before after status) files sources before after status }
 {}

@@ -9,7 +9,7 @@ ghost use Rattle.alma_plan.specs.Plan.{tells};
 ghost use Rattle.alma_driver_words.specs.Words.{texts};
 ghost use Rattle.alma_plan.specs.Programs.{sense};
 ghost use Rattle.alma_link.specs.Ends.{join_end, link_end};
-ghost use Rattle.alma_link.specs.Link.{failed, link_plan, program, unit_at};
+ghost use Rattle.alma_link.specs.Link.{failure, link_plan, program, unit_at};
 
 use crate::end::LinkEnd;
 use crate::serve::perform;
@@ -116,11 +116,11 @@ pub fn link<F: Files, I: Source, O: Sink, E: Sink>(
     out: &mut O,
     err: &mut E,
 ) -> Status
-    ensures answer { Answers (sense program failed) program (link_plan (texts words.now))
+    ensures answer { Answers (sense program failure) program (link_plan (texts words.now))
         (outside_of (F.side files.old) (I.side input.old) (O.side out.old) (E.side err.old))
         (outside_of (F.side files.new) (I.side input.new) (O.side out.new) (E.side err.new))
         result.0 }
-    ensures causes { Causes (sense program failed) program (link_plan (texts words.now))
+    ensures causes { Causes (sense program failure) program (link_plan (texts words.now))
         (outside_of (F.side files.old) (I.side input.old) (O.side out.old) (E.side err.old))
         (outside_of (F.side files.new) (I.side input.new) (O.side out.new) (E.side err.new))
         result.0 }

@@ -9,7 +9,7 @@ ghost use Rattle.alma_driver_words.specs.Words.{texts};
 ghost use Rattle.alma_plan.specs.Ends.{program_end};
 ghost use Rattle.alma_plan.specs.Programs.{sense};
 ghost use Rattle.alma_link.specs.Ends.{link_end, task_of};
-ghost use Rattle.alma_link.specs.Link.{failed, join_plan, link_plan, task_plan, program, files_plan};
+ghost use Rattle.alma_link.specs.Link.{failure, join_plan, link_plan, task_plan, program, files_plan};
 ghost use Rattle.alma_link.specs.Words.{greatest_files};
 
 use crate::end::LinkEnd;
@@ -32,10 +32,10 @@ fn perform_task<F: Files, I: Source, O: Sink>(
     out: &mut O,
 ) -> ProgramEnd
     requires checked { IsChecked (program_of joined.now) }
-    ensures { Follows (sense program failed) program
+    ensures { Follows (sense program failure) program
         (task_plan (task_of task.entry) (program_of joined.now)) (F.side files.old)
         (F.side files.new) (I.side input.old) (I.side input.new) (O.side out.old) (O.side out.new)
-        (program_end program failed result) }
+        (program_end program failure result) }
 {
     match task {
         Task::Run => run_program(alloc, joined, input, DEFAULT_STEPS, out),
@@ -53,7 +53,7 @@ fn serve_units<'w, F: Files, I: Source, O: Sink>(
     out: &mut O,
 ) -> LinkEnd<'w>
     requires units { AreUnits (map program_of units.now) }
-    ensures { Follows (sense program failed) program
+    ensures { Follows (sense program failure) program
         (join_plan (task_of task.entry) (map program_of units.now)) (F.side files.old)
         (F.side files.new) (I.side input.old) (I.side input.new) (O.side out.old) (O.side out.new)
         (link_end (map program_of units.now) result) }
@@ -77,7 +77,7 @@ fn serve_files<'w, F: Files, I: Source, O: Sink>(
     requires checked { AllByRecursion IsChecked (map program_of units.old.items) }
     requires some { 0 < length units.old.items + length names.now }
     requires few { length units.old.items + length names.now ≤ greatest_files }
-    ensures { Follows (sense program failed) program
+    ensures { Follows (sense program failure) program
         (files_plan (task_of task.entry) (map program_of units.old.items) (texts names.now))
         (F.side files.old) (F.side files.new) (I.side input.old) (I.side input.new)
         (O.side out.old) (O.side out.new)
@@ -108,7 +108,7 @@ pub fn perform<'w, F: Files, I: Source, O: Sink>(
     out: &mut O,
 ) -> LinkEnd<'w>
     requires none { units.old.items ≡ [] }
-    ensures { Follows (sense program failed) program (link_plan (texts words.now))
+    ensures { Follows (sense program failure) program (link_plan (texts words.now))
         (F.side files.old) (F.side files.new) (I.side input.old) (I.side input.new)
         (O.side out.old) (O.side out.new)
         (link_end (map program_of units.new.items) result) }

@@ -8,7 +8,7 @@ use Rattle.alma_lower_sound.specs.Runs.{HasLongRuns}
 use Rattle.alma_lower_sound.proofs.Whole.{long_runs}
 use Rattle.alma_lower_templates.specs.CodeOf.{HoldsAllOf, IsCodeOf}
 use Rattle.alma_lower_templates.specs.Compiled.{global_named, routines_code, routines_named, program_code}
-use Rattle.alma_lower_templates.specs.Lined.{instrs_of, lines_of}
+use Rattle.alma_lower_templates.specs.LineInstr.{instrs_of, lines_of}
 use Rattle.alma_lower_templates.specs.Tables.{Tables, same_range, same_text}
 use Rattle.alma_lower.specs.Routines.{AreHeads, runs_in}
 use Rattle.alma_lower.proofs.Making.{length_runs}

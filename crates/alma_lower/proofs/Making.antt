@@ -13,7 +13,7 @@ use Rattle.alma_base.specs.declared.number.Range.{Range}
 use Rattle.alma_ir.specs.declared.program.Routine.{Routine as Here}
 use Rattle.alma_ir.specs.declared.phrase.Stmt as S
 use Rattle.alma_code.specs.declared.instr.Instr.{Instr}
-use Rattle.alma_choice.specs.Emitted.{lined}
+use Rattle.alma_choice.specs.Emitted.{line_instr}
 use Rattle.alma_ir.specs.View.{routine_of, stmts_list}
 use Rattle.alma_ir.specs.Tree.{Program, Routine, routine_at, no_routine}
 use Rattle.alma_ir.specs.Lines.{body_with_lines, stmts_with}
@@ -21,7 +21,7 @@ use Rattle.alma_lower_templates.specs.Runs.{NamesKinds}
 use Rattle.alma_lower_work.specs.Front.{Around, Front, Codes}
 use Rattle.alma_lower_work.specs.Puts.{PutsStmts}
 use Rattle.alma_lower_templates.specs.Compiled.{head_for, routines_code, routines_named}
-use Rattle.alma_lower_templates.specs.Lined.{Lined, own}
+use Rattle.alma_lower_templates.specs.LineInstr.{LineInstr, own}
 use Rattle.alma_lower_templates.specs.Slots.{own_kinds, routine_kinds, stmts_slots}
 use Rattle.alma_lower_templates.specs.Tables.{Tables}
 use Rattle.alma_lower_templates.specs.Templates.{routine_code, stmts_code, end_code}
@@ -43,11 +43,11 @@ end_is p t r None = refl
 module _ (s : Around) (x : Routine) (is : routine_at s.program s.routine ≡ x) (a b c d : Front) (n : ℕ)
     (long : n ≡ length (own_kinds x)) (begins : Begins a b n x.lines) (puts : PutsStmts s b c x.body)
     (ends : Codes c d (own x.line (end_instr x.result ∷ []))) where
-  abbrev code_with : Routine → List Lined
+  abbrev code_with : Routine → List LineInstr
   code_with y = stmts_code s.program s.tables s.routine (length a.code) (length (own_kinds y)) (body_with_lines y)
       ++ own y.line (end_code s.program s.tables s.routine y.result ∷ [])
 
-  abbrev body : (at lo : ℕ) → List ℕ → List Lined
+  abbrev body : (at lo : ℕ) → List ℕ → List LineInstr
   body at lo ls = stmts_code s.program s.tables s.routine at lo (stmts_with x.body ls)
 
   -- its code
@@ -83,7 +83,7 @@ code_last p t r zero at =
 code_last p t r (suc m) at = step (routine_code p t r at) (at + length (routine_code p t r at)) refl
     (code_last p t (suc r) m (at + length (routine_code p t r at)))
   where
-    step : (first : List Lined) (next : ℕ) → next ≡ at + length first
+    step : (first : List LineInstr) (next : ℕ) → next ≡ at + length first
         → routines_code p t (suc r) (suc m) next ≡ routines_code p t (suc r) m next
         ++ routine_code p t (suc r + m) (next + length (routines_code p t (suc r) m next))
         → first ++ routines_code p t (suc r) (suc m) next ≡ (first ++ routines_code p t (suc r) m next)
@@ -112,7 +112,7 @@ named_last p t r at [] runs =
 named_last p t r at (x ∷ all) runs = step (routine_code p t r at) (at + length (routine_code p t r at)) refl
     (named_last p t (suc r) (at + length (routine_code p t r at)) all runs)
   where
-    step : (first : List Lined) (next : ℕ) → next ≡ at + length first
+    step : (first : List LineInstr) (next : ℕ) → next ≡ at + length first
         → routines_named p t (suc r) next (all ++ runs ∷ []) ≡ routines_named p t (suc r) next all
         ++ named_at p t (suc r + length all) (next + length (routines_code p t (suc r) (length all) next)) runs ∷ []
         → named_at p t r at x ∷ routines_named p t (suc r) next (all ++ runs ∷ [])
@@ -197,14 +197,14 @@ one_is p t r at end one h is =
     }) h.result
 
 -- the code of the first n routines, and their heads
-pub record Makes (p : Program) (t : Tables) (n : ℕ) (code : List Lined) (made : List PlainRoutine) : Type 0 where
+pub record Makes (p : Program) (t : Tables) (n : ℕ) (code : List LineInstr) (made : List PlainRoutine) : Type 0 where
   pub code_is : code ≡ routines_code p t 0 n 0
   pub heads : AreHeads p t n made
 
 pub makes_none : (p : Program) (t : Tables) → Makes p t 0 [] []
 makes_none p t = record { code_is = refl; heads = record { count = refl; are = refl; names = λ r lt. absurd (omega (arith, lt)) } }
 
-pub makes_more : (p : Program) (t : Tables) (n : ℕ) (code grown : List Lined) (made : List PlainRoutine) (one : PlainRoutine)
+pub makes_more : (p : Program) (t : Tables) (n : ℕ) (code grown : List LineInstr) (made : List PlainRoutine) (one : PlainRoutine)
     → Makes p t n code made
     → grown ≡ code ++ routine_code p t n (length code) → HeadFor (routine_at p n) (routine_kinds p n) (length grown) one
     → NamesKinds one.head.runs (routine_kinds p n) → Makes p t (n + 1) grown (made ++ one ∷ [])
@@ -250,7 +250,7 @@ makes_more p t n code grown made one h more head names =
         subst (λ x. NamesKinds x (routine_kinds p r)) (sym (get_last rs one.head.runs [] r (omega (arith, same, long))))
         (subst (λ k. NamesKinds one.head.runs (routine_kinds p k)) (sym same) names)
 
-pub routine_made : (s : Around) (p : Program) (t : Tables) (n : ℕ) (code grown : List Lined) (heads more : List RoutineHead)
+pub routine_made : (s : Around) (p : Program) (t : Tables) (n : ℕ) (code grown : List LineInstr) (heads more : List RoutineHead)
     (head : RoutineHead) → s ≡ around_at p t n → more ≡ heads ++ head ∷ []
     → Makes p t n code (map plain.routine_of heads) → grown ≡ code ++ routine_code s.program s.tables s.routine (length code)
     → NamesKinds head.kinds.items (routine_kinds s.program s.routine)
@@ -289,6 +289,6 @@ pub puts_at : (s : Around) (a b : Front) (l m : List S.Stmt) → l ≡ m → Put
 puts_at s a b l m is h = subst (λ y. PutsStmts s a b (stmts_list y)) is h
 
 pub makes_first : (p : Program) (t : Tables) (pairs : List (Instr × ℕ)) (heads : List RoutineHead) → pairs ≡ [] → heads ≡ []
-    → Makes p t 0 (map lined pairs) (map plain.routine_of heads)
-makes_first p t pairs heads e e2 = subst (λ x. Makes p t 0 (map lined x) (map plain.routine_of heads)) (sym e)
+    → Makes p t 0 (map line_instr pairs) (map plain.routine_of heads)
+makes_first p t pairs heads e e2 = subst (λ x. Makes p t 0 (map line_instr x) (map plain.routine_of heads)) (sym e)
     (subst (λ y. Makes p t 0 [] (map plain.routine_of y)) (sym e2) (makes_none p t))

@@ -5,7 +5,7 @@ ghost use Rattle.alma_code.specs.Plain as code;
 ghost use Rattle.alma_ir.specs.View as view;
 ghost use Rattle.alma_lower_templates.specs.Runs.{NamesKinds};
 ghost use Rattle.alma_lower_templates.specs.Compiled as compiled;
-ghost use Rattle.alma_lower_templates.specs.Lined.{own};
+ghost use Rattle.alma_lower_templates.specs.LineInstr.{own};
 ghost use Rattle.alma_lower_work.specs.Front.{front, Codes};
 ghost use Rattle.alma_lower.specs.Routines.{end_instr, Begins, HeadFor};
 

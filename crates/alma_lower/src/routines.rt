@@ -2,7 +2,7 @@
 ghost use Rattle.std.specs.Prelude.{◌≡◌, length, map, IfOk};
 ghost use Rattle.alma_code.specs.Plain as code;
 ghost use Rattle.alma_ir.specs.View.{program_of};
-ghost use Rattle.alma_choice.specs.Emitted.{lined};
+ghost use Rattle.alma_choice.specs.Emitted.{line_instr};
 ghost use Rattle.alma_lower_tables.specs.Numbers.{tables_of};
 ghost use Rattle.alma_lower_work.specs.Front.{around};
 ghost use Rattle.alma_lower_templates.specs.Compiled.{routines_code};
@@ -30,7 +30,7 @@ pub fn lower_routines(
     program: &Program,
     numbers: &Numbers,
 ) -> Result<Routines, NoMemory>
-    ensures code { IfOk result (λ made. map lined made.code.items ≡ routines_code
+    ensures code { IfOk result (λ made. map line_instr made.code.items ≡ routines_code
         (program_of program.now) (tables_of numbers.now) 0
         (length (program_of program.now).routines) 0) }
     ensures heads { IfOk result (λ made. AreHeads (program_of program.now) (tables_of numbers.now)

@@ -1,7 +1,7 @@
 // The code of conditions.
 ghost use Rattle.std.specs.Prelude.{◌≡◌, false, IfOk};
 ghost use Rattle.alma_ir.specs.View.{test_of};
-ghost use Rattle.alma_choice.specs.Emitted.{aimed};
+ghost use Rattle.alma_choice.specs.Emitted.{aim_jump};
 ghost use Rattle.alma_lower_templates.specs.Slots.{is_simple};
 ghost use Rattle.alma_lower_work.specs.Front.{around, front};
 ghost use Rattle.alma_lower_work.specs.Puts.{PutsGuard};
@@ -29,7 +29,7 @@ where
     S: for<'a, 'b, 'c, 'd> Fn(&'a mut Work, &'b Scene<'c>, &'d [Stmt]) -> Result<(), NoMemory>,
     requires emits { EmitsStmts (S.IsAlwaysCallable inside.now) (S.post inside.now) }
     ensures guard { IfOk result (λ jump. PutsGuard (around scene.now) line (front work.old)
-        (front work.new) (λ to xs. aimed xs jump to) (test_of test.now)) }
+        (front work.new) (λ to xs. aim_jump xs jump to) (test_of test.now)) }
 {
     if !is_plain(test) {
         return emit_barrier(work, scene, line, test, inside);
@@ -56,7 +56,7 @@ where
     S: for<'a, 'b, 'c, 'd> Fn(&'a mut Work, &'b Scene<'c>, &'d [Stmt]) -> Result<(), NoMemory>,
     requires emits { EmitsStmts (S.IsAlwaysCallable inside.now) (S.post inside.now) }
     ensures guard { is_simple (test_of test.now) ≡ false → IfOk result (λ jump. PutsGuard
-        (around scene.now) line (front work.old) (front work.new) (λ to xs. aimed xs jump to)
+        (around scene.now) line (front work.old) (front work.new) (λ to xs. aim_jump xs jump to)
         (test_of test.now)) }
 {
     let (mark, choice) = begin_first(work, line)?;

@@ -2,7 +2,7 @@
 ghost use Rattle.std.specs.Prelude.{◌∷◌, [], IfOk, IsOk, OnOk};
 ghost use Rattle.alma_code.specs.declared.cell.SlotKind.TheVariants as slot;
 ghost use Rattle.alma_code.specs.declared.instr.Instr.TheVariants as instr;
-ghost use Rattle.alma_lower_templates.specs.Lined.{own};
+ghost use Rattle.alma_lower_templates.specs.LineInstr.{own};
 ghost use Rattle.alma_lower_templates.specs.Pieces as pieces;
 ghost use Rattle.alma_lower_templates.specs.Tables.{range_number};
 ghost use Rattle.alma_lower_templates.specs.Templates.{fit_result};

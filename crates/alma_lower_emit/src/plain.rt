@@ -3,7 +3,7 @@ ghost use Rattle.std.specs.Prelude.{◌≡◌, ◌∷◌, [], length, IfOk, IsOk
 ghost use Rattle.alma_code.specs.declared.cell.SlotKind.TheVariants as slot;
 ghost use Rattle.alma_code.specs.declared.instr.Instr.TheVariants as instr;
 ghost use Rattle.alma_ir.specs.View.{expr_of};
-ghost use Rattle.alma_lower_templates.specs.Lined.{own};
+ghost use Rattle.alma_lower_templates.specs.LineInstr.{own};
 ghost use Rattle.alma_lower_templates.specs.Pieces as pieces;
 ghost use Rattle.alma_lower_templates.specs.Tables.{range_number};
 ghost use Rattle.alma_lower_templates.specs.Templates.{char_range};
@@ -44,7 +44,7 @@ pub(crate) fn place_of(
 ) -> Result<(), NoMemory>
     ensures done { OnOk result (IsOk made) }
     ensures places { OnOk result (Changes (front work.old) (front work.new)
-        (λ xs. pieces.placed to xs)) }
+        (λ xs. pieces.place_code to xs)) }
 {
     made?;
     work.redirect_place(to);

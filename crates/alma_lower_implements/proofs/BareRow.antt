@@ -9,7 +9,7 @@ use Rattle.alma_code.specs.declared.cell.Cell.TheVariants as cell
 use Rattle.alma_code.specs.Picture.{PlainFrame, PlainEntry, last_frame}
 use Rattle.alma_code.specs.Lines.{line_at}
 use Rattle.alma_code.specs.Plain.{PlainCode}
-use Rattle.alma_code.specs.Machine.{State, Stepped, step, number, as_number}
+use Rattle.alma_code.specs.Machine.{State, StepResult, step, number, as_number}
 use Rattle.alma_ir.specs.declared.phrase.Root.TheVariants as root
 use Rattle.alma_ir.specs.Tree.{Program, Load, a_desig, no_sels}
 use Rattle.alma_mean.specs.Store.{Store, top_cell}
@@ -24,7 +24,7 @@ use Rattle.alma_lower_implements.proofs.Steps.{passed, Holds, Faults, faults_now
 module _ (code : PlainCode) (input : List ℕ) where
   -- the instruction at an address begins by reading a number slot
   abbrev pub ReadsFirst : (at slot : ℕ) → List PlainFrame → Type 0
-  ReadsFirst at slot now = (held : List PlainEntry) (s : State) → IsAt at now held s → (k : ℤ → Stepped)
+  ReadsFirst at slot now = (held : List PlainEntry) (s : State) → IsAt at now held s → (k : ℤ → StepResult)
       × (step code input s ≡ number (passed code input s) slot k)
 
   pub reads_unknown : (line at slot : ℕ) (now : List PlainFrame) (held : List PlainEntry) (s : State) → ReadsFirst at slot now

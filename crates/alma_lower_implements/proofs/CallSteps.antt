@@ -12,7 +12,7 @@ use Rattle.alma_code.specs.Layout.{frame_of_call}
 use Rattle.alma_code.specs.Picture.{PlainFrame, PlainEntry, last_frame, without_last, live_cells}
 use Rattle.alma_code.specs.Lines.{line_at}
 use Rattle.alma_code.specs.Plain.{PlainCode, PlainRoutine, start_at}
-use Rattle.alma_code.specs.Machine.{State, Stepped, act, answers_with, step, arguments, enters_routine, as_routine, answers_return}
+use Rattle.alma_code.specs.Machine.{State, StepResult, act, answers_with, step, arguments, enters_routine, as_routine, answers_return}
 use Rattle.alma_code.specs.Machine.{state_after_leave, ends_run, ends_in_fault}
 use Rattle.alma_lower_implements.proofs.Frames.{IsAt}
 use Rattle.alma_lower_implements.proofs.Steps.{InstrAt, does, passed, Faults, faults_now}
@@ -21,7 +21,7 @@ use Rattle.alma_lower_implements.proofs.ChoiceSteps.{GoesOn, answered_silently}
 module _ (code : PlainCode) (input : List ℕ) where
   -- the argument slots of a call hold these arguments
   abbrev pub HoldsArguments : PlainRoutine → (first : ℕ) → List Cell → State → Type 0
-  HoldsArguments callee first args s = (k : List Cell → Stepped) → arguments callee.head.params (passed code input s) first k ≡ k args
+  HoldsArguments callee first args s = (k : List Cell → StepResult) → arguments callee.head.params (passed code input s) first k ≡ k args
 
   module _ (line at r first to : ℕ) (now : List PlainFrame) (held : List PlainEntry) (s : State) (callee : PlainRoutine) (args : List Cell)
       (is : IsAt at now held s) (i : InstrAt code input line at (I.Call r first to)) (there : slice_get code.routines r ≡ Some callee)
@@ -40,8 +40,8 @@ module _ (code : PlainCode) (input : List ℕ) where
     call_step few room =
         let p : State = passed code input s in
         let t : State = record p { at = start_at code r; now = p.now ++ frame_of_call p.now callee.head r p.at args ∷ [] } in
-        let deep : Stepped = ends_in_fault fault.DepthFull p in
-        let full : Stepped = ends_in_fault fault.CellsFull p in
+        let deep : StepResult = ends_in_fault fault.DepthFull p in
+        let full : StepResult = ends_in_fault fault.CellsFull p in
         record {
           to = t;
           silently = answered_silently code input s t (answer.Called r (length p.now + 1))

@@ -16,7 +16,7 @@ use Rattle.alma_code.specs.declared.instr.Instr.TheVariants as I
 use Rattle.alma_code.specs.Picture.{PlainFrame, PlainEntry, last_frame, frames_with_cell}
 use Rattle.alma_code.specs.Picture as picture
 use Rattle.alma_code.specs.Plain.{PlainCode, kinds_at}
-use Rattle.alma_code.specs.Machine.{State, Stepped, step, act, number, as_number, put_number, goes_to, ends_in_fault}
+use Rattle.alma_code.specs.Machine.{State, StepResult, step, act, number, as_number, put_number, goes_to, ends_in_fault}
 use Rattle.alma_ir.specs.Tree.{Program, routine_at}
 use Rattle.alma_mean.specs.Store.{Store, Unknown, Number, At, with_cell, put_top, top, top_frame, top_cell}
 use Rattle.alma_mean.specs.Store as store
@@ -183,17 +183,17 @@ module _ (code : PlainCode) (input : List ℕ) (line at : ℕ) (now : List Plain
       ∙ number_is code input now (passed code input s) b x (λ v. put_number (passed code input s) a v) h.frames hb)
 
   -- a slot of which nothing is known
-  unknown_is : (n : ℕ) (k : ℤ → Stepped) → Holds now n cell.Unknown
+  unknown_is : (n : ℕ) (k : ℤ → StepResult) → Holds now n cell.Unknown
       → number (passed code input s) n k ≡ ends_in_fault fault.Unknown (passed code input s)
   unknown_is n k hn = ap (λ o. as_number o (passed code input s) k) (ap (λ z. slice_get (last_frame z).cells n) h.frames ∙ hn)
 
   module _ (counter limit by exit : ℕ) (i : InstrAt code input line at (I.Step counter limit by exit)) where
     -- what a step does with its three numbers
-    abbrev stepped : ℤ → ℤ → ℤ → Stepped
+    abbrev stepped : ℤ → ℤ → ℤ → StepResult
     stepped x y z = if_true (is_beyond (x +ℤ z) y z) (λ _. goes_to exit (passed code input s))
         (λ _. put_number (passed code input s) counter (x +ℤ z))
 
-    abbrev reads : ℕ → (ℤ → Stepped) → Stepped
+    abbrev reads : ℕ → (ℤ → StepResult) → StepResult
     reads n k = number (passed code input s) n k
 
     step_is : step code input s ≡ reads counter (λ x. reads limit (λ y. reads by (λ z. stepped x y z)))

@@ -22,7 +22,7 @@ use Rattle.alma_code.specs.Carries.{number_at}
 use Rattle.alma_code.specs.Plain.{PlainCode}
 use Rattle.alma_code.specs.Lines.{line_at}
 use Rattle.alma_lower_implements.specs.Implements.{line_in}
-use Rattle.alma_code.specs.Machine.{Failing, Ended, State, Stepped, act, step, step_in, fetch_and_act, with_step_counted, quiet_step}
+use Rattle.alma_code.specs.Machine.{Failing, Ended, State, StepResult, act, step, step_in, fetch_and_act, with_step_counted, quiet_step}
 use Rattle.alma_code.specs.Machine.{ends_in_fault, fails_now, goes_to, prints_bytes, run_faults, as_fault, as_number, number, put_number}
 use Rattle.alma_code.specs.Machine.{to_number, to_place, integer_result, with_slot, with_cell, place, as_place, link, link_to, slot_in}
 use Rattle.alma_code.specs.Machine.{to_link, put_link, put_place, content, as_content, with_known_content, store, gets_stuck, ends_run}
@@ -62,11 +62,11 @@ module _ (code : PlainCode) (input : List ℕ) where
 
   -- ---- words of the machine
 
-  pub number_is : (now : List PlainFrame) (s : State) (n : ℕ) (x : ℤ) (k : ℤ → Stepped) → s.now ≡ now → Holds now n (cell.Int x)
+  pub number_is : (now : List PlainFrame) (s : State) (n : ℕ) (x : ℤ) (k : ℤ → StepResult) → s.now ≡ now → Holds now n (cell.Int x)
       → number s n k ≡ k x
   number_is now s n x k frames h = ap (λ o. as_number o s k) (ap (λ z. slice_get (last_frame z).cells n) frames ∙ h)
 
-  pub place_is : (now : List PlainFrame) (s : State) (n : ℕ) (p : CellPlace) (k : CellPlace → Stepped) → s.now ≡ now
+  pub place_is : (now : List PlainFrame) (s : State) (n : ℕ) (p : CellPlace) (k : CellPlace → StepResult) → s.now ≡ now
       → Holds now n (cell.Place p) → place s n k ≡ k p
   place_is now s n p k frames h = ap (λ o. as_place o s k) (ap (λ z. slice_get (last_frame z).cells n) frames ∙ h)
 
@@ -131,7 +131,7 @@ module _ (code : PlainCode) (input : List ℕ) where
         ∙ number_is now (passed s) b x (λ v. put_number (passed s) a (bit (is_zero v))) h.frames hb)
 
     -- two numbers are read
-    two : (b c : ℕ) (x y : ℤ) (k : ℤ → ℤ → Stepped) → Holds now b (cell.Int x) → Holds now c (cell.Int y)
+    two : (b c : ℕ) (x y : ℤ) (k : ℤ → ℤ → StepResult) → Holds now b (cell.Int x) → Holds now c (cell.Int y)
         → number (passed s) b (λ u. number (passed s) c (λ v. k u v)) ≡ k x y
     two b c x y k hb hc =
         number_is now (passed s) b x (λ u. number (passed s) c (λ v. k u v)) h.frames hb
@@ -197,7 +197,7 @@ module _ (code : PlainCode) (input : List ℕ) where
         ∙ two b c x y (λ u v. integer_result (passed s) (u *ℤ v) (λ z. put_number (passed s) a z)) hb hc
 
     -- a divisor of 0 is a fault, and any other divides
-    abbrev pub divided : ℕ → ℤ → ℤ → Stepped
+    abbrev pub divided : ℕ → ℤ → ℤ → StepResult
     divided a y z = if_true (is_zero y) (λ _. ends_in_fault fault.ZeroDivide (passed s))
         (λ _. integer_result (passed s) z (λ v. put_number (passed s) a v))
 
@@ -228,10 +228,10 @@ module _ (code : PlainCode) (input : List ℕ) where
     abbrev pub HoldsIn : (frame n : ℕ) → Cell → Type 0
     HoldsIn frame n c = slice_get (get_or now frame no_frame).cells n ≡ Some c
 
-    link_is : (n f : ℕ) (k : ℕ → Stepped) → Holds now n (cell.Place (link_to f)) → link (passed s) n k ≡ k f
+    link_is : (n f : ℕ) (k : ℕ → StepResult) → Holds now n (cell.Place (link_to f)) → link (passed s) n k ≡ k f
     link_is n f k hn = place_is now (passed s) n (link_to f) (λ p. k p.frame) h.frames hn
 
-    held_is : (f n : ℕ) (q : CellPlace) (k : CellPlace → Stepped) → HoldsIn f n (cell.Place q)
+    held_is : (f n : ℕ) (q : CellPlace) (k : CellPlace → StepResult) → HoldsIn f n (cell.Place q)
         → as_place (slot_in (passed s) f n) (passed s) k ≡ k q
     held_is f n q k hn = ap (λ o. as_place o (passed s) k) (ap (λ z. slice_get (get_or z f no_frame).cells n) h.frames ∙ hn)
 
@@ -293,7 +293,7 @@ module _ (code : PlainCode) (input : List ℕ) where
         → step code input s ≡ as_content true c (passed s) (λ o. with_known_content (passed s) o (λ v. put_number (passed s) a v))
     unfolding act
     loads a b q c i hb hc =
-        let k : Option ℤ → Stepped = λ o. with_known_content (passed s) o (λ v. put_number (passed s) a v) in
+        let k : Option ℤ → StepResult = λ o. with_known_content (passed s) o (λ v. put_number (passed s) a v) in
         does line at now held s (I.Load a b) h i
         ∙ place_is now (passed s) b q (λ p. content (passed s) p.frame p.slot k) h.frames hb
         ∙ ap (λ z. as_content (number_at z q.frame q.slot) (cell_at z q.frame q.slot cell.Unset) (passed s) k) h.frames

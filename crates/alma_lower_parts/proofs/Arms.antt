@@ -4,7 +4,7 @@ use Rattle.std.proofs.Common.{add-zero}
 use Rattle.alma_base.specs.declared.number.Range.{Range}
 use Rattle.alma_code.specs.declared.cell.SlotKind.TheVariants as slot
 use Rattle.alma_code.specs.declared.instr.Instr.TheVariants as I
-use Rattle.alma_choice.specs.Emitted.{aimed}
+use Rattle.alma_choice.specs.Emitted.{aim_jump}
 use Rattle.alma_ir.specs.Tree.{Stmts, CaseArms, Else, Expr, Case, no_cases, more_cases}
 use Rattle.alma_ir.specs.Phrases.{stmts_phrases, cases_phrases, else_phrases, expr_phrases}
 use Rattle.alma_ir.specs.Lines.{behind, stmts_with, cases_with, else_with, expr_with}
@@ -15,7 +15,7 @@ use Rattle.alma_lower_work.proofs.Joins.{then_adds, adds_as, holes_as}
 use Rattle.alma_lower_parts.proofs.LoopForms.{turned}
 use Rattle.alma_lower_parts.proofs.CaseForms.{arm_put, cases_put, body_put, dead_put, first_case_put}
 use Rattle.alma_lower_parts.specs.Cases.{PutsAllArms, PutsArmOf}
-use Rattle.alma_lower_templates.specs.Lined.{Lined, own}
+use Rattle.alma_lower_templates.specs.LineInstr.{LineInstr, own}
 use Rattle.alma_lower_templates.specs.Pieces.{behind_labels, passed_over, has_dead}
 use Rattle.alma_lower_templates.specs.Slots.{expr_slots, dead_slots, cases_slots, else_slots}
 use Rattle.alma_lower_templates.specs.Templates as T
@@ -59,7 +59,7 @@ module _ (s : Around) (line : ℕ) where
   pub all_first : (a b c d e f : Front) (value bound exit target : ℕ) (labels : List Range) (body : Stmts) (arms : CaseArms) (rest : Else)
       → PutsArmOf s line value bound a b labels body
       → exit ≡ length b.code → Codes b c (own line (I.Jump 0 ∷ [])) → PutsCases s line value bound exit c d arms → PutsElse s line d e rest
-      → Changes e f (λ xs. aimed xs exit target) → target ≡ length e.code
+      → Changes e f (λ xs. aim_jump xs exit target) → target ≡ length e.code
       → PutsAllArms s line value bound a f (more_cases labels body arms) rest
   unfolding stmts_with stmts_phrases
   all_first a b c d e f value bound exit target [] body arms rest h here j k l m is = absurd h
@@ -96,20 +96,21 @@ module _ (s : Around) (line : ℕ) where
 
   -- the labels, the body, and both jumps of the last label
   pub arm_of : (a b c d e : Front) (value bound low high target : ℕ) (labels : List Range) (body : Stmts) → 0 < length labels
-      → Holes a b (λ to xs. aimed (aimed xs low to) high to)
+      → Holes a b (λ to xs. aim_jump (aim_jump xs low to) high to)
       (λ none at lo ls. own line (all_labels value bound at (behind_all at labels) none labels)) (λ ls. []) (λ ls. ls)
-      → PutsStmts s b c body → target ≡ length c.code + 1 → Changes c d (λ xs. aimed xs low target)
-      → Changes d e (λ xs. aimed xs high target) → PutsArmOf s line value bound a e labels body
+      → PutsStmts s b c body → target ≡ length c.code + 1 → Changes c d (λ xs. aim_jump xs low target)
+      → Changes d e (λ xs. aim_jump xs high target) → PutsArmOf s line value bound a e labels body
   arm_of a b c d e value bound low high target [] body some h j is k l = absurd (omega (arith, some))
   arm_of a b c d e value bound low high target (label ∷ labels) body some h j is k l =
-      let both : Changes c e (λ xs. aimed (aimed xs low target) high target) = record {
-        instrs = l.instrs ∙ ap (λ xs. aimed xs high target) k.instrs;
+      let both : Changes c e (λ xs. aim_jump (aim_jump xs low target) high target) = record {
+        instrs = l.instrs ∙ ap (λ xs. aim_jump xs high target) k.instrs;
         taken = l.taken ∙ k.taken;
         next_slot = l.next_slot ∙ k.next_slot;
         left = l.left ∙ k.left;
         whole = l.whole ∙ k.whole;
       } in
-      arm_put s line a b c e value bound (behind_labels (length a.code) label labels) target (λ to xs. aimed (aimed xs low to) high to)
+      arm_put s line a b c e value bound (behind_labels (length a.code) label labels) target
+      (λ to xs. aim_jump (aim_jump xs low to) high to)
       label labels body refl (holes_as a b _ _ _ _ _ _ _ h (λ to. refl) refl refl) j both is
 
   pub turns_is : (a b : Front) (x y : Stmts) → x ≡ y → Turns a b (behind (stmts_phrases x) a.lines)
@@ -137,7 +138,7 @@ module _ (s : Around) (line : ℕ) where
   pub dead_joined : (a b c d e : Front) (before exit : ℕ) (arms : CaseArms) → has_dead arms ≡ true → a.lines ≡ drop before a.all_lines
       → exit ≡ length a.code → Codes a b (own line (I.Jump 0 ∷ [])) → PutsDeadBodies s b c arms
       → d.code ≡ c.code → d.kinds ≡ c.kinds → d.next ≡ c.next → d.lines ≡ drop before c.all_lines → d.all_lines ≡ c.all_lines
-      → Changes d e (λ xs. aimed xs exit (length d.code + 0)) → PutsDead s line a e arms
+      → Changes d e (λ xs. aim_jump xs exit (length d.code + 0)) → PutsDead s line a e arms
   dead_joined a b c d e before exit arms some before_is here h j code kinds next lines whole k =
       let back : Turns c d a.lines = record {
         instrs = code;
@@ -169,7 +170,7 @@ module _ (s : Around) (line : ℕ) where
       let bound_is : bound ≡ under = is2 ∙ dead.all.next_slot
       ∙ ap (λ n. n + length (dead_slots s.program s.routine (cases_with arms b.lines))) h.all.next_slot
       ∙ ap (λ m. low + length (dead_slots s.program s.routine (cases_with arms m))) h.all.left in
-      let all : (value bound at : ℕ) → List Lined = λ value bound at. T.case_code s.program s.tables s.routine line value bound
+      let all : (value bound at : ℕ) → List LineInstr = λ value bound at. T.case_code s.program s.tables s.routine line value bound
       at (under + 2) y (λ next lo. T.else_code s.program s.tables s.routine line next lo
       (else_with rest (behind (cases_phrases arms) ms))) in
       record {

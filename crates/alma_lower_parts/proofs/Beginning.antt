@@ -3,9 +3,9 @@ use Rattle.std.proofs.Common.{◌≡◌, ℕ, suc, ◌+◌, List, [], ◌∷◌,
 use Rattle.std.specs.Prelude.{Result, Ok, Err, OnOk, IfOk}
 use Rattle.alma_code.specs.declared.cell.SlotKind.{SlotKind}
 use Rattle.alma_code.specs.declared.instr.Instr.{Instr}
-use Rattle.alma_choice.specs.Emitted.{aimed, with_target}
+use Rattle.alma_choice.specs.Emitted.{aim_jump, with_target}
 use Rattle.alma_choice.proofs.Aiming.{aim_between}
-use Rattle.alma_lower_templates.specs.Lined.{own}
+use Rattle.alma_lower_templates.specs.LineInstr.{own}
 use Rattle.alma_lower_work.specs.Front.{Front, Holes}
 
 -- what follows on success from two clauses
@@ -18,7 +18,7 @@ pub hole_among : (a b : Front) (line at : ℕ) (before after : (lo : ℕ) → Li
     → b.code ≡ a.code ++ own line (before a.next ++ (i a.next ∷ after a.next)) → b.kinds ≡ a.kinds ++ slots → b.next ≡ a.next + length slots
     → b.lines ≡ a.lines → b.all_lines ≡ a.all_lines
     → at ≡ length a.code + length (before a.next) → with_target (i a.next) 0 ≡ i a.next
-    → Holes a b (λ to xs. aimed xs at to) (λ none at lo ls. own line (before lo ++ (with_target (i lo) none ∷ after lo))) (λ ls. slots)
+    → Holes a b (λ to xs. aim_jump xs at to) (λ none at lo ls. own line (before lo ++ (with_target (i lo) none ∷ after lo))) (λ ls. slots)
     (λ ls. ls)
 hole_among a b line at before after i slots code kinds next lines whole here same =
     let f = before a.next in
@@ -35,10 +35,10 @@ hole_among a b line at before after i slots code kinds next lines whole here sam
         whole = whole;
       };
       fills = λ to ys.
-          ap (λ xs. aimed (xs ++ ys) at to) (code ∙ ap (λ l. a.code ++ l) (two x)
+          ap (λ xs. aim_jump (xs ++ ys) at to) (code ∙ ap (λ l. a.code ++ l) (two x)
           ∙ sym (append_assoc a.code (own line f) (record { line = line; instr = x } ∷ own line g)))
-          ∙ ap (λ xs. aimed xs at to) (append_assoc (a.code ++ own line f) (record { line = line; instr = x } ∷ own line g) ys)
-          ∙ ap (λ n. aimed ((a.code ++ own line f) ++ (record { line = line; instr = x } ∷ (own line g ++ ys))) n to) (here ∙ long)
+          ∙ ap (λ xs. aim_jump xs at to) (append_assoc (a.code ++ own line f) (record { line = line; instr = x } ∷ own line g) ys)
+          ∙ ap (λ n. aim_jump ((a.code ++ own line f) ++ (record { line = line; instr = x } ∷ (own line g ++ ys))) n to) (here ∙ long)
           ∙ aim_between (a.code ++ own line f) (record { line = line; instr = x }) (own line g ++ ys) to
           ∙ sym (append_assoc (a.code ++ own line f) (record { line = line; instr = with_target x to } ∷ own line g) ys)
           ∙ ap (λ l. l ++ ys) (append_assoc a.code (own line f) (record { line = line; instr = with_target x to } ∷ own line g)

@@ -23,11 +23,11 @@ use Rattle.alma_lower_parts.specs.Numbers.{PutsBy, PutsNumber}
 use Rattle.alma_lower_parts.specs.Steps.{PutsSlot}
 use Rattle.alma_lower_parts.proofs.StmtForms.{has_code, long_behind, long_before}
 use Rattle.alma_lower_parts.proofs.With.{no_bare, alone_with, place_with, same_handed}
-use Rattle.alma_lower_templates.specs.Lined.{Lined, own, in_row}
+use Rattle.alma_lower_templates.specs.LineInstr.{LineInstr, own, in_row}
 use Rattle.alma_lower_templates.specs.Slots.{bare, unless_bare, shift_of, handed_slots, call_links, args_slots, expr_slots}
 use Rattle.alma_lower_templates.specs.Slots.{ends_alone, is_straight, own_place, own_root}
 use Rattle.alma_lower_templates.specs.Tables.{is_whole}
-use Rattle.alma_lower_templates.specs.Pieces.{aim, aim_place, fit_code, link_code, placed, put_code, straight, first_argument}
+use Rattle.alma_lower_templates.specs.Pieces.{aim, aim_place, fit_code, link_code, place_code, put_code, straight, first_argument}
 use Rattle.alma_lower_templates.specs.Templates as T
 
 module _ (s : Around) (line : ℕ) where
@@ -57,7 +57,7 @@ module _ (s : Around) (line : ℕ) where
       record { all = subst (λ z. PutsBy z s line range to value a c) is (record { b = b; first = h; second = j }) }
 
   -- the code of a number for a slot
-  abbrev number_code : (to at lo : ℕ) → Expr → Range → List Lined
+  abbrev number_code : (to at lo : ℕ) → Expr → Range → List LineInstr
   number_code to at lo e range =
       put_code (is_straight e range) line to (value_slot s lo e) (fit_code s.tables range (value_slot s lo e))
       (unless_bare (bare e) (T.expr_code s.program s.tables s.routine line at lo e))
@@ -71,7 +71,7 @@ module _ (s : Around) (line : ℕ) where
       u : Expr
       u = expr_with e a.lines
 
-      inner : List Lined
+      inner : List LineInstr
       inner = unless_bare (bare u) (T.expr_code s.program s.tables s.routine line (length a.code) a.next u)
 
       here : (z : Bool) → is_straight e range ≡ z
@@ -178,14 +178,14 @@ module _ (s : Around) (line : ℕ) where
   -- and goes straight to the slot of the argument
   pub made_place_put : (a b c : Front) (to : ℕ) (d : Desig)
       → None ≡ option_map (T.own_slot s.program s.tables s.routine) (own_place d) → PutsDesig s line a b d
-      → Changes b c (λ xs. placed to xs) → PutsPlace s line to a c d
+      → Changes b c (λ xs. place_code to xs) → PutsPlace s line to a c d
   made_place_put a b c to d none h k =
       let u = desig_with d a.lines in
       let e : own_place u ≡ None = place_with d a.lines ∙ no_bare (T.own_slot s.program s.tables s.routine) (own_place d) none in
-      let code : List Lined = T.desig_code s.program s.tables s.routine line (length a.code) a.next u in
+      let code : List LineInstr = T.desig_code s.program s.tables s.routine line (length a.code) a.next u in
       record {
         all = record {
-          instrs = k.instrs ∙ ap (placed to) h.all.instrs
+          instrs = k.instrs ∙ ap (place_code to) h.all.instrs
               ∙ last_behind (aim_place to) a.code code (some_place (length a.code) a.next u e)
               ∙ ap (λ o. a.code ++ T.handed_code s.program s.tables s.routine o line to code) (sym e);
           taken = k.taken ∙ h.all.taken;
@@ -222,7 +222,7 @@ module _ (s : Around) (line : ℕ) where
       let there : to ≡ first = is ∙ h.next_slot in
       let link = own line (T.call_link_code s.program s.tables s.routine called up a.next) in
       let at = length a.code + length link in
-      let code : (to at lo : ℕ) → List Lined = λ to at lo. link ++ T.args_code s.program s.tables s.routine line at to lo u in
+      let code : (to at lo : ℕ) → List LineInstr = λ to at lo. link ++ T.args_code s.program s.tables s.routine line at to lo u in
       record {
         all = adds_as a d _ _ _ _ _ _ (then_adds a b d _ _ _ _ _ _ h (then_adds b c d _ _ _ _ _ _ t j.all))
             (ap (λ n. code to n (a.next + length links + length (handed_slots args))) (add-zero at)
@@ -260,9 +260,9 @@ module _ (s : Around) (line : ℕ) where
       let low : a.next + 1 + 1 ≡ a.next + 2 = omega arith in
       let low2 : c.next ≡ a.next + 2 = omega (arith, t.next_slot, h.next_slot) in
       let mine : mark ≡ a.next + 1 = is2 ∙ h.next_slot in
-      let link : ℕ → List Lined = λ lo. own line (T.call_link_code s.program s.tables s.routine called up lo) in
+      let link : ℕ → List LineInstr = λ lo. own line (T.call_link_code s.program s.tables s.routine called up lo) in
       let front : ℕ → ℕ = λ lo. T.arguments_from s.program s.tables s.routine called up lo in
-      let code : ℕ → List Lined = λ lo. in_row at (link lo)
+      let code : ℕ → List LineInstr = λ lo. in_row at (link lo)
       (λ next. T.args_code s.program s.tables s.routine line next (front lo) (front lo + length (handed_slots u)) u) in
       let there : first ≡ first_slot s called up (a.next + 2) u = is3 ∙ ap (λ n. first_slot s called up n args) low2
       ∙ ap (λ k. first_argument (shift_of s.program called + length k)

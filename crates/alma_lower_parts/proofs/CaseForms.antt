@@ -4,7 +4,7 @@ use Rattle.std.proofs.Common.{arith, append_assoc, length-append, add-zero}
 use Rattle.alma_base.specs.declared.number.Range.{Range}
 use Rattle.alma_code.specs.declared.instr.Instr.{Instr}
 use Rattle.alma_code.specs.declared.instr.Instr.TheVariants as I
-use Rattle.alma_choice.specs.Emitted.{aimed}
+use Rattle.alma_choice.specs.Emitted.{aim_jump}
 use Rattle.alma_ir.specs.declared.phrase.CaseArm.{CaseArm}
 use Rattle.alma_ir.specs.Tree.{Stmts, CaseArms, Else, no_cases, more_cases, no_else, else_part}
 use Rattle.alma_ir.specs.View.{cases_list, stmts_list}
@@ -17,7 +17,7 @@ use Rattle.alma_lower_parts.proofs.LabelForms.{test_long, code_long}
 use Rattle.alma_lower_work.proofs.Small.{drop_one}
 use Rattle.alma_lower_work.proofs.Joins.{nothing, then_adds, adds_as, turned_back, adds_code, only_code, filled, over, address_behind}
 use Rattle.alma_lower_work.proofs.Joins.{own_two}
-use Rattle.alma_lower_templates.specs.Lined.{Lined, own}
+use Rattle.alma_lower_templates.specs.LineInstr.{LineInstr, own}
 use Rattle.alma_lower_templates.specs.Slots.{stmts_slots, dead_slots, cases_slots, else_slots}
 use Rattle.alma_lower_templates.specs.Pieces.{test_size, label_code, labels_code, behind_labels, case_arm, passed_over, has_dead}
 use Rattle.alma_lower_templates.specs.Templates as T
@@ -73,7 +73,8 @@ module _ (s : Around) (line : ℕ) where
       far ∙ labels_end value bound next hit miss label2 rest
 
   -- the labels, the body, and both jumps of the last label aimed behind the jump that follows
-  pub arm_put : (a b c d : Front) (value bound hit target : ℕ) (aim : ℕ → List Lined → List Lined) (label : Range) (rest : List Range)
+  pub arm_put : (a b c d : Front) (value bound hit target : ℕ) (aim : ℕ → List LineInstr → List LineInstr) (label : Range)
+      (rest : List Range)
       (body : Stmts) → hit ≡ behind_labels (length a.code) label rest
       → Holes a b aim (λ miss at lo ls. own line (labels_code value bound at hit miss label rest)) (λ ls. []) (λ ls. ls)
       → PutsStmts s b c body → Changes c d (aim target) → target ≡ length c.code + 1
@@ -83,10 +84,10 @@ module _ (s : Around) (line : ℕ) where
       let x = stmts_with body a.lines in
       let count : (miss : ℕ) → at + length (own line (labels_code value bound at hit miss label rest)) ≡ behind_labels at label rest =
       λ miss. labels_end value bound at hit miss label rest in
-      let code : (hit miss next lo : ℕ) → List Lined = λ hit miss next lo. own line (labels_code value bound at hit miss label rest)
+      let code : (hit miss next lo : ℕ) → List LineInstr = λ hit miss next lo. own line (labels_code value bound at hit miss label rest)
       ++ T.stmts_code s.program s.tables s.routine next lo x in
       let here = at + length (own line (labels_code value bound at hit 0 label rest)) in
-      let body_code : (next lo : ℕ) → List Lined = λ next lo. T.stmts_code s.program s.tables s.routine next lo x in
+      let body_code : (next lo : ℕ) → List LineInstr = λ next lo. T.stmts_code s.program s.tables s.routine next lo x in
       record {
         all = adds_as a d _ _ _ _ _ _ (filled a b c d _ _ _ _ aim _ _ target (λ n. n + 1) h j.all k is2)
             (ap (λ lo. own line (labels_code value bound at hit (here + length (body_code here lo) + 1) label rest) ++ body_code here lo)
@@ -101,7 +102,7 @@ module _ (s : Around) (line : ℕ) where
 
   -- ---- arms behind the first that has a label
 
-  pub cases_split : (value bound exit at lo : ℕ) (arms : CaseArms) (otherwise : (at lo : ℕ) → List Lined)
+  pub cases_split : (value bound exit at lo : ℕ) (arms : CaseArms) (otherwise : (at lo : ℕ) → List LineInstr)
       → T.cases_code s.program s.tables s.routine line value bound exit at lo arms otherwise
       ≡ T.cases_code s.program s.tables s.routine line value bound exit at lo arms (λ next behind. [])
       ++ otherwise (at + length (T.cases_code s.program s.tables s.routine line value bound exit at lo arms (λ next behind. [])))
@@ -169,17 +170,17 @@ module _ (s : Around) (line : ℕ) where
   pub no_dead_put : (a : Front) (arms : CaseArms) → has_dead arms ≡ false → PutsDead s line a a arms
   no_dead_put a arms none =
       let lined : has_dead (cases_with arms a.lines) ≡ false = dead_lined arms a.lines ∙ none in
-      let code : Bool → List Lined = λ some. passed_over some line (length a.code)
+      let code : Bool → List LineInstr = λ some. passed_over some line (length a.code)
       (T.dead_code s.program s.tables s.routine (length a.code + 1) a.next (cases_with arms a.lines)) in
       record { all = adds_as a a _ _ _ _ _ _ (nothing a) (ap code (sym lined)) (sym (no_dead_slots (cases_with arms a.lines) lined)) refl }
 
   -- the jump is aimed behind the bodies, and the lines are those of before
   pub dead_put : (a b c d e : Front) (exit target : ℕ) (arms : CaseArms) → has_dead arms ≡ true → exit ≡ length a.code
       → Codes a b (own line (I.Jump 0 ∷ [])) → PutsDeadBodies s b c arms → Turns c d a.lines
-      → Changes d e (λ xs. aimed xs exit target) → target ≡ length d.code → PutsDead s line a e arms
+      → Changes d e (λ xs. aim_jump xs exit target) → target ≡ length d.code → PutsDead s line a e arms
   dead_put a b c d e exit target arms some here h j t k is =
       let lined : has_dead (cases_with arms a.lines) ≡ true = dead_lined arms a.lines ∙ some in
-      let code : Bool → List Lined = λ some. passed_over some line (length a.code)
+      let code : Bool → List LineInstr = λ some. passed_over some line (length a.code)
       (T.dead_code s.program s.tables s.routine (length a.code + 1) a.next (cases_with arms a.lines)) in
       record {
         all = adds_as a e _ _ _ _ _ _ (over a b d e line exit target (I.Jump 0) _ _ _ (λ n. n) here refl h
@@ -192,7 +193,7 @@ module _ (s : Around) (line : ℕ) where
   pub first_case_put : (a b c d e f : Front) (value bound exit target : ℕ) (label : Range) (labels : List Range) (body : Stmts)
       (arms : CaseArms) (rest : Else) → PutsCaseArm s line value bound a b label labels body
       → exit ≡ length b.code → Codes b c (own line (I.Jump 0 ∷ [])) → PutsCases s line value bound exit c d arms → PutsElse s line d e rest
-      → Changes e f (λ xs. aimed xs exit target) → target ≡ length e.code
+      → Changes e f (λ xs. aim_jump xs exit target) → target ≡ length e.code
       → Adds a f (λ at lo ls. T.case_code s.program s.tables s.routine line value bound at lo
       (cases_with (more_cases (label ∷ labels) body arms) ls)
       (λ next lo. T.else_code s.program s.tables s.routine line next lo
@@ -210,12 +211,12 @@ module _ (s : Around) (line : ℕ) where
       (T.stmts_code s.program s.tables s.routine (behind_labels (length a.code) label labels) a.next x) in
       let jump = length a.code + length first in
       let low = a.next + length (stmts_slots s.program s.routine x) in
-      let otherwise : (at lo : ℕ) → List Lined = λ next lo. T.else_code s.program s.tables s.routine line next lo z in
-      let others : ℕ → List Lined = λ exit. T.cases_code s.program s.tables s.routine line value bound exit (jump + 1) low y
+      let otherwise : (at lo : ℕ) → List LineInstr = λ next lo. T.else_code s.program s.tables s.routine line next lo z in
+      let others : ℕ → List LineInstr = λ exit. T.cases_code s.program s.tables s.routine line value bound exit (jump + 1) low y
       (λ next behind. []) in
-      let inner : ℕ → List Lined = λ exit. others exit
+      let inner : ℕ → List LineInstr = λ exit. others exit
       ++ otherwise (jump + 1 + length (others exit)) (low + length (cases_slots s.program s.routine y)) in
-      let code : List Lined → List Lined = λ c. first ++ (own line (I.Jump (jump + 1 + length c) ∷ []) ++ c) in
+      let code : List LineInstr → List LineInstr = λ c. first ++ (own line (I.Jump (jump + 1 + length c) ∷ []) ++ c) in
       let out : exit ≡ jump = here ∙ address_behind a b _ _ _ h.all in
       adds_as a f _ _ _ _ _ _ (then_adds a b f _ _ _ _ _ _ h.all
       (over b c e f line exit target (I.Jump 0) _ _ _ (λ n. n) here refl j (then_adds c d e _ _ _ _ _ _ k.all l.all) m is))

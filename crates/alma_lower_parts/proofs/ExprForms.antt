@@ -16,7 +16,7 @@ use Rattle.alma_lower_work.specs.Puts.{stand_of, value_slot, behind_sign}
 use Rattle.alma_lower_work.proofs.Joins.{nothing, then_adds, adds_as, adds_code, only_code, slot_adds}
 use Rattle.alma_lower_parts.proofs.With.{bare_slots}
 use Rattle.alma_lower_parts.proofs.With.{no_bare, own_desig, own_expr, own_desig_passes, own_expr_passes, stays_with, taken_with}
-use Rattle.alma_lower_templates.specs.Lined.{Lined, own, in_row}
+use Rattle.alma_lower_templates.specs.LineInstr.{LineInstr, own, in_row}
 use Rattle.alma_lower_templates.specs.Tables.{range_number}
 use Rattle.alma_lower_templates.specs.Slots.{bare_desig, bare, own_place, stays, stays_in, taken_from, unless_bare, expr_slots, desig_slots}
 use Rattle.alma_lower_templates.specs.Pieces.{op_code, cmp_code, neg_code}
@@ -122,7 +122,7 @@ module _ (s : Around) (line : ℕ) where
           let y = desig_with x a.lines in
           let z : bare_desig y ≡ Some n = own_desig x a.lines ∙ e in
           let place = unless_bare (own_place y) (T.desig_code s.program s.tables s.routine line (length a.code) (a.next + 1) y) in
-          let code : Option ℕ → List Lined = λ o.
+          let code : Option ℕ → List LineInstr = λ o.
           unless_bare o place ++ own line (T.load_by s.program s.tables s.routine o a.next y ∷ []) in
           record {
             all = adds_as a c _ _ _ _ _ _ (slot_adds a b c _ _ _ _ h (only_code b c _ k))
@@ -148,7 +148,8 @@ module _ (s : Around) (line : ℕ) where
       let there : place ≡ T.held_at s.program s.tables s.routine (a.next + 1) y = is2
       ∙ ap (λ n. T.held_at s.program s.tables s.routine n (desig_with x b.lines)) h.next_slot
       ∙ ap (λ n. T.held_at s.program s.tables s.routine (a.next + 1) (desig_with x n)) h.left in
-      let code : List Lined = unless_bare (own_place y) (T.desig_code s.program s.tables s.routine line (length a.code) (a.next + 1) y) in
+      let code : List LineInstr = unless_bare (own_place y) (T.desig_code s.program s.tables s.routine line (length a.code) (a.next + 1) y)
+      in
       record {
         all = adds_as a d _ _ _ _ _ _ (slot_adds a b d _ _ _ _ h (adds_code b c d _ _ _ _ j.all k))
             (ap (λ n. code ++ own line (I.Load n place ∷ [])) is ∙ ap (λ n. code ++ own line (I.Load a.next n ∷ [])) there
@@ -207,7 +208,7 @@ module _ (s : Around) (line : ℕ) where
       let v = links_with links ls in
       let o = taken_from negated e links in
       let stay = T.slot_or s.program s.tables s.routine o a.next in
-      let code : Option ℕ → List Instr → (from to : ℕ) → List Lined = λ o sign from to.
+      let code : Option ℕ → List Instr → (from to : ℕ) → List LineInstr = λ o sign from to.
       in_row (length a.code) (unless_bare o (T.expr_code s.program s.tables s.routine line (length a.code) a.next x) ++ own line sign)
       (λ next. T.links_code s.program s.tables s.routine line next from to lo v) in
       record {
@@ -238,7 +239,7 @@ module _ (s : Around) (line : ℕ) where
       let there : other ≡ value_slot s lo (expr_with y ls) = is3 ∙ ap (λ n. value_slot s n (expr_with y b.lines)) h.all.next_slot
       ∙ ap (λ n. value_slot s lo (expr_with y n)) h.all.left in
       let all = adds_code a c d _ _ _ _ (then_adds a b c _ _ _ _ _ _ h.all j.all) k in
-      let code : Option ℕ → (from to other : ℕ) → List Lined = λ o from to other.
+      let code : Option ℕ → (from to other : ℕ) → List LineInstr = λ o from to other.
       in_row (length a.code) (unless_bare o (T.expr_code s.program s.tables s.routine line (length a.code) a.next (expr_with x a.lines)))
       (λ next. unless_bare (bare (expr_with y ls)) (T.expr_code s.program s.tables s.routine line next lo (expr_with y ls)))
       ++ own line (cmp_code how to from other) in

@@ -5,7 +5,7 @@ use Rattle.std.proofs.lemmas.List.{append-nil}
 use Rattle.alma_code.specs.declared.cell.SlotKind.{SlotKind}
 use Rattle.alma_code.specs.declared.cell.SlotKind.TheVariants as slot
 use Rattle.alma_code.specs.declared.instr.Instr.TheVariants as I
-use Rattle.alma_choice.specs.Emitted.{aimed}
+use Rattle.alma_choice.specs.Emitted.{aim_jump}
 use Rattle.alma_ir.specs.Tree.{Stmts, Arms, Test, Expr, Value, no_arms, more_arms}
 use Rattle.alma_ir.specs.Phrases.{stmts_phrases, arms_phrases, test_phrases}
 use Rattle.alma_ir.specs.Lines.{behind, stmts_with, arms_with, test_with, expr_with}
@@ -15,15 +15,15 @@ use Rattle.alma_lower_work.specs.Puts.{PutsValue, PutsTest, PutsGuard, PutsGuard
 use Rattle.alma_lower_work.proofs.Joins.{nothing, then_adds, adds_as, adds_code, hole_put, adds_holes, holes_adds, holes_code, holes_as}
 use Rattle.alma_lower_work.proofs.Joins.{filled}
 use Rattle.alma_lower_parts.proofs.With.{simple_test}
-use Rattle.alma_lower_templates.specs.Lined.{Lined, own}
+use Rattle.alma_lower_templates.specs.LineInstr.{LineInstr, own}
 use Rattle.alma_lower_templates.specs.Slots.{bare, unless_bare, is_simple, mark_slots, test_slots, stmts_slots, arms_slots}
 use Rattle.alma_lower_templates.specs.Slots.{behind_condition, behind_stmts}
-use Rattle.alma_lower_templates.specs.Pieces.{condition, guarded, begin_first}
+use Rattle.alma_lower_templates.specs.Pieces.{condition, guard_code, begin_first}
 use Rattle.alma_lower_templates.specs.Templates as T
 
 module _ (s : Around) (line : ℕ) where
   -- a condition, as its template has it
-  abbrev pub condition_code : (none at lo : ℕ) → Test → List Lined
+  abbrev pub condition_code : (none at lo : ℕ) → Test → List LineInstr
   condition_code none at lo t =
       condition (is_simple t) line at lo none (λ at lo none. T.jump_code s.program s.tables s.routine line at lo none t)
       (λ at lo. T.test_code s.program s.tables s.routine line at lo t)
@@ -33,7 +33,8 @@ module _ (s : Around) (line : ℕ) where
 
   pub simple_guard : (a b c : Front) (e : Expr) (value jump : ℕ) → is_simple (Value e) ≡ true → PutsValue s line a b e
       → value ≡ value_slot s a.next (expr_with e a.lines)
-      → jump ≡ length b.code → Codes b c (own line (I.JumpZero value 0 ∷ [])) → PutsGuard s line a c (λ to xs. aimed xs jump to) (Value e)
+      → jump ≡ length b.code → Codes b c (own line (I.JumpZero value 0 ∷ []))
+      → PutsGuard s line a c (λ to xs. aim_jump xs jump to) (Value e)
   unfolding stmts_with stmts_phrases
   simple_guard a b c e value jump simple h is here j =
       let t = test_with (Value e) a.lines in
@@ -49,7 +50,7 @@ module _ (s : Around) (line : ℕ) where
             (append-nil _ ∙ sym (ap (λ x. mark_slots x ++ test_slots s.program s.routine t) easy)) refl;
       }
 
-  pub barrier_guard : (a b c d : Front) (t : Test) (mark : ℕ) (aim : ℕ → List Lined → List Lined) → is_simple t ≡ false
+  pub barrier_guard : (a b c d : Front) (t : Test) (mark : ℕ) (aim : ℕ → List LineInstr → List LineInstr) → is_simple t ≡ false
       → Holes a b aim (λ none at lo ls. begin_first line lo none) (λ ls. slot.Mark ∷ []) (λ ls. ls)
       → mark ≡ a.next → PutsTest s line b c t → Codes c d (own line (I.Cut mark ∷ [])) → PutsGuard s line a d aim t
   barrier_guard a b c d t mark aim simple h is j k =
@@ -67,11 +68,11 @@ module _ (s : Around) (line : ℕ) where
       }
 
   -- a condition and what is done where it has an alternative; else the code goes on so far behind that
-  abbrev pub guarded_code : (skip at lo : ℕ) → Test → Stmts → List Lined
-  guarded_code skip at lo t body = guarded at skip (λ none. condition_code none at lo t)
+  abbrev pub guarded_code : (skip at lo : ℕ) → Test → Stmts → List LineInstr
+  guarded_code skip at lo t body = guard_code at skip (λ none. condition_code none at lo t)
       (λ next. T.stmts_code s.program s.tables s.routine next (behind_condition s.program s.routine lo t) body)
 
-  pub guarded_put : (a b c d : Front) (t : Test) (body : Stmts) (aim : ℕ → List Lined → List Lined) (skip target : ℕ)
+  pub guarded_put : (a b c d : Front) (t : Test) (body : Stmts) (aim : ℕ → List LineInstr → List LineInstr) (skip target : ℕ)
       → PutsGuard s line a b aim t → PutsStmts s b c body → Changes c d (aim target)
       → target ≡ length c.code + skip → PutsGuarded s line skip a d t body
   guarded_put a b c d t body aim skip target h j k is =
@@ -82,14 +83,14 @@ module _ (s : Around) (line : ℕ) where
       omega (arith, length-append (mark_slots (is_simple u)) (test_slots s.program s.routine u)) in
       record {
         all = adds_as a d _ _ _ _ _ _ (filled a b c d _ _ _ _ aim _ _ target (λ n. n + skip) h.all j.all k is)
-            (ap (λ n. guarded at skip (λ none. condition_code none at a.next u)
+            (ap (λ n. guard_code at skip (λ none. condition_code none at a.next u)
             (λ next. T.stmts_code s.program s.tables s.routine next n x)) lo) refl refl;
       }
 
   -- ---- IF
 
   -- arms behind the first, and what stands behind them
-  pub arms_split : (exit at lo : ℕ) (arms : Arms) (otherwise : (at lo : ℕ) → List Lined)
+  pub arms_split : (exit at lo : ℕ) (arms : Arms) (otherwise : (at lo : ℕ) → List LineInstr)
       → T.arms_code s.program s.tables s.routine line exit at lo arms otherwise
       ≡ T.arms_code s.program s.tables s.routine line exit at lo arms (λ next behind. [])
       ++ otherwise (at + length (T.arms_code s.program s.tables s.routine line exit at lo arms (λ next behind. [])))

@@ -3,7 +3,7 @@ use Rattle.std.proofs.Common.{◌≡◌, ℕ, ◌+◌, false, List, [], ◌∷�
 use Rattle.std.proofs.lemmas.List.{append-nil}
 use Rattle.alma_code.specs.declared.cell.SlotKind.TheVariants as slot
 use Rattle.alma_code.specs.declared.instr.Instr.TheVariants as I
-use Rattle.alma_choice.specs.Emitted.{aimed}
+use Rattle.alma_choice.specs.Emitted.{aim_jump}
 use Rattle.alma_ir.specs.Tree.{Stmts, Arms, Test, If, While, Repeat, Truth, no_arms, more_arms}
 use Rattle.alma_ir.specs.Phrases.{stmts_phrases, arms_phrases, test_phrases}
 use Rattle.alma_ir.specs.Lines.{behind, stmts_with, arms_with, test_with}
@@ -13,10 +13,10 @@ use Rattle.alma_lower_work.specs.Puts.{PutsExpr, PutsGuard, PutsGuarded, PutsStm
 use Rattle.alma_lower_work.proofs.Joins.{then_adds, adds_as, code_adds, adds_code, slot_adds, closed, over, address_behind}
 use Rattle.alma_lower_parts.proofs.GuardForms.{condition_code, guarded_code, arms_split, four_long}
 use Rattle.alma_lower_parts.proofs.TurnedForms.{turned_with}
-use Rattle.alma_lower_templates.specs.Lined.{Lined, own}
+use Rattle.alma_lower_templates.specs.LineInstr.{LineInstr, own}
 use Rattle.alma_lower_templates.specs.Slots.{is_simple, is_turned, by_turn, mark_slots, test_slots, stmts_slots, arms_slots}
 use Rattle.alma_lower_templates.specs.Slots.{held_constant, held_slots}
-use Rattle.alma_lower_templates.specs.Pieces.{guarded}
+use Rattle.alma_lower_templates.specs.Pieces.{guard_code}
 use Rattle.alma_lower_templates.specs.Templates as T
 use Rattle.alma_lower_templates.proofs.Turned.{while_code}
 
@@ -27,7 +27,7 @@ module _ (s : Around) (line : ℕ) where
 
   pub if_put : (a d e f g h : Front) (exit target : ℕ) (t : Test) (body : Stmts) (arms : Arms) (rest : Stmts)
       → PutsGuarded s line 1 a d t body → exit ≡ length d.code → Codes d e (own line (I.Jump 0 ∷ []))
-      → PutsArms s line exit e f arms → PutsStmts s f g rest → Changes g h (λ xs. aimed xs exit target) → target ≡ length g.code
+      → PutsArms s line exit e f arms → PutsStmts s f g rest → Changes g h (λ xs. aim_jump xs exit target) → target ≡ length g.code
       → PutsStmt s line a h (If (more_arms t body arms) rest)
   unfolding stmts_with stmts_phrases
   if_put a d e f g h exit target t body arms rest x here j k l m is =
@@ -46,12 +46,12 @@ module _ (s : Around) (line : ℕ) where
       let kk = test_slots s.program s.routine u in
       let nn = stmts_slots s.program s.routine b in
       let low = a.next + length mm + length kk + length nn in
-      let otherwise : (at lo : ℕ) → List Lined = λ next lo. T.stmts_code s.program s.tables s.routine next lo z in
-      let others : (exit lo : ℕ) → List Lined = λ exit lo. T.arms_code s.program s.tables s.routine line exit (jump + 1) lo y
+      let otherwise : (at lo : ℕ) → List LineInstr = λ next lo. T.stmts_code s.program s.tables s.routine next lo z in
+      let others : (exit lo : ℕ) → List LineInstr = λ exit lo. T.arms_code s.program s.tables s.routine line exit (jump + 1) lo y
       (λ next behind. []) in
-      let inner : (exit lo : ℕ) → List Lined = λ exit lo. others exit lo ++ otherwise (jump + 1 + length (others exit lo))
+      let inner : (exit lo : ℕ) → List LineInstr = λ exit lo. others exit lo ++ otherwise (jump + 1 + length (others exit lo))
       (lo + length (arms_slots s.program s.routine y)) in
-      let code : List Lined → List Lined = λ c. first ++ (own line (I.Jump (jump + 1 + length c) ∷ []) ++ c) in
+      let code : List LineInstr → List LineInstr = λ c. first ++ (own line (I.Jump (jump + 1 + length c) ∷ []) ++ c) in
       let out : exit ≡ jump = here ∙ address_behind a d _ _ _ x.all in
       let all = then_adds a d h _ _ _ _ _ _ x.all
       (over d e g h line exit target (I.Jump 0) _ _ _ (λ n. n) here refl j (then_adds e f g _ _ _ _ _ _ k.all l.all) m is) in
@@ -96,7 +96,7 @@ module _ (s : Around) (line : ℕ) where
             (sym (behind_two (test_phrases t) (stmts_phrases body) ls));
       }
 
-  pub repeat_put : (a b c d : Front) (top : ℕ) (aim : ℕ → List Lined → List Lined) (body : Stmts) (t : Test) → top ≡ length a.code
+  pub repeat_put : (a b c d : Front) (top : ℕ) (aim : ℕ → List LineInstr → List LineInstr) (body : Stmts) (t : Test) → top ≡ length a.code
       → PutsStmts s a b body → PutsGuard s line b c aim t → Changes c d (aim top)
       → PutsStmt s line a d (Repeat body t)
   unfolding stmts_with stmts_phrases
@@ -111,7 +111,7 @@ module _ (s : Around) (line : ℕ) where
             refl (sym (behind_two (stmts_phrases body) (test_phrases t) ls));
       }
 
-  pub truth_put : (a b c d e : Front) (to target jump : ℕ) (aim : ℕ → List Lined → List Lined) (t : Test) → Takes a b slot.Number
+  pub truth_put : (a b c d e : Front) (to target jump : ℕ) (aim : ℕ → List LineInstr → List LineInstr) (t : Test) → Takes a b slot.Number
       → to ≡ a.next → PutsGuard s line b c aim t → Changes c d (aim target)
       → target ≡ length c.code + 2 → jump ≡ length d.code + 3
       → Codes d e (own line (I.Const to (pos 1) ∷ I.Jump jump ∷ I.Const to (pos 0) ∷ [])) → PutsExpr s line a e (Truth t)
@@ -120,7 +120,7 @@ module _ (s : Around) (line : ℕ) where
       let u = test_with t a.lines in
       let at = length a.code in
       let lo = a.next + 1 in
-      let cond : ℕ → List Lined = λ n. condition_code s line n at lo u in
+      let cond : ℕ → List LineInstr = λ n. condition_code s line n at lo u in
       let guard = closed b c d _ _ aim _ target j.all k in
       let at2 : length b.code ≡ at = ap length h.instrs in
       let mine : condition_code s line 0 (length b.code) b.next (test_with t b.lines) ≡ cond 0 =
@@ -134,7 +134,7 @@ module _ (s : Around) (line : ℕ) where
       ∙ ap (λ n. condition_code s line target at n (test_with t b.lines)) h.next_slot
       ∙ ap (λ n. condition_code s line target at lo (test_with t n)) h.left in
       let jumps : jump ≡ at + length (cond target) + 3 = omega (arith, is3, address_behind b d _ _ _ guard, at2, ap length mine2) in
-      let whole = guarded at 2 (λ none. cond none) (λ next. []) in
+      let whole = guard_code at 2 (λ none. cond none) (λ next. []) in
       let done : cond target ≡ whole = ap cond far ∙ sym (append-nil (cond (at + length (cond 0) + 0 + 2))) in
       record {
         all = adds_as a e _ _ _ _ _ _ all

@@ -6,14 +6,14 @@ use Rattle.alma_base.specs.Numbers.{int_eq}
 use Rattle.std.proofs.lemmas.List.{append-nil}
 use Rattle.alma_base.specs.declared.number.Range.{Range}
 use Rattle.alma_code.specs.declared.instr.Instr.TheVariants as I
-use Rattle.alma_choice.specs.Emitted.{aimed}
+use Rattle.alma_choice.specs.Emitted.{aim_jump}
 use Rattle.alma_choice.proofs.Aiming.{aim_between}
 use Rattle.alma_lower_work.specs.Puts.{all_labels, behind_all}
 use Rattle.alma_lower_work.specs.Front.{Front, Codes, Changes, Holes}
 use Rattle.alma_lower_work.proofs.Joins.{code_code, adds_code, code_holes, holes_as, own_two, closed, only_code, address_after}
 use Rattle.alma_lower_work.proofs.Joins.{address_behind}
 use Rattle.alma_lower_parts.specs.Labels.{between_test, single_test}
-use Rattle.alma_lower_templates.specs.Lined.{Lined, own}
+use Rattle.alma_lower_templates.specs.LineInstr.{LineInstr, own}
 use Rattle.alma_lower_templates.specs.Pieces.{label_test, test_size, label_code, labels_code}
 
 -- a label in place of one that is not there
@@ -24,22 +24,23 @@ no_range = record { low = pos 0; high = pos 0 }
 pub single_holes : (a b c d : Front) (line value bound test jump : ℕ) (number given : ℤ) → test ≡ bound + 1 → given ≡ number
     → Codes a b (own line (I.Const bound given ∷ [])) → Codes b c (own line (I.Equal test bound value ∷ [])) → jump ≡ length c.code
     → Codes c d (own line (I.JumpZero test 0 ∷ []))
-    → Holes a d (λ to xs. aimed (aimed xs jump to) jump to) (λ none at lo ls. own line (single_test value bound none number)) (λ ls. [])
+    → Holes a d (λ to xs. aim_jump (aim_jump xs jump to) jump to) (λ none at lo ls. own line (single_test value bound none number))
+    (λ ls. [])
     (λ ls. ls)
 single_holes a b c d line value bound test jump number given t is h1 h2 at h3 =
     let xs = a.code in
     let codes = code_code a b d _ _ h1 (code_code b c d _ _ h2 h3) in
     let front = code_code a b c _ _ h1 h2 in
     let two = own line (I.Const bound given ∷ I.Equal test bound value ∷ []) in
-    let all : (test : ℕ) (given : ℤ) (n : ℕ) → List Lined = λ test given n. own line
+    let all : (test : ℕ) (given : ℤ) (n : ℕ) → List LineInstr = λ test given n. own line
     (I.Const bound given ∷ I.Equal test bound value ∷ I.JumpZero test n ∷ []) in
     let said : (n : ℕ) → all test given n ≡ all (bound + 1) number n =
     λ n. ap (λ z. all z given n) t ∙ ap (λ z. all (bound + 1) z n) is in
-    let last : ℕ → Lined = λ n. record { line = line; instr = I.JumpZero test n } in
+    let last : ℕ → LineInstr = λ n. record { line = line; instr = I.JumpZero test n } in
     let here : jump ≡ length (xs ++ two) = at ∙ address_after a c _ front ∙ sym (length-append xs two) in
-    let aim_it : (n to : ℕ) (ys : List Lined)
-    → aimed ((xs ++ two) ++ (last n ∷ ys)) jump to ≡ (xs ++ two) ++ (last to ∷ ys) = λ n to ys.
-    ap (λ k. aimed ((xs ++ two) ++ (last n ∷ ys)) k to) here ∙ aim_between (xs ++ two) (last n) ys to in
+    let aim_it : (n to : ℕ) (ys : List LineInstr)
+    → aim_jump ((xs ++ two) ++ (last n ∷ ys)) jump to ≡ (xs ++ two) ++ (last to ∷ ys) = λ n to ys.
+    ap (λ k. aim_jump ((xs ++ two) ++ (last n ∷ ys)) k to) here ∙ aim_between (xs ++ two) (last n) ys to in
     record {
       all = record {
         instrs = codes.instrs ∙ ap (λ l. xs ++ l) (said 0);
@@ -49,9 +50,10 @@ single_holes a b c d line value bound test jump number given t is h1 h2 at h3 =
         whole = codes.whole;
       };
       fills = λ to ys.
-          ap (λ l. aimed (aimed (l ++ ys) jump to) jump to) codes.instrs
-          ∙ ap (λ l. aimed (aimed l jump to) jump to) (append_assoc xs (all test given 0) ys ∙ sym (append_assoc xs two (last 0 ∷ ys)))
-          ∙ ap (λ l. aimed l jump to) (aim_it 0 to ys)
+          ap (λ l. aim_jump (aim_jump (l ++ ys) jump to) jump to) codes.instrs
+          ∙ ap (λ l. aim_jump (aim_jump l jump to) jump to)
+          (append_assoc xs (all test given 0) ys ∙ sym (append_assoc xs two (last 0 ∷ ys)))
+          ∙ ap (λ l. aim_jump l jump to) (aim_it 0 to ys)
           ∙ aim_it to to ys
           ∙ append_assoc xs two (last to ∷ ys) ∙ sym (append_assoc xs (all test given to) ys)
           ∙ ap (λ l. (xs ++ l) ++ ys) (said to);
@@ -64,12 +66,13 @@ pub between_holes : (a b c d e f g : Front) (line value bound test low high : �
     → Codes c d (own line (I.JumpZero test 0 ∷ []))
     → Codes d e (own line (I.Const bound most ∷ [])) → Codes e f (own line (I.LessEq test value bound ∷ [])) → high ≡ length f.code
     → Codes f g (own line (I.JumpZero test 0 ∷ []))
-    → Holes a g (λ to xs. aimed (aimed xs low to) high to) (λ none at lo ls. own line (between_test value bound none label)) (λ ls. [])
+    → Holes a g (λ to xs. aim_jump (aim_jump xs low to) high to) (λ none at lo ls. own line (between_test value bound none label))
+    (λ ls. [])
     (λ ls. ls)
 between_holes a b c d e f g line value bound test low high label least most t is is2 h1 h2 at1 h3 h4 h5 at2 h6 =
     let xs = a.code in
     let all : (test : ℕ) (least most : ℤ) (n m : ℕ)
-    → List Lined = λ test least most n m. own line
+    → List LineInstr = λ test least most n m. own line
     (I.Const bound least ∷ I.LessEq test bound value ∷ I.JumpZero test n ∷ I.Const bound most ∷ I.LessEq test value bound
     ∷ I.JumpZero test m ∷ []) in
     let codes = code_code a b g _ _ h1 (code_code b c g _ _ h2
@@ -77,10 +80,10 @@ between_holes a b c d e f g line value bound test low high label least most t is
     let front = code_code a b c _ _ h1 h2 in
     let back = code_code a b f _ _ h1 (code_code b c f _ _ h2 (code_code c d f _ _ h3 (code_code d e f _ _ h4 h5))) in
     let two = own line (I.Const bound least ∷ I.LessEq test bound value ∷ []) in
-    let five : ℕ → List Lined = λ n. own line
+    let five : ℕ → List LineInstr = λ n. own line
     (I.Const bound least ∷ I.LessEq test bound value ∷ I.JumpZero test n ∷ I.Const bound most ∷ I.LessEq test value bound ∷ []) in
-    let third : ℕ → Lined = λ n. record { line = line; instr = I.JumpZero test n } in
-    let last : List Lined = own line (I.Const bound most ∷ I.LessEq test value bound ∷ I.JumpZero test 0 ∷ []) in
+    let third : ℕ → LineInstr = λ n. record { line = line; instr = I.JumpZero test n } in
+    let last : List LineInstr = own line (I.Const bound most ∷ I.LessEq test value bound ∷ I.JumpZero test 0 ∷ []) in
     let first : low ≡ length (xs ++ two) = at1 ∙ address_after a c _ front ∙ sym (length-append xs two) in
     let second : (to : ℕ) → high ≡ length (xs ++ five to) = λ to. omega (arith, at2, address_after a f _ back, length-append xs (five to))
     in
@@ -96,20 +99,20 @@ between_holes a b c d e f g line value bound test low high label least most t is
         whole = codes.whole;
       };
       fills = λ to ys.
-          ap (λ l. aimed (aimed (l ++ ys) low to) high to) codes.instrs
-          ∙ ap (λ l. aimed (aimed l low to) high to)
+          ap (λ l. aim_jump (aim_jump (l ++ ys) low to) high to) codes.instrs
+          ∙ ap (λ l. aim_jump (aim_jump l low to) high to)
           (append_assoc xs (all test least most 0 0) ys ∙ sym (append_assoc xs two (third 0 ∷ (last ++ ys))))
-          ∙ ap (λ n. aimed (aimed ((xs ++ two) ++ (third 0 ∷ (last ++ ys))) n to) high to) first
-          ∙ ap (λ l. aimed l high to) (aim_between (xs ++ two) (third 0) (last ++ ys) to)
-          ∙ ap (λ l. aimed l high to) (append_assoc xs two (third to ∷ (last ++ ys)) ∙ sym (append_assoc xs (five to) (third 0 ∷ ys)))
-          ∙ ap (λ n. aimed ((xs ++ five to) ++ (third 0 ∷ ys)) n to) (second to)
+          ∙ ap (λ n. aim_jump (aim_jump ((xs ++ two) ++ (third 0 ∷ (last ++ ys))) n to) high to) first
+          ∙ ap (λ l. aim_jump l high to) (aim_between (xs ++ two) (third 0) (last ++ ys) to)
+          ∙ ap (λ l. aim_jump l high to) (append_assoc xs two (third to ∷ (last ++ ys)) ∙ sym (append_assoc xs (five to) (third 0 ∷ ys)))
+          ∙ ap (λ n. aim_jump ((xs ++ five to) ++ (third 0 ∷ ys)) n to) (second to)
           ∙ aim_between (xs ++ five to) (third 0) ys to
           ∙ append_assoc xs (five to) (third to ∷ ys) ∙ sym (append_assoc xs (all test least most to to) ys)
           ∙ ap (λ l. (xs ++ l) ++ ys) (said to);
     }
 
 -- the test of a label is the one or the other
-pub single_label : (a b : Front) (aim : ℕ → List Lined → List Lined) (line value bound : ℕ) (label : Range)
+pub single_label : (a b : Front) (aim : ℕ → List LineInstr → List LineInstr) (line value bound : ℕ) (label : Range)
     → int_eq label.low label.high ≡ true
     → Holes a b aim (λ none at lo ls. own line (single_test value bound none label.low)) (λ ls. []) (λ ls. ls)
     → Holes a b aim (λ none at lo ls. own line (label_test value bound none label)) (λ ls. []) (λ ls. ls)
@@ -117,7 +120,7 @@ single_label a b aim line value bound label is h =
     holes_as a b _ _ _ _ aim _ _ h
     (λ to. ap (λ z. own line (if z then single_test value bound to label.low else between_test value bound to label)) (sym is)) refl refl
 
-pub between_label : (a b : Front) (aim : ℕ → List Lined → List Lined) (line value bound : ℕ) (label : Range)
+pub between_label : (a b : Front) (aim : ℕ → List LineInstr → List LineInstr) (line value bound : ℕ) (label : Range)
     → int_eq label.low label.high ≡ false
     → Holes a b aim (λ none at lo ls. own line (between_test value bound none label)) (λ ls. []) (λ ls. ls)
     → Holes a b aim (λ none at lo ls. own line (label_test value bound none label)) (λ ls. []) (λ ls. ls)
@@ -136,13 +139,13 @@ test_long line value bound miss label = by (int_eq label.low label.high)
 
 -- a label that is not the last: both jumps go behind the jump to the body
 pub label_done : (a b c d e : Front) (line value bound hit low high behind : ℕ) (label : Range)
-    → Holes a b (λ to xs. aimed (aimed xs low to) high to) (λ none at lo ls. own line (label_test value bound none label)) (λ ls. [])
+    → Holes a b (λ to xs. aim_jump (aim_jump xs low to) high to) (λ none at lo ls. own line (label_test value bound none label)) (λ ls. [])
     (λ ls. ls) → behind ≡ length b.code + 1
-    → Changes b c (λ xs. aimed xs low behind) → Changes c d (λ xs. aimed xs high behind) → Codes d e (own line (I.Jump hit ∷ []))
+    → Changes b c (λ xs. aim_jump xs low behind) → Changes c d (λ xs. aim_jump xs high behind) → Codes d e (own line (I.Jump hit ∷ []))
     → Codes a e (own line (label_code value bound (length a.code) hit label))
 label_done a b c d e line value bound hit low high behind label h is x y j =
-    let both : Changes b d (λ xs. aimed (aimed xs low behind) high behind) = record {
-      instrs = y.instrs ∙ ap (λ l. aimed l high behind) x.instrs;
+    let both : Changes b d (λ xs. aim_jump (aim_jump xs low behind) high behind) = record {
+      instrs = y.instrs ∙ ap (λ l. aim_jump l high behind) x.instrs;
       taken = y.taken ∙ x.taken;
       next_slot = y.next_slot ∙ x.next_slot;
       left = y.left ∙ x.left;
@@ -181,7 +184,7 @@ more_behind at label [] some = absurd (omega (arith, some))
 more_behind at label (label2 ∷ rest) some = refl
 
 -- a label, and then the others
-pub more_labels : (a b c : Front) (line value bound hit : ℕ) (aim : ℕ → List Lined → List Lined) (label : Range) (rest : List Range)
+pub more_labels : (a b c : Front) (line value bound hit : ℕ) (aim : ℕ → List LineInstr → List LineInstr) (label : Range) (rest : List Range)
     → 0 < length rest → Codes a b (own line (label_code value bound (length a.code) hit label))
     → Holes b c aim (λ none at lo ls. own line (all_labels value bound at hit none rest)) (λ ls. []) (λ ls. ls)
     → Holes a c aim (λ none at lo ls. own line (all_labels value bound at hit none (label ∷ rest))) (λ ls. []) (λ ls. ls)

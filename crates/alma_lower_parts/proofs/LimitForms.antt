@@ -13,7 +13,7 @@ use Rattle.alma_lower_parts.specs.Loops.{PutsFirstCount, PutsLimit}
 use Rattle.alma_lower_parts.specs.Steps.{BeginsSome}
 use Rattle.alma_lower_parts.proofs.StmtForms.{has_code}
 use Rattle.alma_lower_parts.proofs.With.{own_expr, alone_with, constant_with}
-use Rattle.alma_lower_templates.specs.Lined.{Lined, own}
+use Rattle.alma_lower_templates.specs.LineInstr.{LineInstr, own}
 use Rattle.alma_lower_templates.specs.Slots.{bare, unless_bare, constant, ends_alone}
 use Rattle.alma_lower_templates.specs.Pieces.{aim, straight, count_from, unless_constant, limit_code}
 use Rattle.alma_lower_templates.specs.Templates as T
@@ -31,7 +31,7 @@ front_put a b c d e line known counter limit step first more h is j k l =
     let over : length c.code + 3 ≡ length b.code + 5 = omega (arith, c0) in
     let turn : length d.code + 4 ≡ length b.code + 8 = omega (arith, c0, d0) in
     let retry : length d.code ≡ length b.code + 4 = omega (arith, c0, d0) in
-    let all : (more over turn retry : ℕ) → List Lined = λ more over turn retry. own line
+    let all : (more over turn retry : ℕ) → List LineInstr = λ more over turn retry. own line
     (count_from known counter first ∷ I.LessEq first counter limit ∷ I.Check first ∷ I.Jump over ∷ I.Add counter counter step
     ∷ I.Less more counter limit ∷ I.JumpZero more turn ∷ I.Choose retry ∷ []) in
     record {
@@ -70,7 +70,7 @@ module _ (s : Around) (line : ℕ) where
       → Changes b c (λ xs. straight limit xs) → PutsLimit s line limit a c e
   straight_limit a b c limit e alone h k =
       let v = expr_with e a.lines in
-      let code : List Lined = T.expr_code s.program s.tables s.routine line (length a.code) a.next v in
+      let code : List LineInstr = T.expr_code s.program s.tables s.routine line (length a.code) a.next v in
       let ends : ends_alone v ≡ true = alone_with e a.lines ∙ sym alone in
       record {
         all = record {
@@ -91,7 +91,7 @@ module _ (s : Around) (line : ℕ) where
       → Codes b c (own line (I.Move limit value ∷ [])) → PutsLimit s line limit a c e
   moved_limit a b c limit value e alone is h k =
       let v = expr_with e a.lines in
-      let code : List Lined = T.expr_code s.program s.tables s.routine line (length a.code) a.next v in
+      let code : List LineInstr = T.expr_code s.program s.tables s.routine line (length a.code) a.next v in
       let there : value ≡ value_slot s a.next v =
       is ∙ ap (λ o. T.slot_or s.program s.tables s.routine o a.next) (sym (own_expr e a.lines)) in
       record {

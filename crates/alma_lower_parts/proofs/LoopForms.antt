@@ -7,7 +7,7 @@ use Rattle.alma_base.specs.declared.number.Range.{Range}
 use Rattle.alma_code.specs.declared.cell.SlotKind.{SlotKind}
 use Rattle.alma_code.specs.declared.cell.SlotKind.TheVariants as slot
 use Rattle.alma_code.specs.declared.instr.Instr.TheVariants as I
-use Rattle.alma_choice.specs.Emitted.{aimed}
+use Rattle.alma_choice.specs.Emitted.{aim_jump}
 use Rattle.alma_ir.specs.Tree.{Stmts, Expr, Desig, ForTo, SomeOf, a_loop}
 use Rattle.alma_ir.specs.Phrases.{stmts_phrases, expr_phrases, desig_phrases}
 use Rattle.alma_ir.specs.Lines.{behind, stmts_with, expr_with, desig_with}
@@ -21,14 +21,14 @@ use Rattle.alma_lower_parts.specs.Steps.{some_front}
 use Rattle.alma_lower_parts.proofs.TestForms.{located}
 use Rattle.alma_lower_parts.proofs.StmtForms.{set_is}
 use Rattle.alma_lower_parts.proofs.With.{constant_with}
-use Rattle.alma_lower_templates.specs.Lined.{Lined, own, in_row}
+use Rattle.alma_lower_templates.specs.LineInstr.{LineInstr, own, in_row}
 use Rattle.alma_lower_templates.specs.Slots.{bare, bare_desig, unless_bare, constant, ends_alone, expr_slots, desig_slots, stmts_slots}
 use Rattle.alma_lower_templates.specs.Pieces.{unless_constant, limit_code, bounds_code, begin_loop, turn_code}
 use Rattle.alma_lower_templates.specs.Templates as T
 
 module _ (s : Around) (line : ℕ) where
   -- from other lines on
-  pub turned : (a b c : Front) (ls : List ℕ) (g : (at lo : ℕ) → List ℕ → List Lined) (l : List ℕ → List SlotKind) (q : List ℕ → List ℕ)
+  pub turned : (a b c : Front) (ls : List ℕ) (g : (at lo : ℕ) → List ℕ → List LineInstr) (l : List ℕ → List SlotKind) (q : List ℕ → List ℕ)
       → Turns a b ls → Adds b c g l q
       → Adds a c (λ at lo ms. g at lo ls) (λ ms. l ls) (λ ms. q ls)
   turned a b c ls g l q h j = record {
@@ -43,10 +43,10 @@ module _ (s : Around) (line : ℕ) where
   -- ---- what comes before the turns
 
   -- the codes of the first count and of the limit
-  abbrev pub first_code : (at lo : ℕ) → Expr → List Lined
+  abbrev pub first_code : (at lo : ℕ) → Expr → List LineInstr
   first_code at lo e = unless_constant (constant e) (T.expr_code s.program s.tables s.routine line at lo e)
 
-  abbrev pub last_code : (limit at lo : ℕ) → Expr → List Lined
+  abbrev pub last_code : (limit at lo : ℕ) → Expr → List LineInstr
   last_code limit at lo e = limit_code (ends_alone e) line limit (value_slot s lo e)
       (unless_bare (bare e) (T.expr_code s.program s.tables s.routine line at lo e))
 
@@ -79,7 +79,7 @@ module _ (s : Around) (line : ℕ) where
       Adds a b (λ at lo ls. own line (T.count_code s.program s.tables s.routine (bare_desig d) range counter lo))
       (λ ls. unless_bare (bare_desig d) (slot.Number ∷ [])) (λ ls. ls)
 
-  locate_code : (o : Option ℕ) (low low2 : ℕ) (code : ℕ → List Lined) → (o ≡ None → low ≡ low2)
+  locate_code : (o : Option ℕ) (low low2 : ℕ) (code : ℕ → List LineInstr) → (o ≡ None → low ≡ low2)
       → unless_bare o (code low) ≡ unless_bare o (code low2)
   locate_code (Some x) low low2 code h = refl
   locate_code None low low2 code h = ap code (h refl)
@@ -115,7 +115,7 @@ module _ (s : Around) (line : ℕ) where
       let o = bare_desig u in
       let at = length a.code in
       let check = own line (T.count_code s.program s.tables s.routine o range counter a.next) in
-      let locate : ℕ → List Lined = λ low. unless_bare o (located s line (at + length check) low u) in
+      let locate : ℕ → List LineInstr = λ low. unless_bare o (located s line (at + length check) low u) in
       let low = a.next + length (unless_bare o (slot.Number ∷ [])) in
       let k1 = unless_bare o (slot.Number ∷ []) in
       let k2 = unless_bare o (desig_slots s.program s.routine u) in
@@ -128,7 +128,7 @@ module _ (s : Around) (line : ℕ) where
       ∙ ap (λ n. T.set_code s.program s.tables s.routine (a.next + 1) n u) is in
       let first = then_adds a b c _ _ _ _ _ _ h j.all in
       let all = then_adds a d f _ _ _ _ _ _ (adds_code a c d _ _ _ _ first k) (turned d e f ls _ _ _ t l.all) in
-      let body_code : (at lo : ℕ) → List Lined = λ at lo. T.stmts_code s.program s.tables s.routine at lo (stmts_with body ls) in
+      let body_code : (at lo : ℕ) → List LineInstr = λ at lo. T.stmts_code s.program s.tables s.routine at lo (stmts_with body ls) in
       let store = own line (T.set_code s.program s.tables s.routine (a.next + 1) (count_of counter a.next u) u ∷ []) in
       let place = locate (a.next + 1) in
       let under : a.next + length (k1 ++ k2) ≡ a.next + length k3 =
@@ -169,13 +169,13 @@ module _ (s : Around) (line : ℕ) where
       → known ≡ constant from
       → Turns a a1 (behind (desig_phrases x) a.lines) → Takes a1 b slot.Number → step ≡ a1.next
       → Codes b c (own line (I.Const step by ∷ [])) → PutsFirstCount s line c d from → first ≡ c.next → PutsLimit s line limit d e to
-      → Holes e f (λ to xs. aimed xs jump to) (λ empty at lo ls. own line (bounds_code by known counter limit first empty)) (λ ls. [])
+      → Holes e f (λ to xs. aim_jump xs jump to) (λ empty at lo ls. own line (bounds_code by known counter limit first empty)) (λ ls. [])
       (λ ls. ls) → Turns f g a.lines
       → PutsCount range counter g h (desig_with x g.lines) → count ≡ count_of counter g.next (desig_with x g.lines)
       → PutsTarget s line h i x → stand ≡ stand_of s h.next (desig_with x h.lines)
       → Codes i j (own line (set_instr stand count ∷ [])) → Turns j k e.lines → PutsStmts s k l body → top ≡ length f.code
       → out ≡ length l.code + 2 → Codes l m (own line (I.Step counter limit step out ∷ I.Jump top ∷ []))
-      → Changes m n (λ xs. aimed xs jump target) → target ≡ length m.code
+      → Changes m n (λ xs. aim_jump xs jump target) → target ≡ length m.code
       → PutsStmt s line a n (ForTo (a_loop x range counts limits from to by body))
   unfolding stmts_with stmts_phrases
   for_put a a1 b c d e f g h i j k l m n step first jump top out target count counter limit stand x range counts limits from to known by
@@ -205,21 +205,21 @@ module _ (s : Around) (line : ℕ) where
       let known0 : known ≡ constant (expr_with from ls1) = fis ∙ sym (constant_with from ls1) in
       let own_counter = T.own_slot s.program s.tables s.routine counts in
       let own_limit = T.own_slot s.program s.tables s.routine limits in
-      let begin_at : (limit : ℕ) → List Lined = λ limit. begin_loop line at a.next by
+      let begin_at : (limit : ℕ) → List LineInstr = λ limit. begin_loop line at a.next by
       (λ at. first_code at (a.next + 1) (expr_with from ls1)) (λ at. last_code limit at (a.next + 1 + length kf) (expr_with to ls2)) in
       let begin = begin_at own_limit in
       let next = at + length begin in
       let low = a.next + length (slot.Number ∷ (kf ++ kt)) + 0 in
       let place = a.next + 1 + length kf + length kt in
-      let turn : (next counter lo : ℕ) → List Lined = λ next counter lo. turn_code line (next + 3)
+      let turn : (next counter lo : ℕ) → List LineInstr = λ next counter lo. turn_code line (next + 3)
       (T.count_code s.program s.tables s.routine (bare_desig u) range counter lo)
       (λ at. unless_bare (bare_desig u) (located s line at (lo + 1) u))
       (T.set_code s.program s.tables s.routine (lo + 1) (count_of counter lo u) u)
       (λ at. T.stmts_code s.program s.tables s.routine
       at (lo + length (unless_bare (bare_desig u) (slot.Number ∷ desig_slots s.program s.routine u))) (stmts_with body ls3)) in
       let ends : (counter limit step out top : ℕ)
-      → List Lined = λ counter limit step out top. own line (I.Step counter limit step out ∷ I.Jump top ∷ []) in
-      let tl : (at lo : ℕ) → List Lined = λ at lo. turn_code line
+      → List LineInstr = λ counter limit step out top. own line (I.Step counter limit step out ∷ I.Jump top ∷ []) in
+      let tl : (at lo : ℕ) → List LineInstr = λ at lo. turn_code line
       at (T.count_code s.program s.tables s.routine (bare_desig u) range counter lo)
       (λ at. unless_bare (bare_desig u) (located s line at (lo + 1) u))
       (T.set_code s.program s.tables s.routine (lo + 1) (count_of counter lo u) u)
@@ -233,7 +233,7 @@ module _ (s : Around) (line : ℕ) where
       ∙ ap (λ n. n + length (tl (length f.code) f.next)) f0 ∙ ap (λ n. next + 3 + length (tl n f.next)) f0
       ∙ ap (λ n. next + 3 + length (tl (next + 3) n)) fn in
       let whole : (known : Option ℤ) (limits next counter limit first low step out top : ℕ)
-      → List Lined = λ known limits next counter limit first low step out top.
+      → List LineInstr = λ known limits next counter limit first low step out top.
       begin_at limits ++ (own line (bounds_code by known counter limit first
       (next + 3 + length (turn next counter low ++ ends counter limit step out top)))
       ++ (turn next counter low ++ ends counter limit step out top)) in
@@ -304,26 +304,26 @@ module _ (s : Around) (line : ℕ) where
       let own_limit = T.own_slot s.program s.tables s.routine limits in
       let spare = a.next + 1 + length kf + length kt in
       let more0 : more ≡ spare = omega (arith, ism, before.next_slot, length-append kf kt) in
-      let begin_at : (limit : ℕ) → List Lined = λ limit. begin_loop line at a.next (pos 1)
+      let begin_at : (limit : ℕ) → List LineInstr = λ limit. begin_loop line at a.next (pos 1)
       (λ at. first_code at (a.next + 1) (expr_with from ls1)) (λ at. last_code limit at (a.next + 1 + length kf) (expr_with to ls2)) in
       let begin = begin_at own_limit in
       let next = at + length begin in
       let low = a.next + length ((slot.Number ∷ (kf ++ kt)) ++ slot.Number ∷ []) in
       let low0 : low ≡ spare + 1 = omega (arith, length-append (kf ++ kt) (slot.Number ∷ []), length-append kf kt) in
       let e0 : length e1.code ≡ next = address_behind a e1 _ _ _ front ∙ ap (λ z. at + length (begin_at z)) lis in
-      let turn : (counter at lo : ℕ) → List Lined = λ counter at lo. turn_code line
+      let turn : (counter at lo : ℕ) → List LineInstr = λ counter at lo. turn_code line
       at (T.count_code s.program s.tables s.routine (bare_desig u) range counter lo)
       (λ at. unless_bare (bare_desig u) (located s line at (lo + 1) u))
       (T.set_code s.program s.tables s.routine (lo + 1) (count_of counter lo u) u)
       (λ at. T.stmts_code s.program s.tables s.routine
       at (lo + length (unless_bare (bare_desig u) (slot.Number ∷ desig_slots s.program s.routine u))) (stmts_with body ls3)) in
       let eight : (at : ℕ) (known : Option ℤ) (counter limit step first more : ℕ)
-      → List Lined = λ at known counter limit step first more. own line (some_front at known counter limit step first more) in
+      → List LineInstr = λ at known counter limit step first more. own line (some_front at known counter limit step first more) in
       let k0 = constant (expr_with from ls1) in
       let done = eight next k0 own_counter own_limit a.next (a.next + 1) spare in
       let far : at + length (begin ++ done) ≡ next + 8 = omega (arith, length-append begin done) in
       let whole : (known : Option ℤ) (limits next counter limit step first more low : ℕ)
-      → List Lined = λ known limits next counter limit step first more low.
+      → List LineInstr = λ known limits next counter limit step first more low.
       (begin_at limits ++ eight next known counter limit step first more)
       ++ turn counter (at + length (begin_at limits ++ eight next known counter limit step first more)) low in
       record {

@@ -13,7 +13,7 @@ use Rattle.alma_lower_work.proofs.Joins.{nothing, then_adds, adds_as, slot_adds}
 use Rattle.alma_lower_work.proofs.DesigForms.{PutsRoot}
 use Rattle.alma_lower_parts.specs.Steps.{BeginsPlace}
 use Rattle.alma_lower_parts.proofs.With.{no_bare, place_with, root_with}
-use Rattle.alma_lower_templates.specs.Lined.{Lined, own, in_row}
+use Rattle.alma_lower_templates.specs.LineInstr.{LineInstr, own, in_row}
 use Rattle.alma_lower_templates.specs.Slots.{own_place, own_root, unless_bare, root_slots}
 use Rattle.alma_lower_templates.specs.Templates as T
 
@@ -73,7 +73,7 @@ module _ (s : Around) (line : ℕ) where
       let all = slot_adds a h.b d _ _ _ _ h.takes (then_adds h.b c d _ _ _ _ _ _ h.root puts.all) in
       let at = length a.code in
       let lo = a.next + 1 + length (root_slots s.program s.routine r) in
-      let code : Option ℕ → ℕ → List Lined = λ o n.
+      let code : Option ℕ → ℕ → List LineInstr = λ o n.
       in_row at (unless_bare o (own line (T.root_code s.program s.tables s.routine a.next r)))
       (λ next. T.sels_code s.program s.tables s.routine line next n lo (sels_with sels a.lines)) in
       record {

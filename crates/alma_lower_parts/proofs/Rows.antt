@@ -1,7 +1,7 @@
 -- Operands and branches in a row: one more in front of others, of which there is one.
 use Rattle.std.proofs.Common.{◌≡◌, ℕ, ◌+◌, ◌<◌, ◌≤◌, List, [], ◌∷◌, length, drop, get_or, subst, add-zero, arith}
 use Rattle.alma_code.specs.declared.instr.Instr.TheVariants as I
-use Rattle.alma_choice.specs.Emitted.{aimed}
+use Rattle.alma_choice.specs.Emitted.{aim_jump}
 use Rattle.alma_ir.specs.declared.phrase.Test as T
 use Rattle.alma_ir.specs.declared.phrase.Branch.{Branch}
 use Rattle.alma_ir.specs.declared.phrase.Arm.{Arm}
@@ -14,7 +14,7 @@ use Rattle.alma_lower_parts.proofs.TestForms.{operands_put, or_put, no_or_put, o
 use Rattle.alma_lower_parts.proofs.StmtForms.{branches_put, either_put, no_either_put, one_either_put}
 use Rattle.alma_lower_parts.proofs.IfForms.{if_put}
 use Rattle.alma_lower_parts.proofs.IfForms as conditional
-use Rattle.alma_lower_templates.specs.Lined.{own}
+use Rattle.alma_lower_templates.specs.LineInstr.{own}
 
 module _ (s : Around) (line : ℕ) where
   pub more_operands : (a b c d : Front) (exit : ℕ) (t : Test) (xs : List T.Test) → 0 < length xs → PutsFirst s line a b t
@@ -25,7 +25,7 @@ module _ (s : Around) (line : ℕ) where
 
   pub some_or : (a b c d e : Front) (exit target : ℕ) (t : Test) (xs : List T.Test) → 0 < length xs → PutsFirst s line a b t
       → exit ≡ length b.code → Codes b c (own line (I.Jump 0 ∷ [])) → PutsOperands s line exit c d (tests_list xs)
-      → Changes d e (λ xs. aimed xs exit target) → target ≡ length d.code → PutsTest s line a e (Or (more_tests t (tests_list xs)))
+      → Changes d e (λ xs. aim_jump xs exit target) → target ≡ length d.code → PutsTest s line a e (Or (more_tests t (tests_list xs)))
   some_or a b c d e exit target t [] some h here j k m is = absurd (omega (arith, some))
   some_or a b c d e exit target t (x ∷ xs) some h here j k m is = or_put s line a b c d e exit target _ _ _ h here j k m is
 
@@ -37,7 +37,7 @@ module _ (s : Around) (line : ℕ) where
 
   pub some_either : (a b c d e : Front) (exit target : ℕ) (body : Stmts) (xs : List Branch) → 0 < length xs → PutsChosen s line a b body
       → exit ≡ length b.code → Codes b c (own line (I.Jump 0 ∷ [])) → PutsBranches s line exit c d (branches_list xs)
-      → Changes d e (λ xs. aimed xs exit target) → target ≡ length d.code
+      → Changes d e (λ xs. aim_jump xs exit target) → target ≡ length d.code
       → PutsStmt s line a e (Either (more_branches body (branches_list xs)))
   some_either a b c d e exit target body [] some h here j k m is = absurd (omega (arith, some))
   some_either a b c d e exit target body (x ∷ xs) some h here j k m is = either_put s line a b c d e exit target _ _ _ h here j k m is
@@ -63,7 +63,7 @@ module _ (s : Around) (line : ℕ) where
 
   pub either_of : (a b c d e : Front) (exit : ℕ) (xs : List Branch) (x : Branch) → 2 ≤ length xs → x ≡ get_or xs 0 x
       → PutsChosen s line a b (stmts_list x.body.items) → exit ≡ length b.code → Codes b c (own line (I.Jump 0 ∷ []))
-      → PutsBranches s line exit c d (branches_list (drop 1 xs)) → Changes d e (λ xs. aimed xs exit (length d.code + 0))
+      → PutsBranches s line exit c d (branches_list (drop 1 xs)) → Changes d e (λ xs. aim_jump xs exit (length d.code + 0))
       → PutsStmt s line a e (Either (branches_list xs))
   either_of a b c d e exit [] x two is h here j k m = absurd (omega (arith, two))
   either_of a b c d e exit (y ∷ ys) x two is h here j k m =
@@ -83,7 +83,7 @@ module _ (s : Around) (line : ℕ) where
 
   pub or_of : (a b c d e : Front) (exit : ℕ) (xs : List T.Test) (x : T.Test) → 2 ≤ length xs → x ≡ get_or xs 0 x
       → PutsFirst s line a b (test_of x) → exit ≡ length b.code → Codes b c (own line (I.Jump 0 ∷ []))
-      → PutsOperands s line exit c d (tests_list (drop 1 xs)) → Changes d e (λ xs. aimed xs exit (length d.code + 0))
+      → PutsOperands s line exit c d (tests_list (drop 1 xs)) → Changes d e (λ xs. aim_jump xs exit (length d.code + 0))
       → PutsTest s line a e (Or (tests_list xs))
   or_of a b c d e exit [] x two is h here j k m = absurd (omega (arith, two))
   or_of a b c d e exit (y ∷ ys) x two is h here j k m =
@@ -98,7 +98,7 @@ module _ (s : Around) (line : ℕ) where
   pub if_of : (a d e f g h : Front) (exit : ℕ) (xs : List Arm) (x : Arm) (rest : Stmts) → 0 < length xs → x ≡ get_or xs 0 x
       → PutsGuarded s line 1 a d (test_of x.cond) (stmts_list x.body.items) → exit ≡ length d.code
       → Codes d e (own line (I.Jump 0 ∷ [])) → PutsArms s line exit e f (arms_list (drop 1 xs)) → PutsStmts s f g rest
-      → Changes g h (λ xs. aimed xs exit (length g.code + 0)) → PutsStmt s line a h (If (arms_list xs) rest)
+      → Changes g h (λ xs. aim_jump xs exit (length g.code + 0)) → PutsStmt s line a h (If (arms_list xs) rest)
   if_of a d e f g h exit [] x rest some is p here j k l m = absurd (omega (arith, some))
   if_of a d e f g h exit (y ∷ ys) x rest some is p here j k l m =
       if_put s line a d e f g h exit _ _ _ (arms_list ys) rest

@@ -11,7 +11,7 @@ use Rattle.alma_code.specs.declared.cell.SlotKind.TheVariants as kinds
 use Rattle.alma_code.specs.declared.instr.Instr.{Instr}
 use Rattle.alma_ir.specs.View.{expr_of}
 use Rattle.alma_lower_templates.proofs.First.{stays_is}
-use Rattle.alma_choice.specs.Emitted.{aimed}
+use Rattle.alma_choice.specs.Emitted.{aim_jump}
 use Rattle.alma_ir.specs.Tree.{Stmts, Stmt, Arms, CaseArms, Else, Branches, Test, Tests, Expr, Links, Args, Arg, Desig, Sels, Sel, no_sels}
 use Rattle.alma_ir.specs.Tree.{more_sels}
 use Rattle.alma_ir.specs.Lines.{behind, stmts_with, expr_with, desig_with, sels_with, sel_with}
@@ -28,7 +28,7 @@ use Rattle.alma_lower_parts.proofs.ExprForms.{own_target_put, made_target_put, o
 use Rattle.alma_lower_work.proofs.DesigForms.{parts_on}
 use Rattle.alma_lower_parts.proofs.With.{no_bare}
 use Rattle.alma_lower_parts.specs.Cases.{PutsAllArms, PutsArmOf}
-use Rattle.alma_lower_templates.specs.Lined.{own}
+use Rattle.alma_lower_templates.specs.LineInstr.{own}
 use Rattle.alma_lower_templates.specs.Slots.{bare, bare_desig, sel_slots}
 use Rattle.alma_lower_templates.specs.Templates as T
 use Rattle.alma_base.specs.declared.number.Range.{Range}
@@ -121,9 +121,9 @@ module _ (s : Around) (line : ℕ) where
   pub expr_is : (a b : Front) (x y : Expr) → x ≡ y → PutsExpr s line a b x → PutsExpr s line a b y
   expr_is a b x y e h = subst (λ z. PutsExpr s line a b z) e h
 
-  pub guard_is : (a b : Front) (jump given : ℕ) (t : Test) → given ≡ jump → PutsGuard s line a b (λ to xs. aimed xs jump to) t
-      → PutsGuard s line a b (λ to xs. aimed xs given to) t
-  guard_is a b jump given t e h = subst (λ x. PutsGuard s line a b (λ to xs. aimed xs x to) t) (sym e) h
+  pub guard_is : (a b : Front) (jump given : ℕ) (t : Test) → given ≡ jump → PutsGuard s line a b (λ to xs. aim_jump xs jump to) t
+      → PutsGuard s line a b (λ to xs. aim_jump xs given to) t
+  guard_is a b jump given t e h = subst (λ x. PutsGuard s line a b (λ to xs. aim_jump xs x to) t) (sym e) h
 
   pub args_is : (to : ℕ) (a b : Front) (x y : Args) → x ≡ y → PutsArgs s line to a b x → PutsArgs s line to a b y
   args_is to a b x y e h = subst (λ z. PutsArgs s line to a b z) e h

@@ -7,7 +7,7 @@ use Rattle.alma_base.specs.declared.number.Range.{Range}
 use Rattle.alma_code.specs.declared.cell.SlotKind.TheVariants as slot
 use Rattle.alma_code.specs.declared.instr.Instr.{Instr}
 use Rattle.alma_code.specs.declared.instr.Instr.TheVariants as I
-use Rattle.alma_choice.specs.Emitted.{aimed}
+use Rattle.alma_choice.specs.Emitted.{aim_jump}
 use Rattle.alma_choice.proofs.Aiming.{last_behind}
 use Rattle.alma_ir.specs.declared.phrase.ReadAs.{ReadAs}
 use Rattle.alma_ir.specs.declared.phrase.WriteAs.{WriteAs}
@@ -26,12 +26,12 @@ use Rattle.alma_lower_work.proofs.Joins.{nothing, then_adds, adds_as, code_code,
 use Rattle.alma_lower_work.proofs.Joins.{own_two, address_behind}
 use Rattle.alma_lower_parts.proofs.With.{no_bare, straight_with}
 use Rattle.alma_lower_parts.proofs.TestForms.{located, two_places}
-use Rattle.alma_lower_templates.specs.Lined.{Lined, own, in_row}
+use Rattle.alma_lower_templates.specs.LineInstr.{LineInstr, own, in_row}
 use Rattle.alma_lower_templates.specs.Tables.{range_number, text_number, is_whole}
 use Rattle.alma_lower_templates.specs.Slots.{bare, bare_desig, is_given, ends_alone, straight_by, goes_straight, own_place, taken_from}
 use Rattle.alma_lower_templates.specs.Slots.{unless_bare, stmts_slots, stmt_slots, desig_slots}
 use Rattle.alma_lower_templates.specs.Pieces.{aim, straight, neg_code, fit_code, write_code, read_code, begin_forall, begin_each, end_each}
-use Rattle.alma_lower_templates.specs.Pieces.{each_body, chosen}
+use Rattle.alma_lower_templates.specs.Pieces.{each_body, branch_code}
 use Rattle.alma_lower_templates.specs.Templates as T
 
 -- ---- lists of statements
@@ -73,7 +73,7 @@ module _ (s : Around) where
   stmts_put a b c d line x rest is code kinds next lines whole h j =
       let ls = a.lines in
       let y = stmt_with x (drop 1 ls) in
-      let f : ℕ → ℕ → ℕ → List ℕ → List Lined = λ n at lo ms. T.stmt_code s.program s.tables s.routine n at lo (stmt_with x ms) in
+      let f : ℕ → ℕ → ℕ → List ℕ → List LineInstr = λ n at lo ms. T.stmt_code s.program s.tables s.routine n at lo (stmt_with x ms) in
       let mine : Adds a c (λ at lo ls. f line at lo (drop 1 ls)) (λ ls. stmt_slots s.program s.routine (stmt_with x (drop 1 ls)))
       (λ ls. behind (inside x) (drop 1 ls)) = record {
         instrs = h.all.instrs ∙ ap (λ z. z ++ f line (length b.code) b.next b.lines) code
@@ -96,10 +96,10 @@ module _ (s : Around) where
 
 -- ---- values that go straight into a variable
 
-pub long_behind : (xs ys : List Lined) → 0 < length ys → 0 < length (xs ++ ys)
+pub long_behind : (xs ys : List LineInstr) → 0 < length ys → 0 < length (xs ++ ys)
 long_behind xs ys long = omega (arith, long, length-append xs ys)
 
-pub long_before : (xs ys : List Lined) → 0 < length xs → 0 < length (xs ++ ys)
+pub long_before : (xs ys : List LineInstr) → 0 < length xs → 0 < length (xs ++ ys)
 long_before xs ys long = omega (arith, long, length-append xs ys)
 
 goes_alone : (d : Desig) (e : Expr) (range : Range) (from : ℕ) → goes_straight d e range ≡ Some from → ends_alone e ≡ true
@@ -113,7 +113,7 @@ goes_alone d e range from h = by (bare_desig d) (is_whole range) (ends_alone e) 
 
 module _ (s : Around) where
   -- the code of a variable and of the number for it, before that is put there
-  abbrev assigned_code : (line at lo next : ℕ) → Desig → Expr → List Lined
+  abbrev assigned_code : (line at lo next : ℕ) → Desig → Expr → List LineInstr
   assigned_code line at lo next d e =
       in_row at (unless_bare (bare_desig d) (unless_bare (own_place d) (T.desig_code s.program s.tables s.routine line at lo d)))
       (λ at. unless_bare (bare e) (T.expr_code s.program s.tables s.routine line at next e))
@@ -198,7 +198,7 @@ module _ (s : Around) (line : ℕ) where
           let ls = behind (desig_phrases x) a.lines in
           let lo = a.next + length (unless_bare (bare_desig u) (desig_slots s.program s.routine u)) in
           let v = expr_with y ls in
-          let both : List Lined = assigned_code s line (length a.code) a.next lo u v in
+          let both : List LineInstr = assigned_code s line (length a.code) a.next lo u v in
           let same : goes_straight u v range ≡ Some from = straight_with x y range a.lines ls ∙ e in
           let set : List Instr =
           fit_code s.tables range (value_slot s lo v) ++ (T.set_code s.program s.tables s.routine a.next (value_slot s lo v) u ∷ []) in
@@ -303,7 +303,7 @@ module _ (s : Around) (line : ℕ) where
   -- ---- EITHER
 
   pub chosen_put : (a b c d : Front) (choice target : ℕ) (body : Stmts) → choice ≡ length a.code → Codes a b (own line (I.Choose 0 ∷ []))
-      → PutsStmts s b c body → Changes c d (λ xs. aimed xs choice target)
+      → PutsStmts s b c body → Changes c d (λ xs. aim_jump xs choice target)
       → target ≡ length c.code + 1 → PutsChosen s line a d body
   chosen_put a b c d choice target body here h j k is =
       record { all = over a b c d line choice target (I.Choose 0) _ _ _ (λ n. n + 1) here refl h j.all k is }
@@ -341,17 +341,17 @@ module _ (s : Around) (line : ℕ) where
 
   pub either_put : (a b c d e : Front) (exit target : ℕ) (body body2 : Stmts) (rest : Branches) → PutsChosen s line a b body
       → exit ≡ length b.code → Codes b c (own line (I.Jump 0 ∷ []))
-      → PutsBranches s line exit c d (more_branches body2 rest) → Changes d e (λ xs. aimed xs exit target) → target ≡ length d.code
+      → PutsBranches s line exit c d (more_branches body2 rest) → Changes d e (λ xs. aim_jump xs exit target) → target ≡ length d.code
       → PutsStmt s line a e (Either (more_branches body (more_branches body2 rest)))
   unfolding stmts_with stmts_phrases
   either_put a b c d e exit target body body2 rest h here j k m is =
       let ls = a.lines in
-      let first = chosen line (length a.code + 1)
+      let first = branch_code line (length a.code + 1)
       (T.stmts_code s.program s.tables s.routine (length a.code + 1) a.next (stmts_with body ls)) in
       let jump = length a.code + length first in
       let low = a.next + length (stmts_slots s.program s.routine (stmts_with body ls)) in
       let out : exit ≡ jump = here ∙ address_behind a b _ _ _ h.all in
-      let code : List Lined → List Lined = λ c. first ++ (own line (I.Jump (jump + 1 + length c) ∷ []) ++ c) in
+      let code : List LineInstr → List LineInstr = λ c. first ++ (own line (I.Jump (jump + 1 + length c) ∷ []) ++ c) in
       record {
         all = adds_as a e _ _ _ _ _ _ (then_adds a b e _ _ _ _ _ _ h.all
             (over b c d e line exit target (I.Jump 0) _ _ _ (λ n. n) here refl j k.all m is))
@@ -363,7 +363,7 @@ module _ (s : Around) (line : ℕ) where
   -- ---- FORALL
 
   each_put : (a b c d : Front) (mark inner overlay : ℕ) (body : Stmts)
-      → Holes a b (λ to xs. aimed xs overlay to) (λ none at lo ls. begin_each line mark lo none) (λ ls. slot.Mark ∷ []) (λ ls. ls)
+      → Holes a b (λ to xs. aim_jump xs overlay to) (λ none at lo ls. begin_each line mark lo none) (λ ls. slot.Mark ∷ []) (λ ls. ls)
       → inner ≡ a.next → PutsStmts s b c body → EndsEach c d line mark inner overlay
       → Adds a d (λ at lo ls. each_body line (at + 2) mark lo
       (T.stmts_code s.program s.tables s.routine (at + 2) (lo + 1) (stmts_with body ls)))
@@ -372,14 +372,14 @@ module _ (s : Around) (line : ℕ) where
       let ends = own line (I.Cut inner ∷ I.Keep mark ∷ []) in
       let e : Front = record { code = c.code ++ ends; next = c.next; kinds = c.kinds; lines = c.lines; all_lines = c.all_lines } in
       let f : Front = record {
-        code = aimed (c.code ++ ends) overlay (length c.code + 2);
+        code = aim_jump (c.code ++ ends) overlay (length c.code + 2);
         next = c.next;
         kinds = c.kinds;
         lines = c.lines;
         all_lines = c.all_lines;
       } in
       let put : Codes c e ends = record { instrs = refl; taken = refl; next_slot = refl; left = refl; whole = refl } in
-      let aim : Changes e f (λ xs. aimed xs overlay (length c.code + 2)) =
+      let aim : Changes e f (λ xs. aim_jump xs overlay (length c.code + 2)) =
       record { instrs = refl; taken = refl; next_slot = refl; left = refl; whole = refl } in
       let fail : Codes f d (own line (I.Fail ∷ [])) =
       record { instrs = k.instrs; taken = k.taken; next_slot = k.next_slot; left = k.left; whole = k.whole } in
@@ -395,8 +395,8 @@ module _ (s : Around) (line : ℕ) where
       refl refl
 
   pub forall_put : (a b c d e f g : Front) (mark forall inner overlay : ℕ) (x y : Stmts)
-      → Holes a b (λ to xs. aimed xs forall to) (λ none at lo ls. begin_forall line lo none) (λ ls. slot.Mark ∷ []) (λ ls. ls)
-      → mark ≡ a.next → PutsStmts s b c x → Holes c d (λ to xs. aimed xs overlay to) (λ none at lo ls. begin_each line mark lo none)
+      → Holes a b (λ to xs. aim_jump xs forall to) (λ none at lo ls. begin_forall line lo none) (λ ls. slot.Mark ∷ []) (λ ls. ls)
+      → mark ≡ a.next → PutsStmts s b c x → Holes c d (λ to xs. aim_jump xs overlay to) (λ none at lo ls. begin_each line mark lo none)
       (λ ls. slot.Mark ∷ []) (λ ls. ls) → inner ≡ c.next
       → PutsStmts s d e y → EndsEach e f line mark inner overlay → EndsForall f g line forall → PutsStmt s line a g (Forall x y)
   unfolding stmts_with stmts_phrases
@@ -405,14 +405,14 @@ module _ (s : Around) (line : ℕ) where
       let u = stmts_with x ls in
       let v = stmts_with y (behind (stmts_phrases x) ls) in
       let z : Front = record {
-        code = aimed f.code forall (length f.code);
+        code = aim_jump f.code forall (length f.code);
         next = f.next;
         kinds = f.kinds;
         lines = f.lines;
         all_lines =
             f.all_lines;
       } in
-      let aim : Changes f z (λ xs. aimed xs forall (length f.code)) =
+      let aim : Changes f z (λ xs. aim_jump xs forall (length f.code)) =
       record { instrs = refl; taken = refl; next_slot = refl; left = refl; whole = refl } in
       let finish : Codes z g (own line (I.Finish ∷ [])) =
       record { instrs = m.instrs; taken = m.taken; next_slot = m.next_slot; left = m.left; whole = m.whole } in
@@ -422,7 +422,7 @@ module _ (s : Around) (line : ℕ) where
       let at = length a.code + 1 in
       let first = T.stmts_code s.program s.tables s.routine at (a.next + 1) u in
       let low = a.next + 1 + length (stmts_slots s.program s.routine u) in
-      let parts : ℕ → List Lined = λ mark. in_row at first
+      let parts : ℕ → List LineInstr = λ mark. in_row at first
       (λ next. each_body line (next + 2) mark low (T.stmts_code s.program s.tables s.routine (next + 2) (low + 1) v)) in
       record {
         all = adds_as a g _ _ _ _ _ _ all

@@ -5,7 +5,7 @@ use Rattle.alma_base.specs.declared.number.Range.{Range}
 use Rattle.alma_code.specs.declared.cell.SlotKind.TheVariants as slot
 use Rattle.alma_code.specs.declared.instr.Instr.{Instr}
 use Rattle.alma_code.specs.declared.instr.Instr.TheVariants as I
-use Rattle.alma_choice.specs.Emitted.{aimed}
+use Rattle.alma_choice.specs.Emitted.{aim_jump}
 use Rattle.alma_ir.specs.declared.phrase.Cmp.TheVariants as cmp
 use Rattle.alma_ir.specs.Tree.{Stmts, Test, Tests, Expr, Desig, Compare, Value, Bind, Unify, SameCells, Seq, And, Or, Not, no_tests}
 use Rattle.alma_ir.specs.Tree.{more_tests}
@@ -16,7 +16,7 @@ use Rattle.alma_lower_work.specs.Front.{Around, Front, Adds, Codes, Changes, Hol
 use Rattle.alma_lower_work.specs.Puts.{PutsExpr, PutsFirstOperand, PutsValue, PutsHeld, PutsTest, PutsAnd, PutsOperands, PutsFirst}
 use Rattle.alma_lower_work.specs.Puts.{PutsStmts, value_slot, is_unequal}
 use Rattle.alma_lower_work.proofs.Joins.{nothing, then_adds, adds_as, adds_code, only_code, filled, over, address_behind}
-use Rattle.alma_lower_templates.specs.Lined.{Lined, own, in_row}
+use Rattle.alma_lower_templates.specs.LineInstr.{LineInstr, own, in_row}
 use Rattle.alma_lower_templates.specs.Tables.{range_number}
 use Rattle.alma_lower_templates.specs.Slots.{bare, own_place, stays, unless_bare, test_slots, expr_slots, desig_slots}
 use Rattle.alma_lower_templates.specs.Pieces.{unequal_code, begin_first, first_of_two}
@@ -29,7 +29,7 @@ module _ (s : Around) (line : ℕ) where
   place_of lo d = T.held_at s.program s.tables s.routine lo d
 
   -- the code of a place, which that of a parameter has not
-  abbrev pub located : (at lo : ℕ) → Desig → List Lined
+  abbrev pub located : (at lo : ℕ) → Desig → List LineInstr
   located at lo d = unless_bare (own_place d) (T.desig_code s.program s.tables s.routine line at lo d)
 
   -- two phrases are passed in the other order
@@ -69,12 +69,12 @@ module _ (s : Around) (line : ℕ) where
       let there : other ≡ value_slot s lo (expr_with y ls) = is3 ∙ ap (λ n. value_slot s n (expr_with y b.lines)) h.all.next_slot
       ∙ ap (λ n. value_slot s lo (expr_with y n)) h.all.left in
       let operands = then_adds a b c _ _ _ _ _ _ h.all j.all in
-      let both : Option ℕ → List Lined = λ o.
+      let both : Option ℕ → List LineInstr = λ o.
       in_row (length a.code) (unless_bare o (T.expr_code s.program s.tables s.routine line (length a.code) a.next (expr_with x a.lines)))
       (λ next. unless_bare (bare (expr_with y ls)) (T.expr_code s.program s.tables s.routine line next lo (expr_with y ls))) in
       let here : length c.code ≡ length a.code + length (both (stays x y)) = address_behind a c _ _ _ operands in
       let code : Option ℕ → (from to other at : ℕ)
-      → List Lined = λ o from to other at. both o ++ own line (unequal_code to from other at) in
+      → List LineInstr = λ o from to other at. both o ++ own line (unequal_code to from other at) in
       let stay : ℕ = T.slot_or s.program s.tables s.routine (stays x y) a.next in
       record {
         all = adds_as a d _ _ _ _ _ _ (adds_code a c d _ _ _ _ operands k)
@@ -197,11 +197,11 @@ module _ (s : Around) (line : ℕ) where
   and_put a b ts h = record { all = h.all }
 
   -- a test behind a mark, with the cut behind it; the way on without an alternative is aimed so far behind
-  pub marked : (a b c d e : Front) (t : Test) (mark target : ℕ) (aim : ℕ → List Lined → List Lined) (behind_it : List Instr)
+  pub marked : (a b c d e : Front) (t : Test) (mark target : ℕ) (aim : ℕ → List LineInstr → List LineInstr) (behind_it : List Instr)
       (beyond : ℕ → ℕ) → Holes a b aim (λ none at lo ls. begin_first line lo none) (λ ls. slot.Mark ∷ []) (λ ls. ls)
       → mark ≡ a.next → PutsTest s line b c t → Codes c d (own line (I.Cut mark ∷ behind_it)) → Changes d e (aim target)
       → target ≡ beyond (length d.code)
-      → Adds a e (λ at lo ls. let inner : List Lined = T.test_code s.program s.tables s.routine line (at + 2) (lo + 1) (test_with t ls)
+      → Adds a e (λ at lo ls. let inner : List LineInstr = T.test_code s.program s.tables s.routine line (at + 2) (lo + 1) (test_with t ls)
       ++ own line (I.Cut lo ∷ behind_it) in begin_first line lo (beyond (at + 2 + length inner)) ++ inner)
       (λ ls. slot.Mark ∷ test_slots s.program s.routine (test_with t ls)) (behind (test_phrases t))
   marked a b c d e t mark target aim behind_it beyond h is j k m is2 =
@@ -211,7 +211,7 @@ module _ (s : Around) (line : ℕ) where
       ++ (inner ++ own line (I.Cut n ∷ behind_it))) is)
       refl refl
 
-  pub not_put : (a b c d e : Front) (t : Test) (mark target : ℕ) (aim : ℕ → List Lined → List Lined)
+  pub not_put : (a b c d e : Front) (t : Test) (mark target : ℕ) (aim : ℕ → List LineInstr → List LineInstr)
       → Holes a b aim (λ none at lo ls. begin_first line lo none) (λ ls. slot.Mark ∷ []) (λ ls. ls)
       → mark ≡ a.next → PutsTest s line b c t → Codes c d (own line (I.Cut mark ∷ I.Fail ∷ [])) → Changes d e (aim target)
       → target ≡ length d.code → PutsTest s line a e (Not t)
@@ -226,7 +226,7 @@ module _ (s : Around) (line : ℕ) where
             (ap (λ n. begin_first line a.next n ++ (inner ++ ends)) far) refl refl;
       }
 
-  pub first_put : (a b c d e : Front) (t : Test) (mark target : ℕ) (aim : ℕ → List Lined → List Lined)
+  pub first_put : (a b c d e : Front) (t : Test) (mark target : ℕ) (aim : ℕ → List LineInstr → List LineInstr)
       → Holes a b aim (λ none at lo ls. begin_first line lo none) (λ ls. slot.Mark ∷ []) (λ ls. ls)
       → mark ≡ a.next → PutsTest s line b c t → Codes c d (own line (I.Cut mark ∷ [])) → Changes d e (aim target)
       → target ≡ length d.code + 1 → PutsFirst s line a e t
@@ -278,7 +278,7 @@ module _ (s : Around) (line : ℕ) where
 
   pub or_put : (a b c d e : Front) (exit target : ℕ) (t t2 : Test) (rest : Tests) → PutsFirst s line a b t → exit ≡ length b.code
       → Codes b c (own line (I.Jump 0 ∷ [])) → PutsOperands s line exit c d (more_tests t2 rest)
-      → Changes d e (λ xs. aimed xs exit target) → target ≡ length d.code → PutsTest s line a e (Or (more_tests t (more_tests t2 rest)))
+      → Changes d e (λ xs. aim_jump xs exit target) → target ≡ length d.code → PutsTest s line a e (Or (more_tests t (more_tests t2 rest)))
   unfolding stmts_with stmts_phrases
   or_put a b c d e exit target t t2 rest h here j k m is =
       let ls = a.lines in
@@ -288,8 +288,8 @@ module _ (s : Around) (line : ℕ) where
       let n = test_slots s.program s.routine (test_with t ls) in
       let low : a.next + length (slot.Mark ∷ n) ≡ a.next + 1 + length n = omega arith in
       let out : exit ≡ jump = here ∙ address_behind a b _ _ _ h.all in
-      let code : List Lined → List Lined = λ c. first ++ (own line (I.Jump (jump + 1 + length c) ∷ []) ++ c) in
-      let others : (exit lo : ℕ) → List Lined = λ exit lo. T.operands_code s.program s.tables s.routine line exit (jump + 1) lo
+      let code : List LineInstr → List LineInstr = λ c. first ++ (own line (I.Jump (jump + 1 + length c) ∷ []) ++ c) in
+      let others : (exit lo : ℕ) → List LineInstr = λ exit lo. T.operands_code s.program s.tables s.routine line exit (jump + 1) lo
       (tests_with (more_tests t2 rest) (behind (test_phrases t) ls)) in
       record {
         all = adds_as a e _ _ _ _ _ _ (then_adds a b e _ _ _ _ _ _ h.all

@@ -7,7 +7,7 @@ use Rattle.std.proofs.lemmas.List.{append-nil}
 use Rattle.alma_code.specs.declared.cell.SlotKind.{SlotKind}
 use Rattle.alma_code.specs.declared.cell.SlotKind.TheVariants as slot
 use Rattle.alma_code.specs.declared.instr.Instr.TheVariants as I
-use Rattle.alma_choice.specs.Emitted.{aimed}
+use Rattle.alma_choice.specs.Emitted.{aim_jump}
 use Rattle.alma_ir.specs.declared.phrase.Cmp.{Cmp}
 use Rattle.alma_ir.specs.Tree.{Stmts, Test, Expr, Links, Desig, Sels, Sel, While, Value, Bind, Unify, SameCells, Seq, And, Or, Not}
 use Rattle.alma_ir.specs.Tree.{CallTest}
@@ -22,7 +22,7 @@ use Rattle.alma_lower_work.proofs.Joins.{nothing, then_adds, adds_as, adds_code,
 use Rattle.alma_lower_work.proofs.Joins.{address_after}
 use Rattle.alma_lower_parts.specs.Steps.{held_slot, HoldsConstant, PutsSlot}
 use Rattle.alma_lower_parts.proofs.With.{simple_expr, stays_with, constant_with}
-use Rattle.alma_lower_templates.specs.Lined.{Lined, own, in_row}
+use Rattle.alma_lower_templates.specs.LineInstr.{LineInstr, own, in_row}
 use Rattle.alma_lower_templates.specs.Slots.{bare, stays, unless_bare, is_simple, is_simple_expr, are_simple_links, is_simple_desig}
 use Rattle.alma_lower_templates.specs.Slots.{are_simple_sels, is_simple_sel, is_turned, by_turn, has_opposite, mark_slots, test_slots}
 use Rattle.alma_lower_templates.specs.Slots.{stmts_slots, expr_slots, constant, held_constant, held_slots}
@@ -198,7 +198,7 @@ module _ (s : Around) (line : ℕ) where
       ∙ ap (λ n. value_slot s lo (expr_with y n)) h.all.left in
       let all = adds_code a c d _ _ _ _ (then_adds a b c _ _ _ _ _ _ h.all j.all) k in
       let without : constant (expr_with y ls) ≡ None = constant_with y ls ∙ no_held (constant y) held none in
-      let code : Option ℕ → Option ℤ → (from to other : ℕ) → List Lined = λ o z from to other.
+      let code : Option ℕ → Option ℤ → (from to other : ℕ) → List LineInstr = λ o z from to other.
       in_row (length a.code) (unless_bare o (T.expr_code s.program s.tables s.routine line (length a.code) a.next (expr_with x a.lines)))
       (λ next. unless_constant z (unless_bare (bare (expr_with y ls))
       (T.expr_code s.program s.tables s.routine line next lo (expr_with y ls))))
@@ -225,9 +225,9 @@ module _ (s : Around) (line : ℕ) where
   with_constant a b c from to held top how x n h is_to is_from j =
       let ls = behind (expr_phrases x) a.lines in
       let stay = stays (expr_with x a.lines) (Const n) in
-      let first : Option ℕ → List Lined = λ o.
+      let first : Option ℕ → List LineInstr = λ o.
       unless_bare o (T.expr_code s.program s.tables s.routine line (length a.code) a.next (expr_with x a.lines)) in
-      let last : (from to : ℕ) → List Lined = λ from to. own line (opposite_code how to from held ∷ I.JumpZero to top ∷ []) in
+      let last : (from to : ℕ) → List LineInstr = λ from to. own line (opposite_code how to from held ∷ I.JumpZero to top ∷ []) in
       let slot_or : Option ℕ → ℕ = λ o. T.slot_or s.program s.tables s.routine o a.next in
       record {
         all = adds_as a c _ _ _ _ _ _ (adds_code a j.b c _ _ _ _ (adds_slot a b j.b _ _ _ _ h.all j.takes) j.codes)
@@ -256,7 +256,7 @@ module _ (s : Around) (line : ℕ) where
   -- the loop itself, behind the constant
   loop_put : (a b c d e : Front) (jump held top target : ℕ) (t : Test) (body : Stmts) → is_turned t ≡ true → jump ≡ length a.code
       → Codes a b (own line (I.Jump 0 ∷ [])) → top ≡ length b.code → PutsStmts s b c body
-      → Changes c d (λ xs. aimed xs jump target) → target ≡ length c.code + 0 → PutsBack s line held top d e t
+      → Changes c d (λ xs. aim_jump xs jump target) → target ≡ length c.code + 0 → PutsBack s line held top d e t
       → Adds a e (λ at lo ls. turned_loop line at
       (T.stmts_code s.program s.tables s.routine (at + 1) lo (stmts_with body (behind (test_phrases t) ls)))
       (λ next. T.back_code s.program s.tables s.routine line next
@@ -280,8 +280,8 @@ module _ (s : Around) (line : ℕ) where
       let test_lines : test_with t ls2 ≡ test_with t ls = same_test t ls2 is ∙ sym (same_test t ls is) in
       let behind_body : (n : ℕ) → at + length (own line (I.Jump n ∷ []) ++ inner) ≡ at + 1 + length inner = λ n. omega arith in
       let top_is : top ≡ at + 1 = top_at ∙ address_after a b _ h in
-      let back : (next top : ℕ) → Test → List Lined = λ next top u. T.back_code pr s.tables s.routine line next lo2 held top u in
-      let loop : Stmts → List Lined = λ y. turned_loop line at (T.stmts_code pr s.tables s.routine (at + 1) a.next y)
+      let back : (next top : ℕ) → Test → List LineInstr = λ next top u. T.back_code pr s.tables s.routine line next lo2 held top u in
+      let loop : Stmts → List LineInstr = λ y. turned_loop line at (T.stmts_code pr s.tables s.routine (at + 1) a.next y)
       (λ next. T.back_code pr s.tables s.routine line next (a.next + length (stmts_slots pr s.routine y)) held (at + 1) (test_with t ls)) in
       adds_as a e _ _ _ _ _ _ all
       (ap (λ n. (own line (I.Jump n ∷ []) ++ inner)
@@ -297,7 +297,7 @@ module _ (s : Around) (line : ℕ) where
 
   pub turned_put : (a b c d e f : Front) (held : Option ℕ) (jump top target : ℕ) (t : Test) (body : Stmts) → is_turned t ≡ true
       → HoldsConstant line a b (held_constant t) held → jump ≡ length b.code → Codes b c (own line (I.Jump 0 ∷ []))
-      → top ≡ length c.code → PutsStmts s c d body → Changes d e (λ xs. aimed xs jump target) → target ≡ length d.code + 0
+      → top ≡ length c.code → PutsStmts s c d body → Changes d e (λ xs. aim_jump xs jump target) → target ≡ length d.code + 0
       → PutsBack s line a.next top e f t → PutsStmt s line a f (While t body)
   unfolding stmts_with stmts_phrases
   turned_put a b c d e f held jump top target t body is z here h top_at j k target_at l =
@@ -309,7 +309,7 @@ module _ (s : Around) (line : ℕ) where
       let all = then_adds a b f _ _ _ _ _ _ z.all (loop_put b c d e f jump a.next top target t body is here h top_at j k target_at l) in
       let turns : is_turned u ≡ true = turned_with t ls ∙ is in
       let same : held_constant t ≡ held_constant u = sym (held_with t ls is) in
-      let code : Option ℤ → List Lined = λ o. in_row at (own line (held_code o a.next))
+      let code : Option ℤ → List LineInstr = λ o. in_row at (own line (held_code o a.next))
       (λ at. turned_loop line at (T.stmts_code pr s.tables s.routine (at + 1) (a.next + length (held_slots o)) x)
       (λ next. T.back_code pr s.tables s.routine line next
       (a.next + length (held_slots o) + length (stmts_slots pr s.routine x)) a.next (at + 1) u)) in

@@ -3,7 +3,7 @@ use Rattle.std.proofs.Common.{◌≡◌, ℕ, ◌+◌, ℤ, [], ◌∷◌, lengt
 use Rattle.alma_base.specs.declared.number.Range.{Range}
 use Rattle.alma_code.specs.declared.cell.SlotKind.TheVariants as slot
 use Rattle.alma_code.specs.declared.instr.Instr.TheVariants as I
-use Rattle.alma_choice.specs.Emitted.{aimed}
+use Rattle.alma_choice.specs.Emitted.{aim_jump}
 use Rattle.alma_ir.specs.Tree.{Stmts, Expr, Desig, ForTo, SomeOf, a_loop}
 use Rattle.alma_ir.specs.Phrases.{desig_phrases}
 use Rattle.alma_ir.specs.Lines.{behind, desig_with}
@@ -12,7 +12,7 @@ use Rattle.alma_lower_work.specs.Puts.{PutsStmt}
 use Rattle.alma_lower_parts.proofs.LoopForms.{for_put, some_put}
 use Rattle.alma_lower_parts.specs.Loops.{PutsBounds, PutsTurn}
 use Rattle.alma_lower_parts.specs.Steps.{BeginsSome}
-use Rattle.alma_lower_templates.specs.Lined.{own}
+use Rattle.alma_lower_templates.specs.LineInstr.{own}
 use Rattle.alma_lower_templates.specs.Pieces.{bounds_code}
 use Rattle.alma_lower_templates.specs.Slots.{bare_desig, unless_bare, constant}
 use Rattle.alma_lower_parts.proofs.With.{own_desig}
@@ -25,11 +25,11 @@ module _ (s : Around) (line : ℕ) where
       → known ≡ constant from
       → a.lines ≡ drop before a.all_lines → Turns a a1 (behind (desig_phrases x) a.lines)
       → PutsBounds s line by limit a1 e from to step first → e.lines ≡ drop after e.all_lines
-      → Holes e f (λ to xs. aimed xs jump to) (λ empty at lo ls. own line (bounds_code by known counter limit first empty)) (λ ls. [])
+      → Holes e f (λ to xs. aim_jump xs jump to) (λ empty at lo ls. own line (bounds_code by known counter limit first empty)) (λ ls. [])
       (λ ls. ls) → top ≡ length f.code
       → g.code ≡ f.code → g.kinds ≡ f.kinds → g.next ≡ f.next → g.lines ≡ drop before f.all_lines → g.all_lines ≡ f.all_lines
       → PutsTurn s line after range counter g l x body → out ≡ length l.code + 2
-      → Codes l m (own line (I.Step counter limit step out ∷ I.Jump top ∷ [])) → Changes m n (λ xs. aimed xs jump (length m.code + 0))
+      → Codes l m (own line (I.Step counter limit step out ∷ I.Jump top ∷ [])) → Changes m n (λ xs. aim_jump xs jump (length m.code + 0))
       → PutsStmt s line a n (ForTo (a_loop x range counts limits from to by body))
   for_joined a a1 e f g l m n step first jump top out before after counter limit x range counts limits from to known by body cis lis fis
       before_is t bs after_is hole top_is code kinds next lines whole tn out_is cd ch =

@@ -10,7 +10,7 @@ use Rattle.alma_lower_work.specs.declared.stand.Stand.{Stand}
 use Rattle.alma_lower_work.specs.Front.{Around, Front, Adds, Codes, Takes, Turns}
 use Rattle.alma_lower_work.specs.Puts.{PutsTarget, PutsStmts, stand_of, set_instr, value_slot}
 use Rattle.alma_lower_parts.specs.Steps.{PutsSlot}
-use Rattle.alma_lower_templates.specs.Lined.{own}
+use Rattle.alma_lower_templates.specs.LineInstr.{own}
 use Rattle.alma_lower_templates.specs.Slots.{bare, bare_desig, unless_bare, constant, ends_alone, expr_slots}
 use Rattle.alma_lower_templates.specs.Pieces.{unless_constant, limit_code}
 use Rattle.alma_lower_templates.specs.Templates as T

@@ -5,7 +5,7 @@ use Rattle.alma_code.specs.declared.instr.Instr.TheVariants as I
 use Rattle.alma_ir.specs.Tree.{Expr}
 use Rattle.alma_lower_work.specs.Front.{Around, Front, Changes}
 use Rattle.alma_lower_parts.specs.Steps.{PutsTwo}
-use Rattle.alma_lower_templates.specs.Lined.{own}
+use Rattle.alma_lower_templates.specs.LineInstr.{own}
 use Rattle.alma_lower_templates.specs.Slots.{is_straight}
 use Rattle.alma_lower_templates.specs.Pieces.{fit_code, straight}
 

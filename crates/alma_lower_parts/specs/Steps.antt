@@ -4,11 +4,11 @@ use Rattle.alma_code.specs.declared.cell.SlotKind.{SlotKind}
 use Rattle.alma_code.specs.declared.cell.SlotKind.TheVariants as slot
 use Rattle.alma_code.specs.declared.instr.Instr.{Instr}
 use Rattle.alma_code.specs.declared.instr.Instr.TheVariants as I
-use Rattle.alma_choice.specs.Emitted.{aimed}
+use Rattle.alma_choice.specs.Emitted.{aim_jump}
 use Rattle.alma_ir.specs.declared.phrase.Root.{Root}
 use Rattle.alma_ir.specs.Tree.{Args, Sels}
 use Rattle.alma_lower_work.specs.Front.{Around, Front, Adds, Codes, Takes, Changes, EndsEach, EndsForall}
-use Rattle.alma_lower_templates.specs.Lined.{Lined, own}
+use Rattle.alma_lower_templates.specs.LineInstr.{LineInstr, own}
 use Rattle.alma_lower_templates.specs.Slots.{call_links, handed_slots, held_slots, root_slots, own_root, unless_bare}
 use Rattle.alma_lower_templates.specs.Pieces.{count_from, held_code, truth_code}
 use Rattle.alma_lower_templates.specs.Templates as T
@@ -16,22 +16,22 @@ use Rattle.alma_lower_templates.specs.Templates as T
 -- ---- of any form
 
 -- two pieces of code
-pub record PutsTwo (a c : Front) (xs ys : List Lined) : Type 0 where
+pub record PutsTwo (a c : Front) (xs ys : List LineInstr) : Type 0 where
   pub b : Front
   pub first : Codes a b xs
   pub second : Codes b c ys
 
 -- a slot, and code
-pub record PutsSlot (a c : Front) (kind : SlotKind) (xs : List Lined) : Type 0 where
+pub record PutsSlot (a c : Front) (kind : SlotKind) (xs : List LineInstr) : Type 0 where
   pub b : Front
   pub takes : Takes a b kind
   pub codes : Codes b c xs
 
 -- code, and a jump that is aimed so far behind it
-pub record PutsAimed (a c : Front) (xs : List Lined) (at skip : ℕ) : Type 0 where
+pub record PutsAimed (a c : Front) (xs : List LineInstr) (at skip : ℕ) : Type 0 where
   pub b : Front
   pub codes : Codes a b xs
-  pub aims : Changes b c (λ ys. aimed ys at (length b.code + skip))
+  pub aims : Changes b c (λ ys. aim_jump ys at (length b.code + skip))
 
 -- ---- of places, conditions and calls
 
@@ -46,7 +46,7 @@ pub record BeginsPlace (s : Around) (line : ℕ) (a c : Front) (cells : ℕ) (r 
 -- the jump of a condition is aimed, and the condition is a number
 pub record EndsTruth (line : ℕ) (a c : Front) (jump to : ℕ) : Type 0 where
   pub b : Front
-  pub aims : Changes a b (λ xs. aimed xs jump (length a.code + 2))
+  pub aims : Changes a b (λ xs. aim_jump xs jump (length a.code + 2))
   pub codes : Codes b c (truth_code line to (length b.code))
 
 -- the jump of WHILE to its condition, which follows
@@ -85,8 +85,8 @@ pub record EndsArm (a c : Front) (low high : ℕ) : Type 0 where
   pub b : Front
   pub target : ℕ
   pub target_at : target ≡ length a.code + 1
-  pub aims_low : Changes a b (λ xs. aimed xs low target)
-  pub aims_high : Changes b c (λ xs. aimed xs high target)
+  pub aims_low : Changes a b (λ xs. aim_jump xs low target)
+  pub aims_high : Changes b c (λ xs. aim_jump xs high target)
 
 -- lines are handed out anew from a position on, and a jump is aimed behind
 pub record EndsDead (a c : Front) (before over : ℕ) : Type 0 where
@@ -96,7 +96,7 @@ pub record EndsDead (a c : Front) (before over : ℕ) : Type 0 where
   pub next : b.next ≡ a.next
   pub lines : b.lines ≡ drop before a.all_lines
   pub whole : b.all_lines ≡ a.all_lines
-  pub aims : Changes b c (λ xs. aimed xs over (length b.code + 0))
+  pub aims : Changes b c (λ xs. aim_jump xs over (length b.code + 0))
 
 -- ---- of WHILE whose condition stands behind its body
 
@@ -118,7 +118,7 @@ pub record EndsFor (line counter limit step jump top : ℕ) (a c : Front) : Type
   pub out : ℕ
   pub out_at : out ≡ length a.code + 2
   pub codes : Codes a b (own line (I.Step counter limit step out ∷ I.Jump top ∷ []))
-  pub aims : Changes b c (λ xs. aimed xs jump (length b.code + 0))
+  pub aims : Changes b c (λ xs. aim_jump xs jump (length b.code + 0))
 
 -- what stands before the turns of SOME, at an address
 abbrev pub some_front : (at : ℕ) → (constant : Option ℤ) → (counter limit step first more : ℕ) → List Instr

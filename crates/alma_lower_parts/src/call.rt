@@ -2,7 +2,7 @@
 ghost use Rattle.std.specs.Prelude.{◌≡◌, [], IfOk, OnOk};
 ghost use Rattle.alma_ir.specs.Checked.{sel_cells};
 ghost use Rattle.alma_ir.specs.View.{arg_of, args_list, desig_of, sel_of};
-ghost use Rattle.alma_lower_templates.specs.Lined.{own};
+ghost use Rattle.alma_lower_templates.specs.LineInstr.{own};
 ghost use Rattle.alma_lower_templates.specs.Slots.{arg_kind, call_links, desig_cells, handed_slots, shift_of};
 ghost use Rattle.alma_lower_templates.specs.Templates.{call_link_code};
 ghost use Rattle.alma_lower_work.specs.Front.{around, front, Adds};
@@ -98,7 +98,7 @@ pub fn first_handed(link: Option<u32>, args: &[Arg], to: u32) -> u32
 
 /// The slot of the first of what is handed over, or 0 where nothing is, and that of the first argument.
 #[derive(Clone, Copy)]
-pub struct Handed {
+pub struct Handover {
     pub first: u32,
     pub to: u32,
 }
@@ -111,7 +111,7 @@ pub fn begin_call(
     called: u32,
     up: u32,
     args: &[Arg],
-) -> Result<Handed, NoMemory>
+) -> Result<Handover, NoMemory>
     ensures first { IfOk result (λ handed. handed.first ≡ first_slot (around scene.now) called up
         (front work.old).next (args_list args.now)) }
     ensures begins { IfOk result (λ handed. BeginsCall (around scene.now) line called up
@@ -120,7 +120,7 @@ pub fn begin_call(
     let link = put_call_link(work, scene, line, called, up)?;
     let to = take_handed(work, args)?;
     let first = first_handed(link, args, to);
-    Ok(Handed { first, to })
+    Ok(Handover { first, to })
 }
 
 /// The slot of the result of a function, and that of the mark of its call.

@@ -1,9 +1,9 @@
 // The pieces of choices.
 ghost use Rattle.std.specs.Prelude.{◌≡◌, ◌∷◌, [], IfOk, IsOk, OnOk};
 ghost use Rattle.alma_code.specs.declared.cell.SlotKind.TheVariants as slot;
-ghost use Rattle.alma_choice.specs.Emitted.{aimed};
+ghost use Rattle.alma_choice.specs.Emitted.{aim_jump};
 ghost use Rattle.alma_code.specs.declared.instr.Instr.TheVariants as instr;
-ghost use Rattle.alma_lower_templates.specs.Lined.{own};
+ghost use Rattle.alma_lower_templates.specs.LineInstr.{own};
 ghost use Rattle.alma_lower_templates.specs.Pieces as pieces;
 ghost use Rattle.alma_lower_work.specs.Front.{front, Holes, EndsEach, EndsForall};
 ghost use Rattle.alma_lower_parts.specs.Steps.{EndsBoth, PutsAimed, PutsSlot};
@@ -17,7 +17,7 @@ use alma_lower_work::Work;
 pub fn begin_first(work: &mut Work, line: u32) -> Result<(u32, u32), NoMemory>
     ensures mark { IfOk result (λ r. r.0 ≡ (front work.old).next) }
     ensures holes { IfOk result (λ r. Holes (front work.old) (front work.new)
-        (λ to xs. aimed xs r.1 to) (λ none at lo ls. pieces.begin_first line lo none)
+        (λ to xs. aim_jump xs r.1 to) (λ none at lo ls. pieces.begin_first line lo none)
         (λ ls. slot.Mark ∷ []) (λ ls. ls)) }
 {
     work.emit.begin_first(line)
@@ -28,7 +28,7 @@ pub fn begin_first(work: &mut Work, line: u32) -> Result<(u32, u32), NoMemory>
 pub fn begin_forall(work: &mut Work, line: u32) -> Result<(u32, u32), NoMemory>
     ensures mark { IfOk result (λ r. r.0 ≡ (front work.old).next) }
     ensures holes { IfOk result (λ r. Holes (front work.old) (front work.new)
-        (λ to xs. aimed xs r.1 to) (λ none at lo ls. pieces.begin_forall line lo none)
+        (λ to xs. aim_jump xs r.1 to) (λ none at lo ls. pieces.begin_forall line lo none)
         (λ ls. slot.Mark ∷ []) (λ ls. ls)) }
 {
     work.emit.begin_forall(line)
@@ -39,7 +39,7 @@ pub fn begin_forall(work: &mut Work, line: u32) -> Result<(u32, u32), NoMemory>
 pub fn begin_each(work: &mut Work, line: u32, mark: u32) -> Result<(u32, u32), NoMemory>
     ensures mark { IfOk result (λ r. r.0 ≡ (front work.old).next) }
     ensures holes { IfOk result (λ r. Holes (front work.old) (front work.new)
-        (λ to xs. aimed xs r.1 to) (λ none at lo ls. pieces.begin_each line mark lo none)
+        (λ to xs. aim_jump xs r.1 to) (λ none at lo ls. pieces.begin_each line mark lo none)
         (λ ls. slot.Mark ∷ []) (λ ls. ls)) }
 {
     work.emit.begin_each(line, mark)
@@ -77,7 +77,7 @@ pub fn then_begin_each(
     ensures done { OnOk result (IsOk done) }
     ensures mark { IfOk result (λ r. r.0 ≡ (front work.old).next) }
     ensures holes { IfOk result (λ r. Holes (front work.old) (front work.new)
-        (λ to xs. aimed xs r.1 to) (λ none at lo ls. pieces.begin_each line mark lo none)
+        (λ to xs. aim_jump xs r.1 to) (λ none at lo ls. pieces.begin_each line mark lo none)
         (λ ls. slot.Mark ∷ []) (λ ls. ls)) }
 {
     done?;

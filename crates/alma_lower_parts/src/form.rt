@@ -2,9 +2,9 @@
 ghost use Rattle.std.specs.Prelude.{◌≡◌, ◌∷◌, [], IfOk, IsOk, OnOk};
 ghost use Rattle.alma_code.specs.declared.cell.SlotKind.TheVariants as slot;
 ghost use Rattle.alma_code.specs.declared.instr.Instr.TheVariants as instr;
-ghost use Rattle.alma_choice.specs.Emitted.{aimed};
+ghost use Rattle.alma_choice.specs.Emitted.{aim_jump};
 ghost use Rattle.alma_ir.specs.View.{expr_of, sels_list};
-ghost use Rattle.alma_lower_templates.specs.Lined.{own};
+ghost use Rattle.alma_lower_templates.specs.LineInstr.{own};
 ghost use Rattle.alma_lower_templates.specs.Pieces as pieces;
 ghost use Rattle.alma_lower_templates.specs.Tables.{range_number};
 ghost use Rattle.alma_lower_templates.specs.Templates.{char_range, fit_result};
@@ -220,7 +220,7 @@ pub fn begin_while(work: &mut Work, line: u32) -> Result<u32, NoMemory>
 pub fn end_repeat(work: &mut Work, jump: Result<u32, NoMemory>, top: u32) -> Result<(), NoMemory>
     ensures done { OnOk result (IsOk jump) }
     ensures aims { IfOk jump (λ at. OnOk result (Changes (front work.old) (front work.new)
-        (λ xs. aimed xs at top))) }
+        (λ xs. aim_jump xs at top))) }
 {
     let at = jump?;
     work.aim(at, top);

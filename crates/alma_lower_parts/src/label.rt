@@ -1,7 +1,7 @@
 // The labels of an arm of CASE.
 ghost use Rattle.std.specs.Prelude.{◌≡◌, ◌+◌, ◌<◌, ◌≤◌, [], length, IfOk};
-ghost use Rattle.alma_choice.specs.Emitted.{aimed};
-ghost use Rattle.alma_lower_templates.specs.Lined.{own};
+ghost use Rattle.alma_choice.specs.Emitted.{aim_jump};
+ghost use Rattle.alma_lower_templates.specs.LineInstr.{own};
 ghost use Rattle.alma_lower_templates.specs.Pieces as pieces;
 ghost use Rattle.alma_lower_work.specs.Front.{front, Holes};
 ghost use Rattle.alma_lower_work.specs.Puts.{all_labels, behind_all};
@@ -19,7 +19,7 @@ pub fn put_labels(
 ) -> Result<Miss, NoMemory>
     ensures some { IfOk result (λ miss. 0 < length ranges.now) }
     ensures holes { labels.test ≡ labels.bound + 1 → IfOk result (λ miss.
-        Holes (front work.old) (front work.new) (λ to xs. aimed (aimed xs miss.low to) miss.high to)
+        Holes (front work.old) (front work.new) (λ to xs. aim_jump (aim_jump xs miss.low to) miss.high to)
         (λ none at lo ls. own line (all_labels labels.value labels.bound at
         (behind_all at ranges.now) none ranges.now)) (λ ls. []) (λ ls. ls)) }
 {

@@ -18,7 +18,7 @@ pub use alma_lower_work::{
     slot_of, stay_at, straight_slot, taken_by, turned_test, unequal, write_instr,
 };
 pub use back::{put_held, put_held_back};
-pub use call::{Handed, begin_call, first_handed, put_call_link, take_handed, take_result};
+pub use call::{Handover, begin_call, first_handed, put_call_link, take_handed, take_result};
 pub use case::{
     Labels, Miss, end_arm, end_dead, has_dead, put_label, put_label_test, take_labels,
     then_take_labels,

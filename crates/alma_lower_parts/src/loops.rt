@@ -5,8 +5,8 @@ ghost use Rattle.alma_code.specs.declared.cell.SlotKind.TheVariants as slot;
 ghost use Rattle.alma_ir.specs.View.{desig_of};
 ghost use Rattle.alma_lower_templates.specs.Slots.{bare_desig, unless_bare};
 ghost use Rattle.alma_lower_templates.specs.Templates.{count_at, count_code, own_slot};
-ghost use Rattle.alma_choice.specs.Emitted.{aimed};
-ghost use Rattle.alma_lower_templates.specs.Lined.{own};
+ghost use Rattle.alma_choice.specs.Emitted.{aim_jump};
+ghost use Rattle.alma_lower_templates.specs.LineInstr.{own};
 ghost use Rattle.alma_lower_templates.specs.Pieces as pieces;
 ghost use Rattle.alma_lower_work.specs.Front.{around, front, Adds, Codes, Holes};
 ghost use Rattle.alma_lower_parts.specs.Steps.{BeginsSome, EndsFor, PutsSlot};
@@ -241,7 +241,7 @@ pub fn begin_for(
     bounds: Bounds,
 ) -> Result<(u32, u32), NoMemory>
     ensures holes { IfOk result (λ r. Holes (front work.old) (front work.new)
-        (λ to xs. aimed xs r.0 to)
+        (λ to xs. aim_jump xs r.0 to)
         (λ empty at lo ls. own line (pieces.bounds_code by bounds.constant bounds.counter
         bounds.limit bounds.first empty)) (λ ls. []) (λ ls. ls)) }
     ensures top { IfOk result (λ r. r.1 ≡ length (front work.new).code) }

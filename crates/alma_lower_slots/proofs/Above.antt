@@ -10,7 +10,7 @@ use Rattle.alma_code.specs.Machine.{State, top, slot_of}
 use Rattle.alma_code.specs.Picture.{PlainFrame, PlainEntry, no_frame, entry_at}
 use Rattle.alma_code.specs.Plain.{PlainCode, start_at, end_at}
 use Rattle.alma_code.specs.Rules.{kind_in}
-use Rattle.alma_lower_slots.specs.Slots.{written, lays_over, is_finish, body_of}
+use Rattle.alma_lower_slots.specs.Slots.{target_slot, lays_over, is_finish, body_of}
 use Rattle.alma_lower_slots.specs.Sharing.{Sharing, Shares}
 use Rattle.alma_lower_slots.proofs.Based.{HasFrames, BasedAt}
 use Rattle.alma_lower_slots.proofs.Alike.{Doing}
@@ -55,7 +55,7 @@ module _ (code : PlainCode) (s : Sharing) where
   pub called_still : Shares code s → (frames : List PlainFrame) → FitsFrames code frames → (f n : ℕ) → suc f < length frames
       → is_number (kind_in code (get_or frames f no_frame).routine n) ≡ true
       → s.live (get_or frames f no_frame).routine (get_or frames (suc f) no_frame).back n ≡ true
-      → written code (get_or code.instrs ((get_or frames (suc f) no_frame).back - 1) I.Fail) ≡ Some n
+      → target_slot code (get_or code.instrs ((get_or frames (suc f) no_frame).back - 1) I.Fail) ≡ Some n
   unfolding lays_over
   called_still shares frames fits f n lt number live =
       let q = (get_or frames f no_frame).routine in
@@ -70,5 +70,5 @@ module _ (code : PlainCode) (s : Sharing) where
       let rules = shares.instrs q back.at lq (subst (λ k. start_at code k ≤ back.at) caller back.low)
       (subst (λ k. back.at < end_at code k) caller (omega (arith, back.high, back.behind))) in
       let at_is : above.back - 1 ≡ back.at = omega (arith, back.behind) in
-      ap (λ k. written code (get_or code.instrs k I.Fail)) at_is
+      ap (λ k. target_slot code (get_or code.instrs k I.Fail)) at_is
       ∙ rules.still (ap lays_over is) n number (subst (λ k. s.live q k n ≡ true) back.behind live)

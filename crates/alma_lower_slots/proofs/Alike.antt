@@ -8,11 +8,11 @@ use Rattle.alma_code.specs.declared.instr.Instr.{Instr}
 use Rattle.alma_code.specs.declared.instr.Instr.TheVariants as I
 use Rattle.alma_code.specs.Fits.{routines_of}
 use Rattle.alma_code.specs.Kinds.{is_number}
-use Rattle.alma_code.specs.Machine.{Going, State, Stepped}
+use Rattle.alma_code.specs.Machine.{Going, State, StepResult}
 use Rattle.alma_code.specs.Picture.{PlainFrame, PlainEntry, no_frame, no_entry}
 use Rattle.alma_code.specs.Plain.{PlainCode, kinds_at, end_at}
 use Rattle.alma_code.specs.Rules.{kind_in}
-use Rattle.alma_lower_slots.specs.Slots.{written}
+use Rattle.alma_lower_slots.specs.Slots.{target_slot}
 use Rattle.alma_lower_slots.proofs.Based.{BasedIn}
 use Rattle.alma_code_laws.proofs.Acts.{Here, Obeys}
 use Rattle.alma_lower_implements.proofs.CarryMaps.{IsRising}
@@ -45,7 +45,7 @@ module _ (code new : PlainCode) (s : Sharing) where
     on_top : suc f ≡ length frames → s.live (get_or frames f no_frame).routine at n ≡ true → IsDue frames at f n
     below : suc f < length frames
         → s.live (get_or frames f no_frame).routine (get_or frames (suc f) no_frame).back n ≡ true
-        → (written code (get_or code.instrs ((get_or frames (suc f) no_frame).back - 1) I.Fail) ≡ Some n → ⊥)
+        → (target_slot code (get_or code.instrs ((get_or frames (suc f) no_frame).back - 1) I.Fail) ≡ Some n → ⊥)
         → IsDue frames at f n
 
   -- two frames of which the slots P are the same
@@ -106,7 +106,7 @@ module _ (code new : PlainCode) (s : Sharing) where
     pub now : AlikeFrames at t.now t'.now
 
   -- two steps
-  pub record AlikeStep (x x' : Stepped) : Type 0 where
+  pub record AlikeStep (x x' : StepResult) : Type 0 where
     pub answer : x'.answer ≡ x.answer
     pub printed : x'.printed ≡ x.printed
     pub state : Alike x.state x'.state

@@ -17,7 +17,7 @@ use Rattle.alma_code.specs.declared.head.ParamKind.TheVariants as param
 use Rattle.alma_code.specs.Head.{PlainHead}
 use Rattle.alma_code.specs.Layout.{no_param, kinds_of, arg_cells, args_cells, mix_cells, cells_behind_argument, frame_of_call, blank_of}
 use Rattle.alma_code.specs.Fits.{IsContent}
-use Rattle.alma_code.specs.Machine.{State, Stepped, slot_of, as_argument, arguments, as_routine, enters_routine, numbers_at}
+use Rattle.alma_code.specs.Machine.{State, StepResult, slot_of, as_argument, arguments, as_routine, enters_routine, numbers_at}
 use Rattle.alma_code.specs.Picture.{PlainFrame, no_frame, live_cells}
 use Rattle.alma_code.specs.Plain.{PlainCode, PlainRoutine, no_routine, head_at, start_at}
 use Rattle.alma_code_laws.proofs.Acts.{live_content}
@@ -133,7 +133,7 @@ module _ (code : PlainCode) where
   args_more frames p ps c cs h hs (suc k) lt = hs k (omega arith)
 
   -- a cell is read as an argument
-  as_argument_leaves : (r : ℕ) (kind : ParamKind) (n : ℕ) (o : Option Cell) (t : State) (k : Cell → Stepped) → Ready code r t
+  as_argument_leaves : (r : ℕ) (kind : ParamKind) (n : ℕ) (o : Option Cell) (t : State) (k : Cell → StepResult) → Ready code r t
       → Entries code t.held → NoDone t.held → ((c : Cell) → PlainArg t.now kind c → Leaves code (k c))
       → Leaves code (as_argument kind n o t k)
   as_argument_leaves r kind n None t k ready all none g = stopped code _ (λ e. absurd (cc)) all none
@@ -167,7 +167,7 @@ module _ (code : PlainCode) where
       (λ _. stopped code _ (λ e. absurd (cc)) all none)
 
   -- the arguments are read
-  arguments_leave : (r : ℕ) (ps : List CodeParam) (t : State) (n : ℕ) (k : List Cell → Stepped) → Ready code r t → Entries code t.held
+  arguments_leave : (r : ℕ) (ps : List CodeParam) (t : State) (n : ℕ) (k : List Cell → StepResult) → Ready code r t → Entries code t.held
       → NoDone t.held → ((cs : List Cell) → PlainArgs t.now ps cs → Leaves code (k cs)) → Leaves code (arguments ps t n k)
   arguments_leave r [] t n k ready all none g = g [] (λ j lt. absurd (omega arith))
   arguments_leave r (p ∷ ps) t n k ready all none g =
@@ -226,7 +226,7 @@ module _ (code : PlainCode) where
       (λ _. stopped code _ (λ e. absurd (cc)) all none)
 
   -- a routine that may not be there
-  as_routine_leaves : (o : Option PlainRoutine) (t : State) (k : PlainHead → Stepped) → Entries code t.held → NoDone t.held
+  as_routine_leaves : (o : Option PlainRoutine) (t : State) (k : PlainHead → StepResult) → Entries code t.held → NoDone t.held
       → ((x : PlainRoutine) → o ≡ Some x → Leaves code (k x.head)) → Leaves code (as_routine o t k)
   as_routine_leaves (Some x) t k all none g = g x refl
   as_routine_leaves None t k all none g = stopped code _ (λ e. absurd (cc)) all none

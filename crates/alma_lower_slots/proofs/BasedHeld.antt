@@ -13,7 +13,7 @@ use Rattle.alma_code.specs.declared.cell.ChoiceKind.{ChoiceKind}
 use Rattle.alma_code.specs.declared.cell.ChoiceKind.TheVariants as choice
 use Rattle.alma_code.specs.declared.cell.SlotKind.{SlotKind}
 use Rattle.alma_code.specs.declared.cell.SlotKind.TheVariants as slot
-use Rattle.alma_code.specs.Machine.{Going, State, Stepped, as_number, as_mark, to_mark, state_after_push}
+use Rattle.alma_code.specs.Machine.{Going, State, StepResult, as_number, as_mark, to_mark, state_after_push}
 use Rattle.alma_code.specs.Picture.{PlainEntry, no_entry, entry_at, kind_at}
 use Rattle.alma_code.specs.Plain.{PlainCode}
 use Rattle.alma_lower_slots.proofs.Based.{AtFinish, BasedBy, BasedEntry, BasedState}
@@ -175,11 +175,11 @@ module _ (code : PlainCode) where
   }
 
   -- the state after a step
-  abbrev pub Leaves : Stepped → Type 0
+  abbrev pub Leaves : StepResult → Type 0
   Leaves x = BasedState code x.state
 
   -- a cell is read as a number
-  pub as_number_leaves : (o : Option Cell) (t : State) (k : ℤ → Stepped) → Entries t.held → NoDone t.held → ((v : ℤ) → Leaves (k v))
+  pub as_number_leaves : (o : Option Cell) (t : State) (k : ℤ → StepResult) → Entries t.held → NoDone t.held → ((v : ℤ) → Leaves (k v))
       → Leaves (as_number o t k)
   as_number_leaves (Some (cell.Int v)) t k all none g = g v
   as_number_leaves (Some cell.Unknown) t k all none g = stopped _ (λ e. absurd (cc)) all none
@@ -189,7 +189,7 @@ module _ (code : PlainCode) where
   as_number_leaves None t k all none g = stopped _ (λ e. absurd (cc)) all none
 
   -- a cell is read as a mark
-  pub as_mark_leaves : (o : Option Cell) (t : State) (k : ℕ → Stepped) → Entries t.held → NoDone t.held
+  pub as_mark_leaves : (o : Option Cell) (t : State) (k : ℕ → StepResult) → Entries t.held → NoDone t.held
       → ((m : ℕ) → o ≡ Some (cell.Mark m) → Leaves (k m)) → Leaves (as_mark o t k)
   as_mark_leaves (Some (cell.Mark m)) t k all none g = g m refl
   as_mark_leaves (Some cell.Unset) t k all none g = stopped _ (λ e. absurd (cc)) all none
@@ -199,7 +199,7 @@ module _ (code : PlainCode) where
   as_mark_leaves None t k all none g = stopped _ (λ e. absurd (cc)) all none
 
   -- the slot that is written is a mark slot
-  pub to_mark_leaves : (o : Option SlotKind) (t : State) (k : Unit {0} → Stepped) → Entries t.held → NoDone t.held → Leaves (k tt)
+  pub to_mark_leaves : (o : Option SlotKind) (t : State) (k : Unit {0} → StepResult) → Entries t.held → NoDone t.held → Leaves (k tt)
       → Leaves (to_mark o t k)
   to_mark_leaves (Some slot.Mark) t k all none g = g
   to_mark_leaves (Some slot.Number) t k all none g = stopped _ (λ e. absurd (cc)) all none

@@ -21,7 +21,7 @@ use Rattle.alma_code.specs.Rules.{kind_in}
 use Rattle.alma_code.specs.Words.{words}
 use Rattle.alma_code_laws.proofs.Acts.{slots, is_kind_within}
 use Rattle.alma_lower_implements.proofs.CarryMaps.{rising_all}
-use Rattle.alma_lower_slots.specs.Slots.{reads, written, away, lays_over, is_finish, body_of, renamed}
+use Rattle.alma_lower_slots.specs.Slots.{reads, target_slot, away, lays_over, is_finish, body_of, rename_slots}
 use Rattle.alma_lower_slots.specs.Sharing.{Sharing, matters}
 use Rattle.alma_lower_slots.proofs.Alike.{AlikeFrames, AlikeEntry, AlikeHeld, AlikeRest, AlikeStep, Doing}
 use Rattle.alma_lower_slots.proofs.Based.{HasFrames}
@@ -84,7 +84,7 @@ module _ {code new : PlainCode} {s : Sharing} where
       (set_alike code new s (n - 1) t.held t'.held (gained_entry t n) (gained_entry t' n) (omega (arith, some, le)) alike one))
 
   -- a body is kept, where there is one to keep
-  keep_to_alike : {r at : ℕ} {i : Instr} {t t' : State} → Shared code new s → Doing code new s r at i t t' → written code i ≡ None
+  keep_to_alike : {r at : ℕ} {i : Instr} {t t' : State} → Shared code new s → Doing code new s r at i t t' → target_slot code i ≡ None
       → (n : ℕ) → HaveFrames t n → AlikeStep code new s (keep t n) (keep t' n)
   keep_to_alike {r} {at} {i} {t} {t'} w h none n has =
       let alike = h.taken.rest.held in
@@ -129,14 +129,15 @@ module _ {code new : PlainCode} {s : Sharing} where
       })
 
   -- where it writes nothing no number is live behind it
-  no_number : {r at : ℕ} {i : Instr} {t t' : State} → Doing code new s r at i t t' → written code i ≡ None → lays_over i ≡ true → (m : ℕ)
+  no_number : {r at : ℕ} {i : Instr} {t t' : State} → Doing code new s r at i t t' → target_slot code i ≡ None → lays_over i ≡ true
+      → (m : ℕ)
       → is_number (kind_in code r m) ≡ true → s.live r (suc at) m ≡ true → ⊥
   no_number {r} {at} {i} {t} {t'} h none over m number live =
       let is = h.shares.still over m number live in
       absurd (cc)
 
   -- what lives behind an instruction that writes nothing lived at it
-  lived_before : {r at : ℕ} {i : Instr} {t t' : State} → Doing code new s r at i t t' → written code i ≡ None → (m : ℕ)
+  lived_before : {r at : ℕ} {i : Instr} {t t' : State} → Doing code new s r at i t t' → target_slot code i ≡ None → (m : ℕ)
       → s.live r (suc at) m ≡ true → s.live r at m ≡ true
   lived_before {r} {at} {i} {t} {t'} h none m l = elim (h.shares.next m l) [
     | inl before ↦ before
@@ -146,8 +147,8 @@ module _ {code new : PlainCode} {s : Sharing} where
   module _ (input : List ℕ) where
     -- a body is kept
     pub keep_alike : Shared code new s → (r at a : ℕ) (t t' : State) → Doing code new s r at (I.Keep a) t t'
-        → AlikeStep code new s (act code input (I.Keep a) t) (act new input (renamed (s.slot r) (I.Keep a)) t')
-    unfolding act written reads renamed words body_of
+        → AlikeStep code new s (act code input (I.Keep a) t) (act new input (rename_slots (s.slot r) (I.Keep a)) t')
+    unfolding act target_slot reads rename_slots words body_of
     keep_alike w r at a t t' h =
         let word = slots code r at (I.Keep a) (W.Mark a) W.Free W.Free W.Free refl h.obeys in
         mark_alike h a (mark_there code r a word.0) (and_parts (matters s r at a) true h.shares.read).0 _ _
@@ -155,8 +156,8 @@ module _ {code new : PlainCode} {s : Sharing} where
 
     -- a carry is laid over, and a body is pushed
     pub overlay_alike : Shared code new s → (r at a b : ℕ) (t t' : State) → Doing code new s r at (I.Overlay a b) t t'
-        → AlikeStep code new s (act code input (I.Overlay a b) t) (act new input (renamed (s.slot r) (I.Overlay a b)) t')
-    unfolding act written reads away lays_over renamed words body_of
+        → AlikeStep code new s (act code input (I.Overlay a b) t) (act new input (rename_slots (s.slot r) (I.Overlay a b)) t')
+    unfolding act target_slot reads away lays_over rename_slots words body_of
     overlay_alike w r at a b t t' h =
         let word = slots code r at (I.Overlay a b) (W.Mark a) (W.Address b) W.Free W.Free refl h.obeys in
         mark_alike h a (mark_there code r a word.0) (and_parts (matters s r at a) true h.shares.read).0 _ _
@@ -188,8 +189,8 @@ module _ {code new : PlainCode} {s : Sharing} where
 
     -- the carry of a FORALL that is done is laid over
     pub finish_alike : Shared code new s → (r at : ℕ) (t t' : State) → Doing code new s r at I.Finish t t'
-        → AlikeStep code new s (act code input I.Finish t) (act new input (renamed (s.slot r) I.Finish) t')
-    unfolding act written lays_over renamed is_finish
+        → AlikeStep code new s (act code input I.Finish t) (act new input (rename_slots (s.slot r) I.Finish) t')
+    unfolding act target_slot lays_over rename_slots is_finish
     finish_alike w r at t t' h =
         let rest = h.taken.rest in
         let n = length t.held in

@@ -16,12 +16,12 @@ use Rattle.alma_code.specs.declared.instr.Instr.TheVariants as I
 use Rattle.alma_code.specs.declared.step.Step.TheVariants as answer
 use Rattle.alma_code.specs.Head.{PlainHead}
 use Rattle.alma_code.specs.Layout.{frame_of_call}
-use Rattle.alma_code.specs.Machine.{State, Stepped, act, as_routine, arguments, enters_routine}
+use Rattle.alma_code.specs.Machine.{State, StepResult, act, as_routine, arguments, enters_routine}
 use Rattle.alma_code.specs.Picture.{PlainFrame, no_frame, last_frame, live_cells}
 use Rattle.alma_code.specs.Plain.{PlainCode, no_routine, routine_at, head_at, start_at, end_at}
 use Rattle.alma_code.specs.Rules.{rule_10, can_call, fit_arguments, holds_first, holds_result}
 use Rattle.alma_lower_slots.specs.Sharing.{Sharing, SharesAt}
-use Rattle.alma_lower_slots.specs.Slots.{reads, written, renamed}
+use Rattle.alma_lower_slots.specs.Slots.{reads, target_slot, rename_slots}
 use Rattle.alma_lower_slots.proofs.Alike.{IsDue, is_kept, on_top, below, AlikeFrame, AlikeFrames, AlikeStep, Doing}
 use Rattle.alma_lower_slots.proofs.Entering.{PassAll, entered_alike}
 use Rattle.alma_lower_slots.proofs.Frames.{frame_fewer}
@@ -40,7 +40,7 @@ module _ (code new : PlainCode) (s : Sharing) where
       get_or-map size frames' f no_frame ∙ (h.each f (omega (arith, h.count))).declared ∙ sym (get_or-map size frames f no_frame)))
 
   -- a choice by tests that are equal
-  pub choices_alike : (b b' : Bool) (k z k' z' : Unit {0} → Stepped) → b' ≡ b → (b ≡ true → AlikeStep code new s (k tt) (k' tt))
+  pub choices_alike : (b b' : Bool) (k z k' z' : Unit {0} → StepResult) → b' ≡ b → (b ≡ true → AlikeStep code new s (k tt) (k' tt))
       → (b ≡ false → AlikeStep code new s (z tt) (z' tt)) → AlikeStep code new s (if_true b k z) (if_true b' k' z')
   choices_alike b b' k z k' z' e h g =
       subst (λ x. AlikeStep code new s (if_true b k z) (if_true x k' z')) (sym e) (choice_alike code new s b k z k' z' h g)
@@ -64,7 +64,7 @@ module _ (code new : PlainCode) (s : Sharing) where
             below more
             (ap (λ x. s.live x.routine (get_or frames (suc f) no_frame).back n) (sym here)
             ∙ ap (λ x. s.live (get_or all f no_frame).routine x.back n) (sym next) ∙ l)
-            (λ q. w (ap (λ x. written code (get_or code.instrs (x.back - 1) I.Fail)) next ∙ q))
+            (λ q. w (ap (λ x. target_slot code (get_or code.instrs (x.back - 1) I.Fail)) next ∙ q))
         | inr le ↦
             let z : suc f ≡ length frames = omega arith in
             let y : f ≡ length frames - 1 = omega arith in
@@ -78,7 +78,7 @@ module _ (code new : PlainCode) (s : Sharing) where
             ∙ ap (λ x. s.live (get_or all f no_frame).routine x n) (sym b) ∙ l in
             elim (shares.next n live) [
               | inl before ↦ on_top z (ap (λ x. s.live x at n) q ∙ before)
-              | inr writes ↦ absurd (w (ap (λ m. written code (get_or code.instrs m I.Fail)) b1 ∙ ap (written code) is ∙ writes))
+              | inr writes ↦ absurd (w (ap (λ m. target_slot code (get_or code.instrs m I.Fail)) b1 ∙ ap (target_slot code) is ∙ writes))
             ]
       ]
 
@@ -164,8 +164,8 @@ module _ (code new : PlainCode) (s : Sharing) (w : Shared code new s) where
 
   -- a Call
   pub call_alike : (input : List ℕ) (r at c first to : ℕ) (t t' : State) → Doing code new s r at (I.Call c first to) t t'
-      → AlikeStep code new s (act code input (I.Call c first to) t) (act new input (renamed (s.slot r) (I.Call c first to)) t')
-  unfolding act renamed reads rule_10
+      → AlikeStep code new s (act code input (I.Call c first to) t) (act new input (rename_slots (s.slot r) (I.Call c first to)) t')
+  unfolding act rename_slots reads rule_10
   call_alike input r at c first to t t' d =
       let h = head_at code c in
       let x = and_parts (nat_lt 0 c && nat_lt c (length code.routines)) (can_call code r at h first to) d.obeys.r10 in
@@ -176,8 +176,8 @@ module _ (code new : PlainCode) (s : Sharing) (w : Shared code new s) where
       let there : slice_get code.routines c ≡ Some (routine_at code c) = slice_get-get_or code.routines c no_routine lc in
       let there' : slice_get new.routines c ≡ Some (routine_at new c) =
       slice_get-get_or new.routines c no_routine (omega (arith, w.renames.count)) in
-      let run : Stepped = arguments h.params t first (λ args. enters_routine t c (start_at code c) h args) in
-      let goes : PlainHead → Stepped =
+      let run : StepResult = arguments h.params t first (λ args. enters_routine t c (start_at code c) h args) in
+      let goes : PlainHead → StepResult =
       λ q. arguments q.params t' (s.slot r first) (λ args. enters_routine t' c (start_at new c) q args) in
       subst (λ o. AlikeStep code new s (as_routine o t
       (λ q. arguments q.params t first (λ args. enters_routine t c (start_at code c) q args)))

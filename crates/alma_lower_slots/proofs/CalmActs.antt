@@ -15,7 +15,7 @@ use Rattle.alma_code.specs.declared.cell.SlotKind.{SlotKind}
 use Rattle.alma_code.specs.declared.cell.SlotKind.TheVariants as slot
 use Rattle.alma_code.specs.declared.instr.Instr.{Instr}
 use Rattle.alma_code.specs.declared.instr.Instr.TheVariants as I
-use Rattle.alma_code.specs.Machine.{State, Stepped, quiet_step, slot_of, kind_of, as_number, as_place, as_mark}
+use Rattle.alma_code.specs.Machine.{State, StepResult, quiet_step, slot_of, kind_of, as_number, as_place, as_mark}
 use Rattle.alma_code.specs.Machine.{number, place, link, with_cell, with_slot, to_number, to_place, to_mark, to_link, put_number}
 use Rattle.alma_code.specs.Machine.{put_place, put_link, link_to, integer_result, as_content}
 use Rattle.alma_code.specs.Machine.{content, store, with_known_content, as_range, range_check, optional_range_check}
@@ -37,13 +37,13 @@ module _ (code : PlainCode) (base : ℕ → ℕ) (old : List PlainEntry) where
     pub at : AtFinish code t.at → ⊥
 
   -- so it is after a step
-  abbrev pub Quiet : Stepped → Type 0
+  abbrev pub Quiet : StepResult → Type 0
   Quiet x = Calm x.state
 
   -- ---- numbers
 
   -- a cell is read as a number
-  pub as_number_calm : (o : Option Cell) (t : State) (k : ℤ → Stepped) → Calm t → ((v : ℤ) → Quiet (k v)) → Quiet (as_number o t k)
+  pub as_number_calm : (o : Option Cell) (t : State) (k : ℤ → StepResult) → Calm t → ((v : ℤ) → Quiet (k v)) → Quiet (as_number o t k)
   as_number_calm (Some (cell.Int v)) t k h g = g v
   as_number_calm (Some cell.Unknown) t k h g = record { by = h.by; held = h.held; at = h.at }
   as_number_calm (Some cell.Unset) t k h g = record { by = h.by; held = h.held; at = h.at }
@@ -52,16 +52,16 @@ module _ (code : PlainCode) (base : ℕ → ℕ) (old : List PlainEntry) where
   as_number_calm None t k h g = record { by = h.by; held = h.held; at = h.at }
 
   -- a slot is read as a number
-  pub number_calm : (t : State) (n : ℕ) (k : ℤ → Stepped) → Calm t → ((v : ℤ) → Quiet (k v)) → Quiet (number t n k)
+  pub number_calm : (t : State) (n : ℕ) (k : ℤ → StepResult) → Calm t → ((v : ℤ) → Quiet (k v)) → Quiet (number t n k)
   number_calm t n k h g = as_number_calm (slot_of t n) t k h g
 
   -- two slots are read as numbers
-  pub two_calm : (t : State) (b c : ℕ) (k : ℤ → ℤ → Stepped) → Calm t → ((x y : ℤ) → Quiet (k x y))
+  pub two_calm : (t : State) (b c : ℕ) (k : ℤ → ℤ → StepResult) → Calm t → ((x y : ℤ) → Quiet (k x y))
       → Quiet (number t b (λ x. number t c (λ y. k x y)))
   two_calm t b c k h g = number_calm t b (λ x. number t c (λ y. k x y)) h (λ x. number_calm t c (λ y. k x y) h (λ y. g x y))
 
   -- a cell is read as a mark
-  as_mark_calm : (o : Option Cell) (t : State) (k : ℕ → Stepped) → Calm t → ((v : ℕ) → Quiet (k v)) → Quiet (as_mark o t k)
+  as_mark_calm : (o : Option Cell) (t : State) (k : ℕ → StepResult) → Calm t → ((v : ℕ) → Quiet (k v)) → Quiet (as_mark o t k)
   as_mark_calm (Some (cell.Mark m)) t k h g = g m
   as_mark_calm (Some cell.Unset) t k h g = record { by = h.by; held = h.held; at = h.at }
   as_mark_calm (Some cell.Unknown) t k h g = record { by = h.by; held = h.held; at = h.at }
@@ -78,7 +78,7 @@ module _ (code : PlainCode) (base : ℕ → ℕ) (old : List PlainEntry) where
   with_number_calm t f i v h = with_cell_calm t f i (cell.Int v) h (λ m e. absurd (cc))
 
   -- the slot that is written is a number slot
-  pub to_number_calm : (o : Option SlotKind) (t : State) (k : Unit {0} → Stepped) → Calm t → Quiet (k tt) → Quiet (to_number o t k)
+  pub to_number_calm : (o : Option SlotKind) (t : State) (k : Unit {0} → StepResult) → Calm t → Quiet (k tt) → Quiet (to_number o t k)
   to_number_calm (Some slot.Number) t k h g = g
   to_number_calm (Some (slot.Place l)) t k h g = record { by = h.by; held = h.held; at = h.at }
   to_number_calm (Some slot.Mark) t k h g = record { by = h.by; held = h.held; at = h.at }
@@ -86,7 +86,7 @@ module _ (code : PlainCode) (base : ℕ → ℕ) (old : List PlainEntry) where
   to_number_calm None t k h g = record { by = h.by; held = h.held; at = h.at }
 
   -- it is a mark slot
-  pub to_mark_calm : (o : Option SlotKind) (t : State) (k : Unit {0} → Stepped) → Calm t → Quiet (k tt) → Quiet (to_mark o t k)
+  pub to_mark_calm : (o : Option SlotKind) (t : State) (k : Unit {0} → StepResult) → Calm t → Quiet (k tt) → Quiet (to_mark o t k)
   to_mark_calm (Some slot.Mark) t k h g = g
   to_mark_calm (Some slot.Number) t k h g = record { by = h.by; held = h.held; at = h.at }
   to_mark_calm (Some (slot.Place l)) t k h g = record { by = h.by; held = h.held; at = h.at }
@@ -100,13 +100,13 @@ module _ (code : PlainCode) (base : ℕ → ℕ) (old : List PlainEntry) where
       to_number_calm (kind_of t n) t (λ _. quiet_step (with_slot t n (cell.Int v))) h (record { by = w.by; held = w.held; at = w.at })
 
   -- a result that may be out of INTEGER
-  pub integer_calm : (t : State) (v : ℤ) (k : ℤ → Stepped) → Calm t → ((v : ℤ) → Quiet (k v)) → Quiet (integer_result t v k)
+  pub integer_calm : (t : State) (v : ℤ) (k : ℤ → StepResult) → Calm t → ((v : ℤ) → Quiet (k v)) → Quiet (integer_result t v k)
   integer_calm t v k h g = if_true_keeps Quiet (is_integer v) _ _ (λ _. g v) (λ _. record { by = h.by; held = h.held; at = h.at })
 
   -- ---- cells at places
 
   -- a cell is looked at as a content
-  as_content_calm : (b : Bool) (c : Cell) (t : State) (k : Option ℤ → Stepped) → Calm t → ((o : Option ℤ) → Quiet (k o))
+  as_content_calm : (b : Bool) (c : Cell) (t : State) (k : Option ℤ → StepResult) → Calm t → ((o : Option ℤ) → Quiet (k o))
       → Quiet (as_content b c t k)
   as_content_calm true (cell.Int v) t k h g = g (Some v)
   as_content_calm true cell.Unknown t k h g = g None
@@ -116,34 +116,34 @@ module _ (code : PlainCode) (base : ℕ → ℕ) (old : List PlainEntry) where
   as_content_calm false c t k h g = record { by = h.by; held = h.held; at = h.at }
 
   -- the cell at a place is looked at
-  pub content_calm : (t : State) (f n : ℕ) (k : Option ℤ → Stepped) → Calm t → ((o : Option ℤ) → Quiet (k o)) → Quiet (content t f n k)
+  pub content_calm : (t : State) (f n : ℕ) (k : Option ℤ → StepResult) → Calm t → ((o : Option ℤ) → Quiet (k o)) → Quiet (content t f n k)
   content_calm t f n k h g = as_content_calm (number_at t.now f n) (cell_at t.now f n cell.Unset) t k h g
 
   -- the cell at a place gets a number
-  pub store_calm : (t : State) (f n : ℕ) (v : ℤ) (k : State → Stepped) → Calm t → ((u : State) → Calm u → Quiet (k u))
+  pub store_calm : (t : State) (f n : ℕ) (v : ℤ) (k : State → StepResult) → Calm t → ((u : State) → Calm u → Quiet (k u))
       → Quiet (store t f n v k)
   store_calm t f n v k h g =
       if_true_keeps Quiet (number_at t.now f n) _ _ (λ _. g (with_cell t f n (cell.Int v)) (with_number_calm t f n v h))
       (λ _. record { by = h.by; held = h.held; at = h.at })
 
   -- a content that may be unknown
-  pub known_calm : (o : Option ℤ) (t : State) (k : ℤ → Stepped) → Calm t → ((v : ℤ) → Quiet (k v)) → Quiet (with_known_content t o k)
+  pub known_calm : (o : Option ℤ) (t : State) (k : ℤ → StepResult) → Calm t → ((v : ℤ) → Quiet (k v)) → Quiet (with_known_content t o k)
   known_calm (Some v) t k h g = g v
   known_calm None t k h g = record { by = h.by; held = h.held; at = h.at }
 
   -- a range that may not be there
-  pub as_range_calm : (o : Option Range) (t : State) (k : Range → Stepped) → Calm t → ((x : Range) → o ≡ Some x → Quiet (k x))
+  pub as_range_calm : (o : Option Range) (t : State) (k : Range → StepResult) → Calm t → ((x : Range) → o ≡ Some x → Quiet (k x))
       → Quiet (as_range o t k)
   as_range_calm (Some x) t k h g = g x refl
   as_range_calm None t k h g = record { by = h.by; held = h.held; at = h.at }
 
   -- a number that may be out of range
-  pub ranged_calm : (x : Range) (f : RunFault) (t : State) (v : ℤ) (k : Unit {0} → Stepped) → Calm t
+  pub ranged_calm : (x : Range) (f : RunFault) (t : State) (v : ℤ) (k : Unit {0} → StepResult) → Calm t
       → (within x v ≡ true → Quiet (k tt)) → Quiet (range_check x f t v k)
   ranged_calm x f t v k h g = if_true_keeps Quiet (within x v) _ _ g (λ _. record { by = h.by; held = h.held; at = h.at })
 
   -- the same where there may be no range
-  pub ranged_if_calm : (o : Option Range) (t : State) (v : ℤ) (k : Unit {0} → Stepped) → Calm t → Quiet (k tt)
+  pub ranged_if_calm : (o : Option Range) (t : State) (v : ℤ) (k : Unit {0} → StepResult) → Calm t → Quiet (k tt)
       → Quiet (optional_range_check o t v k)
   ranged_if_calm (Some x) t v k h g = ranged_calm x _ t v k h (λ _. g)
   ranged_if_calm None t v k h g = g
@@ -157,7 +157,8 @@ module _ (code : PlainCode) (base : ℕ → ℕ) (old : List PlainEntry) where
       ranged_calm x _ t v _ h (λ _. store_calm t p.frame p.slot v quiet_step h (λ u hu. record { by = hu.by; held = hu.held; at = hu.at }))
 
   -- two contents are equated
-  equated_calm : (t : State) (f i : ℕ) (a : Option Range) (u : Option ℤ) (g j : ℕ) (b : Option Range) (v : Option ℤ) (k : State → Stepped)
+  equated_calm : (t : State) (f i : ℕ) (a : Option Range) (u : Option ℤ) (g j : ℕ) (b : Option Range) (v : Option ℤ)
+      (k : State → StepResult)
       → Calm t → ((x : State) → Calm x → Quiet (k x)) → Quiet (equation_of_contents t f i a u g j b v k)
   equated_calm t f i a None g j b None k h good = record { by = h.by; held = h.held; at = h.at }
   equated_calm t f i a None g j b (Some v) k h good = ranged_if_calm a t v _ h (store_calm t f i v k h good)
@@ -166,7 +167,7 @@ module _ (code : PlainCode) (base : ℕ → ℕ) (old : List PlainEntry) where
       if_true_keeps Quiet (int_eq u v) _ _ (λ _. good t h) (λ _. record { by = h.by; held = h.held; at = h.at })
 
   -- two cells are equated
-  pub equation_calm : (t : State) (f i : ℕ) (a : Option Range) (g j : ℕ) (b : Option Range) (k : State → Stepped)
+  pub equation_calm : (t : State) (f i : ℕ) (a : Option Range) (g j : ℕ) (b : Option Range) (k : State → StepResult)
       → Calm t → ((x : State) → Calm x → Quiet (k x)) → Quiet (equation t f i a g j b k)
   equation_calm t f i a g j b k h good =
       content_calm t f i _ h (λ u. content_calm t g j _ h (λ v. equated_calm t f i a u g j b v k h good))
@@ -192,7 +193,7 @@ module _ (code : PlainCode) (base : ℕ → ℕ) (old : List PlainEntry) where
   -- ---- input
 
   -- a cell is read as the input position
-  as_position_calm : (o : Option Cell) (t : State) (k : ℕ → Stepped) → Calm t → ((n : ℕ) → Quiet (k n)) → Quiet (as_position o t k)
+  as_position_calm : (o : Option Cell) (t : State) (k : ℕ → StepResult) → Calm t → ((n : ℕ) → Quiet (k n)) → Quiet (as_position o t k)
   as_position_calm (Some (cell.Int (pos n))) t k h g = g n
   as_position_calm (Some (cell.Int (negsuc n))) t k h g = record { by = h.by; held = h.held; at = h.at }
   as_position_calm (Some cell.Unknown) t k h g = record { by = h.by; held = h.held; at = h.at }
@@ -202,7 +203,7 @@ module _ (code : PlainCode) (base : ℕ → ℕ) (old : List PlainEntry) where
   as_position_calm None t k h g = record { by = h.by; held = h.held; at = h.at }
 
   -- the input position is read
-  pub position_calm : (t : State) (k : ℕ → Stepped) → Calm t → ((n : ℕ) → Quiet (k n)) → Quiet (position t k)
+  pub position_calm : (t : State) (k : ℕ → StepResult) → Calm t → ((n : ℕ) → Quiet (k n)) → Quiet (position t k)
   position_calm t k h g = as_position_calm (slice_get (get_or t.now 0 no_frame).cells 0) t k h g
 
   -- what was read goes to its place
@@ -225,7 +226,7 @@ module _ (code : PlainCode) (base : ℕ → ℕ) (old : List PlainEntry) where
   -- ---- places and links
 
   -- a cell is read as a place
-  pub as_place_calm : (o : Option Cell) (t : State) (k : CellPlace → Stepped) → Calm t → ((p : CellPlace) → Quiet (k p))
+  pub as_place_calm : (o : Option Cell) (t : State) (k : CellPlace → StepResult) → Calm t → ((p : CellPlace) → Quiet (k p))
       → Quiet (as_place o t k)
   as_place_calm (Some (cell.Place p)) t k h g = g p
   as_place_calm (Some cell.Unset) t k h g = record { by = h.by; held = h.held; at = h.at }
@@ -235,11 +236,11 @@ module _ (code : PlainCode) (base : ℕ → ℕ) (old : List PlainEntry) where
   as_place_calm None t k h g = record { by = h.by; held = h.held; at = h.at }
 
   -- a slot is read as a place
-  pub place_calm : (t : State) (n : ℕ) (k : CellPlace → Stepped) → Calm t → ((p : CellPlace) → Quiet (k p)) → Quiet (place t n k)
+  pub place_calm : (t : State) (n : ℕ) (k : CellPlace → StepResult) → Calm t → ((p : CellPlace) → Quiet (k p)) → Quiet (place t n k)
   place_calm t n k h g = as_place_calm (slot_of t n) t k h g
 
   -- a slot is read as a link
-  pub link_calm : (t : State) (n : ℕ) (k : ℕ → Stepped) → Calm t → ((f : ℕ) → Quiet (k f)) → Quiet (link t n k)
+  pub link_calm : (t : State) (n : ℕ) (k : ℕ → StepResult) → Calm t → ((f : ℕ) → Quiet (k f)) → Quiet (link t n k)
   link_calm t n k h g = as_place_calm (slot_of t n) t (λ p. k p.frame) h (λ p. g p.frame)
 
   -- a place is put into a slot

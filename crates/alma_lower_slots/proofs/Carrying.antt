@@ -20,7 +20,7 @@ use Rattle.alma_code.specs.Rules.{kind_in}
 use Rattle.alma_lower_implements.proofs.CarryMaps.{IsRising}
 use Rattle.alma_lower_implements.proofs.LaidOver.{AreFull, or_else, overlaid_count, overlaid_form, overlaid_other, overlaid_cell}
 use Rattle.alma_lower_implements.proofs.Gaining.{gained}
-use Rattle.alma_lower_slots.specs.Slots.{written}
+use Rattle.alma_lower_slots.specs.Slots.{target_slot}
 use Rattle.alma_lower_slots.specs.Sharing.{Sharing, Renames}
 use Rattle.alma_lower_slots.proofs.Frames.{SameCalls, slot_there, due_across}
 use Rattle.alma_lower_slots.proofs.Alike.{IsDue, is_kept, on_top, below, AlikeFrame, AlikeFrames, AlikeCarries}
@@ -187,7 +187,7 @@ module _ (code new : PlainCode) (s : Sharing) (renames : Renames code s new) whe
         → s.live (get_or frames f no_frame).routine next n ≡ true → ⊥
     pub called : (f n : ℕ) → suc f < length frames → is_number (kind_in code (get_or frames f no_frame).routine n) ≡ true
         → s.live (get_or frames f no_frame).routine (get_or frames (suc f) no_frame).back n ≡ true
-        → written code (get_or code.instrs ((get_or frames (suc f) no_frame).back - 1) I.Fail) ≡ Some n
+        → target_slot code (get_or code.instrs ((get_or frames (suc f) no_frame).back - 1) I.Fail) ≡ Some n
 
   module _ (at next : ℕ) (frames frames' : List PlainFrame) (rs : List ℕ) (carry carry' : Carry Cell)
       (h : LaysOver at next frames frames' rs carry carry') (f : ℕ) (lf : f < length frames) where

@@ -12,7 +12,7 @@ use Rattle.alma_code.specs.Kinds.{is_number}
 use Rattle.alma_code.specs.Plain.{PlainCode, start_at, end_at, kinds_at}
 use Rattle.alma_code.specs.Rules.{kind_in}
 use Rattle.alma_lower_slots.specs.declared.stretch.Stretch.{Stretch}
-use Rattle.alma_lower_slots.specs.Slots.{written, away, lays_over}
+use Rattle.alma_lower_slots.specs.Slots.{target_slot, away, lays_over}
 use Rattle.alma_lower_slots.specs.Sharing.{params_slots, StaysTogether, SharesAt, SharesIn}
 use Rattle.alma_lower_slots.specs.Stretches.{no_end, own_stretch, stretch_at, is_kept, is_live, sharing_in, FitsRoutine}
 use Rattle.alma_lower_slots.specs.Inner.Checks.{mark_of, begin_of, Holds, AreApart, FitsSlot, FitSlots}
@@ -94,12 +94,12 @@ module _ (code : PlainCode) (own : List ℕ) (stretches : List Stretch) (r : ℕ
 
   -- what is live behind an instruction was live before, or is written by it
   next_live : (at n : ℕ) → is_live (stretch_at stretches n) (suc at) ≡ true
-      → (is_live (stretch_at stretches n) at ≡ true) ⊎ (written code (get_or code.instrs at I.Fail) ≡ Some n)
+      → (is_live (stretch_at stretches n) at ≡ true) ⊎ (target_slot code (get_or code.instrs at I.Fail) ≡ Some n)
   next_live at n live =
       let i = live_in (stretch_at stretches n) (suc at) live in
       let f = fits_live n (suc at) live in
       elim (cases_eq (stretch_at stretches n).low at) [
-        | inl e ↦ inr (subst (λ k. written code (get_or code.instrs k I.Fail) ≡ Some n) e f.writes)
+        | inl e ↦ inr (subst (λ k. target_slot code (get_or code.instrs k I.Fail) ≡ Some n) e f.writes)
         | inr ne ↦ inl (in_live (stretch_at stretches n) at i.free (omega (arith, ne, i.low)) (omega (arith, i.high)))
       ]
 
@@ -120,12 +120,12 @@ module _ (code : PlainCode) (own : List ℕ) (stretches : List Stretch) (r : ℕ
 
   -- a number that is live where a carry may have been laid over is written then
   still_next : (at n : ℕ) → lays_over (get_or code.instrs at I.Fail) ≡ true → is_number (kind_in code r n) ≡ true
-      → is_live (stretch_at stretches n) (suc at) ≡ true → written code (get_or code.instrs at I.Fail) ≡ Some n
+      → is_live (stretch_at stretches n) (suc at) ≡ true → target_slot code (get_or code.instrs at I.Fail) ≡ Some n
   still_next at n lays number live =
       let i = live_in (stretch_at stretches n) (suc at) live in
       let f = fits_live n (suc at) live in
       elim (cases_eq (stretch_at stretches n).low at) [
-        | inl e ↦ subst (λ k. written code (get_or code.instrs k I.Fail) ≡ Some n) e f.writes
+        | inl e ↦ subst (λ k. target_slot code (get_or code.instrs k I.Fail) ≡ Some n) e f.writes
         | inr ne ↦ let last = f.calm number at (omega (arith, ne, i.low)) (omega (arith, i.high)) lays in
             absurd (omega (arith, last.0, i.high))
       ]

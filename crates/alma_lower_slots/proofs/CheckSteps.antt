@@ -11,7 +11,7 @@ use Rattle.alma_code.specs.Kinds.{is_number}
 use Rattle.alma_code.specs.Plain.{PlainCode, start_at, end_at}
 use Rattle.alma_lower_slots.specs.declared.stretch.Stretch.{Stretch}
 use Rattle.alma_lower_slots.specs.declared.sources.Sources.{Sources}
-use Rattle.alma_lower_slots.specs.Slots.{slots_from, reads, written, away, body_of}
+use Rattle.alma_lower_slots.specs.Slots.{slots_from, reads, target_slot, away, body_of}
 use Rattle.alma_lower_slots.specs.Sharing.{names_own, begins_own}
 use Rattle.alma_lower_slots.specs.Stretches.{own_count, stretch_at}
 use Rattle.alma_lower_slots.specs.Inner.Checks.{matters_at, mark_of, IsAmong, no_sources, AreSources, Encloses}
@@ -61,7 +61,7 @@ sources_more instrs start stop n old new count before notes at t low high leads 
 -- the stretch of a slot is closed
 pub slot_fits : (code : PlainCode) (r : ℕ) (sources : List Sources) (kind : Option SlotKind) (n : ℕ) (x : Stretch) (start stop : ℕ)
     → AreSources code r sources → start ≡ start_at code r → stop ≡ end_at code r → start ≤ x.low → x.high < stop
-    → written code (get_or code.instrs x.low I.Fail) ≡ Some n
+    → target_slot code (get_or code.instrs x.low I.Fail) ≡ Some n
     → ((t : ℕ) → x.low < t → t ≤ x.high → Encloses (get_or sources (t - start) no_sources) x.low x.high)
     → (is_number kind ≡ true → (at : ℕ) → x.low < at → at ≤ x.high → IsCalm (get_or code.instrs at I.Fail) at x.high)
     → FitsSlot code r kind n x
@@ -80,7 +80,7 @@ slot_fits code r sources kind n x start stop are is_start is_stop low high write
 -- an instruction fits
 pub instr_fits : (code : PlainCode) (own : List ℕ) (kinds : List SlotKind) (stretches : List Stretch) (r at : ℕ) (i j : Instr) → i ≡ j
     → list_all (λ n. matters_at stretches at n) (reads code i) ≡ true
-    → ((w : ℕ) → written code i ≡ Some w → WritesIn stretches at w) → FitsFlow code at i
+    → ((w : ℕ) → target_slot code i ≡ Some w → WritesIn stretches at w) → FitsFlow code at i
     → names_own (own_count own) kinds r i ≡ true → begins_own (own_count own) r i ≡ true → StayTogether code stretches i
     → FitsInstr code own kinds stretches r at j
 instr_fits code own kinds stretches r at i j e read write flow places begins together =

@@ -22,7 +22,7 @@ use Rattle.alma_code.specs.Rules.{kind_in, names_slot}
 use Rattle.alma_code.specs.Words.{words}
 use Rattle.alma_code_laws.proofs.Acts.{slots, mark_word}
 use Rattle.alma_code_laws.proofs.Ready.{mark_is}
-use Rattle.alma_lower_slots.specs.Slots.{reads, written, away, renamed}
+use Rattle.alma_lower_slots.specs.Slots.{reads, target_slot, away, rename_slots}
 use Rattle.alma_lower_slots.specs.Sharing.{Sharing, matters}
 use Rattle.alma_lower_slots.proofs.Alike.{AlikeFrames, AlikeHeld, AlikeRest, Alike, AlikeStep, Doing}
 use Rattle.alma_lower_slots.proofs.Stacks.{push_alike, take_alike, top_alike, popped_alike}
@@ -93,13 +93,13 @@ module _ {code new : PlainCode} {s : Sharing} where
   -- ---- going on
 
   -- the frames of an instruction that writes nothing, where the state goes on
-  pub going_alike : {r at : ℕ} {i : Instr} {t t' : State} → Doing code new s r at i t t' → written code i ≡ None
+  pub going_alike : {r at : ℕ} {i : Instr} {t t' : State} → Doing code new s r at i t t' → target_slot code i ≡ None
       → AlikeFrames code new s t.at t.now t'.now
   going_alike {r} {at} {i} {t} {t'} h none =
       subst (λ n. AlikeFrames code new s n t.now t'.now) (sym h.taken.behind) (behind_alike h none)
 
   -- entries above a height fall, where there are any
-  cut_to_alike : {r at : ℕ} {i : Instr} {t t' : State} → Doing code new s r at i t t' → written code i ≡ None → (n : ℕ)
+  cut_to_alike : {r at : ℕ} {i : Instr} {t t' : State} → Doing code new s r at i t t' → target_slot code i ≡ None → (n : ℕ)
       → AlikeStep code new s (cut_to t n) (cut_to t' n)
   cut_to_alike {r} {at} {i} {t} {t'} h none n =
       if_both (AlikeStep code new s) (nat_lt n (length t.held)) (nat_lt n (length t'.held)) _ _ _ _
@@ -115,14 +115,14 @@ module _ {code new : PlainCode} {s : Sharing} where
   module _ (input : List ℕ) where
     -- a choice is pushed
     pub choose_alike : (r at a : ℕ) (t t' : State) → Doing code new s r at (I.Choose a) t t'
-        → AlikeStep code new s (act code input (I.Choose a) t) (act new input (renamed (s.slot r) (I.Choose a)) t')
-    unfolding act written away renamed
+        → AlikeStep code new s (act code input (I.Choose a) t) (act new input (rename_slots (s.slot r) (I.Choose a)) t')
+    unfolding act target_slot away rename_slots
     choose_alike r at a t t' h = pushed_alike choice.Branch a h.taken.rest (away_alike h a refl) (going_alike h refl)
 
     -- the height is marked
     pub mark_form_alike : Shared code new s → (r at a : ℕ) (t t' : State) → Doing code new s r at (I.Mark a) t t'
-        → AlikeStep code new s (act code input (I.Mark a) t) (act new input (renamed (s.slot r) (I.Mark a)) t')
-    unfolding act written renamed words
+        → AlikeStep code new s (act code input (I.Mark a) t) (act new input (rename_slots (s.slot r) (I.Mark a)) t')
+    unfolding act target_slot rename_slots words
     mark_form_alike w r at a t t' h =
         let word = slots code r at (I.Mark a) (W.Mark a) W.Free W.Free W.Free refl h.obeys in
         subst (λ n. AlikeStep code new s (act code input (I.Mark a) t) (put_mark t' (s.slot r a) n)) (sym h.taken.rest.held.count)
@@ -130,16 +130,16 @@ module _ {code new : PlainCode} {s : Sharing} where
 
     -- the entries above a mark fall
     pub cut_alike : (r at a : ℕ) (t t' : State) → Doing code new s r at (I.Cut a) t t'
-        → AlikeStep code new s (act code input (I.Cut a) t) (act new input (renamed (s.slot r) (I.Cut a)) t')
-    unfolding act written reads renamed words
+        → AlikeStep code new s (act code input (I.Cut a) t) (act new input (rename_slots (s.slot r) (I.Cut a)) t')
+    unfolding act target_slot reads rename_slots words
     cut_alike r at a t t' h =
         let word = slots code r at (I.Cut a) (W.Mark a) W.Free W.Free W.Free refl h.obeys in
         mark_alike h a (mark_there code r a word.0) (and_parts (matters s r at a) true h.shares.read).0 _ _ (λ n _. cut_to_alike h refl n)
 
     -- a FORALL is pushed, and its height is marked
     pub forall_alike : Shared code new s → (r at a b : ℕ) (t t' : State) → Doing code new s r at (I.Forall a b) t t'
-        → AlikeStep code new s (act code input (I.Forall a b) t) (act new input (renamed (s.slot r) (I.Forall a b)) t')
-    unfolding act written away renamed words
+        → AlikeStep code new s (act code input (I.Forall a b) t) (act new input (rename_slots (s.slot r) (I.Forall a b)) t')
+    unfolding act target_slot away rename_slots words
     forall_alike w r at a b t t' h =
         let word = slots code r at (I.Forall a b) (W.Mark a) (W.Address b) W.Free W.Free refl h.obeys in
         let there = mark_there code r a word.0 in

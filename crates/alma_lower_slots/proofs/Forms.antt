@@ -21,7 +21,7 @@ use Rattle.alma_code.specs.Words.{words}
 use Rattle.alma_code.specs.Machine.{State, quiet_step, top, put_place, put_link, is_known, as_text, as_fault, run_faults, act}
 use Rattle.alma_code.proofs.Heads.{link_of_is, place_of_is}
 use Rattle.alma_code_laws.proofs.Acts.{slots}
-use Rattle.alma_lower_slots.specs.Slots.{reads, written, away, renamed}
+use Rattle.alma_lower_slots.specs.Slots.{reads, target_slot, away, rename_slots}
 use Rattle.alma_lower_slots.specs.Sharing.{Sharing, matters, names_own}
 use Rattle.alma_lower_slots.proofs.Alike.{AlikeRest, AlikeStep, Doing}
 use Rattle.alma_lower_slots.proofs.Settles.{Shared, stuck_alike, fault_alike, fails_alike, if_alike, settle, goes_away, top_same}
@@ -35,7 +35,7 @@ use Rattle.alma_lower_slots.proofs.PlaceCells.{found_alike, byte_alike}
 abbrev pub ActsAlike : (code new : PlainCode) (s : Sharing) (input : List ℕ) → Instr → Type 0
 ActsAlike code new s input i =
     (r at : ℕ) (t t' : State) → Doing code new s r at i t t'
-    → AlikeStep code new s (act code input i t) (act new input (renamed (s.slot r) i) t')
+    → AlikeStep code new s (act code input i t) (act new input (rename_slots (s.slot r) i) t')
 
 -- the forms of choices and of calls do
 pub record OthersAlike (code new : PlainCode) (s : Sharing) (input : List ℕ) : Type 0 where
@@ -52,7 +52,7 @@ pub record OthersAlike (code new : PlainCode) (s : Sharing) (input : List ℕ) :
 
 module _ {code new : PlainCode} {s : Sharing} where
   -- a text that is there, or is not
-  as_text_alike : {r at : ℕ} {i : Instr} {t t' : State} → Doing code new s r at i t t' → written code i ≡ None → (o : Option (List ℕ))
+  as_text_alike : {r at : ℕ} {i : Instr} {t t' : State} → Doing code new s r at i t t' → target_slot code i ≡ None → (o : Option (List ℕ))
       → AlikeStep code new s (as_text o t) (as_text o t')
   as_text_alike h none (Some bytes) = settle h none answer.Printed bytes
   as_text_alike h none None = stuck_alike h.taken.rest
@@ -70,7 +70,7 @@ module _ (code new : PlainCode) (s : Sharing) (input : List ℕ) (w : Shared cod
 
   -- each form: one clause for each
   pub act_alike : (i : Instr) → ActsAlike code new s input i
-  unfolding act renamed reads written away words rule_5 rule_7 names_own
+  unfolding act rename_slots reads target_slot away words rule_5 rule_7 names_own
   act_alike (I.Const a v) r at t t' h =
       let x = slots code r at (I.Const a v) (W.Number a) W.Free W.Free W.Free refl h.obeys in
       write_number w h a v x.0 refl

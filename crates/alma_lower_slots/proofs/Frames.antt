@@ -10,7 +10,7 @@ use Rattle.alma_code.specs.declared.cell.SlotKind.TheVariants as slot
 use Rattle.alma_code.specs.declared.instr.Instr.TheVariants as I
 use Rattle.alma_code.specs.Picture.{PlainFrame, no_frame, frame_with, frames_with_cell}
 use Rattle.alma_code.specs.Plain.{PlainCode, kinds_at}
-use Rattle.alma_lower_slots.specs.Slots.{written}
+use Rattle.alma_lower_slots.specs.Slots.{target_slot}
 use Rattle.alma_lower_slots.specs.Sharing.{Sharing, Renames}
 use Rattle.alma_lower_slots.proofs.Alike.{IsDue, is_kept, on_top, below, AlikeFrame, AlikeFrames}
 
@@ -74,7 +74,7 @@ module _ (code new : PlainCode) (s : Sharing) where
       below (omega (arith, h.count, lt))
       (subst (λ b. s.live (get_or frames f no_frame).routine b n ≡ true) same
       (subst (λ q. s.live q (get_or frames2 (suc f) no_frame).back n ≡ true) (sym (h.routine f)) k))
-      (subst (λ b. written code (get_or code.instrs (b - 1) I.Fail) ≡ Some n → ⊥) same w)
+      (subst (λ b. target_slot code (get_or code.instrs (b - 1) I.Fail) ≡ Some n → ⊥) same w)
 
   -- two frames are alike where fewer slots are to be the same
   pub frame_fewer : (P Q : ℕ → Type 0) (frame frame' : PlainFrame) → AlikeFrame code new s P frame frame'

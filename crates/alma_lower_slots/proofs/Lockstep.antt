@@ -13,7 +13,7 @@ use Rattle.alma_code.proofs.Tables.{end_inside}
 use Rattle.alma_code_laws.proofs.Ready.{Ready}
 use Rattle.alma_code_laws.proofs.Acts.{obeys}
 use Rattle.alma_code_laws.proofs.Runs.{first_number, start_fits, stays_fit}
-use Rattle.alma_lower_slots.specs.Slots.{renamed}
+use Rattle.alma_lower_slots.specs.Slots.{rename_slots}
 use Rattle.alma_lower_slots.specs.Sharing.{Sharing}
 use Rattle.alma_lower_slots.specs.Same.{DoesTheSame}
 use Rattle.alma_lower_slots.proofs.Alike.{OwnState, Alike, AlikeStep, Doing}
@@ -50,7 +50,7 @@ module _ (code new : PlainCode) (s : Sharing) (w : Shared code new s) (known : K
       let inside = end_inside code sound.table r lr in
       let i = get_or code.instrs at I.Fail in
       let is : slice_get code.instrs at ≡ Some i = slice_get-get_or code.instrs at I.Fail (omega arith) in
-      let is' : slice_get new.instrs t'.at ≡ Some (renamed (s.slot r) i) =
+      let is' : slice_get new.instrs t'.at ≡ Some (rename_slots (s.slot r) i) =
       ap (slice_get new.instrs) rest.at ∙ slice_get-get_or new.instrs at I.Fail (omega (arith, w.renames.size))
       ∙ ap Some (w.renames.instrs r at lr low high) in
       let t2 : State = record (with_step_counted code input t) { at = t.at + 1; last = t.at } in

@@ -18,7 +18,7 @@ use Rattle.alma_code.specs.declared.cell.ChoiceKind.TheVariants as choice
 use Rattle.alma_code.specs.declared.cell.SlotKind.{SlotKind}
 use Rattle.alma_code.specs.declared.cell.SlotKind.TheVariants as slot
 use Rattle.alma_code.specs.Fits.{routines_of, IsContent, FitsFrames, FitsHeld, AllFit}
-use Rattle.alma_code.specs.Machine.{State, Stepped, quiet_step, slot_of, kind_of, as_number, as_mark}
+use Rattle.alma_code.specs.Machine.{State, StepResult, quiet_step, slot_of, kind_of, as_number, as_mark}
 use Rattle.alma_code.specs.Machine.{number, mark, with_cell, with_slot, to_number, to_mark, put_number}
 use Rattle.alma_code.specs.Machine.{put_mark, integer_result, as_content}
 use Rattle.alma_code.specs.Machine.{content, store, with_known_content, as_range, range_check, optional_range_check}
@@ -39,13 +39,13 @@ use Rattle.alma_lower_slots.proofs.OwnPlaces.{held_joined, held_replaced}
 
 module _ (s : Sharing) where
   -- each place of the state after a step names own slots
-  abbrev pub Own : Stepped → Type 0
+  abbrev pub Own : StepResult → Type 0
   Own x = OwnState s x.state
 
   -- ---- numbers
 
   -- a cell is read as a number
-  pub as_number_own : (o : Option Cell) (t : State) (k : ℤ → Stepped) → OwnState s t → ((v : ℤ) → Own (k v)) → Own (as_number o t k)
+  pub as_number_own : (o : Option Cell) (t : State) (k : ℤ → StepResult) → OwnState s t → ((v : ℤ) → Own (k v)) → Own (as_number o t k)
   as_number_own (Some (cell.Int v)) t k h g = g v
   as_number_own (Some cell.Unknown) t k h g = record { now = h.now; held = h.held }
   as_number_own (Some cell.Unset) t k h g = record { now = h.now; held = h.held }
@@ -54,16 +54,16 @@ module _ (s : Sharing) where
   as_number_own None t k h g = record { now = h.now; held = h.held }
 
   -- a slot is read as a number
-  pub number_own : (t : State) (n : ℕ) (k : ℤ → Stepped) → OwnState s t → ((v : ℤ) → Own (k v)) → Own (number t n k)
+  pub number_own : (t : State) (n : ℕ) (k : ℤ → StepResult) → OwnState s t → ((v : ℤ) → Own (k v)) → Own (number t n k)
   number_own t n k h g = as_number_own (slot_of t n) t k h g
 
   -- two slots are read as numbers
-  pub two_own : (t : State) (b c : ℕ) (k : ℤ → ℤ → Stepped) → OwnState s t → ((x y : ℤ) → Own (k x y))
+  pub two_own : (t : State) (b c : ℕ) (k : ℤ → ℤ → StepResult) → OwnState s t → ((x y : ℤ) → Own (k x y))
       → Own (number t b (λ x. number t c (λ y. k x y)))
   two_own t b c k h g = number_own t b (λ x. number t c (λ y. k x y)) h (λ x. number_own t c (λ y. k x y) h (λ y. g x y))
 
   -- a cell is read as a mark
-  as_mark_own : (o : Option Cell) (t : State) (k : ℕ → Stepped) → OwnState s t → ((v : ℕ) → Own (k v)) → Own (as_mark o t k)
+  as_mark_own : (o : Option Cell) (t : State) (k : ℕ → StepResult) → OwnState s t → ((v : ℕ) → Own (k v)) → Own (as_mark o t k)
   as_mark_own (Some (cell.Mark m)) t k h g = g m
   as_mark_own (Some cell.Unset) t k h g = record { now = h.now; held = h.held }
   as_mark_own (Some cell.Unknown) t k h g = record { now = h.now; held = h.held }
@@ -72,7 +72,7 @@ module _ (s : Sharing) where
   as_mark_own None t k h g = record { now = h.now; held = h.held }
 
   -- a slot is read as a mark
-  pub mark_own : (t : State) (n : ℕ) (k : ℕ → Stepped) → OwnState s t → ((v : ℕ) → Own (k v)) → Own (mark t n k)
+  pub mark_own : (t : State) (n : ℕ) (k : ℕ → StepResult) → OwnState s t → ((v : ℕ) → Own (k v)) → Own (mark t n k)
   mark_own t n k h g = as_mark_own (slot_of t n) t k h g
 
   -- a cell is written
@@ -85,7 +85,7 @@ module _ (s : Sharing) where
   with_number_own t f i v h = with_cell_own t f i (cell.Int v) h (λ p e. absurd (cc))
 
   -- the slot that is written is a number slot
-  pub to_number_own : (o : Option SlotKind) (t : State) (k : Unit {0} → Stepped) → OwnState s t → Own (k tt) → Own (to_number o t k)
+  pub to_number_own : (o : Option SlotKind) (t : State) (k : Unit {0} → StepResult) → OwnState s t → Own (k tt) → Own (to_number o t k)
   to_number_own (Some slot.Number) t k h g = g
   to_number_own (Some (slot.Place l)) t k h g = record { now = h.now; held = h.held }
   to_number_own (Some slot.Mark) t k h g = record { now = h.now; held = h.held }
@@ -93,7 +93,7 @@ module _ (s : Sharing) where
   to_number_own None t k h g = record { now = h.now; held = h.held }
 
   -- it is a mark slot
-  pub to_mark_own : (o : Option SlotKind) (t : State) (k : Unit {0} → Stepped) → OwnState s t → Own (k tt) → Own (to_mark o t k)
+  pub to_mark_own : (o : Option SlotKind) (t : State) (k : Unit {0} → StepResult) → OwnState s t → Own (k tt) → Own (to_mark o t k)
   to_mark_own (Some slot.Mark) t k h g = g
   to_mark_own (Some slot.Number) t k h g = record { now = h.now; held = h.held }
   to_mark_own (Some (slot.Place l)) t k h g = record { now = h.now; held = h.held }
@@ -113,13 +113,13 @@ module _ (s : Sharing) where
       to_mark_own (kind_of t n) t (λ _. quiet_step (with_slot t n (cell.Mark m))) h (record { now = w.now; held = w.held })
 
   -- a result that may be out of INTEGER
-  pub integer_own : (t : State) (v : ℤ) (k : ℤ → Stepped) → OwnState s t → ((v : ℤ) → Own (k v)) → Own (integer_result t v k)
+  pub integer_own : (t : State) (v : ℤ) (k : ℤ → StepResult) → OwnState s t → ((v : ℤ) → Own (k v)) → Own (integer_result t v k)
   integer_own t v k h g = if_true_keeps Own (is_integer v) _ _ (λ _. g v) (λ _. record { now = h.now; held = h.held })
 
   -- ---- cells at places
 
   -- a cell is looked at as a content
-  as_content_own : (b : Bool) (c : Cell) (t : State) (k : Option ℤ → Stepped) → OwnState s t → ((o : Option ℤ) → Own (k o))
+  as_content_own : (b : Bool) (c : Cell) (t : State) (k : Option ℤ → StepResult) → OwnState s t → ((o : Option ℤ) → Own (k o))
       → Own (as_content b c t k)
   as_content_own true (cell.Int v) t k h g = g (Some v)
   as_content_own true cell.Unknown t k h g = g None
@@ -129,34 +129,34 @@ module _ (s : Sharing) where
   as_content_own false c t k h g = record { now = h.now; held = h.held }
 
   -- the cell at a place is looked at
-  pub content_own : (t : State) (f n : ℕ) (k : Option ℤ → Stepped) → OwnState s t → ((o : Option ℤ) → Own (k o)) → Own (content t f n k)
+  pub content_own : (t : State) (f n : ℕ) (k : Option ℤ → StepResult) → OwnState s t → ((o : Option ℤ) → Own (k o)) → Own (content t f n k)
   content_own t f n k h g = as_content_own (number_at t.now f n) (cell_at t.now f n cell.Unset) t k h g
 
   -- the cell at a place gets a number
-  pub store_own : (t : State) (f n : ℕ) (v : ℤ) (k : State → Stepped) → OwnState s t → ((u : State) → OwnState s u → Own (k u))
+  pub store_own : (t : State) (f n : ℕ) (v : ℤ) (k : State → StepResult) → OwnState s t → ((u : State) → OwnState s u → Own (k u))
       → Own (store t f n v k)
   store_own t f n v k h g =
       if_true_keeps Own (number_at t.now f n) _ _ (λ _. g (with_cell t f n (cell.Int v)) (with_number_own t f n v h))
       (λ _. record { now = h.now; held = h.held })
 
   -- a content that may be unknown
-  pub known_own : (o : Option ℤ) (t : State) (k : ℤ → Stepped) → OwnState s t → ((v : ℤ) → Own (k v)) → Own (with_known_content t o k)
+  pub known_own : (o : Option ℤ) (t : State) (k : ℤ → StepResult) → OwnState s t → ((v : ℤ) → Own (k v)) → Own (with_known_content t o k)
   known_own (Some v) t k h g = g v
   known_own None t k h g = record { now = h.now; held = h.held }
 
   -- a range that may not be there
-  pub as_range_own : (o : Option Range) (t : State) (k : Range → Stepped) → OwnState s t → ((x : Range) → o ≡ Some x → Own (k x))
+  pub as_range_own : (o : Option Range) (t : State) (k : Range → StepResult) → OwnState s t → ((x : Range) → o ≡ Some x → Own (k x))
       → Own (as_range o t k)
   as_range_own (Some x) t k h g = g x refl
   as_range_own None t k h g = record { now = h.now; held = h.held }
 
   -- a number that may be out of range
-  pub ranged_own : (x : Range) (f : RunFault) (t : State) (v : ℤ) (k : Unit {0} → Stepped) → OwnState s t
+  pub ranged_own : (x : Range) (f : RunFault) (t : State) (v : ℤ) (k : Unit {0} → StepResult) → OwnState s t
       → (within x v ≡ true → Own (k tt)) → Own (range_check x f t v k)
   ranged_own x f t v k h g = if_true_keeps Own (within x v) _ _ g (λ _. record { now = h.now; held = h.held })
 
   -- the same where there may be no range
-  pub ranged_if_own : (o : Option Range) (t : State) (v : ℤ) (k : Unit {0} → Stepped) → OwnState s t → Own (k tt)
+  pub ranged_if_own : (o : Option Range) (t : State) (v : ℤ) (k : Unit {0} → StepResult) → OwnState s t → Own (k tt)
       → Own (optional_range_check o t v k)
   ranged_if_own (Some x) t v k h g = ranged_own x _ t v k h (λ _. g)
   ranged_if_own None t v k h g = g
@@ -169,7 +169,7 @@ module _ (s : Sharing) where
       ranged_own x _ t v _ h (λ _. store_own t p.frame p.slot v quiet_step h (λ u hu. record { now = hu.now; held = hu.held }))
 
   -- two contents are equated
-  equated_own : (t : State) (f i : ℕ) (a : Option Range) (u : Option ℤ) (g j : ℕ) (b : Option Range) (v : Option ℤ) (k : State → Stepped)
+  equated_own : (t : State) (f i : ℕ) (a : Option Range) (u : Option ℤ) (g j : ℕ) (b : Option Range) (v : Option ℤ) (k : State → StepResult)
       → OwnState s t → ((x : State) → OwnState s x → Own (k x)) → Own (equation_of_contents t f i a u g j b v k)
   equated_own t f i a None g j b None k h good = record { now = h.now; held = h.held }
   equated_own t f i a None g j b (Some v) k h good = ranged_if_own a t v _ h (store_own t f i v k h good)
@@ -178,7 +178,7 @@ module _ (s : Sharing) where
       if_true_keeps Own (int_eq u v) _ _ (λ _. good t h) (λ _. record { now = h.now; held = h.held })
 
   -- two cells are equated
-  pub equation_own : (t : State) (f i : ℕ) (a : Option Range) (g j : ℕ) (b : Option Range) (k : State → Stepped)
+  pub equation_own : (t : State) (f i : ℕ) (a : Option Range) (g j : ℕ) (b : Option Range) (k : State → StepResult)
       → OwnState s t → ((x : State) → OwnState s x → Own (k x)) → Own (equation t f i a g j b k)
   equation_own t f i a g j b k h good =
       content_own t f i _ h (λ u. content_own t g j _ h (λ v. equated_own t f i a u g j b v k h good))
@@ -205,7 +205,7 @@ module _ (s : Sharing) where
   -- ---- input
 
   -- a cell is read as the input position
-  as_position_own : (o : Option Cell) (t : State) (k : ℕ → Stepped) → OwnState s t → ((n : ℕ) → Own (k n)) → Own (as_position o t k)
+  as_position_own : (o : Option Cell) (t : State) (k : ℕ → StepResult) → OwnState s t → ((n : ℕ) → Own (k n)) → Own (as_position o t k)
   as_position_own (Some (cell.Int (pos n))) t k h g = g n
   as_position_own (Some (cell.Int (negsuc n))) t k h g = record { now = h.now; held = h.held }
   as_position_own (Some cell.Unknown) t k h g = record { now = h.now; held = h.held }
@@ -215,7 +215,7 @@ module _ (s : Sharing) where
   as_position_own None t k h g = record { now = h.now; held = h.held }
 
   -- the input position is read
-  pub position_own : (t : State) (k : ℕ → Stepped) → OwnState s t → ((n : ℕ) → Own (k n)) → Own (position t k)
+  pub position_own : (t : State) (k : ℕ → StepResult) → OwnState s t → ((n : ℕ) → Own (k n)) → Own (position t k)
   position_own t k h g = as_position_own (slice_get (get_or t.now 0 no_frame).cells 0) t k h g
 
   -- what was read goes to its place

@@ -19,7 +19,7 @@ use Rattle.alma_code.specs.Fits.{routines_of, FitsFrames}
 use Rattle.alma_code.specs.Head.{PlainHead}
 use Rattle.alma_code.specs.Layout.{no_param, param_slots, kinds_of, arg_cells, args_cells, mix_cells, cells_behind_argument, frame_of_call}
 use Rattle.alma_code.specs.Layout.{blank_of}
-use Rattle.alma_code.specs.Machine.{State, Stepped, top, slot_of, as_argument, arguments, as_routine, enters_routine, numbers_at}
+use Rattle.alma_code.specs.Machine.{State, StepResult, top, slot_of, as_argument, arguments, as_routine, enters_routine, numbers_at}
 use Rattle.alma_code.specs.Picture.{PlainFrame, no_frame, live_cells}
 use Rattle.alma_code.specs.Plain.{PlainCode, PlainRoutine, no_routine, head_at, start_at}
 use Rattle.alma_code_laws.proofs.Ready.{if_true_keeps}
@@ -65,7 +65,7 @@ module _ (s : Sharing) where
   }
 
   -- a cell is read as an argument
-  as_argument_own : (kind : ParamKind) (n : ℕ) (o : Option Cell) (t : State) (k : Cell → Stepped) → OwnState s t
+  as_argument_own : (kind : ParamKind) (n : ℕ) (o : Option Cell) (t : State) (k : Cell → StepResult) → OwnState s t
       → ((p : CellPlace) → o ≡ Some (cell.Place p) → (p.frame < length t.now) × NamesOwn s (routines_of t.now) p)
       → ((c : Cell) → OwnArg t.now kind n c → Own s (k c)) → Own s (as_argument kind n o t k)
   as_argument_own kind n None t k h hp g = record { now = h.now; held = h.held }
@@ -112,7 +112,7 @@ module _ (s : Sharing) where
         (omega (arith, place_below code t.now (top t) n p fit lt e), h.now (top t) n p lt e)
 
     -- the arguments are read
-    arguments_own : (ps : List CodeParam) (t : State) (n : ℕ) (k : List Cell → Stepped) → FitsFrames code t.now → OwnState s t
+    arguments_own : (ps : List CodeParam) (t : State) (n : ℕ) (k : List Cell → StepResult) → FitsFrames code t.now → OwnState s t
         → ((cs : List Cell) → OwnArgs t.now ps cs → Own s (k cs)) → Own s (arguments ps t n k)
     arguments_own [] t n k fit h g = g [] (λ m lt. absurd (omega arith))
     arguments_own (p ∷ ps) t n k fit h g =
@@ -246,7 +246,7 @@ module _ (s : Sharing) where
         (λ _. record { now = h.now; held = h.held })
 
     -- a routine that may not be there
-    as_routine_own : (o : Option PlainRoutine) (t : State) (k : PlainHead → Stepped) → OwnState s t
+    as_routine_own : (o : Option PlainRoutine) (t : State) (k : PlainHead → StepResult) → OwnState s t
         → ((x : PlainRoutine) → o ≡ Some x → Own s (k x.head)) → Own s (as_routine o t k)
     as_routine_own (Some x) t k h g = g x refl
     as_routine_own None t k h g = record { now = h.now; held = h.held }

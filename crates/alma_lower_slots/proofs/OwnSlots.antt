@@ -18,7 +18,7 @@ use Rattle.alma_code.specs.Picture.{PlainFrame, no_frame, frame_with, frames_wit
 use Rattle.alma_code.specs.Plain.{PlainCode, kinds_at}
 use Rattle.alma_code.specs.Rules.{kind_in}
 use Rattle.alma_code.specs.Fits.{routines_of, IsContent, IsPosition, IsPlace, IsLink, FitsSlot}
-use Rattle.alma_code.specs.Machine.{State, Stepped, gets_stuck, top, slot_of, slot_in, with_cell, as_place, as_content, content, store}
+use Rattle.alma_code.specs.Machine.{State, StepResult, gets_stuck, top, slot_of, slot_in, with_cell, as_place, as_content, content, store}
 use Rattle.alma_code.specs.Machine.{as_position}
 use Rattle.alma_code.specs.Machine.{position}
 use Rattle.alma_code_laws.proofs.Writes.{written-routines}
@@ -150,7 +150,7 @@ module _ {code new : PlainCode} {s : Sharing} where
       (own_alike w h f n lf c.own (own_there code s (routines_of t.now) f n c))
 
   -- a cell is looked at as a content
-  as_content_alike : {t t' : State} → AlikeRest code new s t t' → (b : Bool) (c : Cell) (k k' : Option ℤ → Stepped)
+  as_content_alike : {t t' : State} → AlikeRest code new s t t' → (b : Bool) (c : Cell) (k k' : Option ℤ → StepResult)
       → ((o : Option ℤ) → AlikeStep code new s (k o) (k' o)) → AlikeStep code new s (as_content b c t k) (as_content b c t' k')
   as_content_alike h true (cell.Int v) k k' good = good (Some v)
   as_content_alike h true cell.Unknown k k' good = good None
@@ -161,7 +161,7 @@ module _ {code new : PlainCode} {s : Sharing} where
 
   -- the content of an own number slot of a live frame is read
   pub content_alike : {r at : ℕ} {i : Instr} {t t' : State} → Shared code new s → Doing code new s r at i t t' → (f n : ℕ)
-      → f < length t.now → OwnCell code s (routines_of t.now) f n → (k k' : Option ℤ → Stepped)
+      → f < length t.now → OwnCell code s (routines_of t.now) f n → (k k' : Option ℤ → StepResult)
       → ((o : Option ℤ) → AlikeStep code new s (k o) (k' o)) → AlikeStep code new s (content t f n k) (content t' f n k')
   content_alike {r} {at} {i} {t} {t'} w h f n lf c k k' good =
       subst (λ b. AlikeStep code new s (content t f n k) (as_content b (cell_at t'.now f n cell.Unset) t' k'))
@@ -228,7 +228,7 @@ module _ {code new : PlainCode} {s : Sharing} where
 
   -- a number is stored in an own number slot of a live frame
   pub store_alike : {r at : ℕ} {i : Instr} {t t' : State} → Shared code new s → Doing code new s r at i t t' → (f n : ℕ) (v : ℤ)
-      → f < length t.now → OwnCell code s (routines_of t.now) f n → (f + n ≡ 0 → IsPosition (cell.Int v)) → (k k' : State → Stepped)
+      → f < length t.now → OwnCell code s (routines_of t.now) f n → (f + n ≡ 0 → IsPosition (cell.Int v)) → (k k' : State → StepResult)
       → (Doing code new s r at i (with_cell t f n (cell.Int v)) (with_cell t' f n (cell.Int v))
       → routines_of (with_cell t f n (cell.Int v)).now ≡ routines_of t.now
       → AlikeStep code new s (k (with_cell t f n (cell.Int v))) (k' (with_cell t' f n (cell.Int v))))
@@ -277,7 +277,7 @@ module _ {code new : PlainCode} {s : Sharing} where
 
   -- an own slot of a frame to which a link leads is read as a place
   pub place_in_alike : {r at : ℕ} {i : Instr} {t t' : State} → Shared code new s → Doing code new s r at i t t' → (f q n : ℕ)
-      → f < length t.now → get_or (routines_of t.now) f 0 ≡ q → n < s.own q → n < length (kinds_at code q) → (k k' : CellPlace → Stepped)
+      → f < length t.now → get_or (routines_of t.now) f 0 ≡ q → n < s.own q → n < length (kinds_at code q) → (k k' : CellPlace → StepResult)
       → ((p : CellPlace) → AlikeStep code new s (k p) (k' p))
       → AlikeStep code new s (as_place (slot_in t f n) t k) (as_place (slot_in t' f n) t' k')
   place_in_alike {r} {at} {i} {t} {t'} w h f q n lf is own ln k k' good =
@@ -288,7 +288,7 @@ module _ {code new : PlainCode} {s : Sharing} where
   -- ---- the input position
 
   -- a cell is read as the input position
-  as_position_alike : {t t' : State} → AlikeRest code new s t t' → (o : Option Cell) (k k' : ℕ → Stepped)
+  as_position_alike : {t t' : State} → AlikeRest code new s t t' → (o : Option Cell) (k k' : ℕ → StepResult)
       → ((n : ℕ) → AlikeStep code new s (k n) (k' n)) → AlikeStep code new s (as_position o t k) (as_position o t' k')
   as_position_alike h (Some (cell.Int (pos n))) k k' good = good n
   as_position_alike h (Some (cell.Int (negsuc n))) k k' good = stuck_alike h
@@ -310,7 +310,7 @@ module _ {code new : PlainCode} {s : Sharing} where
       }
 
   -- it is read
-  pub position_alike : {r at : ℕ} {i : Instr} {t t' : State} → Shared code new s → Doing code new s r at i t t' → (k k' : ℕ → Stepped)
+  pub position_alike : {r at : ℕ} {i : Instr} {t t' : State} → Shared code new s → Doing code new s r at i t t' → (k k' : ℕ → StepResult)
       → ((n : ℕ) → AlikeStep code new s (k n) (k' n)) → AlikeStep code new s (position t k) (position t' k')
   position_alike {r} {at} {i} {t} {t'} w h k k' good =
       let own = position_own w h in

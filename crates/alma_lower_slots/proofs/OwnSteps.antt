@@ -22,7 +22,7 @@ use Rattle.alma_code.specs.declared.instr.Instr.TheVariants as I
 use Rattle.alma_code.specs.declared.instr.Word.TheVariants as W
 use Rattle.alma_code.specs.Fits.{routines_of, IsLink, FitsSlot, FitsMode, Fits}
 use Rattle.alma_code.specs.Layout.{blank_cells}
-use Rattle.alma_code.specs.Machine.{Mode, Going, Failing, Ended, Stuck, State, Stepped, quiet_step, top}
+use Rattle.alma_code.specs.Machine.{Mode, Going, Failing, Ended, Stuck, State, StepResult, quiet_step, top}
 use Rattle.alma_code.specs.Machine.{slot_of, kind_of, as_place, slot_in}
 use Rattle.alma_code.specs.Machine.{place, link, with_slot, to_place, to_link, put_number, put_place, put_link, link_to}
 use Rattle.alma_code.specs.Machine.{act, step, step_in}
@@ -67,7 +67,7 @@ module _ (s : Sharing) where
   -- ---- places and links
 
   -- a cell is read as a place
-  as_place_own : (o : Option Cell) (t : State) (k : CellPlace → Stepped) → OwnState s t
+  as_place_own : (o : Option Cell) (t : State) (k : CellPlace → StepResult) → OwnState s t
       → ((p : CellPlace) → o ≡ Some (cell.Place p) → Own s (k p)) → Own s (as_place o t k)
   as_place_own (Some (cell.Place p)) t k h g = g p refl
   as_place_own (Some cell.Unset) t k h g = record { now = h.now; held = h.held }
@@ -77,7 +77,7 @@ module _ (s : Sharing) where
   as_place_own None t k h g = record { now = h.now; held = h.held }
 
   -- the slot that is written is a place slot
-  to_place_own : (o : Option SlotKind) (t : State) (k : ℕ → Stepped) → OwnState s t
+  to_place_own : (o : Option SlotKind) (t : State) (k : ℕ → StepResult) → OwnState s t
       → ((l : ℕ) → o ≡ Some (slot.Place l) → Own s (k l)) → Own s (to_place o t k)
   to_place_own (Some (slot.Place l)) t k h g = g l refl
   to_place_own (Some slot.Number) t k h g = record { now = h.now; held = h.held }
@@ -86,7 +86,7 @@ module _ (s : Sharing) where
   to_place_own None t k h g = record { now = h.now; held = h.held }
 
   -- it is a link slot
-  to_link_own : (o : Option SlotKind) (t : State) (k : Unit {0} → Stepped) → OwnState s t → Own s (k tt) → Own s (to_link o t k)
+  to_link_own : (o : Option SlotKind) (t : State) (k : Unit {0} → StepResult) → OwnState s t → Own s (k tt) → Own s (to_link o t k)
   to_link_own (Some (slot.Link q)) t k h g = g
   to_link_own (Some slot.Number) t k h g = record { now = h.now; held = h.held }
   to_link_own (Some (slot.Place l)) t k h g = record { now = h.now; held = h.held }
@@ -134,7 +134,7 @@ module _ (s : Sharing) where
       pub long : p.len ≡ length_in code r n
 
     -- a slot of the top frame is read as a place
-    place_own : (r : ℕ) (t : State) (n : ℕ) (k : CellPlace → Stepped) → Ready code r t → OwnState s t
+    place_own : (r : ℕ) (t : State) (n : ℕ) (k : CellPlace → StepResult) → Ready code r t → OwnState s t
         → ((p : CellPlace) → OwnPlace r t n p → Own s (k p)) → Own s (place t n k)
     place_own r t n k ready h g =
         as_place_own (slot_of t n) t k h
@@ -145,7 +145,7 @@ module _ (s : Sharing) where
         }))
 
     -- a slot of the top frame is read as a link
-    link_own : (r : ℕ) (t : State) (n q : ℕ) (k : ℕ → Stepped) → Ready code r t → OwnState s t → kind_in code r n ≡ Some (slot.Link q)
+    link_own : (r : ℕ) (t : State) (n q : ℕ) (k : ℕ → StepResult) → Ready code r t → OwnState s t → kind_in code r n ≡ Some (slot.Link q)
         → ((f : ℕ) → f < length t.now → get_or (routines_of t.now) f 0 ≡ q → Own s (k f)) → Own s (link t n k)
     link_own r t n q k ready h is g =
         as_place_own (slot_of t n) t (λ p. k p.frame) h

@@ -21,7 +21,7 @@ use Rattle.alma_code.specs.Carries.{number_at}
 use Rattle.alma_code.specs.Fits.{routines_of, FitsSlot}
 use Rattle.alma_code.specs.Kinds.{is_number, is_place_of}
 use Rattle.alma_code.specs.Layout.{arg_cells, cells_at, no_param}
-use Rattle.alma_code.specs.Machine.{State, Stepped, top, slot_of, gets_stuck}
+use Rattle.alma_code.specs.Machine.{State, StepResult, top, slot_of, gets_stuck}
 use Rattle.alma_code.specs.Machine.{numbers_at, as_argument, arguments}
 use Rattle.alma_code.specs.Picture.{PlainFrame, no_frame}
 use Rattle.alma_code.specs.Plain.{PlainCode, kinds_at}
@@ -40,7 +40,7 @@ use Rattle.alma_lower_slots.proofs.Slices.{part_same}
 
 module _ (code new : PlainCode) (s : Sharing) where
   -- a choice by the same test
-  pub choice_alike : (b : Bool) (k z k' z' : Unit {0} → Stepped) → (b ≡ true → AlikeStep code new s (k tt) (k' tt))
+  pub choice_alike : (b : Bool) (k z k' z' : Unit {0} → StepResult) → (b ≡ true → AlikeStep code new s (k tt) (k' tt))
       → (b ≡ false → AlikeStep code new s (z tt) (z' tt)) → AlikeStep code new s (if_true b k z) (if_true b k' z')
   choice_alike true k z k' z' h g = h refl
   choice_alike false k z k' z' h g = g refl
@@ -79,7 +79,7 @@ module _ (code new : PlainCode) (s : Sharing) where
   }
 
   -- an argument is read
-  as_argument_alike : (t t' : State) (kind : ParamKind) (n : ℕ) (o : Option Cell) (k k' : Cell → Stepped) → AlikeRest code new s t t'
+  as_argument_alike : (t t' : State) (kind : ParamKind) (n : ℕ) (o : Option Cell) (k k' : Cell → StepResult) → AlikeRest code new s t t'
       → length t'.now ≡ length t.now → ((p : CellPlace) → kind ≡ param.Cells → o ≡ Some (cell.Place p) → Copies t t' n p)
       → ((c : Cell) → Passes t.now t'.now kind n c → AlikeStep code new s (k c) (k' c))
       → AlikeStep code new s (as_argument kind n o t k) (as_argument kind n o t' k')
@@ -215,7 +215,7 @@ module _ (code new : PlainCode) (s : Sharing) (w : Shared code new s) where
     }
 
     -- the argument slots of a call are read
-    pub arguments_alike : (ps : List CodeParam) (n n' : ℕ) (k k' : List Cell → Stepped) → fit_arguments code r ps n ≡ true
+    pub arguments_alike : (ps : List CodeParam) (n n' : ℕ) (k k' : List Cell → StepResult) → fit_arguments code r ps n ≡ true
         → list_all (λ m. matters s r at m) (slots_from (length ps) n) ≡ true → ((j : ℕ) → j < length ps → s.slot r (n + j) ≡ n' + j)
         → ((cs : List Cell) → PassAll t.now t'.now ps cs → AlikeStep code new s (k cs) (k' cs))
         → AlikeStep code new s (arguments ps t n k) (arguments ps t' n' k')

@@ -16,12 +16,12 @@ use Rattle.alma_code.specs.Carries.{number_at}
 use Rattle.alma_code.specs.Picture.{PlainFrame, cell_at}
 use Rattle.alma_code.specs.Plain.{PlainCode}
 use Rattle.alma_code.specs.Fits.{routines_of}
-use Rattle.alma_code.specs.Machine.{State, Stepped, quiet_step, fails_now, gets_stuck, with_cell, content, store, binds_content}
+use Rattle.alma_code.specs.Machine.{State, StepResult, quiet_step, fails_now, gets_stuck, with_cell, content, store, binds_content}
 use Rattle.alma_code.specs.Machine.{equation_of_contents, equation, equations, copies_cells, take_input, takes_read, byte_or_failure}
 use Rattle.alma_code_laws.proofs.Writes.{written-routines}
 use Rattle.alma_code_laws.proofs.Ready.{content_any}
 use Rattle.alma_code_laws.proofs.Acts.{same_length}
-use Rattle.alma_lower_slots.specs.Slots.{written}
+use Rattle.alma_lower_slots.specs.Slots.{target_slot}
 use Rattle.alma_lower_slots.specs.Sharing.{Sharing}
 use Rattle.alma_lower_slots.proofs.Alike.{AlikeStep, Doing}
 use Rattle.alma_lower_slots.proofs.Settles.{Shared, stuck_alike, fault_alike, fails_alike, if_alike, settle}
@@ -61,7 +61,7 @@ one_free own e =
 module _ {code new : PlainCode} {s : Sharing} where
   -- a number is stored in such a slot
   pub store_free : {r at : ℕ} {i : Instr} {t t' : State} → Shared code new s → Doing code new s r at i t t' → (f n : ℕ) (v : ℤ)
-      → OwnFree code s t.now f n → (k k' : State → Stepped)
+      → OwnFree code s t.now f n → (k k' : State → StepResult)
       → (Doing code new s r at i (with_cell t f n (cell.Int v)) (with_cell t' f n (cell.Int v))
       → routines_of (with_cell t f n (cell.Int v)).now ≡ routines_of t.now
       → AlikeStep code new s (k (with_cell t f n (cell.Int v))) (k' (with_cell t' f n (cell.Int v))))
@@ -71,7 +71,7 @@ module _ {code new : PlainCode} {s : Sharing} where
       store_alike w h f n v c.live c.own (λ z. absurd (omega arith)) k k' good
 
   -- a cell has a number, or gets it
-  pub bound_alike : {r at : ℕ} {i : Instr} {t t' : State} → Shared code new s → Doing code new s r at i t t' → written code i ≡ None
+  pub bound_alike : {r at : ℕ} {i : Instr} {t t' : State} → Shared code new s → Doing code new s r at i t t' → target_slot code i ≡ None
       → (p : CellPlace) (range : Range) (v : ℤ) (u : Option ℤ) → OwnFree code s t.now p.frame p.slot
       → AlikeStep code new s (binds_content t p range v u) (binds_content t' p range v u)
   bound_alike {r} {at} {i} {t} {t'} w h none p range v (Some u) c =
@@ -83,7 +83,7 @@ module _ {code new : PlainCode} {s : Sharing} where
 
   -- two contents are equated
   equated_alike : {r at : ℕ} {i : Instr} {t t' : State} → Shared code new s → Doing code new s r at i t t' → (f n : ℕ) (a : Option Range)
-      (u : Option ℤ) (g m : ℕ) (b : Option Range) (v : Option ℤ) (k k' : State → Stepped) → OwnFree code s t.now f n
+      (u : Option ℤ) (g m : ℕ) (b : Option Range) (v : Option ℤ) (k k' : State → StepResult) → OwnFree code s t.now f n
       → OwnFree code s t.now g m
       → ((x x' : State) → Doing code new s r at i x x' → routines_of x.now ≡ routines_of t.now → AlikeStep code new s (k x) (k' x'))
       → AlikeStep code new s (equation_of_contents t f n a u g m b v k) (equation_of_contents t' f n a u g m b v k')
@@ -100,7 +100,7 @@ module _ {code new : PlainCode} {s : Sharing} where
 
   -- two cells are equated
   pub equation_alike : {r at : ℕ} {i : Instr} {t t' : State} → Shared code new s → Doing code new s r at i t t' → (f n : ℕ)
-      (a : Option Range) (g m : ℕ) (b : Option Range) (k k' : State → Stepped) → OwnFree code s t.now f n → OwnFree code s t.now g m
+      (a : Option Range) (g m : ℕ) (b : Option Range) (k k' : State → StepResult) → OwnFree code s t.now f n → OwnFree code s t.now g m
       → ((x x' : State) → Doing code new s r at i x x' → routines_of x.now ≡ routines_of t.now → AlikeStep code new s (k x) (k' x'))
       → AlikeStep code new s (equation t f n a g m b k) (equation t' f n a g m b k')
   equation_alike {r} {at} {i} {t} {t'} w h f n a g m b k k' cf cg good =
@@ -111,7 +111,7 @@ module _ {code new : PlainCode} {s : Sharing} where
 
   -- n equations, one after another
   pub equations_alike : {r at : ℕ} {i : Instr} (n : ℕ) (t t' : State) → Shared code new s → Doing code new s r at i t t'
-      → written code i ≡ None → (f p g q : ℕ) → ((k : ℕ) → k < n → OwnFree code s t.now f (p + k))
+      → target_slot code i ≡ None → (f p g q : ℕ) → ((k : ℕ) → k < n → OwnFree code s t.now f (p + k))
       → ((k : ℕ) → k < n → OwnFree code s t.now g (q + k)) → AlikeStep code new s (equations n t f p g q) (equations n t' f p g q)
   equations_alike zero t t' w h none f p g q cf cg = settle h none answer.Went []
   equations_alike (suc n) t t' w h none f p g q cf cg =
@@ -126,7 +126,7 @@ module _ {code new : PlainCode} {s : Sharing} where
       free_across code s t.now x.now g (suc q + k) e (subst (λ j. OwnFree code s t.now g j) z (cg (suc k) (omega arith)))))
 
   -- n cells are copied from two states, in two that have come from them by such
-  pub copied_alike : {r at : ℕ} {i : Instr} {t t' : State} → Shared code new s → Doing code new s r at i t t' → written code i ≡ None
+  pub copied_alike : {r at : ℕ} {i : Instr} {t t' : State} → Shared code new s → Doing code new s r at i t t' → target_slot code i ≡ None
       → (n : ℕ) (x x' : State) → Doing code new s r at i x x' → routines_of x.now ≡ routines_of t.now → (f p g q : ℕ)
       → ((k : ℕ) → k < n → OwnFree code s t.now f (p + k)) → ((k : ℕ) → k < n → OwnFree code s t.now g (q + k))
       → AlikeStep code new s (copies_cells n t.now x f p g q) (copies_cells n t'.now x' f p g q)
@@ -163,7 +163,7 @@ module _ {code new : PlainCode} {s : Sharing} where
   -- ---- input
 
   -- a number that was read goes to its place
-  pub took_alike : {r at : ℕ} {i : Instr} {t t' : State} → Shared code new s → Doing code new s r at i t t' → written code i ≡ None
+  pub took_alike : {r at : ℕ} {i : Instr} {t t' : State} → Shared code new s → Doing code new s r at i t t' → target_slot code i ≡ None
       → (range : Range) (p : CellPlace) (v : ℤ) (n : ℕ) → OwnFree code s t.now p.frame p.slot
       → AlikeStep code new s (take_input t range p v n) (take_input t' range p v n)
   took_alike {r} {at} {i} {t} {t'} w h none range p v n c =
@@ -176,7 +176,7 @@ module _ {code new : PlainCode} {s : Sharing} where
       (λ h3 _. settle h3 none answer.Went [])))
 
   -- what was found where a number is read
-  pub found_alike : {r at : ℕ} {i : Instr} {t t' : State} → Shared code new s → Doing code new s r at i t t' → written code i ≡ None
+  pub found_alike : {r at : ℕ} {i : Instr} {t t' : State} → Shared code new s → Doing code new s r at i t t' → target_slot code i ≡ None
       → (range : Range) (p : CellPlace) (found : ReadInt) → OwnFree code s t.now p.frame p.slot
       → AlikeStep code new s (takes_read t range p found) (takes_read t' range p found)
   found_alike w h none range p NoNumber c = fails_alike h.taken.rest
@@ -184,7 +184,7 @@ module _ {code new : PlainCode} {s : Sharing} where
   found_alike w h none range p (Number v n) c = took_alike w h none range p v n c
 
   -- what was found where a byte is read
-  pub byte_alike : {r at : ℕ} {i : Instr} {t t' : State} → Shared code new s → Doing code new s r at i t t' → written code i ≡ None
+  pub byte_alike : {r at : ℕ} {i : Instr} {t t' : State} → Shared code new s → Doing code new s r at i t t' → target_slot code i ≡ None
       → (range : Range) (p : CellPlace) (n : ℕ) (found : Option ℕ) → OwnFree code s t.now p.frame p.slot
       → AlikeStep code new s (byte_or_failure t range p n found) (byte_or_failure t' range p n found)
   byte_alike w h none range p n None c = fails_alike h.taken.rest

@@ -17,7 +17,7 @@ use Rattle.alma_code.specs.Records.{is_first_kind, is_first_param, is_first_rout
 use Rattle.alma_code.specs.Rules.{IsSound, IsTable}
 use Rattle.alma_lower_slots.specs.Runs.{HasHeads}
 use Rattle.alma_lower_slots.specs.Sharing.{Sharing, Shares, Renames}
-use Rattle.alma_lower_slots.specs.Slots.{renamed}
+use Rattle.alma_lower_slots.specs.Slots.{rename_slots}
 use Rattle.alma_lower_slots.proofs.WordsRenamed.{keeps_form}
 use Rattle.alma_lower_slots.proofs.HeadsRenamed.{all_at, all_from, test_of_runs}
 
@@ -88,7 +88,7 @@ module _ (code new : PlainCode) (s : Sharing) (sound : IsSound code) (shares : S
   sum_of_routines f each = sym (sum_of_map f new.routines) ∙ ap (sum_by (λ n. n)) (of_routines f each) ∙ sum_of_map f code.routines
 
   -- what renaming keeps of a form is alike of all instructions
-  of_instrs : (f : Instr → Bool) → ((slot : ℕ → ℕ) (i : Instr) → f (renamed slot i) ≡ f i) → map f new.instrs ≡ map f code.instrs
+  of_instrs : (f : Instr → Bool) → ((slot : ℕ → ℕ) (i : Instr) → f (rename_slots slot i) ≡ f i) → map f new.instrs ≡ map f code.instrs
   of_instrs f each = maps_alike I.Fail f code.instrs new.instrs renames.size (λ at lt.
       let found = routine_of code sound.table at lt in
       let here = found.1 in

@@ -15,7 +15,8 @@ use Rattle.alma_code.specs.declared.instr.Word.TheVariants as W
 use Rattle.alma_code.specs.declared.step.End.TheVariants as end
 use Rattle.alma_code.specs.declared.step.Step.TheVariants as answer
 use Rattle.alma_code.specs.Kinds.{is_number}
-use Rattle.alma_code.specs.Machine.{State, Stepped, top, act, kind_of, with_slot, to_number, state_after_leave, answers_return, result_to}
+use Rattle.alma_code.specs.Machine.{State, StepResult, top, act, kind_of, with_slot, to_number, state_after_leave, answers_return}
+use Rattle.alma_code.specs.Machine.{result_to}
 use Rattle.alma_code.specs.Picture.{PlainFrame, no_frame, frame_with, frames_with_cell, last_frame, without_last}
 use Rattle.alma_code.specs.Plain.{PlainCode, head_at, kinds_at, start_at, end_at}
 use Rattle.alma_code.specs.Rules.{kind_in, is_free, is_main, is_global, holds_result, rule_12}
@@ -23,7 +24,7 @@ use Rattle.alma_code.specs.Words.{words}
 use Rattle.alma_code.proofs.Heads.{number_is}
 use Rattle.alma_code_laws.proofs.Acts.{slots, number_word, Left, left_ready, call_rule, holds_of_call}
 use Rattle.alma_lower_slots.specs.Sharing.{Sharing, SharesAt, matters}
-use Rattle.alma_lower_slots.specs.Slots.{reads, written, renamed}
+use Rattle.alma_lower_slots.specs.Slots.{reads, target_slot, rename_slots}
 use Rattle.alma_lower_slots.proofs.Alike.{IsDue, is_kept, on_top, below, AlikeFrame, AlikeFrames, AlikeRest, AlikeStep, Doing}
 use Rattle.alma_lower_slots.proofs.Frames.{SameCalls, written_calls, due_across, frame_fewer, frame_alike_written, frame_written}
 use Rattle.alma_lower_slots.proofs.Frames.{frame_beside}
@@ -33,7 +34,7 @@ use Rattle.alma_lower_slots.proofs.Calling.{choices_alike}
 module _ (code new : PlainCode) (s : Sharing) where
   -- what is due below a frame that was left was due before, but for the slot that its Call writes
   left_due : (frames : List PlainFrame) (at f n : ℕ) → f < length frames - 1
-      → (suc f ≡ length frames - 1 → written code (get_or code.instrs ((last_frame frames).back - 1) I.Fail) ≡ Some n → ⊥)
+      → (suc f ≡ length frames - 1 → target_slot code (get_or code.instrs ((last_frame frames).back - 1) I.Fail) ≡ Some n → ⊥)
       → IsDue code new s (without_last frames) (last_frame frames).back f n → IsDue code new s frames at f n
   left_due frames at f n lf other (is_kept e) =
       is_kept (ap (λ x. s.kept x.routine n) (sym (get_or-take (length frames - 1) frames f no_frame lf)) ∙ e)
@@ -45,7 +46,7 @@ module _ (code new : PlainCode) (s : Sharing) where
       below (omega arith)
       (ap (λ x. s.live x.routine (get_or frames (suc f) no_frame).back n) (sym here)
       ∙ ap (λ m. s.live (get_or (without_last frames) f no_frame).routine (get_or frames m no_frame).back n) z ∙ l)
-      (λ q. other z (ap (λ m. written code (get_or code.instrs ((get_or frames m no_frame).back - 1) I.Fail)) (sym z) ∙ q))
+      (λ q. other z (ap (λ m. target_slot code (get_or code.instrs ((get_or frames m no_frame).back - 1) I.Fail)) (sym z) ∙ q))
   left_due frames at f n lf other (below lt l w) =
       let len : length (without_last frames) ≡ length frames - 1 = length-take-le (length frames - 1) frames (omega arith) in
       let here : get_or (without_last frames) f no_frame ≡ get_or frames f no_frame =
@@ -55,7 +56,7 @@ module _ (code new : PlainCode) (s : Sharing) where
       below (omega arith)
       (ap (λ x. s.live x.routine (get_or frames (suc f) no_frame).back n) (sym here)
       ∙ ap (λ x. s.live (get_or (without_last frames) f no_frame).routine x.back n) (sym next) ∙ l)
-      (λ q. w (ap (λ x. written code (get_or code.instrs (x.back - 1) I.Fail)) next ∙ q))
+      (λ q. w (ap (λ x. target_slot code (get_or code.instrs (x.back - 1) I.Fail)) next ∙ q))
 
   -- the frames below one that is left
   left_frame : (at f : ℕ) (frames frames' : List PlainFrame) → AlikeFrames code new s at frames frames' → f < length frames - 1
@@ -87,7 +88,7 @@ module _ (code new : PlainCode) (s : Sharing) where
 
   -- the frames that are left, where the Call writes nothing
   left_alike : (at : ℕ) (frames frames' : List PlainFrame) → AlikeFrames code new s at frames frames'
-      → written code (get_or code.instrs ((last_frame frames).back - 1) I.Fail) ≡ None
+      → target_slot code (get_or code.instrs ((last_frame frames).back - 1) I.Fail) ≡ None
       → AlikeFrames code new s (last_frame frames).back (without_last frames) (without_last frames')
   left_alike at frames frames' h none =
       let len : length (without_last frames) ≡ length frames - 1 = length-take-le (length frames - 1) frames (omega arith) in
@@ -117,7 +118,7 @@ module _ (code new : PlainCode) (s : Sharing) (w : Shared code new s) where
   -- the frames that are left, where the Call writes this slot
   result_frames : (at call : ℕ) (i : Instr) (frames frames' : List PlainFrame) (to : ℕ) (c : Cell) → 2 ≤ length frames
       → AlikeFrames code new s at frames frames' → (last_frame frames).back ≡ suc call → get_or code.instrs call I.Fail ≡ i
-      → written code i ≡ Some to → SharesAt code s (last_frame (without_last frames)).routine call i
+      → target_slot code i ≡ Some to → SharesAt code s (last_frame (without_last frames)).routine call i
       → (last_frame (without_last frames)).routine < length code.routines
       → to < length (kinds_at code (last_frame (without_last frames)).routine)
       → length (last_frame (without_last frames)).cells ≡ length (kinds_at code (last_frame (without_last frames)).routine)
@@ -136,8 +137,8 @@ module _ (code new : PlainCode) (s : Sharing) (w : Shared code new s) where
       let lm : m < length fs = omega arith in
       let calls : SameCalls fs (frames_with_cell fs m to c) = written_calls fs m to c lm in
       let back1 : (last_frame frames).back - 1 ≡ call = omega arith in
-      let writes : written code (get_or code.instrs ((last_frame frames).back - 1) I.Fail) ≡ Some to =
-      ap (λ n. written code (get_or code.instrs n I.Fail)) back1 ∙ ap (written code) is ∙ wr in
+      let writes : target_slot code (get_or code.instrs ((last_frame frames).back - 1) I.Fail) ≡ Some to =
+      ap (λ n. target_slot code (get_or code.instrs n I.Fail)) back1 ∙ ap (target_slot code) is ∙ wr in
       let flip : SameCalls (frames_with_cell fs m to c) fs = record {
         count = sym calls.count;
         routine = λ f. sym (calls.routine f);
@@ -195,13 +196,13 @@ module _ (code new : PlainCode) (s : Sharing) (w : Shared code new s) where
       not-true (head_at code 0).has_result (and_parts (not (head_at code 0).has_result) (list_all (is_global code) code.globals) y).0
 
   -- a Call of a routine without a result writes nothing
-  writes_nothing : (c first to : ℕ) → (head_at code c).has_result ≡ false → written code (I.Call c first to) ≡ None
-  unfolding written
+  writes_nothing : (c first to : ℕ) → (head_at code c).has_result ≡ false → target_slot code (I.Call c first to) ≡ None
+  unfolding target_slot
   writes_nothing c first to e = ap (λ (b : Bool). if b then Some to else None) e
 
   -- and else the slot of the result
-  writes_result : (c first to : ℕ) → (head_at code c).has_result ≡ true → written code (I.Call c first to) ≡ Some to
-  unfolding written
+  writes_result : (c first to : ℕ) → (head_at code c).has_result ≡ true → target_slot code (I.Call c first to) ≡ Some to
+  unfolding target_slot
   writes_result c first to e = ap (λ (b : Bool). if b then Some to else None) e
 
   -- the instruction before the address that the top frame returns to
@@ -216,12 +217,12 @@ module _ (code new : PlainCode) (s : Sharing) (w : Shared code new s) where
   call_renamed : (q at n c first to : ℕ) → n ≡ at → q < length code.routines → start_at code q ≤ at → at < end_at code q
       → slice_get code.instrs at ≡ Some (I.Call c first to)
       → slice_get new.instrs n ≡ Some (I.Call c (s.slot q first) (s.slot q to))
-  unfolding renamed
+  unfolding rename_slots
   call_renamed q at n c first to e lq low high is =
       let inside : at < length new.instrs = omega (arith, w.renames.size, slice_get_within code.instrs at (I.Call c first to) is) in
       ap (slice_get new.instrs) e ∙ slice_get-get_or new.instrs at I.Fail inside
       ∙ ap (λ (x : Instr). Some x) (w.renames.instrs q at lq low high
-      ∙ ap (renamed (s.slot q)) (get_or_from_slice_get code.instrs at (I.Call c first to) I.Fail is))
+      ∙ ap (rename_slots (s.slot q)) (get_or_from_slice_get code.instrs at (I.Call c first to) I.Fail is))
 
   -- the answer of a return
   returned_alike : (t t' : State) → length t'.now ≡ length t.now → AlikeRest code new s t t' → AlikeFrames code new s t.at t.now t'.now
@@ -235,8 +236,8 @@ module _ (code new : PlainCode) (s : Sharing) (w : Shared code new s) where
       → AlikeStep code new s (answers_return (with_slot u to (cell.Int v))) (answers_return (with_slot u' to' (cell.Int v)))
       → AlikeStep code new s (result_to o u v) (result_to o' u' v)
   result_given u u' v o o' c first first' to to' e e' kind rest good =
-      let k : Unit {0} → Stepped = λ _. answers_return (with_slot u to (cell.Int v)) in
-      let k' : Unit {0} → Stepped = λ _. answers_return (with_slot u' to' (cell.Int v)) in
+      let k : Unit {0} → StepResult = λ _. answers_return (with_slot u to (cell.Int v)) in
+      let k' : Unit {0} → StepResult = λ _. answers_return (with_slot u' to' (cell.Int v)) in
       subst (λ x. AlikeStep code new s (result_to x u v) (result_to o' u' v)) (sym e)
       (subst (λ x. AlikeStep code new s (to_number (kind_of u to) u k) (result_to x u' v)) (sym e')
       (subst (λ x. AlikeStep code new s (to_number (kind_of u to) u k) (to_number x u' k')) (sym kind)
@@ -244,8 +245,8 @@ module _ (code new : PlainCode) (s : Sharing) (w : Shared code new s) where
 
   -- a Return
   pub return_alike : (input : List ℕ) (r at : ℕ) (t t' : State) → Doing code new s r at I.Return t t'
-      → AlikeStep code new s (act code input I.Return t) (act new input (renamed (s.slot r) I.Return) t')
-  unfolding act renamed rule_12
+      → AlikeStep code new s (act code input I.Return t) (act new input (rename_slots (s.slot r) I.Return) t')
+  unfolding act rename_slots rule_12
   return_alike input r at t t' d =
       let now = d.taken.now in
       let back = (top_alike d).back in
@@ -256,8 +257,8 @@ module _ (code new : PlainCode) (s : Sharing) (w : Shared code new s) where
       let l = left_ready code r t d.here.ready (omega (arith, d.here.ready.frames.some)) in
       let none : (head_at code (last_frame t.now).routine).has_result ≡ false =
       ap (λ q. (head_at code q).has_result) d.here.ready.routine ∙ not-true (head_at code r).has_result d.obeys.r12 in
-      let writes : written code (get_or code.instrs ((last_frame t.now).back - 1) I.Fail) ≡ None =
-      ap (written code) (call_before t l) ∙ writes_nothing (last_frame t.now).routine l.called.first l.called.to none in
+      let writes : target_slot code (get_or code.instrs ((last_frame t.now).back - 1) I.Fail) ≡ None =
+      ap (target_slot code) (call_before t l) ∙ writes_nothing (last_frame t.now).routine l.called.first l.called.to none in
       returned_alike (state_after_leave t) (state_after_leave t') (left_count code new s at t.now t'.now now)
       (left_rest code new s t t' d.taken.rest back) (left_alike code new s at t.now t'.now now writes))
 
@@ -332,8 +333,8 @@ module _ (code new : PlainCode) (s : Sharing) (w : Shared code new s) where
 
   -- a ReturnValue
   pub return_value_alike : (input : List ℕ) (r at a : ℕ) (t t' : State) → Doing code new s r at (I.ReturnValue a) t t'
-      → AlikeStep code new s (act code input (I.ReturnValue a) t) (act new input (renamed (s.slot r) (I.ReturnValue a)) t')
-  unfolding act renamed reads rule_12 words
+      → AlikeStep code new s (act code input (I.ReturnValue a) t) (act new input (rename_slots (s.slot r) (I.ReturnValue a)) t')
+  unfolding act rename_slots reads rule_12 words
   return_value_alike input r at a t t' d =
       let x = slots code r at (I.ReturnValue a) (W.Number a) W.Free W.Free W.Free refl d.obeys in
       let number = number_is (kind_in code r a) (number_word code r a x.0).1 in

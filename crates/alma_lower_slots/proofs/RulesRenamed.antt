@@ -20,7 +20,7 @@ use Rattle.alma_code.specs.Rules.{holds_result, can_call, names_slot, rule_5, ru
 use Rattle.alma_code.specs.Words.{words}
 use Rattle.alma_code_laws.proofs.Acts.{Obeys, slots}
 use Rattle.alma_lower_slots.specs.Sharing.{Sharing, Shares, SharesIn, SharesAt, Renames, names_own, begins_own}
-use Rattle.alma_lower_slots.specs.Slots.{renamed}
+use Rattle.alma_lower_slots.specs.Slots.{rename_slots}
 use Rattle.alma_lower_slots.proofs.Kept.{slots_full, kind_kept, length_kept, link_kept, free_kept, some_kind, own_kept, numbers_kept}
 use Rattle.alma_lower_slots.proofs.Kept.{cells_kept}
 use Rattle.alma_lower_slots.proofs.Kept.{routine_kept, end_kept, result_kept}
@@ -41,11 +41,11 @@ module _ (code new : PlainCode) (s : Sharing) (sound : IsSound code) (shares : S
     (lt : r < length code.routines) where
   -- the rules of forms that the renamed instruction keeps, and the slots of any kind that the instruction names are own ones
   pub record KeepsRules (at : ℕ) (i : Instr) : Type 0 where
-    pub r5 : rule_5 new r (renamed (s.slot r) i) ≡ true
-    pub r6 : rule_6 new r (renamed (s.slot r) i) ≡ true
-    pub r7 : rule_7 new r (renamed (s.slot r) i) ≡ true
-    pub r10 : rule_10 new r at (renamed (s.slot r) i) ≡ true
-    pub r12 : rule_12 new r (renamed (s.slot r) i) ≡ true
+    pub r5 : rule_5 new r (rename_slots (s.slot r) i) ≡ true
+    pub r6 : rule_6 new r (rename_slots (s.slot r) i) ≡ true
+    pub r7 : rule_7 new r (rename_slots (s.slot r) i) ≡ true
+    pub r10 : rule_10 new r at (rename_slots (s.slot r) i) ≡ true
+    pub r12 : rule_12 new r (rename_slots (s.slot r) i) ≡ true
     pub own : list_all (is_own (s.own r)) (words i) ≡ true
 
   -- what is asked of the routine
@@ -212,7 +212,7 @@ module _ (code new : PlainCode) (s : Sharing) (sound : IsSound code) (shares : S
 
   -- each form keeps them
   pub keeps_rules : (at : ℕ) (i : Instr) → Obeys code r at i → SharesAt code s r at i → KeepsRules at i
-  unfolding rule_5 rule_6 rule_7 rule_10 rule_12 words renamed names_own begins_own
+  unfolding rule_5 rule_6 rule_7 rule_10 rule_12 words rename_slots names_own begins_own
   keeps_rules at (I.Const a v) o h = record { r5 = refl; r6 = refl; r7 = refl; r10 = refl; r12 = refl; own = refl }
   keeps_rules at (I.Move a b) o h = record { r5 = refl; r6 = refl; r7 = refl; r10 = refl; r12 = refl; own = refl }
   keeps_rules at (I.Add a b c) o h = record { r5 = refl; r6 = refl; r7 = refl; r10 = refl; r12 = refl; own = refl }

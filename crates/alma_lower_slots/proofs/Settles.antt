@@ -20,11 +20,11 @@ use Rattle.alma_code.specs.Picture.{no_frame, frames_with_cell, last_frame}
 use Rattle.alma_code.specs.Plain.{PlainCode, kinds_at}
 use Rattle.alma_code.specs.Rules.{IsSound}
 use Rattle.alma_code.specs.Fits.{routines_of, FitsFrame}
-use Rattle.alma_code.specs.Machine.{State, Stepped, quiet_step, gets_stuck}
+use Rattle.alma_code.specs.Machine.{State, StepResult, quiet_step, gets_stuck}
 use Rattle.alma_code.specs.Machine.{ends_run, ends_in_fault, fails_now, goes_to, top, slot_of, kind_of, as_number, as_place, as_mark}
 use Rattle.alma_code.specs.Machine.{number, place, mark, link, with_slot, to_number, to_place, to_mark, to_link, put_number, put_place}
 use Rattle.alma_code.specs.Machine.{put_mark, put_link, link_to}
-use Rattle.alma_lower_slots.specs.Slots.{written, away}
+use Rattle.alma_lower_slots.specs.Slots.{target_slot, away}
 use Rattle.alma_lower_slots.specs.Sharing.{Sharing, matters, Shares, Renames}
 use Rattle.alma_lower_slots.proofs.Alike.{IsDue, is_kept, on_top, below, AlikeFrame, AlikeFrames, AlikeRest, AlikeStep, Doing}
 use Rattle.alma_lower_slots.proofs.Frames.{frames_fewer, frames_alike_written}
@@ -106,7 +106,7 @@ module _ {code new : PlainCode} {s : Sharing} where
   }
 
   -- a choice by one test in both
-  pub if_alike : (b : Bool) (k z k' z' : Unit {0} → Stepped) → (b ≡ true → AlikeStep code new s (k tt) (k' tt))
+  pub if_alike : (b : Bool) (k z k' z' : Unit {0} → StepResult) → (b ≡ true → AlikeStep code new s (k tt) (k' tt))
       → (b ≡ false → AlikeStep code new s (z tt) (z' tt)) → AlikeStep code new s (if_true b k z) (if_true b k' z')
   if_alike true k z k' z' holds fails = holds refl
   if_alike false k z k' z' holds fails = fails refl
@@ -181,7 +181,7 @@ module _ {code new : PlainCode} {s : Sharing} where
   -- what is due where it goes on is due at it, or is what it writes
   pub due_behind : {r at : ℕ} {i : Instr} {t t' : State} → Doing code new s r at i t t' → (f n : ℕ)
       → IsDue code new s t.now (suc at) f n
-      → IsDue code new s t.now at f n ⊎ ((suc f ≡ length t.now) × (written code i ≡ Some n))
+      → IsDue code new s t.now at f n ⊎ ((suc f ≡ length t.now) × (target_slot code i ≡ Some n))
   due_behind {r} {at} {i} {t} h f n (is_kept k) = inl (is_kept k)
   due_behind {r} {at} {i} {t} h f n (below lt l w) = inl (below lt l w)
   due_behind {r} {at} {i} {t} h f n (on_top e l) =
@@ -194,7 +194,7 @@ module _ {code new : PlainCode} {s : Sharing} where
       ]
 
   -- the frames of an instruction that writes nothing are alike behind it
-  pub behind_alike : {r at : ℕ} {i : Instr} {t t' : State} → Doing code new s r at i t t' → written code i ≡ None
+  pub behind_alike : {r at : ℕ} {i : Instr} {t t' : State} → Doing code new s r at i t t' → target_slot code i ≡ None
       → AlikeFrames code new s (suc at) t.now t'.now
   behind_alike {r} {at} {i} {t} {t'} h none =
       frames_fewer code new s at (suc at) t.now t'.now h.taken.now (λ f n lf ln due. elim (due_behind h f n due) [
@@ -222,7 +222,7 @@ module _ {code new : PlainCode} {s : Sharing} where
 
   -- the frames are alike behind it, after a write of one cell to the slot that it writes
   pub written_alike : {r at : ℕ} {i : Instr} {t t' : State} → Shared code new s → Doing code new s r at i t t' → (n : ℕ) (c : Cell)
-      → n < length (kinds_at code r) → written code i ≡ Some n
+      → n < length (kinds_at code r) → target_slot code i ≡ Some n
       → AlikeFrames code new s (suc at) (with_slot t n c).now (with_slot t' (s.slot r n) c).now
   written_alike {r} {at} {i} {t} {t'} w h n c lt is =
       let alike : AlikeFrames code new s (suc at) (frames_with_cell t.now (top t) n c) (frames_with_cell t'.now (top t) (s.slot r n) c) =
@@ -240,7 +240,8 @@ module _ {code new : PlainCode} {s : Sharing} where
       (sym (top_same h)) alike
 
   -- an instruction that writes nothing goes on
-  pub settle : {r at : ℕ} {i : Instr} {t t' : State} → Doing code new s r at i t t' → written code i ≡ None → (a : Step) (bytes : List ℕ)
+  pub settle : {r at : ℕ} {i : Instr} {t t' : State} → Doing code new s r at i t t' → target_slot code i ≡ None
+      → (a : Step) (bytes : List ℕ)
       → AlikeStep code new s (record { answer = a; printed = bytes; state = t }) (record { answer = a; printed = bytes; state = t' })
   settle {r} {at} {i} {t} {t'} h none a bytes =
       goes_alike a bytes h.taken.rest
@@ -264,7 +265,7 @@ module _ {code new : PlainCode} {s : Sharing} where
   -- ---- reads
 
   -- a cell is read as a number
-  pub as_number_alike : {t t' : State} → AlikeRest code new s t t' → (o : Option Cell) (k k' : ℤ → Stepped)
+  pub as_number_alike : {t t' : State} → AlikeRest code new s t t' → (o : Option Cell) (k k' : ℤ → StepResult)
       → ((v : ℤ) → o ≡ Some (cell.Int v) → AlikeStep code new s (k v) (k' v)) → AlikeStep code new s (as_number o t k) (as_number o t' k')
   as_number_alike h (Some (cell.Int v)) k k' good = good v refl
   as_number_alike h (Some cell.Unknown) k k' good = fault_alike fault.Unknown h
@@ -274,7 +275,7 @@ module _ {code new : PlainCode} {s : Sharing} where
   as_number_alike h None k k' good = stuck_alike h
 
   -- a cell is read as a place
-  pub as_place_alike : {t t' : State} → AlikeRest code new s t t' → (o : Option Cell) (k k' : CellPlace → Stepped)
+  pub as_place_alike : {t t' : State} → AlikeRest code new s t t' → (o : Option Cell) (k k' : CellPlace → StepResult)
       → ((p : CellPlace) → o ≡ Some (cell.Place p) → AlikeStep code new s (k p) (k' p))
       → AlikeStep code new s (as_place o t k) (as_place o t' k')
   as_place_alike h (Some (cell.Place p)) k k' good = good p refl
@@ -285,7 +286,7 @@ module _ {code new : PlainCode} {s : Sharing} where
   as_place_alike h None k k' good = stuck_alike h
 
   -- a cell is read as a mark
-  pub as_mark_alike : {t t' : State} → AlikeRest code new s t t' → (o : Option Cell) (k k' : ℕ → Stepped)
+  pub as_mark_alike : {t t' : State} → AlikeRest code new s t t' → (o : Option Cell) (k k' : ℕ → StepResult)
       → ((m : ℕ) → o ≡ Some (cell.Mark m) → AlikeStep code new s (k m) (k' m)) → AlikeStep code new s (as_mark o t k) (as_mark o t' k')
   as_mark_alike h (Some (cell.Mark m)) k k' good = good m refl
   as_mark_alike h (Some cell.Unset) k k' good = fault_alike fault.Unknown h
@@ -296,7 +297,7 @@ module _ {code new : PlainCode} {s : Sharing} where
 
   -- the number in a slot that matters is read
   pub number_alike : {r at : ℕ} {i : Instr} {t t' : State} → Doing code new s r at i t t' → (n : ℕ) → n < length (kinds_at code r)
-      → matters s r at n ≡ true → (k k' : ℤ → Stepped)
+      → matters s r at n ≡ true → (k k' : ℤ → StepResult)
       → ((v : ℤ) → slot_of t n ≡ Some (cell.Int v) → AlikeStep code new s (k v) (k' v))
       → AlikeStep code new s (number t n k) (number t' (s.slot r n) k')
   number_alike {r} {at} {i} {t} {t'} h n lt m k k' good =
@@ -305,7 +306,7 @@ module _ {code new : PlainCode} {s : Sharing} where
 
   -- the place in it
   pub place_alike : {r at : ℕ} {i : Instr} {t t' : State} → Doing code new s r at i t t' → (n : ℕ) → n < length (kinds_at code r)
-      → matters s r at n ≡ true → (k k' : CellPlace → Stepped)
+      → matters s r at n ≡ true → (k k' : CellPlace → StepResult)
       → ((p : CellPlace) → slot_of t n ≡ Some (cell.Place p) → AlikeStep code new s (k p) (k' p))
       → AlikeStep code new s (place t n k) (place t' (s.slot r n) k')
   place_alike {r} {at} {i} {t} {t'} h n lt m k k' good =
@@ -314,7 +315,7 @@ module _ {code new : PlainCode} {s : Sharing} where
 
   -- the mark in it
   pub mark_alike : {r at : ℕ} {i : Instr} {t t' : State} → Doing code new s r at i t t' → (n : ℕ) → n < length (kinds_at code r)
-      → matters s r at n ≡ true → (k k' : ℕ → Stepped)
+      → matters s r at n ≡ true → (k k' : ℕ → StepResult)
       → ((m : ℕ) → slot_of t n ≡ Some (cell.Mark m) → AlikeStep code new s (k m) (k' m))
       → AlikeStep code new s (mark t n k) (mark t' (s.slot r n) k')
   mark_alike {r} {at} {i} {t} {t'} h n lt m k k' good =
@@ -323,7 +324,7 @@ module _ {code new : PlainCode} {s : Sharing} where
 
   -- the frame that the link in it names
   pub link_alike : {r at : ℕ} {i : Instr} {t t' : State} → Doing code new s r at i t t' → (n : ℕ) → n < length (kinds_at code r)
-      → matters s r at n ≡ true → (k k' : ℕ → Stepped)
+      → matters s r at n ≡ true → (k k' : ℕ → StepResult)
       → ((p : CellPlace) → slot_of t n ≡ Some (cell.Place p) → AlikeStep code new s (k p.frame) (k' p.frame))
       → AlikeStep code new s (link t n k) (link t' (s.slot r n) k')
   link_alike h n lt m k k' good = place_alike h n lt m (λ p. k p.frame) (λ p. k' p.frame) good
@@ -332,7 +333,7 @@ module _ {code new : PlainCode} {s : Sharing} where
 
   -- a cell is written to the slot that the instruction writes, and it goes on
   pub slot_written : {r at : ℕ} {i : Instr} {t t' : State} → Shared code new s → Doing code new s r at i t t' → (n : ℕ) (c : Cell)
-      → n < length (kinds_at code r) → written code i ≡ Some n
+      → n < length (kinds_at code r) → target_slot code i ≡ Some n
       → AlikeStep code new s (quiet_step (with_slot t n c)) (quiet_step (with_slot t' (s.slot r n) c))
   slot_written {r} {at} {i} {t} {t'} w h n c lt is =
       let rest = h.taken.rest in
@@ -348,7 +349,7 @@ module _ {code new : PlainCode} {s : Sharing} where
       (written_alike w h n c lt is))
 
   -- goes on alike where the kind of the slot is a number's
-  pub to_number_alike : {t t' : State} → AlikeRest code new s t t' → (o : Option SlotKind) (k k' : Unit {0} → Stepped)
+  pub to_number_alike : {t t' : State} → AlikeRest code new s t t' → (o : Option SlotKind) (k k' : Unit {0} → StepResult)
       → AlikeStep code new s (k tt) (k' tt) → AlikeStep code new s (to_number o t k) (to_number o t' k')
   to_number_alike h (Some slot.Number) k k' good = good
   to_number_alike h (Some (slot.Place l)) k k' good = stuck_alike h
@@ -357,7 +358,7 @@ module _ {code new : PlainCode} {s : Sharing} where
   to_number_alike h None k k' good = stuck_alike h
 
   -- a place's
-  pub to_place_alike : {t t' : State} → AlikeRest code new s t t' → (o : Option SlotKind) (k k' : ℕ → Stepped)
+  pub to_place_alike : {t t' : State} → AlikeRest code new s t t' → (o : Option SlotKind) (k k' : ℕ → StepResult)
       → ((l : ℕ) → AlikeStep code new s (k l) (k' l)) → AlikeStep code new s (to_place o t k) (to_place o t' k')
   to_place_alike h (Some (slot.Place l)) k k' good = good l
   to_place_alike h (Some slot.Number) k k' good = stuck_alike h
@@ -366,7 +367,7 @@ module _ {code new : PlainCode} {s : Sharing} where
   to_place_alike h None k k' good = stuck_alike h
 
   -- a mark's
-  pub to_mark_alike : {t t' : State} → AlikeRest code new s t t' → (o : Option SlotKind) (k k' : Unit {0} → Stepped)
+  pub to_mark_alike : {t t' : State} → AlikeRest code new s t t' → (o : Option SlotKind) (k k' : Unit {0} → StepResult)
       → AlikeStep code new s (k tt) (k' tt) → AlikeStep code new s (to_mark o t k) (to_mark o t' k')
   to_mark_alike h (Some slot.Mark) k k' good = good
   to_mark_alike h (Some slot.Number) k k' good = stuck_alike h
@@ -375,7 +376,7 @@ module _ {code new : PlainCode} {s : Sharing} where
   to_mark_alike h None k k' good = stuck_alike h
 
   -- a link's
-  pub to_link_alike : {t t' : State} → AlikeRest code new s t t' → (o : Option SlotKind) (k k' : Unit {0} → Stepped)
+  pub to_link_alike : {t t' : State} → AlikeRest code new s t t' → (o : Option SlotKind) (k k' : Unit {0} → StepResult)
       → AlikeStep code new s (k tt) (k' tt) → AlikeStep code new s (to_link o t k) (to_link o t' k')
   to_link_alike h (Some (slot.Link q)) k k' good = good
   to_link_alike h (Some slot.Number) k k' good = stuck_alike h
@@ -385,7 +386,7 @@ module _ {code new : PlainCode} {s : Sharing} where
 
   -- a number is put into the slot that the instruction writes
   pub put_number_alike : {r at : ℕ} {i : Instr} {t t' : State} → Shared code new s → Doing code new s r at i t t' → (n : ℕ) (v : ℤ)
-      → n < length (kinds_at code r) → written code i ≡ Some n
+      → n < length (kinds_at code r) → target_slot code i ≡ Some n
       → AlikeStep code new s (put_number t n v) (put_number t' (s.slot r n) v)
   put_number_alike {r} {at} {i} {t} {t'} w h n v lt is =
       subst (λ o. AlikeStep code new s (put_number t n v) (to_number o t' (λ _. quiet_step (with_slot t' (s.slot r n) (cell.Int v)))))
@@ -394,7 +395,7 @@ module _ {code new : PlainCode} {s : Sharing} where
 
   -- a place is
   pub put_place_alike : {r at : ℕ} {i : Instr} {t t' : State} → Shared code new s → Doing code new s r at i t t' → (n : ℕ)
-      → n < length (kinds_at code r) → written code i ≡ Some n → (frame : ℕ) (first : ℕ → ℕ)
+      → n < length (kinds_at code r) → target_slot code i ≡ Some n → (frame : ℕ) (first : ℕ → ℕ)
       → AlikeStep code new s (put_place t n frame first) (put_place t' (s.slot r n) frame first)
   put_place_alike {r} {at} {i} {t} {t'} w h n lt is frame first =
       let cell_of : ℕ → Cell = λ l. cell.Place (record { frame = frame; slot = first l; len = l }) in
@@ -405,7 +406,7 @@ module _ {code new : PlainCode} {s : Sharing} where
 
   -- a mark is
   pub put_mark_alike : {r at : ℕ} {i : Instr} {t t' : State} → Shared code new s → Doing code new s r at i t t' → (n m : ℕ)
-      → n < length (kinds_at code r) → written code i ≡ Some n
+      → n < length (kinds_at code r) → target_slot code i ≡ Some n
       → AlikeStep code new s (put_mark t n m) (put_mark t' (s.slot r n) m)
   put_mark_alike {r} {at} {i} {t} {t'} w h n m lt is =
       subst (λ o. AlikeStep code new s (put_mark t n m) (to_mark o t' (λ _. quiet_step (with_slot t' (s.slot r n) (cell.Mark m)))))
@@ -414,7 +415,7 @@ module _ {code new : PlainCode} {s : Sharing} where
 
   -- a link is
   pub put_link_alike : {r at : ℕ} {i : Instr} {t t' : State} → Shared code new s → Doing code new s r at i t t' → (n : ℕ)
-      → n < length (kinds_at code r) → written code i ≡ Some n → (frame : ℕ)
+      → n < length (kinds_at code r) → target_slot code i ≡ Some n → (frame : ℕ)
       → AlikeStep code new s (put_link t n frame) (put_link t' (s.slot r n) frame)
   put_link_alike {r} {at} {i} {t} {t'} w h n lt is frame =
       subst (λ o. AlikeStep code new s (put_link t n frame)

@@ -10,7 +10,7 @@ use Rattle.alma_code.specs.declared.instr.Instr.TheVariants as I
 use Rattle.alma_code.specs.Plain.{PlainCode, PlainRoutine, no_routine, start_at, end_at}
 use Rattle.alma_code.specs.Rules.{IsTable}
 use Rattle.alma_lower_slots.specs.Inner.Shared.{RoutineOver, Adds, SharesSoFar, instrs_in, slot_in}
-use Rattle.alma_lower_slots.specs.Slots.{renamed}
+use Rattle.alma_lower_slots.specs.Slots.{rename_slots}
 
 -- ---- where routines begin
 
@@ -66,9 +66,9 @@ pub so_far_more : (code : PlainCode) (own : List ℕ) (n : ℕ) (heads heads' : 
     → SharesSoFar code own (n + 1) heads' instrs'
 so_far_more code own n heads heads' instrs instrs' t lt h a =
     let next : n + 1 ≡ suc n = add-one n in
-    let more = map (renamed (slot_in a.stretches)) (instrs_in code n) in
+    let more = map (rename_slots (slot_in a.stretches)) (instrs_in code n) in
     let many_more : length more ≡ end_at code n - start_at code n =
-    length-map (instrs_in code n) (renamed (slot_in a.stretches)) ∙ count_in code t n lt in
+    length-map (instrs_in code n) (rename_slots (slot_in a.stretches)) ∙ count_in code t n lt in
     record {
       all = h.all ++ a.stretches ∷ [];
       many = omega (arith, h.many, length-append h.all (a.stretches ∷ []));
@@ -104,21 +104,21 @@ so_far_more code own n heads heads' instrs instrs' t lt h a =
         (subst (RoutineOver code own (get_or h.all r []) r) (sym (early_head r before)) (h.routines r before))
 
     instr : (r at : ℕ) → (r ≡ n) ⊎ (r ≡ n → ⊥) → r < n + 1 → start_at code r ≤ at → at < end_at code r
-        → get_or instrs' at I.Fail ≡ renamed (slot_in (get_or (h.all ++ a.stretches ∷ []) r [])) (get_or code.instrs at I.Fail)
+        → get_or instrs' at I.Fail ≡ rename_slots (slot_in (get_or (h.all ++ a.stretches ∷ []) r [])) (get_or code.instrs at I.Fail)
     instr r at (inl e) below low high =
         let low2 : start_at code n ≤ at = subst (λ k. start_at code k ≤ at) e low in
         let high2 : at < end_at code n = subst (λ k. at < end_at code k) e high in
         let within : at - start_at code n < length (instrs_in code n) = omega (arith, count_in code t n lt, low2, high2) in
         ap (λ l. get_or l at I.Fail) a.more_instrs
-        ∙ get_or-append_right instrs (map (renamed (slot_in a.stretches)) (instrs_in code n)) (start_at code n) at I.Fail h.size low2
-        ∙ get_or-map (renamed (slot_in a.stretches)) (instrs_in code n) (at - start_at code n) I.Fail I.Fail within
-        ∙ ap (renamed (slot_in a.stretches)) (instr_in code n at low2 high2)
-        ∙ ap (λ s. renamed (slot_in s) (get_or code.instrs at I.Fail))
+        ∙ get_or-append_right instrs (map (rename_slots (slot_in a.stretches)) (instrs_in code n)) (start_at code n) at I.Fail h.size low2
+        ∙ get_or-map (rename_slots (slot_in a.stretches)) (instrs_in code n) (at - start_at code n) I.Fail I.Fail within
+        ∙ ap (rename_slots (slot_in a.stretches)) (instr_in code n at low2 high2)
+        ∙ ap (λ s. rename_slots (slot_in s) (get_or code.instrs at I.Fail))
         (sym last ∙ ap (λ k. get_or (h.all ++ a.stretches ∷ []) k []) (sym e))
     instr r at (inr ne) below low high =
         let before : r < n = omega (arith, ne, below) in
         let there : at < length instrs = omega (arith, h.size, high, ends_before code t r n before (omega (arith, lt))) in
         ap (λ l. get_or l at I.Fail) a.more_instrs
-        ∙ get_or_append_left instrs (map (renamed (slot_in a.stretches)) (instrs_in code n)) I.Fail at there
+        ∙ get_or_append_left instrs (map (rename_slots (slot_in a.stretches)) (instrs_in code n)) I.Fail at there
         ∙ h.renames r at before low high
-        ∙ ap (λ s. renamed (slot_in s) (get_or code.instrs at I.Fail)) (sym (early r before))
+        ∙ ap (λ s. rename_slots (slot_in s) (get_or code.instrs at I.Fail)) (sym (early r before))

@@ -19,7 +19,7 @@ use Rattle.alma_code.specs.Words.{words}
 use Rattle.alma_code_laws.proofs.Acts.{Obeys, obeys}
 use Rattle.alma_lower_slots.specs.Runs.{HasHeads}
 use Rattle.alma_lower_slots.specs.Sharing.{Sharing, Shares, SharesAt, Renames}
-use Rattle.alma_lower_slots.specs.Slots.{renamed}
+use Rattle.alma_lower_slots.specs.Slots.{rename_slots}
 use Rattle.alma_lower_slots.proofs.Kept.{kind_kept, free_kept, start_kept, end_kept}
 use Rattle.alma_lower_slots.proofs.WordsRenamed.{renamed_word, keeps_form, all_words, both_words}
 use Rattle.alma_lower_slots.proofs.RulesRenamed.{is_own, word_there, keeps_rules}
@@ -119,15 +119,15 @@ module _ (code new : PlainCode) (s : Sharing) (sound : IsSound code) (shares : S
     -- ---- all rules of an instruction
 
     -- the last instruction is still one that may be the last
-    last_kept : (at : ℕ) (i : Instr) → rule_11 code r at i ≡ true → rule_11 new r at (renamed (s.slot r) i) ≡ true
+    last_kept : (at : ℕ) (i : Instr) → rule_11 code r at i ≡ true → rule_11 new r at (rename_slots (s.slot r) i) ≡ true
     unfolding rule_11
     last_kept at i e =
-        ap (λ high. nat_lt (suc at) high || ends_routine (renamed (s.slot r) i)) (end_kept code new s sound shares renames r lt)
+        ap (λ high. nat_lt (suc at) high || ends_routine (rename_slots (s.slot r) i)) (end_kept code new s sound shares renames r lt)
         ∙ ap (λ b. nat_lt (suc at) (end_at code r) || b) (keeps_form (s.slot r) i).ends
         ∙ e
 
     -- an instruction that keeps its rules keeps them where its slots are renamed
-    pub new_obeys : (at : ℕ) (i : Instr) → Obeys code r at i → SharesAt code s r at i → Obeys new r at (renamed (s.slot r) i)
+    pub new_obeys : (at : ℕ) (i : Instr) → Obeys code r at i → SharesAt code s r at i → Obeys new r at (rename_slots (s.slot r) i)
     new_obeys at i o h =
         let kept = keeps_rules code new s sound shares renames r lt at i o h in
         let same = sym (keeps_form (s.slot r) i).words in
@@ -152,7 +152,7 @@ module _ (code new : PlainCode) (s : Sharing) (sound : IsSound code) (shares : S
     each_instr at low high =
         let old : Instr = get_or code.instrs at I.Fail in
         ap (instr_fault new r at) (renames.instrs r at lt low high)
-        ∙ no_fault new r at (renamed (s.slot r) old)
+        ∙ no_fault new r at (rename_slots (s.slot r) old)
         (new_obeys at old (obeys code r at old (sound.instrs r at lt low high)) (shares.instrs r at lt low high))
 
   -- all together

@@ -11,7 +11,7 @@ use Rattle.alma_code.specs.Reads.{is_read}
 use Rattle.alma_code.specs.Records.{is_first_form}
 use Rattle.alma_code.specs.Rules.{ends_routine}
 use Rattle.alma_code.specs.Words.{words}
-use Rattle.alma_lower_slots.specs.Slots.{renamed}
+use Rattle.alma_lower_slots.specs.Slots.{rename_slots}
 
 -- a word of an instruction with its slots renamed; that of a slot of any kind names a slot that keeps its number
 abbrev pub renamed_word : (slot : ℕ → ℕ) → Word → Word
@@ -27,14 +27,14 @@ renamed_word slot W.Free = W.Free
 
 -- what a form keeps
 pub record KeepsForm (slot : ℕ → ℕ) (i : Instr) : Type 0 where
-  pub words : words (renamed slot i) ≡ map (renamed_word slot) (words i)
-  pub ends : ends_routine (renamed slot i) ≡ ends_routine i
-  pub reads : is_read (renamed slot i) ≡ is_read i
-  pub first : is_first_form (renamed slot i) ≡ is_first_form i
+  pub words : words (rename_slots slot i) ≡ map (renamed_word slot) (words i)
+  pub ends : ends_routine (rename_slots slot i) ≡ ends_routine i
+  pub reads : is_read (rename_slots slot i) ≡ is_read i
+  pub first : is_first_form (rename_slots slot i) ≡ is_first_form i
 
 -- each form keeps it
 pub keeps_form : (slot : ℕ → ℕ) (i : Instr) → KeepsForm slot i
-unfolding renamed words
+unfolding rename_slots words
 keeps_form slot (I.Const a v) = record { words = refl; ends = refl; reads = refl; first = refl }
 keeps_form slot (I.Move a b) = record { words = refl; ends = refl; reads = refl; first = refl }
 keeps_form slot (I.Add a b c) = record { words = refl; ends = refl; reads = refl; first = refl }

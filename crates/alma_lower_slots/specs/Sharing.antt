@@ -9,7 +9,7 @@ use Rattle.alma_code.specs.Kinds.{is_number}
 use Rattle.alma_code.specs.Layout.{param_slots}
 use Rattle.alma_code.specs.Plain.{PlainCode, PlainRoutine, routine_at, head_at, start_at, end_at, kinds_at}
 use Rattle.alma_code.specs.Rules.{kind_in, place_length, link_routine, ends_routine}
-use Rattle.alma_lower_slots.specs.Slots.{reads, written, away, lays_over, is_finish, is_forall, body_of, renamed}
+use Rattle.alma_lower_slots.specs.Slots.{reads, target_slot, away, lays_over, is_finish, is_forall, body_of, rename_slots}
 
 -- for each routine: how many slots, from 0 on, are its own and keep their numbers, so that places may name them; the new number of
 -- each slot; which slots have their new number for themselves; and which of the others hold, at an address, what may yet be read
@@ -52,13 +52,13 @@ module _ (code : PlainCode) (s : Sharing) where
   -- slot of another that matters then
   pub record SharesAt (r at : ℕ) (i : Instr) : Type 0 where
     pub read : list_all (λ n. matters s r at n) (reads code i) ≡ true
-    pub next : (n : ℕ) → s.live r (suc at) n ≡ true → (s.live r at n ≡ true) ⊎ (written code i ≡ Some n)
+    pub next : (n : ℕ) → s.live r (suc at) n ≡ true → (s.live r at n ≡ true) ⊎ (target_slot code i ≡ Some n)
     pub jump : (t n : ℕ) → away i ≡ Some t → s.live r t n ≡ true → s.live r at n ≡ true
-    pub apart : (w n : ℕ) → n < length (kinds_at code r) → written code i ≡ Some w → matters s r (suc at) n ≡ true
+    pub apart : (w n : ℕ) → n < length (kinds_at code r) → target_slot code i ≡ Some w → matters s r (suc at) n ≡ true
         → s.slot r n ≡ s.slot r w → n ≡ w
     -- no number that is not kept lives where a carry may have been laid over, but one that is written then
     pub still : lays_over i ≡ true → (n : ℕ) → is_number (kind_in code r n) ≡ true → s.live r (suc at) n ≡ true
-        → written code i ≡ Some n
+        → target_slot code i ≡ Some n
     pub still_away : lays_over i ≡ true → (t n : ℕ) → away i ≡ Some t → is_number (kind_in code r n) ≡ true → s.live r t n ≡ false
     -- a Finish is reached from a Forall alone, when all its alternatives failed
     pub ends : is_finish (get_or code.instrs (suc at) I.Fail) ≡ true → ends_routine i ≡ true
@@ -109,4 +109,4 @@ module _ (code : PlainCode) (s : Sharing) where
         → slice_get (kinds_at new r) (s.slot r n) ≡ slice_get (kinds_at code r) n
     pub size : length new.instrs ≡ length code.instrs
     pub instrs : (r at : ℕ) → r < length code.routines → start_at code r ≤ at → at < end_at code r
-        → get_or new.instrs at I.Fail ≡ renamed (s.slot r) (get_or code.instrs at I.Fail)
+        → get_or new.instrs at I.Fail ≡ rename_slots (s.slot r) (get_or code.instrs at I.Fail)

@@ -5,7 +5,7 @@ ghost use Rattle.alma_code.specs.Kinds.{is_number as is_number_spec};
 ghost use Rattle.alma_code.specs.Plain.{code_of};
 ghost use Rattle.alma_code.specs.declared.instr.Instr.TheVariants as I;
 ghost use Rattle.alma_lower_slots.specs.Inner.Checks.{AreSources, Encloses, FitSlots, FitsSlot, HasStretch, IsCalm, no_sources};
-ghost use Rattle.alma_lower_slots.specs.Slots.{written};
+ghost use Rattle.alma_lower_slots.specs.Slots.{target_slot};
 
 use crate::matters::{is_kept, stretch_of};
 use crate::own::{end_of, instr_at, start_of};
@@ -71,7 +71,7 @@ fn is_calm(code: &Code, low: u32, high: u32) -> bool
 
 // Whether the instruction at an address writes a slot.
 fn writes(code: &Code, at: u32, slot: u32) -> bool
-    ensures { result ≡ true → written (code_of code.now) (get_or (code_of code.now).instrs at
+    ensures { result ≡ true → target_slot (code_of code.now) (get_or (code_of code.now).instrs at
         I.Fail) ≡ Some slot }
 {
     match written_by(code, instr_at(code, at)) {

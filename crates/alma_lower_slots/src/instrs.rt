@@ -3,7 +3,7 @@ ghost use Rattle.std.specs.Prelude.{◌≡◌, ◌+◌, ◌<◌, ℕ, true, get_
 ghost use Rattle.alma_code.specs.Plain.{code_of};
 ghost use Rattle.alma_code.specs.declared.instr.Instr.TheVariants as I;
 ghost use Rattle.alma_lower_slots.specs.Inner.Checks.{begin_of as begin_of_spec, FitInstrs, FitsInstr, StayTogether, WritesIn};
-ghost use Rattle.alma_lower_slots.specs.Slots.{written};
+ghost use Rattle.alma_lower_slots.specs.Slots.{target_slot};
 ghost use Rattle.alma_lower_slots.specs.Stretches.{stretch_at};
 
 use crate::flow::fits_flow;
@@ -34,7 +34,7 @@ fn holds_behind(stretches: &[Stretch], at: u32, slot: u32) -> bool
 
 // Whether the slot that an instruction writes has its new number behind it.
 fn write_fits(code: &Code, stretches: &[Stretch], at: u32, instr: Instr) -> bool
-    ensures { result ≡ true → (w : ℕ) → written (code_of code.now) instr ≡ Some w
+    ensures { result ≡ true → (w : ℕ) → target_slot (code_of code.now) instr ≡ Some w
         → WritesIn stretches.now at w }
 {
     match written_by(code, instr) {

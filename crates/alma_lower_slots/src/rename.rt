@@ -1,6 +1,6 @@
 // Instructions with their slots renamed.
 ghost use Rattle.std.specs.Prelude.{◌≡◌, ◌++◌, map, OnOk};
-ghost use Rattle.alma_lower_slots.specs.Slots.{renamed};
+ghost use Rattle.alma_lower_slots.specs.Slots.{rename_slots};
 ghost use Rattle.alma_lower_slots.specs.Stretches.{stretch_at};
 ghost use Rattle.alma_lower_slots.specs.Inner.Shared.{slot_in};
 
@@ -19,9 +19,9 @@ pub fn slot_of(all: &[Stretch], slot: u32) -> u32
 }
 
 /// An instruction with its slots renamed.
-#[tactic(auto, unfolding(crate::specs::Slots::renamed))]
+#[tactic(auto, unfolding(crate::specs::Slots::rename_slots))]
 pub fn renamed(instr: Instr, all: &[Stretch]) -> Instr
-    ensures { result ≡ renamed (λ n. (stretch_at all.now n).slot) instr }
+    ensures { result ≡ rename_slots (λ n. (stretch_at all.now n).slot) instr }
 {
     match instr {
         Instr::Const { to, value } => Instr::Const {
@@ -247,7 +247,7 @@ pub fn push_renamed(
     code: &[Instr],
     all: &[Stretch],
 ) -> Result<(), NoMemory>
-    ensures { OnOk result (instrs.new.items ≡ instrs.old.items ++ map (renamed (slot_in all.now))
+    ensures { OnOk result (instrs.new.items ≡ instrs.old.items ++ map (rename_slots (slot_in all.now))
         code.now) }
 {
     for instr in code {

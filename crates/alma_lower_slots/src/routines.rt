@@ -4,7 +4,7 @@ ghost use Rattle.alma_base.specs.Limits.{slot_limit};
 ghost use Rattle.alma_code.specs.Plain.{code_of, routine_of, kinds_at, start_at};
 ghost use Rattle.alma_code.specs.Rules.{IsSound};
 ghost use Rattle.alma_lower_slots.specs.Inner.Shared.{Adds, SharesSoFar, head_kinds, instrs_in, kinds_of_all, slot_in};
-ghost use Rattle.alma_lower_slots.specs.Slots.{renamed};
+ghost use Rattle.alma_lower_slots.specs.Slots.{rename_slots};
 
 use crate::check::may_share;
 use crate::heads::{head_behind, kinds_in};
@@ -59,7 +59,7 @@ fn push_instrs(
     requires sound { IsSound (code_of code.now) }
     requires exists { routine < length (code_of code.now).routines }
     requires start { length instrs.old.items ≡ start_at (code_of code.now) routine }
-    ensures { OnOk result (instrs.new.items ≡ instrs.old.items ++ map (renamed (slot_in all.now))
+    ensures { OnOk result (instrs.new.items ≡ instrs.old.items ++ map (rename_slots (slot_in all.now))
         (instrs_in (code_of code.now) routine)) }
 {
     let start = instrs.len();

@@ -2,7 +2,7 @@
 ghost use Rattle.std.specs.Prelude.{◌≡◌, ◌++◌, [], ◌∷◌};
 ghost use Rattle.alma_code.specs.Plain.{PlainCode, code_of};
 ghost use Rattle.alma_code.specs.Rules.{ends_routine as ends_routine_spec};
-ghost use Rattle.alma_lower_slots.specs.Slots.{away as away_spec, body_of as body_of_spec, lays_over as lays_over_spec, reads, written};
+ghost use Rattle.alma_lower_slots.specs.Slots.{away as away_spec, body_of as body_of_spec, lays_over as lays_over_spec, reads, target_slot};
 ghost use Rattle.alma_lower_slots.specs.Slots.{is_finish as is_finish_spec, is_forall as is_forall_spec};
 ghost use Rattle.alma_lower_slots.specs.Inner.Checks.{arguments, mark_of as mark_of_spec, slots_of};
 
@@ -87,9 +87,9 @@ pub fn away_of(instr: Instr) -> Option<u32>
 }
 
 /// The slot that it writes before the next address is reached.
-#[tactic(auto, unfolding(crate::specs::Slots::written))]
+#[tactic(auto, unfolding(crate::specs::Slots::target_slot))]
 pub fn written_by(code: &Code, instr: Instr) -> Option<u32>
-    ensures { result ≡ written (code_of code.now) instr }
+    ensures { result ≡ target_slot (code_of code.now) instr }
 {
     match instr {
         Instr::Call { routine, to, .. } => {

@@ -11,7 +11,7 @@ use Rattle.alma_ir.specs.Tree.{Program, Routine, Global, routine_at, no_routine}
 use Rattle.alma_ir.specs.Checked.{IsChecked, link_slots}
 use Rattle.alma_ir.specs.Count.{nodes, routines_nodes, routine_nodes}
 use Rattle.alma_ir.specs.Lines.{body_with_lines}
-use Rattle.alma_lower_templates.specs.Lined.{Lined, own}
+use Rattle.alma_lower_templates.specs.LineInstr.{LineInstr, own}
 use Rattle.alma_lower_templates.specs.Tables.{Tables}
 use Rattle.alma_lower_templates.specs.Slots.{own_kinds}
 use Rattle.alma_lower_templates.specs.Templates.{stmts_code, routine_code, end_code}
@@ -79,7 +79,7 @@ module _ (p : Program) (tables : Tables) where
   routine_walk r at from =
       let mine : Routine = routine_at p r in
       let lo : ℕ = length (own_kinds mine) in
-      let body : List Lined = stmts_code p tables r at lo (body_with_lines mine) in
+      let body : List LineInstr = stmts_code p tables r at lo (body_with_lines mine) in
       omega (
         arith,
         from_other from mine.line (body ++ own mine.line (end_code p tables r mine.result ∷ [])) mine.line,
@@ -93,7 +93,7 @@ module _ (p : Program) (tables : Tables) where
       → walk from (routines_code p tables r (length xs) at) 0 ≤ 1 + 2 * routines_nodes xs
   routines_walk [] r at from same = omega (arith, hop_few from 0)
   routines_walk (x ∷ rest) r at from same =
-      let first : List Lined = routine_code p tables r at in
+      let first : List LineInstr = routine_code p tables r at in
       let next : ℕ = at + length first in
       let line : ℕ = (routine_at p r).line in
       let here : r ≡ r + 0 = omega arith in
@@ -108,7 +108,7 @@ module _ (p : Program) (code : PlainCode) (checked : IsChecked p) (is_code : IsC
 
   few_lines : length code.lines ≤ 1 + 2 * nodes p
   few_lines =
-      let all : List Lined = routines_code p is_code.tables 0 (length p.routines) 0 in
+      let all : List LineInstr = routines_code p is_code.tables 0 (length p.routines) 0 in
       let walked = routines_walk p is_code.tables p.routines 0 0 0 (λ i. (let same : 0 + i ≡ i = omega arith in ap (routine_at p) same)) in
       omega (arith, ap (λ c. length c.lines) is_code.is, records_few 0 0 all 0, walked)
 

@@ -10,10 +10,10 @@ use Rattle.alma_code.specs.Plain.{PlainCode, kinds_at}
 use Rattle.alma_ir.specs.declared.phrase.Root.{Root}
 use Rattle.alma_ir.specs.declared.phrase.Root.TheVariants as root
 use Rattle.alma_ir.specs.Tree.{Program, Desig, Sels, Sel, a_desig, no_sels, more_sels, Field, Index}
-use Rattle.alma_lower_templates.specs.Lined.{Lined, own}
+use Rattle.alma_lower_templates.specs.LineInstr.{LineInstr, own}
 use Rattle.alma_lower_templates.specs.Tables.{Tables, range_number}
 use Rattle.alma_lower_templates.specs.Slots.{bare, own_root, unless_bare, behind_value}
-use Rattle.alma_lower_templates.specs.Pieces.{link_code, aim_place, placed}
+use Rattle.alma_lower_templates.specs.Pieces.{link_code, aim_place, place_code}
 use Rattle.alma_lower_templates.specs.Templates.{expr_code, desig_code, sels_code, sel_code, root_code, outer_slot, slot_or, value_at}
 use Rattle.alma_lower_templates.specs.Templates.{part_slot, part_at, place_at, behind_root}
 use Rattle.alma_lower_templates.proofs.Placed.{no_own, placed_long}
@@ -32,21 +32,21 @@ target (I.Index to from index range) = Some to
 target i = None
 
 -- the last instruction puts its place into that slot
-abbrev pub EndsIn : ℕ → List Lined → Type 0
+abbrev pub EndsIn : ℕ → List LineInstr → Type 0
 EndsIn n [] = ⊥
 EndsIn n (x ∷ []) = target x.instr ≡ Some n
 EndsIn n (x ∷ (y ∷ rest)) = EndsIn n (y ∷ rest)
 
-ends_rest : (n : ℕ) (a : List Lined) (x : Lined) (b : List Lined) → EndsIn n (x ∷ b) → EndsIn n (a ++ (x ∷ b))
+ends_rest : (n : ℕ) (a : List LineInstr) (x : LineInstr) (b : List LineInstr) → EndsIn n (x ∷ b) → EndsIn n (a ++ (x ∷ b))
 ends_rest n [] x b h = h
 ends_rest n (y ∷ []) x b h = h
 ends_rest n (y ∷ (z ∷ a)) x b h = ends_rest n (z ∷ a) x b h
 
-ends_behind : (n : ℕ) (a b : List Lined) → EndsIn n b → EndsIn n (a ++ b)
+ends_behind : (n : ℕ) (a b : List LineInstr) → EndsIn n b → EndsIn n (a ++ b)
 ends_behind n a [] h = absurd h
 ends_behind n a (x ∷ b) h = ends_rest n a x b h
 
-ends_alone : (n : ℕ) (a : List Lined) → EndsIn n a → EndsIn n (a ++ [])
+ends_alone : (n : ℕ) (a : List LineInstr) → EndsIn n a → EndsIn n (a ++ [])
 ends_alone n a h = subst (EndsIn n) (sym (append-nil a)) h
 
 -- ---- a designator ends in the slot of its place
@@ -76,7 +76,7 @@ module _ (p : Program) (tables : Tables) (r : ℕ) where
   sels_ends line at from lo x no_sels =
       ends_alone (part_slot p tables r lo x) (sel_code p tables r line at from lo x) (sel_ends line at from lo x)
   sels_ends line at from lo x (more_sels y rest) =
-      let one : List Lined = sel_code p tables r line at from lo x in
+      let one : List LineInstr = sel_code p tables r line at from lo x in
       let part : ℕ = part_slot p tables r lo x in
       ends_behind (part_at p tables r part (part + 1) (more_sels y rest)) one
       (sels_code p tables r line (at + length one) part (part + 1) (more_sels y rest))
@@ -88,7 +88,7 @@ module _ (p : Program) (tables : Tables) (r : ℕ) where
       (ends_alone lo (own line (root_code p tables r lo x)) (root_ends line lo x))
   desig_ends line at lo (a_desig x cells (more_sels y rest)) =
       let o : Option ℕ = own_root x (more_sels y rest) in
-      let one : List Lined = unless_bare o (own line (root_code p tables r lo x)) in
+      let one : List LineInstr = unless_bare o (own line (root_code p tables r lo x)) in
       let from : ℕ = slot_or p tables r o lo in
       let lo2 : ℕ = behind_root p tables r lo x in
       ends_behind (part_at p tables r lo lo2 (more_sels y rest)) one
@@ -147,13 +147,14 @@ module _ (code : PlainCode) (r : ℕ) where
   }
   aim_place_needs to n cells i e there other h = h
 
-  place_need : (to n cells : ℕ) (c : List Lined) → EndsIn n c → Place code r n cells → Place code r to cells → AllNeed code r c
-      → AllNeed code r (placed to c)
+  place_need : (to n cells : ℕ) (c : List LineInstr) → EndsIn n c → Place code r n cells → Place code r to cells → AllNeed code r c
+      → AllNeed code r (place_code to c)
   place_need to n cells [] ends there other h = tt
   place_need to n cells (x ∷ []) ends there other h = (aim_place_needs to n cells x.instr ends there other h.0, tt)
   place_need to n cells (x ∷ (y ∷ rest)) ends there other h = (h.0, place_need to n cells (y ∷ rest) ends there other h.1)
 
-  pub placed_fits : (to n cells at : ℕ) (c : List Lined) → EndsIn n c → Place code r n cells → Place code r to cells → Fits code r 0 at c
-      → Fits code r 0 at (placed to c)
+  pub placed_fits : (to n cells at : ℕ) (c : List LineInstr) → EndsIn n c → Place code r n cells → Place code r to cells
+      → Fits code r 0 at c
+      → Fits code r 0 at (place_code to c)
   placed_fits to n cells at c ends there other h room =
       place_need to n cells c ends there other (h (subst (λ m. Room code r at (m + 0)) (placed_long to c) room))

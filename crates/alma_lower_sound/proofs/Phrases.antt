@@ -29,9 +29,10 @@ use Rattle.alma_ir.specs.Phrases.{branches_phrases, loop_phrases, test_phrases, 
 use Rattle.alma_ir.specs.Phrases.{arg_phrases, desig_phrases, sels_phrases, sel_phrases}
 use Rattle.alma_ir.specs.Checked.{IsChecked, ArePartsOf, IsPart, sel_cells, desig_cells}
 use Rattle.alma_ir.proofs.Each.{each_of_front, each_of_back, each_of_append}
-use Rattle.alma_lower_templates.specs.Lined.{Lined, own}
+use Rattle.alma_lower_templates.specs.LineInstr.{LineInstr, own}
 use Rattle.alma_lower_templates.specs.Tables.{Tables, range_number, text_number}
-use Rattle.alma_lower_templates.specs.Pieces.{condition, guarded, chosen, first_of_two, truth_code, fit_code, neg_code, op_code, cmp_code}
+use Rattle.alma_lower_templates.specs.Pieces.{condition, guard_code, branch_code, first_of_two, truth_code, fit_code, neg_code, op_code}
+use Rattle.alma_lower_templates.specs.Pieces.{cmp_code}
 use Rattle.alma_lower_templates.specs.Pieces.{unequal_code, opposite_code, write_code, read_code, case_arm, passed_over, has_dead}
 use Rattle.alma_lower_templates.specs.Pieces.{behind_labels}
 use Rattle.alma_lower_templates.specs.Pieces.{begin_loop, for_turns, some_turns, turn_code, each_body, unless_constant, limit_code}
@@ -79,7 +80,7 @@ module _ (p : Program) (tables : Tables) (code : PlainCode) (checked : IsChecked
   abbrev Fine : List Phrase → Type 0
   Fine xs = Good p tables code checked w r lt xs
 
-  abbrev Here : (at : ℕ) → List Lined → Type 0
+  abbrev Here : (at : ℕ) → List LineInstr → Type 0
   Here at c = Fits code r 0 at c
 
   abbrev AllNeeds : List Instr → Type 0
@@ -109,10 +110,10 @@ module _ (p : Program) (tables : Tables) (code : PlainCode) (checked : IsChecked
   own_fits : (at line : ℕ) (xs : List Instr) → AllNeeds xs → Here at (own line xs)
   own_fits at line xs h = pieces.own_fits code r 0 at line xs h
 
-  row : (at : ℕ) (a b : List Lined) → Here at a → Here (at + length a) b → Here at (a ++ b)
+  row : (at : ℕ) (a b : List LineInstr) → Here at a → Here (at + length a) b → Here at (a ++ b)
   row at a b f g = pieces.both_fit code r 0 at a b f g
 
-  then_own : (at line : ℕ) (a : List Lined) (xs : List Instr) → Here at a → AllNeeds xs → Here at (a ++ own line xs)
+  then_own : (at line : ℕ) (a : List LineInstr) (xs : List Instr) → Here at a → AllNeeds xs → Here at (a ++ own line xs)
   then_own at line a xs f h = pieces.then_own code r 0 at line a xs f h
 
   -- ---- parts that have code only where they have slots
@@ -149,12 +150,12 @@ module _ (p : Program) (tables : Tables) (code : PlainCode) (checked : IsChecked
 
   -- ---- conditions
 
-  abbrev condition_code : (line at lo none : ℕ) → Test → List Lined
+  abbrev condition_code : (line at lo none : ℕ) → Test → List LineInstr
   condition_code line at lo none t = condition (is_simple t) line at lo none (λ at lo none. jump_code p tables r line at lo none t)
       (λ at lo. test_code p tables r line at lo t)
 
-  abbrev guarded_code : (line at lo skipped : ℕ) → Test → ((at : ℕ) → List Lined) → List Lined
-  guarded_code line at lo skipped t body = guarded at skipped (λ none. condition_code line at lo none t) body
+  abbrev guarded_code : (line at lo skipped : ℕ) → Test → ((at : ℕ) → List LineInstr) → List LineInstr
+  guarded_code line at lo skipped t body = guard_code at skipped (λ none. condition_code line at lo none t) body
 
   jump_long : (line at lo a b : ℕ) (t : Test) → length (jump_code p tables r line at lo a t) ≡ length (jump_code p tables r line at lo b t)
   jump_long line at lo a b (Value x) = length-append _ (own line (I.JumpZero _ a ∷ []))
@@ -200,7 +201,8 @@ module _ (p : Program) (tables : Tables) (code : PlainCode) (checked : IsChecked
       (λ simple. j (simple_slots (is_simple t) lo (test_slots p r t) slots simple)) (mark_of (is_simple t) lo (test_slots p r t) slots)
       (λ marked. f (at + 2) (lo + 1) (marked_slots (is_simple t) lo (test_slots p r t) slots marked)) out
 
-  guards : (line at lo skipped : ℕ) (t : Test) (body : (at : ℕ) → List Lined) → SlotsOf lo (mark_slots (is_simple t) ++ test_slots p r t)
+  guards : (line at lo skipped : ℕ) (t : Test) (body : (at : ℕ) → List LineInstr)
+      → SlotsOf lo (mark_slots (is_simple t) ++ test_slots p r t)
       → ((none : ℕ) → IsInside code r none → SlotsOf lo (test_slots p r t) → Here at (jump_code p tables r line at lo none t))
       → ((at lo : ℕ) → SlotsOf lo (test_slots p r t) → Here at (test_code p tables r line at lo t)) → ((at : ℕ) → Here at (body at))
       → Fits code r skipped at (guarded_code line at lo skipped t body)
@@ -247,10 +249,10 @@ module _ (p : Program) (tables : Tables) (code : PlainCode) (checked : IsChecked
       → Here at (test_code p tables r line at lo (Value (Compare cmp.Unequal x y)))
   unequal_fits line at lo x y f room =
       let operand : ℕ = value_at p tables r (behind_expr p r lo x) y in
-      let operands : List Lined = compared_code p tables r line at lo x y in
+      let operands : List LineInstr = compared_code p tables r line at lo x y in
       let first : ℕ = slot_or p tables r (stays x y) lo in
-      let end : List Lined = own line (unequal_code lo first operand (at + length operands)) in
-      let value : List Lined = own line (cmp_code cmp.Unequal lo first operand) in
+      let end : List LineInstr = own line (unequal_code lo first operand (at + length operands)) in
+      let value : List LineInstr = own line (cmp_code cmp.Unequal lo first operand) in
       let long = length-append operands end in
       let all = f (record { low = room.low; high = omega (arith, room.high, long, length-append operands value) }) in
       let equal = each_of_back (pieces.NeedsOf code r) operands value all in
@@ -311,11 +313,11 @@ module _ (p : Program) (tables : Tables) (code : PlainCode) (checked : IsChecked
       let constant : List Instr = constant_code (held_constant t) lo in
       let at1 : ℕ = at + length (own line constant) in
       let lo1 : ℕ = behind_held p r lo t in
-      let inner : List Lined = stmts_code p tables r (at1 + 1) lo1 body in
+      let inner : List LineInstr = stmts_code p tables r (at1 + 1) lo1 body in
       let next : ℕ = at1 + 1 + length inner in
       let lo2 : ℕ = behind_stmts p r lo1 body in
-      let last : List Lined = back_code p tables r line next lo2 lo (at1 + 1) t in
-      let loop : List Lined = own line (I.Jump next ∷ []) ++ (inner ++ last) in
+      let last : List LineInstr = back_code p tables r line next lo2 lo (at1 + 1) t in
+      let loop : List LineInstr = own line (I.Jump next ∷ []) ++ (inner ++ last) in
       let here = held_slot (held_constant t) lo (stmts_slots p r body ++ test_slots p r t) slots in
       let mine = back lo (held_slots (held_constant t)) (stmts_slots p r body ++ test_slots p r t) slots in
       let long = length-append inner last in
@@ -329,8 +331,8 @@ module _ (p : Program) (tables : Tables) (code : PlainCode) (checked : IsChecked
   while_fits false line at lo t body slots j f g b room =
       let parts = condition_slots lo (is_simple t) (test_slots p r t) (stmts_slots p r body) slots in
       let lo2 : ℕ = behind_condition p r lo t in
-      let inner : List Lined = guarded_code line (at + 1) lo 1 t (λ next. stmts_code p tables r next lo2 body) in
-      let last : List Lined = own line (I.Jump (at + 1) ∷ []) in
+      let inner : List LineInstr = guarded_code line (at + 1) lo 1 t (λ next. stmts_code p tables r next lo2 body) in
+      let last : List LineInstr = own line (I.Jump (at + 1) ∷ []) in
       let top : IsInside code r (at + 1) = record { low = omega (arith, room.low); high = omega (arith, room.high) } in
       let rest = pieces.in_two code r 0 (at + 1) inner last
       (pieces.less_spare code r (length last + 0) 1 (at + 1) inner (omega arith)
@@ -366,7 +368,7 @@ module _ (p : Program) (tables : Tables) (code : PlainCode) (checked : IsChecked
 
   -- ---- a value that goes straight into a variable, or what sets the variable
 
-  set_fits : (o : Option ℕ) (at line lo : ℕ) (d : Desig) (e : Expr) (range : Range) (value : List Lined) (set : List Instr)
+  set_fits : (o : Option ℕ) (at line lo : ℕ) (d : Desig) (e : Expr) (range : Range) (value : List LineInstr) (set : List Instr)
       → goes_straight d e range ≡ o → Fine (desig_phrases d) → desig_cells d ≡ 1 → Here at value → AllNeeds set
       → Here at (set_to p tables r o line value set)
   set_fits (Some to) at line lo d e range value set is good cell f needs =
@@ -377,14 +379,14 @@ module _ (p : Program) (tables : Tables) (code : PlainCode) (checked : IsChecked
 
   -- ---- the limit of a loop
 
-  abbrev limit_of : (line at lo limit : ℕ) → Expr → List Lined
+  abbrev limit_of : (line at lo limit : ℕ) → Expr → List LineInstr
   limit_of line at lo limit e =
       limit_code (ends_alone e) line limit (value_at p tables r lo e) (unless_bare (bare e) (expr_code p tables r line at lo e))
 
   limit_here : (line at lo limit : ℕ) (e : Expr) → Fine (expr_phrases e) → SlotsOf lo (expr_slots p r e) → Number code r limit
       → Here at (expr_code p tables r line at lo e) → Here at (limit_of line at lo limit e)
   limit_here line at lo limit e good slots there f =
-      let value : List Lined = expr_code p tables r line at lo e in
+      let value : List LineInstr = expr_code p tables r line at lo e in
       pieces.limit_fits code r (ends_alone e) line at limit (value_at p tables r lo e) (unless_bare (bare e) value) there
       (values.first_number p tables code checked w r lt (bare e) lo (values.bare_value p tables code checked w r lt e good)
       (values.expr_number p tables code checked w r lt lo e slots))
@@ -398,13 +400,14 @@ module _ (p : Program) (tables : Tables) (code : PlainCode) (checked : IsChecked
   count_needs (Some to) range counter lo h n m = (values.fit_needs p tables code checked w r lt range counter h n, n)
   count_needs None range counter lo h n m = let k = m refl in (((k, n), values.fit_needs p tables code checked w r lt range lo h k), k)
 
-  abbrev turn_of : (line at counter lo : ℕ) → Desig → Range → ((at : ℕ) → List Lined) → List Lined
+  abbrev turn_of : (line at counter lo : ℕ) → Desig → Range → ((at : ℕ) → List LineInstr) → List LineInstr
   turn_of line at counter lo d range body =
       turn_code line at (count_code p tables r (bare_desig d) range counter lo)
       (λ at. unless_bare (bare_desig d) (held_code p tables r line at (lo + 1) d))
       (set_code p tables r (lo + 1) (count_at p tables r (bare_desig d) counter lo) d) body
 
-  turn : (line at counter lo : ℕ) (d : Desig) (range : Range) (body : (at : ℕ) → List Lined) → HoldsChecked tables range → desig_cells d ≡ 1
+  turn : (line at counter lo : ℕ) (d : Desig) (range : Range) (body : (at : ℕ) → List LineInstr) → HoldsChecked tables range
+      → desig_cells d ≡ 1
       → Fine (desig_phrases d) → Number code r counter → SlotsOf lo (unless_bare (bare_desig d) (slot.Number ∷ desig_slots p r d))
       → ((at lo : ℕ) → SlotsOf lo (desig_slots p r d) → Here at (desig_code p tables r line at lo d)) → ((at : ℕ) → Here at (body at))
       → Here at (turn_of line at counter lo d range body)
@@ -431,8 +434,8 @@ module _ (p : Program) (tables : Tables) (code : PlainCode) (checked : IsChecked
         → Here at (desig_code p tables r line at lo d)
     desig_fits line at lo (a_desig x cells sels) good slots =
         let o : Option ℕ = own_root x sels in
-        let placed : List Lined = own line (root_code p tables r lo x) in
-        let one : List Lined = unless_bare o placed in
+        let placed : List LineInstr = own line (root_code p tables r lo x) in
+        let one : List LineInstr = unless_bare o placed in
         let from : ℕ = slot_or p tables r o lo in
         let lo2 : ℕ = behind_root p tables r lo x in
         row at one (sels_code p tables r line (at + length one) from lo2 sels)
@@ -447,7 +450,7 @@ module _ (p : Program) (tables : Tables) (code : PlainCode) (checked : IsChecked
         → SlotsOf lo (sels_slots p r sels) → Here at (sels_code p tables r line at from lo sels)
     sels_fit line at from lo size no_sels good place parts slots = λ room. tt
     sels_fit line at from lo size (more_sels x rest) good place parts slots =
-        let one : List Lined = sel_code p tables r line at from lo x in
+        let one : List LineInstr = sel_code p tables r line at from lo x in
         let part : ℕ = part_slot p tables r lo x in
         let mine = front lo (sel_slots p r x) (sels_slots p r rest) slots in
         row at one (sels_code p tables r line (at + length one) part (part + 1) rest)
@@ -486,7 +489,7 @@ module _ (p : Program) (tables : Tables) (code : PlainCode) (checked : IsChecked
     expr_fits line at lo (Const n) good slots = own_fits at line (I.Const lo n ∷ []) (first_slot lo slot.Number [] slots, tt)
     expr_fits line at lo (Load d) good slots =
         let inner = back lo (slot.Number ∷ []) (unless_bare (bare_desig d) (desig_slots p r d)) slots in
-        let one : List Lined = held_code p tables r line at (lo + 1) d in
+        let one : List LineInstr = held_code p tables r line at (lo + 1) d in
         then_own at line (unless_bare (bare_desig d) one) (load_code p tables r lo d ∷ [])
         (pieces.unless code r 0 at (bare_desig d) one
         (λ none. held_here line at (lo + 1) d (desig_fits line at (lo + 1) d good.1 (target_slots (lo + 1) d inner none))))
@@ -497,8 +500,8 @@ module _ (p : Program) (tables : Tables) (code : PlainCode) (checked : IsChecked
         let o : Option ℕ = stays_in negated e links in
         let taken : Option ℕ = taken_from negated e links in
         let from : ℕ = value_at p tables r lo e in
-        let inner : List Lined = unless_bare taken (expr_code p tables r line at lo e) in
-        let one : List Lined = inner ++ own line (neg_code negated lo from) in
+        let inner : List LineInstr = unless_bare taken (expr_code p tables r line at lo e) in
+        let one : List LineInstr = inner ++ own line (neg_code negated lo from) in
         let first : ℕ = slot_or p tables r o lo in
         let good_e = fine_front (expr_phrases e) (links_phrases links) good.1 in
         let bare_is = values.bare_value p tables code checked w r lt e good_e in
@@ -512,8 +515,8 @@ module _ (p : Program) (tables : Tables) (code : PlainCode) (checked : IsChecked
         (values.first_number p tables code checked w r lt o lo there n) n (back lo (expr_slots p r e) (links_slots p r links) slots))
     expr_fits line at lo (Compare how x y) good slots =
         let lo2 : ℕ = behind_expr p r lo x in
-        let one : List Lined = unless_bare (stays x y) (expr_code p tables r line at lo x) in
-        let two : List Lined = unless_bare (bare y) (expr_code p tables r line (at + length one) lo2 y) in
+        let one : List LineInstr = unless_bare (stays x y) (expr_code p tables r line at lo x) in
+        let two : List LineInstr = unless_bare (bare y) (expr_code p tables r line (at + length one) lo2 y) in
         let first : ℕ = slot_or p tables r (stays x y) lo in
         let mine = front lo (expr_slots p r x) (unless_bare (bare y) (expr_slots p r y)) slots in
         let others = back lo (expr_slots p r x) (unless_bare (bare y) (expr_slots p r y)) slots in
@@ -530,8 +533,8 @@ module _ (p : Program) (tables : Tables) (code : PlainCode) (checked : IsChecked
         (values.first_number p tables code checked w r lt (stays x y) lo there n) (number lo2 y good_y others))
     expr_fits line at lo (Truth t) good slots =
         let inner = back lo (slot.Number ∷ []) (mark_slots (is_simple t) ++ test_slots p r t) slots in
-        let one : List Lined = guarded_code line at (lo + 1) 2 t (λ next. []) in
-        let last : List Lined = truth_code line lo (at + length one) in
+        let one : List LineInstr = guarded_code line at (lo + 1) 2 t (λ next. []) in
+        let last : List LineInstr = truth_code line lo (at + length one) in
         pieces.in_two code r 0 at one last
         (pieces.less_spare code r (length last + 0) 2 at one (omega arith)
         (guards line at (lo + 1) 2 t (λ next. []) inner (λ none out s. jump_fits line at (lo + 1) none t good.1 out s)
@@ -558,9 +561,9 @@ module _ (p : Program) (tables : Tables) (code : PlainCode) (checked : IsChecked
         let inner = back lo (slot.Number ∷ slot.Mark ∷ []) (links ++ rest) slots in
         let behind_links = back (lo + 2) links rest inner in
         let to : ℕ = arguments_from p tables r called up (lo + 2) in
-        let one : List Lined = own line (call_link_code p tables r called up (lo + 2)) in
+        let one : List LineInstr = own line (call_link_code p tables r called up (lo + 2)) in
         let lo2 : ℕ = to + length (handed_slots args) in
-        let two : List Lined = args_code p tables r line (at + length one) to lo2 args in
+        let two : List LineInstr = args_code p tables r line (at + length one) to lo2 args in
         let n = first_slot lo slot.Number (slot.Mark ∷ (links ++ rest)) slots in
         let m = first_slot (lo + 1) slot.Mark (links ++ rest) (back lo (slot.Number ∷ []) (slot.Mark ∷ (links ++ rest)) slots) in
         then_own at line (one ++ two) (I.Mark (lo + 1) ∷ call_code p tables r called args up (lo + 2) lo ∷ I.Cut (lo + 1) ∷ [])
@@ -579,8 +582,8 @@ module _ (p : Program) (tables : Tables) (code : PlainCode) (checked : IsChecked
         → SlotsOf lo (links_slots p r links) → Here at (links_code p tables r line at first to lo links)
     links_fit line at first to lo no_links good f n slots = λ room. tt
     links_fit line at first to lo (more_links how e rest) good f n slots =
-        let before : List Lined = unless_bare (bare e) (expr_code p tables r line at lo e) in
-        let one : List Lined = before ++ own line (op_code how to first (value_at p tables r lo e) ∷ []) in
+        let before : List LineInstr = unless_bare (bare e) (expr_code p tables r line at lo e) in
+        let one : List LineInstr = before ++ own line (op_code how to first (value_at p tables r lo e) ∷ []) in
         let mine = front lo (unless_bare (bare e) (expr_slots p r e)) (links_slots p r rest) slots in
         let good_e = fine_front (expr_phrases e) (links_phrases rest) good in
         row at one (links_code p tables r line (at + length one) to to (behind_value p r lo e) rest)
@@ -596,7 +599,7 @@ module _ (p : Program) (tables : Tables) (code : PlainCode) (checked : IsChecked
         → SlotsOf lo (args_slots p r args) → Here at (args_code p tables r line at to lo args)
     args_fit line at to lo no_args good places slots = λ room. tt
     args_fit line at to lo (more_args a rest) good places slots =
-        let one : List Lined = arg_code p tables r line at to lo a in
+        let one : List LineInstr = arg_code p tables r line at to lo a in
         let lo2 : ℕ = lo + length (arg_slots p r a) in
         row at one (args_code p tables r line (at + length one) (to + 1) lo2 rest)
         (arg_fits line at to lo a (fine_front (arg_phrases a) (args_phrases rest) good)
@@ -644,8 +647,8 @@ module _ (p : Program) (tables : Tables) (code : PlainCode) (checked : IsChecked
         → SlotsOf lo (test_slots p r t) → Here at (back_code p tables r line at lo held top t)
     back_fits line at lo held top (Value (Compare how x y)) good out here slots =
         let lo2 : ℕ = behind_expr p r lo x in
-        let one : List Lined = unless_bare (stays x y) (expr_code p tables r line at lo x) in
-        let two : List Lined = unless_bare (bare y) (expr_code p tables r line (at + length one) lo2 y) in
+        let one : List LineInstr = unless_bare (stays x y) (expr_code p tables r line at lo x) in
+        let two : List LineInstr = unless_bare (bare y) (expr_code p tables r line (at + length one) lo2 y) in
         let first : ℕ = slot_or p tables r (stays x y) lo in
         let other : ℕ = held_or (constant y) held (value_at p tables r lo2 y) in
         let mine = front lo (expr_slots p r x) (unless_bare (bare y) (expr_slots p r y)) slots in
@@ -685,8 +688,8 @@ module _ (p : Program) (tables : Tables) (code : PlainCode) (checked : IsChecked
         value_fits line at lo e good.1 slots (once line at lo e slots (expr_fits line at lo e good.1)) (tested p tables r e)
     test_fits line at lo (Bind d e range true) good slots =
         let lo2 : ℕ = behind_desig p r lo d in
-        let one : List Lined = held_code p tables r line at lo d in
-        let two : List Lined = unless_bare (bare e) (expr_code p tables r line (at + length one) lo2 e) in
+        let one : List LineInstr = held_code p tables r line at lo d in
+        let two : List LineInstr = unless_bare (bare e) (expr_code p tables r line (at + length one) lo2 e) in
         let mine = front lo (desig_slots p r d) (unless_bare (bare e) (expr_slots p r e)) slots in
         let others = back lo (desig_slots p r d) (unless_bare (bare e) (expr_slots p r e)) slots in
         let good_d = fine_front (desig_phrases d) (expr_phrases e) good.1 in
@@ -703,8 +706,8 @@ module _ (p : Program) (tables : Tables) (code : PlainCode) (checked : IsChecked
         )
     test_fits line at lo (Bind d e range false) good slots =
         let lo2 : ℕ = behind_expr p r lo e in
-        let one : List Lined = expr_code p tables r line at lo e in
-        let two : List Lined = held_code p tables r line (at + length one) lo2 d in
+        let one : List LineInstr = expr_code p tables r line at lo e in
+        let two : List LineInstr = held_code p tables r line (at + length one) lo2 d in
         let mine = front lo (expr_slots p r e) (desig_slots p r d) slots in
         let others = back lo (expr_slots p r e) (desig_slots p r d) slots in
         let good_d = fine_front (desig_phrases d) (expr_phrases e) good.1 in
@@ -720,8 +723,8 @@ module _ (p : Program) (tables : Tables) (code : PlainCode) (checked : IsChecked
         )
     test_fits line at lo (Unify d range e range') good slots =
         let lo2 : ℕ = behind_desig p r lo d in
-        let one : List Lined = held_code p tables r line at lo d in
-        let two : List Lined = held_code p tables r line (at + length one) lo2 e in
+        let one : List LineInstr = held_code p tables r line at lo d in
+        let two : List LineInstr = held_code p tables r line (at + length one) lo2 e in
         let mine = front lo (desig_slots p r d) (desig_slots p r e) slots in
         let others = back lo (desig_slots p r d) (desig_slots p r e) slots in
         let good_d = fine_front (desig_phrases d) (desig_phrases e) good.1 in
@@ -740,8 +743,8 @@ module _ (p : Program) (tables : Tables) (code : PlainCode) (checked : IsChecked
         )
     test_fits line at lo (SameCells d e) good slots =
         let lo2 : ℕ = behind_desig p r lo d in
-        let one : List Lined = held_code p tables r line at lo d in
-        let two : List Lined = held_code p tables r line (at + length one) lo2 e in
+        let one : List LineInstr = held_code p tables r line at lo d in
+        let two : List LineInstr = held_code p tables r line (at + length one) lo2 e in
         let mine = front lo (desig_slots p r d) (desig_slots p r e) slots in
         let others = back lo (desig_slots p r d) (desig_slots p r e) slots in
         let good_d = fine_front (desig_phrases d) (desig_phrases e) good.1 in
@@ -770,9 +773,9 @@ module _ (p : Program) (tables : Tables) (code : PlainCode) (checked : IsChecked
         let rest = handed_slots args ++ args_slots p r args in
         let behind_links = back lo links rest slots in
         let to : ℕ = arguments_from p tables r called up lo in
-        let one : List Lined = own line (call_link_code p tables r called up lo) in
+        let one : List LineInstr = own line (call_link_code p tables r called up lo) in
         let lo2 : ℕ = to + length (handed_slots args) in
-        let two : List Lined = args_code p tables r line (at + length one) to lo2 args in
+        let two : List LineInstr = args_code p tables r line (at + length one) to lo2 args in
         then_own at line (one ++ two) (call_code p tables r called args up lo 0 ∷ [])
         (row at one two (own_fits at line (call_link_code p tables r called up lo)
         (values.call_link_needs p tables code checked w r lt called up lo args good.0.0 (front lo links rest slots)))
@@ -784,7 +787,7 @@ module _ (p : Program) (tables : Tables) (code : PlainCode) (checked : IsChecked
         → Here at (and_code p tables r line at lo ts)
     and_fits line at lo no_tests good slots = λ room. tt
     and_fits line at lo (more_tests t rest) good slots =
-        let one : List Lined = test_code p tables r line at lo t in
+        let one : List LineInstr = test_code p tables r line at lo t in
         let lo2 : ℕ = behind_test p r lo t in
         row at one (and_code p tables r line (at + length one) lo2 rest)
         (test_fits line at lo t (fine_front (test_phrases t) (tests_phrases rest) good)
@@ -799,8 +802,8 @@ module _ (p : Program) (tables : Tables) (code : PlainCode) (checked : IsChecked
     or_fits line at lo (more_tests t (more_tests t2 rest)) good slots =
         let others = or_slots p r (more_tests t2 rest) in
         let inner = back lo (slot.Mark ∷ []) (test_slots p r t ++ others) slots in
-        let body : List Lined = test_code p tables r line (at + 2) (lo + 1) t in
-        let one : List Lined = first_of_two line (at + 2) lo body in
+        let body : List LineInstr = test_code p tables r line (at + 2) (lo + 1) t in
+        let one : List LineInstr = first_of_two line (at + 2) lo body in
         let lo2 : ℕ = behind_test p r (lo + 1) t in
         pieces.leaving_fits code r at line one (λ next jump. operands_code p tables r line jump next lo2 (more_tests t2 rest))
         (pieces.first_of_two_fits code r line at lo body (first_slot lo slot.Mark (test_slots p r t ++ others) slots)
@@ -816,8 +819,8 @@ module _ (p : Program) (tables : Tables) (code : PlainCode) (checked : IsChecked
     operands_fit line jump at lo (more_tests t (more_tests t2 rest)) good slots out =
         let others = or_slots p r (more_tests t2 rest) in
         let inner = back lo (slot.Mark ∷ []) (test_slots p r t ++ others) slots in
-        let body : List Lined = test_code p tables r line (at + 2) (lo + 1) t in
-        let one : List Lined = first_of_two line (at + 2) lo body in
+        let body : List LineInstr = test_code p tables r line (at + 2) (lo + 1) t in
+        let one : List LineInstr = first_of_two line (at + 2) lo body in
         let lo2 : ℕ = behind_test p r (lo + 1) t in
         let next : ℕ = at + length (one ++ own line (I.Jump jump ∷ [])) in
         pieces.by_jump code r at line jump one (λ next. operands_code p tables r line jump next lo2 (more_tests t2 rest)) out
@@ -833,7 +836,7 @@ module _ (p : Program) (tables : Tables) (code : PlainCode) (checked : IsChecked
         → Here at (stmts_code p tables r at lo x)
     stmts_fit at lo no_stmts good slots = λ room. tt
     stmts_fit at lo (more_stmts line x rest) good slots =
-        let one : List Lined = stmt_code p tables r line at lo x in
+        let one : List LineInstr = stmt_code p tables r line at lo x in
         let lo2 : ℕ = behind_stmt p r lo x in
         row at one (stmts_code p tables r (at + length one) lo2 rest)
         (stmt_fits line at lo x (fine_front (stmt_phrases x) (stmts_phrases rest) good)
@@ -849,8 +852,8 @@ module _ (p : Program) (tables : Tables) (code : PlainCode) (checked : IsChecked
         let b = unless_bare (bare e) (expr_slots p r e) in
         let lo2 : ℕ = behind_target p r lo d in
         let v : ℕ = value_at p tables r lo2 e in
-        let one : List Lined = unless_bare (bare_desig d) (held_code p tables r line at lo d) in
-        let two : List Lined = unless_bare (bare e) (expr_code p tables r line (at + length one) lo2 e) in
+        let one : List LineInstr = unless_bare (bare_desig d) (held_code p tables r line at lo d) in
+        let two : List LineInstr = unless_bare (bare e) (expr_code p tables r line (at + length one) lo2 e) in
         let place_slots = target_slots lo d (front lo a b slots) in
         let others = back lo a b slots in
         let good_d = fine_front (desig_phrases d) (expr_phrases e) good.1 in
@@ -865,8 +868,8 @@ module _ (p : Program) (tables : Tables) (code : PlainCode) (checked : IsChecked
         (values.set_needs p tables code checked w r lt lo v d good_d good.0.0 place_slots n, tt))
     stmt_fits line at lo (CopyCells d e) good slots =
         let lo2 : ℕ = behind_desig p r lo d in
-        let one : List Lined = held_code p tables r line at lo d in
-        let two : List Lined = held_code p tables r line (at + length one) lo2 e in
+        let one : List LineInstr = held_code p tables r line at lo d in
+        let two : List LineInstr = held_code p tables r line (at + length one) lo2 e in
         let mine = front lo (desig_slots p r d) (desig_slots p r e) slots in
         let others = back lo (desig_slots p r d) (desig_slots p r e) slots in
         let good_d = fine_front (desig_phrases d) (desig_phrases e) good.1 in
@@ -894,7 +897,7 @@ module _ (p : Program) (tables : Tables) (code : PlainCode) (checked : IsChecked
         (λ next lo s. stmts_fit next lo body (fine_back (test_phrases t) (stmts_phrases body) good.1) s)
     stmt_fits line at lo (Repeat body t) good slots =
         let lo2 : ℕ = behind_stmts p r lo body in
-        let one : List Lined = stmts_code p tables r at lo body in
+        let one : List LineInstr = stmts_code p tables r at lo body in
         let good_t = fine_back (stmts_phrases body) (test_phrases t) good.1 in
         λ room.
         let top : IsInside code r at = record { low = room.low; high = omega (arith, room.high) } in
@@ -911,12 +914,12 @@ module _ (p : Program) (tables : Tables) (code : PlainCode) (checked : IsChecked
         let bound : ℕ = behind_dead p r first arms in
         let labels = cases_slots p r arms ++ else_slots p r rest in
         let tried = slot.Number ∷ slot.Number ∷ labels in
-        let one : List Lined = expr_code p tables r line at lo e in
+        let one : List LineInstr = expr_code p tables r line at lo e in
         let next : ℕ = at + length one in
-        let dead : List Lined = dead_code p tables r (next + 1) first arms in
-        let over : List Lined = passed_over (has_dead arms) line next dead in
+        let dead : List LineInstr = dead_code p tables r (next + 1) first arms in
+        let over : List LineInstr = passed_over (has_dead arms) line next dead in
         let begin : ℕ = next + length over in
-        let choice : List Lined = case_code p tables r line lo bound begin (bound + 2) arms
+        let choice : List LineInstr = case_code p tables r line lo bound begin (bound + 2) arms
         (λ next la. else_code p tables r line next la rest) in
         let mine = front lo (expr_slots p r e) (dead_slots p r arms ++ tried) slots in
         let behind_e = back lo (expr_slots p r e) (dead_slots p r arms ++ tried) slots in
@@ -938,9 +941,9 @@ module _ (p : Program) (tables : Tables) (code : PlainCode) (checked : IsChecked
     stmt_fits line at lo (Either x) good slots = either_fits line at lo x good.1 slots
     stmt_fits line at lo (Forall x y) good slots =
         let inner : ℕ = behind_stmts p r (lo + 1) x in
-        let one : List Lined = stmts_code p tables r (at + 1) (lo + 1) x in
+        let one : List LineInstr = stmts_code p tables r (at + 1) (lo + 1) x in
         let n : ℕ = at + 1 + length one in
-        let two : List Lined = stmts_code p tables r (n + 2) (inner + 1) y in
+        let two : List LineInstr = stmts_code p tables r (n + 2) (inner + 1) y in
         let behind_mark = back lo (slot.Mark ∷ []) (stmts_slots p r x ++ (slot.Mark ∷ stmts_slots p r y)) slots in
         let behind_x = back (lo + 1) (stmts_slots p r x) (slot.Mark ∷ stmts_slots p r y) behind_mark in
         let m = first_slot lo slot.Mark (stmts_slots p r x ++ (slot.Mark ∷ stmts_slots p r y)) slots in
@@ -953,7 +956,7 @@ module _ (p : Program) (tables : Tables) (code : PlainCode) (checked : IsChecked
         (back inner (slot.Mark ∷ []) (stmts_slots p r y) behind_x))))
     stmt_fits line at lo (Commit x) good slots =
         let m = first_slot lo slot.Mark (stmts_slots p r x) slots in
-        let inner : List Lined = stmts_code p tables r (at + 1) (lo + 1) x in
+        let inner : List LineInstr = stmts_code p tables r (at + 1) (lo + 1) x in
         row at (own line (I.Mark lo ∷ [])) (inner ++ own line (I.Cut lo ∷ [])) (own_fits at line (I.Mark lo ∷ []) (m, tt))
         (then_own (at + 1) line inner (I.Cut lo ∷ [])
         (stmts_fit (at + 1) (lo + 1) x good.1 (back lo (slot.Mark ∷ []) (stmts_slots p r x) slots)) (m, tt))
@@ -983,7 +986,7 @@ module _ (p : Program) (tables : Tables) (code : PlainCode) (checked : IsChecked
 
     -- ---- IF
 
-    if_fits : (line at lo : ℕ) (arms : Arms) (otherwise : (at lo : ℕ) → List Lined) (others : List SlotKind) → Fine (arms_phrases arms)
+    if_fits : (line at lo : ℕ) (arms : Arms) (otherwise : (at lo : ℕ) → List LineInstr) (others : List SlotKind) → Fine (arms_phrases arms)
         → SlotsOf lo (arms_slots p r arms ++ others) → ((at lo : ℕ) → SlotsOf lo others → Here at (otherwise at lo))
         → Here at (if_code p tables r line at lo arms otherwise)
     if_fits line at lo no_arms otherwise others good slots f = f at lo slots
@@ -993,7 +996,7 @@ module _ (p : Program) (tables : Tables) (code : PlainCode) (checked : IsChecked
         let good_t = fine_front (test_phrases t) (stmts_phrases body) two in
         let lo2 : ℕ = behind_condition p r lo t in
         let lo3 : ℕ = behind_stmts p r lo2 body in
-        let one : List Lined = guarded_code line at lo 1 t (λ next. stmts_code p tables r next lo2 body) in
+        let one : List LineInstr = guarded_code line at lo 1 t (λ next. stmts_code p tables r next lo2 body) in
         pieces.leaving_fits code r at line one (λ next jump. arms_code p tables r line jump next lo3 rest otherwise)
         (guards line at lo 1 t (λ next. stmts_code p tables r next lo2 body) parts.0
         (λ none out s. jump_fits line at lo none t good_t out s) (λ at lo s. test_fits line at lo t good_t s)
@@ -1001,7 +1004,7 @@ module _ (p : Program) (tables : Tables) (code : PlainCode) (checked : IsChecked
         (λ out. arms_fit line (at + length one) (at + length one + 1) lo3 rest otherwise others
         (fine_back (test_phrases t ++ stmts_phrases body) (arms_phrases rest) good) parts.2 out f)
 
-    arms_fit : (line jump at lo : ℕ) (arms : Arms) (otherwise : (at lo : ℕ) → List Lined) (others : List SlotKind)
+    arms_fit : (line jump at lo : ℕ) (arms : Arms) (otherwise : (at lo : ℕ) → List LineInstr) (others : List SlotKind)
         → Fine (arms_phrases arms) → SlotsOf lo (arms_slots p r arms ++ others) → IsInside code r jump
         → ((at lo : ℕ) → SlotsOf lo others → Here at (otherwise at lo)) → Here at (arms_code p tables r line jump at lo arms otherwise)
     arms_fit line jump at lo no_arms otherwise others good slots out f = f at lo slots
@@ -1011,7 +1014,7 @@ module _ (p : Program) (tables : Tables) (code : PlainCode) (checked : IsChecked
         let good_t = fine_front (test_phrases t) (stmts_phrases body) two in
         let lo2 : ℕ = behind_condition p r lo t in
         let lo3 : ℕ = behind_stmts p r lo2 body in
-        let one : List Lined = guarded_code line at lo 1 t (λ next. stmts_code p tables r next lo2 body) in
+        let one : List LineInstr = guarded_code line at lo 1 t (λ next. stmts_code p tables r next lo2 body) in
         let next : ℕ = at + length (one ++ own line (I.Jump jump ∷ [])) in
         pieces.by_jump code r at line jump one (λ next. arms_code p tables r line jump next lo3 rest otherwise) out
         (guards line at lo 1 t (λ next. stmts_code p tables r next lo2 body) parts.0
@@ -1029,8 +1032,8 @@ module _ (p : Program) (tables : Tables) (code : PlainCode) (checked : IsChecked
         stmts_fit at lo body (fine_front (stmts_phrases body) [] good) (front lo (stmts_slots p r body) [] slots)
     either_fits line at lo (more_branches body (more_branches body2 rest)) good slots =
         let others = branches_slots p r (more_branches body2 rest) in
-        let inner : List Lined = stmts_code p tables r (at + 1) lo body in
-        let one : List Lined = chosen line (at + 1) inner in
+        let inner : List LineInstr = stmts_code p tables r (at + 1) lo body in
+        let one : List LineInstr = branch_code line (at + 1) inner in
         let lo2 : ℕ = behind_stmts p r lo body in
         pieces.leaving_fits code r at line one (λ next jump. branches_code p tables r line jump next lo2 (more_branches body2 rest))
         (pieces.chosen_fits code r line at inner
@@ -1047,8 +1050,8 @@ module _ (p : Program) (tables : Tables) (code : PlainCode) (checked : IsChecked
         stmts_fit at lo body (fine_front (stmts_phrases body) [] good) (front lo (stmts_slots p r body) [] slots)
     branches_fit line jump at lo (more_branches body (more_branches body2 rest)) good slots out =
         let others = branches_slots p r (more_branches body2 rest) in
-        let inner : List Lined = stmts_code p tables r (at + 1) lo body in
-        let one : List Lined = chosen line (at + 1) inner in
+        let inner : List LineInstr = stmts_code p tables r (at + 1) lo body in
+        let one : List LineInstr = branch_code line (at + 1) inner in
         let lo2 : ℕ = behind_stmts p r lo body in
         let next : ℕ = at + length (one ++ own line (I.Jump jump ∷ [])) in
         pieces.by_jump code r at line jump one (λ next. branches_code p tables r line jump next lo2 (more_branches body2 rest)) out
@@ -1085,10 +1088,11 @@ module _ (p : Program) (tables : Tables) (code : PlainCode) (checked : IsChecked
         let l : ℕ = own_slot p tables r limit in
         let m = roots.hidden p tables code checked w r lt limit facts.3 in
         let good_to = fine_back (desig_phrases d ++ expr_phrases from) (expr_phrases to) bounds in
-        let one : List Lined = begin_loop line at lo by (λ at. unless_constant (constant from) (expr_code p tables r line at (lo + 1) from))
+        let one : List LineInstr = begin_loop line at lo
+        by (λ at. unless_constant (constant from) (expr_code p tables r line at (lo + 1) from))
         (λ at. limit_of line at last l to) in
         let next : ℕ = at + length one in
-        let each : List Lined = turn_of line (next + 3) count place d range (λ at. stmts_code p tables r at lo2 body) in
+        let each : List LineInstr = turn_of line (next + 3) count place d range (λ at. stmts_code p tables r at lo2 body) in
         row at one (for_turns line next by (constant from) count l lo (lo + 1) each)
         (pieces.begin_fits code r 0 line at lo by (λ at. unless_constant (constant from) (expr_code p tables r line at (lo + 1) from))
         (λ at. limit_of line at last l to) step
@@ -1127,11 +1131,11 @@ module _ (p : Program) (tables : Tables) (code : PlainCode) (checked : IsChecked
         let l : ℕ = own_slot p tables r limit in
         let m = roots.hidden p tables code checked w r lt limit facts.3 in
         let good_to = fine_back (desig_phrases d ++ expr_phrases from) (expr_phrases to) bounds in
-        let one : List Lined = begin_loop line at lo (pos 1)
+        let one : List LineInstr = begin_loop line at lo (pos 1)
         (λ at. unless_constant (constant from) (expr_code p tables r line at (lo + 1) from))
         (λ at. limit_of line at last l to) in
         let next : ℕ = at + length one in
-        let each : List Lined = turn_of line (next + 8) count (more + 1) d range (λ at. stmts_code p tables r at lo2 body) in
+        let each : List LineInstr = turn_of line (next + 8) count (more + 1) d range (λ at. stmts_code p tables r at lo2 body) in
         row at one (some_turns line next (constant from) count l lo (lo + 1) more each)
         (pieces.begin_fits code r 0 line at lo (pos 1) (λ at. unless_constant (constant from) (expr_code p tables r line at (lo + 1) from))
         (λ at. limit_of line at last l to) step
@@ -1152,7 +1156,7 @@ module _ (p : Program) (tables : Tables) (code : PlainCode) (checked : IsChecked
         → Here at (dead_code p tables r at lo arms)
     dead_fits at lo no_cases good slots = λ room. tt
     dead_fits at lo (more_cases [] body rest) good slots =
-        let one : List Lined = stmts_code p tables r at lo body in
+        let one : List LineInstr = stmts_code p tables r at lo body in
         let lo2 : ℕ = behind_stmts p r lo body in
         row at one (dead_code p tables r (at + length one) lo2 rest)
         (stmts_fit at lo body (fine_front (stmts_phrases body) (cases_phrases rest) good)
@@ -1162,7 +1166,7 @@ module _ (p : Program) (tables : Tables) (code : PlainCode) (checked : IsChecked
     dead_fits at lo (more_cases (label ∷ labels) body rest) good slots =
         dead_fits at lo rest (fine_back (stmts_phrases body) (cases_phrases rest) good) slots
 
-    case_fits : (line value bound at lo : ℕ) (arms : CaseArms) (otherwise : (at lo : ℕ) → List Lined) (others : List SlotKind)
+    case_fits : (line value bound at lo : ℕ) (arms : CaseArms) (otherwise : (at lo : ℕ) → List LineInstr) (others : List SlotKind)
         → Fine (cases_phrases arms) → CaseSlots value bound → SlotsOf lo (cases_slots p r arms ++ others)
         → ((at lo : ℕ) → SlotsOf lo others → Here at (otherwise at lo))
         → Here at (case_code p tables r line value bound at lo arms otherwise)
@@ -1171,8 +1175,8 @@ module _ (p : Program) (tables : Tables) (code : PlainCode) (checked : IsChecked
         case_fits line value bound at lo rest otherwise others (fine_back (stmts_phrases body) (cases_phrases rest) good) c slots f
     case_fits line value bound at lo (more_cases (label ∷ labels) body rest) otherwise others good c slots f =
         let parts = case_parts lo (stmts_slots p r body) (cases_slots p r rest) others slots in
-        let inner : List Lined = stmts_code p tables r (behind_labels at label labels) lo body in
-        let one : List Lined = case_arm line value bound at label labels inner in
+        let inner : List LineInstr = stmts_code p tables r (behind_labels at label labels) lo body in
+        let one : List LineInstr = case_arm line value bound at label labels inner in
         let lo2 : ℕ = behind_stmts p r lo body in
         pieces.leaving_fits code r at line one (λ next jump. cases_code p tables r line value bound jump next lo2 rest otherwise)
         (pieces.arm_fits code r line value bound at label labels inner c.number_at c.low c.test
@@ -1180,7 +1184,7 @@ module _ (p : Program) (tables : Tables) (code : PlainCode) (checked : IsChecked
         (λ out. cases_fit line value bound (at + length one) (at + length one + 1) lo2 rest otherwise others
         (fine_back (stmts_phrases body) (cases_phrases rest) good) c parts.1 out f)
 
-    cases_fit : (line value bound jump at lo : ℕ) (arms : CaseArms) (otherwise : (at lo : ℕ) → List Lined) (others : List SlotKind)
+    cases_fit : (line value bound jump at lo : ℕ) (arms : CaseArms) (otherwise : (at lo : ℕ) → List LineInstr) (others : List SlotKind)
         → Fine (cases_phrases arms) → CaseSlots value bound → SlotsOf lo (cases_slots p r arms ++ others) → IsInside code r jump
         → ((at lo : ℕ) → SlotsOf lo others → Here at (otherwise at lo))
         → Here at (cases_code p tables r line value bound jump at lo arms otherwise)
@@ -1189,8 +1193,8 @@ module _ (p : Program) (tables : Tables) (code : PlainCode) (checked : IsChecked
         cases_fit line value bound jump at lo rest otherwise others (fine_back (stmts_phrases body) (cases_phrases rest) good) c slots out f
     cases_fit line value bound jump at lo (more_cases (label ∷ labels) body rest) otherwise others good c slots out f =
         let parts = case_parts lo (stmts_slots p r body) (cases_slots p r rest) others slots in
-        let inner : List Lined = stmts_code p tables r (behind_labels at label labels) lo body in
-        let one : List Lined = case_arm line value bound at label labels inner in
+        let inner : List LineInstr = stmts_code p tables r (behind_labels at label labels) lo body in
+        let one : List LineInstr = case_arm line value bound at label labels inner in
         let lo2 : ℕ = behind_stmts p r lo body in
         let next : ℕ = at + length (one ++ own line (I.Jump jump ∷ [])) in
         pieces.by_jump code r at line jump one (λ next. cases_code p tables r line value bound jump next lo2 rest otherwise) out

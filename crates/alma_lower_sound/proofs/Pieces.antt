@@ -10,8 +10,9 @@ use Rattle.alma_code.specs.declared.instr.Instr.{Instr}
 use Rattle.alma_code.specs.declared.instr.Instr.TheVariants as I
 use Rattle.alma_code.specs.Plain.{PlainCode, start_at, end_at}
 use Rattle.alma_ir.proofs.Each.{each_of_append}
-use Rattle.alma_lower_templates.specs.Lined.{Lined, own, in_row, leaving}
-use Rattle.alma_lower_templates.specs.Pieces.{condition, guarded, chosen, first_of_two, refused, truth_code, each_body, forall_code}
+use Rattle.alma_lower_templates.specs.LineInstr.{LineInstr, own, in_row, leaving}
+use Rattle.alma_lower_templates.specs.Pieces.{condition, guard_code, branch_code, first_of_two, not_code, truth_code, each_body}
+use Rattle.alma_lower_templates.specs.Pieces.{forall_code}
 use Rattle.alma_lower_templates.specs.Pieces.{label_code, label_test, labels_code, test_size, behind_labels, case_arm, passed_over}
 use Rattle.alma_lower_templates.specs.Pieces.{entry_code}
 use Rattle.alma_lower_templates.specs.Pieces.{begin_loop, turn_code, for_turns, some_turns, aim, with_last, straight, count_from}
@@ -23,14 +24,14 @@ use Rattle.alma_lower_templates.proofs.Straight.{straight_long}
 use Rattle.alma_lower_templates.proofs.CaseForms.{one_test, both_tests, labels_long}
 
 module _ (code : PlainCode) (r : ℕ) where
-  abbrev pub NeedsOf : Lined → Type 0
+  abbrev pub NeedsOf : LineInstr → Type 0
   NeedsOf x = Needs code r x.instr
 
   -- each instruction has what it needs
-  abbrev pub AllNeed : List Lined → Type 0
+  abbrev pub AllNeed : List LineInstr → Type 0
   AllNeed xs = AllByRecursion NeedsOf xs
 
-  pub both : (a b : List Lined) → AllNeed a → AllNeed b → AllNeed (a ++ b)
+  pub both : (a b : List LineInstr) → AllNeed a → AllNeed b → AllNeed (a ++ b)
   both a b h k = each_of_append NeedsOf a b h k
 
   -- instructions of one line
@@ -44,7 +45,7 @@ module _ (code : PlainCode) (r : ℕ) where
     pub high : at + long < end_at code r
 
   -- code at an address, with so many instructions of the same phrase behind it: each instruction has what it needs
-  abbrev pub Fits : (spare at : ℕ) → List Lined → Type 0
+  abbrev pub Fits : (spare at : ℕ) → List LineInstr → Type 0
   Fits spare at c = Room at (length c + spare) → AllNeed c
 
   -- ---- rooms
@@ -52,7 +53,7 @@ module _ (code : PlainCode) (r : ℕ) where
   pub inside : (at long n : ℕ) → Room at long → at ≤ n → n ≤ at + long → IsInside code r n
   inside at long n room le more = record { low = omega (arith, room.low, le); high = omega (arith, room.high, more) }
 
-  pub less_spare : (spare less at : ℕ) (c : List Lined) → less ≤ spare → Fits less at c → Fits spare at c
+  pub less_spare : (spare less at : ℕ) (c : List LineInstr) → less ≤ spare → Fits less at c → Fits spare at c
   less_spare spare less at c le h room = h (record { low = room.low; high = omega (arith, room.high, le) })
 
   -- ---- parts
@@ -61,17 +62,17 @@ module _ (code : PlainCode) (r : ℕ) where
   pub own_fits : (spare at line : ℕ) (xs : List Instr) → AllByRecursion (Needs code r) xs → Fits spare at (own line xs)
   own_fits spare at line xs h room = own_need line xs h
 
-  pub in_two : (spare at : ℕ) (a b : List Lined) → Fits (length b + spare) at a → Fits spare (at + length a) b → Fits spare at (a ++ b)
+  pub in_two : (spare at : ℕ) (a b : List LineInstr) → Fits (length b + spare) at a → Fits spare (at + length a) b → Fits spare at (a ++ b)
   in_two spare at a b f g room =
       let long = length-append a b in
       both a b (f (record { low = room.low; high = omega (arith, room.high, long) }))
       (g (record { low = omega (arith, room.low); high = omega (arith, room.high, long) }))
 
   -- a part that needs no more room than it has
-  pub first : (spare at : ℕ) (c : List Lined) → Fits 0 at c → Fits spare at c
+  pub first : (spare at : ℕ) (c : List LineInstr) → Fits 0 at c → Fits spare at c
   first spare at c h = less_spare spare 0 at c (omega arith) h
 
-  pub both_fit : (spare at : ℕ) (a b : List Lined) → Fits 0 at a → Fits spare (at + length a) b → Fits spare at (a ++ b)
+  pub both_fit : (spare at : ℕ) (a b : List LineInstr) → Fits 0 at a → Fits spare (at + length a) b → Fits spare at (a ++ b)
   both_fit spare at a b f g = in_two spare at a b (first (length b + spare) at a f) g
 
   -- a value that goes straight into another slot
@@ -86,27 +87,27 @@ module _ (code : PlainCode) (r : ℕ) where
   aim_needs to i there h = h
 
   -- code with its last instruction changed
-  last_need : (change : Instr → Instr) → ((i : Instr) → Needs code r i → Needs code r (change i)) → (c : List Lined) → AllNeed c
+  last_need : (change : Instr → Instr) → ((i : Instr) → Needs code r i → Needs code r (change i)) → (c : List LineInstr) → AllNeed c
       → AllNeed (with_last change c)
   last_need change keeps [] h = tt
   last_need change keeps (x ∷ []) h = (keeps x.instr h.0, tt)
   last_need change keeps (x ∷ (y ∷ rest)) h = (h.0, last_need change keeps (y ∷ rest) h.1)
 
-  pub straight_fits : (to at : ℕ) (c : List Lined) → Number code r to → Fits 0 at c → Fits 0 at (straight to c)
+  pub straight_fits : (to at : ℕ) (c : List LineInstr) → Number code r to → Fits 0 at c → Fits 0 at (straight to c)
   straight_fits to at c there h room =
       last_need (aim to) (λ i. aim_needs to i there) c (h (subst (λ n. Room at (n + 0)) (straight_long to c) room))
 
-  pub unless : (spare at : ℕ) (o : Option ℕ) (c : List Lined) → (o ≡ None → Fits spare at c) → Fits spare at (unless_bare o c)
+  pub unless : (spare at : ℕ) (o : Option ℕ) (c : List LineInstr) → (o ≡ None → Fits spare at c) → Fits spare at (unless_bare o c)
   unless spare at (Some n) c f room = tt
   unless spare at None c f room = f refl room
 
   -- behind a part, instructions of the phrase itself
-  pub then_own : (spare at line : ℕ) (a : List Lined) (xs : List Instr) → Fits 0 at a → AllByRecursion (Needs code r) xs
+  pub then_own : (spare at line : ℕ) (a : List LineInstr) (xs : List Instr) → Fits 0 at a → AllByRecursion (Needs code r) xs
       → Fits spare at (a ++ own line xs)
   then_own spare at line a xs f h = both_fit spare at a (own line xs) f (own_fits spare (at + length a) line xs h)
 
   -- a number, which goes to a slot
-  pub put_fits : (z : Bool) (line at to value : ℕ) (check : List Instr) (c : List Lined) → Number code r to → Number code r value
+  pub put_fits : (z : Bool) (line at to value : ℕ) (check : List Instr) (c : List LineInstr) → Number code r to → Number code r value
       → AllByRecursion (Needs code r) check → Fits 0 at c → Fits 0 at (put_code z line to value check c)
   put_fits true line at to value check c there from needs f = straight_fits to at c there f
   put_fits false line at to value check c there from needs f =
@@ -115,13 +116,13 @@ module _ (code : PlainCode) (r : ℕ) where
 
   -- ---- the first of several, which leaves over all
 
-  pub leaving_fits : (at line : ℕ) (a : List Lined) (rest : (at jump : ℕ) → List Lined) → Fits 1 at a
+  pub leaving_fits : (at line : ℕ) (a : List LineInstr) (rest : (at jump : ℕ) → List LineInstr) → Fits 1 at a
       → (IsInside code r (at + length a) → Fits 0 (at + length a + 1) (rest (at + length a + 1) (at + length a)))
       → Fits 0 at (leaving line at a rest)
   leaving_fits at line a rest f g room =
       let jump : ℕ = at + length a in
-      let b : List Lined = rest (jump + 1) jump in
-      let over : List Lined = own line (I.Jump (jump + 1 + length b) ∷ []) in
+      let b : List LineInstr = rest (jump + 1) jump in
+      let over : List LineInstr = own line (I.Jump (jump + 1 + length b) ∷ []) in
       let long = length-append a (over ++ b) in
       let here : IsInside code r jump = record { low = omega (arith, room.low); high = omega (arith, room.high, long) } in
       let out : IsInside code r (jump + 1 + length b) = record { low = omega (arith, room.low); high = omega (arith, room.high, long) } in
@@ -129,36 +130,37 @@ module _ (code : PlainCode) (r : ℕ) where
       (out, g here (record { low = omega (arith, room.low); high = omega (arith, room.high, long) }))
 
   -- another, which leaves by the jump of the first
-  pub by_jump : (at line jump : ℕ) (a : List Lined) (rest : (at : ℕ) → List Lined) → IsInside code r jump → Fits 1 at a
+  pub by_jump : (at line jump : ℕ) (a : List LineInstr) (rest : (at : ℕ) → List LineInstr) → IsInside code r jump → Fits 1 at a
       → Fits 0 (at + length (a ++ own line (I.Jump jump ∷ []))) (rest (at + length (a ++ own line (I.Jump jump ∷ []))))
       → Fits 0 at (in_row at (a ++ own line (I.Jump jump ∷ [])) rest)
   by_jump at line jump a rest out f g =
-      let last : List Lined = own line (I.Jump jump ∷ []) in
+      let last : List LineInstr = own line (I.Jump jump ∷ []) in
       both_fit 0 at (a ++ last) (rest (at + length (a ++ last)))
       (in_two 0 at a last (less_spare (length last + 0) 1 at a (omega arith) f)
       (own_fits 0 (at + length a) line (I.Jump jump ∷ []) (out, tt))) g
 
   -- ---- conditions
 
-  pub condition_fits : (simple : Bool) (spare line at lo none : ℕ) (jump : (at lo none : ℕ) → List Lined) (test : (at lo : ℕ) → List Lined)
+  pub condition_fits : (simple : Bool) (spare line at lo none : ℕ) (jump : (at lo none : ℕ) → List LineInstr)
+      (test : (at lo : ℕ) → List LineInstr)
       → (simple ≡ true → Fits 0 at (jump at lo none)) → (simple ≡ false → Mark code r lo)
       → (simple ≡ false → Fits 0 (at + 2) (test (at + 2) (lo + 1))) → IsInside code r none
       → Fits spare at (condition simple line at lo none jump test)
   condition_fits true spare line at lo none jump test j mark t out room = first spare at (jump at lo none) (j refl) room
   condition_fits false spare line at lo none jump test j mark t out room =
-      let inner : List Lined = test (at + 2) (lo + 1) in
-      let cut : List Lined = own line (I.Cut lo ∷ []) in
+      let inner : List LineInstr = test (at + 2) (lo + 1) in
+      let cut : List LineInstr = own line (I.Cut lo ∷ []) in
       let long = length-append inner cut in
       let m = mark refl in
       (m, (out, both inner cut (t refl (record { low = omega (arith, room.low); high = omega (arith, room.high, long) })) (m, tt)))
 
   -- a condition, and what is done where it has an alternative
-  pub guarded_fits : (at skipped : ℕ) (cond : (none : ℕ) → List Lined) (body : (at : ℕ) → List Lined)
+  pub guarded_fits : (at skipped : ℕ) (cond : (none : ℕ) → List LineInstr) (body : (at : ℕ) → List LineInstr)
       → ((none : ℕ) → length (cond none) ≡ length (cond 0)) → ((none : ℕ) → IsInside code r none → Fits 0 at (cond none))
-      → ((behind : ℕ) → Fits 0 behind (body behind)) → Fits skipped at (guarded at skipped cond body)
+      → ((behind : ℕ) → Fits 0 behind (body behind)) → Fits skipped at (guard_code at skipped cond body)
   guarded_fits at skipped cond body same c b room =
       let behind : ℕ = at + length (cond 0) in
-      let inner : List Lined = body behind in
+      let inner : List LineInstr = body behind in
       let none : ℕ = behind + length inner + skipped in
       let long = length-append (cond none) inner in
       let e = same none in
@@ -169,24 +171,25 @@ module _ (code : PlainCode) (r : ℕ) where
   -- ---- choices
 
   -- an alternative that is not the last
-  pub chosen_fits : (line at : ℕ) (a : List Lined) → Fits 0 (at + 1) a → Fits 1 at (chosen line (at + 1) a)
+  pub chosen_fits : (line at : ℕ) (a : List LineInstr) → Fits 0 (at + 1) a → Fits 1 at (branch_code line (at + 1) a)
   chosen_fits line at a f room = (
     record { low = omega (arith, room.low); high = omega (arith, room.high) },
     f (record { low = omega (arith, room.low); high = omega (arith, room.high) }),
   )
 
   -- an operand of OR that is not the last
-  pub first_of_two_fits : (line at mark : ℕ) (a : List Lined) → Mark code r mark → Fits 0 (at + 2) a
+  pub first_of_two_fits : (line at mark : ℕ) (a : List LineInstr) → Mark code r mark → Fits 0 (at + 2) a
       → Fits 1 at (first_of_two line (at + 2) mark a)
   first_of_two_fits line at mark a m f room =
-      let cut : List Lined = own line (I.Cut mark ∷ []) in
+      let cut : List LineInstr = own line (I.Cut mark ∷ []) in
       let long = length-append a cut in
       let out : IsInside code r (at + 2 + length a + 2) = record { low = omega (arith, room.low); high = omega (arith, room.high, long) } in
       (m, (out, both a cut (f (record { low = omega (arith, room.low); high = omega (arith, room.high, long) })) (m, tt)))
 
-  pub refused_fits : (line at mark : ℕ) (a : List Lined) → Mark code r mark → Fits 0 (at + 2) a → Fits 0 at (refused line (at + 2) mark a)
+  pub refused_fits : (line at mark : ℕ) (a : List LineInstr) → Mark code r mark → Fits 0 (at + 2) a
+      → Fits 0 at (not_code line (at + 2) mark a)
   refused_fits line at mark a m f room =
-      let cut : List Lined = own line (I.Cut mark ∷ I.Fail ∷ []) in
+      let cut : List LineInstr = own line (I.Cut mark ∷ I.Fail ∷ []) in
       let long = length-append a cut in
       let out : IsInside code r (at + 2 + length a + 2) = record { low = omega (arith, room.low); high = omega (arith, room.high, long) } in
       (m, (out, both a cut (f (record { low = omega (arith, room.low); high = omega (arith, room.high, long) })) (m, (tt, tt))))
@@ -197,10 +200,10 @@ module _ (code : PlainCode) (r : ℕ) where
 
   -- ---- FORALL
 
-  pub each_fits : (line at mark inner : ℕ) (body : List Lined) → Mark code r mark → Mark code r inner → Fits 0 (at + 2) body
+  pub each_fits : (line at mark inner : ℕ) (body : List LineInstr) → Mark code r mark → Mark code r inner → Fits 0 (at + 2) body
       → Fits 1 at (each_body line (at + 2) mark inner body)
   each_fits line at mark inner body m n f room =
-      let last : List Lined = own line (I.Cut inner ∷ I.Keep mark ∷ I.Fail ∷ []) in
+      let last : List LineInstr = own line (I.Cut inner ∷ I.Keep mark ∷ I.Fail ∷ []) in
       let long = length-append body last in
       let next : IsInside code r (at + 2 + length body + 2) =
       record { low = omega (arith, room.low); high = omega (arith, room.high, long) } in (
@@ -212,10 +215,10 @@ module _ (code : PlainCode) (r : ℕ) where
         ),
       )
 
-  pub forall_fits : (line at mark : ℕ) (parts : List Lined) → Mark code r mark → Fits 1 (at + 1) parts
+  pub forall_fits : (line at mark : ℕ) (parts : List LineInstr) → Mark code r mark → Fits 1 (at + 1) parts
       → Fits 0 at (forall_code line (at + 1) mark parts)
   forall_fits line at mark parts m f room =
-      let last : List Lined = own line (I.Finish ∷ []) in
+      let last : List LineInstr = own line (I.Finish ∷ []) in
       let long = length-append parts last in
       let out : IsInside code r (at + 1 + length parts) = record { low = omega (arith, room.low); high = omega (arith, room.high, long) } in
       ((m, out), both parts last (f (record { low = omega (arith, room.low); high = omega (arith, room.high, long) })) (tt, tt))
@@ -223,7 +226,7 @@ module _ (code : PlainCode) (r : ℕ) where
   -- ---- CASE
 
   -- the jump over code that is never reached
-  pub over_fits : (has : Bool) (line at : ℕ) (a : List Lined) → Fits 0 (at + 1) a → Fits 0 at (passed_over has line at a)
+  pub over_fits : (has : Bool) (line at : ℕ) (a : List LineInstr) → Fits 0 (at + 1) a → Fits 0 at (passed_over has line at a)
   over_fits false line at a f room = tt
   over_fits true line at a f room = (
     record { low = omega (arith, room.low); high = omega (arith, room.high) },
@@ -255,7 +258,7 @@ module _ (code : PlainCode) (r : ℕ) where
       (labels_need value bound at2 hit miss label2 rest v b c is h m (omega (arith, low)))
 
   -- the labels of an arm and its body, with the jump behind it
-  pub arm_fits : (line value bound at : ℕ) (label : Range) (rest : List Range) (body : List Lined) → Number code r value
+  pub arm_fits : (line value bound at : ℕ) (label : Range) (rest : List Range) (body : List LineInstr) → Number code r value
       → Number code r bound → Number code r (bound + 1)
       → Fits 0 (behind_labels at label rest) body → Fits 1 at (case_arm line value bound at label rest body)
   arm_fits line value bound at label rest body v b c f room =
@@ -283,12 +286,12 @@ module _ (code : PlainCode) (r : ℕ) where
   count_need None counter first a b = (a, b)
 
   -- a first count has no code where it is a constant
-  pub constant_fits : (o : Option ℤ) (at : ℕ) (c : List Lined) → Fits 0 at c → Fits 0 at (unless_constant o c)
+  pub constant_fits : (o : Option ℤ) (at : ℕ) (c : List LineInstr) → Fits 0 at c → Fits 0 at (unless_constant o c)
   constant_fits (Some n) at c f room = tt
   constant_fits None at c f room = f room
 
   -- a limit, which goes to its slot
-  pub limit_fits : (z : Bool) (line at limit value : ℕ) (c : List Lined) → Number code r limit → Number code r value → Fits 0 at c
+  pub limit_fits : (z : Bool) (line at limit value : ℕ) (c : List LineInstr) → Number code r limit → Number code r value → Fits 0 at c
       → Fits 0 at (limit_code z line limit value c)
   limit_fits z line at limit value c there from f = put_fits z line at limit value [] c there from tt f
 
@@ -299,11 +302,11 @@ module _ (code : PlainCode) (r : ℕ) where
     pub by : Number code r step
     pub from : Number code r first
 
-  pub for_turns_fits : (line at : ℕ) (by : ℤ) (o : Option ℤ) (counter limit step first : ℕ) (turn : List Lined)
+  pub for_turns_fits : (line at : ℕ) (by : ℤ) (o : Option ℤ) (counter limit step first : ℕ) (turn : List LineInstr)
       → LoopSlots counter limit step first → Fits 0 (at + 3) turn → Fits 0 at (for_turns line at by o counter limit step first turn)
   for_turns_fits line at by o counter limit step start turn s f room =
       let exit : ℕ = at + 3 + length turn + 2 in
-      let end : List Lined = own line (I.Step counter limit step exit ∷ I.Jump (at + 3) ∷ []) in
+      let end : List LineInstr = own line (I.Step counter limit step exit ∷ I.Jump (at + 3) ∷ []) in
       let long = length-append turn end in
       let out : IsInside code r exit = record { low = omega (arith, room.low); high = omega (arith, room.high, long) } in
       let top : IsInside code r (at + 3) = record { low = omega (arith, room.low); high = omega (arith, room.high, long) } in (
@@ -318,7 +321,7 @@ module _ (code : PlainCode) (r : ℕ) where
         ),
       )
 
-  pub some_turns_fits : (line at : ℕ) (o : Option ℤ) (counter limit step first more : ℕ) (turn : List Lined)
+  pub some_turns_fits : (line at : ℕ) (o : Option ℤ) (counter limit step first more : ℕ) (turn : List LineInstr)
       → LoopSlots counter limit step first → Number code r more → Fits 0 (at + 8) turn
       → Fits 0 at (some_turns line at o counter limit step first more turn)
   some_turns_fits line at o counter limit step start more turn s m f room =
@@ -345,23 +348,23 @@ module _ (code : PlainCode) (r : ℕ) where
       )
 
   -- a turn: the count is checked, the variable is located and set, and the body follows
-  pub turn_fits : (line at : ℕ) (check : List Instr) (locate : (at : ℕ) → List Lined) (store : Instr) (body : (at : ℕ) → List Lined)
+  pub turn_fits : (line at : ℕ) (check : List Instr) (locate : (at : ℕ) → List LineInstr) (store : Instr) (body : (at : ℕ) → List LineInstr)
       → AllByRecursion (Needs code r) check → ((at : ℕ) → Fits 0 at (locate at)) → Needs code r store
       → ((at : ℕ) → Fits 0 at (body at)) → Fits 0 at (turn_code line at check locate store body)
   turn_fits line at check locate store body c l s b =
       let at1 : ℕ = at + length (own line check) in
       let at2 : ℕ = at1 + length (locate at1) in
-      let set : List Lined = own line (store ∷ []) in
+      let set : List LineInstr = own line (store ∷ []) in
       both_fit 0 at (own line check) (locate at1 ++ (set ++ body (at2 + 1))) (own_fits 0 at line check c)
       (both_fit 0 at1 (locate at1) (set ++ body (at2 + 1)) (l at1)
       (both_fit 0 at2 set (body (at2 + 1)) (own_fits 0 at2 line (store ∷ []) (s, tt)) (b (at2 + 1))))
 
   -- the step, and both bounds
-  pub begin_fits : (spare line at step : ℕ) (by : ℤ) (from to : (at : ℕ) → List Lined) → Number code r step
+  pub begin_fits : (spare line at step : ℕ) (by : ℤ) (from to : (at : ℕ) → List LineInstr) → Number code r step
       → ((at : ℕ) → Fits 0 at (from at)) → ((at : ℕ) → Fits 0 at (to at)) → Fits spare at (begin_loop line at step by from to)
   begin_fits spare line at step by from to s f g =
-      let one : List Lined = from (at + 1) in
-      let two : List Lined = to (at + 1 + length one) in
+      let one : List LineInstr = from (at + 1) in
+      let two : List LineInstr = to (at + 1 + length one) in
       first spare at (own line (I.Const step by ∷ []) ++ (one ++ two))
       (both_fit 0 at (own line (I.Const step by ∷ [])) (one ++ two) (own_fits 0 at line (I.Const step by ∷ []) (s, tt))
       (both_fit 0 (at + 1) one two (f (at + 1)) (g (at + 1 + length one))))

@@ -21,12 +21,13 @@ use Rattle.alma_ir.specs.Tree.{no_cases, more_cases, no_else, else_part, no_bran
 use Rattle.alma_ir.specs.Tree.{Bind, Unify, SameCells, Seq, And, Or, Not, CallTest, no_tests, more_tests, Const, Load, Chain, Compare}
 use Rattle.alma_ir.specs.Tree.{Truth, Known, Chr, CallExpr, no_links, more_links, no_args, more_args, ByValue, ByCells, ByPlace, MixValue}
 use Rattle.alma_ir.specs.Tree.{MixPlace, a_desig, no_sels, more_sels, Field, Index}
-use Rattle.alma_lower_templates.specs.Lined.{Lined, own, leaving}
+use Rattle.alma_lower_templates.specs.LineInstr.{LineInstr, own, leaving}
 use Rattle.alma_lower_templates.specs.Tables.{Tables, range_number, is_whole}
-use Rattle.alma_lower_templates.specs.Pieces.{condition, guarded, chosen, first_of_two, refused, fit_code, neg_code, op_code, cmp_code}
+use Rattle.alma_lower_templates.specs.Pieces.{condition, guard_code, branch_code, first_of_two, not_code, fit_code, neg_code, op_code}
+use Rattle.alma_lower_templates.specs.Pieces.{cmp_code}
 use Rattle.alma_lower_templates.specs.Pieces.{unequal_code, opposite_code, write_code, read_code, case_arm, passed_over, has_dead}
 use Rattle.alma_lower_templates.specs.Pieces.{behind_labels, label_code, label_test, test_size, aim_place, with_last}
-use Rattle.alma_lower_templates.specs.Pieces.{placed as put_in}
+use Rattle.alma_lower_templates.specs.Pieces.{place_code as put_in}
 use Rattle.alma_lower_templates.specs.Pieces.{labels_code, begin_loop, bounds_code, entry_code, chain_code, link_code, unless_whole}
 use Rattle.alma_lower_templates.specs.Pieces.{for_turns, some_turns, turn_code, each_body, forall_code, aim, straight}
 use Rattle.alma_lower_templates.specs.Pieces.{count_from, unless_constant, limit_code, put_code, held_or}
@@ -176,11 +177,11 @@ abbrev pub bit_of : Bool → ℕ
 bit_of true = 1
 bit_of false = 0
 
-abbrev pub reads : List Lined → ℕ
+abbrev pub reads : List LineInstr → ℕ
 reads [] = 0
 reads (x ∷ xs) = bit_of (is_read x.instr) + reads xs
 
-pub both : (a b : List Lined) → reads (a ++ b) ≡ reads a + reads b
+pub both : (a b : List LineInstr) → reads (a ++ b) ≡ reads a + reads b
 both [] b = omega arith
 both (x ∷ a) b = omega (arith, both a b)
 
@@ -193,16 +194,16 @@ aim_place_reads to (I.Local old first) = refl
 aim_place_reads to i = refl
 
 -- code with its last instruction changed
-last_reads : (change : Instr → Instr) → ((i : Instr) → is_read (change i) ≡ is_read i) → (c : List Lined)
+last_reads : (change : Instr → Instr) → ((i : Instr) → is_read (change i) ≡ is_read i) → (c : List LineInstr)
     → reads (with_last change c) ≡ reads c
 last_reads change same [] = refl
 last_reads change same (x ∷ []) = ap (λ z. bit_of z + 0) (same x.instr)
 last_reads change same (x ∷ (y ∷ rest)) = ap (λ n. bit_of (is_read x.instr) + n) (last_reads change same (y ∷ rest))
 
-straight_reads : (to : ℕ) (c : List Lined) → reads (straight to c) ≡ reads c
+straight_reads : (to : ℕ) (c : List LineInstr) → reads (straight to c) ≡ reads c
 straight_reads to c = last_reads (aim to) (aim_reads to) c
 
-placed_reads : (to : ℕ) (c : List Lined) → reads (put_in to c) ≡ reads c
+placed_reads : (to : ℕ) (c : List LineInstr) → reads (put_in to c) ≡ reads c
 placed_reads to c = last_reads (aim_place to) (aim_place_reads to) c
 
 -- instructions of which none reads
@@ -337,15 +338,15 @@ expr_bare (Known d) = tt
 expr_bare (Chr e) = tt
 expr_bare (CallExpr called args up) = tt
 
-unless_reads : (o : Option ℕ) (n : ℕ) (c : List Lined) → BareQuiet o n → reads c ≡ n → reads (unless_bare o c) ≡ n
+unless_reads : (o : Option ℕ) (n : ℕ) (c : List LineInstr) → BareQuiet o n → reads c ≡ n → reads (unless_bare o c) ≡ n
 unless_reads (Some m) n c quiet e = sym quiet
 unless_reads None n c quiet e = e
 
-once : (e : Expr) (c : List Lined) → reads c ≡ expr_reads e → reads (unless_bare (bare e) c) ≡ expr_reads e
+once : (e : Expr) (c : List LineInstr) → reads c ≡ expr_reads e → reads (unless_bare (bare e) c) ≡ expr_reads e
 once e c h = unless_reads (bare e) (expr_reads e) c (expr_bare e) h
 
 -- a first count that is a constant has no code
-constant_once : (e : Expr) (c : List Lined) → reads c ≡ expr_reads e → reads (unless_constant (constant e) c) ≡ expr_reads e
+constant_once : (e : Expr) (c : List LineInstr) → reads c ≡ expr_reads e → reads (unless_constant (constant e) c) ≡ expr_reads e
 constant_once (Const n) c h = refl
 constant_once (Load d) c h = h
 constant_once (Chain negated e links) c h = h
@@ -355,90 +356,92 @@ constant_once (Known d) c h = h
 constant_once (Chr e) c h = h
 constant_once (CallExpr called args up) c h = h
 
-located : (d : Desig) (c : List Lined) → reads c ≡ desig_reads d → reads (unless_bare (bare_desig d) c) ≡ desig_reads d
+located : (d : Desig) (c : List LineInstr) → reads c ≡ desig_reads d → reads (unless_bare (bare_desig d) c) ≡ desig_reads d
 located d c h = unless_reads (bare_desig d) (desig_reads d) c (desig_bare d) h
 
 -- the place of a whole parameter
-placed : (d : Desig) (c : List Lined) → reads c ≡ desig_reads d → reads (unless_bare (own_place d) c) ≡ desig_reads d
-placed d c h = unless_reads (own_place d) (desig_reads d) c (place_quiet d) h
+place_code : (d : Desig) (c : List LineInstr) → reads c ≡ desig_reads d → reads (unless_bare (own_place d) c) ≡ desig_reads d
+place_code d c h = unless_reads (own_place d) (desig_reads d) c (place_quiet d) h
 
 -- ---- pieces
 
 module _ (line : ℕ) where
-  then_own : (a : List Lined) (xs : List Instr) → Quiet xs → reads (a ++ own line xs) ≡ reads a
+  then_own : (a : List LineInstr) (xs : List Instr) → Quiet xs → reads (a ++ own line xs) ≡ reads a
   then_own a xs q = omega (arith, both a (own line xs), q line)
 
-  own_then : (xs : List Instr) (a : List Lined) → Quiet xs → reads (own line xs ++ a) ≡ reads a
+  own_then : (xs : List Instr) (a : List LineInstr) → Quiet xs → reads (own line xs ++ a) ≡ reads a
   own_then xs a q = omega (arith, both (own line xs) a, q line)
 
-  leaving_reads : (at : ℕ) (a : List Lined) (rest : (at jump : ℕ) → List Lined)
+  leaving_reads : (at : ℕ) (a : List LineInstr) (rest : (at jump : ℕ) → List LineInstr)
       → reads (leaving line at a rest) ≡ reads a + reads (rest (at + length a + 1) (at + length a))
   leaving_reads at a rest =
       let jump : ℕ = at + length a in
-      let b : List Lined = rest (jump + 1) jump in
+      let b : List LineInstr = rest (jump + 1) jump in
       let over : List Instr = I.Jump (jump + 1 + length b) ∷ [] in
       omega (arith, both a (own line over ++ b))
 
-  by_jump_reads : (jump : ℕ) (a b : List Lined) → reads ((a ++ own line (I.Jump jump ∷ [])) ++ b) ≡ reads a + reads b
+  by_jump_reads : (jump : ℕ) (a b : List LineInstr) → reads ((a ++ own line (I.Jump jump ∷ [])) ++ b) ≡ reads a + reads b
   by_jump_reads jump a b = omega (arith, both (a ++ own line (I.Jump jump ∷ [])) b, both a (own line (I.Jump jump ∷ [])))
 
-  condition_reads : (simple : Bool) (at lo none : ℕ) (jump : (at lo none : ℕ) → List Lined) (test : (at lo : ℕ) → List Lined) (n : ℕ)
+  condition_reads : (simple : Bool) (at lo none : ℕ) (jump : (at lo none : ℕ) → List LineInstr) (test : (at lo : ℕ) → List LineInstr)
+      (n : ℕ)
       → (simple ≡ true → reads (jump at lo none) ≡ n) → reads (test (at + 2) (lo + 1)) ≡ n
       → reads (condition simple line at lo none jump test) ≡ n
   condition_reads true at lo none jump test n j t = j refl
   condition_reads false at lo none jump test n j t =
-      let inner : List Lined = test (at + 2) (lo + 1) in
+      let inner : List LineInstr = test (at + 2) (lo + 1) in
       omega (arith, t, both inner (own line (I.Cut lo ∷ [])))
 
-  guarded_reads : (at skipped : ℕ) (cond : (none : ℕ) → List Lined) (body : (at : ℕ) → List Lined) (m n : ℕ)
-      → ((none : ℕ) → reads (cond none) ≡ m) → ((at : ℕ) → reads (body at) ≡ n) → reads (guarded at skipped cond body) ≡ m + n
+  guarded_reads : (at skipped : ℕ) (cond : (none : ℕ) → List LineInstr) (body : (at : ℕ) → List LineInstr) (m n : ℕ)
+      → ((none : ℕ) → reads (cond none) ≡ m) → ((at : ℕ) → reads (body at) ≡ n) → reads (guard_code at skipped cond body) ≡ m + n
   guarded_reads at skipped cond body m n c b =
       let behind : ℕ = at + length (cond 0) in
-      let inner : List Lined = body behind in
+      let inner : List LineInstr = body behind in
       let none : ℕ = behind + length inner + skipped in
       let x = c none in
       let y = b behind in
       omega (arith, x, y, both (cond none) inner)
 
-  chosen_reads : (at : ℕ) (a : List Lined) → reads (chosen line at a) ≡ reads a
+  chosen_reads : (at : ℕ) (a : List LineInstr) → reads (branch_code line at a) ≡ reads a
   chosen_reads at a = omega arith
 
-  first_reads : (at mark : ℕ) (a : List Lined) → reads (first_of_two line at mark a) ≡ reads a
+  first_reads : (at mark : ℕ) (a : List LineInstr) → reads (first_of_two line at mark a) ≡ reads a
   first_reads at mark a = omega (arith, both a (own line (I.Cut mark ∷ [])))
 
-  refused_reads : (at mark : ℕ) (a : List Lined) → reads (refused line at mark a) ≡ reads a
+  refused_reads : (at mark : ℕ) (a : List LineInstr) → reads (not_code line at mark a) ≡ reads a
   refused_reads at mark a = omega (arith, both a (own line (I.Cut mark ∷ I.Fail ∷ [])))
 
-  each_reads : (at mark inner : ℕ) (a : List Lined) → reads (each_body line at mark inner a) ≡ reads a
+  each_reads : (at mark inner : ℕ) (a : List LineInstr) → reads (each_body line at mark inner a) ≡ reads a
   each_reads at mark inner a = omega (arith, both a (own line (I.Cut inner ∷ I.Keep mark ∷ I.Fail ∷ [])))
 
-  forall_reads : (at mark : ℕ) (a : List Lined) → reads (forall_code line at mark a) ≡ reads a
+  forall_reads : (at mark : ℕ) (a : List LineInstr) → reads (forall_code line at mark a) ≡ reads a
   forall_reads at mark a = omega (arith, both a (own line (I.Finish ∷ [])))
 
-  case_arm_reads : (value bound at : ℕ) (label : Range) (rest : List Range) (a : List Lined)
+  case_arm_reads : (value bound at : ℕ) (label : Range) (rest : List Range) (a : List LineInstr)
       → reads (case_arm line value bound at label rest a) ≡ reads a
   case_arm_reads value bound at label rest a =
       let hit : ℕ = behind_labels at label rest in
       own_then (labels_code value bound at hit (hit + length a + 1) label rest) a
       (labels_quiet value bound at hit (hit + length a + 1) label rest)
 
-  begin_reads : (at step : ℕ) (by : ℤ) (from to : (at : ℕ) → List Lined) (m n : ℕ) → ((at : ℕ) → reads (from at) ≡ m)
+  begin_reads : (at step : ℕ) (by : ℤ) (from to : (at : ℕ) → List LineInstr) (m n : ℕ) → ((at : ℕ) → reads (from at) ≡ m)
       → ((at : ℕ) → reads (to at) ≡ n) → reads (begin_loop line at step by from to) ≡ m + n
   begin_reads at step by from to m n f g =
-      let one : List Lined = from (at + 1) in
-      let two : List Lined = to (at + 1 + length one) in
+      let one : List LineInstr = from (at + 1) in
+      let two : List LineInstr = to (at + 1 + length one) in
       let x = f (at + 1) in
       let y = g (at + 1 + length one) in
       omega (arith, x, y, both one two)
 
-  turn_reads : (at : ℕ) (check : List Instr) (locate : (at : ℕ) → List Lined) (store : Instr) (body : (at : ℕ) → List Lined) (m n : ℕ)
+  turn_reads : (at : ℕ) (check : List Instr) (locate : (at : ℕ) → List LineInstr) (store : Instr) (body : (at : ℕ) → List LineInstr)
+      (m n : ℕ)
       → Quiet check → Quiet (store ∷ []) → ((at : ℕ) → reads (locate at) ≡ m) → ((at : ℕ) → reads (body at) ≡ n)
       → reads (turn_code line at check locate store body) ≡ m + n
   turn_reads at check locate store body m n c s l b =
       let at1 : ℕ = at + length (own line check) in
-      let one : List Lined = locate at1 in
+      let one : List LineInstr = locate at1 in
       let at2 : ℕ = at1 + length one in
-      let two : List Lined = body (at2 + 1) in
+      let two : List LineInstr = body (at2 + 1) in
       let x = l at1 in
       let y = b (at2 + 1) in
       omega (
@@ -450,7 +453,7 @@ module _ (line : ℕ) where
         own_then (store ∷ []) two s,
       )
 
-  for_turns_reads : (at : ℕ) (by : ℤ) (o : Option ℤ) (counter limit step first : ℕ) (a : List Lined)
+  for_turns_reads : (at : ℕ) (by : ℤ) (o : Option ℤ) (counter limit step first : ℕ) (a : List LineInstr)
       → reads (for_turns line at by o counter limit step first a) ≡ reads a
   for_turns_reads at by o counter limit step first a =
       let exit : ℕ = at + 3 + length a + 2 in
@@ -461,32 +464,32 @@ module _ (line : ℕ) where
         both a (own line end),
       )
 
-  some_turns_reads : (at : ℕ) (o : Option ℤ) (counter limit step first more : ℕ) (a : List Lined)
+  some_turns_reads : (at : ℕ) (o : Option ℤ) (counter limit step first more : ℕ) (a : List LineInstr)
       → reads (some_turns line at o counter limit step first more a) ≡ reads a
   some_turns_reads at o counter limit step first more a = omega (arith, count_quiet_from o counter first line)
 
-  put_reads : (z : Bool) (to value : ℕ) (check : List Instr) (a : List Lined) → Quiet check
+  put_reads : (z : Bool) (to value : ℕ) (check : List Instr) (a : List LineInstr) → Quiet check
       → reads (put_code z line to value check a) ≡ reads a
   put_reads true to value check a quiet = straight_reads to a
   put_reads false to value check a quiet =
       then_own a (check ++ (I.Move to value ∷ [])) (quiet_two check (I.Move to value ∷ []) quiet (λ l. refl))
 
-  limit_reads : (z : Bool) (limit value : ℕ) (a : List Lined) → reads (limit_code z line limit value a) ≡ reads a
+  limit_reads : (z : Bool) (limit value : ℕ) (a : List LineInstr) → reads (limit_code z line limit value a) ≡ reads a
   limit_reads z limit value a = put_reads z limit value [] a (λ l. refl)
 
-  limit_once : (e : Expr) (limit value : ℕ) (c : List Lined) → reads c ≡ expr_reads e
+  limit_once : (e : Expr) (limit value : ℕ) (c : List LineInstr) → reads c ≡ expr_reads e
       → reads (limit_code (ends_alone e) line limit value (unless_bare (bare e) c)) ≡ expr_reads e
   limit_once e limit value c h = limit_reads (ends_alone e) limit value (unless_bare (bare e) c) ∙ once e c h
 
 module _ (p : Program) (tables : Tables) (r : ℕ) where
-  abbrev condition_code : (line at lo none : ℕ) → Test → List Lined
+  abbrev condition_code : (line at lo none : ℕ) → Test → List LineInstr
   condition_code line at lo none t = condition (is_simple t) line at lo none (λ at lo none. jump_code p tables r line at lo none t)
       (λ at lo. test_code p tables r line at lo t)
 
-  abbrev guarded_code : (line at lo skipped : ℕ) → Test → ((at : ℕ) → List Lined) → List Lined
-  guarded_code line at lo skipped t body = guarded at skipped (λ none. condition_code line at lo none t) body
+  abbrev guarded_code : (line at lo skipped : ℕ) → Test → ((at : ℕ) → List LineInstr) → List LineInstr
+  guarded_code line at lo skipped t body = guard_code at skipped (λ none. condition_code line at lo none t) body
 
-  abbrev turn_of : (line at counter lo : ℕ) → Desig → Range → ((at : ℕ) → List Lined) → List Lined
+  abbrev turn_of : (line at counter lo : ℕ) → Desig → Range → ((at : ℕ) → List LineInstr) → List LineInstr
   turn_of line at counter lo d range body =
       turn_code line at (count_code p tables r (bare_desig d) range counter lo)
       (λ at. unless_bare (bare_desig d) (held_code p tables r line at (lo + 1) d))
@@ -499,7 +502,7 @@ module _ (p : Program) (tables : Tables) (r : ℕ) where
   decides line at lo none t n j f = condition_reads line (is_simple t) at lo none (λ at lo none. jump_code p tables r line at lo none t)
       (λ at lo. test_code p tables r line at lo t) n j f
 
-  asked : (line at lo skipped : ℕ) (t : Test) (body : (at : ℕ) → List Lined) (m n : ℕ)
+  asked : (line at lo skipped : ℕ) (t : Test) (body : (at : ℕ) → List LineInstr) (m n : ℕ)
       → ((none : ℕ) → is_simple t ≡ true → reads (jump_code p tables r line at lo none t) ≡ m)
       → ((at lo : ℕ) → reads (test_code p tables r line at lo t) ≡ m) → ((at : ℕ) → reads (body at) ≡ n)
       → reads (guarded_code line at lo skipped t body) ≡ m + n
@@ -550,7 +553,7 @@ module _ (p : Program) (tables : Tables) (r : ℕ) where
   count_quiet (Some to) range counter lo line = fit_quiet range counter line
   count_quiet None range counter lo line = omega (arith, fit_quiet range lo line)
 
-  turn : (line at counter lo : ℕ) (d : Desig) (range : Range) (body : (at : ℕ) → List Lined) (n : ℕ)
+  turn : (line at counter lo : ℕ) (d : Desig) (range : Range) (body : (at : ℕ) → List LineInstr) (n : ℕ)
       → ((at : ℕ) → reads (desig_code p tables r line at (lo + 1) d) ≡ desig_reads d) → ((at : ℕ) → reads (body at) ≡ n)
       → reads (turn_of line at counter lo d range body) ≡ desig_reads d + n
   turn line at counter lo d range body n f b =
@@ -558,7 +561,7 @@ module _ (p : Program) (tables : Tables) (r : ℕ) where
       (λ at. unless_bare (bare_desig d) (held_code p tables r line at (lo + 1) d))
       (set_code p tables r (lo + 1) (count_at p tables r (bare_desig d) counter lo) d) body (desig_reads d) n
       (count_quiet (bare_desig d) range counter lo) (set_quiet (lo + 1) (count_at p tables r (bare_desig d) counter lo) d)
-      (λ at. located d (held_code p tables r line at (lo + 1) d) (placed d (desig_code p tables r line at (lo + 1) d) (f at))) b
+      (λ at. located d (held_code p tables r line at (lo + 1) d) (place_code d (desig_code p tables r line at (lo + 1) d) (f at))) b
 
   -- ---- CASE: the jump over the arms that have no label
 
@@ -568,7 +571,7 @@ module _ (p : Program) (tables : Tables) (r : ℕ) where
   over_reads line next at lo (more_cases [] body rest) = omega arith
   over_reads line next at lo (more_cases (label ∷ labels) body rest) = over_reads line next at lo rest
 
-  set_reads : (o : Option ℕ) (line : ℕ) (value : List Lined) (set : List Instr) → Quiet set
+  set_reads : (o : Option ℕ) (line : ℕ) (value : List LineInstr) (set : List Instr) → Quiet set
       → reads (set_to p tables r o line value set) ≡ reads value
   set_reads (Some to) line value set quiet = straight_reads (own_slot p tables r to) value
   set_reads None line value set quiet = then_own line value set quiet
@@ -586,7 +589,7 @@ module _ (p : Program) (tables : Tables) (r : ℕ) where
           (expr_code p tables r line at lo (Compare cmp.Unequal x y))
       differ x y =
           let operand : ℕ = value_at p tables r (behind_expr p r lo x) y in
-          let operands : List Lined = compared_code p tables r line at lo x y in
+          let operands : List LineInstr = compared_code p tables r line at lo x y in
           let first : ℕ = slot_or p tables r (stays x y) lo in
           omega (
             arith,
@@ -624,9 +627,9 @@ module _ (p : Program) (tables : Tables) (r : ℕ) where
           let lo2 : ℕ = behind_expr p r lo x in
           let operand : ℕ = value_at p tables r lo2 y in
           let other : ℕ = held_or (constant y) held operand in
-          let one : List Lined = unless_bare (stays x y) (expr_code p tables r line at lo x) in
-          let two : List Lined = unless_bare (bare y) (expr_code p tables r line (at + length one) lo2 y) in
-          let left : List Lined = unless_constant (constant y) two in
+          let one : List LineInstr = unless_bare (stays x y) (expr_code p tables r line at lo x) in
+          let two : List LineInstr = unless_bare (bare y) (expr_code p tables r line (at + length one) lo2 y) in
+          let left : List LineInstr = unless_constant (constant y) two in
           let first : ℕ = slot_or p tables r (stays x y) lo in
           let same : reads left ≡ reads two = constant_quiet line (at + length one) lo2 y in
           let as_operands : reads (one ++ left) ≡ reads (one ++ two) = omega (arith, both one left, both one two, same) in
@@ -644,10 +647,10 @@ module _ (p : Program) (tables : Tables) (r : ℕ) where
       let constant : List Instr = constant_code (held_constant t) lo in
       let at1 : ℕ = at + length (own line constant) + 1 in
       let lo1 : ℕ = behind_held p r lo t in
-      let inner : List Lined = stmts_code p tables r at1 lo1 body in
+      let inner : List LineInstr = stmts_code p tables r at1 lo1 body in
       let top : ℕ = at1 + length inner in
       let lo2 : ℕ = behind_stmts p r lo1 body in
-      let last : List Lined = back_code p tables r line top lo2 lo at1 t in
+      let last : List LineInstr = back_code p tables r line top lo2 lo at1 t in
       omega (
         arith,
         own_then line constant (own line (I.Jump top ∷ []) ++ (inner ++ last)) (held_quiet (held_constant t) lo),
@@ -659,7 +662,7 @@ module _ (p : Program) (tables : Tables) (r : ℕ) where
       )
   while_same false line at lo t body m n e j f g =
       let lo2 : ℕ = behind_condition p r lo t in
-      let inner : List Lined = guarded_code line (at + 1) lo 1 t (λ next. stmts_code p tables r next lo2 body) in
+      let inner : List LineInstr = guarded_code line (at + 1) lo 1 t (λ next. stmts_code p tables r next lo2 body) in
       omega (
         arith,
         asked line (at + 1) lo 1 t (λ next. stmts_code p tables r next lo2 body) m n j f (λ next. g next lo2),
@@ -671,7 +674,7 @@ module _ (p : Program) (tables : Tables) (r : ℕ) where
     desig_same : (line at lo : ℕ) (x : Desig) → reads (desig_code p tables r line at lo x) ≡ desig_reads x
     desig_same line at lo (a_desig root cells sels) =
         let o : Option ℕ = own_root root sels in
-        let one : List Lined = unless_bare o (own line (root_code p tables r lo root)) in
+        let one : List LineInstr = unless_bare o (own line (root_code p tables r lo root)) in
         let from : ℕ = slot_or p tables r o lo in
         let lo2 : ℕ = behind_root p tables r lo root in
         omega (
@@ -684,7 +687,7 @@ module _ (p : Program) (tables : Tables) (r : ℕ) where
     sels_same : (line at from lo : ℕ) (x : Sels) → reads (sels_code p tables r line at from lo x) ≡ sels_reads x
     sels_same line at from lo no_sels = omega arith
     sels_same line at from lo (more_sels x rest) =
-        let one : List Lined = sel_code p tables r line at from lo x in
+        let one : List LineInstr = sel_code p tables r line at from lo x in
         let part : ℕ = part_slot p tables r lo x in
         omega (
           arith,
@@ -707,19 +710,19 @@ module _ (p : Program) (tables : Tables) (r : ℕ) where
     expr_same : (line at lo : ℕ) (x : Expr) → reads (expr_code p tables r line at lo x) ≡ expr_reads x
     expr_same line at lo (Const n) = omega arith
     expr_same line at lo (Load d) =
-        let place : List Lined = desig_code p tables r line at (lo + 1) d in
-        let one : List Lined = held_code p tables r line at (lo + 1) d in
+        let place : List LineInstr = desig_code p tables r line at (lo + 1) d in
+        let one : List LineInstr = held_code p tables r line at (lo + 1) d in
         omega (
           arith,
           then_own line (unless_bare (bare_desig d) one) (load_code p tables r lo d ∷ []) (load_quiet lo d),
-          located d one (placed d place (desig_same line at (lo + 1) d)),
+          located d one (place_code d place (desig_same line at (lo + 1) d)),
           desig_same line at (lo + 1) d,
         )
     expr_same line at lo (Chain negated e links) =
         let o : Option ℕ = taken_from negated e links in
         let from : ℕ = value_at p tables r lo e in
-        let inner : List Lined = unless_bare o (expr_code p tables r line at lo e) in
-        let one : List Lined = inner ++ own line (neg_code negated lo from) in
+        let inner : List LineInstr = unless_bare o (expr_code p tables r line at lo e) in
+        let one : List LineInstr = inner ++ own line (neg_code negated lo from) in
         let lo2 : ℕ = behind_expr p r lo e in
         let first : ℕ = slot_or p tables r (stays_in negated e links) lo in
         omega (
@@ -732,9 +735,9 @@ module _ (p : Program) (tables : Tables) (r : ℕ) where
         )
     expr_same line at lo (Compare how x y) =
         let lo2 : ℕ = behind_expr p r lo x in
-        let one : List Lined = unless_bare (stays x y) (expr_code p tables r line at lo x) in
-        let inner : List Lined = expr_code p tables r line (at + length one) lo2 y in
-        let two : List Lined = unless_bare (bare y) inner in
+        let one : List LineInstr = unless_bare (stays x y) (expr_code p tables r line at lo x) in
+        let inner : List LineInstr = expr_code p tables r line (at + length one) lo2 y in
+        let two : List LineInstr = unless_bare (bare y) inner in
         let first : ℕ = slot_or p tables r (stays x y) lo in
         omega (
           arith,
@@ -747,17 +750,17 @@ module _ (p : Program) (tables : Tables) (r : ℕ) where
           expr_same line (at + length one) lo2 y,
         )
     expr_same line at lo (Truth t) =
-        let one : List Lined = guarded_code line at (lo + 1) 2 t (λ next. []) in
+        let one : List LineInstr = guarded_code line at (lo + 1) 2 t (λ next. []) in
         let end : ℕ = at + length one in
         let z = asked line at (lo + 1) 2 t (λ next. []) (test_reads t) 0 (λ none. jump_same line at (lo + 1) none t)
         (λ at lo. test_same line at lo t) (λ next. omega arith) in
         omega (arith, z, then_own line one (I.Const lo (pos 1) ∷ I.Jump (end + 3) ∷ I.Const lo (pos 0) ∷ []) (λ l. refl))
     expr_same line at lo (Known d) =
-        let place : List Lined = desig_code p tables r line at (lo + 1) d in
+        let place : List LineInstr = desig_code p tables r line at (lo + 1) d in
         omega (
           arith,
           then_own line (held_code p tables r line at (lo + 1) d) (I.Known lo (held_at p tables r (lo + 1) d) ∷ []) (λ l. refl),
-          placed d place (desig_same line at (lo + 1) d),
+          place_code d place (desig_same line at (lo + 1) d),
           desig_same line at (lo + 1) d,
         )
     expr_same line at lo (Chr e) = omega (
@@ -770,7 +773,7 @@ module _ (p : Program) (tables : Tables) (r : ℕ) where
         let link : List Instr = call_link_code p tables r called up (lo + 2) in
         let next : ℕ = at + length (own line link) in
         let lo2 : ℕ = to + length (handed_slots args) in
-        let two : List Lined = args_code p tables r line next to lo2 args in
+        let two : List LineInstr = args_code p tables r line next to lo2 args in
         omega (
           arith,
           then_own line (own line link ++ two)
@@ -782,8 +785,8 @@ module _ (p : Program) (tables : Tables) (r : ℕ) where
     links_same : (line at first to lo : ℕ) (x : Links) → reads (links_code p tables r line at first to lo x) ≡ links_reads x
     links_same line at first to lo no_links = omega arith
     links_same line at first to lo (more_links how e rest) =
-        let inner : List Lined = expr_code p tables r line at lo e in
-        let one : List Lined = unless_bare (bare e) inner ++ own line (op_code how to first (value_at p tables r lo e) ∷ []) in
+        let inner : List LineInstr = expr_code p tables r line at lo e in
+        let one : List LineInstr = unless_bare (bare e) inner ++ own line (op_code how to first (value_at p tables r lo e) ∷ []) in
         let lo2 : ℕ = behind_value p r lo e in
         omega (
           arith,
@@ -798,7 +801,7 @@ module _ (p : Program) (tables : Tables) (r : ℕ) where
     args_same : (line at to lo : ℕ) (x : Args) → reads (args_code p tables r line at to lo x) ≡ args_reads x
     args_same line at to lo no_args = omega arith
     args_same line at to lo (more_args a rest) =
-        let one : List Lined = arg_code p tables r line at to lo a in
+        let one : List LineInstr = arg_code p tables r line at to lo a in
         let lo2 : ℕ = lo + length (arg_slots p r a) in
         omega (
           arith,
@@ -814,10 +817,10 @@ module _ (p : Program) (tables : Tables) (r : ℕ) where
         (unless_bare (bare e) (expr_code p tables r line at lo e)) (fit_quiet range v)
         ∙ once e (expr_code p tables r line at lo e) (expr_same line at lo e)
     arg_same line at to lo (ByCells d) =
-        let made : List Lined = desig_code p tables r line at lo d in
+        let made : List LineInstr = desig_code p tables r line at lo d in
         ap reads (handed_is p tables r to line at lo d) ∙ placed_reads to made ∙ desig_same line at lo d
     arg_same line at to lo (ByPlace d) =
-        let made : List Lined = desig_code p tables r line at lo d in
+        let made : List LineInstr = desig_code p tables r line at lo d in
         ap reads (handed_is p tables r to line at lo d) ∙ placed_reads to made ∙ desig_same line at lo d
     arg_same line at to lo (MixValue e range) =
         let v : ℕ = value_at p tables r lo e in
@@ -825,7 +828,7 @@ module _ (p : Program) (tables : Tables) (r : ℕ) where
         (unless_bare (bare e) (expr_code p tables r line at lo e)) (fit_quiet range v)
         ∙ once e (expr_code p tables r line at lo e) (expr_same line at lo e)
     arg_same line at to lo (MixPlace d) =
-        let made : List Lined = desig_code p tables r line at lo d in
+        let made : List LineInstr = desig_code p tables r line at lo d in
         ap reads (handed_is p tables r to line at lo d) ∙ placed_reads to made ∙ desig_same line at lo d
 
     jump_same : (line at lo none : ℕ) (x : Test) → is_simple x ≡ true → reads (jump_code p tables r line at lo none x) ≡ test_reads x
@@ -855,51 +858,51 @@ module _ (p : Program) (tables : Tables) (r : ℕ) where
     )
     test_same line at lo (Bind d e range true) =
         let lo2 : ℕ = behind_desig p r lo d in
-        let one : List Lined = held_code p tables r line at lo d in
-        let inner : List Lined = expr_code p tables r line (at + length one) lo2 e in
-        let two : List Lined = unless_bare (bare e) inner in
+        let one : List LineInstr = held_code p tables r line at lo d in
+        let inner : List LineInstr = expr_code p tables r line (at + length one) lo2 e in
+        let two : List LineInstr = unless_bare (bare e) inner in
         omega (
           arith,
           then_own line (one ++ two)
               (I.Bind (held_at p tables r lo d) (value_at p tables r lo2 e) (range_number tables range) ∷ []) (λ l. refl),
           both one two,
           once e inner (expr_same line (at + length one) lo2 e),
-          placed d (desig_code p tables r line at lo d) (desig_same line at lo d),
+          place_code d (desig_code p tables r line at lo d) (desig_same line at lo d),
           expr_same line (at + length one) lo2 e,
         )
     test_same line at lo (Bind d e range false) =
         let lo2 : ℕ = behind_expr p r lo e in
-        let one : List Lined = expr_code p tables r line at lo e in
-        let two : List Lined = held_code p tables r line (at + length one) lo2 d in
+        let one : List LineInstr = expr_code p tables r line at lo e in
+        let two : List LineInstr = held_code p tables r line (at + length one) lo2 d in
         omega (
           arith,
           then_own line (one ++ two) (I.Bind (held_at p tables r lo2 d) lo (range_number tables range) ∷ []) (λ l. refl),
           both one two,
           expr_same line at lo e,
-          placed d (desig_code p tables r line (at + length one) lo2 d) (desig_same line (at + length one) lo2 d),
+          place_code d (desig_code p tables r line (at + length one) lo2 d) (desig_same line (at + length one) lo2 d),
         )
     test_same line at lo (Unify d range e range2) =
         let lo2 : ℕ = behind_desig p r lo d in
-        let one : List Lined = held_code p tables r line at lo d in
-        let two : List Lined = held_code p tables r line (at + length one) lo2 e in
+        let one : List LineInstr = held_code p tables r line at lo d in
+        let two : List LineInstr = held_code p tables r line (at + length one) lo2 e in
         omega (
           arith,
           then_own line (one ++ two) (I.Unify (held_at p tables r lo d) (range_number tables range) (held_at p tables r lo2 e)
               (range_number tables range2) ∷ []) (λ l. refl),
           both one two,
-          placed d (desig_code p tables r line at lo d) (desig_same line at lo d),
-          placed e (desig_code p tables r line (at + length one) lo2 e) (desig_same line (at + length one) lo2 e),
+          place_code d (desig_code p tables r line at lo d) (desig_same line at lo d),
+          place_code e (desig_code p tables r line (at + length one) lo2 e) (desig_same line (at + length one) lo2 e),
         )
     test_same line at lo (SameCells d e) =
         let lo2 : ℕ = behind_desig p r lo d in
-        let one : List Lined = held_code p tables r line at lo d in
-        let two : List Lined = held_code p tables r line (at + length one) lo2 e in
+        let one : List LineInstr = held_code p tables r line at lo d in
+        let two : List LineInstr = held_code p tables r line (at + length one) lo2 e in
         omega (
           arith,
           then_own line (one ++ two) (I.SameCells (held_at p tables r lo d) (held_at p tables r lo2 e) ∷ []) (λ l. refl),
           both one two,
-          placed d (desig_code p tables r line at lo d) (desig_same line at lo d),
-          placed e (desig_code p tables r line (at + length one) lo2 e) (desig_same line (at + length one) lo2 e),
+          place_code d (desig_code p tables r line at lo d) (desig_same line at lo d),
+          place_code e (desig_code p tables r line (at + length one) lo2 e) (desig_same line (at + length one) lo2 e),
         )
     test_same line at lo (Seq x) = omega (arith, stmts_same at lo x)
     test_same line at lo (And ts) = omega (arith, and_same line at lo ts)
@@ -914,7 +917,7 @@ module _ (p : Program) (tables : Tables) (r : ℕ) where
         let link : List Instr = call_link_code p tables r called up lo in
         let next : ℕ = at + length (own line link) in
         let lo2 : ℕ = to + length (handed_slots args) in
-        let two : List Lined = args_code p tables r line next to lo2 args in
+        let two : List LineInstr = args_code p tables r line next to lo2 args in
         omega (
           arith,
           then_own line (own line link ++ two) (call_code p tables r called args up lo 0 ∷ []) (λ l. refl),
@@ -925,7 +928,7 @@ module _ (p : Program) (tables : Tables) (r : ℕ) where
     and_same : (line at lo : ℕ) (x : Tests) → reads (and_code p tables r line at lo x) ≡ tests_reads x
     and_same line at lo no_tests = omega arith
     and_same line at lo (more_tests t rest) =
-        let one : List Lined = test_code p tables r line at lo t in
+        let one : List LineInstr = test_code p tables r line at lo t in
         let lo2 : ℕ = behind_test p r lo t in
         omega (
           arith,
@@ -938,8 +941,8 @@ module _ (p : Program) (tables : Tables) (r : ℕ) where
     or_same line at lo no_tests = omega arith
     or_same line at lo (more_tests t no_tests) = omega (arith, test_same line at lo t)
     or_same line at lo (more_tests t (more_tests t2 rest)) =
-        let inner : List Lined = test_code p tables r line (at + 2) (lo + 1) t in
-        let one : List Lined = first_of_two line (at + 2) lo inner in
+        let inner : List LineInstr = test_code p tables r line (at + 2) (lo + 1) t in
+        let one : List LineInstr = first_of_two line (at + 2) lo inner in
         let lo2 : ℕ = behind_test p r (lo + 1) t in
         omega (
           arith,
@@ -953,8 +956,8 @@ module _ (p : Program) (tables : Tables) (r : ℕ) where
     operands_same line jump at lo no_tests = omega arith
     operands_same line jump at lo (more_tests t no_tests) = omega (arith, test_same line at lo t)
     operands_same line jump at lo (more_tests t (more_tests t2 rest)) =
-        let inner : List Lined = test_code p tables r line (at + 2) (lo + 1) t in
-        let one : List Lined = first_of_two line (at + 2) lo inner in
+        let inner : List LineInstr = test_code p tables r line (at + 2) (lo + 1) t in
+        let one : List LineInstr = first_of_two line (at + 2) lo inner in
         let lo2 : ℕ = behind_test p r (lo + 1) t in
         let next : ℕ = at + length (one ++ own line (I.Jump jump ∷ [])) in
         omega (
@@ -968,7 +971,7 @@ module _ (p : Program) (tables : Tables) (r : ℕ) where
     pub stmts_same : (at lo : ℕ) (x : Stmts) → reads (stmts_code p tables r at lo x) ≡ stmts_reads x
     stmts_same at lo no_stmts = omega arith
     stmts_same at lo (more_stmts mine x rest) =
-        let one : List Lined = stmt_code p tables r mine at lo x in
+        let one : List LineInstr = stmt_code p tables r mine at lo x in
         let lo2 : ℕ = behind_stmt p r lo x in
         omega (
           arith,
@@ -982,29 +985,29 @@ module _ (p : Program) (tables : Tables) (r : ℕ) where
     stmt_same line at lo (Assign d e range) =
         let lo2 : ℕ = behind_target p r lo d in
         let v : ℕ = value_at p tables r lo2 e in
-        let place : List Lined = held_code p tables r line at lo d in
-        let one : List Lined = unless_bare (bare_desig d) place in
-        let inner : List Lined = expr_code p tables r line (at + length one) lo2 e in
-        let two : List Lined = unless_bare (bare e) inner in
+        let place : List LineInstr = held_code p tables r line at lo d in
+        let one : List LineInstr = unless_bare (bare_desig d) place in
+        let inner : List LineInstr = expr_code p tables r line (at + length one) lo2 e in
+        let two : List LineInstr = unless_bare (bare e) inner in
         omega (
           arith,
           set_reads (goes_straight d e range) line (one ++ two) (fit_code tables range v ++ (set_code p tables r lo v d ∷ []))
               (quiet_two (fit_code tables range v) (set_code p tables r lo v d ∷ []) (fit_quiet range v) (set_quiet lo v d)),
           both one two,
-          located d place (placed d (desig_code p tables r line at lo d) (desig_same line at lo d)),
+          located d place (place_code d (desig_code p tables r line at lo d) (desig_same line at lo d)),
           once e inner (expr_same line (at + length one) lo2 e),
           expr_same line (at + length one) lo2 e,
         )
     stmt_same line at lo (CopyCells d e) =
         let lo2 : ℕ = behind_desig p r lo d in
-        let one : List Lined = held_code p tables r line at lo d in
-        let two : List Lined = held_code p tables r line (at + length one) lo2 e in
+        let one : List LineInstr = held_code p tables r line at lo d in
+        let two : List LineInstr = held_code p tables r line (at + length one) lo2 e in
         omega (
           arith,
           then_own line (one ++ two) (I.CopyCells (held_at p tables r lo d) (held_at p tables r lo2 e) ∷ []) (λ l. refl),
           both one two,
-          placed d (desig_code p tables r line at lo d) (desig_same line at lo d),
-          placed e (desig_code p tables r line (at + length one) lo2 e) (desig_same line (at + length one) lo2 e),
+          place_code d (desig_code p tables r line at lo d) (desig_same line at lo d),
+          place_code e (desig_code p tables r line (at + length one) lo2 e) (desig_same line (at + length one) lo2 e),
         )
     stmt_same line at lo (If arms rest) =
         let z = if_same line at lo arms (λ next la. stmts_code p tables r next la rest) (stmts_reads rest)
@@ -1016,7 +1019,7 @@ module _ (p : Program) (tables : Tables) (r : ℕ) where
         omega (arith, z)
     stmt_same line at lo (Repeat body t) =
         let lo2 : ℕ = behind_stmts p r lo body in
-        let one : List Lined = stmts_code p tables r at lo body in
+        let one : List LineInstr = stmts_code p tables r at lo body in
         let next : ℕ = at + length one in
         let z = decides line next lo2 at t (test_reads t) (jump_same line next lo2 at t) (test_same line (next + 2) (lo2 + 1) t) in
         omega (arith, z, both one (condition_code line next lo2 at t), stmts_same at lo body)
@@ -1025,12 +1028,12 @@ module _ (p : Program) (tables : Tables) (r : ℕ) where
     stmt_same line at lo (Case e arms rest) =
         let first : ℕ = behind_expr p r lo e in
         let bound : ℕ = behind_dead p r first arms in
-        let one : List Lined = expr_code p tables r line at lo e in
+        let one : List LineInstr = expr_code p tables r line at lo e in
         let next : ℕ = at + length one in
-        let dead : List Lined = dead_code p tables r (next + 1) first arms in
-        let over : List Lined = passed_over (has_dead arms) line next dead in
+        let dead : List LineInstr = dead_code p tables r (next + 1) first arms in
+        let over : List LineInstr = passed_over (has_dead arms) line next dead in
         let begin : ℕ = next + length over in
-        let tried : List Lined = case_code p tables r line lo bound begin (bound + 2) arms
+        let tried : List LineInstr = case_code p tables r line lo bound begin (bound + 2) arms
         (λ next la. else_code p tables r line next la rest) in
         let z = case_same line lo bound begin (bound + 2) arms (λ next la. else_code p tables r line next la rest) (else_reads rest)
         (λ next la. else_same line next la rest) in
@@ -1047,9 +1050,9 @@ module _ (p : Program) (tables : Tables) (r : ℕ) where
     stmt_same line at lo (Either x) = omega (arith, either_same line at lo x)
     stmt_same line at lo (Forall x y) =
         let inner : ℕ = behind_stmts p r (lo + 1) x in
-        let one : List Lined = stmts_code p tables r (at + 1) (lo + 1) x in
+        let one : List LineInstr = stmts_code p tables r (at + 1) (lo + 1) x in
         let n : ℕ = at + 1 + length one in
-        let two : List Lined = stmts_code p tables r (n + 2) (inner + 1) y in
+        let two : List LineInstr = stmts_code p tables r (n + 2) (inner + 1) y in
         omega (
           arith,
           forall_reads line (at + 1) lo (one ++ each_body line (n + 2) lo inner two),
@@ -1059,7 +1062,7 @@ module _ (p : Program) (tables : Tables) (r : ℕ) where
           stmts_same (n + 2) (inner + 1) y,
         )
     stmt_same line at lo (Commit x) =
-        let inner : List Lined = stmts_code p tables r (at + 1) (lo + 1) x in
+        let inner : List LineInstr = stmts_code p tables r (at + 1) (lo + 1) x in
         omega (
           arith,
           own_then line (I.Mark lo ∷ []) (inner ++ own line (I.Cut lo ∷ [])) (λ l. refl),
@@ -1084,7 +1087,7 @@ module _ (p : Program) (tables : Tables) (r : ℕ) where
           both (held_code p tables r line at lo d)
               (own line (read_code how (held_at p tables r lo d) (range_number tables range) ∷ [])),
           read_one how (held_at p tables r lo d) (range_number tables range) line,
-          placed d (desig_code p tables r line at lo d) (desig_same line at lo d),
+          place_code d (desig_code p tables r line at lo d) (desig_same line at lo d),
         )
     stmt_same line at lo (WriteExpr e how) =
         omega (
@@ -1097,25 +1100,25 @@ module _ (p : Program) (tables : Tables) (r : ℕ) where
     stmt_same line at lo (WriteText text) = omega arith
     stmt_same line at lo WriteLine = omega arith
 
-    if_same : (line at lo : ℕ) (x : Arms) (otherwise : (at lo : ℕ) → List Lined) (n : ℕ) → ((at lo : ℕ) → reads (otherwise at lo) ≡ n)
+    if_same : (line at lo : ℕ) (x : Arms) (otherwise : (at lo : ℕ) → List LineInstr) (n : ℕ) → ((at lo : ℕ) → reads (otherwise at lo) ≡ n)
         → reads (if_code p tables r line at lo x otherwise) ≡ arms_reads x + n
     if_same line at lo no_arms otherwise n f = let z = f at lo in omega (arith, z)
     if_same line at lo (more_arms t body rest) otherwise n f =
         let lo2 : ℕ = behind_condition p r lo t in
         let lo3 : ℕ = behind_stmts p r lo2 body in
-        let one : List Lined = guarded_code line at lo 1 t (λ next. stmts_code p tables r next lo2 body) in
+        let one : List LineInstr = guarded_code line at lo 1 t (λ next. stmts_code p tables r next lo2 body) in
         let z = asked line at lo 1 t (λ next. stmts_code p tables r next lo2 body) (test_reads t) (stmts_reads body)
         (λ none. jump_same line at lo none t) (λ at lo. test_same line at lo t) (λ next. stmts_same next lo2 body) in
         let others = arms_same line (at + length one) (at + length one + 1) lo3 rest otherwise n f in
         omega (arith, z, others, leaving_reads line at one (λ next jump. arms_code p tables r line jump next lo3 rest otherwise))
 
-    arms_same : (line jump at lo : ℕ) (x : Arms) (otherwise : (at lo : ℕ) → List Lined) (n : ℕ)
+    arms_same : (line jump at lo : ℕ) (x : Arms) (otherwise : (at lo : ℕ) → List LineInstr) (n : ℕ)
         → ((at lo : ℕ) → reads (otherwise at lo) ≡ n) → reads (arms_code p tables r line jump at lo x otherwise) ≡ arms_reads x + n
     arms_same line jump at lo no_arms otherwise n f = let z = f at lo in omega (arith, z)
     arms_same line jump at lo (more_arms t body rest) otherwise n f =
         let lo2 : ℕ = behind_condition p r lo t in
         let lo3 : ℕ = behind_stmts p r lo2 body in
-        let one : List Lined = guarded_code line at lo 1 t (λ next. stmts_code p tables r next lo2 body) in
+        let one : List LineInstr = guarded_code line at lo 1 t (λ next. stmts_code p tables r next lo2 body) in
         let z = asked line at lo 1 t (λ next. stmts_code p tables r next lo2 body) (test_reads t) (stmts_reads body)
         (λ none. jump_same line at lo none t) (λ at lo. test_same line at lo t) (λ next. stmts_same next lo2 body) in
         let next : ℕ = at + length (one ++ own line (I.Jump jump ∷ [])) in
@@ -1125,7 +1128,7 @@ module _ (p : Program) (tables : Tables) (r : ℕ) where
     dead_same : (at lo : ℕ) (x : CaseArms) → reads (dead_code p tables r at lo x) ≡ dead_reads x
     dead_same at lo no_cases = refl
     dead_same at lo (more_cases [] body rest) =
-        let one : List Lined = stmts_code p tables r at lo body in
+        let one : List LineInstr = stmts_code p tables r at lo body in
         let lo2 : ℕ = behind_stmts p r lo body in
         omega (
           arith,
@@ -1135,14 +1138,14 @@ module _ (p : Program) (tables : Tables) (r : ℕ) where
         )
     dead_same at lo (more_cases (label ∷ labels) body rest) = dead_same at lo rest
 
-    case_same : (line value bound at lo : ℕ) (x : CaseArms) (otherwise : (at lo : ℕ) → List Lined) (n : ℕ)
+    case_same : (line value bound at lo : ℕ) (x : CaseArms) (otherwise : (at lo : ℕ) → List LineInstr) (n : ℕ)
         → ((at lo : ℕ) → reads (otherwise at lo) ≡ n) → reads (case_code p tables r line value bound at lo x otherwise) ≡ live_reads x + n
     case_same line value bound at lo no_cases otherwise n f = let z = f at lo in omega (arith, z)
     case_same line value bound at lo (more_cases [] body rest) otherwise n f = let z =
         case_same line value bound at lo rest otherwise n f in omega (arith, z)
     case_same line value bound at lo (more_cases (label ∷ labels) body rest) otherwise n f =
-        let inner : List Lined = stmts_code p tables r (behind_labels at label labels) lo body in
-        let one : List Lined = case_arm line value bound at label labels inner in
+        let inner : List LineInstr = stmts_code p tables r (behind_labels at label labels) lo body in
+        let one : List LineInstr = case_arm line value bound at label labels inner in
         let lo2 : ℕ = behind_stmts p r lo body in
         let others = cases_same line value bound (at + length one) (at + length one + 1) lo2 rest otherwise n f in
         omega (
@@ -1153,15 +1156,15 @@ module _ (p : Program) (tables : Tables) (r : ℕ) where
           stmts_same (behind_labels at label labels) lo body,
         )
 
-    cases_same : (line value bound jump at lo : ℕ) (x : CaseArms) (otherwise : (at lo : ℕ) → List Lined) (n : ℕ)
+    cases_same : (line value bound jump at lo : ℕ) (x : CaseArms) (otherwise : (at lo : ℕ) → List LineInstr) (n : ℕ)
         → ((at lo : ℕ) → reads (otherwise at lo) ≡ n)
         → reads (cases_code p tables r line value bound jump at lo x otherwise) ≡ live_reads x + n
     cases_same line value bound jump at lo no_cases otherwise n f = let z = f at lo in omega (arith, z)
     cases_same line value bound jump at lo (more_cases [] body rest) otherwise n f = let z =
         cases_same line value bound jump at lo rest otherwise n f in omega (arith, z)
     cases_same line value bound jump at lo (more_cases (label ∷ labels) body rest) otherwise n f =
-        let inner : List Lined = stmts_code p tables r (behind_labels at label labels) lo body in
-        let one : List Lined = case_arm line value bound at label labels inner in
+        let inner : List LineInstr = stmts_code p tables r (behind_labels at label labels) lo body in
+        let one : List LineInstr = case_arm line value bound at label labels inner in
         let lo2 : ℕ = behind_stmts p r lo body in
         let next : ℕ = at + length (one ++ own line (I.Jump jump ∷ [])) in
         let others = cases_same line value bound jump next lo2 rest otherwise n f in
@@ -1181,8 +1184,8 @@ module _ (p : Program) (tables : Tables) (r : ℕ) where
     either_same line at lo no_branches = omega arith
     either_same line at lo (more_branches body no_branches) = omega (arith, stmts_same at lo body)
     either_same line at lo (more_branches body (more_branches body2 rest)) =
-        let inner : List Lined = stmts_code p tables r (at + 1) lo body in
-        let one : List Lined = chosen line (at + 1) inner in
+        let inner : List LineInstr = stmts_code p tables r (at + 1) lo body in
+        let one : List LineInstr = branch_code line (at + 1) inner in
         let lo2 : ℕ = behind_stmts p r lo body in
         omega (
           arith,
@@ -1196,8 +1199,8 @@ module _ (p : Program) (tables : Tables) (r : ℕ) where
     branches_same line jump at lo no_branches = omega arith
     branches_same line jump at lo (more_branches body no_branches) = omega (arith, stmts_same at lo body)
     branches_same line jump at lo (more_branches body (more_branches body2 rest)) =
-        let inner : List Lined = stmts_code p tables r (at + 1) lo body in
-        let one : List Lined = chosen line (at + 1) inner in
+        let inner : List LineInstr = stmts_code p tables r (at + 1) lo body in
+        let one : List LineInstr = branch_code line (at + 1) inner in
         let lo2 : ℕ = behind_stmts p r lo body in
         let next : ℕ = at + length (one ++ own line (I.Jump jump ∷ [])) in
         omega (
@@ -1216,10 +1219,11 @@ module _ (p : Program) (tables : Tables) (r : ℕ) where
         let count : ℕ = own_slot p tables r counter in
         let l : ℕ = own_slot p tables r limit in
         let v : ℕ = value_at p tables r last to in
-        let one : List Lined = begin_loop line at lo by (λ at. unless_constant (constant from) (expr_code p tables r line at (lo + 1) from))
+        let one : List LineInstr = begin_loop line at lo
+        by (λ at. unless_constant (constant from) (expr_code p tables r line at (lo + 1) from))
         (λ at. limit_code (ends_alone to) line l v (unless_bare (bare to) (expr_code p tables r line at last to))) in
         let next : ℕ = at + length one in
-        let each : List Lined = turn_of line (next + 3) count place d range (λ at. stmts_code p tables r at lo2 body) in
+        let each : List LineInstr = turn_of line (next + 3) count place d range (λ at. stmts_code p tables r at lo2 body) in
         let begin = begin_reads line at lo by (λ at. unless_constant (constant from) (expr_code p tables r line at (lo + 1) from))
         (λ at. limit_code (ends_alone to) line l v (unless_bare (bare to) (expr_code p tables r line at last to))) (expr_reads from)
         (expr_reads to) (λ at. constant_once from (expr_code p tables r line at (lo + 1) from) (expr_same line at (lo + 1) from))
@@ -1242,11 +1246,11 @@ module _ (p : Program) (tables : Tables) (r : ℕ) where
         let count : ℕ = own_slot p tables r counter in
         let l : ℕ = own_slot p tables r limit in
         let v : ℕ = value_at p tables r last to in
-        let one : List Lined = begin_loop line at lo (pos 1)
+        let one : List LineInstr = begin_loop line at lo (pos 1)
         (λ at. unless_constant (constant from) (expr_code p tables r line at (lo + 1) from))
         (λ at. limit_code (ends_alone to) line l v (unless_bare (bare to) (expr_code p tables r line at last to))) in
         let next : ℕ = at + length one in
-        let each : List Lined = turn_of line (next + 8) count (more + 1) d range (λ at. stmts_code p tables r at lo2 body) in
+        let each : List LineInstr = turn_of line (next + 8) count (more + 1) d range (λ at. stmts_code p tables r at lo2 body) in
         let begin = begin_reads line at lo (pos 1) (λ at. unless_constant (constant from) (expr_code p tables r line at (lo + 1) from))
         (λ at. limit_code (ends_alone to) line l v (unless_bare (bare to) (expr_code p tables r line at last to))) (expr_reads from)
         (expr_reads to) (λ at. constant_once from (expr_code p tables r line at (lo + 1) from) (expr_same line at (lo + 1) from))

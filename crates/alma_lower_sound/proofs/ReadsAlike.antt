@@ -17,7 +17,7 @@ use Rattle.alma_ir.specs.Lines.{body_with_lines}
 use Rattle.alma_ir.specs.Phrases.{Phrase, stmts_phrases, stmt_phrases, arms_phrases, cases_phrases, else_phrases, branches_phrases}
 use Rattle.alma_ir.specs.Phrases.{loop_phrases, return_phrases, test_phrases, tests_phrases, expr_phrases, links_phrases, args_phrases}
 use Rattle.alma_ir.specs.Phrases.{arg_phrases, desig_phrases, sels_phrases, sel_phrases}
-use Rattle.alma_lower_templates.specs.Lined.{Lined, own, instrs_of}
+use Rattle.alma_lower_templates.specs.LineInstr.{LineInstr, own, instrs_of}
 use Rattle.alma_lower_templates.specs.Tables.{Tables}
 use Rattle.alma_lower_templates.specs.Slots.{own_kinds}
 use Rattle.alma_lower_templates.specs.Templates.{stmts_code, routine_code, end_code}
@@ -173,7 +173,7 @@ mutual
 
 -- ---- whether there is one
 
-some_instr : (xs : List Lined) → list_any is_read (instrs_of xs) ≡ nat_lt 0 (reads xs)
+some_instr : (xs : List LineInstr) → list_any is_read (instrs_of xs) ≡ nat_lt 0 (reads xs)
 some_instr [] = refl
 some_instr (x ∷ xs) = by (is_read x.instr) (some_instr xs)
   where
@@ -201,7 +201,7 @@ module _ (p : Program) (tables : Tables) where
   routine_count r at =
       let mine : Routine = routine_at p r in
       let lo : ℕ = length (own_kinds mine) in
-      let body : List Lined = stmts_code p tables r at lo (body_with_lines mine) in
+      let body : List LineInstr = stmts_code p tables r at lo (body_with_lines mine) in
       omega (
         arith,
         both body (own mine.line (end_code p tables r mine.result ∷ [])),
@@ -215,7 +215,7 @@ module _ (p : Program) (tables : Tables) where
       → reads (routines_code p tables r (length xs) at) ≡ named (of_each (λ x. stmts_phrases x.body) xs)
   routines_count [] r at same = refl
   routines_count (x ∷ rest) r at same =
-      let first : List Lined = routine_code p tables r at in
+      let first : List LineInstr = routine_code p tables r at in
       let next : ℕ = at + length first in
       let here : r ≡ r + 0 = omega arith in
       let is : routine_at p r ≡ x = ap (routine_at p) here ∙ same 0 in
@@ -235,6 +235,6 @@ module _ (p : Program) (tables : Tables) where
 
 pub reads_alike : (p : Program) (code : PlainCode) → IsCodeOf p code → code_reads code ≡ program_reads p
 reads_alike p code is_code =
-    let all : List Lined = routines_code p is_code.tables 0 (length p.routines) 0 in
+    let all : List LineInstr = routines_code p is_code.tables 0 (length p.routines) 0 in
     let same = routines_count p is_code.tables p.routines 0 0 (λ i. (let z : 0 + i ≡ i = omega arith in ap (routine_at p) z)) in
     ap (λ c. list_any is_read c.instrs) is_code.is ∙ some_instr all ∙ ap (nat_lt 0) same ∙ sym (some_phrase (program_phrases p))

@@ -16,7 +16,7 @@ use Rattle.alma_ir.specs.declared.program.ArgKind.TheVariants as kind
 use Rattle.alma_ir.specs.declared.program.Param.{Param}
 use Rattle.alma_ir.specs.Tree.{Program, Routine, Global, routine_at, no_routine}
 use Rattle.alma_ir.specs.Checked.{IsChecked, IsName, HasOneCellAs}
-use Rattle.alma_lower_templates.specs.Lined.{Lined, line_from, lines_from}
+use Rattle.alma_lower_templates.specs.LineInstr.{LineInstr, line_from, lines_from}
 use Rattle.alma_lower_templates.specs.Compiled.{link_params, param_kind, param_named, global_named, routines_code}
 use Rattle.alma_lower_templates.specs.CodeOf.{IsCodeOf}
 use Rattle.alma_lower_sound.specs.Entries.{HoldsEachOnce}
@@ -76,7 +76,7 @@ all_cells (suc (suc above)) outer qs h = params_cells qs h
 
 -- ---- lines
 
-rise : (low all at before : ℕ) (xs : List Lined) → low ≤ at → at + length xs ≤ all → lines_rise low all (lines_from at before xs) ≡ true
+rise : (low all at before : ℕ) (xs : List LineInstr) → low ≤ at → at + length xs ≤ all → lines_rise low all (lines_from at before xs) ≡ true
 rise low all at before [] le few = refl
 rise low all at before (x ∷ xs) le few =
     by (nat_eq x.line before) (rise low all (suc at) x.line xs (omega (arith, le)) (omega (arith, few)))
@@ -111,7 +111,7 @@ module _ (p : Program) (code : PlainCode) (checked : IsChecked p) (is_code : IsC
 
   pub records : HoldsEachOnce p code → KeepsRecords code
   records held =
-      let all : List Lined = routines_code p is_code.tables 0 (length p.routines) 0 in
+      let all : List LineInstr = routines_code p is_code.tables 0 (length p.routines) 0 in
       let long : length code.instrs ≡ length all = ap (λ c. length c.instrs) is_code.is ∙ length-map all (λ x. x.instr) in
       record {
         routines = each_passes is_routine_record code.routines routine_record;

@@ -25,7 +25,7 @@ use Rattle.alma_ir.specs.Checked.{IsChecked, IsGlobal}
 use Rattle.alma_ir.specs.Count.{nodes, routines_nodes, routine_nodes}
 use Rattle.alma_ir.specs.Lines.{body_with_lines}
 use Rattle.alma_lower_implements.proofs.Frames.{own_end}
-use Rattle.alma_lower_templates.specs.Lined.{Lined, own}
+use Rattle.alma_lower_templates.specs.LineInstr.{LineInstr, own}
 use Rattle.alma_lower_templates.specs.Tables.{Tables}
 use Rattle.alma_lower_templates.specs.Slots.{link_kinds, own_kinds, param_kinds, params_kinds, routine_kinds, stmts_slots}
 use Rattle.alma_lower_templates.specs.Templates.{stmts_code, end_code}
@@ -142,7 +142,7 @@ module _ (p : Program) (code : PlainCode) (checked : IsChecked p) (is_code : IsC
     full = ap length (w.kinds r lt) ∙ sym slots_are
 
     -- none of these has a fault, where another stands behind them
-    none_faults : (xs : List Lined) (at : ℕ) → Stands code at xs → AllNeed code r xs → at + length xs < end_at code r → (i : ℕ)
+    none_faults : (xs : List LineInstr) (at : ℕ) → Stands code at xs → AllNeed code r xs → at + length xs < end_at code r → (i : ℕ)
         → i < length xs → instr_fault code r (at + i) (get_or code.instrs (at + i) I.Fail) ≡ None
     none_faults [] at stands needs le i small = absurd (omega (arith, small))
     none_faults (x ∷ xs) at stands needs le zero small =
@@ -158,10 +158,10 @@ module _ (p : Program) (code : PlainCode) (checked : IsChecked p) (is_code : IsC
     abbrev begin : ℕ
     begin = start_at code r
 
-    abbrev body : List Lined
+    abbrev body : List LineInstr
     body = stmts_code p tables r begin (length (own_kinds mine)) (body_with_lines mine)
 
-    abbrev last : List Lined
+    abbrev last : List LineInstr
     last = own mine.line (end_code p tables r mine.result ∷ [])
 
     stands : Stands code begin (body ++ last)

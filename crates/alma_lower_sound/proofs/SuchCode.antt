@@ -18,7 +18,7 @@ use Rattle.alma_ir.specs.Tree.{MixValue, Index}
 use Rattle.alma_ir.specs.Phrases.{Phrase, StmtPhrase, TestPhrase, ExprPhrase, ArgPhrase, SelPhrase, stmts_phrases}
 use Rattle.alma_ir.specs.Checked.{ranges_of}
 use Rattle.alma_lower_templates.specs.Runs.{NamesKinds, RunsDiffer}
-use Rattle.alma_lower_templates.specs.Tables.{Tables, same_range, same_text, counted, first_place}
+use Rattle.alma_lower_templates.specs.Tables.{Tables, same_range, same_text, count_past, first_place}
 use Rattle.alma_lower_templates.specs.Slots.{routine_kinds}
 use Rattle.alma_lower_templates.specs.Templates.{char_range}
 use Rattle.alma_lower_templates.specs.Compiled.{program_code}
@@ -192,7 +192,7 @@ module _ {A : Type 0} (same : A → A → Bool) (is : (a b : A) → same a b ≡
     where
       by : (t : Bool) → same x a ≡ t → ((i : ℕ) → i < length xs → get_or xs i a ≡ a → slice_get xs (first_place same xs a) ≡ Some a)
           → (i : ℕ) → i < length (x ∷ xs) → get_or (x ∷ xs) i a ≡ a
-          → slice_get (x ∷ xs) (counted t (first_place same xs a)) ≡ Some a
+          → slice_get (x ∷ xs) (count_past t (first_place same xs a)) ≡ Some a
       by true e2 later i small there = ap Some (is x a e2)
       by false e2 later zero small there = absurd (let no : true ≡ false = sym (ap (λ y. same y a) there ∙ itself a) ∙ e2 in cc)
       by false e2 later (suc i) small there = later i (omega (arith, small)) there

@@ -20,9 +20,10 @@ use Rattle.alma_ir.specs.Count.{stmts_nodes, stmt_nodes, arms_nodes, cases_nodes
 use Rattle.alma_ir.specs.Count.{tests_nodes, expr_nodes, links_nodes, args_nodes, arg_nodes, desig_nodes, sels_nodes, sel_nodes}
 use Rattle.alma_lower_templates.proofs.Tested.{compared_code, Tested, tested, as_value, as_unequal}
 use Rattle.alma_lower_templates.proofs.Turned.{Turned, compares_two, turned, while_code}
-use Rattle.alma_lower_templates.specs.Lined.{Lined, own, leaving, line_from, lines_from}
+use Rattle.alma_lower_templates.specs.LineInstr.{LineInstr, own, leaving, line_from, lines_from}
 use Rattle.alma_lower_templates.specs.Tables.{Tables, range_number, text_number}
-use Rattle.alma_lower_templates.specs.Pieces.{condition, guarded, chosen, first_of_two, refused, fit_code, neg_code, op_code, cmp_code}
+use Rattle.alma_lower_templates.specs.Pieces.{condition, guard_code, branch_code, first_of_two, not_code, fit_code, neg_code, op_code}
+use Rattle.alma_lower_templates.specs.Pieces.{cmp_code}
 use Rattle.alma_lower_templates.specs.Pieces.{unequal_code, opposite_code, write_code, read_code, case_arm, passed_over, has_dead}
 use Rattle.alma_lower_templates.specs.Pieces.{behind_labels, aim, aim_place, with_last}
 use Rattle.alma_lower_templates.specs.Pieces.{labels_code, begin_loop, bounds_code, for_turns, some_turns, turn_code, each_body}
@@ -73,12 +74,12 @@ hop_over a b c = by (nat_eq b a) refl (nat_eq c b) refl
     by true e true e2 = subst (λ n. hop a n ≤ hop a b + hop b n) (sym (eqb-true c b e2)) (omega (arith, hop_none b))
 
 -- from a line through those of the code to another
-abbrev pub walk : (from : ℕ) → List Lined → (to : ℕ) → ℕ
+abbrev pub walk : (from : ℕ) → List LineInstr → (to : ℕ) → ℕ
 walk from [] to = hop from to
 walk from (x ∷ xs) to = hop from x.line + walk x.line xs to
 
 -- the table has no more records than a walk has steps
-pub records_few : (at from : ℕ) (xs : List Lined) (to : ℕ) → length (lines_from at from xs) ≤ walk from xs to
+pub records_few : (at from : ℕ) (xs : List LineInstr) (to : ℕ) → length (lines_from at from xs) ≤ walk from xs to
 unfolding hop
 records_few at from [] to = omega arith
 records_few at from (x ∷ xs) to = by (nat_eq x.line from) (records_few (suc at) x.line xs to)
@@ -88,101 +89,102 @@ records_few at from (x ∷ xs) to = by (nat_eq x.line from) (records_few (suc at
     by true rest = omega (arith, rest)
     by false rest = omega (arith, rest)
 
-pub from_other : (a b : ℕ) (xs : List Lined) (to : ℕ) → walk a xs to ≤ hop a b + walk b xs to
+pub from_other : (a b : ℕ) (xs : List LineInstr) (to : ℕ) → walk a xs to ≤ hop a b + walk b xs to
 from_other a b [] to = hop_over a b to
 from_other a b (x ∷ xs) to = omega (arith, hop_over a b x.line)
 
-pub walk_two : (a b c : ℕ) (xs ys : List Lined) → walk a (xs ++ ys) c ≤ walk a xs b + walk b ys c
+pub walk_two : (a b c : ℕ) (xs ys : List LineInstr) → walk a (xs ++ ys) c ≤ walk a xs b + walk b ys c
 walk_two a b c [] ys = from_other a b ys c
 walk_two a b c (x ∷ xs) ys = omega (arith, walk_two x.line b c xs ys)
 
-to_other : (a b c : ℕ) (xs : List Lined) → walk a xs c ≤ walk a xs b + hop b c
+to_other : (a b c : ℕ) (xs : List LineInstr) → walk a xs c ≤ walk a xs b + hop b c
 to_other a b c [] = hop_over a b c
 to_other a b c (x ∷ xs) = omega (arith, to_other x.line b c xs)
 
 -- code of one line within that of another
-around : (a line c : ℕ) (xs : List Lined) → walk a xs c ≤ 2 + walk line xs line
+around : (a line c : ℕ) (xs : List LineInstr) → walk a xs c ≤ 2 + walk line xs line
 around a line c xs = omega (arith, from_other a line xs c, to_other line line c xs, hop_few a line, hop_few line c)
 
 -- code with its last instruction changed
-last_walk : (change : Instr → Instr) (from line : ℕ) (xs : List Lined) → walk from (with_last change xs) line ≡ walk from xs line
+last_walk : (change : Instr → Instr) (from line : ℕ) (xs : List LineInstr) → walk from (with_last change xs) line ≡ walk from xs line
 last_walk change from line [] = refl
 last_walk change from line (x ∷ []) = refl
 last_walk change from line (x ∷ (y ∷ rest)) = ap (λ n. hop from x.line + n) (last_walk change x.line line (y ∷ rest))
 
-straight_walk : (from to line : ℕ) (xs : List Lined) → walk from (straight to xs) line ≡ walk from xs line
+straight_walk : (from to line : ℕ) (xs : List LineInstr) → walk from (straight to xs) line ≡ walk from xs line
 straight_walk from to line xs = last_walk (aim to) from line xs
 
 module _ (line : ℕ) where
   -- from a line and back to it
-  abbrev pub round : List Lined → ℕ
+  abbrev pub round : List LineInstr → ℕ
   round xs = walk line xs line
 
   own_round : (xs : List Instr) → round (own line xs) ≡ 0
   own_round [] = hop_none line
   own_round (x ∷ xs) = omega (arith, hop_none line, own_round xs)
 
-  both : (a b : List Lined) → round (a ++ b) ≤ round a + round b
+  both : (a b : List LineInstr) → round (a ++ b) ≤ round a + round b
   both a b = walk_two line line line a b
 
-  pub then_own : (a : List Lined) (xs : List Instr) → round (a ++ own line xs) ≤ round a
+  pub then_own : (a : List LineInstr) (xs : List Instr) → round (a ++ own line xs) ≤ round a
   then_own a xs = omega (arith, both a (own line xs), own_round xs)
 
   -- instructions of the line at its end add nothing
-  ends_alike : (from : ℕ) (a : List Lined) (xs : List Instr) → walk from (a ++ own line xs) line ≡ walk from a line
+  ends_alike : (from : ℕ) (a : List LineInstr) (xs : List Instr) → walk from (a ++ own line xs) line ≡ walk from a line
   ends_alike from [] [] = refl
   ends_alike from [] (x ∷ xs) = omega (arith, own_round xs)
   ends_alike from (y ∷ a) xs = ap (λ n. hop from y.line + n) (ends_alike y.line a xs)
 
-  own_then : (xs : List Instr) (a : List Lined) → round (own line xs ++ a) ≤ round a
+  own_then : (xs : List Instr) (a : List LineInstr) → round (own line xs ++ a) ≤ round a
   own_then xs a = omega (arith, both (own line xs) a, own_round xs)
 
-  unless_round : (o : Option ℕ) (c : List Lined) → round (unless_bare o c) ≤ round c
+  unless_round : (o : Option ℕ) (c : List LineInstr) → round (unless_bare o c) ≤ round c
   unless_round (Some n) c = omega (arith, hop_none line, at_least c)
     where
-      at_least : (xs : List Lined) → 0 ≤ round xs
+      at_least : (xs : List LineInstr) → 0 ≤ round xs
       at_least xs = omega arith
   unless_round None c = omega arith
 
-  leaving_round : (at : ℕ) (a : List Lined) (rest : (at jump : ℕ) → List Lined)
+  leaving_round : (at : ℕ) (a : List LineInstr) (rest : (at jump : ℕ) → List LineInstr)
       → round (leaving line at a rest) ≤ round a + round (rest (at + length a + 1) (at + length a))
   leaving_round at a rest =
       let jump : ℕ = at + length a in
-      let b : List Lined = rest (jump + 1) jump in
+      let b : List LineInstr = rest (jump + 1) jump in
       let over : List Instr = I.Jump (jump + 1 + length b) ∷ [] in
       omega (arith, both a (own line over ++ b), own_then over b)
 
-  by_jump_round : (jump : ℕ) (a b : List Lined) → round ((a ++ own line (I.Jump jump ∷ [])) ++ b) ≤ round a + round b
+  by_jump_round : (jump : ℕ) (a b : List LineInstr) → round ((a ++ own line (I.Jump jump ∷ [])) ++ b) ≤ round a + round b
   by_jump_round jump a b = omega (arith, both (a ++ own line (I.Jump jump ∷ [])) b, then_own a (I.Jump jump ∷ []))
 
-  condition_round : (simple : Bool) (at lo none : ℕ) (jump : (at lo none : ℕ) → List Lined) (test : (at lo : ℕ) → List Lined) (n : ℕ)
+  condition_round : (simple : Bool) (at lo none : ℕ) (jump : (at lo none : ℕ) → List LineInstr) (test : (at lo : ℕ) → List LineInstr)
+      (n : ℕ)
       → round (jump at lo none) ≤ n → round (test (at + 2) (lo + 1)) ≤ n → round (condition simple line at lo none jump test) ≤ n
   condition_round true at lo none jump test n j t = j
   condition_round false at lo none jump test n j t =
-      let inner : List Lined = test (at + 2) (lo + 1) in
+      let inner : List LineInstr = test (at + 2) (lo + 1) in
       omega (arith, t, own_then (I.Mark lo ∷ I.Choose none ∷ []) (inner ++ own line (I.Cut lo ∷ [])), then_own inner (I.Cut lo ∷ []))
 
-  guarded_round : (at skipped : ℕ) (cond : (none : ℕ) → List Lined) (body : (at : ℕ) → List Lined) (m n : ℕ)
-      → ((none : ℕ) → round (cond none) ≤ m) → ((at : ℕ) → round (body at) ≤ n) → round (guarded at skipped cond body) ≤ m + n
+  guarded_round : (at skipped : ℕ) (cond : (none : ℕ) → List LineInstr) (body : (at : ℕ) → List LineInstr) (m n : ℕ)
+      → ((none : ℕ) → round (cond none) ≤ m) → ((at : ℕ) → round (body at) ≤ n) → round (guard_code at skipped cond body) ≤ m + n
   guarded_round at skipped cond body m n c b =
       let behind : ℕ = at + length (cond 0) in
-      let inner : List Lined = body behind in
+      let inner : List LineInstr = body behind in
       let none : ℕ = behind + length inner + skipped in
       let x = c none in
       let y = b behind in
       omega (arith, x, y, both (cond none) inner)
 
-  chosen_round : (at : ℕ) (a : List Lined) → round (chosen line at a) ≤ round a
+  chosen_round : (at : ℕ) (a : List LineInstr) → round (branch_code line at a) ≤ round a
   chosen_round at a = own_then (I.Choose (at + length a + 1) ∷ []) a
 
-  first_round : (at mark : ℕ) (a : List Lined) → round (first_of_two line at mark a) ≤ round a
+  first_round : (at mark : ℕ) (a : List LineInstr) → round (first_of_two line at mark a) ≤ round a
   first_round at mark a = omega (
     arith,
     own_then (I.Mark mark ∷ I.Choose (at + length a + 2) ∷ []) (a ++ own line (I.Cut mark ∷ [])),
     then_own a (I.Cut mark ∷ []),
   )
 
-  refused_round : (at mark : ℕ) (a : List Lined) → round (refused line at mark a) ≤ round a
+  refused_round : (at mark : ℕ) (a : List LineInstr) → round (not_code line at mark a) ≤ round a
   refused_round at mark a = omega (
     arith,
     own_then (I.Mark mark ∷ I.Choose (at + length a + 2) ∷ [])
@@ -190,7 +192,7 @@ module _ (line : ℕ) where
     then_own a (I.Cut mark ∷ I.Fail ∷ []),
   )
 
-  each_round : (at mark inner : ℕ) (a : List Lined) → round (each_body line at mark inner a) ≤ round a
+  each_round : (at mark inner : ℕ) (a : List LineInstr) → round (each_body line at mark inner a) ≤ round a
   each_round at mark inner a =
       omega (
         arith,
@@ -199,7 +201,7 @@ module _ (line : ℕ) where
         then_own a (I.Cut inner ∷ I.Keep mark ∷ I.Fail ∷ []),
       )
 
-  forall_round : (at mark : ℕ) (a : List Lined) → round (forall_code line at mark a) ≤ round a
+  forall_round : (at mark : ℕ) (a : List LineInstr) → round (forall_code line at mark a) ≤ round a
   forall_round at mark a = omega (
     arith,
     own_then (I.Forall mark (at + length a) ∷ []) (a ++ own line (I.Finish ∷ [])),
@@ -207,31 +209,32 @@ module _ (line : ℕ) where
   )
 
   -- the jump over code that is never reached
-  over_round : (has : Bool) (at : ℕ) (a : List Lined) → round (passed_over has line at a) ≤ round a
+  over_round : (has : Bool) (at : ℕ) (a : List LineInstr) → round (passed_over has line at a) ≤ round a
   over_round false at a = omega (arith, hop_none line)
   over_round true at a = own_then (I.Jump (at + 1 + length a) ∷ []) a
 
-  arm_round : (value bound at : ℕ) (label : Range) (rest : List Range) (a : List Lined)
+  arm_round : (value bound at : ℕ) (label : Range) (rest : List Range) (a : List LineInstr)
       → round (case_arm line value bound at label rest a) ≤ round a
   arm_round value bound at label rest a = own_then
       (labels_code value bound at (behind_labels at label rest) (behind_labels at label rest + length a + 1) label rest) a
 
-  begin_round : (at step : ℕ) (by : ℤ) (from to : (at : ℕ) → List Lined) (m n : ℕ) → ((at : ℕ) → round (from at) ≤ m)
+  begin_round : (at step : ℕ) (by : ℤ) (from to : (at : ℕ) → List LineInstr) (m n : ℕ) → ((at : ℕ) → round (from at) ≤ m)
       → ((at : ℕ) → round (to at) ≤ n) → round (begin_loop line at step by from to) ≤ m + n
   begin_round at step by from to m n f g =
-      let one : List Lined = from (at + 1) in
-      let two : List Lined = to (at + 1 + length one) in
+      let one : List LineInstr = from (at + 1) in
+      let two : List LineInstr = to (at + 1 + length one) in
       let x = f (at + 1) in
       let y = g (at + 1 + length one) in
       omega (arith, x, y, own_then (I.Const step by ∷ []) (one ++ two), both one two)
 
-  turn_round : (at : ℕ) (check : List Instr) (locate : (at : ℕ) → List Lined) (store : Instr) (body : (at : ℕ) → List Lined) (m n : ℕ)
+  turn_round : (at : ℕ) (check : List Instr) (locate : (at : ℕ) → List LineInstr) (store : Instr) (body : (at : ℕ) → List LineInstr)
+      (m n : ℕ)
       → ((at : ℕ) → round (locate at) ≤ m) → ((at : ℕ) → round (body at) ≤ n) → round (turn_code line at check locate store body) ≤ m + n
   turn_round at check locate store body m n l b =
       let at1 : ℕ = at + length (own line check) in
-      let one : List Lined = locate at1 in
+      let one : List LineInstr = locate at1 in
       let at2 : ℕ = at1 + length one in
-      let two : List Lined = body (at2 + 1) in
+      let two : List LineInstr = body (at2 + 1) in
       let x = l at1 in
       let y = b (at2 + 1) in
       omega (
@@ -243,7 +246,7 @@ module _ (line : ℕ) where
         own_then (store ∷ []) two,
       )
 
-  for_round : (at : ℕ) (by : ℤ) (o : Option ℤ) (counter limit step first : ℕ) (a : List Lined)
+  for_round : (at : ℕ) (by : ℤ) (o : Option ℤ) (counter limit step first : ℕ) (a : List LineInstr)
       → round (for_turns line at by o counter limit step first a) ≤ round a
   for_round at by o counter limit step first a =
       let exit : ℕ = at + 3 + length a + 2 in
@@ -253,23 +256,23 @@ module _ (line : ℕ) where
         then_own a (I.Step counter limit step exit ∷ I.Jump (at + 3) ∷ []),
       )
 
-  some_round : (at : ℕ) (o : Option ℤ) (counter limit step first more : ℕ) (a : List Lined)
+  some_round : (at : ℕ) (o : Option ℤ) (counter limit step first more : ℕ) (a : List LineInstr)
       → round (some_turns line at o counter limit step first more a) ≤ round a
   some_round at o counter limit step first more a = own_then
       (count_from o counter first ∷ I.LessEq first counter limit ∷ I.Check first ∷ I.Jump (at + 5) ∷ I.Add counter counter step
       ∷ I.Less more counter limit ∷ I.JumpZero more (at + 8) ∷ I.Choose (at + 4) ∷ []) a
 
   -- a number that goes to a slot
-  put_round : (z : Bool) (to value : ℕ) (check : List Instr) (a : List Lined) → round (put_code z line to value check a) ≤ round a
+  put_round : (z : Bool) (to value : ℕ) (check : List Instr) (a : List LineInstr) → round (put_code z line to value check a) ≤ round a
   put_round true to value check a = omega (arith, straight_walk line to line a)
   put_round false to value check a = then_own a (check ++ (I.Move to value ∷ []))
 
   -- a first count that may be a constant, and a limit that goes to its slot
-  constant_round : (o : Option ℤ) (a : List Lined) → round (unless_constant o a) ≤ round a
+  constant_round : (o : Option ℤ) (a : List LineInstr) → round (unless_constant o a) ≤ round a
   constant_round (Some n) a = omega (arith, hop_none line)
   constant_round None a = omega arith
 
-  limit_round : (z : Bool) (limit value : ℕ) (a : List Lined) → round (limit_code z line limit value a) ≤ round a
+  limit_round : (z : Bool) (limit value : ℕ) (a : List LineInstr) → round (limit_code z line limit value a) ≤ round a
   limit_round z limit value a = put_round z limit value [] a
 
 -- ---- the arms of CASE
@@ -292,14 +295,14 @@ all_nodes (more_cases [] body rest) = omega (arith, all_nodes rest)
 all_nodes (more_cases (label ∷ labels) body rest) = omega (arith, all_nodes rest)
 
 module _ (p : Program) (tables : Tables) (r : ℕ) where
-  abbrev condition_code : (line at lo none : ℕ) → Test → List Lined
+  abbrev condition_code : (line at lo none : ℕ) → Test → List LineInstr
   condition_code line at lo none t = condition (is_simple t) line at lo none (λ at lo none. jump_code p tables r line at lo none t)
       (λ at lo. test_code p tables r line at lo t)
 
-  abbrev guarded_code : (line at lo skipped : ℕ) → Test → ((at : ℕ) → List Lined) → List Lined
-  guarded_code line at lo skipped t body = guarded at skipped (λ none. condition_code line at lo none t) body
+  abbrev guarded_code : (line at lo skipped : ℕ) → Test → ((at : ℕ) → List LineInstr) → List LineInstr
+  guarded_code line at lo skipped t body = guard_code at skipped (λ none. condition_code line at lo none t) body
 
-  abbrev turn_of : (line at counter lo : ℕ) → Desig → Range → ((at : ℕ) → List Lined) → List Lined
+  abbrev turn_of : (line at counter lo : ℕ) → Desig → Range → ((at : ℕ) → List LineInstr) → List LineInstr
   turn_of line at counter lo d range body =
       turn_code line at (count_code p tables r (bare_desig d) range counter lo)
       (λ at. unless_bare (bare_desig d) (held_code p tables r line at (lo + 1) d))
@@ -317,7 +320,7 @@ module _ (p : Program) (tables : Tables) (r : ℕ) where
   decides line at lo none t n j f = condition_round line (is_simple t) at lo none (λ at lo none. jump_code p tables r line at lo none t)
       (λ at lo. test_code p tables r line at lo t) n j f
 
-  asked : (line at lo skipped : ℕ) (t : Test) (body : (at : ℕ) → List Lined) (m n : ℕ)
+  asked : (line at lo skipped : ℕ) (t : Test) (body : (at : ℕ) → List LineInstr) (m n : ℕ)
       → ((none : ℕ) → round line (jump_code p tables r line at lo none t) ≤ m)
       → ((at lo : ℕ) → round line (test_code p tables r line at lo t) ≤ m) → ((at : ℕ) → round line (body at) ≤ n)
       → round line (guarded_code line at lo skipped t body) ≤ m + n
@@ -325,7 +328,7 @@ module _ (p : Program) (tables : Tables) (r : ℕ) where
       guarded_round line at skipped (λ none. condition_code line at lo none t) body m n
       (λ none. decides line at lo none t m (j none) (f (at + 2) (lo + 1))) b
 
-  turn : (line at counter lo : ℕ) (d : Desig) (range : Range) (body : (at : ℕ) → List Lined) (m n : ℕ)
+  turn : (line at counter lo : ℕ) (d : Desig) (range : Range) (body : (at : ℕ) → List LineInstr) (m n : ℕ)
       → ((at : ℕ) → round line (desig_code p tables r line at (lo + 1) d) ≤ m) → ((at : ℕ) → round line (body at) ≤ n)
       → round line (turn_of line at counter lo d range body) ≤ m + n
   turn line at counter lo d range body m n f b =
@@ -339,17 +342,17 @@ module _ (p : Program) (tables : Tables) (r : ℕ) where
           omega (arith, z, unless_round line (bare_desig d) (held_code p tables r line at (lo + 1) d))
 
   -- the bounds of a loop
-  abbrev limit_of : (line at lo limit : ℕ) → Expr → List Lined
+  abbrev limit_of : (line at lo limit : ℕ) → Expr → List LineInstr
   limit_of line at lo limit e =
       limit_code (ends_alone e) line limit (value_at p tables r lo e) (unless_bare (bare e) (expr_code p tables r line at lo e))
 
-  first_below : (line : ℕ) (o : Option ℤ) (a : List Lined) (n : ℕ) → round line a ≤ n → round line (unless_constant o a) ≤ n
+  first_below : (line : ℕ) (o : Option ℤ) (a : List LineInstr) (n : ℕ) → round line a ≤ n → round line (unless_constant o a) ≤ n
   first_below line o a n h = omega (arith, h, constant_round line o a)
 
   limit_below : (line at lo limit : ℕ) (e : Expr) (n : ℕ) → round line (expr_code p tables r line at lo e) ≤ n
       → round line (limit_of line at lo limit e) ≤ n
   limit_below line at lo limit e n h =
-      let value : List Lined = expr_code p tables r line at lo e in
+      let value : List LineInstr = expr_code p tables r line at lo e in
       omega (
         arith,
         h,
@@ -358,7 +361,7 @@ module _ (p : Program) (tables : Tables) (r : ℕ) where
       )
 
   -- a value that goes straight into a variable, or what sets the variable
-  set_round : (o : Option ℕ) (line : ℕ) (value : List Lined) (set : List Instr)
+  set_round : (o : Option ℕ) (line : ℕ) (value : List LineInstr) (set : List Instr)
       → round line (set_to p tables r o line value set) ≤ round line value
   set_round (Some to) line value set = omega (arith, straight_walk line (own_slot p tables r to) line value)
   set_round None line value set = then_own line value set
@@ -372,7 +375,7 @@ module _ (p : Program) (tables : Tables) (r : ℕ) where
           (expr_code p tables r line at lo (Compare cmp.Unequal x y))
       differ x y =
           let operand : ℕ = value_at p tables r (behind_expr p r lo x) y in
-          let operands : List Lined = compared_code p tables r line at lo x y in
+          let operands : List LineInstr = compared_code p tables r line at lo x y in
           let first : ℕ = slot_or p tables r (stays x y) lo in
           ends_alike line line operands (unequal_code lo first operand (at + length operands))
           ∙ sym (ends_alike line line operands (cmp_code cmp.Unequal lo first operand))
@@ -385,7 +388,7 @@ module _ (p : Program) (tables : Tables) (r : ℕ) where
           (unless_bare (bare z) (expr_code p tables r line at lo z))) (sym same) (differ x y)
 
   -- an operand that is held has no line of its own
-  constant_same : (line at lo : ℕ) (one : List Lined) (y : Expr)
+  constant_same : (line at lo : ℕ) (one : List LineInstr) (y : Expr)
       → round line (one ++ unless_constant (constant y) (unless_bare (bare y) (expr_code p tables r line at lo y)))
       ≡ round line (one ++ unless_bare (bare y) (expr_code p tables r line at lo y))
   constant_same line at lo one (Const n) = ends_alike line line one [] ∙ sym (ends_alike line line one (I.Const lo n ∷ []))
@@ -407,8 +410,8 @@ module _ (p : Program) (tables : Tables) (r : ℕ) where
           let lo2 : ℕ = behind_expr p r lo x in
           let operand : ℕ = value_at p tables r lo2 y in
           let other : ℕ = held_or (constant y) held operand in
-          let one : List Lined = unless_bare (stays x y) (expr_code p tables r line at lo x) in
-          let two : List Lined = unless_bare (bare y) (expr_code p tables r line (at + length one) lo2 y) in
+          let one : List LineInstr = unless_bare (stays x y) (expr_code p tables r line at lo x) in
+          let two : List LineInstr = unless_bare (bare y) (expr_code p tables r line (at + length one) lo2 y) in
           let first : ℕ = slot_or p tables r (stays x y) lo in
           subst (λ u. round line (back_code p tables r line at lo held top u) ≡ round line (test_code p tables r line at lo u)) (sym is)
           (ends_alike line line (one ++ unless_constant (constant y) two) (opposite_code how lo first other ∷ I.JumpZero lo top ∷ [])
@@ -424,10 +427,10 @@ module _ (p : Program) (tables : Tables) (r : ℕ) where
       let constant : List Instr = constant_code (held_constant t) lo in
       let at1 : ℕ = at + length (own line constant) + 1 in
       let lo1 : ℕ = behind_held p r lo t in
-      let inner : List Lined = stmts_code p tables r at1 lo1 body in
+      let inner : List LineInstr = stmts_code p tables r at1 lo1 body in
       let top : ℕ = at1 + length inner in
       let lo2 : ℕ = behind_stmts p r lo1 body in
-      let last : List Lined = back_code p tables r line top lo2 lo at1 t in
+      let last : List LineInstr = back_code p tables r line top lo2 lo at1 t in
       omega (
         arith,
         own_then line constant (own line (I.Jump top ∷ []) ++ (inner ++ last)),
@@ -439,7 +442,7 @@ module _ (p : Program) (tables : Tables) (r : ℕ) where
       )
   while_round false line at lo t body m n e j f g =
       let lo2 : ℕ = behind_condition p r lo t in
-      let inner : List Lined = guarded_code line (at + 1) lo 1 t (λ next. stmts_code p tables r next lo2 body) in
+      let inner : List LineInstr = guarded_code line (at + 1) lo 1 t (λ next. stmts_code p tables r next lo2 body) in
       omega (
         arith,
         asked line (at + 1) lo 1 t (λ next. stmts_code p tables r next lo2 body) m n j f (λ next. g next lo2),
@@ -451,8 +454,8 @@ module _ (p : Program) (tables : Tables) (r : ℕ) where
     desig_round : (line at lo : ℕ) (x : Desig) → round line (desig_code p tables r line at lo x) ≤ 2 * desig_nodes x
     desig_round line at lo (a_desig root cells sels) =
         let o : Option ℕ = own_root root sels in
-        let placed : List Lined = own line (root_code p tables r lo root) in
-        let one : List Lined = unless_bare o placed in
+        let placed : List LineInstr = own line (root_code p tables r lo root) in
+        let one : List LineInstr = unless_bare o placed in
         let from : ℕ = slot_or p tables r o lo in
         let lo2 : ℕ = behind_root p tables r lo root in
         omega (
@@ -466,7 +469,7 @@ module _ (p : Program) (tables : Tables) (r : ℕ) where
     sels_round : (line at from lo : ℕ) (x : Sels) → round line (sels_code p tables r line at from lo x) ≤ 2 * sels_nodes x
     sels_round line at from lo no_sels = omega (arith, hop_none line)
     sels_round line at from lo (more_sels x rest) =
-        let one : List Lined = sel_code p tables r line at from lo x in
+        let one : List LineInstr = sel_code p tables r line at from lo x in
         let part : ℕ = part_slot p tables r lo x in
         omega (
           arith,
@@ -489,7 +492,7 @@ module _ (p : Program) (tables : Tables) (r : ℕ) where
     expr_round : (line at lo : ℕ) (x : Expr) → round line (expr_code p tables r line at lo x) ≤ 2 * expr_nodes x
     expr_round line at lo (Const n) = omega (arith, own_round line (I.Const lo n ∷ []))
     expr_round line at lo (Load d) =
-        let one : List Lined = held_code p tables r line at (lo + 1) d in
+        let one : List LineInstr = held_code p tables r line at (lo + 1) d in
         omega (
           arith,
           then_own line (unless_bare (bare_desig d) one) (load_code p tables r lo d ∷ []),
@@ -499,8 +502,8 @@ module _ (p : Program) (tables : Tables) (r : ℕ) where
     expr_round line at lo (Chain negated e links) =
         let o : Option ℕ = taken_from negated e links in
         let from : ℕ = value_at p tables r lo e in
-        let inner : List Lined = unless_bare o (expr_code p tables r line at lo e) in
-        let one : List Lined = inner ++ own line (neg_code negated lo from) in
+        let inner : List LineInstr = unless_bare o (expr_code p tables r line at lo e) in
+        let one : List LineInstr = inner ++ own line (neg_code negated lo from) in
         let lo2 : ℕ = behind_expr p r lo e in
         let first : ℕ = slot_or p tables r (stays_in negated e links) lo in
         omega (
@@ -513,9 +516,9 @@ module _ (p : Program) (tables : Tables) (r : ℕ) where
         )
     expr_round line at lo (Compare how x y) =
         let lo2 : ℕ = behind_expr p r lo x in
-        let one : List Lined = unless_bare (stays x y) (expr_code p tables r line at lo x) in
-        let inner : List Lined = expr_code p tables r line (at + length one) lo2 y in
-        let two : List Lined = unless_bare (bare y) inner in
+        let one : List LineInstr = unless_bare (stays x y) (expr_code p tables r line at lo x) in
+        let inner : List LineInstr = expr_code p tables r line (at + length one) lo2 y in
+        let two : List LineInstr = unless_bare (bare y) inner in
         omega (
           arith,
           then_own line (one ++ two) (cmp_code how lo (slot_or p tables r (stays x y) lo) (value_at p tables r lo2 y)),
@@ -526,7 +529,7 @@ module _ (p : Program) (tables : Tables) (r : ℕ) where
           expr_round line (at + length one) lo2 y,
         )
     expr_round line at lo (Truth t) =
-        let one : List Lined = guarded_code line at (lo + 1) 2 t (λ next. []) in
+        let one : List LineInstr = guarded_code line at (lo + 1) 2 t (λ next. []) in
         let end : ℕ = at + length one in
         let z = asked line at (lo + 1) 2 t (λ next. []) (2 * test_nodes t) 0 (λ none. jump_round line at (lo + 1) none t)
         (λ at lo. test_round line at lo t) (λ next. omega (arith, hop_none line)) in
@@ -547,7 +550,7 @@ module _ (p : Program) (tables : Tables) (r : ℕ) where
         let link : List Instr = call_link_code p tables r called up (lo + 2) in
         let next : ℕ = at + length (own line link) in
         let lo2 : ℕ = to + length (handed_slots args) in
-        let two : List Lined = args_code p tables r line next to lo2 args in
+        let two : List LineInstr = args_code p tables r line next to lo2 args in
         omega (
           arith,
           then_own line (own line link ++ two)
@@ -559,8 +562,8 @@ module _ (p : Program) (tables : Tables) (r : ℕ) where
     links_round : (line at first to lo : ℕ) (x : Links) → round line (links_code p tables r line at first to lo x) ≤ 2 * links_nodes x
     links_round line at first to lo no_links = omega (arith, hop_none line)
     links_round line at first to lo (more_links how e rest) =
-        let inner : List Lined = expr_code p tables r line at lo e in
-        let one : List Lined = unless_bare (bare e) inner ++ own line (op_code how to first (value_at p tables r lo e) ∷ []) in
+        let inner : List LineInstr = expr_code p tables r line at lo e in
+        let one : List LineInstr = unless_bare (bare e) inner ++ own line (op_code how to first (value_at p tables r lo e) ∷ []) in
         let lo2 : ℕ = behind_value p r lo e in
         omega (
           arith,
@@ -574,7 +577,7 @@ module _ (p : Program) (tables : Tables) (r : ℕ) where
     args_round : (line at to lo : ℕ) (x : Args) → round line (args_code p tables r line at to lo x) ≤ 2 * args_nodes x
     args_round line at to lo no_args = omega (arith, hop_none line)
     args_round line at to lo (more_args a rest) =
-        let one : List Lined = arg_code p tables r line at to lo a in
+        let one : List LineInstr = arg_code p tables r line at to lo a in
         let lo2 : ℕ = lo + length (arg_slots p r a) in
         omega (
           arith,
@@ -649,9 +652,9 @@ module _ (p : Program) (tables : Tables) (r : ℕ) where
     )
     test_round line at lo (Bind d e range true) =
         let lo2 : ℕ = behind_desig p r lo d in
-        let one : List Lined = held_code p tables r line at lo d in
-        let inner : List Lined = expr_code p tables r line (at + length one) lo2 e in
-        let two : List Lined = unless_bare (bare e) inner in
+        let one : List LineInstr = held_code p tables r line at lo d in
+        let inner : List LineInstr = expr_code p tables r line (at + length one) lo2 e in
+        let two : List LineInstr = unless_bare (bare e) inner in
         omega (
           arith,
           then_own line (one ++ two)
@@ -663,8 +666,8 @@ module _ (p : Program) (tables : Tables) (r : ℕ) where
         )
     test_round line at lo (Bind d e range false) =
         let lo2 : ℕ = behind_expr p r lo e in
-        let one : List Lined = expr_code p tables r line at lo e in
-        let two : List Lined = held_code p tables r line (at + length one) lo2 d in
+        let one : List LineInstr = expr_code p tables r line at lo e in
+        let two : List LineInstr = held_code p tables r line (at + length one) lo2 d in
         omega (
           arith,
           then_own line (one ++ two) (I.Bind (held_at p tables r lo2 d) lo (range_number tables range) ∷ []),
@@ -674,8 +677,8 @@ module _ (p : Program) (tables : Tables) (r : ℕ) where
         )
     test_round line at lo (Unify d range e range2) =
         let lo2 : ℕ = behind_desig p r lo d in
-        let one : List Lined = held_code p tables r line at lo d in
-        let two : List Lined = held_code p tables r line (at + length one) lo2 e in
+        let one : List LineInstr = held_code p tables r line at lo d in
+        let two : List LineInstr = held_code p tables r line (at + length one) lo2 e in
         omega (
           arith,
           then_own line (one ++ two) (I.Unify (held_at p tables r lo d) (range_number tables range) (held_at p tables r lo2 e)
@@ -686,8 +689,8 @@ module _ (p : Program) (tables : Tables) (r : ℕ) where
         )
     test_round line at lo (SameCells d e) =
         let lo2 : ℕ = behind_desig p r lo d in
-        let one : List Lined = held_code p tables r line at lo d in
-        let two : List Lined = held_code p tables r line (at + length one) lo2 e in
+        let one : List LineInstr = held_code p tables r line at lo d in
+        let two : List LineInstr = held_code p tables r line (at + length one) lo2 e in
         omega (
           arith,
           then_own line (one ++ two) (I.SameCells (held_at p tables r lo d) (held_at p tables r lo2 e) ∷ []),
@@ -708,7 +711,7 @@ module _ (p : Program) (tables : Tables) (r : ℕ) where
         let link : List Instr = call_link_code p tables r called up lo in
         let next : ℕ = at + length (own line link) in
         let lo2 : ℕ = to + length (handed_slots args) in
-        let two : List Lined = args_code p tables r line next to lo2 args in
+        let two : List LineInstr = args_code p tables r line next to lo2 args in
         omega (
           arith,
           then_own line (own line link ++ two) (call_code p tables r called args up lo 0 ∷ []),
@@ -719,7 +722,7 @@ module _ (p : Program) (tables : Tables) (r : ℕ) where
     and_round : (line at lo : ℕ) (x : Tests) → round line (and_code p tables r line at lo x) ≤ 2 * tests_nodes x
     and_round line at lo no_tests = omega (arith, hop_none line)
     and_round line at lo (more_tests t rest) =
-        let one : List Lined = test_code p tables r line at lo t in
+        let one : List LineInstr = test_code p tables r line at lo t in
         let lo2 : ℕ = behind_test p r lo t in
         omega (
           arith,
@@ -732,8 +735,8 @@ module _ (p : Program) (tables : Tables) (r : ℕ) where
     or_round line at lo no_tests = omega (arith, own_round line (I.Fail ∷ []))
     or_round line at lo (more_tests t no_tests) = omega (arith, test_round line at lo t)
     or_round line at lo (more_tests t (more_tests t2 rest)) =
-        let inner : List Lined = test_code p tables r line (at + 2) (lo + 1) t in
-        let one : List Lined = first_of_two line (at + 2) lo inner in
+        let inner : List LineInstr = test_code p tables r line (at + 2) (lo + 1) t in
+        let one : List LineInstr = first_of_two line (at + 2) lo inner in
         let lo2 : ℕ = behind_test p r (lo + 1) t in
         omega (
           arith,
@@ -747,8 +750,8 @@ module _ (p : Program) (tables : Tables) (r : ℕ) where
     operands_round line jump at lo no_tests = omega (arith, hop_none line)
     operands_round line jump at lo (more_tests t no_tests) = omega (arith, test_round line at lo t)
     operands_round line jump at lo (more_tests t (more_tests t2 rest)) =
-        let inner : List Lined = test_code p tables r line (at + 2) (lo + 1) t in
-        let one : List Lined = first_of_two line (at + 2) lo inner in
+        let inner : List LineInstr = test_code p tables r line (at + 2) (lo + 1) t in
+        let one : List LineInstr = first_of_two line (at + 2) lo inner in
         let lo2 : ℕ = behind_test p r (lo + 1) t in
         let next : ℕ = at + length (one ++ own line (I.Jump jump ∷ [])) in
         omega (
@@ -762,7 +765,7 @@ module _ (p : Program) (tables : Tables) (r : ℕ) where
     pub stmts_round : (line at lo : ℕ) (x : Stmts) → round line (stmts_code p tables r at lo x) ≤ 2 * stmts_nodes x
     stmts_round line at lo no_stmts = omega (arith, hop_none line)
     stmts_round line at lo (more_stmts mine x rest) =
-        let one : List Lined = stmt_code p tables r mine at lo x in
+        let one : List LineInstr = stmt_code p tables r mine at lo x in
         let lo2 : ℕ = behind_stmt p r lo x in
         omega (
           arith,
@@ -777,10 +780,10 @@ module _ (p : Program) (tables : Tables) (r : ℕ) where
     stmt_round line at lo (Assign d e range) =
         let lo2 : ℕ = behind_target p r lo d in
         let v : ℕ = value_at p tables r lo2 e in
-        let place : List Lined = held_code p tables r line at lo d in
-        let one : List Lined = unless_bare (bare_desig d) place in
-        let inner : List Lined = expr_code p tables r line (at + length one) lo2 e in
-        let two : List Lined = unless_bare (bare e) inner in
+        let place : List LineInstr = held_code p tables r line at lo d in
+        let one : List LineInstr = unless_bare (bare_desig d) place in
+        let inner : List LineInstr = expr_code p tables r line (at + length one) lo2 e in
+        let two : List LineInstr = unless_bare (bare e) inner in
         omega (
           arith,
           set_round (goes_straight d e range) line (one ++ two) (fit_code tables range v ++ (set_code p tables r lo v d ∷ [])),
@@ -792,8 +795,8 @@ module _ (p : Program) (tables : Tables) (r : ℕ) where
         )
     stmt_round line at lo (CopyCells d e) =
         let lo2 : ℕ = behind_desig p r lo d in
-        let one : List Lined = held_code p tables r line at lo d in
-        let two : List Lined = held_code p tables r line (at + length one) lo2 e in
+        let one : List LineInstr = held_code p tables r line at lo d in
+        let two : List LineInstr = held_code p tables r line (at + length one) lo2 e in
         omega (
           arith,
           then_own line (one ++ two) (I.CopyCells (held_at p tables r lo d) (held_at p tables r lo2 e) ∷ []),
@@ -811,7 +814,7 @@ module _ (p : Program) (tables : Tables) (r : ℕ) where
         omega (arith, z)
     stmt_round line at lo (Repeat body t) =
         let lo2 : ℕ = behind_stmts p r lo body in
-        let one : List Lined = stmts_code p tables r at lo body in
+        let one : List LineInstr = stmts_code p tables r at lo body in
         let next : ℕ = at + length one in
         let z = decides line next lo2 at t (2 * test_nodes t) (jump_round line next lo2 at t) (test_round line (next + 2) (lo2 + 1) t) in
         omega (arith, z, both line one (condition_code line next lo2 at t), stmts_round line at lo body)
@@ -820,12 +823,12 @@ module _ (p : Program) (tables : Tables) (r : ℕ) where
     stmt_round line at lo (Case e arms rest) =
         let first : ℕ = behind_expr p r lo e in
         let bound : ℕ = behind_dead p r first arms in
-        let one : List Lined = expr_code p tables r line at lo e in
+        let one : List LineInstr = expr_code p tables r line at lo e in
         let next : ℕ = at + length one in
-        let dead : List Lined = dead_code p tables r (next + 1) first arms in
-        let over : List Lined = passed_over (has_dead arms) line next dead in
+        let dead : List LineInstr = dead_code p tables r (next + 1) first arms in
+        let over : List LineInstr = passed_over (has_dead arms) line next dead in
         let begin : ℕ = next + length over in
-        let tried : List Lined = case_code p tables r line lo bound begin (bound + 2) arms
+        let tried : List LineInstr = case_code p tables r line lo bound begin (bound + 2) arms
         (λ next la. else_code p tables r line next la rest) in
         let z = case_round line lo bound begin (bound + 2) arms (λ next la. else_code p tables r line next la rest) (2 * else_nodes rest)
         (λ next la. else_round line next la rest) in
@@ -842,9 +845,9 @@ module _ (p : Program) (tables : Tables) (r : ℕ) where
     stmt_round line at lo (Either x) = omega (arith, either_round line at lo x)
     stmt_round line at lo (Forall x y) =
         let inner : ℕ = behind_stmts p r (lo + 1) x in
-        let one : List Lined = stmts_code p tables r (at + 1) (lo + 1) x in
+        let one : List LineInstr = stmts_code p tables r (at + 1) (lo + 1) x in
         let n : ℕ = at + 1 + length one in
-        let two : List Lined = stmts_code p tables r (n + 2) (inner + 1) y in
+        let two : List LineInstr = stmts_code p tables r (n + 2) (inner + 1) y in
         omega (
           arith,
           forall_round line (at + 1) lo (one ++ each_body line (n + 2) lo inner two),
@@ -854,7 +857,7 @@ module _ (p : Program) (tables : Tables) (r : ℕ) where
           stmts_round line (n + 2) (inner + 1) y,
         )
     stmt_round line at lo (Commit x) =
-        let inner : List Lined = stmts_code p tables r (at + 1) (lo + 1) x in
+        let inner : List LineInstr = stmts_code p tables r (at + 1) (lo + 1) x in
         omega (
           arith,
           own_then line (I.Mark lo ∷ []) (inner ++ own line (I.Cut lo ∷ [])),
@@ -889,26 +892,27 @@ module _ (p : Program) (tables : Tables) (r : ℕ) where
     stmt_round line at lo (WriteText text) = omega (arith, own_round line (I.WriteText (text_number tables text) ∷ []))
     stmt_round line at lo WriteLine = omega (arith, own_round line (I.WriteLine ∷ []))
 
-    if_round : (line at lo : ℕ) (x : Arms) (otherwise : (at lo : ℕ) → List Lined) (n : ℕ) → ((at lo : ℕ) → round line (otherwise at lo) ≤ n)
+    if_round : (line at lo : ℕ) (x : Arms) (otherwise : (at lo : ℕ) → List LineInstr) (n : ℕ)
+        → ((at lo : ℕ) → round line (otherwise at lo) ≤ n)
         → round line (if_code p tables r line at lo x otherwise) ≤ 2 * arms_nodes x + n
     if_round line at lo no_arms otherwise n f = let z = f at lo in omega (arith, z)
     if_round line at lo (more_arms t body rest) otherwise n f =
         let lo2 : ℕ = behind_condition p r lo t in
         let lo3 : ℕ = behind_stmts p r lo2 body in
-        let one : List Lined = guarded_code line at lo 1 t (λ next. stmts_code p tables r next lo2 body) in
+        let one : List LineInstr = guarded_code line at lo 1 t (λ next. stmts_code p tables r next lo2 body) in
         let z = asked line at lo 1 t (λ next. stmts_code p tables r next lo2 body) (2 * test_nodes t) (2 * stmts_nodes body)
         (λ none. jump_round line at lo none t) (λ at lo. test_round line at lo t) (λ next. stmts_round line next lo2 body) in
         let others = arms_round line (at + length one) (at + length one + 1) lo3 rest otherwise n f in
         omega (arith, z, others, leaving_round line at one (λ next jump. arms_code p tables r line jump next lo3 rest otherwise))
 
-    arms_round : (line jump at lo : ℕ) (x : Arms) (otherwise : (at lo : ℕ) → List Lined) (n : ℕ)
+    arms_round : (line jump at lo : ℕ) (x : Arms) (otherwise : (at lo : ℕ) → List LineInstr) (n : ℕ)
         → ((at lo : ℕ) → round line (otherwise at lo) ≤ n)
         → round line (arms_code p tables r line jump at lo x otherwise) ≤ 2 * arms_nodes x + n
     arms_round line jump at lo no_arms otherwise n f = let z = f at lo in omega (arith, z)
     arms_round line jump at lo (more_arms t body rest) otherwise n f =
         let lo2 : ℕ = behind_condition p r lo t in
         let lo3 : ℕ = behind_stmts p r lo2 body in
-        let one : List Lined = guarded_code line at lo 1 t (λ next. stmts_code p tables r next lo2 body) in
+        let one : List LineInstr = guarded_code line at lo 1 t (λ next. stmts_code p tables r next lo2 body) in
         let z = asked line at lo 1 t (λ next. stmts_code p tables r next lo2 body) (2 * test_nodes t) (2 * stmts_nodes body)
         (λ none. jump_round line at lo none t) (λ at lo. test_round line at lo t) (λ next. stmts_round line next lo2 body) in
         let next : ℕ = at + length (one ++ own line (I.Jump jump ∷ [])) in
@@ -918,7 +922,7 @@ module _ (p : Program) (tables : Tables) (r : ℕ) where
     dead_round : (line at lo : ℕ) (x : CaseArms) → round line (dead_code p tables r at lo x) ≤ 2 * dead_nodes x
     dead_round line at lo no_cases = omega (arith, hop_none line)
     dead_round line at lo (more_cases [] body rest) =
-        let one : List Lined = stmts_code p tables r at lo body in
+        let one : List LineInstr = stmts_code p tables r at lo body in
         let lo2 : ℕ = behind_stmts p r lo body in
         omega (
           arith,
@@ -928,15 +932,15 @@ module _ (p : Program) (tables : Tables) (r : ℕ) where
         )
     dead_round line at lo (more_cases (label ∷ labels) body rest) = omega (arith, dead_round line at lo rest)
 
-    case_round : (line value bound at lo : ℕ) (x : CaseArms) (otherwise : (at lo : ℕ) → List Lined) (n : ℕ)
+    case_round : (line value bound at lo : ℕ) (x : CaseArms) (otherwise : (at lo : ℕ) → List LineInstr) (n : ℕ)
         → ((at lo : ℕ) → round line (otherwise at lo) ≤ n)
         → round line (case_code p tables r line value bound at lo x otherwise) ≤ 2 * live_nodes x + n
     case_round line value bound at lo no_cases otherwise n f = let z = f at lo in omega (arith, z)
     case_round line value bound at lo (more_cases [] body rest) otherwise n f = let z =
         case_round line value bound at lo rest otherwise n f in omega (arith, z)
     case_round line value bound at lo (more_cases (label ∷ labels) body rest) otherwise n f =
-        let inner : List Lined = stmts_code p tables r (behind_labels at label labels) lo body in
-        let one : List Lined = case_arm line value bound at label labels inner in
+        let inner : List LineInstr = stmts_code p tables r (behind_labels at label labels) lo body in
+        let one : List LineInstr = case_arm line value bound at label labels inner in
         let lo2 : ℕ = behind_stmts p r lo body in
         let others = cases_round line value bound (at + length one) (at + length one + 1) lo2 rest otherwise n f in
         omega (
@@ -947,15 +951,15 @@ module _ (p : Program) (tables : Tables) (r : ℕ) where
           stmts_round line (behind_labels at label labels) lo body,
         )
 
-    cases_round : (line value bound jump at lo : ℕ) (x : CaseArms) (otherwise : (at lo : ℕ) → List Lined) (n : ℕ)
+    cases_round : (line value bound jump at lo : ℕ) (x : CaseArms) (otherwise : (at lo : ℕ) → List LineInstr) (n : ℕ)
         → ((at lo : ℕ) → round line (otherwise at lo) ≤ n)
         → round line (cases_code p tables r line value bound jump at lo x otherwise) ≤ 2 * live_nodes x + n
     cases_round line value bound jump at lo no_cases otherwise n f = let z = f at lo in omega (arith, z)
     cases_round line value bound jump at lo (more_cases [] body rest) otherwise n f = let z =
         cases_round line value bound jump at lo rest otherwise n f in omega (arith, z)
     cases_round line value bound jump at lo (more_cases (label ∷ labels) body rest) otherwise n f =
-        let inner : List Lined = stmts_code p tables r (behind_labels at label labels) lo body in
-        let one : List Lined = case_arm line value bound at label labels inner in
+        let inner : List LineInstr = stmts_code p tables r (behind_labels at label labels) lo body in
+        let one : List LineInstr = case_arm line value bound at label labels inner in
         let lo2 : ℕ = behind_stmts p r lo body in
         let next : ℕ = at + length (one ++ own line (I.Jump jump ∷ [])) in
         let others = cases_round line value bound jump next lo2 rest otherwise n f in
@@ -975,8 +979,8 @@ module _ (p : Program) (tables : Tables) (r : ℕ) where
     either_round line at lo no_branches = omega (arith, own_round line (I.Fail ∷ []))
     either_round line at lo (more_branches body no_branches) = omega (arith, stmts_round line at lo body)
     either_round line at lo (more_branches body (more_branches body2 rest)) =
-        let inner : List Lined = stmts_code p tables r (at + 1) lo body in
-        let one : List Lined = chosen line (at + 1) inner in
+        let inner : List LineInstr = stmts_code p tables r (at + 1) lo body in
+        let one : List LineInstr = branch_code line (at + 1) inner in
         let lo2 : ℕ = behind_stmts p r lo body in
         omega (
           arith,
@@ -990,8 +994,8 @@ module _ (p : Program) (tables : Tables) (r : ℕ) where
     branches_round line jump at lo no_branches = omega (arith, hop_none line)
     branches_round line jump at lo (more_branches body no_branches) = omega (arith, stmts_round line at lo body)
     branches_round line jump at lo (more_branches body (more_branches body2 rest)) =
-        let inner : List Lined = stmts_code p tables r (at + 1) lo body in
-        let one : List Lined = chosen line (at + 1) inner in
+        let inner : List LineInstr = stmts_code p tables r (at + 1) lo body in
+        let one : List LineInstr = branch_code line (at + 1) inner in
         let lo2 : ℕ = behind_stmts p r lo body in
         let next : ℕ = at + length (one ++ own line (I.Jump jump ∷ [])) in
         omega (
@@ -1009,10 +1013,11 @@ module _ (p : Program) (tables : Tables) (r : ℕ) where
         let lo2 : ℕ = behind_variable p r place d in
         let count : ℕ = own_slot p tables r counter in
         let l : ℕ = own_slot p tables r limit in
-        let one : List Lined = begin_loop line at lo by (λ at. unless_constant (constant from) (expr_code p tables r line at (lo + 1) from))
+        let one : List LineInstr = begin_loop line at lo
+        by (λ at. unless_constant (constant from) (expr_code p tables r line at (lo + 1) from))
         (λ at. limit_of line at last l to) in
         let next : ℕ = at + length one in
-        let each : List Lined = turn_of line (next + 3) count place d range (λ at. stmts_code p tables r at lo2 body) in
+        let each : List LineInstr = turn_of line (next + 3) count place d range (λ at. stmts_code p tables r at lo2 body) in
         let begin = begin_round line at lo by (λ at. unless_constant (constant from) (expr_code p tables r line at (lo + 1) from))
         (λ at. limit_of line at last l to) (2 * expr_nodes from) (2 * expr_nodes to)
         (λ at. first_below line (constant from) (expr_code p tables r line at (lo + 1) from) (2 * expr_nodes from)
@@ -1035,11 +1040,11 @@ module _ (p : Program) (tables : Tables) (r : ℕ) where
         let lo2 : ℕ = behind_variable p r (more + 1) d in
         let count : ℕ = own_slot p tables r counter in
         let l : ℕ = own_slot p tables r limit in
-        let one : List Lined = begin_loop line at lo (pos 1)
+        let one : List LineInstr = begin_loop line at lo (pos 1)
         (λ at. unless_constant (constant from) (expr_code p tables r line at (lo + 1) from))
         (λ at. limit_of line at last l to) in
         let next : ℕ = at + length one in
-        let each : List Lined = turn_of line (next + 8) count (more + 1) d range (λ at. stmts_code p tables r at lo2 body) in
+        let each : List LineInstr = turn_of line (next + 8) count (more + 1) d range (λ at. stmts_code p tables r at lo2 body) in
         let begin = begin_round line at lo (pos 1) (λ at. unless_constant (constant from) (expr_code p tables r line at (lo + 1) from))
         (λ at. limit_of line at last l to) (2 * expr_nodes from) (2 * expr_nodes to)
         (λ at. first_below line (constant from) (expr_code p tables r line at (lo + 1) from) (2 * expr_nodes from)

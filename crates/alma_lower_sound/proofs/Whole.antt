@@ -7,7 +7,7 @@ use Rattle.alma_code.specs.Plain as plain
 use Rattle.alma_ir.specs.Tree.{Program, routine_at}
 use Rattle.alma_ir.specs.Checked.{IsChecked}
 use Rattle.alma_lower_templates.specs.Runs.{NamesKinds}
-use Rattle.alma_lower_templates.specs.Lined.{Lined}
+use Rattle.alma_lower_templates.specs.LineInstr.{LineInstr}
 use Rattle.alma_lower_templates.specs.Tables.{Tables}
 use Rattle.alma_lower_templates.specs.Slots.{routine_kinds}
 use Rattle.alma_lower_templates.specs.Templates.{routine_code}
@@ -72,7 +72,7 @@ module _ (p : Program) (tables : Tables) where
       → start_in at (routines_named p tables r at all) (length all) ≡ at + length (routines_code p tables r (length all) at)
   named_last [] r at = omega arith
   named_last (runs ∷ rest) r at =
-      let one : List Lined = routine_code p tables r at in
+      let one : List LineInstr = routine_code p tables r at in
       let next : ℕ = at + length one in
       let named = routines_named p tables (suc r) next rest in
       let z = named_last rest (suc r) next in
@@ -121,7 +121,7 @@ module _ (p : Program) (code : PlainCode) (is_code : IsCodeOf p code) where
 
   pub last_is : start_at code (length code.routines) ≡ length code.instrs
   last_is =
-      let all : List Lined = routines_code p is_code.tables 0 (length p.routines) 0 in
+      let all : List LineInstr = routines_code p is_code.tables 0 (length p.routines) 0 in
       let long : length (routines_code p is_code.tables 0 (length is_code.runs) 0) ≡ length all =
       ap (λ n. length (routines_code p is_code.tables 0 n 0)) is_code.count in
       let instrs : length code.instrs ≡ length all = ap (λ c. length c.instrs) is_code.is ∙ length-map all (λ x. x.instr) in

@@ -8,8 +8,8 @@ use Rattle.std.proofs.lemmas.Map.Keys.{IsDistinct-cons, IsDistinct-head, IsDisti
 use Rattle.alma_ir.proofs.Each.{each_of_append}
 use Rattle.alma_lower_sound.specs.Entries.{of_each}
 use Rattle.alma_lower_tables.specs.Numbers.{with_entry}
-use Rattle.alma_lower_templates.specs.Tables.{first_place, counted}
-use Rattle.alma_lower_tables.specs.Walked.{with_entries}
+use Rattle.alma_lower_templates.specs.Tables.{first_place, count_past}
+use Rattle.alma_lower_tables.specs.AddsPhrases.{with_entries}
 
 pub entries_row : {R : Type 0} (same : R → R → Bool) (zs xs ys : List R)
     → with_entries same zs (xs ++ ys) ≡ with_entries same (with_entries same zs xs) ys
@@ -110,7 +110,7 @@ module _ {R : Type 0} (same : R → R → Bool) (is : (a b : R) → same a b ≡
     where
       by : (b : Bool) → same x r ≡ b → (b || list_any (λ y. same y r) xs) ≡ true
           → (list_any (λ y. same y r) xs ≡ true → slice_get xs (first_place same xs r) ≡ Some r)
-          → slice_get (x ∷ xs) (counted b (first_place same xs r)) ≡ Some r
+          → slice_get (x ∷ xs) (count_past b (first_place same xs r)) ≡ Some r
       by true e2 h later = ap Some (is x r e2)
       by false e2 h later = later h
 

@@ -20,8 +20,8 @@ use Rattle.alma_lower_tables.proofs.Places.{range_is, text_is}
 use Rattle.alma_lower_templates.specs.CodeOf.{HoldsRange, InTables, HoldsAllOf, HasIntegers, IsOfIntegers}
 use Rattle.alma_lower_templates.specs.Tables.{Tables, same_range, same_text, is_whole, first_place}
 use Rattle.alma_lower_templates.specs.Templates.{char_range}
-use Rattle.alma_lower_tables.specs.Walked.{unless_whole, checked, checked_result, checked_results, named_ranges, with_entries, Names}
-use Rattle.alma_lower_tables.specs.Walked.{Walked}
+use Rattle.alma_lower_tables.specs.AddsPhrases.{unless_whole, checked, checked_result, checked_results, named_ranges, with_entries, Names}
+use Rattle.alma_lower_tables.specs.AddsPhrases.{AddsPhrases}
 use Rattle.alma_lower_tables.proofs.Entries.{entries_row, each_row, all_in, all_at, all_each, in_each, in_row_at, held, among, distinct}
 use Rattle.alma_lower_tables.proofs.Entries.{none_distinct}
 use Rattle.alma_lower_tables.proofs.Walks.{then_walked, names_then, names_none}
@@ -86,16 +86,16 @@ routine_all : {B : Type 0} (f : Routine → List B) (xs : List Here) (i : ℕ) �
 routine_all f xs i is = ap (λ l. of_each f (map routine_of l)) (sym (take-length xs) ∙ ap (λ n. take n xs) (sym is))
 
 pub bodies_more : (a b c : Tables) (xs : List Here) (i : ℕ) (x : Here) → i < length xs → x ≡ get_or xs i x
-    → Walked a b (of_each (λ r. stmts_phrases r.body) (map routine_of (take i xs)))
-    → Walked b c (stmts_phrases (stmts_list x.body.items))
-    → Walked a c (of_each (λ r. stmts_phrases r.body) (map routine_of (take (i + 1) xs)))
-bodies_more a b c xs i x lt is h j = subst (Walked a c) (sym (routine_last (λ r. stmts_phrases r.body) xs i x lt is))
+    → AddsPhrases a b (of_each (λ r. stmts_phrases r.body) (map routine_of (take i xs)))
+    → AddsPhrases b c (stmts_phrases (stmts_list x.body.items))
+    → AddsPhrases a c (of_each (λ r. stmts_phrases r.body) (map routine_of (take (i + 1) xs)))
+bodies_more a b c xs i x lt is h j = subst (AddsPhrases a c) (sym (routine_last (λ r. stmts_phrases r.body) xs i x lt is))
     (then_walked a b c _ _ h j)
 
 pub bodies_whole : (a b : Tables) (xs all : List Here) (i : ℕ) → xs ≡ all → i ≡ length xs
-    → Walked a b (of_each (λ r. stmts_phrases r.body) (map routine_of (take i xs)))
-    → Walked a b (of_each (λ r. stmts_phrases r.body) (map routine_of all))
-bodies_whole a b xs all i e is h = subst (Walked a b)
+    → AddsPhrases a b (of_each (λ r. stmts_phrases r.body) (map routine_of (take i xs)))
+    → AddsPhrases a b (of_each (λ r. stmts_phrases r.body) (map routine_of all))
+bodies_whole a b xs all i e is h = subst (AddsPhrases a b)
     (sym (routine_all (λ r. stmts_phrases r.body) xs i is) ∙ ap (λ l. of_each (λ r. stmts_phrases r.body) (map routine_of l)) e) h
 
 pub results_more : (a b c : Tables) (xs : List Here) (i : ℕ) (x : Here) → i < length xs → x ≡ get_or xs i x
@@ -196,17 +196,17 @@ module _ (p : Program) where
         distinct = distinct same_text text_is text_itself [] all_texts (none_distinct same_text);
       })
 
-  pub all_ranges_are : (a b c : Tables) → a.ranges ≡ [] → Walked a b (program_phrases p) → Names b c (checked_results p) []
+  pub all_ranges_are : (a b c : Tables) → a.ranges ≡ [] → AddsPhrases a b (program_phrases p) → Names b c (checked_results p) []
       → c.ranges ≡ with_entries same_range [] all_ranges
   all_ranges_are a b c e h j =
       j.of_ranges ∙ ap (λ l. with_entries same_range l (checked_results p))
       (h.names.of_ranges ∙ ap (λ l. with_entries same_range l (of_each named_ranges (program_phrases p))) e)
       ∙ sym (entries_row same_range [] (of_each named_ranges (program_phrases p)) (checked_results p))
 
-  pub all_texts_are : (a b c : Tables) → a.texts ≡ [] → Walked a b (program_phrases p) → Names b c (checked_results p) []
+  pub all_texts_are : (a b c : Tables) → a.texts ≡ [] → AddsPhrases a b (program_phrases p) → Names b c (checked_results p) []
       → c.texts ≡ with_entries same_text [] all_texts
   all_texts_are a b c e h j = j.of_texts ∙ h.names.of_texts ∙ ap (λ l. with_entries same_text l (of_each texts_of (program_phrases p))) e
 
-  pub all_integers : (a b : Tables) → Walked a b (program_phrases p) → IsOfIntegers p
+  pub all_integers : (a b : Tables) → AddsPhrases a b (program_phrases p) → IsOfIntegers p
   all_integers a b h r lt = all_in (λ x. HasIntegers x) (stmts_phrases (routine_at p r).body)
       (λ x there. all_at (λ y. HasIntegers y) (program_phrases p) x h.integers (phrase_in r x lt there))

@@ -11,7 +11,7 @@ use Rattle.std.proofs.lemmas.List.{map-append}
 use Rattle.std.proofs.lemmas.List.Sums.{prefix_len-le-length}
 use Rattle.alma_base.specs.Numbers as alma
 use Rattle.alma_base.specs.declared.number.Range.{Range}
-use Rattle.alma_lower_templates.specs.Tables.{first_place, counted, same_range, same_text}
+use Rattle.alma_lower_templates.specs.Tables.{first_place, count_past, same_range, same_text}
 use Rattle.alma_lower_tables.specs.Numbers.{range_of, with_entry}
 
 module _ {K R : Type 0} (f : K → R) (same : R → R → Bool) (a : R) (t : K → Bool) (agrees : (k : K) → t k ≡ same (f k) a) where
@@ -20,7 +20,7 @@ module _ {K R : Type 0} (f : K → R) (same : R → R → Bool) (a : R) (t : K �
   place_is (k ∷ ks) = by (same (f k) a) (agrees k) (place_is ks)
     where
       by : (b : Bool) → t k ≡ b → position_or_len t ks ≡ first_place same (map f ks) a
-          → cond (not (t k)) (1 + position_or_len t ks) 0 ≡ counted b (first_place same (map f ks) a)
+          → cond (not (t k)) (1 + position_or_len t ks) 0 ≡ count_past b (first_place same (map f ks) a)
       by true e r = ap (λ x. cond (not x) (1 + position_or_len t ks) 0) e
       by false e r = let more : 1 + position_or_len t ks ≡ suc (first_place same (map f ks) a) = omega (arith, r) in
           ap (λ x. cond (not x) (1 + position_or_len t ks) 0) e ∙ more
@@ -47,7 +47,7 @@ module _ {K R : Type 0} (f : K → R) (same : R → R → Bool) (a : R) (t : K �
     where
       by : (b : Bool) → same (f k) a ≡ b → t k ≡ same (f k) a → (t k || list_any t ks) ≡ true
           → (list_any t ks ≡ true → slice_get (map f ks) (first_place same (map f ks) a) ≡ Some a)
-          → slice_get (map f (k ∷ ks)) (counted b (first_place same (map f ks) a)) ≡ Some a
+          → slice_get (map f (k ∷ ks)) (count_past b (first_place same (map f ks) a)) ≡ Some a
       by true e e2 any later = ap Some (is (f k) e)
       by false e e2 any later = later (sym (ap (λ x. x || list_any t ks) (e2 ∙ e)) ∙ any)
 

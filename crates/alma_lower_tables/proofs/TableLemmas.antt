@@ -7,14 +7,14 @@ use Rattle.alma_code.specs.declared.cell.SlotKind.{SlotKind}
 use Rattle.std.specs.Prelude.{nat_eq}
 use Rattle.std.proofs.lemmas.Bool.{eqb-true, eq-eqb}
 use Rattle.std.proofs.lemmas.List.{append-nil}
-use Rattle.alma_choice.specs.Emitted.{lined}
+use Rattle.alma_choice.specs.Emitted.{line_instr}
 use Rattle.alma_code.specs.declared.code.Line.{Line}
 use Rattle.alma_code.specs.declared.instr.Instr.{Instr}
 use Rattle.alma_ir.specs.declared.program.Param.{Param}
-use Rattle.alma_lower_templates.specs.Lined.{line_from, lines_from, instrs_of}
+use Rattle.alma_lower_templates.specs.LineInstr.{line_from, lines_from, instrs_of}
 use Rattle.alma_lower_templates.specs.Slots.{params_kinds, param_kinds}
 
-pub instrs_pairs : (xs : List (Instr × ℕ)) → map (λ x. x.0) xs ≡ instrs_of (map lined xs)
+pub instrs_pairs : (xs : List (Instr × ℕ)) → map (λ x. x.0) xs ≡ instrs_of (map line_instr xs)
 instrs_pairs [] = refl
 instrs_pairs (x ∷ xs) = ap (λ l. x.0 ∷ l) (instrs_pairs xs)
 
@@ -22,30 +22,31 @@ instrs_pairs (x ∷ xs) = ap (λ l. x.0 ∷ l) (instrs_pairs xs)
 
 -- with these records for the instructions before i, and the line of the last of them
 pub record Told (lines : List Line) (before i at : ℕ) (placed : List (Instr × ℕ)) : Type 0 where
-  pub all : lines ++ lines_from i before (map lined (drop i placed)) ≡ lines_from 0 0 (map lined placed)
+  pub all : lines ++ lines_from i before (map line_instr (drop i placed)) ≡ lines_from 0 0 (map line_instr placed)
   pub here : at ≡ i
 
 from_same : (i before : ℕ) (x : Instr × ℕ) (rest : List (Instr × ℕ)) → x.1 ≡ before
-    → lines_from i before (map lined (x ∷ rest)) ≡ lines_from (i + 1) before (map lined rest)
+    → lines_from i before (map line_instr (x ∷ rest)) ≡ lines_from (i + 1) before (map line_instr rest)
 from_same i before x rest e =
-    ap (λ b. line_from b i x.1 (lines_from (suc i) x.1 (map lined rest))) (eq-eqb x.1 before e)
-    ∙ ap (λ n. lines_from n x.1 (map lined rest)) (sym (add-one i))
-    ∙ ap (λ n. lines_from (i + 1) n (map lined rest)) e
+    ap (λ b. line_from b i x.1 (lines_from (suc i) x.1 (map line_instr rest))) (eq-eqb x.1 before e)
+    ∙ ap (λ n. lines_from n x.1 (map line_instr rest)) (sym (add-one i))
+    ∙ ap (λ n. lines_from (i + 1) n (map line_instr rest)) e
 
 from_other : (i before : ℕ) (x : Instr × ℕ) (rest : List (Instr × ℕ)) → (x.1 ≡ before → ⊥)
-    → lines_from i before (map lined (x ∷ rest)) ≡ record { at = i; line = x.1 } ∷ lines_from (i + 1) x.1 (map lined rest)
+    → lines_from i before (map line_instr (x ∷ rest)) ≡ record { at = i; line = x.1 } ∷ lines_from (i + 1) x.1 (map line_instr rest)
 from_other i before x rest e = by (nat_eq x.1 before) refl
-    ∙ ap (λ n. record { at = i; line = x.1 } ∷ lines_from n x.1 (map lined rest)) (sym (add-one i))
+    ∙ ap (λ n. record { at = i; line = x.1 } ∷ lines_from n x.1 (map line_instr rest)) (sym (add-one i))
   where
-    by : (b : Bool) → nat_eq x.1 before ≡ b → line_from b i x.1 (lines_from (suc i) x.1 (map lined rest))
-        ≡ record { at = i; line = x.1 } ∷ lines_from (suc i) x.1 (map lined rest)
+    by : (b : Bool) → nat_eq x.1 before ≡ b → line_from b i x.1 (lines_from (suc i) x.1 (map line_instr rest))
+        ≡ record { at = i; line = x.1 } ∷ lines_from (suc i) x.1 (map line_instr rest)
     by true same = absurd (e (eqb-true x.1 before same))
     by false other = refl
 
 pub told_same : (lines : List Line) (before i at : ℕ) (placed : List (Instr × ℕ)) (x : Instr × ℕ) → drop i placed ≡ x ∷ drop (i + 1) placed
     → x.1 ≡ before → Told lines before i at placed → Told lines before (i + 1) (at + 1) placed
 told_same lines before i at placed x one e h = record {
-  all = ap (λ s. lines ++ s) (sym (ap (λ l. lines_from i before (map lined l)) one ∙ from_same i before x (drop (i + 1) placed) e)) ∙ h.all;
+  all = ap (λ s. lines ++ s) (sym (ap (λ l. lines_from i before (map line_instr l)) one ∙ from_same i before x (drop (i + 1) placed) e))
+      ∙ h.all;
   here = ap (λ n. n + 1) h.here;
 }
 
@@ -53,17 +54,17 @@ pub told_other : (lines : List Line) (before i at : ℕ) (placed : List (Instr �
     → (x.1 ≡ before → ⊥) → Told lines before i at placed
     → Told (lines ++ record { at = at; line = x.1 } ∷ []) x.1 (i + 1) (at + 1) placed
 told_other lines before i at placed x one e h = record {
-  all = append_assoc lines (record { at = at; line = x.1 } ∷ []) (lines_from (i + 1) x.1 (map lined (drop (i + 1) placed)))
-      ∙ ap (λ n. lines ++ record { at = n; line = x.1 } ∷ lines_from (i + 1) x.1 (map lined (drop (i + 1) placed))) h.here
-      ∙ ap (λ s. lines ++ s) (sym (ap (λ l. lines_from i before (map lined l)) one ∙ from_other i before x (drop (i + 1) placed) e))
+  all = append_assoc lines (record { at = at; line = x.1 } ∷ []) (lines_from (i + 1) x.1 (map line_instr (drop (i + 1) placed)))
+      ∙ ap (λ n. lines ++ record { at = n; line = x.1 } ∷ lines_from (i + 1) x.1 (map line_instr (drop (i + 1) placed))) h.here
+      ∙ ap (λ s. lines ++ s) (sym (ap (λ l. lines_from i before (map line_instr l)) one ∙ from_other i before x (drop (i + 1) placed) e))
       ∙ h.all;
   here = ap (λ n. n + 1) h.here;
 }
 
 pub told_all : (lines : List Line) (before i at : ℕ) (placed : List (Instr × ℕ)) → length placed ≤ i → Told lines before i at placed
-    → lines ≡ lines_from 0 0 (map lined placed)
+    → lines ≡ lines_from 0 0 (map line_instr placed)
 told_all lines before i at placed le h =
-    sym (append-nil lines) ∙ ap (λ s. lines ++ lines_from i before (map lined s)) (sym (drop_of_length-le placed le)) ∙ h.all
+    sym (append-nil lines) ∙ ap (λ s. lines ++ lines_from i before (map line_instr s)) (sym (drop_of_length-le placed le)) ∙ h.all
 
 -- ---- kinds
 

@@ -3,7 +3,7 @@ ghost use Rattle.std.specs.Prelude.{◌≡◌, true, [], ◌∷◌, OnOk};
 ghost use Rattle.alma_base.specs.Numbers.{is_integer};
 ghost use Rattle.alma_lower_tables.specs.Numbers.{tables_of};
 ghost use Rattle.alma_lower_templates.specs.Tables.{is_whole};
-ghost use Rattle.alma_lower_tables.specs.Walked.{checked, HasIntegerEnds, Names};
+ghost use Rattle.alma_lower_tables.specs.AddsPhrases.{check_range, HasIntegerEnds, Names};
 
 use crate::numbers::Numbers;
 use alma_base::{NoMemory, Range};
@@ -28,7 +28,7 @@ fn holds_all(range: Range) -> bool
 // A range that is only checked, which is not named where it holds all numbers.
 pub fn add_checked(numbers: &mut Numbers, range: Range) -> Result<(), NoMemory>
     ensures names { OnOk result (Names (tables_of numbers.old) (tables_of numbers.new)
-        (checked range) []) }
+        (check_range range) []) }
 {
     if holds_all(range) {
         return Ok(());

@@ -5,7 +5,7 @@ ghost use Rattle.alma_lower_sound.specs.Entries.{AreSome, program_phrases, progr
 ghost use Rattle.alma_lower_tables.specs.Numbers.{tables_of};
 ghost use Rattle.alma_lower_templates.specs.CodeOf.{HoldsAllOf, IsOfIntegers};
 ghost use Rattle.alma_lower_templates.specs.Tables.{same_range, same_text};
-ghost use Rattle.alma_lower_tables.specs.Walked.{Walked, Names, checked_result, checked_results};
+ghost use Rattle.alma_lower_tables.specs.AddsPhrases.{AddsPhrases, Names, checked_result, checked_results};
 
 use crate::entry::add_checked;
 use crate::numbers::Numbers;
@@ -35,7 +35,7 @@ pub fn gather(alloc: Global, program: &Program) -> Result<Numbers, NoMemory>
 
 // The bodies of all routines.
 fn add_bodies(alloc: Global, numbers: &mut Numbers, program: &Program) -> Result<(), NoMemory>
-    ensures { OnOk result (Walked (tables_of numbers.old) (tables_of numbers.new)
+    ensures { OnOk result (AddsPhrases (tables_of numbers.old) (tables_of numbers.new)
         (program_phrases (program_of program.now))) }
 {
     for routine in &program.routines {

@@ -1,11 +1,11 @@
 // Parameters, variables, instructions and lines.
 ghost use Rattle.std.specs.Prelude.{◌≡◌, ◌≤◌, ◌++◌, length, map, IfOk};
 ghost use Rattle.alma_base.specs.Limits.{instr_limit};
-ghost use Rattle.alma_choice.specs.Emitted.{lined};
+ghost use Rattle.alma_choice.specs.Emitted.{line_instr};
 ghost use Rattle.alma_code.specs.Plain as code;
 ghost use Rattle.alma_ir.specs.View as view;
 ghost use Rattle.alma_lower_templates.specs.Compiled as compiled;
-ghost use Rattle.alma_lower_templates.specs.Lined as lines;
+ghost use Rattle.alma_lower_templates.specs.LineInstr as lines;
 
 use alma_base::NoMemory;
 use alma_code::{CodeGlobal, CodeParam, Instr, Line, ParamKind};
@@ -73,7 +73,7 @@ pub fn globals_of(alloc: Global, globals: &[alma_ir::Global]) -> Result<Vec<Code
 
 /// The instructions without their lines.
 pub fn instrs_of(alloc: Global, placed: &[(Instr, u32)]) -> Result<Vec<Instr>, NoMemory>
-    ensures { IfOk result (λ instrs. instrs.items ≡ lines.instrs_of (map lined placed.now)) }
+    ensures { IfOk result (λ instrs. instrs.items ≡ lines.instrs_of (map line_instr placed.now)) }
 {
     let mut instrs = Vec::new(alloc);
     for one in placed {
@@ -85,7 +85,7 @@ pub fn instrs_of(alloc: Global, placed: &[(Instr, u32)]) -> Result<Vec<Instr>, N
 /// A record for each address from which on the line is another than before.
 pub fn lines_of(alloc: Global, placed: &[(Instr, u32)]) -> Result<Vec<Line>, NoMemory>
     requires room { length placed.now ≤ instr_limit }
-    ensures { IfOk result (λ table. table.items ≡ lines.lines_of (map lined placed.now)) }
+    ensures { IfOk result (λ table. table.items ≡ lines.lines_of (map line_instr placed.now)) }
 {
     let mut lines = Vec::new(alloc);
     let mut before = 0;

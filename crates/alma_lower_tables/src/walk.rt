@@ -3,7 +3,7 @@ ghost use Rattle.std.specs.Prelude.{◌≡◌, OnOk};
 ghost use Rattle.alma_ir.specs.View.{stmts_list, stmt_of, arms_list, cases_list, branches_list, loop_of, tests_list, test_of, expr_of, links_list, args_list, arg_of, desig_of, sels_list, sel_of, return_option};
 ghost use Rattle.alma_ir.specs.Phrases.{stmts_phrases, stmt_phrases, arms_phrases, cases_phrases, branches_phrases, loop_phrases, tests_phrases, test_phrases, expr_phrases, links_phrases, args_phrases, arg_phrases, desig_phrases, sels_phrases, sel_phrases, return_phrases};
 ghost use Rattle.alma_lower_tables.specs.Numbers.{tables_of};
-ghost use Rattle.alma_lower_tables.specs.Walked.{Walked};
+ghost use Rattle.alma_lower_tables.specs.AddsPhrases.{AddsPhrases};
 
 use crate::entry::{add_checked, add_range, add_text, pass_number};
 use crate::numbers::Numbers;
@@ -17,7 +17,7 @@ const CHARS: Range = Range { low: 0, high: 255 };
 // Statements.
 #[cycle(walk)]
 pub fn walk_stmts(alloc: Global, numbers: &mut Numbers, body: &[Stmt]) -> Result<(), NoMemory>
-    ensures { OnOk result (Walked (tables_of numbers.old) (tables_of numbers.new)
+    ensures { OnOk result (AddsPhrases (tables_of numbers.old) (tables_of numbers.new)
         (stmts_phrases (stmts_list body.now))) }
 {
     for stmt in body {
@@ -29,7 +29,7 @@ pub fn walk_stmts(alloc: Global, numbers: &mut Numbers, body: &[Stmt]) -> Result
 // A statement and those inside it.
 #[cycle(walk)]
 fn walk_stmt(alloc: Global, numbers: &mut Numbers, stmt: &Stmt) -> Result<(), NoMemory>
-    ensures { OnOk result (Walked (tables_of numbers.old) (tables_of numbers.new)
+    ensures { OnOk result (AddsPhrases (tables_of numbers.old) (tables_of numbers.new)
         (stmt_phrases (stmt_of stmt.now))) }
 {
     match stmt {
@@ -91,7 +91,7 @@ fn walk_stmt(alloc: Global, numbers: &mut Numbers, stmt: &Stmt) -> Result<(), No
 // What RETURN gives.
 #[cycle(walk)]
 fn walk_return(alloc: Global, numbers: &mut Numbers, value: &Option<Expr>) -> Result<(), NoMemory>
-    ensures { OnOk result (Walked (tables_of numbers.old) (tables_of numbers.new)
+    ensures { OnOk result (AddsPhrases (tables_of numbers.old) (tables_of numbers.new)
         (return_phrases (return_option value.now))) }
 {
     match value {
@@ -103,7 +103,7 @@ fn walk_return(alloc: Global, numbers: &mut Numbers, value: &Option<Expr>) -> Re
 // The arms of IF.
 #[cycle(walk)]
 fn walk_arms(alloc: Global, numbers: &mut Numbers, arms: &[Arm]) -> Result<(), NoMemory>
-    ensures { OnOk result (Walked (tables_of numbers.old) (tables_of numbers.new)
+    ensures { OnOk result (AddsPhrases (tables_of numbers.old) (tables_of numbers.new)
         (arms_phrases (arms_list arms.now))) }
 {
     for arm in arms {
@@ -116,7 +116,7 @@ fn walk_arms(alloc: Global, numbers: &mut Numbers, arms: &[Arm]) -> Result<(), N
 // The arms of CASE.
 #[cycle(walk)]
 fn walk_cases(alloc: Global, numbers: &mut Numbers, arms: &[CaseArm]) -> Result<(), NoMemory>
-    ensures { OnOk result (Walked (tables_of numbers.old) (tables_of numbers.new)
+    ensures { OnOk result (AddsPhrases (tables_of numbers.old) (tables_of numbers.new)
         (cases_phrases (cases_list arms.now))) }
 {
     for arm in arms {
@@ -128,7 +128,7 @@ fn walk_cases(alloc: Global, numbers: &mut Numbers, arms: &[CaseArm]) -> Result<
 // The branches of EITHER.
 #[cycle(walk)]
 fn walk_branches(alloc: Global, numbers: &mut Numbers, branches: &[Branch]) -> Result<(), NoMemory>
-    ensures { OnOk result (Walked (tables_of numbers.old) (tables_of numbers.new)
+    ensures { OnOk result (AddsPhrases (tables_of numbers.old) (tables_of numbers.new)
         (branches_phrases (branches_list branches.now))) }
 {
     for branch in branches {
@@ -140,7 +140,7 @@ fn walk_branches(alloc: Global, numbers: &mut Numbers, branches: &[Branch]) -> R
 // The parts of FOR and SOME.
 #[cycle(walk)]
 fn walk_loop(alloc: Global, numbers: &mut Numbers, each: &Loop) -> Result<(), NoMemory>
-    ensures { OnOk result (Walked (tables_of numbers.old) (tables_of numbers.new)
+    ensures { OnOk result (AddsPhrases (tables_of numbers.old) (tables_of numbers.new)
         (loop_phrases (loop_of each.now))) }
 {
     walk_desig(alloc, numbers, &each.var)?;
@@ -152,7 +152,7 @@ fn walk_loop(alloc: Global, numbers: &mut Numbers, each: &Loop) -> Result<(), No
 // The operands of AND or OR.
 #[cycle(walk)]
 fn walk_tests(alloc: Global, numbers: &mut Numbers, tests: &[Test]) -> Result<(), NoMemory>
-    ensures { OnOk result (Walked (tables_of numbers.old) (tables_of numbers.new)
+    ensures { OnOk result (AddsPhrases (tables_of numbers.old) (tables_of numbers.new)
         (tests_phrases (tests_list tests.now))) }
 {
     for test in tests {
@@ -164,7 +164,7 @@ fn walk_tests(alloc: Global, numbers: &mut Numbers, tests: &[Test]) -> Result<()
 // A test.
 #[cycle(walk)]
 fn walk_test(alloc: Global, numbers: &mut Numbers, test: &Test) -> Result<(), NoMemory>
-    ensures { OnOk result (Walked (tables_of numbers.old) (tables_of numbers.new)
+    ensures { OnOk result (AddsPhrases (tables_of numbers.old) (tables_of numbers.new)
         (test_phrases (test_of test.now))) }
 {
     match test {
@@ -195,7 +195,7 @@ fn walk_test(alloc: Global, numbers: &mut Numbers, test: &Test) -> Result<(), No
 // An expression.
 #[cycle(walk)]
 fn walk_expr(alloc: Global, numbers: &mut Numbers, expr: &Expr) -> Result<(), NoMemory>
-    ensures { OnOk result (Walked (tables_of numbers.old) (tables_of numbers.new)
+    ensures { OnOk result (AddsPhrases (tables_of numbers.old) (tables_of numbers.new)
         (expr_phrases (expr_of expr.now))) }
 {
     match expr {
@@ -225,7 +225,7 @@ fn walk_expr(alloc: Global, numbers: &mut Numbers, expr: &Expr) -> Result<(), No
 // Operators with their operands.
 #[cycle(walk)]
 fn walk_links(alloc: Global, numbers: &mut Numbers, links: &[Link]) -> Result<(), NoMemory>
-    ensures { OnOk result (Walked (tables_of numbers.old) (tables_of numbers.new)
+    ensures { OnOk result (AddsPhrases (tables_of numbers.old) (tables_of numbers.new)
         (links_phrases (links_list links.now))) }
 {
     for link in links {
@@ -237,7 +237,7 @@ fn walk_links(alloc: Global, numbers: &mut Numbers, links: &[Link]) -> Result<()
 // Arguments.
 #[cycle(walk)]
 fn walk_args(alloc: Global, numbers: &mut Numbers, args: &[Arg]) -> Result<(), NoMemory>
-    ensures { OnOk result (Walked (tables_of numbers.old) (tables_of numbers.new)
+    ensures { OnOk result (AddsPhrases (tables_of numbers.old) (tables_of numbers.new)
         (args_phrases (args_list args.now))) }
 {
     for arg in args {
@@ -249,7 +249,7 @@ fn walk_args(alloc: Global, numbers: &mut Numbers, args: &[Arg]) -> Result<(), N
 // An argument.
 #[cycle(walk)]
 fn walk_arg(alloc: Global, numbers: &mut Numbers, arg: &Arg) -> Result<(), NoMemory>
-    ensures { OnOk result (Walked (tables_of numbers.old) (tables_of numbers.new)
+    ensures { OnOk result (AddsPhrases (tables_of numbers.old) (tables_of numbers.new)
         (arg_phrases (arg_of arg.now))) }
 {
     match arg {
@@ -270,7 +270,7 @@ fn walk_arg(alloc: Global, numbers: &mut Numbers, arg: &Arg) -> Result<(), NoMem
 // A designator.
 #[cycle(walk)]
 fn walk_desig(alloc: Global, numbers: &mut Numbers, desig: &Desig) -> Result<(), NoMemory>
-    ensures { OnOk result (Walked (tables_of numbers.old) (tables_of numbers.new)
+    ensures { OnOk result (AddsPhrases (tables_of numbers.old) (tables_of numbers.new)
         (desig_phrases (desig_of desig.now))) }
 {
     walk_sels(alloc, numbers, &desig.sels)
@@ -279,7 +279,7 @@ fn walk_desig(alloc: Global, numbers: &mut Numbers, desig: &Desig) -> Result<(),
 // Selectors.
 #[cycle(walk)]
 fn walk_sels(alloc: Global, numbers: &mut Numbers, sels: &[Sel]) -> Result<(), NoMemory>
-    ensures { OnOk result (Walked (tables_of numbers.old) (tables_of numbers.new)
+    ensures { OnOk result (AddsPhrases (tables_of numbers.old) (tables_of numbers.new)
         (sels_phrases (sels_list sels.now))) }
 {
     for sel in sels {
@@ -291,7 +291,7 @@ fn walk_sels(alloc: Global, numbers: &mut Numbers, sels: &[Sel]) -> Result<(), N
 // A selector.
 #[cycle(walk)]
 fn walk_sel(alloc: Global, numbers: &mut Numbers, sel: &Sel) -> Result<(), NoMemory>
-    ensures { OnOk result (Walked (tables_of numbers.old) (tables_of numbers.new)
+    ensures { OnOk result (AddsPhrases (tables_of numbers.old) (tables_of numbers.new)
         (sel_phrases (sel_of sel.now))) }
 {
     match sel {

@@ -41,9 +41,9 @@ use Rattle.alma_lower_implements.proofs.ForSteps.{move_step}
 use Rattle.alma_lower_implements.proofs.BareRow.{ReadsFirst}
 use Rattle.alma_lower_implements.proofs.Steps.{Holds, InstrAt, top_written, passed, does}
 use Rattle.alma_lower_implements.proofs.Ways.{Ways, Leaves, Runs}
-use Rattle.alma_lower_templates.specs.Lined.{Lined, own}
+use Rattle.alma_lower_templates.specs.LineInstr.{LineInstr, own}
 use Rattle.alma_lower_templates.specs.Tables.{Tables, range_number, is_whole}
-use Rattle.alma_lower_templates.specs.Pieces.{fit_code, put_code, straight, placed, unless_whole}
+use Rattle.alma_lower_templates.specs.Pieces.{fit_code, put_code, straight, place_code, unless_whole}
 use Rattle.alma_lower_templates.specs.Slots.{bare, own_place, ends_alone, is_straight, unless_bare, handed_slots, arg_kind, arg_slots}
 use Rattle.alma_lower_templates.specs.Slots.{desig_cells, cells_behind}
 use Rattle.alma_lower_templates.specs.Templates.{expr_code, desig_code, value_at, handed_code, arg_code, args_code}
@@ -172,10 +172,10 @@ module _ (p : Program) (tables : Tables) (code : PlainCode) (input : List ℕ) (
       ++ own line (fit_code tables range (value_at p tables r la e) ++ (I.Move to (value_at p tables r la e) ∷ [])))
       (λ v. node (bind (ev_expr p input below e v) (λ t x. check_range range x (λ _. one t (wrap x))))) (ArgIn to k n) q
   number_arg k n wrap made_of e range to la at small own_to kind fits once stands v now b =
-      let first : List Lined = unless_bare (bare e) (expr_code p tables r line at la e) in
+      let first : List LineInstr = unless_bare (bare e) (expr_code p tables r line at la e) in
       let value : ℕ = value_at p tables r la e in
       let fit : List Instr = fit_code tables range value in
-      let second : List Lined = own line (fit ++ (I.Move to value ∷ [])) in
+      let second : List LineInstr = own line (fit ++ (I.Move to value ∷ [])) in
       let m : ℕ = at + length first in
       let m2 : ℕ = m + length (own line fit) in
       let exit : ℕ = at + length (first ++ second) in
@@ -267,7 +267,7 @@ module _ (p : Program) (tables : Tables) (code : PlainCode) (input : List ℕ) (
       → ((x : Place) (c : CellPlace) (v : Store) (now : List PlainFrame) → PlaceAlike p code v now cells x c
       → HandedAs p code v now k n (wrap x) (cell.Place c))
       → (d : Desig) (to la at : ℕ) → own_end p r ≤ to
-      → NodeFor p code input r line at to (placed to (desig_code p tables r line at la d)) (ev_desig p input below d)
+      → NodeFor p code input r line at to (place_code to (desig_code p tables r line at la d)) (ev_desig p input below d)
       (PlaceIn p code input to cells) q
       → NodeFor p code input r line at to (handed_code p tables r (own_place d) line to (desig_code p tables r line at la d))
       (λ v. node (bind (ev_desig p input below d v) (λ t x. one t (wrap x)))) (ArgIn to k n) q
@@ -275,7 +275,7 @@ module _ (p : Program) (tables : Tables) (code : PlainCode) (input : List ℕ) (
       subst (λ c. NodeFor p code input r line at to c (λ v. node (bind (ev_desig p input below d v) (λ t x. one t (wrap x)))) (ArgIn to k n)
       q) (sym (handed_is p tables r to line at la d))
       (λ stands v now b.
-      let exit : ℕ = at + length (placed to (desig_code p tables r line at la d)) in
+      let exit : ℕ = at + length (place_code to (desig_code p tables r line at la d)) in
       node_runs p code input line 0 at exit now (leaving p code input to r now (ArgIn to k n))
       (bind (ev_desig p input below d v) (λ t x. one t (wrap x))) q (omega arith)
       (then_from p code input line at exit exit to to r now (PlaceIn p code input to cells) (ArgIn to k n) (ev_desig p input below d v)
@@ -291,7 +291,7 @@ module _ (p : Program) (tables : Tables) (code : PlainCode) (input : List ℕ) (
   -- what an argument asks of its part
   abbrev pub PlacePart : (at la : ℕ) → Desig → Type 0
   PlacePart at la d = (to : ℕ) → to < la → own_end p r ≤ to → slice_get (kinds_at code r) to ≡ Some (slot.Place (desig_cells d))
-      → NodeFor p code input r line at to (placed to (desig_code p tables r line at la d)) (ev_desig p input below d)
+      → NodeFor p code input r line at to (place_code to (desig_code p tables r line at la d)) (ev_desig p input below d)
       (PlaceIn p code input to (desig_cells d)) q
 
   abbrev pub ArgPart : (at la : ℕ) → Arg → Type 0
@@ -403,9 +403,9 @@ module _ (p : Program) (tables : Tables) (code : PlainCode) (input : List ℕ) (
   args_run no_args (x ∷ xs) at to la fits ones slots room parts stands v now b c le held s is = absurd fits
   args_run (more_args a rest) [] at to la fits ones slots room parts stands v now b c le held s is = absurd fits
   args_run (more_args a rest) (x ∷ xs) at to la fits ones slots room parts stands v now b c le held s is =
-      let first : List Lined = arg_code p tables r line at to la a in
+      let first : List LineInstr = arg_code p tables r line at to la a in
       let m : ℕ = at + length first in
-      let second : List Lined = args_code p tables r line m (to + 1) (la + length (arg_slots p r a)) rest in
+      let second : List LineInstr = args_code p tables r line m (to + 1) (la + length (arg_slots p r a)) rest in
       let exit : ℕ = at + length (first ++ second) in
       let whole : length (first ++ second) ≡ length first + length second = length-append first second in
       let end : m + length second ≡ exit = omega (arith, whole) in

@@ -15,7 +15,7 @@ use Rattle.alma_lower_implements.proofs.BareRow.{ReadsFirst, reads_unknown, bare
 use Rattle.alma_lower_implements.proofs.ExprRows.{AreVariables}
 use Rattle.alma_lower_implements.proofs.ForSteps.{SlotThere, a_number, not_known, slot_there}
 use Rattle.alma_lower_implements.proofs.Ways.{Ways, Leaves}
-use Rattle.alma_lower_templates.specs.Lined.{Lined}
+use Rattle.alma_lower_templates.specs.LineInstr.{LineInstr}
 use Rattle.alma_lower_templates.specs.Tables.{Tables}
 use Rattle.alma_lower_templates.specs.Slots.{bare, unless_bare}
 use Rattle.alma_lower_templates.specs.Templates.{expr_code, slot_or, value_at}
@@ -59,7 +59,7 @@ module _ (p : Program) (tables : Tables) (code : PlainCode) (input : List ℕ) (
             (λ held s is. faults_here p code input line 95 at exit now (w now) fault.Unknown q
             (λ h u at_u. reads_unknown code input line at (shift p r + from) now h u reads at_u there hold) held s is)
 
-    value_from : (x : Expr) (o : Option ℕ) → bare x ≡ o → (made : List Lined) → BareFits o
+    value_from : (x : Expr) (o : Option ℕ) → bare x ≡ o → (made : List LineInstr) → BareFits o
         → (o ≡ None → NodeFor p code input r line at la made (ev_expr p input below x) (ValueIn p code input la) q)
         → Stands code at (unless_bare o made) → line_at code (at + length (unless_bare o made)) ≡ line
         → ReadsFirst code input (at + length (unless_bare o made)) (slot_or p tables r o la) now

@@ -18,7 +18,7 @@ use Rattle.alma_lower_implements.proofs.FirstRow.{first_row, commit_goes}
 use Rattle.alma_lower_implements.proofs.SeqRow.{no_stmts_row, more_stmts_row}
 use Rattle.alma_lower_implements.proofs.Steps.{top_written, InstrAt}
 use Rattle.alma_lower_implements.proofs.Ways.{Leaves, Runs}
-use Rattle.alma_lower_templates.specs.Lined.{Lined, own}
+use Rattle.alma_lower_templates.specs.LineInstr.{LineInstr, own}
 use Rattle.alma_lower_templates.specs.Tables.{Tables}
 use Rattle.alma_lower_templates.specs.Slots.{stmts_slots, test_slots, behind_stmt, behind_test}
 use Rattle.alma_lower_templates.specs.Templates.{stmts_code, stmt_code, test_code, and_code}
@@ -45,9 +45,9 @@ module _ (p : Program) (tables : Tables) (code : PlainCode) (input : List ℕ) (
       → ListRuns p tables code input below r line q may at lo (more_stmts given x rest)
   unfolding ev_stmts
   more_stmts_run may given at lo x rest known behind first others stands v now b =
-      let front : List Lined = stmt_code p tables r given at lo x in
+      let front : List LineInstr = stmt_code p tables r given at lo x in
       let m : ℕ = at + length front in
-      let after : List Lined = stmts_code p tables r m (behind_stmt p r lo x) rest in
+      let after : List LineInstr = stmts_code p tables r m (behind_stmt p r lo x) rest in
       let exit : ℕ = m + length after in
       let whole : length (front ++ after) ≡ length front + length after = length-append front after in
       let end : exit ≡ at + length (front ++ after) = omega (arith, whole) in
@@ -88,9 +88,9 @@ module _ (p : Program) (tables : Tables) (code : PlainCode) (input : List ℕ) (
       → ((next : ℕ) → AndRun next (behind_test p r lo t) rest) → AndRun at lo (more_tests t rest)
   unfolding ev_stmts
   more_and_run at lo t rest behind first others stands v now b =
-      let front : List Lined = test_code p tables r line at lo t in
+      let front : List LineInstr = test_code p tables r line at lo t in
       let m : ℕ = at + length front in
-      let after : List Lined = and_code p tables r line m (behind_test p r lo t) rest in
+      let after : List LineInstr = and_code p tables r line m (behind_test p r lo t) rest in
       let exit : ℕ = m + length after in
       let whole : length (front ++ after) ≡ length front + length after = length-append front after in
       let end : exit ≡ at + length (front ++ after) = omega (arith, whole) in
@@ -123,7 +123,7 @@ module _ (p : Program) (tables : Tables) (code : PlainCode) (input : List ℕ) (
   unfolding ev_stmts
   commit_runs at lo x slots runs stands v now b =
       let kind = first_kind p code input r lo slot.Mark (stmts_slots p r x) slots in
-      let inner : List Lined = stmts_code p tables r (at + 1) (lo + 1) x in
+      let inner : List LineInstr = stmts_code p tables r (at + 1) (lo + 1) x in
       let n : ℕ = at + 1 + length inner in
       let back = stands_back code (at + 1) inner (own line (I.Cut lo ∷ [])) stands.2 in
       let whole : length (inner ++ own line (I.Cut lo ∷ [])) ≡ length inner + 1 = length-append inner (own line (I.Cut lo ∷ [])) in
@@ -152,8 +152,8 @@ module _ (p : Program) (tables : Tables) (code : PlainCode) (input : List ℕ) (
   unfolding ev_stmts
   not_runs at lo t slots runs stands v now b =
       let kind = first_kind p code input r lo slot.Mark (test_slots p r t) slots in
-      let inner : List Lined = test_code p tables r line (at + 2) (lo + 1) t in
-      let last : List Lined = own line (I.Cut lo ∷ I.Fail ∷ []) in
+      let inner : List LineInstr = test_code p tables r line (at + 2) (lo + 1) t in
+      let last : List LineInstr = own line (I.Cut lo ∷ I.Fail ∷ []) in
       let n : ℕ = at + 2 + length inner in
       let two : at + 1 + 1 ≡ at + 2 = omega arith in
       let inside : Stands code (at + 2) (inner ++ last) = subst (λ m. Stands code m (inner ++ last)) two stands.2.2 in

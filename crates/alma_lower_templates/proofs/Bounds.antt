@@ -26,7 +26,7 @@ use Rattle.alma_lower_implements.proofs.ForSteps.{entered, entered_is, slot_with
 use Rattle.alma_lower_implements.proofs.ForSteps.{move_step}
 use Rattle.alma_lower_implements.proofs.Steps.{top_written, Holds, HasKind, InstrAt, Writes, does, const_step, less_eq_step}
 use Rattle.alma_lower_implements.proofs.Ways.{Leaves}
-use Rattle.alma_lower_templates.specs.Lined.{Lined, own}
+use Rattle.alma_lower_templates.specs.LineInstr.{LineInstr, own}
 use Rattle.alma_lower_templates.specs.Tables.{Tables}
 use Rattle.alma_lower_templates.specs.Pieces.{straight, count_from, unless_constant, limit_code, entry_code}
 use Rattle.alma_lower_templates.specs.Pieces.{begin_loop as loop_begins}
@@ -165,7 +165,7 @@ module _ (p : Program) (tables : Tables) (code : PlainCode) (input : List ℕ) (
   move_reads at to from now i held s is = (_, does code input line at now held s (I.Move to from) is i)
 
   -- the code of a limit
-  abbrev limit_made : (z : Bool) (at lo limit : ℕ) → Expr → List Lined
+  abbrev limit_made : (z : Bool) (at lo limit : ℕ) → Expr → List LineInstr
   limit_made z at lo limit x =
       limit_code z line (shift p r + limit) (value_at p tables r lo x) (unless_bare (bare x) (expr_code p tables r line at lo x))
 
@@ -176,7 +176,7 @@ module _ (p : Program) (tables : Tables) (code : PlainCode) (input : List ℕ) (
       → From p code input line 7 (at + length (limit_made z at la limit x)) exit t (ending p code input may lo r t) (k u l) q)
       → From p code input line 0 at exit now (ending p code input may lo r now) (bind (ev_expr p input below x v) k) q
   limit_from true at exit lo la limit x v now k e le behind of_limit runs stands b later =
-      let made : List Lined = expr_code p tables r line at la x in
+      let made : List LineInstr = expr_code p tables r line at la x in
       let to : ℕ = shift p r + limit in
       let same : straight to (unless_bare (bare x) made) ≡ straight to made =
       ap (λ o. straight to (unless_bare o made)) (alone_bare x e) in
@@ -197,11 +197,11 @@ module _ (p : Program) (tables : Tables) (code : PlainCode) (input : List ℕ) (
       (record { mode = going.mode; here = left.0; frames = refl; entries = going.entries }))
       (λ u n t left. absurd left)
   limit_from false at exit lo la limit x v now k e le behind of_limit runs stands b later =
-      let inner : List Lined = unless_bare (bare x) (expr_code p tables r line at la x) in
+      let inner : List LineInstr = unless_bare (bare x) (expr_code p tables r line at la x) in
       let to : ℕ = shift p r + limit in
       let value : ℕ = value_at p tables r la x in
       let m : ℕ = at + length inner in
-      let move : List Lined = own line (I.Move to value ∷ []) in
+      let move : List LineInstr = own line (I.Move to value ∷ []) in
       let back = stands_back code at inner move stands in
       let i : InstrAt code input line m (I.Move to value) = record { instr = back.0; on_line = back.1 } in
       let long : length (inner ++ move) ≡ length inner + 1 = length-append inner move in
@@ -223,7 +223,7 @@ module _ (p : Program) (tables : Tables) (code : PlainCode) (input : List ℕ) (
 
   -- ---- the step, and both
 
-  abbrev pub loop_front : (at lo limit : ℕ) (from to : Expr) (by : ℤ) → List Lined
+  abbrev pub loop_front : (at lo limit : ℕ) (from to : Expr) (by : ℤ) → List LineInstr
   loop_front at lo limit from to by =
       loop_begins line at lo by (λ at. unless_constant (constant from) (expr_code p tables r line at (lo + 1) from))
       (λ at. limit_made (ends_alone to) at (behind_expr p r (lo + 1) from) limit to)
@@ -245,9 +245,9 @@ module _ (p : Program) (tables : Tables) (code : PlainCode) (input : List ℕ) (
       let last : ℕ = behind_expr p r (lo + 1) from in
       let kind0 = first_kind p code input r lo slot.Number (expr_slots p r from ++ (expr_slots p r to ++ others)) slots in
       let above : lo + 1 < last = omega (arith, some_slots p code input r from) in
-      let first : List Lined = unless_constant (constant from) (expr_code p tables r line (at + 1) (lo + 1) from) in
+      let first : List LineInstr = unless_constant (constant from) (expr_code p tables r line (at + 1) (lo + 1) from) in
       let m1 : ℕ = at + 1 + length first in
-      let second : List Lined = limit_made (ends_alone to) m1 last limit to in
+      let second : List LineInstr = limit_made (ends_alone to) m1 last limit to in
       let next : ℕ = at + length (loop_front at lo limit from to by) in
       let both : length (first ++ second) ≡ length first + length second = length-append first second in
       let here : m1 + length second ≡ next = omega (arith, both) in

@@ -37,7 +37,7 @@ use Rattle.alma_lower_implements.proofs.FunctionRow.{LeavesFunction, function_ca
 use Rattle.alma_lower_implements.proofs.ChoiceSteps.{mark_step}
 use Rattle.alma_lower_implements.proofs.Steps.{Holds, InstrAt, top_written}
 use Rattle.alma_lower_implements.proofs.Ways.{Ways, Leaves, Runs}
-use Rattle.alma_lower_templates.specs.Lined.{Lined, own, in_row}
+use Rattle.alma_lower_templates.specs.LineInstr.{LineInstr, own, in_row}
 use Rattle.alma_lower_templates.specs.Tables.{Tables}
 use Rattle.alma_lower_templates.specs.Pieces.{chain_code, link_code, first_argument}
 use Rattle.alma_lower_templates.specs.Slots.{shift_of, chain_slots, links_if, call_links, handed_slots, args_slots, test_slots, expr_slots}
@@ -276,8 +276,8 @@ module _ (p : Program) (tables : Tables) (code : PlainCode) (input : List ℕ) (
         → ((m first : ℕ) → HasSlots p code r (first + length (handed_slots args)) (args_slots p r args)
         → ArgParts p tables code input below r line q m first (first + length (handed_slots args)) args)
         → let first : ℕ = la + length (call_links p r called up) in
-        let link : List Lined = own line (link_if p tables r (shift_of p called) up la) in
-        let given : List Lined = args_code p tables r line (at + length link) first (first + length (handed_slots args)) args in
+        let link : List LineInstr = own line (link_if p tables r (shift_of p called) up la) in
+        let given : List LineInstr = args_code p tables r line (at + length link) first (first + length (handed_slots args)) args in
         Stands code at (link ++ given) → Begins p code input r v now
         → ((u : Store) (taken : List ArgValue) (t : List PlainFrame) → Left p code input la r now u t → ArgsDone called up la u taken t
         → From p code input line 8 (at + length (link ++ given)) exit t (leaving p code input lo r t yields) (k u taken) q)
@@ -287,9 +287,9 @@ module _ (p : Program) (tables : Tables) (code : PlainCode) (input : List ℕ) (
         let links : List SlotKind = call_links p r called up in
         let own_la : own_end p r ≤ la = omega (arith, own_lo, behind_lo) in
         let first : ℕ = la + length links in
-        let link : List Lined = own line (link_if p tables r sh up la) in
+        let link : List LineInstr = own line (link_if p tables r sh up la) in
         let m : ℕ = at + length link in
-        let given : List Lined = args_code p tables r line m first (first + length (handed_slots args)) args in
+        let given : List LineInstr = args_code p tables r line m first (first + length (handed_slots args)) args in
         let z = link_done sh up la at v now held s own_la (reached v now b) up_few
         (slots_first p code input r la links (handed_slots args ++ args_slots p r args) slots) (stands_front code at link given stands)
         b is in
@@ -463,10 +463,10 @@ module _ (p : Program) (tables : Tables) (code : PlainCode) (input : List ℕ) (
           (ev_test p input below (CallTest called args up)) (Nothing p code input) (suc q)
       unfolding ev_stmts
       call_test_runs args lo at fits slots parts stands v now b =
-          let front : List Lined = in_row at (own line (call_link_code p tables r called up lo))
+          let front : List LineInstr = in_row at (own line (call_link_code p tables r called up lo))
           (λ next. args_code p tables r line next (arguments_from p tables r called up lo)
           (arguments_from p tables r called up lo + length (handed_slots args)) args) in
-          let call : List Lined = own line (call_code p tables r called args up lo 0 ∷ []) in
+          let call : List LineInstr = own line (call_code p tables r called args up lo 0 ∷ []) in
           let m : ℕ = at + length front in
           let exit : ℕ = at + length (front ++ call) in
           let end : m + 1 ≡ exit = omega (arith, length-append front call) in
@@ -623,10 +623,10 @@ module _ (p : Program) (tables : Tables) (code : PlainCode) (input : List ℕ) (
       call_expr_runs args lo at fits slots parts stands v now b =
           let la : ℕ = lo + 2 in
           let function : ℕ = (routine_at p called).line in
-          let front : List Lined = in_row at (own line (call_link_code p tables r called up la))
+          let front : List LineInstr = in_row at (own line (call_link_code p tables r called up la))
           (λ next. args_code p tables r line next (arguments_from p tables r called up la)
           (arguments_from p tables r called up la + length (handed_slots args)) args) in
-          let call : List Lined = own line (I.Mark (lo + 1) ∷ call_code p tables r called args up la lo ∷ I.Cut (lo + 1) ∷ []) in
+          let call : List LineInstr = own line (I.Mark (lo + 1) ∷ call_code p tables r called args up la lo ∷ I.Cut (lo + 1) ∷ []) in
           let m : ℕ = at + length front in
           let exit : ℕ = at + length (front ++ call) in
           let end : m + 1 + 2 ≡ exit = omega (arith, length-append front call) in

@@ -31,7 +31,7 @@ use Rattle.alma_lower_implements.proofs.Steps.{top_written, Holds, Writes, Instr
 use Rattle.alma_lower_implements.proofs.Steps.{other_goes_on}
 use Rattle.alma_lower_implements.proofs.Steps.{fault_step}
 use Rattle.alma_lower_implements.proofs.Ways.{Ways, Leaves, LeadsTo, leads_nowhere, leads_by_jump, leads_then}
-use Rattle.alma_lower_templates.specs.Lined.{Lined, own}
+use Rattle.alma_lower_templates.specs.LineInstr.{LineInstr, own}
 use Rattle.alma_lower_templates.specs.Tables.{Tables}
 use Rattle.alma_lower_templates.specs.Slots.{behind_stmts, behind_expr, behind_dead}
 use Rattle.alma_lower_templates.specs.Pieces.{labels_code, label_test, test_size, behind_labels, case_arm, passed_over, has_dead}
@@ -306,7 +306,7 @@ module _ (p : Program) (tables : Tables) (code : PlainCode) (input : List ℕ) (
 
   module _ (lo bound : ℕ) (apart : lo < bound) (behind : own_end p r ≤ lo) (kind : slice_get (kinds_at code r) bound ≡ Some slot.Number)
       (kind2 : slice_get (kinds_at code r) (bound + 1) ≡ Some slot.Number) (els : Else) where
-    abbrev otherwise : ℕ → ℕ → List Lined
+    abbrev otherwise : ℕ → ℕ → List LineInstr
     otherwise next la = else_code p tables r line next la els
 
     abbrev pub CasesRun : (jump at la : ℕ) → CaseArms → Type 0
@@ -332,9 +332,9 @@ module _ (p : Program) (tables : Tables) (code : PlainCode) (input : List ℕ) (
         at (try_labels (label ∷ labels) n (λ _. node (ev_stmts p input below body v)) (λ _. rest v n))
     arm_goes at la exit label labels body rest v n le stands runs leads later =
         let hit : ℕ = behind_labels at label labels in
-        let made : List Lined = stmts_code p tables r hit la body in
+        let made : List LineInstr = stmts_code p tables r hit la body in
         let miss : ℕ = hit + length made + 1 in
-        let front : List Lined = own line (labels_code lo bound at hit miss label labels) in
+        let front : List LineInstr = own line (labels_code lo bound at hit miss label labels) in
         let here : at + length front ≡ hit =
         omega (arith, own_long line (labels_code lo bound at hit miss label labels), labels_long lo bound at hit miss label labels) in
         let body_at : Stands code hit made = subst (λ m. Stands code m made) here (stands_back code at front made stands) in
@@ -354,14 +354,14 @@ module _ (p : Program) (tables : Tables) (code : PlainCode) (input : List ℕ) (
     unfolding ev_stmts
     labelled_run jump at la label labels body rest le runs others stands exit is leads v n now b value =
         let hit : ℕ = behind_labels at label labels in
-        let made : List Lined = stmts_code p tables r hit la body in
-        let head : List Lined = case_arm line lo bound at label labels made in
-        let out : List Lined = own line (I.Jump jump ∷ []) in
+        let made : List LineInstr = stmts_code p tables r hit la body in
+        let head : List LineInstr = case_arm line lo bound at label labels made in
+        let out : List LineInstr = own line (I.Jump jump ∷ []) in
         let next : ℕ = at + length (head ++ out) in
-        let after : List Lined = cases_code p tables r line lo bound jump next (behind_stmts p r la body) rest otherwise in
+        let after : List LineInstr = cases_code p tables r line lo bound jump next (behind_stmts p r la body) rest otherwise in
         let front = stands_front code at (head ++ out) after stands in
         let back = stands_back code at head out front in
-        let labels_part : List Lined = own line (labels_code lo bound at hit (hit + length made + 1) label labels) in
+        let labels_part : List LineInstr = own line (labels_code lo bound at hit (hit + length made + 1) label labels) in
         let long : length head ≡ length labels_part + length made = length-append labels_part made in
         let y : ℕ = hit + length made in
         let tests : List Instr = labels_code lo bound at hit (hit + length made + 1) label labels in
@@ -408,7 +408,7 @@ module _ (p : Program) (tables : Tables) (code : PlainCode) (input : List ℕ) (
 
   -- ---- the arms without labels: a jump leads over them
 
-  over_goes : (z : Bool) (at exit : ℕ) (dead : List Lined) (now : List PlainFrame) (w : Ways NoYield) (e : Events NoYield)
+  over_goes : (z : Bool) (at exit : ℕ) (dead : List LineInstr) (now : List PlainFrame) (w : Ways NoYield) (e : Events NoYield)
       → Stands code at (passed_over z line at dead) → From p code input line 7 (at + length (passed_over z line at dead)) exit now w e q
       → From p code input line 8 at exit now w e q
   over_goes true at exit dead now w e i h =
@@ -446,15 +446,15 @@ module _ (p : Program) (tables : Tables) (code : PlainCode) (input : List ℕ) (
     unfolding ev_stmts
     labelled_first_run at la label labels body rest le runs others stands exit is v n now b value =
         let hit : ℕ = behind_labels at label labels in
-        let made : List Lined = stmts_code p tables r hit la body in
-        let head : List Lined = case_arm line lo bound at label labels made in
+        let made : List LineInstr = stmts_code p tables r hit la body in
+        let head : List LineInstr = case_arm line lo bound at label labels made in
         let jump : ℕ = at + length head in
         let next : ℕ = at + length head + 1 in
-        let after : List Lined = cases_code p tables r line lo bound jump next (behind_stmts p r la body) rest
+        let after : List LineInstr = cases_code p tables r line lo bound jump next (behind_stmts p r la body) rest
         (λ next la. else_code p tables r line next la els) in
-        let out : List Lined = own line (I.Jump (jump + 1 + length after) ∷ []) in
+        let out : List LineInstr = own line (I.Jump (jump + 1 + length after) ∷ []) in
         let back = stands_back code at head (out ++ after) stands in
-        let labels_part : List Lined = own line (labels_code lo bound at hit (hit + length made + 1) label labels) in
+        let labels_part : List LineInstr = own line (labels_code lo bound at hit (hit + length made + 1) label labels) in
         let long : length head ≡ length labels_part + length made = length-append labels_part made in
         let y : ℕ = hit + length made in
         let tests : List Instr = labels_code lo bound at hit (hit + length made + 1) label labels in
@@ -482,14 +482,14 @@ module _ (p : Program) (tables : Tables) (code : PlainCode) (input : List ℕ) (
         → StatementRuns p tables code input below r line q may at lo (Case x arms els)
     unfolding ev_stmts
     case_runs at la x arms is_bound is_la runs first stands v now b =
-        let inner : List Lined = expr_code p tables r line at lo x in
+        let inner : List LineInstr = expr_code p tables r line at lo x in
         let m : ℕ = at + length inner in
-        let dead : List Lined = dead_code p tables r (m + 1) (behind_expr p r lo x) arms in
-        let over : List Lined = passed_over (has_dead arms) line m dead in
+        let dead : List LineInstr = dead_code p tables r (m + 1) (behind_expr p r lo x) arms in
+        let over : List LineInstr = passed_over (has_dead arms) line m dead in
         let next : ℕ = m + length over in
         let after = λ (d a : ℕ). case_code p tables r line lo d next a arms (λ next la. else_code p tables r line next la els) in
         let known : ℕ = behind_dead p r (behind_expr p r lo x) arms in
-        let rest : List Lined = after known (known + 2) in
+        let rest : List LineInstr = after known (known + 2) in
         let same : rest ≡ after bound la = ap (λ d. after d (d + 2)) (sym is_bound) ∙ ap (after bound) (sym is_la) in
         let whole : length (inner ++ (over ++ rest)) ≡ length inner + length (over ++ rest) = length-append inner (over ++ rest) in
         let second : length (over ++ rest) ≡ length over + length rest = length-append over rest in

@@ -16,7 +16,7 @@ use Rattle.alma_code.specs.Carries.{number_at}
 use Rattle.alma_code.specs.Picture.{PlainFrame, PlainEntry, cell_at, frames_with_cell}
 use Rattle.alma_code.specs.Picture as picture
 use Rattle.alma_code.specs.Plain.{PlainCode}
-use Rattle.alma_code.specs.Machine.{State, Stepped, Failing, act, step, quiet_step, ends_in_fault, fails_now, gets_stuck, with_cell}
+use Rattle.alma_code.specs.Machine.{State, StepResult, Failing, act, step, quiet_step, ends_in_fault, fails_now, gets_stuck, with_cell}
 use Rattle.alma_code.specs.Machine.{as_content, place, content, store, equation_of_contents, equations, copies_cells}
 use Rattle.alma_ir.specs.Tree.{Program, Desig, CopyCells, SameCells}
 use Rattle.alma_ir.specs.Checked.{desig_cells}
@@ -30,7 +30,7 @@ use Rattle.alma_lower_implements.proofs.Frames.{shift_in, own_end, IsAt, AreNumb
 use Rattle.alma_lower_implements.proofs.FrameLemmas.{content_there, numbers_kept, place_kept}
 use Rattle.alma_lower_implements.proofs.Carrying.{kind_in, number_content}
 use Rattle.alma_lower_implements.proofs.Steps.{InstrAt, passed, does, went_on, place_is, here_too}
-use Rattle.alma_lower_templates.specs.Lined.{Lined, own, in_row}
+use Rattle.alma_lower_templates.specs.LineInstr.{LineInstr, own, in_row}
 use Rattle.alma_lower_templates.specs.Tables.{Tables}
 use Rattle.alma_lower_templates.specs.Slots.{behind_desig}
 use Rattle.alma_lower_templates.specs.Templates.{held_at}
@@ -123,7 +123,7 @@ module _ (p : Program) (code : PlainCode) (input : List ℕ) where
   -- ---- cells that meet
 
   -- what a step comes to that begins with the frames `now`, in words of the events of its phrase
-  data Outcome (lo r : ℕ) (before now : List PlainFrame) (run : State → Stepped) : Events NoYield → Type 0 where
+  data Outcome (lo r : ℕ) (before now : List PlainFrame) (run : State → StepResult) : Events NoYield → Type 0 where
     passes : (w : Store) (t : List PlainFrame) → ((x : State) → x.now ≡ now → run x ≡ quiet_step (record x { now = t }))
         → Left p code input lo r before w t → Outcome lo r before now run (one w tt)
     fails : ((x : State) → x.now ≡ now → (t : List PlainFrame) × (run x ≡ fails_now (record x { now = t })))
@@ -132,21 +132,21 @@ module _ (p : Program) (code : PlainCode) (input : List ℕ) where
         → Outcome lo r before now run (Fault fault.Unknown 0)
 
   -- nothing behind it
-  alone : (lo r : ℕ) (before now : List PlainFrame) (run : State → Stepped) (e : Events NoYield) → Outcome lo r before now run e
+  alone : (lo r : ℕ) (before now : List PlainFrame) (run : State → StepResult) (e : Events NoYield) → Outcome lo r before now run e
       → Outcome lo r before now run (join e Fail)
   alone lo r before now run e (passes w t goes left) = passes w t goes left
   alone lo r before now run e (fails goes) = fails goes
   alone lo r before now run e (faults goes) = faults goes
 
   -- a step that begins as another goes on
-  goes_as : (lo r : ℕ) (before now : List PlainFrame) (run run2 : State → Stepped) (e : Events NoYield)
+  goes_as : (lo r : ℕ) (before now : List PlainFrame) (run run2 : State → StepResult) (e : Events NoYield)
       → ((x : State) → x.now ≡ now → run x ≡ run2 x) → Outcome lo r before now run2 e → Outcome lo r before now run e
   goes_as lo r before now run run2 e same (passes w t goes left) = passes w t (λ x is. same x is ∙ goes x is) left
   goes_as lo r before now run run2 e same (fails goes) = fails (λ x is. ((goes x is).0, same x is ∙ (goes x is).1))
   goes_as lo r before now run run2 e same (faults goes) = faults (λ x is. ((goes x is).0, same x is ∙ (goes x is).1))
 
   -- and one that begins by a write
-  goes_by : (lo r f m : ℕ) (c : Cell) (v : Store) (before now : List PlainFrame) (run run2 : State → Stepped) (e : Events NoYield)
+  goes_by : (lo r f m : ℕ) (c : Cell) (v : Store) (before now : List PlainFrame) (run run2 : State → StepResult) (e : Events NoYield)
       → ((x : State) → x.now ≡ now → run x ≡ run2 (with_cell x f m c)) → Left p code input lo r before v (frames_with_cell now f m c)
       → Outcome lo r (frames_with_cell now f m c) (frames_with_cell now f m c) run2 e → Outcome lo r before now run e
   goes_by lo r f m c v before now run run2 e same left (passes w t goes left2) =
@@ -157,13 +157,13 @@ module _ (p : Program) (code : PlainCode) (input : List ℕ) where
   goes_by lo r f m c v before now run run2 e same left (faults goes) =
       faults (λ x is. (let z = goes (with_cell x f m c) (ap (λ z. frames_with_cell z f m c) is) in (z.0, same x is ∙ z.1)))
 
-  content_of : (x : State) (now : List PlainFrame) (f m : ℕ) (c : Cell) (k : Option ℤ → Stepped) → x.now ≡ now → number_at now f m ≡ true
+  content_of : (x : State) (now : List PlainFrame) (f m : ℕ) (c : Cell) (k : Option ℤ → StepResult) → x.now ≡ now → number_at now f m ≡ true
       → cell_at now f m cell.Unset ≡ c → content x f m k ≡ as_content true c x k
   content_of x now f m c k e live is =
       ap (λ z. as_content (number_at z f m) (cell_at z f m cell.Unset) x k) e ∙ ap (λ t. as_content t (cell_at now f m cell.Unset) x k) live
       ∙ ap (λ d. as_content true d x k) is
 
-  stored : (x : State) (now : List PlainFrame) (f m : ℕ) (n : ℤ) (k : State → Stepped) → x.now ≡ now → number_at now f m ≡ true
+  stored : (x : State) (now : List PlainFrame) (f m : ℕ) (n : ℤ) (k : State → StepResult) → x.now ≡ now → number_at now f m ≡ true
       → store x f m n k ≡ k (with_cell x f m (cell.Int n))
   stored x now f m n k e live =
       ap (λ z. if_true (number_at z f m) (λ _. k (with_cell x f m (cell.Int n))) (λ _. gets_stuck x)) e
@@ -188,7 +188,7 @@ module _ (p : Program) (code : PlainCode) (input : List ℕ) where
       moved w t left h k l size live e = omega
           (arith, (place_kept p code lo (cells h k size) (slots h l size) v w now t live b.stand left.fits (same_at h k l size v e)).slot)
 
-      rest : State → Stepped
+      rest : State → StepResult
       rest x = equations n x f (suc m) g (suc s)
 
       next : Store → Events NoYield
@@ -281,7 +281,7 @@ module _ (p : Program) (tables : Tables) (code : PlainCode) (input : List ℕ) (
       }) left
       (ends_here p code input line 7 (at + 1) lo r w t (Nothing p code input) tt q (begins p code input lo r now w t left) tt)
 
-  outcome_ends : (at lo : ℕ) (v : Store) (now : List PlainFrame) (run : State → Stepped) (e : Events NoYield) → own_end p r ≤ lo
+  outcome_ends : (at lo : ℕ) (v : Store) (now : List PlainFrame) (run : State → StepResult) (e : Events NoYield) → own_end p r ≤ lo
       → Begins p code input r v now → line_at code at ≡ line
       → ((held : List PlainEntry) (s : State) → IsAt at now held s → step code input s ≡ run (passed code input s))
       → Outcome p code input lo r now now run e → Ends at lo v now e
@@ -375,9 +375,9 @@ module _ (p : Program) (tables : Tables) (code : PlainCode) (input : List ℕ) (
       let a : ℕ = held_at p tables r lo d in
       let la : ℕ = behind_desig p r lo d in
       let c : ℕ = held_at p tables r la e in
-      let first : List Lined = held_code p tables r line at lo d in
+      let first : List LineInstr = held_code p tables r line at lo d in
       let m : ℕ = at + length first in
-      let second : List Lined = held_code p tables r line m la e in
+      let second : List LineInstr = held_code p tables r line m la e in
       let front = stands_front code at (first ++ second) (own line (i ∷ [])) stands in
       let back = stands_back code at (first ++ second) (own line (i ∷ [])) stands in
       let both : length (first ++ second) ≡ length first + length second = length-append first second in

@@ -16,7 +16,7 @@ use Rattle.alma_code.specs.Carries.{number_at}
 use Rattle.alma_code.specs.Picture.{PlainFrame, PlainEntry, frames_with_cell, cell_at}
 use Rattle.alma_code.specs.Plain.{PlainCode}
 use Rattle.alma_code.specs.Lines.{line_at}
-use Rattle.alma_code.specs.Machine.{State, Stepped, Failing, act, step, quiet_step, ends_in_fault, fails_now, gets_stuck, with_cell}
+use Rattle.alma_code.specs.Machine.{State, StepResult, Failing, act, step, quiet_step, ends_in_fault, fails_now, gets_stuck, with_cell}
 use Rattle.alma_code.specs.Machine.{as_range, as_content, number, place, content, binds_content, store, equation_of_contents, equation}
 use Rattle.alma_ir.specs.Tree.{Program, Expr, Desig, Bind, Unify}
 use Rattle.alma_ir.specs.Checked.{desig_cells}
@@ -29,7 +29,7 @@ use Rattle.alma_mean.specs.Meaning.{Level, ev_test, ev_expr, ev_desig}
 use Rattle.alma_lower_implements.proofs.Frames.{own_end, IsAt}
 use Rattle.alma_lower_implements.proofs.BareRow.{ReadsFirst}
 use Rattle.alma_lower_implements.proofs.Steps.{Holds, InstrAt, passed, does, went_on, number_is, place_is, faults_now, here_too}
-use Rattle.alma_lower_templates.specs.Lined.{Lined, own}
+use Rattle.alma_lower_templates.specs.LineInstr.{LineInstr, own}
 use Rattle.alma_lower_templates.specs.Tables.{Tables, range_number}
 use Rattle.alma_lower_templates.specs.Slots.{bare, unless_bare, behind_desig, behind_expr}
 use Rattle.alma_lower_templates.specs.Templates.{expr_code, held_at, value_at}
@@ -63,7 +63,7 @@ module _ (p : Program) (tables : Tables) (code : PlainCode) (input : List ℕ) (
   -- ---- steps that fail, pass, fault or put
 
   -- the step that the machine takes at an address, in words of the state that has passed it
-  abbrev pub Does : (at : ℕ) → List PlainFrame → (State → Stepped) → Type 0
+  abbrev pub Does : (at : ℕ) → List PlainFrame → (State → StepResult) → Type 0
   Does at now f = (held : List PlainEntry) (s : State) → IsAt at now held s → step code input s ≡ f (passed code input s)
 
   passes_ends : (at lo : ℕ) (v : Store) (now : List PlainFrame) → Begins p code input r v now → Does at now quiet_step
@@ -192,11 +192,11 @@ module _ (p : Program) (tables : Tables) (code : PlainCode) (input : List ℕ) (
   bind_runs at lo d x range behind cells has runs once stands v now b =
       let a : ℕ = held_at p tables r lo d in
       let la : ℕ = behind_desig p r lo d in
-      let first : List Lined = held_code p tables r line at lo d in
+      let first : List LineInstr = held_code p tables r line at lo d in
       let m : ℕ = at + length first in
-      let second : List Lined = unless_bare (bare x) (expr_code p tables r line m la x) in
+      let second : List LineInstr = unless_bare (bare x) (expr_code p tables r line m la x) in
       let operand : ℕ = value_at p tables r la x in
-      let last : List Lined = own line (I.Bind a operand (range_number tables range) ∷ []) in
+      let last : List LineInstr = own line (I.Bind a operand (range_number tables range) ∷ []) in
       let front = stands_front code at (first ++ second) last stands in
       let back = stands_back code at (first ++ second) last stands in
       let both : length (first ++ second) ≡ length first + length second = length-append first second in
@@ -237,10 +237,10 @@ module _ (p : Program) (tables : Tables) (code : PlainCode) (input : List ℕ) (
   bind_value_runs at lo d x range behind cells has runs others stands v now b =
       let la : ℕ = behind_expr p r lo x in
       let a : ℕ = held_at p tables r la d in
-      let first : List Lined = expr_code p tables r line at lo x in
+      let first : List LineInstr = expr_code p tables r line at lo x in
       let m : ℕ = at + length first in
-      let second : List Lined = held_code p tables r line m la d in
-      let last : List Lined = own line (I.Bind a lo (range_number tables range) ∷ []) in
+      let second : List LineInstr = held_code p tables r line m la d in
+      let last : List LineInstr = own line (I.Bind a lo (range_number tables range) ∷ []) in
       let front = stands_front code at (first ++ second) last stands in
       let back = stands_back code at (first ++ second) last stands in
       let both : length (first ++ second) ≡ length first + length second = length-append first second in
@@ -297,7 +297,7 @@ module _ (p : Program) (tables : Tables) (code : PlainCode) (input : List ℕ) (
       quiet_step)) (live, is_x)
       ∙ second x (λ u w. equation_of_contents here c.frame c.slot (Some range) u e.frame e.slot (Some range') w quiet_step)
     where
-      second : (z : Cell) (k : Option ℤ → Option ℤ → Stepped)
+      second : (z : Cell) (k : Option ℤ → Option ℤ → StepResult)
           → as_content true z (passed code input s) (λ u. content (passed code input s) e.frame e.slot (λ w. k u w)) ≡ as_content true z
           (passed code input s) (λ u. as_content true y (passed code input s) (λ w. k u w))
       second (cell.Int z) k = content_is code input line at now held s is e y (λ w. k (Some z) w) (live', is_y)
@@ -358,10 +358,10 @@ module _ (p : Program) (tables : Tables) (code : PlainCode) (input : List ℕ) (
       let a : ℕ = held_at p tables r lo d in
       let la : ℕ = behind_desig p r lo d in
       let c : ℕ = held_at p tables r la e in
-      let first : List Lined = held_code p tables r line at lo d in
+      let first : List LineInstr = held_code p tables r line at lo d in
       let m : ℕ = at + length first in
-      let second : List Lined = held_code p tables r line m la e in
-      let last : List Lined = own line (I.Unify a (range_number tables range) c (range_number tables range') ∷ []) in
+      let second : List LineInstr = held_code p tables r line m la e in
+      let last : List LineInstr = own line (I.Unify a (range_number tables range) c (range_number tables range') ∷ []) in
       let front = stands_front code at (first ++ second) last stands in
       let back = stands_back code at (first ++ second) last stands in
       let both : length (first ++ second) ≡ length first + length second = length-append first second in

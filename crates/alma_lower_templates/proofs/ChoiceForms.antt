@@ -19,7 +19,7 @@ use Rattle.alma_lower_implements.proofs.ChoiceSteps.{branch_entry, mark_step, ch
 use Rattle.alma_lower_implements.proofs.ExprRows.{first_kind}
 use Rattle.alma_lower_implements.proofs.Steps.{top_written, InstrAt}
 use Rattle.alma_lower_implements.proofs.Ways.{Ways, Leaves, LeadsTo, leads_by_jump, leads_then, then_up_to}
-use Rattle.alma_lower_templates.specs.Lined.{Lined, own}
+use Rattle.alma_lower_templates.specs.LineInstr.{LineInstr, own}
 use Rattle.alma_lower_templates.specs.Tables.{Tables}
 use Rattle.alma_lower_templates.specs.Slots.{stmts_slots, test_slots, or_slots, branches_slots, behind_test}
 use Rattle.alma_lower_templates.specs.Pieces.{first_of_two}
@@ -146,13 +146,13 @@ module _ (p : Program) (tables : Tables) (code : PlainCode) (input : List ℕ) (
   unfolding ev_stmts
   more_operands_run jump at lo t t' rest slots runs others stands exit is leads v now b =
       let kind = first_kind p code input r lo slot.Mark (test_slots p r t ++ or_slots p r (more_tests t' rest)) slots in
-      let inner : List Lined = test_code p tables r line (at + 2) (lo + 1) t in
-      let cut : List Lined = own line (I.Cut lo ∷ []) in
-      let head : List Lined = first_of_two line (at + 2) lo inner in
-      let out : List Lined = own line (I.Jump jump ∷ []) in
+      let inner : List LineInstr = test_code p tables r line (at + 2) (lo + 1) t in
+      let cut : List LineInstr = own line (I.Cut lo ∷ []) in
+      let head : List LineInstr = first_of_two line (at + 2) lo inner in
+      let out : List LineInstr = own line (I.Jump jump ∷ []) in
       let next : ℕ = at + length (head ++ out) in
       let la : ℕ = behind_test p r (lo + 1) t in
-      let after : List Lined = operands_code p tables r line jump next la (more_tests t' rest) in
+      let after : List LineInstr = operands_code p tables r line jump next la (more_tests t' rest) in
       let n : ℕ = at + 2 + length inner in
       let front = stands_front code at (head ++ out) after stands in
       let begin = stands_front code at head out front in
@@ -197,14 +197,14 @@ module _ (p : Program) (tables : Tables) (code : PlainCode) (input : List ℕ) (
   unfolding ev_stmts
   or_runs at lo t t' rest slots runs others stands v now b =
       let kind = first_kind p code input r lo slot.Mark (test_slots p r t ++ or_slots p r (more_tests t' rest)) slots in
-      let inner : List Lined = test_code p tables r line (at + 2) (lo + 1) t in
-      let cut : List Lined = own line (I.Cut lo ∷ []) in
-      let head : List Lined = first_of_two line (at + 2) lo inner in
+      let inner : List LineInstr = test_code p tables r line (at + 2) (lo + 1) t in
+      let cut : List LineInstr = own line (I.Cut lo ∷ []) in
+      let head : List LineInstr = first_of_two line (at + 2) lo inner in
       let jump : ℕ = at + length head in
       let next : ℕ = at + length head + 1 in
       let la : ℕ = behind_test p r (lo + 1) t in
-      let after : List Lined = operands_code p tables r line jump next la (more_tests t' rest) in
-      let out : List Lined = own line (I.Jump (jump + 1 + length after) ∷ []) in
+      let after : List LineInstr = operands_code p tables r line jump next la (more_tests t' rest) in
+      let out : List LineInstr = own line (I.Jump (jump + 1 + length after) ∷ []) in
       let n : ℕ = at + 2 + length inner in
       let begin = stands_front code at head (out ++ after) stands in
       let back = stands_back code at head (out ++ after) stands in

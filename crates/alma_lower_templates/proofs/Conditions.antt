@@ -28,7 +28,7 @@ use Rattle.alma_lower_implements.proofs.Leaving.{keeps_mark}
 use Rattle.alma_lower_implements.proofs.Steps.{top_written, InstrAt, does}
 use Rattle.alma_lower_implements.proofs.TurnRow.{Decides, barrier_decides, simple_decides}
 use Rattle.alma_lower_implements.proofs.Ways.{Ways, Leaves}
-use Rattle.alma_lower_templates.specs.Lined.{Lined, own}
+use Rattle.alma_lower_templates.specs.LineInstr.{LineInstr, own}
 use Rattle.alma_lower_templates.specs.Tables.{Tables}
 use Rattle.alma_lower_templates.specs.Slots.{bare, unless_bare, is_simple, is_simple_expr, mark_slots, test_slots}
 use Rattle.alma_lower_templates.specs.Pieces.{condition}
@@ -92,7 +92,7 @@ module _ (p : Program) (tables : Tables) (code : PlainCode) (input : List ℕ) (
           (faults_here p code input line 7 at at now w fault.Unknown q
           (λ held s is. reads_unknown code input line at (shift p r + from) now held s reads is there hold))
 
-  once_by : (o : Option ℕ) (at la : ℕ) (x : Expr) (made : List Lined) (v : Store) (now : List PlainFrame) → bare x ≡ o
+  once_by : (o : Option ℕ) (at la : ℕ) (x : Expr) (made : List LineInstr) (v : Store) (now : List PlainFrame) → bare x ≡ o
       → BareFits p tables code input below r line q o
       → (o ≡ None → NodeFor p code input r line at la made (ev_expr p input below x) (ValueIn p code input la) q)
       → Stands code at (unless_bare o made) → line_at code (at + length (unless_bare o made)) ≡ line
@@ -115,7 +115,7 @@ module _ (p : Program) (tables : Tables) (code : PlainCode) (input : List ℕ) (
     pub value : (x : Expr) → t ≡ Value x → is_simple_expr x ≡ true → AtOnce p tables code input below r line q at lo x
     pub runs : is_simple t ≡ false → TestRuns p tables code input below r line q (at + 2) (lo + 1) t
 
-  abbrev pub condition_code : (at lo none : ℕ) → Test → List Lined
+  abbrev pub condition_code : (at lo none : ℕ) → Test → List LineInstr
   condition_code at lo none t = condition (is_simple t) line at lo none (λ at lo none. jump_code p tables r line at lo none t)
       (λ at lo. test_code p tables r line at lo t)
 
@@ -137,9 +137,9 @@ module _ (p : Program) (tables : Tables) (code : PlainCode) (input : List ℕ) (
       (ev_test p input below (Value x) v) (λ u t2. Left p code input lo r now u t2) (λ t2. Left p code input lo r now v t2) q
   unfolding ev_expr
   value_condition at lo none x v now simple b once stands =
-      let inner : List Lined = unless_bare (bare x) (expr_code p tables r line at lo x) in
+      let inner : List LineInstr = unless_bare (bare x) (expr_code p tables r line at lo x) in
       let from : ℕ = value_at p tables r lo x in
-      let last : List Lined = own line (I.JumpZero from none ∷ []) in
+      let last : List LineInstr = own line (I.JumpZero from none ∷ []) in
       let m : ℕ = at + length inner in
       let back = stands_back code at inner last stands in
       let i : InstrAt code input line m (I.JumpZero from none) = record { instr = back.0; on_line = back.1 } in
@@ -164,7 +164,7 @@ module _ (p : Program) (tables : Tables) (code : PlainCode) (input : List ℕ) (
       (own line (I.Mark lo ∷ I.Choose none ∷ []) ++ (test_code p tables r line (at + 2) (lo + 1) t ++ own line (I.Cut lo ∷ [])))) none
       now (ev_test p input below t v) (λ u t2. Left p code input lo r now u t2) (λ t2. Left p code input lo r now v t2) q
   barrier_condition at lo none t v now behind kind b runs stands =
-      let inner : List Lined = test_code p tables r line (at + 2) (lo + 1) t in
+      let inner : List LineInstr = test_code p tables r line (at + 2) (lo + 1) t in
       let n : ℕ = at + 2 + length inner in
       let two : at + 1 + 1 ≡ at + 2 = omega arith in
       let inside : Stands code (at + 2) (inner ++ own line (I.Cut lo ∷ [])) =

@@ -24,7 +24,7 @@ use Rattle.alma_mean.specs.Meaning.{Level, ev_expr, ev_desig, ev_sels, ev_sel}
 use Rattle.alma_lower_implements.proofs.Frames.{shift, shift_in, own_end, AreNumbers, SamePlace, HasSlots}
 use Rattle.alma_lower_implements.proofs.ExprRows.{first_kind, slots_first, slots_behind}
 use Rattle.alma_lower_implements.proofs.Steps.{InstrAt}
-use Rattle.alma_lower_templates.specs.Lined.{Lined, own}
+use Rattle.alma_lower_templates.specs.LineInstr.{LineInstr, own}
 use Rattle.alma_lower_templates.specs.Tables.{Tables, range_number}
 use Rattle.alma_lower_templates.specs.Slots.{bare, own_root, unless_bare, expr_slots, root_slots, sels_slots, sel_slots}
 use Rattle.alma_lower_templates.specs.Slots.{desig_slots, behind_value}
@@ -127,11 +127,11 @@ module _ (p : Program) (tables : Tables) (code : PlainCode) (input : List ℕ) (
       → AtOnce p tables code input below r line q at lo x → SelRuns low end at from lo size (Index x range cells)
   unfolding ev_expr
   index_runs low end at from lo size cells x range fits under lt has room once stands v now a b place =
-      let inner : List Lined = unless_bare (bare x) (expr_code p tables r line at lo x) in
+      let inner : List LineInstr = unless_bare (bare x) (expr_code p tables r line at lo x) in
       let m : ℕ = at + length inner in
       let operand : ℕ = value_at p tables r lo x in
       let n : ℕ = range_number tables range in
-      let last : List Lined = own line (I.Index end from operand n ∷ []) in
+      let last : List LineInstr = own line (I.Index end from operand n ∷ []) in
       let back = stands_back code at inner last stands in
       let i : InstrAt code input line m (I.Index end from operand n) = record { instr = back.0; on_line = back.1 } in
       let whole : length (inner ++ last) ≡ length inner + 1 = length-append inner last in
@@ -179,9 +179,9 @@ module _ (p : Program) (tables : Tables) (code : PlainCode) (input : List ℕ) (
   more_sels_run low end at from lo size x rest behind runs others stands v now a b place =
       let part : ℕ = part_slot p tables r lo x in
       let to : ℕ = by_sels rest end part in
-      let inner : List Lined = sel_to p tables r to line at from lo x in
+      let inner : List LineInstr = sel_to p tables r to line at from lo x in
       let m : ℕ = at + length inner in
-      let after : List Lined = sels_to p tables r end line m to (part + 1) rest in
+      let after : List LineInstr = sels_to p tables r end line m to (part + 1) rest in
       let whole : length (inner ++ after) ≡ length inner + length after = length-append inner after in
       let exit : ℕ = m + length after in
       let exit_is : exit ≡ at + length (inner ++ after) = omega (arith, whole) in
@@ -242,7 +242,7 @@ module _ (p : Program) (tables : Tables) (code : PlainCode) (input : List ℕ) (
       let param : IsParam p code input r from cells = subst (λ y. RootFits p code input r y cells) is fits in
       let own = own_is p code input r from cells v now param b in
       let next : ℕ = behind_root p tables r lo root in
-      let made : List Lined = sels_to p tables r end line (at + 0) (shift p r + from) next sels in
+      let made : List LineInstr = sels_to p tables r end line (at + 0) (shift p r + from) next sels in
       let exit : ℕ = at + length made in
       let zero : at + 0 ≡ at = omega arith in
       let w = leaving p code input low r now (PlaceIn p code input end (cells_after sels cells)) in
@@ -266,10 +266,10 @@ module _ (p : Program) (tables : Tables) (code : PlainCode) (input : List ℕ) (
   unfolding ev_expr
   placed_desig_runs low end at lo cells root sels ends under fits nested slots others stands v now b =
       let to : ℕ = by_sels sels end lo in
-      let first : List Lined = own line (root_to p tables r to lo root) in
+      let first : List LineInstr = own line (root_to p tables r to lo root) in
       let m : ℕ = at + length first in
       let next : ℕ = behind_root p tables r lo root in
-      let after : List Lined = sels_to p tables r end line m to next sels in
+      let after : List LineInstr = sels_to p tables r end line m to next sels in
       let whole : length (first ++ after) ≡ length first + length after = length-append first after in
       let exit : ℕ = m + length after in
       let exit_is : exit ≡ at + length (first ++ after) = omega (arith, whole) in

@@ -8,10 +8,10 @@ use Rattle.alma_ir.specs.Tree.{Stmts, Branches, Program, no_branches, more_branc
 use Rattle.alma_mean.specs.Store.{Store}
 use Rattle.alma_mean.specs.Events.{Events, NoYield, Fail, join, visit_each, node}
 use Rattle.alma_mean.specs.Meaning.{Level, ev_stmts, ev_branches}
-use Rattle.alma_lower_templates.specs.Lined.{Lined, own}
+use Rattle.alma_lower_templates.specs.LineInstr.{LineInstr, own}
 use Rattle.alma_lower_templates.specs.Tables.{Tables}
 use Rattle.alma_lower_templates.specs.Slots.{behind_stmts, stmts_slots, branches_slots}
-use Rattle.alma_lower_templates.specs.Pieces.{chosen}
+use Rattle.alma_lower_templates.specs.Pieces.{branch_code}
 use Rattle.alma_lower_templates.specs.Templates.{stmts_code, either_code, branches_code}
 use Rattle.alma_lower_implements.proofs.Frames.{HasSlots}
 use Rattle.alma_lower_implements.proofs.ExprRows.{slots_first, slots_behind}
@@ -36,7 +36,7 @@ module _ (p : Program) (tables : Tables) (r : ℕ) (code : PlainCode) (input : L
   -- a branch that is not the last: its choice entry, its list and its jump
   chosen_goes : (body : Stmts) (at lo next exit : ℕ) (rest : Events NoYield) → ListRuns body → least ≤ lo
       → HasSlots p code r lo (stmts_slots p r body) → next ≡ at + 1 + length (stmts_code p tables r (at + 1) lo body) + 1
-      → Stands code at (chosen line (at + 1) (stmts_code p tables r (at + 1) lo body))
+      → Stands code at (branch_code line (at + 1) (stmts_code p tables r (at + 1) lo body))
       → LeadsTo code input 8 (at + 1 + length (stmts_code p tables r (at + 1) lo body)) exit
       → Later code input line next exit now w rest q
       → Visited code input line at exit now w (join (visit_each (ev_stmts p input below body v)) rest) q
@@ -57,11 +57,11 @@ module _ (p : Program) (tables : Tables) (r : ℕ) (code : PlainCode) (input : L
       (leads_nowhere code input 8 (at + length (stmts_code p tables r at lo body))))
       (list at lo le (slots_first p code input r lo (stmts_slots p r body) [] slots) stands)
   branches_goes body (more_branches body' rest) jump at lo exit list others le slots stands leads is =
-      let inner : List Lined = stmts_code p tables r (at + 1) lo body in
-      let head : List Lined = chosen line (at + 1) inner in
-      let out : List Lined = own line (I.Jump jump ∷ []) in
+      let inner : List LineInstr = stmts_code p tables r (at + 1) lo body in
+      let head : List LineInstr = branch_code line (at + 1) inner in
+      let out : List LineInstr = own line (I.Jump jump ∷ []) in
       let next : ℕ = at + length (head ++ out) in
-      let after : List Lined = branches_code p tables r line jump next (behind_stmts p r lo body) (more_branches body' rest) in
+      let after : List LineInstr = branches_code p tables r line jump next (behind_stmts p r lo body) (more_branches body' rest) in
       let both : length (head ++ out) ≡ length head + 1 = length-append head out in
       let whole : length ((head ++ out) ++ after) ≡ length (head ++ out) + length after = length-append (head ++ out) after in
       let front : Stands code at (head ++ out) = stands_front code at (head ++ out) after stands in
@@ -97,12 +97,12 @@ module _ (p : Program) (tables : Tables) (r : ℕ) (code : PlainCode) (input : L
   either_runs (more_branches body (more_branches body' rest)) at lo lists le slots some stands =
       let list = lists.0 in
       let others = lists.1 in
-      let inner : List Lined = stmts_code p tables r (at + 1) lo body in
-      let head : List Lined = chosen line (at + 1) inner in
+      let inner : List LineInstr = stmts_code p tables r (at + 1) lo body in
+      let head : List LineInstr = branch_code line (at + 1) inner in
       let jump : ℕ = at + length head in
       let next : ℕ = at + length head + 1 in
-      let after : List Lined = branches_code p tables r line jump next (behind_stmts p r lo body) (more_branches body' rest) in
-      let out : List Lined = own line (I.Jump (jump + 1 + length after) ∷ []) in
+      let after : List LineInstr = branches_code p tables r line jump next (behind_stmts p r lo body) (more_branches body' rest) in
+      let out : List LineInstr = own line (I.Jump (jump + 1 + length after) ∷ []) in
       let exit : ℕ = at + length (head ++ (out ++ after)) in
       let whole : length (head ++ (out ++ after)) ≡ length head + suc (length after) = length-append head (out ++ after) in
       let behind : Stands code (at + length head) (out ++ after) = stands_back code at head (out ++ after) stands in

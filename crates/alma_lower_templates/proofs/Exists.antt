@@ -16,7 +16,7 @@ use Rattle.alma_ir.specs.Tree.{SameCells, Seq, And, Or, Not, CallTest, Const, Lo
 use Rattle.alma_ir.specs.Tree.{ByCells, ByPlace, MixValue, MixPlace, Field, Index}
 use Rattle.alma_ir.specs.Phrases.{Phrase, StmtPhrase, TestPhrase, ExprPhrase, ArgPhrase, DesigPhrase, SelPhrase, stmts_phrases}
 use Rattle.alma_ir.specs.Checked.{ranges_of}
-use Rattle.alma_lower_templates.specs.Tables.{Tables, same_range, same_text, counted, first_place}
+use Rattle.alma_lower_templates.specs.Tables.{Tables, same_range, same_text, count_past, first_place}
 use Rattle.alma_lower_templates.specs.Slots.{routine_kinds}
 use Rattle.alma_lower_templates.specs.Templates.{char_range}
 use Rattle.alma_lower_templates.specs.Compiled.{program_code}
@@ -65,7 +65,7 @@ found same is itself [] a h = absurd h
 found same is itself (x ∷ xs) a h = by (same x a) refl h (λ there. found same is itself xs a there)
   where
     by : (t : Bool) → same x a ≡ t → (x ≡ a) ⊎ IsIn a xs → (IsIn a xs → slice_get xs (first_place same xs a) ≡ Some a)
-        → slice_get (x ∷ xs) (counted t (first_place same xs a)) ≡ Some a
+        → slice_get (x ∷ xs) (count_past t (first_place same xs a)) ≡ Some a
     by true e there later = ap Some (is x a e)
     by false e (inr there) later = later there
     by false e (inl here) later = absurd (let bad : true ≡ false = sym (ap (λ y. same y a) here ∙ itself a) ∙ e in cc)

@@ -33,7 +33,7 @@ use Rattle.alma_lower_implements.proofs.ForSteps.{SlotThere, a_number, not_known
 use Rattle.alma_lower_implements.proofs.Numbers.{bit_integer, zero_bit}
 use Rattle.alma_lower_implements.proofs.Steps.{Holds, InstrAt, const_step, does, equal_step, zero_jumps, other_goes_on, fail_step}
 use Rattle.alma_lower_implements.proofs.Ways.{Ways, Leaves}
-use Rattle.alma_lower_templates.specs.Lined.{Lined, own, in_row}
+use Rattle.alma_lower_templates.specs.LineInstr.{LineInstr, own, in_row}
 use Rattle.alma_lower_templates.specs.Tables.{Tables}
 use Rattle.alma_lower_templates.specs.Slots.{bare, bare_desig, has_operator, stays, stays_in, taken_from, unless_bare, expr_slots}
 use Rattle.alma_lower_templates.specs.Slots.{links_slots, desig_slots, test_slots, mark_slots, is_simple, call_links, handed_slots}
@@ -83,7 +83,7 @@ module _ (p : Program) (code : PlainCode) (input : List ℕ) (r : ℕ) where
 
 module _ (p : Program) (tables : Tables) (code : PlainCode) (input : List ℕ) (below : Level) (r line q : ℕ) where
   -- an expression that runs to ways of its own
-  abbrev pub RunsTo : (w : List PlainFrame → Ways ℤ) → (at : ℕ) → List Lined → Expr → Type 0
+  abbrev pub RunsTo : (w : List PlainFrame → Ways ℤ) → (at : ℕ) → List LineInstr → Expr → Type 0
   RunsTo w at made x = Stands code at made → (v : Store) (now : List PlainFrame) → Begins p code input r v now
       → NodeRuns p code input line at (at + length made) now (w now) (ev_expr p input below x v) q
 
@@ -137,10 +137,10 @@ module _ (p : Program) (tables : Tables) (code : PlainCode) (input : List ℕ) (
       → RunsTo w at (held_code p tables r line at (lo + 1) d ++ own line (I.Load end (held_at p tables r (lo + 1) d) ∷ [])) (Load d)
   unfolding ev_expr
   load_by_place at lo end d w takes held cells stands v now b =
-      let inner : List Lined = held_code p tables r line at (lo + 1) d in
+      let inner : List LineInstr = held_code p tables r line at (lo + 1) d in
       let m : ℕ = at + length inner in
       let from : ℕ = held_at p tables r (lo + 1) d in
-      let last : List Lined = own line (I.Load end from ∷ []) in
+      let last : List LineInstr = own line (I.Load end from ∷ []) in
       let back = stands_back code at inner last stands in
       let whole : length (inner ++ last) ≡ length inner + 1 = length-append inner last in
       let exit_is : m + 1 ≡ at + length (inner ++ last) = omega (arith, whole) in
@@ -185,7 +185,7 @@ module _ (p : Program) (tables : Tables) (code : PlainCode) (input : List ℕ) (
       → Destination p code input line q lo r end w
       → RunsTo w at (straight end (expr_code p tables r line at lo (Load d))) (Load d)
   load_straight at lo end d w none held cells takes =
-      let inner : List Lined = held_code p tables r line at (lo + 1) d in
+      let inner : List LineInstr = held_code p tables r line at (lo + 1) d in
       let there : straight end (expr_code p tables r line at lo (Load d)) ≡ inner
       ++ own line (I.Load end (held_at p tables r (lo + 1) d) ∷ []) =
       ap (λ o. straight end (unless_bare o inner ++ own line (load_by p tables r o lo d ∷ []))) none
@@ -239,12 +239,12 @@ module _ (p : Program) (tables : Tables) (code : PlainCode) (input : List ℕ) (
   unfolding ev_expr
   more_links_run at end to lo w how x rest takes lt behind kind once others stands v now n b value =
       let put : ℕ = put_by rest to end in
-      let inner : List Lined = unless_bare (bare x) (expr_code p tables r line at lo x) in
+      let inner : List LineInstr = unless_bare (bare x) (expr_code p tables r line at lo x) in
       let operand : ℕ = value_at p tables r lo x in
-      let last : List Lined = own line (op_code how put to operand ∷ []) in
+      let last : List LineInstr = own line (op_code how put to operand ∷ []) in
       let m : ℕ = at + length inner in
       let next : ℕ = at + length (inner ++ last) in
-      let after : List Lined = ends_code p tables r end line next to to (behind_value p r lo x) rest in
+      let after : List LineInstr = ends_code p tables r end line next to to (behind_value p r lo x) rest in
       let front = stands_front code at (inner ++ last) after stands in
       let back = stands_back code at inner last front in
       let i : InstrAt code input line m (op_code how put to operand) = record { instr = back.0; on_line = back.1 } in
@@ -298,12 +298,12 @@ module _ (p : Program) (tables : Tables) (code : PlainCode) (input : List ℕ) (
       let s = stays_is x y from e in
       let put : ℕ = put_by rest lo end in
       let first : ℕ = shift p r + from in
-      let inner : List Lined = unless_bare (bare y) (expr_code p tables r line at la y) in
+      let inner : List LineInstr = unless_bare (bare y) (expr_code p tables r line at la y) in
       let operand : ℕ = value_at p tables r la y in
-      let last : List Lined = own line (op_code how put first operand ∷ []) in
+      let last : List LineInstr = own line (op_code how put first operand ∷ []) in
       let m : ℕ = at + length inner in
       let next : ℕ = at + length (inner ++ last) in
-      let after : List Lined = ends_code p tables r end line next lo lo (behind_value p r la y) rest in
+      let after : List LineInstr = ends_code p tables r end line next lo lo (behind_value p r la y) rest in
       let front = stands_front code at (inner ++ last) after stands in
       let back = stands_back code at inner last front in
       let i : InstrAt code input line m (op_code how put first operand) = record { instr = back.0; on_line = back.1 } in
@@ -330,7 +330,7 @@ module _ (p : Program) (tables : Tables) (code : PlainCode) (input : List ℕ) (
       (λ n goes. alone_from p code input line 8 at exit now (w now) (ev_links p input below (more_links how y rest) n v) q goes))
 
   -- a chain whose first operand has code or not and stays or not, and of which the last operator puts its value into the slot `end`
-  abbrev chain_code : (taken stays : Option ℕ) → (at end lo : ℕ) → Bool → Expr → Links → List Lined
+  abbrev chain_code : (taken stays : Option ℕ) → (at end lo : ℕ) → Bool → Expr → Links → List LineInstr
   chain_code taken stays at end lo negated x links =
       in_row at (unless_bare taken (expr_code p tables r line at lo x) ++ own line (neg_code negated lo (value_at p tables r lo x)))
       (λ next. ends_code p tables r end line next (slot_or p tables r stays lo) lo (behind_expr p r lo x) links)
@@ -349,10 +349,10 @@ module _ (p : Program) (tables : Tables) (code : PlainCode) (input : List ℕ) (
       → Follows end lo (behind_expr p r lo x) w links → RunsTo w at (chain_code None None at end lo false x links) (Chain false x links)
   unfolding ev_expr
   chain_of at end lo w x links takes slots runs others stands v now b =
-      let inner : List Lined = expr_code p tables r line at lo x in
+      let inner : List LineInstr = expr_code p tables r line at lo x in
       let m : ℕ = at + length inner in
       let next : ℕ = at + length (inner ++ []) in
-      let after : List Lined = ends_code p tables r end line next lo lo (behind_expr p r lo x) links in
+      let after : List LineInstr = ends_code p tables r end line next lo lo (behind_expr p r lo x) links in
       let front = stands_front code at (inner ++ []) after stands in
       let both : length (inner ++ []) ≡ length inner + 0 = length-append inner [] in
       let whole : length ((inner ++ []) ++ after) ≡ length (inner ++ []) + length after = length-append (inner ++ []) after in
@@ -378,12 +378,12 @@ module _ (p : Program) (tables : Tables) (code : PlainCode) (input : List ℕ) (
   unfolding ev_expr
   signed_of at end lo w x links takes slots once others stands v now b =
       let kind = first_slot p code input r lo (Chain true x links) slots in
-      let inner : List Lined = unless_bare (bare x) (expr_code p tables r line at lo x) in
+      let inner : List LineInstr = unless_bare (bare x) (expr_code p tables r line at lo x) in
       let from : ℕ = value_at p tables r lo x in
-      let sign : List Lined = own line (I.Neg lo from ∷ []) in
+      let sign : List LineInstr = own line (I.Neg lo from ∷ []) in
       let m : ℕ = at + length inner in
       let next : ℕ = at + length (inner ++ sign) in
-      let after : List Lined = ends_code p tables r end line next lo lo (behind_expr p r lo x) links in
+      let after : List LineInstr = ends_code p tables r end line next lo lo (behind_expr p r lo x) links in
       let front = stands_front code at (inner ++ sign) after stands in
       let back = stands_back code at inner sign front in
       let i : InstrAt code input line m (I.Neg lo from) = record { instr = back.0; on_line = back.1 } in
@@ -466,7 +466,7 @@ module _ (p : Program) (tables : Tables) (code : PlainCode) (input : List ℕ) (
       let kind = first_slot p code input r lo (Chain negated x links) slots in
       let w : List PlainFrame → Ways ℤ = λ t. leaving p code input lo r t (ValueIn p code input lo) in
       let takes = first_takes p code input line q lo r slots.behind kind in
-      let front : List Lined = unless_bare (taken_from negated x links) (expr_code p tables r line at lo x)
+      let front : List LineInstr = unless_bare (taken_from negated x links) (expr_code p tables r line at lo x)
       ++ own line (neg_code negated lo (value_at p tables r lo x)) in
       let is = ap (λ c. front ++ c)
       (ends_same p tables r line (at + length front) (slot_or p tables r (stays_in negated x links) lo) lo la links) in
@@ -487,7 +487,7 @@ module _ (p : Program) (tables : Tables) (code : PlainCode) (input : List ℕ) (
       let la : ℕ = behind_expr p r lo x in
       let kind = first_slot p code input r lo (Chain negated x links) slots in
       let first : ℕ = slot_or p tables r (stays_in negated x links) lo in
-      let front : List Lined = unless_bare (taken_from negated x links) (expr_code p tables r line at lo x)
+      let front : List LineInstr = unless_bare (taken_from negated x links) (expr_code p tables r line at lo x)
       ++ own line (neg_code negated lo (value_at p tables r lo x)) in
       let next : ℕ = at + length front in
       let is = straight_behind end front (links_code p tables r line next first lo la links)
@@ -521,11 +521,11 @@ module _ (p : Program) (tables : Tables) (code : PlainCode) (input : List ℕ) (
     compared_of runs stands v now b =
         let lo2 : ℕ = behind_expr p r lo x in
         let lt : lo < lo2 = omega (arith, some_slots p code input r x) in
-        let first : List Lined = expr_code p tables r line at lo x in
+        let first : List LineInstr = expr_code p tables r line at lo x in
         let m : ℕ = at + length first in
-        let second : List Lined = unless_bare (bare y) (expr_code p tables r line m lo2 y) in
+        let second : List LineInstr = unless_bare (bare y) (expr_code p tables r line m lo2 y) in
         let operand : ℕ = value_at p tables r lo2 y in
-        let last : List Lined = own line (instrs lo operand) in
+        let last : List LineInstr = own line (instrs lo operand) in
         let front = stands_front code at (first ++ second) last stands in
         let both : length (first ++ second) ≡ length first + length second = length-append first second in
         let whole : length ((first ++ second) ++ last) ≡ length (first ++ second) + length last = length-append (first ++ second) last in
@@ -562,9 +562,9 @@ module _ (p : Program) (tables : Tables) (code : PlainCode) (input : List ℕ) (
         let lo2 : ℕ = behind_expr p r lo x in
         let first : ℕ = shift p r + from in
         let operand : ℕ = value_at p tables r lo2 y in
-        let last : List Lined = own line (instrs first operand) in
+        let last : List LineInstr = own line (instrs first operand) in
         let zero : at + 0 ≡ at = omega arith in
-        let second : List Lined = unless_bare (bare y) (expr_code p tables r line at lo2 y) in
+        let second : List LineInstr = unless_bare (bare y) (expr_code p tables r line at lo2 y) in
         let there : Stands code at (second ++ last) =
         subst (λ m. Stands code at (unless_bare (bare y) (expr_code p tables r line m lo2 y) ++ last)) zero stands in
         let m : ℕ = at + length second in
@@ -648,12 +648,12 @@ module _ (p : Program) (tables : Tables) (code : PlainCode) (input : List ℕ) (
   unfolding ev_expr
   unequal_runs at lo x y slots runs fits next stands v now b =
       let kind = first_slot p code input r lo (Compare cmp.Unequal x y) slots in
-      let operands : List Lined = compared_code p tables r line at lo x y in
+      let operands : List LineInstr = compared_code p tables r line at lo x y in
       let operand : ℕ = value_at p tables r (behind_expr p r lo x) y in
       let first : ℕ = slot_or p tables r (stays x y) lo in
-      let equal : List Lined = own line (I.Equal lo first operand ∷ []) in
+      let equal : List LineInstr = own line (I.Equal lo first operand ∷ []) in
       let m : ℕ = at + length operands in
-      let last : List Lined = own line (I.JumpZero lo (m + 3) ∷ I.Fail ∷ []) in
+      let last : List LineInstr = own line (I.JumpZero lo (m + 3) ∷ I.Fail ∷ []) in
       let there : Stands code at ((operands ++ equal) ++ last) = subst (Stands code at) (sym (append_assoc operands equal last)) stands in
       let long : length (operands ++ equal) ≡ length operands + 1 = length-append operands equal in
       let whole : length (operands ++ own line (unequal_code lo first operand m)) ≡ length operands + 3 =
@@ -699,10 +699,10 @@ module _ (p : Program) (tables : Tables) (code : PlainCode) (input : List ℕ) (
       → HeldRuns p tables code input below r line q at (lo + 1) d → ExprRuns p tables code input below r line q at lo (Known d)
   unfolding ev_expr
   known_runs at lo d slots cells held stands v now b =
-      let inner : List Lined = held_code p tables r line at (lo + 1) d in
+      let inner : List LineInstr = held_code p tables r line at (lo + 1) d in
       let m : ℕ = at + length inner in
       let from : ℕ = held_at p tables r (lo + 1) d in
-      let last : List Lined = own line (I.Known lo from ∷ []) in
+      let last : List LineInstr = own line (I.Known lo from ∷ []) in
       let back = stands_back code at inner last stands in
       let whole : length (inner ++ last) ≡ length inner + 1 = length-append inner last in
       let end : m + 1 ≡ at + length (inner ++ last) = omega (arith, whole) in

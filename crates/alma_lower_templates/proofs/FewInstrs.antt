@@ -25,9 +25,10 @@ use Rattle.alma_ir.specs.Lines.{tests_with, expr_with, links_with, args_with, ar
 use Rattle.alma_ir.specs.Phrases.{DesigPhrase, stmts_phrases, stmt_phrases, arms_phrases, cases_phrases, else_phrases, branches_phrases}
 use Rattle.alma_ir.specs.Phrases.{loop_phrases, test_phrases, tests_phrases, expr_phrases, links_phrases, args_phrases, arg_phrases}
 use Rattle.alma_ir.specs.Phrases.{desig_phrases, sels_phrases, sel_phrases}
-use Rattle.alma_lower_templates.specs.Lined.{Lined, own, in_row}
+use Rattle.alma_lower_templates.specs.LineInstr.{LineInstr, own, in_row}
 use Rattle.alma_lower_templates.specs.Pieces.{cmp_code, op_code, neg_code, fit_code, unless_whole, link_code, chain_code, condition}
-use Rattle.alma_lower_templates.specs.Pieces.{guarded, read_code, write_code, truth_code, first_of_two, chosen, passed_over, has_dead}
+use Rattle.alma_lower_templates.specs.Pieces.{guard_code, read_code, write_code, truth_code, first_of_two, branch_code, passed_over}
+use Rattle.alma_lower_templates.specs.Pieces.{has_dead}
 use Rattle.alma_lower_templates.specs.Pieces.{case_arm, behind_labels, labels_code, label_code, label_test, test_size, begin_loop}
 use Rattle.alma_lower_templates.specs.Pieces.{for_turns}
 use Rattle.alma_lower_templates.specs.Pieces.{some_turns, turn_code, opposite_code, unless_constant, limit_code, put_code}
@@ -102,12 +103,12 @@ labels_few value bound at hit miss label (label2 ∷ rest) =
       label_test_few value bound next label,
     )
 
-passed_few : (z : Bool) (line at : ℕ) (dead : List Lined) → length (passed_over z line at dead) ≤ 1 + length dead
+passed_few : (z : Bool) (line at : ℕ) (dead : List LineInstr) → length (passed_over z line at dead) ≤ 1 + length dead
 passed_few true line at dead = omega arith
 passed_few false line at dead = omega arith
 
 condition_few :
-    (simple : Bool) (line at lo none : ℕ) (jump : (at lo none : ℕ) → List Lined) (test : (at lo : ℕ) → List Lined) (n : ℕ)
+    (simple : Bool) (line at lo none : ℕ) (jump : (at lo none : ℕ) → List LineInstr) (test : (at lo : ℕ) → List LineInstr) (n : ℕ)
     → ((at lo none : ℕ) → 4 + length (jump at lo none) ≤ n)
     → ((at lo : ℕ) → 4 + length (test at lo) ≤ n)
     → 1 + length (condition simple line at lo none jump test) ≤ n
@@ -117,10 +118,10 @@ condition_few false line at lo none jump test n j t =
     omega (arith, z, length-append (test (at + 2) (lo + 1)) (own line (I.Cut lo ∷ [])))
 
 guarded_few :
-    (at skipped : ℕ) (condition : (none : ℕ) → List Lined) (body : (at : ℕ) → List Lined) (m n : ℕ)
+    (at skipped : ℕ) (condition : (none : ℕ) → List LineInstr) (body : (at : ℕ) → List LineInstr) (m n : ℕ)
     → ((none : ℕ) → 1 + length (condition none) ≤ m)
     → ((at : ℕ) → length (body at) ≤ n)
-    → 1 + length (guarded at skipped condition body) ≤ m + n
+    → 1 + length (guard_code at skipped condition body) ≤ m + n
 guarded_few at skipped condition body m n c b =
     let here : ℕ = at + length (condition 0) in
     let none : ℕ = here + length (body here) + skipped in
@@ -172,7 +173,7 @@ module _ (p : Program) (tables : Tables) (r : ℕ) where
         h,
       )
 
-  set_few : (o : Option ℕ) (line : ℕ) (value : List Lined) (set : List Instr)
+  set_few : (o : Option ℕ) (line : ℕ) (value : List LineInstr) (set : List Instr)
       → length (Templates.set_to p tables r o line value set) ≤ length value + length (own line set)
   set_few (Some to) line value set = omega (arith, straight_long (Templates.own_slot p tables r to) value)
   set_few None line value set = omega (arith, length-append value (own line set))
@@ -189,7 +190,7 @@ module _ (p : Program) (tables : Tables) (r : ℕ) where
 
   -- ---- forms of several parts, given their parts
 
-  put_few : (z : Bool) (line to from : ℕ) (range : Range) (value : List Lined)
+  put_few : (z : Bool) (line to from : ℕ) (range : Range) (value : List LineInstr)
       → length (put_code z line to from (fit_code tables range from) value) ≤ 2 + length value
   put_few true line to from range value = omega (arith, straight_long to value)
   put_few false line to from range value =
@@ -225,9 +226,9 @@ module _ (p : Program) (tables : Tables) (r : ℕ) where
       (line at lo skipped : ℕ) (u : Test) (m : ℕ)
       → ((at lo none : ℕ) → 4 + length (Templates.jump_code p tables r line at lo none u) ≤ m)
       → ((at lo : ℕ) → 4 + length (Templates.test_code p tables r line at lo u) ≤ m)
-      → (body : (at : ℕ) → List Lined) (n : ℕ)
+      → (body : (at : ℕ) → List LineInstr) (n : ℕ)
       → ((at : ℕ) → length (body at) ≤ n)
-      → 1 + length (guarded at skipped (λ none. condition (is_simple u) line at lo none
+      → 1 + length (guard_code at skipped (λ none. condition (is_simple u) line at lo none
       (λ at lo none. Templates.jump_code p tables r line at lo none u) (λ at lo. Templates.test_code p tables r line at lo u)) body) ≤ m
       + n
   asked_few line at lo skipped u m j t body n b =
@@ -236,7 +237,7 @@ module _ (p : Program) (tables : Tables) (r : ℕ) where
       (λ none. asks_few line at lo none u m j t) b
 
   -- a first count, and an operand that is held
-  constant_few : (o : Option ℤ) (value : List Lined) → length (unless_constant o value) ≤ length value
+  constant_few : (o : Option ℤ) (value : List LineInstr) → length (unless_constant o value) ≤ length value
   constant_few (Some n) value = omega arith
   constant_few None value = omega arith
 
@@ -248,9 +249,9 @@ module _ (p : Program) (tables : Tables) (r : ℕ) where
   back_few : (line at lo held top : ℕ) (u : Test)
       → length (Templates.back_code p tables r line at lo held top u) ≤ length (Templates.test_code p tables r line at lo u)
   back_few line at lo held top (Value (Compare how x y)) =
-      let one : List Lined = unless_bare (stays x y) (Templates.expr_code p tables r line at lo x) in
-      let two : List Lined = unless_bare (bare y) (Templates.expr_code p tables r line (at + length one) (behind_expr p r lo x) y) in
-      let operands : List Lined = compared_code p tables r line at lo x y in
+      let one : List LineInstr = unless_bare (stays x y) (Templates.expr_code p tables r line at lo x) in
+      let two : List LineInstr = unless_bare (bare y) (Templates.expr_code p tables r line (at + length one) (behind_expr p r lo x) y) in
+      let operands : List LineInstr = compared_code p tables r line at lo x y in
       let first : ℕ = Templates.slot_or p tables r (stays x y) lo in
       let other : ℕ = Templates.value_at p tables r (behind_expr p r lo x) y in
       omega (
@@ -289,12 +290,12 @@ module _ (p : Program) (tables : Tables) (r : ℕ) where
       → length (while_code p tables r behind line at lo u y) ≤ 1 + m + n
   while_few true line at lo u y m n j t b =
       let lo1 : ℕ = behind_held p r lo u in
-      let held : List Lined = own line (constant_code (held_constant u) lo) in
+      let held : List LineInstr = own line (constant_code (held_constant u) lo) in
       let top : ℕ = at + length held + 1 in
-      let body : List Lined = Templates.stmts_code p tables r top lo1 y in
+      let body : List LineInstr = Templates.stmts_code p tables r top lo1 y in
       let next : ℕ = top + length body in
       let lo2 : ℕ = behind_stmts p r lo1 y in
-      let last : List Lined = Templates.back_code p tables r line next lo2 lo top u in
+      let last : List LineInstr = Templates.back_code p tables r line next lo2 lo top u in
       omega (
         arith,
         length-append held (own line (I.Jump next ∷ []) ++ (body ++ last)),
@@ -306,7 +307,7 @@ module _ (p : Program) (tables : Tables) (r : ℕ) where
       )
   while_few false line at lo u y m n j t b =
       let lo2 : ℕ = behind_condition p r lo u in
-      let one : List Lined = guarded (at + 1) 1
+      let one : List LineInstr = guard_code (at + 1) 1
       (λ none. condition (is_simple u) line (at + 1) lo none (λ at lo none. Templates.jump_code p tables r line at lo none u)
       (λ at lo. Templates.test_code p tables r line at lo u)) (λ next. Templates.stmts_code p tables r next lo2 y) in
       omega (
@@ -327,7 +328,7 @@ module _ (p : Program) (tables : Tables) (r : ℕ) where
       → ((at lo : ℕ) → length (Templates.desig_code p tables r line at lo z) ≤ n)
       → length (in_row at (held_code p tables r line at lo y) (λ next. held_code p tables r line next (behind_desig p r lo y) z)) ≤ m + n
   pair_few line at lo y z m n a b =
-      let one : List Lined = held_code p tables r line at lo y in
+      let one : List LineInstr = held_code p tables r line at lo y in
       let next : ℕ = at + length one in
       let lo2 : ℕ = behind_desig p r lo y in
       let first = held_few line at lo y m a in
@@ -335,11 +336,11 @@ module _ (p : Program) (tables : Tables) (r : ℕ) where
       omega (arith, first, second, length-append one (held_code p tables r line next lo2 z))
 
   -- an operand of OR that is not the last, without the jump behind it
-  first_few : (line at lo : ℕ) (x : List Lined) (n : ℕ) → 4 + length x ≤ n → 1 + length (first_of_two line at lo x) ≤ n
+  first_few : (line at lo : ℕ) (x : List LineInstr) (n : ℕ) → 4 + length x ≤ n → 1 + length (first_of_two line at lo x) ≤ n
   first_few line at lo x n z = omega (arith, z, length-append x (own line (I.Cut lo ∷ [])))
 
   -- an arm of CASE
-  arm_few : (line value bound at : ℕ) (label : Range) (labels : List Range) (x : List Lined)
+  arm_few : (line value bound at : ℕ) (label : Range) (labels : List Range) (x : List LineInstr)
       → length (case_arm line value bound at label labels x) ≤ 7 * length labels + 6 + length x
   arm_few line value bound at label labels x =
       let here : ℕ = behind_labels at label labels in
@@ -352,13 +353,13 @@ module _ (p : Program) (tables : Tables) (r : ℕ) where
       )
 
   -- a limit
-  limit_few : (z : Bool) (line limit from : ℕ) (value : List Lined) → length (limit_code z line limit from value) ≤ length value + 1
+  limit_few : (z : Bool) (line limit from : ℕ) (value : List LineInstr) → length (limit_code z line limit from value) ≤ length value + 1
   limit_few true line limit from value = omega (arith, straight_long limit value)
   limit_few false line limit from value = omega (arith, length-append value (own line (I.Move limit from ∷ [])))
 
   -- the count of a loop, the variable set to it, and the body
   turn_few :
-      (line at counter lo : ℕ) (y : Desig) (range : Range) (body : (at : ℕ) → List Lined) (m n : ℕ)
+      (line at counter lo : ℕ) (y : Desig) (range : Range) (body : (at : ℕ) → List LineInstr) (m n : ℕ)
       → ((at : ℕ) → length (Templates.desig_code p tables r line at (lo + 1) y) ≤ m)
       → ((at : ℕ) → length (body at) ≤ n)
       → length (turn_code line at (Templates.count_code p tables r (bare_desig y) range counter lo)
@@ -366,11 +367,12 @@ module _ (p : Program) (tables : Tables) (r : ℕ) where
       (Templates.set_code p tables r (lo + 1) (Templates.count_at p tables r (bare_desig y) counter lo) y) body) ≤ 3 + m + n
   turn_few line at counter lo y range body m n a b =
       let check : List Instr = Templates.count_code p tables r (bare_desig y) range counter lo in
-      let zero : List Lined = own line check in
+      let zero : List LineInstr = own line check in
       let at1 : ℕ = at + length zero in
-      let one : List Lined = unless_bare (bare_desig y) (held_code p tables r line at1 (lo + 1) y) in
+      let one : List LineInstr = unless_bare (bare_desig y) (held_code p tables r line at1 (lo + 1) y) in
       let at2 : ℕ = at1 + length one in
-      let end : List Lined = own line (Templates.set_code p tables r (lo + 1) (Templates.count_at p tables r (bare_desig y) counter lo) y
+      let end : List LineInstr = own line (Templates.set_code p tables r (lo + 1) (Templates.count_at p tables r (bare_desig y) counter lo)
+      y
       ∷ []) ++ body (at2 + 1) in
       let c = held_few line at1 (lo + 1) y m (a at1) in
       let e = b (at2 + 1) in
@@ -392,8 +394,8 @@ module _ (p : Program) (tables : Tables) (r : ℕ) where
         → length (Templates.desig_code p tables r line at lo (desig_with d ls)) ≤ 16 * desig_nodes d
     desig_few line at lo (a_desig x cells sels) ls h =
         let o : Option ℕ = own_root x (sels_with sels ls) in
-        let placed : List Lined = own line (Templates.root_code p tables r lo x) in
-        let one : List Lined = unless_bare o placed in
+        let placed : List LineInstr = own line (Templates.root_code p tables r lo x) in
+        let one : List LineInstr = unless_bare o placed in
         let from : ℕ = Templates.slot_or p tables r o lo in
         let next : ℕ = at + length one in
         let lo2 : ℕ = Templates.behind_root p tables r lo x in
@@ -411,7 +413,7 @@ module _ (p : Program) (tables : Tables) (r : ℕ) where
     sels_few line at from lo (more_sels x rest) ls h =
         let ls2 = behind (sel_phrases x) ls in
         let y : Sel = sel_with x ls in
-        let one : List Lined = Templates.sel_code p tables r line at from lo y in
+        let one : List LineInstr = Templates.sel_code p tables r line at from lo y in
         let next : ℕ = at + length one in
         let part : ℕ = Templates.part_slot p tables r lo y in
         omega (
@@ -439,7 +441,7 @@ module _ (p : Program) (tables : Tables) (r : ℕ) where
     expr_few line at lo (Const n) ls h = omega arith
     expr_few line at lo (Load d) ls h =
         let y : Desig = desig_with d ls in
-        let x : List Lined = held_code p tables r line at (lo + 1) y in
+        let x : List LineInstr = held_code p tables r line at (lo + 1) y in
         omega (
           arith,
           length-append (unless_bare (bare_desig y) x) (own line (Templates.load_code p tables r lo y ∷ [])),
@@ -449,11 +451,11 @@ module _ (p : Program) (tables : Tables) (r : ℕ) where
     expr_few line at lo (Chain negated e links) ls h =
         let ls2 = behind (expr_phrases e) ls in
         let y : Expr = expr_with e ls in
-        let x : List Lined = Templates.expr_code p tables r line at lo y in
+        let x : List LineInstr = Templates.expr_code p tables r line at lo y in
         let o : Option ℕ = taken_from negated y (links_with links ls2) in
-        let one : List Lined = unless_bare o x in
+        let one : List LineInstr = unless_bare o x in
         let from : ℕ = Templates.value_at p tables r lo y in
-        let neg : List Lined = own line (neg_code negated lo from) in
+        let neg : List LineInstr = own line (neg_code negated lo from) in
         let next : ℕ = at + length (one ++ neg) in
         let lo2 : ℕ = behind_expr p r lo y in
         let first : ℕ = Templates.slot_or p tables r (stays_in negated y (links_with links ls2)) lo in
@@ -470,10 +472,10 @@ module _ (p : Program) (tables : Tables) (r : ℕ) where
         let ls2 = behind (expr_phrases a) ls in
         let y : Expr = expr_with a ls in
         let z : Expr = expr_with b ls2 in
-        let one : List Lined = unless_bare (stays y z) (Templates.expr_code p tables r line at lo y) in
+        let one : List LineInstr = unless_bare (stays y z) (Templates.expr_code p tables r line at lo y) in
         let next : ℕ = at + length one in
         let lo2 : ℕ = behind_expr p r lo y in
-        let two : List Lined = unless_bare (bare z) (Templates.expr_code p tables r line next lo2 z) in
+        let two : List LineInstr = unless_bare (bare z) (Templates.expr_code p tables r line next lo2 z) in
         let first : ℕ = Templates.slot_or p tables r (stays y z) lo in
         let other : ℕ = Templates.value_at p tables r lo2 z in
         omega (
@@ -488,7 +490,7 @@ module _ (p : Program) (tables : Tables) (r : ℕ) where
         )
     expr_few line at lo (Truth t) ls h =
         let u : Test = test_with t ls in
-        let one : List Lined = guarded at 2 (λ none. condition (is_simple u) line at (lo + 1) none
+        let one : List LineInstr = guard_code at 2 (λ none. condition (is_simple u) line at (lo + 1) none
         (λ at lo none. Templates.jump_code p tables r line at lo none u) (λ at lo. Templates.test_code p tables r line at lo u))
         (λ next. []) in
         omega (
@@ -515,11 +517,12 @@ module _ (p : Program) (tables : Tables) (r : ℕ) where
     expr_few line at lo (CallExpr called args up) ls h =
         let x : Args = args_with args ls in
         let first : ℕ = Templates.arguments_from p tables r called up (lo + 2) in
-        let one : List Lined = own line (Templates.call_link_code p tables r called up (lo + 2)) in
+        let one : List LineInstr = own line (Templates.call_link_code p tables r called up (lo + 2)) in
         let next : ℕ = at + length one in
         let lo2 : ℕ = first + length (handed_slots x) in
-        let two : List Lined = Templates.args_code p tables r line next first lo2 x in
-        let end : List Lined = own line (I.Mark (lo + 1) ∷ Templates.call_code p tables r called x up (lo + 2) lo ∷ I.Cut (lo + 1) ∷ []) in
+        let two : List LineInstr = Templates.args_code p tables r line next first lo2 x in
+        let end : List LineInstr = own line (I.Mark (lo + 1) ∷ Templates.call_code p tables r called x up (lo + 2) lo ∷ I.Cut (lo + 1) ∷ [])
+        in
         omega (
           arith,
           length-append (one ++ two) end,
@@ -536,8 +539,8 @@ module _ (p : Program) (tables : Tables) (r : ℕ) where
     operators_few line at first to lo (more_links how e rest) ls h =
         let ls2 = behind (expr_phrases e) ls in
         let y : Expr = expr_with e ls in
-        let x : List Lined = unless_bare (bare y) (Templates.expr_code p tables r line at lo y) in
-        let end : List Lined = own line (op_code how to first (Templates.value_at p tables r lo y) ∷ []) in
+        let x : List LineInstr = unless_bare (bare y) (Templates.expr_code p tables r line at lo y) in
+        let end : List LineInstr = own line (op_code how to first (Templates.value_at p tables r lo y) ∷ []) in
         let next : ℕ = at + length (x ++ end) in
         let lo2 : ℕ = behind_value p r lo y in
         omega (
@@ -555,7 +558,7 @@ module _ (p : Program) (tables : Tables) (r : ℕ) where
     args_few line at to lo (more_args a rest) ls h =
         let ls2 = behind (arg_phrases a) ls in
         let y : Arg = arg_with a ls in
-        let one : List Lined = Templates.arg_code p tables r line at to lo y in
+        let one : List LineInstr = Templates.arg_code p tables r line at to lo y in
         let next : ℕ = at + length one in
         let lo2 : ℕ = lo + length (arg_slots p r y) in
         omega (
@@ -570,7 +573,7 @@ module _ (p : Program) (tables : Tables) (r : ℕ) where
     arg_few line at to lo (ByValue e range) ls h = let z =
         handed_few line at to lo (expr_with e ls) range (16 * expr_nodes e) (expr_few line at lo e ls h.1) in omega (arith, z)
     arg_few line at to lo (ByCells d) ls h = let y : Desig = desig_with d ls in
-        let made : List Lined = Templates.desig_code p tables r line at lo y in
+        let made : List LineInstr = Templates.desig_code p tables r line at lo y in
         omega (
           arith,
           ap length (handed_is p tables r to line at lo y),
@@ -578,7 +581,7 @@ module _ (p : Program) (tables : Tables) (r : ℕ) where
           desig_few line at lo d ls h.1,
         )
     arg_few line at to lo (ByPlace d) ls h = let y : Desig = desig_with d ls in
-        let made : List Lined = Templates.desig_code p tables r line at lo y in
+        let made : List LineInstr = Templates.desig_code p tables r line at lo y in
         omega (
           arith,
           ap length (handed_is p tables r to line at lo y),
@@ -588,7 +591,7 @@ module _ (p : Program) (tables : Tables) (r : ℕ) where
     arg_few line at to lo (MixValue e range) ls h = let z =
         handed_few line at to lo (expr_with e ls) range (16 * expr_nodes e) (expr_few line at lo e ls h.1) in omega (arith, z)
     arg_few line at to lo (MixPlace d) ls h = let y : Desig = desig_with d ls in
-        let made : List Lined = Templates.desig_code p tables r line at lo y in
+        let made : List LineInstr = Templates.desig_code p tables r line at lo y in
         omega (
           arith,
           ap length (handed_is p tables r to line at lo y),
@@ -631,10 +634,10 @@ module _ (p : Program) (tables : Tables) (r : ℕ) where
         let ls2 = behind (desig_phrases d) ls in
         let y : Desig = desig_with d ls in
         let z : Expr = expr_with e ls2 in
-        let one : List Lined = held_code p tables r line at lo y in
+        let one : List LineInstr = held_code p tables r line at lo y in
         let next : ℕ = at + length one in
         let lo2 : ℕ = behind_desig p r lo y in
-        let two : List Lined = unless_bare (bare z) (Templates.expr_code p tables r line next lo2 z) in
+        let two : List LineInstr = unless_bare (bare z) (Templates.expr_code p tables r line next lo2 z) in
         let last : Instr = I.Bind (Templates.held_at p tables r lo y) (Templates.value_at p tables r lo2 z) (range_number tables range) in
         omega (
           arith,
@@ -648,10 +651,10 @@ module _ (p : Program) (tables : Tables) (r : ℕ) where
         let ls2 = behind (expr_phrases e) ls in
         let y : Expr = expr_with e ls in
         let z : Desig = desig_with d ls2 in
-        let one : List Lined = Templates.expr_code p tables r line at lo y in
+        let one : List LineInstr = Templates.expr_code p tables r line at lo y in
         let next : ℕ = at + length one in
         let lo2 : ℕ = behind_expr p r lo y in
-        let two : List Lined = held_code p tables r line next lo2 z in
+        let two : List LineInstr = held_code p tables r line next lo2 z in
         let last : Instr = I.Bind (Templates.held_at p tables r lo2 z) lo (range_number tables range) in
         omega (
           arith,
@@ -693,16 +696,16 @@ module _ (p : Program) (tables : Tables) (r : ℕ) where
     test_few line at lo (And ts) ls h = let z = and_few line at lo ts ls h.1 in omega (arith, z)
     test_few line at lo (Or ts) ls h = let z = or_few line at lo ts ls h.1 in omega (arith, z)
     test_few line at lo (Not t) ls h =
-        let x : List Lined = Templates.test_code p tables r line (at + 2) (lo + 1) (test_with t ls) in
+        let x : List LineInstr = Templates.test_code p tables r line (at + 2) (lo + 1) (test_with t ls) in
         omega (arith, length-append x (own line (I.Cut lo ∷ I.Fail ∷ [])), test_few line (at + 2) (lo + 1) t ls h.1)
     test_few line at lo (CallTest called args up) ls h =
         let x : Args = args_with args ls in
         let first : ℕ = Templates.arguments_from p tables r called up lo in
-        let one : List Lined = own line (Templates.call_link_code p tables r called up lo) in
+        let one : List LineInstr = own line (Templates.call_link_code p tables r called up lo) in
         let next : ℕ = at + length one in
         let lo2 : ℕ = first + length (handed_slots x) in
-        let two : List Lined = Templates.args_code p tables r line next first lo2 x in
-        let end : List Lined = own line (Templates.call_code p tables r called x up lo 0 ∷ []) in
+        let two : List LineInstr = Templates.args_code p tables r line next first lo2 x in
+        let end : List LineInstr = own line (Templates.call_code p tables r called x up lo 0 ∷ []) in
         omega (
           arith,
           length-append (one ++ two) end,
@@ -719,7 +722,7 @@ module _ (p : Program) (tables : Tables) (r : ℕ) where
     and_few line at lo (more_tests t rest) ls h =
         let ls2 = behind (test_phrases t) ls in
         let u : Test = test_with t ls in
-        let one : List Lined = Templates.test_code p tables r line at lo u in
+        let one : List LineInstr = Templates.test_code p tables r line at lo u in
         let next : ℕ = at + length one in
         let lo2 : ℕ = behind_test p r lo u in
         omega (
@@ -738,10 +741,10 @@ module _ (p : Program) (tables : Tables) (r : ℕ) where
         let ls2 = behind (test_phrases t) ls in
         let u : Test = test_with t ls in
         let others : Tests = more_tests t2 rest in
-        let one : List Lined = first_of_two line (at + 2) lo (Templates.test_code p tables r line (at + 2) (lo + 1) u) in
+        let one : List LineInstr = first_of_two line (at + 2) lo (Templates.test_code p tables r line (at + 2) (lo + 1) u) in
         let jump : ℕ = at + length one in
         let lo2 : ℕ = behind_test p r (lo + 1) u in
-        let two : List Lined = Templates.operands_code p tables r line jump (jump + 1) lo2 (tests_with others ls2) in
+        let two : List LineInstr = Templates.operands_code p tables r line jump (jump + 1) lo2 (tests_with others ls2) in
         omega (
           arith,
           length-append one (own line (I.Jump (jump + 1 + length two) ∷ []) ++ two),
@@ -759,8 +762,8 @@ module _ (p : Program) (tables : Tables) (r : ℕ) where
         let ls2 = behind (test_phrases t) ls in
         let u : Test = test_with t ls in
         let others : Tests = more_tests t2 rest in
-        let one : List Lined = first_of_two line (at + 2) lo (Templates.test_code p tables r line (at + 2) (lo + 1) u) in
-        let end : List Lined = own line (I.Jump jump ∷ []) in
+        let one : List LineInstr = first_of_two line (at + 2) lo (Templates.test_code p tables r line (at + 2) (lo + 1) u) in
+        let end : List LineInstr = own line (I.Jump jump ∷ []) in
         let next : ℕ = at + length (one ++ end) in
         let lo2 : ℕ = behind_test p r (lo + 1) u in
         omega (
@@ -779,7 +782,7 @@ module _ (p : Program) (tables : Tables) (r : ℕ) where
         let ls2 = behind (stmt_phrases x) ls in
         let y : Stmt = stmt_with x (drop 1 ls) in
         let line : ℕ = get_or ls 0 0 in
-        let one : List Lined = Templates.stmt_code p tables r line at lo y in
+        let one : List LineInstr = Templates.stmt_code p tables r line at lo y in
         let next : ℕ = at + length one in
         let lo2 : ℕ = behind_stmt p r lo y in
         omega (
@@ -796,10 +799,10 @@ module _ (p : Program) (tables : Tables) (r : ℕ) where
         let ls2 = behind (desig_phrases d) ls in
         let y : Desig = desig_with d ls in
         let z : Expr = expr_with e ls2 in
-        let one : List Lined = unless_bare (bare_desig y) (held_code p tables r line at lo y) in
+        let one : List LineInstr = unless_bare (bare_desig y) (held_code p tables r line at lo y) in
         let next : ℕ = at + length one in
         let lo2 : ℕ = behind_target p r lo y in
-        let two : List Lined = unless_bare (bare z) (Templates.expr_code p tables r line next lo2 z) in
+        let two : List LineInstr = unless_bare (bare z) (Templates.expr_code p tables r line next lo2 z) in
         let value : ℕ = Templates.value_at p tables r lo2 z in
         let last : List Instr = Templates.set_code p tables r lo value y ∷ [] in
         omega (
@@ -847,7 +850,7 @@ module _ (p : Program) (tables : Tables) (r : ℕ) where
         let ls2 = behind (stmts_phrases body) ls in
         let u : Test = test_with t ls2 in
         let y : Stmts = stmts_with body ls in
-        let one : List Lined = Templates.stmts_code p tables r at lo y in
+        let one : List LineInstr = Templates.stmts_code p tables r at lo y in
         let next : ℕ = at + length one in
         let lo2 : ℕ = behind_stmts p r lo y in
         omega (
@@ -867,16 +870,16 @@ module _ (p : Program) (tables : Tables) (r : ℕ) where
         let ls2 = behind (expr_phrases e) ls in
         let ls3 = behind (cases_phrases arms) ls2 in
         let y : Expr = expr_with e ls in
-        let one : List Lined = Templates.expr_code p tables r line at lo y in
+        let one : List LineInstr = Templates.expr_code p tables r line at lo y in
         let next : ℕ = at + length one in
         let first : ℕ = behind_expr p r lo y in
         let xs : CaseArms = cases_with arms ls2 in
         let bound : ℕ = behind_dead p r first xs in
-        let dead : List Lined = Templates.dead_code p tables r (next + 1) first xs in
-        let over : List Lined = passed_over (has_dead xs) line next dead in
+        let dead : List LineInstr = Templates.dead_code p tables r (next + 1) first xs in
+        let over : List LineInstr = passed_over (has_dead xs) line next dead in
         let tried : ℕ = next + length over in
-        let otherwise : (at lo : ℕ) → List Lined = λ next lo. Templates.else_code p tables r line next lo (else_with rest ls3) in
-        let made : List Lined = Templates.case_code p tables r line lo bound tried (bound + 2) xs otherwise in
+        let otherwise : (at lo : ℕ) → List LineInstr = λ next lo. Templates.else_code p tables r line next lo (else_with rest ls3) in
+        let made : List LineInstr = Templates.case_code p tables r line lo bound tried (bound + 2) xs otherwise in
         omega (
           arith,
           length-append one (over ++ made),
@@ -893,11 +896,11 @@ module _ (p : Program) (tables : Tables) (r : ℕ) where
         let a : Stmts = stmts_with x ls in
         let b : Stmts = stmts_with y ls2 in
         let inner : ℕ = behind_stmts p r (lo + 1) a in
-        let one : List Lined = Templates.stmts_code p tables r (at + 1) (lo + 1) a in
+        let one : List LineInstr = Templates.stmts_code p tables r (at + 1) (lo + 1) a in
         let next : ℕ = at + 1 + length one in
-        let body : List Lined = Templates.stmts_code p tables r (next + 2) (inner + 1) b in
-        let end : List Lined = own line (I.Cut inner ∷ I.Keep lo ∷ I.Fail ∷ []) in
-        let each : List Lined = own line (I.Overlay lo (next + 2 + length body + 2) ∷ I.Mark inner ∷ []) ++ (body ++ end) in
+        let body : List LineInstr = Templates.stmts_code p tables r (next + 2) (inner + 1) b in
+        let end : List LineInstr = own line (I.Cut inner ∷ I.Keep lo ∷ I.Fail ∷ []) in
+        let each : List LineInstr = own line (I.Overlay lo (next + 2 + length body + 2) ∷ I.Mark inner ∷ []) ++ (body ++ end) in
         omega (
           arith,
           length-append (one ++ each) (own line (I.Finish ∷ [])),
@@ -946,7 +949,7 @@ module _ (p : Program) (tables : Tables) (r : ℕ) where
     stmt_few line at lo WriteLine ls h = omega arith
 
     if_few :
-        (line at lo : ℕ) (arms : Arms) (ls : List ℕ) (otherwise : (at lo : ℕ) → List Lined) (n : ℕ) → AreShort (arms_phrases arms)
+        (line at lo : ℕ) (arms : Arms) (ls : List ℕ) (otherwise : (at lo : ℕ) → List LineInstr) (n : ℕ) → AreShort (arms_phrases arms)
         → ((at lo : ℕ) → length (otherwise at lo) ≤ n)
         → length (Templates.if_code p tables r line at lo (arms_with arms ls) otherwise) ≤ 16 * arms_nodes arms + n
     if_few line at lo no_arms ls otherwise n h o = let z = o at lo in omega (arith, z)
@@ -964,12 +967,12 @@ module _ (p : Program) (tables : Tables) (r : ℕ) where
         (λ at lo. test_few line at lo t ls (short_front (test_phrases t) (stmts_phrases body) two))
         (λ next. Templates.stmts_code p tables r next lo2 y) (16 * stmts_nodes body)
         (λ next. stmts_few next lo2 body ls2 (short_back (test_phrases t) (stmts_phrases body) two)) in
-        let one : List Lined = guarded at 1 (λ none. condition (is_simple u) line at lo none
+        let one : List LineInstr = guard_code at 1 (λ none. condition (is_simple u) line at lo none
         (λ at lo none. Templates.jump_code p tables r line at lo none u) (λ at lo. Templates.test_code p tables r line at lo u))
         (λ next. Templates.stmts_code p tables r next lo2 y) in
         let jump : ℕ = at + length one in
         let lo3 : ℕ = behind_stmts p r lo2 y in
-        let others : List Lined = Templates.arms_code p tables r line jump (jump + 1) lo3 (arms_with rest ls3) otherwise in
+        let others : List LineInstr = Templates.arms_code p tables r line jump (jump + 1) lo3 (arms_with rest ls3) otherwise in
         omega (
           arith,
           z,
@@ -978,7 +981,7 @@ module _ (p : Program) (tables : Tables) (r : ℕ) where
         )
 
     arms_few :
-        (line jump at lo : ℕ) (arms : Arms) (ls : List ℕ) (otherwise : (at lo : ℕ) → List Lined) (n : ℕ) → AreShort (arms_phrases arms)
+        (line jump at lo : ℕ) (arms : Arms) (ls : List ℕ) (otherwise : (at lo : ℕ) → List LineInstr) (n : ℕ) → AreShort (arms_phrases arms)
         → ((at lo : ℕ) → length (otherwise at lo) ≤ n)
         → length (Templates.arms_code p tables r line jump at lo (arms_with arms ls) otherwise) ≤ 16 * arms_nodes arms + n
     arms_few line jump at lo no_arms ls otherwise n h o = let z = o at lo in omega (arith, z)
@@ -996,10 +999,10 @@ module _ (p : Program) (tables : Tables) (r : ℕ) where
         (λ at lo. test_few line at lo t ls (short_front (test_phrases t) (stmts_phrases body) two))
         (λ next. Templates.stmts_code p tables r next lo2 y) (16 * stmts_nodes body)
         (λ next. stmts_few next lo2 body ls2 (short_back (test_phrases t) (stmts_phrases body) two)) in
-        let one : List Lined = guarded at 1 (λ none. condition (is_simple u) line at lo none
+        let one : List LineInstr = guard_code at 1 (λ none. condition (is_simple u) line at lo none
         (λ at lo none. Templates.jump_code p tables r line at lo none u) (λ at lo. Templates.test_code p tables r line at lo u))
         (λ next. Templates.stmts_code p tables r next lo2 y) in
-        let end : List Lined = own line (I.Jump jump ∷ []) in
+        let end : List LineInstr = own line (I.Jump jump ∷ []) in
         let next : ℕ = at + length (one ++ end) in
         let lo3 : ℕ = behind_stmts p r lo2 y in
         omega (
@@ -1012,7 +1015,7 @@ module _ (p : Program) (tables : Tables) (r : ℕ) where
 
     -- with the arms that are never tried, which stand at an address of their own
     case_few :
-        (line value bound at lo at2 lo2 : ℕ) (arms : CaseArms) (ls : List ℕ) (otherwise : (at lo : ℕ) → List Lined) (n : ℕ)
+        (line value bound at lo at2 lo2 : ℕ) (arms : CaseArms) (ls : List ℕ) (otherwise : (at lo : ℕ) → List LineInstr) (n : ℕ)
         → AreShort (cases_phrases arms)
         → ((at lo : ℕ) → length (otherwise at lo) ≤ n)
         → length (Templates.dead_code p tables r at2 lo2 (cases_with arms ls))
@@ -1021,7 +1024,7 @@ module _ (p : Program) (tables : Tables) (r : ℕ) where
     case_few line value bound at lo at2 lo2 (more_cases [] body rest) ls otherwise n h o =
         let ls2 = behind (stmts_phrases body) ls in
         let y : Stmts = stmts_with body ls in
-        let one : List Lined = Templates.stmts_code p tables r at2 lo2 y in
+        let one : List LineInstr = Templates.stmts_code p tables r at2 lo2 y in
         let next : ℕ = at2 + length one in
         let lo3 : ℕ = behind_stmts p r lo2 y in
         let z = case_few line value bound at lo next lo3 rest ls2 otherwise n (short_back (stmts_phrases body) (cases_phrases rest) h) o in
@@ -1037,10 +1040,11 @@ module _ (p : Program) (tables : Tables) (r : ℕ) where
         let here : ℕ = behind_labels at label labels in
         let z = stmts_few here lo body ls (short_front (stmts_phrases body) (cases_phrases rest) h) in
         let w = arm_few line value bound at label labels (Templates.stmts_code p tables r here lo y) in
-        let one : List Lined = case_arm line value bound at label labels (Templates.stmts_code p tables r here lo y) in
+        let one : List LineInstr = case_arm line value bound at label labels (Templates.stmts_code p tables r here lo y) in
         let jump : ℕ = at + length one in
         let lo3 : ℕ = behind_stmts p r lo y in
-        let others : List Lined = Templates.cases_code p tables r line value bound jump (jump + 1) lo3 (cases_with rest ls2) otherwise in
+        let others : List LineInstr = Templates.cases_code p tables r line value bound jump (jump + 1) lo3 (cases_with rest ls2) otherwise
+        in
         omega (
           arith,
           z,
@@ -1051,7 +1055,7 @@ module _ (p : Program) (tables : Tables) (r : ℕ) where
         )
 
     cases_few :
-        (line value bound jump at lo at2 lo2 : ℕ) (arms : CaseArms) (ls : List ℕ) (otherwise : (at lo : ℕ) → List Lined) (n : ℕ)
+        (line value bound jump at lo at2 lo2 : ℕ) (arms : CaseArms) (ls : List ℕ) (otherwise : (at lo : ℕ) → List LineInstr) (n : ℕ)
         → AreShort (cases_phrases arms)
         → ((at lo : ℕ) → length (otherwise at lo) ≤ n)
         → length (Templates.dead_code p tables r at2 lo2 (cases_with arms ls))
@@ -1061,7 +1065,7 @@ module _ (p : Program) (tables : Tables) (r : ℕ) where
     cases_few line value bound jump at lo at2 lo2 (more_cases [] body rest) ls otherwise n h o =
         let ls2 = behind (stmts_phrases body) ls in
         let y : Stmts = stmts_with body ls in
-        let one : List Lined = Templates.stmts_code p tables r at2 lo2 y in
+        let one : List LineInstr = Templates.stmts_code p tables r at2 lo2 y in
         let next : ℕ = at2 + length one in
         let lo3 : ℕ = behind_stmts p r lo2 y in
         let z = cases_few line value bound jump at lo next lo3 rest ls2 otherwise n (short_back (stmts_phrases body) (cases_phrases rest) h)
@@ -1078,8 +1082,8 @@ module _ (p : Program) (tables : Tables) (r : ℕ) where
         let here : ℕ = behind_labels at label labels in
         let z = stmts_few here lo body ls (short_front (stmts_phrases body) (cases_phrases rest) h) in
         let w = arm_few line value bound at label labels (Templates.stmts_code p tables r here lo y) in
-        let one : List Lined = case_arm line value bound at label labels (Templates.stmts_code p tables r here lo y) in
-        let end : List Lined = own line (I.Jump jump ∷ []) in
+        let one : List LineInstr = case_arm line value bound at label labels (Templates.stmts_code p tables r here lo y) in
+        let end : List LineInstr = own line (I.Jump jump ∷ []) in
         let next : ℕ = at + length (one ++ end) in
         let lo3 : ℕ = behind_stmts p r lo y in
         omega (
@@ -1105,11 +1109,11 @@ module _ (p : Program) (tables : Tables) (r : ℕ) where
         let ls2 = behind (stmts_phrases body) ls in
         let y : Stmts = stmts_with body ls in
         let others : Branches = more_branches body2 rest in
-        let x : List Lined = Templates.stmts_code p tables r (at + 1) lo y in
-        let one : List Lined = chosen line (at + 1) x in
+        let x : List LineInstr = Templates.stmts_code p tables r (at + 1) lo y in
+        let one : List LineInstr = branch_code line (at + 1) x in
         let jump : ℕ = at + length one in
         let lo2 : ℕ = behind_stmts p r lo y in
-        let two : List Lined = Templates.branches_code p tables r line jump (jump + 1) lo2 (branches_with others ls2) in
+        let two : List LineInstr = Templates.branches_code p tables r line jump (jump + 1) lo2 (branches_with others ls2) in
         omega (
           arith,
           length-append one (own line (I.Jump (jump + 1 + length two) ∷ []) ++ two),
@@ -1127,9 +1131,9 @@ module _ (p : Program) (tables : Tables) (r : ℕ) where
         let ls2 = behind (stmts_phrases body) ls in
         let y : Stmts = stmts_with body ls in
         let others : Branches = more_branches body2 rest in
-        let x : List Lined = Templates.stmts_code p tables r (at + 1) lo y in
-        let one : List Lined = chosen line (at + 1) x in
-        let end : List Lined = own line (I.Jump jump ∷ []) in
+        let x : List LineInstr = Templates.stmts_code p tables r (at + 1) lo y in
+        let one : List LineInstr = branch_code line (at + 1) x in
+        let end : List LineInstr = own line (I.Jump jump ∷ []) in
         let next : ℕ = at + length (one ++ end) in
         let lo2 : ℕ = behind_stmts p r lo y in
         omega (
@@ -1154,26 +1158,27 @@ module _ (p : Program) (tables : Tables) (r : ℕ) where
         let b : Expr = expr_with to ls3 in
         let last : ℕ = behind_expr p r (lo + 1) a in
         let place : ℕ = behind_expr p r last b in
-        let value : List Lined = Templates.expr_code p tables r line (at + 1) (lo + 1) a in
-        let one : List Lined = unless_constant (constant a) value in
+        let value : List LineInstr = Templates.expr_code p tables r line (at + 1) (lo + 1) a in
+        let one : List LineInstr = unless_constant (constant a) value in
         let at2 : ℕ = at + 1 + length one in
-        let limit_value : List Lined = Templates.expr_code p tables r line at2 last b in
+        let limit_value : List LineInstr = Templates.expr_code p tables r line at2 last b in
         let c : ℕ = Templates.own_slot p tables r counter in
         let l : ℕ = Templates.own_slot p tables r limit in
-        let both : List Lined = limit_code (ends_alone b) line l (Templates.value_at p tables r last b) (unless_bare (bare b) limit_value)
+        let both : List LineInstr = limit_code (ends_alone b) line l (Templates.value_at p tables r last b)
+        (unless_bare (bare b) limit_value)
         in
-        let begin : List Lined = begin_loop line at lo by
+        let begin : List LineInstr = begin_loop line at lo by
         (λ at. unless_constant (constant a) (Templates.expr_code p tables r line at (lo + 1) a))
         (λ at. limit_code (ends_alone b) line l (Templates.value_at p tables r last b)
         (unless_bare (bare b) (Templates.expr_code p tables r line at last b))) in
         let next : ℕ = at + length begin in
         let lo2 : ℕ = behind_variable p r place y in
-        let turn : List Lined = turn_code line (next + 3) (Templates.count_code p tables r (bare_desig y) range c place)
+        let turn : List LineInstr = turn_code line (next + 3) (Templates.count_code p tables r (bare_desig y) range c place)
         (λ at. unless_bare (bare_desig y) (held_code p tables r line at (place + 1) y))
         (Templates.set_code p tables r (place + 1) (Templates.count_at p tables r (bare_desig y) c place) y)
         (λ at. Templates.stmts_code p tables r at lo2 (stmts_with body ls4)) in
         let out : ℕ = next + 3 + length turn + 2 in
-        let end : List Lined = own line (I.Step c l lo out ∷ I.Jump (next + 3) ∷ []) in
+        let end : List LineInstr = own line (I.Step c l lo out ∷ I.Jump (next + 3) ∷ []) in
         omega (
           arith,
           length-append begin (for_turns line next by (constant a) c l lo (lo + 1) turn),
@@ -1203,21 +1208,22 @@ module _ (p : Program) (tables : Tables) (r : ℕ) where
         let b : Expr = expr_with to ls3 in
         let last : ℕ = behind_expr p r (lo + 1) a in
         let more : ℕ = behind_expr p r last b in
-        let value : List Lined = Templates.expr_code p tables r line (at + 1) (lo + 1) a in
-        let one : List Lined = unless_constant (constant a) value in
+        let value : List LineInstr = Templates.expr_code p tables r line (at + 1) (lo + 1) a in
+        let one : List LineInstr = unless_constant (constant a) value in
         let at2 : ℕ = at + 1 + length one in
-        let limit_value : List Lined = Templates.expr_code p tables r line at2 last b in
+        let limit_value : List LineInstr = Templates.expr_code p tables r line at2 last b in
         let c : ℕ = Templates.own_slot p tables r counter in
         let l : ℕ = Templates.own_slot p tables r limit in
-        let both : List Lined = limit_code (ends_alone b) line l (Templates.value_at p tables r last b) (unless_bare (bare b) limit_value)
+        let both : List LineInstr = limit_code (ends_alone b) line l (Templates.value_at p tables r last b)
+        (unless_bare (bare b) limit_value)
         in
-        let begin : List Lined = begin_loop line at lo (pos 1)
+        let begin : List LineInstr = begin_loop line at lo (pos 1)
         (λ at. unless_constant (constant a) (Templates.expr_code p tables r line at (lo + 1) a))
         (λ at. limit_code (ends_alone b) line l (Templates.value_at p tables r last b)
         (unless_bare (bare b) (Templates.expr_code p tables r line at last b))) in
         let next : ℕ = at + length begin in
         let lo2 : ℕ = behind_variable p r (more + 1) y in
-        let turn : List Lined = turn_code line (next + 8) (Templates.count_code p tables r (bare_desig y) range c (more + 1))
+        let turn : List LineInstr = turn_code line (next + 8) (Templates.count_code p tables r (bare_desig y) range c (more + 1))
         (λ at. unless_bare (bare_desig y) (held_code p tables r line at (more + 1 + 1) y))
         (Templates.set_code p tables r (more + 1 + 1) (Templates.count_at p tables r (bare_desig y) c (more + 1)) y)
         (λ at. Templates.stmts_code p tables r at lo2 (stmts_with body ls4)) in

@@ -31,7 +31,7 @@ use Rattle.alma_lower_implements.proofs.ForSteps.{fits_top, top_put, count_integ
 use Rattle.alma_lower_implements.proofs.Steps.{top_written, Holds, InstrAt, store_step}
 use Rattle.alma_lower_implements.proofs.FrameLemmas.{content_there, put_routine}
 use Rattle.alma_lower_implements.proofs.Ways.{Ways, Leaves, Runs, Later}
-use Rattle.alma_lower_templates.specs.Lined.{Lined, own}
+use Rattle.alma_lower_templates.specs.LineInstr.{LineInstr, own}
 use Rattle.alma_lower_templates.specs.Tables.{Tables, range_number, is_whole}
 use Rattle.alma_lower_templates.specs.Slots.{bare_desig, unless_bare, desig_slots}
 use Rattle.alma_lower_templates.specs.Pieces.{unless_whole, fit_code, turn_code}
@@ -252,7 +252,7 @@ module _ (p : Program) (tables : Tables) (code : PlainCode) (input : List ℕ) (
 
   -- the variable is set to the number in the slot of the count
   set_here : (o : Option ℕ) (at exit lo place value : ℕ) (d : Desig) (v : Store) (now : List PlainFrame) (n : ℤ)
-      (k : Store → Events NoYield) (made : List Lined) → bare_desig d ≡ o → BareFits p tables code input below r line q o
+      (k : Store → Events NoYield) (made : List LineInstr) → bare_desig d ≡ o → BareFits p tables code input below r line q o
       → desig_cells d ≡ 1 → own_end p r ≤ lo → lo ≤ place
       → (o ≡ None → HeldRuns p tables code input below r line q at (place + 1) d)
       → Stands code at (unless_bare o (held_code p tables r line at (place + 1) d)
@@ -264,9 +264,9 @@ module _ (p : Program) (tables : Tables) (code : PlainCode) (input : List ℕ) (
       → From p code input line 0 at exit now (ending p code input may lo r now)
       (bind (ev_desig p input below d v) (λ t a. k (put_at t a (Number n)))) q
   set_here o at exit lo place value d v now n k made e fits cells behind le runs stands b count later =
-      let locate : List Lined = unless_bare o (held_code p tables r line at (place + 1) d) in
+      let locate : List LineInstr = unless_bare o (held_code p tables r line at (place + 1) d) in
       let from : ℕ = count_at p tables r o value place in
-      let set : List Lined = own line (set_by p tables r o (place + 1) from d ∷ []) in
+      let set : List LineInstr = own line (set_by p tables r o (place + 1) from d ∷ []) in
       let m : ℕ = at + length locate in
       let set_at = stands_back code at locate (set ++ made) stands in
       located_from o at exit lo place value d v now n (λ t a. k (put_at t a (Number n))) e le behind b runs
@@ -289,7 +289,7 @@ module _ (p : Program) (tables : Tables) (code : PlainCode) (input : List ℕ) (
 
   -- the count is checked, the variable set, and what is behind goes on
   pub variable_from : (o : Option ℕ) (at exit lo place counter : ℕ) (d : Desig) (range : Range) (v : Store) (now : List PlainFrame) (n : ℤ)
-      (k : Store → Events NoYield) (made : (at : ℕ) → List Lined) → bare_desig d ≡ o → BareFits p tables code input below r line q o
+      (k : Store → Events NoYield) (made : (at : ℕ) → List LineInstr) → bare_desig d ≡ o → BareFits p tables code input below r line q o
       → desig_cells d ≡ 1 → own_end p r ≤ lo → lo ≤ place
       → FitsRange p tables code input below r line q range → AreVariables p code input r counter 1
       → (o ≡ None → slice_get (kinds_at code r) place ≡ Some slot.Number)
@@ -308,10 +308,10 @@ module _ (p : Program) (tables : Tables) (code : PlainCode) (input : List ℕ) (
   variable_from (Some to) at exit lo place counter d range v now n k made e fits cells behind le has of_counter kind runs stands b known
       later =
       let value : ℕ = shift p r + counter in
-      let check : List Lined = own line (fit_code tables range value) in
+      let check : List LineInstr = own line (fit_code tables range value) in
       let m : ℕ = at + length check in
-      let set : List Lined = own line (set_by p tables r (Some to) (place + 1) value d ∷ []) in
-      let rest : List Lined = set ++ made (m + 0 + 1) in
+      let set : List LineInstr = own line (set_by p tables r (Some to) (place + 1) value d ∷ []) in
+      let rest : List LineInstr = set ++ made (m + 0 + 1) in
       let w = ending p code input may lo r now in
       let found = number_there p code input r counter of_counter v now b.stand b.routine n known in
       let count : IsValue p code input value n now = record { holds = found.0; integer = found.1 } in
@@ -329,12 +329,12 @@ module _ (p : Program) (tables : Tables) (code : PlainCode) (input : List ℕ) (
       (λ u t left. later (m + 0 + 1) (omega (arith, long)) (subst (λ x. Stands code x (made (m + 0 + 1))) zero back) u t left))))
   variable_from None at exit lo place counter d range v now n k made e fits cells behind le has of_counter kind runs stands b known later =
       let value : ℕ = shift p r + counter in
-      let check : List Lined = own line (fit_code tables range place) in
+      let check : List LineInstr = own line (fit_code tables range place) in
       let m : ℕ = at + suc (length check) in
-      let locate : List Lined = held_code p tables r line m (place + 1) d in
-      let set : List Lined = own line (set_by p tables r None (place + 1) place d ∷ []) in
+      let locate : List LineInstr = held_code p tables r line m (place + 1) d in
+      let set : List LineInstr = own line (set_by p tables r None (place + 1) place d ∷ []) in
       let m2 : ℕ = m + length locate + 1 in
-      let rest : List Lined = locate ++ (set ++ made m2) in
+      let rest : List LineInstr = locate ++ (set ++ made m2) in
       let w = ending p code input may lo r now in
       let found = number_there p code input r counter of_counter v now b.stand b.routine n known in
       let t0 : List PlainFrame = top_written now place (cell.Int n) in
@@ -392,10 +392,10 @@ module _ (p : Program) (tables : Tables) (code : PlainCode) (input : List ℕ) (
       runs_d runs turns stands v now n b known step =
       let lb : ℕ = place + length (unless_bare o (slot.Number ∷ desig_slots p r d)) in
       let made = λ (next : ℕ). stmts_code p tables r next lb body in
-      let turn : List Lined = turn_code line at (count_code p tables r o range (shift p r + counter) place)
+      let turn : List LineInstr = turn_code line at (count_code p tables r o range (shift p r + counter) place)
       (λ next. unless_bare o (held_code p tables r line next (place + 1) d))
       (set_by p tables r o (place + 1) (count_at p tables r o (shift p r + counter) place) d) made in
-      let last : List Lined = own line (I.Step (shift p r + counter) (shift p r + limit) lo exit ∷ I.Jump at ∷ []) in
+      let last : List LineInstr = own line (I.Step (shift p r + counter) (shift p r + limit) lo exit ∷ I.Jump at ∷ []) in
       let m : ℕ = at + length turn in
       let ends : Stands code m last = stands_back code at turn last stands in
       let w = ending p code input may (lo + 1) r now in

@@ -18,7 +18,7 @@ use Rattle.alma_lower_implements.proofs.Frames.{shift, HasSlots}
 use Rattle.alma_lower_implements.proofs.ExprRows.{AreVariables, first_kind, slots_first, slots_behind}
 use Rattle.alma_lower_implements.proofs.Steps.{InstrAt, zero_jumps, other_goes_on}
 use Rattle.alma_lower_implements.proofs.Ways.{Leaves, Later, visited_later}
-use Rattle.alma_lower_templates.specs.Lined.{Lined, own}
+use Rattle.alma_lower_templates.specs.LineInstr.{LineInstr, own}
 use Rattle.alma_lower_templates.specs.Tables.{Tables}
 use Rattle.alma_lower_templates.specs.Pieces.{bounds_code, turn_code}
 use Rattle.alma_lower_templates.specs.Slots.{bare_desig, unless_bare, expr_slots, desig_slots, stmts_slots, for_slots, behind_expr}
@@ -37,7 +37,7 @@ use Rattle.alma_lower_templates.proofs.First.{ConstantFits}
 module _ (p : Program) (tables : Tables) (code : PlainCode) (input : List ℕ) (below : Level) (r line q : ℕ) (may : Bool) where
   -- ---- the whole
 
-  abbrev pub for_turn_code : (at place : ℕ) → Desig → Range → (counter : ℕ) → Stmts → List Lined
+  abbrev pub for_turn_code : (at place : ℕ) → Desig → Range → (counter : ℕ) → Stmts → List LineInstr
   for_turn_code at place d range counter body =
       turn_code line at (count_code p tables r (bare_desig d) range (shift p r + counter) place)
       (λ next. unless_bare (bare_desig d) (held_code p tables r line next (place + 1) d))
@@ -67,13 +67,13 @@ module _ (p : Program) (tables : Tables) (code : PlainCode) (input : List ℕ) (
       let from_slots = slots_first p code input r (lo + 1) (expr_slots p r from) (expr_slots p r to ++ others)
       (slots_behind p code input r lo (slot.Number ∷ []) (expr_slots p r from ++ (expr_slots p r to ++ others)) slots) in
       let kind1 = first_slot p code input r (lo + 1) from from_slots in
-      let front : List Lined = loop_front p tables code input below r line q may at lo limit from to by in
+      let front : List LineInstr = loop_front p tables code input below r line q may at lo limit from to by in
       let next : ℕ = at + length front in
-      let turn : List Lined = for_turn_code (next + 3) place d range counter body in
+      let turn : List LineInstr = for_turn_code (next + 3) place d range counter body in
       let empty : ℕ = next + 3 + length turn + 2 in
-      let step_part : List Lined = own line (I.Step (shift p r + counter) (shift p r + limit) lo empty ∷ I.Jump (next + 3) ∷ []) in
-      let bounds : List Lined = own line (bounds_code by (constant from) (shift p r + counter) (shift p r + limit) (lo + 1) empty) in
-      let tail : List Lined = bounds ++ (turn ++ step_part) in
+      let step_part : List LineInstr = own line (I.Step (shift p r + counter) (shift p r + limit) lo empty ∷ I.Jump (next + 3) ∷ []) in
+      let bounds : List LineInstr = own line (bounds_code by (constant from) (shift p r + counter) (shift p r + limit) (lo + 1) empty) in
+      let tail : List LineInstr = bounds ++ (turn ++ step_part) in
       let turn_long : length (turn ++ step_part) ≡ length turn + 2 = length-append turn step_part in
       let whole : length (front ++ tail) ≡ length front + suc (suc (suc (length (turn ++ step_part)))) = length-append front tail in
       let exit : ℕ = at + length (front ++ tail) in
@@ -133,13 +133,13 @@ module _ (p : Program) (tables : Tables) (code : PlainCode) (input : List ℕ) (
       let bound_slots = slots_behind p code input r lo (slot.Number ∷ []) (expr_slots p r from ++ (expr_slots p r to ++ others)) slots in
       let to_slots = slots_behind p code input r (lo + 1) (expr_slots p r from) (expr_slots p r to ++ others) bound_slots in
       let turn_slots = slots_behind p code input r last (expr_slots p r to) others to_slots in
-      let front : List Lined = loop_front p tables code input below r line q may at lo limit from to by in
+      let front : List LineInstr = loop_front p tables code input below r line q may at lo limit from to by in
       let next : ℕ = at + length front in
-      let turn : List Lined = for_turn_code (next + 3) place d range counter body in
+      let turn : List LineInstr = for_turn_code (next + 3) place d range counter body in
       let empty : ℕ = next + 3 + length turn + 2 in
-      let step_part : List Lined = own line (I.Step (shift p r + counter) (shift p r + limit) lo empty ∷ I.Jump (next + 3) ∷ []) in
-      let bounds : List Lined = own line (bounds_code by (constant from) (shift p r + counter) (shift p r + limit) (lo + 1) empty) in
-      let tail : List Lined = bounds ++ (turn ++ step_part) in
+      let step_part : List LineInstr = own line (I.Step (shift p r + counter) (shift p r + limit) lo empty ∷ I.Jump (next + 3) ∷ []) in
+      let bounds : List LineInstr = own line (bounds_code by (constant from) (shift p r + counter) (shift p r + limit) (lo + 1) empty) in
+      let tail : List LineInstr = bounds ++ (turn ++ step_part) in
       let turn_long : length (turn ++ step_part) ≡ length turn + 2 = length-append turn step_part in
       let whole : length (front ++ tail) ≡ length front + suc (suc (suc (length (turn ++ step_part)))) = length-append front tail in
       let exit : ℕ = at + length (front ++ tail) in

@@ -34,7 +34,7 @@ use Rattle.alma_lower_implements.proofs.ForallSteps.{forall_step}
 use Rattle.alma_lower_implements.proofs.ForallRow.{ForallCode, ForallParts, forall_goes}
 use Rattle.alma_lower_implements.proofs.SeqRow.{runs_less}
 use Rattle.alma_lower_implements.proofs.Ways.{Ways, Leaves, Runs}
-use Rattle.alma_lower_templates.specs.Lined.{Lined, own}
+use Rattle.alma_lower_templates.specs.LineInstr.{LineInstr, own}
 use Rattle.alma_lower_templates.specs.Tables.{Tables}
 use Rattle.alma_lower_templates.specs.Slots.{stmts_slots, stmt_slots, behind_stmts}
 use Rattle.alma_lower_templates.specs.Templates.{stmts_code, stmt_code}
@@ -285,13 +285,13 @@ module _ (p : Program) (tables : Tables) (code : PlainCode) (input : List ℕ) (
   forall_from x y lo at slots first second stands v now b held s is =
       let inner : ℕ = behind_stmts p r (lo + 1) x in
       let xs : List SlotKind = stmts_slots p r x in
-      let a : List Lined = stmts_code p tables r (at + 1) (lo + 1) x in
+      let a : List LineInstr = stmts_code p tables r (at + 1) (lo + 1) x in
       let m : ℕ = at + 1 + length a in
-      let d : List Lined = stmts_code p tables r (m + 2) (inner + 1) y in
+      let d : List LineInstr = stmts_code p tables r (m + 2) (inner + 1) y in
       let n : ℕ = m + 2 + length d in
-      let begin : List Lined = begin_each line lo inner (m + 2 + length d + 2) in
-      let end : List Lined = end_each line lo inner in
-      let parts : List Lined = a ++ (begin ++ (d ++ end)) in
+      let begin : List LineInstr = begin_each line lo inner (m + 2 + length d + 2) in
+      let end : List LineInstr = end_each line lo inner in
+      let parts : List LineInstr = a ++ (begin ++ (d ++ end)) in
       let part_long : length parts ≡ length a + (2 + (length d + 3)) = length-append a (begin ++ (d ++ end))
       ∙ ap (λ z. length a + z) (length-append begin (d ++ end) ∙ ap (λ z. 2 + z) (length-append d end)) in
       let all_long : length (stmt_code p tables r line at lo (Forall x y)) ≡ 1 + (length parts + 1) =

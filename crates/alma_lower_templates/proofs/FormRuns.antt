@@ -8,14 +8,14 @@ use Rattle.alma_ir.specs.Tree.{Program, Stmts, Stmt, Test, Expr, Desig}
 use Rattle.alma_ir.specs.Checked.{desig_cells}
 use Rattle.alma_mean.specs.Meaning.{Level, ev_stmts, ev_stmt, ev_test, ev_expr, ev_desig}
 use Rattle.alma_lower_templates.specs.Tables.{Tables, range_number, is_whole}
-use Rattle.alma_lower_templates.specs.Lined.{Lined}
-use Rattle.alma_lower_templates.specs.Pieces.{placed}
+use Rattle.alma_lower_templates.specs.LineInstr.{LineInstr}
+use Rattle.alma_lower_templates.specs.Pieces.{place_code}
 use Rattle.alma_lower_templates.specs.Slots.{own_place, unless_bare, desig_slots}
 use Rattle.alma_lower_templates.specs.Templates.{stmts_code, stmt_code, test_code, expr_code, desig_code, place_at, held_at}
 use Rattle.alma_lower_templates.proofs.Parts.{NodeFor, RunsFor, ValueIn, PlaceIn, Nothing}
 
 -- the code that comes before what uses the place of a designator: none for a whole parameter, which has it in its own slot
-abbrev pub held_code : (p : Program) (tables : Tables) (r line at lo : ℕ) → Desig → List Lined
+abbrev pub held_code : (p : Program) (tables : Tables) (r line at lo : ℕ) → Desig → List LineInstr
 held_code p tables r line at lo d = unless_bare (own_place d) (desig_code p tables r line at lo d)
 
 module _ (p : Program) (tables : Tables) (code : PlainCode) (input : List ℕ) (below : Level) (r line q : ℕ) where
@@ -29,7 +29,7 @@ module _ (p : Program) (tables : Tables) (code : PlainCode) (input : List ℕ) (
 
   -- with its place put into the slot `to`
   abbrev pub PlacedRuns : (to at lo : ℕ) → Desig → Type 0
-  PlacedRuns to at lo d = NodeFor p code input r line at to (placed to (desig_code p tables r line at lo d)) (ev_desig p input below d)
+  PlacedRuns to at lo d = NodeFor p code input r line at to (place_code to (desig_code p tables r line at lo d)) (ev_desig p input below d)
       (PlaceIn p code input to (desig_cells d)) q
 
   -- a designator whose place is used: behind that code it is held by a slot before those of the next phrase

@@ -13,10 +13,10 @@ use Rattle.alma_lower_implements.proofs.Frames.{own_end, HasSlots}
 use Rattle.alma_lower_implements.proofs.Steps.{InstrAt}
 use Rattle.alma_lower_implements.proofs.TurnRow.{Decides, arm_row}
 use Rattle.alma_lower_implements.proofs.Ways.{Visited, LeadsTo, leads_by_jump, leads_then, visited_behind}
-use Rattle.alma_lower_templates.specs.Lined.{Lined, own}
+use Rattle.alma_lower_templates.specs.LineInstr.{LineInstr, own}
 use Rattle.alma_lower_templates.specs.Tables.{Tables}
 use Rattle.alma_lower_templates.specs.Slots.{is_simple, mark_slots, test_slots, behind_stmts, behind_condition}
-use Rattle.alma_lower_templates.specs.Pieces.{condition, guarded}
+use Rattle.alma_lower_templates.specs.Pieces.{condition, guard_code}
 use Rattle.alma_lower_templates.specs.Templates.{stmts_code, test_code, jump_code, arms_code}
 use Rattle.alma_lower_templates.specs.Stands.{Stands}
 use Rattle.alma_lower_templates.proofs.Stands.{stands_front, stands_back}
@@ -53,33 +53,33 @@ module _ (p : Program) (tables : Tables) (code : PlainCode) (input : List ℕ) (
       → at + length (condition_code p tables code input below r line q at lo none t) ≡ behind_test_at at lo t
   condition_long at lo none t = ap (λ n. at + n) (long_by (is_simple t) at lo none 0 t)
 
-  abbrev pub guarded_code : (at lo skipped : ℕ) → Test → (ℕ → List Lined) → List Lined
-  guarded_code at lo skipped t body = guarded at skipped
+  abbrev pub guarded_code : (at lo skipped : ℕ) → Test → (ℕ → List LineInstr) → List LineInstr
+  guarded_code at lo skipped t body = guard_code at skipped
       (λ none. condition (is_simple t) line at lo none (λ at lo none. jump_code p tables r line at lo none t)
       (λ at lo. test_code p tables r line at lo t)) body
 
   -- where it goes on when there is no alternative
-  abbrev pub none_at : (at lo skipped : ℕ) → Test → (ℕ → List Lined) → ℕ
+  abbrev pub none_at : (at lo skipped : ℕ) → Test → (ℕ → List LineInstr) → ℕ
   none_at at lo skipped t body = behind_test_at at lo t + length (body (behind_test_at at lo t)) + skipped
 
-  pub guarded_front : (at lo skipped : ℕ) (t : Test) (body : ℕ → List Lined) → Stands code at (guarded_code at lo skipped t body)
+  pub guarded_front : (at lo skipped : ℕ) (t : Test) (body : ℕ → List LineInstr) → Stands code at (guarded_code at lo skipped t body)
       → Stands code at (condition_code p tables code input below r line q at lo (none_at at lo skipped t body) t)
   guarded_front at lo skipped t body stands =
       stands_front code at (condition_code p tables code input below r line q at lo (none_at at lo skipped t body) t)
       (body (behind_test_at at lo t)) stands
 
-  pub guarded_back : (at lo skipped : ℕ) (t : Test) (body : ℕ → List Lined) → Stands code at (guarded_code at lo skipped t body)
+  pub guarded_back : (at lo skipped : ℕ) (t : Test) (body : ℕ → List LineInstr) → Stands code at (guarded_code at lo skipped t body)
       → Stands code (behind_test_at at lo t) (body (behind_test_at at lo t))
   guarded_back at lo skipped t body stands =
       subst (λ n. Stands code n (body (behind_test_at at lo t))) (condition_long at lo (none_at at lo skipped t body) t)
       (stands_back code at (condition_code p tables code input below r line q at lo (none_at at lo skipped t body) t)
       (body (behind_test_at at lo t)) stands)
 
-  pub guarded_long : (at lo skipped : ℕ) (t : Test) (body : ℕ → List Lined)
+  pub guarded_long : (at lo skipped : ℕ) (t : Test) (body : ℕ → List LineInstr)
       → at + length (guarded_code at lo skipped t body) ≡ behind_test_at at lo t + length (body (behind_test_at at lo t))
   guarded_long at lo skipped t body =
-      let c : List Lined = condition_code p tables code input below r line q at lo (none_at at lo skipped t body) t in
-      let b : List Lined = body (behind_test_at at lo t) in
+      let c : List LineInstr = condition_code p tables code input below r line q at lo (none_at at lo skipped t body) t in
+      let b : List LineInstr = body (behind_test_at at lo t) in
       let both : length (c ++ b) ≡ length c + length b = length-append c b in
       omega (arith, both, condition_long at lo (none_at at lo skipped t body) t)
 
@@ -151,11 +151,11 @@ module _ (p : Program) (tables : Tables) (code : PlainCode) (input : List ℕ) (
   unfolding ev_stmts
   more_arms_run may jump at lo t body rest els behind decides runs others stands exit is leads v now b =
       let made = λ (next : ℕ). stmts_code p tables r next (behind_condition p r lo t) body in
-      let head : List Lined = guarded_code at lo 1 t made in
-      let out : List Lined = own line (I.Jump jump ∷ []) in
+      let head : List LineInstr = guarded_code at lo 1 t made in
+      let out : List LineInstr = own line (I.Jump jump ∷ []) in
       let next : ℕ = at + length (head ++ out) in
       let lo2 : ℕ = behind_stmts p r (behind_condition p r lo t) body in
-      let after : List Lined = arms_code p tables r line jump next lo2 rest (λ next lo. stmts_code p tables r next lo els) in
+      let after : List LineInstr = arms_code p tables r line jump next lo2 rest (λ next lo. stmts_code p tables r next lo els) in
       let m : ℕ = behind_test_at at lo t in
       let y : ℕ = m + length (made m) in
       let front = stands_front code at (head ++ out) after stands in
@@ -198,12 +198,12 @@ module _ (p : Program) (tables : Tables) (code : PlainCode) (input : List ℕ) (
   unfolding ev_stmts
   if_runs may at lo t body rest els behind decides runs others stands v now b =
       let made = λ (next : ℕ). stmts_code p tables r next (behind_condition p r lo t) body in
-      let head : List Lined = guarded_code at lo 1 t made in
+      let head : List LineInstr = guarded_code at lo 1 t made in
       let jump : ℕ = at + length head in
       let next : ℕ = at + length head + 1 in
       let lo2 : ℕ = behind_stmts p r (behind_condition p r lo t) body in
-      let after : List Lined = arms_code p tables r line jump next lo2 rest (λ next lo. stmts_code p tables r next lo els) in
-      let out : List Lined = own line (I.Jump (jump + 1 + length after) ∷ []) in
+      let after : List LineInstr = arms_code p tables r line jump next lo2 rest (λ next lo. stmts_code p tables r next lo els) in
+      let out : List LineInstr = own line (I.Jump (jump + 1 + length after) ∷ []) in
       let exit : ℕ = at + length (head ++ (out ++ after)) in
       let m : ℕ = behind_test_at at lo t in
       let y : ℕ = m + length (made m) in

@@ -15,7 +15,7 @@ use Rattle.alma_code.specs.Kinds.{is_number}
 use Rattle.alma_code.specs.Picture.{PlainFrame, PlainEntry, last_frame}
 use Rattle.alma_code.specs.Picture as picture
 use Rattle.alma_code.specs.Plain.{PlainCode, PlainRoutine}
-use Rattle.alma_code.specs.Machine.{State, Stepped, numbers_at, as_argument, arguments, slot_of, gets_stuck, link_to}
+use Rattle.alma_code.specs.Machine.{State, StepResult, numbers_at, as_argument, arguments, slot_of, gets_stuck, link_to}
 use Rattle.alma_ir.specs.declared.program.ArgKind.{ArgKind}
 use Rattle.alma_ir.specs.declared.program.Param.{Param}
 use Rattle.alma_ir.specs.Tree.{Program, routine_at}
@@ -81,7 +81,7 @@ module _ (p : Program) (code : PlainCode) (input : List ℕ) where
         ∙ ap is_number (slice_get-get_or kinds (sh + (q.slot + k)) slot.Mark
         (omega (arith, alike.numbers.cells k inside, frame.within, frame.full)) ∙ ap Some (alike.numbers.kinds k inside)))
 
-    one_argument : (kind : ArgKind) (n : ℕ) (a : ArgValue) (c : Cell) (k : Cell → Stepped) → HandedAs p code v now kind n a c
+    one_argument : (kind : ArgKind) (n : ℕ) (a : ArgValue) (c : Cell) (k : Cell → StepResult) → HandedAs p code v now kind n a c
         → as_argument (param_kind kind) n (Some c) s k ≡ k c
     one_argument kind n a c k (a_value x fits) = refl
     one_argument kind n a c k (mix_value x fits) = refl
@@ -98,7 +98,7 @@ module _ (p : Program) (code : PlainCode) (input : List ℕ) where
     slot_holds : (n : ℕ) (c : Cell) → Holds now n c → slot_of s n ≡ Some c
     slot_holds n c h = ap (λ z. slice_get (last_frame z).cells n) frames ∙ h
 
-    all_arguments : (qs : List Param) (taken : List ArgValue) (cs : List Cell) (n : ℕ) (k : List Cell → Stepped)
+    all_arguments : (qs : List Param) (taken : List ArgValue) (cs : List Cell) (n : ℕ) (k : List Cell → StepResult)
         → AllHanded p code v now qs taken cs → HeldFrom now n cs → arguments (map param_named qs) s n k ≡ k cs
     all_arguments [] [] [] n k handed held = refl
     all_arguments [] [] (c ∷ cs) n k handed held = absurd handed
@@ -111,7 +111,7 @@ module _ (p : Program) (code : PlainCode) (input : List ℕ) where
         ∙ one_argument q.kind q.cells a c (λ x. arguments (map param_named qs) s (suc n) (λ xs. k (x ∷ xs))) handed.0
         ∙ all_arguments qs taken cs (suc n) (λ xs. k (c ∷ xs)) handed.1 held.1
 
-    with_the_link : (level outer f : ℕ) (qs : List Param) (taken : List ArgValue) (cs : List Cell) (n : ℕ) (k : List Cell → Stepped)
+    with_the_link : (level outer f : ℕ) (qs : List Param) (taken : List ArgValue) (cs : List Cell) (n : ℕ) (k : List Cell → StepResult)
         → AllHanded p code v now qs taken cs → HeldFrom now n (with_link level f cs)
         → arguments (link_params level outer ++ map param_named qs) s n k ≡ k (with_link level f cs)
     with_the_link zero outer f qs taken cs n k handed held = all_arguments qs taken cs n k handed held

@@ -49,7 +49,7 @@ use Rattle.alma_lower_templates.specs.Slots.{behind_condition, behind_variable, 
 use Rattle.alma_lower_templates.specs.Slots.{arms_slots, dead_slots, cases_slots, else_slots, fields_from}
 use Rattle.alma_lower_templates.specs.Compiled.{program_code}
 use Rattle.alma_lower_templates.specs.Templates.{part_slot, part_at, behind_root, arg_code, desig_code, place_at, stmts_code, stmt_code}
-use Rattle.alma_lower_templates.specs.Pieces.{placed}
+use Rattle.alma_lower_templates.specs.Pieces.{place_code}
 use Rattle.alma_lower_templates.proofs.AtOnce.{BareFits}
 use Rattle.alma_lower_templates.proofs.Args.{ArgPart, ArgParts, RangeFits, same_cells}
 use Rattle.alma_lower_templates.proofs.Asked.{HasUnlessWhole, Asked, Fine, fine_front, fine_back, fine_first, fine_second, fine_third}
@@ -236,7 +236,7 @@ module _ (p : Program) (tables : Tables) (code : PlainCode) (all : List (List Ru
       place_of : (r line at la : ℕ) (d : Desig) → GoodDesig r line d → HasSlots p code r la (desig_slots p r d)
           → ArgPart p tables code input below r line (suc n) at la (ByPlace d)
       place_of r line at la d g slots to small own_to kind =
-          subst (λ k. NodeFor p code input r line at to (placed to (desig_code p tables r line at la d)) (ev_desig p input below d)
+          subst (λ k. NodeFor p code input r line at to (place_code to (desig_code p tables r line at la d)) (ev_desig p input below d)
           (PlaceIn p code input to k) (suc n)) (sym (same_cells d))
           (g.placed to at la (record {
             behind = own_to;
@@ -574,10 +574,10 @@ module _ (p : Program) (tables : Tables) (code : PlainCode) (all : List (List Ru
               operands = λ how y z same. absurd (cc);
               straightly = λ goal at lo alone numbers slots.
                   let none = alone_bare (Load y) alone in
-                  let placed = target p tables code input below r line (suc n) y g at (lo + 1)
+                  let place_code = target p tables code input below r line (suc n) y g at (lo + 1)
                   (slots_behind p code input r lo (slot.Number ∷ []) (unless_bare (bare_desig y) (desig_slots p r y)) slots) none in
                   load_straight p tables code input below r line (suc n) at lo (goal_end p code input r goal lo) y
-                  (goal_ways p code input r goal lo) none placed one_cell
+                  (goal_ways p code input r goal lo) none place_code one_cell
                   (goal_takes p code input r line (suc n) lo goal numbers slots.behind (first_slot p code input r lo (Load y) slots));
             }
         expr_go r line lt (Chain negated e links) ls h =

@@ -13,7 +13,7 @@ use Rattle.alma_mean.specs.Meaning.{Level, level_0}
 use Rattle.alma_lower_implements.proofs.Goes.{IsOn, Silently, no_step, weaker}
 use Rattle.alma_lower_implements.proofs.Frames.{HasSlots, IsAt}
 use Rattle.alma_lower_implements.proofs.Ways.{Leaves}
-use Rattle.alma_lower_templates.specs.Lined.{Lined}
+use Rattle.alma_lower_templates.specs.LineInstr.{LineInstr}
 use Rattle.alma_lower_templates.specs.Tables.{Tables}
 use Rattle.alma_lower_templates.specs.Slots.{is_simple, is_turned, mark_slots, test_slots, stmts_slots, stmt_slots}
 use Rattle.alma_lower_templates.specs.Stands.{Stands}
@@ -29,7 +29,7 @@ use Rattle.alma_lower_templates.proofs.Turned.{GoesBack}
 
 module _ (p : Program) (tables : Tables) (code : PlainCode) (input : List ℕ) where
   -- statements that pay for more pay for less
-  pub owes_less : (may : Bool) (r line at lo : ℕ) (made : List Lined) (f : Store → Events NoYield) (q u : ℕ) → u ≤ q
+  pub owes_less : (may : Bool) (r line at lo : ℕ) (made : List LineInstr) (f : Store → Events NoYield) (q u : ℕ) → u ≤ q
       → RunsFor p code input may r line at lo made f q → RunsFor p code input may r line at lo made f u
   owes_less may r line at lo made f q u le h stands v now b c few held s is =
       weaker code input line c 0 (Leaves (at + length made) (ending p code input may lo r now)) held (f v) s c c u q (omega arith) le

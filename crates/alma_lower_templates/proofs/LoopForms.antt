@@ -20,7 +20,7 @@ use Rattle.alma_lower_implements.proofs.ExprRows.{first_kind}
 use Rattle.alma_lower_implements.proofs.Steps.{InstrAt, top_written, const_step}
 use Rattle.alma_lower_implements.proofs.TurnRow.{while_row, repeat_row}
 use Rattle.alma_lower_implements.proofs.Ways.{Leaves, Later, Visited, visited_behind, leads_nowhere, leads_by_jump}
-use Rattle.alma_lower_templates.specs.Lined.{Lined, own}
+use Rattle.alma_lower_templates.specs.LineInstr.{LineInstr, own}
 use Rattle.alma_lower_templates.specs.Tables.{Tables}
 use Rattle.alma_lower_templates.specs.Pieces.{held_code}
 use Rattle.alma_lower_templates.specs.Slots.{is_simple, is_turned, by_turn, mark_slots, expr_slots, test_slots, stmt_slots, stmts_slots}
@@ -49,10 +49,10 @@ module _ (p : Program) (tables : Tables) (code : PlainCode) (input : List ℕ) (
   truth_runs at lo t slots decides stands v now b =
       let kind = first_kind p code input r lo slot.Number (mark_slots (is_simple t) ++ test_slots p r t) slots in
       let nothing = λ (next : ℕ). [] in
-      let head : List Lined = guarded_code p tables code input below r line q at (lo + 1) 2 t nothing in
+      let head : List LineInstr = guarded_code p tables code input below r line q at (lo + 1) 2 t nothing in
       let m : ℕ = behind_test_at p tables code input below r line q at (lo + 1) t in
       let h : ℕ = at + length head in
-      let last : List Lined = own line (I.Const lo (pos 1) ∷ I.Jump (h + 3) ∷ I.Const lo (pos 0) ∷ []) in
+      let last : List LineInstr = own line (I.Const lo (pos 1) ∷ I.Jump (h + 3) ∷ I.Const lo (pos 0) ∷ []) in
       let front = stands_front code at head last stands in
       let back = stands_back code at head last stands in
       let here : h ≡ m + 0 = guarded_long p tables code input below r line q at (lo + 1) 2 t nothing in
@@ -132,7 +132,7 @@ module _ (p : Program) (tables : Tables) (code : PlainCode) (input : List ℕ) (
   behind_constant at lo t = at + length (own line (held_code (held_constant t) lo))
 
   -- the body of a loop whose condition stands behind it, and the address of that condition
-  abbrev pub turned_body : (at lo : ℕ) → Test → Stmts → List Lined
+  abbrev pub turned_body : (at lo : ℕ) → Test → Stmts → List LineInstr
   turned_body at lo t body = stmts_code p tables r (behind_constant at lo t + 1) (behind_held p r lo t) body
 
   abbrev pub turned_top : (at lo : ℕ) → Test → Stmts → ℕ
@@ -170,12 +170,12 @@ module _ (p : Program) (tables : Tables) (code : PlainCode) (input : List ℕ) (
   turn_by true may at lo t body cond does again d u behind owes known turns stands v now b is_held =
       let lo1 : ℕ = behind_held p r lo t in
       let at1 : ℕ = behind_constant at lo t in
-      let inner : List Lined = turned_body at lo t body in
+      let inner : List LineInstr = turned_body at lo t body in
       let top : ℕ = turned_top at lo t body in
       let lo2 : ℕ = behind_stmts p r lo1 body in
-      let last : List Lined = back_code p tables r line top lo2 lo (at1 + 1) t in
-      let held : List Lined = own line (held_code (held_constant t) lo) in
-      let jump : List Lined = own line (I.Jump top ∷ []) in
+      let last : List LineInstr = back_code p tables r line top lo2 lo (at1 + 1) t in
+      let held : List LineInstr = own line (held_code (held_constant t) lo) in
+      let jump : List LineInstr = own line (I.Jump top ∷ []) in
       let loop = stands_back code at held (jump ++ (inner ++ last)) stands in
       let both : length (inner ++ last) ≡ length inner + length last = length-append inner last in
       let all : length (held ++ (jump ++ (inner ++ last))) ≡ length held + length (jump ++ (inner ++ last)) =
@@ -204,8 +204,8 @@ module _ (p : Program) (tables : Tables) (code : PlainCode) (input : List ℕ) (
   turn_by false may at lo t body cond does again d u behind owes known turns stands v now b is_held =
       let made = λ (next : ℕ). stmts_code p tables r next (behind_condition p r lo t) body in
       let top : ℕ = at + 1 in
-      let head : List Lined = guarded_code p tables code input below r line q top lo 1 t made in
-      let out : List Lined = own line (I.Jump top ∷ []) in
+      let head : List LineInstr = guarded_code p tables code input below r line q top lo 1 t made in
+      let out : List LineInstr = own line (I.Jump top ∷ []) in
       let m : ℕ = behind_test_at p tables code input below r line q top lo t in
       let y : ℕ = m + length (made m) in
       let front = stands_front code top head out stands.2 in
@@ -243,7 +243,7 @@ module _ (p : Program) (tables : Tables) (code : PlainCode) (input : List ℕ) (
     left : Left p code input lo r now v later
     stays : IsHeld p code input r o lo la later
 
-  enters : (o : Option ℤ) (at top lo la : ℕ) (others : List SlotKind) (rest : List Lined) → lo + length (held_slots o) ≤ la
+  enters : (o : Option ℤ) (at top lo la : ℕ) (others : List SlotKind) (rest : List LineInstr) → lo + length (held_slots o) ≤ la
       → (v : Store) (now : List PlainFrame) → HasSlots p code r lo (held_slots o ++ others) → Begins p code input r v now
       → Stands code at (own line (held_code o lo) ++ (own line (I.Jump top ∷ []) ++ rest))
       → (held : List PlainEntry) (s : State) → IsAt at now held s → Enters o top lo la v now held s
@@ -293,12 +293,12 @@ module _ (p : Program) (tables : Tables) (code : PlainCode) (input : List ℕ) (
       → Enters (by_turn z (held_constant t) None) (turn_top z at lo t body) lo (behind_held p r lo t) v now held s
   entered true at lo t body slots stands v now b held s is =
       let top : ℕ = turned_top at lo t body in
-      let last : List Lined = back_code p tables r line top (behind_stmts p r (behind_held p r lo t) body) lo
+      let last : List LineInstr = back_code p tables r line top (behind_stmts p r (behind_held p r lo t) body) lo
       (behind_constant at lo t + 1) t in
       enters (held_constant t) at top lo (behind_held p r lo t) (stmts_slots p r body ++ test_slots p r t)
       (turned_body at lo t body ++ last) (omega arith) v now slots b stands held s is
   entered false at lo t body slots stands v now b held s is =
-      let inner : List Lined = guarded_code p tables code input below r line q (at + 1) lo 1 t
+      let inner : List LineInstr = guarded_code p tables code input below r line q (at + 1) lo 1 t
       (λ next. stmts_code p tables r next (behind_condition p r lo t) body) in
       enters None at (at + 1) lo (behind_held p r lo t) (while_slots false t body) (inner ++ own line (I.Jump (at + 1) ∷ [])) (omega arith)
       v now slots b stands held s is
@@ -352,10 +352,10 @@ module _ (p : Program) (tables : Tables) (code : PlainCode) (input : List ℕ) (
       → Visited code input line at (repeat_exit at lo body t) now (ending p code input may lo r now)
       (bind (does v) (λ x _. on_first (cond x) (λ y _. one y tt) (λ _. again x))) q
   repeat_turn_runs may at lo body t does cond again u behind owes runs decides turns stands v now b =
-      let inner : List Lined = stmts_code p tables r at lo body in
+      let inner : List LineInstr = stmts_code p tables r at lo body in
       let m : ℕ = at + length inner in
       let lo2 : ℕ = behind_stmts p r lo body in
-      let last : List Lined = condition_code p tables code input below r line q m lo2 at t in
+      let last : List LineInstr = condition_code p tables code input below r line q m lo2 at t in
       let whole : length (inner ++ last) ≡ length inner + length last = length-append inner last in
       let exit : ℕ = behind_test_at p tables code input below r line q m lo2 t in
       let end : exit ≡ repeat_exit at lo body t = omega (arith, whole, condition_long p tables code input below r line q m lo2 at t) in

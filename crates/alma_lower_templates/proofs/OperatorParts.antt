@@ -29,7 +29,7 @@ use Rattle.alma_lower_implements.proofs.Steps.{less_step, less_eq_step, fits_ste
 use Rattle.alma_lower_implements.proofs.Steps.{div_does, mod_does, faults_now}
 use Rattle.alma_lower_implements.proofs.Ways.{Ways}
 use Rattle.alma_lower_implements.proofs.Numbers.{bit_integer, zero_bit, rest_integer, nonzero}
-use Rattle.alma_lower_templates.specs.Lined.{own}
+use Rattle.alma_lower_templates.specs.LineInstr.{own}
 use Rattle.alma_lower_templates.specs.Pieces.{op_code, cmp_code}
 use Rattle.alma_lower_templates.specs.Stands.{Stands}
 use Rattle.alma_lower_templates.proofs.Parts.{Begins, begins, Left, has_kind, IsValue, ValueIn, From, Carries, leaving}

@@ -35,7 +35,7 @@ use Rattle.alma_lower_implements.proofs.SeqRow.{runs_less}
 use Rattle.alma_lower_implements.proofs.LaidOver.{put_apart}
 use Rattle.alma_lower_implements.proofs.Leaving.{PlacesBelow}
 use Rattle.alma_lower_implements.proofs.Ways.{Ways, Leaves, Runs, Later, then_up_to}
-use Rattle.alma_lower_templates.specs.Lined.{Lined}
+use Rattle.alma_lower_templates.specs.LineInstr.{LineInstr}
 use Rattle.alma_lower_templates.specs.Stands.{Stands}
 use Rattle.alma_lower_templates.proofs.Given.{Given, given_after}
 
@@ -296,7 +296,7 @@ module _ (p : Program) (code : PlainCode) (input : List ℕ) where
   PlaceIn slot size v q now = IsPlace slot size v q now
 
   -- how statements of the routine r run that stand somewhere; `f` is their events, `q` their debt
-  abbrev pub RunsFor : (may : Bool) → (r line at lo : ℕ) → List Lined → (Store → Events NoYield) → (q : ℕ) → Type 0
+  abbrev pub RunsFor : (may : Bool) → (r line at lo : ℕ) → List LineInstr → (Store → Events NoYield) → (q : ℕ) → Type 0
   RunsFor may r line at lo made f q = Stands code at made → (v : Store) (now : List PlainFrame) → Begins r v now
       → Runs code input line at (at + length made) now (ending may lo r now) (f v) q
 
@@ -311,7 +311,8 @@ module _ (p : Program) (code : PlainCode) (input : List ℕ) where
   node_here line at exit now w e q h held s is = h 0 (omega arith) held s s (no_step code input s) is
 
   -- and how one runs that stands somewhere
-  abbrev pub NodeFor : {A : Type 0} → (r line at lo : ℕ) → List Lined → (Store → Events A) → (yields : Store → A → List PlainFrame → Type 0)
+  abbrev pub NodeFor : {A : Type 0} → (r line at lo : ℕ) → List LineInstr → (Store → Events A)
+      → (yields : Store → A → List PlainFrame → Type 0)
       → (q : ℕ) → Type 0
   NodeFor r line at lo made f yields q = Stands code at made → (v : Store) (now : List PlainFrame) → Begins r v now
       → NodeRuns line at (at + length made) now (leaving lo r now yields) (f v) q

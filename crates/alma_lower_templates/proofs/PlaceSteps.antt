@@ -13,7 +13,7 @@ use Rattle.alma_code.specs.declared.instr.Instr.TheVariants as I
 use Rattle.alma_code.specs.Carries.{number_at}
 use Rattle.alma_code.specs.Picture.{PlainFrame, PlainEntry, cell_at}
 use Rattle.alma_code.specs.Plain.{PlainCode}
-use Rattle.alma_code.specs.Machine.{State, Stepped, act, step, quiet_step, ends_in_fault, as_range, as_content, as_text, number, content}
+use Rattle.alma_code.specs.Machine.{State, StepResult, act, step, quiet_step, ends_in_fault, as_range, as_content, as_text, number, content}
 use Rattle.alma_code.specs.Machine.{range_check, put_number, put_place, is_known}
 use Rattle.alma_lower_implements.proofs.Frames.{IsAt}
 use Rattle.alma_lower_implements.proofs.Steps.{Holds, HasKind, InstrAt, Writes, Faults, PrintsNow, passed, does, went_on, number_is}
@@ -33,7 +33,7 @@ module _ (code : PlainCode) (input : List ℕ) (line at : ℕ) (now : List Plain
         record { mode = h.mode; here = ap (λ n. n + 1) h.here; frames = h.frames; entries = h.entries };
   }
 
-  pub range_is : (n : ℕ) (range : Range) (k : Range → Stepped) → slice_get code.ranges n ≡ Some range
+  pub range_is : (n : ℕ) (range : Range) (k : Range → StepResult) → slice_get code.ranges n ≡ Some range
       → as_range (slice_get code.ranges n) here k ≡ k range
   range_is n range k e = ap (λ o. as_range o here k) e
 
@@ -128,7 +128,7 @@ module _ (code : PlainCode) (input : List ℕ) (line at : ℕ) (now : List Plain
 
   -- ---- cells
 
-  pub content_is : (q : CellPlace) (c : Cell) (k : Option ℤ → Stepped) → HasContent code input line at now held s h q c
+  pub content_is : (q : CellPlace) (c : Cell) (k : Option ℤ → StepResult) → HasContent code input line at now held s h q c
       → content here q.frame q.slot k ≡ as_content true c here k
   content_is q c k hc =
       ap (λ z. as_content (number_at z q.frame q.slot) (cell_at z q.frame q.slot cell.Unset) here k) h.frames

@@ -7,10 +7,10 @@ use Rattle.alma_code.specs.declared.instr.Instr.TheVariants as I
 use Rattle.alma_ir.specs.declared.phrase.Root.{Root}
 use Rattle.alma_ir.specs.declared.phrase.Root.TheVariants as root
 use Rattle.alma_ir.specs.Tree.{Program, Desig, Sels, Sel, a_desig, no_sels, more_sels, Field, Index}
-use Rattle.alma_lower_templates.specs.Lined.{Lined, own, in_row}
+use Rattle.alma_lower_templates.specs.LineInstr.{LineInstr, own, in_row}
 use Rattle.alma_lower_templates.specs.Tables.{Tables, range_number}
 use Rattle.alma_lower_templates.specs.Slots.{bare, own_place, own_root, unless_bare, behind_value}
-use Rattle.alma_lower_templates.specs.Pieces.{link_code, aim_place, placed}
+use Rattle.alma_lower_templates.specs.Pieces.{link_code, aim_place, place_code}
 use Rattle.alma_lower_templates.specs.Templates.{expr_code, desig_code, sels_code, sel_code, root_code, own_slot, outer_slot, slot_or}
 use Rattle.alma_lower_templates.specs.Templates.{value_at, part_slot, part_at, behind_root, handed_code}
 use Rattle.alma_lower_templates.proofs.Straight.{last_long, last_behind, last_is}
@@ -25,7 +25,7 @@ pub ends_twice : (sels : Sels) (end part : ℕ) → by_sels sels (by_sels sels e
 ends_twice no_sels end part = refl
 ends_twice (more_sels x rest) end part = refl
 
-pub placed_long : (to : ℕ) (code : List Lined) → length (placed to code) ≡ length code
+pub placed_long : (to : ℕ) (code : List LineInstr) → length (place_code to code) ≡ length code
 placed_long to code = last_long (aim_place to) code
 
 module _ (p : Program) (tables : Tables) (r : ℕ) where
@@ -40,19 +40,19 @@ module _ (p : Program) (tables : Tables) (r : ℕ) where
   root_to end lo (root.OuterParam links from) = link_code (lo + 1) links
       ++ (I.OuterSame end (lo + 1 + links) (outer_slot p tables r links from) ∷ [])
 
-  abbrev pub sel_to : (end line at from lo : ℕ) → Sel → List Lined
+  abbrev pub sel_to : (end line at from lo : ℕ) → Sel → List LineInstr
   sel_to end line at from lo (Field offset cells) = own line (I.Field end from offset ∷ [])
   sel_to end line at from lo (Index e range cells) = unless_bare (bare e) (expr_code p tables r line at lo e)
       ++ own line (I.Index end from (value_at p tables r lo e) (range_number tables range) ∷ [])
 
-  abbrev pub sels_to : (end line at from lo : ℕ) → Sels → List Lined
+  abbrev pub sels_to : (end line at from lo : ℕ) → Sels → List LineInstr
   sels_to end line at from lo no_sels = []
   sels_to end line at from lo (more_sels x rest) =
       in_row at (sel_to (by_sels rest end (part_slot p tables r lo x)) line at from lo x)
       (λ next. sels_to end line next (by_sels rest end (part_slot p tables r lo x)) (part_slot p tables r lo x + 1) rest)
 
   -- with the slot of a parameter of whose place the first selector takes a part, or none
-  abbrev pub desig_to : (taken : Option ℕ) → (end line at lo : ℕ) → Root → Sels → List Lined
+  abbrev pub desig_to : (taken : Option ℕ) → (end line at lo : ℕ) → Root → Sels → List LineInstr
   desig_to taken end line at lo x sels =
       in_row at (unless_bare taken (own line (root_to (by_sels sels end lo) lo x)))
       (λ next. sels_to end line next (slot_or p tables r taken (by_sels sels end lo)) (behind_root p tables r lo x) sels)
@@ -71,7 +71,7 @@ module _ (p : Program) (tables : Tables) (r : ℕ) where
   sel_same line at from lo (Index e range cells) = refl
 
   -- what follows a selector that stands as it does
-  then_same : (f : ℕ → List Lined) (g : ℕ → List Lined) (at : ℕ) (a b : List Lined) → a ≡ b → ((next : ℕ) → f next ≡ g next)
+  then_same : (f : ℕ → List LineInstr) (g : ℕ → List LineInstr) (at : ℕ) (a b : List LineInstr) → a ≡ b → ((next : ℕ) → f next ≡ g next)
       → in_row at a f ≡ in_row at b g
   then_same f g at a b same rest = ap (λ c. c ++ f (at + length c)) same ∙ ap (λ c. b ++ c) (rest (at + length b))
 
@@ -106,11 +106,11 @@ module _ (p : Program) (tables : Tables) (r : ℕ) where
   -- ---- with its place put into another slot
 
   -- the last instruction of one list
-  placed_end : (to line : ℕ) (a : List Instr) (i : Instr) → placed to (own line (a ++ (i ∷ []))) ≡ own line (a ++ (aim_place to i ∷ []))
+  placed_end : (to line : ℕ) (a : List Instr) (i : Instr) → place_code to (own line (a ++ (i ∷ []))) ≡ own line (a ++ (aim_place to i ∷ []))
   placed_end to line a i =
-      ap (placed to) (map-append _ a (i ∷ [])) ∙ last_is (aim_place to) line (own line a) i ∙ sym (map-append _ a (aim_place to i ∷ []))
+      ap (place_code to) (map-append _ a (i ∷ [])) ∙ last_is (aim_place to) line (own line a) i ∙ sym (map-append _ a (aim_place to i ∷ []))
 
-  placed_root : (to line lo : ℕ) (x : Root) → placed to (own line (root_code p tables r lo x)) ≡ own line (root_to to lo x)
+  placed_root : (to line lo : ℕ) (x : Root) → place_code to (own line (root_code p tables r lo x)) ≡ own line (root_to to lo x)
   placed_root to line lo (root.Local from) = refl
   placed_root to line lo (root.Global from) = refl
   placed_root to line lo (root.Param from) = refl
@@ -119,7 +119,7 @@ module _ (p : Program) (tables : Tables) (r : ℕ) where
   placed_root to line lo (root.OuterParam links from) =
       placed_end to line (link_code (lo + 1) links) (I.OuterSame lo (lo + 1 + links) (outer_slot p tables r links from))
 
-  placed_sel : (to line at from lo : ℕ) (x : Sel) → placed to (sel_code p tables r line at from lo x) ≡ sel_to to line at from lo x
+  placed_sel : (to line at from lo : ℕ) (x : Sel) → place_code to (sel_code p tables r line at from lo x) ≡ sel_to to line at from lo x
   placed_sel to line at from lo (Field offset cells) = refl
   placed_sel to line at from lo (Index e range cells) =
       last_is (aim_place to) line (unless_bare (bare e) (expr_code p tables r line at lo e))
@@ -128,14 +128,14 @@ module _ (p : Program) (tables : Tables) (r : ℕ) where
   some_sel : (line at from lo : ℕ) (x : Sel) → 0 < length (sel_code p tables r line at from lo x)
   some_sel line at from lo (Field offset cells) = omega arith
   some_sel line at from lo (Index e range cells) =
-      let inner : List Lined = unless_bare (bare e) (expr_code p tables r line at lo e) in
-      let last : List Lined =
+      let inner : List LineInstr = unless_bare (bare e) (expr_code p tables r line at lo e) in
+      let last : List LineInstr =
       own line (I.Index (behind_value p r lo e) from (value_at p tables r lo e) (range_number tables range) ∷ []) in
       omega (arith, length-append inner last)
 
   some_sels : (line at from lo : ℕ) (x : Sel) (rest : Sels) → 0 < length (sels_code p tables r line at from lo (more_sels x rest))
   some_sels line at from lo x rest =
-      let one : List Lined = sel_code p tables r line at from lo x in
+      let one : List LineInstr = sel_code p tables r line at from lo x in
       let part : ℕ = part_slot p tables r lo x in
       omega (
         arith,
@@ -144,16 +144,16 @@ module _ (p : Program) (tables : Tables) (r : ℕ) where
       )
 
   placed_sels : (to line at from lo : ℕ) (x : Sel) (rest : Sels)
-      → placed to (sels_code p tables r line at from lo (more_sels x rest)) ≡ sels_to to line at from lo (more_sels x rest)
+      → place_code to (sels_code p tables r line at from lo (more_sels x rest)) ≡ sels_to to line at from lo (more_sels x rest)
   placed_sels to line at from lo x no_sels =
-      let one : List Lined = sel_code p tables r line at from lo x in
-      ap (placed to) (append-nil one) ∙ placed_sel to line at from lo x ∙ sym (append-nil (sel_to to line at from lo x))
+      let one : List LineInstr = sel_code p tables r line at from lo x in
+      ap (place_code to) (append-nil one) ∙ placed_sel to line at from lo x ∙ sym (append-nil (sel_to to line at from lo x))
   placed_sels to line at from lo x (more_sels y rest) =
-      let one : List Lined = sel_code p tables r line at from lo x in
+      let one : List LineInstr = sel_code p tables r line at from lo x in
       let part : ℕ = part_slot p tables r lo x in
       last_behind (aim_place to) one (sels_code p tables r line (at + length one) part (part + 1) (more_sels y rest))
       (some_sels line (at + length one) part (part + 1) y rest)
-      ∙ then_same (λ next. placed to (sels_code p tables r line next part (part + 1) (more_sels y rest)))
+      ∙ then_same (λ next. place_code to (sels_code p tables r line next part (part + 1) (more_sels y rest)))
       (λ next. sels_to to line next part (part + 1) (more_sels y rest)) at one (sel_to part line at from lo x)
       (sel_same line at from lo x)
       (λ next. placed_sels to line next part (part + 1) y rest)
@@ -166,27 +166,28 @@ module _ (p : Program) (tables : Tables) (r : ℕ) where
   no_own (root.OuterParam links from) = refl
 
   pub placed_desig : (to line at lo cells : ℕ) (x : Root) (sels : Sels)
-      → placed to (desig_code p tables r line at lo (a_desig x cells sels)) ≡ desig_to (own_root x sels) to line at lo x sels
+      → place_code to (desig_code p tables r line at lo (a_desig x cells sels)) ≡ desig_to (own_root x sels) to line at lo x sels
   placed_desig to line at lo cells x no_sels =
-      let made : List Lined = own line (root_code p tables r lo x) in
-      ap (λ o. placed to (unless_bare o made ++ [])) (no_own x) ∙ ap (placed to) (append-nil made) ∙ placed_root to line lo x
+      let made : List LineInstr = own line (root_code p tables r lo x) in
+      ap (λ o. place_code to (unless_bare o made ++ [])) (no_own x) ∙ ap (place_code to) (append-nil made) ∙ placed_root to line lo x
       ∙ sym (append-nil (own line (root_to to lo x))) ∙ ap (λ o. unless_bare o (own line (root_to to lo x)) ++ []) (sym (no_own x))
   placed_desig to line at lo cells x (more_sels y rest) =
       let sels : Sels = more_sels y rest in
       let taken : Option ℕ = own_root x sels in
       let from : ℕ = slot_or p tables r taken lo in
       let lo2 : ℕ = behind_root p tables r lo x in
-      let one : List Lined = unless_bare taken (own line (root_code p tables r lo x)) in
+      let one : List LineInstr = unless_bare taken (own line (root_code p tables r lo x)) in
       last_behind (aim_place to) one (sels_code p tables r line (at + length one) from lo2 sels)
       (some_sels line (at + length one) from lo2 y rest)
-      ∙ then_same (λ next. placed to (sels_code p tables r line next from lo2 sels))
+      ∙ then_same (λ next. place_code to (sels_code p tables r line next from lo2 sels))
       (λ next. sels_to to line next from lo2 sels) at one (unless_bare taken (own line (root_to lo lo x)))
       (ap (λ c. unless_bare taken (own line c)) (root_same lo x))
       (λ next. placed_sels to line next from lo2 y rest)
 
   -- a place that is handed over, whatever designator it is
   pub handed_is : (to line at lo : ℕ) (d : Desig)
-      → handed_code p tables r (own_place d) line to (desig_code p tables r line at lo d) ≡ placed to (desig_code p tables r line at lo d)
+      → handed_code p tables r (own_place d) line to (desig_code p tables r line at lo d) ≡ place_code to
+      (desig_code p tables r line at lo d)
   handed_is to line at lo (a_desig (root.Param from) cells no_sels) = refl
   handed_is to line at lo (a_desig (root.Param from) cells (more_sels x rest)) = refl
   handed_is to line at lo (a_desig (root.Local from) cells sels) = refl

@@ -22,7 +22,7 @@ use Rattle.alma_lower_implements.proofs.Frames.{HasSlots}
 use Rattle.alma_lower_implements.proofs.BareRow.{ReadsFirst}
 use Rattle.alma_lower_implements.proofs.Steps.{InstrAt}
 use Rattle.alma_lower_implements.proofs.Ways.{Ways, Leaves}
-use Rattle.alma_lower_templates.specs.Lined.{Lined, own}
+use Rattle.alma_lower_templates.specs.LineInstr.{LineInstr, own}
 use Rattle.alma_lower_templates.specs.Tables.{Tables, range_number, is_whole}
 use Rattle.alma_lower_templates.specs.Slots.{expr_slots}
 use Rattle.alma_lower_templates.specs.Pieces.{unless_whole, fit_code}
@@ -77,7 +77,7 @@ module _ (p : Program) (tables : Tables) (code : PlainCode) (input : List ℕ) (
 
   module _ (at value : ℕ) (range : Range) (i : Instr) where
     -- the check, and the instruction behind it
-    abbrev checked : Bool → List Lined
+    abbrev checked : Bool → List LineInstr
     checked z = own line (unless_whole z (I.InRange value (range_number tables range) ∷ []) ++ (i ∷ []))
 
     abbrev behind_check : Bool → ℕ
@@ -144,9 +144,9 @@ module _ (p : Program) (tables : Tables) (code : PlainCode) (input : List ℕ) (
       → ExprRuns p tables code input below r line q at lo x → ExprRuns p tables code input below r line q at lo (Chr x)
   unfolding ev_expr
   chr_runs at lo x slots has runs stands v now b =
-      let inner : List Lined = expr_code p tables r line at lo x in
+      let inner : List LineInstr = expr_code p tables r line at lo x in
       let m : ℕ = at + length inner in
-      let last : List Lined = own line (I.InRange lo (range_number tables char_range) ∷ []) in
+      let last : List LineInstr = own line (I.InRange lo (range_number tables char_range) ∷ []) in
       let back = stands_back code at inner last stands in
       let whole : length (inner ++ last) ≡ length inner + 1 = length-append inner last in
       let end : m + 1 ≡ at + length (inner ++ last) = omega (arith, whole) in

@@ -8,7 +8,8 @@ use Rattle.std.proofs.lemmas.List.{length-append}
 use Rattle.std.proofs.lemmas.Option.{slice_get-get_or, get_or_from_slice_get}
 use Rattle.alma_base.specs.Choice.{if_true}
 use Rattle.alma_base.specs.Numbers.{within, is_integer}
-use Rattle.alma_base.specs.Reading.{is_blank, is_digit, signed_value, sized, ended, digits_on, sign_on, number_on, number_from}
+use Rattle.alma_base.specs.Reading.{is_blank, is_digit, signed_value, sized, ended, digits_on, sign_on, number_on}
+use Rattle.alma_base.specs.Reading.{number_from}
 use Rattle.alma_base.specs.declared.fault.RunFault.TheVariants as fault
 use Rattle.alma_base.specs.declared.number.Range.{Range}
 use Rattle.alma_base.specs.declared.number.ReadInt.{ReadInt}
@@ -24,7 +25,8 @@ use Rattle.alma_code.specs.Lines.{line_at}
 use Rattle.alma_code.specs.Picture.{PlainFrame, PlainEntry, frames_with_cell}
 use Rattle.alma_code.specs.Picture as picture
 use Rattle.alma_code.specs.Plain.{PlainCode, kinds_at}
-use Rattle.alma_code.specs.Machine.{State, Stepped, Failing, act, step, quiet_step, ends_in_fault, fails_now, gets_stuck, with_cell, place}
+use Rattle.alma_code.specs.Machine.{State, StepResult, Failing, act, step, quiet_step, ends_in_fault, fails_now, gets_stuck, with_cell}
+use Rattle.alma_code.specs.Machine.{place}
 use Rattle.alma_code.specs.Machine.{as_range, as_position, position, takes_read, byte_or_failure, take_input}
 use Rattle.alma_ir.specs.declared.phrase.ReadAs.{ReadAs}
 use Rattle.alma_ir.specs.declared.phrase.ReadAs.TheVariants as read_as
@@ -42,7 +44,7 @@ use Rattle.alma_lower_implements.proofs.FrameLemmas.{content_there, numbers_kept
 use Rattle.alma_lower_implements.proofs.Carrying.{kind_in}
 use Rattle.alma_lower_implements.proofs.LaidOver.{put_here}
 use Rattle.alma_lower_implements.proofs.Steps.{InstrAt, passed, does, went_on, place_is, faults_now, here_too}
-use Rattle.alma_lower_templates.specs.Lined.{Lined, own}
+use Rattle.alma_lower_templates.specs.LineInstr.{LineInstr, own}
 use Rattle.alma_lower_templates.specs.Tables.{Tables, range_number}
 use Rattle.alma_lower_templates.specs.Pieces.{read_code}
 use Rattle.alma_lower_templates.specs.Templates.{held_at}
@@ -196,10 +198,10 @@ module _ (p : Program) (tables : Tables) (code : PlainCode) (input : List ℕ) (
   -- ---- a number that is taken
 
   -- the two writes
-  abbrev at_zero : (behind : ℕ) → State → (State → Stepped) → Stepped
+  abbrev at_zero : (behind : ℕ) → State → (State → StepResult) → StepResult
   at_zero behind s k = if_true (number_at s.now 0 0) (λ _. k (with_cell s 0 0 (cell.Int (pos behind)))) (λ _. gets_stuck s)
 
-  abbrev at_cell : CellPlace → ℤ → State → Stepped
+  abbrev at_cell : CellPlace → ℤ → State → StepResult
   at_cell c x s = if_true (number_at s.now c.frame c.slot) (λ _. quiet_step (with_cell s c.frame c.slot (cell.Int x))) (λ _. gets_stuck s)
 
   took_ends : (at lo a size behind : ℕ) (v : Store) (now : List PlainFrame) (m : Place) (range : Range) (x : ℤ) → own_end p r ≤ lo
@@ -276,7 +278,7 @@ module _ (p : Program) (tables : Tables) (code : PlainCode) (input : List ℕ) (
       took_ends at lo a size behind v now m range x own_lo some fits.1 inside b h there steps
 
   -- what READ does with what it finds at the position
-  abbrev read_by : ReadAs → State → Range → CellPlace → (at : ℕ) → Stepped
+  abbrev read_by : ReadAs → State → Range → CellPlace → (at : ℕ) → StepResult
   read_by read_as.Int s range c n = takes_read s range c (number_from input n)
   read_by read_as.Char s range c n = byte_or_failure s range c n (slice_get input n)
 
@@ -342,9 +344,9 @@ module _ (p : Program) (tables : Tables) (code : PlainCode) (input : List ℕ) (
       → StmtRuns p tables code input below r line q at lo (Read d how range)
   unfolding ev_expr
   read_runs at lo d how range behind cells has inside runs stands v now b =
-      let inner : List Lined = held_code p tables r line at lo d in
+      let inner : List LineInstr = held_code p tables r line at lo d in
       let a : ℕ = held_at p tables r lo d in
-      let last : List Lined = own line (read_code how a (range_number tables range) ∷ []) in
+      let last : List LineInstr = own line (read_code how a (range_number tables range) ∷ []) in
       let m : ℕ = at + length inner in
       let back = stands_back code at inner last stands in
       let i : InstrAt code input line m (read_code how a (range_number tables range)) = record { instr = back.0; on_line = back.1 } in

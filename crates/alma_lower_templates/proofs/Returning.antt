@@ -29,7 +29,7 @@ use Rattle.alma_lower_implements.proofs.BareRow.{ReadsFirst}
 use Rattle.alma_lower_implements.proofs.Frames.{own_end}
 use Rattle.alma_lower_implements.proofs.Steps.{InstrAt, passed, does}
 use Rattle.alma_lower_implements.proofs.Ways.{Ways, Leaves, Runs}
-use Rattle.alma_lower_templates.specs.Lined.{Lined, own}
+use Rattle.alma_lower_templates.specs.LineInstr.{LineInstr, own}
 use Rattle.alma_lower_templates.specs.Tables.{Tables}
 use Rattle.alma_lower_templates.specs.Pieces.{fit_code}
 use Rattle.alma_lower_templates.specs.Slots.{bare, unless_bare, own_kinds, link_kinds, param_kinds, params_kinds}
@@ -187,14 +187,14 @@ module _ (p : Program) (tables : Tables) (code : PlainCode) (input : List ℕ) w
         (ev_stmt p input below (Return (some_result e))) q
     unfolding ev_stmts
     return_value_runs e range lo at some own_lo fits once stands v now b =
-        let first : List Lined = unless_bare (bare e) (expr_code p tables r line at lo e) in
+        let first : List LineInstr = unless_bare (bare e) (expr_code p tables r line at lo e) in
         let value : ℕ = value_at p tables r lo e in
         let fit : List Instr = fit_code tables range value in
-        let second : List Lined = own line (fit ++ (I.ReturnValue value ∷ [])) in
+        let second : List LineInstr = own line (fit ++ (I.ReturnValue value ∷ [])) in
         let m : ℕ = at + length first in
         let m2 : ℕ = m + length (own line fit) in
         let as_fit : fit_result p tables r (routine_at p r).result value ≡ fit = ap (λ o. fit_result p tables r o value) some in
-        let made : List Lined = stmt_code p tables r line at lo (Return (some_result e)) in
+        let made : List LineInstr = stmt_code p tables r line at lo (Return (some_result e)) in
         let exit : ℕ = at + length made in
         let is : made ≡ first ++ second = ap (λ z. first ++ own line (z ++ (I.ReturnValue value ∷ []))) as_fit in
         let all : Stands code at (first ++ second) = subst (Stands code at) is stands in
@@ -278,7 +278,7 @@ module _ (p : Program) (tables : Tables) (code : PlainCode) (input : List ℕ) w
   abbrev pub body_slot : (r : ℕ) → ℕ
   body_slot r = length (own_kinds (routine_at p r))
 
-  abbrev pub body_code_of : (r : ℕ) → List Lined
+  abbrev pub body_code_of : (r : ℕ) → List LineInstr
   body_code_of r = stmts_code p tables r (start_at code r) (body_slot r) (body_with_lines (routine_at p r))
 
   -- what stands at its end

@@ -30,7 +30,7 @@ use Rattle.alma_lower_implements.proofs.LinkRows.{LinkedUp, linked_up, up_live, 
 use Rattle.alma_lower_implements.proofs.Steps.{Holds, InstrAt, Writes, Faults, passed, does, place_is, faults_now, here_too, local_step}
 use Rattle.alma_lower_implements.proofs.Steps.{outer_step, outer_same_step}
 use Rattle.alma_lower_implements.proofs.Ways.{Leaves}
-use Rattle.alma_lower_templates.specs.Lined.{own}
+use Rattle.alma_lower_templates.specs.LineInstr.{own}
 use Rattle.alma_lower_templates.specs.Tables.{Tables}
 use Rattle.alma_lower_templates.specs.Slots.{root_slots, chain_slots}
 use Rattle.alma_lower_templates.specs.Pieces.{link_code, chain_code}

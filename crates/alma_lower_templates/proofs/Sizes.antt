@@ -11,7 +11,7 @@ use Rattle.alma_ir.specs.Checked.{IsChecked, RootExists, CallLeads}
 use Rattle.alma_ir.specs.Count.{stmts_nodes, routine_nodes, routines_nodes, nodes}
 use Rattle.alma_ir.specs.Lines.{body_with_lines}
 use Rattle.alma_ir.specs.Phrases.{Phrase, StmtPhrase, TestPhrase, ExprPhrase, ArgPhrase, DesigPhrase, SelPhrase, stmts_phrases}
-use Rattle.alma_lower_templates.specs.Lined.{Lined, own}
+use Rattle.alma_lower_templates.specs.LineInstr.{LineInstr, own}
 use Rattle.alma_lower_templates.specs.Slots.{stmts_slots, own_kinds}
 use Rattle.alma_lower_templates.specs.Tables.{Tables}
 use Rattle.alma_lower_templates.specs.CodeOf.{IsCodeOf}
@@ -78,7 +78,7 @@ module _ (p : Program) (checked : IsChecked p) (tables : Tables) where
       → length (routines_code p tables r (length xs) at) ≤ 16 * routines_nodes xs
   routines_few [] r at same fit = omega arith
   routines_few (x ∷ rest) r at same fit =
-      let first : List Lined = routine_code p tables r at in
+      let first : List LineInstr = routine_code p tables r at in
       let next : ℕ = at + length first in
       let here : r ≡ r + 0 = omega arith in
       let is : routine_nodes (routine_at p r) ≡ routine_nodes x = ap routine_nodes (ap (routine_at p) here ∙ same 0) in
@@ -90,7 +90,7 @@ module _ (p : Program) (checked : IsChecked p) (tables : Tables) where
   -- the instructions of the whole code
   pub few_of_code : (runs : List (List Run)) → length (program_code p tables runs).instrs ≤ 16 * nodes p
   few_of_code runs =
-      let code : List Lined = routines_code p tables 0 (length p.routines) 0 in
+      let code : List LineInstr = routines_code p tables 0 (length p.routines) 0 in
       let z = routines_few p.routines 0 0 (λ i. (let same : 0 + i ≡ i = omega arith in ap (routine_at p) same)) (omega arith) in
       omega (arith, z, length-map code (λ x. x.instr))
 

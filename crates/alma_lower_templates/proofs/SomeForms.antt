@@ -27,7 +27,7 @@ use Rattle.alma_lower_implements.proofs.SomeRow.{HoldsTurn, some_row, beyond_by_
 use Rattle.alma_lower_implements.proofs.Steps.{top_written, Holds, InstrAt, check_fails, check_passes}
 use Rattle.alma_lower_implements.proofs.FrameLemmas.{put_routine}
 use Rattle.alma_lower_implements.proofs.Ways.{Ways, Leaves, Runs, Later, visited_later}
-use Rattle.alma_lower_templates.specs.Lined.{Lined}
+use Rattle.alma_lower_templates.specs.LineInstr.{LineInstr}
 use Rattle.alma_lower_templates.specs.Tables.{Tables}
 use Rattle.alma_lower_templates.specs.Pieces.{count_from, turn_code, some_turns}
 use Rattle.alma_lower_templates.specs.Slots.{bare_desig, unless_bare, expr_slots, desig_slots, stmts_slots, some_slots, behind_expr}
@@ -93,7 +93,7 @@ module _ (p : Program) (tables : Tables) (code : PlainCode) (input : List ℕ) (
       begun x = begins p code input (lo + 1) r now v (later x) (left x)
 
   -- the code of a turn, which begins at `at`; the slots of its variable begin at `place`
-  abbrev turn_made : Option ℕ → (at place : ℕ) → Desig → Range → (counter : ℕ) → Stmts → List Lined
+  abbrev turn_made : Option ℕ → (at place : ℕ) → Desig → Range → (counter : ℕ) → Stmts → List LineInstr
   turn_made o at place d range counter body =
       turn_code line at (count_code p tables r o range (shift p r + counter) place)
       (λ next. unless_bare o (held_code p tables r line next (place + 1) d))
@@ -178,7 +178,7 @@ module _ (p : Program) (tables : Tables) (code : PlainCode) (input : List ℕ) (
       lb : ℕ
       lb = place + length (unless_bare o (slot.Number ∷ desig_slots p r d))
 
-      made : ℕ → List Lined
+      made : ℕ → List LineInstr
       made next = stmts_code p tables r next lb body
 
       next_fits : int_lt n l ≡ true → is_integer (n +ℤ pos 1) ≡ true
@@ -250,9 +250,9 @@ module _ (p : Program) (tables : Tables) (code : PlainCode) (input : List ℕ) (
       counter limit d range body
   loop_parts at lo d range counter limit from to by body stands =
       let more : ℕ = behind_expr p r (behind_expr p r (lo + 1) from) to in
-      let front : List Lined = loop_front p tables code input below r line q may at lo limit from to (pos 1) in
+      let front : List LineInstr = loop_front p tables code input below r line q may at lo limit from to (pos 1) in
       let next : ℕ = at + length front in
-      let tail : List Lined = some_turns line next (constant from) (shift p r + counter) (shift p r + limit) lo (lo + 1) more
+      let tail : List LineInstr = some_turns line next (constant from) (shift p r + counter) (shift p r + limit) lo (lo + 1) more
       (turn_made (bare_desig d) (next + 8) (more + 1) d range counter body) in
       let whole : length (front ++ tail) ≡ length front + length tail = length-append front tail in
       parts_stand (constant from) next (at + length (front ++ tail)) lo more counter limit d range body (omega (arith, whole))
@@ -262,7 +262,7 @@ module _ (p : Program) (tables : Tables) (code : PlainCode) (input : List ℕ) (
       → Stands code at (stmt_code p tables r line at lo (SomeOf (a_loop d range counter limit from to by body)))
       → Stands code at (loop_front p tables code input below r line q may at lo limit from to (pos 1))
   front_stands at lo d range counter limit from to by body stands =
-      let front : List Lined = loop_front p tables code input below r line q may at lo limit from to (pos 1) in
+      let front : List LineInstr = loop_front p tables code input below r line q may at lo limit from to (pos 1) in
       let more : ℕ = behind_expr p r (behind_expr p r (lo + 1) from) to in
       let next : ℕ = at + length front in
       stands_front code at front (some_turns line next (constant from) (shift p r + counter) (shift p r + limit) lo (lo + 1) more

@@ -6,16 +6,16 @@ use Rattle.alma_base.specs.Choice.{if_true}
 use Rattle.alma_code.specs.declared.code.Line.{Line}
 use Rattle.alma_code.specs.Lines.{last_line, line_at}
 use Rattle.alma_code.specs.Plain.{PlainCode}
-use Rattle.alma_lower_templates.specs.Lined.{Lined, instrs_of, line_from, lines_from}
+use Rattle.alma_lower_templates.specs.LineInstr.{LineInstr, instrs_of, line_from, lines_from}
 use Rattle.alma_lower_templates.specs.Stands.{Stands, HoldsAll}
 
 -- ---- parts
 
-pub stands_front : (code : PlainCode) (at : ℕ) (a b : List Lined) → Stands code at (a ++ b) → Stands code at a
+pub stands_front : (code : PlainCode) (at : ℕ) (a b : List LineInstr) → Stands code at (a ++ b) → Stands code at a
 stands_front code at [] b h = tt
 stands_front code at (x ∷ a) b h = (h.0, h.1, stands_front code (at + 1) a b h.2)
 
-pub stands_back : (code : PlainCode) (at : ℕ) (a b : List Lined) → Stands code at (a ++ b) → Stands code (at + length a) b
+pub stands_back : (code : PlainCode) (at : ℕ) (a b : List LineInstr) → Stands code at (a ++ b) → Stands code (at + length a) b
 stands_back code at [] b h = let e : at ≡ at + 0 = omega arith in subst (λ n. Stands code n b) e h
 stands_back code at (x ∷ a) b h =
     let e : at + 1 + length a ≡ at + suc (length a) = omega arith in
@@ -33,7 +33,7 @@ record_ahead : (at k line other : ℕ) (rest : List Line) → at < k
 record_ahead at k line other rest lt = ap (λ b. last_line at (if_true b (λ _. line) (λ _. other)) rest) (lt-leb k at lt)
 
 -- before the first record nothing is said
-ahead : (at k before other : ℕ) (xs : List Lined) → at < k → last_line at other (lines_from k before xs) ≡ other
+ahead : (at k before other : ℕ) (xs : List LineInstr) → at < k → last_line at other (lines_from k before xs) ≡ other
 ahead at k before other [] lt = refl
 ahead at k before other (x ∷ xs) lt = by (nat_eq x.line before) (ahead at (suc k) x.line other xs (omega (arith, lt)))
   where
@@ -43,7 +43,7 @@ ahead at k before other (x ∷ xs) lt = by (nat_eq x.line before) (ahead at (suc
     by false later = record_ahead at k x.line other (lines_from (suc k) x.line xs) lt ∙ later
 
 -- from the address of an instruction on its line counts
-reached : (at k before : ℕ) (x : Lined) (xs : List Lined) → k ≤ at
+reached : (at k before : ℕ) (x : LineInstr) (xs : List LineInstr) → k ≤ at
     → last_line at before (lines_from k before (x ∷ xs)) ≡ last_line at x.line (lines_from (suc k) x.line xs)
 reached at k before x xs le = by (nat_eq x.line before) refl
   where
@@ -52,7 +52,7 @@ reached at k before x xs le = by (nat_eq x.line before) refl
     by true e = ap (λ n. last_line at n (lines_from (suc k) x.line xs)) (sym (eqb-true x.line before e))
     by false e = record_reached at k x.line before (lines_from (suc k) x.line xs) le
 
-stands_from : (code : PlainCode) (k before : ℕ) (xs : List Lined)
+stands_from : (code : PlainCode) (k before : ℕ) (xs : List LineInstr)
     → ((at : ℕ) → k ≤ at → line_at code at ≡ last_line at before (lines_from k before xs))
     → ((i : ℕ) → slice_get code.instrs (k + i) ≡ slice_get (instrs_of xs) i) → Stands code k xs
 stands_from code k before [] lines instrs = tt

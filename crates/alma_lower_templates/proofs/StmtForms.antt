@@ -28,7 +28,7 @@ use Rattle.alma_lower_implements.proofs.BareRow.{ReadsFirst}
 use Rattle.alma_lower_implements.proofs.Steps.{InstrAt, PrintsNow, does, check_fails, check_passes, write_int_step, write_bool_step}
 use Rattle.alma_lower_implements.proofs.Steps.{write_char_step, write_line_step}
 use Rattle.alma_lower_implements.proofs.Ways.{Leaves}
-use Rattle.alma_lower_templates.specs.Lined.{Lined, own, in_row}
+use Rattle.alma_lower_templates.specs.LineInstr.{LineInstr, own, in_row}
 use Rattle.alma_lower_templates.specs.Tables.{Tables, text_number, is_whole}
 use Rattle.alma_lower_templates.specs.Slots.{bare, bare_desig, unless_bare, goes_straight, desig_slots}
 use Rattle.alma_lower_templates.specs.Pieces.{fit_code, straight, write_code}
@@ -55,7 +55,7 @@ module _ (p : Program) (tables : Tables) (code : PlainCode) (input : List ℕ) (
       → FitsRange p tables code input below r line q range
       → (o ≡ None → HeldRuns p tables code input below r line q at lo d)
       → ((next : ℕ) → AtOnce p tables code input below r line q next (lo + length (unless_bare o (desig_slots p r d))) x)
-      → (made : List Lined) → made ≡ in_row at (unless_bare o (held_code p tables r line at lo d))
+      → (made : List LineInstr) → made ≡ in_row at (unless_bare o (held_code p tables r line at lo d))
       (λ next. unless_bare (bare x) (expr_code p tables r line next (lo + length (unless_bare o (desig_slots p r d))) x))
       ++ own line (fit_code tables range (value_at p tables r (lo + length (unless_bare o (desig_slots p r d))) x)
       ++ (set_by p tables r o lo (value_at p tables r (lo + length (unless_bare o (desig_slots p r d))) x) d ∷ []))
@@ -63,12 +63,12 @@ module _ (p : Program) (tables : Tables) (code : PlainCode) (input : List ℕ) (
   unfolding ev_expr
   assign_of o at lo d x range e fits cells behind has runs once made is stands v now b =
       let lo2 : ℕ = lo + length (unless_bare o (desig_slots p r d)) in
-      let first : List Lined = unless_bare o (held_code p tables r line at lo d) in
+      let first : List LineInstr = unless_bare o (held_code p tables r line at lo d) in
       let m : ℕ = at + length first in
-      let second : List Lined = unless_bare (bare x) (expr_code p tables r line m lo2 x) in
+      let second : List LineInstr = unless_bare (bare x) (expr_code p tables r line m lo2 x) in
       let operand : ℕ = value_at p tables r lo2 x in
       let set : Instr = set_by p tables r o lo operand d in
-      let last : List Lined = own line (fit_code tables range operand ++ (set ∷ [])) in
+      let last : List LineInstr = own line (fit_code tables range operand ++ (set ∷ [])) in
       let there : Stands code at ((first ++ second) ++ last) = subst (Stands code at) is stands in
       let front = stands_front code at (first ++ second) last there in
       let both : length (first ++ second) ≡ length first + length second = length-append first second in
@@ -134,7 +134,7 @@ module _ (p : Program) (tables : Tables) (code : PlainCode) (input : List ℕ) (
       goes stands v now b =
           let la : ℕ = lo + 0 in
           let same : la ≡ lo = omega arith in
-          let made : List Lined = straight (shift p r + to) (expr_code p tables r line (at + 0) la x) in
+          let made : List LineInstr = straight (shift p r + to) (expr_code p tables r line (at + 0) la x) in
           let zero : at + 0 ≡ at = omega arith in
           let there : Stands code (at + 0) made = subst (λ m. Stands code m made) (sym zero) stands in
           let exit : ℕ = at + 0 + length made in
@@ -176,7 +176,7 @@ module _ (p : Program) (tables : Tables) (code : PlainCode) (input : List ℕ) (
       → StmtRuns p tables code input below r line q at lo (Assign d x range)
   assign_runs at lo d x range fits cells behind has runs once straightly = by (goes_straight d x range) refl
     where
-      value : List Lined
+      value : List LineInstr
       value = in_row at (unless_bare (bare_desig d) (held_code p tables r line at lo d))
           (λ next. unless_bare (bare x) (expr_code p tables r line next (lo + length (unless_bare (bare_desig d) (desig_slots p r d))) x))
 
@@ -241,9 +241,9 @@ module _ (p : Program) (tables : Tables) (code : PlainCode) (input : List ℕ) (
       → StmtRuns p tables code input below r line q at lo (WriteExpr x how)
   unfolding ev_expr
   write_runs at lo x how behind once stands v now b =
-      let inner : List Lined = unless_bare (bare x) (expr_code p tables r line at lo x) in
+      let inner : List LineInstr = unless_bare (bare x) (expr_code p tables r line at lo x) in
       let from : ℕ = value_at p tables r lo x in
-      let last : List Lined = own line (write_code how from ∷ []) in
+      let last : List LineInstr = own line (write_code how from ∷ []) in
       let m : ℕ = at + length inner in
       let back = stands_back code at inner last stands in
       let i : InstrAt code input line m (write_code how from) = record { instr = back.0; on_line = back.1 } in
@@ -309,9 +309,9 @@ module _ (p : Program) (tables : Tables) (code : PlainCode) (input : List ℕ) (
       ++ own line (I.Check (value_at p tables r lo x) ∷ [])) (ev_test p input below (Value x)) (Nothing p code input) q
   unfolding ev_expr
   checked_runs at lo x behind once stands v now b =
-      let inner : List Lined = unless_bare (bare x) (expr_code p tables r line at lo x) in
+      let inner : List LineInstr = unless_bare (bare x) (expr_code p tables r line at lo x) in
       let from : ℕ = value_at p tables r lo x in
-      let last : List Lined = own line (I.Check from ∷ []) in
+      let last : List LineInstr = own line (I.Check from ∷ []) in
       let m : ℕ = at + length inner in
       let back = stands_back code at inner last stands in
       let i : InstrAt code input line m (I.Check from) = record { instr = back.0; on_line = back.1 } in

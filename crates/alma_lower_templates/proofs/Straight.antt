@@ -7,7 +7,7 @@ use Rattle.alma_ir.specs.declared.phrase.Op.{Op}
 use Rattle.alma_ir.specs.declared.phrase.Op.TheVariants as op
 use Rattle.alma_ir.specs.Tree.{Program, Expr, Links, Const, Load, Chain, Compare, Truth, Known, Chr, CallExpr, no_links, more_links, Desig}
 use Rattle.alma_mean.specs.Store.{Store, Cell, put}
-use Rattle.alma_lower_templates.specs.Lined.{Lined, own, in_row}
+use Rattle.alma_lower_templates.specs.LineInstr.{LineInstr, own, in_row}
 use Rattle.alma_lower_templates.specs.Tables.{Tables, is_whole}
 use Rattle.alma_lower_templates.specs.Slots.{bare, bare_desig, is_given, ends_alone, unless_bare, behind_value, if_ready, straight_by}
 use Rattle.alma_lower_templates.specs.Slots.{goes_straight}
@@ -20,33 +20,33 @@ use Rattle.alma_base.specs.declared.number.Range.{Range}
 -- ---- code with its last instruction changed
 
 module _ (change : Instr → Instr) where
-  pub last_long : (code : List Lined) → length (with_last change code) ≡ length code
+  pub last_long : (code : List LineInstr) → length (with_last change code) ≡ length code
   last_long [] = refl
   last_long (x ∷ []) = refl
   last_long (x ∷ (y ∷ rest)) = ap suc (last_long (y ∷ rest))
 
-  last_rest : (a : List Lined) (x : Lined) (b : List Lined) → with_last change (a ++ (x ∷ b)) ≡ a ++ with_last change (x ∷ b)
+  last_rest : (a : List LineInstr) (x : LineInstr) (b : List LineInstr) → with_last change (a ++ (x ∷ b)) ≡ a ++ with_last change (x ∷ b)
   last_rest [] x b = refl
   last_rest (y ∷ []) x b = refl
   last_rest (y ∷ (z ∷ a)) x b = ap (λ c. y ∷ c) (last_rest (z ∷ a) x b)
 
   -- of two parts the second changes, where it has an instruction
-  pub last_behind : (a b : List Lined) → 0 < length b → with_last change (a ++ b) ≡ a ++ with_last change b
+  pub last_behind : (a b : List LineInstr) → 0 < length b → with_last change (a ++ b) ≡ a ++ with_last change b
   last_behind a [] some = absurd (omega (arith, some))
   last_behind a (x ∷ b) some = last_rest a x b
 
-  pub last_is : (line : ℕ) (a : List Lined) (i : Instr) → with_last change (a ++ own line (i ∷ [])) ≡ a ++ own line (change i ∷ [])
+  pub last_is : (line : ℕ) (a : List LineInstr) (i : Instr) → with_last change (a ++ own line (i ∷ [])) ≡ a ++ own line (change i ∷ [])
   last_is line a i = last_rest a (record { line = line; instr = i }) []
 
 -- ---- a number that goes into another slot
 
-pub straight_long : (to : ℕ) (code : List Lined) → length (straight to code) ≡ length code
+pub straight_long : (to : ℕ) (code : List LineInstr) → length (straight to code) ≡ length code
 straight_long to code = last_long (aim to) code
 
-pub straight_behind : (to : ℕ) (a b : List Lined) → 0 < length b → straight to (a ++ b) ≡ a ++ straight to b
+pub straight_behind : (to : ℕ) (a b : List LineInstr) → 0 < length b → straight to (a ++ b) ≡ a ++ straight to b
 straight_behind to a b some = last_behind (aim to) a b some
 
-pub straight_last : (to line : ℕ) (a : List Lined) (i : Instr) → straight to (a ++ own line (i ∷ [])) ≡ a ++ own line (aim to i ∷ [])
+pub straight_last : (to line : ℕ) (a : List LineInstr) (i : Instr) → straight to (a ++ own line (i ∷ [])) ≡ a ++ own line (aim to i ∷ [])
 straight_last to line a i = last_is (aim to) line a i
 
 aim_op : (how : Op) (to old first operand : ℕ) → aim to (op_code how old first operand) ≡ op_code how to first operand
@@ -106,7 +106,7 @@ put_by (more_links how e rest) to end = to
 
 module _ (p : Program) (tables : Tables) (r : ℕ) where
   -- the code of operators, of which the last puts its value into the slot `end`
-  abbrev pub ends_code : (end line at first to lo : ℕ) → Links → List Lined
+  abbrev pub ends_code : (end line at first to lo : ℕ) → Links → List LineInstr
   ends_code end line at first to lo no_links = []
   ends_code end line at first to lo (more_links how e rest) =
       in_row at (unless_bare (bare e) (expr_code p tables r line at lo e)
@@ -116,8 +116,8 @@ module _ (p : Program) (tables : Tables) (r : ℕ) where
   pub some_links : (line at first to lo : ℕ) (how : Op) (e : Expr) (rest : Links)
       → 0 < length (links_code p tables r line at first to lo (more_links how e rest))
   some_links line at first to lo how e rest =
-      let inner : List Lined = unless_bare (bare e) (expr_code p tables r line at lo e) in
-      let one : List Lined = inner ++ own line (op_code how to first (value_at p tables r lo e) ∷ []) in
+      let inner : List LineInstr = unless_bare (bare e) (expr_code p tables r line at lo e) in
+      let one : List LineInstr = inner ++ own line (op_code how to first (value_at p tables r lo e) ∷ []) in
       omega (
         arith,
         length-append one (links_code p tables r line (at + length one) to to (behind_value p r lo e) rest),
@@ -129,7 +129,7 @@ module _ (p : Program) (tables : Tables) (r : ℕ) where
   ends_same line at first to lo no_links = refl
   ends_same line at first to lo (more_links how e no_links) = refl
   ends_same line at first to lo (more_links how e (more_links how2 e2 rest)) =
-      let one : List Lined = unless_bare (bare e) (expr_code p tables r line at lo e)
+      let one : List LineInstr = unless_bare (bare e) (expr_code p tables r line at lo e)
       ++ own line (op_code how to first (value_at p tables r lo e) ∷ []) in
       ap (λ c. one ++ c) (ends_same line (at + length one) to to (behind_value p r lo e) (more_links how2 e2 rest))
 
@@ -137,14 +137,14 @@ module _ (p : Program) (tables : Tables) (r : ℕ) where
       → straight end (links_code p tables r line at first to lo (more_links how e rest)) ≡ ends_code end line at first to lo
       (more_links how e rest)
   straight_ends end line at first to lo how e no_links =
-      let inner : List Lined = unless_bare (bare e) (expr_code p tables r line at lo e) in
+      let inner : List LineInstr = unless_bare (bare e) (expr_code p tables r line at lo e) in
       let i : Instr = op_code how to first (value_at p tables r lo e) in
       let j : Instr = op_code how end first (value_at p tables r lo e) in
       ap (straight end) (append-nil (inner ++ own line (i ∷ []))) ∙ straight_last end line inner i
       ∙ ap (λ x. inner ++ own line (x ∷ [])) (aim_op how end to first (value_at p tables r lo e))
       ∙ sym (append-nil (inner ++ own line (j ∷ [])))
   straight_ends end line at first to lo how e (more_links how2 e2 rest) =
-      let one : List Lined = unless_bare (bare e) (expr_code p tables r line at lo e)
+      let one : List LineInstr = unless_bare (bare e) (expr_code p tables r line at lo e)
       ++ own line (op_code how to first (value_at p tables r lo e) ∷ []) in
       let next : ℕ = at + length one in
       let lo2 : ℕ = behind_value p r lo e in

@@ -4,7 +4,7 @@ use Rattle.std.proofs.lemmas.List.{length-append}
 use Rattle.alma_code.specs.declared.instr.Instr.TheVariants as I
 use Rattle.alma_ir.specs.declared.phrase.Cmp.TheVariants as cmp
 use Rattle.alma_ir.specs.Tree.{Program, Expr, Value, Const, Load, Chain, Compare, Truth, Known, Chr, CallExpr}
-use Rattle.alma_lower_templates.specs.Lined.{Lined, own, in_row}
+use Rattle.alma_lower_templates.specs.LineInstr.{LineInstr, own, in_row}
 use Rattle.alma_lower_templates.specs.Tables.{Tables}
 use Rattle.alma_lower_templates.specs.Slots.{bare, stays, unless_bare, behind_expr}
 use Rattle.alma_lower_templates.specs.Pieces.{cmp_code, unequal_code}
@@ -12,11 +12,11 @@ use Rattle.alma_lower_templates.specs.Templates.{test_code, expr_code, slot_or, 
 
 module _ (p : Program) (tables : Tables) (r : ℕ) where
   -- the code of both operands of a comparison, where the first stays or not
-  abbrev pub operands_code : Option ℕ → (line at lo : ℕ) → (x y : Expr) → List Lined
+  abbrev pub operands_code : Option ℕ → (line at lo : ℕ) → (x y : Expr) → List LineInstr
   operands_code o line at lo x y = in_row at (unless_bare o (expr_code p tables r line at lo x))
       (λ next. unless_bare (bare y) (expr_code p tables r line next (behind_expr p r lo x) y))
 
-  abbrev pub compared_code : (line at lo : ℕ) → (x y : Expr) → List Lined
+  abbrev pub compared_code : (line at lo : ℕ) → (x y : Expr) → List LineInstr
   compared_code line at lo x y = operands_code (stays x y) line at lo x y
 
   -- the code of a value that is checked
@@ -51,7 +51,7 @@ module _ (p : Program) (tables : Tables) (r : ℕ) where
       differ : (x y : Expr) → length (test_code p tables r line at lo (Value (Compare cmp.Unequal x y))) ≡ length
           (expr_code p tables r line at lo (Compare cmp.Unequal x y)) + 1
       differ x y =
-          let operands : List Lined = compared_code line at lo x y in
+          let operands : List LineInstr = compared_code line at lo x y in
           let first : ℕ = slot_or p tables r (stays x y) lo in
           let operand : ℕ = value_at p tables r (behind_expr p r lo x) y in
           omega (

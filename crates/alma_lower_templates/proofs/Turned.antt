@@ -25,12 +25,12 @@ use Rattle.alma_lower_implements.proofs.Frames.{own_end, HasSlots, IsAt}
 use Rattle.alma_lower_implements.proofs.Numbers.{bit_integer, zero_bit}
 use Rattle.alma_lower_implements.proofs.Steps.{Holds, Writes, InstrAt, equal_step, less_step, less_eq_step}
 use Rattle.alma_lower_implements.proofs.TurnRow.{Decides, turned_decides}
-use Rattle.alma_lower_templates.specs.Lined.{Lined, own, in_row}
+use Rattle.alma_lower_templates.specs.LineInstr.{LineInstr, own, in_row}
 use Rattle.alma_lower_templates.specs.Tables.{Tables}
 use Rattle.alma_lower_templates.specs.Slots.{bare, stays, is_simple, is_simple_expr, is_turned, by_turn, has_opposite, expr_slots}
 use Rattle.alma_lower_templates.specs.Slots.{behind_expr, behind_stmts, behind_condition, behind_held, held_constant, constant, unless_bare}
 use Rattle.alma_lower_templates.specs.Slots.{stays_by}
-use Rattle.alma_lower_templates.specs.Pieces.{condition, guarded, turned_loop, opposite_code, unless_constant, held_code, held_or}
+use Rattle.alma_lower_templates.specs.Pieces.{condition, guard_code, turned_loop, opposite_code, unless_constant, held_code, held_or}
 use Rattle.alma_lower_templates.specs.Templates.{stmts_code, test_code, jump_code, back_code, expr_code, slot_or, value_at}
 use Rattle.alma_lower_templates.specs.Stands.{Stands}
 use Rattle.alma_lower_templates.proofs.Stands.{stands_front, stands_back}
@@ -71,31 +71,31 @@ turned (CallTest called args up) e = absurd (let bad : false ≡ true = e in cc)
 
 module _ (p : Program) (tables : Tables) (r : ℕ) where
   -- the code of WHILE, by where its condition stands
-  abbrev pub while_code : (behind : Bool) → (line at lo : ℕ) → Test → Stmts → List Lined
+  abbrev pub while_code : (behind : Bool) → (line at lo : ℕ) → Test → Stmts → List LineInstr
   while_code behind line at lo t body = by_turn behind
       (in_row at (own line (held_code (held_constant t) lo))
       (λ at. turned_loop line at (stmts_code p tables r (at + 1) (behind_held p r lo t) body)
       (λ next. back_code p tables r line next (behind_stmts p r (behind_held p r lo t) body) lo (at + 1) t)))
-      (own line (I.Jump (at + 1) ∷ []) ++ (guarded (at + 1) 1
+      (own line (I.Jump (at + 1) ∷ []) ++ (guard_code (at + 1) 1
       (λ none. condition (is_simple t) line (at + 1) lo none (λ at lo none. jump_code p tables r line at lo none t)
       (λ at lo. test_code p tables r line at lo t)) (λ next. stmts_code p tables r next (behind_condition p r lo t) body)
       ++ own line (I.Jump (at + 1) ∷ [])))
 
   -- ---- the comparison behind the body, by the constant that is held
 
-  abbrev pub back_operands : (o : Option ℤ) → (line at lo : ℕ) → (x y : Expr) → List Lined
+  abbrev pub back_operands : (o : Option ℤ) → (line at lo : ℕ) → (x y : Expr) → List LineInstr
   back_operands o line at lo x y =
       in_row at (unless_bare (stays x y) (expr_code p tables r line at lo x))
       (λ next. unless_constant o (unless_bare (bare y) (expr_code p tables r line next (behind_expr p r lo x) y)))
 
-  abbrev pub back_made : (o : Option ℤ) → (line at lo held top : ℕ) → Cmp → (x y : Expr) → List Lined
+  abbrev pub back_made : (o : Option ℤ) → (line at lo held top : ℕ) → Cmp → (x y : Expr) → List LineInstr
   back_made o line at lo held top how x y =
       back_operands o line at lo x y
       ++ own line (opposite_code how lo (slot_or p tables r (stays x y) lo) (held_or o held (value_at p tables r (behind_expr p r lo x) y))
       ∷ I.JumpZero lo top ∷ [])
 
   -- with a constant, what is left is the first operand and the comparison
-  abbrev pub held_back : (line at lo held top : ℕ) → Cmp → (x : Expr) → List Lined
+  abbrev pub held_back : (line at lo held top : ℕ) → Cmp → (x : Expr) → List LineInstr
   held_back line at lo held top how x =
       unless_bare (bare x) (expr_code p tables r line at lo x)
       ++ own line (opposite_code how lo (value_at p tables r lo x) held ∷ I.JumpZero lo top ∷ [])
@@ -231,9 +231,9 @@ module _ (p : Program) (tables : Tables) (code : PlainCode) (input : List ℕ) (
   goes_held at lo held top how x n opposite slots simple runs fits v now b is_held stands =
       let y : Expr = Compare how x (Const n) in
       let kind = first_slot p code input r lo y slots in
-      let made : List Lined = unless_bare (bare x) (expr_code p tables r line at lo x) in
+      let made : List LineInstr = unless_bare (bare x) (expr_code p tables r line at lo x) in
       let first : ℕ = value_at p tables r lo x in
-      let last : List Lined = own line (opposite_code how lo first held ∷ I.JumpZero lo top ∷ []) in
+      let last : List LineInstr = own line (opposite_code how lo first held ∷ I.JumpZero lo top ∷ []) in
       let is = held_is p tables r line at lo held top how x n in
       let there : Stands code at (made ++ last) = subst (Stands code at) is stands in
       let m : ℕ = at + length made in
@@ -277,11 +277,11 @@ module _ (p : Program) (tables : Tables) (code : PlainCode) (input : List ℕ) (
   unfolding ev_expr
   goes_compared at lo held top how x y opposite simple slots runs fits next v now b stands =
       let kind = first_slot p code input r lo (Compare how x y) slots in
-      let operands : List Lined = compared_code p tables r line at lo x y in
+      let operands : List LineInstr = compared_code p tables r line at lo x y in
       let first : ℕ = slot_or p tables r (stays x y) lo in
       let operand : ℕ = value_at p tables r (behind_expr p r lo x) y in
-      let said : List Lined = own line (opposite_code how lo first operand ∷ []) in
-      let last : List Lined = own line (I.JumpZero lo top ∷ []) in
+      let said : List LineInstr = own line (opposite_code how lo first operand ∷ []) in
+      let last : List LineInstr = own line (I.JumpZero lo top ∷ []) in
       let there : Stands code at ((operands ++ said) ++ last) = subst (Stands code at) (sym (append_assoc operands said last)) stands in
       let m : ℕ = at + length (operands ++ said) in
       let back = stands_back code at (operands ++ said) last there in

@@ -11,7 +11,7 @@ use Rattle.alma_ir.specs.declared.program.ArgKind.{ArgKind}
 use Rattle.alma_ir.specs.declared.program.ArgKind.TheVariants as kind
 use Rattle.alma_ir.specs.declared.program.Param.{Param}
 use Rattle.alma_ir.specs.Tree.{Global, Program, routine_at}
-use Rattle.alma_lower_templates.specs.Lined.{Lined, in_row, instrs_of, lines_of}
+use Rattle.alma_lower_templates.specs.LineInstr.{LineInstr, in_row, instrs_of, lines_of}
 use Rattle.alma_lower_templates.specs.Tables.{Tables}
 use Rattle.alma_lower_templates.specs.Slots.{routine_kinds}
 use Rattle.alma_lower_templates.specs.Templates.{routine_code}
@@ -49,7 +49,7 @@ head_for p r runs = record {
 -- ---- the routines, one behind another
 
 -- the code of n routines from one on
-abbrev pub routines_code : Program → Tables → (r n at : ℕ) → List Lined
+abbrev pub routines_code : Program → Tables → (r n at : ℕ) → List LineInstr
 routines_code p tables r zero at = []
 routines_code p tables r (suc n) at = in_row at (routine_code p tables r at) (λ next. routines_code p tables (suc r) n next)
 

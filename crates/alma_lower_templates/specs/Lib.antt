@@ -1,4 +1,4 @@
-pub mod Lined
+pub mod LineInstr
 pub mod Tables
 pub mod Slots
 pub mod Runs

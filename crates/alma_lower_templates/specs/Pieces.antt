@@ -15,7 +15,7 @@ use Rattle.alma_ir.specs.declared.phrase.ReadAs.TheVariants as read_as
 use Rattle.alma_ir.specs.declared.phrase.WriteAs.{WriteAs}
 use Rattle.alma_ir.specs.declared.phrase.WriteAs.TheVariants as write_as
 use Rattle.alma_ir.specs.Tree.{CaseArms, no_cases, more_cases}
-use Rattle.alma_lower_templates.specs.Lined.{Lined, own, in_row}
+use Rattle.alma_lower_templates.specs.LineInstr.{LineInstr, own, in_row}
 use Rattle.alma_lower_templates.specs.Tables.{Tables, range_number, is_whole}
 
 -- ---- numbers
@@ -72,17 +72,17 @@ aim_place to (I.Index old from index range) = I.Index to from index range
 aim_place to i = i
 
 -- code with its last instruction changed
-abbrev pub with_last : (change : Instr → Instr) → List Lined → List Lined
+abbrev pub with_last : (change : Instr → Instr) → List LineInstr → List LineInstr
 with_last change [] = []
 with_last change (x ∷ []) = record { line = x.line; instr = change x.instr } ∷ []
 with_last change (x ∷ (y ∷ rest)) = x ∷ with_last change (y ∷ rest)
 
 -- code whose last instruction puts its number into another slot, and its place
-abbrev pub straight : (to : ℕ) → List Lined → List Lined
+abbrev pub straight : (to : ℕ) → List LineInstr → List LineInstr
 straight to code = with_last (aim to) code
 
-abbrev pub placed : (to : ℕ) → List Lined → List Lined
-placed to code = with_last (aim_place to) code
+abbrev pub place_code : (to : ℕ) → List LineInstr → List LineInstr
+place_code to code = with_last (aim_place to) code
 
 abbrev pub neg_code : Bool → (to from : ℕ) → List Instr
 neg_code true to from = I.Neg to from ∷ []
@@ -106,7 +106,7 @@ abbrev pub fit_code : Tables → Range → (value : ℕ) → List Instr
 fit_code tables range value = unless_whole (is_whole range) (I.InRange value (range_number tables range) ∷ [])
 
 -- a number goes to a slot: straight, where its code puts it in place alone, or from the slot `value`, behind its check
-abbrev pub put_code : (straightly : Bool) → (line to value : ℕ) → (check : List Instr) → (code : List Lined) → List Lined
+abbrev pub put_code : (straightly : Bool) → (line to value : ℕ) → (check : List Instr) → (code : List LineInstr) → List LineInstr
 put_code true line to value check code = straight to code
 put_code false line to value check code = code ++ own line (check ++ (I.Move to value ∷ []))
 
@@ -125,67 +125,68 @@ link_code lo links = I.Own lo ∷ chain_code lo links
 
 -- the front of a phrase of which the first alternative is taken: where it has none, the code goes on at `none`. `Cut mark`
 -- goes behind the phrase
-abbrev pub begin_first : (line mark none : ℕ) → List Lined
+abbrev pub begin_first : (line mark none : ℕ) → List LineInstr
 begin_first line mark none = own line (I.Mark mark ∷ I.Choose none ∷ [])
 
 -- a condition: where it has no alternative the code goes on at `none`. A simple one is tested by a jump
-abbrev pub condition : (simple : Bool) → (line at lo none : ℕ) → (jump : (at lo none : ℕ) → List Lined) → (test : (at lo : ℕ) → List Lined)
-    → List Lined
+abbrev pub condition : (simple : Bool) → (line at lo none : ℕ) → (jump : (at lo none : ℕ) → List LineInstr)
+    → (test : (at lo : ℕ) → List LineInstr)
+    → List LineInstr
 condition true line at lo none jump test = jump at lo none
 condition false line at lo none jump test = begin_first line lo none ++ (test (at + 2) (lo + 1) ++ own line (I.Cut lo ∷ []))
 
 -- a condition and what is done where it has an alternative; where it has none the code goes on `skipped` instructions
 -- behind that
-abbrev pub guarded_by : (at behind skipped : ℕ) → (condition : (none : ℕ) → List Lined) → (body : List Lined) → List Lined
+abbrev pub guarded_by : (at behind skipped : ℕ) → (condition : (none : ℕ) → List LineInstr) → (body : List LineInstr) → List LineInstr
 guarded_by at behind skipped condition body = condition (behind + length body + skipped) ++ body
 
-abbrev pub guarded : (at skipped : ℕ) → (condition : (none : ℕ) → List Lined) → (body : (at : ℕ) → List Lined) → List Lined
-guarded at skipped condition body =
+abbrev pub guard_code : (at skipped : ℕ) → (condition : (none : ℕ) → List LineInstr) → (body : (at : ℕ) → List LineInstr) → List LineInstr
+guard_code at skipped condition body =
     guarded_by at (at + length (condition 0)) skipped condition (body (at + length (condition 0)))
 
 -- an alternative that is not the last, with the jump behind it
-abbrev pub chosen : (line at : ℕ) → (inner : List Lined) → List Lined
-chosen line at inner = own line (I.Choose (at + length inner + 1) ∷ []) ++ inner
+abbrev pub branch_code : (line at : ℕ) → (inner : List LineInstr) → List LineInstr
+branch_code line at inner = own line (I.Choose (at + length inner + 1) ∷ []) ++ inner
 
 -- an operand of OR that is not the last, with the jump behind it
-abbrev pub first_of_two : (line at mark : ℕ) → (inner : List Lined) → List Lined
+abbrev pub first_of_two : (line at mark : ℕ) → (inner : List LineInstr) → List LineInstr
 first_of_two line at mark inner = begin_first line mark (at + length inner + 2) ++ (inner ++ own line (I.Cut mark ∷ []))
 
 -- NOT: an alternative fails, none goes on behind
-abbrev pub refused : (line at mark : ℕ) → (inner : List Lined) → List Lined
-refused line at mark inner = begin_first line mark (at + length inner + 2) ++ (inner ++ own line (I.Cut mark ∷ I.Fail ∷ []))
+abbrev pub not_code : (line at mark : ℕ) → (inner : List LineInstr) → List LineInstr
+not_code line at mark inner = begin_first line mark (at + length inner + 2) ++ (inner ++ own line (I.Cut mark ∷ I.Fail ∷ []))
 
 -- a condition as a number: 1 where it has an alternative, 0 where it has none
-abbrev pub truth_code : (line to at : ℕ) → List Lined
+abbrev pub truth_code : (line to at : ℕ) → List LineInstr
 truth_code line to at = own line (I.Const to (pos 1) ∷ I.Jump (at + 3) ∷ I.Const to (pos 0) ∷ [])
 
 -- ---- FORALL
 
-abbrev pub begin_forall : (line mark out : ℕ) → List Lined
+abbrev pub begin_forall : (line mark out : ℕ) → List LineInstr
 begin_forall line mark out = own line (I.Forall mark out ∷ [])
 
 -- behind the alternative of the first part: the carry is laid over, and a body goes to `next` when it fails
-abbrev pub begin_each : (line mark inner next : ℕ) → List Lined
+abbrev pub begin_each : (line mark inner next : ℕ) → List LineInstr
 begin_each line mark inner next = own line (I.Overlay mark next ∷ I.Mark inner ∷ [])
 
-abbrev pub end_each : (line mark inner : ℕ) → List Lined
+abbrev pub end_each : (line mark inner : ℕ) → List LineInstr
 end_each line mark inner = own line (I.Cut inner ∷ I.Keep mark ∷ I.Fail ∷ [])
 
-abbrev pub end_forall : (line : ℕ) → List Lined
+abbrev pub end_forall : (line : ℕ) → List LineInstr
 end_forall line = own line (I.Finish ∷ [])
 
 -- both parts: a body stands behind `begin_each`; when it is done or fails, the `Fail` of `end_each` goes on to the next
 -- alternative, and with none left the `Finish` follows
-abbrev pub each_body : (line at mark inner : ℕ) → (body : List Lined) → List Lined
+abbrev pub each_body : (line at mark inner : ℕ) → (body : List LineInstr) → List LineInstr
 each_body line at mark inner body = begin_each line mark inner (at + length body + 2) ++ (body ++ end_each line mark inner)
 
-abbrev pub forall_code : (line at mark : ℕ) → (parts : List Lined) → List Lined
+abbrev pub forall_code : (line at mark : ℕ) → (parts : List LineInstr) → List LineInstr
 forall_code line at mark parts = begin_forall line mark (at + length parts) ++ (parts ++ end_forall line)
 
 -- ---- loops
 
 -- WHILE whose condition stands behind its body: the first jump leads there, and while the condition holds its end leads back to the body
-abbrev pub turned_loop : (line at : ℕ) → (body : List Lined) → (condition : (at : ℕ) → List Lined) → List Lined
+abbrev pub turned_loop : (line at : ℕ) → (body : List LineInstr) → (condition : (at : ℕ) → List LineInstr) → List LineInstr
 turned_loop line at body condition =
     own line (I.Jump (at + 1 + length body) ∷ []) ++ (body ++ condition (at + 1 + length body))
 
@@ -204,12 +205,12 @@ count_from (Some n) counter first = I.Const counter n
 count_from None counter first = I.Move counter first
 
 -- no code where there is such a constant
-abbrev pub unless_constant : (constant : Option ℤ) → List Lined → List Lined
+abbrev pub unless_constant : (constant : Option ℤ) → List LineInstr → List LineInstr
 unless_constant (Some n) value = []
 unless_constant None value = value
 
 -- the limit goes to its slot
-abbrev pub limit_code : (alone : Bool) → (line limit value : ℕ) → (code : List Lined) → List Lined
+abbrev pub limit_code : (alone : Bool) → (line limit value : ℕ) → (code : List LineInstr) → List LineInstr
 limit_code alone line limit value code = put_code alone line limit value [] code
 
 -- whether a loop has a turn: the slot `to` becomes 0 where the first count is beyond the limit
@@ -218,7 +219,7 @@ entry_code (pos step) to counter limit = I.LessEq to counter limit
 entry_code (negsuc step) to counter limit = I.LessEq to limit counter
 
 -- the step of a loop, and both bounds
-abbrev pub begin_loop : (line at step : ℕ) → (by : ℤ) → (from to : (at : ℕ) → List Lined) → List Lined
+abbrev pub begin_loop : (line at step : ℕ) → (by : ℤ) → (from to : (at : ℕ) → List LineInstr) → List LineInstr
 begin_loop line at step by from to = own line (I.Const step by ∷ []) ++ in_row (at + 1) (from (at + 1)) to
 
 -- behind the limit: the first count is set, so both bounds are there at one point, and where there is no turn the code goes
@@ -228,20 +229,22 @@ bounds_code by constant counter limit first empty =
     count_from constant counter first ∷ entry_code by first counter limit ∷ I.JumpZero first empty ∷ []
 
 -- a turn: the count is checked, the variable is located and set, and the body follows
-abbrev pub turn_code : (line at : ℕ) → (check : List Instr) → (locate : (at : ℕ) → List Lined) → (store : Instr)
-    → (body : (at : ℕ) → List Lined) → List Lined
+abbrev pub turn_code : (line at : ℕ) → (check : List Instr) → (locate : (at : ℕ) → List LineInstr) → (store : Instr)
+    → (body : (at : ℕ) → List LineInstr) → List LineInstr
 turn_code line at check locate store body =
     in_row at (own line check) (λ at. in_row at (locate at) (λ at. own line (store ∷ []) ++ body (at + 1)))
 
 -- the turns of FOR: behind each comes the next, or what is behind the loop
-abbrev pub for_turns : (line at : ℕ) → (by : ℤ) → (constant : Option ℤ) → (counter limit step first : ℕ) → (turn : List Lined) → List Lined
+abbrev pub for_turns : (line at : ℕ) → (by : ℤ) → (constant : Option ℤ) → (counter limit step first : ℕ) → (turn : List LineInstr)
+    → List LineInstr
 for_turns line at by constant counter limit step first turn =
     own line (bounds_code by constant counter limit first (at + 3 + length turn + 2))
     ++ (turn ++ own line (I.Step counter limit step (at + 3 + length turn + 2) ∷ I.Jump (at + 3) ∷ []))
 
 -- the turns of SOME: each but the last has a choice entry, which goes on where the count is raised, before the next turn; a loop
 -- without turns fails
-abbrev pub some_turns : (line at : ℕ) → (constant : Option ℤ) → (counter limit step first more : ℕ) → (turn : List Lined) → List Lined
+abbrev pub some_turns : (line at : ℕ) → (constant : Option ℤ) → (counter limit step first more : ℕ) → (turn : List LineInstr)
+    → List LineInstr
 some_turns line at constant counter limit step first more turn =
     own line (count_from constant counter first ∷ I.LessEq first counter limit ∷ I.Check first ∷ I.Jump (at + 5)
     ∷ I.Add counter counter step ∷ I.Less more counter limit ∷ I.JumpZero more (at + 8) ∷ I.Choose (at + 4) ∷ [])
@@ -281,13 +284,13 @@ behind_labels at label [] = at + test_size label
 behind_labels at label (label' ∷ rest) = behind_labels (at + test_size label + 1) label' rest
 
 -- an arm: its labels and its body, with the jump behind it by which it leaves
-abbrev pub case_arm : (line value bound at : ℕ) → Range → List Range → (body : List Lined) → List Lined
+abbrev pub case_arm : (line value bound at : ℕ) → Range → List Range → (body : List LineInstr) → List LineInstr
 case_arm line value bound at label rest body =
     own line (labels_code value bound at (behind_labels at label rest) (behind_labels at label rest + length body + 1) label rest)
     ++ body
 
 -- code that is never reached, and before it the jump that leads over it, where there is some
-abbrev pub passed_over : Bool → (line at : ℕ) → List Lined → List Lined
+abbrev pub passed_over : Bool → (line at : ℕ) → List LineInstr → List LineInstr
 passed_over false line at dead = []
 passed_over true line at dead = own line (I.Jump (at + 1 + length dead) ∷ []) ++ dead
 

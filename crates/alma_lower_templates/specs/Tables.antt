@@ -18,14 +18,14 @@ same_text (a ∷ as_) [] = false
 same_text (a ∷ as_) (b ∷ bs) = nat_eq a b && same_text as_ bs
 
 -- 0 where the first is the one, and else one more than among the others
-abbrev pub counted : Bool → ℕ → ℕ
-counted true others = zero
-counted false others = suc others
+abbrev pub count_past : Bool → ℕ → ℕ
+count_past true others = zero
+count_past false others = suc others
 
 -- how many stand before the first that is the one; as many as there are, where none is
 abbrev pub first_place : {A : Type 0} → (same : A → A → Bool) → List A → A → ℕ
 first_place same [] a = zero
-first_place same (b ∷ rest) a = counted (same b a) (first_place same rest a)
+first_place same (b ∷ rest) a = count_past (same b a) (first_place same rest a)
 
 abbrev pub range_number : Tables → Range → ℕ
 range_number tables range = first_place same_range tables.ranges range

@@ -16,7 +16,7 @@ use Rattle.alma_ir.specs.Tree.{Truth, Known, Chr, CallExpr, no_links, more_links
 use Rattle.alma_ir.specs.Tree.{MixPlace, a_desig, no_sels, more_sels, Field, Index}
 use Rattle.alma_ir.specs.Checked.{outer_at}
 use Rattle.alma_ir.specs.Lines.{body_with_lines}
-use Rattle.alma_lower_templates.specs.Lined.{Lined, own, in_row, leaving}
+use Rattle.alma_lower_templates.specs.LineInstr.{LineInstr, own, in_row, leaving}
 use Rattle.alma_lower_templates.specs.Tables.{Tables, range_number, text_number}
 use Rattle.alma_lower_templates.specs.Slots.{shift_of, bare_desig, bare, stays, stays_in, taken_from, unless_bare, goes_straight, own_place}
 use Rattle.alma_lower_templates.specs.Slots.{own_root}
@@ -25,10 +25,10 @@ use Rattle.alma_lower_templates.specs.Slots.{behind_test, behind_condition, behi
 use Rattle.alma_lower_templates.specs.Slots.{behind_target, behind_variable, is_straight, own_kinds, is_turned, by_turn, constant}
 use Rattle.alma_lower_templates.specs.Slots.{ends_alone, held_constant, behind_held}
 use Rattle.alma_lower_templates.specs.Pieces.{op_code, cmp_code, unequal_code, straight, neg_code, write_code, read_code, fit_code}
-use Rattle.alma_lower_templates.specs.Pieces.{link_code, condition, guarded, chosen, first_of_two, refused, truth_code, each_body}
+use Rattle.alma_lower_templates.specs.Pieces.{link_code, condition, guard_code, branch_code, first_of_two, not_code, truth_code, each_body}
 use Rattle.alma_lower_templates.specs.Pieces.{forall_code, begin_loop, turn_code, for_turns, some_turns, behind_labels, case_arm}
 use Rattle.alma_lower_templates.specs.Pieces.{passed_over, has_dead, put_code, first_argument, turned_loop, opposite_code, unless_constant}
-use Rattle.alma_lower_templates.specs.Pieces.{limit_code, placed, held_code, held_or}
+use Rattle.alma_lower_templates.specs.Pieces.{limit_code, place_code, held_code, held_or}
 
 -- the numbers of CHAR
 abbrev pub char_range : Range
@@ -118,7 +118,7 @@ module _ (p : Program) (tables : Tables) (r : ℕ) where
   set_code lo value d = set_by (bare_desig d) lo value d
 
   -- a value and what sets a variable to it, or the value alone where it goes straight into the slot of the variable
-  abbrev pub set_to : Option ℕ → (line : ℕ) → (value : List Lined) → (set : List Instr) → List Lined
+  abbrev pub set_to : Option ℕ → (line : ℕ) → (value : List LineInstr) → (set : List Instr) → List LineInstr
   set_to (Some to) line value set = straight (own_slot to) value
   set_to None line value set = value ++ own line set
 
@@ -131,9 +131,9 @@ module _ (p : Program) (tables : Tables) (r : ℕ) where
   load_code lo d = load_by (bare_desig d) lo d
 
   -- a place that is handed over goes straight to the slot of its argument; that of a whole parameter is in its own slot
-  abbrev pub handed_code : Option ℕ → (line to : ℕ) → (located : List Lined) → List Lined
+  abbrev pub handed_code : Option ℕ → (line to : ℕ) → (located : List LineInstr) → List LineInstr
   handed_code (Some from) line to located = own line (I.Same to (own_slot from) ∷ [])
-  handed_code None line to located = placed to located
+  handed_code None line to located = place_code to located
 
   -- ---- the count of a turn
 
@@ -159,12 +159,12 @@ module _ (p : Program) (tables : Tables) (r : ℕ) where
   -- ---- phrases
 
   abbrev mutual
-    pub stmts_code : (at lo : ℕ) → Stmts → List Lined
+    pub stmts_code : (at lo : ℕ) → Stmts → List LineInstr
     stmts_code at lo no_stmts = []
     stmts_code at lo (more_stmts line x rest) =
         in_row at (stmt_code line at lo x) (λ next. stmts_code next (behind_stmt p r lo x) rest)
 
-    pub stmt_code : (line at lo : ℕ) → Stmt → List Lined
+    pub stmt_code : (line at lo : ℕ) → Stmt → List LineInstr
     stmt_code line at lo (TestStmt t) = test_code line at lo t
     stmt_code line at lo (Assign d e range) =
         set_to (goes_straight d e range) line
@@ -183,7 +183,7 @@ module _ (p : Program) (tables : Tables) (r : ℕ) where
         (λ at. turned_loop line at (stmts_code (at + 1) (behind_held p r lo t) body)
         (λ next. back_code line next (behind_stmts p r (behind_held p r lo t) body) lo (at + 1) t)))
         (own line (I.Jump (at + 1) ∷ [])
-        ++ (guarded (at + 1) 1 (λ none. condition (is_simple t) line (at + 1) lo none (λ at lo none. jump_code line at lo none t)
+        ++ (guard_code (at + 1) 1 (λ none. condition (is_simple t) line (at + 1) lo none (λ at lo none. jump_code line at lo none t)
         (λ at lo. test_code line at lo t))
         (λ next. stmts_code next (behind_condition p r lo t) body)
         ++ own line (I.Jump (at + 1) ∷ [])))
@@ -214,26 +214,26 @@ module _ (p : Program) (tables : Tables) (r : ℕ) where
     stmt_code line at lo WriteLine = own line (I.WriteLine ∷ [])
 
     -- the first arm leaves over all, the others by its jump
-    pub if_code : (line at lo : ℕ) → Arms → (otherwise : (at lo : ℕ) → List Lined) → List Lined
+    pub if_code : (line at lo : ℕ) → Arms → (otherwise : (at lo : ℕ) → List LineInstr) → List LineInstr
     if_code line at lo no_arms otherwise = otherwise at lo
     if_code line at lo (more_arms t body rest) otherwise =
         leaving line at
-        (guarded at 1 (λ none. condition (is_simple t) line at lo none (λ at lo none. jump_code line at lo none t)
+        (guard_code at 1 (λ none. condition (is_simple t) line at lo none (λ at lo none. jump_code line at lo none t)
         (λ at lo. test_code line at lo t))
         (λ next. stmts_code next (behind_condition p r lo t) body))
         (λ next jump. arms_code line jump next (behind_stmts p r (behind_condition p r lo t) body) rest otherwise)
 
-    pub arms_code : (line jump at lo : ℕ) → Arms → (otherwise : (at lo : ℕ) → List Lined) → List Lined
+    pub arms_code : (line jump at lo : ℕ) → Arms → (otherwise : (at lo : ℕ) → List LineInstr) → List LineInstr
     arms_code line jump at lo no_arms otherwise = otherwise at lo
     arms_code line jump at lo (more_arms t body rest) otherwise =
         in_row at
-        (guarded at 1 (λ none. condition (is_simple t) line at lo none (λ at lo none. jump_code line at lo none t)
+        (guard_code at 1 (λ none. condition (is_simple t) line at lo none (λ at lo none. jump_code line at lo none t)
         (λ at lo. test_code line at lo t))
         (λ next. stmts_code next (behind_condition p r lo t) body)
         ++ own line (I.Jump jump ∷ []))
         (λ next. arms_code line jump next (behind_stmts p r (behind_condition p r lo t) body) rest otherwise)
 
-    pub for_code : (line at lo : ℕ) → Loop → List Lined
+    pub for_code : (line at lo : ℕ) → Loop → List LineInstr
     for_code line at lo (a_loop d range counter limit from to by body) =
         let last : ℕ = behind_expr p r (lo + 1) from in
         let place : ℕ = behind_expr p r last to in
@@ -245,7 +245,7 @@ module _ (p : Program) (tables : Tables) (r : ℕ) where
         (set_code (place + 1) (count_at (bare_desig d) (own_slot counter) place) d)
         (λ at. stmts_code at (behind_variable p r place d) body)))
 
-    pub some_code : (line at lo : ℕ) → Loop → List Lined
+    pub some_code : (line at lo : ℕ) → Loop → List LineInstr
     some_code line at lo (a_loop d range counter limit from to by body) =
         let last : ℕ = behind_expr p r (lo + 1) from in
         let more : ℕ = behind_expr p r last to in
@@ -258,20 +258,20 @@ module _ (p : Program) (tables : Tables) (r : ℕ) where
         (λ at. stmts_code at (behind_variable p r (more + 1) d) body)))
 
     -- the arms without labels: nothing leads to them
-    pub dead_code : (at lo : ℕ) → CaseArms → List Lined
+    pub dead_code : (at lo : ℕ) → CaseArms → List LineInstr
     dead_code at lo no_cases = []
     dead_code at lo (more_cases [] body rest) = in_row at (stmts_code at lo body) (λ next. dead_code next (behind_stmts p r lo body) rest)
     dead_code at lo (more_cases (label ∷ labels) body rest) = dead_code at lo rest
 
     -- the first arm that has a label leaves over all, the others by its jump
-    pub case_code : (line value bound at lo : ℕ) → CaseArms → (otherwise : (at lo : ℕ) → List Lined) → List Lined
+    pub case_code : (line value bound at lo : ℕ) → CaseArms → (otherwise : (at lo : ℕ) → List LineInstr) → List LineInstr
     case_code line value bound at lo no_cases otherwise = otherwise at lo
     case_code line value bound at lo (more_cases [] body rest) otherwise = case_code line value bound at lo rest otherwise
     case_code line value bound at lo (more_cases (label ∷ labels) body rest) otherwise =
         leaving line at (case_arm line value bound at label labels (stmts_code (behind_labels at label labels) lo body))
         (λ next jump. cases_code line value bound jump next (behind_stmts p r lo body) rest otherwise)
 
-    pub cases_code : (line value bound jump at lo : ℕ) → CaseArms → (otherwise : (at lo : ℕ) → List Lined) → List Lined
+    pub cases_code : (line value bound jump at lo : ℕ) → CaseArms → (otherwise : (at lo : ℕ) → List LineInstr) → List LineInstr
     cases_code line value bound jump at lo no_cases otherwise = otherwise at lo
     cases_code line value bound jump at lo (more_cases [] body rest) otherwise = cases_code line value bound jump at lo rest otherwise
     cases_code line value bound jump at lo (more_cases (label ∷ labels) body rest) otherwise =
@@ -280,32 +280,32 @@ module _ (p : Program) (tables : Tables) (r : ℕ) where
         (λ next. cases_code line value bound jump next (behind_stmts p r lo body) rest otherwise)
 
     -- 5 is the number of NoCase
-    pub else_code : (line at lo : ℕ) → Else → List Lined
+    pub else_code : (line at lo : ℕ) → Else → List LineInstr
     else_code line at lo no_else = own line (I.Fault 5 ∷ [])
     else_code line at lo (else_part body) = stmts_code at lo body
 
     -- the first branch leaves over all, the others by its jump
-    pub either_code : (line at lo : ℕ) → Branches → List Lined
+    pub either_code : (line at lo : ℕ) → Branches → List LineInstr
     either_code line at lo no_branches = own line (I.Fail ∷ [])
     either_code line at lo (more_branches body no_branches) = stmts_code at lo body
     either_code line at lo (more_branches body (more_branches body' rest)) =
-        leaving line at (chosen line (at + 1) (stmts_code (at + 1) lo body))
+        leaving line at (branch_code line (at + 1) (stmts_code (at + 1) lo body))
         (λ next jump. branches_code line jump next (behind_stmts p r lo body) (more_branches body' rest))
 
-    pub branches_code : (line jump at lo : ℕ) → Branches → List Lined
+    pub branches_code : (line jump at lo : ℕ) → Branches → List LineInstr
     branches_code line jump at lo no_branches = []
     branches_code line jump at lo (more_branches body no_branches) = stmts_code at lo body
     branches_code line jump at lo (more_branches body (more_branches body' rest)) =
-        in_row at (chosen line (at + 1) (stmts_code (at + 1) lo body) ++ own line (I.Jump jump ∷ []))
+        in_row at (branch_code line (at + 1) (stmts_code (at + 1) lo body) ++ own line (I.Jump jump ∷ []))
         (λ next. branches_code line jump next (behind_stmts p r lo body) (more_branches body' rest))
 
-    pub return_code : (line at lo : ℕ) → ReturnExpr → List Lined
+    pub return_code : (line at lo : ℕ) → ReturnExpr → List LineInstr
     return_code line at lo no_result = own line (I.Return ∷ [])
     return_code line at lo (some_result e) =
         unless_bare (bare e) (expr_code line at lo e)
         ++ own line (fit_result (routine_at p r).result (value_at lo e) ++ (I.ReturnValue (value_at lo e) ∷ []))
 
-    pub test_code : (line at lo : ℕ) → Test → List Lined
+    pub test_code : (line at lo : ℕ) → Test → List LineInstr
     test_code line at lo (Value (Compare cmp.Unequal x y)) =
         in_row at (in_row at (unless_bare (stays x y) (expr_code line at lo x))
         (λ next. unless_bare (bare y) (expr_code line next (behind_expr p r lo x) y)))
@@ -330,25 +330,25 @@ module _ (p : Program) (tables : Tables) (r : ℕ) where
     test_code line at lo (Seq x) = stmts_code at lo x
     test_code line at lo (And ts) = and_code line at lo ts
     test_code line at lo (Or ts) = or_code line at lo ts
-    test_code line at lo (Not t) = refused line (at + 2) lo (test_code line (at + 2) (lo + 1) t)
+    test_code line at lo (Not t) = not_code line (at + 2) lo (test_code line (at + 2) (lo + 1) t)
     test_code line at lo (CallTest called args up) =
         let first : ℕ = arguments_from called up lo in
         in_row at (own line (call_link_code called up lo)) (λ next. args_code line next first (first + length (handed_slots args)) args)
         ++ own line (call_code called args up lo 0 ∷ [])
 
-    pub and_code : (line at lo : ℕ) → Tests → List Lined
+    pub and_code : (line at lo : ℕ) → Tests → List LineInstr
     and_code line at lo no_tests = []
     and_code line at lo (more_tests t rest) = in_row at (test_code line at lo t) (λ next. and_code line next (behind_test p r lo t) rest)
 
     -- the first operand leaves over all, the others by its jump
-    pub or_code : (line at lo : ℕ) → Tests → List Lined
+    pub or_code : (line at lo : ℕ) → Tests → List LineInstr
     or_code line at lo no_tests = own line (I.Fail ∷ [])
     or_code line at lo (more_tests t no_tests) = test_code line at lo t
     or_code line at lo (more_tests t (more_tests t' rest)) =
         leaving line at (first_of_two line (at + 2) lo (test_code line (at + 2) (lo + 1) t))
         (λ next jump. operands_code line jump next (behind_test p r (lo + 1) t) (more_tests t' rest))
 
-    pub operands_code : (line jump at lo : ℕ) → Tests → List Lined
+    pub operands_code : (line jump at lo : ℕ) → Tests → List LineInstr
     operands_code line jump at lo no_tests = []
     operands_code line jump at lo (more_tests t no_tests) = test_code line at lo t
     operands_code line jump at lo (more_tests t (more_tests t' rest)) =
@@ -356,12 +356,12 @@ module _ (p : Program) (tables : Tables) (r : ℕ) where
         (λ next. operands_code line jump next (behind_test p r (lo + 1) t) (more_tests t' rest))
 
     -- a simple condition goes to `none` where its value is 0
-    pub jump_code : (line at lo none : ℕ) → Test → List Lined
+    pub jump_code : (line at lo none : ℕ) → Test → List LineInstr
     jump_code line at lo none (Value e) = unless_bare (bare e) (expr_code line at lo e) ++ own line (I.JumpZero (value_at lo e) none ∷ [])
     jump_code line at lo none _ = []
 
     -- a comparison goes to `top` while it holds; a constant that is its second operand stands in the slot `held`
-    pub back_code : (line at lo held top : ℕ) → Test → List Lined
+    pub back_code : (line at lo held top : ℕ) → Test → List LineInstr
     back_code line at lo held top (Value (Compare how x y)) =
         in_row at (unless_bare (stays x y) (expr_code line at lo x))
         (λ next. unless_constant (constant y) (unless_bare (bare y) (expr_code line next (behind_expr p r lo x) y)))
@@ -370,7 +370,7 @@ module _ (p : Program) (tables : Tables) (r : ℕ) where
     back_code line at lo held top _ = []
 
     -- the value goes into the slot `lo`
-    pub expr_code : (line at lo : ℕ) → Expr → List Lined
+    pub expr_code : (line at lo : ℕ) → Expr → List LineInstr
     expr_code line at lo (Const n) = own line (I.Const lo n ∷ [])
     expr_code line at lo (Load d) =
         unless_bare (bare_desig d) (unless_bare (own_place d) (desig_code line at (lo + 1) d)) ++ own line (load_code lo d ∷ [])
@@ -384,7 +384,7 @@ module _ (p : Program) (tables : Tables) (r : ℕ) where
         (λ next. unless_bare (bare y) (expr_code line next (behind_expr p r lo x) y))
         ++ own line (cmp_code how lo (slot_or (stays x y) lo) (value_at (behind_expr p r lo x) y))
     expr_code line at lo (Truth t) =
-        in_row at (guarded at 2 (λ none. condition (is_simple t) line at (lo + 1) none (λ at lo none. jump_code line at lo none t)
+        in_row at (guard_code at 2 (λ none. condition (is_simple t) line at (lo + 1) none (λ at lo none. jump_code line at lo none t)
         (λ at lo. test_code line at lo t)) (λ next. [])) (λ next. truth_code line lo next)
     expr_code line at lo (Known d) =
         unless_bare (own_place d) (desig_code line at (lo + 1) d) ++ own line (I.Known lo (held_at (lo + 1) d) ∷ [])
@@ -396,19 +396,19 @@ module _ (p : Program) (tables : Tables) (r : ℕ) where
         ++ own line (I.Mark (lo + 1) ∷ call_code called args up (lo + 2) lo ∷ I.Cut (lo + 1) ∷ [])
 
     -- each operator puts its value into the slot `to` as soon as its operand is there; the first takes the slot `first`
-    pub links_code : (line at first to lo : ℕ) → Links → List Lined
+    pub links_code : (line at first to lo : ℕ) → Links → List LineInstr
     links_code line at first to lo no_links = []
     links_code line at first to lo (more_links how e rest) =
         in_row at (unless_bare (bare e) (expr_code line at lo e) ++ own line (op_code how to first (value_at lo e) ∷ []))
         (λ next. links_code line next to to (behind_value p r lo e) rest)
 
     -- the arguments go into the slots from `to` on
-    pub args_code : (line at to lo : ℕ) → Args → List Lined
+    pub args_code : (line at to lo : ℕ) → Args → List LineInstr
     args_code line at to lo no_args = []
     args_code line at to lo (more_args a rest) =
         in_row at (arg_code line at to lo a) (λ next. args_code line next (to + 1) (lo + length (arg_slots p r a)) rest)
 
-    pub arg_code : (line at to lo : ℕ) → Arg → List Lined
+    pub arg_code : (line at to lo : ℕ) → Arg → List LineInstr
     arg_code line at to lo (ByValue e range) =
         put_code (is_straight e range) line to (value_at lo e) (fit_code tables range (value_at lo e))
         (unless_bare (bare e) (expr_code line at lo e))
@@ -420,18 +420,18 @@ module _ (p : Program) (tables : Tables) (r : ℕ) where
     arg_code line at to lo (MixPlace d) = handed_code (own_place d) line to (desig_code line at lo d)
 
     -- the place goes into the slot `place_at lo`
-    pub desig_code : (line at lo : ℕ) → Desig → List Lined
+    pub desig_code : (line at lo : ℕ) → Desig → List LineInstr
     desig_code line at lo (a_desig root cells sels) =
         in_row at (unless_bare (own_root root sels) (own line (root_code lo root)))
         (λ next. sels_code line next (slot_or (own_root root sels) lo) (behind_root lo root) sels)
 
     -- the place to be narrowed stands in the slot `from`
-    pub sels_code : (line at from lo : ℕ) → Sels → List Lined
+    pub sels_code : (line at from lo : ℕ) → Sels → List LineInstr
     sels_code line at from lo no_sels = []
     sels_code line at from lo (more_sels x rest) =
         in_row at (sel_code line at from lo x) (λ next. sels_code line next (part_slot lo x) (part_slot lo x + 1) rest)
 
-    pub sel_code : (line at from lo : ℕ) → Sel → List Lined
+    pub sel_code : (line at from lo : ℕ) → Sel → List LineInstr
     sel_code line at from lo (Field offset cells) = own line (I.Field lo from offset ∷ [])
     sel_code line at from lo (Index e range cells) =
         unless_bare (bare e) (expr_code line at lo e)
@@ -445,7 +445,7 @@ module _ (p : Program) (tables : Tables) (r : ℕ) where
   end_code None = I.Return
 
   -- the body behind the own slots, and the end, which has the line of the routine
-  abbrev pub routine_code : (at : ℕ) → List Lined
+  abbrev pub routine_code : (at : ℕ) → List LineInstr
   routine_code at =
       stmts_code at (length (own_kinds (routine_at p r))) (body_with_lines (routine_at p r))
       ++ own (routine_at p r).line (end_code (routine_at p r).result ∷ [])

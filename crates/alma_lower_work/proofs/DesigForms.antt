@@ -14,7 +14,7 @@ use Rattle.alma_ir.proofs.LinesBack.{behind_two}
 use Rattle.alma_lower_work.specs.Front.{Around, Front, Adds, Codes, Takes}
 use Rattle.alma_lower_work.specs.Puts.{PutsValue, PutsSels, PutsSel, value_slot}
 use Rattle.alma_lower_work.proofs.Joins.{on_ok_map, nothing, then_adds, adds_as, adds_code, only_code, slot_adds, adds_slot, own_two}
-use Rattle.alma_lower_templates.specs.Lined.{own}
+use Rattle.alma_lower_templates.specs.LineInstr.{own}
 use Rattle.alma_lower_templates.specs.Tables.{range_number}
 use Rattle.alma_lower_templates.specs.Slots.{bare, unless_bare, chain_slots, root_slots, expr_slots, sel_slots}
 use Rattle.alma_lower_templates.specs.Pieces.{chain_code, link_code}

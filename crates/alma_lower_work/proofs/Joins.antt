@@ -5,9 +5,9 @@ use Rattle.std.proofs.lemmas.Bool.{false≢true}
 use Rattle.std.proofs.lemmas.List.{append-nil}
 use Rattle.alma_code.specs.declared.cell.SlotKind.{SlotKind}
 use Rattle.alma_code.specs.declared.instr.Instr.{Instr}
-use Rattle.alma_choice.specs.Emitted.{aimed, with_target}
+use Rattle.alma_choice.specs.Emitted.{aim_jump, with_target}
 use Rattle.alma_choice.proofs.Aiming.{aim_between}
-use Rattle.alma_lower_templates.specs.Lined.{Lined, own}
+use Rattle.alma_lower_templates.specs.LineInstr.{LineInstr, own}
 use Rattle.alma_lower_work.specs.Front.{Front, Adds, Codes, Takes, Changes, Holes, Turns}
 
 -- a clause on success that follows from another
@@ -21,7 +21,7 @@ own_two line [] ys = refl
 own_two line (x ∷ xs) ys = ap (λ l. record { line = line; instr = x } ∷ l) (own_two line xs ys)
 
 abbrev Code : Type 0
-Code = (at lo : ℕ) → (ls : List ℕ) → List Lined
+Code = (at lo : ℕ) → (ls : List ℕ) → List LineInstr
 
 abbrev Slots : Type 0
 Slots = (ls : List ℕ) → List SlotKind
@@ -84,7 +84,7 @@ turned_back a b c ls f k p h t = record {
 
 -- ---- code alone, and slots alone
 
-pub code_code : (a b c : Front) (xs ys : List Lined) → Codes a b xs → Codes b c ys → Codes a c (xs ++ ys)
+pub code_code : (a b c : Front) (xs ys : List LineInstr) → Codes a b xs → Codes b c ys → Codes a c (xs ++ ys)
 code_code a b c xs ys h j = record {
   instrs = j.instrs ∙ ap (λ y. y ++ ys) h.instrs ∙ append_assoc a.code xs ys;
   taken = j.taken ∙ h.taken;
@@ -94,7 +94,7 @@ code_code a b c xs ys h j = record {
 }
 
 -- code behind what was done before
-pub then_code : {A B X : Type 0} (q : Result A X) (r : Result B X) (a b c : Front) (xs ys : List Lined) → OnOk r (IsOk q)
+pub then_code : {A B X : Type 0} (q : Result A X) (r : Result B X) (a b c : Front) (xs ys : List LineInstr) → OnOk r (IsOk q)
     → OnOk q (Codes a b xs)
     → OnOk r (Codes b c ys) → OnOk r (Codes a c (xs ++ ys))
 then_code (Ok y) (Ok x) a b c xs ys done h j = code_code a b c xs ys h j
@@ -102,7 +102,7 @@ then_code (Err e) (Ok x) a b c xs ys done h j = absurd (false≢true done)
 then_code q (Err e) a b c xs ys done h j = j
 
 -- the same code, said in another way
-pub codes_as : (a b : Front) (xs ys : List Lined) → xs ≡ ys → Codes a b xs → Codes a b ys
+pub codes_as : (a b : Front) (xs ys : List LineInstr) → xs ≡ ys → Codes a b xs → Codes a b ys
 codes_as a b xs ys e h = record {
   instrs = h.instrs ∙ ap (λ y. a.code ++ y) e;
   taken = h.taken;
@@ -111,7 +111,7 @@ codes_as a b xs ys e h = record {
   whole = h.whole;
 }
 
-pub code_adds : (a b c : Front) (xs : List Lined) (g : Code) (l : Slots) (q : Pass) → Codes a b xs → Adds b c g l q
+pub code_adds : (a b c : Front) (xs : List LineInstr) (g : Code) (l : Slots) (q : Pass) → Codes a b xs → Adds b c g l q
     → Adds a c (λ at lo ls. xs ++ g (at + length xs) lo ls) l q
 code_adds a b c xs g l q h j =
     let at = length a.code in
@@ -129,7 +129,7 @@ code_adds a b c xs g l q h j =
       whole = j.whole ∙ h.whole;
     }
 
-pub adds_code : (a b c : Front) (f : Code) (k : Slots) (p : Pass) (xs : List Lined) → Adds a b f k p → Codes b c xs
+pub adds_code : (a b c : Front) (f : Code) (k : Slots) (p : Pass) (xs : List LineInstr) → Adds a b f k p → Codes b c xs
     → Adds a c (λ at lo ls. f at lo ls ++ xs) k p
 adds_code a b c f k p xs h j = record {
   instrs = j.instrs ∙ ap (λ y. y ++ xs) h.instrs ∙ append_assoc a.code (f (length a.code) a.next a.lines) xs;
@@ -139,7 +139,7 @@ adds_code a b c f k p xs h j = record {
   whole = j.whole ∙ h.whole;
 }
 
-pub only_code : (a b : Front) (xs : List Lined) → Codes a b xs → Adds a b (λ at lo ls. xs) (λ ls. []) (λ ls. ls)
+pub only_code : (a b : Front) (xs : List LineInstr) → Codes a b xs → Adds a b (λ at lo ls. xs) (λ ls. []) (λ ls. ls)
 only_code a b xs h = record {
   instrs = h.instrs;
   taken = h.taken ∙ sym (append-nil a.kinds);
@@ -188,25 +188,26 @@ pub address_behind : (a b : Front) (f : Code) (k : Slots) (p : Pass) → Adds a 
     → length b.code ≡ length a.code + length (f (length a.code) a.next a.lines)
 address_behind a b f k p h = ap length h.instrs ∙ length-append a.code (f (length a.code) a.next a.lines)
 
-pub address_after : (a b : Front) (xs : List Lined) → Codes a b xs → length b.code ≡ length a.code + length xs
+pub address_after : (a b : Front) (xs : List LineInstr) → Codes a b xs → length b.code ≡ length a.code + length xs
 address_after a b xs h = ap length h.instrs ∙ length-append a.code xs
 
 -- ---- targets that are aimed late
 
 -- one instruction, whose target is aimed at its address
 pub hole_put : (a b : Front) (line at : ℕ) (i : Instr) → at ≡ length a.code → with_target i 0 ≡ i → Codes a b (own line (i ∷ []))
-    → Holes a b (λ to xs. aimed xs at to) (λ none at lo ls. own line (with_target i none ∷ [])) (λ ls. []) (λ ls. ls)
+    → Holes a b (λ to xs. aim_jump xs at to) (λ none at lo ls. own line (with_target i none ∷ [])) (λ ls. []) (λ ls. ls)
 hole_put a b line at i here same h = record {
   all = adds_as a b _ _ _ _ _ _ (only_code a b _ h) (ap (λ x. own line (x ∷ [])) (sym same)) refl refl;
   fills = λ to ys.
-      ap (λ xs. aimed (xs ++ ys) at to) h.instrs
-      ∙ ap (λ xs. aimed xs at to) (append_assoc a.code (own line (i ∷ [])) ys)
-      ∙ ap (λ n. aimed (a.code ++ record { line = line; instr = i } ∷ ys) n to) here
+      ap (λ xs. aim_jump (xs ++ ys) at to) h.instrs
+      ∙ ap (λ xs. aim_jump xs at to) (append_assoc a.code (own line (i ∷ [])) ys)
+      ∙ ap (λ n. aim_jump (a.code ++ record { line = line; instr = i } ∷ ys) n to) here
       ∙ aim_between a.code (record { line = line; instr = i }) ys to
       ∙ sym (append_assoc a.code (own line (with_target i to ∷ [])) ys);
 }
 
-pub adds_holes : (a b c : Front) (f : Code) (k l : Slots) (p q : Pass) (aim : ℕ → List Lined → List Lined) (h : ℕ → Code) → Adds a b f k p
+pub adds_holes : (a b c : Front) (f : Code) (k l : Slots) (p q : Pass) (aim : ℕ → List LineInstr → List LineInstr) (h : ℕ → Code)
+    → Adds a b f k p
     → Holes b c aim h l q
     → Holes a c aim (λ none at lo ls. f at lo ls ++ h none (at + length (f at lo ls)) (lo + length (k ls)) (p ls)) (λ ls. k ls ++ l (p ls))
     (λ ls. q (p ls))
@@ -225,7 +226,8 @@ adds_holes a b c f k l p q aim h x y =
           ∙ append_assoc a.code (f at lo ls) (h to (at + length (f at lo ls)) (lo + length (k ls)) (p ls)));
     }
 
-pub code_holes : (a b c : Front) (xs : List Lined) (l : Slots) (q : Pass) (aim : ℕ → List Lined → List Lined) (h : ℕ → Code) → Codes a b xs
+pub code_holes : (a b c : Front) (xs : List LineInstr) (l : Slots) (q : Pass) (aim : ℕ → List LineInstr → List LineInstr) (h : ℕ → Code)
+    → Codes a b xs
     → Holes b c aim h l q
     → Holes a c aim (λ none at lo ls. xs ++ h none (at + length xs) lo ls) l q
 code_holes a b c xs l q aim h x y =
@@ -241,7 +243,7 @@ code_holes a b c xs l q aim h x y =
           ∙ append_assoc a.code xs (h to (at + length xs) a.next a.lines));
     }
 
-pub slot_holes : (a b c : Front) (kind : SlotKind) (l : Slots) (q : Pass) (aim : ℕ → List Lined → List Lined) (h : ℕ → Code)
+pub slot_holes : (a b c : Front) (kind : SlotKind) (l : Slots) (q : Pass) (aim : ℕ → List LineInstr → List LineInstr) (h : ℕ → Code)
     → Takes a b kind → Holes b c aim h l q
     → Holes a c aim (λ none at lo ls. h none at (lo + 1) ls) (λ ls. kind ∷ l ls) q
 slot_holes a b c kind l q aim h x y = record {
@@ -254,7 +256,7 @@ slot_holes a b c kind l q aim h x y = record {
 }
 
 -- what stands behind the target, where the code before it is as long whatever the target
-pub holes_adds : (a b c : Front) (k l : Slots) (p q : Pass) (aim : ℕ → List Lined → List Lined) (h : ℕ → Code) (g : Code)
+pub holes_adds : (a b c : Front) (k l : Slots) (p q : Pass) (aim : ℕ → List LineInstr → List LineInstr) (h : ℕ → Code) (g : Code)
     → Holes a b aim h k p → Adds b c g l q
     → Holes a c aim (λ none at lo ls. h none at lo ls ++ g (at + length (h 0 at lo ls)) (lo + length (k ls)) (p ls))
     (λ ls. k ls ++ l (p ls)) (λ ls. q (p ls))
@@ -277,7 +279,7 @@ holes_adds a b c k l p q aim h g x y =
           ∙ ap (λ z. z ++ ys) (append_assoc a.code (h to at lo ls) (g (at + length (h 0 at lo ls)) (lo + length (k ls)) (p ls)));
     }
 
-pub holes_code : (a b c : Front) (k : Slots) (p : Pass) (aim : ℕ → List Lined → List Lined) (h : ℕ → Code) (xs : List Lined)
+pub holes_code : (a b c : Front) (k : Slots) (p : Pass) (aim : ℕ → List LineInstr → List LineInstr) (h : ℕ → Code) (xs : List LineInstr)
     → Holes a b aim h k p → Codes b c xs
     → Holes a c aim (λ none at lo ls. h none at lo ls ++ xs) k p
 holes_code a b c k p aim h xs x y =
@@ -292,7 +294,7 @@ holes_code a b c k p aim h xs x y =
           ∙ ap (λ z. z ++ ys) (append_assoc a.code (h to at a.next a.lines) xs);
     }
 
-pub holes_as : (a b : Front) (k l : Slots) (p q : Pass) (aim : ℕ → List Lined → List Lined) (h g : ℕ → Code) → Holes a b aim h k p
+pub holes_as : (a b : Front) (k l : Slots) (p q : Pass) (aim : ℕ → List LineInstr → List LineInstr) (h g : ℕ → Code) → Holes a b aim h k p
     → ((to : ℕ) → h to (length a.code) a.next a.lines ≡ g to (length a.code) a.next a.lines) → k a.lines ≡ l a.lines → p a.lines ≡ q a.lines
     → Holes a b aim g l q
 holes_as a b k l p q aim h g x e d c = record {
@@ -301,7 +303,7 @@ holes_as a b k l p q aim h g x e d c = record {
 }
 
 -- what stands behind, and then the target, as far behind as is said
-pub filled : (a b c d : Front) (k l : Slots) (p q : Pass) (aim : ℕ → List Lined → List Lined) (h : ℕ → Code) (g : Code) (target : ℕ)
+pub filled : (a b c d : Front) (k l : Slots) (p q : Pass) (aim : ℕ → List LineInstr → List LineInstr) (h : ℕ → Code) (g : Code) (target : ℕ)
     (beyond : ℕ → ℕ)
     → Holes a b aim h k p → Adds b c g l q → Changes c d (aim target) → target ≡ beyond (length c.code)
     → Adds a d (λ at lo ls. h (beyond (at + length (h 0 at lo ls) + length (g (at + length (h 0 at lo ls)) (lo + length (k ls)) (p ls))))
@@ -330,7 +332,8 @@ filled a b c d k l p q aim h g target beyond x y z is =
     }
 
 -- a target that is aimed with nothing behind
-pub closed : (a b c : Front) (k : Slots) (p : Pass) (aim : ℕ → List Lined → List Lined) (h : ℕ → Code) (target : ℕ) → Holes a b aim h k p
+pub closed : (a b c : Front) (k : Slots) (p : Pass) (aim : ℕ → List LineInstr → List LineInstr) (h : ℕ → Code) (target : ℕ)
+    → Holes a b aim h k p
     → Changes b c (aim target) → Adds a c (h target) k p
 closed a b c k p aim h target x y = record {
   instrs = y.instrs ∙ ap (aim target) (sym (append-nil b.code)) ∙ x.fills target []
@@ -344,10 +347,11 @@ closed a b c k p aim h target x y = record {
 -- one instruction whose target is aimed behind what follows
 pub over : (a b c d : Front) (line at target : ℕ) (i : Instr) (g : Code) (l : Slots) (q : Pass) (beyond : ℕ → ℕ) → at ≡ length a.code
     → with_target i 0 ≡ i → Codes a b (own line (i ∷ []))
-    → Adds b c g l q → Changes c d (λ xs. aimed xs at target) → target ≡ beyond (length c.code)
+    → Adds b c g l q → Changes c d (λ xs. aim_jump xs at target) → target ≡ beyond (length c.code)
     → Adds a d (λ at lo ls. own line (with_target i (beyond (at + 1 + length (g (at + 1) lo ls))) ∷ []) ++ g (at + 1) lo ls) l q
 over a b c d line at target i g l q beyond here same h j k is =
     let same_slot : a.next + 0 ≡ a.next = omega arith in
-    adds_as a d _ _ _ _ _ _ (filled a b c d _ _ _ _ (λ to xs. aimed xs at to) _ g target beyond (hole_put a b line at i here same h) j k is)
+    adds_as a d _ _ _ _ _ _ (filled a b c d _ _ _ _ (λ to xs. aim_jump xs at to) _ g target beyond (hole_put a b line at i here same h) j k
+    is)
     (ap (λ n. own line (with_target i (beyond (length a.code + 1 + length (g (length a.code + 1) n a.lines))) ∷ [])
     ++ g (length a.code + 1) n a.lines) same_slot) refl refl

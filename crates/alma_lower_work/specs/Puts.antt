@@ -21,13 +21,14 @@ use Rattle.alma_lower_work.specs.declared.first_operand.Taken.TheVariants as tak
 use Rattle.alma_lower_work.specs.declared.stand.Stand.{Stand}
 use Rattle.alma_lower_work.specs.declared.stand.Stand.TheVariants as stands
 use Rattle.alma_lower_work.specs.Front.{Around, Front, Adds, Holes}
-use Rattle.alma_lower_templates.specs.Lined.{Lined, own, in_row}
+use Rattle.alma_lower_templates.specs.LineInstr.{LineInstr, own, in_row}
 use Rattle.alma_lower_templates.specs.Slots.{shift_of, bare_desig, bare, stays, unless_bare, own_place, is_simple, is_turned, mark_slots}
 use Rattle.alma_lower_templates.specs.Slots.{handed_slots}
 use Rattle.alma_lower_templates.specs.Slots.{call_links, stmts_slots, stmt_slots, arms_slots, dead_slots, cases_slots, else_slots}
 use Rattle.alma_lower_templates.specs.Slots.{behind_condition, branches_slots, test_slots, and_slots, or_slots, expr_slots, links_slots}
 use Rattle.alma_lower_templates.specs.Slots.{args_slots, arg_slots, desig_slots, sels_slots, sel_slots}
-use Rattle.alma_lower_templates.specs.Pieces.{condition, guarded, first_of_two, chosen, labels_code, behind_labels, case_arm, passed_over}
+use Rattle.alma_lower_templates.specs.Pieces.{condition, guard_code, first_of_two, branch_code, labels_code, behind_labels, case_arm}
+use Rattle.alma_lower_templates.specs.Pieces.{passed_over}
 use Rattle.alma_lower_templates.specs.Pieces.{has_dead, first_argument}
 use Rattle.alma_lower_templates.specs.Templates as T
 
@@ -248,7 +249,7 @@ pub record PutsBranches (s : Around) (line exit : ℕ) (a b : Front) (branches :
       (λ ls. branches_slots s.program s.routine (branches_with branches ls)) (behind (branches_phrases branches))
 
 -- a condition, whose way on without an alternative is still to be aimed
-pub record PutsGuard (s : Around) (line : ℕ) (a b : Front) (aim : (to : ℕ) → List Lined → List Lined) (t : Test) : Type 0 where
+pub record PutsGuard (s : Around) (line : ℕ) (a b : Front) (aim : (to : ℕ) → List LineInstr → List LineInstr) (t : Test) : Type 0 where
   pub all : Holes a b aim (λ none at lo ls. condition (is_simple (test_with t ls)) line at lo none
       (λ at lo none. T.jump_code s.program s.tables s.routine line at lo none (test_with t ls))
       (λ at lo. T.test_code s.program s.tables s.routine line at lo (test_with t ls)))
@@ -256,7 +257,7 @@ pub record PutsGuard (s : Around) (line : ℕ) (a b : Front) (aim : (to : ℕ) �
 
 -- a condition and what is done where it has an alternative; else the code goes on so far behind that
 pub record PutsGuarded (s : Around) (line skip : ℕ) (a b : Front) (t : Test) (body : Stmts) : Type 0 where
-  pub all : Adds a b (λ at lo ls. guarded at skip
+  pub all : Adds a b (λ at lo ls. guard_code at skip
       (λ none. condition (is_simple (test_with t ls)) line at lo none
       (λ at lo none. T.jump_code s.program s.tables s.routine line at lo none (test_with t ls))
       (λ at lo. T.test_code s.program s.tables s.routine line at lo (test_with t ls)))
@@ -274,7 +275,7 @@ pub record PutsFirst (s : Around) (line : ℕ) (a b : Front) (t : Test) : Type 0
 
 -- a branch of EITHER that is not the last
 pub record PutsChosen (s : Around) (line : ℕ) (a b : Front) (body : Stmts) : Type 0 where
-  pub all : Adds a b (λ at lo ls. chosen line (at + 1) (T.stmts_code s.program s.tables s.routine (at + 1) lo (stmts_with body ls)))
+  pub all : Adds a b (λ at lo ls. branch_code line (at + 1) (T.stmts_code s.program s.tables s.routine (at + 1) lo (stmts_with body ls)))
       (λ ls. stmts_slots s.program s.routine (stmts_with body ls)) (behind (stmts_phrases body))
 
 -- an arm of CASE that has a label

@@ -3,7 +3,7 @@ ghost use Rattle.std.specs.Prelude.{◌≡◌, length, false, MatchOption, OnOk}
 ghost use Rattle.alma_ir.specs.declared.phrase.Cmp.TheVariants as cmp;
 ghost use Rattle.alma_ir.specs.Tree.{Compare};
 ghost use Rattle.alma_ir.specs.View.{expr_of};
-ghost use Rattle.alma_lower_templates.specs.Lined.{own};
+ghost use Rattle.alma_lower_templates.specs.LineInstr.{own};
 ghost use Rattle.alma_lower_templates.specs.Pieces as pieces;
 ghost use Rattle.alma_lower_work.specs.Front.{front, Codes};
 ghost use Rattle.alma_lower_work.specs.Puts.{is_unequal};

@@ -1,6 +1,6 @@
 // Roots of designators, and links to the frames round the one in hand.
 ghost use Rattle.std.specs.Prelude.{◌≡◌, ◌+◌, IfOk, OnOk};
-ghost use Rattle.alma_lower_templates.specs.Lined.{own};
+ghost use Rattle.alma_lower_templates.specs.LineInstr.{own};
 ghost use Rattle.alma_lower_templates.specs.Pieces.{link_code};
 ghost use Rattle.alma_lower_templates.specs.Slots.{chain_slots, root_slots};
 ghost use Rattle.alma_lower_templates.specs.Templates.{root_code};

@@ -3,7 +3,7 @@ ghost use Rattle.std.specs.Prelude.{◌≡◌, ◌∷◌, [], false, MatchOption
 ghost use Rattle.alma_code.specs.declared.instr.Instr.TheVariants as instr;
 ghost use Rattle.alma_ir.specs.Tree.{Compare, Value};
 ghost use Rattle.alma_ir.specs.View.{expr_of, test_of};
-ghost use Rattle.alma_lower_templates.specs.Lined.{own};
+ghost use Rattle.alma_lower_templates.specs.LineInstr.{own};
 ghost use Rattle.alma_lower_templates.specs.Pieces as pieces;
 ghost use Rattle.alma_lower_templates.specs.Slots.{has_opposite, is_turned};
 ghost use Rattle.alma_lower_work.specs.Front.{front, Codes};

@@ -1,7 +1,7 @@
 // Instructions on numbers.
 ghost use Rattle.std.specs.Prelude.{◌≡◌, ◌++◌, ◌∷◌, [], length, IfOk, OnOk};
 ghost use Rattle.alma_code.specs.declared.instr.Instr.TheVariants as instr;
-ghost use Rattle.alma_lower_templates.specs.Lined.{own};
+ghost use Rattle.alma_lower_templates.specs.LineInstr.{own};
 ghost use Rattle.alma_lower_templates.specs.Pieces as pieces;
 ghost use Rattle.alma_lower_templates.specs.Tables.{is_whole};
 ghost use Rattle.alma_lower_templates.specs.Templates as T;

@@ -2,9 +2,9 @@
 ghost use Rattle.std.specs.Prelude.{◌≡◌, ◌+◌, ◌≤◌, ◌∷◌, [], ℕ, List, length, get_or, drop, IfOk, IsOk, OnOk};
 ghost use Rattle.alma_code.specs.declared.cell.SlotKind.TheVariants as slot;
 ghost use Rattle.alma_base.specs.Limits.{instr_limit};
-ghost use Rattle.alma_choice.specs.Emitted.{aimed};
-ghost use Rattle.alma_lower_templates.specs.Lined.{own};
-ghost use Rattle.alma_lower_templates.specs.Pieces.{placed, straight};
+ghost use Rattle.alma_choice.specs.Emitted.{aim_jump};
+ghost use Rattle.alma_lower_templates.specs.LineInstr.{own};
+ghost use Rattle.alma_lower_templates.specs.Pieces.{place_code, straight};
 ghost use Rattle.alma_lower_work.specs.Front.{front, Codes, Takes, Changes, Turns};
 
 use alma_base::NoMemory;
@@ -95,7 +95,7 @@ impl Work {
     /// Aims the jump at an address at a target.
     #[tactic(auto, unfolding(crate::specs::Front::front))]
     pub fn aim(&mut self, at: u32, target: u32)
-        ensures { Changes (front self.old) (front self.new) (λ xs. aimed xs at target) }
+        ensures { Changes (front self.old) (front self.new) (λ xs. aim_jump xs at target) }
     {
         self.emit.aim(at, target);
     }
@@ -111,7 +111,7 @@ impl Work {
     /// Sends the place of the last instruction into another slot.
     #[tactic(auto, unfolding(crate::specs::Front::front))]
     pub fn redirect_place(&mut self, to: u32)
-        ensures { Changes (front self.old) (front self.new) (λ xs. placed to xs) }
+        ensures { Changes (front self.old) (front self.new) (λ xs. place_code to xs) }
     {
         self.emit.redirect_place(to);
     }
@@ -164,7 +164,7 @@ impl Work {
     /// Aims the jump at an address so far behind the next instruction.
     pub fn aim_behind(&mut self, at: u32, skip: u32) -> Result<(), NoMemory>
         ensures { OnOk result (Changes (front self.old) (front self.new)
-            (λ xs. aimed xs at (length (front self.old).code + skip))) }
+            (λ xs. aim_jump xs at (length (front self.old).code + skip))) }
     {
         let target = self.behind(skip)?;
         self.aim(at, target);
@@ -180,7 +180,7 @@ impl Work {
     ) -> Result<(), NoMemory>
         ensures done { OnOk result (IsOk done) }
         ensures aims { OnOk result (Changes (front self.old) (front self.new)
-            (λ xs. aimed xs at (length (front self.old).code + skip))) }
+            (λ xs. aim_jump xs at (length (front self.old).code + skip))) }
     {
         done?;
         self.aim_behind(at, skip)

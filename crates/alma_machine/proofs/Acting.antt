@@ -8,7 +8,7 @@ use Rattle.alma_code.specs.Head.{PlainHead}
 use Rattle.alma_base.specs.declared.number.Range.{Range}
 use Rattle.alma_base.specs.declared.fault.RunFault.TheVariants as fault
 use Rattle.alma_code.specs.declared.instr.Instr.TheVariants as I
-use Rattle.alma_code.specs.Machine.{State, Stepped, act, number, place, content, binds_content, range_check, as_range, quiet_step}
+use Rattle.alma_code.specs.Machine.{State, StepResult, act, number, place, content, binds_content, range_check, as_range, quiet_step}
 use Rattle.alma_code.specs.Machine.{put_place, equation, position, takes_read, byte_or_failure, arguments, enters_routine, as_routine}
 use Rattle.alma_code.specs.Plain.{PlainCode, PlainRoutine, no_routine, head_at, start_at}
 
@@ -69,7 +69,7 @@ get_some other (Some x) = x
 get_some other None = other
 
 -- the head of a routine that is there
-head_of_some : (o : Option PlainRoutine) (hd : PlainHead) (s : State) (k : PlainHead → Stepped) → Some hd ≡ option_map (λ r. r.head) o
+head_of_some : (o : Option PlainRoutine) (hd : PlainHead) (s : State) (k : PlainHead → StepResult) → Some hd ≡ option_map (λ r. r.head) o
     → k hd ≡ as_routine o s k
 head_of_some (Some r) hd s k is = ap k (ap (λ o. get_some hd o) is)
 head_of_some None hd s k is = absurd (cc)

@@ -15,7 +15,7 @@ use Rattle.alma_io.proofs.Known.{appends_trans}
 use Rattle.alma_machine.specs.declared.machine.RunEnd.{RunEnd}
 use Rattle.alma_machine.specs.declared.machine.RunEnd.TheVariants as run
 use Rattle.alma_machine.specs.Runs.{OnWhole, ShowsLast, end_of, run_end_of, made, last_print}
-use Rattle.alma_machine_acts.specs.Steps.{IsLive, ModeAfter, PrintsOnly, stepped}
+use Rattle.alma_machine_acts.specs.Steps.{IsLive, ModeAfter, PrintsOnly, step_result}
 use Rattle.alma_machine.specs.View.{MachineView, goes_on}
 
 module _ (code : PlainCode) (input : List ℕ) where
@@ -114,7 +114,7 @@ step_is old now m h =
 
 -- one more step was made
 pub progress_more : (old now new : MachineView) (m : ℕ) (a : Step) → Progress old now m
-    → stepped a new.printed new.state ≡ step now.code now.input now.state
+    → step_result a new.printed new.state ≡ step now.code now.input now.state
     → new.state.steps ≡ now.state.steps + 1 → (new.code ≡ now.code) × (new.input ≡ now.input) → Progress old new (m + 1)
 progress_more old now new m a h done counted same = record {
   state = ap (λ x. x.state) (done ∙ step_is old now m h) ∙ sym (after_more old.code old.input m old.state);
@@ -128,7 +128,7 @@ progress_more old now new m a h done counted same = record {
 
 -- what was printed with one more step
 pub prints_then : (old now new : MachineView) (m : ℕ) (a : Step) → Progress old now m
-    → stepped a new.printed new.state ≡ step now.code now.input now.state
+    → step_result a new.printed new.state ≡ step now.code now.input now.state
     → prints old.code old.input (m + 1) old.state ≡ prints old.code old.input m old.state ++ new.printed
 prints_then old now new m a h done =
     prints_more old.code old.input m old.state
@@ -224,7 +224,7 @@ pub record Finished (old new : MachineView) (m budget : ℕ) (e : End) : Type 0 
 
 -- so it has where its last step said so
 pub finished : (old now new : MachineView) (m budget : ℕ) (a : Step) (e : End) → Progress old now m → Progress old new (m + 1)
-    → stepped a new.printed new.state ≡ step now.code now.input now.state
+    → step_result a new.printed new.state ≡ step now.code now.input now.state
     → a ≡ answer.Done e → ModeAfter a new.state.mode → PrintsOnly a new.printed → m < budget → Finished old new m budget e
 finished old now new m budget a e h p done is mode quiet lt =
     let le : m + 1 ≤ budget = omega arith in

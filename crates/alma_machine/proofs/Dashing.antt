@@ -3,7 +3,7 @@ use Rattle.std.proofs.Common.{◌≡◌, ℕ, zero, suc, ◌+◌, ◌≤◌, Lis
 use Rattle.std.specs.Prelude.{Bool, true, false, if◌then◌else◌}
 use Rattle.std.proofs.lemmas.List.{append-nil}
 use Rattle.alma_code.specs.Fits.{Fits}
-use Rattle.alma_code.specs.Machine.{State, Stepped, step, after, prints}
+use Rattle.alma_code.specs.Machine.{State, StepResult, step, after, prints}
 use Rattle.alma_code.specs.Plain.{PlainCode}
 use Rattle.alma_code_laws.proofs.Runs.{stays_fit}
 use Rattle.alma_machine.specs.Quick.{Quickly, Quietly}
@@ -14,17 +14,18 @@ use Rattle.alma_machine.specs.View.{MachineView}
 use Rattle.alma_machine.proofs.Budget.{after_more, after_sum, prints_more, prints_sum, last_sum, Progress}
 
 -- a step that was made
-pub is_made : (b : Bool) (old new : State) (word : Stepped) → b ≡ true → Quickly b old new word → (new ≡ word.state) × (word.printed ≡ [])
+pub is_made : (b : Bool) (old new : State) (word : StepResult) → b ≡ true → Quickly b old new word → (new ≡ word.state)
+    × (word.printed ≡ [])
 is_made true old new word e h = h
 is_made false old new word e h = absurd (cc)
 
 -- what has nothing to tell printed nothing
-pub quick_of_quiet : (b : Bool) (old new : State) (word : Stepped) → Quietly b old new word → Quickly b old new word
+pub quick_of_quiet : (b : Bool) (old new : State) (word : StepResult) → Quietly b old new word → Quickly b old new word
 quick_of_quiet true old new word h = (ap (λ x. x.state) h, sym (ap (λ x. x.printed) h))
 quick_of_quiet false old new word h = h
 
 -- one that was not
-pub is_left : (b : Bool) (old new : State) (word : Stepped) → b ≡ false → Quickly b old new word → new ≡ old
+pub is_left : (b : Bool) (old new : State) (word : StepResult) → b ≡ false → Quickly b old new word → new ≡ old
 is_left false old new word e h = h
 is_left true old new word e h = absurd (cc)
 

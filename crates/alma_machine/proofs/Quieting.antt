@@ -3,23 +3,23 @@ use Rattle.std.proofs.Common.{[], ◌≡◌, ℕ, refl, sym, ap, subst, ◌∙�
 use Rattle.std.specs.Prelude.{ℤ, Bool, Option, Result, Ok, Err, IfOk, OnErr, is_ok}
 use Rattle.alma_base.specs.declared.number.Range.{Range}
 use Rattle.alma_code.specs.declared.step.Step.{Step}
-use Rattle.alma_code.specs.Machine.{State, Stepped, content, store, equation, equation_of_contents, quiet_step}
+use Rattle.alma_code.specs.Machine.{State, StepResult, content, store, equation, equation_of_contents, quiet_step}
 use Rattle.alma_machine.specs.Quick.{Quietly}
 use Rattle.alma_machine_acts.specs.Rows.{HasNumberIn, GivesContent}
-use Rattle.alma_machine_acts.specs.Steps.{stepped}
+use Rattle.alma_machine_acts.specs.Steps.{step_result}
 use Rattle.alma_machine_acts.proofs.Words.{store_is}
 
 -- a store that was made is a step with nothing to tell, and one that wanted memory is none
-pub quietly_stored : {E : Type 0} (r : Result Step E) (b : Bool) (old new : State) (f n : ℕ) (v : ℤ) (word : Stepped) → b ≡ is_ok r
-    → HasNumberIn old.now f n → IfOk r (λ a. stepped a [] new ≡ store old f n v quiet_step) → OnErr r (new ≡ old)
+pub quietly_stored : {E : Type 0} (r : Result Step E) (b : Bool) (old new : State) (f n : ℕ) (v : ℤ) (word : StepResult) → b ≡ is_ok r
+    → HasNumberIn old.now f n → IfOk r (λ a. step_result a [] new ≡ store old f n v quiet_step) → OnErr r (new ≡ old)
     → store old f n v quiet_step ≡ word → Quietly b old new word
 quietly_stored (Ok a) b old new f n v word made h done none is =
     let put = store_is old f n v quiet_step h in
-    subst (λ b. Quietly b old new word) (sym made) (ap (λ (w : Stepped). quiet_step w.state) (done ∙ put) ∙ sym put ∙ is)
+    subst (λ b. Quietly b old new word) (sym made) (ap (λ (w : StepResult). quiet_step w.state) (done ∙ put) ∙ sym put ∙ is)
 quietly_stored (Err e) b old new f n v word made h done none is = subst (λ b. Quietly b old new word) (sym made) none
 
 -- two cells are equated by what they know
-pub known_equation : (s : State) (f i g j : ℕ) (r t : Option Range) (u v x y : Option ℤ) (k : State → Stepped) → GivesContent s.now f i u
+pub known_equation : (s : State) (f i g j : ℕ) (r t : Option Range) (u v x y : Option ℤ) (k : State → StepResult) → GivesContent s.now f i u
     → GivesContent s.now g j v → u ≡ x → v ≡ y → equation s f i r g j t k ≡ equation_of_contents s f i r x g j t y k
 known_equation s f i g j r t u v x y k a b left right =
     a s (λ u. content s g j (λ v. equation_of_contents s f i r u g j t v k)) refl

@@ -13,7 +13,7 @@ use Rattle.alma_code.specs.Machine.{Mode, State, start, Going, Failing, step, st
 use Rattle.alma_code.specs.Plain.{PlainCode, head_at}
 use Rattle.alma_machine.specs.Needs.{Needs}
 use Rattle.alma_machine.specs.Stands.{Stands}
-use Rattle.alma_machine_acts.specs.Steps.{IsLive, ModeAfter, stepped}
+use Rattle.alma_machine_acts.specs.Steps.{IsLive, ModeAfter, step_result}
 use Rattle.alma_machine.specs.View.{goes_on, runs_after}
 use Rattle.alma_machine.proofs.Needing.{needs_at, in_code}
 
@@ -35,8 +35,8 @@ step_fetched code input s i going is = sym (ap (λ m. step_in code input m s) go
 -- a step whose instruction is done is that step of the copying code machine
 pub done_is : {E : Type 0} (result : Result Step E) (bytes : List ℕ) (new : State) (code : PlainCode) (input : List ℕ) (s : State)
     (i : Instr) → s.mode ≡ Going → slice_get code.instrs s.at ≡ Some i
-    → IfOk result (λ answer. stepped answer bytes new ≡ act code input i (record s { at = s.at + 1; last = s.at; steps = s.steps + 1 }))
-    → IfOk result (λ answer. stepped answer bytes new ≡ step code input s)
+    → IfOk result (λ answer. step_result answer bytes new ≡ act code input i (record s { at = s.at + 1; last = s.at; steps = s.steps + 1 }))
+    → IfOk result (λ answer. step_result answer bytes new ≡ step code input s)
 done_is (Ok answer) bytes new code input s i going is h = h ∙ step_fetched code input s i going is
 done_is (Err fault) bytes new code input s i going is h = tt
 
@@ -63,7 +63,7 @@ live_after answer.Printed m e h = h
 -- a machine keeps after a step what it must, where it goes on
 pub stands_after : {E : Type 0} (result : Result Step E) (code : PlainCode) (input : List ℕ) (old new : State) (bytes : List ℕ)
     → Stands code old
-    → IfOk result (λ answer. stepped answer bytes new ≡ step code input old)
+    → IfOk result (λ answer. step_result answer bytes new ≡ step code input old)
     → IfOk result (λ answer. ModeAfter answer new.mode)
     → OnOk result (new.steps ≡ old.steps + 1) → OnOk result (new.choices ≤ old.choices + 1) → OnOk result (new.fails ≤ old.fails + 1)
     → runs_after result ≡ true → Stands code new

@@ -1,15 +1,15 @@
 -- What a step gives that is made at once, or not at all.
 use Rattle.std.specs.Prelude.{◌≡◌, ◌+◌, ◌≤◌, [], Bool, true, false}
-use Rattle.alma_code.specs.Machine.{State, Stepped, quiet_step}
+use Rattle.alma_code.specs.Machine.{State, StepResult, quiet_step}
 use Rattle.alma_machine_acts.specs.Steps.{IsLive}
 
 -- it was made and printed nothing; or nothing has happened
-abbrev pub Quickly : Bool → (old new : State) → Stepped → Type 0
+abbrev pub Quickly : Bool → (old new : State) → StepResult → Type 0
 Quickly true old new word = (new ≡ word.state) × (word.printed ≡ [])
 Quickly false old new word = new ≡ old
 
 -- it was made, and has nothing to tell; or nothing has happened
-abbrev pub Quietly : Bool → (old new : State) → Stepped → Type 0
+abbrev pub Quietly : Bool → (old new : State) → StepResult → Type 0
 Quietly true old new word = quiet_step new ≡ word
 Quietly false old new word = new ≡ old
 

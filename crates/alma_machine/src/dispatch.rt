@@ -5,7 +5,7 @@ ghost use Rattle.alma_code.specs.Machine.{State, act};
 ghost use Rattle.alma_code.specs.Plain.{PlainCode};
 ghost use Rattle.alma_machine.specs.Needs.{Computes, Needs, is_first_form, is_control_form, is_place_form, is_cell_form, is_choice_form, is_call_form, is_read_form, is_link_form};
 ghost use Rattle.alma_machine_acts.specs.Rows.{state_of, HasNumber, KeepsOn, put_or_fault};
-ghost use Rattle.alma_machine_acts.specs.Steps.{stepped, PrintsOnly};
+ghost use Rattle.alma_machine_acts.specs.Steps.{step_result, PrintsOnly};
 
 use alma_base::{NoMemory, RunFault};
 use alma_code::{ChoiceKind, End, Instr, Step};
@@ -63,7 +63,7 @@ pub fn act<M: MachineMemory, V: CodeView>(
     requires lawful { length input.now ≤ input_limit }
     requires empty { bytes.old.items ≡ [] }
     ensures ok { IfOk result
-        (λ answer. stepped answer bytes.new.items (state_of M.picture registers.new)
+        (λ answer. step_result answer bytes.new.items (state_of M.picture registers.new)
         ≡ act (V.code view.now) input.now instr (state_of M.picture registers.old)) }
     ensures kept { IfOk result
         (λ answer. KeepsOn answer (state_of M.picture registers.old)
@@ -116,7 +116,7 @@ fn act_control<M: MachineMemory, V: CodeView>(
     requires later { is_first_form instr ≡ false }
     requires few { registers.old.choices + 1 < 2 ^ 63 }
     requires lawful { length input.now ≤ input_limit }
-    ensures ok { IfOk result (λ answer. stepped answer [] (state_of M.picture registers.new)
+    ensures ok { IfOk result (λ answer. step_result answer [] (state_of M.picture registers.new)
         ≡ act (V.code view.now) input.now instr (state_of M.picture registers.old)) }
     ensures kept { IfOk result
         (λ answer. KeepsOn answer (state_of M.picture registers.old)
@@ -159,7 +159,7 @@ fn act_places<M: MachineMemory, V: CodeView>(
     requires no_control { is_control_form instr ≡ false }
     requires few { registers.old.choices + 1 < 2 ^ 63 }
     requires lawful { length input.now ≤ input_limit }
-    ensures ok { IfOk result (λ answer. stepped answer [] (state_of M.picture registers.new)
+    ensures ok { IfOk result (λ answer. step_result answer [] (state_of M.picture registers.new)
         ≡ act (V.code view.now) input.now instr (state_of M.picture registers.old)) }
     ensures kept { IfOk result
         (λ answer. KeepsOn answer (state_of M.picture registers.old)
@@ -213,7 +213,7 @@ fn act_cells<M: MachineMemory, V: CodeView>(
     requires no_place { is_place_form instr ≡ false }
     requires few { registers.old.choices + 1 < 2 ^ 63 }
     requires lawful { length input.now ≤ input_limit }
-    ensures ok { IfOk result (λ answer. stepped answer [] (state_of M.picture registers.new)
+    ensures ok { IfOk result (λ answer. step_result answer [] (state_of M.picture registers.new)
         ≡ act (V.code view.now) input.now instr (state_of M.picture registers.old)) }
     ensures kept { IfOk result
         (λ answer. KeepsOn answer (state_of M.picture registers.old)
@@ -263,7 +263,7 @@ fn act_choices<M: MachineMemory, V: CodeView>(
     requires no_cell { is_cell_form instr ≡ false }
     requires few { registers.old.choices + 1 < 2 ^ 63 }
     requires lawful { length input.now ≤ input_limit }
-    ensures ok { IfOk result (λ answer. stepped answer [] (state_of M.picture registers.new)
+    ensures ok { IfOk result (λ answer. step_result answer [] (state_of M.picture registers.new)
         ≡ act (V.code view.now) input.now instr (state_of M.picture registers.old)) }
     ensures kept { IfOk result
         (λ answer. KeepsOn answer (state_of M.picture registers.old)
@@ -301,7 +301,7 @@ fn act_calls<M: MachineMemory, V: CodeView>(
     requires no_choice { is_choice_form instr ≡ false }
     requires few { registers.old.choices + 1 < 2 ^ 63 }
     requires lawful { length input.now ≤ input_limit }
-    ensures ok { IfOk result (λ answer. stepped answer [] (state_of M.picture registers.new)
+    ensures ok { IfOk result (λ answer. step_result answer [] (state_of M.picture registers.new)
         ≡ act (V.code view.now) input.now instr (state_of M.picture registers.old)) }
     ensures kept { IfOk result
         (λ answer. KeepsOn answer (state_of M.picture registers.old)
@@ -339,7 +339,7 @@ fn act_input<M: MachineMemory, V: CodeView>(
     requires no_call { is_call_form instr ≡ false }
     requires few { registers.old.choices + 1 < 2 ^ 63 }
     requires lawful { length input.now ≤ input_limit }
-    ensures ok { IfOk result (λ answer. stepped answer [] (state_of M.picture registers.new)
+    ensures ok { IfOk result (λ answer. step_result answer [] (state_of M.picture registers.new)
         ≡ act (V.code view.now) input.now instr (state_of M.picture registers.old)) }
     ensures kept { IfOk result
         (λ answer. KeepsOn answer (state_of M.picture registers.old)
@@ -380,7 +380,7 @@ fn act_links<M: MachineMemory, V: CodeView>(
     requires no_read { is_read_form instr ≡ false }
     requires few { registers.old.choices + 1 < 2 ^ 63 }
     requires lawful { length input.now ≤ input_limit }
-    ensures ok { IfOk result (λ answer. stepped answer [] (state_of M.picture registers.new)
+    ensures ok { IfOk result (λ answer. step_result answer [] (state_of M.picture registers.new)
         ≡ act (V.code view.now) input.now instr (state_of M.picture registers.old)) }
     ensures kept { IfOk result
         (λ answer. KeepsOn answer (state_of M.picture registers.old)

@@ -8,7 +8,7 @@ ghost use Rattle.alma_verify.specs.Verified.{code_of_verified};
 ghost use Rattle.alma_code.specs.Rules.{IsSound};
 ghost use Rattle.alma_code.specs.Machine.{Going, step, start, after, prints};
 ghost use Rattle.alma_machine_acts.specs.Rows.{state_of};
-ghost use Rattle.alma_machine_acts.specs.Steps.{stepped, ModeAfter, PrintsOnly};
+ghost use Rattle.alma_machine_acts.specs.Steps.{step_result, ModeAfter, PrintsOnly};
 ghost use Rattle.alma_machine.specs.View.{runs_after};
 ghost use Rattle.alma_machine.specs.Stands.{Stands};
 ghost use Rattle.alma_io.specs.Causes.{HasCause};
@@ -67,7 +67,7 @@ fn take<M: MachineMemory, V: CodeView>(
     requires lawful { length input.now ≤ input_limit }
     requires empty { printed.old.items ≡ [] }
     ensures step { IfOk result
-        (λ answer. stepped answer printed.new.items (state_of M.picture registers.new)
+        (λ answer. step_result answer printed.new.items (state_of M.picture registers.new)
         ≡ step (V.code view.now) input.now (state_of M.picture registers.old)) }
     ensures quiet { IfOk result (λ answer. PrintsOnly answer printed.new.items) }
     ensures counted { OnOk result (registers.new.steps ≡ registers.old.steps + 1) }
@@ -107,7 +107,7 @@ pub fn advance<M: MachineMemory, V: CodeView>(
     requires few { registers.old.steps + 1 < 2 ^ 63 }
     requires lawful { length input.now ≤ input_limit }
     ensures step { IfOk result
-        (λ answer. stepped answer printed.new.items (state_of M.picture registers.new)
+        (λ answer. step_result answer printed.new.items (state_of M.picture registers.new)
         ≡ step (V.code view.now) input.now (state_of M.picture registers.old)) }
     ensures quiet { IfOk result (λ answer. PrintsOnly answer printed.new.items) }
     ensures counted { OnOk result (registers.new.steps ≡ registers.old.steps + 1) }
@@ -296,7 +296,7 @@ impl<'b, 'i> Machine<'b, 'i> {
     pub fn step(&mut self) -> Result<Step, NoMemory>
         requires running { IsTrue self.old.running }
         requires few { self.old.state.steps + 1 < 2 ^ 63 }
-        ensures step { IfOk result (λ answer. stepped answer self.new.printed self.new.state
+        ensures step { IfOk result (λ answer. step_result answer self.new.printed self.new.state
             ≡ step self.old.code self.old.input self.old.state) }
         ensures quiet { IfOk result (λ answer. PrintsOnly answer self.new.printed) }
         ensures mode { IfOk result (λ answer. ModeAfter answer self.new.state.mode) }

@@ -8,7 +8,7 @@ ghost use Rattle.alma_code.specs.Machine.{State, number, put_number, goes_to, fa
 ghost use Rattle.alma_machine.specs.Needs.{Needs, Computes};
 ghost use Rattle.alma_machine.specs.Quick.{Quietly, KeepsLive};
 ghost use Rattle.alma_machine.specs.View.{run_state};
-ghost use Rattle.alma_machine_acts.specs.Rows.{HasNumber, HasPlace, counted, put_or_fault, point_or_fault};
+ghost use Rattle.alma_machine_acts.specs.Rows.{HasNumber, HasPlace, count_on, put_or_fault, point_or_fault};
 
 use crate::dispatch::computed;
 use alma_base::{Range, RunFault};
@@ -59,7 +59,7 @@ fn count_quickly(
     requires by { HasNumber registers.old.memory.now by }
     ensures step { let s = run_state registers.old in
         Quietly result s (run_state registers.new)
-        (counted s counter limit by (goes_to out s) (put_number s counter)) }
+        (count_on s counter limit by (goes_to out s) (put_number s counter)) }
     ensures kept { KeepsLive (run_state registers.old) (run_state registers.new) }
 {
     match registers.next(counter, limit, by) {

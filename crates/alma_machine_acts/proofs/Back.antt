@@ -7,7 +7,7 @@ use Rattle.alma_code.specs.declared.cell.Cell.{Cell}
 use Rattle.alma_code.specs.declared.cell.Cell.TheVariants as cell
 use Rattle.alma_code.specs.declared.instr.Instr.{Instr}
 use Rattle.alma_code.specs.declared.instr.Instr.TheVariants as I
-use Rattle.alma_code.specs.Machine.{State, Stepped, result_to, to_number, answers_return, state_after_leave, with_slot}
+use Rattle.alma_code.specs.Machine.{State, StepResult, result_to, to_number, answers_return, state_after_leave, with_slot}
 use Rattle.alma_code.specs.Picture.{PlainFrame, last_frame, without_last, frames_with_cell, frame_with, no_frame}
 use Rattle.alma_code.specs.Plain.{PlainCode}
 use Rattle.alma_machine_acts.specs.Rows.{HasNumber, Gives}
@@ -50,7 +50,7 @@ one_less now = length-take-le (length now - 1) now (omega arith)
 pub ruleset backs = (back_some, back_inside, same_frames, one_less)
 
 -- what a word gives is returned, or ends the run
-pub gives_back : (now : List PlainFrame) (word : State → (ℤ → Stepped) → Stepped) (s : State) (o : Option Instr)
+pub gives_back : (now : List PlainFrame) (word : State → (ℤ → StepResult) → StepResult) (s : State) (o : Option Instr)
     (result : Result ℤ RunFault) → s.now ≡ now → Gives now word result
     → word s (λ v. result_to o (state_after_leave s) v) ≡ back_or_fault o s result
 gives_back now word s o (Ok v) same h = h s (λ v. result_to o (state_after_leave s) v) same

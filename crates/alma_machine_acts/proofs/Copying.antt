@@ -14,23 +14,23 @@ use Rattle.alma_code.specs.declared.step.Step.TheVariants as answer
 use Rattle.alma_code.specs.Carries.{number_at}
 use Rattle.alma_code.specs.Fits.{IsContent}
 use Rattle.alma_code.specs.Kinds.{is_number}
-use Rattle.alma_code.specs.Machine.{State, Stepped, gets_stuck, copies_cells, with_cell}
+use Rattle.alma_code.specs.Machine.{State, StepResult, gets_stuck, copies_cells, with_cell}
 use Rattle.alma_code.specs.Picture.{PlainFrame, cell_at}
-use Rattle.alma_machine_acts.specs.Copies.{cells_from, laid}
+use Rattle.alma_machine_acts.specs.Copies.{cells_from, lay}
 use Rattle.alma_machine_acts.specs.Rows.{HasNumberIn, KeepsNumbers, AreNumbers, GoesOn}
-use Rattle.alma_machine_acts.specs.Steps.{stepped}
+use Rattle.alma_machine_acts.specs.Steps.{step_result}
 use Rattle.alma_machine_acts.proofs.Stays.{cell_stays}
 use Rattle.alma_machine_acts.proofs.Words.{content_held}
 
 number_there : (now : List PlainFrame) (f i : ℕ) → HasNumberIn now f i → number_at now f i ≡ true
 number_there now f i h = ap is_number h.kind
 
-if_both : (x y : Bool) (p q r : Stepped) → y ≡ true → p ≡ q → if_true (x && y) (λ _. p) (λ _. r) ≡ if_true x (λ _. q) (λ _. r)
+if_both : (x y : Bool) (p q r : StepResult) → y ≡ true → p ≡ q → if_true (x && y) (λ _. p) (λ _. r) ≡ if_true x (λ _. q) (λ _. r)
 if_both true y p q r e same = ap (λ b. if_true b (λ _. p) (λ _. r)) e ∙ same
 if_both false y p q r e same = refl
 
 copied_from : (n a : ℕ) (before : List PlainFrame) (s : State) (f i g j : ℕ) → ((k : ℕ) → k < n → number_at before g (j + (a + k)) ≡ true)
-    → copies_cells n before s f i g (j + a) ≡ laid (map (λ k. cell_at before g (j + k) cell.Unknown) (range_with_len a n)) s f i
+    → copies_cells n before s f i g (j + a) ≡ lay (map (λ k. cell_at before g (j + k) cell.Unknown) (range_with_len a n)) s f i
 copied_from zero a before s f i g j there = refl
 copied_from (suc n) a before s f i g j there =
     let z : j + (a + 0) ≡ j + a = omega arith in
@@ -43,7 +43,7 @@ copied_from (suc n) a before s f i g j there =
 
 -- cells that are read and then laid down are copied
 pub copied_is : (n : ℕ) (before : List PlainFrame) (s : State) (f i g j : ℕ) → AreNumbers before g j n
-    → copies_cells n before s f i g j ≡ laid (cells_from before g j n) s f i
+    → copies_cells n before s f i g j ≡ lay (cells_from before g j n) s f i
 copied_is n before s f i g j numbers =
     let z : j ≡ j + 0 = omega arith in
     ap (copies_cells n before s f i g) z
@@ -61,13 +61,13 @@ contents_of now f i n numbers =
 
 -- as far as the first k cells are laid down
 pub record Laid (cells : List Cell) (s t : State) (f i k : ℕ) : Type 0 where
-  pub rest : laid cells s f i ≡ laid (drop k cells) t f (i + k)
+  pub rest : lay cells s f i ≡ lay (drop k cells) t f (i + k)
   pub numbers : KeepsNumbers s.now t.now
   pub kept : GoesOn s t
 
 pub laid_none : (cells : List Cell) (s : State) (f i : ℕ) → Laid cells s s f i 0
 laid_none cells s f i = (let z : i ≡ i + 0 = omega arith in
-    record { rest = ap (laid cells s f) z; numbers = λ f n h. h; kept = (refl, λ h. h, refl, refl) })
+    record { rest = ap (lay cells s f) z; numbers = λ f n h. h; kept = (refl, λ h. h, refl, refl) })
 
 -- one more
 pub laid_more : (cells : List Cell) (s t : State) (f i k : ℕ) (c : Cell) → k < length cells → c ≡ get_or cells k cell.Unknown → IsContent c
@@ -78,17 +78,17 @@ laid_more cells s t f i k c lt is content numbers so =
     let next : suc (i + k) ≡ i + (k + 1) = omega arith in
     let u = with_cell t f (i + k) c in
     record {
-      rest = so.rest ∙ ap (λ cs. laid cs t f (i + k)) (drop_more cells k cell.Unknown lt ∙ ap (λ x. x ∷ drop (k + 1) cells) (sym is))
-          ∙ ap (λ b. if_true b (λ _. laid (drop (k + 1) cells) u f (suc (i + k))) (λ _. gets_stuck t)) (number_there t.now f (i + k) here)
-          ∙ ap (laid (drop (k + 1) cells) u f) next;
+      rest = so.rest ∙ ap (λ cs. lay cs t f (i + k)) (drop_more cells k cell.Unknown lt ∙ ap (λ x. x ∷ drop (k + 1) cells) (sym is))
+          ∙ ap (λ b. if_true b (λ _. lay (drop (k + 1) cells) u f (suc (i + k))) (λ _. gets_stuck t)) (number_there t.now f (i + k) here)
+          ∙ ap (lay (drop (k + 1) cells) u f) next;
       numbers = λ g n h. cell_stays t.now g n f (i + k) c content (so.numbers g n h);
       kept = so.kept;
     }
 
 -- all
 pub laid_all : (cells : List Cell) (s t : State) (f i k : ℕ) → length cells ≤ k → Laid cells s t f i k
-    → stepped answer.Went [] t ≡ laid cells s f i
-laid_all cells s t f i k le so = sym (so.rest ∙ ap (λ cs. laid cs t f (i + k)) (drop_of_length-le cells le))
+    → step_result answer.Went [] t ≡ lay cells s f i
+laid_all cells s t f i k le so = sym (so.rest ∙ ap (λ cs. lay cs t f (i + k)) (drop_of_length-le cells le))
 
 -- the cells that are read, one more
 pub read_more : (now : List PlainFrame) (f i k : ℕ)

@@ -18,7 +18,7 @@ use Rattle.alma_base.specs.Choice.{if_true}
 use Rattle.alma_code.specs.declared.cell.Cell.{Cell}
 use Rattle.alma_code.specs.declared.cell.Cell.TheVariants as cell
 use Rattle.alma_code.specs.declared.step.End.TheVariants as end
-use Rattle.alma_code.specs.Machine.{State, Stepped, Going, as_mark, mark, ends_in_fault, put_mark, to_mark, quiet_step, answer_of_fall}
+use Rattle.alma_code.specs.Machine.{State, StepResult, Going, as_mark, mark, ends_in_fault, put_mark, to_mark, quiet_step, answer_of_fall}
 use Rattle.alma_code.specs.Machine.{with_slot, cut_to, pop, pop_or_end, ends_run, answers_with}
 use Rattle.alma_code.specs.declared.step.Step.TheVariants as answer
 use Rattle.alma_code.specs.Picture.{PlainFrame, PlainEntry, last_frame, top_of, stack_after_pop}
@@ -31,12 +31,12 @@ pub mark_content : (now : List PlainFrame) (n : ℕ) (c : Cell) → HasMark now 
 mark_content now n c h is = subst HoldsMark (get_or_from_slice_get (last_frame now).cells n c cell.Unset is) h.content
 
 -- a mark is read
-pub mark_read : (now : List PlainFrame) (n height : ℕ) (s : State) (k : ℕ → Stepped)
+pub mark_read : (now : List PlainFrame) (n height : ℕ) (s : State) (k : ℕ → StepResult)
     → slice_get (last_frame now).cells n ≡ Some (cell.Mark height) → s.now ≡ now → mark s n k ≡ k height
 mark_read now n height s k is same = ap (λ fs. as_mark (slice_get (last_frame fs).cells n) s k) same ∙ ap (λ o. as_mark o s k) is
 
 -- no mark yet is read
-pub mark_unset : (now : List PlainFrame) (n : ℕ) (s : State) (k : ℕ → Stepped) → slice_get (last_frame now).cells n ≡ Some cell.Unset
+pub mark_unset : (now : List PlainFrame) (n : ℕ) (s : State) (k : ℕ → StepResult) → slice_get (last_frame now).cells n ≡ Some cell.Unset
     → s.now ≡ now → mark s n k ≡ ends_in_fault fault.Unknown s
 mark_unset now n s k is same = ap (λ fs. as_mark (slice_get (last_frame fs).cells n) s k) same ∙ ap (λ o. as_mark o s k) is
 

@@ -20,7 +20,7 @@ use Rattle.alma_code.specs.declared.step.Step.TheVariants as answer
 use Rattle.alma_code.specs.Carries.{IsLive}
 use Rattle.alma_code.specs.Head.{PlainHead}
 use Rattle.alma_code.specs.Layout.{FitsParam, no_param, frame_of_call}
-use Rattle.alma_code.specs.Machine.{State, Stepped, slot_of, as_argument, arguments, numbers_at, ends_in_fault, enters_routine}
+use Rattle.alma_code.specs.Machine.{State, StepResult, slot_of, as_argument, arguments, numbers_at, ends_in_fault, enters_routine}
 use Rattle.alma_code.specs.Machine.{answers_with, ends_run, answers_return, state_after_leave, gets_stuck}
 use Rattle.alma_code.specs.Picture.{PlainFrame, last_frame, live_cells}
 use Rattle.alma_memory.specs.Refusals.{HasFrameRoom}
@@ -31,7 +31,7 @@ use Rattle.alma_machine_acts.specs.Calls.{HoldsArgument, HasArgument, HasArgumen
 -- a number is given
 given_int : (now : List PlainFrame) (kind : ParamKind) (n : ℕ) (v : ℤ) → HoldsArgument now kind n (cell.Int v)
     → FitsParam (IsLive now) (λ _. IsLive now) kind n (cell.Int v)
-    × ((s : State) (k : Cell → Stepped) → s.now ≡ now → as_argument kind n (Some (cell.Int v)) s k ≡ k (cell.Int v))
+    × ((s : State) (k : Cell → StepResult) → s.now ≡ now → as_argument kind n (Some (cell.Int v)) s k ≡ k (cell.Int v))
 given_int now param.Value n v h = (tt, λ s k same. refl)
 given_int now param.Mix n v h = (tt, λ s k same. refl)
 given_int now param.Place n v h = absurd h
@@ -41,7 +41,7 @@ given_int now param.Link n v h = absurd h
 -- a place is given
 given_place : (now : List PlainFrame) (kind : ParamKind) (n : ℕ) (p : CellPlace) → HoldsArgument now kind n (cell.Place p)
     → FitsParam (IsLive now) (λ _. IsLive now) kind n (cell.Place p)
-    × ((s : State) (k : Cell → Stepped) → s.now ≡ now → as_argument kind n (Some (cell.Place p)) s k ≡ k (cell.Place p))
+    × ((s : State) (k : Cell → StepResult) → s.now ≡ now → as_argument kind n (Some (cell.Place p)) s k ≡ k (cell.Place p))
 given_place now param.Value n p h = absurd h
 given_place now param.Mix n p h = (
   (h.len, h.live),
@@ -70,7 +70,7 @@ held : (now : List PlainFrame) (p : CodeParam) (n : ℕ) (c : Cell) → HasArgum
 held now p n c h is = subst (HoldsArgument now p.kind p.cells) (get_or_from_slice_get (last_frame now).cells n c cell.Unset is) h.content
 
 -- reading what a slot holds
-read_slot : (now : List PlainFrame) (p : CodeParam) (n : ℕ) (c : Cell) (s : State) (k : Cell → Stepped)
+read_slot : (now : List PlainFrame) (p : CodeParam) (n : ℕ) (c : Cell) (s : State) (k : Cell → StepResult)
     → slice_get (last_frame now).cells n ≡ Some c → s.now ≡ now
     → as_argument p.kind p.cells (slot_of s n) s k ≡ as_argument p.kind p.cells (Some c) s k
 read_slot now p n c s k is same =
@@ -89,13 +89,13 @@ place_given now p n q h is =
     record { fits = g.0; read = λ s k same. read_slot now p n (cell.Place q) s k is same ∙ g.1 s k same }
 
 -- a number that is not known ends the run
-pub unknown_given : (now : List PlainFrame) (p : CodeParam) (n : ℕ) (s : State) (k : Cell → Stepped)
+pub unknown_given : (now : List PlainFrame) (p : CodeParam) (n : ℕ) (s : State) (k : Cell → StepResult)
     → slice_get (last_frame now).cells n ≡ Some cell.Unknown → s.now ≡ now
     → as_argument p.kind p.cells (slot_of s n) s k ≡ ends_in_fault fault.Unknown s
 unknown_given now p n s k is same = read_slot now p n cell.Unknown s k is same
 
 -- and so does a place that is not there
-pub unset_given : (now : List PlainFrame) (p : CodeParam) (n : ℕ) (s : State) (k : Cell → Stepped)
+pub unset_given : (now : List PlainFrame) (p : CodeParam) (n : ℕ) (s : State) (k : Cell → StepResult)
     → slice_get (last_frame now).cells n ≡ Some cell.Unset → s.now ≡ now
     → as_argument p.kind p.cells (slot_of s n) s k ≡ ends_in_fault fault.Unknown s
 unset_given now p n s k is same = read_slot now p n cell.Unset s k is same
@@ -117,7 +117,7 @@ pub ruleset givens = (number_given, place_given, unknown_given, unset_given, mar
 -- ---- all arguments
 
 -- where each is read, all are
-pub all_read : (now : List PlainFrame) (ps : List CodeParam) (first : ℕ) (args : List Cell) (s : State) (k : List Cell → Stepped)
+pub all_read : (now : List PlainFrame) (ps : List CodeParam) (first : ℕ) (args : List Cell) (s : State) (k : List Cell → StepResult)
     → s.now ≡ now → length args ≡ length ps
     → ((i : ℕ) → i < length ps → IsArgument now (get_or ps i no_param) (first + i) (get_or args i cell.Unknown))
     → arguments ps s first k ≡ k args
@@ -134,9 +134,9 @@ all_read now (p ∷ ps) first (c ∷ args) s k same len each =
 
 -- where those before one are read and that one ends the run, all do
 pub one_fails : (now : List PlainFrame) (ps : List CodeParam) (first i : ℕ) (args : List Cell) (f : RunFault) (s : State)
-    (k : List Cell → Stepped) → s.now ≡ now → i < length ps
+    (k : List Cell → StepResult) → s.now ≡ now → i < length ps
     → ((j : ℕ) → j < i → IsArgument now (get_or ps j no_param) (first + j) (get_or args j cell.Unknown))
-    → ((s : State) (k : Cell → Stepped) → s.now ≡ now
+    → ((s : State) (k : Cell → StepResult) → s.now ≡ now
     → as_argument (get_or ps i no_param).kind (get_or ps i no_param).cells (slot_of s (first + i)) s k ≡ ends_in_fault f s)
     → arguments ps s first k ≡ ends_in_fault f s
 one_fails now [] first i args f s k same lt each ends = absurd (omega arith)
@@ -208,7 +208,7 @@ all_done now ps first args h = (
 -- one is not known
 pub fails_at : (now : List PlainFrame) (ps : List CodeParam) (first i : ℕ) (p : CodeParam) (args rest : List Cell) (f : RunFault)
     → i < length ps → slice_get ps i ≡ Some p → ReadSo now ps first i args
-    → ((s : State) (k : Cell → Stepped) → s.now ≡ now → as_argument p.kind p.cells (slot_of s (first + i)) s k ≡ ends_in_fault f s)
+    → ((s : State) (k : Cell → StepResult) → s.now ≡ now → as_argument p.kind p.cells (slot_of s (first + i)) s k ≡ ends_in_fault f s)
     → GivesArguments now ps first (Some f) rest
 fails_at now ps first i p args rest f lt is h ends = λ s k same.
     one_fails now ps first i args f s k same lt h.each

@@ -6,7 +6,7 @@ use Rattle.alma_base.specs.declared.fault.RunFault.TheVariants as fault
 use Rattle.alma_code.specs.declared.cell.Cell.{Cell}
 use Rattle.alma_code.specs.declared.cell.Cell.TheVariants as cell
 use Rattle.alma_code.specs.declared.cell.CellPlace.{CellPlace}
-use Rattle.alma_code.specs.Machine.{State, Stepped, as_place, slot_in, link, ends_in_fault, put_link, to_link, link_to, quiet_step}
+use Rattle.alma_code.specs.Machine.{State, StepResult, as_place, slot_in, link, ends_in_fault, put_link, to_link, link_to, quiet_step}
 use Rattle.alma_code.specs.Machine.{with_slot}
 use Rattle.alma_code.specs.Picture.{PlainFrame, no_frame, last_frame, cell_at}
 use Rattle.alma_code_laws.proofs.Ready.{link_is}
@@ -23,13 +23,13 @@ held_content now f n c h is = subst HoldsPlace (get_or_from_slice_get (get_or no
     h.content
 
 -- a place is read
-pub held_place : (now : List PlainFrame) (f n : ℕ) (p : CellPlace) (s : State) (k : CellPlace → Stepped) → HasPlaceIn now f n
+pub held_place : (now : List PlainFrame) (f n : ℕ) (p : CellPlace) (s : State) (k : CellPlace → StepResult) → HasPlaceIn now f n
     → cell.Place p ≡ cell_at now f n cell.Unknown → s.now ≡ now → as_place (slot_in s f n) s k ≡ k p
 held_place now f n p s k h is same = ap (λ fs. as_place (slice_get (get_or fs f no_frame).cells n) s k) same
     ∙ ap (λ o. as_place o s k) (held_or now f n (cell.Place p) h is)
 
 -- none yet is read
-pub held_unset : (now : List PlainFrame) (f n : ℕ) (s : State) (k : CellPlace → Stepped) → HasPlaceIn now f n
+pub held_unset : (now : List PlainFrame) (f n : ℕ) (s : State) (k : CellPlace → StepResult) → HasPlaceIn now f n
     → cell.Unset ≡ cell_at now f n cell.Unknown → s.now ≡ now → as_place (slot_in s f n) s k ≡ ends_in_fault fault.Unknown s
 held_unset now f n s k h is same = ap (λ fs. as_place (slice_get (get_or fs f no_frame).cells n) s k) same
     ∙ ap (λ o. as_place o s k) (held_or now f n cell.Unset h is)
@@ -44,13 +44,13 @@ pub link_content : (now : List PlainFrame) (n : ℕ) (c : Cell) → HasPlaceIn n
 link_content now n c h is = subst HoldsPlace (get_or_from_slice_get (last_frame now).cells n c cell.Unset is) h.content
 
 -- a link is read
-pub link_read : (now : List PlainFrame) (n : ℕ) (p : CellPlace) (s : State) (k : ℕ → Stepped)
+pub link_read : (now : List PlainFrame) (n : ℕ) (p : CellPlace) (s : State) (k : ℕ → StepResult)
     → slice_get (last_frame now).cells n ≡ Some (cell.Place p) → s.now ≡ now → link s n k ≡ k p.frame
 link_read now n p s k is same = ap (λ fs. as_place (slice_get (last_frame fs).cells n) s (λ p. k p.frame)) same
     ∙ ap (λ o. as_place o s (λ p. k p.frame)) is
 
 -- no link yet is read
-pub link_unset : (now : List PlainFrame) (n : ℕ) (s : State) (k : ℕ → Stepped) → slice_get (last_frame now).cells n ≡ Some cell.Unset
+pub link_unset : (now : List PlainFrame) (n : ℕ) (s : State) (k : ℕ → StepResult) → slice_get (last_frame now).cells n ≡ Some cell.Unset
     → s.now ≡ now → link s n k ≡ ends_in_fault fault.Unknown s
 link_unset now n s k is same = ap (λ fs. as_place (slice_get (last_frame fs).cells n) s (λ p. k p.frame)) same
     ∙ ap (λ o. as_place o s (λ p. k p.frame)) is

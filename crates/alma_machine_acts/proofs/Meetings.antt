@@ -2,31 +2,31 @@
 use Rattle.std.proofs.Common.{◌≡◌, ℕ, suc, ◌+◌, ◌-◌, ◌<◌, ◌^◌, List, [], refl, sym, ap, subst, arith, ◌∙◌}
 use Rattle.std.specs.Prelude.{ℤ, Option, Some, None, Result, Ok, Err, IfOk}
 use Rattle.alma_base.specs.declared.number.Range.{Range}
-use Rattle.alma_code.specs.Machine.{State, Stepped, equation_of_contents, equation, equations}
+use Rattle.alma_code.specs.Machine.{State, StepResult, equation_of_contents, equation, equations}
 use Rattle.alma_machine_acts.specs.declared.equations.Met.{Met}
 use Rattle.alma_machine_acts.specs.declared.equations.Met.TheVariants.{Holds, Ends}
-use Rattle.alma_machine_acts.specs.Meets.{Meets, MeetsOn, given}
+use Rattle.alma_machine_acts.specs.Meets.{Meets, MeetsOn, give_number}
 use Rattle.alma_machine_acts.specs.Rows.{HasNumberIn, IsCells, KeepsNumbers, AreNumbers}
-use Rattle.alma_machine_acts.specs.Steps.{stepped}
+use Rattle.alma_machine_acts.specs.Steps.{step_result}
 use Rattle.alma_code.specs.Picture.{PlainFrame}
 use Rattle.alma_code.specs.declared.cell.CellPlace.{CellPlace}
 use Rattle.alma_code.specs.declared.step.Step.{Step}
 use Rattle.alma_code.specs.declared.step.Step.TheVariants as answer
 
 -- what a word gives another gives that is equal to it
-meets_as : (met : Met) (w w' : (State → Stepped) → Stepped) (new : State) → ((k : State → Stepped) → w' k ≡ w k) → Meets met w new
+meets_as : (met : Met) (w w' : (State → StepResult) → StepResult) (new : State) → ((k : State → StepResult) → w' k ≡ w k) → Meets met w new
     → Meets met w' new
 meets_as Holds w w' new e h = λ k. e k ∙ h k
 meets_as (Ends step) w w' new e h = λ k. e k ∙ h k
 
-pub ok_meets : {E : Type 0} (r : Result Met E) (w w' : (State → Stepped) → Stepped) (new : State) → IfOk r (λ met. Meets met w new)
-    → ((k : State → Stepped) → w' k ≡ w k) → IfOk r (λ met. Meets met w' new)
+pub ok_meets : {E : Type 0} (r : Result Met E) (w w' : (State → StepResult) → StepResult) (new : State) → IfOk r (λ met. Meets met w new)
+    → ((k : State → StepResult) → w' k ≡ w k) → IfOk r (λ met. Meets met w' new)
 ok_meets (Ok met) w w' new h e = meets_as met w w' new e h
 ok_meets (Err f) w w' new h e = tt
 
 -- where the first cell knows nothing it is given what the second knows
-pub equated_first : (s : State) (f i : ℕ) (r : Option Range) (g j : ℕ) (t : Option Range) (v : Option ℤ) (k : State → Stepped)
-    → equation_of_contents s f i r None g j t v k ≡ given s f i r v k
+pub equated_first : (s : State) (f i : ℕ) (r : Option Range) (g j : ℕ) (t : Option Range) (v : Option ℤ) (k : State → StepResult)
+    → equation_of_contents s f i r None g j t v k ≡ give_number s f i r v k
 equated_first s f i r g j t None k = refl
 equated_first s f i r g j t (Some v) k = refl
 
@@ -58,14 +58,14 @@ equations_more n k s t f i g j lt holds =
 -- where one ends the run all do
 pub equations_end : (n k : ℕ) (s t : State) (step : Step) (f i g j : ℕ) → k < n
     → Meets (Ends step) (λ q. equation s f (i + k) None g (j + k) None q) t
-    → equations (n - k) s f (i + k) g (j + k) ≡ stepped step [] t
+    → equations (n - k) s f (i + k) g (j + k) ≡ step_result step [] t
 equations_end n k s t step f i g j lt ends =
     let m = n - (k + 1) in
     let more : n - k ≡ suc m = omega arith in
     ap (λ x. equations x s f (i + k) g (j + k)) more ∙ ends (λ u. equations m u f (suc (i + k)) g (suc (j + k)))
 
 -- with none left they hold
-pub equations_none : (n k : ℕ) (s : State) (f i g j : ℕ) → k ≡ n → equations (n - k) s f (i + k) g (j + k) ≡ stepped answer.Went [] s
+pub equations_none : (n k : ℕ) (s : State) (f i g j : ℕ) → k ≡ n → equations (n - k) s f (i + k) g (j + k) ≡ step_result answer.Went [] s
 equations_none n k s f i g j e = let none : n - k ≡ 0 = omega arith in ap (λ x. equations x s f (i + k) g (j + k)) none
 
 -- as far as the first k equations have come

@@ -10,12 +10,13 @@ use Rattle.alma_base.specs.declared.number.Range.{Range}
 use Rattle.alma_base.specs.declared.number.ReadInt.{ReadInt}
 use Rattle.alma_base.specs.declared.number.ReadInt.TheVariants.{Number, NoNumber, TooLarge}
 use Rattle.alma_base.specs.declared.fault.RunFault.TheVariants as fault
-use Rattle.alma_base.specs.Reading.{is_blank, is_digit, signed_value, sized, ended, digits_on, sign_on, number_on, number_from}
+use Rattle.alma_base.specs.Reading.{is_blank, is_digit, signed_value, sized, ended, digits_on, sign_on, number_on}
+use Rattle.alma_base.specs.Reading.{number_from}
 use Rattle.alma_code.specs.declared.cell.Cell.{Cell}
 use Rattle.alma_code.specs.declared.cell.Cell.TheVariants as cell
 use Rattle.alma_code.specs.declared.cell.CellPlace.{CellPlace}
 use Rattle.alma_code.specs.Fits.{IsPosition}
-use Rattle.alma_code.specs.Machine.{State, Stepped, position, as_position, byte_or_failure, takes_read, take_input, ends_in_fault, store}
+use Rattle.alma_code.specs.Machine.{State, StepResult, position, as_position, byte_or_failure, takes_read, take_input, ends_in_fault, store}
 use Rattle.alma_code.specs.Machine.{quiet_step, with_cell}
 use Rattle.alma_code.specs.Picture.{PlainFrame, no_frame, cell_at}
 use Rattle.alma_machine_acts.specs.Inputs.{HasPosition, IsBelow}
@@ -48,7 +49,8 @@ digits_most : (top : ℕ) (any negative : Bool) (value place : ℕ) (rest : List
     → IsAtMost top (digits_on any negative value place rest)
 digits_most top any negative value place [] le = ended_most top any negative value place (omega arith)
 digits_most top any negative value place (c ∷ rest) le =
-    either top (is_digit c) (λ _. digits_on true negative (value * 10 + (c - 48)) (suc place) rest) (λ _. ended any negative value place)
+    either top (is_digit c) (λ _. digits_on true negative (value * 10 + (c - 48)) (suc place) rest)
+    (λ _. ended any negative value place)
     (digits_most top true negative (value * 10 + (c - 48)) (suc place) rest (omega arith))
     (ended_most top any negative value place (omega arith))
 
@@ -86,7 +88,8 @@ pub ruleset finds = (read_below, none_behind)
 -- ---- the position
 
 -- a position is read
-position_read : (c : Cell) (v : ℤ) (s : State) (k : ℕ → Stepped) → IsPosition c → c ≡ cell.Int v → as_position (Some c) s k ≡ k (nat_abs v)
+position_read : (c : Cell) (v : ℤ) (s : State) (k : ℕ → StepResult) → IsPosition c → c ≡ cell.Int v
+    → as_position (Some c) s k ≡ k (nat_abs v)
 position_read (cell.Int (pos n)) v s k h is = ap (λ (c : Cell). as_position (Some c) s k) is ∙ at v (subst IsPosition is h)
   where
     at : (v : ℤ) → IsPosition (cell.Int v) → as_position (Some (cell.Int v)) s k ≡ k (nat_abs v)
@@ -98,7 +101,7 @@ position_read cell.Unset v s k h is = absurd h
 position_read (cell.Place p) v s k h is = absurd h
 position_read (cell.Mark m) v s k h is = absurd h
 
-pub position_is : (now : List PlainFrame) (v : ℤ) (s : State) (k : ℕ → Stepped) → HasPosition now
+pub position_is : (now : List PlainFrame) (v : ℤ) (s : State) (k : ℕ → StepResult) → HasPosition now
     → cell.Int v ≡ cell_at now 0 0 cell.Unknown → s.now ≡ now → position s k ≡ k (nat_abs v)
 position_is now v s k h is same =
     let cs = (get_or now 0 no_frame).cells in

@@ -18,10 +18,10 @@ use Rattle.alma_code.specs.declared.cell.Cell.TheVariants as cell
 use Rattle.alma_code.specs.declared.cell.CellPlace.{CellPlace}
 use Rattle.alma_code.specs.declared.step.Step.{Step}
 use Rattle.alma_code.specs.Fits.{IsContent}
-use Rattle.alma_code.specs.Machine.{State, Stepped, number, place, content, as_content, as_number, as_place, ends_in_fault, put_number}
+use Rattle.alma_code.specs.Machine.{State, StepResult, number, place, content, as_content, as_number, as_place, ends_in_fault, put_number}
 use Rattle.alma_code.specs.Machine.{to_number, quiet_step, gets_stuck, store, with_slot, with_cell}
 use Rattle.alma_code.specs.Picture.{PlainFrame, no_frame, last_frame, cell_at}
-use Rattle.alma_machine_acts.specs.Steps.{stepped}
+use Rattle.alma_machine_acts.specs.Steps.{step_result}
 use Rattle.alma_machine_acts.specs.Rows.{HasSlot, HasNumber, HasNumberIn, IsCells, HoldsCells, Gives, put_or_fault}
 
 -- what a slot holds that has a content is a content
@@ -34,22 +34,23 @@ pub place_read : (now : List PlainFrame) (cs : List Cell) (l n : ℕ) (c : Cell)
 place_read now cs l n c is h = subst (HoldsCells now l) (get_or_from_slice_get cs n c cell.Unset is) h
 
 -- a number is read
-pub reads_number : (now : List PlainFrame) (n : ℕ) (v : ℤ) (s : State) (k : ℤ → Stepped)
+pub reads_number : (now : List PlainFrame) (n : ℕ) (v : ℤ) (s : State) (k : ℤ → StepResult)
     → slice_get (last_frame now).cells n ≡ Some (cell.Int v) → s.now ≡ now → number s n k ≡ k v
 reads_number now n v s k is same = ap (λ fs. as_number (slice_get (last_frame fs).cells n) s k) same ∙ ap (λ o. as_number o s k) is
 
 -- an unknown number is read
-pub reads_unknown : (now : List PlainFrame) (n : ℕ) (s : State) (k : ℤ → Stepped) → slice_get (last_frame now).cells n ≡ Some cell.Unknown
+pub reads_unknown : (now : List PlainFrame) (n : ℕ) (s : State) (k : ℤ → StepResult)
+    → slice_get (last_frame now).cells n ≡ Some cell.Unknown
     → s.now ≡ now → number s n k ≡ ends_in_fault fault.Unknown s
 reads_unknown now n s k is same = ap (λ fs. as_number (slice_get (last_frame fs).cells n) s k) same ∙ ap (λ o. as_number o s k) is
 
 -- a place is read
-pub reads_place : (now : List PlainFrame) (n : ℕ) (p : CellPlace) (s : State) (k : CellPlace → Stepped)
+pub reads_place : (now : List PlainFrame) (n : ℕ) (p : CellPlace) (s : State) (k : CellPlace → StepResult)
     → slice_get (last_frame now).cells n ≡ Some (cell.Place p) → s.now ≡ now → place s n k ≡ k p
 reads_place now n p s k is same = ap (λ fs. as_place (slice_get (last_frame fs).cells n) s k) same ∙ ap (λ o. as_place o s k) is
 
 -- a place that is not there is read
-pub reads_unset : (now : List PlainFrame) (n : ℕ) (s : State) (k : CellPlace → Stepped)
+pub reads_unset : (now : List PlainFrame) (n : ℕ) (s : State) (k : CellPlace → StepResult)
     → slice_get (last_frame now).cells n ≡ Some cell.Unset → s.now ≡ now → place s n k ≡ ends_in_fault fault.Unknown s
 reads_unset now n s k is same = ap (λ fs. as_place (slice_get (last_frame fs).cells n) s k) same ∙ ap (λ o. as_place o s k) is
 
@@ -144,7 +145,7 @@ any_or now f n h =
     get_or_from_slice_get cs n (cell_at now f n cell.Unknown) cell.Unset (slice_get-get_or cs n cell.Unknown h.below)
 
 -- the cell of a number slot is read with what it knows
-pub content_int : (now : List PlainFrame) (f n : ℕ) (v : ℤ) (s : State) (k : Option ℤ → Stepped) → HasNumberIn now f n
+pub content_int : (now : List PlainFrame) (f n : ℕ) (v : ℤ) (s : State) (k : Option ℤ → StepResult) → HasNumberIn now f n
     → cell.Int v ≡ cell_at now f n cell.Unknown → s.now ≡ now → content s f n k ≡ k (Some v)
 content_int now f n v s k h is same =
     ap (λ fs. as_content (number_at fs f n) (cell_at fs f n cell.Unset) s k) same
@@ -152,7 +153,7 @@ content_int now f n v s k h is same =
     ∙ ap (λ c. as_content true c s k) (any_or now f n h ∙ sym is)
 
 -- and one that knows nothing
-pub content_unknown : (now : List PlainFrame) (f n : ℕ) (s : State) (k : Option ℤ → Stepped) → HasNumberIn now f n
+pub content_unknown : (now : List PlainFrame) (f n : ℕ) (s : State) (k : Option ℤ → StepResult) → HasNumberIn now f n
     → cell.Unknown ≡ cell_at now f n cell.Unknown → s.now ≡ now → content s f n k ≡ k None
 content_unknown now f n s k h is same =
     ap (λ fs. as_content (number_at fs f n) (cell_at fs f n cell.Unset) s k) same
@@ -172,7 +173,7 @@ one_slot now l p h one =
     subst (HasNumberIn now p.frame) here (h.each 0 (omega arith))
 
 -- a number goes to a number slot of a frame
-pub store_is : (s : State) (f n : ℕ) (v : ℤ) (k : State → Stepped) → HasNumberIn s.now f n
+pub store_is : (s : State) (f n : ℕ) (v : ℤ) (k : State → StepResult) → HasNumberIn s.now f n
     → store s f n v k ≡ k (with_cell s f n (cell.Int v))
 store_is s f n v k h = ap (λ o. if_true (is_number o) (λ _. k (with_cell s f n (cell.Int v))) (λ _. gets_stuck s)) h.kind
 
@@ -191,19 +192,20 @@ pub ruleset puts = (put_is, number_is_slot)
 -- ---- answers
 
 -- a step that is one thing is what that is equal to
-pub ok_is : {E : Type 0} (r : Result Step E) (bytes : List ℕ) (new : State) (x y : Stepped) → IfOk r (λ a. stepped a bytes new ≡ x) → x ≡ y
-    → IfOk r (λ a. stepped a bytes new ≡ y)
+pub ok_is : {E : Type 0} (r : Result Step E) (bytes : List ℕ) (new : State) (x y : StepResult) → IfOk r (λ a. step_result a bytes new ≡ x)
+    → x ≡ y
+    → IfOk r (λ a. step_result a bytes new ≡ y)
 ok_is (Ok a) bytes new x y h e = h ∙ e
 ok_is (Err f) bytes new x y h e = tt
 
 -- the same where it prints nothing
-pub ok_quiet : {E : Type 0} (r : Result Step E) (bytes : List ℕ) (new : State) (x y : Stepped) → bytes ≡ []
-    → IfOk r (λ a. stepped a [] new ≡ x) → x ≡ y → IfOk r (λ a. stepped a bytes new ≡ y)
-ok_quiet (Ok a) bytes new x y none h e = ap (λ b. stepped a b new) none ∙ h ∙ e
+pub ok_quiet : {E : Type 0} (r : Result Step E) (bytes : List ℕ) (new : State) (x y : StepResult) → bytes ≡ []
+    → IfOk r (λ a. step_result a [] new ≡ x) → x ≡ y → IfOk r (λ a. step_result a bytes new ≡ y)
+ok_quiet (Ok a) bytes new x y none h e = ap (λ b. step_result a b new) none ∙ h ∙ e
 ok_quiet (Err f) bytes new x y none h e = tt
 
 -- what a word gives goes into a slot, or ends the run
-pub gives_put : (now : List PlainFrame) (word : State → (ℤ → Stepped) → Stepped) (s : State) (to : ℕ) (result : Result ℤ RunFault)
+pub gives_put : (now : List PlainFrame) (word : State → (ℤ → StepResult) → StepResult) (s : State) (to : ℕ) (result : Result ℤ RunFault)
     → s.now ≡ now → Gives now word result → word s (λ v. put_number s to v) ≡ put_or_fault s to result
 gives_put now word s to (Ok v) same h = h s (λ v. put_number s to v) same
 gives_put now word s to (Err fault) same h = h s (λ v. put_number s to v) same

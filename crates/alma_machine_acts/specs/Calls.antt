@@ -12,7 +12,7 @@ use Rattle.alma_code.specs.declared.instr.Instr.{Instr}
 use Rattle.alma_code.specs.declared.instr.Instr.TheVariants as I
 use Rattle.alma_code.specs.Carries.{IsLive}
 use Rattle.alma_code.specs.Layout.{FitsParam, FitsParams, no_param}
-use Rattle.alma_code.specs.Machine.{State, Stepped, slot_of, as_argument, arguments, numbers_at, ends_in_fault, state_after_leave}
+use Rattle.alma_code.specs.Machine.{State, StepResult, slot_of, as_argument, arguments, numbers_at, ends_in_fault, state_after_leave}
 use Rattle.alma_code.specs.Machine.{result_to}
 use Rattle.alma_code.specs.Picture.{PlainFrame, last_frame, without_last}
 use Rattle.alma_code.specs.Plain.{PlainCode}
@@ -53,20 +53,20 @@ HasArguments now params first = (k : ℕ) → k < length params → HasArgument 
 -- a cell is the argument of a parameter in a slot
 pub record IsArgument (now : List PlainFrame) (p : CodeParam) (n : ℕ) (c : Cell) : Type 0 where
   pub fits : FitsParam (IsLive now) (λ _. IsLive now) p.kind p.cells c
-  pub read : (s : State) (k : Cell → Stepped) → s.now ≡ now → as_argument p.kind p.cells (slot_of s n) s k ≡ k c
+  pub read : (s : State) (k : Cell → StepResult) → s.now ≡ now → as_argument p.kind p.cells (slot_of s n) s k ≡ k c
 
 -- reading an argument goes on with a cell that fits its parameter, or ends in the fault
 abbrev pub GivesArgument : List PlainFrame → CodeParam → ℕ → Result Cell RunFault → Type 0
 GivesArgument now p n result = MatchResult result
     (λ c. IsArgument now p n c)
-    (λ f. (s : State) (k : Cell → Stepped) → s.now ≡ now → as_argument p.kind p.cells (slot_of s n) s k ≡ ends_in_fault f s)
+    (λ f. (s : State) (k : Cell → StepResult) → s.now ≡ now → as_argument p.kind p.cells (slot_of s n) s k ≡ ends_in_fault f s)
 
 -- reading all arguments goes on with cells that fit their parameters, or ends in the fault
 abbrev pub GivesArguments : List PlainFrame → List CodeParam → (first : ℕ) → Option RunFault → List Cell → Type 0
 GivesArguments now params first None args =
     FitsParams (IsLive now) (λ _. IsLive now) params args
-    × ((s : State) (k : List Cell → Stepped) → s.now ≡ now → arguments params s first k ≡ k args)
-GivesArguments now params first (Some f) args = (s : State) (k : List Cell → Stepped) → s.now ≡ now
+    × ((s : State) (k : List Cell → StepResult) → s.now ≡ now → arguments params s first k ≡ k args)
+GivesArguments now params first (Some f) args = (s : State) (k : List Cell → StepResult) → s.now ≡ now
     → arguments params s first k ≡ ends_in_fault f s
 
 -- the top frame can return a number: it was called, and the caller has a slot for it
@@ -81,6 +81,6 @@ pub record CallsBack (code : PlainCode) (now : List PlainFrame) : Type 0 where
   pub slot : HasNumber (without_last now) to
 
 -- the number goes to the slot that the instruction names, or the run ends in the fault
-abbrev pub back_or_fault : Option Instr → State → Result ℤ RunFault → Stepped
+abbrev pub back_or_fault : Option Instr → State → Result ℤ RunFault → StepResult
 back_or_fault o s (Ok v) = result_to o (state_after_leave s) v
 back_or_fault o s (Err f) = ends_in_fault f s

@@ -5,7 +5,7 @@ use Rattle.alma_base.specs.Choice.{if_true}
 use Rattle.alma_code.specs.declared.cell.Cell.{Cell}
 use Rattle.alma_code.specs.declared.cell.Cell.TheVariants as cell
 use Rattle.alma_code.specs.Carries.{number_at}
-use Rattle.alma_code.specs.Machine.{State, Stepped, quiet_step, gets_stuck, with_cell}
+use Rattle.alma_code.specs.Machine.{State, StepResult, quiet_step, gets_stuck, with_cell}
 use Rattle.alma_code.specs.Picture.{PlainFrame, cell_at}
 
 -- so many cells of a frame, from one on
@@ -13,7 +13,7 @@ abbrev pub cells_from : List PlainFrame → (frame first count : ℕ) → List C
 cells_from now frame first count = map (λ k. cell_at now frame (first + k) cell.Unknown) (range_with_len 0 count)
 
 -- the cells of a frame from one on := a list of cells
-abbrev pub laid : List Cell → State → (frame slot : ℕ) → Stepped
-laid [] s frame slot = quiet_step s
-laid (c ∷ cells) s frame slot =
-    if_true (number_at s.now frame slot) (λ _. laid cells (with_cell s frame slot c) frame (suc slot)) (λ _. gets_stuck s)
+abbrev pub lay : List Cell → State → (frame slot : ℕ) → StepResult
+lay [] s frame slot = quiet_step s
+lay (c ∷ cells) s frame slot =
+    if_true (number_at s.now frame slot) (λ _. lay cells (with_cell s frame slot c) frame (suc slot)) (λ _. gets_stuck s)

@@ -2,21 +2,21 @@
 use Rattle.std.specs.Prelude.{◌≡◌, ℕ, ℤ, [], Option, Some, None}
 use Rattle.alma_base.specs.declared.fault.RunFault.TheVariants as fault
 use Rattle.alma_base.specs.declared.number.Range.{Range}
-use Rattle.alma_code.specs.Machine.{State, Stepped, ends_in_fault, optional_range_check, store}
+use Rattle.alma_code.specs.Machine.{State, StepResult, ends_in_fault, optional_range_check, store}
 use Rattle.alma_machine_acts.specs.declared.equations.Met.{Met}
 use Rattle.alma_machine_acts.specs.declared.equations.Met.TheVariants.{Holds, Ends}
 use Rattle.alma_machine_acts.specs.Rows.{KeepsOn, GoesOn}
-use Rattle.alma_machine_acts.specs.Steps.{stepped}
+use Rattle.alma_machine_acts.specs.Steps.{step_result}
 
 -- an equation goes on in the new state, or ends with the step
-abbrev pub Meets : Met → ((State → Stepped) → Stepped) → State → Type 0
-Meets Holds word new = (k : State → Stepped) → word k ≡ k new
-Meets (Ends step) word new = (k : State → Stepped) → word k ≡ stepped step [] new
+abbrev pub Meets : Met → ((State → StepResult) → StepResult) → State → Type 0
+Meets Holds word new = (k : State → StepResult) → word k ≡ k new
+Meets (Ends step) word new = (k : State → StepResult) → word k ≡ step_result step [] new
 
 -- a number slot gets a number that is known and in the range
-abbrev pub given : State → (f i : ℕ) → Option Range → Option ℤ → (State → Stepped) → Stepped
-given s f i r None k = ends_in_fault fault.Unknown s
-given s f i r (Some v) k = optional_range_check r s v (λ _. store s f i v k)
+abbrev pub give_number : State → (f i : ℕ) → Option Range → Option ℤ → (State → StepResult) → StepResult
+give_number s f i r None k = ends_in_fault fault.Unknown s
+give_number s f i r (Some v) k = optional_range_check r s v (λ _. store s f i v k)
 
 -- it counts no step, and where it goes on the mode and the counts stay
 abbrev pub MeetsOn : Met → State → State → Type 0

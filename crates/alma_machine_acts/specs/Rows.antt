@@ -11,7 +11,7 @@ use Rattle.alma_code.specs.declared.cell.SlotKind.TheVariants as slot
 use Rattle.alma_code.specs.declared.step.Step.{Step}
 use Rattle.alma_code.specs.Fits.{IsContent}
 use Rattle.alma_code.specs.Kinds.{is_place, is_link}
-use Rattle.alma_code.specs.Machine.{Mode, Going, Failing, Ended, State, Stepped, number, place, content, link, mark, slot_in, as_place}
+use Rattle.alma_code.specs.Machine.{Mode, Going, Failing, Ended, State, StepResult, number, place, content, link, mark, slot_in, as_place}
 use Rattle.alma_code.specs.Machine.{put_number, put_place, put_link, ends_in_fault}
 use Rattle.alma_code.specs.Picture.{PlainFrame, no_frame, last_frame}
 use Rattle.alma_code.specs.Rules.{place_length}
@@ -156,67 +156,67 @@ IsNumbered number = (nat_eq number 5 || nat_eq number 6) ≡ true
 -- ---- what a part of a step gives, whatever comes after it
 
 -- a word of the copying code machine goes on with the number, or ends in the fault, in each state with these frames
-abbrev pub Gives : List PlainFrame → (State → (ℤ → Stepped) → Stepped) → Result ℤ RunFault → Type 0
+abbrev pub Gives : List PlainFrame → (State → (ℤ → StepResult) → StepResult) → Result ℤ RunFault → Type 0
 Gives now word result = MatchResult result
-    (λ v. (s : State) (k : ℤ → Stepped) → s.now ≡ now → word s k ≡ k v)
-    (λ f. (s : State) (k : ℤ → Stepped) → s.now ≡ now → word s k ≡ ends_in_fault f s)
+    (λ v. (s : State) (k : ℤ → StepResult) → s.now ≡ now → word s k ≡ k v)
+    (λ f. (s : State) (k : ℤ → StepResult) → s.now ≡ now → word s k ≡ ends_in_fault f s)
 
 -- reading a place goes on with a place of live number slots, or ends in the fault
 abbrev pub GivesPlace : List PlainFrame → ℕ → Result CellPlace RunFault → Type 0
 GivesPlace now n result = MatchResult result
-    (λ p. IsCells now (width now n) p × ((s : State) (k : CellPlace → Stepped) → s.now ≡ now → place s n k ≡ k p))
-    (λ f. (s : State) (k : CellPlace → Stepped) → s.now ≡ now → place s n k ≡ ends_in_fault f s)
+    (λ p. IsCells now (width now n) p × ((s : State) (k : CellPlace → StepResult) → s.now ≡ now → place s n k ≡ k p))
+    (λ f. (s : State) (k : CellPlace → StepResult) → s.now ≡ now → place s n k ≡ ends_in_fault f s)
 
 -- a counter is counted on: the run goes out where the next number is beyond the limit
-abbrev pub counted : State → (counter limit by : ℕ) → (out : Stepped) → (ℤ → Stepped) → Stepped
-counted s counter limit by out k =
+abbrev pub count_on : State → (counter limit by : ℕ) → (out : StepResult) → (ℤ → StepResult) → StepResult
+count_on s counter limit by out k =
     number s counter (λ x. number s limit (λ y. number s by (λ z. if_true (is_beyond (x +ℤ z) y z) (λ _. out) (λ _. k (x +ℤ z)))))
 
 -- the run goes on with the number where there is one, and else elsewhere
-abbrev pub next_or : Stepped → (ℤ → Stepped) → Option ℤ → Stepped
+abbrev pub next_or : StepResult → (ℤ → StepResult) → Option ℤ → StepResult
 next_or out k (Some next) = k next
 next_or out k None = out
 
 -- counting on goes on with the next number of the counter, goes out where that is beyond the limit, or ends in the fault
 abbrev pub GivesNext : List PlainFrame → (counter limit by : ℕ) → Result (Option ℤ) RunFault → Type 0
 GivesNext now counter limit by result = MatchResult result
-    (λ next. (s : State) (out : Stepped) (k : ℤ → Stepped) → s.now ≡ now → counted s counter limit by out k ≡ next_or out k next)
-    (λ f. (s : State) (out : Stepped) (k : ℤ → Stepped) → s.now ≡ now → counted s counter limit by out k ≡ ends_in_fault f s)
+    (λ next. (s : State) (out : StepResult) (k : ℤ → StepResult) → s.now ≡ now → count_on s counter limit by out k ≡ next_or out k next)
+    (λ f. (s : State) (out : StepResult) (k : ℤ → StepResult) → s.now ≡ now → count_on s counter limit by out k ≡ ends_in_fault f s)
 
 -- looking at a number slot of a frame goes on with what it knows
 abbrev pub GivesContent : List PlainFrame → (frame n : ℕ) → Option ℤ → Type 0
-GivesContent now frame n result = (s : State) (k : Option ℤ → Stepped) → s.now ≡ now → content s frame n k ≡ k result
+GivesContent now frame n result = (s : State) (k : Option ℤ → StepResult) → s.now ≡ now → content s frame n k ≡ k result
 
 -- the number goes into the slot, or the run ends in the fault
-abbrev pub put_or_fault : State → ℕ → Result ℤ RunFault → Stepped
+abbrev pub put_or_fault : State → ℕ → Result ℤ RunFault → StepResult
 put_or_fault s n (Ok v) = put_number s n v
 put_or_fault s n (Err f) = ends_in_fault f s
 
 -- reading a slot of a frame for places or links goes on with what it holds, or ends in the fault
 abbrev pub GivesHeld : List PlainFrame → (frame n : ℕ) → Result CellPlace RunFault → Type 0
 GivesHeld now frame n result = MatchResult result
-    (λ p. (s : State) (k : CellPlace → Stepped) → s.now ≡ now → as_place (slot_in s frame n) s k ≡ k p)
-    (λ f. (s : State) (k : CellPlace → Stepped) → s.now ≡ now → as_place (slot_in s frame n) s k ≡ ends_in_fault f s)
+    (λ p. (s : State) (k : CellPlace → StepResult) → s.now ≡ now → as_place (slot_in s frame n) s k ≡ k p)
+    (λ f. (s : State) (k : CellPlace → StepResult) → s.now ≡ now → as_place (slot_in s frame n) s k ≡ ends_in_fault f s)
 
 -- reading a link goes on with the frame of what the slot holds, or ends in the fault
 abbrev pub GivesLink : List PlainFrame → ℕ → Result ℕ RunFault → Type 0
 GivesLink now n result = MatchResult result
-    (λ f. ((m : ℕ) → LeadsTo now n m → HasPlaceIn now f m) × ((s : State) (k : ℕ → Stepped) → s.now ≡ now → link s n k ≡ k f))
-    (λ f. (s : State) (k : ℕ → Stepped) → s.now ≡ now → link s n k ≡ ends_in_fault f s)
+    (λ f. ((m : ℕ) → LeadsTo now n m → HasPlaceIn now f m) × ((s : State) (k : ℕ → StepResult) → s.now ≡ now → link s n k ≡ k f))
+    (λ f. (s : State) (k : ℕ → StepResult) → s.now ≡ now → link s n k ≡ ends_in_fault f s)
 
 -- reading a mark goes on with the height, or ends in the fault
 abbrev pub GivesMark : List PlainFrame → ℕ → Result ℕ RunFault → Type 0
 GivesMark now n result = MatchResult result
-    (λ h. (s : State) (k : ℕ → Stepped) → s.now ≡ now → mark s n k ≡ k h)
-    (λ f. (s : State) (k : ℕ → Stepped) → s.now ≡ now → mark s n k ≡ ends_in_fault f s)
+    (λ h. (s : State) (k : ℕ → StepResult) → s.now ≡ now → mark s n k ≡ k h)
+    (λ f. (s : State) (k : ℕ → StepResult) → s.now ≡ now → mark s n k ≡ ends_in_fault f s)
 
 -- the place that begins at a spot goes into the slot, or the run ends in the fault
-abbrev pub point_or_fault : State → ℕ → Result Spot RunFault → Stepped
+abbrev pub point_or_fault : State → ℕ → Result Spot RunFault → StepResult
 point_or_fault s n (Ok spot) = put_place s n spot.frame (λ _. spot.slot)
 point_or_fault s n (Err f) = ends_in_fault f s
 
 -- the link goes into the slot, or the run ends in the fault
-abbrev pub link_or_fault : State → ℕ → Result ℕ RunFault → Stepped
+abbrev pub link_or_fault : State → ℕ → Result ℕ RunFault → StepResult
 link_or_fault s n (Ok frame) = put_link s n frame
 link_or_fault s n (Err f) = ends_in_fault f s
 

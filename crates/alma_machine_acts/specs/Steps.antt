@@ -2,11 +2,11 @@
 use Rattle.std.specs.Prelude.{◌≡◌, ℕ, List, []}
 use Rattle.alma_code.specs.declared.step.Step.{Step}
 use Rattle.alma_code.specs.declared.step.Step.TheVariants as answer
-use Rattle.alma_code.specs.Machine.{Mode, Going, Failing, Ended, Stuck, State, Stepped}
+use Rattle.alma_code.specs.Machine.{Mode, Going, Failing, Ended, Stuck, State, StepResult}
 
 -- an answer, what was printed, and the state after it
-abbrev pub stepped : Step → List ℕ → State → Stepped
-stepped answer bytes state = record { answer = answer; printed = bytes; state = state }
+abbrev pub step_result : Step → List ℕ → State → StepResult
+step_result answer bytes state = record { answer = answer; printed = bytes; state = state }
 
 -- a machine in this mode has not ended, and is not stuck
 abbrev pub IsLive : Mode → Type 0

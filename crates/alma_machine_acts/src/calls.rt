@@ -9,7 +9,7 @@ ghost use Rattle.alma_code.specs.Machine.{number, arguments, enters_routine, end
 ghost use Rattle.alma_code.specs.Picture.{last_frame};
 ghost use Rattle.alma_machine_acts.specs.Rows.{state_of, HasNumber, KeepsOn};
 ghost use Rattle.alma_machine_acts.specs.Calls.{HasArgument, HasArguments, GivesArgument, GivesArguments, CallsBack, back_or_fault};
-ghost use Rattle.alma_machine_acts.specs.Steps.{stepped};
+ghost use Rattle.alma_machine_acts.specs.Steps.{step_result};
 
 use crate::codes::CodeView;
 use crate::registers::Registers;
@@ -68,7 +68,7 @@ fn enter<M: MachineMemory, H: Head>(
     requires args { FitsParams (IsLive (M.picture registers.old.memory).now)
         (λ routine. IsLive (M.picture registers.old.memory).now) (H.head head.now).params
         registers.old.args.items }
-    ensures ok { IfOk result (λ answer. stepped answer [] (state_of M.picture registers.new)
+    ensures ok { IfOk result (λ answer. step_result answer [] (state_of M.picture registers.new)
         ≡ enters_routine (state_of M.picture registers.old) routine start
         (H.head head.now) registers.old.args.items) }
     ensures kept { IfOk result
@@ -104,7 +104,7 @@ pub fn call<M: MachineMemory, H: Head>(
     requires args { HasArguments (M.picture registers.old.memory).now
         (H.head head.now).params first }
     ensures ok { let s = state_of M.picture registers.old in IfOk result
-        (λ answer. stepped answer [] (state_of M.picture registers.new)
+        (λ answer. step_result answer [] (state_of M.picture registers.new)
         ≡ arguments (H.head head.now).params s first
         (λ args. enters_routine s routine start (H.head head.now) args)) }
     ensures kept { IfOk result
@@ -125,7 +125,7 @@ pub fn call<M: MachineMemory, H: Head>(
 pub fn leave<M: MachineMemory>(registers: &mut Registers<M>) -> Result<Step, NoMemory>
     requires { 1 ≤ length (M.picture registers.old.memory).now }
     ensures ok { let s = state_of M.picture registers.old in IfOk result
-        (λ answer. stepped answer [] (state_of M.picture registers.new)
+        (λ answer. step_result answer [] (state_of M.picture registers.new)
         ≡ if_true (nat_eq (length s.now) 1) (λ _. ends_run end.Succeeded s)
         (λ _. answers_return (state_after_leave s))) }
     ensures kept { IfOk result
@@ -151,7 +151,7 @@ pub fn leave_with<M: MachineMemory, V: CodeView>(
     requires slot { HasNumber (M.picture registers.old.memory).now value }
     requires back { CallsBack (V.code view.now) (M.picture registers.old.memory).now }
     ensures ok { let s = state_of M.picture registers.old in IfOk result
-        (λ answer. stepped answer [] (state_of M.picture registers.new)
+        (λ answer. step_result answer [] (state_of M.picture registers.new)
         ≡ number s value (λ v. result_to (slice_get (V.code view.now).instrs ((last_frame
         s.now).back - 1)) (state_after_leave s) v)) }
     ensures kept { IfOk result
@@ -174,7 +174,7 @@ fn give_back<M: MachineMemory, V: CodeView>(
 ) -> Result<Step, NoMemory>
     requires { CallsBack (V.code view.now) (M.picture registers.old.memory).now }
     ensures ok { let s = state_of M.picture registers.old in IfOk result
-        (λ answer. stepped answer [] (state_of M.picture registers.new)
+        (λ answer. step_result answer [] (state_of M.picture registers.new)
         ≡ back_or_fault (slice_get (V.code view.now).instrs ((last_frame s.now).back - 1)) s
         number) }
     ensures kept { IfOk result

@@ -3,7 +3,7 @@ ghost use Rattle.std.specs.Prelude.{◌≡◌, [], IfOk, OnErr};
 ghost use Rattle.alma_code.specs.Machine.{number, place, content, store, binds_content, with_known_content, is_known, quiet_step};
 ghost use Rattle.alma_base.specs.Numbers.{bit};
 ghost use Rattle.alma_machine_acts.specs.Rows.{state_of, HasNumber, HasNumberIn, HasOneCell, Gives, KeepsOn};
-ghost use Rattle.alma_machine_acts.specs.Steps.{stepped};
+ghost use Rattle.alma_machine_acts.specs.Steps.{step_result};
 
 use crate::registers::{Mode, Registers};
 use alma_base::{NoMemory, Range, RunFault};
@@ -16,7 +16,7 @@ impl<M: MachineMemory> Registers<M> {
     #[tactic(auto, using(crate::proofs::Words::store_is))]
     pub fn set(&mut self, frame: u32, slot: u32, number: i64) -> Result<Step, NoMemory>
         requires { HasNumberIn (M.picture self.old.memory).now frame slot }
-        ensures ok { IfOk result (λ answer. stepped answer [] (state_of M.picture self.new)
+        ensures ok { IfOk result (λ answer. step_result answer [] (state_of M.picture self.new)
             ≡ store (state_of M.picture self.old) frame slot number quiet_step) }
         ensures kept { IfOk result
             (λ answer. KeepsOn answer (state_of M.picture self.old) (state_of M.picture self.new)) }
@@ -33,7 +33,7 @@ impl<M: MachineMemory> Registers<M> {
         requires to { HasOneCell (M.picture self.old.memory).now to }
         requires from { HasNumber (M.picture self.old.memory).now from }
         ensures ok { let s = state_of M.picture self.old in
-            IfOk result (λ answer. stepped answer [] (state_of M.picture self.new) ≡ place s to
+            IfOk result (λ answer. step_result answer [] (state_of M.picture self.new) ≡ place s to
             (λ p. number s from (λ v. store s p.frame p.slot v quiet_step))) }
         ensures kept { IfOk result
             (λ answer. KeepsOn answer (state_of M.picture self.old) (state_of M.picture self.new)) }
@@ -77,7 +77,7 @@ impl<M: MachineMemory> Registers<M> {
     ) -> Result<Step, NoMemory>
         requires { HasNumberIn (M.picture self.old.memory).now place.frame place.slot }
         ensures ok { let s = state_of M.picture self.old in
-            IfOk result (λ answer. stepped answer [] (state_of M.picture self.new)
+            IfOk result (λ answer. step_result answer [] (state_of M.picture self.new)
             ≡ content s place.frame place.slot (λ u. binds_content s place range.now number u)) }
         ensures kept { IfOk result
             (λ answer. KeepsOn answer (state_of M.picture self.old) (state_of M.picture self.new)) }
@@ -106,7 +106,7 @@ impl<M: MachineMemory> Registers<M> {
         requires to { HasOneCell (M.picture self.old.memory).now to }
         requires value { HasNumber (M.picture self.old.memory).now value }
         ensures ok { let s = state_of M.picture self.old in
-            IfOk result (λ answer. stepped answer [] (state_of M.picture self.new)
+            IfOk result (λ answer. step_result answer [] (state_of M.picture self.new)
             ≡ place s to (λ p. number s value (λ v. content s p.frame p.slot
             (λ u. binds_content s p range.now v u)))) }
         ensures kept { IfOk result

@@ -4,7 +4,7 @@ ghost use Rattle.alma_code.specs.declared.cell.Cell.TheVariants as cell;
 ghost use Rattle.alma_code.specs.declared.cell.ChoiceKind.TheVariants as choice;
 ghost use Rattle.alma_code.specs.Machine.{answer_of_push, state_after_push, put_mark, mark, cut_to, pop, to_mark, kind_of, with_slot, is_forall_at, overlay, keep, finish};
 ghost use Rattle.alma_machine_acts.specs.Rows.{state_of, HasMark, KeepsOn, GivesMark};
-ghost use Rattle.alma_machine_acts.specs.Steps.{stepped};
+ghost use Rattle.alma_machine_acts.specs.Steps.{step_result};
 
 use crate::registers::{Mode, Registers};
 use alma_base::{NoMemory, RunFault};
@@ -31,7 +31,7 @@ pub fn mark<M: MachineMemory>(registers: &Registers<M>, slot: u32) -> Result<usi
 pub fn set_mark<M: MachineMemory>(registers: &mut Registers<M>, to: u32) -> Result<Step, NoMemory>
     requires { HasMark (M.picture registers.old.memory).now to }
     ensures ok { let s = state_of M.picture registers.old in IfOk result
-        (λ answer. stepped answer [] (state_of M.picture registers.new)
+        (λ answer. step_result answer [] (state_of M.picture registers.new)
         ≡ put_mark s to (length s.held)) }
     ensures kept { IfOk result
         (λ answer. KeepsOn answer (state_of M.picture registers.old)
@@ -53,7 +53,7 @@ pub fn choose<M: MachineMemory>(
 ) -> Result<Step, NoMemory>
     requires kind { kind ≢ ChoiceKind.Done }
     requires few { registers.old.choices + 1 < 2 ^ 63 }
-    ensures ok { IfOk result (λ answer. stepped answer [] (state_of M.picture registers.new)
+    ensures ok { IfOk result (λ answer. step_result answer [] (state_of M.picture registers.new)
         ≡ answer_of_push (state_after_push (state_of M.picture registers.old) kind resume)) }
     ensures succeeds { 1 ≤ (M.picture registers.old.memory).choice_room → IsOk result }
     ensures kept { IfOk result
@@ -72,7 +72,7 @@ pub fn choose<M: MachineMemory>(
 #[tactic(auto, using(crate::proofs::Entries::cuts))]
 pub fn cut<M: MachineMemory>(registers: &mut Registers<M>, slot: u32) -> Step
     requires { HasMark (M.picture registers.old.memory).now slot }
-    ensures step { let s = state_of M.picture registers.old in stepped result []
+    ensures step { let s = state_of M.picture registers.old in step_result result []
         (state_of M.picture registers.new)
         ≡ mark s slot (λ h. cut_to s h) }
     ensures kept { KeepsOn result (state_of M.picture registers.old)
@@ -96,7 +96,7 @@ pub fn cut<M: MachineMemory>(registers: &mut Registers<M>, slot: u32) -> Step
 #[tactic(auto, using(crate::proofs::Entries::pops))]
 pub fn pop<M: MachineMemory>(registers: &mut Registers<M>) -> Step
     requires few { registers.old.fails + 1 < 2 ^ 63 }
-    ensures step { stepped result [] (state_of M.picture registers.new)
+    ensures step { step_result result [] (state_of M.picture registers.new)
         ≡ pop (state_of M.picture registers.old) }
     ensures kept { KeepsOn result (state_of M.picture registers.old)
         (state_of M.picture registers.new) }
@@ -124,7 +124,7 @@ pub fn forall<M: MachineMemory>(
     requires mark { HasMark (M.picture registers.old.memory).now slot }
     requires few { registers.old.choices + 1 < 2 ^ 63 }
     ensures ok { let s = state_of M.picture registers.old in IfOk result
-        (λ answer. stepped answer [] (state_of M.picture registers.new)
+        (λ answer. step_result answer [] (state_of M.picture registers.new)
         ≡ to_mark (kind_of s slot) s
         (λ _. answer_of_push (with_slot (state_after_push s choice.Forall resume) slot (cell.Mark
         (length s.held + 1))))) }
@@ -188,7 +188,7 @@ pub fn begin_body<M: MachineMemory>(
     requires mark { HasMark (M.picture registers.old.memory).now slot }
     requires few { registers.old.choices + 1 < 2 ^ 63 }
     ensures ok { let s = state_of M.picture registers.old in IfOk result
-        (λ answer. stepped answer [] (state_of M.picture registers.new)
+        (λ answer. step_result answer [] (state_of M.picture registers.new)
         ≡ mark s slot (λ h. answer_of_push (state_after_push (overlay s h) choice.Body resume))) }
     ensures kept { IfOk result
         (λ answer. KeepsOn answer (state_of M.picture registers.old)
@@ -212,7 +212,7 @@ pub fn begin_body<M: MachineMemory>(
 // Keeps the Body on top in the Forall at a height below it, where they are there.
 #[tactic(auto, using(crate::proofs::Entries::keeps))]
 fn keep_at<M: MachineMemory>(registers: &mut Registers<M>, height: usize) -> Result<Step, NoMemory>
-    ensures ok { IfOk result (λ answer. stepped answer [] (state_of M.picture registers.new)
+    ensures ok { IfOk result (λ answer. step_result answer [] (state_of M.picture registers.new)
         ≡ keep (state_of M.picture registers.old) height) }
     ensures kept { IfOk result
         (λ answer. KeepsOn answer (state_of M.picture registers.old)
@@ -236,7 +236,7 @@ fn keep_at<M: MachineMemory>(registers: &mut Registers<M>, height: usize) -> Res
 pub fn keep<M: MachineMemory>(registers: &mut Registers<M>, slot: u32) -> Result<Step, NoMemory>
     requires { HasMark (M.picture registers.old.memory).now slot }
     ensures ok { let s = state_of M.picture registers.old in IfOk result
-        (λ answer. stepped answer [] (state_of M.picture registers.new)
+        (λ answer. step_result answer [] (state_of M.picture registers.new)
         ≡ mark s slot (λ h. keep s h)) }
     ensures kept { IfOk result
         (λ answer. KeepsOn answer (state_of M.picture registers.old)
@@ -254,7 +254,7 @@ pub fn keep<M: MachineMemory>(registers: &mut Registers<M>, slot: u32) -> Result
 /// Drops the Done on top and lays its carry over the frames, where there is one.
 #[tactic(auto, using(crate::proofs::Entries::finishes))]
 pub fn finish<M: MachineMemory>(registers: &mut Registers<M>) -> Result<Step, NoMemory>
-    ensures ok { IfOk result (λ answer. stepped answer [] (state_of M.picture registers.new)
+    ensures ok { IfOk result (λ answer. step_result answer [] (state_of M.picture registers.new)
         ≡ finish (state_of M.picture registers.old)) }
     ensures kept { IfOk result
         (λ answer. KeepsOn answer (state_of M.picture registers.old)

@@ -4,8 +4,8 @@ ghost use Rattle.alma_base.specs.Choice.{if_true};
 ghost use Rattle.alma_base.specs.declared.fault.RunFault.TheVariants as fault;
 ghost use Rattle.alma_base.specs.Numbers.{is_zero};
 ghost use Rattle.alma_code.specs.Machine.{number, put_number, range_check, quiet_step, goes_to, fails_now};
-ghost use Rattle.alma_machine_acts.specs.Rows.{state_of, HasNumber, KeepsOn, counted};
-ghost use Rattle.alma_machine_acts.specs.Steps.{stepped};
+ghost use Rattle.alma_machine_acts.specs.Rows.{state_of, HasNumber, KeepsOn, count_on};
+ghost use Rattle.alma_machine_acts.specs.Steps.{step_result};
 
 use crate::registers::{Mode, Registers};
 use alma_base::{NoMemory, Range, RunFault};
@@ -18,7 +18,7 @@ impl<M: MachineMemory> Registers<M> {
     pub fn jump_zero(&mut self, value: u32, to: u32) -> Step
         requires { HasNumber (M.picture self.old.memory).now value }
         ensures step { let s = state_of M.picture self.old in
-            stepped result [] (state_of M.picture self.new) ≡ number s value
+            step_result result [] (state_of M.picture self.new) ≡ number s value
             (λ v. if_true (is_zero v)
             (λ _. goes_to to s) (λ _. quiet_step s)) }
         ensures kept { KeepsOn result (state_of M.picture self.old) (state_of M.picture self.new) }
@@ -40,7 +40,7 @@ impl<M: MachineMemory> Registers<M> {
     pub fn check(&mut self, value: u32) -> Step
         requires { HasNumber (M.picture self.old.memory).now value }
         ensures step { let s = state_of M.picture self.old in
-            stepped result [] (state_of M.picture self.new) ≡ number s value
+            step_result result [] (state_of M.picture self.new) ≡ number s value
             (λ v. if_true (is_zero v)
             (λ _. fails_now s) (λ _. quiet_step s)) }
         ensures kept { KeepsOn result (state_of M.picture self.old) (state_of M.picture self.new) }
@@ -62,7 +62,7 @@ impl<M: MachineMemory> Registers<M> {
     pub fn in_range(&mut self, value: u32, range: &Range) -> Step
         requires { HasNumber (M.picture self.old.memory).now value }
         ensures step { let s = state_of M.picture self.old in
-            stepped result [] (state_of M.picture self.new) ≡ number s value
+            step_result result [] (state_of M.picture self.new) ≡ number s value
             (λ v. range_check range.now fault.Range s v (λ _. quiet_step s)) }
         ensures kept { KeepsOn result (state_of M.picture self.old) (state_of M.picture self.new) }
         ensures past { (M.picture self.new.memory).past ≡ (M.picture self.old.memory).past }
@@ -80,8 +80,8 @@ impl<M: MachineMemory> Registers<M> {
         requires limit { HasNumber (M.picture self.old.memory).now limit }
         requires by { HasNumber (M.picture self.old.memory).now by }
         ensures ok { let s = state_of M.picture self.old in
-            IfOk result (λ answer. stepped answer [] (state_of M.picture self.new)
-            ≡ counted s counter limit by (goes_to out s) (put_number s counter)) }
+            IfOk result (λ answer. step_result answer [] (state_of M.picture self.new)
+            ≡ count_on s counter limit by (goes_to out s) (put_number s counter)) }
         ensures kept { IfOk result
             (λ answer. KeepsOn answer (state_of M.picture self.old) (state_of M.picture self.new)) }
         ensures refused { OnErr result (state_of M.picture self.new ≡ state_of M.picture self.old) }

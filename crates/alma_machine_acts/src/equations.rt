@@ -5,8 +5,8 @@ ghost use Rattle.alma_code.specs.Fits.{IsContent};
 ghost use Rattle.alma_code.specs.Machine.{place, equation_of_contents, equation, equations, copies_cells, quiet_step};
 ghost use Rattle.alma_code.specs.Picture.{cell_at};
 ghost use Rattle.alma_machine_acts.specs.Rows.{state_of, HasCells, HasOneCell, HasNumberIn, IsCells, KeepsOn, KeepsNumbers, width, AreNumbers};
-ghost use Rattle.alma_machine_acts.specs.Meets.{Meets, MeetsOn, given};
-ghost use Rattle.alma_machine_acts.specs.Steps.{stepped};
+ghost use Rattle.alma_machine_acts.specs.Meets.{Meets, MeetsOn, give_number};
+ghost use Rattle.alma_machine_acts.specs.Steps.{step_result};
 
 use crate::places::Spot;
 use crate::registers::Registers;
@@ -27,7 +27,7 @@ impl<M: MachineMemory> Registers<M> {
     fn give(&mut self, to: Spot, range: Option<Range>, known: Option<i64>) -> Result<Met, NoMemory>
         requires { HasNumberIn (M.picture self.old.memory).now to.frame to.slot }
         ensures ok { let s = state_of M.picture self.old in IfOk result (λ met. Meets met
-            (λ k. given s to.frame to.slot range known k) (state_of M.picture self.new)) }
+            (λ k. give_number s to.frame to.slot range known k) (state_of M.picture self.new)) }
         ensures kept { IfOk result
             (λ met. MeetsOn met (state_of M.picture self.old) (state_of M.picture self.new)) }
         ensures refused { OnErr result (state_of M.picture self.new ≡ state_of M.picture self.old) }
@@ -138,7 +138,7 @@ impl<M: MachineMemory> Registers<M> {
         requires left { HasOneCell (M.picture self.old.memory).now left }
         requires right { HasOneCell (M.picture self.old.memory).now right }
         ensures ok { let s = state_of M.picture self.old in IfOk result
-            (λ answer. stepped answer [] (state_of M.picture self.new)
+            (λ answer. step_result answer [] (state_of M.picture self.new)
             ≡ place s left (λ p. place s right
             (λ q. equation s p.frame p.slot (Some left_range) q.frame q.slot (Some right_range)
             quiet_step))) }
@@ -175,7 +175,7 @@ impl<M: MachineMemory> Registers<M> {
         requires left { AreNumbers (M.picture self.old.memory).now left.frame left.slot count }
         requires right { AreNumbers (M.picture self.old.memory).now right.frame right.slot count }
         requires room { count ≤ (M.picture self.old.memory).trail_room }
-        ensures step { stepped result [] (state_of M.picture self.new)
+        ensures step { step_result result [] (state_of M.picture self.new)
             ≡ equations count
             (state_of M.picture self.old) left.frame left.slot right.frame right.slot }
         ensures kept { KeepsOn result (state_of M.picture self.old) (state_of M.picture self.new) }
@@ -207,7 +207,7 @@ impl<M: MachineMemory> Registers<M> {
         requires alike { width (M.picture self.old.memory).now left
             ≡ width (M.picture self.old.memory).now right }
         ensures ok { let s = state_of M.picture self.old in IfOk result
-            (λ answer. stepped answer [] (state_of M.picture self.new)
+            (λ answer. step_result answer [] (state_of M.picture self.new)
             ≡ place s left (λ p. place s right
             (λ q. equations p.len s p.frame p.slot q.frame q.slot))) }
         ensures kept { IfOk result

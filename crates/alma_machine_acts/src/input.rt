@@ -2,10 +2,10 @@
 ghost use Rattle.std.specs.Prelude.{◌≡◌, ◌<◌, ◌≤◌, ◌^◌, ℕ, [], length, slice_get, IfOk, OnErr, MatchOption};
 ghost use Rattle.alma_base.specs.Limits.{input_limit};
 ghost use Rattle.alma_base.specs.Reading.{number_from};
-ghost use Rattle.alma_code.specs.Machine.{State, Stepped, place, position, takes_read, byte_or_failure};
+ghost use Rattle.alma_code.specs.Machine.{State, StepResult, place, position, takes_read, byte_or_failure};
 ghost use Rattle.alma_machine_acts.specs.Rows.{state_of, HasOneCell, HasNumberIn, KeepsOn};
 ghost use Rattle.alma_machine_acts.specs.Inputs.{HasPosition, IsBelow};
-ghost use Rattle.alma_machine_acts.specs.Steps.{stepped};
+ghost use Rattle.alma_machine_acts.specs.Steps.{step_result};
 
 use crate::registers::Registers;
 use alma_base::{NoMemory, Range, ReadInt, RunFault, read_int};
@@ -43,7 +43,7 @@ fn find_char(input: &[u8], from: usize) -> ReadInt
 #[tactic(auto, using(crate::proofs::Reading::positions))]
 fn position<M: MachineMemory>(registers: &Registers<M>) -> usize
     requires { HasPosition (M.picture registers.now.memory).now }
-    ensures { (s : State) (k : ℕ → Stepped) → s.now ≡ (M.picture registers.now.memory).now
+    ensures { (s : State) (k : ℕ → StepResult) → s.now ≡ (M.picture registers.now.memory).now
         → position s k
         ≡ k result }
 {
@@ -64,7 +64,7 @@ fn take<M: MachineMemory>(
     requires below { IsBelow read }
     requires position { HasNumberIn (M.picture registers.old.memory).now 0 0 }
     requires place { HasNumberIn (M.picture registers.old.memory).now place.frame place.slot }
-    ensures ok { IfOk result (λ answer. stepped answer [] (state_of M.picture registers.new)
+    ensures ok { IfOk result (λ answer. step_result answer [] (state_of M.picture registers.new)
         ≡ takes_read (state_of M.picture registers.old) range.now place read) }
     ensures kept { IfOk result
         (λ answer. KeepsOn answer (state_of M.picture registers.old)
@@ -108,7 +108,7 @@ pub fn read_number<M: MachineMemory>(
     requires position { HasPosition (M.picture registers.old.memory).now }
     requires to { HasOneCell (M.picture registers.old.memory).now to }
     ensures ok { let s = state_of M.picture registers.old in IfOk result
-        (λ answer. stepped answer [] (state_of M.picture registers.new)
+        (λ answer. step_result answer [] (state_of M.picture registers.new)
         ≡ place s to (λ p. position s
         (λ n. takes_read s range.now p (number_from input.now n)))) }
     ensures kept { IfOk result
@@ -139,7 +139,7 @@ pub fn read_char<M: MachineMemory>(
     requires position { HasPosition (M.picture registers.old.memory).now }
     requires to { HasOneCell (M.picture registers.old.memory).now to }
     ensures ok { let s = state_of M.picture registers.old in IfOk result
-        (λ answer. stepped answer [] (state_of M.picture registers.new)
+        (λ answer. step_result answer [] (state_of M.picture registers.new)
         ≡ place s to (λ p. position s
         (λ n. byte_or_failure s range.now p n (slice_get input.now n)))) }
     ensures kept { IfOk result

@@ -2,7 +2,7 @@
 ghost use Rattle.std.specs.Prelude.{◌≡◌, ◌<◌, ℕ, [], length, IfOk, OnErr};
 ghost use Rattle.alma_code.specs.Machine.{State, link, slot_in, as_place, put_link, put_place};
 ghost use Rattle.alma_machine_acts.specs.Rows.{state_of, HasPlaceIn, HasLink, HasLinkTo, LeadsTo, HasPlace, KeepsOn, GivesHeld, GivesLink, point_or_fault, link_or_fault};
-ghost use Rattle.alma_machine_acts.specs.Steps.{stepped};
+ghost use Rattle.alma_machine_acts.specs.Steps.{step_result};
 
 use crate::places::Spot;
 use crate::registers::Registers;
@@ -41,7 +41,7 @@ impl<M: MachineMemory> Registers<M> {
     #[tactic(auto, using(crate::proofs::Held::put_links))]
     pub fn put_link(&mut self, to: u32, frame: Result<u32, RunFault>) -> Result<Step, NoMemory>
         requires { HasLinkTo (M.picture self.old.memory).now to }
-        ensures ok { IfOk result (λ answer. stepped answer [] (state_of M.picture self.new)
+        ensures ok { IfOk result (λ answer. step_result answer [] (state_of M.picture self.new)
             ≡ link_or_fault (state_of M.picture self.old) to frame) }
         ensures kept { IfOk result
             (λ answer. KeepsOn answer (state_of M.picture self.old) (state_of M.picture self.new)) }

@@ -6,7 +6,7 @@ ghost use Rattle.alma_base.specs.Numbers.{is_zero};
 ghost use Rattle.alma_base.specs.Value.{value_text};
 ghost use Rattle.alma_code.specs.Machine.{number, prints_bytes, run_faults};
 ghost use Rattle.alma_machine_acts.specs.Rows.{state_of, HasNumber, IsNumbered, KeepsOn};
-ghost use Rattle.alma_machine_acts.specs.Steps.{stepped, PrintsOnly};
+ghost use Rattle.alma_machine_acts.specs.Steps.{step_result, PrintsOnly};
 
 use crate::registers::Registers;
 use alma_base::{NoMemory, RunFault, Value, write_value};
@@ -45,7 +45,7 @@ pub fn print_number<M: MachineMemory>(
     requires slot { HasNumber (M.picture registers.old.memory).now value }
     requires empty { bytes.old.items ≡ [] }
     ensures ok { let s = state_of M.picture registers.old in
-        IfOk result (λ answer. stepped answer bytes.new.items (state_of M.picture registers.new)
+        IfOk result (λ answer. step_result answer bytes.new.items (state_of M.picture registers.new)
         ≡ number s value (λ v. prints_bytes (value_text (kind.Int v)) s)) }
     ensures kept { IfOk result
         (λ answer. KeepsOn answer (state_of M.picture registers.old)
@@ -75,7 +75,7 @@ pub fn print_truth<M: MachineMemory>(
     requires slot { HasNumber (M.picture registers.old.memory).now value }
     requires empty { bytes.old.items ≡ [] }
     ensures ok { let s = state_of M.picture registers.old in
-        IfOk result (λ answer. stepped answer bytes.new.items (state_of M.picture registers.new)
+        IfOk result (λ answer. step_result answer bytes.new.items (state_of M.picture registers.new)
         ≡ number s value (λ v. prints_bytes (value_text (kind.Bool (not (is_zero v)))) s)) }
     ensures kept { IfOk result
         (λ answer. KeepsOn answer (state_of M.picture registers.old)
@@ -105,7 +105,7 @@ pub fn print_character<M: MachineMemory>(
     requires slot { HasNumber (M.picture registers.old.memory).now value }
     requires empty { bytes.old.items ≡ [] }
     ensures ok { let s = state_of M.picture registers.old in
-        IfOk result (λ answer. stepped answer bytes.new.items (state_of M.picture registers.new)
+        IfOk result (λ answer. step_result answer bytes.new.items (state_of M.picture registers.new)
         ≡ number s value (λ v. prints_bytes (value_text (kind.Char (nat_abs (int_rem_euclid v (pos
         256))))) s)) }
     ensures kept { IfOk result

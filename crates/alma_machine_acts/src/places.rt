@@ -5,7 +5,7 @@ ghost use Rattle.alma_base.specs.Numbers.{within, range_size};
 ghost use Rattle.alma_code.specs.Machine.{State, number, place, range_check, put_place};
 ghost use Rattle.alma_code.specs.Picture.{last_frame};
 ghost use Rattle.alma_machine_acts.specs.Rows.{state_of, HasNumber, HasPlace, HasCells, KeepsOn, width, point_or_fault};
-ghost use Rattle.alma_machine_acts.specs.Steps.{stepped};
+ghost use Rattle.alma_machine_acts.specs.Steps.{step_result};
 
 use crate::registers::Registers;
 use alma_base::{NoMemory, Range, RunFault};
@@ -51,7 +51,7 @@ impl<M: MachineMemory> Registers<M> {
     #[tactic(auto, using(crate::proofs::Parts::put_place_is, crate::proofs::Parts::place_is_slot))]
     pub fn put_place(&mut self, to: u32, frame: u32, first: u32) -> Result<Step, NoMemory>
         requires { HasPlace (M.picture self.old.memory).now to }
-        ensures ok { IfOk result (λ answer. stepped answer [] (state_of M.picture self.new)
+        ensures ok { IfOk result (λ answer. step_result answer [] (state_of M.picture self.new)
             ≡ put_place (state_of M.picture self.old) to frame (λ _. first)) }
         ensures kept { IfOk result
             (λ answer. KeepsOn answer (state_of M.picture self.old) (state_of M.picture self.new)) }
@@ -70,7 +70,7 @@ impl<M: MachineMemory> Registers<M> {
     /// Puts the place that begins at a spot into a place slot, or ends the run in its fault.
     pub fn point(&mut self, to: u32, spot: Result<Spot, RunFault>) -> Result<Step, NoMemory>
         requires { HasPlace (M.picture self.old.memory).now to }
-        ensures ok { IfOk result (λ answer. stepped answer [] (state_of M.picture self.new)
+        ensures ok { IfOk result (λ answer. step_result answer [] (state_of M.picture self.new)
             ≡ point_or_fault (state_of M.picture self.old) to spot) }
         ensures kept { IfOk result
             (λ answer. KeepsOn answer (state_of M.picture self.old) (state_of M.picture self.new)) }

@@ -2,7 +2,7 @@
 ghost use Rattle.std.specs.Prelude.{◌≡◌, [], IfOk, OnErr};
 ghost use Rattle.alma_code.specs.Machine.{ends_run, goes_to, fails_now, quiet_step, with_slot};
 ghost use Rattle.alma_machine_acts.specs.Rows.{state_of, HasSlot, HasNumber, KeepsOn, put_or_fault};
-ghost use Rattle.alma_machine_acts.specs.Steps.{stepped};
+ghost use Rattle.alma_machine_acts.specs.Steps.{step_result};
 
 use alma_base::{NoMemory, RunFault};
 use alma_code::{Cell, End, Step};
@@ -35,7 +35,7 @@ pub struct Registers<M: MachineMemory> {
 impl<M: MachineMemory> Registers<M> {
     /// Ends the run.
     pub fn end(&mut self, end: End) -> Step
-        ensures step { stepped result [] (state_of M.picture self.new)
+        ensures step { step_result result [] (state_of M.picture self.new)
             ≡ ends_run end (state_of M.picture self.old) }
         ensures memory { self.new.memory ≡ self.old.memory }
         ensures kept { KeepsOn result (state_of M.picture self.old) (state_of M.picture self.new) }
@@ -46,7 +46,7 @@ impl<M: MachineMemory> Registers<M> {
 
     /// Goes to an address.
     pub fn jump(&mut self, to: u32) -> Step
-        ensures step { stepped result [] (state_of M.picture self.new)
+        ensures step { step_result result [] (state_of M.picture self.new)
             ≡ goes_to to (state_of M.picture self.old) }
         ensures memory { self.new.memory ≡ self.old.memory }
         ensures kept { KeepsOn result (state_of M.picture self.old) (state_of M.picture self.new) }
@@ -57,7 +57,7 @@ impl<M: MachineMemory> Registers<M> {
 
     /// Fails.
     pub fn fail(&mut self) -> Step
-        ensures step { stepped result [] (state_of M.picture self.new)
+        ensures step { step_result result [] (state_of M.picture self.new)
             ≡ fails_now (state_of M.picture self.old) }
         ensures memory { self.new.memory ≡ self.old.memory }
         ensures kept { KeepsOn result (state_of M.picture self.old) (state_of M.picture self.new) }
@@ -70,7 +70,7 @@ impl<M: MachineMemory> Registers<M> {
     #[inline(always)]
     pub fn write(&mut self, to: u32, cell: Cell) -> Result<Step, NoMemory>
         requires { HasSlot (M.picture self.old.memory).now to }
-        ensures ok { IfOk result (λ answer. stepped answer [] (state_of M.picture self.new)
+        ensures ok { IfOk result (λ answer. step_result answer [] (state_of M.picture self.new)
             ≡ quiet_step (with_slot (state_of M.picture self.old) to cell)) }
         ensures kept { IfOk result
             (λ answer. KeepsOn answer (state_of M.picture self.old) (state_of M.picture self.new)) }
@@ -85,7 +85,7 @@ impl<M: MachineMemory> Registers<M> {
     #[tactic(auto, using(crate::proofs::Words::puts))]
     pub fn put(&mut self, to: u32, number: Result<i64, RunFault>) -> Result<Step, NoMemory>
         requires { HasNumber (M.picture self.old.memory).now to }
-        ensures ok { IfOk result (λ answer. stepped answer [] (state_of M.picture self.new)
+        ensures ok { IfOk result (λ answer. step_result answer [] (state_of M.picture self.new)
             ≡ put_or_fault (state_of M.picture self.old) to number) }
         ensures kept { IfOk result
             (λ answer. KeepsOn answer (state_of M.picture self.old) (state_of M.picture self.new)) }

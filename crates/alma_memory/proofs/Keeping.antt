@@ -4,7 +4,7 @@ use Rattle.alma_base.specs.Carry.{Change, with_changes}
 use Rattle.alma_code.specs.declared.cell.Cell.{Cell}
 use Rattle.alma_code.specs.Picture.{PlainFrame, PlainEntry, top_of, entry_at}
 use Rattle.alma_code.specs.Carries.{diffs, with_carry, held_after_keep}
-use Rattle.alma_memory_rewind.specs.Rewound.{top_copy}
+use Rattle.alma_memory_rewind.specs.PlainRewind.{top_copy}
 use Rattle.alma_memory_store.specs.Carries.{IsRising}
 use Rattle.alma_memory_store.specs.Past.{SameGain}
 use Rattle.alma_memory.specs.declared.stack.Entry.{Entry}

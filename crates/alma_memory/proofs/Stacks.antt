@@ -7,7 +7,7 @@ use Rattle.alma_code.specs.declared.cell.ChoiceKind.{ChoiceKind}
 use Rattle.alma_code.specs.declared.cell.ChoiceKind.TheVariants.{Branch, Forall, Body, Done}
 use Rattle.alma_code.specs.Picture.{PlainFrame, PlainEntry, no_entry, top_of, entry_at, kind_at, stack_after_pop, entry_after_pop}
 use Rattle.alma_code.specs.Picture.{entry_of_kind_after_pop}
-use Rattle.alma_memory_rewind.specs.Rewound.{top_copy}
+use Rattle.alma_memory_rewind.specs.PlainRewind.{top_copy}
 use Rattle.alma_memory.specs.declared.stack.Entry.{Entry}
 use Rattle.alma_memory.specs.Inner.Gain.{no_saved}
 use Rattle.alma_memory.specs.Inner.Stack.{entry_with, stack_of}

@@ -9,7 +9,7 @@ use Rattle.std.proofs.lemmas.Bool.{cases_eq, cases_lt, false≢true}
 use Rattle.std.proofs.lemmas.Bool.Decides.{nat_tests}
 use Rattle.alma_memory_rewind.specs.declared.rewind.Note.{Note}
 use Rattle.alma_memory_rewind.specs.declared.rewind.Mark.{Mark}
-use Rattle.alma_memory_rewind.specs.Rewound.{top_copy, needed}
+use Rattle.alma_memory_rewind.specs.PlainRewind.{top_copy, needed}
 use Rattle.alma_memory_rewind.specs.Trail.{before, copy_of, held_of, at_of, stamp_of, last_mark, no_mark, is_free, free_from, noted_to}
 use Rattle.alma_memory_rewind.specs.Trail.{trail_for}
 use Rattle.alma_memory_rewind.specs.Sound.{Rises, IsSound, Keeps, HasNote, AreStamps, IsStamp, AreOld, AddsNoted}

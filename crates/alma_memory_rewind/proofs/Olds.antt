@@ -6,7 +6,7 @@ use Rattle.std.proofs.lemmas.Bool.{eqb-true, false≢true}
 use Rattle.std.proofs.lemmas.Bool.Decides.{nat_tests}
 use Rattle.alma_memory_rewind.specs.declared.rewind.Note.{Note}
 use Rattle.alma_memory_rewind.specs.declared.rewind.Mark.{Mark}
-use Rattle.alma_memory_rewind.specs.Rewound.{top_copy, needed, first_or, IsOlds}
+use Rattle.alma_memory_rewind.specs.PlainRewind.{top_copy, needed, first_or, IsOlds}
 use Rattle.alma_memory_rewind.specs.Trail.{before, copy_of, held_of, last_mark, first_of}
 use Rattle.alma_memory_rewind.specs.Sound.{Rises}
 use Rattle.alma_memory_rewind.proofs.Trails.{length-before, length-copy, top-copy, rises-last}

@@ -6,19 +6,20 @@ use Rattle.alma_memory_rewind.specs.declared.rewind.Note.{Note}
 use Rattle.alma_memory_rewind.specs.declared.rewind.Mark.{Mark}
 use Rattle.alma_memory_rewind.specs.Trail.{before, copy_of, held_of, at_of, stamp_of, no_mark}
 use Rattle.alma_memory_rewind.specs.Sound.{Rises, IsSound, IsStamp}
-use Rattle.alma_memory_rewind.specs.Restart.{numbered, cleared, Anew, Renews}
+use Rattle.alma_memory_rewind.specs.Restart.{with_serials, cleared, Anew, Renews}
 use Rattle.alma_memory_rewind.proofs.Stamps.{no-stamp, zeros}
 
 -- ---- the marks
 
-pub length-numbered : (count n : ℕ) (ms : List Mark) → length (numbered count n ms) ≡ length ms
+pub length-numbered : (count n : ℕ) (ms : List Mark) → length (with_serials count n ms) ≡ length ms
 length-numbered zero n ms = refl
 length-numbered (suc count) n [] = refl
 length-numbered (suc count) n (m ∷ ms) = ap suc (length-numbered count (suc n) ms)
 
 -- one more is numbered
-pub number-more : (at n : ℕ) (ms : List Mark) (m x : Mark) (serial : ℕ) → at < length ms → m ≡ get_or (numbered at n ms) at m
-    → serial ≡ at + n → x ≡ record { mark = m.mark; top = m.top; serial = serial } → set (numbered at n ms) at x ≡ numbered (at + 1) n ms
+pub number-more : (at n : ℕ) (ms : List Mark) (m x : Mark) (serial : ℕ) → at < length ms → m ≡ get_or (with_serials at n ms) at m
+    → serial ≡ at + n → x ≡ record { mark = m.mark; top = m.top; serial = serial }
+    → set (with_serials at n ms) at x ≡ with_serials (at + 1) n ms
 number-more at n [] m x serial l e q p = absurd (omega (arith, l))
 number-more zero n (m' ∷ ms) m x serial l e q p =
     let s : serial ≡ n = omega (arith, q) in
@@ -29,7 +30,7 @@ number-more (suc at) n (m' ∷ ms) m x serial l e q p =
     rw up (ap (λ ys. (record { mark = m'.mark; top = m'.top; serial = n }) ∷ ys)
     (number-more at (suc n) ms m x serial (omega (arith, l)) e (omega (arith, q)) p))
 
-serial-of : (count n : ℕ) (ms : List Mark) (i : ℕ) → i < count → i < length ms → (get_or (numbered count n ms) i no_mark).serial ≡ n + i
+serial-of : (count n : ℕ) (ms : List Mark) (i : ℕ) → i < count → i < length ms → (get_or (with_serials count n ms) i no_mark).serial ≡ n + i
 serial-of zero n ms i c l = absurd (omega (arith, c))
 serial-of (suc count) n [] i c l = absurd (omega (arith, l))
 serial-of (suc count) n (m ∷ ms) zero c l = omega arith
@@ -37,14 +38,14 @@ serial-of (suc count) n (m ∷ ms) (suc i) c l =
     let e = serial-of count (suc n) ms i (omega (arith, c)) (omega (arith, l)) in omega (arith, e)
 
 rises-numbered : (count n mark top : ℕ) (ms : List Mark) (notes items : ℕ) → Rises mark top ms notes items
-    → Rises mark top (numbered count n ms) notes items
+    → Rises mark top (with_serials count n ms) notes items
 rises-numbered zero n mark top ms notes items r = r
 rises-numbered (suc count) n mark top [] notes items r = r
 rises-numbered (suc count) n mark top (m ∷ ms) notes items r = (r.0, r.1, rises-numbered count (suc n) m.mark m.top ms notes items r.2)
 
 module _ {T : Type 0} where
   held-numbered : (count n : ℕ) (ms : List Mark) (trail : List (Note T)) (xs : List T)
-      → held_of trail xs (numbered count n ms) ≡ held_of trail xs ms
+      → held_of trail xs (with_serials count n ms) ≡ held_of trail xs ms
   held-numbered zero n ms trail xs = refl
   held-numbered (suc count) n [] trail xs = refl
   held-numbered (suc count) n (m ∷ ms) trail xs = ap (λ hs. copy_of trail xs m ∷ hs) (held-numbered count (suc n) ms trail xs)
@@ -94,7 +95,7 @@ module _ {T : Type 0} where
   -- ---- both
 
   pub anew : (ms ms' : List Mark) (trail trail' : List (Note T)) (xs : List T) (stamps stamps' : List ℕ) (counter counter' : ℕ)
-      → ms' ≡ numbered (length ms) 1 ms → trail' ≡ cleared (length trail) trail → stamps' ≡ replicate (length stamps) 0
+      → ms' ≡ with_serials (length ms) 1 ms → trail' ≡ cleared (length trail) trail → stamps' ≡ replicate (length stamps) 0
       → counter' ≡ length ms → IsSound ms trail xs stamps counter → Anew ms ms' trail trail' xs stamps' counter'
   anew ms ms' trail trail' xs stamps stamps' counter counter' p q z c s = rw (p, q, z, c) (record {
     held = held-numbered (length ms) 1 ms (cleared (length trail) trail) xs ∙ held-cleared (length trail) ms trail xs;
@@ -116,22 +117,22 @@ module _ {T : Type 0} where
     };
   })
     where
-      serial : (i : ℕ) → i < length (numbered (length ms) 1 ms)
-          → ((get_or (numbered (length ms) 1 ms) i no_mark).serial ≡ 1 + i) × (i < length ms)
+      serial : (i : ℕ) → i < length (with_serials (length ms) 1 ms)
+          → ((get_or (with_serials (length ms) 1 ms) i no_mark).serial ≡ 1 + i) × (i < length ms)
       serial i l =
           let w : i < length ms = rw (length-numbered (length ms) 1 ms) at l in
           (serial-of (length ms) 1 ms i w w, w)
 
-      right : (n at : ℕ) → IsStamp (numbered (length ms) 1 ms) (cleared (length trail) trail) n at 0
-      right n at = no-stamp (numbered (length ms) 1 ms) (cleared (length trail) trail) n at
+      right : (n at : ℕ) → IsStamp (with_serials (length ms) 1 ms) (cleared (length trail) trail) n at 0
+      right n at = no-stamp (with_serials (length ms) 1 ms) (cleared (length trail) trail) n at
           (λ i l. (let e = serial i l in omega (arith, e.0)))
 
-      older : (p : ℕ) → IsStamp (numbered (length ms) 1 ms) (cleared (length trail) trail) p (at_of (cleared (length trail) trail) p)
+      older : (p : ℕ) → IsStamp (with_serials (length ms) 1 ms) (cleared (length trail) trail) p (at_of (cleared (length trail) trail) p)
           (stamp_of (cleared (length trail) trail) p)
       older p = rw (stamp-cleared trail p) (right p (at_of (cleared (length trail) trail) p))
 
   pub renews : (ms ms' : List Mark) (trail trail' : List (Note T)) (stamps stamps' : List ℕ) (counter counter' : ℕ)
-      → ms' ≡ numbered (length ms) 1 ms → trail' ≡ cleared (length trail) trail → stamps' ≡ replicate (length stamps) 0
+      → ms' ≡ with_serials (length ms) 1 ms → trail' ≡ cleared (length trail) trail → stamps' ≡ replicate (length stamps) 0
       → counter' ≡ length ms → Renews ms ms' trail trail' stamps stamps' counter counter'
   renews ms ms' trail trail' stamps stamps' counter counter' p q z c =
       record { keeps = λ xs s. anew ms ms' trail trail' xs stamps stamps' counter counter' p q z c s }

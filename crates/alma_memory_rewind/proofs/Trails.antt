@@ -6,7 +6,7 @@ use Rattle.std.proofs.lemmas.List.{length-take-le, take-take, drop-map, get_or-m
 use Rattle.std.proofs.lemmas.Bool.{cases_eq}
 use Rattle.alma_memory_rewind.specs.declared.rewind.Note.{Note}
 use Rattle.alma_memory_rewind.specs.declared.rewind.Mark.{Mark}
-use Rattle.alma_memory_rewind.specs.Rewound.{top_copy, needed}
+use Rattle.alma_memory_rewind.specs.PlainRewind.{top_copy, needed}
 use Rattle.alma_memory_rewind.specs.Trail.{before, copy_of, held_of, at_of, last_mark, no_mark}
 use Rattle.alma_memory_rewind.specs.Sound.{Rises}
 

@@ -1,4 +1,4 @@
-pub mod Rewound
+pub mod PlainRewind
 pub mod Trail
 pub mod Sound
 pub mod Restart

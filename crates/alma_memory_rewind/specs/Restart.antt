@@ -6,10 +6,10 @@ use Rattle.alma_memory_rewind.specs.Trail.{held_of}
 use Rattle.alma_memory_rewind.specs.Sound.{IsSound}
 
 -- the first so many marks have the serials from n on
-abbrev pub numbered : (count n : ℕ) → List Mark → List Mark
-numbered zero n ms = ms
-numbered (suc count) n [] = []
-numbered (suc count) n (m ∷ ms) = (record { mark = m.mark; top = m.top; serial = n }) ∷ numbered count (suc n) ms
+abbrev pub with_serials : (count n : ℕ) → List Mark → List Mark
+with_serials zero n ms = ms
+with_serials (suc count) n [] = []
+with_serials (suc count) n (m ∷ ms) = (record { mark = m.mark; top = m.top; serial = n }) ∷ with_serials count (suc n) ms
 
 module _ {T : Type 0} where
   -- the first so many notes hold the stamp 0

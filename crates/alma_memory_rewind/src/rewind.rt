@@ -5,12 +5,12 @@ ghost use Rattle.std.specs.Prelude.{is_ok, IsOk, OnOk, OnErr, IfOk, IsTrue, if�
 ghost use Rattle.std.specs.Prelude.{◌^◌, vec_len, vec_capacity};
 ghost use Rattle.std.specs.BTreeMap.{get};
 ghost use Rattle.std.specs.Ordering.{nat_cmp};
-ghost use Rattle.alma_memory_rewind.specs.Rewound.{IsOlds, needed, top_copy};
+ghost use Rattle.alma_memory_rewind.specs.PlainRewind.{IsOlds, needed, top_copy};
 ghost use Rattle.alma_memory_rewind.specs.Trail.{before, first_of, held_of, is_free, last_mark};
 ghost use Rattle.alma_memory_rewind.specs.Trail.{free_from, trail_for};
 ghost use Rattle.alma_memory_rewind.specs.Sound.{AddsNoted, AreOld, AreStamps, IsSound, Keeps};
 ghost use Rattle.alma_memory_rewind.specs.Sound.{Sweeps, SweepsOn};
-ghost use Rattle.alma_memory_rewind.specs.Restart.{cleared, numbered, Renews};
+ghost use Rattle.alma_memory_rewind.specs.Restart.{cleared, with_serials, Renews};
 
 use alma_base::NoMemory;
 use std::alloc::Global;
@@ -68,9 +68,9 @@ pub struct Rewind<T> {
 impl<T> Model for Rewind<T> {
     ghost use Rattle.std.specs.Prelude.{◌-◌, ◌^◌, ◌≤◌, length, min};
     ghost use Rattle.std.specs.Vec.{vec_len, vec_capacity};
-    ghost use Rattle.alma_memory_rewind.specs.Rewound.{Rewound, rewound_code};
+    ghost use Rattle.alma_memory_rewind.specs.PlainRewind.{PlainRewind, rewound_code};
 
-    ghost Value = { Rewound T };
+    ghost Value = { PlainRewind T };
 
     ghost coded = { rewound_code T.code };
 
@@ -402,7 +402,7 @@ fn push_all<T: Copy>(items: &mut Vec<T>, more: &[T])
 // Numbers the copies from the bottom.
 fn number(marks: &mut Vec<Mark>)
     requires { length marks.old.items < 2 ^ 32 }
-    ensures marks { marks.new.items ≡ numbered (length marks.old.items) 1 marks.old.items }
+    ensures marks { marks.new.items ≡ with_serials (length marks.old.items) 1 marks.old.items }
     ensures len { vec_len marks.new ≡ vec_len marks.old }
     ensures capacity { vec_capacity marks.new ≡ vec_capacity marks.old }
 {

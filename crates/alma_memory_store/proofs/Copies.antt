@@ -6,11 +6,11 @@ use Rattle.std.proofs.lemmas.List.{take-append-le, map-append}
 use Rattle.std.proofs.Math.Seq.{drop-append_seam}
 use Rattle.alma_base.specs.Limits.{cell_limit, frame_limit}
 use Rattle.alma_code.specs.Picture.{PlainFrame, without_last}
-use Rattle.alma_memory_rewind.specs.Rewound.{top_copy}
+use Rattle.alma_memory_rewind.specs.PlainRewind.{top_copy}
 use Rattle.alma_memory_store.specs.declared.store.Region.{Region}
 use Rattle.alma_memory_store.specs.declared.store.Slot.{Slot}
 use Rattle.alma_memory_store.specs.Regions.{frame_of, frame_with_slots, frames_of, AreLaid, end_of, declared_in, AreTotaled}
-use Rattle.alma_memory_store.specs.Stored.{copies_of, IsState, AreStates}
+use Rattle.alma_memory_store.specs.PlainStore.{copies_of, IsState, AreStates}
 use Rattle.alma_memory_store.proofs.Frames.{laid-more, laid-end, laid-push, laid-take, frames-take, frames-agree}
 use Rattle.alma_memory_store.proofs.Totals.{declared-push, declared-take, totaled-take, totaled-push}
 

@@ -12,7 +12,7 @@ use Rattle.alma_code.specs.declared.cell.Cell.{Cell}
 use Rattle.alma_code.specs.Kinds.{is_number}
 use Rattle.alma_code.specs.Picture.{PlainFrame, no_frame}
 use Rattle.alma_code.specs.Carries.{number_at, differs}
-use Rattle.alma_memory_rewind.specs.Rewound.{top_copy, needed, first_or}
+use Rattle.alma_memory_rewind.specs.PlainRewind.{top_copy, needed, first_or}
 use Rattle.alma_memory_store.specs.declared.past.Past.TheInside.{Inside}
 use Rattle.alma_memory_store.specs.declared.store.Region.{Region}
 use Rattle.alma_memory_store.specs.declared.store.Slot.{Slot}

@@ -13,7 +13,7 @@ use Rattle.alma_memory_store.specs.Frames.{AreWhole}
 use Rattle.alma_memory_store.specs.Numbers.{number_in, number_of}
 use Rattle.alma_memory_store.specs.Regions.{frame_of, frame_with_slots, frames_of, part_of, no_region, no_slot, end_of, AreTotaled}
 use Rattle.alma_memory_store.specs.Regions.{declared_in, slot_number}
-use Rattle.alma_memory_store.specs.Stored.{IsState}
+use Rattle.alma_memory_store.specs.PlainStore.{IsState}
 use Rattle.alma_memory_store.proofs.Frames.{laid-at, end-last, frames-write, length-part, length-cells, whole-frames}
 use Rattle.alma_memory_store.proofs.Totals.{total-last}
 use Rattle.alma_memory_store.proofs.Stores.{whole-at}

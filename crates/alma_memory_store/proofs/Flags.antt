@@ -6,7 +6,7 @@ use Rattle.std.proofs.lemmas.List.{length-map, get_or-map, get_or-take, get_or-d
 use Rattle.std.proofs.lemmas.Bool.{cases_lt, false≢true}
 use Rattle.alma_memory_store.specs.declared.store.Region.{Region}
 use Rattle.alma_memory_store.specs.Regions.{no_region, AreLaid, end_of}
-use Rattle.alma_memory_store.specs.Stored.{flags_of, IsNoted}
+use Rattle.alma_memory_store.specs.PlainStore.{flags_of, IsNoted}
 use Rattle.alma_memory_store.proofs.Frames.{laid-at, laid-end}
 
 few : (n : ℕ) (xs : List Bool) → length (take n xs) ≤ n

@@ -3,5 +3,5 @@ pub mod Carries
 pub mod Numbers
 pub mod Regions
 pub mod Images
-pub mod Stored
+pub mod PlainStore
 pub mod Past

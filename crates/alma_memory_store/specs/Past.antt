@@ -9,13 +9,13 @@ use Rattle.alma_code.specs.declared.cell.Cell.{Cell}
 use Rattle.alma_code.specs.declared.cell.Cell.TheVariants.{Unknown}
 use Rattle.alma_code.specs.Picture.{PlainFrame, cell_at}
 use Rattle.alma_code.specs.Carries.{same_cell, differs}
-use Rattle.alma_memory_rewind.specs.Rewound.{top_copy, IsOlds}
+use Rattle.alma_memory_rewind.specs.PlainRewind.{top_copy, IsOlds}
 use Rattle.alma_memory_store.specs.declared.past.Past.TheInside.{Inside}
 use Rattle.alma_memory_store.specs.declared.store.Region.{Region}
 use Rattle.alma_memory_store.specs.declared.store.Slot.{Slot}
 use Rattle.alma_memory_store.specs.Carries.{IsRising}
 use Rattle.alma_memory_store.specs.Regions.{no_region}
-use Rattle.alma_memory_store.specs.Stored.{IsState}
+use Rattle.alma_memory_store.specs.PlainStore.{IsState}
 
 -- the frames of now and their regions, the frames of the top copy, and the slots and regions of the copy where
 -- they may be others

@@ -7,7 +7,7 @@ ghost use Rattle.alma_code.specs.Picture.{live_cells};
 ghost use Rattle.alma_memory_store.specs.Frames.{AreWhole};
 ghost use Rattle.alma_memory_store.specs.Images.{IsImage, image_count};
 ghost use Rattle.alma_memory_store.specs.Regions.{cells_in, kinds_in};
-ghost use Rattle.alma_memory_store.specs.Stored.{IsNoted};
+ghost use Rattle.alma_memory_store.specs.PlainStore.{IsNoted};
 
 use crate::layout::{push_args, put_blanks, put_cells};
 use crate::live_frames::LiveFrames;

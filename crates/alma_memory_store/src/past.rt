@@ -4,12 +4,12 @@ ghost use Rattle.std.specs.BTreeMap.{get};
 ghost use Rattle.std.specs.Ordering.{nat_cmp};
 ghost use Rattle.alma_code.specs.Picture.{no_frame};
 ghost use Rattle.alma_code.specs.Carries.{diffs, diff_at, slot_diffs, same_cell};
-ghost use Rattle.alma_memory_rewind.specs.Rewound.{first_or, top_copy};
+ghost use Rattle.alma_memory_rewind.specs.PlainRewind.{first_or, top_copy};
 ghost use Rattle.alma_memory_store.specs.Carries.{carry_of_entries};
 ghost use Rattle.alma_memory_store.specs.Numbers.{number_of};
 ghost use Rattle.alma_memory_store.specs.Past.{Gains, IsAt, IsKept, IsNone, IsReplaced, SameGain, change_between};
 ghost use Rattle.alma_memory_store.specs.Regions.{AreLaid, frames_of, no_region};
-ghost use Rattle.alma_memory_store.specs.Stored.{IsState};
+ghost use Rattle.alma_memory_store.specs.PlainStore.{IsState};
 
 use crate::carry::SlotPlace;
 use crate::store::{Region, Slot, number_in, place_of};
@@ -33,7 +33,7 @@ pub struct Past<'a> {
 
 impl<'a> Model for Past<'a> {
     ghost use Rattle.std.specs.Prelude.{take};
-    ghost use Rattle.alma_memory_rewind.specs.Rewound.{top_copy};
+    ghost use Rattle.alma_memory_rewind.specs.PlainRewind.{top_copy};
     ghost use Rattle.alma_memory_store.specs.Regions.{frames_of};
     ghost use Rattle.alma_memory_store.specs.Past.{PlainPast, IsPast};
 

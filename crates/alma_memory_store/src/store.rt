@@ -4,13 +4,13 @@ ghost use Rattle.alma_base.specs.Limits.{cell_limit, frame_limit};
 ghost use Rattle.alma_code.specs.Picture.{no_frame, frames_with_cell, cell_at, last_frame, without_last, live_cells};
 ghost use Rattle.alma_code.specs.Carries.{diffs, number_at};
 ghost use Rattle.alma_code.specs.declared.cell.Cell.TheVariants as cell;
-ghost use Rattle.alma_memory_rewind.specs.Rewound.{needed, top_copy};
+ghost use Rattle.alma_memory_rewind.specs.PlainRewind.{needed, top_copy};
 ghost use Rattle.alma_memory_store.specs.Carries.{carry_of_entries};
 ghost use Rattle.alma_memory_store.specs.Frames.{AreLive, AreWhole};
 ghost use Rattle.alma_memory_store.specs.Numbers.{number_of};
 ghost use Rattle.alma_memory_store.specs.Past.{SameGain};
 ghost use Rattle.alma_memory_store.specs.Regions.{AreLaid, cells_in, end_of, kinds_in, no_slot, slot_number};
-ghost use Rattle.alma_memory_store.specs.Stored.{IsNoted};
+ghost use Rattle.alma_memory_store.specs.PlainStore.{IsNoted};
 
 use crate::carry::SlotPlace;
 use crate::past::Past;
@@ -52,12 +52,12 @@ pub struct Store {
 impl Model for Store {
     ghost use Rattle.std.specs.Prelude.{◌≡◌, ◌-◌, take, min, slice_get, Some};
     ghost use Rattle.std.specs.Vec.{vec_len, vec_capacity};
-    ghost use Rattle.alma_memory_store.specs.Stored.{Stored};
+    ghost use Rattle.alma_memory_store.specs.PlainStore.{PlainStore};
 
-    ghost Value = { Stored };
+    ghost Value = { PlainStore };
 
     ghost use Rattle.alma_memory_store.specs.Regions.{frames_of};
-    ghost use Rattle.alma_memory_store.specs.Stored.{copies_of, flags_of, IsState, AreStates};
+    ghost use Rattle.alma_memory_store.specs.PlainStore.{copies_of, flags_of, IsState, AreStates};
 
     ghost view = { λ s. record {
       now = frames_of s.slots.now (take s.live s.regions.now);

@@ -10,7 +10,8 @@ use Rattle.alma_names.specs.Table.{IsTable}
 use Rattle.alma_names.proofs.Tables.{table_push, table_more}
 use Rattle.alma_base.specs.Limits.{cell_limit}
 use Rattle.alma_names.specs.Shapes.{plain_of, table_of, field_named, PlainShape, PlainField, fields, field_of, fields_of, cells_in}
-use Rattle.alma_names.specs.Shapes.{cell_counts, sum_of_cells, placed, placed_shape, AllBelow, NamesOnlyBelow, HasIndex, HasCount, HasBase}
+use Rattle.alma_names.specs.Shapes.{cell_counts, sum_of_cells, place_fields, placed_shape, AllBelow, NamesOnlyBelow, HasIndex, HasCount}
+use Rattle.alma_names.specs.Shapes.{HasBase}
 use Rattle.alma_names.specs.Shapes.{HasDistinctNames, names_of, IsShapeAt}
 
 -- the fields of one more
@@ -24,16 +25,16 @@ fields_len (f ∷ fs) = ap suc (fields_len fs)
 
 -- the offset of one more field
 pub placed_push : (cs : List ℕ) (offset : ℕ) (fs : List FieldOf) (f : FieldOf)
-    → placed cs offset (fields_of (fs ++ f ∷ [])) ≡ placed cs offset (fields_of fs)
+    → place_fields cs offset (fields_of (fs ++ f ∷ [])) ≡ place_fields cs offset (fields_of fs)
     ++ record { name = f.name.items; offset = offset + sum_of_cells cs (fields_of fs); shape = f.shape.0 } ∷ []
 placed_push cs offset [] f = ap (λ n. record { name = f.name.items; offset = n; shape = f.shape.0 } ∷ []) (omega arith)
 placed_push cs offset (x ∷ xs) f =
     ap (λ t. record { name = x.name.items; offset = offset; shape = x.shape.0 } ∷ t)
     (placed_push cs (offset + get_or cs x.shape.0 0) xs f
-    ∙ ap (λ n. placed cs (offset + get_or cs x.shape.0 0) (fields_of xs)
+    ∙ ap (λ n. place_fields cs (offset + get_or cs x.shape.0 0) (fields_of xs)
     ++ record { name = f.name.items; offset = n; shape = f.shape.0 } ∷ []) (omega arith))
 
-placed_sum : (cs ds : List ℕ) (offset : ℕ) (fs : List PlainField) → sum_of_cells cs (placed ds offset fs) ≡ sum_of_cells cs fs
+placed_sum : (cs ds : List ℕ) (offset : ℕ) (fs : List PlainField) → sum_of_cells cs (place_fields ds offset fs) ≡ sum_of_cells cs fs
 placed_sum cs ds offset [] = refl
 placed_sum cs ds offset (f ∷ fs) = ap (λ n. get_or cs f.shape 0 + n) (placed_sum cs ds (offset + get_or ds f.shape 0) fs)
 
@@ -42,11 +43,11 @@ pub cells_placed : (t : List PlainShape) (cs ds : List ℕ) (s : PlainShape) →
 cells_placed t cs ds (fields fs) = placed_sum cs ds 0 fs
 cells_placed t cs ds s = refl
 
-placed_below : (n : ℕ) (ds : List ℕ) (offset : ℕ) (fs : List PlainField) → AllBelow n fs → AllBelow n (placed ds offset fs)
+placed_below : (n : ℕ) (ds : List ℕ) (offset : ℕ) (fs : List PlainField) → AllBelow n fs → AllBelow n (place_fields ds offset fs)
 placed_below n ds offset [] h = h
 placed_below n ds offset (f ∷ fs) h = (h.0, placed_below n ds (offset + get_or ds f.shape 0) fs h.1)
 
-pub placed_names : (ds : List ℕ) (offset : ℕ) (fs : List PlainField) → names_of (placed ds offset fs) ≡ names_of fs
+pub placed_names : (ds : List ℕ) (offset : ℕ) (fs : List PlainField) → names_of (place_fields ds offset fs) ≡ names_of fs
 placed_names ds offset [] = refl
 placed_names ds offset (f ∷ fs) = ap (λ t. f.name ∷ t) (placed_names ds (offset + get_or ds f.shape 0) fs)
 
@@ -75,44 +76,45 @@ same_there xs ys i d p q h =
 -- fields xs whose first i were placed, which gave ys: the next is placed
 module _ (cs : List ℕ) (xs ys : List FieldOf) (i offset : ℕ) (d : FieldOf) (p : i < length xs) (q : length ys ≡ length xs)
     (h : drop i ys ≡ drop i xs)
-    (done : fields_of (take i ys) ≡ placed cs 0 (fields_of (take i xs))) (sum : offset ≡ sum_of_cells cs (fields_of (take i xs))) where
-  there : get_or ys i d ≡ get_or xs i d
-  there = (same_there xs ys i d p (omega arith) h).0
+    (done : fields_of (take i ys) ≡ place_fields cs 0 (fields_of (take i xs))) (sum : offset ≡ sum_of_cells cs (fields_of (take i xs)))
+  where
+    there : get_or ys i d ≡ get_or xs i d
+    there = (same_there xs ys i d p (omega arith) h).0
 
-  pub place_front : fields_of (take (i + 1)
-      (set ys i (record { name = (get_or ys i d).name; offset = offset; shape = (get_or ys i d).shape }))) ≡ placed cs 0
-      (fields_of (take (i + 1) xs))
-  place_front =
-      let lt : i < length ys = omega arith in
-      let e : (get_or ys i d) ≡ (get_or xs i d) = there in
-      let z : 0 + sum_of_cells cs (fields_of (take i xs)) ≡ sum_of_cells cs (fields_of (take i xs)) = omega arith in
-      rw (
-        take_more_set ys i (record { name = (get_or ys i d).name; offset = offset; shape = (get_or ys i d).shape }) lt,
-        take_more xs i d p,
-        fields_push,
-        placed_push,
-        done,
-        e,
-        sum,
-        z,
-      ) refl
+    pub place_front : fields_of (take (i + 1)
+        (set ys i (record { name = (get_or ys i d).name; offset = offset; shape = (get_or ys i d).shape }))) ≡ place_fields cs 0
+        (fields_of (take (i + 1) xs))
+    place_front =
+        let lt : i < length ys = omega arith in
+        let e : (get_or ys i d) ≡ (get_or xs i d) = there in
+        let z : 0 + sum_of_cells cs (fields_of (take i xs)) ≡ sum_of_cells cs (fields_of (take i xs)) = omega arith in
+        rw (
+          take_more_set ys i (record { name = (get_or ys i d).name; offset = offset; shape = (get_or ys i d).shape }) lt,
+          take_more xs i d p,
+          fields_push,
+          placed_push,
+          done,
+          e,
+          sum,
+          z,
+        ) refl
 
-  pub place_rest : (y : FieldOf) → drop (i + 1) (set ys i y) ≡ drop (i + 1) xs
-  place_rest y = drop-set-lt (i + 1) ys i y (omega arith) ∙ (same_there xs ys i d p (omega arith) h).1
+    pub place_rest : (y : FieldOf) → drop (i + 1) (set ys i y) ≡ drop (i + 1) xs
+    place_rest y = drop-set-lt (i + 1) ys i y (omega arith) ∙ (same_there xs ys i d p (omega arith) h).1
 
-  pub place_tail : sum_of_cells cs (fields_of (drop i xs)) ≡ get_or cs (get_or ys i d).shape.0 0
-      + sum_of_cells cs (fields_of (drop (i + 1) xs))
-  place_tail =
-      let a : drop i xs ≡ get_or xs i d ∷ drop (i + 1) xs = rw (add-one i) (drop-cons xs i d p) in
-      rw (a, there) refl
+    pub place_tail : sum_of_cells cs (fields_of (drop i xs)) ≡ get_or cs (get_or ys i d).shape.0 0
+        + sum_of_cells cs (fields_of (drop (i + 1) xs))
+    place_tail =
+        let a : drop i xs ≡ get_or xs i d ∷ drop (i + 1) xs = rw (add-one i) (drop-cons xs i d p) in
+        rw (a, there) refl
 
-  pub place_below : (n : ℕ) → AllBelow n (fields_of (drop i xs)) → AllBelow n (fields_of (drop (i + 1) xs))
-  place_below n b =
-      let a : drop i xs ≡ get_or xs i d ∷ drop (i + 1) xs = rw (add-one i) (drop-cons xs i d p) in
-      (subst (λ l. AllBelow n (fields_of l)) a b).1
+    pub place_below : (n : ℕ) → AllBelow n (fields_of (drop i xs)) → AllBelow n (fields_of (drop (i + 1) xs))
+    place_below n b =
+        let a : drop i xs ≡ get_or xs i d ∷ drop (i + 1) xs = rw (add-one i) (drop-cons xs i d p) in
+        (subst (λ l. AllBelow n (fields_of l)) a b).1
 
-  pub place_sum : offset + get_or cs (get_or ys i d).shape.0 0 ≡ sum_of_cells cs (fields_of (take (i + 1) xs))
-  place_sum = rw (take_more xs i d p, sum_push, there, sum) refl
+    pub place_sum : offset + get_or cs (get_or ys i d).shape.0 0 ≡ sum_of_cells cs (fields_of (take (i + 1) xs))
+    place_sum = rw (take_more xs i d p, sum_push, there, sum) refl
 
 named_below : (n : ℕ) (name : List ℕ) (fs : List PlainField) → AllBelow n fs → IfSome (field_named name fs) (λ f. f.1 < n)
 named_below n name [] h = tt

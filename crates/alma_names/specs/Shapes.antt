@@ -194,13 +194,14 @@ pub record IsShapeAt (t : List PlainShape) (n : ℕ) (s : PlainShape) : Type 0 w
   pub fields : HasDistinctNames s
 
 -- each field stands behind the cells of those before it, the first at the offset
-abbrev pub placed : List ℕ → ℕ → List PlainField → List PlainField
-placed cs offset [] = []
-placed cs offset (f ∷ fs) = record { name = f.name; offset = offset; shape = f.shape } ∷ placed cs (offset + get_or cs f.shape 0) fs
+abbrev pub place_fields : List ℕ → ℕ → List PlainField → List PlainField
+place_fields cs offset [] = []
+place_fields cs offset (f ∷ fs) = record { name = f.name; offset = offset; shape = f.shape } ∷ place_fields cs
+    (offset + get_or cs f.shape 0) fs
 
 -- a record with its fields placed from 0 on, and any other shape as it is
 abbrev pub placed_shape : List ℕ → PlainShape → PlainShape
-placed_shape cs (fields fs) = fields (placed cs 0 fs)
+placed_shape cs (fields fs) = fields (place_fields cs 0 fs)
 placed_shape cs s = s
 
 -- a shape that is too large is refused, and only such a one is refused as too large

@@ -4,7 +4,7 @@
 ghost use Rattle.std.specs.Prelude.{◌≡◌, ◌+◌, ◌*◌, ◌^◌, ◌<◌, ◌≤◌, ◌⊎◌, ◌≤ℤ◌, List, [], ◌∷◌, ◌++◌, Option, None, Some, IsTrue, IsFalse, length, slice_get, option_map, MatchOption, IfSome, IfOk, OnOk, OnErr};
 ghost use Rattle.alma_base.specs.Numbers.{range_size};
 ghost use Rattle.alma_base.specs.Limits.{cell_limit};
-ghost use Rattle.alma_names.specs.Shapes.{PlainShape, plain_of, fields_of, table_of, first_shapes, range_at, base_at, IsBaseFor, values_at, cells_in, cell_counts, cells_at, is_too_large, sum_of_cells, NamesOnlyBelow, HasIndex, HasCount, HasBase, HasDistinctNames, AllBelow, IsShapeAt, placed, placed_shape, field_at, Refuses};
+ghost use Rattle.alma_names.specs.Shapes.{PlainShape, plain_of, fields_of, table_of, first_shapes, range_at, base_at, IsBaseFor, values_at, cells_in, cell_counts, cells_at, is_too_large, sum_of_cells, NamesOnlyBelow, HasIndex, HasCount, HasBase, HasDistinctNames, AllBelow, IsShapeAt, place_fields, placed_shape, field_at, Refuses};
 ghost use Rattle.alma_names.specs.Table.{IsIndexedTable, CountsUpToLimit};
 
 use crate::index::FieldIndex;
@@ -270,7 +270,7 @@ impl Shapes {
     fn place(&self, fields: &mut [FieldOf])
         requires below { AllBelow (length self.now) (fields_of fields.old) }
         requires small { sum_of_cells (cell_counts self.now) (fields_of fields.old) ≤ cell_limit }
-        ensures { fields_of fields.new ≡ placed (cell_counts self.now) 0 (fields_of fields.old) }
+        ensures { fields_of fields.new ≡ place_fields (cell_counts self.now) 0 (fields_of fields.old) }
     {
         let mut offset: u32 = 0;
         for field in fields.iter_mut() {

@@ -6,7 +6,7 @@ use Rattle.std.specs.Io.KnownBytes.{Appends}
 use Rattle.alma_io.specs.Files.{Told, MayHave, MayPass}
 use Rattle.alma_io.specs.Fronts.{AppendsFront}
 use Rattle.alma_io.specs.Sides.{SourceSide, FilesSide}
-use Rattle.alma_io.specs.Outside.{FilesStay, Outside, Stored, OthersStay, Become, WriteFailed, WritesGrew, ReadsGrew}
+use Rattle.alma_io.specs.Outside.{FilesStay, Outside, StoredFile, OthersStay, Become, WriteFailed, WritesGrew, ReadsGrew}
 use Rattle.alma_plan.specs.Plan.{Ending, Due, Plan, Sense, plain, Fetches, Judges, Reads, Ends, Reading, Kept, Finished, Passed}
 use Rattle.alma_plan.specs.Plan.{MayLack, Lacks, Comes}
 use Rattle.alma_plan.specs.Course.{Gains, Takes, MayRead, ReadsOnly, GainsPrefix, Follows, unfetched, unread, unwritten}
@@ -24,7 +24,7 @@ of_status : (a b : Ending) → a ≡ b → a.status ≡ b.status
 of_status a b e = ap (λ (x : Ending). x.status) e
 
 -- what became of files did not fail
-become_quiet : (f f' : FilesSide) (stored : Option Stored) → Become f f' stored → f'.store_faults ≡ f.store_faults
+become_quiet : (f f' : FilesSide) (stored : Option StoredFile) → Become f f' stored → f'.store_faults ≡ f.store_faults
 become_quiet f f' None s = s.1
 become_quiet f f' (Some stored) s = s.2
 
@@ -170,7 +170,7 @@ module _ {V L : Type 0} (sense : Sense V L) (program : List ℕ) (plan : Plan V 
   abbrev FilesAre : Type 0
   FilesAre = FilesStay before.files after.files ⊎ ((name : List ℕ) × IsStoredName May name × OthersStay before.files after.files name)
 
-  become_are : (r : Reading) (due : Due) → May r due → (stored : Option Stored) → due.stored ≡ stored
+  become_are : (r : Reading) (due : Due) → May r due → (stored : Option StoredFile) → due.stored ≡ stored
       → Become before.files after.files stored → FilesAre
   become_are r due may None is b = inl b
   become_are r due may (Some stored) is b = inr (stored.name, (r, due, stored, may, is, refl), b.0)

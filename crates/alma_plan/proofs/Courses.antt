@@ -14,7 +14,7 @@ use Rattle.alma_io.specs.declared.files.Fetch.TheVariants as fetch
 use Rattle.alma_io.specs.declared.whole.ReadAll.{ReadAll}
 use Rattle.alma_io.specs.declared.whole.ReadAll.TheVariants as reading
 use Rattle.alma_io.proofs.Known.{appends_none}
-use Rattle.alma_io.specs.Outside.{HasRisen, FilesStay, Stored, OthersStay, Become}
+use Rattle.alma_io.specs.Outside.{HasRisen, FilesStay, StoredFile, OthersStay, Become}
 use Rattle.alma_plan.specs.Plan.{Ending, Due, Plan, Sense, Fetches, Judges, Reads, Ends, Reading, Kept, Finished, Passed, Asks}
 use Rattle.alma_plan.specs.Plan.{Comes, MayBeLeft, silent, read_fault, write_fault, no_memory, too_long}
 use Rattle.alma_plan.specs.Refusals.{stop_end, fetch_stop, read_stop}
@@ -69,7 +69,7 @@ stay_twice : (f g h : FilesSide) → FilesStay f g → FilesStay g h → FilesSt
 stay_twice f g h a b = (λ name. b.0 name ∙ a.0 name, b.1 ∙ a.1)
 
 -- files that stay and then become something have become it
-become_behind : (f g h : FilesSide) (stored : Option Stored) → FilesStay f g → Become g h stored → Become f h stored
+become_behind : (f g h : FilesSide) (stored : Option StoredFile) → FilesStay f g → Become g h stored → Become f h stored
 become_behind f g h None a b = stay_twice f g h a b
 become_behind f g h (Some stored) a b = (
   λ other apart. b.0 other apart ∙ a.0 other,
@@ -222,14 +222,15 @@ module _ {V L : Type 0} (sense : Sense V L) (program : List ℕ) where
       starved refl refl (files_same f) (inr (reading_due f.told i.left last some, (loses, cause))) (inl (appends_none o.written)) refl
 
   -- bytes were stored
-  pub course_stored : (last : L) (due : Due) (stored : Stored) (f g : FilesSide) (i : SourceSide) (o : SinkSide) → sense.means last due
+  pub course_stored : (last : L) (due : Due) (stored : StoredFile) (f g : FilesSide) (i : SourceSide) (o : SinkSide) → sense.means last due
       → due.stored ≡ Some stored → due.out ≡ [] → g.fetch_faults ≡ f.fetch_faults → Become f g (Some stored)
       → Follows sense program (Ends last) f g i i o o due.end
   course_stored last due stored f g i o means is none quiet become =
       done Kept due (refl, means) refl quiet (subst (Become f g) (sym is) become) refl (subst (Gains o o) (sym none) (gains_none o))
 
   -- a store failed
-  pub course_unstored : (last : L) (due : Due) (stored : Stored) (f g : FilesSide) (i : SourceSide) (o : SinkSide) → sense.means last due
+  pub course_unstored : (last : L) (due : Due) (stored : StoredFile) (f g : FilesSide) (i : SourceSide) (o : SinkSide)
+      → sense.means last due
       → due.stored ≡ Some stored → due.out ≡ [] → g.fetch_faults ≡ f.fetch_faults → OthersStay f g stored.name
       → HasRisen f.store_faults g.store_faults
       → Follows sense program (Ends last) f g i i o o (write_fault program)

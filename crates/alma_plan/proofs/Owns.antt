@@ -11,7 +11,7 @@ use Rattle.alma_lower_sound.specs.Reads.{program_reads}
 use Rattle.alma_plan.proofs.OwnEnds.{IsOwn, HasOwnEnds}
 use Rattle.alma_plan.specs.Plan.{Due, Ending, Plan, Ends, silent}
 use Rattle.alma_source.specs.Verdict.{Verdict, Accepted, Rejected}
-use Rattle.alma_plan.specs.Programs.{Last, Tells, Runs, Stores, sense, end_of, mode_end, accepted, read_source, refused, run_on}
+use Rattle.alma_plan.specs.Programs.{Last, Tells, Runs, Stores, sense, end_of, mode_end, accept_source, read_source, refuse_source, run_on}
 use Rattle.alma_plan.specs.Programs.{run_plan, store_plan, too_much_code, unless_large}
 use Rattle.alma_run_laws.specs.Shown.{size_of}
 
@@ -38,9 +38,9 @@ module _ (program : List ℕ) (failed : Ending) where
   -- a source that is refused, or goes on
   own_accepted : (file : List ℕ) (next : Program → Plan Verdict Last) → ((p : Program) → HasOwnEnds (sense program failed) (next p))
       → (verdict : Verdict)
-      → HasOwnEnds (sense program failed) (accepted file next verdict)
+      → HasOwnEnds (sense program failed) (accept_source file next verdict)
   own_accepted file next own (Accepted p) = own p
-  own_accepted file next own (Rejected fault place) = own_tells (silent (refused file fault place)) (own_status 3 (inl (omega arith)))
+  own_accepted file next own (Rejected fault place) = own_tells (silent (refuse_source file fault place)) (own_status 3 (inl (omega arith)))
 
   pub own_read_source : (file : List ℕ) (next : Program → Plan Verdict Last) → ((p : Program) → HasOwnEnds (sense program failed) (next p))
       → HasOwnEnds (sense program failed) (read_source file next)

@@ -2,7 +2,7 @@
 use Rattle.std.proofs.Common.{◌≡◌, ◌∙◌, ℕ, List, [], ◌++◌, ap, sym, append_assoc}
 use Rattle.std.specs.Prelude.{Option, None, Some, codes, decimal}
 use Rattle.alma_plan.specs.Plan.{line_of}
-use Rattle.alma_plan.specs.Refusals.{numbered}
+use Rattle.alma_plan.specs.Refusals.{with_number}
 
 -- of a bad word
 pub word_parts : (program front number end : List ℕ) (word : ℕ) → front ≡ codes ": bad word " → number ≡ decimal word → end ≡ codes "\n"
@@ -14,17 +14,17 @@ word_parts program front number end word f n e =
 -- of a fault of an object without a number
 pub numberless_parts : (program front name end fault : List ℕ) (number : Option ℕ) → number ≡ None → front ≡ codes ": object "
     → name ≡ fault → end ≡ codes "\n"
-    → program ++ (front ++ (name ++ (end ++ []))) ≡ line_of program (codes "object " ++ numbered fault number)
+    → program ++ (front ++ (name ++ (end ++ []))) ≡ line_of program (codes "object " ++ with_number fault number)
 numberless_parts program front name end fault number none f n e =
     ap (λ x. program ++ (x ++ (name ++ (end ++ [])))) f ∙ ap (λ x. program ++ (codes ": object " ++ (x ++ (end ++ [])))) n
     ∙ ap (λ x. program ++ (codes ": object " ++ (fault ++ (x ++ [])))) e
-    ∙ ap (λ k. line_of program (codes "object " ++ numbered fault k)) (sym none)
+    ∙ ap (λ k. line_of program (codes "object " ++ with_number fault k)) (sym none)
 
 -- and of one with a number
 pub numbered_parts : (program front name middle digits end fault : List ℕ) (number : Option ℕ) (k : ℕ) → number ≡ Some k
     → front ≡ codes ": object " → name ≡ fault
     → middle ≡ codes " " → digits ≡ decimal k → end ≡ codes "\n"
-    → program ++ (front ++ (name ++ (middle ++ (digits ++ (end ++ []))))) ≡ line_of program (codes "object " ++ numbered fault number)
+    → program ++ (front ++ (name ++ (middle ++ (digits ++ (end ++ []))))) ≡ line_of program (codes "object " ++ with_number fault number)
 numbered_parts program front name middle digits end fault number k some f n m d e =
     ap (λ x. program ++ (x ++ (name ++ (middle ++ (digits ++ (end ++ [])))))) f
     ∙ ap (λ x. program ++ (codes ": object " ++ (x ++ (middle ++ (digits ++ (end ++ [])))))) n
@@ -32,7 +32,7 @@ numbered_parts program front name middle digits end fault number k some f n m d 
     ∙ ap (λ x. program ++ (codes ": object " ++ (fault ++ (codes " " ++ (x ++ (end ++ [])))))) d
     ∙ ap (λ x. program ++ (codes ": object " ++ (fault ++ (codes " " ++ (decimal k ++ (x ++ [])))))) e
     ∙ ap (λ x. program ++ (codes ": object " ++ x)) (sym (append_assoc fault (codes " " ++ decimal k) (codes "\n")))
-    ∙ ap (λ o. line_of program (codes "object " ++ numbered fault o)) (sym some)
+    ∙ ap (λ o. line_of program (codes "object " ++ with_number fault o)) (sym some)
 
 -- of a broken rule
 pub rule_parts : (program front rule middle at end : List ℕ) (r a : ℕ) → front ≡ codes ": object Rule " → rule ≡ decimal r

@@ -19,7 +19,7 @@ use Rattle.alma_unit.specs.Unit.{IsUnit, MayComeTo}
 use Rattle.alma_unit.specs.declared.unit.UnitError.{UnitError}
 use Rattle.alma_unit.specs.declared.unit.UnitError.TheVariants.{Absent, Failed, TooLong, Lex, Syntax, Check, Memory}
 use Rattle.alma_plan.specs.Ends.{file_end, unit_stop}
-use Rattle.alma_plan.specs.Programs.{Last, Tells, sense, accepted, read_source, refused}
+use Rattle.alma_plan.specs.Programs.{Last, Tells, sense, accept_source, read_source, refuse_source}
 
 -- what reading the program of a file answers
 abbrev pub read : Program → Result Program UnitError
@@ -32,13 +32,14 @@ module _ (program : List ℕ) (failed : Ending) (file : List ℕ) (next : tree.P
   -- what the source comes to goes on
   course_verdict : (verdict : Verdict) (f g h : FilesSide) (i j : SourceSide) (o q : SinkSide) (end : Ending)
       → FilesStay f g → MayComeTo (f.told file) verdict × (g.fetch_faults ≡ f.fetch_faults)
-      → Follows (sense program failed) program (accepted file next verdict) g h i j o q end
+      → Follows (sense program failed) program (accept_source file next verdict) g h i j o q end
       → Follows (sense program failed) program (read_source file next) f h i j o q end
   course_verdict verdict f g h i j o q end stay is course =
       let may = is.0 in
-      course_fetched (sense program failed) program file source_limit (λ source. Judges source (accepted file next)) may.0 f g h i j o q end
+      course_fetched (sense program failed) program file source_limit (λ source. Judges source (accept_source file next)) may.0 f g h i j o
+      q end
       stay is.1 may.1 may.2
-      (course_judged (sense program failed) program may.0 (accepted file next) verdict g h i j o q end may.3 course)
+      (course_judged (sense program failed) program may.0 (accept_source file next) verdict g h i j o q end may.3 course)
 
   -- the file holds a program
   pub course_read_source : (p : Program) (f g h : FilesSide) (i j : SourceSide) (o q : SinkSide) (end : Ending)
@@ -50,11 +51,11 @@ module _ (program : List ℕ) (failed : Ending) (file : List ℕ) (next : tree.P
   -- its source is refused
   course_refused : (fault : SourceFault) (place : Place) (f g : FilesSide) (i : SourceSide) (o : SinkSide)
       → FilesStay f g → MayComeTo (f.told file) (Rejected fault place) × (g.fetch_faults ≡ f.fetch_faults)
-      → Follows (sense program failed) program (read_source file next) f g i i o o (refused file fault place)
+      → Follows (sense program failed) program (read_source file next) f g i i o o (refuse_source file fault place)
   course_refused fault place f g i o stay is =
-      course_verdict (Rejected fault place) f g g i i o o (refused file fault place) stay is
-      (course_ends (sense program failed) program (Tells (silent (refused file fault place))) g i o o (refused file fault place)
-      (whole (silent (refused file fault place)) refl refl refl (gains_none o)))
+      course_verdict (Rejected fault place) f g g i i o o (refuse_source file fault place) stay is
+      (course_ends (sense program failed) program (Tells (silent (refuse_source file fault place))) g i o o (refuse_source file fault place)
+      (whole (silent (refuse_source file fault place)) refl refl refl (gains_none o)))
 
   -- the file gives no program
   pub course_unread_source : (error : UnitError) (f g : FilesSide) (i : SourceSide) (o : SinkSide)
@@ -64,14 +65,18 @@ module _ (program : List ℕ) (failed : Ending) (file : List ℕ) (next : tree.P
   course_unread_source (Syntax fault place) f g i o stay is = course_refused (source_fault.Syntax fault) place f g i o stay is
   course_unread_source (Check fault place) f g i o stay is = course_refused (source_fault.Check fault) place f g i o stay is
   course_unread_source Absent f g i o stay is =
-      course_unfetched (sense program failed) program file source_limit (λ source. Judges source (accepted file next)) fetch.Absent f g i o
+      course_unfetched (sense program failed) program file source_limit (λ source. Judges source (accept_source file next)) fetch.Absent f g
+      i o
       stay is
   course_unread_source Failed f g i o stay is =
-      course_unfetched (sense program failed) program file source_limit (λ source. Judges source (accepted file next)) fetch.Failed f g i o
+      course_unfetched (sense program failed) program file source_limit (λ source. Judges source (accept_source file next)) fetch.Failed f g
+      i o
       stay is
   course_unread_source TooLong f g i o stay is =
-      course_unfetched (sense program failed) program file source_limit (λ source. Judges source (accepted file next)) fetch.TooLong f g i o
+      course_unfetched (sense program failed) program file source_limit (λ source. Judges source (accept_source file next)) fetch.TooLong f
+      g i o
       stay is
   course_unread_source Memory f g i o stay is =
-      course_unfetched (sense program failed) program file source_limit (λ source. Judges source (accepted file next)) fetch.Memory f g i o
+      course_unfetched (sense program failed) program file source_limit (λ source. Judges source (accept_source file next)) fetch.Memory f g
+      i o
       stay is

@@ -4,11 +4,11 @@ use Rattle.alma_code.specs.Plain.{PlainCode}
 use Rattle.alma_code.specs.Records.{KeepsCounts, KeepsRecords, KeepsVersion}
 use Rattle.alma_ir.specs.Tree.{Program}
 use Rattle.alma_object_format.specs.Object.{IsObject, object_bytes}
-use Rattle.alma_io.specs.Outside.{Stored}
+use Rattle.alma_io.specs.Outside.{StoredFile}
 use Rattle.alma_run_laws.specs.Stored.{IsCodeFor}
 
 -- the bytes under the name
-abbrev pub stored_as : (name bytes : List ℕ) → Stored
+abbrev pub stored_as : (name bytes : List ℕ) → StoredFile
 stored_as name bytes = record { name = name; bytes = bytes }
 
 -- the object of the code of a program

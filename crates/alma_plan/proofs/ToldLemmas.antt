@@ -13,8 +13,9 @@ use Rattle.alma_ir.specs.Tree.{Program}
 use Rattle.alma_lower_implements.specs.Implements.{state_after, printed_by, line_in}
 use Rattle.alma_lower_sound.specs.Reads.{program_reads}
 use Rattle.alma_plan.specs.Plan.{Due, Ending, Plan, Sense, Reading, Asks, Comes, Fetches, Judges, Reads, Ends, MayBeLeft, silent}
-use Rattle.alma_plan.specs.Programs.{Last, Runs, Stores, Means, sense, mode_end, refused, too_much_code, unless_large, run_on, run_plan}
-use Rattle.alma_plan.specs.Programs.{accepted, read_source, store_plan, within_size}
+use Rattle.alma_plan.specs.Programs.{Last, Runs, Stores, Means, sense, mode_end, refuse_source, too_much_code, unless_large, run_on}
+use Rattle.alma_plan.specs.Programs.{run_plan}
+use Rattle.alma_plan.specs.Programs.{accept_source, read_source, store_plan, within_size}
 use Rattle.alma_run_laws.proofs.Unread.{after_alike, prints_alike}
 use Rattle.alma_run_laws.specs.Shown.{size_of}
 use Rattle.alma_source.specs.Refusal.{IsProgramOf, IsRefused, place_of}
@@ -96,7 +97,7 @@ module _ (program : List ℕ) (failed : Ending) where
     store_asks p object name asks = unless_asks (ltb size_limit (size_of p)) p (Ends (Stores p object)) name (λ none. none) asks
 
     judged_asks : (file name : List ℕ) (next : Program → Plan Verdict Last) (verdict : Verdict)
-        → AsksOf (accepted file next verdict) name → (p : Program) × AsksOf (next p) name
+        → AsksOf (accept_source file next verdict) name → (p : Program) × AsksOf (next p) name
     judged_asks file name next (Accepted p) asks = (p, asks)
     judged_asks file name next (Rejected fault place) asks = absurd asks
 
@@ -163,19 +164,19 @@ module _ (program : List ℕ) (failed : Ending) where
     abbrev pub SourceComes : (file source : List ℕ) (next : Program → Plan Verdict Last) → Type 0
     SourceComes file source next =
         ((fault : SourceFault) × (offset : ℕ) × IsRefused source fault offset
-        × (due ≡ silent (refused file fault (place_of source offset))))
+        × (due ≡ silent (refuse_source file fault (place_of source offset))))
         ⊎ ((p : Program) × IsProgramOf source p × ComesOf (next p))
 
     judged_comes : (file source : List ℕ) (next : Program → Plan Verdict Last) (verdict : Verdict) → IsVerdict source verdict
-        → ComesOf (accepted file next verdict) → SourceComes file source next
+        → ComesOf (accept_source file next verdict) → SourceComes file source next
     judged_comes file source next (Accepted p) is c = inr (p, is, c)
     judged_comes file source next (Rejected fault place) is c =
-        inl (fault, is.0, is.1, c.1 ∙ ap (λ (at : Place). silent (refused file fault at)) is.2)
+        inl (fault, is.0, is.1, c.1 ∙ ap (λ (at : Place). silent (refuse_source file fault at)) is.2)
 
     -- a plan to read a source that is told comes to its refusal, or goes on behind its program
     pub source_comes : (file source : List ℕ) (next : Program → Plan Verdict Last) → told file ≡ Has source → length source ≤ source_limit
         → ComesOf (read_source file next) → SourceComes file source next
     source_comes file source next has short c =
         let judged = fetch_comes (sense program failed) program told left reading due file source source_limit
-        (λ bytes. Judges bytes (accepted file next)) has short c in
+        (λ bytes. Judges bytes (accept_source file next)) has short c in
         judged_comes file source next judged.0 judged.1 judged.2

@@ -2,7 +2,7 @@
 use Rattle.std.specs.Prelude.{◌≡◌, ◌≢◌, ◌⊎◌, List, ℕ, [], Some}
 use Rattle.std.specs.Io.KnownBytes.{Appends}
 use Rattle.alma_io.specs.Causes.{Rose}
-use Rattle.alma_io.specs.Outside.{FilesStay, Outside, Stored, OthersStay, Become, WriteFailed, WritesGrew, ReadsGrew}
+use Rattle.alma_io.specs.Outside.{FilesStay, Outside, StoredFile, OthersStay, Become, WriteFailed, WritesGrew, ReadsGrew}
 use Rattle.alma_plan.specs.Plan.{Ending, Due, Plan, Sense, Reading, Asks, MayLack, Lacks, Comes}
 use Rattle.alma_plan.specs.Plan.{read_fault, write_fault, no_memory}
 use Rattle.alma_plan.specs.Course.{Gains, Takes, MayRead, GainsPrefix, Reports}
@@ -26,7 +26,7 @@ MayCome sense program plan before = Comes sense program before.files.told before
 
 -- a file that is to be stored
 abbrev pub IsStoredName : (may : Reading → Due → Type 0) → List ℕ → Type 0
-IsStoredName may name = (reading : Reading) × (due : Due) × (stored : Stored) × may reading due × (due.stored ≡ Some stored)
+IsStoredName may name = (reading : Reading) × (due : Due) × (stored : StoredFile) × may reading due × (due.stored ≡ Some stored)
     × (stored.name ≡ name)
 
 -- an end that the call may come to: a fault of the outside, want of memory, or one that is due

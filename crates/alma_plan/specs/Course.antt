@@ -5,7 +5,7 @@ use Rattle.alma_base.specs.Limits.{input_limit}
 use Rattle.alma_io.specs.Fronts.{AppendsFront}
 use Rattle.alma_io.specs.Sides.{SinkSide, SourceSide, FilesSide}
 use Rattle.alma_io.specs.Whole.{LosesAtMost, LosesBytes}
-use Rattle.alma_io.specs.Outside.{Outside, HasRisen, FilesStay, Stored, OthersStay, Become}
+use Rattle.alma_io.specs.Outside.{Outside, HasRisen, FilesStay, StoredFile, OthersStay, Become}
 use Rattle.alma_plan.specs.Plan.{Ending, Due, Plan, Sense, Reading, Kept, Finished, Passed, Asks, Comes, read_fault, write_fault}
 use Rattle.alma_plan.specs.Plan.{no_memory}
 
@@ -82,7 +82,7 @@ pub data Course (program : List ℕ) (asks : List ℕ → Type 0) (may : Reading
       → FilesStay files files'
       → Takes reading input input' → FailsWithin out out' due.out → Course program asks may files files' input input' out out' end
   -- a store failed, when out had all that is due
-  unstored : (reading : Reading) (due : Due) (stored : Stored) → may reading due → due.stored ≡ Some stored → end ≡ write_fault program
+  unstored : (reading : Reading) (due : Due) (stored : StoredFile) → may reading due → due.stored ≡ Some stored → end ≡ write_fault program
       → files'.fetch_faults ≡ files.fetch_faults → OthersStay files files' stored.name → HasRisen files.store_faults files'.store_faults
       → Takes reading input input' → Gains out out' due.out → Course program asks may files files' input input' out out' end
   -- memory ran out within the bytes of what may come

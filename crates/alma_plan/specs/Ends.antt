@@ -6,7 +6,7 @@ use Rattle.alma_machine.specs.declared.machine.RunEnd.TheVariants as run
 use Rattle.alma_plan.specs.declared.stop.Stop.TheVariants as stop
 use Rattle.alma_plan.specs.Plan.{Ending, success, tells}
 use Rattle.alma_plan.specs.Refusals.{stop_end}
-use Rattle.alma_plan.specs.Programs.{end_of, refused}
+use Rattle.alma_plan.specs.Programs.{end_of, refuse_source}
 use Rattle.alma_plan.specs.declared.end.ProgramEnd.{ProgramEnd}
 use Rattle.alma_plan.specs.declared.end.ProgramEnd.TheVariants.{Ended, Stored, StepsOut, TooMuchCode, Stopped}
 use Rattle.alma_plan.specs.declared.source.FileStop.{FileStop}
@@ -25,7 +25,7 @@ program_end program failed (Stopped stop) = stop_end program stop
 
 -- the end at a file that is to hold a source
 abbrev pub file_end : (program file : List ℕ) → FileStop → Ending
-file_end program file (file_stop.Refused fault place) = refused file fault place
+file_end program file (file_stop.Refused fault place) = refuse_source file fault place
 file_end program file (file_stop.Stopped stop) = stop_end program stop
 
 -- why a call ends at a file that gives no program

@@ -2,7 +2,7 @@
 use Rattle.std.specs.Prelude.{◌≡◌, ◌≤◌, ◌⊎◌, List, ℕ, [], ◌++◌, codes, decimal, length, Option, None, Some}
 use Rattle.alma_base.specs.Limits.{input_limit}
 use Rattle.alma_io.specs.Files.{Told, Missing, Has, MayHave, MayPass}
-use Rattle.alma_io.specs.Outside.{Stored}
+use Rattle.alma_io.specs.Outside.{StoredFile}
 use Rattle.alma_io.specs.Whole.{MayHaveMore}
 
 -- ---- what is due
@@ -16,7 +16,7 @@ pub record Ending : Type 0 where
 pub record Due : Type 0 where
   pub end : Ending
   pub out : List ℕ
-  pub stored : Option Stored
+  pub stored : Option StoredFile
 
 -- an end by its parts
 abbrev pub ending_of : (status : ℕ) → (text : List ℕ) → Ending

@@ -112,14 +112,14 @@ abbrev pub store_plan : (program : List ℕ) → Program → (object : List ℕ)
 store_plan program p object = within_size program p (Ends (Stores p object))
 
 -- a file is refused for the fault of its source
-abbrev pub refused : (file : List ℕ) → SourceFault → Place → Ending
-refused file fault place = ending_of 3 (refusal_text file fault place)
+abbrev pub refuse_source : (file : List ℕ) → SourceFault → Place → Ending
+refuse_source file fault place = ending_of 3 (refusal_text file fault place)
 
 -- the source of a file is a program, and it goes on; or it is refused
-abbrev pub accepted : (file : List ℕ) → (next : Program → Plan Verdict Last) → Verdict → Plan Verdict Last
-accepted file next (Accepted p) = next p
-accepted file next (Rejected fault place) = Ends (Tells (silent (refused file fault place)))
+abbrev pub accept_source : (file : List ℕ) → (next : Program → Plan Verdict Last) → Verdict → Plan Verdict Last
+accept_source file next (Accepted p) = next p
+accept_source file next (Rejected fault place) = Ends (Tells (silent (refuse_source file fault place)))
 
 -- a file is read, and goes on as the program that its source is
 abbrev pub read_source : (file : List ℕ) → (next : Program → Plan Verdict Last) → Plan Verdict Last
-read_source file next = Fetches file source_limit (λ source. Judges source (accepted file next))
+read_source file next = Fetches file source_limit (λ source. Judges source (accept_source file next))

@@ -46,13 +46,13 @@ read_stop whole.Memory = Memory
 -- ---- objects
 
 -- the name, with the number where there is one
-abbrev pub numbered : (name : List ℕ) → Option ℕ → List ℕ
-numbered name None = name
-numbered name (Some number) = name ++ (codes " " ++ decimal number)
+abbrev pub with_number : (name : List ℕ) → Option ℕ → List ℕ
+with_number name None = name
+with_number name (Some number) = name ++ (codes " " ++ decimal number)
 
 -- what is said of bytes that are no object
 abbrev pub object_fault_text : ObjectFault → List ℕ
-object_fault_text fault = codes "object " ++ numbered (object_fault_name fault) (object_fault_number fault)
+object_fault_text fault = codes "object " ++ with_number (object_fault_name fault) (object_fault_number fault)
 
 -- and of code that is not sound, by the first rule that it breaks and where
 abbrev pub rule_fault_text : VerifyFault → List ℕ

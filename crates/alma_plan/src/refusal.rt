@@ -2,7 +2,7 @@
 ghost use Rattle.std.specs.Prelude.{◌++◌, codes};
 ghost use Rattle.alma_plan.specs.Plan.{bad_word, tells};
 ghost use Rattle.alma_plan.specs.Course.{Reports};
-ghost use Rattle.alma_plan.specs.Refusals.{numbered, object_fault_text, rule_fault_text, refusal_end};
+ghost use Rattle.alma_plan.specs.Refusals.{with_number, object_fault_text, rule_fault_text, refusal_end};
 
 use crate::stop::Stop;
 use crate::writing::report;
@@ -43,7 +43,7 @@ fn refuse_named<'t, E: Sink>(
     name: &'t [u8],
     number: Option<usize>,
 ) -> Status
-    ensures { Reports (tells program.now 9 (codes "object " ++ numbered name.now number))
+    ensures { Reports (tells program.now 9 (codes "object " ++ with_number name.now number))
         (E.side err.old) (E.side err.new) result.0 }
 {
     let front = b": object ".as_slice();

@@ -3,7 +3,7 @@ ghost use Rattle.std.specs.Prelude.{[], ◌++◌, codes, decimal};
 ghost use Rattle.alma_plan.specs.Course.{Reports};
 ghost use Rattle.alma_plan.specs.Plan.{ending_of, tells};
 ghost use Rattle.alma_plan.specs.Ends.{program_end};
-ghost use Rattle.alma_plan.specs.Programs.{fault_words, named_words, refused};
+ghost use Rattle.alma_plan.specs.Programs.{fault_words, named_words, refuse_source};
 ghost use Rattle.alma_source.specs.Texts.{refusal_line};
 
 use crate::end::ProgramEnd;
@@ -101,7 +101,7 @@ fn tell_refusal_named<'t, E: Sink>(
 
 /// Says on err for which fault a file is refused, and where: status 3, or that of a write fault where err fails.
 pub fn tell_refusal<E: Sink>(err: &mut E, file: &[u8], fault: SourceFault, place: Place) -> Status
-    ensures { Reports (refused file.now fault place) (E.side err.old) (E.side err.new) result.0 }
+    ensures { Reports (refuse_source file.now fault place) (E.side err.old) (E.side err.new) result.0 }
 {
     tell_refusal_named(err, file, fault.text().as_bytes(), place)
 }

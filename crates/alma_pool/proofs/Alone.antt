@@ -6,20 +6,21 @@ use Rattle.std.specs.Prelude.{◌⊎◌, eqb, cond}
 use Rattle.alma_code.specs.Machine.{State, step, after, prints, start}
 use Rattle.alma_code.specs.Plain.{PlainCode}
 use Rattle.alma_machine.proofs.Budget.{after_more, prints_more, prints_sum}
-use Rattle.alma_pool.specs.Pool.{Played, PoolView, Lone, lone, seen_of, begun, turned, no_program, program_at, after_turn, after_turns}
+use Rattle.alma_pool.specs.Pool.{PlayerState, PoolView, Lone, lone, seen_of, begun, take_turn, no_program, program_at, after_turn}
+use Rattle.alma_pool.specs.Pool.{after_turns}
 use Rattle.alma_pool.specs.Pool.{turns_of, ended_in}
 use Rattle.alma_pool.specs.Laws.{RunAlone, PrintsFront}
 
 -- the program stands where its run alone is after so many turns
-pub record IsAt (code : PlainCode) (input : List ℕ) (turns : ℕ) (p : Played) : Type 0 where
+pub record IsAt (code : PlainCode) (input : List ℕ) (turns : ℕ) (p : PlayerState) : Type 0 where
   pub code_is : p.code ≡ code
   pub input_is : p.input ≡ input
   pub state_is : p.state ≡ after code input turns (start code)
   pub output_is : p.output ≡ prints code input turns (start code)
 
 -- so it stands after one more
-pub at_more : (code : PlainCode) (input : List ℕ) (turns : ℕ) (p : Played) → IsAt code input turns p
-    → IsAt code input (turns + 1) (turned p)
+pub at_more : (code : PlainCode) (input : List ℕ) (turns : ℕ) (p : PlayerState) → IsAt code input turns p
+    → IsAt code input (turns + 1) (take_turn p)
 at_more code input turns p h =
     let same : step p.code p.input p.state ≡ step code input (after code input turns (start code)) =
     ap (λ c. step c p.input p.state) h.code_is ∙ ap (λ i. step code i p.state) h.input_is ∙ ap (step code input) h.state_is in
@@ -33,7 +34,7 @@ at_more code input turns p h =
     }
 
 -- what is seen of it is what is seen alone
-seen_alone : (code : PlainCode) (input : List ℕ) (turns : ℕ) (p : Played) → IsAt code input turns p → seen_of p ≡ lone code input turns
+seen_alone : (code : PlainCode) (input : List ℕ) (turns : ℕ) (p : PlayerState) → IsAt code input turns p → seen_of p ≡ lone code input turns
 seen_alone code input turns p h =
     let made : State → List ℕ → Lone = λ s o. record { steps = s.steps; output = o; end = ended_in s.mode } in
     ap (λ s. made s p.output) h.state_is ∙ ap (made (after code input turns (start code))) h.output_is
@@ -45,15 +46,15 @@ at_turn pool j k code input t there h = by (cases_eq j k)
   where
     by : (j ≡ k) ⊎ (j ≡ k → ⊥) → IsAt code input (t + cond (eqb j k) 1 0) (program_at (after_turn pool j) k)
     by (inl e) =
-        let here : program_at (after_turn pool j) k ≡ turned (program_at pool k) =
-        ap (λ i. program_at (after_turn pool i) k) e ∙ get_or-set_same pool.programs k (turned (program_at pool k)) no_program there in
+        let here : program_at (after_turn pool j) k ≡ take_turn (program_at pool k) =
+        ap (λ i. program_at (after_turn pool i) k) e ∙ get_or-set_same pool.programs k (take_turn (program_at pool k)) no_program there in
         let one : IsAt code input (t + 1) (program_at (after_turn pool j) k) =
-        subst (λ (p : Played). IsAt code input (t + 1) p) (sym here) (at_more code input t (program_at pool k) h) in
+        subst (λ (p : PlayerState). IsAt code input (t + 1) p) (sym here) (at_more code input t (program_at pool k) h) in
         rw (eq-eqb j k e) one
     by (inr ne) =
         let here : program_at (after_turn pool j) k ≡ program_at pool k =
-        get_or-set_other pool.programs j k (turned (program_at pool j)) no_program (λ e. ne (sym e)) in
-        let same : IsAt code input t (program_at (after_turn pool j) k) = subst (λ (p : Played). IsAt code input t p) (sym here) h in
+        get_or-set_other pool.programs j k (take_turn (program_at pool j)) no_program (λ e. ne (sym e)) in
+        let same : IsAt code input t (program_at (after_turn pool j) k) = subst (λ (p : PlayerState). IsAt code input t p) (sym here) h in
         let none : t ≡ t + 0 = omega arith in
         rw (ne_eqb j k ne) (subst (λ (n : ℕ). IsAt code input n (program_at (after_turn pool j) k)) none same)
 
@@ -64,13 +65,14 @@ at_turns pool [] k code input t there h =
     let e : t ≡ t + 0 = omega arith in
     subst (λ (n : ℕ). IsAt code input n (program_at pool k)) e h
 at_turns pool (j ∷ turns) k code input t there h =
-    let still : k < length (after_turn pool j).programs = omega (arith, there, length-set pool.programs j (turned (program_at pool j))) in
+    let still : k < length (after_turn pool j).programs =
+    omega (arith, there, length-set pool.programs j (take_turn (program_at pool j))) in
     let e : t + cond (eqb j k) 1 0 + turns_of k turns ≡ t + (cond (eqb j k) 1 0 + turns_of k turns) = omega arith in
     subst (λ (n : ℕ). IsAt code input n (program_at (after_turns (after_turn pool j) turns) k)) e
     (at_turns (after_turn pool j) turns k code input (t + cond (eqb j k) 1 0) still (at_turn pool j k code input t there h))
 
 -- a program that began is at its start
-pub at_start : (code : PlainCode) (input : List ℕ) (p : Played) → p ≡ begun code input → IsAt code input 0 p
+pub at_start : (code : PlainCode) (input : List ℕ) (p : PlayerState) → p ≡ begun code input → IsAt code input 0 p
 at_start code input p e = record {
   code_is = ap (λ q. q.code) e;
   input_is = ap (λ q. q.input) e;

@@ -16,8 +16,9 @@ use Rattle.alma_plan.specs.Undisturbed.{ShowsDue}
 use Rattle.alma_plan.proofs.SpelledObjects.{spelled_short}
 use Rattle.alma_plan.proofs.ToldLemmas.{fetch_asks, fetch_comes, read_comes}
 use Rattle.alma_plan.proofs.UndisturbedLemmas.{call_shows_due}
-use Rattle.alma_pool.specs.Due.{program, turns_limit, turns_in, bad_turn_behind, pool_text, opening, played_on, played, judged_by, judged}
-use Rattle.alma_pool.specs.Due.{fetching, asked, pool_plan}
+use Rattle.alma_pool.specs.Due.{program, turns_limit, turns_in, bad_turn_behind, pool_text, opening, played_on, play_plan, judged_by}
+use Rattle.alma_pool.specs.Due.{verify_plan}
+use Rattle.alma_pool.specs.Due.{fetching, fetch_plan, pool_plan}
 use Rattle.alma_pool.specs.Shown.{HaveObjectsOf, PlaysPrograms, ShowsPrograms}
 use Rattle.alma_pool.proofs.Objects.{object_codes, pool_alike, objects_count, objects_open, objects_read, objects_show}
 use Rattle.alma_pool.proofs.WordLemmas.{request_planned}
@@ -38,7 +39,7 @@ module _ (told : List ℕ → Told) (name : List ℕ) (missing : told name ≡ M
   played_lacks true all turns asks = asks
   played_lacks false all turns asks = asks
 
-  opened_lacks : (opened : Result (List PlainCode) Ending) (turns : List ℕ) → AsksOf told (played opened turns) name → ⊥
+  opened_lacks : (opened : Result (List PlainCode) Ending) (turns : List ℕ) → AsksOf told (play_plan opened turns) name → ⊥
   opened_lacks (Ok all) turns asks = played_lacks (list_any code_reads all) all turns asks
   opened_lacks (Err end) turns asks = asks
 
@@ -57,7 +58,7 @@ module _ (told : List ℕ → Told) (name : List ℕ) (missing : told name ≡ M
       files_lack turns (got ++ more.0 ∷ []) files objects programs has.2 more.1
 
   pub call_lacks : (file turns : List ℕ) (files objects : List (List ℕ)) (programs : List Program) → told file ≡ Has turns
-      → HaveObjectsOf told files objects programs → AsksOf told (asked (file ∷ files)) name → ⊥
+      → HaveObjectsOf told files objects programs → AsksOf told (fetch_plan (file ∷ files)) name → ⊥
   call_lacks file turns files objects programs has all asks =
       let more = fetch_asks plain program told file turns name turns_limit (λ b. fetching b [] files) has missing asks in
       files_lack more.0 [] files objects programs all more.1
@@ -80,9 +81,9 @@ module _ (told : List ℕ → Told) (left : Option (List ℕ)) (reading : Readin
 files_come : (told : List ℕ → Told) (left : Option (List ℕ)) (reading : Reading) (due : Due) (turns : List ℕ)
     (got files objects : List (List ℕ)) (programs : List Program)
     → HaveObjectsOf told files objects programs → ComesOf told left reading due (fetching turns got files)
-    → ComesOf told left reading due (judged turns (got ++ objects))
+    → ComesOf told left reading due (verify_plan turns (got ++ objects))
 files_come told left reading due turns got [] [] [] has c =
-    subst (λ (all : List (List ℕ)). ComesOf told left reading due (judged turns all)) (sym (append-nil got)) c
+    subst (λ (all : List (List ℕ)). ComesOf told left reading due (verify_plan turns all)) (sym (append-nil got)) c
 files_come told left reading due turns got [] [] (p ∷ programs) has c = absurd has
 files_come told left reading due turns got [] (bytes ∷ objects) programs has c = absurd has
 files_come told left reading due turns got (file ∷ files) [] programs has c = absurd has
@@ -90,7 +91,7 @@ files_come told left reading due turns got (file ∷ files) (bytes ∷ objects) 
 files_come told left reading due turns got (file ∷ files) (bytes ∷ objects) (p ∷ programs) has c =
     let next = fetch_comes plain program told left reading due file bytes object_limit (λ b. fetching turns (got ++ b ∷ []) files)
     has.0 (spelled_short p bytes has.1) c in
-    subst (λ (all : List (List ℕ)). ComesOf told left reading due (judged turns all)) (append_assoc got (bytes ∷ []) objects)
+    subst (λ (all : List (List ℕ)). ComesOf told left reading due (verify_plan turns all)) (append_assoc got (bytes ∷ []) objects)
     (files_come told left reading due turns (got ++ bytes ∷ []) files objects programs has.2 next)
 
 -- ---- the call
@@ -100,7 +101,7 @@ module _ (words : List (List ℕ)) (turns : List ℕ) (programs : List Program) 
   abbrev MayComeOf : Reading → Due → Plan ⊥ Due → Type 0
   MayComeOf reading due plan = ComesOf before.files.told before.input.left reading due plan
 
-  plan_is : pool_plan words ≡ asked (a.file ∷ a.files)
+  plan_is : pool_plan words ≡ fetch_plan (a.file ∷ a.files)
   plan_is = request_planned words a.files a.file a.asks
 
   -- no byte of the file of turns is bad
@@ -112,7 +113,7 @@ module _ (words : List (List ℕ)) (turns : List ℕ) (programs : List Program) 
   codes_read = objects_read before.files.told a.files a.objects programs a.told
 
   -- so this is due
-  call_due : (reading : Reading) (due : Due) → MayComeOf reading due (asked (a.file ∷ a.files))
+  call_due : (reading : Reading) (due : Due) → MayComeOf reading due (fetch_plan (a.file ∷ a.files))
       → due ≡ prints (pool_text 0 (object_codes a.objects) input (turns_in turns))
   call_due reading due c =
       let all = object_codes a.objects in
@@ -120,7 +121,7 @@ module _ (words : List (List ℕ)) (turns : List ℕ) (programs : List Program) 
       (λ b. fetching b [] a.files) a.turns_told a.turns_short c in
       let there = files_come before.files.told before.input.left reading due turns [] a.files a.objects programs a.told fetched in
       let good = subst (λ (bad : Option ℕ). MayComeOf reading due (judged_by bad turns a.objects)) turns_are_good there in
-      let opened = subst (λ (r : Result (List PlainCode) Ending). MayComeOf reading due (played r (turns_in turns)))
+      let opened = subst (λ (r : Result (List PlainCode) Ending). MayComeOf reading due (play_plan r (turns_in turns)))
       (objects_open before.files.told [] a.files a.objects programs a.told) good in
       played_comes before.files.told before.input.left reading due (turns_in turns) input a.input_short (list_any code_reads all) all refl
       (λ e. a.left (sym codes_read ∙ e)) opened
@@ -129,7 +130,7 @@ module _ (words : List (List ℕ)) (turns : List ℕ) (programs : List Program) 
       → ShowsPrograms turns programs input before after status
   call_shows causes quiet =
       let h =
-      call_shows_due plain program (asked (a.file ∷ a.files)) before after status
+      call_shows_due plain program (fetch_plan (a.file ∷ a.files)) before after status
       (subst (λ (p : Plan ⊥ Due). Causes plain program p before after status) plan_is causes) quiet
       (λ lack. call_lacks before.files.told lack.0 lack.2 a.file turns a.files a.objects programs a.turns_told a.told lack.1) in (
         pool_text 0 (object_codes a.objects) input (turns_in turns),

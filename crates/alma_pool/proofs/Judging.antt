@@ -13,7 +13,7 @@ use Rattle.alma_plan.specs.Refusals.{refusal_end}
 use Rattle.alma_plan.specs.declared.refusal.Refusal.{Refusal}
 use Rattle.alma_plan.proofs.Courses.{course_ends, course_starved, gains_none}
 use Rattle.alma_plan.specs.Objects.{object_refusal}
-use Rattle.alma_pool.specs.Due.{program, or_refused, opening, played, judged_by, judged, bad_turn_behind, turns_in}
+use Rattle.alma_pool.specs.Due.{program, or_refused, opening, play_plan, judged_by, verify_plan, bad_turn_behind, turns_in}
 use Rattle.alma_pool.specs.Inner.{codes_of, IsRefused}
 
 -- the parts of the text of a bad turn
@@ -43,27 +43,28 @@ opened_count objects verified e = omega (arith, opening_count [] objects (codes_
 
 -- an end without a print
 silent_end : (end : Ending) (files : FilesSide) (input : SourceSide) (out : SinkSide)
-    → Follows plain program (played (Err end) []) files files input input out out end
+    → Follows plain program (play_plan (Err end) []) files files input input out out end
 silent_end end files input out = course_ends plain program (silent end) files input out out end
     (whole (silent end) refl refl refl (gains_none out))
 
 -- an object is refused, or memory ran out before it was known
 pub played_refused : (objects : List (List ℕ)) (turns : List ℕ) (refusal : Refusal) (files : FilesSide) (input : SourceSide)
     (out : SinkSide) → IsRefused objects refusal
-    → Follows plain program (played (opening [] objects) turns) files files input input out out (refusal_end program refusal)
+    → Follows plain program (play_plan (opening [] objects) turns) files files input input out out (refusal_end program refusal)
 played_refused objects turns refusal files input out (inl e) =
-    subst (λ (end : Ending). Follows plain program (played (opening [] objects) turns) files files input input out out end)
+    subst (λ (end : Ending). Follows plain program (play_plan (opening [] objects) turns) files files input input out out end)
     (sym (ap (refusal_end program) e))
     (course_starved program _ _ files input out)
 played_refused objects turns refusal files input out (inr e) =
-    subst (λ (r : Result (List PlainCode) Ending). Follows plain program (played r turns) files files input input out out
+    subst (λ (r : Result (List PlainCode) Ending). Follows plain program (play_plan r turns) files files input input out out
     (refusal_end program refusal)) (sym e)
     (silent_end (refusal_end program refusal) files input out)
 
 module _ (turns : List ℕ) (objects : List (List ℕ)) (files : FilesSide) (input input' : SourceSide) (out out' : SinkSide) where
   -- a byte may not stand in the file of turns
   pub judged_bad : (turn : ℕ) → bad_turn_behind (length objects) 0 turns ≡ Some turn
-      → Follows plain program (judged turns objects) files files input input out out (tells program 13 (codes "bad turn " ++ decimal turn))
+      → Follows plain program (verify_plan turns objects) files files input input out out
+      (tells program 13 (codes "bad turn " ++ decimal turn))
   judged_bad turn e =
       subst (λ (bad : Option ℕ). Follows plain program (judged_by bad turns objects) files files input input out out
       (tells program 13 (codes "bad turn " ++ decimal turn))) (sym e)
@@ -71,7 +72,7 @@ module _ (turns : List ℕ) (objects : List (List ℕ)) (files : FilesSide) (inp
 
   -- all may
   pub judged_good : (end : Ending) → bad_turn_behind (length objects) 0 turns ≡ None
-      → Follows plain program (played (opening [] objects) (turns_in turns)) files files input input' out out' end
-      → Follows plain program (judged turns objects) files files input input' out out' end
+      → Follows plain program (play_plan (opening [] objects) (turns_in turns)) files files input input' out out' end
+      → Follows plain program (verify_plan turns objects) files files input input' out out' end
   judged_good end e follows =
       subst (λ (bad : Option ℕ). Follows plain program (judged_by bad turns objects) files files input input' out out' end) (sym e) follows

@@ -9,7 +9,8 @@ use Rattle.alma_plan.specs.Objects.{object_refusal}
 use Rattle.alma_plan.specs.Plan.{Ending, silent, prints, plain}
 use Rattle.alma_plan.proofs.OwnEnds.{HasOwnEnds}
 use Rattle.alma_plan.proofs.PlainEnds.{own_status, refusal_status}
-use Rattle.alma_pool.specs.Due.{program, pool_text, or_refused, opening, played_on, played, judged_by, fetching, asked, planned, pool_plan}
+use Rattle.alma_pool.specs.Due.{program, pool_text, or_refused, opening, played_on, play_plan, judged_by, fetching, fetch_plan, words_plan}
+use Rattle.alma_pool.specs.Due.{pool_plan}
 use Rattle.alma_pool.specs.Due.{bad_word_behind}
 
 -- ---- objects
@@ -35,7 +36,7 @@ own_on true all turns = λ bytes. own_status (prints (pool_text 0 all bytes turn
 own_on false all turns = own_status (prints (pool_text 0 all [] turns)) 0 refl (inl (omega arith))
 
 own_played : (opened : Result (List PlainCode) Ending) (turns : List ℕ) → ((end : Ending) → opened ≡ Err end → end.status ≡ 9)
-    → HasOwnEnds plain (played opened turns)
+    → HasOwnEnds plain (play_plan opened turns)
 own_played (Ok all) turns refused = own_on (list_any code_reads all) all turns
 own_played (Err end) turns refused = own_status (silent end) 9 (refused end refl) (inr (omega arith))
 
@@ -47,11 +48,11 @@ own_fetching : (turns : List ℕ) (got names : List (List ℕ)) → HasOwnEnds p
 own_fetching turns got [] = own_judged _ turns got
 own_fetching turns got (name ∷ names) = λ bytes. own_fetching turns (got ++ bytes ∷ []) names
 
-own_asked : (words : List (List ℕ)) → HasOwnEnds plain (asked words)
+own_asked : (words : List (List ℕ)) → HasOwnEnds plain (fetch_plan words)
 own_asked [] = own_status _ 2 refl (inl (omega arith))
 own_asked (turns ∷ objects) = λ bytes. own_fetching bytes [] objects
 
-own_planned : (bad : Option ℕ) (words : List (List ℕ)) → HasOwnEnds plain (planned bad words)
+own_planned : (bad : Option ℕ) (words : List (List ℕ)) → HasOwnEnds plain (words_plan bad words)
 own_planned None words = own_asked words
 own_planned (Some word) words = own_status _ 2 refl (inl (omega arith))
 

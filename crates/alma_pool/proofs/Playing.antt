@@ -11,7 +11,7 @@ use Rattle.alma_verify.specs.Verified.{code_of_verified}
 use Rattle.alma_verify.specs.declared.verified.Verified.{Verified}
 use Rattle.alma_pool.specs.Due.{unless, is_turn, bad_turn_behind, turn_in, turns_in, turns_limit}
 use Rattle.alma_pool.specs.Inner.{codes_of, all_begun}
-use Rattle.alma_pool.specs.Pool.{Played, PoolView, begun, turned, no_program, program_at, after_turn, after_turns}
+use Rattle.alma_pool.specs.Pool.{PlayerState, PoolView, begun, take_turn, no_program, program_at, after_turn, after_turns}
 use Rattle.alma_pool.proofs.Players.{pool_of}
 
 -- ---- the bytes of the file
@@ -34,7 +34,7 @@ goods programs seen (byte ∷ bytes) e (suc i) d within =
 -- also where some turns were made
 turns_count : (pool : PoolView) (turns : List ℕ) → length (after_turns pool turns).programs ≡ length pool.programs
 turns_count pool [] = refl
-turns_count pool (k ∷ turns) = turns_count (after_turn pool k) turns ∙ length-set pool.programs k (turned (program_at pool k))
+turns_count pool (k ∷ turns) = turns_count (after_turn pool k) turns ∙ length-set pool.programs k (take_turn (program_at pool k))
 
 pub good_turn : (pool now : PoolView) (turns done : List ℕ) (i d : ℕ) → now ≡ after_turns pool done
     → bad_turn_behind (length pool.programs) 0 turns ≡ None
@@ -104,42 +104,43 @@ turns_more pool now next turns i d within is more =
 
 -- no program made more steps than so many and one
 pub few_turn : (old new : PoolView) (k most : ℕ) → k < length old.programs → new ≡ after_turn old k
-    → (program_at new k).state.steps ≤ (program_at old k).state.steps + 1 → All (λ (p : Played). p.state.steps ≤ most) old.programs
-    → All (λ (p : Played). p.state.steps ≤ most + 1) new.programs
+    → (program_at new k).state.steps ≤ (program_at old k).state.steps + 1 → All (λ (p : PlayerState). p.state.steps ≤ most) old.programs
+    → All (λ (p : PlayerState). p.state.steps ≤ most + 1) new.programs
 few_turn old new k most there is one all =
-    let t = turned (program_at old k) in
+    let t = take_turn (program_at old k) in
     let here : program_at new k ≡ t = ap (λ p. program_at p k) is ∙ get_or-set_same old.programs k t no_program there in
-    let small : t.state.steps ≤ most + 1 = omega (arith, ap (λ (p : Played). p.state.steps) here, one, all k no_program there) in
-    subst (λ (p : PoolView). All (λ (q : Played). q.state.steps ≤ most + 1) p.programs) (sym is)
-    (All-set (λ (q : Played). q.state.steps ≤ most + 1) old.programs k t small (λ j d within. omega (arith, all j d within)))
+    let small : t.state.steps ≤ most + 1 = omega (arith, ap (λ (p : PlayerState). p.state.steps) here, one, all k no_program there) in
+    subst (λ (p : PoolView). All (λ (q : PlayerState). q.state.steps ≤ most + 1) p.programs) (sym is)
+    (All-set (λ (q : PlayerState). q.state.steps ≤ most + 1) old.programs k t small (λ j d within. omega (arith, all j d within)))
 
 -- also where memory may want
 pub few_result : {T E : Type 0} (result : Result T E) (old new : PoolView) (k : ℕ) → k < length old.programs
     → OnOk result (new ≡ after_turn old k)
     → OnOk result ((program_at new k).state.steps ≤ (program_at old k).state.steps + 1)
-    → OnOk result ((most : ℕ) → All (λ (p : Played). p.state.steps ≤ most) old.programs
-    → All (λ (p : Played). p.state.steps ≤ most + 1) new.programs)
+    → OnOk result ((most : ℕ) → All (λ (p : PlayerState). p.state.steps ≤ most) old.programs
+    → All (λ (p : PlayerState). p.state.steps ≤ most + 1) new.programs)
 few_result (Ok v) old new k there is one = λ most all. few_turn old new k most there is one all
 few_result (Err e) old new k there is one = tt
 
 -- nor did one where none made a step
-pub few_still : (programs : List Played) (most : ℕ) → All (λ (p : Played). p.state.steps ≤ most) programs
-    → All (λ (p : Played). p.state.steps ≤ most + 1) programs
+pub few_still : (programs : List PlayerState) (most : ℕ) → All (λ (p : PlayerState). p.state.steps ≤ most) programs
+    → All (λ (p : PlayerState). p.state.steps ≤ most + 1) programs
 few_still programs most all = λ j d within. omega (arith, all j d within)
 
-pub few_first : (programs : List Played) → All (λ (p : Played). p.state.steps ≡ 0) programs
-    → All (λ (p : Played). p.state.steps ≤ 0) programs
+pub few_first : (programs : List PlayerState) → All (λ (p : PlayerState). p.state.steps ≡ 0) programs
+    → All (λ (p : PlayerState). p.state.steps ≤ 0) programs
 few_first programs all = λ j d within. omega (arith, all j d within)
 
 -- so few are far below the greatest number
-pub few_enough : (programs : List Played) (i count : ℕ) → i < count → count ≤ turns_limit → All (λ (p : Played). p.state.steps ≤ i) programs
-    → All (λ (p : Played). p.state.steps < 2 ^ 62) programs
+pub few_enough : (programs : List PlayerState) (i count : ℕ) → i < count → count ≤ turns_limit
+    → All (λ (p : PlayerState). p.state.steps ≤ i) programs
+    → All (λ (p : PlayerState). p.state.steps < 2 ^ 62) programs
 few_enough programs i count within short all = λ j d there. omega (arith, within, short, all j d there)
 
 -- ---- the pool of a call
 
 -- a pool with one more program
-abbrev with_program : PoolView → Played → PoolView
+abbrev with_program : PoolView → PlayerState → PoolView
 with_program pool p = record pool { programs = pool.programs ++ p ∷ [] }
 
 -- the programs of the codes so far, and of one more
@@ -150,7 +151,7 @@ pub gathered : (verified : List Verified) (input : List ℕ) (i : ℕ) (one d : 
 gathered verified input i one d old new within is before more =
     let all : take (i + 1) verified ≡ take i verified ++ one ∷ [] = take_more verified i d within
     ∙ ap (λ x. take i verified ++ x ∷ []) (sym is) in
-    let begin : PlainCode → Played = λ code. begun code input in
+    let begin : PlainCode → PlayerState = λ code. begun code input in
     let split : all_begun (codes_of (take (i + 1) verified)) input ≡ all_begun (codes_of (take i verified)) input
     ++ begun (code_of_verified one) input ∷ [] =
     ap (λ xs. all_begun (codes_of xs) input) all ∙ ap (λ cs. all_begun cs input) (map-append code_of_verified (take i verified) (one ∷ []))
@@ -158,8 +159,9 @@ gathered verified input i one d old new within is before more =
     more ∙ ap (λ p. with_program p (begun (code_of_verified one) input)) before ∙ ap (λ ps. pool_of ps true) (sym split)
 
 -- codes before their first turn made no step, and are as many as before
-pub begun_fresh : (codes : List PlainCode) (input : List ℕ) → All (λ (p : Played). p.state.steps ≡ 0) (all_begun codes input)
-begun_fresh codes input = All-map (λ (p : Played). p.state.steps ≡ 0) (λ (code : PlainCode). begun code input) codes (λ j d within. refl)
+pub begun_fresh : (codes : List PlainCode) (input : List ℕ) → All (λ (p : PlayerState). p.state.steps ≡ 0) (all_begun codes input)
+begun_fresh codes input = All-map (λ (p : PlayerState). p.state.steps ≡ 0) (λ (code : PlainCode). begun code input) codes
+    (λ j d within. refl)
 
 pub begun_count : (verified : List Verified) (input : List ℕ) → length (all_begun (codes_of verified) input) ≡ length verified
 begun_count verified input = length-map (codes_of verified) (λ code. begun code input) ∙ length-map verified code_of_verified

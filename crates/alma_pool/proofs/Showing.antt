@@ -8,7 +8,7 @@ use Rattle.alma_code.specs.declared.step.End.TheVariants as ended
 use Rattle.alma_code.specs.Plain.{PlainCode}
 use Rattle.alma_pool.specs.Due.{program_lines, program_text, end_text, pool_text}
 use Rattle.alma_pool.specs.Inner.{end_word, fault_word, shown_text, all_begun}
-use Rattle.alma_pool.specs.Pool.{Played, PoolView, Lone, lone, seen_of, begun, ended_in, no_code, no_program, program_at, after_turns}
+use Rattle.alma_pool.specs.Pool.{PlayerState, PoolView, Lone, lone, seen_of, begun, ended_in, no_code, no_program, program_at, after_turns}
 use Rattle.alma_pool.specs.Pool.{turns_of}
 use Rattle.alma_pool.proofs.Alone.{run_alone}
 use Rattle.alma_pool.proofs.Players.{pool_of}
@@ -42,7 +42,8 @@ end_words (Some ended.Succeeded) = refl
 end_words (Some ended.Failed) = refl
 end_words (Some (ended.Fault fault)) = refl
 
-pub program_shown : (n : ℕ) (p : Played) (end : Option End) (word fault output : List ℕ) → end ≡ ended_in p.state.mode → word ≡ end_word end
+pub program_shown : (n : ℕ) (p : PlayerState) (end : Option End) (word fault output : List ℕ) → end ≡ ended_in p.state.mode
+    → word ≡ end_word end
     → fault ≡ fault_word end
     → output ≡ p.output → program_lines n (word ++ fault) output ≡ program_text n (seen_of p)
 program_shown n p end word fault output is w f o =
@@ -52,7 +53,7 @@ program_shown n p end word fault output is w f o =
 
 -- ---- all programs
 
-shown_append : (before : ℕ) (ps qs : List Played)
+shown_append : (before : ℕ) (ps qs : List PlayerState)
     → shown_text before (ps ++ qs) ≡ shown_text before ps ++ shown_text (before + length ps) qs
 shown_append before [] qs =
     let e : before ≡ before + zero = omega arith in
@@ -65,11 +66,11 @@ shown_append before (p ∷ ps) qs =
     ∙ ap (λ n. (t ++ shown_text (before + 1) ps) ++ shown_text n qs) e
 
 -- how many stand before one of them
-behind : (ps : List Played) (k : ℕ) → k < length ps → 0 + length (take k ps) ≡ k
+behind : (ps : List PlayerState) (k : ℕ) → k < length ps → 0 + length (take k ps) ≡ k
 behind ps k within = omega (arith, length-take-le k ps (omega (arith, within)))
 
 -- all, by those before one of them, that one, and those behind it
-pub shown_here : (ps : List Played) (k : ℕ) → k < length ps
+pub shown_here : (ps : List PlayerState) (k : ℕ) → k < length ps
     → shown_text 0 ps ≡ shown_text 0 (take k ps)
     ++ (program_text (k + 1) (seen_of (get_or ps k no_program)) ++ shown_text (k + 1) (drop (k + 1) ps))
 shown_here ps k within =
@@ -79,7 +80,7 @@ shown_here ps k within =
     ∙ ap (λ n. shown_text 0 (take k ps) ++ shown_text n (one ∷ drop (k + 1) ps)) (behind ps k within)
 
 -- those so far, and one more
-pub shown_more : (ps : List Played) (k : ℕ) → k < length ps
+pub shown_more : (ps : List PlayerState) (k : ℕ) → k < length ps
     → shown_text 0 (take (k + 1) ps) ≡ shown_text 0 (take k ps) ++ program_text (k + 1) (seen_of (get_or ps k no_program))
 shown_more ps k within =
     let one = get_or ps k no_program in
@@ -88,7 +89,7 @@ shown_more ps k within =
     ∙ ap (λ z. shown_text 0 (take k ps) ++ z) (append-nil (program_text (k + 1) (seen_of one)))
 
 -- what is shown of programs that stand where each would stand alone
-shown_is : (before : ℕ) (ps : List Played) (codes : List PlainCode) (input turns : List ℕ) → length ps ≡ length codes
+shown_is : (before : ℕ) (ps : List PlayerState) (codes : List PlainCode) (input turns : List ℕ) → length ps ≡ length codes
     → ((k : ℕ) → k < length codes → seen_of (get_or ps k no_program) ≡ lone (get_or codes k no_code) input (turns_of (before + k) turns))
     → shown_text before ps ≡ pool_text before codes input turns
 shown_is before [] [] input turns e each = refl
@@ -111,7 +112,7 @@ pub shown_alone : (codes : List PlainCode) (input turns : List ℕ) (before now 
     → length now.programs ≡ length codes → shown_text 0 now.programs ≡ pool_text 0 codes input turns
 shown_alone codes input turns before now start is count =
     shown_is 0 now.programs codes input turns count (λ k within.
-    let begin : PlainCode → Played = λ code. begun code input in
+    let begin : PlainCode → PlayerState = λ code. begun code input in
     let there : k < length before.programs =
     omega (arith, within, ap (λ (p : PoolView). length p.programs) start, length-map codes begin) in
     let at : program_at before k ≡ begun (get_or codes k no_code) input =

@@ -6,11 +6,11 @@ use Rattle.alma_code.specs.declared.step.End.{End}
 use Rattle.alma_code.specs.declared.step.Step.{Step}
 use Rattle.alma_code.specs.Plain.{PlainCode}
 use Rattle.alma_code.specs.Machine.{Mode, Going, Failing, Ended, Stuck, State, step, step_in}
-use Rattle.alma_machine_acts.specs.Steps.{stepped, IsLive, ModeAfter}
+use Rattle.alma_machine_acts.specs.Steps.{step_result, IsLive, ModeAfter}
 use Rattle.alma_code.specs.declared.step.Step.TheVariants as answer
 use Rattle.alma_machine.specs.View.{MachineView, goes_on}
 use Rattle.alma_pool.specs.Ready.{IsReady}
-use Rattle.alma_pool.specs.Pool.{Played, ended_in, turned}
+use Rattle.alma_pool.specs.Pool.{PlayerState, ended_in, take_turn}
 
 -- a mode that tells an end is that end
 pub ended_mode : (m : Mode) (e : End) → ended_in m ≡ Some e → m ≡ Ended e
@@ -27,23 +27,23 @@ live_mode (Ended d) h = absurd h
 live_mode Stuck h = absurd h
 
 -- the program with another state and output
-abbrev with_run : Played → State → List ℕ → Played
+abbrev with_run : PlayerState → State → List ℕ → PlayerState
 with_run p s output = record p { state = s; output = output }
 
 -- a program by its parts
-abbrev pub played : PlainCode → (input : List ℕ) → State → (output : List ℕ) → Played
+abbrev pub played : PlainCode → (input : List ℕ) → State → (output : List ℕ) → PlayerState
 played code input state output = record { code = code; input = input; state = state; output = output }
 
 -- a turn of a program that has ended changes nothing
-pub ended_turn : (p : Played) (e : End) → ended_in p.state.mode ≡ Some e → turned p ≡ p
+pub ended_turn : (p : PlayerState) (e : End) → ended_in p.state.mode ≡ Some e → take_turn p ≡ p
 ended_turn p e h =
     let mode = ended_mode p.state.mode e h in
     ap (λ m. with_run p (step_in p.code p.input m p.state).state (p.output ++ (step_in p.code p.input m p.state).printed)) mode
     ∙ ap (with_run p p.state) (append-nil p.output)
 
 -- a turn that made a step
-pub step_turn : (p : Played) (a : Step) (printed : List ℕ) (s : State) → stepped a printed s ≡ step p.code p.input p.state
-    → with_run p s (p.output ++ printed) ≡ turned p
+pub step_turn : (p : PlayerState) (a : Step) (printed : List ℕ) (s : State) → step_result a printed s ≡ step p.code p.input p.state
+    → with_run p s (p.output ++ printed) ≡ take_turn p
 step_turn p a printed s h = ap (λ x. with_run p x.state (p.output ++ x.printed)) h
 
 -- a step that did not end the run leaves a machine that can go on
@@ -67,9 +67,10 @@ none_known None h = refl
 none_known (Some e) h = cc h
 
 -- a step of a machine is a turn of its program
-pub machine_turn : (m m' : MachineView) (a : Step) (output output' : List ℕ) → stepped a m'.printed m'.state ≡ step m.code m.input m.state
+pub machine_turn : (m m' : MachineView) (a : Step) (output output' : List ℕ)
+    → step_result a m'.printed m'.state ≡ step m.code m.input m.state
     → (m'.code ≡ m.code) × (m'.input ≡ m.input) → output' ≡ output ++ m'.printed
-    → played m'.code m'.input m'.state output' ≡ turned (played m.code m.input m.state output)
+    → played m'.code m'.input m'.state output' ≡ take_turn (played m.code m.input m.state output)
 machine_turn m m' a output output' h same out =
     ap (λ c. played c m'.input m'.state output') same.0 ∙ ap (λ i. played m.code i m'.state output') same.1
     ∙ ap (played m.code m.input m'.state) out ∙ step_turn (played m.code m.input m.state output) a m'.printed m'.state h

@@ -8,7 +8,7 @@ use Rattle.alma_plan.specs.Plan.{Ends, bad_word, silent}
 use Rattle.alma_driver_words.specs.BadWords.{Begins, IsBadWord}
 use Rattle.alma_driver_words.specs.Words.{AreFileNames, is_file_name}
 use Rattle.alma_driver_words.proofs.BadWords.{Found, bad_behind, bad_end, bad_is_told, one_of_both}
-use Rattle.alma_pool.specs.Due.{program, unless, bad_word_behind, asked, planned, pool_plan}
+use Rattle.alma_pool.specs.Due.{program, unless, bad_word_behind, fetch_plan, words_plan, pool_plan}
 use Rattle.alma_pool.specs.Words.{AsksToPlay, IsRequest, greatest_programs}
 
 -- ---- names of files
@@ -141,16 +141,16 @@ no_bad_word seen (word ∷ words) names some few =
     ∙ no_bad_word (seen + 1) words names.1 (omega (arith, some)) (omega (arith, few))
 
 pub request_planned : (words objects : List (List ℕ)) (turns : List ℕ) → AsksToPlay words turns objects
-    → pool_plan words ≡ asked (turns ∷ objects)
+    → pool_plan words ≡ fetch_plan (turns ∷ objects)
 request_planned words objects turns a =
     let count = request_count words (turns, objects, a) in
-    ap (λ (bad : Option ℕ). planned bad words) (no_bad_word 0 words a.names (omega (arith, count.0)) (omega (arith, count.1)))
-    ∙ ap (λ (all : List (List ℕ)). asked all) a.are
+    ap (λ (bad : Option ℕ). words_plan bad words) (no_bad_word 0 words a.names (omega (arith, count.0)) (omega (arith, count.1)))
+    ∙ ap (λ (all : List (List ℕ)). fetch_plan all) a.are
 
 pub bad_word_planned : (words : List (List ℕ)) (k : ℕ) → IsBadWord IsRequest words k
     → pool_plan words ≡ Ends (silent (bad_word program k))
 bad_word_planned words k bad =
-    ap (λ (told : Option ℕ). planned told words) (bad_is_told IsRequest words (IsTold 0 words) (found words) k bad)
+    ap (λ (told : Option ℕ). words_plan told words) (bad_is_told IsRequest words (IsTold 0 words) (found words) k bad)
 
 pub request_or_bad : (words : List (List ℕ)) → IsRequest words ⊎ ((k : ℕ) × IsBadWord IsRequest words k)
 request_or_bad words = one_of_both IsRequest words (IsTold 0 words) (found words)

@@ -99,31 +99,31 @@ abbrev pub played_on : (reads : Bool) → List PlainCode → (turns : List ℕ) 
 played_on true all turns = Reads (λ input. prints (pool_text 0 all input turns))
 played_on false all turns = Ends (prints (pool_text 0 all [] turns))
 
-abbrev pub played : Result (List PlainCode) Ending → (turns : List ℕ) → Plan ⊥ Due
-played (Ok all) turns = played_on (list_any code_reads all) all turns
-played (Err end) turns = Ends (silent end)
+abbrev pub play_plan : Result (List PlainCode) Ending → (turns : List ℕ) → Plan ⊥ Due
+play_plan (Ok all) turns = played_on (list_any code_reads all) all turns
+play_plan (Err end) turns = Ends (silent end)
 
 -- all files are there
 abbrev pub judged_by : (bad_turn : Option ℕ) → (turns : List ℕ) → (objects : List (List ℕ)) → Plan ⊥ Due
 judged_by (Some turn) turns objects = Ends (silent (tells program 13 (codes "bad turn " ++ decimal turn)))
-judged_by None turns objects = played (opening [] objects) (turns_in turns)
+judged_by None turns objects = play_plan (opening [] objects) (turns_in turns)
 
-abbrev pub judged : (turns : List ℕ) → (objects : List (List ℕ)) → Plan ⊥ Due
-judged turns objects = judged_by (bad_turn_behind (length objects) 0 turns) turns objects
+abbrev pub verify_plan : (turns : List ℕ) → (objects : List (List ℕ)) → Plan ⊥ Due
+verify_plan turns objects = judged_by (bad_turn_behind (length objects) 0 turns) turns objects
 
 -- the objects of these names are fetched, behind those that were
 abbrev pub fetching : (turns : List ℕ) → (got : List (List ℕ)) → (names : List (List ℕ)) → Plan ⊥ Due
-fetching turns got [] = judged turns got
+fetching turns got [] = verify_plan turns got
 fetching turns got (name ∷ names) = Fetches name object_limit (λ bytes. fetching turns (got ++ bytes ∷ []) names)
 
 -- words that can stand
-abbrev pub asked : List (List ℕ) → Plan ⊥ Due
-asked [] = Ends (silent (bad_word program 1))
-asked (turns ∷ objects) = Fetches turns turns_limit (λ bytes. fetching bytes [] objects)
+abbrev pub fetch_plan : List (List ℕ) → Plan ⊥ Due
+fetch_plan [] = Ends (silent (bad_word program 1))
+fetch_plan (turns ∷ objects) = Fetches turns turns_limit (λ bytes. fetching bytes [] objects)
 
-abbrev pub planned : (bad : Option ℕ) → (words : List (List ℕ)) → Plan ⊥ Due
-planned (Some word) words = Ends (silent (bad_word program word))
-planned None words = asked words
+abbrev pub words_plan : (bad : Option ℕ) → (words : List (List ℕ)) → Plan ⊥ Due
+words_plan (Some word) words = Ends (silent (bad_word program word))
+words_plan None words = fetch_plan words
 
 abbrev pub pool_plan : (words : List (List ℕ)) → Plan ⊥ Due
-pool_plan words = planned (bad_word_behind 0 words) words
+pool_plan words = words_plan (bad_word_behind 0 words) words

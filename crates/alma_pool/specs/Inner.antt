@@ -12,7 +12,7 @@ use Rattle.alma_plan.specs.declared.refusal.Refusal.{Refusal}
 use Rattle.alma_plan.specs.declared.refusal.Refusal.TheVariants.{Stopped}
 use Rattle.alma_plan.specs.declared.stop.Stop.TheVariants.{Memory}
 use Rattle.alma_pool.specs.Due.{program, opening, program_text}
-use Rattle.alma_pool.specs.Pool.{Played, begun, seen_of}
+use Rattle.alma_pool.specs.Pool.{PlayerState, begun, seen_of}
 
 -- the bytes of files, and the codes of verified views
 abbrev pub all_bytes : List (Vec ℕ) → List (List ℕ)
@@ -26,7 +26,7 @@ abbrev pub IsRefused : (objects : List (List ℕ)) → Refusal → Type 0
 IsRefused objects refusal = (refusal ≡ Stopped Memory) ⊎ (opening [] objects ≡ Err (refusal_end program refusal))
 
 -- codes before their first turn, on one input
-abbrev pub all_begun : List PlainCode → (input : List ℕ) → List Played
+abbrev pub all_begun : List PlainCode → (input : List ℕ) → List PlayerState
 all_begun codes input = map (λ code. begun code input) codes
 
 -- the words for an end, but for the name of a fault, and that name
@@ -43,6 +43,6 @@ fault_word (Some ended.Failed) = []
 fault_word (Some (ended.Fault fault)) = run_fault_text fault
 
 -- the lines of programs, which stand behind so many others
-abbrev pub shown_text : (before : ℕ) → List Played → List ℕ
+abbrev pub shown_text : (before : ℕ) → List PlayerState → List ℕ
 shown_text before [] = []
 shown_text before (p ∷ more) = program_text (before + 1) (seen_of p) ++ shown_text (before + 1) more

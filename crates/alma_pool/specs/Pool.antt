@@ -26,42 +26,42 @@ lone code input turns = record {
 }
 
 -- a program of a pool: its code and input, the state of the copying code machine, and what it has printed
-pub record Played : Type 0 where
+pub record PlayerState : Type 0 where
   pub code : PlainCode
   pub input : List ℕ
   pub state : State
   pub output : List ℕ
 
 -- what is seen of it
-abbrev pub seen_of : Played → Lone
+abbrev pub seen_of : PlayerState → Lone
 seen_of p = record { steps = p.state.steps; output = p.output; end = ended_in p.state.mode }
 
 -- a program before its first turn
-abbrev pub begun : PlainCode → (input : List ℕ) → Played
+abbrev pub begun : PlainCode → (input : List ℕ) → PlayerState
 begun code input = record { code = code; input = input; state = start code; output = [] }
 
 -- after one turn: one step, which changes nothing where the program has ended
-abbrev pub turned : Played → Played
-turned p = record p { state = (step p.code p.input p.state).state; output = p.output ++ (step p.code p.input p.state).printed }
+abbrev pub take_turn : PlayerState → PlayerState
+take_turn p = record p { state = (step p.code p.input p.state).state; output = p.output ++ (step p.code p.input p.state).printed }
 
 -- the programs of a pool, and whether no turn was refused
 pub record PoolView : Type 0 where
-  pub programs : List Played
+  pub programs : List PlayerState
   pub whole : Bool
 
 -- what stands for a program that is not there
 abbrev pub no_code : PlainCode
 no_code = record { version = 0; globals = []; routines = []; ranges = []; texts = []; instrs = []; lines = [] }
 
-abbrev pub no_program : Played
+abbrev pub no_program : PlayerState
 no_program = begun no_code []
 
-abbrev pub program_at : PoolView → ℕ → Played
+abbrev pub program_at : PoolView → ℕ → PlayerState
 program_at pool k = get_or pool.programs k no_program
 
 -- the pool after one turn of the program of a number
 abbrev pub after_turn : PoolView → ℕ → PoolView
-after_turn pool k = record pool { programs = set pool.programs k (turned (program_at pool k)) }
+after_turn pool k = record pool { programs = set pool.programs k (take_turn (program_at pool k)) }
 
 -- no program but that of the number has changed
 pub record OthersStay (old new : PoolView) (k : ℕ) : Type 0 where

@@ -5,7 +5,7 @@ ghost use Rattle.alma_plan.specs.Causes.{Causes};
 ghost use Rattle.alma_io.specs.Outside.{Outside, IsUndisturbed};
 ghost use Rattle.alma_plan.specs.Plan.{Ends, bad_word, plain, silent};
 ghost use Rattle.alma_driver_words.specs.BadWords.{IsBadWord};
-ghost use Rattle.alma_pool.specs.Due.{asked, pool_plan, program};
+ghost use Rattle.alma_pool.specs.Due.{fetch_plan, pool_plan, program};
 ghost use Rattle.alma_pool.specs.Laws.{RunAlone, PrintsFront};
 ghost use Rattle.alma_pool.specs.Shown.{PlaysPrograms, ShowsPrograms};
 ghost use Rattle.alma_pool.specs.Words.{AsksToPlay, IsRequest};
@@ -21,7 +21,7 @@ pub fn programs_run_alone()
 /// they end too early, and the plan tells that.
 pub fn words_are_a_request_or_have_a_bad_word()
     ensures request { (words files : List (List ℕ)) (file : List ℕ) → AsksToPlay words file files
-        → pool_plan words ≡ asked (file ∷ files) }
+        → pool_plan words ≡ fetch_plan (file ∷ files) }
     ensures bad_word { (words : List (List ℕ)) (k : ℕ) → IsBadWord IsRequest words k
         → pool_plan words ≡ Ends (silent (bad_word program k)) }
     ensures one_of_both { (words : List (List ℕ)) → IsRequest words

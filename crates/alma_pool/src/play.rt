@@ -6,7 +6,7 @@ ghost use Rattle.alma_code.specs.Reads.{code_reads};
 ghost use Rattle.alma_io.specs.Sides.{FilesSide};
 ghost use Rattle.alma_plan.specs.Course.{Follows, Goes};
 ghost use Rattle.alma_plan.specs.Plan.{Reads, prints, IsDue, plain};
-ghost use Rattle.alma_pool.specs.Due.{program, bad_turn_behind, judged, opening, played, played_on, pool_text, turns_in, turns_limit};
+ghost use Rattle.alma_pool.specs.Due.{program, bad_turn_behind, verify_plan, opening, play_plan, played_on, pool_text, turns_in, turns_limit};
 ghost use Rattle.alma_pool.specs.Ends.{pool_end};
 ghost use Rattle.alma_pool.specs.Inner.{all_begun, all_bytes, codes_of, shown_text};
 ghost use Rattle.alma_pool.specs.Pool.{after_turns};
@@ -133,7 +133,7 @@ fn play_objects<I: Source, O: Sink>(
     requires good { bad_turn_behind (length objects.now) 0 turns.now ≡ None }
     requires short { length turns.now ≤ turns_limit }
     ensures { (files : FilesSide) → Follows plain program
-        (played (opening [] (all_bytes objects.now)) (turns_in turns.now)) files files
+        (play_plan (opening [] (all_bytes objects.now)) (turns_in turns.now)) files files
         (I.side input.old) (I.side input.new) (O.side out.old) (O.side out.new)
         (pool_end result) }
 {
@@ -153,7 +153,7 @@ pub fn judge<I: Source, O: Sink>(
 ) -> PoolEnd
     requires { length turns.now ≤ turns_limit }
     ensures { (files : FilesSide) → Follows plain program
-        (judged turns.now (all_bytes objects.now)) files files (I.side input.old) (I.side input.new)
+        (verify_plan turns.now (all_bytes objects.now)) files files (I.side input.old) (I.side input.new)
         (O.side out.old) (O.side out.new) (pool_end result) }
 {
     match bad_turn(objects.len(), turns) {

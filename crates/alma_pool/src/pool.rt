@@ -2,7 +2,7 @@
 ghost use Rattle.std.specs.Prelude.{◌≡◌, ◌<◌, ◌≤◌, ◌+◌, ◌^◌, [], ◌∷◌, ◌++◌, true, false, length, map, IfOk, OnOk, OnErr, IsTrue};
 ghost use Rattle.alma_base.specs.Limits.{input_limit};
 ghost use Rattle.alma_verify.specs.Verified.{code_of_verified};
-ghost use Rattle.alma_pool.specs.Pool.{OthersStay, ended_in, begun, turned, program_at, after_turn};
+ghost use Rattle.alma_pool.specs.Pool.{OthersStay, ended_in, begun, take_turn, program_at, after_turn};
 ghost use Rattle.alma_pool.specs.Ready.{IsReady, played_of};
 
 use alma_base::NoMemory;
@@ -24,7 +24,7 @@ struct Player<'b, 'i> {
 fn play(player: &mut Player<'_, '_>) -> Result<(), NoMemory>
     requires ready { IsReady player.old.machine player.old.end }
     requires few { player.old.machine.state.steps < 2 ^ 62 }
-    ensures turn { OnOk result (played_of player.new ≡ turned (played_of player.old)) }
+    ensures turn { OnOk result (played_of player.new ≡ take_turn (played_of player.old)) }
     ensures counted { OnOk result (player.new.machine.state.steps
         ≤ player.old.machine.state.steps + 1) }
     ensures ready { OnOk result (IsReady player.new.machine player.new.end) }

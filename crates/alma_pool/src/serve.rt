@@ -3,7 +3,7 @@ ghost use Rattle.std.specs.Prelude.{◌≡◌, ◌≤◌, ◌+◌, length};
 ghost use Rattle.alma_plan.specs.Course.{Follows};
 ghost use Rattle.alma_driver_words.specs.Words.{texts};
 ghost use Rattle.alma_plan.specs.Plan.{plain};
-ghost use Rattle.alma_pool.specs.Due.{program, fetching, asked, pool_plan, bad_word_behind, turns_limit};
+ghost use Rattle.alma_pool.specs.Due.{program, fetching, fetch_plan, pool_plan, bad_word_behind, turns_limit};
 ghost use Rattle.alma_pool.specs.Ends.{pool_end};
 ghost use Rattle.alma_pool.specs.Inner.{all_bytes};
 ghost use Rattle.alma_pool.specs.Words.{greatest_programs};
@@ -74,7 +74,7 @@ fn serve<F: Files, I: Source, O: Sink>(
     input: &mut I,
     out: &mut O,
 ) -> PoolEnd
-    ensures { Follows plain program (asked (texts words.now)) (F.side files.old)
+    ensures { Follows plain program (fetch_plan (texts words.now)) (F.side files.old)
         (F.side files.new) (I.side input.old) (I.side input.new) (O.side out.old)
         (O.side out.new) (pool_end result) }
 {

@@ -4,15 +4,17 @@ use Rattle.std.specs.Prelude.{option_map}
 use Rattle.alma_tree.specs.declared.leaf.Sign.{Sign}
 use Rattle.alma_ir.specs.Tree as ir
 use Rattle.alma_rules.specs.Numbered as tree
-use Rattle.alma_rules.specs.Judged.{Judged, unless, both_of}
+use Rattle.alma_rules.specs.Judgement.{Judgement, unless, both_of}
 use Rattle.alma_rules.specs.Scene.{Scene, Found, absent, bad, constant, named, variable, routine, found, is_structured, inside_of, text_at}
 use Rattle.alma_rules.specs.Scene.{row_at, literal_at}
-use Rattle.alma_rules.specs.Parts.{a_test, Typing, without_place, boolean_typing, Denoted, a_constant, a_variable, a_routine, no_array}
-use Rattle.alma_rules.specs.Parts.{denoted, field_of, field_part, select_field, select_in, select_index, typing_in, called, Callee}
-use Rattle.alma_rules.specs.Parts.{call_typing, related, arithmetic, logical, Operands, chain_shape, chained}
+use Rattle.alma_rules.specs.Parts.{a_test, Typing, without_place, boolean_typing, Denotation, a_constant, a_variable, a_routine, no_array}
+use Rattle.alma_rules.specs.Parts.{denotation, field_of, field_part, select_field, select_in, select_index, typing_in, typing_of_call}
+use Rattle.alma_rules.specs.Parts.{Callee}
+use Rattle.alma_rules.specs.Parts.{call_typing, relation_typing, arithmetic, logical, Operands, chain_shape, chain_typing}
 use Rattle.alma_rules.specs.ExprRules.{Use, as_value, alone, literal_rules, not_rules, Operand, operand_rules, field_rules, array_rules}
 use Rattle.alma_rules.specs.ExprRules.{simple_rules, name_rules, desig_rules}
-use Rattle.alma_rules.specs.Nodes.{is_selected, indexed, judge_name, only_of, or_sequence, in_parens, as_sequence, known_typing, ord_typing}
+use Rattle.alma_rules.specs.Nodes.{is_selected, index_at, judge_name, only_of, or_sequence, in_parens, as_sequence, known_typing}
+use Rattle.alma_rules.specs.Nodes.{ord_typing}
 use Rattle.alma_rules.specs.Nodes.{chr_typing, not_typing, first_add}
 use Rattle.alma_rules.specs.Walk.{judge_expr, judge_simple, judge_term, judge_factor, judge_primary, judge_desig, judge_selectors}
 use Rattle.alma_rules.specs.Walk.{judge_selector, judge_indices, judge_index_tail, judge_only, judge_value, judge_stmts}
@@ -36,7 +38,7 @@ pub record Simples (s : Scene) : Type 0 where
 abbrev pub Plainly : Scene → Typing → Type 0
 Plainly s t = (v : ℤ) → t.constant ≡ Some v → is_structured s t.shape ≡ false
 
-abbrev DenotedPlainly : Scene → Denoted → Type 0
+abbrev DenotedPlainly : Scene → Denotation → Type 0
 DenotedPlainly s (a_constant shape v) = is_structured s shape ≡ false
 DenotedPlainly s (a_variable l) = Unit {0}
 DenotedPlainly s (a_routine q up h) = Unit {0}
@@ -48,13 +50,13 @@ anything (Some x) = when_some x tt
 
 -- ---- designators
 
-field_plainly : (s : Scene) (name : List ℕ) (d : Denoted) → DenotedPlainly s d → When (select_field s name d) (DenotedPlainly s)
+field_plainly : (s : Scene) (name : List ℕ) (d : Denotation) → DenotedPlainly s d → When (select_field s name d) (DenotedPlainly s)
 field_plainly s name (a_variable l) h = when_map {P = λ p. Unit {0}} (field_part s l) (anything (field_of s name l)) (λ p g. tt)
 field_plainly s name (a_constant shape v) h = when_some _ h
 field_plainly s name (a_routine q up x) h = when_some _ h
 field_plainly s name no_array h = when_some _ h
 
-index_plainly : (s : Scene) (d : Option Denoted) (i : Option Typing) → When d (DenotedPlainly s)
+index_plainly : (s : Scene) (d : Option Denotation) (i : Option Typing) → When d (DenotedPlainly s)
     → When (select_index s d i) (DenotedPlainly s)
 index_plainly s None i h = when_none
 index_plainly s (Some (a_variable l)) i h = by (row_at s l.shape) i
@@ -72,12 +74,12 @@ index_plainly s (Some (a_routine q up x)) (Some t) h = when_some _ h.gives
 mutual
   unfolding judge_expr
 
-  selectors_plainly : (s : Scene) (d : Judged Denoted) (x : tree.SelectorTail) → When d.value (DenotedPlainly s)
+  selectors_plainly : (s : Scene) (d : Judgement Denotation) (x : tree.SelectorTail) → When d.value (DenotedPlainly s)
       → When (judge_selectors s d x).value (DenotedPlainly s)
   selectors_plainly s d tree.no_selector h = h
   selectors_plainly s d (tree.more_selector x rest) h = selectors_plainly s (judge_selector s d x) rest (selector_plainly s d x h)
 
-  selector_plainly : (s : Scene) (d : Judged Denoted) (x : tree.Selector) → When d.value (DenotedPlainly s)
+  selector_plainly : (s : Scene) (d : Judgement Denotation) (x : tree.Selector) → When d.value (DenotedPlainly s)
       → When (judge_selector s d x).value (DenotedPlainly s)
   selector_plainly s d (tree.field k name) h =
       when_then (select_field s (text_at s name.token)) (when_node (field_rules s (text_at s name.token)) d.value h (λ x g q. g))
@@ -85,18 +87,19 @@ mutual
   selector_plainly s d (tree.index k items) h =
       when_node array_rules (judge_indices s d items).value (indices_plainly s d items h) (λ x g q. g)
 
-  indices_plainly : (s : Scene) (d : Judged Denoted) (x : tree.Exprs) → When d.value (DenotedPlainly s)
+  indices_plainly : (s : Scene) (d : Judgement Denotation) (x : tree.Exprs) → When d.value (DenotedPlainly s)
       → When (judge_indices s d x).value (DenotedPlainly s)
   indices_plainly s d (tree.exprs e rest) h =
-      index_tail_plainly s (indexed s d (tree.expr_node e) (judge_expr s d.next e)) rest (index_plainly s d.value _ h)
+      index_tail_plainly s (index_at s d (tree.expr_node e) (judge_expr s d.next e)) rest (index_plainly s d.value _ h)
 
-  index_tail_plainly : (s : Scene) (d : Judged Denoted) (x : tree.ExprTail) → When d.value (DenotedPlainly s)
+  index_tail_plainly : (s : Scene) (d : Judgement Denotation) (x : tree.ExprTail) → When d.value (DenotedPlainly s)
       → When (judge_index_tail s d x).value (DenotedPlainly s)
   index_tail_plainly s d tree.no_expr h = h
   index_tail_plainly s d (tree.more_expr e rest) h =
-      index_tail_plainly s (indexed s d (tree.expr_node e) (judge_expr s d.next e)) rest (index_plainly s d.value _ h)
+      index_tail_plainly s (index_at s d (tree.expr_node e) (judge_expr s d.next e)) rest (index_plainly s d.value _ h)
 
-name_plainly : (s : Scene) (f : Found) → ConstantFound s f → When (unless (name_rules f (denoted s f)) (denoted s f)) (DenotedPlainly s)
+name_plainly : (s : Scene) (f : Found) → ConstantFound s f
+    → When (unless (name_rules f (denotation s f)) (denotation s f)) (DenotedPlainly s)
 name_plainly s absent h = when_none
 name_plainly s bad h = when_none
 name_plainly s (constant shape v) h = when_some _ h
@@ -111,7 +114,7 @@ desig_plainly s h n wanted (tree.desig k name more) =
     when_node (desig_rules s wanted (is_selected more) (found s name)) _
     (selectors_plainly s (judge_name s n name) more (name_plainly s (found s name) (h.names name))) (λ d g q. g)
 
-typing_plainly : (s : Scene) (d : Denoted) → DenotedPlainly s d → When (typing_in d) (Plainly s)
+typing_plainly : (s : Scene) (d : Denotation) → DenotedPlainly s d → When (typing_in d) (Plainly s)
 typing_plainly s (a_constant shape v) h = when_some _ (λ w e. h)
 typing_plainly s (a_variable l) h = when_some _ (λ w e. absurd (cc))
 typing_plainly s (a_routine q up x) h = when_some _ (λ w e. absurd (cc))
@@ -130,25 +133,25 @@ chain_simple s h ((arithmetic op, t) ∷ rest) = h.firsts 0 (omega arith)
 chain_simple s h ((logical, t) ∷ rest) = h.firsts 2 (omega arith)
 
 chained_plainly : (s : Scene) → Simples s → (join : ir.Tests → ir.Test) (sign : Option Sign) (v : Option (Typing × Operands))
-    → When (option_map (chained join sign) v) (Plainly s)
-chained_plainly s h join sign v = when_map {P = λ x. Unit {0}} (chained join sign) (anything v) (λ p g w e. chain_simple s h p.1)
+    → When (option_map (chain_typing join sign) v) (Plainly s)
+chained_plainly s h join sign v = when_map {P = λ x. Unit {0}} (chain_typing join sign) (anything v) (λ p g w e. chain_simple s h p.1)
 
-called_plainly : (s : Scene) (v : Option (Callee × ir.Args)) → When (option_map called v) (Plainly s)
-called_plainly s v = when_map {P = λ x. Unit {0}} called (anything v) (λ p g. by p.0 p.0.heading.result p.1)
+called_plainly : (s : Scene) (v : Option (Callee × ir.Args)) → When (option_map typing_of_call v) (Plainly s)
+called_plainly s v = when_map {P = λ x. Unit {0}} typing_of_call (anything v) (λ p g. by p.0 p.0.heading.result p.1)
   where
     by : (c : Callee) (o : Option ℕ) (args : ir.Args) → Plainly s (call_typing c o args)
     by c None args w e = absurd (cc)
     by c (Some shape) args w e = absurd (cc)
 
-abbrev OnlyPlainly : Scene → Option (Judged Typing) → Type 0
+abbrev OnlyPlainly : Scene → Option (Judgement Typing) → Type 0
 OnlyPlainly s None = Unit {0}
 OnlyPlainly s (Some j) = When j.value (Plainly s)
 
-only_plainly : (s : Scene) (rest : tree.StmtTail) (o : Option (Judged Typing)) → OnlyPlainly s o → OnlyPlainly s (only_of rest o)
+only_plainly : (s : Scene) (rest : tree.StmtTail) (o : Option (Judgement Typing)) → OnlyPlainly s o → OnlyPlainly s (only_of rest o)
 only_plainly s tree.no_stmt o h = h
 only_plainly s (tree.more_stmt x rest) o h = tt
 
-paren_plainly : (s : Scene) (k : ℕ) (o : Option (Judged Typing)) (j : Judged ir.Stmts) → OnlyPlainly s o
+paren_plainly : (s : Scene) (k : ℕ) (o : Option (Judgement Typing)) (j : Judgement ir.Stmts) → OnlyPlainly s o
     → When (or_sequence o (in_parens s k) (λ u. as_sequence s k j)).value (Plainly s)
 paren_plainly s k None j h = when_map {P = λ x. Unit {0}} (λ body. boolean_typing (a_test (ir.Seq body))) (anything _)
     (λ x g w e. absurd (cc))
@@ -162,7 +165,7 @@ mutual
   pub expr_plainly : (s : Scene) → Simples s → (n : ℕ) (x : tree.Expr) → When (judge_expr s n x).value (Plainly s)
   expr_plainly s h n (tree.expr k left tree.no_relation) = simple_plainly s h n left
   expr_plainly s h n (tree.expr k left (tree.compared r right)) =
-      when_map {P = λ x. Unit {0}} (related s r) (anything _) (λ p g w e. absurd (cc))
+      when_map {P = λ x. Unit {0}} (relation_typing s r) (anything _) (λ p g w e. absurd (cc))
 
   simple_plainly : (s : Scene) → Simples s → (n : ℕ) (x : tree.Simple) → When (judge_simple s n x).value (Plainly s)
   simple_plainly s h n (tree.simple k None first tree.no_term) = alone_first _ (term_plainly s h n (first_add None tree.no_term) first)

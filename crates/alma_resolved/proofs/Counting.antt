@@ -8,20 +8,22 @@ use Rattle.alma_ir.specs.Tree as ir
 use Rattle.alma_ir.specs.Phrases.{stmts_phrases, stmt_phrases, arms_phrases, cases_phrases, else_phrases, branches_phrases, loop_phrases}
 use Rattle.alma_ir.specs.Phrases.{test_phrases, expr_phrases, arg_phrases, args_phrases}
 use Rattle.alma_rules.specs.Numbered as tree
-use Rattle.alma_rules.specs.Judged.{Judged, fine, at_node, with, unless, both_of}
+use Rattle.alma_rules.specs.Judgement.{Judgement, fine, at_node, with, unless, both_of}
 use Rattle.alma_rules.specs.Scene.{Scene, FormalOf, Found, absent, bad, constant, named, variable, routine, found, is_structured, range}
 use Rattle.alma_rules.specs.Scene.{in_constant, inside_of, text_at, literal_at}
-use Rattle.alma_rules.specs.Parts.{Meaning, a_place, plain, a_test, Typing, value_of, test_of, without_place, boolean_typing, Located}
-use Rattle.alma_rules.specs.Parts.{desig_of, Denoted, denoted, select_field, located_in, typing_in, callee_in, argument_of, Callee, called}
-use Rattle.alma_rules.specs.Parts.{Operands, joined_stmts, append_stmts, one_stmt, assigned, assigned_to, read_as, read_stmts, write_as}
-use Rattle.alma_rules.specs.Parts.{write_stmts, chained, Span, span_of, append_cases, related, add_operator, mul_operator}
+use Rattle.alma_rules.specs.Parts.{Meaning, a_place, plain, a_test, Typing, value_of, test_of, without_place, boolean_typing, Location}
+use Rattle.alma_rules.specs.Parts.{desig_of, Denotation, denotation, select_field, located_in, typing_in, callee_in, argument_of, Callee}
+use Rattle.alma_rules.specs.Parts.{typing_of_call}
+use Rattle.alma_rules.specs.Parts.{Operands, joined_stmts, append_stmts, one_stmt, assignment_stmts, assigned_to, read_as, read_stmts}
+use Rattle.alma_rules.specs.Parts.{write_as}
+use Rattle.alma_rules.specs.Parts.{write_stmts, chain_typing, Span, span_of, append_cases, relation_typing, add_operator, mul_operator}
 use Rattle.alma_rules.specs.ExprRules.{Use, as_variable, as_value, as_procedure, desig_rules, field_rules, array_rules, index_rules}
 use Rattle.alma_rules.specs.ExprRules.{Operand, alone, operand_rules, not_rules, chain_rules, literal_rules, simple_rules, known_rules}
 use Rattle.alma_rules.specs.ExprRules.{chr_rules, sequence_rules, relation_rules, test_rules, call_rules, argument_rules, argument_kind}
 use Rattle.alma_rules.specs.ExprRules.{constant_rules}
 use Rattle.alma_rules.specs.StmtRules.{assign_rules, loop_name_rules, loop_rules, by_rules, case_rules, label_rules, return_rules}
 use Rattle.alma_rules.specs.StmtRules.{read_rules, write_rules}
-use Rattle.alma_rules.specs.Nodes.{judge_name, indexed, in_parens, as_sequence, or_sequence, only_of, known_typing, ord_typing, chr_typing}
+use Rattle.alma_rules.specs.Nodes.{judge_name, index_at, in_parens, as_sequence, or_sequence, only_of, known_typing, ord_typing, chr_typing}
 use Rattle.alma_rules.specs.Nodes.{not_typing, argument_count, cons_arg, cons_operand, operand_behind, first_add, first_mul, any_or}
 use Rattle.alma_rules.specs.Nodes.{any_and, if_of, arms_of, loop_variable, loop_of, loop_at, constant_in, cons_span, arm_of, joined_cases}
 use Rattle.alma_rules.specs.Nodes.{with_line, item_literal, text_rules, item_of}
@@ -77,7 +79,7 @@ none_tally = tally_nil
 one_when : (n : ℕ) (v : Option ir.Stmt) → When v (StmtTally n) → When (option_map one_stmt v) (StmtsTally n)
 one_when n v h = when_map one_stmt h (λ x g. one_tally n x g)
 
-assign_to : (s : Scene) (n m : ℕ) (l : Located) (x : Meaning) → LocatedTally n l → MeaningTally m x
+assign_to : (s : Scene) (n m : ℕ) (l : Location) (x : Meaning) → LocatedTally n l → MeaningTally m x
     → StmtTally (1 + (n + m)) (assigned_to s l x)
 unfolding expr_phrases
 assign_to s n m l (a_place d) h g = by (is_structured s l.shape)
@@ -89,10 +91,10 @@ assign_to s n m l (a_place d) h g = by (is_structured s l.shape)
 assign_to s n m l (plain e) h g = stmt_more _ (tally_join h g)
 assign_to s n m l (a_test t) h g = stmt_more _ (tally_join h (expr_more _ g))
 
-assign_tally : (s : Scene) (n m : ℕ) (v : Option (Located × Typing)) → When v (λ p. LocatedTally n p.0 × TypingTally m p.1)
-    → When (option_map (assigned s) (unless (assign_rules s v) v)) (StmtsTally (1 + (n + m)))
+assign_tally : (s : Scene) (n m : ℕ) (v : Option (Location × Typing)) → When v (λ p. LocatedTally n p.0 × TypingTally m p.1)
+    → When (option_map (assignment_stmts s) (unless (assign_rules s v) v)) (StmtsTally (1 + (n + m)))
 assign_tally s n m v h =
-    when_map {P = λ p. LocatedTally n p.0 × TypingTally m p.1} (assigned s) (when_node (assign_rules s) v h (λ p g q. g))
+    when_map {P = λ p. LocatedTally n p.0 × TypingTally m p.1} (assignment_stmts s) (when_node (assign_rules s) v h (λ p g q. g))
     (λ p g. one_tally (1 + (n + m)) (assigned_to s p.0 p.1.meaning) (assign_to s n m p.0 p.1.meaning g.0 g.1.is))
 
 test_stmt : (n : ℕ) (t : ir.Test) → Tally n (test_phrases t) → StmtTally (1 + n) (ir.TestStmt t)
@@ -162,7 +164,7 @@ unfolding expr_phrases
 bare_tally v = when_map {P = λ x. Unit {0}} (λ t. ir.Return ir.no_result) (anything v)
     (λ t g. tally_is (1 + 0) 1 (omega arith) (stmt_more _ tally_nil))
 
-read_tally : (s : Scene) (a : ℕ) (v : Option Located) → When v (LocatedTally a)
+read_tally : (s : Scene) (a : ℕ) (v : Option Location) → When v (LocatedTally a)
     → When (option_map (read_stmts s) (unless (read_rules s v) v)) (StmtsTally (1 + a))
 unfolding expr_phrases
 read_tally s a v h = when_map {P = LocatedTally a} (read_stmts s) (when_node (read_rules s) v h (λ l g q. g))
@@ -195,7 +197,7 @@ literal_none (tree.expr n (tree.simple m None (tree.term k (tree.factor i (tree.
     tree.no_relation) l q = omega arith
 literal_none e l q = absurd (cc)
 
-item_tally : (s : Scene) (n node a : ℕ) (o : Option (ℕ × ℕ)) (item : Judged Typing) → When item.value (TypingTally a)
+item_tally : (s : Scene) (n node a : ℕ) (o : Option (ℕ × ℕ)) (item : Judgement Typing) → When item.value (TypingTally a)
     → ((l : ℕ × ℕ) → o ≡ Some l → a ≡ 0) → When (item_of s n node o item).value (StmtsTally (1 + a))
 item_tally s n node a None item h f = write_tally s a item.value h
 item_tally s n node a (Some l) item h f = by (nat_eq (length (literal_at s l.1)) 1)
@@ -211,7 +213,7 @@ item_tally s n node a (Some l) item h f = by (nat_eq (length (literal_at s l.1))
 
 -- ---- loops
 
-loop_name : (s : Scene) (f : Found) → When (option_and_then located_in (denoted s f)) (LocatedTally 0)
+loop_name : (s : Scene) (f : Found) → When (option_and_then located_in (denotation s f)) (LocatedTally 0)
 unfolding expr_phrases
 loop_name s absent = when_none
 loop_name s bad = when_none
@@ -227,7 +229,8 @@ loop_variable_tally s n name = when_node (loop_name_rules s (found s name)) _ (l
 abbrev LoopTally : ℕ → ir.Loop → Type 0
 LoopTally n l = Tally n (loop_phrases l)
 
-loop_tally : (s : Scene) (n k a b c d : ℕ) (var : Judged Located) (low high : Judged Typing) (by : Judged ℤ) (body : Judged ir.Stmts)
+loop_tally : (s : Scene) (n k a b c d : ℕ) (var : Judgement Location) (low high : Judgement Typing) (by : Judgement ℤ)
+    (body : Judgement ir.Stmts)
     → When var.value (LocatedTally 0) → When low.value (TypingTally a) → When high.value (TypingTally b)
     → When by.value (λ v. c ≡ 0) → When body.value (StmtsTally d)
     → When (loop_at s n k var low high by body).value (LoopTally (a + (b + (c + d))))
@@ -297,13 +300,13 @@ else_none = tally_nil
 
 -- ---- parentheses
 
-abbrev OnlyTally : Option (Judged Typing) → Option ℕ → Type 0
+abbrev OnlyTally : Option (Judgement Typing) → Option ℕ → Type 0
 OnlyTally None None = Unit {0}
 OnlyTally None (Some n) = ⊥
 OnlyTally (Some j) None = ⊥
 OnlyTally (Some j) (Some n) = When j.value (TypingTally n)
 
-only_case : (rest : tree.StmtTail) (o : Option (Judged Typing)) (n : Option ℕ) → OnlyTally o n
+only_case : (rest : tree.StmtTail) (o : Option (Judgement Typing)) (n : Option ℕ) → OnlyTally o n
     → OnlyTally (only_of rest o) (only_tally rest n)
 only_case tree.no_stmt None None h = tt
 only_case tree.no_stmt None (Some n) h = h
@@ -311,7 +314,7 @@ only_case tree.no_stmt (Some j) None h = h
 only_case tree.no_stmt (Some j) (Some n) h = h
 only_case (tree.more_stmt x rest) o n h = tt
 
-paren_tally : (s : Scene) (k m : ℕ) (o : Option (Judged Typing)) (n : Option ℕ) (j : Judged ir.Stmts) → OnlyTally o n
+paren_tally : (s : Scene) (k m : ℕ) (o : Option (Judgement Typing)) (n : Option ℕ) (j : Judgement ir.Stmts) → OnlyTally o n
     → When j.value (StmtsTally m) → When (or_sequence o (in_parens s k) (λ u. as_sequence s k j)).value (TypingTally (first_tally n m))
 paren_tally s k m None None j h g = when_map {P = StmtsTally m} (λ body. boolean_typing (a_test (ir.Seq body)))
     (when_node (sequence_rules s) j.value g (λ x y q. y)) (λ x y. seq_tally x y)
@@ -321,13 +324,13 @@ paren_tally s k m (Some i) (Some n) j h g =
     when_map {P = TypingTally n} without_place (when_node (simple_rules s) i.value h (λ t y q. y)) (λ t y. without_tally t y)
 
 -- the same in a constant place, where no statement stands
-abbrev OnlyQuiet : Option (Judged Typing) → Option ℕ → Type 0
+abbrev OnlyQuiet : Option (Judgement Typing) → Option ℕ → Type 0
 OnlyQuiet None None = Unit {0}
 OnlyQuiet None (Some n) = ⊥
 OnlyQuiet (Some j) None = ⊥
 OnlyQuiet (Some j) (Some n) = When j.value (λ t. n ≡ 0)
 
-only_quiet_case : (rest : tree.StmtTail) (o : Option (Judged Typing)) (n : Option ℕ) → OnlyQuiet o n
+only_quiet_case : (rest : tree.StmtTail) (o : Option (Judgement Typing)) (n : Option ℕ) → OnlyQuiet o n
     → OnlyQuiet (only_of rest o) (only_tally rest n)
 only_quiet_case tree.no_stmt None None h = tt
 only_quiet_case tree.no_stmt None (Some n) h = h
@@ -335,7 +338,7 @@ only_quiet_case tree.no_stmt (Some j) None h = h
 only_quiet_case tree.no_stmt (Some j) (Some n) h = h
 only_quiet_case (tree.more_stmt x rest) o n h = tt
 
-paren_quiet : (s : Scene) (k m : ℕ) (o : Option (Judged Typing)) (n : Option ℕ) (j : Judged ir.Stmts) → OnlyQuiet o n
+paren_quiet : (s : Scene) (k m : ℕ) (o : Option (Judgement Typing)) (n : Option ℕ) (j : Judgement ir.Stmts) → OnlyQuiet o n
     → When (or_sequence o (in_parens (in_constant s) k) (λ u. as_sequence (in_constant s) k j)).value (λ t. first_tally n m ≡ 0)
 paren_quiet s k m None None j h = when_map {P = λ x. ⊥} (λ body. boolean_typing (a_test (ir.Seq body)))
     (when_node {P = λ x. Unit {0}} {Q = λ x. ⊥} (sequence_rules (in_constant s)) j.value (anything j.value) (λ x y q. absurd (cc)))
@@ -349,9 +352,10 @@ paren_quiet s k m (Some i) (Some n) j h =
 
 called_tally : (s : Scene) (n m count : ℕ) (c : Option Callee) (args : Option ir.Args) → When c (λ x. 0 ≡ n)
     → When args (λ y. Tally m (args_phrases y))
-    → When (option_map called (unless (call_rules s c count (both_of c args)) (both_of c args))) (TypingTally (n + m))
+    → When (option_map typing_of_call (unless (call_rules s c count (both_of c args)) (both_of c args))) (TypingTally (n + m))
 called_tally s n m count c args h g =
-    when_map {P = λ p. (0 ≡ n) × Tally m (args_phrases p.1)} called (when_node (call_rules s c count) _ (when_both h g) (λ p x q. x))
+    when_map {P = λ p. (0 ≡ n) × Tally m (args_phrases p.1)} typing_of_call
+    (when_node (call_rules s c count) _ (when_both h g) (λ p x q. x))
     (λ p x. call_tally n m p.0 p.0.heading.result p.1 x.0 x.1)
 
 argument_when : (s : Scene) (n : ℕ) (f : Option FormalOf) (e : tree.Expr) (v : Option Typing) → When v (TypingTally n)
@@ -373,7 +377,7 @@ quiet_chain : (n m : ℕ) (f : Typing × Operands → Typing) (rules : Option (T
     (v : Option (Typing × Operands)) → When v (λ p. (n ≡ 0) × (m ≡ 0)) → When (option_map f (unless (rules v) v)) (λ t. n + m ≡ 0)
 quiet_chain n m f rules v h = when_map {P = λ p. (n ≡ 0) × (m ≡ 0)} f (when_node rules v h (λ p g q. g)) (λ p g. omega (arith, g.0, g.1))
 
-place_tally : (n : ℕ) (v : Option Denoted) → When v (DesigTally n) → When (option_and_then located_in v) (LocatedTally n)
+place_tally : (n : ℕ) (v : Option Denotation) → When v (DesigTally n) → When (option_and_then located_in v) (LocatedTally n)
 place_tally n v h = when_then {P = DesigTally n} located_in h (λ x g. located_tally n x g)
 
 -- ---- the walk
@@ -578,7 +582,7 @@ mutual
   expr_counts s n (tree.expr k left tree.no_relation) =
       when_weaker (simple_counts s n left) (λ t g. typing_is (tally_simple left) (tally_simple left + 0) (omega arith) g)
   expr_counts s n (tree.expr k left (tree.compared r right)) =
-      when_map {P = λ p. TypingTally (tally_simple left) p.0 × TypingTally (tally_simple right) p.1} (related s r)
+      when_map {P = λ p. TypingTally (tally_simple left) p.0 × TypingTally (tally_simple right) p.1} (relation_typing s r)
       (when_node (relation_rules s r) _ (when_both (simple_counts s n left) (simple_counts s _ right)) (λ p g q. g))
       (λ p g. related_tally s (tally_simple left) (tally_simple right) r p g.0 g.1)
 
@@ -699,7 +703,7 @@ mutual
       (λ d g q. selected_end s w (found s name) (tally_selectors (tree.more_selector x rest)) (Some d) d
       (denoted_is (0 + tally_selectors (tree.more_selector x rest)) (tally_selectors (tree.more_selector x rest)) (omega arith) g) q)
 
-  selectors_count : (s : Scene) (f : Found) (m : ℕ) (d : Judged Denoted) (x : tree.SelectorTail) → When d.value (DenotedTally f m)
+  selectors_count : (s : Scene) (f : Found) (m : ℕ) (d : Judgement Denotation) (x : tree.SelectorTail) → When d.value (DenotedTally f m)
       → When (judge_selectors s d x).value (DenotedTally f (m + tally_selectors x))
   selectors_count s f m d tree.no_selector h = when_weaker h (λ x g. denoted_is m (m + 0) (omega arith) g)
   selectors_count s f m d (tree.more_selector x rest) h =
@@ -707,7 +711,7 @@ mutual
       (λ y g. denoted_is ((m + tally_selector x) + tally_selectors rest) (m + (tally_selector x + tally_selectors rest)) (omega arith)
       g)
 
-  selector_counts : (s : Scene) (f : Found) (m : ℕ) (d : Judged Denoted) (x : tree.Selector) → When d.value (DenotedTally f m)
+  selector_counts : (s : Scene) (f : Found) (m : ℕ) (d : Judgement Denotation) (x : tree.Selector) → When d.value (DenotedTally f m)
       → When (judge_selector s d x).value (DenotedTally f (m + tally_selector x))
   selector_counts s f m d (tree.field k name) h =
       when_then {P = DenotedTally f m} (select_field s (text_at s name.token))
@@ -716,18 +720,18 @@ mutual
   selector_counts s f m d (tree.index k items) h =
       when_node array_rules (judge_indices s d items).value (indices_count s f m d items h) (λ x g q. g)
 
-  indices_count : (s : Scene) (f : Found) (m : ℕ) (d : Judged Denoted) (x : tree.Exprs) → When d.value (DenotedTally f m)
+  indices_count : (s : Scene) (f : Found) (m : ℕ) (d : Judgement Denotation) (x : tree.Exprs) → When d.value (DenotedTally f m)
       → When (judge_indices s d x).value (DenotedTally f (m + tally_exprs x))
   indices_count s f m d (tree.exprs e rest) h =
-      when_weaker (index_tail_counts s f (m + tally_expr e) (indexed s d (tree.expr_node e) (judge_expr s d.next e)) rest
+      when_weaker (index_tail_counts s f (m + tally_expr e) (index_at s d (tree.expr_node e) (judge_expr s d.next e)) rest
       (index_tally s f m (tally_expr e) d.value _ h (when_node (index_rules s d.value) _ (expr_counts s d.next e) (λ t g q. g))))
       (λ y g. denoted_is ((m + tally_expr e) + tally_expr_tail rest) (m + (tally_expr e + tally_expr_tail rest)) (omega arith) g)
 
-  index_tail_counts : (s : Scene) (f : Found) (m : ℕ) (d : Judged Denoted) (x : tree.ExprTail) → When d.value (DenotedTally f m)
+  index_tail_counts : (s : Scene) (f : Found) (m : ℕ) (d : Judgement Denotation) (x : tree.ExprTail) → When d.value (DenotedTally f m)
       → When (judge_index_tail s d x).value (DenotedTally f (m + tally_expr_tail x))
   index_tail_counts s f m d tree.no_expr h = when_weaker h (λ x g. denoted_is m (m + 0) (omega arith) g)
   index_tail_counts s f m d (tree.more_expr e rest) h =
-      when_weaker (index_tail_counts s f (m + tally_expr e) (indexed s d (tree.expr_node e) (judge_expr s d.next e)) rest
+      when_weaker (index_tail_counts s f (m + tally_expr e) (index_at s d (tree.expr_node e) (judge_expr s d.next e)) rest
       (index_tally s f m (tally_expr e) d.value _ h (when_node (index_rules s d.value) _ (expr_counts s d.next e) (λ t g q. g))))
       (λ y g. denoted_is ((m + tally_expr e) + tally_expr_tail rest) (m + (tally_expr e + tally_expr_tail rest)) (omega arith) g)
 
@@ -742,18 +746,18 @@ mutual
       when_weaker (first_tally_of {P = λ t. tally_term first ≡ 0} _ (term_quiet s n (first_add None tree.no_term) first))
       (λ t g. omega (arith, g))
   simple_quiet s n (tree.simple k None first (tree.more_term o t rest)) =
-      quiet_chain (tally_term first) (tally_terms (tree.more_term o t rest)) (chained ir.Or None)
+      quiet_chain (tally_term first) (tally_terms (tree.more_term o t rest)) (chain_typing ir.Or None)
       (chain_rules (in_constant s) ir.Or alone None (any_or (tree.more_term o t rest))) _
       (when_both (term_quiet s n (first_add None (tree.more_term o t rest)) first)
       (terms_quiet s _ (first_add None (tree.more_term o t rest)).sort (tree.more_term o t rest)))
   simple_quiet s n (tree.simple k (Some sign) first tree.no_term) =
-      quiet_chain (tally_term first) 0 (chained ir.Or (Some sign))
+      quiet_chain (tally_term first) 0 (chain_typing ir.Or (Some sign))
       (chain_rules (in_constant s) ir.Or alone (Some sign) (any_or tree.no_term)) _
       (when_both (term_quiet s n (first_add (Some sign) tree.no_term) first)
       (terms_quiet s (judge_term (in_constant s) n (first_add (Some sign) tree.no_term) first).next
       (first_add (Some sign) tree.no_term).sort tree.no_term))
   simple_quiet s n (tree.simple k (Some sign) first (tree.more_term o t rest)) =
-      quiet_chain (tally_term first) (tally_terms (tree.more_term o t rest)) (chained ir.Or (Some sign))
+      quiet_chain (tally_term first) (tally_terms (tree.more_term o t rest)) (chain_typing ir.Or (Some sign))
       (chain_rules (in_constant s) ir.Or alone (Some sign) (any_or (tree.more_term o t rest))) _
       (when_both (term_quiet s n (first_add (Some sign) (tree.more_term o t rest)) first)
       (terms_quiet s _ (first_add (Some sign) (tree.more_term o t rest)).sort (tree.more_term o t rest)))
@@ -770,7 +774,7 @@ mutual
       when_node (operand_rules (in_constant s) o) _ (first_tally_of {P = λ t. tally_factor first ≡ 0} _ (factor_quiet s n alone first))
       (λ t g q. omega (arith, g))
   term_quiet s n o (tree.term k first (tree.more_factor m f rest)) =
-      quiet_chain (tally_factor first) (tally_factors (tree.more_factor m f rest)) (chained ir.And None)
+      quiet_chain (tally_factor first) (tally_factors (tree.more_factor m f rest)) (chain_typing ir.And None)
       (chain_rules (in_constant s) ir.And o None (any_and (tree.more_factor m f rest))) _
       (when_both (factor_quiet s n (first_mul (tree.more_factor m f rest)) first)
       (factors_quiet s _ (first_mul (tree.more_factor m f rest)).sort (tree.more_factor m f rest)))

@@ -14,14 +14,15 @@ use Rattle.alma_ir.specs.Phrases.{Phrase, StmtPhrase, TestPhrase, ExprPhrase, Ar
 use Rattle.alma_ir.specs.Phrases.{tests_phrases, links_phrases, args_phrases, arg_phrases, desig_phrases, sels_phrases, sel_phrases}
 use Rattle.alma_ir.specs.Phrases.{stmts_phrases}
 use Rattle.alma_ir.specs.Lines.{stmt_count}
-use Rattle.alma_rules.specs.Judged.{unless, both_of, when, holds}
+use Rattle.alma_rules.specs.Judgement.{unless, both_of, when, holds}
 use Rattle.alma_rules.specs.Scene.{Scene, FormalOf, Found, absent, bad, constant, named, variable, routine, row_at, is_structured, range}
 use Rattle.alma_rules.specs.Scene.{in_constant}
 use Rattle.alma_rules.specs.Parts.{Meaning, a_place, plain, a_test, Typing, value_of, test_of, no_place, without_place, boolean_typing}
-use Rattle.alma_rules.specs.Parts.{Located, desig_of, with_sel, Denoted, a_constant, a_variable, a_routine, no_array, denoted, field_of}
+use Rattle.alma_rules.specs.Parts.{Location, desig_of, with_sel, Denotation, a_constant, a_variable, a_routine, no_array, denotation}
+use Rattle.alma_rules.specs.Parts.{field_of}
 use Rattle.alma_rules.specs.Parts.{field_part, select_field, element_part, select_in, select_index, located_in, typing_in, Callee}
-use Rattle.alma_rules.specs.Parts.{callee_in, simple_argument, structured_argument, argument_of, call_typing, equation_of, related}
-use Rattle.alma_rules.specs.Parts.{Operator, arithmetic, logical, Operands, links_of, tests_of, chain_of, chained}
+use Rattle.alma_rules.specs.Parts.{callee_in, simple_argument, structured_argument, argument_of, call_typing, equation_of, relation_typing}
+use Rattle.alma_rules.specs.Parts.{Operator, arithmetic, logical, Operands, links_of, tests_of, chain_of, chain_typing}
 use Rattle.alma_rules.specs.ExprRules.{Use, no_constant, not_variable, not_procedure, name_rules, desig_rules, Operand, other_sort}
 use Rattle.alma_rules.specs.ExprRules.{no_operand, not_test, logical_operand, operand_rules, chain_rules}
 use Rattle.alma_rules.specs.Nodes.{known_typing, ord_typing, chr_typing, not_typing, cons_operand, operand_behind, cons_arg}
@@ -127,7 +128,7 @@ pub seq_tally : {n : ℕ} (x : ir.Stmts) → Tally n (stmts_phrases x) → Typin
 unfolding expr_phrases
 seq_tally x h = record { is = test_more (ir.Seq x) h }
 
-pub known_tally : {n : ℕ} (l : Located) → Tally n (desig_phrases (desig_of l)) → TypingTally n (known_typing l)
+pub known_tally : {n : ℕ} (l : Location) → Tally n (desig_phrases (desig_of l)) → TypingTally n (known_typing l)
 unfolding expr_phrases
 known_tally l h = record { is = expr_more (ir.Known (desig_of l)) h }
 
@@ -163,23 +164,23 @@ IsVariable (variable shape root) = Unit {0}
 IsVariable (routine q up h) = ⊥
 
 -- what a name and its selectors denote, with so many statements in the indices of a variable
-abbrev pub DenotedIn : Found → ℕ → Denoted → Type 0
+abbrev pub DenotedIn : Found → ℕ → Denotation → Type 0
 DenotedIn f n (a_variable l) = IsVariable f × Tally n (sels_phrases l.sels)
 DenotedIn f n (a_constant shape v) = OffVariable f
 DenotedIn f n (a_routine q up h) = OffVariable f
 DenotedIn f n no_array = IsVariable f
 
-pub record DenotedTally (f : Found) (n : ℕ) (d : Denoted) : Type 0 where
+pub record DenotedTally (f : Found) (n : ℕ) (d : Denotation) : Type 0 where
   pub is : DenotedIn f n d
 
-pub denoted_is : {f : Found} {d : Denoted} (a b : ℕ) → a ≡ b → DenotedTally f a d → DenotedTally f b d
+pub denoted_is : {f : Found} {d : Denotation} (a b : ℕ) → a ≡ b → DenotedTally f a d → DenotedTally f b d
 denoted_is {f} {d} a b e h = subst (λ n. DenotedTally f n d) e h
 
 anything : {A : Type 0} (v : Option A) → When v (λ x. Unit {0})
 anything None = when_none
 anything (Some x) = when_some x tt
 
-pub name_tally : (s : Scene) (f : Found) → When (unless (name_rules f (denoted s f)) (denoted s f)) (DenotedTally f 0)
+pub name_tally : (s : Scene) (f : Found) → When (unless (name_rules f (denotation s f)) (denotation s f)) (DenotedTally f 0)
 unfolding expr_phrases
 name_tally s absent = when_none
 name_tally s bad = when_none
@@ -193,12 +194,12 @@ sels_with : (n m : ℕ) (sels : ir.Sels) (x : ir.Sel) → Tally n (sels_phrases 
     → Tally (n + m) (sels_phrases (with_sel sels x))
 sels_with n m sels x h k = subst (λ ys. Tally (n + m) ys) (sym (phrases_with sels x)) (tally_join h (tally_alone k))
 
-field_part_tally : (s : Scene) (f : Found) (n : ℕ) (l : Located) (p : ℕ × ℕ) → IsVariable f × Tally n (sels_phrases l.sels)
+field_part_tally : (s : Scene) (f : Found) (n : ℕ) (l : Location) (p : ℕ × ℕ) → IsVariable f × Tally n (sels_phrases l.sels)
     → DenotedTally f n (field_part s l p)
 unfolding expr_phrases
 field_part_tally s f n l p h = record { is = (h.0, tally_is (n + 0) n (omega arith) (sels_with n 0 l.sels _ h.1 (sel_more _ tally_nil))) }
 
-pub field_tally : (s : Scene) (f : Found) (n : ℕ) (name : List ℕ) (d : Denoted) → DenotedTally f n d
+pub field_tally : (s : Scene) (f : Found) (n : ℕ) (name : List ℕ) (d : Denotation) → DenotedTally f n d
     → When (select_field s name d) (DenotedTally f n)
 field_tally s f n name (a_variable l) h =
     when_map {P = λ p. Unit {0}} (field_part s l) (anything (field_of s name l)) (λ p g. field_part_tally s f n l p h.is)
@@ -206,12 +207,12 @@ field_tally s f n name (a_constant shape v) h = when_some _ h
 field_tally s f n name (a_routine q up x) h = when_some _ h
 field_tally s f n name no_array h = when_some _ h
 
-element_tally : (s : Scene) (f : Found) (n m : ℕ) (l : Located) (r : ℕ × ℕ) (t : Typing) → IsVariable f × Tally n (sels_phrases l.sels)
+element_tally : (s : Scene) (f : Found) (n m : ℕ) (l : Location) (r : ℕ × ℕ) (t : Typing) → IsVariable f × Tally n (sels_phrases l.sels)
     → TypingTally m t → DenotedTally f (n + m) (element_part s l r t)
 unfolding expr_phrases
 element_tally s f n m l r t h g = record { is = (h.0, sels_with n m l.sels _ h.1 (sel_more _ (value_tally g))) }
 
-pub index_tally : (s : Scene) (f : Found) (n m : ℕ) (d : Option Denoted) (i : Option Typing) → When d (DenotedTally f n)
+pub index_tally : (s : Scene) (f : Found) (n m : ℕ) (d : Option Denotation) (i : Option Typing) → When d (DenotedTally f n)
     → When i (TypingTally m) → When (select_index s d i) (DenotedTally f (n + m))
 index_tally s f n m None i h g = when_none
 index_tally s f n m (Some (a_variable l)) i h g = by (row_at s l.shape) i g
@@ -227,16 +228,16 @@ index_tally s f n m (Some (a_routine q up x)) None h g = when_none
 index_tally s f n m (Some (a_routine q up x)) (Some t) h g = when_some _ (record { is = h.gives.is })
 
 -- a whole designator: only that of a variable has indices
-abbrev pub DesigIn : ℕ → Denoted → Type 0
+abbrev pub DesigIn : ℕ → Denotation → Type 0
 DesigIn n (a_variable l) = Tally n (sels_phrases l.sels)
 DesigIn n (a_constant shape v) = 0 ≡ n
 DesigIn n (a_routine q up h) = 0 ≡ n
 DesigIn n no_array = Unit {0}
 
-pub record DesigTally (n : ℕ) (d : Denoted) : Type 0 where
+pub record DesigTally (n : ℕ) (d : Denotation) : Type 0 where
   pub is : DesigIn n d
 
-off_selected : (s : Scene) (w : Use) (f : Found) (v : Option Denoted) → OffVariable f → desig_rules s w true f v ≡ [] → ⊥
+off_selected : (s : Scene) (w : Use) (f : Found) (v : Option Denotation) → OffVariable f → desig_rules s w true f v ≡ [] → ⊥
 off_selected s w absent v h q = h
 off_selected s w bad v h q = h
 off_selected s w (constant shape x) v h q =
@@ -251,13 +252,13 @@ off_selected s w (routine r up (Some x)) v h q =
     (no_fault (no_constant s true (routine r up (Some x))) fault.NotConst _
     (no_faults_left _ (when (not_procedure w true (routine r up (Some x))) fault.NotProcedure) q)).1 in cc)
 
-pub bare_end : (f : Found) (d : Denoted) → DenotedTally f 0 d → DesigTally 0 d
+pub bare_end : (f : Found) (d : Denotation) → DenotedTally f 0 d → DesigTally 0 d
 bare_end f (a_variable l) h = record { is = h.is.1 }
 bare_end f (a_constant shape v) h = record { is = refl }
 bare_end f (a_routine q up x) h = record { is = refl }
 bare_end f no_array h = record { is = tt }
 
-pub selected_end : (s : Scene) (w : Use) (f : Found) (n : ℕ) (v : Option Denoted) (d : Denoted) → DenotedTally f n d
+pub selected_end : (s : Scene) (w : Use) (f : Found) (n : ℕ) (v : Option Denotation) (d : Denotation) → DenotedTally f n d
     → desig_rules s w true f v ≡ [] → DesigTally n d
 selected_end s w f n v (a_variable l) h q = record { is = h.is.1 }
 selected_end s w f n v (a_constant shape x) h q = absurd (off_selected s w f v h.is q)
@@ -265,13 +266,13 @@ selected_end s w f n v (a_routine r up x) h q = absurd (off_selected s w f v h.i
 selected_end s w f n v no_array h q = record { is = tt }
 
 -- in a constant place nothing is selected
-pub constant_end : (s : Scene) (w : Use) (f : Found) (n : ℕ) (v : Option Denoted) (d : Denoted) → DenotedTally f n d
+pub constant_end : (s : Scene) (w : Use) (f : Found) (n : ℕ) (v : Option Denotation) (d : Denotation) → DenotedTally f n d
     → desig_rules (in_constant s) w true f v ≡ [] → ⊥
 constant_end s w f n v d h q = by f (there d h)
     (no_fault (no_constant (in_constant s) true f) fault.NotConst _
     (no_faults_left _ (when (not_procedure w true f) fault.NotProcedure) q)).0
   where
-    there : (d : Denoted) → DenotedTally f n d → (OffVariable f → ⊥) → IsVariable f
+    there : (d : Denotation) → DenotedTally f n d → (OffVariable f → ⊥) → IsVariable f
     there (a_variable l) h k = h.is.0
     there (a_constant shape x) h k = absurd (k h.is)
     there (a_routine r up x) h k = absurd (k h.is)
@@ -286,24 +287,24 @@ constant_end s w f n v d h q = by f (there d h)
     by (routine r up None) k e = k (λ x. x)
     by (routine r up (Some x)) k e = absurd (let bad : true ≡ false = e in cc)
 
-pub typing_tally : (n : ℕ) (d : Denoted) → DesigTally n d → When (typing_in d) (TypingTally n)
+pub typing_tally : (n : ℕ) (d : Denotation) → DesigTally n d → When (typing_in d) (TypingTally n)
 unfolding expr_phrases
 typing_tally n (a_constant shape v) h = when_some _ (record { is = expr_more (ir.Const v) (tally_is 0 n h.is tally_nil) })
 typing_tally n (a_variable l) h = when_some _ (record { is = desig_more (desig_of l) h.is })
 typing_tally n (a_routine q up x) h = when_some _ (record { is = test_more (ir.CallTest q ir.no_args up) (tally_is 0 n h.is tally_nil) })
 typing_tally n no_array h = when_none
 
-abbrev pub LocatedTally : ℕ → Located → Type 0
+abbrev pub LocatedTally : ℕ → Location → Type 0
 LocatedTally n l = Tally n (desig_phrases (desig_of l))
 
-pub located_tally : (n : ℕ) (d : Denoted) → DesigTally n d → When (located_in d) (LocatedTally n)
+pub located_tally : (n : ℕ) (d : Denotation) → DesigTally n d → When (located_in d) (LocatedTally n)
 unfolding expr_phrases
 located_tally n (a_constant shape v) h = when_none
 located_tally n (a_variable l) h = when_some _ (desig_more (desig_of l) h.is)
 located_tally n (a_routine q up x) h = when_none
 located_tally n no_array h = when_none
 
-pub callee_tally : (n : ℕ) (d : Denoted) → DesigTally n d → When (callee_in d) (λ c. 0 ≡ n)
+pub callee_tally : (n : ℕ) (d : Denotation) → DesigTally n d → When (callee_in d) (λ c. 0 ≡ n)
 callee_tally n (a_constant shape v) h = when_none
 callee_tally n (a_variable l) h = when_none
 callee_tally n (a_routine q up x) h = when_some _ h.is
@@ -359,7 +360,7 @@ args_more n m p h k = tally_join h k
 -- ---- relations
 
 pub related_tally : (s : Scene) (n m : ℕ) (r : Relation) (p : Typing × Typing) → TypingTally n p.0 → TypingTally m p.1
-    → TypingTally (n + m) (related s r p)
+    → TypingTally (n + m) (relation_typing s r p)
 unfolding expr_phrases
 related_tally s n m relations.Equal p h g = record { is = by p.0.meaning p.1.meaning h.is g.is }
   where
@@ -467,9 +468,9 @@ chain_meaning join j sign sort n m first ((logical, t) ∷ rest) h g =
 pub chain_tally : (s : Scene) (join : ir.Tests → ir.Test) → Joins join
     → (o : Operand) (sign : Option Sign) (l sort : Bool) (n m : ℕ) (v : Option (Typing × Operands))
     → When v (λ p. TypingTally n p.0 × OperandsTally sort m p.1)
-    → When (option_map (chained join sign) (unless (chain_rules s join o sign l v) v)) (TermTally o (n + m))
+    → When (option_map (chain_typing join sign) (unless (chain_rules s join o sign l v) v)) (TermTally o (n + m))
 chain_tally s join j o sign l sort n m v h =
-    when_map {P = λ p. (TypingTally n p.0 × OperandsTally sort m p.1) × (other_sort o ≡ false)} (chained join sign)
+    when_map {P = λ p. (TypingTally n p.0 × OperandsTally sort m p.1) × (other_sort o ≡ false)} (chain_typing join sign)
     (when_node (chain_rules s join o sign l) v h
     (λ p g q. (g, operand_sort s o _ (no_fault (s.constant && l) fault.NotConst _ (no_faults_left _ (when _ fault.ConstRange) q)).1)))
     (λ p g. record { typing = record { is = chain_meaning join j sign sort n m p.0 p.1 g.0.0 g.0.1 }; sort = g.1 })

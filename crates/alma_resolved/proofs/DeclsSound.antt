@@ -13,12 +13,12 @@ use Rattle.alma_names.specs.Blocks.{DeclaredName, shape_id}
 use Rattle.alma_names.specs.Scopes.{with_declared}
 use Rattle.alma_ir.proofs.Each.{each_of_append, each_follows}
 use Rattle.alma_rules.specs.Numbered as tree
-use Rattle.alma_rules.specs.Judged.{broken_at}
+use Rattle.alma_rules.specs.Judgement.{broken_at}
 use Rattle.alma_rules.specs.Scene.{Scene, Heading, Returns, is_first, in_constant, text_at}
 use Rattle.alma_rules.specs.Parts.{Typing}
-use Rattle.alma_rules.specs.Types.{declared, redeclared, read_constant, read_type, all_names, last_token, type_names}
+use Rattle.alma_rules.specs.Types.{declare_name, redeclaration_rules, read_constant, read_type, all_names, last_token, type_names}
 use Rattle.alma_rules.specs.Places.{width, mark_expr, mark_type}
-use Rattle.alma_rules.specs.Decls.{Frame, with_faults, with_scene, limited, constant_entry, constant_from, constant_in, read_consts}
+use Rattle.alma_rules.specs.Decls.{Frame, with_faults, with_scene, within_limit, constant_entry, constant_from, constant_in, read_consts}
 use Rattle.alma_rules.specs.Decls.{type_entry, type_in, read_types, variable_access, with_variable, variable_in, variables_in, variables_of}
 use Rattle.alma_rules.specs.Decls.{read_vars, const_names, type_entry_names, var_names, decl_names, decls_names, decls_routines}
 use Rattle.alma_rules.specs.Decls.{decl_routines, with_routine, with_routines, with_block, read_heading, read_decl, read_decls}
@@ -134,7 +134,7 @@ types_grown lo f (x ∷ xs) b h e =
 
 -- ---- variables
 
-declared_not : (s : Scene) (name : tree.Name) (from : ℕ) (e : Entry) → is_first s name ≡ false → s ≡ declared s name from e
+declared_not : (s : Scene) (name : tree.Name) (from : ℕ) (e : Entry) → is_first s name ≡ false → s ≡ declare_name s name from e
 declared_not s name from e h = by (is_first s name) h
   where
     by : (c : Bool) → c ≡ false → s ≡ (if c then record s
@@ -143,13 +143,13 @@ declared_not s name from e h = by (is_first s name) h
     by false q = refl
 
 variable_scene : (f : Frame) (from shape : ℕ) (name : tree.Name)
-    → (variable_in f from (Some shape) name).scene ≡ declared f.scene name from
+    → (variable_in f from (Some shape) name).scene ≡ declare_name f.scene name from
     (entry.Variable (shape_id shape) (variable_access f.scene f.slots))
 variable_scene f from shape name = by (is_first f.scene name) refl
   where
     by : (c : Bool) → is_first f.scene name ≡ c
-        → (if_true c (λ u. limited name f (with_variable f name from shape))
-        (λ u. with_faults f (broken_at name.node (redeclared f.scene name)))).scene ≡ declared f.scene name from
+        → (if_true c (λ u. within_limit name f (with_variable f name from shape))
+        (λ u. with_faults f (broken_at name.node (redeclaration_rules f.scene name)))).scene ≡ declare_name f.scene name from
         (entry.Variable (shape_id shape) (variable_access f.scene f.slots))
     by true e = limited_scene name f (with_variable f name from shape)
     by false e = declared_not f.scene name from (entry.Variable (shape_id shape) (variable_access f.scene f.slots)) e
@@ -167,8 +167,8 @@ variable_quiet : (f : Frame) (from : ℕ) (o : Option ℕ) (name : tree.Name) �
 variable_quiet f from None name e = nil_left f.faults _ e
 variable_quiet f from (Some shape) name e = by (is_first f.scene name) e
   where
-    by : (c : Bool) → (if_true c (λ u. limited name f (with_variable f name from shape))
-        (λ u. with_faults f (broken_at name.node (redeclared f.scene name)))).faults ≡ [] → f.faults ≡ []
+    by : (c : Bool) → (if_true c (λ u. within_limit name f (with_variable f name from shape))
+        (λ u. with_faults f (broken_at name.node (redeclaration_rules f.scene name)))).faults ≡ [] → f.faults ≡ []
     by true e = limited_faults name f (with_variable f name from shape) e refl
     by false e = nil_left f.faults _ e
 
@@ -215,7 +215,7 @@ IsProc r tree.no_decl q = ⊥
 IsProc r (tree.more_decl d rest) q = IsProcHere r d q ⊎ IsProc (r + decl_routines d) rest q
 
 each_declared : (P : ℕ → Entry → Type 0) (s : Scene) (name : tree.Name) (from : ℕ) (e : Entry) → Each P s → ((n : ℕ) → P n e)
-    → Each P (declared s name from e)
+    → Each P (declare_name s name from e)
 each_declared P s name from e h f = by (is_first s name)
   where
     by : (c : Bool) → Each P (if c then record s

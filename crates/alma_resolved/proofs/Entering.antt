@@ -16,7 +16,7 @@ use Rattle.alma_rules.specs.Numbered as tree
 use Rattle.alma_rules.specs.Scene.{Scene, Heading, Returns, nothing, a_value}
 use Rattle.alma_rules.specs.Types.{read_type_name}
 use Rattle.alma_rules.specs.Decls.{Frame, with_block, with_routine, with_routines, with_texts, block_routines, decl_routines, decls_names}
-use Rattle.alma_rules.specs.Decls.{formal_names, formals_of, read_formals, too_deep, headed, with_depth, read_heading}
+use Rattle.alma_rules.specs.Decls.{formal_names, formals_of, read_formals, too_deep, heading_at, with_depth, read_heading}
 use Rattle.alma_rules.specs.Modules.{frame_of, first_scene}
 use Rattle.alma_resolved.specs.Fits.{Place, InFrame}
 use Rattle.alma_resolved.proofs.Lookups.{AllFrom, each_follows_from, each_new_block}
@@ -100,7 +100,7 @@ block_scene k c r s returns names (tree.block n ds body) outer h f =
 returns_keep : {k : Place} {c : ℕ} {s : Scene} (r : Returns) → SceneKeeps k c s → SceneKeeps k c (record s { returns = r })
 returns_keep r h = record { table = h.table; deep = h.deep; entries = h.entries; heads = h.heads }
 
-headed_scene : (k : Place) (c : ℕ) (f : Frame) (o : Option tree.Name) → SceneKeeps k c f.scene → SceneKeeps k c (headed f o).frame.scene
+headed_scene : (k : Place) (c : ℕ) (f : Frame) (o : Option tree.Name) → SceneKeeps k c f.scene → SceneKeeps k c (heading_at f o).frame.scene
 headed_scene k c f None h = returns_keep nothing h
 headed_scene k c f (Some name) h = returns_keep (a_value (read_type_name f.scene name).value) h
 
@@ -122,9 +122,9 @@ head_scene k c r n s params result b outer h f laid paired same =
     })))
   where
     by : (d : List CheckFault) → SceneKeeps (inner k r) (suc c)
-        (headed (read_formals (first_frame s r params b) (formals_of params)) result).frame.scene
+        (heading_at (read_formals (first_frame s r params b) (formals_of params)) result).frame.scene
         → SceneKeeps (inner k r) (suc c) (with_depth d n
-        (headed (read_formals (first_frame s r params b) (formals_of params)) result)).frame.scene
+        (heading_at (read_formals (first_frame s r params b) (formals_of params)) result)).frame.scene
     by [] h = h
     by (x ∷ xs) h = h
 

@@ -17,7 +17,7 @@ use Rattle.alma_ir.specs.Tree.{Program, Routine, routine_at}
 use Rattle.alma_ir.specs.Checked.{HoldPlace, IsOrdered, outer_at}
 use Rattle.alma_rules.specs.Numbered as tree
 use Rattle.alma_rules.specs.Scene.{Scene, Heading, FormalOf, found_as, is_first, text_at, in_constant}
-use Rattle.alma_rules.specs.Types.{declared}
+use Rattle.alma_rules.specs.Types.{declare_name}
 use Rattle.alma_rules.specs.Decls.{param_kind}
 use Rattle.alma_resolved.specs.Fits.{Place, InFrame}
 use Rattle.alma_resolved.specs.Scenes.{structured_in}
@@ -152,7 +152,7 @@ on_top P n m [] (x ∷ xs) d h e p = (h.0, on_top P n m [] xs d h.1 e p)
 on_top P n m (b ∷ bs) top d h e p = (h.0, on_top P (n + 1) m bs top d h.1 (omega (arith, e)) p)
 
 pub keeps_declared : {k : Place} {c : ℕ} {s : Scene} (name : tree.Name) (from : ℕ) (e : Entry) → SceneKeeps k c s
-    → EntryKeeps k c s.shapes (suc c) e → SceneKeeps k c (declared s name from e)
+    → EntryKeeps k c s.shapes (suc c) e → SceneKeeps k c (declare_name s name from e)
 keeps_declared {k} {c} {s} name from e h p = by (is_first s name)
   where
     by : (b : Bool) → SceneKeeps k c (if b then record s
@@ -166,7 +166,7 @@ keeps_declared {k} {c} {s} name from e h p = by (is_first s name)
     }
     by false = h
 
-declared_shapes : (s : Scene) (name : tree.Name) (from : ℕ) (e : Entry) → (declared s name from e).shapes ≡ s.shapes
+declared_shapes : (s : Scene) (name : tree.Name) (from : ℕ) (e : Entry) → (declare_name s name from e).shapes ≡ s.shapes
 declared_shapes s name from e = by (is_first s name)
   where
     by : (b : Bool) → (if b then record s
@@ -189,8 +189,8 @@ longer_twice {s} {t} {u} a b = record {
       ∙ (ap (λ x. x ++ b.tail) a.is ∙ append_assoc s.shapes a.tail b.tail);
 }
 
-pub longer_declared : (s : Scene) (name : tree.Name) (from : ℕ) (e : Entry) → Longer s (declared s name from e)
-longer_declared s name from e = longer_same s (declared s name from e) (declared_shapes s name from e)
+pub longer_declared : (s : Scene) (name : tree.Name) (from : ℕ) (e : Entry) → Longer s (declare_name s name from e)
+longer_declared s name from e = longer_same s (declare_name s name from e) (declared_shapes s name from e)
 
 -- ---- constants
 

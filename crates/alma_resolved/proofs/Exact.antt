@@ -9,17 +9,18 @@ use Rattle.alma_tree.specs.declared.leaf.AddOperator.{AddOperator}
 use Rattle.alma_tree.specs.declared.leaf.MulOperator.{MulOperator}
 use Rattle.alma_ir.specs.Tree as ir
 use Rattle.alma_rules.specs.Numbered as tree
-use Rattle.alma_rules.specs.Judged.{Judged, unless, both_of, both, and_then}
+use Rattle.alma_rules.specs.Judgement.{Judgement, unless, both_of, both, and_then}
 use Rattle.alma_rules.specs.Scene.{Scene, Found, absent, bad, constant, named, variable, routine, found, inside_of, text_at, row_at}
 use Rattle.alma_rules.specs.Scene.{literal_at}
-use Rattle.alma_rules.specs.Parts.{Meaning, a_place, plain, a_test, Typing, no_place, without_place, boolean_typing, Denoted, a_constant}
-use Rattle.alma_rules.specs.Parts.{a_variable, a_routine, no_array, denoted, field_of, field_part, select_field, select_in, select_index}
-use Rattle.alma_rules.specs.Parts.{typing_in, called, Callee, callee_in, call_typing, related, relation_of, equation_of, Operator}
-use Rattle.alma_rules.specs.Parts.{arithmetic, logical, Operands, add_operator, mul_operator, desig_of, chain_of, chained}
+use Rattle.alma_rules.specs.Parts.{Meaning, a_place, plain, a_test, Typing, no_place, without_place, boolean_typing, Denotation, a_constant}
+use Rattle.alma_rules.specs.Parts.{a_variable, a_routine, no_array, denotation, field_of, field_part, select_field, select_in, select_index}
+use Rattle.alma_rules.specs.Parts.{typing_in, typing_of_call, Callee, callee_in, call_typing, relation_typing, relation_of, equation_of}
+use Rattle.alma_rules.specs.Parts.{Operator}
+use Rattle.alma_rules.specs.Parts.{arithmetic, logical, Operands, add_operator, mul_operator, desig_of, chain_of, chain_typing}
 use Rattle.alma_rules.specs.ExprRules.{as_value, as_procedure, exactly, alone, argument_desig, argument_kind_of, literal_rules, not_rules}
 use Rattle.alma_rules.specs.ExprRules.{chain_rules, call_rules, Argument, other, of_variable, argument_kind, argument_found, Operand}
 use Rattle.alma_rules.specs.ExprRules.{operand_rules, name_rules, desig_rules}
-use Rattle.alma_rules.specs.Nodes.{is_selected, indexed, judge_name, or_sequence, in_parens, as_sequence, known_typing, ord_typing}
+use Rattle.alma_rules.specs.Nodes.{is_selected, index_at, judge_name, or_sequence, in_parens, as_sequence, known_typing, ord_typing}
 use Rattle.alma_rules.specs.Nodes.{chr_typing, not_typing, cons_operand, any_and, any_or, argument_count, formals_of, operand_behind}
 use Rattle.alma_rules.specs.Nodes.{first_mul, first_add, sum_at, product_at}
 use Rattle.alma_rules.specs.Walk.{judge_expr, judge_term, judge_terms, judge_factor, judge_factors, judge_primary, judge_desig}
@@ -35,7 +36,7 @@ NoPlace (plain x) = Unit {0}
 NoPlace (a_test t) = Unit {0}
 
 -- what is denoted is a variable, or is none
-abbrev Varies : Bool → Denoted → Type 0
+abbrev Varies : Bool → Denotation → Type 0
 Varies true (a_variable l) = Unit {0}
 Varies true no_array = Unit {0}
 Varies true (a_constant shape v) = ⊥
@@ -50,11 +51,11 @@ abbrev kind_of : Bool → Argument
 kind_of true = of_variable
 kind_of false = other
 
-record Sort (kind : Argument) (b : Bool) (d : Denoted) : Type 0 where
+record Sort (kind : Argument) (b : Bool) (d : Denotation) : Type 0 where
   varies : Varies b d
   is_kind : kind ≡ kind_of b
 
-field_sort : (s : Scene) (a : Argument) (b : Bool) (name : List ℕ) (d : Denoted) → Sort a b d → When (select_field s name d) (Sort a b)
+field_sort : (s : Scene) (a : Argument) (b : Bool) (name : List ℕ) (d : Denotation) → Sort a b d → When (select_field s name d) (Sort a b)
 field_sort s a true name (a_variable l) h =
     when_map {P = λ p. Unit {0}} (field_part s l) (when_all (field_of s name l) (λ p e. tt))
     (λ p g. record { varies = tt; is_kind = h.is_kind })
@@ -63,7 +64,7 @@ field_sort s a b name (a_constant shape v) h = when_some _ h
 field_sort s a b name (a_routine q up x) h = when_some _ h
 field_sort s a b name no_array h = when_some _ h
 
-index_sort : (s : Scene) (a : Argument) (b : Bool) (d : Option Denoted) (i : Option Typing) → When d (Sort a b)
+index_sort : (s : Scene) (a : Argument) (b : Bool) (d : Option Denotation) (i : Option Typing) → When d (Sort a b)
     → When (select_index s d i) (Sort a b)
 index_sort s a b None i h = when_none
 index_sort s a true (Some (a_variable l)) i h = by (row_at s l.shape) i
@@ -82,12 +83,12 @@ index_sort s a b (Some (a_routine q up x)) (Some t) h = when_some _ h.gives
 mutual
   unfolding judge_expr
 
-  selectors_sort : (s : Scene) (a : Argument) (b : Bool) (d : Judged Denoted) (x : tree.SelectorTail) → When d.value (Sort a b)
+  selectors_sort : (s : Scene) (a : Argument) (b : Bool) (d : Judgement Denotation) (x : tree.SelectorTail) → When d.value (Sort a b)
       → When (judge_selectors s d x).value (Sort a b)
   selectors_sort s a b d tree.no_selector h = h
   selectors_sort s a b d (tree.more_selector x rest) h = selectors_sort s a b (judge_selector s d x) rest (selector_sort s a b d x h)
 
-  selector_sort : (s : Scene) (a : Argument) (b : Bool) (d : Judged Denoted) (x : tree.Selector) → When d.value (Sort a b)
+  selector_sort : (s : Scene) (a : Argument) (b : Bool) (d : Judgement Denotation) (x : tree.Selector) → When d.value (Sort a b)
       → When (judge_selector s d x).value (Sort a b)
   selector_sort s a b d (tree.field k name) h =
       when_then (select_field s (text_at s name.token))
@@ -96,19 +97,19 @@ mutual
   selector_sort s a b d (tree.index k items) h =
       when_node Rattle.alma_rules.specs.ExprRules.array_rules (judge_indices s d items).value (indices_sort s a b d items h) (λ x g q. g)
 
-  indices_sort : (s : Scene) (a : Argument) (b : Bool) (d : Judged Denoted) (x : tree.Exprs) → When d.value (Sort a b)
+  indices_sort : (s : Scene) (a : Argument) (b : Bool) (d : Judgement Denotation) (x : tree.Exprs) → When d.value (Sort a b)
       → When (judge_indices s d x).value (Sort a b)
   indices_sort s a b d (tree.exprs e rest) h =
-      index_tail_sort s a b (indexed s d (tree.expr_node e) (judge_expr s d.next e)) rest (index_sort s a b d.value _ h)
+      index_tail_sort s a b (index_at s d (tree.expr_node e) (judge_expr s d.next e)) rest (index_sort s a b d.value _ h)
 
-  index_tail_sort : (s : Scene) (a : Argument) (b : Bool) (d : Judged Denoted) (x : tree.ExprTail) → When d.value (Sort a b)
+  index_tail_sort : (s : Scene) (a : Argument) (b : Bool) (d : Judgement Denotation) (x : tree.ExprTail) → When d.value (Sort a b)
       → When (judge_index_tail s d x).value (Sort a b)
   index_tail_sort s a b d tree.no_expr h = h
   index_tail_sort s a b d (tree.more_expr e rest) h =
-      index_tail_sort s a b (indexed s d (tree.expr_node e) (judge_expr s d.next e)) rest (index_sort s a b d.value _ h)
+      index_tail_sort s a b (index_at s d (tree.expr_node e) (judge_expr s d.next e)) rest (index_sort s a b d.value _ h)
 
 -- a designator as a value
-typing_kind : (kind : Argument) (b : Bool) (d : Denoted) → Sort kind b d → When (typing_in d) (λ t. KindFits kind t.meaning)
+typing_kind : (kind : Argument) (b : Bool) (d : Denotation) → Sort kind b d → When (typing_in d) (λ t. KindFits kind t.meaning)
 typing_kind kind true (a_variable l) h = when_some _ (subst (λ x. KindFits x (a_place (desig_of l))) (sym h.is_kind) tt)
 typing_kind kind false (a_variable l) h = absurd h.varies
 typing_kind kind true (a_constant shape v) h = absurd h.varies
@@ -122,7 +123,8 @@ abbrev varies_in : Found → Bool
 varies_in (variable shape root) = true
 varies_in f = false
 
-name_sort : (s : Scene) (f : Found) → When (unless (name_rules f (denoted s f)) (denoted s f)) (Sort (argument_found s f) (varies_in f))
+name_sort : (s : Scene) (f : Found) → When (unless (name_rules f (denotation s f)) (denotation s f))
+    (Sort (argument_found s f) (varies_in f))
 name_sort s absent = when_none
 name_sort s bad = when_none
 name_sort s (constant shape v) = when_some _ (record { varies = tt; is_kind = refl })
@@ -204,8 +206,8 @@ chain_other join sign first ((arithmetic op, t) ∷ rest) h = tt
 chain_other join sign first ((logical, t) ∷ rest) h = tt
 
 chained_other : (s : Scene) (join : ir.Tests → ir.Test) (o : Operand) (sign : Option Sign) (l : Bool) (v : Option (Typing × Operands))
-    → When v (λ p. IsChain sign p.1) → When (option_map (chained join sign) (unless (chain_rules s join o sign l v) v)) TypingNoPlace
-chained_other s join o sign l v h = when_map {P = λ p. IsChain sign p.1} (chained join sign)
+    → When v (λ p. IsChain sign p.1) → When (option_map (chain_typing join sign) (unless (chain_rules s join o sign l v) v)) TypingNoPlace
+chained_other s join o sign l v h = when_map {P = λ p. IsChain sign p.1} (chain_typing join sign)
     (when_node (chain_rules s join o sign l) v h (λ p g q. g)) (λ p g. chain_other join sign p.0 p.1 g)
 
 anything : {A : Type 0} (v : Option A) → When v (λ x. Unit {0})
@@ -217,8 +219,8 @@ some_operands o None = when_none
 some_operands o (Some p) = when_some _ tt
 
 called_other : (s : Scene) (c : Option Callee) (count : ℕ) (args : Option ir.Args)
-    → When (option_map called (unless (call_rules s c count (both_of c args)) (both_of c args))) TypingNoPlace
-called_other s c count args = when_map {P = λ x. Unit {0}} called (anything _) (λ p g. by p.0 p.0.heading.result p.1)
+    → When (option_map typing_of_call (unless (call_rules s c count (both_of c args)) (both_of c args))) TypingNoPlace
+called_other s c count args = when_map {P = λ x. Unit {0}} typing_of_call (anything _) (λ p g. by p.0 p.0.heading.result p.1)
   where
     by : (c : Callee) (o : Option ℕ) (args : ir.Args) → TypingNoPlace (call_typing c o args)
     by c None args = tt
@@ -250,7 +252,8 @@ primary_other s n (tree.named k d (tree.args items)) e =
     items).value
 primary_other s n (tree.paren k body) e = by (judge_only s n body)
   where
-    by : (o : Option (Judged Typing)) → When (or_sequence o (in_parens s k) (λ u. as_sequence s k (judge_stmts (inside_of s) n body))).value
+    by : (o : Option (Judgement Typing)) → When
+        (or_sequence o (in_parens s k) (λ u. as_sequence s k (judge_stmts (inside_of s) n body))).value
         TypingNoPlace
     by None = when_map {P = λ x. Unit {0}} (λ body. boolean_typing (a_test (ir.Seq body))) (anything _) (λ x g. tt)
     by (Some j) = when_map {P = λ x. Unit {0}} without_place (anything _) (λ x g. no_place_other x.meaning)
@@ -278,19 +281,19 @@ terms_chain s n sort m t rest =
     some_operands (add_operator m) (both_of (judge_term s n (operand_behind sort (add_operator m)) t).value
     (judge_terms s (judge_term s n (operand_behind sort (add_operator m)) t).next sort rest).value)
 
-product_other : (s : Scene) (k : ℕ) (o : Operand) (m : MulOperator) (f : tree.Factor) (rest : tree.FactorTail) (a : Judged Typing)
-    (b : Judged Operands) → When b.value (λ xs. IsChain None xs)
+product_other : (s : Scene) (k : ℕ) (o : Operand) (m : MulOperator) (f : tree.Factor) (rest : tree.FactorTail) (a : Judgement Typing)
+    (b : Judgement Operands) → When b.value (λ xs. IsChain None xs)
     → When (product_at s o k (tree.more_factor m f rest) (both a b)).value TypingNoPlace
 product_other s k o m f rest a b h = chained_other s ir.And o None (any_and (tree.more_factor m f rest)) (both_of a.value b.value)
     (when_weaker (when_both (anything a.value) h) (λ p g. g.1))
 
-sum_other : (s : Scene) (k : ℕ) (m : AddOperator) (t : tree.Term) (rest : tree.TermTail) (a : Judged Typing) (b : Judged Operands)
+sum_other : (s : Scene) (k : ℕ) (m : AddOperator) (t : tree.Term) (rest : tree.TermTail) (a : Judgement Typing) (b : Judgement Operands)
     → When b.value (λ xs. IsChain None xs)
     → When (sum_at s k None (tree.more_term m t rest) (both a b)).value TypingNoPlace
 sum_other s k m t rest a b h = chained_other s ir.Or alone None (any_or (tree.more_term m t rest)) (both_of a.value b.value)
     (when_weaker (when_both (anything a.value) h) (λ p g. g.1))
 
-signed_other : (s : Scene) (k : ℕ) (g : Sign) (rest : tree.TermTail) (j : Judged (Typing × Operands))
+signed_other : (s : Scene) (k : ℕ) (g : Sign) (rest : tree.TermTail) (j : Judgement (Typing × Operands))
     → When (sum_at s k (Some g) rest j).value TypingNoPlace
 signed_other s k g tree.no_term j = chained_other s ir.Or alone (Some g) (any_or tree.no_term) j.value
     (when_weaker (anything j.value) (λ p x. tt))
@@ -309,7 +312,7 @@ term_other s n o (tree.term k first (tree.more_factor m f rest)) e =
 kind_other : (s : Scene) (n : ℕ) (x : tree.Expr) → exactly x ≡ None → When (judge_expr s n x).value TypingNoPlace
 unfolding judge_expr
 kind_other s n (tree.expr j left (tree.compared r right)) e =
-    when_map {P = λ x. Unit {0}} (related s r) (anything _) (λ p g. related_other s r p)
+    when_map {P = λ x. Unit {0}} (relation_typing s r) (anything _) (λ p g. related_other s r p)
 kind_other s n (tree.expr j (tree.simple m (Some g) t rest) tree.no_relation) e =
     signed_other s m g rest (and_then (judge_term s n (first_add (Some g) rest) t)
     (λ i. judge_terms s i (first_add (Some g) rest).sort rest))

@@ -18,14 +18,16 @@ use Rattle.alma_ir.specs.Tree.{routine_at}
 use Rattle.alma_ir.specs.Phrases.{ExprPhrase, TestPhrase, ArgPhrase, SelPhrase, expr_phrases, test_phrases, tests_phrases, links_phrases}
 use Rattle.alma_ir.specs.Phrases.{sels_phrases, sel_phrases, arg_phrases, args_phrases}
 use Rattle.alma_ir.specs.Checked.{desig_cells, ArgFits, ArgsFit}
-use Rattle.alma_rules.specs.Judged.{unless, both_of, when}
+use Rattle.alma_rules.specs.Judgement.{unless, both_of, when}
 use Rattle.alma_rules.specs.Scene.{Scene, Heading, FormalOf, Found, absent, bad, constant, named, variable, routine, inside_of, base, cells}
 use Rattle.alma_rules.specs.Scene.{range, is_structured, has_integer, row_at}
-use Rattle.alma_rules.specs.Parts.{Meaning, a_place, plain, a_test, Typing, value_of, test_of, Denoted, a_constant, a_variable, a_routine}
-use Rattle.alma_rules.specs.Parts.{no_array, denoted, field_of, field_part, select_field, select_in, select_index, typing_in, located_in}
-use Rattle.alma_rules.specs.Parts.{callee_in, Callee, call_typing, called, argument_of, simple_argument, structured_argument, related}
+use Rattle.alma_rules.specs.Parts.{Meaning, a_place, plain, a_test, Typing, value_of, test_of, Denotation, a_constant, a_variable}
+use Rattle.alma_rules.specs.Parts.{a_routine}
+use Rattle.alma_rules.specs.Parts.{no_array, denotation, field_of, field_part, select_field, select_in, select_index, typing_in, located_in}
+use Rattle.alma_rules.specs.Parts.{callee_in, Callee, call_typing, typing_of_call, argument_of, simple_argument, structured_argument}
+use Rattle.alma_rules.specs.Parts.{relation_typing}
 use Rattle.alma_rules.specs.Parts.{relation_of, equation_of, Operator, arithmetic, logical, Operands, links_of, tests_of, chain_of}
-use Rattle.alma_rules.specs.Parts.{chain_shape, chained, arithmetic_of}
+use Rattle.alma_rules.specs.Parts.{chain_shape, chain_typing, arithmetic_of}
 use Rattle.alma_rules.specs.ExprRules.{Use, as_variable, as_value, as_procedure, is_equation, relation_rules, unlike, Operand}
 use Rattle.alma_rules.specs.ExprRules.{operand_rules, no_operand, other_sort, logical_operand, arithmetic_operand, not_test, chain_rules}
 use Rattle.alma_rules.specs.ExprRules.{index_rules, other_index, wants_arguments, has_formals, Argument, other, of_bad, of_variable}
@@ -165,9 +167,9 @@ related_fits {k} {s} e {lo} {mid} {hi} r p g h u =
 
 pub relation_fits : {k : Place} {s : Scene} (e : SceneFits k s) {lo mid hi : ℕ} (r : Relation) (v : Option (Typing × Typing))
     → When v (λ p. TypingFits k s lo mid p.0 × TypingFits k s mid hi p.1)
-    → When (option_map (related s r) (unless (relation_rules s r v) v)) (TypingFits k s lo hi)
+    → When (option_map (relation_typing s r) (unless (relation_rules s r v) v)) (TypingFits k s lo hi)
 relation_fits {k} {s} e {lo} {mid} {hi} r v h =
-    when_map {P = λ p. MeaningFits k s lo hi 2 (relation_of s r p)} (related s r)
+    when_map {P = λ p. MeaningFits k s lo hi 2 (relation_of s r p)} (relation_typing s r)
     (when_node (relation_rules s r) v h (λ p g q. related_fits e r p g.0 g.1
     (no_fault_alone (unlike s r p) fault.TypeMismatch (no_fault s.constant fault.NotConst _ q).1)))
     (λ p g. record { meaning = g })
@@ -241,10 +243,10 @@ chain_meaning {k} {s} e {lo} {mid} {hi} join joins sign first ((logical, t) ∷ 
 pub chain_fits : {k : Place} {s : Scene} (e : SceneFits k s) {lo mid hi : ℕ} (join : ir.Tests → ir.Test) → Joins k join
     → (o : Operand) (sign : Option Sign) (l : Bool) (v : Option (Typing × Operands))
     → When v (λ p. (TypingFits k s lo mid p.0 × (is_structured s p.0.shape ≡ false)) × OperandsFit k s mid hi p.1)
-    → When (option_map (chained join sign) (unless (chain_rules s join o sign l v) v))
+    → When (option_map (chain_typing join sign) (unless (chain_rules s join o sign l v) v))
     (λ t. TypingFits k s lo hi t × (is_structured s t.shape ≡ false))
 chain_fits {k} {s} e {lo} {mid} {hi} join joins o sign l v h =
-    when_map {P = λ p. MeaningFits k s lo hi (chain_shape p.1) (chain_of join sign p)} (chained join sign)
+    when_map {P = λ p. MeaningFits k s lo hi (chain_shape p.1) (chain_of join sign p)} (chain_typing join sign)
     (when_node (chain_rules s join o sign l) v h (λ p g q. chain_meaning e join joins sign p.0 p.1 g.0.1 g.0.0 g.1))
     (λ p g. (record { meaning = g }, chain_simple e p.1))
 
@@ -303,7 +305,7 @@ not_fits {k} {s} e {lo} {hi} o v h rules tests simple =
 
 -- ---- designators
 
-abbrev DenotedIs : Place → Scene → (bare : Bool) → (lo hi : ℕ) → Denoted → Type 0
+abbrev DenotedIs : Place → Scene → (bare : Bool) → (lo hi : ℕ) → Denotation → Type 0
 DenotedIs k s c lo hi (a_constant shape v) = (is_structured s shape ≡ false) × (lo ≤ hi)
 DenotedIs k s c lo hi (a_variable l) = LocatedFits k s lo hi l
 DenotedIs k s c lo hi (a_routine q up h) = CalleeFits k s q up h × (lo ≤ hi) × (c ≡ false → wants_arguments h ≡ false)
@@ -314,7 +316,7 @@ unfolding sels_phrases
 nothing_laid k s n = laid_nil k s.inside n n (omega arith)
 
 -- what a designator denotes; where the flag is false, a routine needs no arguments
-pub record DenotedFits (k : Place) (s : Scene) (c : Bool) (lo hi : ℕ) (d : Denoted) : Type 0 where
+pub record DenotedFits (k : Place) (s : Scene) (c : Bool) (lo hi : ℕ) (d : Denotation) : Type 0 where
   pub is : DenotedIs k s c lo hi d
 
 -- a routine that is used as a value needs no arguments
@@ -329,7 +331,7 @@ free as_variable = true
 free as_procedure = true
 
 pub name_fits : {k : Place} {s : Scene} (e : SceneFits k s) (n : ℕ) (sel : Bool) (w : Use) (f : Found) → FoundFits k s f
-    → When (unless (name_rules f (denoted s f)) (denoted s f)) (DenotedFits k s (flag w sel f) n n)
+    → When (unless (name_rules f (denotation s f)) (denotation s f)) (DenotedFits k s (flag w sel f) n n)
 name_fits e n sel w absent h = when_none
 name_fits e n sel w bad h = when_none
 name_fits e n sel w (constant shape v) h = when_some _ (record { is = (h, omega arith) })
@@ -348,7 +350,7 @@ name_fits {k} {s} e n sel as_procedure (routine q up (Some x)) h =
     when_some _ (record { is = (h, omega arith, λ i. absurd (let bad : true ≡ false = i in cc)) })
 
 -- a field
-pub field_fits : {k : Place} {s : Scene} (e : SceneFits k s) {c : Bool} {lo hi : ℕ} (name : List ℕ) (d : Denoted)
+pub field_fits : {k : Place} {s : Scene} (e : SceneFits k s) {c : Bool} {lo hi : ℕ} (name : List ℕ) (d : Denotation)
     → DenotedFits k s c lo hi d → When (select_field s name d) (DenotedFits k s c lo hi)
 unfolding sel_phrases
 field_fits {k} {s} e {c} {lo} {hi} name (a_variable l) h = by (field_of s name l) refl
@@ -365,7 +367,7 @@ field_fits e name (a_routine q up x) h = when_some _ h
 field_fits e name no_array h = when_some _ h
 
 -- an index
-pub index_fits : {k : Place} {s : Scene} (e : SceneFits k s) {c : Bool} {lo mid hi : ℕ} (d : Option Denoted) (i : Option Typing)
+pub index_fits : {k : Place} {s : Scene} (e : SceneFits k s) {c : Bool} {lo mid hi : ℕ} (d : Option Denotation) (i : Option Typing)
     → When d (DenotedFits k s c lo mid) → When i (TypingFits k s mid hi)
     → When (select_index s d (unless (index_rules s d i) i)) (DenotedFits k s c lo hi)
 unfolding sel_phrases
@@ -411,7 +413,7 @@ index_fits {k} {s} e {c} {lo} {mid} {hi} (Some (a_routine r up x)) i h g =
     (λ t y. record { is = (h.gives.is.0, omega (arith, y, h.gives.is.1), h.gives.is.2) })
 
 -- a designator where a variable is needed, and as a value
-pub located_fits : {k : Place} {s : Scene} {c : Bool} {lo hi : ℕ} (d : Denoted) → DenotedFits k s c lo hi d
+pub located_fits : {k : Place} {s : Scene} {c : Bool} {lo hi : ℕ} (d : Denotation) → DenotedFits k s c lo hi d
     → When (located_in d) (LocatedFits k s lo hi)
 located_fits (a_variable l) h = when_some _ h.is
 located_fits (a_constant shape v) h = when_none
@@ -444,7 +446,7 @@ bare_call {k} {s} e {lo} {hi} q up x h le w = (
   e.table.firsts 2 (omega arith),
 )
 
-pub typing_fits : {k : Place} {s : Scene} (e : SceneFits k s) {lo hi : ℕ} (d : Denoted) → DenotedFits k s false lo hi d
+pub typing_fits : {k : Place} {s : Scene} (e : SceneFits k s) {lo hi : ℕ} (d : Denotation) → DenotedFits k s false lo hi d
     → When (typing_in d) (TypingFits k s lo hi)
 unfolding expr_phrases
 typing_fits {k} {s} e {lo} {hi} (a_constant shape v) h =
@@ -594,7 +596,7 @@ argument_fits {k} {s} e {lo} {hi} f q fits kind v h =
 abbrev pub CalleeIs : Place → Scene → (lo hi : ℕ) → Callee → Type 0
 CalleeIs k s lo hi c = CalleeFits k s c.number c.up c.heading × (lo ≤ hi)
 
-pub callee_fits : {k : Place} {s : Scene} {c : Bool} {lo hi : ℕ} (d : Denoted) → DenotedFits k s c lo hi d
+pub callee_fits : {k : Place} {s : Scene} {c : Bool} {lo hi : ℕ} (d : Denotation) → DenotedFits k s c lo hi d
     → When (callee_in d) (CalleeIs k s lo hi)
 callee_fits (a_routine q up x) h = when_some _ (h.is.0, h.is.1)
 callee_fits (a_constant shape v) h = when_none
@@ -627,13 +629,13 @@ call_is e c args h (Some shape) r laid fit =
 pub called_fits : {k : Place} {s : Scene} (e : SceneFits k s) {lo mid hi : ℕ} (c : Option Callee) (count : ℕ) (args : Option ir.Args)
     → When c (CalleeIs k s lo mid)
     → ((x : Callee) → c ≡ Some x → When args (ArgumentsFit k s mid hi count x.heading.formals))
-    → When (option_map called (unless (call_rules s c count (both_of c args)) (both_of c args))) (TypingFits k s lo hi)
+    → When (option_map typing_of_call (unless (call_rules s c count (both_of c args)) (both_of c args))) (TypingFits k s lo hi)
 called_fits {k} {s} e {lo} {mid} {hi} None count args h g =
-    when_map {P = λ p. ⊥} called (when_unless_none (call_rules s None count None)) (λ p b. absurd b)
+    when_map {P = λ p. ⊥} typing_of_call (when_unless_none (call_rules s None count None)) (λ p b. absurd b)
 called_fits {k} {s} e {lo} {mid} {hi} (Some c) count None h g =
-    when_map {P = λ p. ⊥} called (when_unless_none (call_rules s (Some c) count None)) (λ p b. absurd b)
+    when_map {P = λ p. ⊥} typing_of_call (when_unless_none (call_rules s (Some c) count None)) (λ p b. absurd b)
 called_fits {k} {s} e {lo} {mid} {hi} (Some c) count (Some a) h g =
-    when_map {P = λ p. TypingFits k s lo hi (called p)} called
+    when_map {P = λ p. TypingFits k s lo hi (typing_of_call p)} typing_of_call
     (when_unless (call_rules s (Some c) count (Some (c, a))) (c, a)
     (λ q. made (no_fault_alone (other_count count c) fault.ArgCount (no_fault s.constant fault.NotConst _ q).1)))
     (λ p y. y)

@@ -7,7 +7,7 @@ use Rattle.alma_ir.specs.Tree.{Loop, ForTo, SomeOf, Return, a_loop}
 use Rattle.alma_ir.specs.Phrases.{Phrase, StmtPhrase}
 use Rattle.alma_ir.specs.Checked.{loops_of, LoopLeaves, IsNoReturn}
 use Rattle.alma_ir.proofs.Each.{each_of_append, each_follows}
-use Rattle.alma_rules.specs.Judged.{unless, both_of}
+use Rattle.alma_rules.specs.Judgement.{unless, both_of}
 use Rattle.alma_resolved.specs.Fits.{Place, LoopFits, Fits, Laid}
 
 loop_wider : (lo hi low high : ℕ) (l : Loop) → low ≤ lo → hi ≤ high → LoopFits lo hi l → LoopFits low high l

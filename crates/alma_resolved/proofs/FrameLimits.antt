@@ -15,14 +15,15 @@ use Rattle.alma_ir.specs.declared.program.Param.{Param}
 use Rattle.alma_ir.specs.Tree.{Global}
 use Rattle.alma_ir.specs.Checked.{slots_of_kind, param_slots}
 use Rattle.alma_rules.specs.Numbered as tree
-use Rattle.alma_rules.specs.Judged.{broken_at}
+use Rattle.alma_rules.specs.Judgement.{broken_at}
 use Rattle.alma_rules.specs.Scene.{cells, range, is_first, is_structured, text_at}
 use Rattle.alma_rules.specs.Places.{width, mark_expr, mark_type}
-use Rattle.alma_rules.specs.Types.{read_constant, declared, redeclared, read_type, read_type_name, all_names, last_token}
-use Rattle.alma_rules.specs.Decls.{Frame, with_faults, with_scene, limited, constant_entry, constant_in, read_consts, type_entry, type_in}
+use Rattle.alma_rules.specs.Types.{read_constant, declare_name, redeclaration_rules, read_type, read_type_name, all_names, last_token}
+use Rattle.alma_rules.specs.Decls.{Frame, with_faults, with_scene, within_limit, constant_entry, constant_in, read_consts, type_entry}
+use Rattle.alma_rules.specs.Decls.{type_in}
 use Rattle.alma_rules.specs.Decls.{read_types, variable_access, with_variable, variable_in, variables_in, variables_of, read_vars}
 use Rattle.alma_rules.specs.Decls.{param_kind, with_param, with_formal, param_in, params_in, formal_in, read_formals, formals_of, too_deep}
-use Rattle.alma_rules.specs.Decls.{headed, with_depth, read_heading, read_decl, read_decls, decl_routines}
+use Rattle.alma_rules.specs.Decls.{heading_at, with_depth, read_heading, read_decl, read_decls, decl_routines}
 use Rattle.alma_rules.specs.Scene.{Scene}
 use Rattle.alma_rules.proofs.Limited.{limited_case}
 use Rattle.alma_resolved.proofs.HeadsSound.{first_frame}
@@ -93,9 +94,9 @@ variable_holds tokens f a b from (Some shape) x h =
     own : length (text_at f.scene x.token) ≡ sizes tokens x.token
     own = ap (λ ts. sizes ts x.token) h.tokens_are
 
-    by : (c : Bool) → (declared f.scene x from (entry.Variable (shape_id shape) (variable_access f.scene f.slots))).tokens ≡ tokens
-        → Holds tokens (if_true c (λ u. limited x f (with_variable f x from shape))
-        (λ u. with_faults f (broken_at x.node (redeclared f.scene x)))) (a + 1) (b + sizes tokens x.token)
+    by : (c : Bool) → (declare_name f.scene x from (entry.Variable (shape_id shape) (variable_access f.scene f.slots))).tokens ≡ tokens
+        → Holds tokens (if_true c (λ u. within_limit x f (with_variable f x from shape))
+        (λ u. with_faults f (broken_at x.node (redeclaration_rules f.scene x)))) (a + 1) (b + sizes tokens x.token)
     by true e = limited_case (λ g. Holds tokens g (a + 1) (b + sizes tokens x.token)) x f (with_variable f x from shape) (λ le. record {
       tokens_are = e;
       many = omega (arith, length-append f.variables (made ∷ []), h.many);
@@ -175,8 +176,9 @@ param_few f from mode (Some shape) x = by (is_first f.scene x)
     }
 
     by : (c : Bool)
-        → length (with_formal (if_true c (λ u. limited x f (with_param f x from mode shape (param_kind (is_structured f.scene shape) mode)))
-        (λ u. with_faults f (broken_at x.node (redeclared f.scene x)))) (Some (record { mode = mode; shape = shape }))).params
+        → length (with_formal (if_true c
+        (λ u. within_limit x f (with_param f x from mode shape (param_kind (is_structured f.scene shape) mode)))
+        (λ u. with_faults f (broken_at x.node (redeclaration_rules f.scene x)))) (Some (record { mode = mode; shape = shape }))).params
         ≤ length f.params + 1
     by true = limited_case (λ g. length (with_formal g (Some (record { mode = mode; shape = shape }))).params ≤ length f.params + 1) x f
         (with_param f x from mode shape (param_kind (is_structured f.scene shape) mode))
@@ -208,12 +210,12 @@ head_few s r n params result b =
     )
   where
     deep : (d : List CheckFault) → (with_depth d n
-        (headed (read_formals (first_frame s r params b) (formals_of params)) result)).frame.params
-        ≡ (headed (read_formals (first_frame s r params b) (formals_of params)) result).frame.params
+        (heading_at (read_formals (first_frame s r params b) (formals_of params)) result)).frame.params
+        ≡ (heading_at (read_formals (first_frame s r params b) (formals_of params)) result).frame.params
     deep [] = refl
     deep (x ∷ xs) = refl
 
-    one : (o : Option tree.Name) → (headed (read_formals (first_frame s r params b) (formals_of params)) o).frame.params
+    one : (o : Option tree.Name) → (heading_at (read_formals (first_frame s r params b) (formals_of params)) o).frame.params
         ≡ (read_formals (first_frame s r params b) (formals_of params)).params
     one None = refl
     one (Some x) = refl

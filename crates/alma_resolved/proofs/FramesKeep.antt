@@ -16,12 +16,12 @@ use Rattle.alma_ir.specs.declared.program.Param.{Param}
 use Rattle.alma_ir.specs.Tree.{routine_at}
 use Rattle.alma_ir.specs.Checked.{AreLaidOut, param_slots, slots_of_kind, HoldsPlace, IsOutside, outer_at}
 use Rattle.alma_rules.specs.Numbered as tree
-use Rattle.alma_rules.specs.Judged.{broken_at}
+use Rattle.alma_rules.specs.Judgement.{broken_at}
 use Rattle.alma_rules.specs.Scene.{Scene, cells, is_first}
 use Rattle.alma_rules.specs.Parts.{Typing}
 use Rattle.alma_rules.specs.Places.{width, mark_expr, mark_type}
-use Rattle.alma_rules.specs.Types.{declared, redeclared, read_constant, read_type, all_names, last_token}
-use Rattle.alma_rules.specs.Decls.{Frame, with_faults, with_scene, limited, constant_entry, constant_from, constant_in, read_consts}
+use Rattle.alma_rules.specs.Types.{declare_name, redeclaration_rules, read_constant, read_type, all_names, last_token}
+use Rattle.alma_rules.specs.Decls.{Frame, with_faults, with_scene, within_limit, constant_entry, constant_from, constant_in, read_consts}
 use Rattle.alma_rules.specs.Decls.{type_entry, type_in, read_types, variable_access, with_variable, variable_in, variables_in, variables_of}
 use Rattle.alma_rules.specs.Decls.{read_vars}
 use Rattle.alma_rules.proofs.Sound.{nil_left}
@@ -116,8 +116,8 @@ variable_up : (f : Frame) (from : ℕ) (o : Option ℕ) (name : tree.Name) → f
 variable_up f from None name = omega arith
 variable_up f from (Some shape) name = by (is_first f.scene name)
   where
-    by : (b : Bool) → f.slots ≤ (if_true b (λ u. limited name f (with_variable f name from shape))
-        (λ u. with_faults f (broken_at name.node (redeclared f.scene name)))).slots
+    by : (b : Bool) → f.slots ≤ (if_true b (λ u. within_limit name f (with_variable f name from shape))
+        (λ u. with_faults f (broken_at name.node (redeclaration_rules f.scene name)))).slots
     by true = limited_case (λ g. f.slots ≤ g.slots) name f (with_variable f name from shape) (λ le. omega arith) (omega arith)
     by false = omega arith
 
@@ -164,9 +164,9 @@ variable_shapes f from None name = longer_declared f.scene name from entry.Bad
 variable_shapes f from (Some shape) name =
     by (is_first f.scene name) (longer_declared f.scene name from (entry.Variable (shape_id shape) (variable_access f.scene f.slots)))
   where
-    by : (b : Bool) → Longer f.scene (declared f.scene name from (entry.Variable (shape_id shape) (variable_access f.scene f.slots)))
-        → Longer f.scene (if_true b (λ u. limited name f (with_variable f name from shape))
-        (λ u. with_faults f (broken_at name.node (redeclared f.scene name)))).scene
+    by : (b : Bool) → Longer f.scene (declare_name f.scene name from (entry.Variable (shape_id shape) (variable_access f.scene f.slots)))
+        → Longer f.scene (if_true b (λ u. within_limit name f (with_variable f name from shape))
+        (λ u. with_faults f (broken_at name.node (redeclaration_rules f.scene name)))).scene
     by true l = subst (λ s. Longer f.scene s) (sym (limited_scene name f (with_variable f name from shape))) l
     by false l = longer_same f.scene f.scene refl
 
@@ -179,20 +179,20 @@ variable_keeps k c f from None name e h w le =
 variable_keeps k c f from (Some shape) name e h w le = by (is_first f.scene name) e le
   where
     made : f.slots + cells f.scene shape ≤ k.ends k.number
-        → SceneKeeps k c (declared f.scene name from (entry.Variable (shape_id shape) (variable_access f.scene f.slots)))
+        → SceneKeeps k c (declare_name f.scene name from (entry.Variable (shape_id shape) (variable_access f.scene f.slots)))
     made q = keeps_declared name from (entry.Variable (shape_id shape) (variable_access f.scene f.slots)) h.scene
         (w.gives, omega arith, access_keeps k c f (cells f.scene shape) h q)
 
-    by : (b : Bool) → (if_true b (λ u. limited name f (with_variable f name from shape))
-        (λ u. with_faults f (broken_at name.node (redeclared f.scene name)))).faults ≡ []
-        → (if_true b (λ u. limited name f (with_variable f name from shape))
-        (λ u. with_faults f (broken_at name.node (redeclared f.scene name)))).slots ≤ k.ends k.number
-        → FrameKeeps k c (if_true b (λ u. limited name f (with_variable f name from shape))
-        (λ u. with_faults f (broken_at name.node (redeclared f.scene name))))
+    by : (b : Bool) → (if_true b (λ u. within_limit name f (with_variable f name from shape))
+        (λ u. with_faults f (broken_at name.node (redeclaration_rules f.scene name)))).faults ≡ []
+        → (if_true b (λ u. within_limit name f (with_variable f name from shape))
+        (λ u. with_faults f (broken_at name.node (redeclaration_rules f.scene name)))).slots ≤ k.ends k.number
+        → FrameKeeps k c (if_true b (λ u. within_limit name f (with_variable f name from shape))
+        (λ u. with_faults f (broken_at name.node (redeclaration_rules f.scene name))))
     by true e q =
         limited_quiet (λ g. g.slots ≤ k.ends k.number → FrameKeeps k c g) name f (with_variable f name from shape) e
         (λ le q. frame_scene (with_variable f name from shape) h (omega arith) (made q)) q
-    by false e q = frame_scene (with_faults f (broken_at name.node (redeclared f.scene name))) h (omega arith) h.scene
+    by false e q = frame_scene (with_faults f (broken_at name.node (redeclaration_rules f.scene name))) h (omega arith) h.scene
 
 shape_on : {s t : Scene} (o : Option ℕ) → Longer s t → When o (IsShape s.shapes) → When o (IsShape t.shapes)
 shape_on {s} {t} o l w = when_weaker w (λ a g. omega (arith, g, ap (λ (x : List PlainShape). length x) l.is, length-append s.shapes l.tail))

@@ -12,13 +12,14 @@ use Rattle.alma_ir.specs.Tree.{Program, Routine, no_routine, routine_at}
 use Rattle.alma_ir.specs.Checked.{AreLaidOut, HasOneCellAs, param_slots}
 use Rattle.alma_names.specs.Blocks.{DeclaredName}
 use Rattle.alma_rules.specs.Numbered as tree
-use Rattle.alma_rules.specs.Judged.{Broken, unbroken, both_of, when}
+use Rattle.alma_rules.specs.Judgement.{BrokenRule, if_unbroken, both_of, when}
 use Rattle.alma_rules.specs.Scene.{Scene, Heading, Returns, nothing, a_value, level, line_of}
 use Rattle.alma_rules.specs.Places.{width, stmt_tokens, mark_stmts}
 use Rattle.alma_rules.specs.Decls.{Frame, block_routines, decls_routines, decl_routines, formal_names, formals_of, too_deep, read_heading}
 use Rattle.alma_rules.specs.Decls.{read_decls}
 use Rattle.alma_rules.specs.Modules.{result_in, judge_body, routine_of, frame_of, with_shapes, judge_block, judge_bodies, judge_decl}
-use Rattle.alma_rules.specs.Modules.{first_scene, module_frame, judge_module, program_of, broken, resolved, cons_routine, joined_routines}
+use Rattle.alma_rules.specs.Modules.{first_scene, module_frame, judge_module, program_of, broken_rules, resolution, cons_routine}
+use Rattle.alma_rules.specs.Modules.{joined_routines}
 use Rattle.alma_rules.specs.Modules.{body_lines}
 use Rattle.alma_rules.proofs.Sound.{nil_left, nil_right}
 use Rattle.alma_resolved.specs.Stand.{DeclsStand, DeclStands, BlockStands}
@@ -343,7 +344,7 @@ module_room : (source : List ℕ) (tokens : List Lexeme) (m : tree.Module)
 module_room source tokens m = let none : Option Heading = None in omega (arith, length-replicate (1 + block_routines m.block) none)
 
 module_keeps : (source : List ℕ) (tokens : List Lexeme) (m : tree.Module) (rs : List Routine) → BlockStands m.block
-    → broken source tokens m ≡ [] → (judge_module source tokens m).value ≡ Some rs
+    → broken_rules source tokens m ≡ [] → (judge_module source tokens m).value ≡ Some rs
     → Result (program_of source tokens m rs) 0 (1 + block_routines m.block) rs
 module_keeps source tokens m rs stand e value =
     block_keeps (program_of source tokens m rs) (module_frame source tokens m) 1 0 0 m.name 0 (m.end_name.token - 1) m.block
@@ -363,7 +364,7 @@ module_keeps source tokens m rs stand e value =
     value (numbered_all (program_of source tokens m rs) 0 [] rs refl refl)
 
 module_takes : (source : List ℕ) (tokens : List Lexeme) (m : tree.Module) (rs : List Routine) → BlockStands m.block
-    → broken source tokens m ≡ [] → (judge_module source tokens m).value ≡ Some rs → TakesNothing (get_or rs 0 no_routine)
+    → broken_rules source tokens m ≡ [] → (judge_module source tokens m).value ≡ Some rs → TakesNothing (get_or rs 0 no_routine)
 module_takes source tokens m rs stand e value =
     block_takes (module_frame source tokens m) 1 m.name 0 (m.end_name.token - 1) m.block (first_scene source tokens m).headings rs
     (block_headings (first_scene source tokens m) 0 nothing [] m.block) (nil_left _ _ e)
@@ -372,7 +373,7 @@ module_takes source tokens m rs stand e value =
 
 -- the program of these routines keeps its frames
 made_frames : (source : List ℕ) (tokens : List Lexeme) (m : tree.Module) (rs : List Routine) → BlockStands m.block
-    → broken source tokens m ≡ [] → (judge_module source tokens m).value ≡ Some rs → KeepsFrames (program_of source tokens m rs)
+    → broken_rules source tokens m ≡ [] → (judge_module source tokens m).value ≡ Some rs → KeepsFrames (program_of source tokens m rs)
 made_frames source tokens m rs stand e value =
     let p = program_of source tokens m rs in
     let r = module_keeps source tokens m rs stand e value in
@@ -384,12 +385,12 @@ made_frames source tokens m rs stand e value =
     record { body = (some, omega (arith, first)); body_takes_nothing = module_takes source tokens m rs stand e value; routines = keeps }
 
 pub program_keeps_frames : (source : List ℕ) (tokens : List Lexeme) (m : tree.Module) (p : Program) → BlockStands m.block
-    → resolved source tokens m ≡ Some p → KeepsFrames p
+    → resolution source tokens m ≡ Some p → KeepsFrames p
 program_keeps_frames source tokens m p stand e =
-    by (broken source tokens m) (judge_module source tokens m).value (resolved_unbroken source tokens m p e) e
+    by (broken_rules source tokens m) (judge_module source tokens m).value (resolved_unbroken source tokens m p e) e
     (λ rs i. made_frames source tokens m rs stand (resolved_unbroken source tokens m p e) i)
   where
-    by : (fs : List Broken) (o : Option (List Routine)) → fs ≡ [] → unbroken fs (option_map (program_of source tokens m) o) ≡ Some p
+    by : (fs : List BrokenRule) (o : Option (List Routine)) → fs ≡ [] → if_unbroken fs (option_map (program_of source tokens m) o) ≡ Some p
         → ((rs : List Routine) → o ≡ Some rs → KeepsFrames (program_of source tokens m rs)) → KeepsFrames p
     by [] None q e f = absurd (cc)
     by [] (Some rs) q e f = let same : program_of source tokens m rs ≡ p = cc in subst KeepsFrames same (f rs refl)

@@ -9,14 +9,15 @@ use Rattle.alma_ir.specs.Tree.{Program, Routine, Global, no_routine, routine_at}
 use Rattle.alma_ir.specs.Checked.{IsGlobal, HoldsPlace, IsOutside}
 use Rattle.alma_ir.proofs.Each.{each_of_append, each_follows}
 use Rattle.alma_rules.specs.Numbered as tree
-use Rattle.alma_rules.specs.Judged.{Broken, broken_at, unbroken}
+use Rattle.alma_rules.specs.Judgement.{BrokenRule, broken_at, if_unbroken}
 use Rattle.alma_rules.specs.Scene.{cells, text_at, is_first}
-use Rattle.alma_rules.specs.Types.{redeclared, read_type, read_constant, all_names, last_token}
+use Rattle.alma_rules.specs.Types.{redeclaration_rules, read_type, read_constant, all_names, last_token}
 use Rattle.alma_rules.specs.Places.{width, mark_type}
-use Rattle.alma_rules.specs.Decls.{Frame, with_faults, with_scene, limited, constant_in, read_consts, type_in, read_types, with_variable}
+use Rattle.alma_rules.specs.Decls.{Frame, with_faults, with_scene, within_limit, constant_in, read_consts, type_in, read_types}
+use Rattle.alma_rules.specs.Decls.{with_variable}
 use Rattle.alma_rules.specs.Decls.{variable_in, variables_in, variables_of, read_vars, read_decl, read_decls, decl_routines}
 use Rattle.alma_rules.specs.Modules.{judge_body, judge_block, judge_bodies, judge_module, cons_routine, body_lines, module_frame}
-use Rattle.alma_rules.specs.Modules.{block_variables, program_of, broken, resolved}
+use Rattle.alma_rules.specs.Modules.{block_variables, program_of, broken_rules, resolution}
 use Rattle.alma_rules.proofs.Limited.{limited_case}
 use Rattle.alma_resolved.specs.Stand.{BlockStands}
 use Rattle.alma_resolved.specs.Frames.{KeepsFrames}
@@ -52,8 +53,8 @@ variable_lies f from (Some shape) name h = by (is_first f.scene name)
           ((h.above, omega arith), tt);
     }
 
-    by : (c : Bool) → VarsLie (if_true c (λ u. limited name f (with_variable f name from shape))
-        (λ u. with_faults f (broken_at name.node (redeclared f.scene name))))
+    by : (c : Bool) → VarsLie (if_true c (λ u. within_limit name f (with_variable f name from shape))
+        (λ u. with_faults f (broken_at name.node (redeclaration_rules f.scene name))))
     by true = limited_case VarsLie name f (with_variable f name from shape) (λ le. taken) (record { above = h.above; each = h.each })
     by false = record { above = h.above; each = h.each }
 
@@ -118,12 +119,13 @@ made_globals source tokens m rs none value =
     value)
 
 pub program_has_globals : (source : List ℕ) (tokens : List Lexeme) (m : tree.Module) (p : Program) → BlockStands m.block
-    → resolved source tokens m ≡ Some p → AllByRecursion (IsGlobal p) p.globals
+    → resolution source tokens m ≡ Some p → AllByRecursion (IsGlobal p) p.globals
 program_has_globals source tokens m p stand e =
-    by (broken source tokens m) (judge_module source tokens m).value e (program_keeps_frames source tokens m p stand e)
+    by (broken_rules source tokens m) (judge_module source tokens m).value e (program_keeps_frames source tokens m p stand e)
     (λ rs none i. made_globals source tokens m rs none i)
   where
-    by : (fs : List Broken) (o : Option (List Routine)) → unbroken fs (option_map (program_of source tokens m) o) ≡ Some p → KeepsFrames p
+    by : (fs : List BrokenRule) (o : Option (List Routine)) → if_unbroken fs (option_map (program_of source tokens m) o) ≡ Some p
+        → KeepsFrames p
         → ((rs : List Routine) → (get_or rs 0 no_routine).params ≡ [] → o ≡ Some rs
         → AllByRecursion (IsGlobal (program_of source tokens m rs)) (program_of source tokens m rs).globals)
         → AllByRecursion (IsGlobal p) p.globals

@@ -10,14 +10,15 @@ use Rattle.alma_tree.specs.declared.leaf.Mode.{Mode}
 use Rattle.alma_tree.specs.declared.leaf.Mode.TheVariants as modes
 use Rattle.alma_ir.specs.declared.program.Param.{Param}
 use Rattle.alma_rules.specs.Numbered as tree
-use Rattle.alma_rules.specs.Judged.{broken_at}
+use Rattle.alma_rules.specs.Judgement.{broken_at}
 use Rattle.alma_rules.specs.Scene.{Scene, cells, range, is_first, is_structured}
 use Rattle.alma_rules.specs.Places.{width, mark_type}
-use Rattle.alma_rules.specs.Types.{redeclared, read_constant, read_type, read_type_name, all_names, last_token}
-use Rattle.alma_rules.specs.Decls.{Frame, with_faults, with_scene, limited, constant_in, read_consts, type_in, read_types, with_variable}
+use Rattle.alma_rules.specs.Types.{redeclaration_rules, read_constant, read_type, read_type_name, all_names, last_token}
+use Rattle.alma_rules.specs.Decls.{Frame, with_faults, with_scene, within_limit, constant_in, read_consts, type_in, read_types}
+use Rattle.alma_rules.specs.Decls.{with_variable}
 use Rattle.alma_rules.specs.Decls.{variable_in, variables_in, variables_of, read_vars, declared_cells, param_kind, with_param, param_in}
 use Rattle.alma_rules.specs.Decls.{params_in, formal_in, read_formals, formals_of, too_deep}
-use Rattle.alma_rules.specs.Decls.{headed, with_depth, read_heading, read_decl, read_decls, decl_routines}
+use Rattle.alma_rules.specs.Decls.{heading_at, with_depth, read_heading, read_decl, read_decls, decl_routines}
 use Rattle.alma_rules.specs.Decls as decls
 use Rattle.alma_rules.proofs.Limited.{limited_case}
 use Rattle.alma_resolved.proofs.HeadsSound.{first_frame}
@@ -54,11 +55,13 @@ param_cells f from mode (Some shape) name h = by (is_first f.scene name)
   where
     by : (b : Bool)
         → (decls.with_formal (if_true b
-        (λ u. limited name f (with_param f name from mode shape (param_kind (is_structured f.scene shape) mode)))
-        (λ u. with_faults f (broken_at name.node (redeclared f.scene name)))) (Some (record { mode = mode; shape = shape }))).declared
+        (λ u. within_limit name f (with_param f name from mode shape (param_kind (is_structured f.scene shape) mode)))
+        (λ u. with_faults f (broken_at name.node (redeclaration_rules f.scene name))))
+        (Some (record { mode = mode; shape = shape }))).declared
         ≡ sum_by cells_declared (decls.with_formal
-        (if_true b (λ u. limited name f (with_param f name from mode shape (param_kind (is_structured f.scene shape) mode)))
-        (λ u. with_faults f (broken_at name.node (redeclared f.scene name)))) (Some (record { mode = mode; shape = shape }))).params
+        (if_true b (λ u. within_limit name f (with_param f name from mode shape (param_kind (is_structured f.scene shape) mode)))
+        (λ u. with_faults f (broken_at name.node (redeclaration_rules f.scene name))))
+        (Some (record { mode = mode; shape = shape }))).params
     by true = limited_case (λ x. (decls.with_formal x (Some (record { mode = mode; shape = shape }))).declared ≡ sum_by cells_declared
         (decls.with_formal x (Some (record { mode = mode; shape = shape }))).params) name f
         (with_param f name from mode shape (param_kind (is_structured f.scene shape) mode))
@@ -87,17 +90,17 @@ pub head_cells : (s : Scene) (r n : ℕ) (params : Option tree.Params) (result :
     → (read_heading s r n params result b).frame.declared ≡ sum_by cells_declared (read_heading s r n params result b).frame.params
 head_cells s r n params result b = by (too_deep s) (one result (formals_cells (first_frame s r params b) (formals_of params) refl))
   where
-    by : (d : List CheckFault) → (headed (read_formals (first_frame s r params b) (formals_of params)) result).frame.declared ≡ sum_by
-        cells_declared (headed (read_formals (first_frame s r params b) (formals_of params)) result).frame.params
-        → (with_depth d n (headed (read_formals (first_frame s r params b) (formals_of params)) result)).frame.declared ≡ sum_by
-        cells_declared (with_depth d n (headed (read_formals (first_frame s r params b) (formals_of params)) result)).frame.params
+    by : (d : List CheckFault) → (heading_at (read_formals (first_frame s r params b) (formals_of params)) result).frame.declared ≡ sum_by
+        cells_declared (heading_at (read_formals (first_frame s r params b) (formals_of params)) result).frame.params
+        → (with_depth d n (heading_at (read_formals (first_frame s r params b) (formals_of params)) result)).frame.declared ≡ sum_by
+        cells_declared (with_depth d n (heading_at (read_formals (first_frame s r params b) (formals_of params)) result)).frame.params
     by [] h = h
     by (x ∷ xs) h = h
 
     one : (o : Option tree.Name) → (read_formals (first_frame s r params b) (formals_of params)).declared ≡ sum_by cells_declared
         (read_formals (first_frame s r params b) (formals_of params)).params
-        → (headed (read_formals (first_frame s r params b) (formals_of params)) o).frame.declared ≡ sum_by cells_declared
-        (headed (read_formals (first_frame s r params b) (formals_of params)) o).frame.params
+        → (heading_at (read_formals (first_frame s r params b) (formals_of params)) o).frame.declared ≡ sum_by cells_declared
+        (heading_at (read_formals (first_frame s r params b) (formals_of params)) o).frame.params
     one None h = h
     one (Some name) h = h
 
@@ -108,8 +111,9 @@ param_small : (f : Frame) (from : ℕ) (mode : Option Mode) (o : Option ℕ) (na
 param_small f from mode None name h = h
 param_small f from mode (Some shape) name h = by (is_first f.scene name)
   where
-    by : (b : Bool) → (if_true b (λ u. limited name f (with_param f name from mode shape (param_kind (is_structured f.scene shape) mode)))
-        (λ u. with_faults f (broken_at name.node (redeclared f.scene name)))).declared ≤ cell_limit
+    by : (b : Bool) → (if_true b
+        (λ u. within_limit name f (with_param f name from mode shape (param_kind (is_structured f.scene shape) mode)))
+        (λ u. with_faults f (broken_at name.node (redeclaration_rules f.scene name)))).declared ≤ cell_limit
     by true = limited_case (λ x. x.declared ≤ cell_limit) name f
         (with_param f name from mode shape (param_kind (is_structured f.scene shape) mode)) (λ le. le) h
     by false = h
@@ -137,12 +141,12 @@ head_small s r n params result b =
     omega (arith, same, small)
   where
     down : (d : List CheckFault) → (with_depth d n
-        (headed (read_formals (first_frame s r params b) (formals_of params)) result)).frame.declared
-        ≡ (headed (read_formals (first_frame s r params b) (formals_of params)) result).frame.declared
+        (heading_at (read_formals (first_frame s r params b) (formals_of params)) result)).frame.declared
+        ≡ (heading_at (read_formals (first_frame s r params b) (formals_of params)) result).frame.declared
     down [] = refl
     down (x ∷ xs) = refl
 
-    one : (o : Option tree.Name) → (headed (read_formals (first_frame s r params b) (formals_of params)) o).frame.declared
+    one : (o : Option tree.Name) → (heading_at (read_formals (first_frame s r params b) (formals_of params)) o).frame.declared
         ≡ (read_formals (first_frame s r params b) (formals_of params)).declared
     one None = refl
     one (Some name) = refl
@@ -162,8 +166,8 @@ variable_small : (f : Frame) (from : ℕ) (o : Option ℕ) (name : tree.Name) �
 variable_small f from None name h = h
 variable_small f from (Some shape) name h = by (is_first f.scene name)
   where
-    by : (b : Bool) → (if_true b (λ u. limited name f (with_variable f name from shape))
-        (λ u. with_faults f (broken_at name.node (redeclared f.scene name)))).declared ≤ cell_limit
+    by : (b : Bool) → (if_true b (λ u. within_limit name f (with_variable f name from shape))
+        (λ u. with_faults f (broken_at name.node (redeclaration_rules f.scene name)))).declared ≤ cell_limit
     by true = limited_case (λ x. x.declared ≤ cell_limit) name f (with_variable f name from shape) (λ le. le) h
     by false = h
 

@@ -9,12 +9,12 @@ use Rattle.alma_names.specs.declared.block.Entry.TheVariants as entry
 use Rattle.alma_names.specs.Blocks.{shape_id}
 use Rattle.alma_names.specs.Scopes.{Blocks, with_declared}
 use Rattle.alma_rules.specs.Numbered as tree
-use Rattle.alma_rules.specs.Judged.{broken_at}
+use Rattle.alma_rules.specs.Judgement.{broken_at}
 use Rattle.alma_rules.specs.Scene.{Scene, Returns, nothing, a_value, is_first, is_structured, text_at}
-use Rattle.alma_rules.specs.Types.{declared, redeclared, read_type_name, all_names}
-use Rattle.alma_rules.specs.Decls.{Frame, with_faults, limited, with_block, with_routine, with_routines, decl_routines, param_access}
+use Rattle.alma_rules.specs.Types.{declare_name, redeclaration_rules, read_type_name, all_names}
+use Rattle.alma_rules.specs.Decls.{Frame, with_faults, within_limit, with_block, with_routine, with_routines, decl_routines, param_access}
 use Rattle.alma_rules.specs.Decls.{param_kind, with_param, param_in, params_in, formal_in, read_formals, formals_of, formal_names, too_deep}
-use Rattle.alma_rules.specs.Decls.{headed, with_depth, read_heading}
+use Rattle.alma_rules.specs.Decls.{heading_at, with_depth, read_heading}
 use Rattle.alma_rules.proofs.Limited.{limited_scene}
 use Rattle.alma_resolved.proofs.HeadsSound.{first_frame}
 
@@ -27,7 +27,7 @@ pub record Steady {A : Type 0} (F : Scene → A) : Type 0 where
   pub same : (s : Scene) (b : Blocks) (d : List (List ℕ × ℕ)) (r : ℕ) (t : Returns) → F (changed_scene s b d r t) ≡ F s
 
 declared_same : {A : Type 0} (F : Scene → A) → Steady F → (s : Scene) (name : tree.Name) (from : ℕ) (e : Entry)
-    → F (declared s name from e) ≡ F s
+    → F (declare_name s name from e) ≡ F s
 declared_same {A} F h s name from e = by (is_first s name)
   where
     by : (b : Bool) → F (if b then record s
@@ -42,9 +42,9 @@ param_same F h f from mode None name = declared_same F h f.scene name from entry
 param_same {A} F h f from mode (Some shape) name =
     by (is_first f.scene name) (declared_same F h f.scene name from (entry.Variable (shape_id shape) (param_access mode f.slots)))
   where
-    by : (b : Bool) → F (declared f.scene name from (entry.Variable (shape_id shape) (param_access mode f.slots))) ≡ F f.scene
-        → F (if_true b (λ u. limited name f (with_param f name from mode shape (param_kind (is_structured f.scene shape) mode)))
-        (λ u. with_faults f (broken_at name.node (redeclared f.scene name)))).scene ≡ F f.scene
+    by : (b : Bool) → F (declare_name f.scene name from (entry.Variable (shape_id shape) (param_access mode f.slots))) ≡ F f.scene
+        → F (if_true b (λ u. within_limit name f (with_param f name from mode shape (param_kind (is_structured f.scene shape) mode)))
+        (λ u. with_faults f (broken_at name.node (redeclaration_rules f.scene name)))).scene ≡ F f.scene
     by true e = ap F (limited_scene name f (with_param f name from mode shape (param_kind (is_structured f.scene shape) mode))) ∙ e
     by false e = refl
 
@@ -73,7 +73,7 @@ pub block_same : {A : Type 0} (F : Scene → A) → Steady F → (s : Scene) (r 
     → F (with_block s r returns names b) ≡ F s
 block_same F h s r returns names (tree.block n ds body) = routines_same F h _ (r + 1) ds ∙ h.same s _ _ r returns
 
-headed_same : {A : Type 0} (F : Scene → A) → Steady F → (f : Frame) (o : Option tree.Name) → F (headed f o).frame.scene ≡ F f.scene
+headed_same : {A : Type 0} (F : Scene → A) → Steady F → (f : Frame) (o : Option tree.Name) → F (heading_at f o).frame.scene ≡ F f.scene
 headed_same F h f None = h.same f.scene f.scene.blocks f.scene.declares f.scene.routine nothing
 headed_same F h f (Some name) = h.same f.scene f.scene.blocks f.scene.declares f.scene.routine (a_value (read_type_name f.scene name).value)
 
@@ -85,8 +85,8 @@ head_same {A} F h s r n params result b =
     ∙ (formals_same F h (first_frame s r params b) (formals_of params) ∙ block_same F h s r nothing (formal_names (formals_of params)) b))
   where
     by : (d : List CheckFault) → F (with_depth d n
-        (headed (read_formals (first_frame s r params b) (formals_of params)) result)).frame.scene ≡ F
-        (headed (read_formals (first_frame s r params b) (formals_of params)) result).frame.scene
+        (heading_at (read_formals (first_frame s r params b) (formals_of params)) result)).frame.scene ≡ F
+        (heading_at (read_formals (first_frame s r params b) (formals_of params)) result).frame.scene
     by [] = refl
     by (x ∷ xs) = refl
 
@@ -119,12 +119,13 @@ pub head_returns : (s : Scene) (r n : ℕ) (params : Option tree.Params) (result
 head_returns s r n params result b = by (too_deep s) ∙ one result
   where
     by : (d : List CheckFault) → (with_depth d n
-        (headed (read_formals (first_frame s r params b) (formals_of params)) result)).frame.scene.returns
-        ≡ (headed (read_formals (first_frame s r params b) (formals_of params)) result).frame.scene.returns
+        (heading_at (read_formals (first_frame s r params b) (formals_of params)) result)).frame.scene.returns
+        ≡ (heading_at (read_formals (first_frame s r params b) (formals_of params)) result).frame.scene.returns
     by [] = refl
     by (x ∷ xs) = refl
 
-    one : (o : Option tree.Name) → (headed (read_formals (first_frame s r params b) (formals_of params)) o).frame.scene.returns ≡ returns_of
+    one : (o : Option tree.Name) → (heading_at (read_formals (first_frame s r params b) (formals_of params)) o).frame.scene.returns
+        ≡ returns_of
         (read_formals (first_frame s r params b) (formals_of params)).scene o
     one None = refl
     one (Some name) = refl

@@ -18,14 +18,14 @@ use Rattle.alma_ir.specs.declared.program.Param.{Param}
 use Rattle.alma_ir.specs.Checked.{IsOrdered}
 use Rattle.alma_ir.proofs.Each.{each_of_front, each_of_back}
 use Rattle.alma_rules.specs.Numbered as tree
-use Rattle.alma_rules.specs.Judged.{Broken, broken_at, unless, unbroken, when}
+use Rattle.alma_rules.specs.Judgement.{BrokenRule, broken_at, unless, if_unbroken, when}
 use Rattle.alma_rules.specs.Scene.{Scene, Heading, FormalOf, Returns, nothing, Found, absent, bad, constant, named, variable, routine}
 use Rattle.alma_rules.specs.Scene.{found, found_as, is_first, first_token, text_at, text_of, is_structured}
-use Rattle.alma_rules.specs.Types.{declared, redeclared, type_name_rules, shape_in, read_type_name, all_names}
-use Rattle.alma_rules.specs.Decls.{Frame, with_faults, too_large, limited, with_block, with_routine, with_routines, decl_routines}
+use Rattle.alma_rules.specs.Types.{declare_name, redeclaration_rules, type_name_rules, shape_in, read_type_name, all_names}
+use Rattle.alma_rules.specs.Decls.{Frame, with_faults, too_large, within_limit, with_block, with_routine, with_routines, decl_routines}
 use Rattle.alma_rules.specs.Decls.{param_access, declared_cells, param_kind, with_param, param_in, params_in, formal_in, read_formals}
 use Rattle.alma_rules.specs.Decls.{formals_of, formal_names, structured_result, result_rules, too_deep, all_formals, heading_with}
-use Rattle.alma_rules.specs.Decls.{function_heading, proper_heading, headed, with_depth, read_heading}
+use Rattle.alma_rules.specs.Decls.{function_heading, proper_heading, heading_at, with_depth, read_heading}
 use Rattle.alma_rules.specs.Decls as decls
 use Rattle.alma_rules.proofs.Sound.{IsThere, nil_left, nil_right, quiet}
 use Rattle.alma_rules.proofs.Limited.{limited_case, limited_scene, limited_faults, limited_quiet}
@@ -80,7 +80,7 @@ named_shape t s name h = when_node (type_name_rules (found s name)) (shape_in (f
     by n entry.Bad p = when_none
 
 each_declared : (P : ℕ → Entry → Type 0) (s : Scene) (name : tree.Name) (from : ℕ) (e : Entry) → Each P s → ((n : ℕ) → P n e)
-    → Each P (declared s name from e)
+    → Each P (declare_name s name from e)
 each_declared P s name from e h f = by (is_first s name)
   where
     by : (b : Bool) → Each P (if b then record s
@@ -90,7 +90,7 @@ each_declared P s name from e h f = by (is_first s name)
 
 -- ---- the scene behind a parameter
 
-declared_not : (s : Scene) (name : tree.Name) (from : ℕ) (e : Entry) → is_first s name ≡ false → s ≡ declared s name from e
+declared_not : (s : Scene) (name : tree.Name) (from : ℕ) (e : Entry) → is_first s name ≡ false → s ≡ declare_name s name from e
 declared_not s name from e h = by (is_first s name) h
   where
     by : (b : Bool) → b ≡ false → s ≡ (if b then record s
@@ -99,18 +99,18 @@ declared_not s name from e h = by (is_first s name) h
     by false q = refl
 
 param_scene : (f : Frame) (from : ℕ) (mode : Option Mode) (shape : ℕ) (name : tree.Name)
-    → (param_in f from mode (Some shape) name).scene ≡ declared f.scene name from
+    → (param_in f from mode (Some shape) name).scene ≡ declare_name f.scene name from
     (entry.Variable (shape_id shape) (param_access mode f.slots))
 param_scene f from mode shape name = by (is_first f.scene name) refl
   where
     by : (b : Bool) → is_first f.scene name ≡ b
-        → (if_true b (λ u. limited name f (with_param f name from mode shape (param_kind (is_structured f.scene shape) mode)))
-        (λ u. with_faults f (broken_at name.node (redeclared f.scene name)))).scene
-        ≡ declared f.scene name from (entry.Variable (shape_id shape) (param_access mode f.slots))
+        → (if_true b (λ u. within_limit name f (with_param f name from mode shape (param_kind (is_structured f.scene shape) mode)))
+        (λ u. with_faults f (broken_at name.node (redeclaration_rules f.scene name)))).scene
+        ≡ declare_name f.scene name from (entry.Variable (shape_id shape) (param_access mode f.slots))
     by true e = limited_scene name f (with_param f name from mode shape (param_kind (is_structured f.scene shape) mode))
     by false e = declared_not f.scene name from (entry.Variable (shape_id shape) (param_access mode f.slots)) e
 
-declared_shapes : (s : Scene) (name : tree.Name) (from : ℕ) (e : Entry) → (declared s name from e).shapes ≡ s.shapes
+declared_shapes : (s : Scene) (name : tree.Name) (from : ℕ) (e : Entry) → (declare_name s name from e).shapes ≡ s.shapes
 declared_shapes s name from e = by (is_first s name)
   where
     by : (b : Bool) → (if b then record s
@@ -132,7 +132,7 @@ record Alike (f g : Frame) : Type 0 where
   declared : g.declared ≡ f.declared
   formals : length g.formals ≡ length f.formals
 
-limited_alike : (name : tree.Name) (f g f1 g1 : Frame) → Alike f g → Alike f1 g1 → Alike (limited name f f1) (limited name g g1)
+limited_alike : (name : tree.Name) (f g f1 g1 : Frame) → Alike f g → Alike f1 g1 → Alike (within_limit name f f1) (within_limit name g g1)
 limited_alike name f g f1 g1 h k = by (nat_le f1.declared cell_limit) (nat_le g1.declared cell_limit)
     (ap (λ n. nat_le n cell_limit) k.declared)
   where
@@ -176,7 +176,7 @@ param_twins : (lo : ℕ) (f g : Frame) (from : ℕ) (mode : Option Mode) (shape 
     → Twins lo (param_in f from mode (Some shape) name) (param_in g from mode (Some shape) name)
 param_twins lo f g from mode shape name lt h = record {
   later = subst (λ s. Later lo s (param_in g from mode (Some shape) name).scene) (sym (param_scene f from mode shape name))
-      (subst (λ s. Later lo (declared f.scene name from (entry.Variable (shape_id shape) (param_access mode f.slots))) s)
+      (subst (λ s. Later lo (declare_name f.scene name from (entry.Variable (shape_id shape) (param_access mode f.slots))) s)
       (sym (param_scene g from mode shape name))
       (later_declared lo f.scene g.scene name from (entry.Variable (shape_id shape) (param_access mode f.slots))
       (entry.Variable (shape_id shape) (param_access mode g.slots)) refl h.later));
@@ -199,8 +199,8 @@ param_twins lo f g from mode shape name lt h = record {
 
     kept : Frame → Frame
     kept x = if_true (is_first x.scene name)
-        (λ u. limited name x (with_param x name from mode shape (param_kind (is_structured x.scene shape) mode)))
-        (λ u. with_faults x (broken_at name.node (redeclared x.scene name)))
+        (λ u. within_limit name x (with_param x name from mode shape (param_kind (is_structured x.scene shape) mode)))
+        (λ u. with_faults x (broken_at name.node (redeclaration_rules x.scene name)))
 
     one : made_param g.scene.shapes mode shape g.slots ≡ made_param f.scene.shapes mode shape f.slots
     one = ap (λ x. made_param x mode shape g.slots) h.long.is
@@ -217,10 +217,10 @@ param_twins lo f g from mode shape name lt h = record {
     }
 
     all : (b d : Bool) → b ≡ d
-        → Alike (if_true b (λ u. limited name f (with_param f name from mode shape (param_kind (is_structured f.scene shape) mode)))
-        (λ u. with_faults f (broken_at name.node (redeclared f.scene name))))
-        (if_true d (λ u. limited name g (with_param g name from mode shape (param_kind (is_structured g.scene shape) mode)))
-        (λ u. with_faults g (broken_at name.node (redeclared g.scene name))))
+        → Alike (if_true b (λ u. within_limit name f (with_param f name from mode shape (param_kind (is_structured f.scene shape) mode)))
+        (λ u. with_faults f (broken_at name.node (redeclaration_rules f.scene name))))
+        (if_true d (λ u. within_limit name g (with_param g name from mode shape (param_kind (is_structured g.scene shape) mode)))
+        (λ u. with_faults g (broken_at name.node (redeclaration_rules g.scene name))))
     all true true e = limited_alike name f g (with_param f name from mode shape (param_kind (is_structured f.scene shape) mode))
         (with_param g name from mode shape (param_kind (is_structured g.scene shape) mode)) h.alike taken
     all false false e = record { params = h.alike.params; slots = h.alike.slots; declared = h.alike.declared; formals = h.alike.formals }
@@ -321,8 +321,8 @@ param_more f from mode None name = record { more = None ∷ []; is = refl }
 param_more f from mode (Some shape) name = by (is_first f.scene name)
   where
     by : (b : Bool) → MoreFormals f (decls.with_formal
-        (if_true b (λ u. limited name f (with_param f name from mode shape (param_kind (is_structured f.scene shape) mode)))
-        (λ u. with_faults f (broken_at name.node (redeclared f.scene name)))) (Some (record { mode = mode; shape = shape })))
+        (if_true b (λ u. within_limit name f (with_param f name from mode shape (param_kind (is_structured f.scene shape) mode)))
+        (λ u. with_faults f (broken_at name.node (redeclaration_rules f.scene name)))) (Some (record { mode = mode; shape = shape })))
     by true = limited_case (λ x. MoreFormals f (decls.with_formal x (Some (record { mode = mode; shape = shape })))) name f
         (with_param f name from mode shape (param_kind (is_structured f.scene shape) mode))
         (λ le. record { more = Some (record { mode = mode; shape = shape }) ∷ []; is = refl })
@@ -436,15 +436,17 @@ param_made t f from mode shape name table lt same h = by (is_first f.scene name)
         (formals_more t r.front f.params formal (made_param f.scene.shapes mode shape f.slots) (h e r.front r.all) one)
 
     by : (b : Bool) → is_first f.scene name ≡ b
-        → (if_true b (λ u. limited name f (with_param f name from mode shape (param_kind (is_structured f.scene shape) mode)))
-        (λ u. with_faults f (broken_at name.node (redeclared f.scene name)))).faults ≡ []
+        → (if_true b (λ u. within_limit name f (with_param f name from mode shape (param_kind (is_structured f.scene shape) mode)))
+        (λ u. with_faults f (broken_at name.node (redeclaration_rules f.scene name)))).faults ≡ []
         → (fs : List FormalOf)
-        → all_formals ((if_true b (λ u. limited name f (with_param f name from mode shape (param_kind (is_structured f.scene shape) mode)))
-        (λ u. with_faults f (broken_at name.node (redeclared f.scene name)))).formals ++ Some (record { mode = mode; shape = shape })
+        → all_formals ((if_true b (λ u. within_limit name f
+        (with_param f name from mode shape (param_kind (is_structured f.scene shape) mode)))
+        (λ u. with_faults f (broken_at name.node (redeclaration_rules f.scene name)))).formals
+        ++ Some (record { mode = mode; shape = shape })
         ∷ []) ≡ Some fs
         → FormalsKeep t fs (if_true b
-        (λ u. limited name f (with_param f name from mode shape (param_kind (is_structured f.scene shape) mode)))
-        (λ u. with_faults f (broken_at name.node (redeclared f.scene name)))).params
+        (λ u. within_limit name f (with_param f name from mode shape (param_kind (is_structured f.scene shape) mode)))
+        (λ u. with_faults f (broken_at name.node (redeclaration_rules f.scene name)))).params
     by true i e fs a =
         limited_quiet (λ x. all_formals (x.formals ++ Some formal ∷ []) ≡ Some fs → FormalsKeep t fs x.params) name f
         (with_param f name from mode shape (param_kind (is_structured f.scene shape) mode)) e
@@ -515,7 +517,7 @@ head_frame s r params b table h = formals_made s.shapes (first_frame s r params 
     by (x ∷ xs) e = absurd (cc)
 
 -- the parameters and the slots of a heading
-headed_params : (f : Frame) (o : Option tree.Name) → (headed f o).frame.params ≡ f.params
+headed_params : (f : Frame) (o : Option tree.Name) → (heading_at f o).frame.params ≡ f.params
 headed_params f None = refl
 headed_params f (Some name) = refl
 
@@ -523,8 +525,9 @@ pub head_params : (s : Scene) (r n : ℕ) (params : Option tree.Params) (result 
     → (read_heading s r n params result b).frame.params ≡ (read_formals (first_frame s r params b) (formals_of params)).params
 head_params s r n params result b = by (too_deep s) ∙ headed_params (read_formals (first_frame s r params b) (formals_of params)) result
   where
-    by : (d : List CheckFault) → (with_depth d n (headed (read_formals (first_frame s r params b) (formals_of params)) result)).frame.params
-        ≡ (headed (read_formals (first_frame s r params b) (formals_of params)) result).frame.params
+    by : (d : List CheckFault) → (with_depth d n
+        (heading_at (read_formals (first_frame s r params b) (formals_of params)) result)).frame.params
+        ≡ (heading_at (read_formals (first_frame s r params b) (formals_of params)) result).frame.params
     by [] = refl
     by (x ∷ xs) = refl
 
@@ -570,8 +573,8 @@ proper_made : (t : List PlainShape) (f : Frame) (h : Heading) → FormalsMade t 
     → FormalsKeep t h.formals f.params × (h.result ≡ None) × AllSome f.formals × Paired f
 proper_made t f h m e = by f.faults (all_formals f.formals) refl refl e
   where
-    by : (fs : List Broken) (o : Option (List FormalOf)) → f.faults ≡ fs → all_formals f.formals ≡ o
-        → unbroken fs (option_map (heading_with f None) o) ≡ Some h → FormalsKeep t h.formals f.params × (h.result ≡ None)
+    by : (fs : List BrokenRule) (o : Option (List FormalOf)) → f.faults ≡ fs → all_formals f.formals ≡ o
+        → if_unbroken fs (option_map (heading_with f None) o) ≡ Some h → FormalsKeep t h.formals f.params × (h.result ≡ None)
         × AllSome f.formals × Paired f
     by [] None p q e = absurd (cc)
     by [] (Some gs) p q e =
@@ -584,11 +587,11 @@ proper_made t f h m e = by f.faults (all_formals f.formals) refl refl e
     by (b ∷ bs) o p q e = absurd (cc)
 
 function_made : (t : List PlainShape) (f : Frame) (name : tree.Name) (h : Heading) → FormalsMade t f
-    → (headed f (Some name)).heading ≡ Some h
+    → (heading_at f (Some name)).heading ≡ Some h
     → FormalsKeep t h.formals f.params × ResultMade t (Some name) h.result × ResultPlain f.scene (Some name) × AllSome f.formals × Paired f
 function_made t f name h m e = by (read_type_name f.scene name).value refl e
   where
-    rules : Option ℕ → List Broken
+    rules : Option ℕ → List BrokenRule
     rules o = f.faults ++ ((read_type_name f.scene name).faults ++ broken_at name.node (result_rules f.scene o))
 
     simple : (v : ℕ) → rules (Some v) ≡ [] → structured_in f.scene.shapes v ≡ false
@@ -597,9 +600,9 @@ function_made t f name h m e = by (read_type_name f.scene name).value refl e
         quiet name.node (read_type_name f.scene name).faults (result_rules f.scene (Some v)) (nil_right f.faults _ p) in
         no_fault_alone (structured_result f.scene v) fault.TypeMismatch own
 
-    made : (v : ℕ) (fs : List Broken) (o : Option (List FormalOf)) → rules (Some v) ≡ fs → all_formals f.formals ≡ o
+    made : (v : ℕ) (fs : List BrokenRule) (o : Option (List FormalOf)) → rules (Some v) ≡ fs → all_formals f.formals ≡ o
         → (read_type_name f.scene name).value ≡ Some v
-        → unbroken fs (option_map (heading_with
+        → if_unbroken fs (option_map (heading_with
         (with_faults f ((read_type_name f.scene name).faults ++ broken_at name.node (result_rules f.scene (Some v)))) (Some v)) o)
         ≡ Some h
         → FormalsKeep t h.formals f.params × ResultMade t (Some name) h.result × ResultPlain f.scene (Some name) × AllSome f.formals
@@ -636,12 +639,13 @@ head_made s r n params result b h table each e = go (by result (deep (too_deep s
     m : FormalsMade s.shapes (read_formals (first_frame s r params b) (formals_of params))
     m = head_frame s r params b table each
 
-    deep : (d : List CheckFault) → (with_depth d n (headed (read_formals (first_frame s r params b) (formals_of params)) result)).heading
-        ≡ Some h → (headed (read_formals (first_frame s r params b) (formals_of params)) result).heading ≡ Some h
+    deep : (d : List CheckFault) → (with_depth d n
+        (heading_at (read_formals (first_frame s r params b) (formals_of params)) result)).heading
+        ≡ Some h → (heading_at (read_formals (first_frame s r params b) (formals_of params)) result).heading ≡ Some h
     deep [] e = e
     deep (x ∷ xs) e = absurd (cc)
 
-    by : (o : Option tree.Name) → (headed (read_formals (first_frame s r params b) (formals_of params)) o).heading ≡ Some h
+    by : (o : Option tree.Name) → (heading_at (read_formals (first_frame s r params b) (formals_of params)) o).heading ≡ Some h
         → FormalsKeep s.shapes h.formals (read_formals (first_frame s r params b) (formals_of params)).params
         × ResultMade s.shapes o h.result × ResultPlain (read_formals (first_frame s r params b) (formals_of params)).scene o
         × AllSome (read_formals (first_frame s r params b) (formals_of params)).formals

@@ -12,13 +12,13 @@ use Rattle.alma_names.specs.declared.block.Entry.TheVariants as entry
 use Rattle.alma_names.specs.Blocks.{shape_id}
 use Rattle.alma_ir.proofs.Each.{each_of_append, each_of_front, each_of_back}
 use Rattle.alma_rules.specs.Numbered as tree
-use Rattle.alma_rules.specs.Judged.{Broken, broken_at, unless, unbroken, when}
+use Rattle.alma_rules.specs.Judgement.{BrokenRule, broken_at, unless, if_unbroken, when}
 use Rattle.alma_rules.specs.Scene.{Scene, Heading, FormalOf, nothing, Found, absent, bad, constant, named, variable, routine, found}
 use Rattle.alma_rules.specs.Scene.{is_first, is_structured}
-use Rattle.alma_rules.specs.Types.{declared, redeclared, type_name_rules, shape_in, read_type_name, all_names}
-use Rattle.alma_rules.specs.Decls.{Frame, with_faults, limited, with_block, param_access, param_kind, with_param, param_in, params_in}
+use Rattle.alma_rules.specs.Types.{declare_name, redeclaration_rules, type_name_rules, shape_in, read_type_name, all_names}
+use Rattle.alma_rules.specs.Decls.{Frame, with_faults, within_limit, with_block, param_access, param_kind, with_param, param_in, params_in}
 use Rattle.alma_rules.specs.Decls.{formal_in, read_formals, formals_of, formal_names, result_rules, too_deep, all_formals, heading_with}
-use Rattle.alma_rules.specs.Decls.{function_heading, headed, with_depth, new_frame, read_heading}
+use Rattle.alma_rules.specs.Decls.{function_heading, heading_at, with_depth, new_frame, read_heading}
 use Rattle.alma_rules.proofs.Sound.{IsThere, nil_left, nil_right}
 use Rattle.alma_rules.proofs.Limited.{limited_case, limited_faults, limited_scene}
 use Rattle.alma_resolved.specs.Stand.{formal_types, result_types}
@@ -50,7 +50,7 @@ later_there lo s t h name lt g = subst IsThere (type_value s name ∙ (later_typ
 
 -- ---- parameters
 
-declared_not : (s : Scene) (name : tree.Name) (from : ℕ) (e : Entry) → is_first s name ≡ false → s ≡ declared s name from e
+declared_not : (s : Scene) (name : tree.Name) (from : ℕ) (e : Entry) → is_first s name ≡ false → s ≡ declare_name s name from e
 declared_not s name from e h = by (is_first s name) h
   where
     by : (c : Bool) → c ≡ false → s ≡ (if c then record s {
@@ -62,14 +62,14 @@ declared_not s name from e h = by (is_first s name) h
 
 -- the scene behind a parameter
 param_scene : (f : Frame) (from : ℕ) (mode : Option Mode) (shape : ℕ) (name : tree.Name)
-    → (param_in f from mode (Some shape) name).scene ≡ declared f.scene name from
+    → (param_in f from mode (Some shape) name).scene ≡ declare_name f.scene name from
     (entry.Variable (shape_id shape) (param_access mode f.slots))
 param_scene f from mode shape name = by (is_first f.scene name) refl
   where
     by : (c : Bool) → is_first f.scene name ≡ c
-        → (if_true c (λ u. limited name f (with_param f name from mode shape (param_kind (is_structured f.scene shape) mode)))
-        (λ u. with_faults f (broken_at name.node (redeclared f.scene name)))).scene
-        ≡ declared f.scene name from (entry.Variable (shape_id shape) (param_access mode f.slots))
+        → (if_true c (λ u. within_limit name f (with_param f name from mode shape (param_kind (is_structured f.scene shape) mode)))
+        (λ u. with_faults f (broken_at name.node (redeclaration_rules f.scene name)))).scene
+        ≡ declare_name f.scene name from (entry.Variable (shape_id shape) (param_access mode f.slots))
     by true e = limited_scene name f (with_param f name from mode shape (param_kind (is_structured f.scene shape) mode))
     by false e = declared_not f.scene name from (entry.Variable (shape_id shape) (param_access mode f.slots)) e
 
@@ -94,7 +94,7 @@ params_later lo f g from mode (Some a) (Some b) [] t u h = h
 params_later lo f g from mode (Some a) (Some b) (x ∷ xs) t u h =
     params_later lo (param_in f from mode (Some a) x) (param_in g from mode (Some b) x) from mode (Some a) (Some b) xs tt tt
     (subst (λ s. Later lo s (param_in g from mode (Some b) x).scene) (sym (param_scene f from mode a x))
-    (subst (λ s. Later lo (declared f.scene x from (entry.Variable (shape_id a) (param_access mode f.slots))) s)
+    (subst (λ s. Later lo (declare_name f.scene x from (entry.Variable (shape_id a) (param_access mode f.slots))) s)
     (sym (param_scene g from mode b x))
     (later_declared lo f.scene g.scene x from (entry.Variable (shape_id a) (param_access mode f.slots))
     (entry.Variable (shape_id b) (param_access mode g.slots)) refl h)))
@@ -104,8 +104,9 @@ param_quiet : (f : Frame) (from : ℕ) (mode : Option Mode) (o : Option ℕ) (na
 param_quiet f from mode None name e = nil_left f.faults _ e
 param_quiet f from mode (Some shape) name e = by (is_first f.scene name) e
   where
-    by : (c : Bool) → (if_true c (λ u. limited name f (with_param f name from mode shape (param_kind (is_structured f.scene shape) mode)))
-        (λ u. with_faults f (broken_at name.node (redeclared f.scene name)))).faults ≡ [] → f.faults ≡ []
+    by : (c : Bool) → (if_true c
+        (λ u. within_limit name f (with_param f name from mode shape (param_kind (is_structured f.scene shape) mode)))
+        (λ u. with_faults f (broken_at name.node (redeclaration_rules f.scene name)))).faults ≡ [] → f.faults ≡ []
     by true e = limited_faults name f (with_param f name from mode shape (param_kind (is_structured f.scene shape) mode)) e refl
     by false e = nil_left f.faults _ e
 
@@ -122,8 +123,9 @@ param_formals : (f : Frame) (from : ℕ) (mode : Option Mode) (shape : ℕ) (nam
 param_formals f from mode shape name h = by (is_first f.scene name)
   where
     by : (c : Bool) → AllThere
-        ((if_true c (λ u. limited name f (with_param f name from mode shape (param_kind (is_structured f.scene shape) mode)))
-        (λ u. with_faults f (broken_at name.node (redeclared f.scene name)))).formals ++ Some (record { mode = mode; shape = shape }) ∷ [])
+        ((if_true c (λ u. within_limit name f (with_param f name from mode shape (param_kind (is_structured f.scene shape) mode)))
+        (λ u. with_faults f (broken_at name.node (redeclaration_rules f.scene name)))).formals
+        ++ Some (record { mode = mode; shape = shape }) ∷ [])
     by true =
         let more = each_of_append (λ x. IsThere x) f.formals (Some (record { mode = mode; shape = shape }) ∷ []) h (tt, tt) in
         limited_case (λ x. AllThere (x.formals ++ Some (record { mode = mode; shape = shape }) ∷ [])) name f
@@ -236,15 +238,15 @@ there_all (Some x ∷ xs) h = by (all_formals xs) (there_all xs h.1)
     by None t = absurd t
     by (Some y) t = tt
 
-made_there : (fs : List Broken) (h : List FormalOf → Heading) (o : Option (List FormalOf)) → fs ≡ [] → IsThere o
-    → HeadingThere (unbroken fs (option_map h o))
+made_there : (fs : List BrokenRule) (h : List FormalOf → Heading) (o : Option (List FormalOf)) → fs ≡ [] → IsThere o
+    → HeadingThere (if_unbroken fs (option_map h o))
 made_there [] h None e t = absurd t
 made_there [] h (Some x) e t = tt
 made_there (b ∷ bs) h o e t = absurd (cc)
 
 -- with a result, or without
-headed_sound : (f : Frame) (o : Option tree.Name) → (headed f o).frame.faults ≡ [] → AllThere f.formals → Each NotBad f.scene
-    → HeadingThere (headed f o).heading × ResultThere f.scene o
+headed_sound : (f : Frame) (o : Option tree.Name) → (heading_at f o).frame.faults ≡ [] → AllThere f.formals → Each NotBad f.scene
+    → HeadingThere (heading_at f o).heading × ResultThere f.scene o
 headed_sound f None e a h = (made_there f.faults (heading_with f None) (all_formals f.formals) e (there_all f.formals a), tt)
 headed_sound f (Some name) e a h =
     let q : (read_type_name f.scene name).faults ≡ [] = nil_left _ _ (nil_right f.faults _ e) in
@@ -261,7 +263,7 @@ headed_sound f (Some name) e a h =
         ++ broken_at name.node (result_rules f.scene (read_type_name f.scene name).value))) (Some v)) (all_formals f.formals) e
         (there_all f.formals a)
 
-headed_quiet : (f : Frame) (o : Option tree.Name) → (headed f o).frame.faults ≡ [] → f.faults ≡ []
+headed_quiet : (f : Frame) (o : Option tree.Name) → (heading_at f o).frame.faults ≡ [] → f.faults ≡ []
 headed_quiet f None e = e
 headed_quiet f (Some name) e = nil_left f.faults _ e
 
@@ -274,8 +276,9 @@ pub head_sound : (s : Scene) (r n : ℕ) (params : Option tree.Params) (result :
     → HeadSound s r n params result b
 head_sound s r n params result b h e = by (too_deep s) refl e
   where
-    made : too_deep s ≡ [] → (headed (read_formals (first_frame s r params b) (formals_of params)) result).frame.faults ≡ []
-        → HeadingThere (headed (read_formals (first_frame s r params b) (formals_of params)) result).heading × HeadThere s r params result b
+    made : too_deep s ≡ [] → (heading_at (read_formals (first_frame s r params b) (formals_of params)) result).frame.faults ≡ []
+        → HeadingThere (heading_at (read_formals (first_frame s r params b) (formals_of params)) result).heading
+        × HeadThere s r params result b
     made i e =
         let q = headed_quiet (read_formals (first_frame s r params b) (formals_of params)) result e in
         let t = formals_there (first_frame s r params b) (formals_of params) q h in
@@ -285,15 +288,15 @@ head_sound s r n params result b h e = by (too_deep s) refl e
         (g.0, record { formals = t; result_there = g.1; shallow = i })
 
     by : (d : List CheckFault) → too_deep s ≡ d
-        → (with_depth d n (headed (read_formals (first_frame s r params b) (formals_of params)) result)).frame.faults ≡ []
-        → HeadingThere (with_depth d n (headed (read_formals (first_frame s r params b) (formals_of params)) result)).heading
+        → (with_depth d n (heading_at (read_formals (first_frame s r params b) (formals_of params)) result)).frame.faults ≡ []
+        → HeadingThere (with_depth d n (heading_at (read_formals (first_frame s r params b) (formals_of params)) result)).heading
         × HeadThere s r params result b
     by [] i e = made i e
     by (x ∷ xs) i e = absurd (let q : broken_at n (x ∷ xs) ≡ [] =
-        nil_right (headed (read_formals (first_frame s r params b) (formals_of params)) result).frame.faults _ e in cc)
+        nil_right (heading_at (read_formals (first_frame s r params b) (formals_of params)) result).frame.faults _ e in cc)
 
 -- the scene of a heading, with its parameters
-headed_scene : (P : ℕ → Entry → Type 0) (f : Frame) (o : Option tree.Name) → Each P f.scene → Each P (headed f o).frame.scene
+headed_scene : (P : ℕ → Entry → Type 0) (f : Frame) (o : Option tree.Name) → Each P f.scene → Each P (heading_at f o).frame.scene
 headed_scene P f None h = h
 headed_scene P f (Some name) h = h
 
@@ -304,8 +307,8 @@ head_each P plain s r n params result b t h =
     by (too_deep s) (headed_scene P (read_formals (first_frame s r params b) (formals_of params)) result
     (formals_each P plain (first_frame s r params b) (formals_of params) t.formals h))
   where
-    by : (d : List CheckFault) → Each P (headed (read_formals (first_frame s r params b) (formals_of params)) result).frame.scene
-        → Each P (with_depth d n (headed (read_formals (first_frame s r params b) (formals_of params)) result)).frame.scene
+    by : (d : List CheckFault) → Each P (heading_at (read_formals (first_frame s r params b) (formals_of params)) result).frame.scene
+        → Each P (with_depth d n (heading_at (read_formals (first_frame s r params b) (formals_of params)) result)).frame.scene
     by [] h = h
     by (x ∷ xs) h = h
 
@@ -323,12 +326,12 @@ head_headings s r n params result b t = by (too_deep s)
     ∙ (result_same result ∙ ap (λ x. x.headings) (formals_grown (first_frame s r params b) (formals_of params) t.formals).is)
   where
     by : (d : List CheckFault) → (with_depth d n
-        (headed (read_formals (first_frame s r params b) (formals_of params)) result)).frame.scene.headings
-        ≡ (headed (read_formals (first_frame s r params b) (formals_of params)) result).frame.scene.headings
+        (heading_at (read_formals (first_frame s r params b) (formals_of params)) result)).frame.scene.headings
+        ≡ (heading_at (read_formals (first_frame s r params b) (formals_of params)) result).frame.scene.headings
     by [] = refl
     by (x ∷ xs) = refl
 
-    result_same : (o : Option tree.Name) → (headed (read_formals (first_frame s r params b) (formals_of params)) o).frame.scene.headings
+    result_same : (o : Option tree.Name) → (heading_at (read_formals (first_frame s r params b) (formals_of params)) o).frame.scene.headings
         ≡ (read_formals (first_frame s r params b) (formals_of params)).scene.headings
     result_same None = refl
     result_same (Some name) = refl
@@ -340,12 +343,12 @@ head_routine s r n params result b t = by (too_deep s)
     ∙ (result_same result ∙ ap (λ x. x.routine) (formals_grown (first_frame s r params b) (formals_of params) t.formals).is)
   where
     by : (d : List CheckFault) → (with_depth d n
-        (headed (read_formals (first_frame s r params b) (formals_of params)) result)).frame.scene.routine
-        ≡ (headed (read_formals (first_frame s r params b) (formals_of params)) result).frame.scene.routine
+        (heading_at (read_formals (first_frame s r params b) (formals_of params)) result)).frame.scene.routine
+        ≡ (heading_at (read_formals (first_frame s r params b) (formals_of params)) result).frame.scene.routine
     by [] = refl
     by (x ∷ xs) = refl
 
-    result_same : (o : Option tree.Name) → (headed (read_formals (first_frame s r params b) (formals_of params)) o).frame.scene.routine
+    result_same : (o : Option tree.Name) → (heading_at (read_formals (first_frame s r params b) (formals_of params)) o).frame.scene.routine
         ≡ (read_formals (first_frame s r params b) (formals_of params)).scene.routine
     result_same None = refl
     result_same (Some name) = refl
@@ -358,12 +361,13 @@ head_below s r n params result b t = by (too_deep s)
     ∙ (result_same result ∙ ap (λ x. x.blocks.below) (formals_grown (first_frame s r params b) (formals_of params) t.formals).is)
   where
     by : (d : List CheckFault) → (with_depth d n
-        (headed (read_formals (first_frame s r params b) (formals_of params)) result)).frame.scene.blocks.below
-        ≡ (headed (read_formals (first_frame s r params b) (formals_of params)) result).frame.scene.blocks.below
+        (heading_at (read_formals (first_frame s r params b) (formals_of params)) result)).frame.scene.blocks.below
+        ≡ (heading_at (read_formals (first_frame s r params b) (formals_of params)) result).frame.scene.blocks.below
     by [] = refl
     by (x ∷ xs) = refl
 
-    result_same : (o : Option tree.Name) → (headed (read_formals (first_frame s r params b) (formals_of params)) o).frame.scene.blocks.below
+    result_same : (o : Option tree.Name) → (heading_at (read_formals (first_frame s r params b) (formals_of params))
+        o).frame.scene.blocks.below
         ≡ (read_formals (first_frame s r params b) (formals_of params)).scene.blocks.below
     result_same None = refl
     result_same (Some name) = refl

@@ -10,7 +10,7 @@ use Rattle.alma_names.specs.Blocks.{DeclaredName, is_visible, visible_place, see
 use Rattle.alma_names.specs.Scopes.{Blocks, entries_of, or_else, visible_from, visible, entry_below, entry_at, level_of, with_declared}
 use Rattle.alma_rules.specs.Numbered as tree
 use Rattle.alma_rules.specs.Scene.{Scene, found, found_at, found_as, text_at, text_of, is_first, first_token, Returns}
-use Rattle.alma_rules.specs.Types.{shape_in, declared}
+use Rattle.alma_rules.specs.Types.{shape_in, declare_name}
 use Rattle.alma_rules.specs.Decls.{with_text, texts_behind, with_texts, with_routine, with_routines, with_block, decl_routines, decls_names}
 use Rattle.alma_resolved.proofs.Lookups.{seen_in, from_in}
 
@@ -333,7 +333,7 @@ same_first s t name h k =
 
 -- a name declared in both
 pub later_declared : (lo : ℕ) (s t : Scene) (name : tree.Name) (from : ℕ) (a b : Entry) → type_of (Some a) ≡ type_of (Some b) → Later lo s t
-    → Later lo (declared s name from a) (declared t name from b)
+    → Later lo (declare_name s name from a) (declare_name t name from b)
 later_declared lo s t name from a b k h = by (is_first s name) (is_first t name) (same_first s t name h.tokens h.declares)
   where
     by : (c d : Bool) → c ≡ d → Later lo (if c then record s

@@ -10,12 +10,12 @@ use Rattle.alma_ir.specs.Phrases.{stmts_phrases, expr_phrases}
 use Rattle.alma_ir.specs.Checked.{EachRoutine, HasLines}
 use Rattle.alma_ir.proofs.Each.{each_of_append}
 use Rattle.alma_rules.specs.Numbered as tree
-use Rattle.alma_rules.specs.Judged.{Broken, unbroken}
+use Rattle.alma_rules.specs.Judgement.{BrokenRule, if_unbroken}
 use Rattle.alma_rules.specs.Scene.{Scene, line_of}
 use Rattle.alma_rules.specs.Places.{width, stmt_tokens, mark_stmts}
 use Rattle.alma_rules.specs.Decls.{Frame, decl_routines, read_heading, read_decls}
 use Rattle.alma_rules.specs.Modules.{judge_body, frame_of, with_shapes, judge_block, judge_bodies, judge_decl, module_frame, judge_module}
-use Rattle.alma_rules.specs.Modules.{program_of, broken, resolved, cons_routine, joined_routines, body_lines}
+use Rattle.alma_rules.specs.Modules.{program_of, broken_rules, resolution, cons_routine, joined_routines, body_lines}
 use Rattle.alma_resolved.specs.Frames.{KeepsFrames}
 use Rattle.alma_resolved.proofs.Fits.{when_is}
 use Rattle.alma_resolved.proofs.FramesKept.{parts}
@@ -82,13 +82,13 @@ each_in P [] i h lt = absurd (omega (arith, lt))
 each_in P (x ∷ xs) zero h lt = h.0
 each_in P (x ∷ xs) (suc i) h lt = each_in P xs i h.1 (omega (arith, lt))
 
-pub program_counts : (source : List ℕ) (tokens : List Lexeme) (m : tree.Module) (p : Program) → resolved source tokens m ≡ Some p
+pub program_counts : (source : List ℕ) (tokens : List Lexeme) (m : tree.Module) (p : Program) → resolution source tokens m ≡ Some p
     → AllByRecursion RoutineCounts p.routines
 program_counts source tokens m p e =
-    by (broken source tokens m) (judge_module source tokens m).value e
+    by (broken_rules source tokens m) (judge_module source tokens m).value e
     (λ rs i. block_counts (module_frame source tokens m) 1 m.name 0 (m.end_name.token - 1) m.block rs i)
   where
-    by : (fs : List Broken) (o : Option (List Routine)) → unbroken fs (option_map (program_of source tokens m) o) ≡ Some p
+    by : (fs : List BrokenRule) (o : Option (List Routine)) → if_unbroken fs (option_map (program_of source tokens m) o) ≡ Some p
         → ((rs : List Routine) → o ≡ Some rs → AllByRecursion RoutineCounts rs) → AllByRecursion RoutineCounts p.routines
     by [] None e f = absurd (cc)
     by [] (Some rs) e f = let same : program_of source tokens m rs ≡ p = cc in
@@ -97,7 +97,7 @@ program_counts source tokens m p e =
 
 -- as many lines as statements
 pub program_lines : (source : List ℕ) (tokens : List Lexeme) (m : tree.Module) (p : Program) → KeepsFrames p
-    → resolved source tokens m ≡ Some p → EachRoutine p (λ r routine. HasLines routine)
+    → resolution source tokens m ≡ Some p → EachRoutine p (λ r routine. HasLines routine)
 program_lines source tokens m p all e r lt = record {
   line = (all.routines r lt).line;
   count = sym (each_in RoutineCounts p.routines r (program_counts source tokens m p e) lt).count;

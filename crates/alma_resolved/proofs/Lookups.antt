@@ -15,7 +15,7 @@ use Rattle.alma_ir.proofs.Each.{each_of_append, each_follows}
 use Rattle.alma_rules.specs.Numbered as tree
 use Rattle.alma_rules.specs.Scene.{Scene, Heading, Found, absent, routine, found, found_at, found_as, heading_of, in_constant, level}
 use Rattle.alma_rules.specs.Scene.{text_at, is_first}
-use Rattle.alma_rules.specs.Types.{declared}
+use Rattle.alma_rules.specs.Types.{declare_name}
 use Rattle.alma_rules.proofs.Sound.{IsKnown, NoBad}
 
 -- a fact of each entry, with the number of its block
@@ -254,7 +254,7 @@ plain_not_bad n entry.Bad h = h
 
 -- a name is declared, or it is not the first of its name
 pub grown_declared : {lo : ℕ} (s : Scene) (name : tree.Name) (from : ℕ) (e : Entry) → IsPlain e → lo ≤ from
-    → Grown lo s (declared s name from e)
+    → Grown lo s (declare_name s name from e)
 grown_declared {lo} s name from e h le = by (is_first s name)
   where
     by : (c : Bool) → Grown lo s (if c then record s

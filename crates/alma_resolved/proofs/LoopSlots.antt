@@ -5,12 +5,12 @@ use Rattle.alma_base.specs.Choice.{if_true}
 use Rattle.alma_tree.specs.declared.leaf.Sign.{Sign}
 use Rattle.alma_ir.specs.Tree as ir
 use Rattle.alma_rules.specs.Numbered as tree
-use Rattle.alma_rules.specs.Judged.{Judged, at_node, with, fine}
+use Rattle.alma_rules.specs.Judgement.{Judgement, at_node, with, fine}
 use Rattle.alma_rules.specs.Scene.{Scene, FormalOf, in_constant, inside_of, literal_at}
-use Rattle.alma_rules.specs.Parts.{Typing, Denoted, Span, Operands, write_stmts, one_stmt}
+use Rattle.alma_rules.specs.Parts.{Typing, Denotation, Span, Operands, write_stmts, one_stmt}
 use Rattle.alma_rules.specs.ExprRules.{Use, as_variable, as_value, as_procedure, Operand}
 use Rattle.alma_rules.specs.StmtRules.{write_rules}
-use Rattle.alma_rules.specs.Nodes.{judge_name, indexed, first_add, first_mul, operand_behind, sum_at, product_at, in_parens, as_sequence}
+use Rattle.alma_rules.specs.Nodes.{judge_name, index_at, first_add, first_mul, operand_behind, sum_at, product_at, in_parens, as_sequence}
 use Rattle.alma_rules.specs.Nodes.{or_sequence, only_of, item_of, item_literal, text_rules}
 use Rattle.alma_rules.specs.Parts.{add_operator, mul_operator}
 use Rattle.alma_rules.specs.Walk.{judge_stmts, judge_stmt_tail, judge_stmt, judge_elsifs, judge_else, judge_by, judge_arm, judge_arm_tail}
@@ -47,35 +47,36 @@ takes_then {a} {b} {c} {v} {w} p q = record { le = omega (arith, p.le, q.le) }
 takes_alone : {a b v : ℕ} → Takes a v b → Takes a (v + 0) b
 takes_alone {a} {b} {v} p = record { le = omega (arith, p.le) }
 
-sum_takes : (s : Scene) (k a w : ℕ) (sign : Option Sign) (rest : tree.TermTail) (j : Judged (Typing × Operands)) → Takes a w j.next
+sum_takes : (s : Scene) (k a w : ℕ) (sign : Option Sign) (rest : tree.TermTail) (j : Judgement (Typing × Operands)) → Takes a w j.next
     → Takes a w (sum_at s k sign rest j).next
 sum_takes s k a w None tree.no_term j h = h
 sum_takes s k a w None (tree.more_term o t rest) j h = h
 sum_takes s k a w (Some g) tree.no_term j h = h
 sum_takes s k a w (Some g) (tree.more_term o t rest) j h = h
 
-product_takes : (s : Scene) (o : Operand) (k a w : ℕ) (rest : tree.FactorTail) (j : Judged (Typing × Operands)) → Takes a w j.next
+product_takes : (s : Scene) (o : Operand) (k a w : ℕ) (rest : tree.FactorTail) (j : Judgement (Typing × Operands)) → Takes a w j.next
     → Takes a w (product_at s o k rest j).next
 product_takes s o k a w tree.no_factor j h = h
 product_takes s o k a w (tree.more_factor m f rest) j h = h
 
-abbrev OnlyTakes : (n w : ℕ) → Option (Judged Typing) → Type 0
+abbrev OnlyTakes : (n w : ℕ) → Option (Judgement Typing) → Type 0
 OnlyTakes n w None = Unit {0}
 OnlyTakes n w (Some j) = Takes n w j.next
 
-paren_takes : (s : Scene) (n k w : ℕ) (o : Option (Judged Typing)) (b : Judged ir.Stmts) → OnlyTakes n w o → Takes n w b.next
+paren_takes : (s : Scene) (n k w : ℕ) (o : Option (Judgement Typing)) (b : Judgement ir.Stmts) → OnlyTakes n w o → Takes n w b.next
     → Takes n w (or_sequence o (in_parens s k) (λ u. as_sequence s k b)).next
 paren_takes s n k w None b h g = g
 paren_takes s n k w (Some j) b h g = h
 
-only_takes : (n w : ℕ) (rest : tree.StmtTail) (o : Option (Judged Typing)) → OnlyTakes n w o
+only_takes : (n w : ℕ) (rest : tree.StmtTail) (o : Option (Judgement Typing)) → OnlyTakes n w o
     → OnlyTakes n (w + weigh_stmt_tail ones rest) (only_of rest o)
 unfolding weigh_stmts
 only_takes n w tree.no_stmt None h = tt
 only_takes n w tree.no_stmt (Some j) h = takes_alone h
 only_takes n w (tree.more_stmt x rest) o h = tt
 
-item_takes : (s : Scene) (n node w : ℕ) (o : Option (ℕ × ℕ)) (j : Judged Typing) → Takes n w j.next → Takes n w (item_of s n node o j).next
+item_takes : (s : Scene) (n node w : ℕ) (o : Option (ℕ × ℕ)) (j : Judgement Typing) → Takes n w j.next
+    → Takes n w (item_of s n node o j).next
 item_takes s n node w None j h = h
 item_takes s n node w (Some l) j h = by (nat_eq (length (literal_at s l.1)) 1)
   where
@@ -190,7 +191,7 @@ mutual
   expr_takes s n (tree.expr k left right) =
       compared_takes s n k (weigh_simple ones left) (judge_simple s n left) right (simple_takes s n left)
 
-  compared_takes : (s : Scene) (n k w : ℕ) (left : Judged Typing) (x : tree.Compared) → Takes n w left.next
+  compared_takes : (s : Scene) (n k w : ℕ) (left : Judgement Typing) (x : tree.Compared) → Takes n w left.next
       → Takes n (w + weigh_compared ones x) (judge_compared s k left x).next
   compared_takes s n k w left tree.no_relation h = takes_alone h
   compared_takes s n k w left (tree.compared r right) h = takes_then h (simple_takes s _ right)
@@ -249,21 +250,22 @@ mutual
   desig_takes : (s : Scene) (n : ℕ) (w : Use) (x : tree.Desig) → Takes n (weigh_desig ones x) (judge_desig s n w x).next
   desig_takes s n w (tree.desig k name more) = selectors_takes s (judge_name s n name) more
 
-  selectors_takes : (s : Scene) (d : Judged Denoted) (x : tree.SelectorTail)
+  selectors_takes : (s : Scene) (d : Judgement Denotation) (x : tree.SelectorTail)
       → Takes d.next (weigh_selectors ones x) (judge_selectors s d x).next
   selectors_takes s d tree.no_selector = takes_same d.next
   selectors_takes s d (tree.more_selector x rest) = takes_then (selector_takes s d x) (selectors_takes s (judge_selector s d x) rest)
 
-  selector_takes : (s : Scene) (d : Judged Denoted) (x : tree.Selector) → Takes d.next (weigh_selector ones x) (judge_selector s d x).next
+  selector_takes : (s : Scene) (d : Judgement Denotation) (x : tree.Selector)
+      → Takes d.next (weigh_selector ones x) (judge_selector s d x).next
   selector_takes s d (tree.field k name) = takes_same d.next
   selector_takes s d (tree.index k items) = indices_takes s d items
 
-  indices_takes : (s : Scene) (d : Judged Denoted) (x : tree.Exprs) → Takes d.next (weigh_exprs ones x) (judge_indices s d x).next
+  indices_takes : (s : Scene) (d : Judgement Denotation) (x : tree.Exprs) → Takes d.next (weigh_exprs ones x) (judge_indices s d x).next
   indices_takes s d (tree.exprs e rest) = takes_then (expr_takes s d.next e)
-      (index_tail_takes s (indexed s d (tree.expr_node e) (judge_expr s d.next e)) rest)
+      (index_tail_takes s (index_at s d (tree.expr_node e) (judge_expr s d.next e)) rest)
 
-  index_tail_takes : (s : Scene) (d : Judged Denoted) (x : tree.ExprTail)
+  index_tail_takes : (s : Scene) (d : Judgement Denotation) (x : tree.ExprTail)
       → Takes d.next (weigh_expr_tail ones x) (judge_index_tail s d x).next
   index_tail_takes s d tree.no_expr = takes_same d.next
   index_tail_takes s d (tree.more_expr e rest) =
-      takes_then (expr_takes s d.next e) (index_tail_takes s (indexed s d (tree.expr_node e) (judge_expr s d.next e)) rest)
+      takes_then (expr_takes s d.next e) (index_tail_takes s (index_at s d (tree.expr_node e) (judge_expr s d.next e)) rest)

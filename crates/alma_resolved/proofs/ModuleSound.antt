@@ -9,12 +9,12 @@ use Rattle.alma_names.specs.declared.block.Entry.TheVariants as entry
 use Rattle.alma_names.specs.Shapes.{PlainShape}
 use Rattle.alma_ir.specs.Tree as ir
 use Rattle.alma_rules.specs.Numbered as tree
-use Rattle.alma_rules.specs.Judged.{Broken, unbroken}
+use Rattle.alma_rules.specs.Judgement.{BrokenRule, if_unbroken}
 use Rattle.alma_rules.specs.Scene.{Scene, Heading, nothing}
 use Rattle.alma_rules.specs.Decls.{Frame, with_block, block_routines, decls_routines, decl_routines, formal_names, formals_of, read_heading}
 use Rattle.alma_rules.specs.Decls.{read_decls}
 use Rattle.alma_rules.specs.Modules.{judge_body, frame_of, with_shapes, judge_block, judge_bodies, judge_decl, first_scene, module_frame}
-use Rattle.alma_rules.specs.Modules.{judge_module, program_of, broken, resolved, cons_routine, joined_routines, body_lines}
+use Rattle.alma_rules.specs.Modules.{judge_module, program_of, broken_rules, resolution, cons_routine, joined_routines, body_lines}
 use Rattle.alma_rules.proofs.Sound.{IsThere, Sound, nil_left, nil_right, both_there, map_there}
 use Rattle.alma_rules.proofs.SoundWalk.{stmts_sound}
 use Rattle.alma_resolved.specs.Stand.{DeclsStand, DeclStands, BlockStands}
@@ -176,7 +176,7 @@ block_opened source tokens m (tree.block n decls body) =
     (first_fine (first_scene source tokens m).headings 1 decls source tokens m)
     (λ q i k. inr (subst (λ j. IsProc j decls q) one i))
 
-module_there : (source : List ℕ) (tokens : List Lexeme) (m : tree.Module) → BlockStands m.block → broken source tokens m ≡ []
+module_there : (source : List ℕ) (tokens : List Lexeme) (m : tree.Module) → BlockStands m.block → broken_rules source tokens m ≡ []
     → IsThere (judge_module source tokens m).value
 module_there source tokens m stand e =
     let none : Option Heading = None in
@@ -184,33 +184,33 @@ module_there source tokens m stand e =
     (block_headings (first_scene source tokens m) 0 nothing [] m.block) (nil_left _ _ e)
     (block_opened source tokens m m.block) stand (omega (arith, length-replicate (1 + block_routines m.block) none))
 
-program_there : (fs : List Broken) (f : List ir.Routine → ir.Program) (o : Option (List ir.Routine)) → fs ≡ [] → IsThere o
-    → (p : ir.Program) × (unbroken fs (option_map f o) ≡ Some p)
+program_there : (fs : List BrokenRule) (f : List ir.Routine → ir.Program) (o : Option (List ir.Routine)) → fs ≡ [] → IsThere o
+    → (p : ir.Program) × (if_unbroken fs (option_map f o) ≡ Some p)
 program_there [] f None e t = absurd t
 program_there [] f (Some x) e t = (f x, refl)
 program_there (b ∷ bs) f o e t = absurd (cc)
 
 -- where no rule is broken there is a resolved program
-pub program_resolved : (source : List ℕ) (tokens : List Lexeme) (m : tree.Module) → BlockStands m.block → broken source tokens m ≡ []
-    → (p : ir.Program) × (resolved source tokens m ≡ Some p)
+pub program_resolved : (source : List ℕ) (tokens : List Lexeme) (m : tree.Module) → BlockStands m.block → broken_rules source tokens m ≡ []
+    → (p : ir.Program) × (resolution source tokens m ≡ Some p)
 program_resolved source tokens m stand e =
-    program_there (broken source tokens m) (program_of source tokens m) (judge_module source tokens m).value e
+    program_there (broken_rules source tokens m) (program_of source tokens m) (judge_module source tokens m).value e
     (module_there source tokens m stand e)
 
 -- and where there is one, no rule is broken
-pub resolved_unbroken : (source : List ℕ) (tokens : List Lexeme) (m : tree.Module) (p : ir.Program) → resolved source tokens m ≡ Some p
-    → broken source tokens m ≡ []
-resolved_unbroken source tokens m p e = by (broken source tokens m)
+pub resolved_unbroken : (source : List ℕ) (tokens : List Lexeme) (m : tree.Module) (p : ir.Program) → resolution source tokens m ≡ Some p
+    → broken_rules source tokens m ≡ []
+resolved_unbroken source tokens m p e = by (broken_rules source tokens m)
     (option_map (program_of source tokens m) (judge_module source tokens m).value) e
   where
-    by : (fs : List Broken) (o : Option ir.Program) → unbroken fs o ≡ Some p → fs ≡ []
+    by : (fs : List BrokenRule) (o : Option ir.Program) → if_unbroken fs o ≡ Some p → fs ≡ []
     by [] o e = refl
     by (b ∷ bs) o e = absurd (cc)
 
 -- a tree has one resolved program
-pub one_program : (source : List ℕ) (tokens : List Lexeme) (m : tree.Module) (p q : ir.Program) → resolved source tokens m ≡ Some p
-    → resolved source tokens m ≡ Some q → p ≡ q
-one_program source tokens m p q e i = by (resolved source tokens m) e i
+pub one_program : (source : List ℕ) (tokens : List Lexeme) (m : tree.Module) (p q : ir.Program) → resolution source tokens m ≡ Some p
+    → resolution source tokens m ≡ Some q → p ≡ q
+one_program source tokens m p q e i = by (resolution source tokens m) e i
   where
     by : (o : Option ir.Program) → o ≡ Some p → o ≡ Some q → p ≡ q
     by None e i = absurd (cc)

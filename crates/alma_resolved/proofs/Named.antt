@@ -21,20 +21,24 @@ use Rattle.alma_ir.specs.Tree.{Program, Routine, Global}
 use Rattle.alma_ir.specs.Checked.{IsName, NamesSpelled}
 use Rattle.alma_ir.proofs.Each.{each_of_append, each_of_front, each_of_back}
 use Rattle.alma_rules.specs.Numbered as tree
-use Rattle.alma_rules.specs.Judged.{Broken, broken_at, unbroken}
+use Rattle.alma_rules.specs.Judgement.{BrokenRule, broken_at, if_unbroken}
 use Rattle.alma_rules.specs.Scene.{Scene, nothing, is_first, is_structured, text_of, text_at, base, cells}
 use Rattle.alma_rules.specs.Places.{width, mark_expr, mark_type}
-use Rattle.alma_rules.specs.Types.{Reading, changed, reading_both, read_constant, declared, redeclared, redeclared_all, read_type_name}
-use Rattle.alma_rules.specs.Types.{Formed, formed, too_large, add_shape, row_on, rows_on, rows_of, subrange_from, subrange_of, all_first}
+use Rattle.alma_rules.specs.Types.{Reading, with_change, reading_both, read_constant, declare_name, redeclaration_rules, redeclared_all}
+use Rattle.alma_rules.specs.Types.{read_type_name}
+use Rattle.alma_rules.specs.Types.{ShapeOrLimit, formed, too_large, add_shape, row_on, rows_on, rows_of, subrange_from, subrange_of}
+use Rattle.alma_rules.specs.Types.{all_first}
 use Rattle.alma_rules.specs.Types.{last_token, value_entry, declare_values, listed_in, read_listed, all_names, joined_fields, record_of}
 use Rattle.alma_rules.specs.Types.{field_names, reading_with, read_type, read_arrays, read_dimension_tail, read_dimensions, read_plains}
 use Rattle.alma_rules.specs.Types.{read_plain, read_fields, read_field_tail}
-use Rattle.alma_rules.specs.Decls.{Frame, with_faults, with_scene, limited, constant_entry, constant_in, read_consts, type_entry, type_in}
+use Rattle.alma_rules.specs.Decls.{Frame, with_faults, with_scene, within_limit, constant_entry, constant_in, read_consts, type_entry}
+use Rattle.alma_rules.specs.Decls.{type_in}
 use Rattle.alma_rules.specs.Decls.{read_types, variable_access, with_variable, variable_in, variables_in, variables_of, read_vars}
-use Rattle.alma_rules.specs.Decls.{param_kind, with_param, param_in, params_in, formal_in, read_formals, formals_of, too_deep, headed}
+use Rattle.alma_rules.specs.Decls.{param_kind, with_param, param_in, params_in, formal_in, read_formals, formals_of, too_deep, heading_at}
 use Rattle.alma_rules.specs.Decls.{with_depth, read_heading, read_decl, read_decls, decl_routines}
 use Rattle.alma_rules.specs.Modules.{judge_body, frame_of, with_shapes, judge_block, judge_bodies, judge_decl, first_scene, module_frame}
-use Rattle.alma_rules.specs.Modules.{judge_module, block_variables, program_of, broken, resolved, cons_routine, joined_routines, body_lines}
+use Rattle.alma_rules.specs.Modules.{judge_module, block_variables, program_of, broken_rules, resolution, cons_routine, joined_routines}
+use Rattle.alma_rules.specs.Modules.{body_lines}
 use Rattle.alma_rules.proofs.Limited.{limited_case}
 use Rattle.alma_resolved.proofs.FramesKept.{parts}
 use Rattle.alma_resolved.proofs.HeadsSound.{first_frame}
@@ -263,7 +267,7 @@ same_self s = record { is = refl }
 same_twice : {s t u : Scene} → Same s t → Same t u → Same s u
 same_twice a b = record { is = b.is ∙ a.is }
 
-pub declared_same : (s : Scene) (x : tree.Name) (from : ℕ) (e : Entry) → Same s (declared s x from e)
+pub declared_same : (s : Scene) (x : tree.Name) (from : ℕ) (e : Entry) → Same s (declare_name s x from e)
 declared_same s x from e = by (is_first s x)
   where
     by : (b : Bool) → Same s (if b then record s
@@ -274,16 +278,16 @@ declared_same s x from e = by (is_first s x)
 add_same : (s : Scene) (x : PlainShape) → Same s (add_shape s x).0
 add_same s x = by (is_too_large s.shapes x)
   where
-    by : (b : Bool) → Same s (if_true {A = Scene × Formed} b (λ u. (s, too_large))
+    by : (b : Bool) → Same s (if_true {A = Scene × ShapeOrLimit} b (λ u. (s, too_large))
         (λ u. (record s { shapes = s.shapes ++ placed_shape (cell_counts s.shapes) x ∷ [] }, formed (length s.shapes)))).0
     by true = record { is = refl }
     by false = record { is = refl }
 
-row_same : (i : ℕ) (p : Scene × Formed) → Same p.0 (row_on i p).0
+row_same : (i : ℕ) (p : Scene × ShapeOrLimit) → Same p.0 (row_on i p).0
 row_same i (s, formed e) = add_same s (row i e)
 row_same i (s, too_large) = same_self s
 
-rows_same : (s : Scene) (is : List ℕ) (f : Formed) → Same s (rows_on s is f).0
+rows_same : (s : Scene) (is : List ℕ) (f : ShapeOrLimit) → Same s (rows_on s is f).0
 rows_same s [] f = same_self s
 rows_same s (i ∷ is) f = same_twice (rows_same s is f) (row_same i (rows_on s is f))
 
@@ -293,19 +297,19 @@ subrange_same s b (Some low) None = same_self s
 subrange_same s b None high = same_self s
 
 change_same : {A B : Type 0} (f : Scene → A → Scene × B) (s : Scene) (r : Reading A) → Same s r.scene
-    → ((x : A) → Same r.scene (f r.scene x).0) → Same s (changed r.scene r.faults (option_map (f r.scene) r.value)).scene
+    → ((x : A) → Same r.scene (f r.scene x).0) → Same s (with_change r.scene r.faults (option_map (f r.scene) r.value)).scene
 change_same {A} {B} f s r h g = by r.value
   where
-    by : (o : Option A) → Same s (changed r.scene r.faults (option_map (f r.scene) o)).scene
+    by : (o : Option A) → Same s (with_change r.scene r.faults (option_map (f r.scene) o)).scene
     by None = h
     by (Some x) = record { is = (g x).is ∙ h.is }
 
 values_same : (s : Scene) (from : ℕ) (o : Option ℕ) (i : ℕ) (xs : List tree.Name) → Same s (declare_values s from o i xs)
 values_same s from o i [] = same_self s
 values_same s from o i (x ∷ xs) = same_twice (declared_same s x from (value_entry o i))
-    (values_same (declared s x from (value_entry o i)) from o (i + 1) xs)
+    (values_same (declare_name s x from (value_entry o i)) from o (i + 1) xs)
 
-listed_same : (faults : List Broken) (from : ℕ) (names : List tree.Name) (p : Scene × Formed)
+listed_same : (faults : List BrokenRule) (from : ℕ) (names : List tree.Name) (p : Scene × ShapeOrLimit)
     → Same p.0 (listed_in faults from names p).scene
 listed_same faults from names (s, formed shape) = values_same s from (Some shape) 0 names
 listed_same faults from names (s, too_large) = values_same s from None 0 names
@@ -400,9 +404,9 @@ variable_good tokens f from (Some shape) x k h =
     own : IsName (text_at f.scene x.token)
     own = subst (λ ts. IsName (text_of (slice_get ts x.token))) (sym h.tokens_are) k
 
-    by : (b : Bool) → (declared f.scene x from (entry.Variable (shape_id shape) (variable_access f.scene f.slots))).tokens ≡ tokens
-        → NamesGood tokens (if_true b (λ u. limited x f (with_variable f x from shape))
-        (λ u. with_faults f (broken_at x.node (redeclared f.scene x))))
+    by : (b : Bool) → (declare_name f.scene x from (entry.Variable (shape_id shape) (variable_access f.scene f.slots))).tokens ≡ tokens
+        → NamesGood tokens (if_true b (λ u. within_limit x f (with_variable f x from shape))
+        (λ u. with_faults f (broken_at x.node (redeclaration_rules f.scene x))))
     by true e = limited_case (λ g. NamesGood tokens g) x f (with_variable f x from shape) (λ le. record {
       tokens_are = e;
       names = each_of_append (λ (g : Global). IsName g.name) f.variables
@@ -464,8 +468,8 @@ param_variables : (f : Frame) (from : ℕ) (mode : Option Mode) (o : Option ℕ)
 param_variables f from mode None x = refl
 param_variables f from mode (Some shape) x = by (is_first f.scene x)
   where
-    by : (b : Bool) → (if_true b (λ u. limited x f (with_param f x from mode shape (param_kind (is_structured f.scene shape) mode)))
-        (λ u. with_faults f (broken_at x.node (redeclared f.scene x)))).variables ≡ f.variables
+    by : (b : Bool) → (if_true b (λ u. within_limit x f (with_param f x from mode shape (param_kind (is_structured f.scene shape) mode)))
+        (λ u. with_faults f (broken_at x.node (redeclaration_rules f.scene x)))).variables ≡ f.variables
     by true = limited_case (λ g. g.variables ≡ f.variables) x f
         (with_param f x from mode shape (param_kind (is_structured f.scene shape) mode)) (λ le. refl) refl
     by false = refl
@@ -486,12 +490,12 @@ head_variables s r n params result b = subst (λ gs. AllByRecursion (λ (g : Glo
     (sym (deep (too_deep s) ∙ (one result ∙ formals_variables (first_frame s r params b) (formals_of params)))) tt
   where
     deep : (d : List CheckFault) → (with_depth d n
-        (headed (read_formals (first_frame s r params b) (formals_of params)) result)).frame.variables
-        ≡ (headed (read_formals (first_frame s r params b) (formals_of params)) result).frame.variables
+        (heading_at (read_formals (first_frame s r params b) (formals_of params)) result)).frame.variables
+        ≡ (heading_at (read_formals (first_frame s r params b) (formals_of params)) result).frame.variables
     deep [] = refl
     deep (x ∷ xs) = refl
 
-    one : (o : Option tree.Name) → (headed (read_formals (first_frame s r params b) (formals_of params)) o).frame.variables
+    one : (o : Option tree.Name) → (heading_at (read_formals (first_frame s r params b) (formals_of params)) o).frame.variables
         ≡ (read_formals (first_frame s r params b) (formals_of params)).variables
     one None = refl
     one (Some x) = refl
@@ -563,12 +567,12 @@ made_named source tokens m rs k value = record {
 
 -- the names of a resolved program are spelled
 pub program_named : (source : List ℕ) (tokens : List Lexeme) (m : tree.Module) (p : Program) → Tokens source tokens
-    → AreNames (map (λ t. t.kind) tokens) (module_leaves m) → resolved source tokens m ≡ Some p → NamesSpelled p
+    → AreNames (map (λ t. t.kind) tokens) (module_leaves m) → resolution source tokens m ≡ Some p → NamesSpelled p
 program_named source tokens m p scanned names e =
-    by (broken source tokens m) (judge_module source tokens m).value e
+    by (broken_rules source tokens m) (judge_module source tokens m).value e
     (λ rs i. made_named source tokens m rs (texts_named source tokens (module_leaves m) scanned names) i)
   where
-    by : (fs : List Broken) (o : Option (List Routine)) → unbroken fs (option_map (program_of source tokens m) o) ≡ Some p
+    by : (fs : List BrokenRule) (o : Option (List Routine)) → if_unbroken fs (option_map (program_of source tokens m) o) ≡ Some p
         → ((rs : List Routine) → o ≡ Some rs → NamesSpelled (program_of source tokens m rs)) → NamesSpelled p
     by [] None e f = absurd (cc)
     by [] (Some rs) e f = let same : program_of source tokens m rs ≡ p = cc in subst NamesSpelled same (f rs refl)

@@ -15,10 +15,10 @@ use Rattle.alma_ir.specs.declared.program.Param.{Param}
 use Rattle.alma_ir.specs.Tree.{routine_at}
 use Rattle.alma_ir.specs.Checked.{AreLaidOut, param_slots, slots_of_kind, HoldsPlace, HoldPlace, IsOutside, outer_at}
 use Rattle.alma_rules.specs.Numbered as tree
-use Rattle.alma_rules.specs.Judged.{broken_at}
+use Rattle.alma_rules.specs.Judgement.{broken_at}
 use Rattle.alma_rules.specs.Scene.{Scene, cells, range, is_structured, is_first}
-use Rattle.alma_rules.specs.Types.{declared, redeclared, read_type_name, all_names}
-use Rattle.alma_rules.specs.Decls.{Frame, with_faults, with_formal, limited, param_access, param_kind, with_param, param_in, params_in}
+use Rattle.alma_rules.specs.Types.{declare_name, redeclaration_rules, read_type_name, all_names}
+use Rattle.alma_rules.specs.Decls.{Frame, with_faults, with_formal, within_limit, param_access, param_kind, with_param, param_in, params_in}
 use Rattle.alma_rules.specs.Decls.{formal_in, read_formals}
 use Rattle.alma_rules.proofs.Limited.{limited_case, limited_scene}
 use Rattle.alma_resolved.specs.Fits.{Place, InFrame}
@@ -142,8 +142,8 @@ param_onward f from mode None name = onward_same f (param_in f from mode None na
 param_onward f from mode (Some shape) name = by (is_first f.scene name)
   where
     by : (b : Bool) → Onward f (with_formal
-        (if_true b (λ u. limited name f (with_param f name from mode shape (param_kind (is_structured f.scene shape) mode)))
-        (λ u. with_faults f (broken_at name.node (redeclared f.scene name)))) (Some (record { mode = mode; shape = shape })))
+        (if_true b (λ u. within_limit name f (with_param f name from mode shape (param_kind (is_structured f.scene shape) mode)))
+        (λ u. with_faults f (broken_at name.node (redeclaration_rules f.scene name)))) (Some (record { mode = mode; shape = shape })))
     by true = limited_case (λ g. Onward f (with_formal g (Some (record { mode = mode; shape = shape })))) name f
         (with_param f name from mode shape (param_kind (is_structured f.scene shape) mode))
         (λ le. record { more = made f mode shape ∷ []; is = refl }) (record { more = []; is = sym (append-nil f.params) })
@@ -171,10 +171,10 @@ param_longer f from mode None name = longer_declared f.scene name from entry.Bad
 param_longer f from mode (Some shape) name =
     by (is_first f.scene name) (longer_declared f.scene name from (entry.Variable (shape_id shape) (param_access mode f.slots)))
   where
-    by : (b : Bool) → Longer f.scene (declared f.scene name from (entry.Variable (shape_id shape) (param_access mode f.slots)))
-        → Longer f.scene (if_true b (λ u. limited name f
+    by : (b : Bool) → Longer f.scene (declare_name f.scene name from (entry.Variable (shape_id shape) (param_access mode f.slots)))
+        → Longer f.scene (if_true b (λ u. within_limit name f
         (with_param f name from mode shape (param_kind (is_structured f.scene shape) mode)))
-        (λ u. with_faults f (broken_at name.node (redeclared f.scene name)))).scene
+        (λ u. with_faults f (broken_at name.node (redeclaration_rules f.scene name)))).scene
     by true l = subst (λ s. Longer f.scene s)
         (sym (limited_scene name f (with_param f name from mode shape (param_kind (is_structured f.scene shape) mode)))) l
     by false l = longer_same f.scene f.scene refl
@@ -196,8 +196,8 @@ param_fewer f from mode (Some shape) name = by (is_first f.scene name)
     one = omega (arith, length-append f.formals ((Some (record { mode = mode; shape = shape })) ∷ []))
 
     by : (b : Bool) → Fewer f (with_formal
-        (if_true b (λ u. limited name f (with_param f name from mode shape (param_kind (is_structured f.scene shape) mode)))
-        (λ u. with_faults f (broken_at name.node (redeclared f.scene name)))) (Some (record { mode = mode; shape = shape })))
+        (if_true b (λ u. within_limit name f (with_param f name from mode shape (param_kind (is_structured f.scene shape) mode)))
+        (λ u. with_faults f (broken_at name.node (redeclaration_rules f.scene name)))) (Some (record { mode = mode; shape = shape })))
     by true = limited_case (λ g. Fewer f (with_formal g (Some (record { mode = mode; shape = shape })))) name f
         (with_param f name from mode shape (param_kind (is_structured f.scene shape) mode))
         (λ le. omega (arith, one, length-append f.params (made f mode shape ∷ []))) (omega (arith, one))
@@ -232,21 +232,21 @@ param_keeps k c f from mode (Some shape) name a deep h w few even r = by (is_fir
     one = omega (arith, length-append f.formals ((Some (record { mode = mode; shape = shape })) ∷ []))
 
     taken : Fronts k (with_param f name from mode shape (param_kind (is_structured f.scene shape) mode))
-        → SceneKeeps k c (declared f.scene name from (entry.Variable (shape_id shape) (param_access mode f.slots)))
+        → SceneKeeps k c (declare_name f.scene name from (entry.Variable (shape_id shape) (param_access mode f.slots)))
     taken r =
         keeps_declared name from (entry.Variable (shape_id shape) (param_access mode f.slots)) h
         (w.gives, omega arith, access_keeps k c f mode shape a deep r.back (r.is ∙ append_assoc f.params (made f mode shape ∷ []) r.back))
 
     by : (b : Bool)
         → Paired (with_formal (if_true b
-        (λ u. limited name f (with_param f name from mode shape (param_kind (is_structured f.scene shape) mode)))
-        (λ u. with_faults f (broken_at name.node (redeclared f.scene name)))) (Some (record { mode = mode; shape = shape })))
+        (λ u. within_limit name f (with_param f name from mode shape (param_kind (is_structured f.scene shape) mode)))
+        (λ u. with_faults f (broken_at name.node (redeclaration_rules f.scene name)))) (Some (record { mode = mode; shape = shape })))
         → Fronts k (with_formal (if_true b
-        (λ u. limited name f (with_param f name from mode shape (param_kind (is_structured f.scene shape) mode)))
-        (λ u. with_faults f (broken_at name.node (redeclared f.scene name)))) (Some (record { mode = mode; shape = shape })))
-        → SceneKeeps k c (if_true b (λ u. limited name f
+        (λ u. within_limit name f (with_param f name from mode shape (param_kind (is_structured f.scene shape) mode)))
+        (λ u. with_faults f (broken_at name.node (redeclaration_rules f.scene name)))) (Some (record { mode = mode; shape = shape })))
+        → SceneKeeps k c (if_true b (λ u. within_limit name f
         (with_param f name from mode shape (param_kind (is_structured f.scene shape) mode)))
-        (λ u. with_faults f (broken_at name.node (redeclared f.scene name)))).scene
+        (λ u. with_faults f (broken_at name.node (redeclaration_rules f.scene name)))).scene
     by true even r =
         limited_case (λ g. Paired (with_formal g (Some (record { mode = mode; shape = shape })))
         → Fronts k (with_formal g (Some (record { mode = mode; shape = shape }))) → SceneKeeps k c g.scene) name f

@@ -7,18 +7,20 @@ use Rattle.alma_ir.specs.Tree as ir
 use Rattle.alma_ir.specs.Phrases.{stmts_phrases, stmt_phrases, arms_phrases, cases_phrases, else_phrases, branches_phrases, loop_phrases}
 use Rattle.alma_ir.specs.Phrases.{test_phrases, expr_phrases, arg_phrases, args_phrases}
 use Rattle.alma_rules.specs.Numbered as tree
-use Rattle.alma_rules.specs.Judged.{Judged, fine, at_node, with, unless, both_of}
+use Rattle.alma_rules.specs.Judgement.{Judgement, fine, at_node, with, unless, both_of}
 use Rattle.alma_rules.specs.Scene.{Scene, FormalOf, Found, absent, bad, constant, named, variable, routine, found, is_structured, range}
 use Rattle.alma_rules.specs.Scene.{inside_of, text_at, literal_at}
-use Rattle.alma_rules.specs.Parts.{Meaning, a_place, plain, a_test, Typing, value_of, test_of, without_place, boolean_typing, Located}
-use Rattle.alma_rules.specs.Parts.{desig_of, Denoted, denoted, select_field, located_in, typing_in, callee_in, argument_of, Callee, called}
-use Rattle.alma_rules.specs.Parts.{joined_stmts, append_stmts, one_stmt, assigned, assigned_to, read_as, read_stmts, write_as, write_stmts}
-use Rattle.alma_rules.specs.Parts.{Span, append_cases, related, add_operator, mul_operator}
+use Rattle.alma_rules.specs.Parts.{Meaning, a_place, plain, a_test, Typing, value_of, test_of, without_place, boolean_typing, Location}
+use Rattle.alma_rules.specs.Parts.{desig_of, Denotation, denotation, select_field, located_in, typing_in, callee_in, argument_of, Callee}
+use Rattle.alma_rules.specs.Parts.{typing_of_call}
+use Rattle.alma_rules.specs.Parts.{joined_stmts, append_stmts, one_stmt, assignment_stmts, assigned_to, read_as, read_stmts, write_as}
+use Rattle.alma_rules.specs.Parts.{write_stmts}
+use Rattle.alma_rules.specs.Parts.{Span, append_cases, relation_typing, add_operator, mul_operator}
 use Rattle.alma_rules.specs.ExprRules.{Use, as_variable, as_value, as_procedure, desig_rules, field_rules, array_rules, index_rules}
 use Rattle.alma_rules.specs.ExprRules.{Operand, alone, operand_rules, not_rules, literal_rules, simple_rules, known_rules, chr_rules}
 use Rattle.alma_rules.specs.ExprRules.{sequence_rules, relation_rules, test_rules, call_rules, argument_rules, argument_kind}
 use Rattle.alma_rules.specs.StmtRules.{assign_rules, loop_name_rules, loop_rules, case_rules, return_rules, read_rules, write_rules}
-use Rattle.alma_rules.specs.Nodes.{judge_name, indexed, in_parens, as_sequence, or_sequence, only_of, known_typing, ord_typing, chr_typing}
+use Rattle.alma_rules.specs.Nodes.{judge_name, index_at, in_parens, as_sequence, or_sequence, only_of, known_typing, ord_typing, chr_typing}
 use Rattle.alma_rules.specs.Nodes.{not_typing, argument_count, cons_arg, cons_operand, operand_behind, first_add, first_mul, any_or}
 use Rattle.alma_rules.specs.Nodes.{any_and, if_of, arms_of, loop_variable, loop_of, loop_at, arm_of, joined_cases, with_line, item_literal}
 use Rattle.alma_rules.specs.Nodes.{text_rules, item_of}
@@ -76,7 +78,7 @@ none_prints = prints_nil 0
 one_when : (n : ℕ) (v : Option ir.Stmt) → When v (StmtPrints n) → When (option_map one_stmt v) (StmtsPrint n)
 one_when n v h = when_map one_stmt h (λ x g. one_prints n x g)
 
-assign_to : (s : Scene) (n m : ℕ) (l : Located) (x : Meaning) → LocatedPrints n l → MeaningPrints m x
+assign_to : (s : Scene) (n m : ℕ) (l : Location) (x : Meaning) → LocatedPrints n l → MeaningPrints m x
     → StmtPrints (n + m) (assigned_to s l x)
 unfolding expr_phrases
 assign_to s n m l (a_place d) h g = by (is_structured s l.shape)
@@ -87,10 +89,10 @@ assign_to s n m l (a_place d) h g = by (is_structured s l.shape)
 assign_to s n m l (plain e) h g = stmt_more _ refl (prints_join h g)
 assign_to s n m l (a_test t) h g = stmt_more _ refl (prints_join h (expr_more _ g))
 
-assign_prints : (s : Scene) (n m : ℕ) (v : Option (Located × Typing)) → When v (λ p. LocatedPrints n p.0 × TypingPrints m p.1)
-    → When (option_map (assigned s) (unless (assign_rules s v) v)) (StmtsPrint (n + m))
+assign_prints : (s : Scene) (n m : ℕ) (v : Option (Location × Typing)) → When v (λ p. LocatedPrints n p.0 × TypingPrints m p.1)
+    → When (option_map (assignment_stmts s) (unless (assign_rules s v) v)) (StmtsPrint (n + m))
 assign_prints s n m v h =
-    when_map {P = λ p. LocatedPrints n p.0 × TypingPrints m p.1} (assigned s) (when_node (assign_rules s) v h (λ p g q. g))
+    when_map {P = λ p. LocatedPrints n p.0 × TypingPrints m p.1} (assignment_stmts s) (when_node (assign_rules s) v h (λ p g q. g))
     (λ p g. one_prints (n + m) (assigned_to s p.0 p.1.meaning) (assign_to s n m p.0 p.1.meaning g.0 g.1.is))
 
 test_stmt : (n : ℕ) (t : ir.Test) → Prints n (test_phrases t) → StmtPrints (n) (ir.TestStmt t)
@@ -157,7 +159,7 @@ bare_prints : (v : Option Typing) → When (option_map (λ t. ir.Return ir.no_re
 unfolding expr_phrases
 bare_prints v = when_map {P = λ x. Unit {0}} (λ t. ir.Return ir.no_result) (anything v) (λ t g. stmt_more _ refl (prints_nil 0))
 
-read_prints : (s : Scene) (a : ℕ) (v : Option Located) → When v (LocatedPrints a)
+read_prints : (s : Scene) (a : ℕ) (v : Option Location) → When v (LocatedPrints a)
     → When (option_map (read_stmts s) (unless (read_rules s v) v)) (StmtsPrint (a))
 unfolding expr_phrases
 read_prints s a v h = when_map {P = LocatedPrints a} (read_stmts s) (when_node (read_rules s) v h (λ l g q. g))
@@ -205,7 +207,7 @@ literal_weighs s (tree.expr n (tree.simple m None (tree.term k (tree.factor i (t
     omega (arith, between_less (text_at s t), ap (λ i. length (literal_at s i)) here)
 literal_weighs s e l q = absurd (cc)
 
-item_prints : (s : Scene) (n node a : ℕ) (o : Option (ℕ × ℕ)) (item : Judged Typing) → When item.value (TypingPrints a)
+item_prints : (s : Scene) (n node a : ℕ) (o : Option (ℕ × ℕ)) (item : Judgement Typing) → When item.value (TypingPrints a)
     → ((l : ℕ × ℕ) → o ≡ Some l → length (literal_at s l.1) ≤ a) → When (item_of s n node o item).value (StmtsPrint a)
 item_prints s n node a None item h f = write_prints s a item.value h
 item_prints s n node a (Some l) item h f = by (nat_eq (length (literal_at s l.1)) 1)
@@ -218,7 +220,7 @@ item_prints s n node a (Some l) item h f = by (nat_eq (length (literal_at s l.1)
 
 -- ---- loops
 
-loop_name : (s : Scene) (f : Found) → When (option_and_then located_in (denoted s f)) (LocatedPrints 0)
+loop_name : (s : Scene) (f : Found) → When (option_and_then located_in (denotation s f)) (LocatedPrints 0)
 unfolding expr_phrases
 loop_name s absent = when_none
 loop_name s bad = when_none
@@ -234,7 +236,8 @@ loop_variable_prints s n name = when_node (loop_name_rules s (found s name)) _ (
 abbrev LoopPrints : ℕ → ir.Loop → Type 0
 LoopPrints n l = Prints n (loop_phrases l)
 
-loop_prints : (s : Scene) (n k a b c d : ℕ) (var : Judged Located) (low high : Judged Typing) (by : Judged ℤ) (body : Judged ir.Stmts)
+loop_prints : (s : Scene) (n k a b c d : ℕ) (var : Judgement Location) (low high : Judgement Typing) (by : Judgement ℤ)
+    (body : Judgement ir.Stmts)
     → When var.value (LocatedPrints 0) → When low.value (TypingPrints a) → When high.value (TypingPrints b)
     → When body.value (StmtsPrint d) → When (loop_at s n k var low high by body).value (LoopPrints (a + (b + (c + d))))
 unfolding expr_phrases
@@ -300,18 +303,18 @@ else_none = prints_nil 0
 
 -- ---- parentheses
 
-abbrev OnlyPrints : ℕ → Option (Judged Typing) → Type 0
+abbrev OnlyPrints : ℕ → Option (Judgement Typing) → Type 0
 OnlyPrints n None = Unit {0}
 OnlyPrints n (Some j) = When j.value (TypingPrints n)
 
-only_case : (W : ℕ → ℕ) (n : ℕ) (rest : tree.StmtTail) (o : Option (Judged Typing)) → OnlyPrints n o
+only_case : (W : ℕ → ℕ) (n : ℕ) (rest : tree.StmtTail) (o : Option (Judgement Typing)) → OnlyPrints n o
     → OnlyPrints (n + weigh_stmt_tail W rest) (only_of rest o)
 unfolding weigh_stmts
 only_case W n tree.no_stmt None h = tt
 only_case W n tree.no_stmt (Some j) h = when_weaker h (λ t g. typing_up n (n + 0) (omega arith) g)
 only_case W n (tree.more_stmt x rest) o h = tt
 
-paren_prints : (s : Scene) (k n : ℕ) (o : Option (Judged Typing)) (j : Judged ir.Stmts) → OnlyPrints n o → When j.value (StmtsPrint n)
+paren_prints : (s : Scene) (k n : ℕ) (o : Option (Judgement Typing)) (j : Judgement ir.Stmts) → OnlyPrints n o → When j.value (StmtsPrint n)
     → When (or_sequence o (in_parens s k) (λ u. as_sequence s k j)).value (TypingPrints n)
 paren_prints s k n None j h g = when_map {P = StmtsPrint n} (λ body. boolean_typing (a_test (ir.Seq body)))
     (when_node (sequence_rules s) j.value g (λ x y q. y)) (λ x y. seq_prints x y)
@@ -321,9 +324,9 @@ paren_prints s k n (Some i) j h g = when_map {P = TypingPrints n} without_place 
 -- ---- calls
 
 called_prints : (s : Scene) (n m count : ℕ) (c : Option Callee) (args : Option ir.Args) → When args (λ y. Prints m (args_phrases y))
-    → When (option_map called (unless (call_rules s c count (both_of c args)) (both_of c args))) (TypingPrints (n + m))
+    → When (option_map typing_of_call (unless (call_rules s c count (both_of c args)) (both_of c args))) (TypingPrints (n + m))
 called_prints s n m count c args g =
-    when_map {P = λ p. Unit {0} × Prints m (args_phrases p.1)} called
+    when_map {P = λ p. Unit {0} × Prints m (args_phrases p.1)} typing_of_call
     (when_node (call_rules s c count) _ (when_both (anything c) g) (λ p x q. x))
     (λ p x. typing_up m (n + m) (omega arith) (call_prints m p.0 p.0.heading.result p.1 x.1))
 
@@ -337,7 +340,7 @@ arguments_when : (n m : ℕ) (v : Option (ir.Arg × ir.Args)) → When v (λ p. 
 arguments_when n m v h = when_map {P = λ p. Prints n (arg_phrases p.0) × Prints m (args_phrases p.1)} cons_arg h
     (λ p g. args_more n m p g.0 g.1)
 
-place_prints : (n : ℕ) (v : Option Denoted) → When v (DenotedPrints n) → When (option_and_then located_in v) (LocatedPrints n)
+place_prints : (n : ℕ) (v : Option Denotation) → When v (DenotedPrints n) → When (option_and_then located_in v) (LocatedPrints n)
 place_prints n v h = when_then {P = DenotedPrints n} located_in h (λ x g. located_prints n x g)
 
 -- ---- the walk
@@ -536,7 +539,7 @@ mutual
       (omega arith) g)
   expr_print s n (tree.expr k left (tree.compared r right)) =
       when_map {P = λ p. TypingPrints (weigh_simple (weight_in s) left) p.0 × TypingPrints (weigh_simple (weight_in s) right) p.1}
-      (related s r) (when_node (relation_rules s r) _ (when_both (simple_print s n left) (simple_print s _ right)) (λ p g q. g))
+      (relation_typing s r) (when_node (relation_rules s r) _ (when_both (simple_print s n left) (simple_print s _ right)) (λ p g q. g))
       (λ p g. related_prints s (weigh_simple (weight_in s) left) (weigh_simple (weight_in s) right) r p g.0 g.1)
 
   simple_print : (s : Scene) (n : ℕ) (x : tree.Simple) → When (judge_simple s n x).value (TypingPrints (weigh_simple (weight_in s) x))
@@ -649,7 +652,7 @@ mutual
       (selectors_print s 0 (judge_name s n name) more (name_prints s (found s name)))
       (λ d g q. denoted_up (0 + weigh_selectors (weight_in s) more) (weigh_selectors (weight_in s) more) (omega arith) g)
 
-  selectors_print : (s : Scene) (m : ℕ) (d : Judged Denoted) (x : tree.SelectorTail) → When d.value (DenotedPrints m)
+  selectors_print : (s : Scene) (m : ℕ) (d : Judgement Denotation) (x : tree.SelectorTail) → When d.value (DenotedPrints m)
       → When (judge_selectors s d x).value (DenotedPrints (m + weigh_selectors (weight_in s) x))
   selectors_print s m d tree.no_selector h = when_weaker h (λ x g. denoted_up m (m + 0) (omega arith) g)
   selectors_print s m d (tree.more_selector x rest) h =
@@ -657,7 +660,7 @@ mutual
       (λ y g. denoted_up ((m + weigh_selector (weight_in s) x) + weigh_selectors (weight_in s) rest)
       (m + (weigh_selector (weight_in s) x + weigh_selectors (weight_in s) rest)) (omega arith) g)
 
-  selector_print : (s : Scene) (m : ℕ) (d : Judged Denoted) (x : tree.Selector) → When d.value (DenotedPrints m)
+  selector_print : (s : Scene) (m : ℕ) (d : Judgement Denotation) (x : tree.Selector) → When d.value (DenotedPrints m)
       → When (judge_selector s d x).value (DenotedPrints (m + weigh_selector (weight_in s) x))
   selector_print s m d (tree.field k name) h =
       when_then {P = DenotedPrints m} (select_field s (text_at s name.token))
@@ -666,20 +669,20 @@ mutual
   selector_print s m d (tree.index k items) h =
       when_node array_rules (judge_indices s d items).value (indices_print s m d items h) (λ x g q. g)
 
-  indices_print : (s : Scene) (m : ℕ) (d : Judged Denoted) (x : tree.Exprs) → When d.value (DenotedPrints m)
+  indices_print : (s : Scene) (m : ℕ) (d : Judgement Denotation) (x : tree.Exprs) → When d.value (DenotedPrints m)
       → When (judge_indices s d x).value (DenotedPrints (m + weigh_exprs (weight_in s) x))
   indices_print s m d (tree.exprs e rest) h =
-      when_weaker (index_tail_print s (m + weigh_expr (weight_in s) e) (indexed s d (tree.expr_node e) (judge_expr s d.next e)) rest
+      when_weaker (index_tail_print s (m + weigh_expr (weight_in s) e) (index_at s d (tree.expr_node e) (judge_expr s d.next e)) rest
       (index_prints s m (weigh_expr (weight_in s) e) d.value _ h
       (when_node (index_rules s d.value) _ (expr_print s d.next e) (λ t g q. g))))
       (λ y g. denoted_up ((m + weigh_expr (weight_in s) e) + weigh_expr_tail (weight_in s) rest)
       (m + (weigh_expr (weight_in s) e + weigh_expr_tail (weight_in s) rest)) (omega arith) g)
 
-  index_tail_print : (s : Scene) (m : ℕ) (d : Judged Denoted) (x : tree.ExprTail) → When d.value (DenotedPrints m)
+  index_tail_print : (s : Scene) (m : ℕ) (d : Judgement Denotation) (x : tree.ExprTail) → When d.value (DenotedPrints m)
       → When (judge_index_tail s d x).value (DenotedPrints (m + weigh_expr_tail (weight_in s) x))
   index_tail_print s m d tree.no_expr h = when_weaker h (λ x g. denoted_up m (m + 0) (omega arith) g)
   index_tail_print s m d (tree.more_expr e rest) h =
-      when_weaker (index_tail_print s (m + weigh_expr (weight_in s) e) (indexed s d (tree.expr_node e) (judge_expr s d.next e)) rest
+      when_weaker (index_tail_print s (m + weigh_expr (weight_in s) e) (index_at s d (tree.expr_node e) (judge_expr s d.next e)) rest
       (index_prints s m (weigh_expr (weight_in s) e) d.value _ h
       (when_node (index_rules s d.value) _ (expr_print s d.next e) (λ t g q. g))))
       (λ y g. denoted_up ((m + weigh_expr (weight_in s) e) + weigh_expr_tail (weight_in s) rest)

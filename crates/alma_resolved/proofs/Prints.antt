@@ -14,13 +14,14 @@ use Rattle.alma_ir.specs.Phrases.{Phrase, StmtPhrase, TestPhrase, ExprPhrase, Ar
 use Rattle.alma_ir.specs.Phrases.{tests_phrases, links_phrases, args_phrases, arg_phrases, desig_phrases, sels_phrases, sel_phrases}
 use Rattle.alma_ir.specs.Phrases.{stmts_phrases}
 use Rattle.alma_ir.specs.Checked.{text_bytes}
-use Rattle.alma_rules.specs.Judged.{unless}
+use Rattle.alma_rules.specs.Judgement.{unless}
 use Rattle.alma_rules.specs.Scene.{Scene, FormalOf, Found, absent, bad, constant, named, variable, routine, row_at, is_structured, range}
 use Rattle.alma_rules.specs.Parts.{Meaning, a_place, plain, a_test, Typing, value_of, test_of, no_place, without_place, boolean_typing}
-use Rattle.alma_rules.specs.Parts.{Located, desig_of, with_sel, Denoted, a_constant, a_variable, a_routine, no_array, denoted, field_of}
+use Rattle.alma_rules.specs.Parts.{Location, desig_of, with_sel, Denotation, a_constant, a_variable, a_routine, no_array, denotation}
+use Rattle.alma_rules.specs.Parts.{field_of}
 use Rattle.alma_rules.specs.Parts.{field_part, select_field, element_part, select_in, select_index, located_in, typing_in, Callee}
-use Rattle.alma_rules.specs.Parts.{simple_argument, structured_argument, argument_of, call_typing, equation_of, related, Operator}
-use Rattle.alma_rules.specs.Parts.{arithmetic, logical, Operands, links_of, tests_of, chain_of, chained}
+use Rattle.alma_rules.specs.Parts.{simple_argument, structured_argument, argument_of, call_typing, equation_of, relation_typing, Operator}
+use Rattle.alma_rules.specs.Parts.{arithmetic, logical, Operands, links_of, tests_of, chain_of, chain_typing}
 use Rattle.alma_rules.specs.ExprRules.{name_rules, Operand, chain_rules}
 use Rattle.alma_rules.specs.Nodes.{known_typing, ord_typing, chr_typing, not_typing, cons_operand, cons_arg}
 use Rattle.alma_resolved.proofs.Fits.{When, when_some, when_none, when_map, when_node}
@@ -121,7 +122,7 @@ pub seq_prints : {n : ℕ} (x : ir.Stmts) → Prints n (stmts_phrases x) → Typ
 unfolding expr_phrases
 seq_prints x h = record { is = test_more (ir.Seq x) h }
 
-pub known_prints : {n : ℕ} (l : Located) → Prints n (desig_phrases (desig_of l)) → TypingPrints n (known_typing l)
+pub known_prints : {n : ℕ} (l : Location) → Prints n (desig_phrases (desig_of l)) → TypingPrints n (known_typing l)
 unfolding expr_phrases
 known_prints l h = record { is = expr_more (ir.Known (desig_of l)) h }
 
@@ -139,19 +140,19 @@ not_prints t h = record { is = test_more (ir.Not (test_of t.meaning)) (test_prin
 -- ---- designators
 
 -- the texts in the indices of a variable
-abbrev pub DenotedIn : ℕ → Denoted → Type 0
+abbrev pub DenotedIn : ℕ → Denotation → Type 0
 DenotedIn n (a_variable l) = Prints n (sels_phrases l.sels)
 DenotedIn n (a_constant shape v) = Unit {0}
 DenotedIn n (a_routine q up h) = Unit {0}
 DenotedIn n no_array = Unit {0}
 
-pub record DenotedPrints (n : ℕ) (d : Denoted) : Type 0 where
+pub record DenotedPrints (n : ℕ) (d : Denotation) : Type 0 where
   pub is : DenotedIn n d
 
-pub denoted_up : {d : Denoted} (a b : ℕ) → a ≤ b → DenotedPrints a d → DenotedPrints b d
+pub denoted_up : {d : Denotation} (a b : ℕ) → a ≤ b → DenotedPrints a d → DenotedPrints b d
 denoted_up {d} a b le h = by d h.is
   where
-    by : (d : Denoted) → DenotedIn a d → DenotedPrints b d
+    by : (d : Denotation) → DenotedIn a d → DenotedPrints b d
     by (a_variable l) h = record { is = prints_up a b le h }
     by (a_constant shape v) h = record { is = tt }
     by (a_routine q up x) h = record { is = tt }
@@ -161,7 +162,7 @@ pub anything : {A : Type 0} (v : Option A) → When v (λ x. Unit {0})
 anything None = when_none
 anything (Some x) = when_some x tt
 
-pub name_prints : (s : Scene) (f : Found) → When (unless (name_rules f (denoted s f)) (denoted s f)) (DenotedPrints 0)
+pub name_prints : (s : Scene) (f : Found) → When (unless (name_rules f (denotation s f)) (denotation s f)) (DenotedPrints 0)
 unfolding expr_phrases
 name_prints s absent = when_none
 name_prints s bad = when_none
@@ -175,23 +176,23 @@ sels_with : (n m : ℕ) (sels : ir.Sels) (x : ir.Sel) → Prints n (sels_phrases
     → Prints (n + m) (sels_phrases (with_sel sels x))
 sels_with n m sels x h k = subst (λ ys. Prints (n + m) ys) (sym (phrases_with sels x)) (prints_join h (prints_alone k))
 
-field_part_prints : (s : Scene) (n : ℕ) (l : Located) (p : ℕ × ℕ) → Prints n (sels_phrases l.sels) → DenotedPrints n (field_part s l p)
+field_part_prints : (s : Scene) (n : ℕ) (l : Location) (p : ℕ × ℕ) → Prints n (sels_phrases l.sels) → DenotedPrints n (field_part s l p)
 unfolding expr_phrases
 field_part_prints s n l p h = record { is = prints_up (n + 0) n (omega arith) (sels_with n 0 l.sels _ h (sel_more _ (prints_nil 0))) }
 
-pub field_prints : (s : Scene) (n : ℕ) (name : List ℕ) (d : Denoted) → DenotedPrints n d → When (select_field s name d) (DenotedPrints n)
+pub field_prints : (s : Scene) (n : ℕ) (name : List ℕ) (d : Denotation) → DenotedPrints n d → When (select_field s name d) (DenotedPrints n)
 field_prints s n name (a_variable l) h =
     when_map {P = λ p. Unit {0}} (field_part s l) (anything (field_of s name l)) (λ p g. field_part_prints s n l p h.is)
 field_prints s n name (a_constant shape v) h = when_some _ h
 field_prints s n name (a_routine q up x) h = when_some _ h
 field_prints s n name no_array h = when_some _ h
 
-element_prints : (s : Scene) (n m : ℕ) (l : Located) (r : ℕ × ℕ) (t : Typing) → Prints n (sels_phrases l.sels) → TypingPrints m t
+element_prints : (s : Scene) (n m : ℕ) (l : Location) (r : ℕ × ℕ) (t : Typing) → Prints n (sels_phrases l.sels) → TypingPrints m t
     → DenotedPrints (n + m) (element_part s l r t)
 unfolding expr_phrases
 element_prints s n m l r t h g = record { is = sels_with n m l.sels _ h (sel_more _ (value_prints g)) }
 
-pub index_prints : (s : Scene) (n m : ℕ) (d : Option Denoted) (i : Option Typing) → When d (DenotedPrints n) → When i (TypingPrints m)
+pub index_prints : (s : Scene) (n m : ℕ) (d : Option Denotation) (i : Option Typing) → When d (DenotedPrints n) → When i (TypingPrints m)
     → When (select_index s d i) (DenotedPrints (n + m))
 index_prints s n m None i h g = when_none
 index_prints s n m (Some (a_variable l)) i h g = by (row_at s l.shape) i g
@@ -206,17 +207,17 @@ index_prints s n m (Some (a_constant shape v)) (Some t) h g = when_some _ (recor
 index_prints s n m (Some (a_routine q up x)) None h g = when_none
 index_prints s n m (Some (a_routine q up x)) (Some t) h g = when_some _ (record { is = tt })
 
-pub typing_prints : (n : ℕ) (d : Denoted) → DenotedPrints n d → When (typing_in d) (TypingPrints n)
+pub typing_prints : (n : ℕ) (d : Denotation) → DenotedPrints n d → When (typing_in d) (TypingPrints n)
 unfolding expr_phrases
 typing_prints n (a_constant shape v) h = when_some _ (constant_prints n shape (Some v) v)
 typing_prints n (a_variable l) h = when_some _ (record { is = desig_more (desig_of l) h.is })
 typing_prints n (a_routine q up x) h = when_some _ (record { is = test_more (ir.CallTest q ir.no_args up) (prints_nil n) })
 typing_prints n no_array h = when_none
 
-abbrev pub LocatedPrints : ℕ → Located → Type 0
+abbrev pub LocatedPrints : ℕ → Location → Type 0
 LocatedPrints n l = Prints n (desig_phrases (desig_of l))
 
-pub located_prints : (n : ℕ) (d : Denoted) → DenotedPrints n d → When (located_in d) (LocatedPrints n)
+pub located_prints : (n : ℕ) (d : Denotation) → DenotedPrints n d → When (located_in d) (LocatedPrints n)
 unfolding expr_phrases
 located_prints n (a_constant shape v) h = when_none
 located_prints n (a_variable l) h = when_some _ (desig_more (desig_of l) h.is)
@@ -273,7 +274,7 @@ args_more n m p h k = prints_join h k
 -- ---- relations
 
 pub related_prints : (s : Scene) (n m : ℕ) (r : Relation) (p : Typing × Typing) → TypingPrints n p.0 → TypingPrints m p.1
-    → TypingPrints (n + m) (related s r p)
+    → TypingPrints (n + m) (relation_typing s r p)
 unfolding expr_phrases
 related_prints s n m relations.Equal p h g = record { is = by p.0.meaning p.1.meaning h.is g.is }
   where
@@ -331,8 +332,8 @@ chain_meaning join j sign n m first ((logical, t) ∷ rest) h g =
 pub chain_prints : (s : Scene) (join : ir.Tests → ir.Test) → Joins join
     → (o : Operand) (sign : Option Sign) (l : Bool) (n m : ℕ) (v : Option (Typing × Operands))
     → When v (λ p. TypingPrints n p.0 × OperandsPrint m p.1)
-    → When (option_map (chained join sign) (unless (chain_rules s join o sign l v) v)) (TypingPrints (n + m))
+    → When (option_map (chain_typing join sign) (unless (chain_rules s join o sign l v) v)) (TypingPrints (n + m))
 chain_prints s join j o sign l n m v h =
-    when_map {P = λ p. TypingPrints n p.0 × OperandsPrint m p.1} (chained join sign)
+    when_map {P = λ p. TypingPrints n p.0 × OperandsPrint m p.1} (chain_typing join sign)
     (when_node (chain_rules s join o sign l) v h (λ p g q. g))
     (λ p g. record { is = chain_meaning join j sign n m p.0 p.1 g.0 g.1 })

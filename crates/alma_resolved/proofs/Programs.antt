@@ -11,13 +11,15 @@ use Rattle.alma_ir.specs.Tree.{Program, Routine, Global, no_routine, routine_at}
 use Rattle.alma_ir.specs.Checked.{AreLaidOut, param_slots, IsOrdered}
 use Rattle.alma_ir.proofs.Each.{each_of_append, each_follows}
 use Rattle.alma_rules.specs.Numbered as tree
-use Rattle.alma_rules.specs.Judged.{Broken, broken_at, unbroken}
+use Rattle.alma_rules.specs.Judgement.{BrokenRule, broken_at, if_unbroken}
 use Rattle.alma_rules.specs.Scene.{Heading, nothing, cells, text_at, is_first}
-use Rattle.alma_rules.specs.Types.{redeclared, read_type, read_constant, all_names, last_token}
+use Rattle.alma_rules.specs.Types.{redeclaration_rules, read_type, read_constant, all_names, last_token}
 use Rattle.alma_rules.specs.Places.{width, mark_type}
-use Rattle.alma_rules.specs.Decls.{Frame, with_faults, with_scene, limited, constant_in, read_consts, type_in, read_types, with_variable}
+use Rattle.alma_rules.specs.Decls.{Frame, with_faults, with_scene, within_limit, constant_in, read_consts, type_in, read_types}
+use Rattle.alma_rules.specs.Decls.{with_variable}
 use Rattle.alma_rules.specs.Decls.{variable_in, variables_in, variables_of, read_vars, read_decl, read_decls, block_routines, decl_routines}
-use Rattle.alma_rules.specs.Modules.{first_scene, module_frame, judge_block, judge_module, block_variables, program_of, broken, resolved}
+use Rattle.alma_rules.specs.Modules.{first_scene, module_frame, judge_block, judge_module, block_variables, program_of, broken_rules}
+use Rattle.alma_rules.specs.Modules.{resolution}
 use Rattle.alma_rules.proofs.Sound.{nil_left}
 use Rattle.alma_rules.proofs.Limited.{limited_case}
 use Rattle.alma_resolved.specs.Stand.{BlockStands}
@@ -60,8 +62,8 @@ variable_ends f from (Some shape) name h = by (is_first f.scene name)
         (λ g k. omega (arith, k)) f.variables h)
         (omega arith, tt)
 
-    by : (b : Bool) → VarsEnd (if_true b (λ u. limited name f (with_variable f name from shape))
-        (λ u. with_faults f (broken_at name.node (redeclared f.scene name))))
+    by : (b : Bool) → VarsEnd (if_true b (λ u. within_limit name f (with_variable f name from shape))
+        (λ u. with_faults f (broken_at name.node (redeclaration_rules f.scene name))))
     by true = limited_case (λ x. VarsEnd x) name f (with_variable f name from shape) (λ le. taken) h
     by false = h
 
@@ -109,7 +111,7 @@ abbrev ends_of : List ℕ → List Lexeme → tree.Module → ℕ → ℕ
 ends_of source tokens m q = get_or (block_ends (module_frame source tokens m) 1 m.block) q 0
 
 made_good : (source : List ℕ) (tokens : List Lexeme) (m : tree.Module) (rs : List Routine) → BlockStands m.block
-    → broken source tokens m ≡ [] → (judge_module source tokens m).value ≡ Some rs → KeepsFrames (program_of source tokens m rs)
+    → broken_rules source tokens m ≡ [] → (judge_module source tokens m).value ≡ Some rs → KeepsFrames (program_of source tokens m rs)
     → Good (program_of source tokens m rs) (ends_of source tokens m) 0 rs
     (judge_block (module_frame source tokens m) 1 m.name 0 (m.end_name.token - 1) m.block).shapes
 made_good source tokens m rs stand e value all =
@@ -150,7 +152,7 @@ made_good source tokens m rs stand e value all =
     (ends_all ends 0 [] (block_ends f 1 m.block) (block_ends f 1 m.block) refl (λ q. refl) refl)
 
 made_fits : (source : List ℕ) (tokens : List Lexeme) (m : tree.Module) (rs : List Routine) → BlockStands m.block
-    → broken source tokens m ≡ [] → (judge_module source tokens m).value ≡ Some rs → KeepsFrames (program_of source tokens m rs)
+    → broken_rules source tokens m ≡ [] → (judge_module source tokens m).value ≡ Some rs → KeepsFrames (program_of source tokens m rs)
     → ProgramFits (program_of source tokens m rs)
 made_fits source tokens m rs stand e value all =
     record { ends = ends_of source tokens m; within = within; routines = routines; globals = globals }
@@ -183,13 +185,13 @@ made_fits source tokens m rs stand e value all =
         (block_ends (module_frame source tokens m) 1 m.block) refl (λ q. refl) refl)
 
 pub program_fits : (source : List ℕ) (tokens : List Lexeme) (m : tree.Module) (p : Program) → BlockStands m.block
-    → resolved source tokens m ≡ Some p → ProgramFits p
+    → resolution source tokens m ≡ Some p → ProgramFits p
 program_fits source tokens m p stand e =
-    by (broken source tokens m) (judge_module source tokens m).value (resolved_unbroken source tokens m p e) e
+    by (broken_rules source tokens m) (judge_module source tokens m).value (resolved_unbroken source tokens m p e) e
     (program_keeps_frames source tokens m p stand e)
     (λ rs i all. made_fits source tokens m rs stand (resolved_unbroken source tokens m p e) i all)
   where
-    by : (fs : List Broken) (o : Option (List Routine)) → fs ≡ [] → unbroken fs (option_map (program_of source tokens m) o) ≡ Some p
+    by : (fs : List BrokenRule) (o : Option (List Routine)) → fs ≡ [] → if_unbroken fs (option_map (program_of source tokens m) o) ≡ Some p
         → KeepsFrames p
         → ((rs : List Routine) → o ≡ Some rs → KeepsFrames (program_of source tokens m rs) → ProgramFits (program_of source tokens m rs))
         → ProgramFits p

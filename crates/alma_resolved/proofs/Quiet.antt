@@ -2,11 +2,12 @@
 use Rattle.std.proofs.Common.{◌≡◌, ℕ, ◌+◌, Bool, true, false, List, [], ◌∷◌, Option, None, Some, refl}
 use Rattle.alma_base.specs.Choice.{if_true}
 use Rattle.alma_rules.specs.Numbered as tree
-use Rattle.alma_rules.specs.Judged.{broken_at}
+use Rattle.alma_rules.specs.Judgement.{broken_at}
 use Rattle.alma_rules.specs.Scene.{is_first}
 use Rattle.alma_rules.specs.Places.{width, mark_type}
-use Rattle.alma_rules.specs.Types.{redeclared, read_constant, read_type, all_names, last_token}
-use Rattle.alma_rules.specs.Decls.{Frame, with_faults, with_scene, limited, constant_in, read_consts, type_in, read_types, with_variable}
+use Rattle.alma_rules.specs.Types.{redeclaration_rules, read_constant, read_type, all_names, last_token}
+use Rattle.alma_rules.specs.Decls.{Frame, with_faults, with_scene, within_limit, constant_in, read_consts, type_in, read_types}
+use Rattle.alma_rules.specs.Decls.{with_variable}
 use Rattle.alma_rules.specs.Decls.{variable_in, variables_in, variables_of, read_vars, read_decl, read_decls, decl_routines}
 use Rattle.alma_rules.proofs.Sound.{nil_left}
 use Rattle.alma_rules.proofs.Limited.{limited_faults}
@@ -23,8 +24,8 @@ pub variable_quiet : (f : Frame) (from : ℕ) (o : Option ℕ) (name : tree.Name
 variable_quiet f from None name e = nil_left f.faults _ e
 variable_quiet f from (Some shape) name e = by (is_first f.scene name) e
   where
-    by : (b : Bool) → (if_true b (λ u. limited name f (with_variable f name from shape))
-        (λ u. with_faults f (broken_at name.node (redeclared f.scene name)))).faults ≡ [] → f.faults ≡ []
+    by : (b : Bool) → (if_true b (λ u. within_limit name f (with_variable f name from shape))
+        (λ u. with_faults f (broken_at name.node (redeclaration_rules f.scene name)))).faults ≡ [] → f.faults ≡ []
     by true e = limited_faults name f (with_variable f name from shape) e refl
     by false e = nil_left f.faults _ e
 

@@ -5,12 +5,12 @@ use Rattle.alma_base.specs.Choice.{if_true}
 use Rattle.alma_tree.specs.declared.leaf.Sign.{Sign}
 use Rattle.alma_ir.specs.Tree as ir
 use Rattle.alma_rules.specs.Numbered as tree
-use Rattle.alma_rules.specs.Judged.{Judged, at_node, with, fine}
+use Rattle.alma_rules.specs.Judgement.{Judgement, at_node, with, fine}
 use Rattle.alma_rules.specs.Scene.{Scene, FormalOf, in_constant, inside_of, literal_at}
-use Rattle.alma_rules.specs.Parts.{Typing, Denoted, Span, Operands, write_stmts, one_stmt}
+use Rattle.alma_rules.specs.Parts.{Typing, Denotation, Span, Operands, write_stmts, one_stmt}
 use Rattle.alma_rules.specs.ExprRules.{Use, as_variable, as_value, as_procedure, Operand}
 use Rattle.alma_rules.specs.StmtRules.{write_rules}
-use Rattle.alma_rules.specs.Nodes.{judge_name, indexed, first_add, first_mul, operand_behind, sum_at, product_at, in_parens, as_sequence}
+use Rattle.alma_rules.specs.Nodes.{judge_name, index_at, first_add, first_mul, operand_behind, sum_at, product_at, in_parens, as_sequence}
 use Rattle.alma_rules.specs.Nodes.{or_sequence, only_of, item_of, item_literal, text_rules}
 use Rattle.alma_rules.specs.Parts.{add_operator, mul_operator}
 use Rattle.alma_rules.specs.Walk.{judge_stmts, judge_stmt_tail, judge_stmt, judge_elsifs, judge_else, judge_by, judge_arm, judge_arm_tail}
@@ -32,33 +32,33 @@ up_two a = record { le = omega arith }
 up_then : {a b c : ℕ} → Up a b → Up b c → Up a c
 up_then {a} {b} {c} p q = record { le = omega (arith, p.le, q.le) }
 
-sum_up : (s : Scene) (k a : ℕ) (sign : Option Sign) (rest : tree.TermTail) (j : Judged (Typing × Operands)) → Up a j.next
+sum_up : (s : Scene) (k a : ℕ) (sign : Option Sign) (rest : tree.TermTail) (j : Judgement (Typing × Operands)) → Up a j.next
     → Up a (sum_at s k sign rest j).next
 sum_up s k a None tree.no_term j h = h
 sum_up s k a None (tree.more_term o t rest) j h = h
 sum_up s k a (Some g) tree.no_term j h = h
 sum_up s k a (Some g) (tree.more_term o t rest) j h = h
 
-product_up : (s : Scene) (o : Operand) (k a : ℕ) (rest : tree.FactorTail) (j : Judged (Typing × Operands)) → Up a j.next
+product_up : (s : Scene) (o : Operand) (k a : ℕ) (rest : tree.FactorTail) (j : Judgement (Typing × Operands)) → Up a j.next
     → Up a (product_at s o k rest j).next
 product_up s o k a tree.no_factor j h = h
 product_up s o k a (tree.more_factor m f rest) j h = h
 
-abbrev OnlyUp : ℕ → Option (Judged Typing) → Type 0
+abbrev OnlyUp : ℕ → Option (Judgement Typing) → Type 0
 OnlyUp n None = Unit {0}
 OnlyUp n (Some j) = Up n j.next
 
-paren_up : (s : Scene) (n k : ℕ) (o : Option (Judged Typing)) (b : Judged ir.Stmts) → OnlyUp n o → Up n b.next
+paren_up : (s : Scene) (n k : ℕ) (o : Option (Judgement Typing)) (b : Judgement ir.Stmts) → OnlyUp n o → Up n b.next
     → Up n (or_sequence o (in_parens s k) (λ u. as_sequence s k b)).next
 paren_up s n k None b h g = g
 paren_up s n k (Some j) b h g = h
 
-only_up : (n : ℕ) (rest : tree.StmtTail) (o : Option (Judged Typing)) → OnlyUp n o → OnlyUp n (only_of rest o)
+only_up : (n : ℕ) (rest : tree.StmtTail) (o : Option (Judgement Typing)) → OnlyUp n o → OnlyUp n (only_of rest o)
 only_up n tree.no_stmt None h = h
 only_up n tree.no_stmt (Some j) h = h
 only_up n (tree.more_stmt x rest) o h = tt
 
-item_up : (s : Scene) (n node : ℕ) (o : Option (ℕ × ℕ)) (j : Judged Typing) → Up n j.next → Up n (item_of s n node o j).next
+item_up : (s : Scene) (n node : ℕ) (o : Option (ℕ × ℕ)) (j : Judgement Typing) → Up n j.next → Up n (item_of s n node o j).next
 item_up s n node None j h = h
 item_up s n node (Some l) j h = by (nat_eq (length (literal_at s l.1)) 1)
   where
@@ -166,7 +166,7 @@ mutual
   expr_up : (s : Scene) (n : ℕ) (x : tree.Expr) → Up n (judge_expr s n x).next
   expr_up s n (tree.expr k left right) = compared_up s n k (judge_simple s n left) right (simple_up s n left)
 
-  compared_up : (s : Scene) (n k : ℕ) (left : Judged Typing) (x : tree.Compared) → Up n left.next → Up n (judge_compared s k left x).next
+  compared_up : (s : Scene) (n k : ℕ) (left : Judgement Typing) (x : tree.Compared) → Up n left.next → Up n (judge_compared s k left x).next
   compared_up s n k left tree.no_relation h = h
   compared_up s n k left (tree.compared r right) h = up_then h (simple_up s _ right)
 
@@ -220,19 +220,19 @@ mutual
   desig_up : (s : Scene) (n : ℕ) (w : Use) (x : tree.Desig) → Up n (judge_desig s n w x).next
   desig_up s n w (tree.desig k name more) = selectors_up s (judge_name s n name) more
 
-  selectors_up : (s : Scene) (d : Judged Denoted) (x : tree.SelectorTail) → Up d.next (judge_selectors s d x).next
+  selectors_up : (s : Scene) (d : Judgement Denotation) (x : tree.SelectorTail) → Up d.next (judge_selectors s d x).next
   selectors_up s d tree.no_selector = up_same d.next
   selectors_up s d (tree.more_selector x rest) = up_then (selector_up s d x) (selectors_up s (judge_selector s d x) rest)
 
-  selector_up : (s : Scene) (d : Judged Denoted) (x : tree.Selector) → Up d.next (judge_selector s d x).next
+  selector_up : (s : Scene) (d : Judgement Denotation) (x : tree.Selector) → Up d.next (judge_selector s d x).next
   selector_up s d (tree.field k name) = up_same d.next
   selector_up s d (tree.index k items) = indices_up s d items
 
-  indices_up : (s : Scene) (d : Judged Denoted) (x : tree.Exprs) → Up d.next (judge_indices s d x).next
+  indices_up : (s : Scene) (d : Judgement Denotation) (x : tree.Exprs) → Up d.next (judge_indices s d x).next
   indices_up s d (tree.exprs e rest) = up_then (expr_up s d.next e)
-      (index_tail_up s (indexed s d (tree.expr_node e) (judge_expr s d.next e)) rest)
+      (index_tail_up s (index_at s d (tree.expr_node e) (judge_expr s d.next e)) rest)
 
-  index_tail_up : (s : Scene) (d : Judged Denoted) (x : tree.ExprTail) → Up d.next (judge_index_tail s d x).next
+  index_tail_up : (s : Scene) (d : Judgement Denotation) (x : tree.ExprTail) → Up d.next (judge_index_tail s d x).next
   index_tail_up s d tree.no_expr = up_same d.next
   index_tail_up s d (tree.more_expr e rest) =
-      up_then (expr_up s d.next e) (index_tail_up s (indexed s d (tree.expr_node e) (judge_expr s d.next e)) rest)
+      up_then (expr_up s d.next e) (index_tail_up s (index_at s d (tree.expr_node e) (judge_expr s d.next e)) rest)

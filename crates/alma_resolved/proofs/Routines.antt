@@ -14,11 +14,11 @@ use Rattle.alma_ir.specs.Checked.{EachRoutine, KeepsLimits, link_slots, text_byt
 use Rattle.alma_ir.proofs.Each.{each_of_append, each_follows}
 use Rattle.alma_rules.specs.Numbered as tree
 use Rattle.alma_rules.specs.View as numbered
-use Rattle.alma_rules.specs.Judged.{Broken, unbroken}
+use Rattle.alma_rules.specs.Judgement.{BrokenRule, if_unbroken}
 use Rattle.alma_rules.specs.Scene.{Scene, nothing, level, text_at}
 use Rattle.alma_rules.specs.Decls.{Frame, decl_routines, formals_of, read_heading, read_decls}
 use Rattle.alma_rules.specs.Modules.{judge_body, routine_of, frame_of, with_shapes, judge_block, judge_bodies, judge_decl, first_scene}
-use Rattle.alma_rules.specs.Modules.{module_frame, judge_module, block_variables, program_of, broken, resolved, cons_routine}
+use Rattle.alma_rules.specs.Modules.{module_frame, judge_module, block_variables, program_of, broken_rules, resolution, cons_routine}
 use Rattle.alma_rules.specs.Modules.{joined_routines, body_lines}
 use Rattle.alma_resolved.proofs.Fits.{when_is}
 use Rattle.alma_resolved.proofs.FramesKept.{parts}
@@ -201,11 +201,11 @@ globals_held source tokens m (tree.block n decls body) =
 
 -- what holds of a program that is made of these routines, holds of the resolved one
 pub resolved_is : (source : List ℕ) (tokens : List Lexeme) (m : tree.Module) (p : Program) (P : Program → Type 0)
-    → resolved source tokens m ≡ Some p → ((rs : List Routine) → (judge_module source tokens m).value ≡ Some rs
+    → resolution source tokens m ≡ Some p → ((rs : List Routine) → (judge_module source tokens m).value ≡ Some rs
     → P (program_of source tokens m rs)) → P p
-resolved_is source tokens m p P e f = by (broken source tokens m) (judge_module source tokens m).value e f
+resolved_is source tokens m p P e f = by (broken_rules source tokens m) (judge_module source tokens m).value e f
   where
-    by : (fs : List Broken) (o : Option (List Routine)) → unbroken fs (option_map (program_of source tokens m) o) ≡ Some p
+    by : (fs : List BrokenRule) (o : Option (List Routine)) → if_unbroken fs (option_map (program_of source tokens m) o) ≡ Some p
         → ((rs : List Routine) → o ≡ Some rs → P (program_of source tokens m rs)) → P p
     by [] None e f = absurd (cc)
     by [] (Some rs) e f = let same : program_of source tokens m rs ≡ p = cc in subst P same (f rs refl)
@@ -225,7 +225,7 @@ texts_within source tokens m t = omega (
 )
 
 pub program_keeps_limits : (source : List ℕ) (tokens : List Lexeme) (m : Module) (p : Program) → length source ≤ source_limit
-    → IsTreeOf source tokens m → resolved source tokens (numbered.view_module m) ≡ Some p → KeepsLimits p
+    → IsTreeOf source tokens m → resolution source tokens (numbered.view_module m) ≡ Some p → KeepsLimits p
 program_keeps_limits source tokens m p short t e = resolved_is source tokens x p KeepsLimits e made
   where
     x : tree.Module
@@ -246,7 +246,7 @@ program_keeps_limits source tokens m p short t e = resolved_is source tokens x p
 
 -- its names and its texts are each at most as long as the source
 pub program_has_room : (source : List ℕ) (tokens : List Lexeme) (m : Module) (p : Program) → length source ≤ source_limit
-    → IsTreeOf source tokens m → resolved source tokens (numbered.view_module m) ≡ Some p → HasRoom p
+    → IsTreeOf source tokens m → resolution source tokens (numbered.view_module m) ≡ Some p → HasRoom p
 program_has_room source tokens m p short t e = resolved_is source tokens x p HasRoom e made
   where
     x : tree.Module
@@ -266,7 +266,7 @@ each_routine P (x ∷ xs) (suc i) h lt = each_routine P xs i h.1 (omega (arith, 
 
 -- with the declared cells of each routine within their limit, its slots are within theirs
 pub program_keeps_slots : (source : List ℕ) (tokens : List Lexeme) (m : Module) (p : Program) → length source ≤ source_limit
-    → IsTreeOf source tokens m → resolved source tokens (numbered.view_module m) ≡ Some p → ProgramFits p
+    → IsTreeOf source tokens m → resolution source tokens (numbered.view_module m) ≡ Some p → ProgramFits p
     → EachRoutine p (λ r routine. KeepsSlots routine)
 program_keeps_slots source tokens m p short t e fits r lt =
     let d : ℕ = 1 + 2 * weigh_block ones (numbered.view_module m).block in

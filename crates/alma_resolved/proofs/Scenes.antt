@@ -9,10 +9,10 @@ use Rattle.alma_ir.specs.Tree as ir
 use Rattle.alma_ir.specs.Tree.{routine_at}
 use Rattle.alma_ir.specs.Phrases.{ExprPhrase, TestPhrase, DesigPhrase, expr_phrases, test_phrases, desig_phrases, sels_phrases, sel_phrases}
 use Rattle.alma_ir.specs.Checked.{desig_cells, cells_after, sel_cells, IsPart, ArePartsOf}
-use Rattle.alma_rules.specs.Judged.{when}
+use Rattle.alma_rules.specs.Judgement.{when}
 use Rattle.alma_rules.specs.Scene.{Scene, FormalOf, Returns, nothing, a_value, Found, absent, bad, constant, named, variable, routine}
 use Rattle.alma_rules.specs.Scene.{found, in_constant, inside_of, base, cells, is_structured}
-use Rattle.alma_rules.specs.Parts.{Meaning, a_place, plain, a_test, Typing, value_of, test_of, no_place, Located, desig_of, with_sel}
+use Rattle.alma_rules.specs.Parts.{Meaning, a_place, plain, a_test, Typing, value_of, test_of, no_place, Location, desig_of, with_sel}
 use Rattle.alma_resolved.specs.Fits.{Place, RootFits, Laid}
 use Rattle.alma_resolved.specs.Scenes.{FormalsFit, ResultFits, FoundFits, ReturnsSimple, SceneFits}
 use Rattle.alma_resolved.proofs.Fits.{laid_cons, laid_join, laid_wide, laid_one}
@@ -193,13 +193,13 @@ simple_too {k} {s} e a b same simple = sym (e.table.alike a b same) ∙ simple
 
 -- ---- designators
 
-pub record LocatedFits (k : Place) (s : Scene) (lo hi : ℕ) (l : Located) : Type 0 where
+pub record LocatedFits (k : Place) (s : Scene) (lo hi : ℕ) (l : Location) : Type 0 where
   pub root : RootFits k l.root l.cells
   pub parts : ArePartsOf l.sels l.cells
   pub left : cells_after l.sels l.cells ≡ cells s l.shape
   pub laid : Laid k s.inside lo hi (sels_phrases l.sels)
 
-pub located_laid : {k : Place} {s : Scene} {lo hi : ℕ} {l : Located} → LocatedFits k s lo hi l
+pub located_laid : {k : Place} {s : Scene} {lo hi : ℕ} {l : Location} → LocatedFits k s lo hi l
     → Laid k s.inside lo hi (desig_phrases (desig_of l))
 unfolding desig_phrases
 located_laid {k} {s} {lo} {hi} {l} h = laid_cons (DesigPhrase (desig_of l)) (h.root, h.parts) h.laid
@@ -219,7 +219,7 @@ phrases_with (ir.more_sels y rest) x = ap (λ xs. sel_phrases y ++ xs) (phrases_
     ∙ sym (append_assoc (sel_phrases y) (sels_phrases rest) (sel_phrases x ++ []))
 
 -- one selector more
-pub selected : {k : Place} {s : Scene} {lo mid hi : ℕ} (l : Located) (shape : ℕ) (x : ir.Sel) → LocatedFits k s lo mid l
+pub selected : {k : Place} {s : Scene} {lo mid hi : ℕ} (l : Location) (shape : ℕ) (x : ir.Sel) → LocatedFits k s lo mid l
     → IsPart x (cells s l.shape) → sel_cells x ≡ cells s shape → Laid k s.inside mid hi (sel_phrases x)
     → LocatedFits k s lo hi (record { shape = shape; root = l.root; cells = l.cells; sels = with_sel l.sels x })
 selected {k} {s} {lo} {mid} {hi} l shape x h part same laid = record {

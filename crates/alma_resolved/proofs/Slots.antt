@@ -16,11 +16,12 @@ use Rattle.alma_ir.specs.declared.program.Param.{Param}
 use Rattle.alma_ir.specs.Checked.{slots_of_kind, param_slots, AreLaidOut, HasOneCellAs}
 use Rattle.alma_ir.proofs.Each.{each_of_append}
 use Rattle.alma_rules.specs.Numbered as tree
-use Rattle.alma_rules.specs.Judged.{broken_at}
+use Rattle.alma_rules.specs.Judgement.{broken_at}
 use Rattle.alma_rules.specs.Scene.{Scene, cells, range, is_structured, is_first}
-use Rattle.alma_rules.specs.Types.{redeclared, read_type_name, read_type, read_constant, all_names, last_token}
+use Rattle.alma_rules.specs.Types.{redeclaration_rules, read_type_name, read_type, read_constant, all_names, last_token}
 use Rattle.alma_rules.specs.Places.{width, mark_type}
-use Rattle.alma_rules.specs.Decls.{Frame, with_faults, with_scene, limited, param_kind, declared_cells, with_param, param_in, params_in}
+use Rattle.alma_rules.specs.Decls.{Frame, with_faults, with_scene, within_limit, param_kind, declared_cells, with_param, param_in}
+use Rattle.alma_rules.specs.Decls.{params_in}
 use Rattle.alma_rules.specs.Decls.{formal_in, read_formals, constant_in, read_consts, type_in, read_types, with_variable, variable_in}
 use Rattle.alma_rules.specs.Decls.{variables_in, variables_of, read_vars, read_heading, read_decl, read_decls, decl_routines}
 use Rattle.alma_rules.specs.Decls as decls
@@ -150,8 +151,8 @@ param_laid f from mode (Some shape) name h = by (is_first f.scene name)
     }
 
     by : (c : Bool) → ParamsLaid (decls.with_formal
-        (if_true c (λ u. limited name f (with_param f name from mode shape (param_kind (is_structured f.scene shape) mode)))
-        (λ u. with_faults f (broken_at name.node (redeclared f.scene name)))) (Some (record { mode = mode; shape = shape })))
+        (if_true c (λ u. within_limit name f (with_param f name from mode shape (param_kind (is_structured f.scene shape) mode)))
+        (λ u. with_faults f (broken_at name.node (redeclaration_rules f.scene name)))) (Some (record { mode = mode; shape = shape })))
     by true = limited_case (λ x. ParamsLaid (decls.with_formal x (Some (record { mode = mode; shape = shape })))) name f
         (with_param f name from mode shape (param_kind (is_structured f.scene shape) mode)) (λ le. taken)
         (record { laid = h.laid; sum = h.sum; cells = h.cells; declared = h.declared })
@@ -162,7 +163,7 @@ params_laid : (f : Frame) (from : ℕ) (mode : Option Mode) (o : Option ℕ) (xs
 params_laid f from mode o [] h = h
 params_laid f from mode o (x ∷ xs) h = params_laid (param_in f from mode o x) from mode o xs (param_laid f from mode o x h)
 
-faults_laid : (f : Frame) (fs : List Rattle.alma_rules.specs.Judged.Broken) → ParamsLaid f → ParamsLaid (with_faults f fs)
+faults_laid : (f : Frame) (fs : List Rattle.alma_rules.specs.Judgement.BrokenRule) → ParamsLaid f → ParamsLaid (with_faults f fs)
 faults_laid f fs h = record { laid = h.laid; sum = h.sum; cells = h.cells; declared = h.declared }
 
 formals_laid : (f : Frame) (xs : List tree.Formal) → ParamsLaid f → ParamsLaid (read_formals f xs)
@@ -179,15 +180,15 @@ head_laid s r n params result b = by (decls.too_deep s)
     (decls.formals_of params)) result
     (formals_laid _ (decls.formals_of params) (record { laid = tt; sum = refl; cells = tt; declared = omega arith })))
   where
-    headed_laid : (f : Frame) (o : Option tree.Name) → ParamsLaid f → ParamsLaid (decls.headed f o).frame
+    headed_laid : (f : Frame) (o : Option tree.Name) → ParamsLaid f → ParamsLaid (decls.heading_at f o).frame
     headed_laid f None h = record { laid = h.laid; sum = h.sum; cells = h.cells; declared = h.declared }
     headed_laid f (Some name) h = record { laid = h.laid; sum = h.sum; cells = h.cells; declared = h.declared }
 
     by : (d : List Rattle.alma_base.specs.declared.fault.CheckFault.CheckFault)
-        → ParamsLaid (decls.headed (read_formals
+        → ParamsLaid (decls.heading_at (read_formals
         (decls.new_frame (decls.with_block s r Rattle.alma_rules.specs.Scene.nothing (decls.formal_names (decls.formals_of params)) b) 0)
         (decls.formals_of params)) result).frame
-        → ParamsLaid (decls.with_depth d n (decls.headed
+        → ParamsLaid (decls.with_depth d n (decls.heading_at
         (read_formals (decls.new_frame (decls.with_block s r Rattle.alma_rules.specs.Scene.nothing
         (decls.formal_names (decls.formals_of params)) b) 0) (decls.formals_of params)) result)).frame
     by [] h = h
@@ -221,8 +222,8 @@ variable_steps : (f : Frame) (from : ℕ) (o : Option ℕ) (name : tree.Name) �
 variable_steps f from None name = steps_same f _ refl refl refl
 variable_steps f from (Some shape) name = by (is_first f.scene name)
   where
-    by : (c : Bool) → Steps f (if_true c (λ u. limited name f (with_variable f name from shape))
-        (λ u. with_faults f (broken_at name.node (redeclared f.scene name))))
+    by : (c : Bool) → Steps f (if_true c (λ u. within_limit name f (with_variable f name from shape))
+        (λ u. with_faults f (broken_at name.node (redeclaration_rules f.scene name))))
     by true = limited_case (λ x. Steps f x) name f (with_variable f name from shape)
         (λ le. record { params = refl; le = omega arith; same = omega arith }) (steps_same f _ refl refl refl)
     by false = steps_same f _ refl refl refl

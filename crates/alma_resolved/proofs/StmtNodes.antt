@@ -13,11 +13,12 @@ use Rattle.alma_ir.specs.Phrases.{StmtPhrase, ExprPhrase, TestPhrase, test_phras
 use Rattle.alma_ir.specs.Phrases.{cases_phrases, else_phrases, branches_phrases, loop_phrases}
 use Rattle.alma_ir.specs.Checked.{labels_of, IsOrdered}
 use Rattle.alma_ir.proofs.Each.{each_of_front, each_of_back, each_of_append}
-use Rattle.alma_rules.specs.Judged.{Judged, unless, both_of, when, holds, at_node, with, fine}
+use Rattle.alma_rules.specs.Judgement.{Judgement, unless, both_of, when, holds, at_node, with, fine}
 use Rattle.alma_rules.specs.Scene.{Scene, Returns, nothing, a_value, Found, absent, bad, constant, named, variable, routine, literal_at}
 use Rattle.alma_rules.specs.Scene.{base, range, is_structured, has_integer, has_char, has_boolean}
-use Rattle.alma_rules.specs.Parts.{Meaning, a_place, plain, a_test, Typing, value_of, test_of, Located, desig_of, denoted, located_in}
-use Rattle.alma_rules.specs.Parts.{one_stmt, append_stmts, assigned, assigned_to, read_stmts, read_as, write_stmts, write_as, Span, span_of}
+use Rattle.alma_rules.specs.Parts.{Meaning, a_place, plain, a_test, Typing, value_of, test_of, Location, desig_of, denotation, located_in}
+use Rattle.alma_rules.specs.Parts.{one_stmt, append_stmts, assignment_stmts, assigned_to, read_stmts, read_as, write_stmts, write_as, Span}
+use Rattle.alma_rules.specs.Parts.{span_of}
 use Rattle.alma_rules.specs.Parts.{span_from, ranges_of, append_cases}
 use Rattle.alma_rules.specs.ExprRules.{test_rules, not_test, structured, no_integer}
 use Rattle.alma_rules.specs.StmtRules.{assign_rules, unlike_sides, loop_name_rules, loop_rules, bad_loop, other_base, by_rules, zero_step}
@@ -57,7 +58,7 @@ no_stmts_fit k i n = laid_nil k i n n (omega arith)
 
 -- ---- assignment, conditions
 
-assigned_fits : {k : Place} {s : Scene} (e : SceneFits k s) {lo mid hi : ℕ} (l : Located) (shape : ℕ) → base s l.shape ≡ base s shape
+assigned_fits : {k : Place} {s : Scene} (e : SceneFits k s) {lo mid hi : ℕ} (l : Location) (shape : ℕ) → base s l.shape ≡ base s shape
     → LocatedFits k s lo mid l → (m : Meaning) → MeaningFits k s mid hi shape m
     → Laid k s.inside lo hi (stmt_phrases (assigned_to s l m))
 unfolding stmts_phrases
@@ -82,11 +83,11 @@ assigned_fits {k} {s} e {lo} {mid} {hi} l shape same p (a_test x) h =
     (p.left ∙ e.table.simple l.shape (simple_too e shape l.shape (sym same) h.1), e.table.ordered l.shape)
     (laid_join (located_laid p) (laid_cons (ExprPhrase (ir.Truth x)) tt h.0))
 
-pub assign_fits : {k : Place} {s : Scene} (e : SceneFits k s) {lo mid hi : ℕ} (v : Option (Located × Typing))
+pub assign_fits : {k : Place} {s : Scene} (e : SceneFits k s) {lo mid hi : ℕ} (v : Option (Location × Typing))
     → When v (λ p. LocatedFits k s lo mid p.0 × TypingFits k s mid hi p.1)
-    → When (option_map (assigned s) (unless (assign_rules s v) v)) (λ x. Laid k s.inside lo hi (stmts_phrases x))
+    → When (option_map (assignment_stmts s) (unless (assign_rules s v) v)) (λ x. Laid k s.inside lo hi (stmts_phrases x))
 assign_fits {k} {s} e {lo} {mid} {hi} v h =
-    when_map {P = λ p. Laid k s.inside lo hi (stmt_phrases (assigned_to s p.0 p.1.meaning))} (assigned s)
+    when_map {P = λ p. Laid k s.inside lo hi (stmt_phrases (assigned_to s p.0 p.1.meaning))} (assignment_stmts s)
     (when_node (assign_rules s) v h (λ p g q. assigned_fits e p.0 p.1.shape
     (same_number (base s p.0.shape) (base s p.1.shape) (no_fault_alone (unlike_sides s p) fault.TypeMismatch q)) g.0 p.1.meaning
     g.1.meaning))
@@ -106,7 +107,7 @@ condition_fits {k} {s} e {lo} {hi} v h =
 -- ---- loops
 
 loop_name : {k : Place} {s : Scene} (e : SceneFits k s) (n : ℕ) (f : Found) → FoundFits k s f
-    → When (option_and_then located_in (denoted s f)) (LocatedFits k s n n)
+    → When (option_and_then located_in (denotation s f)) (LocatedFits k s n n)
 unfolding sels_phrases
 loop_name e n absent h = when_none
 loop_name e n bad h = when_none
@@ -118,9 +119,10 @@ loop_name e n (routine q up None) h = when_none
 loop_name e n (routine q up (Some x)) h = when_none
 
 pub loop_name_fits : {k : Place} {s : Scene} (e : SceneFits k s) (n : ℕ) (f : Found) → FoundFits k s f
-    → When (unless (loop_name_rules s f (option_and_then located_in (denoted s f))) (option_and_then located_in (denoted s f)))
+    → When (unless (loop_name_rules s f (option_and_then located_in (denotation s f))) (option_and_then located_in (denotation s f)))
     (LocatedFits k s n n)
-loop_name_fits {k} {s} e n f h = when_node (loop_name_rules s f) (option_and_then located_in (denoted s f)) (loop_name e n f h) (λ l g q. g)
+loop_name_fits {k} {s} e n f h = when_node (loop_name_rules s f) (option_and_then located_in (denotation s f)) (loop_name e n f h)
+    (λ l g q. g)
 
 -- a step is not zero
 not_zero : (z : ℤ) → is_zero z ≡ false → z ≡ pos 0 → ⊥
@@ -151,7 +153,7 @@ pub record LoopIs (k : Place) (s : Scene) (lo hi : ℕ) (l : ir.Loop) : Type 0 w
   pub loop : LoopFits lo hi l
   pub laid : Laid k s.inside lo hi (loop_phrases l)
 
-loop_made : {k : Place} {s : Scene} (e : SceneFits k s) (n m1 m2 m3 m4 : ℕ) (l : Located) (a b : Typing) (z : ℤ) (x : ir.Stmts)
+loop_made : {k : Place} {s : Scene} (e : SceneFits k s) (n m1 m2 m3 m4 : ℕ) (l : Location) (a b : Typing) (z : ℤ) (x : ir.Stmts)
     → LocatedFits k s (n + 2) (n + 2) l → TypingFits k s (n + 2) m1 a → TypingFits k s m1 m2 b
     → (z ≡ pos 0 → ⊥) × (m2 ≤ m3) → Laid k s.inside m3 m4 (stmts_phrases x) → bad_loop s (Some a) (Some b) l ≡ false
     → LoopIs k s n m4 (loop_of s n (l, (a, (b, (z, x)))))
@@ -177,7 +179,7 @@ loop_made {k} {s} e n m1 m2 m3 m4 l a b z x hl ha hb hz hx q =
       laid = laid_wide n m4 (omega arith) (omega arith) whole;
     }
 
-pub loop_fits : {k : Place} {s : Scene} (e : SceneFits k s) (n m1 m2 m3 m4 : ℕ) (va : Option Located) (vb vc : Option Typing)
+pub loop_fits : {k : Place} {s : Scene} (e : SceneFits k s) (n m1 m2 m3 m4 : ℕ) (va : Option Location) (vb vc : Option Typing)
     (vd : Option ℤ) (vx : Option ir.Stmts) → When va (LocatedFits k s (n + 2) (n + 2))
     → When vb (TypingFits k s (n + 2) m1) → When vc (TypingFits k s m1 m2) → When vd (λ z. (z ≡ pos 0 → ⊥) × (m2 ≤ m3))
     → When vx (λ x. Laid k s.inside m3 m4 (stmts_phrases x))
@@ -185,22 +187,23 @@ pub loop_fits : {k : Place} {s : Scene} (e : SceneFits k s) (n m1 m2 m3 m4 : ℕ
     (both_of va (both_of vb (both_of vc (both_of vd vx)))))) (LoopIs k s n m4)
 loop_fits {k} {s} e n m1 m2 m3 m4 None vb vc vd vx ha hb hc hd hx =
     when_map {P = λ p. ⊥} (loop_of s n) (when_unless_none
-    (loop_rules {A = Located × (Typing × (Typing × (ℤ × ir.Stmts)))} s None vb vc None)) (λ p b. absurd b)
+    (loop_rules {A = Location × (Typing × (Typing × (ℤ × ir.Stmts)))} s None vb vc None)) (λ p b. absurd b)
 loop_fits {k} {s} e n m1 m2 m3 m4 (Some l) None vc vd vx ha hb hc hd hx =
     when_map {P = λ p. ⊥} (loop_of s n) (when_unless_none
-    (loop_rules {A = Located × (Typing × (Typing × (ℤ × ir.Stmts)))} s (Some l) None vc None)) (λ p b. absurd b)
+    (loop_rules {A = Location × (Typing × (Typing × (ℤ × ir.Stmts)))} s (Some l) None vc None)) (λ p b. absurd b)
 loop_fits {k} {s} e n m1 m2 m3 m4 (Some l) (Some a) None vd vx ha hb hc hd hx =
     when_map {P = λ p. ⊥} (loop_of s n) (when_unless_none
-    (loop_rules {A = Located × (Typing × (Typing × (ℤ × ir.Stmts)))} s (Some l) (Some a) None None)) (λ p b. absurd b)
+    (loop_rules {A = Location × (Typing × (Typing × (ℤ × ir.Stmts)))} s (Some l) (Some a) None None)) (λ p b. absurd b)
 loop_fits {k} {s} e n m1 m2 m3 m4 (Some l) (Some a) (Some b) None vx ha hb hc hd hx =
     when_map {P = λ p. ⊥} (loop_of s n) (when_unless_none
-    (loop_rules {A = Located × (Typing × (Typing × (ℤ × ir.Stmts)))} s (Some l) (Some a) (Some b) None)) (λ p b. absurd b)
+    (loop_rules {A = Location × (Typing × (Typing × (ℤ × ir.Stmts)))} s (Some l) (Some a) (Some b) None)) (λ p b. absurd b)
 loop_fits {k} {s} e n m1 m2 m3 m4 (Some l) (Some a) (Some b) (Some z) None ha hb hc hd hx =
     when_map {P = λ p. ⊥} (loop_of s n) (when_unless_none
-    (loop_rules {A = Located × (Typing × (Typing × (ℤ × ir.Stmts)))} s (Some l) (Some a) (Some b) None)) (λ p b. absurd b)
+    (loop_rules {A = Location × (Typing × (Typing × (ℤ × ir.Stmts)))} s (Some l) (Some a) (Some b) None)) (λ p b. absurd b)
 loop_fits {k} {s} e n m1 m2 m3 m4 (Some l) (Some a) (Some b) (Some z) (Some x) ha hb hc hd hx =
     when_map {P = λ p. LoopIs k s n m4 (loop_of s n p)} (loop_of s n)
-    (when_unless (loop_rules {A = Located × (Typing × (Typing × (ℤ × ir.Stmts)))} s (Some l) (Some a) (Some b) (Some (l, (a, (b, (z, x))))))
+    (when_unless (loop_rules {A = Location × (Typing × (Typing × (ℤ × ir.Stmts)))} s (Some l) (Some a) (Some b)
+    (Some (l, (a, (b, (z, x))))))
     (l, (a, (b, (z, x)))) (λ q. loop_made e n m1 m2 m3 m4 l a b z x ha.gives hb.gives hc.gives hd.gives hx.gives
     (no_fault_alone (bad_loop s (Some a) (Some b) l) fault.TypeMismatch q)))
     (λ p g. g)
@@ -504,7 +507,7 @@ writable_simple {k} {s} e shape q = by (true_of_or (has_integer s shape || has_c
     by (inl h) = readable_simple e shape (ap not h)
     by (inr h) = base_simple e shape 2 (omega arith) h
 
-pub read_fits : {k : Place} {s : Scene} (e : SceneFits k s) {lo hi : ℕ} (v : Option Located) → When v (LocatedFits k s lo hi)
+pub read_fits : {k : Place} {s : Scene} (e : SceneFits k s) {lo hi : ℕ} (v : Option Location) → When v (LocatedFits k s lo hi)
     → When (option_map (read_stmts s) (unless (read_rules s v) v)) (λ x. Laid k s.inside lo hi (stmts_phrases x))
 unfolding stmts_phrases
 read_fits {k} {s} e {lo} {hi} v h =
@@ -512,7 +515,7 @@ read_fits {k} {s} e {lo} {hi} v h =
     (when_node (read_rules s) v h (λ l g q. made l g (readable_simple e l.shape (no_fault_alone (unreadable s l) fault.BadRead q))))
     (λ l g. g)
   where
-    made : (l : Located) → LocatedFits k s lo hi l → is_structured s l.shape ≡ false
+    made : (l : Location) → LocatedFits k s lo hi l → is_structured s l.shape ≡ false
         → Laid k s.inside lo hi (stmts_phrases (read_stmts s l))
     made l g simple = laid_one (laid_cons (StmtPhrase (ir.Read (desig_of l) (read_as s l.shape) (range s l.shape)))
         (g.left ∙ e.table.simple l.shape simple, e.table.ordered l.shape) (located_laid g))
@@ -535,7 +538,7 @@ unfolding stmts_phrases
 text_fits {k} s n text = when_unless (text_rules s (Some (one_stmt (ir.WriteText text)))) (one_stmt (ir.WriteText text))
     (λ q. laid_one (laid_cons (StmtPhrase (ir.WriteText text)) tt (laid_nil k s.inside n n (omega arith))))
 
-pub item_fits : {k : Place} {s : Scene} (e : SceneFits k s) (n node : ℕ) (o : Option (ℕ × ℕ)) (j : Judged Typing)
+pub item_fits : {k : Place} {s : Scene} (e : SceneFits k s) (n node : ℕ) (o : Option (ℕ × ℕ)) (j : Judgement Typing)
     → When j.value (TypingFits k s n j.next)
     → When (item_of s n node o j).value (λ x. Laid k s.inside n (item_of s n node o j).next (stmts_phrases x))
 item_fits {k} {s} e n node None j h = write_fits e j.value h

@@ -9,7 +9,7 @@ use Rattle.std.proofs.Math.Seq.{get_or-append_seam}
 use Rattle.alma_base.specs.declared.number.Range.{Range}
 use Rattle.alma_base.specs.Numbers.{range_size, whole_range}
 use Rattle.alma_names.specs.Shapes.{PlainShape, PlainField, integer, char, boolean, listed, sub, row, fields, range_of, range_at, base_of}
-use Rattle.alma_names.specs.Shapes.{base_at, size_of, values_at, sum_of_cells, cells_in, cell_counts, cells_at, placed, field_named}
+use Rattle.alma_names.specs.Shapes.{base_at, size_of, values_at, sum_of_cells, cells_in, cell_counts, cells_at, place_fields, field_named}
 use Rattle.alma_names.specs.Shapes.{field_at, first_shapes}
 use Rattle.alma_names.proofs.Tables.{counts_push, counts_len, cells_still}
 use Rattle.alma_ir.specs.Checked.{IsOrdered}
@@ -128,7 +128,7 @@ row_keeps t i e h simple lt = table_more t (row i e) h (
       ∙ (ap (λ n. values_at t i * n) (cells_still t (row i e) e lt) ∙ sym (last_cells t (row i e)))),
 )
 
-placed_sum : (cs : List ℕ) (o : ℕ) (fs : List PlainField) → sum_of_cells cs (placed cs o fs) ≡ sum_of_cells cs fs
+placed_sum : (cs : List ℕ) (o : ℕ) (fs : List PlainField) → sum_of_cells cs (place_fields cs o fs) ≡ sum_of_cells cs fs
 placed_sum cs o [] = refl
 placed_sum cs o (f ∷ fs) = ap (λ n. get_or cs f.shape 0 + n) (placed_sum cs (o + get_or cs f.shape 0) fs)
 
@@ -137,7 +137,7 @@ abbrev pub FieldsThere : List PlainShape → List PlainField → Type 0
 FieldsThere t fs = AllByRecursion (λ f. f.shape < length t) fs
 
 placed_keep : (t u : List PlainShape) (n o : ℕ) (fs : List PlainField) → FieldsThere t fs → o + sum_of_cells (cell_counts t) fs ≤ n
-    → AllByRecursion (FieldKeeps (t ++ u) n) (placed (cell_counts t) o fs)
+    → AllByRecursion (FieldKeeps (t ++ u) n) (place_fields (cell_counts t) o fs)
 placed_keep t u n o [] h le = tt
 placed_keep t u n o (f ∷ fs) h le = (
   (omega (arith, h.0, length-append t u), omega (arith, cells_more t u f.shape h.0, le)),
@@ -145,11 +145,11 @@ placed_keep t u n o (f ∷ fs) h le = (
 )
 
 pub record_keeps : (t : List PlainShape) (fs : List PlainField) → TableKeeps t → FieldsThere t fs
-    → TableKeeps (t ++ fields (placed (cell_counts t) 0 fs) ∷ [])
+    → TableKeeps (t ++ fields (place_fields (cell_counts t) 0 fs) ∷ [])
 record_keeps t fs h there =
-    let x = fields (placed (cell_counts t) 0 fs) in
-    let all : cells_at (t ++ fields (placed (cell_counts t) 0 fs) ∷ []) (length t) ≡ sum_of_cells (cell_counts t) fs =
-    last_cells t (fields (placed (cell_counts t) 0 fs)) ∙ placed_sum (cell_counts t) 0 fs in
+    let x = fields (place_fields (cell_counts t) 0 fs) in
+    let all : cells_at (t ++ fields (place_fields (cell_counts t) 0 fs) ∷ []) (length t) ≡ sum_of_cells (cell_counts t) fs =
+    last_cells t (fields (place_fields (cell_counts t) 0 fs)) ∙ placed_sum (cell_counts t) 0 fs in
     table_more t x h (placed_keep t (x ∷ []) (cells_at (t ++ x ∷ []) (length t)) 0 fs there (omega (arith, all)))
 
 pub sub_keeps : (t : List PlainShape) (b : ℕ) (r : Range) → TableKeeps t → structured_in t b ≡ false → IsOrdered r

@@ -13,12 +13,13 @@ use Rattle.alma_names.specs.Shapes.{PlainShape, PlainField, listed, sub, row, fi
 use Rattle.alma_names.specs.Blocks.{shape_id}
 use Rattle.alma_ir.proofs.Each.{each_of_append, each_follows}
 use Rattle.alma_rules.specs.Numbered as tree
-use Rattle.alma_rules.specs.Judged.{Broken, when}
+use Rattle.alma_rules.specs.Judgement.{BrokenRule, when}
 use Rattle.alma_rules.specs.Scene.{Scene, found, found_as, base, is_structured, in_constant}
 use Rattle.alma_rules.specs.Parts.{Typing}
 use Rattle.alma_rules.specs.StmtRules.{is_above}
-use Rattle.alma_rules.specs.Types.{Reading, gives, reading_at, reading_both, reading_with, changed, reading_change, read_constant, declared}
-use Rattle.alma_rules.specs.Types.{redeclared_all, type_name_rules, shape_in, read_type_name, Formed, formed, too_large, bad_index}
+use Rattle.alma_rules.specs.Types.{Reading, gives, reading_at, reading_both, reading_with, with_change, reading_change, read_constant}
+use Rattle.alma_rules.specs.Types.{declare_name}
+use Rattle.alma_rules.specs.Types.{redeclared_all, type_name_rules, shape_in, read_type_name, ShapeOrLimit, formed, too_large, bad_index}
 use Rattle.alma_rules.specs.Types.{index_type_rules, other_bounds, no_subrange, subrange_rules, is_past, size_rules, add_shape, row_on}
 use Rattle.alma_rules.specs.Types.{rows_on, rows_of, number_in, subrange_from, subrange_of, all_first, last_token, declare_values}
 use Rattle.alma_rules.specs.Types.{listed_in, read_listed, all_names, redeclared_fields, fields_with, fields_of_type, joined_fields}
@@ -79,7 +80,7 @@ keep_change : {A B : Type 0} (f : Scene → A → Scene × B) (k : Place) (c : �
     → ((x : A) → Q r.scene.shapes x → Changes k c r.scene R (f r.scene x)) → ReadKeeps k c s R (reading_change f r)
 keep_change {A} {B} f k c s Q R r h g = by r.value h.value
   where
-    by : (o : Option A) → When o (Q r.scene.shapes) → ReadKeeps k c s R (changed r.scene r.faults (option_map (f r.scene) o))
+    by : (o : Option A) → When o (Q r.scene.shapes) → ReadKeeps k c s R (with_change r.scene r.faults (option_map (f r.scene) o))
     by None w = record { scene = h.scene; more = h.more; value = when_none }
     by (Some x) w = let i = g x w.gives in record {
       scene = i.scene;
@@ -95,16 +96,16 @@ abbrev pub IsShape : List PlainShape → ℕ → Type 0
 IsShape t a = a < length t
 
 -- one, or one that is too large
-abbrev pub IsFormed : List PlainShape → Formed → Type 0
+abbrev pub IsFormed : List PlainShape → ShapeOrLimit → Type 0
 IsFormed t (formed a) = a < length t
 IsFormed t too_large = Unit {0}
 
 -- a shape that is there
-abbrev IsSized : List PlainShape → Formed → Type 0
+abbrev IsSized : List PlainShape → ShapeOrLimit → Type 0
 IsSized t f = number_in f < length t
 
 -- simple shapes
-abbrev IsIndex : List PlainShape → Formed → Type 0
+abbrev IsIndex : List PlainShape → ShapeOrLimit → Type 0
 IsIndex t f = structured_in t (number_in f) ≡ false
 
 abbrev AreIndices : List PlainShape → List ℕ → Type 0
@@ -117,7 +118,7 @@ IsValue t x = (v : ℤ) → x.constant ≡ Some v → structured_in t x.shape �
 shape_more : (t u : List PlainShape) (a : ℕ) → IsShape t a → IsShape (t ++ u) a
 shape_more t u a h = omega (arith, h, length-append t u)
 
-index_more : (t u : List PlainShape) (f : Formed) → IsIndex t f → IsIndex (t ++ u) f
+index_more : (t u : List PlainShape) (f : ShapeOrLimit) → IsIndex t f → IsIndex (t ++ u) f
 index_more t u f h = simple_still t u (number_in f) h
 
 indices_more : (t u : List PlainShape) (is : List ℕ) → AreIndices t is → AreIndices (t ++ u) is
@@ -142,7 +143,7 @@ add_changes : (k : Place) (c : ℕ) (s : Scene) (x : PlainShape) → SceneKeeps 
 add_changes k c s x h t = by (is_too_large s.shapes x)
   where
     by : (b : Bool) → Changes k c s IsFormed
-        (if_true {A = Scene × Formed} b (λ u. (s, too_large))
+        (if_true {A = Scene × ShapeOrLimit} b (λ u. (s, too_large))
         (λ u. (record s { shapes = s.shapes ++ placed_shape (cell_counts s.shapes) x ∷ [] }, formed (length s.shapes))))
     by true = same_changes k c s IsFormed too_large h tt
     by false = record {
@@ -151,7 +152,8 @@ add_changes k c s x h t = by (is_too_large s.shapes x)
       value = omega (arith, length-append s.shapes (placed_shape (cell_counts s.shapes) x ∷ []));
     }
 
-row_changes : (k : Place) (c : ℕ) (s : Scene) (i : ℕ) (p : Scene × Formed) → structured_in s.shapes i ≡ false → Changes k c s IsFormed p
+row_changes : (k : Place) (c : ℕ) (s : Scene) (i : ℕ) (p : Scene × ShapeOrLimit) → structured_in s.shapes i ≡ false
+    → Changes k c s IsFormed p
     → Changes k c s IsFormed (row_on i p)
 row_changes k c s i (t, formed e) simple h =
     let here : structured_in t.shapes i ≡ false =
@@ -160,7 +162,8 @@ row_changes k c s i (t, formed e) simple h =
     record { scene = g.scene; more = longer_twice h.more g.more; value = g.value }
 row_changes k c s i (t, too_large) simple h = h
 
-rows_change : (k : Place) (c : ℕ) (s : Scene) (is : List ℕ) (f : Formed) → SceneKeeps k c s → AreIndices s.shapes is → IsFormed s.shapes f
+rows_change : (k : Place) (c : ℕ) (s : Scene) (is : List ℕ) (f : ShapeOrLimit) → SceneKeeps k c s → AreIndices s.shapes is
+    → IsFormed s.shapes f
     → Changes k c s IsFormed (rows_on s is f)
 rows_change k c s [] f h is_simple g = same_changes k c s IsFormed f h g
 rows_change k c s (i ∷ is) f h is_simple g = row_changes k c s i (rows_on s is f) is_simple.0 (rows_change k c s is f h is_simple.1 g)
@@ -210,14 +213,14 @@ values_keep : (k : Place) (c : ℕ) (s : Scene) (from : ℕ) (o : Option ℕ) (i
 values_keep k c s from o i [] h l = record { scene = h; more = longer_same s s refl }
 values_keep k c s from None i (x ∷ xs) h l =
     let one = keeps_declared x from entry.Bad h tt in
-    let g = values_keep k c (declared s x from entry.Bad) from None (i + 1) xs one tt in
+    let g = values_keep k c (declare_name s x from entry.Bad) from None (i + 1) xs one tt in
     record { scene = g.scene; more = longer_twice (longer_declared s x from entry.Bad) g.more }
 values_keep k c s from (Some shape) i (x ∷ xs) h l =
     let one = keeps_declared x from (entry.Constant (shape_id shape) (pos i)) h l in
     let long = longer_declared s x from (entry.Constant (shape_id shape) (pos i)) in
-    let simple : structured_in (declared s x from (entry.Constant (shape_id shape) (pos i))).shapes shape ≡ false =
+    let simple : structured_in (declare_name s x from (entry.Constant (shape_id shape) (pos i))).shapes shape ≡ false =
     subst (λ t. structured_in t shape ≡ false) (sym long.is) (simple_still s.shapes long.tail shape l) in
-    let g = values_keep k c (declared s x from (entry.Constant (shape_id shape) (pos i))) from (Some shape) (i + 1) xs one simple in
+    let g = values_keep k c (declare_name s x from (entry.Constant (shape_id shape) (pos i))) from (Some shape) (i + 1) xs one simple in
     record { scene = g.scene; more = longer_twice long g.more }
 
 listed_keep : (k : Place) (c : ℕ) (s : Scene) (names : List tree.Name) (from : ℕ) → 0 < length names → SceneKeeps k c s
@@ -246,7 +249,7 @@ listed_keep k c s names from some h = by (all_first s names)
         record { scene = g.scene; more = longer_twice first g.more; value = when_some (formed (length s.shapes)) there }
 
     add : (b : Bool) → ReadKeeps k c s IsFormed
-        (listed_in [] from names (if_true {A = Scene × Formed} b (λ u. (s, too_large))
+        (listed_in [] from names (if_true {A = Scene × ShapeOrLimit} b (λ u. (s, too_large))
         (λ u. (record s { shapes = s.shapes ++ listed (length names) ∷ [] }, formed (length s.shapes)))))
     add true = large
     add false = made
@@ -270,19 +273,19 @@ constant_keeps k c s e h = record {
 -- ---- nodes
 
 -- an index type
-index_keeps : (k : Place) (c : ℕ) (s : Scene) (p : tree.PlainType) (r : Reading Formed) → ReadKeeps k c s IsFormed r
+index_keeps : (k : Place) (c : ℕ) (s : Scene) (p : tree.PlainType) (r : Reading ShapeOrLimit) → ReadKeeps k c s IsFormed r
     → ReadKeeps k c s IsIndex (index_at p r)
 index_keeps k c s p r h = keep_at k c s (tree.plain_node p) (index_type_rules r.scene) IsFormed IsIndex r h
     (λ f g q. by f (no_fault_alone (bad_index r.scene f) fault.IndexType q))
   where
-    by : (f : Formed) → bad_index r.scene f ≡ false → IsIndex r.scene.shapes f
+    by : (f : ShapeOrLimit) → bad_index r.scene f ≡ false → IsIndex r.scene.shapes f
     by (formed a) q = or_right (nat_eq a 0) (is_structured r.scene a) q
     by too_large q = absurd (let bad : true ≡ false = q in cc)
 
-abbrev IsWhole : List PlainShape → List ℕ × Formed → Type 0
+abbrev IsWhole : List PlainShape → List ℕ × ShapeOrLimit → Type 0
 IsWhole t p = AreIndices t p.0 × IsFormed t p.1
 
-whole_keeps : (k : Place) (c : ℕ) (s : Scene) (n : ℕ) (r : Reading (List ℕ × Formed)) → ReadKeeps k c s IsWhole r
+whole_keeps : (k : Place) (c : ℕ) (s : Scene) (n : ℕ) (r : Reading (List ℕ × ShapeOrLimit)) → ReadKeeps k c s IsWhole r
     → ReadKeeps k c s IsShape (reading_with number_in (reading_at n size_rules (reading_change rows_of r)))
 whole_keeps k c s n r h =
     keep_with number_in k c s IsSized IsShape (reading_at n size_rules (reading_change rows_of r))
@@ -290,7 +293,7 @@ whole_keeps k c s n r h =
     (keep_change rows_of k c s IsWhole IsFormed r h (λ p g. rows_change k c r.scene p.0 p.1 h.scene g.0 g.1))
     (λ f g q. by (reading_change rows_of r).scene.shapes f g (no_fault_alone (is_past f) fault.TooLarge q))) (λ t f g. g)
   where
-    by : (t : List PlainShape) (f : Formed) → IsFormed t f → is_past f ≡ false → IsSized t f
+    by : (t : List PlainShape) (f : ShapeOrLimit) → IsFormed t f → is_past f ≡ false → IsSized t f
     by t (formed a) g q = g
     by t too_large g q = absurd (let bad : true ≡ false = q in cc)
 
@@ -319,7 +322,7 @@ fields_there : (t : List PlainShape) (s : Scene) (xs : List tree.Name) (shape : 
 fields_there t s [] shape lt = tt
 fields_there t s (x ∷ xs) shape lt = (lt, fields_there t s xs shape lt)
 
-field_list_keeps : (k : Place) (c : ℕ) (s : Scene) (names : List tree.Name) (faults : List Broken) (r : Reading ℕ)
+field_list_keeps : (k : Place) (c : ℕ) (s : Scene) (names : List tree.Name) (faults : List BrokenRule) (r : Reading ℕ)
     → ReadKeeps k c s IsShape r → ReadKeeps k c s FieldsThere (fields_of_type s names faults r)
 field_list_keeps k c s names [] r h = record {
   scene = h.scene;

@@ -12,19 +12,20 @@ use Rattle.alma_names.specs.Shapes.{PlainShape, listed, sub, row, fields, is_too
 use Rattle.alma_names.specs.Blocks.{shape_id}
 use Rattle.alma_ir.proofs.Each.{each_of_front, each_of_back}
 use Rattle.alma_rules.specs.Numbered as tree
-use Rattle.alma_rules.specs.Judged.{Broken, broken_at, unless, both_of, when}
+use Rattle.alma_rules.specs.Judgement.{BrokenRule, broken_at, unless, both_of, when}
 use Rattle.alma_rules.specs.Scene.{Scene, found_as, base, is_first, in_constant}
 use Rattle.alma_rules.specs.Parts.{Typing}
 use Rattle.alma_rules.specs.Walk.{judge_expr}
-use Rattle.alma_rules.specs.Types.{Reading, gives, reading_at, reading_both, reading_then, reading_with, changed, reading_change}
-use Rattle.alma_rules.specs.Types.{read_constant, declared, redeclared_all, type_name_rules, shape_in, read_type_name, Formed, formed}
+use Rattle.alma_rules.specs.Types.{Reading, gives, reading_at, reading_both, reading_then, reading_with, with_change, reading_change}
+use Rattle.alma_rules.specs.Types.{read_constant, declare_name, redeclared_all, type_name_rules, shape_in, read_type_name, ShapeOrLimit}
+use Rattle.alma_rules.specs.Types.{formed}
 use Rattle.alma_rules.specs.Types.{too_large, index_type_rules, subrange_rules, size_rules, add_shape, row_on, rows_on, rows_of, number_in}
 use Rattle.alma_rules.specs.Types.{subrange_from, subrange_of, all_first, last_token, declare_values, listed_in, read_listed, all_names}
 use Rattle.alma_rules.specs.Types.{redeclared_fields, fields_with, fields_of_type, joined_fields, record_of, field_names, joined_indices}
 use Rattle.alma_rules.specs.Types.{cons_index, index_at, read_type, read_arrays, read_dimension_tail, read_dimensions, read_plains}
 use Rattle.alma_rules.specs.Types.{read_plain, read_fields, read_field_tail, type_names, arrays_names, dimension_tail_names}
 use Rattle.alma_rules.specs.Types.{dimensions_names, plains_names, plain_names, fields_names, field_tail_names}
-use Rattle.alma_rules.proofs.Sound.{IsThere, Typed, IsTyped, nil_left, nil_right, quiet, both_there, map_there, unless_there}
+use Rattle.alma_rules.proofs.Sound.{IsThere, TypedExpr, IsTyped, nil_left, nil_right, quiet, both_there, map_there, unless_there}
 use Rattle.alma_rules.proofs.SoundWalk.{expr_typed}
 use Rattle.alma_resolved.proofs.Lookups.{Each, found_each, NotBad, sound_constant, Grown, grown_same, grown_twice, grown_each}
 use Rattle.alma_resolved.proofs.Lookups.{grown_declared, grown_shape, plain_not_bad}
@@ -70,7 +71,7 @@ good_at lo s n rules r f e =
     let p = f (nil_left r.faults (broken_at n (rules r.value)) e) in
     record { grown = p.grown; there = unless_there (rules r.value) r.value (quiet n r.faults (rules r.value) e) p.there }
 
-changed_faults : {B : Type 0} (s : Scene) (fs : List Broken) (o : Option (Scene × B)) → (changed s fs o).faults ≡ fs
+changed_faults : {B : Type 0} (s : Scene) (fs : List BrokenRule) (o : Option (Scene × B)) → (with_change s fs o).faults ≡ fs
 changed_faults s fs None = refl
 changed_faults s fs (Some p) = refl
 
@@ -79,7 +80,7 @@ good_change : {A B : Type 0} (f : Scene → A → Scene × B) (lo : ℕ) (s : Sc
     → Good lo s r → Good lo s (reading_change f r)
 good_change {A} {B} f lo s r h g = by r.value g.there
   where
-    by : (o : Option A) → IsThere o → Good lo s (changed r.scene r.faults (option_map (f r.scene) o))
+    by : (o : Option A) → IsThere o → Good lo s (with_change r.scene r.faults (option_map (f r.scene) o))
     by None t = absurd t
     by (Some x) t = record { grown = grown_twice g.grown (h x); there = tt }
 
@@ -88,20 +89,20 @@ good_change {A} {B} f lo s r h g = by r.value g.there
 pub add_grown : (lo : ℕ) (s : Scene) (x : PlainShape) → Grown lo s (add_shape s x).0
 add_grown lo s x = by (is_too_large s.shapes x)
   where
-    by : (c : Bool) → Grown lo s (if_true {A = Scene × Formed} c (λ u. (s, too_large))
+    by : (c : Bool) → Grown lo s (if_true {A = Scene × ShapeOrLimit} c (λ u. (s, too_large))
         (λ u. (record s { shapes = s.shapes ++ placed_shape (cell_counts s.shapes) x ∷ [] }, formed (length s.shapes)))).0
     by true = grown_same lo s
     by false = grown_shape lo s (placed_shape (cell_counts s.shapes) x)
 
-row_grown : (lo : ℕ) (i : ℕ) (p : Scene × Formed) → Grown lo p.0 (row_on i p).0
+row_grown : (lo : ℕ) (i : ℕ) (p : Scene × ShapeOrLimit) → Grown lo p.0 (row_on i p).0
 row_grown lo i (s, formed e) = add_grown lo s (row i e)
 row_grown lo i (s, too_large) = grown_same lo s
 
-rows_grown : (lo : ℕ) (s : Scene) (is : List ℕ) (f : Formed) → Grown lo s (rows_on s is f).0
+rows_grown : (lo : ℕ) (s : Scene) (is : List ℕ) (f : ShapeOrLimit) → Grown lo s (rows_on s is f).0
 rows_grown lo s [] f = grown_same lo s
 rows_grown lo s (i ∷ is) f = grown_twice (rows_grown lo s is f) (row_grown lo i (rows_on s is f))
 
-row_large : (i : ℕ) (s : Scene) (p : Scene × Formed) → p ≡ (s, too_large) → row_on i p ≡ (s, too_large)
+row_large : (i : ℕ) (s : Scene) (p : Scene × ShapeOrLimit) → p ≡ (s, too_large) → row_on i p ≡ (s, too_large)
 row_large i s p e = ap (row_on i) e
 
 rows_large : (s : Scene) (is : List ℕ) → rows_on s is too_large ≡ (s, too_large)
@@ -140,7 +141,7 @@ values_grown : (lo : ℕ) (s : Scene) (from shape i : ℕ) (xs : List tree.Name)
 values_grown lo s from shape i [] le = grown_same lo s
 values_grown lo s from shape i (x ∷ xs) le =
     grown_twice (grown_declared s x from (entry.Constant (shape_id shape) (pos i)) tt le)
-    (values_grown lo (declared s x from (entry.Constant (shape_id shape) (pos i))) from shape (i + 1) xs le)
+    (values_grown lo (declare_name s x from (entry.Constant (shape_id shape) (pos i))) from shape (i + 1) xs le)
 
 not_first : (s : Scene) (xs : List tree.Name) → all_first s xs ≡ false → redeclared_all s xs ≡ [] → ⊥
 not_first s [] e q = absurd (let bad : true ≡ false = e in cc)
@@ -153,14 +154,14 @@ not_first s (x ∷ xs) e q = by (is_first s x) refl e q (not_first s xs)
     by false i e q f = absurd (cc)
 
 -- an enumeration, which may be past a limit
-abbrev pub GoodOrLarge : ℕ → Scene → Reading Formed → Type 0
+abbrev pub GoodOrLarge : ℕ → Scene → Reading ShapeOrLimit → Type 0
 GoodOrLarge lo s r = (r.value ≡ Some too_large) ⊎ Good lo s r
 
 listed_good : (lo : ℕ) (s : Scene) (names : List tree.Name) (from : ℕ) → lo ≤ from → (read_listed s names from).faults ≡ []
     → GoodOrLarge lo s (read_listed s names from)
 listed_good lo s names from le e = by (all_first s names) refl e
   where
-    made : (p : Scene × Formed) → Grown lo s p.0 → GoodOrLarge lo s (listed_in [] from names p)
+    made : (p : Scene × ShapeOrLimit) → Grown lo s p.0 → GoodOrLarge lo s (listed_in [] from names p)
     made (t, formed shape) g = inr (record { grown = grown_twice g (values_grown lo t from shape 0 names le); there = tt })
     made (t, too_large) g = inl refl
 
@@ -173,7 +174,7 @@ listed_good lo s names from le e = by (all_first s names) refl e
     by false i e = absurd (not_first s names i e)
 
 -- an index type past a limit breaks a rule
-index_good : (lo : ℕ) (s : Scene) (p : tree.PlainType) (r : Reading Formed) → (r.faults ≡ [] → GoodOrLarge lo s r)
+index_good : (lo : ℕ) (s : Scene) (p : tree.PlainType) (r : Reading ShapeOrLimit) → (r.faults ≡ [] → GoodOrLarge lo s r)
     → (index_at p r).faults ≡ [] → Good lo s (index_at p r)
 index_good lo s p r f e =
     let q : index_type_rules r.scene r.value ≡ [] = quiet (tree.plain_node p) r.faults (index_type_rules r.scene r.value) e in
@@ -185,7 +186,7 @@ index_good lo s p r f e =
     by (inr g) q = record { grown = g.grown; there = unless_there (index_type_rules r.scene r.value) r.value q g.there }
 
 -- a whole type: the rows round a plain one
-whole_good : (lo : ℕ) (s : Scene) (n : ℕ) (a : Reading (List ℕ)) (b : Reading Formed) → Each NotBad s → (a.faults ≡ [] → Good lo s a)
+whole_good : (lo : ℕ) (s : Scene) (n : ℕ) (a : Reading (List ℕ)) (b : Reading ShapeOrLimit) → Each NotBad s → (a.faults ≡ [] → Good lo s a)
     → (Each NotBad a.scene → b.faults ≡ [] → GoodOrLarge lo a.scene b)
     → (reading_at n size_rules (reading_change rows_of (reading_both a b))).faults ≡ []
     → Good lo s (reading_with number_in (reading_at n size_rules (reading_change rows_of (reading_both a b))))
@@ -197,16 +198,16 @@ whole_good lo s n a b h f g e =
     by p (g (still_sound p.grown h) (nil_right a.faults b.faults t))
     (quiet n (reading_change rows_of (reading_both a b)).faults (size_rules (reading_change rows_of (reading_both a b)).value) e)
   where
-    large : (v : Option (List ℕ)) (w : Option Formed) → IsThere v → w ≡ Some too_large
-        → size_rules (changed b.scene (a.faults ++ b.faults) (option_map (rows_of b.scene) (both_of v w))).value ≡ [] → ⊥
+    large : (v : Option (List ℕ)) (w : Option ShapeOrLimit) → IsThere v → w ≡ Some too_large
+        → size_rules (with_change b.scene (a.faults ++ b.faults) (option_map (rows_of b.scene) (both_of v w))).value ≡ [] → ⊥
     large None w t e q = t
     large (Some is) w t e q =
-        let one : size_rules (changed b.scene (a.faults ++ b.faults)
+        let one : size_rules (with_change b.scene (a.faults ++ b.faults)
         (option_map (rows_of b.scene) (both_of (Some is) (Some too_large)))).value ≡ [] =
-        subst (λ x. size_rules (changed b.scene (a.faults ++ b.faults) (option_map (rows_of b.scene) (both_of (Some is) x))).value ≡ [])
+        subst (λ x. size_rules (with_change b.scene (a.faults ++ b.faults) (option_map (rows_of b.scene) (both_of (Some is) x))).value ≡ [])
         e q in
         let two : size_rules (Some too_large) ≡ [] =
-        subst (λ (y : Scene × Formed). size_rules (Some y.1) ≡ []) (rows_large b.scene is) one in
+        subst (λ (y : Scene × ShapeOrLimit). size_rules (Some y.1) ≡ []) (rows_large b.scene is) one in
         absurd (cc)
 
     by : Good lo s a → GoodOrLarge lo a.scene b → size_rules (reading_change rows_of (reading_both a b)).value ≡ []
@@ -223,7 +224,7 @@ whole_good lo s n a b h f g e =
               (reading_change rows_of (reading_both a b)).value q change.there;
         })
 
-field_list_good : (lo : ℕ) (s : Scene) (names : List tree.Name) (faults : List Broken) (t : Reading ℕ) → (t.faults ≡ [] → Good lo s t)
+field_list_good : (lo : ℕ) (s : Scene) (names : List tree.Name) (faults : List BrokenRule) (t : Reading ℕ) → (t.faults ≡ [] → Good lo s t)
     → (fields_of_type s names faults t).faults ≡ [] → Good lo s (fields_of_type s names faults t)
 field_list_good lo s names [] t f e = let g = f e in record { grown = g.grown; there = map_there (fields_with s names) t.value g.there }
 field_list_good lo s names (b ∷ bs) t f e = absurd (cc)
@@ -232,7 +233,7 @@ field_list_good lo s names (b ∷ bs) t f e = absurd (cc)
 
 pub typed_good : (s : Scene) → Each NotBad s → (e : tree.Expr) → (judge_expr (in_constant s) 0 e).faults ≡ []
     → IsTyped (in_constant s) (judge_expr (in_constant s) 0 e).value
-unfolding Typed
+unfolding TypedExpr
 typed_good s h e q = expr_typed (in_constant s) (sound_constant s h) 0 e q
 
 typed_there : (s : Scene) (v : Option Typing) → IsTyped s v → IsThere v

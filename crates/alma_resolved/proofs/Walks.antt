@@ -10,16 +10,17 @@ use Rattle.alma_ir.specs.Phrases.{ExprPhrase, expr_phrases, stmts_phrases, stmt_
 use Rattle.alma_ir.specs.Phrases.{args_phrases}
 use Rattle.alma_ir.specs.Checked.{ArgsFit}
 use Rattle.alma_rules.specs.Numbered as tree
-use Rattle.alma_rules.specs.Judged.{Judged, unless, both, when}
+use Rattle.alma_rules.specs.Judgement.{Judgement, unless, both, when}
 use Rattle.alma_rules.specs.Scene.{Scene, FormalOf, Found, found, inside_of, text_at, literal_at, is_structured, has_integer}
-use Rattle.alma_rules.specs.Parts.{plain, a_test, Typing, value_of, Located, Denoted, located_in, typing_in, callee_in, Callee, argument_of}
+use Rattle.alma_rules.specs.Parts.{plain, a_test, Typing, value_of, Location, Denotation, located_in, typing_in, callee_in, Callee}
+use Rattle.alma_rules.specs.Parts.{argument_of}
 use Rattle.alma_rules.specs.Parts.{add_operator, mul_operator, Operands, joined_stmts, Span, select_field, boolean_typing, without_place}
 use Rattle.alma_rules.specs.Parts.{desig_of}
 use Rattle.alma_rules.specs.ExprRules.{Use, as_variable, as_value, as_procedure, desig_rules, field_rules, array_rules, Operand, alone}
 use Rattle.alma_rules.specs.ExprRules.{not_rules, literal_rules, simple_rules, known_rules, chr_rules, test_rules, argument_rules}
 use Rattle.alma_rules.specs.ExprRules.{argument_kind, sequence_rules, structured, structured_place, no_integer, no_constant, not_variable}
 use Rattle.alma_rules.specs.ExprRules.{not_procedure, Argument}
-use Rattle.alma_rules.specs.Nodes.{judge_name, is_selected, indexed, known_typing, ord_typing, chr_typing, formals_of, argument_count}
+use Rattle.alma_rules.specs.Nodes.{judge_name, is_selected, index_at, known_typing, ord_typing, chr_typing, formals_of, argument_count}
 use Rattle.alma_rules.specs.Nodes.{expr_count, cons_arg, cons_operand, operand_behind, first_add, first_mul, sum_at, product_at, any_or}
 use Rattle.alma_rules.specs.Nodes.{any_and, if_of, arms_of, arm_of, with_line, item_literal, in_parens, as_sequence, or_sequence, only_of}
 use Rattle.alma_rules.specs.Walk.{judge_stmts, judge_stmt_tail, judge_stmt, judge_elsifs, judge_else, judge_by, judge_arm, judge_arm_tail}
@@ -47,8 +48,8 @@ use Rattle.alma_resolved.proofs.Exact.{kind_fits}
 
 -- ---- nodes with their judged parts
 
-sum_fits : {k : Place} {s : Scene} (e : SceneFits k s) (n j : ℕ) (sign : Option Sign) (rest : tree.TermTail) (a : Judged Typing)
-    (b : Judged Operands) → When a.value (TermFits k s (first_add sign rest) n a.next)
+sum_fits : {k : Place} {s : Scene} (e : SceneFits k s) (n j : ℕ) (sign : Option Sign) (rest : tree.TermTail) (a : Judgement Typing)
+    (b : Judgement Operands) → When a.value (TermFits k s (first_add sign rest) n a.next)
     → When b.value (OperandsFit k s a.next b.next)
     → When (sum_at s j sign rest (both a b)).value (TypingFits k s n (sum_at s j sign rest (both a b)).next)
 sum_fits {k} {s} e n j None tree.no_term a b h g =
@@ -63,8 +64,8 @@ sum_fits {k} {s} e n j (Some z) (tree.more_term o t rest) a b h g =
     when_weaker (chain_fits e ir.Or (or_joins k) alone (Some z) (any_or (tree.more_term o t rest)) _
     (when_both (when_weaker h (λ t g. (g.typing, g.joined refl))) g)) (λ t g. g.0)
 
-product_fits : {k : Place} {s : Scene} (e : SceneFits k s) (n j : ℕ) (o : Operand) (rest : tree.FactorTail) (a : Judged Typing)
-    (b : Judged Operands) → When a.value (TermFits k s (first_mul rest) n a.next)
+product_fits : {k : Place} {s : Scene} (e : SceneFits k s) (n j : ℕ) (o : Operand) (rest : tree.FactorTail) (a : Judgement Typing)
+    (b : Judgement Operands) → When a.value (TermFits k s (first_mul rest) n a.next)
     → When b.value (OperandsFit k s a.next b.next)
     → When (product_at s o j rest (both a b)).value (TermFits k s o n (product_at s o j rest (both a b)).next)
 product_fits {k} {s} e n j o tree.no_factor a b h g =
@@ -79,14 +80,14 @@ unfolding expr_phrases
 constant_fits {k} {s} e n shape v o simple =
     record { meaning = (laid_cons (ExprPhrase (ir.Const v)) tt (laid_nil k s.inside n n (omega arith)), simple) }
 
-known_fits : {k : Place} {s : Scene} (e : SceneFits k s) {lo hi : ℕ} (v : Option Located) → When v (LocatedFits k s lo hi)
+known_fits : {k : Place} {s : Scene} (e : SceneFits k s) {lo hi : ℕ} (v : Option Location) → When v (LocatedFits k s lo hi)
     → When (option_map known_typing (unless (known_rules s v) v)) (TypingFits k s lo hi)
 unfolding expr_phrases
 known_fits {k} {s} e {lo} {hi} v h = when_map {P = λ l. TypingFits k s lo hi (known_typing l)} known_typing
     (when_node (known_rules s) v h (λ l g q. made l g
     (no_fault_alone (structured_place s l) fault.TypeMismatch (no_fault s.constant fault.NotConst _ q).1))) (λ l g. g)
   where
-    made : (l : Located) → LocatedFits k s lo hi l → is_structured s l.shape ≡ false → TypingFits k s lo hi (known_typing l)
+    made : (l : Location) → LocatedFits k s lo hi l → is_structured s l.shape ≡ false → TypingFits k s lo hi (known_typing l)
     made l g simple = record {
       meaning = (
         laid_cons (ExprPhrase (ir.Known (desig_of l))) (g.left ∙ e.table.simple l.shape simple) (located_laid g),
@@ -117,11 +118,12 @@ chr_fits {k} {s} e {lo} {hi} v h =
           (laid_cons (ExprPhrase (ir.Chr (value_of t.meaning))) tt (value_laid e simple g), e.table.firsts 1 (omega arith));
     }
 
-abbrev OnlyFits : Place → Scene → ℕ → Option (Judged Typing) → Type 0
+abbrev OnlyFits : Place → Scene → ℕ → Option (Judgement Typing) → Type 0
 OnlyFits k s n None = Unit {0}
 OnlyFits k s n (Some j) = When j.value (TypingFits k s n j.next)
 
-paren_fits : {k : Place} {s : Scene} (e : SceneFits k s) (n j : ℕ) (o : Option (Judged Typing)) (b : Judged ir.Stmts) → OnlyFits k s n o
+paren_fits : {k : Place} {s : Scene} (e : SceneFits k s) (n j : ℕ) (o : Option (Judgement Typing)) (b : Judgement ir.Stmts)
+    → OnlyFits k s n o
     → When b.value (λ x. Laid k true n b.next (stmts_phrases x))
     → When (or_sequence o (in_parens s j) (λ u. as_sequence s j b)).value
     (TypingFits k s n (or_sequence o (in_parens s j) (λ u. as_sequence s j b)).next)
@@ -134,7 +136,7 @@ paren_fits {k} {s} e n j (Some i) b h g =
     (when_node (simple_rules s) i.value h (λ t y q. (y, no_fault_alone (structured s t) fault.TypeMismatch q)))
     (λ t y. record { meaning = no_place_fits k s e n i.next t.shape t.meaning y.1 y.0.meaning })
 
-only_fits : (k : Place) (s : Scene) (n : ℕ) (rest : tree.StmtTail) (o : Option (Judged Typing)) → OnlyFits k s n o
+only_fits : (k : Place) (s : Scene) (n : ℕ) (rest : tree.StmtTail) (o : Option (Judgement Typing)) → OnlyFits k s n o
     → OnlyFits k s n (only_of rest o)
 only_fits k s n tree.no_stmt None h = h
 only_fits k s n tree.no_stmt (Some j) h = h
@@ -176,12 +178,12 @@ more_arguments {k} {s} {lo} {mid} {hi} count f fs p h g = record { are = by }
 too_many : {k : Place} {s : Scene} {lo hi : ℕ} (count : ℕ) (v : Option ir.Args) → When v (ArgumentsFit k s lo hi (1 + count) [])
 too_many count v = when_all v (λ a i. record { are = λ qs h c. absurd (omega (arith, c)) })
 
-indexed_fits : {k : Place} {s : Scene} (e : SceneFits k s) {c : Bool} (lo : ℕ) (d : Judged Denoted) (node : ℕ) (i : Judged Typing)
+indexed_fits : {k : Place} {s : Scene} (e : SceneFits k s) {c : Bool} (lo : ℕ) (d : Judgement Denotation) (node : ℕ) (i : Judgement Typing)
     → When d.value (DenotedFits k s c lo d.next) → When i.value (TypingFits k s d.next i.next)
-    → When (indexed s d node i).value (DenotedFits k s c lo (indexed s d node i).next)
+    → When (index_at s d node i).value (DenotedFits k s c lo (index_at s d node i).next)
 indexed_fits e lo d node i h g = index_fits e d.value i.value h g
 
-freed : {k : Place} {s : Scene} {lo hi : ℕ} (w : Use) (sel : Bool) (f : Found) (v : Option Denoted) (d : Denoted)
+freed : {k : Place} {s : Scene} {lo hi : ℕ} (w : Use) (sel : Bool) (f : Found) (v : Option Denotation) (d : Denotation)
     → desig_rules s w sel f v ≡ [] → DenotedFits k s (flag w sel f) lo hi d → DenotedFits k s (free w) lo hi d
 freed as_variable sel f v d q h = h
 freed as_procedure sel f v d q h = h
@@ -198,7 +200,7 @@ place_of n x h = when_then located_in h (λ d g. located_fits d g)
 abbrev callee_in_call : Scene → ℕ → tree.Desig → Option Callee
 callee_in_call s n d = option_and_then callee_in (judge_desig s n as_procedure d).value
 
-abbrev args_in_call : Scene → ℕ → tree.Desig → tree.Exprs → Judged ir.Args
+abbrev args_in_call : Scene → ℕ → tree.Desig → tree.Exprs → Judgement ir.Args
 args_in_call s n d items = judge_arguments s (judge_desig s n as_procedure d).next (formals_of (callee_in_call s n d)) items
 
 with_arguments : {k : Place} {s : Scene} (e : SceneFits k s) (n j : ℕ) (d : tree.Desig) (items : tree.Exprs)
@@ -362,7 +364,7 @@ mutual
       → When (judge_expr s n x).value (TypingFits k s n (judge_expr s n x).next)
   expr_fits {k} {s} e n (tree.expr j left right) = compared_fits e n j (judge_simple s n left) right (simple_fit e n left)
 
-  compared_fits : {k : Place} {s : Scene} (e : SceneFits k s) (n j : ℕ) (left : Judged Typing) (x : tree.Compared)
+  compared_fits : {k : Place} {s : Scene} (e : SceneFits k s) (n j : ℕ) (left : Judgement Typing) (x : tree.Compared)
       → When left.value (TypingFits k s n left.next)
       → When (judge_compared s j left x).value (TypingFits k s n (judge_compared s j left x).next)
   compared_fits {k} {s} e n j left tree.no_relation h = h
@@ -451,13 +453,13 @@ mutual
       (selectors_fit e _ n (judge_name s n name) more (name_fits e n (is_selected more) w (found s name) (e.names name)))
       (λ d g q. freed w (is_selected more) (found s name) (Some d) d q g)
 
-  selectors_fit : {k : Place} {s : Scene} (e : SceneFits k s) (c : Bool) (lo : ℕ) (d : Judged Denoted) (x : tree.SelectorTail)
+  selectors_fit : {k : Place} {s : Scene} (e : SceneFits k s) (c : Bool) (lo : ℕ) (d : Judgement Denotation) (x : tree.SelectorTail)
       → When d.value (DenotedFits k s c lo d.next) → When (judge_selectors s d x).value (DenotedFits k s c lo (judge_selectors s d x).next)
   selectors_fit {k} {s} e c lo d tree.no_selector h = h
   selectors_fit {k} {s} e c lo d (tree.more_selector x rest) h =
       selectors_fit e c lo (judge_selector s d x) rest (selector_fits e c lo d x h)
 
-  selector_fits : {k : Place} {s : Scene} (e : SceneFits k s) (c : Bool) (lo : ℕ) (d : Judged Denoted) (x : tree.Selector)
+  selector_fits : {k : Place} {s : Scene} (e : SceneFits k s) (c : Bool) (lo : ℕ) (d : Judgement Denotation) (x : tree.Selector)
       → When d.value (DenotedFits k s c lo d.next) → When (judge_selector s d x).value (DenotedFits k s c lo (judge_selector s d x).next)
   selector_fits {k} {s} e c lo d (tree.field j name) h =
       when_then (select_field s (text_at s name.token)) (when_node (field_rules s (text_at s name.token)) d.value h (λ x g q. g))
@@ -465,16 +467,16 @@ mutual
   selector_fits {k} {s} e c lo d (tree.index j items) h =
       when_node array_rules (judge_indices s d items).value (indices_fit e c lo d items h) (λ x g q. g)
 
-  indices_fit : {k : Place} {s : Scene} (e : SceneFits k s) (c : Bool) (lo : ℕ) (d : Judged Denoted) (x : tree.Exprs)
+  indices_fit : {k : Place} {s : Scene} (e : SceneFits k s) (c : Bool) (lo : ℕ) (d : Judgement Denotation) (x : tree.Exprs)
       → When d.value (DenotedFits k s c lo d.next) → When (judge_indices s d x).value (DenotedFits k s c lo (judge_indices s d x).next)
   indices_fit {k} {s} e c lo d (tree.exprs x rest) h =
-      index_tail_fits e c lo (indexed s d (tree.expr_node x) (judge_expr s d.next x)) rest
+      index_tail_fits e c lo (index_at s d (tree.expr_node x) (judge_expr s d.next x)) rest
       (indexed_fits e lo d (tree.expr_node x) (judge_expr s d.next x) h (expr_fits e d.next x))
 
-  index_tail_fits : {k : Place} {s : Scene} (e : SceneFits k s) (c : Bool) (lo : ℕ) (d : Judged Denoted) (x : tree.ExprTail)
+  index_tail_fits : {k : Place} {s : Scene} (e : SceneFits k s) (c : Bool) (lo : ℕ) (d : Judgement Denotation) (x : tree.ExprTail)
       → When d.value (DenotedFits k s c lo d.next)
       → When (judge_index_tail s d x).value (DenotedFits k s c lo (judge_index_tail s d x).next)
   index_tail_fits {k} {s} e c lo d tree.no_expr h = h
   index_tail_fits {k} {s} e c lo d (tree.more_expr x rest) h =
-      index_tail_fits e c lo (indexed s d (tree.expr_node x) (judge_expr s d.next x)) rest
+      index_tail_fits e c lo (index_at s d (tree.expr_node x) (judge_expr s d.next x)) rest
       (indexed_fits e lo d (tree.expr_node x) (judge_expr s d.next x) h (expr_fits e d.next x))

@@ -6,7 +6,7 @@ ghost use Rattle.alma_scan.specs.Tokens.{Lexeme};
 ghost use Rattle.alma_ir.specs.Tree.{Program};
 ghost use Rattle.alma_rules.specs.Numbered as tree;
 ghost use Rattle.alma_rules.specs.View.{view_module};
-ghost use Rattle.alma_rules.specs.Modules.{resolved};
+ghost use Rattle.alma_rules.specs.Modules.{resolution};
 ghost use Rattle.alma_resolved.specs.Stand.{BlockStands};
 ghost use Rattle.alma_ir.specs.Checked.{EachRoutine, HasLines, NamesSpelled, KeepsLimits, IsChecked};
 ghost use Rattle.alma_resolved.specs.Whole.{ProgramFits, IsTreeOf, KeepsSlots};
@@ -21,28 +21,28 @@ pub fn trees_of_the_parser_stand_so()
 pub fn resolved_programs_fit()
     ensures { (source : List ℕ) (tokens : List Lexeme) (m : tree.Module) (p : Program)
         → BlockStands m.block →
-        resolved source tokens m ≡ Some p → ProgramFits p }
+        resolution source tokens m ≡ Some p → ProgramFits p }
 {}
 
 /// Each routine of a resolved program has as many lines as its body has statements, at any depth.
 pub fn resolved_programs_have_their_lines()
     ensures { (source : List ℕ) (tokens : List Lexeme) (m : tree.Module) (p : Program)
         → BlockStands m.block →
-        resolved source tokens m ≡ Some p → EachRoutine p (λ r routine. HasLines routine) }
+        resolution source tokens m ≡ Some p → EachRoutine p (λ r routine. HasLines routine) }
 {}
 
 /// The names of the resolved program of a source's tree are spelled as names.
 pub fn resolved_programs_have_their_names()
     ensures { (source : List ℕ) (tokens : List Lexeme) (m : Module) (p : Program)
         → IsTreeOf source tokens m →
-        resolved source tokens (view_module m) ≡ Some p → NamesSpelled p }
+        resolution source tokens (view_module m) ≡ Some p → NamesSpelled p }
 {}
 
 /// The resolved program of a source's tree is checked, where it keeps the limits on the whole and on slots.
 pub fn a_resolved_program_is_checked()
     ensures { (source : List ℕ) (tokens : List Lexeme) (m : Module) (p : Program)
         → IsTreeOf source tokens m →
-        resolved source tokens (view_module m) ≡ Some p → KeepsLimits p
+        resolution source tokens (view_module m) ≡ Some p → KeepsLimits p
         → EachRoutine p (λ r routine. KeepsSlots routine) →
         IsChecked p }
 {}

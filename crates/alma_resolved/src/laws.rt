@@ -7,7 +7,7 @@ ghost use Rattle.alma_ir.specs.Phrases.{stmts_phrases};
 ghost use Rattle.alma_ir.specs.Checked.{IsGlobal};
 ghost use Rattle.alma_rules.specs.Numbered as tree;
 ghost use Rattle.alma_rules.specs.Scene.{Scene};
-ghost use Rattle.alma_rules.specs.Modules.{broken, resolved};
+ghost use Rattle.alma_rules.specs.Modules.{broken_rules, resolution};
 ghost use Rattle.alma_rules.specs.Walk.{judge_stmts};
 ghost use Rattle.alma_resolved.specs.Fits.{Place, Laid};
 ghost use Rattle.alma_resolved.specs.Scenes.{SceneFits};
@@ -35,22 +35,22 @@ pub fn phrases_of_a_body_are_checked()
 /// declared behind it.
 pub fn unbroken_trees_have_a_program()
     ensures { (source : List ℕ) (tokens : List Lexeme) (m : tree.Module) → BlockStands m.block
-        → broken source tokens m ≡ [] →
-        (p : Program) × (resolved source tokens m ≡ Some p) }
+        → broken_rules source tokens m ≡ [] →
+        (p : Program) × (resolution source tokens m ≡ Some p) }
 {}
 
 /// Where there is a resolved program, no rule is broken.
 pub fn trees_with_a_program_are_unbroken()
     ensures { (source : List ℕ) (tokens : List Lexeme) (m : tree.Module) (p : Program)
-        → resolved source tokens m ≡ Some p →
-        broken source tokens m ≡ [] }
+        → resolution source tokens m ≡ Some p →
+        broken_rules source tokens m ≡ [] }
 {}
 
 /// A tree has one resolved program.
 pub fn trees_have_one_program()
     ensures { (source : List ℕ) (tokens : List Lexeme) (m : tree.Module) (p q : Program)
-        → resolved source tokens m ≡ Some p →
-        resolved source tokens m ≡ Some q → p ≡ q }
+        → resolution source tokens m ≡ Some p →
+        resolution source tokens m ≡ Some q → p ≡ q }
 {}
 
 /// In a resolved program routine 0 takes nothing and gives nothing and has a slot; each routine has its parameters first and has
@@ -59,12 +59,12 @@ pub fn trees_have_one_program()
 pub fn resolved_program_keeps_its_frames()
     ensures { (source : List ℕ) (tokens : List Lexeme) (m : tree.Module) (p : Program)
         → BlockStands m.block →
-        resolved source tokens m ≡ Some p → KeepsFrames p }
+        resolution source tokens m ≡ Some p → KeepsFrames p }
 {}
 
 /// The variables of the module are number slots of routine 0 of the resolved program, and leave out the input position.
 pub fn resolved_program_has_its_globals()
     ensures { (source : List ℕ) (tokens : List Lexeme) (m : tree.Module) (p : Program)
         → BlockStands m.block →
-        resolved source tokens m ≡ Some p → AllByRecursion (IsGlobal p) p.globals }
+        resolution source tokens m ≡ Some p → AllByRecursion (IsGlobal p) p.globals }
 {}

@@ -6,7 +6,7 @@ ghost use Rattle.alma_scan.specs.Tokens.{Lexeme};
 ghost use Rattle.alma_ir.specs.Tree.{Program};
 ghost use Rattle.alma_ir.specs.Checked.{EachRoutine, KeepsLimits, IsChecked};
 ghost use Rattle.alma_rules.specs.View.{view_module};
-ghost use Rattle.alma_rules.specs.Modules.{resolved};
+ghost use Rattle.alma_rules.specs.Modules.{resolution};
 ghost use Rattle.alma_resolved.specs.Room.{HasRoom};
 ghost use Rattle.alma_resolved.specs.Whole.{IsTreeOf, KeepsSlots};
 
@@ -14,26 +14,26 @@ ghost use Rattle.alma_resolved.specs.Whole.{IsTreeOf, KeepsSlots};
 pub fn resolved_programs_keep_their_limits()
     ensures { (source : List ℕ) (tokens : List Lexeme) (m : Module) (p : Program)
         → length source ≤ source_limit → IsTreeOf source tokens m →
-        resolved source tokens (view_module m) ≡ Some p → KeepsLimits p }
+        resolution source tokens (view_module m) ≡ Some p → KeepsLimits p }
 {}
 
 /// The names and the texts of the resolved program of a short source's tree have room in a program with a few texts more.
 pub fn a_resolved_program_of_a_short_source_has_room()
     ensures { (source : List ℕ) (tokens : List Lexeme) (m : Module) (p : Program)
         → length source ≤ source_limit → IsTreeOf source tokens m →
-        resolved source tokens (view_module m) ≡ Some p → HasRoom p }
+        resolution source tokens (view_module m) ≡ Some p → HasRoom p }
 {}
 
 /// Each routine of the resolved program of a short source's tree keeps the limit on its slots.
 pub fn resolved_programs_keep_their_slots()
     ensures { (source : List ℕ) (tokens : List Lexeme) (m : Module) (p : Program)
         → length source ≤ source_limit → IsTreeOf source tokens m →
-        resolved source tokens (view_module m) ≡ Some p → EachRoutine p (λ r routine. KeepsSlots routine) }
+        resolution source tokens (view_module m) ≡ Some p → EachRoutine p (λ r routine. KeepsSlots routine) }
 {}
 
 /// The resolved program of a short source's tree is checked.
 pub fn a_resolved_program_of_a_short_source_is_checked()
     ensures { (source : List ℕ) (tokens : List Lexeme) (m : Module) (p : Program)
         → length source ≤ source_limit → IsTreeOf source tokens m →
-        resolved source tokens (view_module m) ≡ Some p → IsChecked p }
+        resolution source tokens (view_module m) ≡ Some p → IsChecked p }
 {}

@@ -9,7 +9,7 @@ use Rattle.alma_ir.specs.Tree as ir
 use Rattle.alma_rules.specs.declared.error.Stop.{Stop}
 use Rattle.alma_rules.specs.Numbered as tree
 use Rattle.alma_rules.specs.View as view
-use Rattle.alma_rules.specs.Judged.{Judged, fine, of_value, both, and_then, with}
+use Rattle.alma_rules.specs.Judgement.{Judgement, fine, of_value, both, and_then, with}
 use Rattle.alma_rules.specs.Answers.{Stops, Answers}
 use Rattle.alma_rules.specs.Scene.{Scene, in_constant}
 use Rattle.alma_rules.specs.Parts as parts
@@ -42,8 +42,8 @@ module _ (s : Scene) where
   case_stops n k e first rest other x h = rw (case_at n k e first rest other)
       (stops_more _ _ x (stops_more (walk.judge_expr s n e).faults _ x h))
 
-  case_arms_by : (k m : ℕ) (other : tree.Else) (v : Option parts.Typing) (c : Judged parts.Typing)
-      (arms : ℕ → Option parts.Typing → Judged ir.CaseArms) (x : Stop) → c ≡ of_value m v → Stops (arms m v).faults x
+  case_arms_by : (k m : ℕ) (other : tree.Else) (v : Option parts.Typing) (c : Judgement parts.Typing)
+      (arms : ℕ → Option parts.Typing → Judgement ir.CaseArms) (x : Stop) → c ≡ of_value m v → Stops (arms m v).faults x
       → Stops (nodes.one (nodes.case_at s k c (arms c.next c.value) (walk.judge_case_else s (arms c.next c.value).next other))).faults x
   case_arms_by k m other v c arms x h t = rw h (stops_more _ _ x (stops_more (arms m v).faults _ x t))
 
@@ -54,13 +54,13 @@ module _ (s : Scene) where
       rw (case_at n k e first rest other) (case_arms_by k m other v (walk.judge_expr s n e) (λ i c. arms_judged s i c first rest) x h t)
 
   case_by : {X : Type 0} (k m i u : ℕ) (other : tree.Else) (v : Option parts.Typing) (y : Option ir.CaseArms) (w : X → ir.Stmts)
-      (r : Result (Option X) Stop) (c : Judged parts.Typing) (arms : ℕ → Option parts.Typing → Judged ir.CaseArms)
+      (r : Result (Option X) Stop) (c : Judgement parts.Typing) (arms : ℕ → Option parts.Typing → Judgement ir.CaseArms)
       → c ≡ of_value m v → arms m v ≡ of_value i y
       → Answers (nodes.one (nodes.case_at s k (of_value m v) (of_value i y) (walk.judge_case_else s i other))) w u r
       → Answers (nodes.one (nodes.case_at s k c (arms c.next c.value) (walk.judge_case_else s (arms c.next c.value).next other))) w u r
   case_by {X} k m i u other v y w r c arms h t a = rw h (by (arms m v) t)
     where
-      by : (b : Judged ir.CaseArms) → b ≡ of_value i y
+      by : (b : Judgement ir.CaseArms) → b ≡ of_value i y
           → Answers (nodes.one (nodes.case_at s k (of_value m v) b (walk.judge_case_else s b.next other))) w u r
       by b q = rw q a
 
@@ -78,7 +78,7 @@ module _ (s : Scene) where
       → Stops (walk.judge_arm s n case [] first).arm.faults x → Stops (arms_judged s n case first rest).faults x
   arms_stops n case first rest x h = stops_more (walk.judge_arm s n case [] first).arm.faults _ x h
 
-  arms_by : (a : Judged ir.CaseArms) (m : ℕ) (v : Option ir.CaseArms) (g : ℕ → Judged ir.CaseArms) → a ≡ of_value m v
+  arms_by : (a : Judgement ir.CaseArms) (m : ℕ) (v : Option ir.CaseArms) (g : ℕ → Judgement ir.CaseArms) → a ≡ of_value m v
       → with nodes.joined_cases (and_then a g) ≡ onward parts.append_cases v (g m)
   arms_by a m v g h = rw h (onward_first parts.append_cases nodes.joined_cases v m (g m) (λ x y. refl))
 
@@ -124,7 +124,7 @@ module _ (s : Scene) where
 
   arm_at : (n k : ℕ) (case : Option parts.Typing) (earlier : List parts.Span) (l : tree.Label) (ls : tree.LabelTail) (body : tree.Stmts)
       → walk.judge_arm s n case earlier (tree.arm k l ls body)
-      ≡ nodes.armed (labels_judged s n case earlier l ls) (walk.judge_stmts s (labels_judged s n case earlier l ls).next body)
+      ≡ nodes.arm_at (labels_judged s n case earlier l ls) (walk.judge_stmts s (labels_judged s n case earlier l ls).next body)
   unfolding walk.judge_stmts
   arm_at n k case earlier l ls body = refl
 
@@ -140,8 +140,8 @@ module _ (s : Scene) where
   arm_fine n k case earlier l ls body m v h = ap (λ a. a.arm) (arm_at n k case earlier l ls body)
       ∙ by (labels_judged s n case earlier l ls) h
     where
-      by : (j : Judged (List parts.Span)) → j ≡ of_value m v
-          → (nodes.armed j (walk.judge_stmts s j.next body)).arm ≡ with nodes.arm_of (both (of_value m v) (walk.judge_stmts s m body))
+      by : (j : Judgement (List parts.Span)) → j ≡ of_value m v
+          → (nodes.arm_at j (walk.judge_stmts s j.next body)).arm ≡ with nodes.arm_of (both (of_value m v) (walk.judge_stmts s m body))
       by j q = rw q refl
 
   pub arm_spans : (n k : ℕ) (case : Option parts.Typing) (earlier : List parts.Span) (l : tree.Label) (ls : tree.LabelTail)
@@ -224,7 +224,7 @@ module _ (s : Scene) where
       ∙ ap (nodes.label_at s case earlier (dl.out-Label t).node (walk.judge_expr (in_constant s) n (view.view_expr (dl.out-Label t).low)))
       (high_two (in_constant s) _ _ _)
 
-  label_by : (k n m : ℕ) (case : Option parts.Typing) (earlier : List parts.Span) (e : tree.Expr) (j : Judged parts.Typing)
+  label_by : (k n m : ℕ) (case : Option parts.Typing) (earlier : List parts.Span) (e : tree.Expr) (j : Judgement parts.Typing)
       (v : Option parts.Typing) → j ≡ of_value m v
       → nodes.label_at s case earlier k j (walk.judge_expr (in_constant s) j.next e) ≡ nodes.label_at s case earlier k (of_value m v)
       (walk.judge_expr (in_constant s) m e)

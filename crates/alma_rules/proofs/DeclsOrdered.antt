@@ -6,16 +6,18 @@ use Rattle.alma_base.specs.declared.fault.CheckFault.{CheckFault}
 use Rattle.alma_base.specs.declared.fault.CheckFault.TheVariants as fault
 use Rattle.alma_tree.specs.declared.leaf.Mode.{Mode}
 use Rattle.alma_rules.specs.Numbered as tree
-use Rattle.alma_rules.specs.Judged.{Broken, broken_at}
+use Rattle.alma_rules.specs.Judgement.{BrokenRule, broken_at}
 use Rattle.alma_rules.specs.Scene.{Scene, is_first, is_structured}
-use Rattle.alma_rules.specs.Types.{Reading, redeclared, all_names, last_token, read_type, read_type_name, read_constant}
+use Rattle.alma_rules.specs.Types.{Reading, redeclaration_rules, all_names, last_token, read_type, read_type_name, read_constant}
 use Rattle.alma_rules.specs.Places.{width, mark_type}
-use Rattle.alma_rules.specs.Decls.{Frame, with_faults, with_scene, constant_in, read_consts, type_in, read_types, with_variable, limited}
+use Rattle.alma_rules.specs.Decls.{Frame, with_faults, with_scene, constant_in, read_consts, type_in, read_types, with_variable}
+use Rattle.alma_rules.specs.Decls.{within_limit}
 use Rattle.alma_rules.specs.Decls.{variable_in, variables_in, variables_of, read_vars, with_param, param_kind, param_in, params_in}
-use Rattle.alma_rules.specs.Decls.{formal_in, read_formals, formals_in, formals_of, result_rules, too_deep, Headed, headed, with_depth}
+use Rattle.alma_rules.specs.Decls.{formal_in, read_formals, formals_in, formals_of, result_rules, too_deep, FramedHeading, heading_at}
+use Rattle.alma_rules.specs.Decls.{with_depth}
 use Rattle.alma_rules.specs.Decls.{new_frame, with_block, formal_names, read_decl, read_decls, decl_routines}
 use Rattle.alma_rules.specs.Scene.{nothing, Found, found}
-use Rattle.alma_rules.specs.Judged.{holds}
+use Rattle.alma_rules.specs.Judgement.{holds}
 use Rattle.alma_rules.specs.Types.{type_name_rules, shape_in}
 use Rattle.alma_rules.specs.Decls.{structured_result}
 use Rattle.alma_rules.specs.Rising.{rise_consts, rise_type_entries, rise_vars, rise_more_names, rise_formal, rise_more_formals}
@@ -30,13 +32,13 @@ limit_order : InOrder 0 23 (fault.TooLarge ∷ [])
 limit_order = one 0 23 true fault.TooLarge (omega arith) (omega arith)
 
 -- a name behind what is read so far
-named : (lo mid hi : ℕ) (a : List Broken) (x : tree.Name) (fs : List CheckFault) → InOrder 0 23 fs → Within lo mid a → (mid ≤ x.node)
+named : (lo mid hi : ℕ) (a : List BrokenRule) (x : tree.Name) (fs : List CheckFault) → InOrder 0 23 fs → Within lo mid a → (mid ≤ x.node)
     × (x.node < hi) → Within lo hi (a ++ broken_at x.node fs)
 named lo mid hi a x fs o w h = joined lo mid hi a _ w (alone_at mid x.node hi 23 fs o (omega arith) h.0 h.1)
 
 -- a name with which the declared cells would pass the limit, or none
 limit_in : (lo mid hi : ℕ) (f g : Frame) (x : tree.Name) → Within lo hi g.faults → Within lo mid f.faults → (mid ≤ x.node) × (x.node < hi)
-    → Within lo hi (limited x f g).faults
+    → Within lo hi (within_limit x f g).faults
 limit_in lo mid hi f g x v w h = limited_case (λ k. Within lo hi k.faults) x f g (λ le. v) (named lo mid hi f.faults x _ limit_order w h)
 
 consts_in : (lo mid hi : ℕ) (f : Frame) (xs : List tree.ConstEntry) → Within lo mid f.faults → rise_consts xs mid hi
@@ -60,8 +62,8 @@ var_in : (lo mid hi : ℕ) (f : Frame) (from : ℕ) (shape : Option ℕ) (x : tr
 var_in lo mid hi f from None x w h = named lo mid hi f.faults x _ (redeclared_order f.scene x) w h
 var_in lo mid hi f from (Some shape) x w h = go (is_first f.scene x)
   where
-    go : (b : Bool) → Within lo hi (if_true b (λ _. limited x f (with_variable f x from shape))
-        (λ _. with_faults f (broken_at x.node (redeclared f.scene x)))).faults
+    go : (b : Bool) → Within lo hi (if_true b (λ _. within_limit x f (with_variable f x from shape))
+        (λ _. with_faults f (broken_at x.node (redeclaration_rules f.scene x)))).faults
     go true = limit_in lo mid hi f (with_variable f x from shape) x (higher lo mid hi f.faults w (omega (arith, h.0, h.1))) w h
     go false = named lo mid hi f.faults x _ (redeclared_order f.scene x) w h
 
@@ -88,8 +90,8 @@ parameter_in lo mid hi f from mode None x w h = named lo mid hi f.faults x _ (re
 parameter_in lo mid hi f from mode (Some shape) x w h = go (is_first f.scene x)
   where
     go : (b : Bool) → Within lo hi (if_true b
-        (λ _. limited x f (with_param f x from mode shape (param_kind (is_structured f.scene shape) mode)))
-        (λ _. with_faults f (broken_at x.node (redeclared f.scene x)))).faults
+        (λ _. within_limit x f (with_param f x from mode shape (param_kind (is_structured f.scene shape) mode)))
+        (λ _. with_faults f (broken_at x.node (redeclaration_rules f.scene x)))).faults
     go true = limit_in lo mid hi f (with_param f x from mode shape (param_kind (is_structured f.scene shape) mode)) x
         (higher lo mid hi f.faults w (omega (arith, h.0, h.1))) w h
     go false = named lo mid hi f.faults x _ (redeclared_order f.scene x) w h
@@ -130,7 +132,7 @@ name_order f v = append 0 0 3 _ _ (one 0 0 _ fault.Undeclared (omega arith) (ome
     (one 0 3 _ fault.NotType (omega arith) (omega arith))
 
 result_in : (lo mid hi : ℕ) (f : Frame) (r : Option tree.Name) → Within lo mid f.faults → rise_result r mid hi
-    → Within lo hi (headed f r).frame.faults
+    → Within lo hi (heading_at f r).frame.faults
 result_in lo mid hi f None w h = higher lo mid hi f.faults w h
 result_in lo mid hi f (Some x) w h =
     joined lo mid hi f.faults _ w (placed 3 mid x.node hi _ (read_type_name f.scene x).value (result_rules f.scene) (omega arith)
@@ -140,7 +142,7 @@ result_in lo mid hi f (Some x) w h =
     (name_order (found f.scene x) (shape_in (found f.scene x))) (none mid x.node h.0) h.0 h.1))
 
 -- a PROCEDURE that stands too deep
-depth_in : (lo k n hi : ℕ) (fs : List CheckFault) (x : Headed) → InOrder 0 23 fs → Within lo k x.frame.faults → k ≤ n → n < hi
+depth_in : (lo k n hi : ℕ) (fs : List CheckFault) (x : FramedHeading) → InOrder 0 23 fs → Within lo k x.frame.faults → k ≤ n → n < hi
     → Within lo hi (with_depth fs n x).frame.faults
 depth_in lo k n hi [] x o w le h = higher lo k hi x.frame.faults w (omega (arith, le, h))
 depth_in lo k n hi (f ∷ fs) x o w le h = node_end lo n hi 23 x.frame.faults (f ∷ fs) o (omega arith) (higher lo k n x.frame.faults w le) h

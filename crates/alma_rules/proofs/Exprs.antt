@@ -18,7 +18,7 @@ use Rattle.alma_rules.specs.declared.error.Stop.{Stop}
 use Rattle.alma_ir.specs.Tree as ir
 use Rattle.alma_rules.specs.Numbered as tree
 use Rattle.alma_rules.specs.View as view
-use Rattle.alma_rules.specs.Judged.{Judged, fine, of_value, at_node, both, and_then, with, with_some}
+use Rattle.alma_rules.specs.Judgement.{Judgement, fine, of_value, at_node, both, and_then, with, with_some}
 use Rattle.alma_rules.specs.Answers.{Stops, Answers}
 use Rattle.alma_rules.specs.Scene.{Scene, FormalOf, literal_at, number_at, inside_of}
 use Rattle.alma_rules.specs.Parts as parts
@@ -40,11 +40,11 @@ module _ (s : Scene) where
   unfolding judge_expr
   expr_at n k x r = refl
 
-  no_relation_at : (k : ℕ) (j : Judged parts.Typing) → judge_compared s k j tree.no_relation ≡ j
+  no_relation_at : (k : ℕ) (j : Judgement parts.Typing) → judge_compared s k j tree.no_relation ≡ j
   unfolding judge_expr
   no_relation_at k j = refl
 
-  relation_at_is : (k : ℕ) (j : Judged parts.Typing) (o : _) (x : tree.Simple)
+  relation_at_is : (k : ℕ) (j : Judgement parts.Typing) (o : _) (x : tree.Simple)
       → judge_compared s k j (tree.compared o x) ≡ nodes.relation_at s k o (and_then j (λ m. judge_simple s m x))
   unfolding judge_expr
   relation_at_is k j o x = refl
@@ -88,7 +88,7 @@ module _ (s : Scene) where
       (view.terms_of (di.out-Simple t).more.items)))
   simple_whole n t = ap (judge_simple s n) (rows.simple_is t) ∙ simple_at n _ _ _ _
 
-  sum_stops : (k : ℕ) (sign : _) (rest : tree.TermTail) (j : Judged (parts.Typing × parts.Operands)) (x : Stop) → Stops j.faults x
+  sum_stops : (k : ℕ) (sign : _) (rest : tree.TermTail) (j : Judgement (parts.Typing × parts.Operands)) (x : Stop) → Stops j.faults x
       → Stops (nodes.sum_at s k sign rest j).faults x
   sum_stops k None tree.no_term j x h = h
   sum_stops k None (tree.more_term o t rest) j x h = stops_more _ _ x h
@@ -156,7 +156,7 @@ module _ (s : Scene) where
       (view.factors_of (dm.out-Term t).more.items)))
   term_whole n o t = ap (judge_term s n o) (rows.term_is t) ∙ term_at n _ o _ _
 
-  product_stops : (k : ℕ) (o : rules.Operand) (rest : tree.FactorTail) (j : Judged (parts.Typing × parts.Operands)) (x : Stop)
+  product_stops : (k : ℕ) (o : rules.Operand) (rest : tree.FactorTail) (j : Judgement (parts.Typing × parts.Operands)) (x : Stop)
       → Stops j.faults x → Stops (nodes.product_at s o k rest j).faults x
   product_stops k o tree.no_factor j x h = stops_more _ _ x h
   product_stops k o (tree.more_factor y f rest) j x h = stops_more _ _ x h
@@ -262,7 +262,7 @@ module _ (s : Scene) where
   unfolding judge_expr
   call_some_at n k d items = refl
 
-  call_by : (k : ℕ) (c : Judged parts.Callee) (m count : ℕ) (v : Option parts.Callee) (f : ℕ → Option parts.Callee → Judged ir.Args)
+  call_by : (k : ℕ) (c : Judgement parts.Callee) (m count : ℕ) (v : Option parts.Callee) (f : ℕ → Option parts.Callee → Judgement ir.Args)
       → c ≡ of_value m v
       → nodes.called_at s k c count (f c.next c.value) ≡ nodes.called_at s k (of_value m v) count (f m v)
   call_by k c m count v f h = rw h refl
@@ -337,7 +337,7 @@ module _ (s : Scene) where
   unfolding judge_expr
   value_one n k e = refl
 
-  by_only : (n k : ℕ) (t : tree.Stmts) (o : Option (Judged parts.Typing)) → judge_only s n t ≡ o
+  by_only : (n k : ℕ) (t : tree.Stmts) (o : Option (Judgement parts.Typing)) → judge_only s n t ≡ o
       → judge_primary s n (tree.paren k t) ≡ nodes.or_sequence o (nodes.in_parens s k)
       (λ u. nodes.as_sequence s k (judge_stmts (inside_of s) n t))
   by_only n k t o h = paren_at n k t ∙ ap (λ j. nodes.or_sequence j (nodes.in_parens s k)

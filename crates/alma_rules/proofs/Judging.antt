@@ -5,37 +5,37 @@ use Rattle.std.specs.Result.{IsErrAnd}
 use Rattle.alma_base.specs.declared.fault.CheckFault.{CheckFault}
 use Rattle.alma_rules.specs.declared.error.Stop.{Stop}
 use Rattle.alma_rules.specs.declared.error.Stop.TheVariants.{Fault, Memory}
-use Rattle.alma_rules.specs.Judged.{Broken, Judged, of_value, broken_at, at_node, both, both_of, and_then, with, with_some}
+use Rattle.alma_rules.specs.Judgement.{BrokenRule, Judgement, of_value, broken_at, at_node, both, both_of, and_then, with, with_some}
 use Rattle.alma_rules.specs.Answers.{Stops, Answers}
 
-pub stops_more : (xs ys : List Broken) (e : Stop) → Stops xs e → Stops (xs ++ ys) e
+pub stops_more : (xs ys : List BrokenRule) (e : Stop) → Stops xs e → Stops (xs ++ ys) e
 stops_more [] ys (Fault f n) h = absurd (cc)
 stops_more (x ∷ xs) ys (Fault f n) h = h
 stops_more xs ys Memory h = tt
 
 -- an error that `?` hands on
-pub passed : {A X : Type 0} (j : Judged A) (w : X → A) (n : ℕ) (r : Result (Option X) Stop) (e : Stop) → IsErrAnd r (λ x. x ≡ e)
+pub passed : {A X : Type 0} (j : Judgement A) (w : X → A) (n : ℕ) (r : Result (Option X) Stop) (e : Stop) → IsErrAnd r (λ x. x ≡ e)
     → Stops j.faults e → Answers j w n r
 passed j w n (Ok v) e h f = absurd h
 passed j w n (Err x) e h f = rw h f
 
 -- want of memory says nothing
-pub no_memory : {A X : Type 0} (j : Judged A) (w : X → A) (n : ℕ) (r : Result (Option X) Stop) → IsErrAnd r (λ x. x ≡ Memory)
+pub no_memory : {A X : Type 0} (j : Judgement A) (w : X → A) (n : ℕ) (r : Result (Option X) Stop) → IsErrAnd r (λ x. x ≡ Memory)
     → Answers j w n r
 no_memory j w n (Ok v) h = absurd h
 no_memory j w n (Err x) h = rw h tt
 
 -- another way to say what is judged
-pub answers_as : {A X : Type 0} (j k : Judged A) (w : X → A) (n : ℕ) (r : Result (Option X) Stop) → j ≡ k → Answers k w n r
+pub answers_as : {A X : Type 0} (j k : Judgement A) (w : X → A) (n : ℕ) (r : Result (Option X) Stop) → j ≡ k → Answers k w n r
     → Answers j w n r
 answers_as j k w n r is a = subst (λ i. Answers i w n r) (sym is) a
 
 -- no rule is broken
-pub fine_answer : {A X : Type 0} (j : Judged A) (w : X → A) (n : ℕ) (r : Result (Option X) Stop) (v : Option X) → r ≡ Ok v
+pub fine_answer : {A X : Type 0} (j : Judgement A) (w : X → A) (n : ℕ) (r : Result (Option X) Stop) (v : Option X) → r ≡ Ok v
     → j ≡ of_value n (option_map w v) → Answers j w n r
 fine_answer j w n r v is h = rw is h
 
-module _ {A : Type 0} (k : ℕ) (rules : Option A → List CheckFault) (j : Judged A) where
+module _ {A : Type 0} (k : ℕ) (rules : Option A → List CheckFault) (j : Judgement A) where
   pub node_part : (e : Stop) → Stops j.faults e → Stops (at_node k rules j).faults e
   node_part e h = stops_more j.faults (broken_at k (rules j.value)) e h
 
@@ -46,25 +46,26 @@ module _ {A : Type 0} (k : ℕ) (rules : Option A → List CheckFault) (j : Judg
   pub node_fine : (n : ℕ) (v : Option A) → j ≡ of_value n v → rules v ≡ [] → at_node k rules j ≡ of_value n v
   node_fine n v is h = rw (is, h) refl
 
-module _ {A B : Type 0} (a : Judged A) (f : ℕ → Judged B) (e : Stop) where
+module _ {A B : Type 0} (a : Judgement A) (f : ℕ → Judgement B) (e : Stop) where
   pub first_stops : Stops a.faults e → Stops (and_then a f).faults e
   first_stops h = stops_more a.faults (f a.next).faults e h
 
   pub then_stops : (n : ℕ) (v : Option A) → a ≡ of_value n v → Stops (f n).faults e → Stops (and_then a f).faults e
   then_stops n v is h = rw is h
 
-pub then_fine : {A B : Type 0} (a : Judged A) (f : ℕ → Judged B) (n m : ℕ) (v : Option A) (w : Option B) → a ≡ of_value n v
+pub then_fine : {A B : Type 0} (a : Judgement A) (f : ℕ → Judgement B) (n m : ℕ) (v : Option A) (w : Option B) → a ≡ of_value n v
     → f n ≡ of_value m w → and_then a f ≡ of_value m (both_of v w)
 then_fine a f n m v w p q = rw (p, q) refl
 
-pub both_fine : {A B : Type 0} (n m : ℕ) (v : Option A) (j : Judged B) (w : Option B) → j ≡ of_value m w
+pub both_fine : {A B : Type 0} (n m : ℕ) (v : Option A) (j : Judgement B) (w : Option B) → j ≡ of_value m w
     → both (of_value n v) j ≡ of_value m (both_of v w)
 both_fine n m v j w h = rw h refl
 
-pub with_fine : {A B : Type 0} (f : A → B) (j : Judged A) (n : ℕ) (v : Option A) → j ≡ of_value n v → with f j ≡ of_value n (option_map f v)
+pub with_fine : {A B : Type 0} (f : A → B) (j : Judgement A) (n : ℕ) (v : Option A) → j ≡ of_value n v
+    → with f j ≡ of_value n (option_map f v)
 with_fine f j n v h = rw h refl
 
-pub with_some_fine : {A B : Type 0} (f : A → Option B) (j : Judged A) (n : ℕ) (v : Option A) → j ≡ of_value n v
+pub with_some_fine : {A B : Type 0} (f : A → Option B) (j : Judgement A) (n : ℕ) (v : Option A) → j ≡ of_value n v
     → with_some f j ≡ of_value n (option_and_then f v)
 with_some_fine f j n v h = rw h refl
 

@@ -5,7 +5,7 @@ use Rattle.std.proofs.lemmas.Bool.{le-ltb, lt-ltb, ltb-true, ltb-false}
 use Rattle.std.proofs.lemmas.Bool.Decides.{eqb_tells}
 use Rattle.alma_base.specs.declared.fault.CheckFault.{CheckFault}
 use Rattle.alma_base.specs.declared.fault.CheckFault.TheVariants as fault
-use Rattle.alma_rules.specs.Judged.{Broken, rank, is_before, lesser, better, least}
+use Rattle.alma_rules.specs.Judgement.{BrokenRule, rank, is_before, lesser, better, least}
 use Rattle.alma_rules.specs.Answers.{first}
 use Rattle.alma_rules.proofs.Within.{key, Keys}
 
@@ -43,7 +43,7 @@ neither false true z h (inr e) = e
 neither false false z h (inr e) = refl
 
 -- one whose place is not later is not after the other
-pub not_before : (a b : Broken) → key a ≤ key b → is_before b a ≡ false
+pub not_before : (a b : BrokenRule) → key a ≤ key b → is_before b a ≡ false
 not_before a b h =
     let ra : rank a.fault < 32 = small a.fault in
     let rb : rank b.fault < 32 = small b.fault in
@@ -56,11 +56,11 @@ not_before a b h =
     same (inr p) = inl p.0
     same (inl p) = inr (le-ltb (rank b.fault) (rank a.fault) (omega (arith, h, p.1)))
 
-chosen : (t : Bool) (a b : Broken) → t ≡ false → (if t then b else a) ≡ a
+chosen : (t : Bool) (a b : BrokenRule) → t ≡ false → (if t then b else a) ≡ a
 chosen true a b h = absurd (cc)
 chosen false a b h = refl
 
-pub first_least : (lo hi : ℕ) (fs : List Broken) → Keys lo hi fs → least fs ≡ first fs
+pub first_least : (lo hi : ℕ) (fs : List BrokenRule) → Keys lo hi fs → least fs ≡ first fs
 unfolding Keys
 first_least lo hi [] h = refl
 first_least lo hi (b ∷ []) h = refl
@@ -79,7 +79,7 @@ sure_right true y z p q = refl
 sure_right false true z p q = q
 sure_right false false z p q = absurd (cc)
 
-is_earlier : (a b : Broken) → key a < key b → is_before a b ≡ true
+is_earlier : (a b : BrokenRule) → key a < key b → is_before a b ≡ true
 is_earlier a b h = go (nat_lt a.node b.node) refl (eqb_tells a.node b.node)
   where
     ra : rank a.fault < 32
@@ -97,24 +97,24 @@ is_earlier a b h = go (nat_lt a.node b.node) refl (eqb_tells a.node b.node)
         let le : b.node ≤ a.node = ltb-false a.node b.node e in
         absurd (p.1 (let x : a.node ≡ b.node = omega (arith, h, ra, rb, le) in x))
 
-key_before : (a b : Broken) (t : Bool) → is_before a b ≡ t → nat_lt (key a) (key b) ≡ t
+key_before : (a b : BrokenRule) (t : Bool) → is_before a b ≡ t → nat_lt (key a) (key b) ≡ t
 key_before a b t e = go (nat_lt (key a) (key b)) refl
   where
     go : (u : Bool) → nat_lt (key a) (key b) ≡ u → nat_lt (key a) (key b) ≡ t
     go true h = let x : is_before a b ≡ true = is_earlier a b (ltb-true (key a) (key b) h) in h ∙ sym x ∙ e
     go false h = let x : is_before a b ≡ false = not_before b a (ltb-false (key a) (key b) h) in h ∙ sym x ∙ e
 
-takes_other : (a b : Broken) → is_before b a ≡ true → lesser a (Some b) ≡ b
+takes_other : (a b : BrokenRule) → is_before b a ≡ true → lesser a (Some b) ≡ b
 takes_other a b h = go (is_before b a) h
   where
     go : (t : Bool) → t ≡ true → (if t then b else a) ≡ b
     go true h = refl
     go false h = absurd (cc)
 
-keeps : (a b : Broken) → is_before b a ≡ false → lesser a (Some b) ≡ a
+keeps : (a b : BrokenRule) → is_before b a ≡ false → lesser a (Some b) ≡ a
 keeps a b h = chosen (is_before b a) a b h
 
-lesser_joined : (x : Broken) (u v : Option Broken) → lesser x (better u v) ≡ lesser (lesser x u) v
+lesser_joined : (x : BrokenRule) (u v : Option BrokenRule) → lesser x (better u v) ≡ lesser (lesser x u) v
 lesser_joined x None v = refl
 lesser_joined x (Some y) None = refl
 lesser_joined x (Some y) (Some z) = go (is_before y x) (is_before z y) refl refl
@@ -123,20 +123,20 @@ lesser_joined x (Some y) (Some z) = go (is_before y x) (is_before z y) refl refl
     go true true p q =
         let a : key y < key x = ltb-true (key y) (key x) (key_before y x true p) in
         let b : key z < key y = ltb-true (key z) (key y) (key_before z y true q) in
-        ap (λ (w : Broken). lesser x (Some w)) (takes_other y z q) ∙ takes_other x z (is_earlier z x (omega (arith, a, b)))
-        ∙ sym (ap (λ (w : Broken). lesser w (Some z)) (takes_other x y p) ∙ takes_other y z q)
+        ap (λ (w : BrokenRule). lesser x (Some w)) (takes_other y z q) ∙ takes_other x z (is_earlier z x (omega (arith, a, b)))
+        ∙ sym (ap (λ (w : BrokenRule). lesser w (Some z)) (takes_other x y p) ∙ takes_other y z q)
     go true false p q =
-        ap (λ (w : Broken). lesser x (Some w)) (keeps y z q) ∙ takes_other x y p
-        ∙ sym (ap (λ (w : Broken). lesser w (Some z)) (takes_other x y p) ∙ keeps y z q)
+        ap (λ (w : BrokenRule). lesser x (Some w)) (keeps y z q) ∙ takes_other x y p
+        ∙ sym (ap (λ (w : BrokenRule). lesser w (Some z)) (takes_other x y p) ∙ keeps y z q)
     go false true p q =
-        ap (λ (w : Broken). lesser x (Some w)) (takes_other y z q) ∙ sym (ap (λ (w : Broken). lesser w (Some z)) (keeps x y p))
+        ap (λ (w : BrokenRule). lesser x (Some w)) (takes_other y z q) ∙ sym (ap (λ (w : BrokenRule). lesser w (Some z)) (keeps x y p))
     go false false p q =
         let a : key x ≤ key y = ltb-false (key y) (key x) (key_before y x false p) in
         let b : key y ≤ key z = ltb-false (key z) (key y) (key_before z y false q) in
-        ap (λ (w : Broken). lesser x (Some w)) (keeps y z q) ∙ keeps x y p
-        ∙ sym (ap (λ (w : Broken). lesser w (Some z)) (keeps x y p) ∙ keeps x z (not_before x z (omega (arith, a, b))))
+        ap (λ (w : BrokenRule). lesser x (Some w)) (keeps y z q) ∙ keeps x y p
+        ∙ sym (ap (λ (w : BrokenRule). lesser w (Some z)) (keeps x y p) ∙ keeps x z (not_before x z (omega (arith, a, b))))
 
 -- the least of two lists is the lesser of their leasts
-pub least_joined : (a b : List Broken) → least (a ++ b) ≡ better (least a) (least b)
+pub least_joined : (a b : List BrokenRule) → least (a ++ b) ≡ better (least a) (least b)
 least_joined [] b = refl
 least_joined (x ∷ xs) b = ap Some (ap (lesser x) (least_joined xs b) ∙ lesser_joined x (least xs) (least b))

@@ -3,15 +3,16 @@ use Rattle.std.proofs.Common.{inl, ℕ, ◌<◌, ◌≤◌, List, [], Bool, Opti
 use Rattle.std.specs.Prelude.{true, false, nat_eq, length, slice_get}
 use Rattle.alma_ir.specs.Tree as ir
 use Rattle.alma_rules.specs.Numbered as tree
-use Rattle.alma_rules.specs.Judged.{Judged, at_node, with, with_some, and_then, both, fine}
+use Rattle.alma_rules.specs.Judgement.{Judgement, at_node, with, with_some, and_then, both, fine}
 use Rattle.alma_rules.specs.Scene.{Scene, FormalOf, in_constant, inside_of, literal_at, found, text_at}
 use Rattle.alma_rules.specs.StmtRules.{write_rules, by_rules, read_rules}
-use Rattle.alma_rules.specs.Parts.{span_of, Typing, Denoted, Span, Callee, callee_in, called, located_in, denoted, related, boolean_typing}
+use Rattle.alma_rules.specs.Parts.{span_of, Typing, Denotation, Span, Callee, callee_in, typing_of_call, located_in, denotation}
+use Rattle.alma_rules.specs.Parts.{relation_typing, boolean_typing}
 use Rattle.alma_rules.specs.Parts.{a_test, without_place, write_stmts, one_stmt}
 use Rattle.alma_rules.specs.ExprRules.{alone, sequence_rules, simple_rules, relation_rules, literal_rules, call_rules, test_rules}
 use Rattle.alma_rules.specs.ExprRules.{index_rules, argument_rules, argument_kind, Use, as_variable, as_value, as_procedure, Operand}
 use Rattle.alma_rules.specs.Nodes.{formals_of, any_or, any_and, is_selected, literal_typing, known_typing, ord_typing, chr_typing}
-use Rattle.alma_rules.specs.Nodes.{argument_count, called_at, judge_name, indexed, text_rules, or_sequence, in_parens, as_sequence, sum_at}
+use Rattle.alma_rules.specs.Nodes.{argument_count, called_at, judge_name, index_at, text_rules, or_sequence, in_parens, as_sequence, sum_at}
 use Rattle.alma_rules.specs.Nodes.{product_at, only_of, item_of, item_literal, text_item}
 use Rattle.alma_base.specs.Choice.{if_true}
 use Rattle.alma_tree.specs.declared.leaf.Sign.{Sign}
@@ -32,11 +33,12 @@ use Rattle.alma_rules.proofs.Ranks.{by_order, case_order, label_order, return_or
 use Rattle.alma_rules.proofs.Within.{Within, none, ordered, higher, up, joined, alone_at, node_end, Ends, below, own, ends_map, ends_then}
 use Rattle.alma_rules.proofs.Within.{placed}
 
-abbrev IfThere : ℕ → ℕ → Option (Judged Typing) → Type 0
+abbrev IfThere : ℕ → ℕ → Option (Judgement Typing) → Type 0
 IfThere lo hi None = Unit {0}
 IfThere lo hi (Some j) = Within lo hi j.faults
 
-in_paren : (s : Scene) (lo n hi : ℕ) (j : Option (Judged Typing)) (k : Judged ir.Stmts) → IfThere lo n j → Within lo n k.faults → lo ≤ n
+in_paren : (s : Scene) (lo n hi : ℕ) (j : Option (Judgement Typing)) (k : Judgement ir.Stmts) → IfThere lo n j → Within lo n k.faults
+    → lo ≤ n
     → n < hi
     → Ends 16 lo n hi (or_sequence j (in_parens s n) (λ u. as_sequence s n k)).faults
     (or_sequence j (in_parens s n) (λ u. as_sequence s n k)).value
@@ -46,12 +48,13 @@ in_paren s lo n hi None k p q le h =
 in_paren s lo n hi (Some j) k p q le h =
     ends_map 16 lo n hi _ without_place _ (own 16 lo n hi j.faults (simple_rules s j.value) j.value (simple_order s j.value) p le h)
 
-in_only : (lo mid hi : ℕ) (rest : tree.StmtTail) (j : Option (Judged Typing)) → IfThere lo mid j → mid ≤ hi → IfThere lo hi (only_of rest j)
+in_only : (lo mid hi : ℕ) (rest : tree.StmtTail) (j : Option (Judgement Typing)) → IfThere lo mid j → mid ≤ hi
+    → IfThere lo hi (only_of rest j)
 in_only lo mid hi tree.no_stmt None p le = tt
 in_only lo mid hi tree.no_stmt (Some j) p le = higher lo mid hi j.faults p le
 in_only lo mid hi (tree.more_stmt x rest) j p le = tt
 
-in_sum : (s : Scene) (lo k hi : ℕ) (sign : Option Sign) (rest : tree.TermTail) (j : Judged (Typing × Operands)) → Within lo k j.faults
+in_sum : (s : Scene) (lo k hi : ℕ) (sign : Option Sign) (rest : tree.TermTail) (j : Judgement (Typing × Operands)) → Within lo k j.faults
     → k < hi → Within lo hi (sum_at s k sign rest j).faults
 in_sum s lo k hi None tree.no_term j h le = higher lo k hi j.faults h (omega (arith, le))
 in_sum s lo k hi None (tree.more_term o t rest) j h le =
@@ -61,7 +64,7 @@ in_sum s lo k hi (Some g) tree.no_term j h le =
 in_sum s lo k hi (Some g) (tree.more_term o t rest) j h le =
     node_end lo k hi 23 j.faults _ (chain_order s ir.Or alone (Some g) (any_or (tree.more_term o t rest)) j.value) (omega arith) h le
 
-in_product : (s : Scene) (lo k hi : ℕ) (o : Operand) (rest : tree.FactorTail) (j : Judged (Typing × Operands)) → Within lo k j.faults
+in_product : (s : Scene) (lo k hi : ℕ) (o : Operand) (rest : tree.FactorTail) (j : Judgement (Typing × Operands)) → Within lo k j.faults
     → k < hi → Within lo hi (product_at s o k rest j).faults
 in_product s lo k hi o tree.no_factor j h le = node_end lo k hi 23 j.faults _ (operand_order s o _) (omega arith) h le
 in_product s lo k hi o (tree.more_factor p t rest) j h le =
@@ -79,7 +82,8 @@ literal_inside lo hi (tree.expr n (tree.simple m None (tree.term k (tree.factor 
     (h.0.1.0.1.0.1.0.0, omega (arith, h.0.1.0.1.0.1.0.1, h.0.1.0.1.0.1.1, h.0.1.0.1.0.2, h.0.1.0.1.1, h.0.1.0.2, h.0.1.1, h.0.2, h.1))
 literal_inside lo hi e h = tt
 
-in_text : (s : Scene) (n j lo hi : ℕ) (text : List ℕ) (item : Judged Typing) (node : ℕ) → Ends 8 lo node hi item.faults item.value → lo ≤ j
+in_text : (s : Scene) (n j lo hi : ℕ) (text : List ℕ) (item : Judgement Typing) (node : ℕ) → Ends 8 lo node hi item.faults item.value
+    → lo ≤ j
     → j < hi → Within lo hi (text_item s n j text item node).faults
 in_text s n j lo hi text item node w le h = go (nat_eq (length text) 1)
   where
@@ -88,17 +92,17 @@ in_text s n j lo hi text item node w le h = go (nat_eq (length text) 1)
     go true = placed 8 lo node hi item.faults item.value (write_rules s) (omega arith) (empty 9 23 (omega arith)) (write_order s) w
     go false = alone_at lo j hi 23 _ (text_order s (Some (one_stmt (ir.WriteText text)))) (omega arith) le h
 
-in_item : (s : Scene) (n lo hi node : ℕ) (l : Option (ℕ × ℕ)) (item : Judged Typing) → Ends 8 lo node hi item.faults item.value
+in_item : (s : Scene) (n lo hi node : ℕ) (l : Option (ℕ × ℕ)) (item : Judgement Typing) → Ends 8 lo node hi item.faults item.value
     → Inside lo hi l → Within lo hi (item_of s n node l item).faults
 in_item s n lo hi node None item w h = placed 8 lo node hi item.faults item.value (write_rules s) (omega arith) (empty 9 23 (omega arith))
     (write_order s) w
 in_item s n lo hi node (Some l) item w h = in_text s n l.0 lo hi (literal_at s l.1) item node w h.0 h.1
 
-called_in : (s : Scene) (k lo mid hi : ℕ) (c : Judged Callee) (count : ℕ) (args : Judged ir.Args) → Within lo mid c.faults
+called_in : (s : Scene) (k lo mid hi : ℕ) (c : Judgement Callee) (count : ℕ) (args : Judgement ir.Args) → Within lo mid c.faults
     → Within mid k args.faults → lo ≤ k → k < hi
     → Ends 16 lo k hi (called_at s k c count args).faults (called_at s k c count args).value
 called_in s k lo mid hi c count args w v le h =
-    ends_map 16 lo k hi _ called _ (own 16 lo k hi _ (call_rules s c.value count (both c args).value) (both c args).value
+    ends_map 16 lo k hi _ typing_of_call _ (own 16 lo k hi _ (call_rules s c.value count (both c args).value) (both c args).value
     (call_order s c.value count (both c args).value) (joined lo mid k _ _ w v) le h)
 
 mutual
@@ -262,13 +266,13 @@ mutual
       let r : h.0.0 ≤ k = compared_le s h.0.0 k right h.0.2 in
       compared_in s k lo h.0.0 hi (judge_simple s n left) right a h.0.2 (omega (arith, l, r)) h.1
 
-  compared_in : (s : Scene) (k lo mid hi : ℕ) (j : Judged Typing) (c : tree.Compared) → Within lo mid j.faults → rise_compared c mid k
+  compared_in : (s : Scene) (k lo mid hi : ℕ) (j : Judgement Typing) (c : tree.Compared) → Within lo mid j.faults → rise_compared c mid k
       → lo ≤ k → k < hi
       → Ends 8 lo k hi (judge_compared s k j c).faults (judge_compared s k j c).value
   compared_in s k lo mid hi j tree.no_relation w h le top = (inl (higher lo mid k j.faults w h), le, top)
   compared_in s k lo mid hi j (tree.compared relation right) w h le top =
-      let all : Judged (Typing × Typing) = and_then j (λ m. judge_simple s m right) in
-      ends_map 8 lo k hi _ (related s relation) _
+      let all : Judgement (Typing × Typing) = and_then j (λ m. judge_simple s m right) in
+      ends_map 8 lo k hi _ (relation_typing s relation) _
       (own 8 lo k hi all.faults (relation_rules s relation all.value) all.value (relation_order s relation all.value)
       (joined lo mid k _ _ w (simple_in s _ mid k right h)) le top)
 
@@ -373,19 +377,20 @@ mutual
   desig_in : (s : Scene) (n : ℕ) (wanted : Use) (lo hi : ℕ) (x : tree.Desig) → rise_desig x lo hi
       → Ends 6 lo (tree.desig_node x) hi (judge_desig s n wanted x).faults (judge_desig s n wanted x).value
   desig_in s n wanted lo hi (tree.desig k name more) h =
-      let d : Judged Denoted = judge_selectors s (judge_name s n name) more in
+      let d : Judgement Denotation = judge_selectors s (judge_name s n name) more in
       let a : Within lo k d.faults =
       selectors_in s lo h.0.0 k (judge_name s n name) more
-      (alone_at lo name.node h.0.0 23 _ (name_order (found s name) (denoted s (found s name))) (omega arith) h.0.1.0 h.0.1.1) h.0.2 in
+      (alone_at lo name.node h.0.0 23 _ (name_order (found s name) (denotation s (found s name))) (omega arith) h.0.1.0 h.0.1.1) h.0.2 in
       own 6 lo k hi d.faults _ d.value (desig_order s wanted (is_selected more) (found s name) d.value) a (ordered lo k _ a) h.1
 
-  selectors_in : (s : Scene) (lo mid hi : ℕ) (d : Judged Denoted) (x : tree.SelectorTail) → Within lo mid d.faults → rise_selectors x mid hi
+  selectors_in : (s : Scene) (lo mid hi : ℕ) (d : Judgement Denotation) (x : tree.SelectorTail) → Within lo mid d.faults
+      → rise_selectors x mid hi
       → Within lo hi (judge_selectors s d x).faults
   selectors_in s lo mid hi d tree.no_selector w h = higher lo mid hi d.faults w h
   selectors_in s lo mid hi d (tree.more_selector x rest) w h =
       selectors_in s lo h.0 hi (judge_selector s d x) rest (selector_in s lo mid h.0 d x w h.1) h.2
 
-  selector_in : (s : Scene) (lo mid hi : ℕ) (d : Judged Denoted) (x : tree.Selector) → Within lo mid d.faults → rise_selector x mid hi
+  selector_in : (s : Scene) (lo mid hi : ℕ) (d : Judgement Denotation) (x : tree.Selector) → Within lo mid d.faults → rise_selector x mid hi
       → Within lo hi (judge_selector s d x).faults
   selector_in s lo mid hi d (tree.field k name) w h =
       node_end lo k hi 23 _ _ (field_order s (text_at s name.token) d.value) (omega arith)
@@ -393,17 +398,18 @@ mutual
   selector_in s lo mid hi d (tree.index k items) w h =
       node_end lo k hi 23 _ _ (array_order _) (omega arith) (indices_in s lo mid k d items w h.0) h.1
 
-  indices_in : (s : Scene) (lo mid hi : ℕ) (d : Judged Denoted) (x : tree.Exprs) → Within lo mid d.faults → rise_exprs x mid hi
+  indices_in : (s : Scene) (lo mid hi : ℕ) (d : Judgement Denotation) (x : tree.Exprs) → Within lo mid d.faults → rise_exprs x mid hi
       → Within lo hi (judge_indices s d x).faults
   indices_in s lo mid hi d (tree.exprs e rest) w h =
-      index_tail_in s lo h.0 hi (indexed s d (tree.expr_node e) (judge_expr s d.next e)) rest
+      index_tail_in s lo h.0 hi (index_at s d (tree.expr_node e) (judge_expr s d.next e)) rest
       (joined lo mid h.0 _ _ w (placed 8 mid (tree.expr_node e) h.0 _ _ (index_rules s d.value) (omega arith) (empty 9 23 (omega arith))
       (index_order s d.value) (expr_in s d.next mid h.0 e h.1))) h.2
 
-  index_tail_in : (s : Scene) (lo mid hi : ℕ) (d : Judged Denoted) (x : tree.ExprTail) → Within lo mid d.faults → rise_expr_tail x mid hi
+  index_tail_in : (s : Scene) (lo mid hi : ℕ) (d : Judgement Denotation) (x : tree.ExprTail) → Within lo mid d.faults
+      → rise_expr_tail x mid hi
       → Within lo hi (judge_index_tail s d x).faults
   index_tail_in s lo mid hi d tree.no_expr w h = higher lo mid hi d.faults w h
   index_tail_in s lo mid hi d (tree.more_expr e rest) w h =
-      index_tail_in s lo h.0 hi (indexed s d (tree.expr_node e) (judge_expr s d.next e)) rest
+      index_tail_in s lo h.0 hi (index_at s d (tree.expr_node e) (judge_expr s d.next e)) rest
       (joined lo mid h.0 _ _ w (placed 8 mid (tree.expr_node e) h.0 _ _ (index_rules s d.value) (omega arith) (empty 9 23 (omega arith))
       (index_order s d.value) (expr_in s d.next mid h.0 e h.1))) h.2

@@ -6,9 +6,9 @@ use Rattle.alma_base.specs.declared.fault.CheckFault.TheVariants as fault
 use Rattle.alma_tree.specs.declared.leaf.Relation.{Relation}
 use Rattle.alma_tree.specs.declared.leaf.Sign.{Sign}
 use Rattle.alma_ir.specs.Tree as ir
-use Rattle.alma_rules.specs.Judged.{when, rank}
+use Rattle.alma_rules.specs.Judgement.{when, rank}
 use Rattle.alma_rules.specs.Scene.{Scene, Found, FormalOf}
-use Rattle.alma_rules.specs.Parts.{Typing, Located, Denoted, Callee, Operands, Span}
+use Rattle.alma_rules.specs.Parts.{Typing, Location, Denotation, Callee, Operands, Span}
 use Rattle.alma_rules.specs.ExprRules.{is_var, Use, Operand, Argument, other, of_bad, of_variable, name_rules, desig_rules, field_rules}
 use Rattle.alma_rules.specs.ExprRules.{array_rules, index_rules, operand_rules, chain_rules, not_rules, literal_rules, call_rules}
 use Rattle.alma_rules.specs.ExprRules.{simple_rules, known_rules, chr_rules, sequence_rules, relation_rules, test_rules, argument_rules}
@@ -49,21 +49,21 @@ one r m false f p q = omega (arith, p, q)
 pub name_order : {A : Type 0} (f : Found) (v : Option A) → InOrder 0 23 (name_rules f v)
 name_order f v = one 0 23 _ fault.Undeclared (omega arith) (omega arith)
 
-pub desig_order : (s : Scene) (wanted : Use) (selected : Bool) (f : Found) (v : Option Denoted)
+pub desig_order : (s : Scene) (wanted : Use) (selected : Bool) (f : Found) (v : Option Denotation)
     → InOrder 0 6 (desig_rules s wanted selected f v)
 desig_order s wanted selected f v =
     append 0 5 6 _ _ (append 0 4 5 _ _ (one 0 4 _ fault.NotConst (omega arith) (omega arith))
     (one 4 5 _ fault.NotVariable (omega arith) (omega arith)))
     (one 5 6 _ fault.NotProcedure (omega arith) (omega arith))
 
-pub field_order : (s : Scene) (name : List ℕ) (v : Option Denoted) → InOrder 0 23 (field_rules s name v)
+pub field_order : (s : Scene) (name : List ℕ) (v : Option Denotation) → InOrder 0 23 (field_rules s name v)
 field_order s name v = append 0 14 23 _ _ (one 0 14 _ fault.NotRecord (omega arith) (omega arith))
     (one 14 23 _ fault.NoField (omega arith) (omega arith))
 
-pub array_order : (v : Option Denoted) → InOrder 0 23 (array_rules v)
+pub array_order : (v : Option Denotation) → InOrder 0 23 (array_rules v)
 array_order v = one 0 23 _ fault.NotArray (omega arith) (omega arith)
 
-pub index_order : (s : Scene) (d : Option Denoted) (v : Option Typing) → InOrder 0 23 (index_rules s d v)
+pub index_order : (s : Scene) (d : Option Denotation) (v : Option Typing) → InOrder 0 23 (index_rules s d v)
 index_order s d v = one 0 23 _ fault.TypeMismatch (omega arith) (omega arith)
 
 operand_order_in : (s : Scene) (o : Operand) (v : Option Typing) → InOrder 4 8 (operand_rules s o v)
@@ -95,7 +95,7 @@ call_order s c count v = append 0 4 16 _ _ (one 0 4 _ fault.NotConst (omega arit
 pub simple_order : (s : Scene) (v : Option Typing) → InOrder 0 16 (simple_rules s v)
 simple_order s v = one 0 16 _ fault.TypeMismatch (omega arith) (omega arith)
 
-pub known_order : (s : Scene) (v : Option Located) → InOrder 0 16 (known_rules s v)
+pub known_order : (s : Scene) (v : Option Location) → InOrder 0 16 (known_rules s v)
 known_order s v = append 0 4 16 _ _ (one 0 4 _ fault.NotConst (omega arith) (omega arith))
     (one 4 16 _ fault.TypeMismatch (omega arith) (omega arith))
 
@@ -124,14 +124,14 @@ pub argument_order : (s : Scene) (f : Option FormalOf) (kind : Argument) (v : Op
 argument_order s None kind v = empty 0 23 (omega arith)
 argument_order s (Some f) kind v = argument_order_of s f kind v
 
-pub assign_order : (s : Scene) (v : Option (Located × Typing)) → InOrder 0 23 (assign_rules s v)
+pub assign_order : (s : Scene) (v : Option (Location × Typing)) → InOrder 0 23 (assign_rules s v)
 assign_order s v = one 0 23 _ fault.TypeMismatch (omega arith) (omega arith)
 
-pub loop_name_order : (s : Scene) (f : Found) (v : Option Located) → InOrder 0 23 (loop_name_rules s f v)
+pub loop_name_order : (s : Scene) (f : Found) (v : Option Location) → InOrder 0 23 (loop_name_rules s f v)
 loop_name_order s f v = append 0 0 23 _ _ (one 0 0 _ fault.Undeclared (omega arith) (omega arith))
     (one 0 23 _ fault.NotVariable (omega arith) (omega arith))
 
-pub loop_order : {A : Type 0} (s : Scene) (var : Option Located) (low high : Option Typing) (v : Option A)
+pub loop_order : {A : Type 0} (s : Scene) (var : Option Location) (low high : Option Typing) (v : Option A)
     → InOrder 0 23 (loop_rules s var low high v)
 loop_order s var low high v = one 0 23 _ fault.TypeMismatch (omega arith) (omega arith)
 
@@ -155,7 +155,7 @@ return_order s with_value v =
     (one 8 18 _ fault.ReturnForm (omega arith) (omega arith)))
     (one 18 23 _ fault.JumpOut (omega arith) (omega arith))
 
-pub read_order : (s : Scene) (v : Option Located) → InOrder 0 23 (read_rules s v)
+pub read_order : (s : Scene) (v : Option Location) → InOrder 0 23 (read_rules s v)
 read_order s v = one 0 23 _ fault.BadRead (omega arith) (omega arith)
 
 pub write_order : (s : Scene) (v : Option Typing) → InOrder 0 23 (write_rules s v)

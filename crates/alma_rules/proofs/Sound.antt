@@ -4,14 +4,15 @@ use Rattle.std.specs.Prelude.{true, false, ◌&&◌, not, is_some, option_map, o
 use Rattle.alma_base.specs.declared.fault.CheckFault.{CheckFault}
 use Rattle.alma_base.specs.declared.fault.CheckFault.TheVariants as fault
 use Rattle.alma_rules.specs.Numbered as tree
-use Rattle.alma_rules.specs.Judged.{Judged, Broken, at_node, broken_at, unless, both_of, when, holds, of_value}
+use Rattle.alma_rules.specs.Judgement.{Judgement, BrokenRule, at_node, broken_at, unless, both_of, when, holds, of_value}
 use Rattle.alma_rules.specs.Scene.{Scene, Found, absent, bad, constant, named, variable, routine, found, text_at, is_record_in}
 use Rattle.std.specs.Prelude.{slice_get}
-use Rattle.alma_rules.specs.Parts.{Typing, Denoted, a_constant, a_variable, a_routine, no_array, denoted, located_in, typing_in, callee_in}
+use Rattle.alma_rules.specs.Parts.{Typing, Denotation, a_constant, a_variable, a_routine, no_array, denotation, located_in, typing_in}
+use Rattle.alma_rules.specs.Parts.{callee_in}
 use Rattle.alma_rules.specs.Parts.{select_field, select_index, select_in, field_of, field_part}
 use Rattle.alma_rules.specs.ExprRules.{Use, as_variable, as_value, as_procedure, no_constant, not_variable, not_procedure, name_rules}
 use Rattle.alma_rules.specs.ExprRules.{desig_rules, field_rules, array_rules}
-use Rattle.alma_rules.specs.Nodes.{is_selected, indexed}
+use Rattle.alma_rules.specs.Nodes.{is_selected, index_at}
 use Rattle.alma_ir.specs.declared.phrase.Root.{Root}
 use Rattle.alma_rules.specs.Walk.{judge_expr, judge_selectors, judge_selector, judge_indices, judge_index_tail}
 
@@ -33,14 +34,14 @@ abbrev pub NoBad : Scene → Type 0
 NoBad s = (name : tree.Name) → IsKnown s (found s name)
 
 -- where no rule is broken there is a value
-unfoldable pub Sound : {A : Type 0} → List Broken → Option A → Type 0
+unfoldable pub Sound : {A : Type 0} → List BrokenRule → Option A → Type 0
 Sound a v = a ≡ [] → IsThere v
 
-pub nil_left : (a b : List Broken) → a ++ b ≡ [] → a ≡ []
+pub nil_left : (a b : List BrokenRule) → a ++ b ≡ [] → a ≡ []
 nil_left [] b h = refl
 nil_left (x ∷ xs) b h = absurd (cc)
 
-pub nil_right : (a b : List Broken) → a ++ b ≡ [] → b ≡ []
+pub nil_right : (a b : List BrokenRule) → a ++ b ≡ [] → b ≡ []
 nil_right [] b h = h
 nil_right (x ∷ xs) b h = absurd (cc)
 
@@ -49,7 +50,7 @@ no_rules n [] h = refl
 no_rules n (f ∷ fs) h = absurd (cc)
 
 -- no rule of a node is broken
-pub quiet : (n : ℕ) (a : List Broken) (fs : List CheckFault) → a ++ broken_at n fs ≡ [] → fs ≡ []
+pub quiet : (n : ℕ) (a : List BrokenRule) (fs : List CheckFault) → a ++ broken_at n fs ≡ [] → fs ≡ []
 quiet n a fs h = no_rules n fs (nil_right a (broken_at n fs) h)
 
 pub unless_there : {A : Type 0} (fs : List CheckFault) (v : Option A) → fs ≡ [] → IsThere v → IsThere (unless fs v)
@@ -76,17 +77,17 @@ rules_right (x ∷ xs) b h = absurd (cc)
 -- ---- designators
 
 -- the value is a variable or a part of one
-abbrev pub IsVariable : Option Denoted → Type 0
+abbrev pub IsVariable : Option Denotation → Type 0
 IsVariable (Some (a_variable l)) = Unit {0}
 IsVariable v = ⊥
 
 -- or an index on no array
-abbrev pub IsPart : Option Denoted → Type 0
+abbrev pub IsPart : Option Denotation → Type 0
 IsPart (Some (a_variable l)) = Unit {0}
 IsPart (Some no_array) = Unit {0}
 IsPart v = ⊥
 
-pub field_there : (s : Scene) (name : List ℕ) (v : Option Denoted) → field_rules s name v ≡ [] → IsVariable v
+pub field_there : (s : Scene) (name : List ℕ) (v : Option Denotation) → field_rules s name v ≡ [] → IsVariable v
     → IsVariable (option_and_then (select_field s name) v)
 field_there s name None h t = t
 field_there s name (Some (a_variable l)) h t =
@@ -102,7 +103,7 @@ field_there s name (Some (a_constant shape v)) h t = t
 field_there s name (Some (a_routine r up heading)) h t = t
 field_there s name (Some no_array) h t = t
 
-pub index_there : (s : Scene) (v : Option Denoted) (i : Option Typing) → IsPart v → IsThere i → IsPart (select_index s v i)
+pub index_there : (s : Scene) (v : Option Denotation) (i : Option Typing) → IsPart v → IsThere i → IsPart (select_index s v i)
 index_there s None i p t = p
 index_there s (Some (a_constant shape v)) i p t = absurd p
 index_there s (Some (a_routine r up heading)) i p t = absurd p
@@ -114,21 +115,21 @@ index_there s (Some (a_variable l)) i p t = go (Rattle.alma_rules.specs.Scene.ro
     go (Some r) None t = absurd t
     go (Some r) (Some x) t = tt
 
-pub array_there : (v : Option Denoted) → array_rules v ≡ [] → IsPart v → IsVariable v
+pub array_there : (v : Option Denotation) → array_rules v ≡ [] → IsPart v → IsVariable v
 array_there None h p = p
 array_there (Some (a_constant shape v)) h p = p
 array_there (Some (a_variable l)) h p = tt
 array_there (Some (a_routine r up heading)) h p = p
 array_there (Some no_array) h p = absurd (cc)
 
-part : (v : Option Denoted) → IsVariable v → IsPart v
+part : (v : Option Denotation) → IsVariable v → IsPart v
 part None p = p
 part (Some (a_constant shape v)) p = p
 part (Some (a_variable l)) p = tt
 part (Some (a_routine r up heading)) p = p
 part (Some no_array) p = absurd p
 
-pub unless_variable : (fs : List CheckFault) (v : Option Denoted) → fs ≡ [] → IsVariable v → IsVariable (unless fs v)
+pub unless_variable : (fs : List CheckFault) (v : Option Denotation) → fs ≡ [] → IsVariable v → IsVariable (unless fs v)
 unless_variable [] v h t = t
 unless_variable (f ∷ fs) v h t = absurd (cc)
 
@@ -143,15 +144,15 @@ abbrev pub IsTyped : Scene → Option Typing → Type 0
 IsTyped s None = ⊥
 IsTyped s (Some t) = s.constant ≡ true → IsThere t.constant
 
-unfoldable pub Typed : Scene → List Broken → Option Typing → Type 0
-Typed s a v = a ≡ [] → IsTyped s v
+unfoldable pub TypedExpr : Scene → List BrokenRule → Option Typing → Type 0
+TypedExpr s a v = a ≡ [] → IsTyped s v
 
 typed_there : (s : Scene) (v : Option Typing) → IsTyped s v → IsThere v
 typed_there s None t = t
 typed_there s (Some x) t = tt
 
-pub typed_sound : (s : Scene) (a : List Broken) (v : Option Typing) → Typed s a v → Sound a v
-unfolding Typed Sound
+pub typed_sound : (s : Scene) (a : List BrokenRule) (v : Option Typing) → TypedExpr s a v → Sound a v
+unfolding TypedExpr Sound
 typed_sound s a v t h = typed_there s v (t h)
 
 pub clash : {A : Type 0} (b : Bool) → b ≡ true → b ≡ false → A
@@ -183,7 +184,7 @@ typed_unless s (g ∷ fs) v h t = absurd (cc)
 
 -- ---- parts and nodes
 
-pub sound_node : {A : Type 0} (n : ℕ) (a : List Broken) (fs : List CheckFault) (v : Option A) → Sound a v
+pub sound_node : {A : Type 0} (n : ℕ) (a : List BrokenRule) (fs : List CheckFault) (v : Option A) → Sound a v
     → Sound (a ++ broken_at n fs) (unless fs v)
 unfolding Sound
 sound_node n a fs v p h = unless_there fs v (quiet n a fs h) (p (nil_left a (broken_at n fs) h))
@@ -193,7 +194,7 @@ both_there (Some x) (Some y) p q = tt
 both_there (Some x) None p q = q
 both_there None w p q = p
 
-pub sound_both : {A B : Type 0} (a b : List Broken) (v : Option A) (w : Option B) → Sound a v → Sound b w → Sound (a ++ b) (both_of v w)
+pub sound_both : {A B : Type 0} (a b : List BrokenRule) (v : Option A) (w : Option B) → Sound a v → Sound b w → Sound (a ++ b) (both_of v w)
 unfolding Sound
 sound_both a b v w p q h = both_there v w (p (nil_left a b h)) (q (nil_right a b h))
 
@@ -201,7 +202,7 @@ pub map_there : {A B : Type 0} (f : A → B) (v : Option A) → IsThere v → Is
 map_there f None p = p
 map_there f (Some x) p = tt
 
-pub sound_map : {A B : Type 0} (a : List Broken) (f : A → B) (v : Option A) → Sound a v → Sound a (option_map f v)
+pub sound_map : {A B : Type 0} (a : List BrokenRule) (f : A → B) (v : Option A) → Sound a v → Sound a (option_map f v)
 unfolding Sound
 sound_map a f v p h = map_there f v (p h)
 
@@ -209,14 +210,14 @@ pub sound_fine : {A : Type 0} (x : A) → Sound [] (Some x)
 unfolding Sound
 sound_fine x h = tt
 
-pub typed_node : (s : Scene) (n : ℕ) (a : List Broken) (fs : List CheckFault) (v : Option Typing) → Typed s a v
-    → Typed s (a ++ broken_at n fs) (unless fs v)
-unfolding Typed
+pub typed_node : (s : Scene) (n : ℕ) (a : List BrokenRule) (fs : List CheckFault) (v : Option Typing) → TypedExpr s a v
+    → TypedExpr s (a ++ broken_at n fs) (unless fs v)
+unfolding TypedExpr
 typed_node s n a fs v p h = typed_unless s fs v (quiet n a fs h) (p (nil_left a (broken_at n fs) h))
 
 -- ---- designators by what is asked of them
 
-selectors_quiet : (s : Scene) (d : Judged Denoted) (more : tree.SelectorTail) → (judge_selectors s d more).faults ≡ [] → d.faults ≡ []
+selectors_quiet : (s : Scene) (d : Judgement Denotation) (more : tree.SelectorTail) → (judge_selectors s d more).faults ≡ [] → d.faults ≡ []
 unfolding judge_expr
 selectors_quiet s d tree.no_selector h = h
 selectors_quiet s d (tree.more_selector (tree.field k name) rest) h =
@@ -226,24 +227,24 @@ selectors_quiet s d (tree.more_selector (tree.index k items) rest) h =
     indices_quiet s d items (nil_left (judge_indices s d items).faults (broken_at k (array_rules (judge_indices s d items).value))
     (selectors_quiet s (judge_selector s d (tree.index k items)) rest h))
   where
-    tail_quiet : (s : Scene) (d : Judged Denoted) (x : tree.ExprTail) → (judge_index_tail s d x).faults ≡ [] → d.faults ≡ []
+    tail_quiet : (s : Scene) (d : Judgement Denotation) (x : tree.ExprTail) → (judge_index_tail s d x).faults ≡ [] → d.faults ≡ []
     tail_quiet s d tree.no_expr h = h
     tail_quiet s d (tree.more_expr e rest) h =
-        nil_left d.faults _ (tail_quiet s (indexed s d (tree.expr_node e) (judge_expr s d.next e)) rest h)
+        nil_left d.faults _ (tail_quiet s (index_at s d (tree.expr_node e) (judge_expr s d.next e)) rest h)
 
-    indices_quiet : (s : Scene) (d : Judged Denoted) (x : tree.Exprs) → (judge_indices s d x).faults ≡ [] → d.faults ≡ []
+    indices_quiet : (s : Scene) (d : Judgement Denotation) (x : tree.Exprs) → (judge_indices s d x).faults ≡ [] → d.faults ≡ []
     indices_quiet s d (tree.exprs e rest) h =
-        nil_left d.faults _ (tail_quiet s (indexed s d (tree.expr_node e) (judge_expr s d.next e)) rest h)
+        nil_left d.faults _ (tail_quiet s (index_at s d (tree.expr_node e) (judge_expr s d.next e)) rest h)
 
 -- ---- designators
 
-unfoldable pub Variable : List Broken → Option Denoted → Type 0
+unfoldable pub Variable : List BrokenRule → Option Denotation → Type 0
 Variable a v = a ≡ [] → IsVariable v
 
-unfoldable pub Part : List Broken → Option Denoted → Type 0
+unfoldable pub Part : List BrokenRule → Option Denotation → Type 0
 Part a v = a ≡ [] → IsPart v
 
-desig_quiet : (s : Scene) (w : Use) (sel : Bool) (f : Found) (v : Option Denoted) → desig_rules s w sel f v ≡ []
+desig_quiet : (s : Scene) (w : Use) (sel : Bool) (f : Found) (v : Option Denotation) → desig_rules s w sel f v ≡ []
     → (no_constant s sel f ≡ false) × (not_variable w sel f ≡ false) × (not_procedure w sel f ≡ false)
 desig_quiet s w sel f v q =
     let l : when (no_constant s sel f) fault.NotConst ++ when (not_variable w sel f) fault.NotVariable ≡ [] =
@@ -254,21 +255,21 @@ desig_quiet s w sel f v q =
           (rules_right (when (no_constant s sel f) fault.NotConst ++ when (not_variable w sel f) fault.NotVariable) _ q),
     )
 
-abbrev pub Named : Scene → ℕ → ℕ → tree.Name → tree.SelectorTail → Found → Judged Denoted
-Named s k n name more f = judge_selectors s (at_node name.node (name_rules f) (of_value n (denoted s f))) more
+abbrev pub Named : Scene → ℕ → ℕ → tree.Name → tree.SelectorTail → Found → Judgement Denotation
+Named s k n name more f = judge_selectors s (at_node name.node (name_rules f) (of_value n (denotation s f))) more
 
-abbrev pub Desig : Scene → ℕ → ℕ → Use → tree.Name → tree.SelectorTail → Found → Judged Denoted
+abbrev pub Desig : Scene → ℕ → ℕ → Use → tree.Name → tree.SelectorTail → Found → Judgement Denotation
 Desig s k n w name more f = at_node k (desig_rules s w (is_selected more) f) (Named s k n name more f)
 
 -- a variable as far as its selectors go
 abbrev pub GoesOn : Scene → tree.SelectorTail → Type 0
-GoesOn s more = (d : Judged Denoted) → Variable d.faults d.value
+GoesOn s more = (d : Judgement Denotation) → Variable d.faults d.value
     → Variable (judge_selectors s d more).faults (judge_selectors s d more).value
 
 named_quiet : (s : Scene) (k n : ℕ) (w : Use) (name : tree.Name) (more : tree.SelectorTail) (f : Found)
-    → (Desig s k n w name more f).faults ≡ [] → broken_at name.node (name_rules f (denoted s f)) ≡ []
+    → (Desig s k n w name more f).faults ≡ [] → broken_at name.node (name_rules f (denotation s f)) ≡ []
 named_quiet s k n w name more f h =
-    selectors_quiet s (at_node name.node (name_rules f) (of_value n (denoted s f))) more (nil_left (Named s k n name more f).faults _ h)
+    selectors_quiet s (at_node name.node (name_rules f) (of_value n (denotation s f))) more (nil_left (Named s k n name more f).faults _ h)
 
 rules_quiet : (s : Scene) (k n : ℕ) (w : Use) (name : tree.Name) (more : tree.SelectorTail) (f : Found)
     → (Desig s k n w name more f).faults ≡ []
@@ -286,17 +287,17 @@ a_variable_there : (s : Scene) (k n : ℕ) (w : Use) (name : tree.Name) (more : 
 unfolding Variable
 a_variable_there s k n w name more shape root go h =
     unless_variable _ _ (rules_quiet s k n w name more (variable shape root) h)
-    (go (at_node name.node (name_rules (variable shape root)) (of_value n (denoted s (variable shape root)))) (λ e. tt)
+    (go (at_node name.node (name_rules (variable shape root)) (of_value n (denotation s (variable shape root)))) (λ e. tt)
     (nil_left (Named s k n name more (variable shape root)).faults _ h))
 
-is_located : (v : Option Denoted) → IsVariable v → IsThere (option_and_then located_in v)
+is_located : (v : Option Denotation) → IsVariable v → IsThere (option_and_then located_in v)
 is_located None p = p
 is_located (Some (a_constant shape v)) p = p
 is_located (Some (a_variable l)) p = tt
 is_located (Some (a_routine r up heading)) p = p
 is_located (Some no_array) p = p
 
-is_typed : (s : Scene) (v : Option Denoted) → s.constant ≡ false → IsVariable v → IsTyped s (option_and_then typing_in v)
+is_typed : (s : Scene) (v : Option Denotation) → s.constant ≡ false → IsVariable v → IsTyped s (option_and_then typing_in v)
 is_typed s None c p = p
 is_typed s (Some (a_constant shape v)) c p = absurd p
 is_typed s (Some (a_variable l)) c p = λ e. clash s.constant e c

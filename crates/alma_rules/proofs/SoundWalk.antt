@@ -8,17 +8,19 @@ use Rattle.alma_tree.specs.declared.leaf.Relation.{Relation}
 use Rattle.alma_tree.specs.declared.leaf.Sign.{Sign}
 use Rattle.alma_ir.specs.Tree as ir
 use Rattle.alma_rules.specs.Numbered as tree
-use Rattle.alma_rules.specs.Judged.{Judged, Broken, at_node, broken_at, unless, both_of, both, with, with_some, when, fine}
+use Rattle.alma_rules.specs.Judgement.{Judgement, BrokenRule, at_node, broken_at, unless, both_of, both, with, with_some, when, fine}
 use Rattle.alma_rules.specs.Scene.{Scene, FormalOf, Found, absent, bad, constant, named, variable, routine, found, in_constant, inside_of}
 use Rattle.alma_rules.specs.Scene.{text_at, literal_at}
-use Rattle.alma_rules.specs.Parts.{Typing, Located, Denoted, denoted, located_in, typing_in, callee_in, Callee, called, Operands, folded}
-use Rattle.alma_rules.specs.Parts.{chained, related, Span, span_of, span_from, select_field, without_place, boolean_typing, a_test}
+use Rattle.alma_rules.specs.Parts.{Typing, Location, Denotation, denotation, located_in, typing_in, callee_in, Callee, typing_of_call}
+use Rattle.alma_rules.specs.Parts.{Operands, chain_value}
+use Rattle.alma_rules.specs.Parts.{chain_typing, relation_typing, Span, span_of, span_from, select_field, without_place, boolean_typing}
+use Rattle.alma_rules.specs.Parts.{a_test}
 use Rattle.alma_rules.specs.Parts.{one_stmt, write_stmts}
 use Rattle.alma_rules.specs.ExprRules.{as_variable, as_value, as_procedure, Operand, alone, chain_rules, not_rules, constant_rules}
 use Rattle.alma_rules.specs.ExprRules.{call_rules, field_rules, array_rules, index_rules, relation_rules, literal_rules, simple_rules}
 use Rattle.alma_rules.specs.ExprRules.{known_rules, chr_rules, test_rules}
 use Rattle.alma_rules.specs.StmtRules.{loop_name_rules, write_rules}
-use Rattle.alma_rules.specs.Nodes.{first_add, first_mul, indexed, literal_typing, in_parens, as_sequence, or_sequence, only_of}
+use Rattle.alma_rules.specs.Nodes.{first_add, first_mul, index_at, literal_typing, in_parens, as_sequence, or_sequence, only_of}
 use Rattle.alma_rules.specs.Nodes.{known_typing, ord_typing, chr_typing, not_typing, formals_of, argument_count, called_at, chain_at}
 use Rattle.alma_rules.specs.Nodes.{any_or, any_and, sum_at, product_at, relation_at, constant_in, step_at, loop_variable, label_at}
 use Rattle.alma_rules.specs.Nodes.{text_item, item_of, item_literal, text_rules}
@@ -27,7 +29,7 @@ use Rattle.alma_rules.specs.Walk.{judge_label, judge_high, judge_labels, judge_c
 use Rattle.alma_rules.specs.Walk.{judge_items, judge_item_tail, judge_line_items, judge_expr, judge_compared, judge_simple, judge_terms}
 use Rattle.alma_rules.specs.Walk.{judge_term, judge_factors, judge_factor, judge_primary, judge_only, judge_value, judge_arguments}
 use Rattle.alma_rules.specs.Walk.{judge_argument_tail, judge_desig, judge_selectors, judge_selector, judge_indices, judge_index_tail}
-use Rattle.alma_rules.proofs.Sound.{IsThere, IsKnown, NoBad, Sound, IsTyped, Typed, typed_sound, typed_map, typed_keep, typed_unless}
+use Rattle.alma_rules.proofs.Sound.{IsThere, IsKnown, NoBad, Sound, IsTyped, TypedExpr, typed_sound, typed_map, typed_keep, typed_unless}
 use Rattle.alma_rules.proofs.Sound.{typed_node, sound_node, sound_both, sound_map, sound_fine, nil_left, nil_right, quiet, unless_there}
 use Rattle.alma_rules.proofs.Sound.{when_left, when_alone, rules_left, rules_right, clash, both_there, IsVariable, IsPart, Variable, Part}
 use Rattle.alma_rules.proofs.Sound.{field_there, index_there, array_there, unless_variable, located_at, valued_at, callee_at}
@@ -49,12 +51,13 @@ good_inside s good name = good name
 
 -- ---- nodes of expressions
 
-related_typed : (s : Scene) (k : ℕ) (r : Relation) (j : Judged (Typing × Typing)) → Sound j.faults j.value
-    → Typed s (relation_at s k r j).faults (relation_at s k r j).value
-unfolding Sound Typed
+related_typed : (s : Scene) (k : ℕ) (r : Relation) (j : Judgement (Typing × Typing)) → Sound j.faults j.value
+    → TypedExpr s (relation_at s k r j).faults (relation_at s k r j).value
+unfolding Sound TypedExpr
 related_typed s k r j p h =
     let q : relation_rules s r j.value ≡ [] = quiet k j.faults _ h in
-    typed_map s (related s r) (relation_rules s r j.value) j.value q (when_left s.constant fault.NotConst _ q) (p (nil_left j.faults _ h))
+    typed_map s (relation_typing s r) (relation_rules s r j.value) j.value q (when_left s.constant fault.NotConst _ q)
+    (p (nil_left j.faults _ h))
 
 fold_there : (c l : Bool) (o : Option ℤ) → c ≡ true → (c && l) ≡ false → (c && not l && not (is_some o)) ≡ false → IsThere o
 fold_there c l (Some x) t a b = tt
@@ -62,26 +65,27 @@ fold_there true true None t a b = absurd (cc)
 fold_there true false None t a b = absurd (cc)
 fold_there false l None t a b = absurd (cc)
 
-chain_typed : (s : Scene) (join : ir.Tests → ir.Test) (o : Operand) (k : ℕ) (sign : Option Sign) (l : Bool) (j : Judged (Typing × Operands))
+chain_typed : (s : Scene) (join : ir.Tests → ir.Test) (o : Operand) (k : ℕ) (sign : Option Sign) (l : Bool)
+    (j : Judgement (Typing × Operands))
     → Sound j.faults j.value
-    → Typed s (chain_at s join o k sign l j).faults (chain_at s join o k sign l j).value
-unfolding Sound Typed
+    → TypedExpr s (chain_at s join o k sign l j).faults (chain_at s join o k sign l j).value
+unfolding Sound TypedExpr
 chain_typed s join o k sign l j p h =
     let q : chain_rules s join o sign l j.value ≡ [] = quiet k j.faults _ h in
     go j.value q (p (nil_left j.faults _ h))
   where
-    given : (fs : List CheckFault) (v : Typing × Operands) → fs ≡ [] → (s.constant ≡ true → IsThere (folded sign v))
-        → IsTyped s (option_map (chained join sign) (unless fs (Some v)))
+    given : (fs : List CheckFault) (v : Typing × Operands) → fs ≡ [] → (s.constant ≡ true → IsThere (chain_value sign v))
+        → IsTyped s (option_map (chain_typing join sign) (unless fs (Some v)))
     given [] v e t = t
     given (f ∷ fs) v e t = absurd (cc)
 
     go : (v : Option (Typing × Operands)) → chain_rules s join o sign l v ≡ [] → IsThere v
-        → IsTyped s (option_map (chained join sign) (unless (chain_rules s join o sign l v) v))
+        → IsTyped s (option_map (chain_typing join sign) (unless (chain_rules s join o sign l v) v))
     go None q t = absurd t
     go (Some v) q t =
-        given (chain_rules s join o sign l (Some v)) v q (λ c. fold_there s.constant l (folded sign v) c
+        given (chain_rules s join o sign l (Some v)) v q (λ c. fold_there s.constant l (chain_value sign v) c
         (when_left (s.constant && l) fault.NotConst _ (rules_left _ _ q))
-        (when_alone (s.constant && not l && not (is_some (folded sign v))) fault.ConstRange (rules_right _ _ q)))
+        (when_alone (s.constant && not l && not (is_some (chain_value sign v))) fault.ConstRange (rules_right _ _ q)))
 
 alone_typed : (s : Scene) (v : Option Typing) (w : Option Operands) → IsTyped s v → IsThere w
     → IsTyped s (option_map (λ p. p.0) (both_of v w))
@@ -89,10 +93,10 @@ alone_typed s None w t u = t
 alone_typed s (Some x) None t u = absurd u
 alone_typed s (Some x) (Some y) t u = t
 
-sum_typed : (s : Scene) (k : ℕ) (sign : Option Sign) (rest : tree.TermTail) (a : Judged Typing) (b : Judged Operands)
-    → Typed s a.faults a.value → Sound b.faults b.value
-    → Typed s (sum_at s k sign rest (both a b)).faults (sum_at s k sign rest (both a b)).value
-unfolding Sound Typed
+sum_typed : (s : Scene) (k : ℕ) (sign : Option Sign) (rest : tree.TermTail) (a : Judgement Typing) (b : Judgement Operands)
+    → TypedExpr s a.faults a.value → Sound b.faults b.value
+    → TypedExpr s (sum_at s k sign rest (both a b)).faults (sum_at s k sign rest (both a b)).value
+unfolding Sound TypedExpr
 sum_typed s k None tree.no_term a b p q h =
     alone_typed s a.value b.value (p (nil_left a.faults b.faults h)) (q (nil_right a.faults b.faults h))
 sum_typed s k None (tree.more_term o t rest) a b p q h =
@@ -105,10 +109,10 @@ sum_typed s k (Some g) (tree.more_term o t rest) a b p q h =
     chain_typed s ir.Or alone k (Some g) (any_or (tree.more_term o t rest)) (both a b)
     (sound_both a.faults b.faults a.value b.value (typed_sound s a.faults a.value p) q) h
 
-product_typed : (s : Scene) (o : Operand) (k : ℕ) (rest : tree.FactorTail) (a : Judged Typing) (b : Judged Operands)
-    → Typed s a.faults a.value → Sound b.faults b.value
-    → Typed s (product_at s o k rest (both a b)).faults (product_at s o k rest (both a b)).value
-unfolding Sound Typed
+product_typed : (s : Scene) (o : Operand) (k : ℕ) (rest : tree.FactorTail) (a : Judgement Typing) (b : Judgement Operands)
+    → TypedExpr s a.faults a.value → Sound b.faults b.value
+    → TypedExpr s (product_at s o k rest (both a b)).faults (product_at s o k rest (both a b)).value
+unfolding Sound TypedExpr
 product_typed s o k tree.no_factor a b p q h =
     let e : a.faults ++ b.faults ≡ [] = nil_left (a.faults ++ b.faults) _ h in
     typed_unless s _ _ (quiet k (a.faults ++ b.faults) _ h)
@@ -117,10 +121,10 @@ product_typed s o k (tree.more_factor m t rest) a b p q h =
     chain_typed s ir.And o k None (any_and (tree.more_factor m t rest)) (both a b)
     (sound_both a.faults b.faults a.value b.value (typed_sound s a.faults a.value p) q) h
 
-negated_typed : (s : Scene) (o : Operand) (k n : ℕ) (j : Judged Typing) → Sound j.faults j.value
-    → Typed s (at_node k (not_rules s o) (with not_typing (at_node n (test_rules s) j))).faults
+negated_typed : (s : Scene) (o : Operand) (k n : ℕ) (j : Judgement Typing) → Sound j.faults j.value
+    → TypedExpr s (at_node k (not_rules s o) (with not_typing (at_node n (test_rules s) j))).faults
     (at_node k (not_rules s o) (with not_typing (at_node n (test_rules s) j))).value
-unfolding Typed Sound
+unfolding TypedExpr Sound
 negated_typed s o k n j p h =
     let i : j.faults ++ broken_at n (test_rules s j.value) ≡ [] = nil_left _ _ h in
     let q : not_rules s o (option_map not_typing (unless (test_rules s j.value) j.value)) ≡ [] =
@@ -129,22 +133,24 @@ negated_typed s o k n j p h =
     (when_left s.constant fault.NotConst _ q)
     (p (nil_left j.faults _ i)))
 
-called_typed : (s : Scene) (k : ℕ) (c : Judged Callee) (count : ℕ) (args : Judged ir.Args) → Sound c.faults c.value
-    → Sound args.faults args.value → Typed s (called_at s k c count args).faults (called_at s k c count args).value
-unfolding Typed Sound
+called_typed : (s : Scene) (k : ℕ) (c : Judgement Callee) (count : ℕ) (args : Judgement ir.Args) → Sound c.faults c.value
+    → Sound args.faults args.value → TypedExpr s (called_at s k c count args).faults (called_at s k c count args).value
+unfolding TypedExpr Sound
 called_typed s k c count args p q h =
     let r : call_rules s c.value count (both c args).value ≡ [] = quiet k (c.faults ++ args.faults) _ h in
     let e : c.faults ++ args.faults ≡ [] = nil_left (c.faults ++ args.faults) _ h in
-    typed_map s called (call_rules s c.value count (both c args).value) (both c args).value r (when_left s.constant fault.NotConst _ r)
+    typed_map s typing_of_call (call_rules s c.value count (both c args).value) (both c args).value r
+    (when_left s.constant fault.NotConst _ r)
     (both_there c.value args.value (p (nil_left c.faults args.faults e)) (q (nil_right c.faults args.faults e)))
 
-abbrev IfTyped : Scene → Option (Judged Typing) → Type 0
+abbrev IfTyped : Scene → Option (Judgement Typing) → Type 0
 IfTyped s None = Unit {0}
-IfTyped s (Some j) = Typed s j.faults j.value
+IfTyped s (Some j) = TypedExpr s j.faults j.value
 
-paren_typed : (s : Scene) (k : ℕ) (o : Option (Judged Typing)) (j : Judged ir.Stmts) → IfTyped s o → Sound j.faults j.value
-    → Typed s (or_sequence o (in_parens s k) (λ u. as_sequence s k j)).faults (or_sequence o (in_parens s k) (λ u. as_sequence s k j)).value
-unfolding Typed Sound
+paren_typed : (s : Scene) (k : ℕ) (o : Option (Judgement Typing)) (j : Judgement ir.Stmts) → IfTyped s o → Sound j.faults j.value
+    → TypedExpr s (or_sequence o (in_parens s k) (λ u. as_sequence s k j)).faults
+    (or_sequence o (in_parens s k) (λ u. as_sequence s k j)).value
+unfolding TypedExpr Sound
 paren_typed s k None j p q h =
     let r : constant_rules s ≡ [] = quiet k j.faults _ h in
     typed_map s (λ body. boolean_typing (a_test (ir.Seq body))) (constant_rules s) j.value r (when_alone s.constant fault.NotConst r)
@@ -152,20 +158,20 @@ paren_typed s k None j p q h =
 paren_typed s k (Some i) j p q h =
     typed_keep s without_place (λ t. refl) (simple_rules s i.value) i.value (quiet k i.faults _ h) (p (nil_left i.faults _ h))
 
-known_typed : (s : Scene) (k : ℕ) (j : Judged Located) → Sound j.faults j.value
-    → Typed s (with known_typing (at_node k (known_rules s) j)).faults (with known_typing (at_node k (known_rules s) j)).value
-unfolding Typed Sound
+known_typed : (s : Scene) (k : ℕ) (j : Judgement Location) → Sound j.faults j.value
+    → TypedExpr s (with known_typing (at_node k (known_rules s) j)).faults (with known_typing (at_node k (known_rules s) j)).value
+unfolding TypedExpr Sound
 known_typed s k j p h =
     let r : known_rules s j.value ≡ [] = quiet k j.faults _ h in
     typed_map s known_typing (known_rules s j.value) j.value r (when_left s.constant fault.NotConst _ r) (p (nil_left j.faults _ h))
 
 kept_typed : (s : Scene) (k : ℕ) (f : Typing → Typing) (same : (t : Typing) → (f t).constant ≡ t.constant)
-    (rules : Option Typing → List CheckFault) (j : Judged Typing) → Typed s j.faults j.value
-    → Typed s (with f (at_node k rules j)).faults (with f (at_node k rules j)).value
-unfolding Typed
+    (rules : Option Typing → List CheckFault) (j : Judgement Typing) → TypedExpr s j.faults j.value
+    → TypedExpr s (with f (at_node k rules j)).faults (with f (at_node k rules j)).value
+unfolding TypedExpr
 kept_typed s k f same rules j p h = typed_keep s f same (rules j.value) j.value (quiet k j.faults _ h) (p (nil_left j.faults _ h))
 
-only_typed : (s : Scene) (rest : tree.StmtTail) (o : Option (Judged Typing)) → IfTyped s o → IfTyped s (only_of rest o)
+only_typed : (s : Scene) (rest : tree.StmtTail) (o : Option (Judgement Typing)) → IfTyped s o → IfTyped s (only_of rest o)
 only_typed s tree.no_stmt None p = tt
 only_typed s tree.no_stmt (Some j) p = p
 only_typed s (tree.more_stmt x r) o p = tt
@@ -178,17 +184,17 @@ step_there s [] None e t = t
 step_there s [] (Some x) e t = t refl
 step_there s (f ∷ fs) v e t = absurd (cc)
 
-step_sound : (s : Scene) (e : tree.Expr) (j : Judged Typing) → Typed (in_constant s) j.faults j.value
+step_sound : (s : Scene) (e : tree.Expr) (j : Judgement Typing) → TypedExpr (in_constant s) j.faults j.value
     → Sound (step_at (in_constant s) e j).faults (step_at (in_constant s) e j).value
-unfolding Typed Sound
+unfolding TypedExpr Sound
 step_sound s e j p h = step_there s _ j.value (quiet (tree.expr_node e) j.faults _ h) (p (nil_left j.faults _ h))
 
 loop_name_sound : (s : Scene) (n : ℕ) (name : tree.Name) → NoBad s → Sound (loop_variable s n name).faults (loop_variable s n name).value
 unfolding Sound
 loop_name_sound s n name good h = go (found s name) (good name) h
   where
-    go : (f : Found) → IsKnown s f → broken_at name.node (loop_name_rules s f (option_and_then located_in (denoted s f))) ≡ []
-        → IsThere (unless (loop_name_rules s f (option_and_then located_in (denoted s f))) (option_and_then located_in (denoted s f)))
+    go : (f : Found) → IsKnown s f → broken_at name.node (loop_name_rules s f (option_and_then located_in (denotation s f))) ≡ []
+        → IsThere (unless (loop_name_rules s f (option_and_then located_in (denotation s f))) (option_and_then located_in (denotation s f)))
     go absent k h = absurd (cc)
     go bad k h = absurd k
     go (constant shape v) k h = absurd (cc)
@@ -210,7 +216,7 @@ span_there s [] (Some x) (Some y) e t u = go x.constant y.constant (t refl) (u r
     go (Some a) None p q = q
     go (Some a) (Some b) p q = tt
 
-text_sound : (s : Scene) (n j : ℕ) (text : List ℕ) (item : Judged Typing) (node : ℕ) → Sound item.faults item.value
+text_sound : (s : Scene) (n j : ℕ) (text : List ℕ) (item : Judgement Typing) (node : ℕ) → Sound item.faults item.value
     → Sound (text_item s n j text item node).faults (text_item s n j text item node).value
 text_sound s n j text item node p = go (nat_eq (length text) 1)
   where
@@ -221,37 +227,37 @@ text_sound s n j text item node p = go (nat_eq (length text) 1)
     go true = sound_map _ (write_stmts s) _ (sound_node node item.faults (write_rules s item.value) item.value p)
     go false = sound_node j [] (text_rules s (Some (one_stmt (ir.WriteText text)))) (Some (one_stmt (ir.WriteText text))) (sound_fine _)
 
-item_sound : (s : Scene) (n node : ℕ) (l : Option (ℕ × ℕ)) (item : Judged Typing) → Sound item.faults item.value
+item_sound : (s : Scene) (n node : ℕ) (l : Option (ℕ × ℕ)) (item : Judgement Typing) → Sound item.faults item.value
     → Sound (item_of s n node l item).faults (item_of s n node l item).value
 item_sound s n node None item p = sound_map _ (write_stmts s) _ (sound_node node item.faults (write_rules s item.value) item.value p)
 item_sound s n node (Some l) item p = text_sound s n l.0 (literal_at s l.1) item node p
 
 -- ---- selectors
 
-field_in : (s : Scene) (name : List ℕ) (fs : List CheckFault) (v : Option Denoted) → fs ≡ [] → field_rules s name v ≡ [] → IsVariable v
+field_in : (s : Scene) (name : List ℕ) (fs : List CheckFault) (v : Option Denotation) → fs ≡ [] → field_rules s name v ≡ [] → IsVariable v
     → IsVariable (option_and_then (select_field s name) (unless fs v))
 field_in s name [] v e q t = field_there s name v q t
 field_in s name (f ∷ fs) v e q t = absurd (cc)
 
-indexed_part : (s : Scene) (d : Judged Denoted) (node : ℕ) (i : Judged Typing) → Part d.faults d.value → Sound i.faults i.value
-    → Part (indexed s d node i).faults (indexed s d node i).value
+indexed_part : (s : Scene) (d : Judgement Denotation) (node : ℕ) (i : Judgement Typing) → Part d.faults d.value → Sound i.faults i.value
+    → Part (index_at s d node i).faults (index_at s d node i).value
 unfolding Part Sound
 indexed_part s d node i p q h =
     let r : i.faults ++ broken_at node (index_rules s d.value i.value) ≡ [] = nil_right d.faults _ h in
     index_there s d.value (unless (index_rules s d.value i.value) i.value) (p (nil_left d.faults _ h))
     (unless_there (index_rules s d.value i.value) i.value (quiet node i.faults _ r) (q (nil_left i.faults _ r)))
 
-as_part : (v : Option Denoted) → IsVariable v → IsPart v
+as_part : (v : Option Denotation) → IsVariable v → IsPart v
 as_part None p = p
 as_part (Some d) p = go d p
   where
-    go : (d : Denoted) → IsVariable (Some d) → IsPart (Some d)
+    go : (d : Denotation) → IsVariable (Some d) → IsPart (Some d)
     go (Rattle.alma_rules.specs.Parts.a_constant shape v) p = p
     go (Rattle.alma_rules.specs.Parts.a_variable l) p = tt
     go (Rattle.alma_rules.specs.Parts.a_routine r up h) p = p
     go Rattle.alma_rules.specs.Parts.no_array p = absurd p
 
-field_variable : (s : Scene) (name : List ℕ) (k : ℕ) (d : Judged Denoted) → Variable d.faults d.value
+field_variable : (s : Scene) (name : List ℕ) (k : ℕ) (d : Judgement Denotation) → Variable d.faults d.value
     → Variable (with_some (select_field s name) (at_node k (field_rules s name) d)).faults
     (with_some (select_field s name) (at_node k (field_rules s name) d)).value
 unfolding Variable
@@ -259,34 +265,34 @@ field_variable s name k d p h =
     let q : field_rules s name d.value ≡ [] = quiet k d.faults _ h in
     field_in s name (field_rules s name d.value) d.value q q (p (nil_left d.faults _ h))
 
-variable_part : (a : List Broken) (v : Option Denoted) → Variable a v → Part a v
+variable_part : (a : List BrokenRule) (v : Option Denotation) → Variable a v → Part a v
 unfolding Variable Part
 variable_part a v p h = as_part v (p h)
 
-index_variable : (k : ℕ) (d : Judged Denoted) → Part d.faults d.value
+index_variable : (k : ℕ) (d : Judgement Denotation) → Part d.faults d.value
     → Variable (at_node k array_rules d).faults (at_node k array_rules d).value
 unfolding Variable Part
 index_variable k d p h =
     let q : array_rules d.value ≡ [] = quiet k d.faults _ h in
     unless_variable (array_rules d.value) d.value q (array_there d.value q (p (nil_left d.faults _ h)))
 
-made_sound : {A : Type 0} (a : List Broken) (v : Option A) → (a ≡ [] → IsThere v) → Sound a v
+made_sound : {A : Type 0} (a : List BrokenRule) (v : Option A) → (a ≡ [] → IsThere v) → Sound a v
 unfolding Sound
 made_sound a v p = p
 
-made_typed : (s : Scene) (a : List Broken) (v : Option Typing) → (a ≡ [] → IsTyped s v) → Typed s a v
-unfolding Typed
+made_typed : (s : Scene) (a : List BrokenRule) (v : Option Typing) → (a ≡ [] → IsTyped s v) → TypedExpr s a v
+unfolding TypedExpr
 made_typed s a v p = p
 
-typed_value : (s : Scene) (v : Option Typing) → IsTyped s v → Typed s [] v
-unfolding Typed
+typed_value : (s : Scene) (v : Option Typing) → IsTyped s v → TypedExpr s [] v
+unfolding TypedExpr
 typed_value s v t h = t
 
-label_at_sound : (s : Scene) (k : ℕ) (case : Option Typing) (earlier : List Span) (a b : Judged Typing)
-    → Typed (in_constant s) a.faults a.value
-    → (IsTyped (in_constant s) a.value → Typed (in_constant s) b.faults b.value)
+label_at_sound : (s : Scene) (k : ℕ) (case : Option Typing) (earlier : List Span) (a b : Judgement Typing)
+    → TypedExpr (in_constant s) a.faults a.value
+    → (IsTyped (in_constant s) a.value → TypedExpr (in_constant s) b.faults b.value)
     → Sound (label_at s case earlier k a b).faults (label_at s case earlier k a b).value
-unfolding Typed Sound
+unfolding TypedExpr Sound
 label_at_sound s k case earlier a b p q h =
     let e : a.faults ++ b.faults ≡ [] = nil_left (a.faults ++ b.faults) _ h in
     let t : IsTyped (in_constant s) a.value = p (nil_left a.faults b.faults e) in
@@ -387,7 +393,7 @@ mutual
       (expr_typed (in_constant s) (good_constant s good) n low) (λ t. high_typed (in_constant s) (good_constant s good) _ _ high t)
 
   high_typed : (s : Scene) (good : NoBad s) (n : ℕ) (low : Option Typing) (x : tree.High) → IsTyped s low
-      → Typed s (judge_high s n low x).faults (judge_high s n low x).value
+      → TypedExpr s (judge_high s n low x).faults (judge_high s n low x).value
   high_typed s good n low tree.no_high t = typed_value s low t
   high_typed s good n low (tree.high_expr e) t = expr_typed s good n e
 
@@ -437,17 +443,17 @@ mutual
   line_items_sound s good n tree.empty_args = sound_fine _
   line_items_sound s good n (tree.args items) = items_sound s good n items
 
-  pub expr_typed : (s : Scene) (good : NoBad s) (n : ℕ) (e : tree.Expr) → Typed s (judge_expr s n e).faults (judge_expr s n e).value
+  pub expr_typed : (s : Scene) (good : NoBad s) (n : ℕ) (e : tree.Expr) → TypedExpr s (judge_expr s n e).faults (judge_expr s n e).value
   expr_typed s good n (tree.expr k left right) = compared_typed s good k (judge_simple s n left) right (simple_typed s good n left)
 
-  compared_typed : (s : Scene) (good : NoBad s) (k : ℕ) (j : Judged Typing) (c : tree.Compared) → Typed s j.faults j.value
-      → Typed s (judge_compared s k j c).faults (judge_compared s k j c).value
+  compared_typed : (s : Scene) (good : NoBad s) (k : ℕ) (j : Judgement Typing) (c : tree.Compared) → TypedExpr s j.faults j.value
+      → TypedExpr s (judge_compared s k j c).faults (judge_compared s k j c).value
   compared_typed s good k j tree.no_relation p = p
   compared_typed s good k j (tree.compared r right) p =
       related_typed s k r (both j (judge_simple s j.next right))
       (sound_both _ _ _ _ (typed_sound s _ _ p) (typed_sound s _ _ (simple_typed s good j.next right)))
 
-  simple_typed : (s : Scene) (good : NoBad s) (n : ℕ) (e : tree.Simple) → Typed s (judge_simple s n e).faults (judge_simple s n e).value
+  simple_typed : (s : Scene) (good : NoBad s) (n : ℕ) (e : tree.Simple) → TypedExpr s (judge_simple s n e).faults (judge_simple s n e).value
   simple_typed s good n (tree.simple k sign first rest) =
       sum_typed s k sign rest (judge_term s n (first_add sign rest) first)
       (judge_terms s (judge_term s n (first_add sign rest) first).next (first_add sign rest).sort rest) (term_typed s good n _ first)
@@ -460,7 +466,7 @@ mutual
       sound_map _ _ _ (sound_both _ _ _ _ (typed_sound s _ _ (term_typed s good n _ t)) (terms_sound s good _ sort rest))
 
   term_typed : (s : Scene) (good : NoBad s) (n : ℕ) (o : Operand) (x : tree.Term)
-      → Typed s (judge_term s n o x).faults (judge_term s n o x).value
+      → TypedExpr s (judge_term s n o x).faults (judge_term s n o x).value
   term_typed s good n o (tree.term k first rest) =
       product_typed s o k rest (judge_factor s n (first_mul rest) first)
       (judge_factors s (judge_factor s n (first_mul rest) first).next (first_mul rest).sort rest) (factor_typed s good n _ first)
@@ -473,13 +479,14 @@ mutual
       sound_map _ _ _ (sound_both _ _ _ _ (typed_sound s _ _ (factor_typed s good n _ f)) (factors_sound s good _ sort rest))
 
   factor_typed : (s : Scene) (good : NoBad s) (n : ℕ) (o : Operand) (x : tree.Factor)
-      → Typed s (judge_factor s n o x).faults (judge_factor s n o x).value
+      → TypedExpr s (judge_factor s n o x).faults (judge_factor s n o x).value
   factor_typed s good n o (tree.not_factor k p) =
       negated_typed s o k (tree.primary_node p) (judge_primary (inside_of s) n p)
       (typed_sound (inside_of s) _ _ (primary_typed (inside_of s) (good_inside s good) n p))
   factor_typed s good n o (tree.factor k p) = typed_node s k _ _ _ (primary_typed s good n p)
 
-  primary_typed : (s : Scene) (good : NoBad s) (n : ℕ) (x : tree.Primary) → Typed s (judge_primary s n x).faults (judge_primary s n x).value
+  primary_typed : (s : Scene) (good : NoBad s) (n : ℕ) (x : tree.Primary)
+      → TypedExpr s (judge_primary s n x).faults (judge_primary s n x).value
   primary_typed s good n (tree.number k t) = typed_value s _ (λ e. tt)
   primary_typed s good n (tree.literal k t) =
       typed_node s k [] (literal_rules s (literal_at s t) (Some (literal_typing s t))) (Some (literal_typing s t))
@@ -526,7 +533,7 @@ mutual
       made_sound _ _ (located_at s k n name more (found s name) (good name) (λ d p. selectors_variable s good d more p))
 
   value_typed : (s : Scene) (good : NoBad s) (n : ℕ) (x : tree.Desig)
-      → Typed s (judge_desig s n as_value x).faults (option_and_then typing_in (judge_desig s n as_value x).value)
+      → TypedExpr s (judge_desig s n as_value x).faults (option_and_then typing_in (judge_desig s n as_value x).value)
   value_typed s good n (tree.desig k name more) =
       made_typed s _ _ (valued_at s k n name more (found s name) (good name) (λ d p. selectors_variable s good d more p))
 
@@ -534,27 +541,27 @@ mutual
       → Sound (judge_desig s n as_procedure x).faults (option_and_then callee_in (judge_desig s n as_procedure x).value)
   callee_sound s good n (tree.desig k name more) = made_sound _ _ (callee_at s k n name more (found s name) (good name))
 
-  selectors_variable : (s : Scene) (good : NoBad s) (d : Judged Denoted) (x : tree.SelectorTail) → Variable d.faults d.value
+  selectors_variable : (s : Scene) (good : NoBad s) (d : Judgement Denotation) (x : tree.SelectorTail) → Variable d.faults d.value
       → Variable (judge_selectors s d x).faults (judge_selectors s d x).value
   selectors_variable s good d tree.no_selector p = p
   selectors_variable s good d (tree.more_selector x rest) p =
       selectors_variable s good (judge_selector s d x) rest (selector_variable s good d x p)
 
-  selector_variable : (s : Scene) (good : NoBad s) (d : Judged Denoted) (x : tree.Selector) → Variable d.faults d.value
+  selector_variable : (s : Scene) (good : NoBad s) (d : Judgement Denotation) (x : tree.Selector) → Variable d.faults d.value
       → Variable (judge_selector s d x).faults (judge_selector s d x).value
   selector_variable s good d (tree.field k name) p = field_variable s (text_at s name.token) k d p
   selector_variable s good d (tree.index k items) p =
       index_variable k (judge_indices s d items) (indices_part s good d items (variable_part d.faults d.value p))
 
-  indices_part : (s : Scene) (good : NoBad s) (d : Judged Denoted) (x : tree.Exprs) → Part d.faults d.value
+  indices_part : (s : Scene) (good : NoBad s) (d : Judgement Denotation) (x : tree.Exprs) → Part d.faults d.value
       → Part (judge_indices s d x).faults (judge_indices s d x).value
   indices_part s good d (tree.exprs e rest) p =
-      index_tail_part s good (indexed s d (tree.expr_node e) (judge_expr s d.next e)) rest
+      index_tail_part s good (index_at s d (tree.expr_node e) (judge_expr s d.next e)) rest
       (indexed_part s d (tree.expr_node e) (judge_expr s d.next e) p (condition_sound s good d.next e))
 
-  index_tail_part : (s : Scene) (good : NoBad s) (d : Judged Denoted) (x : tree.ExprTail) → Part d.faults d.value
+  index_tail_part : (s : Scene) (good : NoBad s) (d : Judgement Denotation) (x : tree.ExprTail) → Part d.faults d.value
       → Part (judge_index_tail s d x).faults (judge_index_tail s d x).value
   index_tail_part s good d tree.no_expr p = p
   index_tail_part s good d (tree.more_expr e rest) p =
-      index_tail_part s good (indexed s d (tree.expr_node e) (judge_expr s d.next e)) rest
+      index_tail_part s good (index_at s d (tree.expr_node e) (judge_expr s d.next e)) rest
       (indexed_part s d (tree.expr_node e) (judge_expr s d.next e) p (condition_sound s good d.next e))

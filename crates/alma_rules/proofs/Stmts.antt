@@ -13,7 +13,7 @@ use Rattle.alma_ir.specs.Tree as ir
 use Rattle.alma_rules.specs.declared.error.Stop.{Stop}
 use Rattle.alma_rules.specs.Numbered as tree
 use Rattle.alma_rules.specs.View as view
-use Rattle.alma_rules.specs.Judged.{Broken, Judged, fine, of_value, at_node, both, both_of, and_then, with, with_some}
+use Rattle.alma_rules.specs.Judgement.{BrokenRule, Judgement, fine, of_value, at_node, both, both_of, and_then, with, with_some}
 use Rattle.alma_rules.specs.Answers.{Stops, Answers}
 use Rattle.alma_rules.specs.Scene.{Scene, in_constant, inside_of}
 use Rattle.alma_rules.specs.Parts as parts
@@ -70,7 +70,7 @@ module _ (s : Scene) where
   nothing_at n k = refl
 
   assign_at : (n : ℕ) (k : ℕ) (d : tree.Desig) (e : tree.Expr)
-      → walk.judge_stmt s n (tree.assign k d e) ≡ with (parts.assigned s)
+      → walk.judge_stmt s n (tree.assign k d e) ≡ with (parts.assignment_stmts s)
       (at_node k (stmt_rules.assign_rules s) (and_then (with_some parts.located_in (walk.judge_desig s n rules.as_variable d))
       (λ m. walk.judge_expr s m e)))
   unfolding walk.judge_stmts
@@ -81,11 +81,12 @@ module _ (s : Scene) where
       → Stops (walk.judge_stmt s n (tree.assign k d e)).faults x
   assign_stops n k d e x h = rw (assign_at n k d e) (stops_more _ _ x (stops_more _ _ x h))
 
-  pub assign_fine : {X : Type 0} (n : ℕ) (k : ℕ) (d : tree.Desig) (e : tree.Expr) (w : X → ir.Stmts) (m i : ℕ) (v : Option (parts.Located))
+  pub assign_fine : {X : Type 0} (n : ℕ) (k : ℕ) (d : tree.Desig) (e : tree.Expr) (w : X → ir.Stmts) (m i : ℕ) (v : Option (parts.Location))
       (r : Result (Option X) Stop) → with_some parts.located_in (walk.judge_desig s n rules.as_variable d) ≡ of_value m v
-      → Answers (with (parts.assigned s) (at_node k (stmt_rules.assign_rules s) (both (of_value m v) (walk.judge_expr s m e)))) w i r
+      → Answers (with (parts.assignment_stmts s) (at_node k (stmt_rules.assign_rules s) (both (of_value m v) (walk.judge_expr s m e)))) w i
+      r
       → Answers (walk.judge_stmt s n (tree.assign k d e)) w i r
-  assign_fine n k d e w m i v r h a = first_fine (λ j. with (parts.assigned s) (at_node k (stmt_rules.assign_rules s) j))
+  assign_fine n k d e w m i v r h a = first_fine (λ j. with (parts.assignment_stmts s) (at_node k (stmt_rules.assign_rules s) j))
       (walk.judge_stmt s n (tree.assign k d e)) (with_some parts.located_in (walk.judge_desig s n rules.as_variable d))
       (λ m. walk.judge_expr s m e) w m i v r (assign_at n k d e) h a
 
@@ -209,7 +210,7 @@ module _ (s : Scene) where
   by_some n e = refl
 
   -- ---- IF
-  abbrev pub guarded : ℕ → tree.Expr → tree.Stmts → Judged (ir.Test × ir.Stmts)
+  abbrev pub guarded : ℕ → tree.Expr → tree.Stmts → Judgement (ir.Test × ir.Stmts)
   guarded n e b = and_then (nodes.condition_at s e (walk.judge_expr s n e)) (λ m. walk.judge_stmts s m b)
 
   if_at : (n k : ℕ) (e : tree.Expr) (b : tree.Stmts) (more : tree.ElsifTail) (other : tree.Else)
@@ -226,11 +227,11 @@ module _ (s : Scene) where
   elsifs_at n e b rest = refl
 
   -- the condition and the body first, and the rest behind them
-  faults_more : (xs ys zs : List Broken) → xs ++ (ys ++ zs) ≡ (xs ++ ys) ++ zs
+  faults_more : (xs ys zs : List BrokenRule) → xs ++ (ys ++ zs) ≡ (xs ++ ys) ++ zs
   faults_more [] ys zs = refl
   faults_more (x ∷ xs) ys zs = ap (λ l. x ∷ l) (faults_more xs ys zs)
 
-  elsif_by : (c : Judged ir.Test) (b : Judged ir.Stmts) (r : Judged ir.Arms)
+  elsif_by : (c : Judgement ir.Test) (b : Judgement ir.Stmts) (r : Judgement ir.Arms)
       → with nodes.arms_of (both c (both b r)) ≡ with (λ p. ir.more_arms p.0.0 p.0.1 p.1) (both (both c b) r)
   elsif_by c b r = by c.value b.value r.value
     where
@@ -264,7 +265,7 @@ module _ (s : Scene) where
   arms_last (ir.more_arms c b xs) = ap (ir.more_arms c b) (arms_last xs)
 
   -- IF in three steps: its first arm, with which the list of arms begins; the arms behind it; the ELSE part
-  if_by : (c : Judged ir.Test) (b : Judged ir.Stmts) (r : Judged ir.Arms) (o : Judged ir.Stmts)
+  if_by : (c : Judgement ir.Test) (b : Judgement ir.Stmts) (r : Judgement ir.Arms) (o : Judgement ir.Stmts)
       → nodes.one (with nodes.if_of (both c (both b (both r o))))
       ≡ nodes.one (with (λ p. ir.If p.0 p.1) (both
       (onward append_arms (Some ir.no_arms) (with (λ p. ir.more_arms p.0.0 p.0.1 p.1) (both (both c b) r))) o))
@@ -291,7 +292,7 @@ module _ (s : Scene) where
           rw (faults_more c.faults b.faults (r.faults ++ o.faults), faults_more (c.faults ++ b.faults) r.faults o.faults) refl
 
   -- its arms, all in one
-  abbrev pub arms_in_all : ℕ → tree.Expr → tree.Stmts → tree.ElsifTail → Judged ir.Arms
+  abbrev pub arms_in_all : ℕ → tree.Expr → tree.Stmts → tree.ElsifTail → Judgement ir.Arms
   arms_in_all n e b more = onward append_arms (Some ir.no_arms)
       (with (λ p. ir.more_arms p.0.0 p.0.1 p.1) (and_then (guarded n e b) (λ m. walk.judge_elsifs s m more)))
 
@@ -313,7 +314,8 @@ module _ (s : Scene) where
       → arms_in_all n e b more ≡ onward append_arms v (walk.judge_elsifs s m more)
       → Stops (onward append_arms v (walk.judge_elsifs s m more)).faults x
       → Stops (walk.judge_stmt s n (tree.if_stmt k e b more other)).faults x
-  if_arms_stops n k e b more other m v x is h = if_stops n k e b more other x (subst (λ (j : Judged ir.Arms). Stops j.faults x) (sym is) h)
+  if_arms_stops n k e b more other m v x is h =
+      if_stops n k e b more other x (subst (λ (j : Judgement ir.Arms). Stops j.faults x) (sym is) h)
 
   pub if_fine : {X : Type 0} (n k : ℕ) (e : tree.Expr) (b : tree.Stmts) (more : tree.ElsifTail) (other : tree.Else) (m i u : ℕ)
       (v y : Option ir.Arms) (w : X → ir.Stmts) (r : Result (Option X) Stop)
@@ -338,11 +340,11 @@ module _ (s : Scene) where
   unfolding walk.judge_stmts
   orelses_at n b rest = refl
 
-  abbrev pub branches_in_all : ℕ → tree.Stmts → tree.OrelseTail → Judged ir.Branches
+  abbrev pub branches_in_all : ℕ → tree.Stmts → tree.OrelseTail → Judgement ir.Branches
   branches_in_all n b rest = onward append_branches (Some ir.no_branches)
       (with (λ p. ir.more_branches p.0 p.1) (and_then (walk.judge_stmts s n b) (λ m. walk.judge_orelses s m rest)))
 
-  either_by : (b : Judged ir.Stmts) (r : Judged ir.Branches) → nodes.one (with (λ p. ir.Either (ir.more_branches p.0 p.1)) (both b r))
+  either_by : (b : Judgement ir.Stmts) (r : Judgement ir.Branches) → nodes.one (with (λ p. ir.Either (ir.more_branches p.0 p.1)) (both b r))
       ≡ nodes.one (with ir.Either (onward append_branches (Some ir.no_branches) (with (λ p. ir.more_branches p.0 p.1) (both b r))))
   either_by b r = by b.value r.value
     where
@@ -391,7 +393,7 @@ module _ (s : Scene) where
   unfolding walk.judge_stmts
   reads_at n d rest = refl
 
-  joined_by : (a : Judged ir.Stmts) (m : ℕ) (v : Option ir.Stmts) (g : ℕ → Judged ir.Stmts) → a ≡ of_value m v
+  joined_by : (a : Judgement ir.Stmts) (m : ℕ) (v : Option ir.Stmts) (g : ℕ → Judgement ir.Stmts) → a ≡ of_value m v
       → with parts.joined_stmts (and_then a g) ≡ onward parts.append_stmts v (g m)
   joined_by a m v g h = rw h (onward_first parts.append_stmts parts.joined_stmts v m (g m) (λ x y. refl))
 
@@ -417,7 +419,7 @@ module _ (s : Scene) where
   unfolding walk.judge_stmts
   reads_end n i all h = ap (λ xs. walk.judge_reads s n (view.desigs_of xs)) (drop_all i all h)
 
-  abbrev pub item : ℕ → tree.Expr → Judged ir.Stmts
+  abbrev pub item : ℕ → tree.Expr → Judgement ir.Stmts
   item n e = nodes.item_of s n (tree.expr_node e) (nodes.item_literal e) (walk.judge_expr s n e)
 
   items_at : (n : ℕ) (e : tree.Expr) (rest : tree.ExprTail)

@@ -4,11 +4,12 @@ use Rattle.std.specs.Prelude.{true, false, option_map}
 use Rattle.alma_base.specs.Choice.{if_true}
 use Rattle.alma_base.specs.declared.fault.CheckFault.TheVariants as fault
 use Rattle.alma_rules.specs.Numbered as tree
-use Rattle.alma_rules.specs.Judged.{Broken}
+use Rattle.alma_rules.specs.Judgement.{BrokenRule}
 use Rattle.alma_rules.specs.Scene.{Scene, Found, found, in_constant}
 use Rattle.alma_rules.specs.Parts.{Typing}
-use Rattle.alma_rules.specs.Types.{Reading, changed, reading_change, redeclared, redeclared_all, redeclared_fields, is_field}
-use Rattle.alma_rules.specs.Types.{type_name_rules, shape_in, read_type_name, Formed, formed, too_large, index_type_rules, subrange_rules}
+use Rattle.alma_rules.specs.Types.{Reading, with_change, reading_change, redeclaration_rules, redeclared_all, redeclared_fields, is_field}
+use Rattle.alma_rules.specs.Types.{type_name_rules, shape_in, read_type_name, ShapeOrLimit, formed, too_large, index_type_rules}
+use Rattle.alma_rules.specs.Types.{subrange_rules}
 use Rattle.alma_rules.specs.Types.{size_rules, subrange_of, rows_of, record_of, listed_in, add_shape, declare_values, all_first}
 use Rattle.alma_rules.specs.Types.{read_listed, all_names, read_constant, read_type, read_arrays, read_dimension_tail, read_dimensions}
 use Rattle.alma_rules.specs.Types.{read_plains, read_plain, read_fields, read_field_tail, index_at, reading_then}
@@ -20,21 +21,21 @@ use Rattle.alma_rules.proofs.Ranks.{InOrder, empty, append, one}
 use Rattle.alma_rules.proofs.Within.{Within, none, ordered, up, joined, alone_at, node_end, Ends, below, own, placed}
 use Rattle.alma_rules.proofs.Ordered.{expr_in}
 
-pub redeclared_order : (s : Scene) (x : tree.Name) → InOrder 0 23 (redeclared s x)
+pub redeclared_order : (s : Scene) (x : tree.Name) → InOrder 0 23 (redeclaration_rules s x)
 redeclared_order s x = one 0 23 _ fault.Redeclared (omega arith) (omega arith)
 
 type_name_order : (f : Found) (v : Option ℕ) → InOrder 0 23 (type_name_rules f v)
 type_name_order f v = append 0 0 23 _ _ (one 0 0 _ fault.Undeclared (omega arith) (omega arith))
     (one 0 23 _ fault.NotType (omega arith) (omega arith))
 
-index_type_order : (s : Scene) (v : Option Formed) → InOrder 0 23 (index_type_rules s v)
+index_type_order : (s : Scene) (v : Option ShapeOrLimit) → InOrder 0 23 (index_type_rules s v)
 index_type_order s v = one 0 23 _ fault.IndexType (omega arith) (omega arith)
 
 subrange_order : (s : Scene) (v : Option (Typing × Typing)) → InOrder 0 16 (subrange_rules s v)
 subrange_order s v = append 0 8 16 _ _ (one 0 8 _ fault.TypeMismatch (omega arith) (omega arith))
     (one 8 16 _ fault.ConstRange (omega arith) (omega arith))
 
-size_order : (v : Option Formed) → InOrder 0 23 (size_rules v)
+size_order : (v : Option ShapeOrLimit) → InOrder 0 23 (size_rules v)
 size_order v = one 0 23 _ fault.TooLarge (omega arith) (omega arith)
 
 -- ---- names
@@ -58,8 +59,8 @@ type_name_in s name lo hi h = alone_at lo name.node hi 23 _ (type_name_order (fo
 
 -- ---- changes of the scene
 
-in_changed : {B : Type 0} (lo hi : ℕ) (s : Scene) (faults : List Broken) (v : Option (Scene × B)) → Within lo hi faults
-    → Within lo hi (changed s faults v).faults
+in_changed : {B : Type 0} (lo hi : ℕ) (s : Scene) (faults : List BrokenRule) (v : Option (Scene × B)) → Within lo hi faults
+    → Within lo hi (with_change s faults v).faults
 in_changed lo hi s faults None w = w
 in_changed lo hi s faults (Some p) w = w
 
@@ -67,9 +68,9 @@ in_change : {A B : Type 0} (lo hi : ℕ) (f : Scene → A → Scene × B) (r : R
     → Within lo hi (reading_change f r).faults
 in_change lo hi f r w = in_changed lo hi r.scene r.faults (option_map (f r.scene) r.value) w
 
-ends_changed : {A B : Type 0} (m lo n hi : ℕ) (f : Scene → A → Scene × B) (s : Scene) (faults : List Broken) (v : Option A)
+ends_changed : {A B : Type 0} (m lo n hi : ℕ) (f : Scene → A → Scene × B) (s : Scene) (faults : List BrokenRule) (v : Option A)
     → Ends m lo n hi faults v
-    → Ends m lo n hi (changed s faults (option_map (f s) v)).faults (changed s faults (option_map (f s) v)).value
+    → Ends m lo n hi (with_change s faults (option_map (f s) v)).faults (with_change s faults (option_map (f s) v)).value
 ends_changed m lo n hi f s faults None h = h
 ends_changed m lo n hi f s faults (Some x) (inl w, le, top) = (inl w, le, top)
 ends_changed m lo n hi f s faults (Some x) (inr p, le, top) = absurd p.1
@@ -78,7 +79,7 @@ in_listed : (s : Scene) (names : List tree.Name) (from lo hi : ℕ) → rise_mor
     → Within lo hi (read_listed s names from).faults
 in_listed s names from lo hi h = go (all_first s names)
   where
-    listed_at : (p : Scene × Formed) → Within lo hi (listed_in [] from names p).faults
+    listed_at : (p : Scene × ShapeOrLimit) → Within lo hi (listed_in [] from names p).faults
     listed_at (i, formed shape) = none lo hi (ordered lo hi _ (redeclared_in s lo hi names h))
     listed_at (i, too_large) = none lo hi (ordered lo hi _ (redeclared_in s lo hi names h))
 
@@ -90,7 +91,7 @@ in_listed s names from lo hi h = go (all_first s names)
 pub constant_in : (s : Scene) (lo hi : ℕ) (e : tree.Expr) → rise_expr e lo hi → Within lo hi (read_constant s e).faults
 constant_in s lo hi e h = below 8 lo (tree.expr_node e) hi _ _ (omega arith) (expr_in (in_constant s) 0 lo hi e h)
 
-index_in : (p : tree.PlainType) (r : Reading Formed) (lo hi : ℕ) → Ends 16 lo (tree.plain_node p) hi r.faults r.value
+index_in : (p : tree.PlainType) (r : Reading ShapeOrLimit) (lo hi : ℕ) → Ends 16 lo (tree.plain_node p) hi r.faults r.value
     → Within lo hi (index_at p r).faults
 index_in p r lo hi h = placed 16 lo (tree.plain_node p) hi r.faults r.value (index_type_rules r.scene) (omega arith)
     (empty 17 23 (omega arith)) (index_type_order r.scene) h

@@ -15,27 +15,27 @@ use Rattle.alma_rules.specs.declared.error.Stop.TheVariants as stop
 use Rattle.alma_rules.specs.declared.error.CheckError.{CheckError}
 use Rattle.alma_rules.specs.declared.error.CheckError.TheVariants as error
 use Rattle.alma_rules.specs.Numbered as tree
-use Rattle.alma_rules.specs.Judged.{Broken, Judged, broken_at, least}
+use Rattle.alma_rules.specs.Judgement.{BrokenRule, Judgement, broken_at, least}
 use Rattle.alma_rules.specs.Scene.{Scene, in_constant}
 use Rattle.alma_rules.specs.Parts.{Typing}
 use Rattle.alma_rules.specs.Walk.{judge_expr}
 use Rattle.alma_rules.specs.Places.{Mark, node_token, mark_expr, mark_type}
 use Rattle.alma_rules.specs.Types.{Reading, read_type}
-use Rattle.alma_rules.specs.Modules.{Bodied, broken, resolved, check_fault, first_token_of}
+use Rattle.alma_rules.specs.Modules.{RoutineBodies, broken_rules, resolution, check_fault, first_token_of}
 
 -- ---- calls inside the walk, which stop at the first broken rule
 
-abbrev pub first : List Broken → Option Broken
+abbrev pub first : List BrokenRule → Option BrokenRule
 first [] = None
 first (b ∷ bs) = Some b
 
-abbrev pub Stops : List Broken → Stop → Type 0
+abbrev pub Stops : List BrokenRule → Stop → Type 0
 Stops faults (stop.Fault f n) = first faults ≡ Some (record { node = n; fault = f })
 Stops faults stop.Memory = Unit {0}
 
 -- a phrase is judged: no rule is broken, and the next free slot and the value are these (None: a name in use is Bad); or the first
 -- broken rule is named
-abbrev pub Answers : {A X : Type 0} → Judged A → (X → A) → (next : ℕ) → Result (Option X) Stop → Type 0
+abbrev pub Answers : {A X : Type 0} → Judgement A → (X → A) → (next : ℕ) → Result (Option X) Stop → Type 0
 Answers j view next (Ok v) = j ≡ record { faults = []; next = next; value = option_map view v }
 Answers j view next (Err e) = Stops j.faults e
 
@@ -51,11 +51,11 @@ Reads r view after (Err (stop.Fault f n)) = (first r.faults ≡ Some (record { n
 Reads r view after (Err stop.Memory) = Unit {0}
 
 -- a block is judged: its routines where no rule is broken, and else the least of the broken rules
-abbrev pub Names : List Broken → Stop → Type 0
+abbrev pub Names : List BrokenRule → Stop → Type 0
 Names faults (stop.Fault f n) = least faults ≡ Some (record { node = n; fault = f })
 Names faults stop.Memory = Unit {0}
 
-abbrev pub Judges : {X : Type 0} → Bodied → (X → List ir.Routine) → (shapes : List PlainShape) → Result (Option X) Stop → Type 0
+abbrev pub Judges : {X : Type 0} → RoutineBodies → (X → List ir.Routine) → (shapes : List PlainShape) → Result (Option X) Stop → Type 0
 Judges j view shapes (Ok v) = (j.faults ≡ []) × (j.shapes ≡ shapes) × (j.value ≡ option_map view v)
 Judges j view shapes (Err e) = Names j.faults e
 
@@ -80,14 +80,14 @@ pub record IsEnvironment (t : List PlainShape) (b : Blocks) : Type 0 where
 -- ---- const_value, shape_of and fits
 
 -- the fault is the first that is broken, at its node, with the first token of that node
-abbrev pub IsFirst : List Broken → List Mark → CheckFault → (node token : ℕ) → Type 0
+abbrev pub IsFirst : List BrokenRule → List Mark → CheckFault → (node token : ℕ) → Type 0
 IsFirst faults marks f n t = (first faults ≡ Some (record { node = n; fault = f })) × (node_token n marks ≡ t)
 
 -- the shape and the value of a constant
 abbrev pub constant_pair : Typing → Option (ℕ × ℤ)
 constant_pair t = option_map (λ v. (t.shape, v)) t.constant
 
-abbrev pub GivesConstant : Judged Typing → List Mark → Result (Option (ℕ × ℤ)) CheckError → Type 0
+abbrev pub GivesConstant : Judgement Typing → List Mark → Result (Option (ℕ × ℤ)) CheckError → Type 0
 GivesConstant j marks (Ok v) = (j.faults ≡ []) × (option_and_then constant_pair j.value ≡ v)
 GivesConstant j marks (Err (error.Fault f n t)) = IsFirst j.faults marks f n t
 GivesConstant j marks (Err error.Memory) = Unit {0}
@@ -112,13 +112,13 @@ fits t from to = nat_eq (base_at t from) (base_at t to)
 -- ---- check
 
 -- a rule is broken at a node
-abbrev pub IsBroken : List Broken → Broken → Type 0
+abbrev pub IsBroken : List BrokenRule → BrokenRule → Type 0
 IsBroken [] b = ⊥
 IsBroken (x ∷ xs) b = (x ≡ b) ⊎ IsBroken xs b
 
 -- the resolved program exactly where no rule is broken, and else the least of the broken rules, with the first token of its node
 abbrev pub Resolves : {X : Type 0} → (source : List ℕ) → List Lexeme → tree.Module → (X → ir.Program) → Result X CheckError → Type 0
-Resolves source tokens m view (Ok p) = (broken source tokens m ≡ []) × (resolved source tokens m ≡ Some (view p))
+Resolves source tokens m view (Ok p) = (broken_rules source tokens m ≡ []) × (resolution source tokens m ≡ Some (view p))
 Resolves source tokens m view (Err (error.Fault f n t)) =
     (check_fault source tokens m ≡ Some (record { node = n; fault = f })) × (first_token_of m n ≡ t)
 Resolves source tokens m view (Err error.Memory) = Unit {0}

@@ -19,12 +19,13 @@ use Rattle.alma_ir.specs.declared.program.ArgKind.{ArgKind}
 use Rattle.alma_ir.specs.declared.program.ArgKind.TheVariants as kinds
 use Rattle.alma_ir.specs.Tree as ir
 use Rattle.alma_rules.specs.Numbered as tree
-use Rattle.alma_rules.specs.Judged.{Broken, broken_at, unbroken, when, holds}
+use Rattle.alma_rules.specs.Judgement.{BrokenRule, broken_at, if_unbroken, when, holds}
 use Rattle.alma_rules.specs.Scene.{Scene, FormalOf, Heading, Returns, nothing, a_value, text_at, cells, range, level, is_structured}
 use Rattle.alma_rules.specs.Scene.{is_first}
 use Rattle.alma_rules.specs.Parts.{Typing}
 use Rattle.alma_rules.specs.Places.{width, mark_expr, mark_type}
-use Rattle.alma_rules.specs.Types.{Reading, declared, redeclared, all_names, last_token, read_type, read_type_name, read_constant}
+use Rattle.alma_rules.specs.Types.{Reading, declare_name, redeclaration_rules, all_names, last_token, read_type, read_type_name}
+use Rattle.alma_rules.specs.Types.{read_constant}
 use Rattle.alma_rules.specs.Types.{type_names}
 
 -- ---- the frame of a routine
@@ -32,7 +33,7 @@ use Rattle.alma_rules.specs.Types.{type_names}
 -- what declarations leave: the rules broken in them, the scene with what they declare, the next free slot and the declared
 -- cells of the frame, the parameters, the formals (None where a type is Bad), and the variables
 pub record Frame : Type 0 where
-  pub faults : List Broken
+  pub faults : List BrokenRule
   pub scene : Scene
   pub slots : ℕ
   pub declared : ℕ
@@ -40,7 +41,7 @@ pub record Frame : Type 0 where
   pub formals : List (Option FormalOf)
   pub variables : List ir.Global
 
-abbrev pub with_faults : Frame → List Broken → Frame
+abbrev pub with_faults : Frame → List BrokenRule → Frame
 with_faults f faults = record f { faults = f.faults ++ faults }
 
 abbrev pub with_scene : Frame → Scene → Frame
@@ -51,8 +52,8 @@ abbrev pub too_large : Frame → tree.Name → Scene → Frame
 too_large f name s = record f { faults = f.faults ++ broken_at name.node (fault.TooLarge ∷ []); scene = s }
 
 -- a frame with one more variable or parameter, where its declared cells are within the limit
-abbrev pub limited : tree.Name → (before after : Frame) → Frame
-limited name f g = if_true (nat_le g.declared cell_limit) (λ _. g) (λ _. too_large f name g.scene)
+abbrev pub within_limit : tree.Name → (before after : Frame) → Frame
+within_limit name f g = if_true (nat_le g.declared cell_limit) (λ _. g) (λ _. too_large f name g.scene)
 
 -- ---- constants, types and variables
 
@@ -70,19 +71,19 @@ type_entry None = entry.Bad
 type_entry (Some shape) = entry.Named (shape_id shape)
 
 -- a name in front of what it is declared as; it is visible behind the semicolon
-abbrev pub entered : Frame → tree.Name → (from : ℕ) → List Broken → Scene → Entry → Frame
-entered f name from faults s e =
-    record f { faults = f.faults ++ broken_at name.node (redeclared s name) ++ faults; scene = declared s name from e }
+abbrev pub enter : Frame → tree.Name → (from : ℕ) → List BrokenRule → Scene → Entry → Frame
+enter f name from faults s e =
+    record f { faults = f.faults ++ broken_at name.node (redeclaration_rules s name) ++ faults; scene = declare_name s name from e }
 
 abbrev pub constant_in : Frame → tree.ConstEntry → Reading Typing → Frame
-constant_in f x r = entered f x.name (x.name.token + 3 + width (mark_expr x.value)) r.faults r.scene (constant_entry r.value)
+constant_in f x r = enter f x.name (x.name.token + 3 + width (mark_expr x.value)) r.faults r.scene (constant_entry r.value)
 
 abbrev pub read_consts : Frame → List tree.ConstEntry → Frame
 read_consts f [] = f
 read_consts f (x ∷ xs) = read_consts (constant_in f x (read_constant f.scene x.value)) xs
 
 abbrev pub type_in : Frame → tree.TypeEntry → Reading ℕ → Frame
-type_in f x r = entered f x.name (x.name.token + 3 + width (mark_type x.type_node)) r.faults r.scene (type_entry r.value)
+type_in f x r = enter f x.name (x.name.token + 3 + width (mark_type x.type_node)) r.faults r.scene (type_entry r.value)
 
 abbrev pub read_types : Frame → List tree.TypeEntry → Frame
 read_types f [] = f
@@ -96,7 +97,7 @@ variable_access s slot = if nat_eq (level s) 0 then access.Global slot else acce
 abbrev pub with_variable : Frame → tree.Name → (from : ℕ) → ℕ → Frame
 with_variable f name from shape =
     record f {
-      scene = declared f.scene name from (entry.Variable (shape_id shape) (variable_access f.scene f.slots));
+      scene = declare_name f.scene name from (entry.Variable (shape_id shape) (variable_access f.scene f.slots));
       slots = f.slots + cells f.scene shape;
       declared = f.declared + cells f.scene shape;
       variables = f.variables ++ record { name = text_at f.scene name.token; slot = f.slots; cells = cells f.scene shape } ∷ [];
@@ -105,10 +106,14 @@ with_variable f name from shape =
 -- a variable, where its type is not Bad and it is the first of its name
 abbrev pub variable_in : Frame → (from : ℕ) → Option ℕ → tree.Name → Frame
 variable_in f from None name =
-    record f { faults = f.faults ++ broken_at name.node (redeclared f.scene name); scene = declared f.scene name from entry.Bad }
+    record f {
+      faults = f.faults ++ broken_at name.node (redeclaration_rules f.scene name);
+      scene =
+          declare_name f.scene name from entry.Bad;
+    }
 variable_in f from (Some shape) name = if_true (is_first f.scene name)
-    (λ _. limited name f (with_variable f name from shape))
-    (λ _. with_faults f (broken_at name.node (redeclared f.scene name)))
+    (λ _. within_limit name f (with_variable f name from shape))
+    (λ _. with_faults f (broken_at name.node (redeclaration_rules f.scene name)))
 
 abbrev pub variables_in : Frame → (from : ℕ) → Option ℕ → List tree.Name → Frame
 variables_in f from shape [] = f
@@ -193,7 +198,7 @@ abbrev pub with_routine : Scene → ℕ → tree.Decl → Scene
 with_routine s r (tree.const_decl n xs) = s
 with_routine s r (tree.type_decl n xs) = s
 with_routine s r (tree.var_decl n xs) = s
-with_routine s r (tree.procedure n name params result b end_name) = declared s name 0 (entry.Routine r)
+with_routine s r (tree.procedure n name params result b end_name) = declare_name s name 0 (entry.Routine r)
 
 abbrev pub with_routines : Scene → ℕ → tree.DeclTail → Scene
 with_routines s r tree.no_decl = s
@@ -241,7 +246,7 @@ param_access (Some m) slot = access.Param slot
 abbrev pub with_param : Frame → tree.Name → (from : ℕ) → Option Mode → ℕ → ArgKind → Frame
 with_param f name from mode shape kind =
     record f {
-      scene = declared f.scene name from (entry.Variable (shape_id shape) (param_access mode f.slots));
+      scene = declare_name f.scene name from (entry.Variable (shape_id shape) (param_access mode f.slots));
       slots = f.slots + param_slots kind (cells f.scene shape);
       declared = f.declared + declared_cells mode (cells f.scene shape);
       params = f.params ++ record { kind = kind; slot = f.slots; cells = cells f.scene shape; range = range f.scene shape } ∷ [];
@@ -253,13 +258,13 @@ with_formal f x = record f { formals = f.formals ++ x ∷ [] }
 abbrev pub param_in : Frame → (from : ℕ) → Option Mode → Option ℕ → tree.Name → Frame
 param_in f from mode None name =
     with_formal (record f {
-      faults = f.faults ++ broken_at name.node (redeclared f.scene name);
+      faults = f.faults ++ broken_at name.node (redeclaration_rules f.scene name);
       scene =
-          declared f.scene name from entry.Bad;
+          declare_name f.scene name from entry.Bad;
     }) None
 param_in f from mode (Some shape) name = with_formal (if_true (is_first f.scene name)
-    (λ _. limited name f (with_param f name from mode shape (param_kind (is_structured f.scene shape) mode)))
-    (λ _. with_faults f (broken_at name.node (redeclared f.scene name)))) (Some (record { mode = mode; shape = shape }))
+    (λ _. within_limit name f (with_param f name from mode shape (param_kind (is_structured f.scene shape) mode)))
+    (λ _. with_faults f (broken_at name.node (redeclaration_rules f.scene name)))) (Some (record { mode = mode; shape = shape }))
 
 abbrev pub params_in : Frame → (from : ℕ) → Option Mode → Option ℕ → List tree.Name → Frame
 params_in f from mode shape [] = f
@@ -293,7 +298,7 @@ abbrev pub too_deep : Scene → List CheckFault
 too_deep s = when (nat_le 8 (level s)) fault.NestedProcedure
 
 -- a heading: its frame with the parameters, the result, and the heading, None where it is Bad
-pub record Headed : Type 0 where
+pub record FramedHeading : Type 0 where
   pub frame : Frame
   pub returns : Returns
   pub heading : Option Heading
@@ -307,16 +312,16 @@ abbrev pub heading_with : Frame → Option ℕ → List FormalOf → Heading
 heading_with f result formals = record { formals = formals; result = result; params = f.params }
 
 abbrev pub proper_heading : Frame → Option Heading
-proper_heading f = unbroken f.faults (option_map (heading_with f None) (all_formals f.formals))
+proper_heading f = if_unbroken f.faults (option_map (heading_with f None) (all_formals f.formals))
 
 abbrev pub function_heading : Frame → ℕ → Option Heading
-function_heading f result = unbroken f.faults (option_map (heading_with f (Some result)) (all_formals f.formals))
+function_heading f result = if_unbroken f.faults (option_map (heading_with f (Some result)) (all_formals f.formals))
 
 -- the result type, with its faults
 abbrev pub with_returns : Frame → Returns → Frame
 with_returns f r = record f { scene = record f.scene { returns = r } }
 
-abbrev pub headed_function : Frame → tree.Name → Reading ℕ → Headed
+abbrev pub headed_function : Frame → tree.Name → Reading ℕ → FramedHeading
 headed_function f name r =
     record {
       frame = with_returns (with_faults f (r.faults ++ broken_at name.node (result_rules f.scene r.value))) (a_value r.value);
@@ -324,11 +329,11 @@ headed_function f name r =
       heading = option_and_then (function_heading (with_faults f (r.faults ++ broken_at name.node (result_rules f.scene r.value)))) r.value;
     }
 
-abbrev pub headed : Frame → Option tree.Name → Headed
-headed f None = record { frame = with_returns f nothing; returns = nothing; heading = proper_heading f }
-headed f (Some name) = headed_function f name (read_type_name f.scene name)
+abbrev pub heading_at : Frame → Option tree.Name → FramedHeading
+heading_at f None = record { frame = with_returns f nothing; returns = nothing; heading = proper_heading f }
+heading_at f (Some name) = headed_function f name (read_type_name f.scene name)
 
-abbrev pub with_depth : List CheckFault → ℕ → Headed → Headed
+abbrev pub with_depth : List CheckFault → ℕ → FramedHeading → FramedHeading
 with_depth [] n h = h
 with_depth (x ∷ xs) n h = record h { frame = with_faults h.frame (broken_at n (x ∷ xs)); heading = None }
 
@@ -336,17 +341,17 @@ abbrev pub new_frame : Scene → (slots : ℕ) → Frame
 new_frame s slots = record { faults = []; scene = s; slots = slots; declared = 0; params = []; formals = []; variables = [] }
 
 -- the heading of routine r in a scene: its block, with its parameters
-abbrev pub read_heading : Scene → (r : ℕ) → (node : ℕ) → Option tree.Params → Option tree.Name → tree.Block → Headed
+abbrev pub read_heading : Scene → (r : ℕ) → (node : ℕ) → Option tree.Params → Option tree.Name → tree.Block → FramedHeading
 read_heading s r node params result b =
     with_depth (too_deep s) node
-    (headed (read_formals (new_frame (with_block s r nothing (formal_names (formals_of params)) b) 0) (formals_of params)) result)
+    (heading_at (read_formals (new_frame (with_block s r nothing (formal_names (formals_of params)) b) 0) (formals_of params)) result)
 
 -- ---- all declarations of a block, in order; of procedures only the headings
 
-abbrev pub heading_in : Frame → (r : ℕ) → tree.Name → Headed → Frame
+abbrev pub heading_in : Frame → (r : ℕ) → tree.Name → FramedHeading → Frame
 heading_in f r name h =
     record f {
-      faults = f.faults ++ broken_at name.node (redeclared f.scene name) ++ h.frame.faults;
+      faults = f.faults ++ broken_at name.node (redeclaration_rules f.scene name) ++ h.frame.faults;
       scene = record f.scene { headings = set f.scene.headings r h.heading };
     }
 

@@ -11,10 +11,11 @@ use Rattle.alma_tree.specs.declared.leaf.Mode.{Mode}
 use Rattle.alma_tree.specs.declared.leaf.Mode.TheVariants as modes
 use Rattle.alma_ir.specs.Tree as ir
 use Rattle.alma_rules.specs.Numbered as tree
-use Rattle.alma_rules.specs.Judged.{when, unless, holds}
+use Rattle.alma_rules.specs.Judgement.{when, unless, holds}
 use Rattle.alma_rules.specs.Scene.{Scene, Heading, FormalOf, Found, absent, bad, constant, named, variable, routine, found, base}
 use Rattle.alma_rules.specs.Scene.{is_structured, is_record_in, has_integer, has_boolean, are_compatible, row_at}
-use Rattle.alma_rules.specs.Parts.{Typing, Located, Denoted, a_variable, no_array, Callee, Operator, is_logical, Operands, folded, chained}
+use Rattle.alma_rules.specs.Parts.{Typing, Location, Denotation, a_variable, no_array, Callee, Operator, is_logical, Operands, chain_value}
+use Rattle.alma_rules.specs.Parts.{chain_typing}
 use Rattle.alma_rules.specs.Parts.{field_of}
 use Rattle.std.specs.Prelude.{slice_get}
 
@@ -83,31 +84,31 @@ not_procedure wanted selected (routine r up None) = false
 not_procedure wanted selected (routine r up (Some h)) = is_procedure_use wanted && selected
 not_procedure wanted selected f = is_procedure_use wanted
 
-abbrev pub desig_rules : Scene → Use → (selected : Bool) → Found → Option Denoted → List CheckFault
+abbrev pub desig_rules : Scene → Use → (selected : Bool) → Found → Option Denotation → List CheckFault
 desig_rules s wanted selected f v =
     when (no_constant s selected f) fault.NotConst
     ++ when (not_variable wanted selected f) fault.NotVariable
     ++ when (not_procedure wanted selected f) fault.NotProcedure
 
 -- NotRecord: a field selector on another type
-abbrev pub not_record : Scene → Denoted → Bool
+abbrev pub not_record : Scene → Denotation → Bool
 not_record s (a_variable l) = not (is_record_in (slice_get s.shapes l.shape))
 not_record s d = false
 
 -- NoField: a field selector whose record has no such field
-abbrev pub no_field : Scene → List ℕ → Denoted → Bool
+abbrev pub no_field : Scene → List ℕ → Denotation → Bool
 no_field s name (a_variable l) = is_record_in (slice_get s.shapes l.shape) && not (is_some (field_of s name l))
 no_field s name d = false
 
-abbrev pub field_rules : Scene → List ℕ → Option Denoted → List CheckFault
+abbrev pub field_rules : Scene → List ℕ → Option Denotation → List CheckFault
 field_rules s name v = when (holds (not_record s) v) fault.NotRecord ++ when (holds (no_field s name) v) fault.NoField
 
 -- NotArray: an index selector on another type
-abbrev pub not_array : Denoted → Bool
+abbrev pub not_array : Denotation → Bool
 not_array no_array = true
 not_array d = false
 
-abbrev pub array_rules : Option Denoted → List CheckFault
+abbrev pub array_rules : Option Denotation → List CheckFault
 array_rules v = when (holds not_array v) fault.NotArray
 
 -- TypeMismatch: an index Expr of another base than the index type
@@ -115,11 +116,11 @@ abbrev pub other_index : Scene → Option (ℕ × ℕ) → Typing → Bool
 other_index s None t = false
 other_index s (Some r) t = not (nat_eq (base s r.0) (base s t.shape))
 
-abbrev pub other_index_of : Scene → Option Denoted → Typing → Bool
+abbrev pub other_index_of : Scene → Option Denotation → Typing → Bool
 other_index_of s (Some (a_variable l)) t = other_index s (row_at s l.shape) t
 other_index_of s d t = false
 
-abbrev pub index_rules : Scene → Option Denoted → Option Typing → List CheckFault
+abbrev pub index_rules : Scene → Option Denotation → Option Typing → List CheckFault
 index_rules s d v = when (holds (other_index_of s d) v) fault.TypeMismatch
 
 -- ---- operands
@@ -168,7 +169,7 @@ any_logical (o ∷ os) = is_logical o || any_logical os
 
 -- ConstRange: a constant operation that overflows or divides by zero
 abbrev pub has_no_value : Option Sign → Typing × Operands → Bool
-has_no_value sign p = not (is_some (folded sign p))
+has_no_value sign p = not (is_some (chain_value sign p))
 
 abbrev pub no_constant_sum : Scene → Option Sign → Bool → Option (Typing × Operands) → Bool
 no_constant_sum s sign with_logical v = s.constant && not with_logical && holds (has_no_value sign) v
@@ -181,7 +182,7 @@ own_chain_rules s sign with_logical v =
 abbrev pub chain_rules : Scene → (ir.Tests → ir.Test) → Operand → Option Sign → Bool → Option (Typing × Operands) → List CheckFault
 chain_rules s join o sign with_logical v =
     when (s.constant && with_logical) fault.NotConst
-    ++ operand_rules s o (option_map (chained join sign) (unless (own_chain_rules s sign with_logical v) v))
+    ++ operand_rules s o (option_map (chain_typing join sign) (unless (own_chain_rules s sign with_logical v) v))
     ++ when (no_constant_sum s sign with_logical v) fault.ConstRange
 
 -- a Factor with NOT: NotConst, and the rules of its place
@@ -213,10 +214,10 @@ abbrev pub simple_rules : Scene → Option Typing → List CheckFault
 simple_rules s v = when (holds (structured s) v) fault.TypeMismatch
 
 -- KNOWN: NotConst, and TypeMismatch of a structured designator
-abbrev pub structured_place : Scene → Located → Bool
+abbrev pub structured_place : Scene → Location → Bool
 structured_place s l = is_structured s l.shape
 
-abbrev pub known_rules : Scene → Option Located → List CheckFault
+abbrev pub known_rules : Scene → Option Location → List CheckFault
 known_rules s v = constant_rules s ++ when (holds (structured_place s) v) fault.TypeMismatch
 
 -- CHR: TypeMismatch of a base other than INTEGER, and ConstRange of a constant that is no CHAR

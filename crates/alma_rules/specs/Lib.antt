@@ -1,6 +1,6 @@
 pub mod Numbered
 pub mod View
-pub mod Judged
+pub mod Judgement
 pub mod Scene
 pub mod Parts
 pub mod ExprRules

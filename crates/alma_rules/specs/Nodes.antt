@@ -6,11 +6,13 @@ use Rattle.alma_tree.specs.declared.leaf.Relation.{Relation}
 use Rattle.alma_tree.specs.declared.leaf.Sign.{Sign}
 use Rattle.alma_ir.specs.Tree as ir
 use Rattle.alma_rules.specs.Numbered as tree
-use Rattle.alma_rules.specs.Judged.{Judged, fine, of_value, at_node, both, after, with, with_some}
+use Rattle.alma_rules.specs.Judgement.{Judgement, fine, of_value, at_node, both, after, with, with_some}
 use Rattle.alma_rules.specs.Scene.{Scene, FormalOf, found, literal_at, range}
 use Rattle.alma_rules.specs.Parts.{plain, a_test, Typing, value_of, test_of, without_place, integer_typing, char_typing, boolean_typing}
-use Rattle.alma_rules.specs.Parts.{Located, desig_of, Denoted, denoted, select_index, located_in, Callee, argument_of, called, related}
-use Rattle.alma_rules.specs.Parts.{Operator, add_operator, mul_operator, is_logical, Operands, chained, one_stmt, append_stmts, read_stmts}
+use Rattle.alma_rules.specs.Parts.{Location, desig_of, Denotation, denotation, select_index, located_in, Callee, argument_of}
+use Rattle.alma_rules.specs.Parts.{typing_of_call, relation_typing}
+use Rattle.alma_rules.specs.Parts.{Operator, add_operator, mul_operator, is_logical, Operands, chain_typing, one_stmt, append_stmts}
+use Rattle.alma_rules.specs.Parts.{read_stmts}
 use Rattle.alma_rules.specs.Parts.{write_stmts, Span, span_of, ranges_of, append_cases}
 use Rattle.alma_rules.specs.ExprRules.{name_rules, index_rules, Operand, alone, operand_rules, chain_rules, call_rules, simple_rules}
 use Rattle.alma_rules.specs.ExprRules.{sequence_rules, relation_rules, constant_rules, test_rules, argument_kind, argument_rules}
@@ -20,16 +22,16 @@ use Rattle.alma_rules.specs.StmtRules.{write_rules}
 -- ---- what a node makes of its parts
 
 -- a name in use, and what it denotes
-abbrev pub judge_name : Scene → ℕ → tree.Name → Judged Denoted
-judge_name s n name = at_node name.node (name_rules (found s name)) (of_value n (denoted s (found s name)))
+abbrev pub judge_name : Scene → ℕ → tree.Name → Judgement Denotation
+judge_name s n name = at_node name.node (name_rules (found s name)) (of_value n (denotation s (found s name)))
 
 abbrev pub is_selected : tree.SelectorTail → Bool
 is_selected tree.no_selector = false
 is_selected (tree.more_selector x rest) = true
 
 -- an index with the designator in front of it
-abbrev pub indexed : Scene → Judged Denoted → ℕ → Judged Typing → Judged Denoted
-indexed s d node i =
+abbrev pub index_at : Scene → Judgement Denotation → ℕ → Judgement Typing → Judgement Denotation
+index_at s d node i =
     after (at_node node (index_rules s d.value) i)
     (λ j. record { faults = d.faults ++ j.faults; next = j.next; value = select_index s d.value j.value })
 
@@ -42,23 +44,24 @@ abbrev pub literal_typing : Scene → ℕ → Typing
 literal_typing s t = char_typing (byte_of (literal_at s t))
 
 -- a single expression in parentheses stands for itself
-abbrev pub in_parens : Scene → ℕ → Judged Typing → Judged Typing
+abbrev pub in_parens : Scene → ℕ → Judgement Typing → Judgement Typing
 in_parens s k j = with without_place (at_node k (simple_rules s) j)
 
 -- any other sequence of statements in parentheses is a Boolean one
-abbrev pub as_sequence : Scene → ℕ → Judged ir.Stmts → Judged Typing
+abbrev pub as_sequence : Scene → ℕ → Judgement ir.Stmts → Judgement Typing
 as_sequence s k j = with (λ body. boolean_typing (a_test (ir.Seq body))) (at_node k (sequence_rules s) j)
 
 -- a single expression where there is one, and else a sequence
-abbrev pub or_sequence : Option (Judged Typing) → (Judged Typing → Judged Typing) → (Unit {0} → Judged Typing) → Judged Typing
+abbrev pub or_sequence : Option (Judgement Typing) → (Judgement Typing → Judgement Typing) → (Unit {0} → Judgement Typing)
+    → Judgement Typing
 or_sequence (Some j) single sequence = single j
 or_sequence None single sequence = sequence tt
 
-abbrev pub only_of : tree.StmtTail → Option (Judged Typing) → Option (Judged Typing)
+abbrev pub only_of : tree.StmtTail → Option (Judgement Typing) → Option (Judgement Typing)
 only_of tree.no_stmt j = j
 only_of (tree.more_stmt x rest) j = None
 
-abbrev pub known_typing : Located → Typing
+abbrev pub known_typing : Location → Typing
 known_typing l = boolean_typing (plain (ir.Known (desig_of l)))
 
 abbrev pub ord_typing : Typing → Typing
@@ -82,10 +85,10 @@ expr_count (tree.more_expr e rest) = 1 + expr_count rest
 abbrev pub argument_count : tree.Exprs → ℕ
 argument_count (tree.exprs e rest) = 1 + expr_count rest
 
-abbrev pub called_at : Scene → ℕ → Judged Callee → ℕ → Judged ir.Args → Judged Typing
-called_at s k callee count args = with called (at_node k (call_rules s callee.value count) (both callee args))
+abbrev pub called_at : Scene → ℕ → Judgement Callee → ℕ → Judgement ir.Args → Judgement Typing
+called_at s k callee count args = with typing_of_call (at_node k (call_rules s callee.value count) (both callee args))
 
-abbrev pub judged_argument : Scene → Option FormalOf → tree.Expr → Judged Typing → Judged ir.Arg
+abbrev pub judged_argument : Scene → Option FormalOf → tree.Expr → Judgement Typing → Judgement ir.Arg
 judged_argument s f e j = with (argument_of s f) (at_node (tree.expr_node e) (argument_rules s f (argument_kind s e)) j)
 
 abbrev pub cons_arg : ir.Arg × ir.Args → ir.Args
@@ -95,8 +98,8 @@ abbrev pub cons_operand : Operator → Typing × Operands → Operands
 cons_operand o p = (o, p.0) ∷ p.1
 
 -- a Simple or Term with a sign or with operators
-abbrev pub chain_at : Scene → (ir.Tests → ir.Test) → Operand → ℕ → Option Sign → Bool → Judged (Typing × Operands) → Judged Typing
-chain_at s join o k sign with_logical j = with (chained join sign) (at_node k (chain_rules s join o sign with_logical) j)
+abbrev pub chain_at : Scene → (ir.Tests → ir.Test) → Operand → ℕ → Option Sign → Bool → Judgement (Typing × Operands) → Judgement Typing
+chain_at s join o k sign with_logical j = with (chain_typing join sign) (at_node k (chain_rules s join o sign with_logical) j)
 
 abbrev pub operand_behind : Bool → Operator → Operand
 operand_behind sort o = record { signed = false; sort = sort; operator = Some o }
@@ -123,39 +126,39 @@ abbrev pub any_and : tree.FactorTail → Bool
 any_and tree.no_factor = false
 any_and (tree.more_factor o f rest) = is_logical (mul_operator o) || any_and rest
 
-abbrev pub alone_in : {A B : Type 0} → Judged (A × B) → Judged A
+abbrev pub alone_in : {A B : Type 0} → Judgement (A × B) → Judgement A
 alone_in j = with (λ p. p.0) j
 
 -- a Simple, and a Term in its place: without sign and operators it is its only part
-abbrev pub sum_at : Scene → ℕ → Option Sign → tree.TermTail → Judged (Typing × Operands) → Judged Typing
+abbrev pub sum_at : Scene → ℕ → Option Sign → tree.TermTail → Judgement (Typing × Operands) → Judgement Typing
 sum_at s k None tree.no_term j = alone_in j
 sum_at s k sign rest j = chain_at s ir.Or alone k sign (any_or rest) j
 
-abbrev pub product_at : Scene → Operand → ℕ → tree.FactorTail → Judged (Typing × Operands) → Judged Typing
+abbrev pub product_at : Scene → Operand → ℕ → tree.FactorTail → Judgement (Typing × Operands) → Judgement Typing
 product_at s o k tree.no_factor j = at_node k (operand_rules s o) (alone_in j)
 product_at s o k rest j = chain_at s ir.And o k None (any_and rest) j
 
 -- a relation, and what a condition and a value are
-abbrev pub relation_at : Scene → ℕ → Relation → Judged (Typing × Typing) → Judged Typing
-relation_at s k relation j = with (related s relation) (at_node k (relation_rules s relation) j)
+abbrev pub relation_at : Scene → ℕ → Relation → Judgement (Typing × Typing) → Judgement Typing
+relation_at s k relation j = with (relation_typing s relation) (at_node k (relation_rules s relation) j)
 
-abbrev pub as_test : Judged Typing → Judged ir.Test
+abbrev pub as_test : Judgement Typing → Judgement ir.Test
 as_test j = with (λ t. test_of t.meaning) j
 
 -- ---- statements
 
 -- a condition, or an expression as a statement
-abbrev pub condition_at : Scene → tree.Expr → Judged Typing → Judged ir.Test
+abbrev pub condition_at : Scene → tree.Expr → Judgement Typing → Judgement ir.Test
 condition_at s e j = as_test (at_node (tree.expr_node e) (test_rules s) j)
 
 -- the step behind BY
 abbrev pub constant_in : Typing → Option ℤ
 constant_in t = t.constant
 
-abbrev pub step_at : Scene → tree.Expr → Judged Typing → Judged ℤ
+abbrev pub step_at : Scene → tree.Expr → Judgement Typing → Judgement ℤ
 step_at s e j = with_some constant_in (at_node (tree.expr_node e) (by_rules s) j)
 
-abbrev pub one : Judged ir.Stmt → Judged ir.Stmts
+abbrev pub one : Judgement ir.Stmt → Judgement ir.Stmts
 one j = with one_stmt j
 
 abbrev pub if_of : ir.Test × (ir.Stmts × (ir.Arms × ir.Stmts)) → ir.Stmt
@@ -165,20 +168,21 @@ abbrev pub arms_of : ir.Test × (ir.Stmts × ir.Arms) → ir.Arms
 arms_of p = ir.more_arms p.0 p.1.0 p.1.1
 
 -- a loop Name, and the variable that it names
-abbrev pub loop_variable : Scene → ℕ → tree.Name → Judged Located
+abbrev pub loop_variable : Scene → ℕ → tree.Name → Judgement Location
 loop_variable s n name =
-    at_node name.node (loop_name_rules s (found s name)) (with_some located_in (of_value n (denoted s (found s name))))
+    at_node name.node (loop_name_rules s (found s name)) (with_some located_in (of_value n (denotation s (found s name))))
 
-abbrev pub loop_of : Scene → ℕ → Located × (Typing × (Typing × (ℤ × ir.Stmts))) → ir.Loop
+abbrev pub loop_of : Scene → ℕ → Location × (Typing × (Typing × (ℤ × ir.Stmts))) → ir.Loop
 loop_of s n p = ir.a_loop (desig_of p.0) (range s p.0.shape) n (n + 1) (value_of p.1.0.meaning) (value_of p.1.1.0.meaning) p.1.1.1.0
     p.1.1.1.1
 
-abbrev pub loop_at : Scene → ℕ → ℕ → Judged Located → Judged Typing → Judged Typing → Judged ℤ → Judged ir.Stmts → Judged ir.Loop
+abbrev pub loop_at : Scene → ℕ → ℕ → Judgement Location → Judgement Typing → Judgement Typing → Judgement ℤ → Judgement ir.Stmts
+    → Judgement ir.Loop
 loop_at s n k var low high by body =
     with (loop_of s n) (at_node k (loop_rules s var.value low.value high.value) (both var (both low (both high (both by body)))))
 
 -- a label with the labels before it in its CASE
-abbrev pub label_at : Scene → Option Typing → List Span → ℕ → Judged Typing → Judged Typing → Judged Span
+abbrev pub label_at : Scene → Option Typing → List Span → ℕ → Judgement Typing → Judgement Typing → Judgement Span
 label_at s case earlier k low high =
     with_some (span_of s) (at_node k (label_rules s case earlier (span_of s) low.value high.value) (both low high))
 
@@ -186,34 +190,34 @@ abbrev pub cons_span : Span × List Span → List Span
 cons_span p = p.0 ∷ p.1
 
 -- an arm of CASE, and its labels
-pub record Armed : Type 0 where
-  pub arm : Judged ir.CaseArms
+pub record ArmAndLabels : Type 0 where
+  pub arm : Judgement ir.CaseArms
   pub spans : List Span
 
 abbrev pub arm_of : List Span × ir.Stmts → ir.CaseArms
 arm_of p = ir.more_cases (ranges_of p.0) p.1 ir.no_cases
 
-abbrev pub armed : Judged (List Span) → Judged ir.Stmts → Armed
-armed labels body = record { arm = with arm_of (both labels body); spans = unwrap_or labels.value [] }
+abbrev pub arm_at : Judgement (List Span) → Judgement ir.Stmts → ArmAndLabels
+arm_at labels body = record { arm = with arm_of (both labels body); spans = unwrap_or labels.value [] }
 
 abbrev pub joined_cases : ir.CaseArms × ir.CaseArms → ir.CaseArms
 joined_cases p = append_cases p.0 p.1
 
-abbrev pub case_at : Scene → ℕ → Judged Typing → Judged ir.CaseArms → Judged ir.Else → Judged ir.Stmt
+abbrev pub case_at : Scene → ℕ → Judgement Typing → Judgement ir.CaseArms → Judgement ir.Else → Judgement ir.Stmt
 case_at s k case arms other =
     with (λ p. ir.Case (value_of p.0.meaning) p.1.0 p.1.1) (at_node k (case_rules s case.value) (both case (both arms other)))
 
-abbrev pub read_at : Scene → tree.Desig → Judged Denoted → Judged ir.Stmts
+abbrev pub read_at : Scene → tree.Desig → Judgement Denotation → Judgement ir.Stmts
 read_at s d j = with (read_stmts s) (at_node (tree.desig_node d) (read_rules s) (with_some located_in j))
 
 -- a RETURN with a value, or without one
-abbrev pub return_at : Scene → ℕ → Judged Typing → Judged ir.Stmt
+abbrev pub return_at : Scene → ℕ → Judgement Typing → Judgement ir.Stmt
 return_at s k j = with (λ t. ir.Return (ir.some_result (value_of t.meaning))) (at_node k (return_rules s true) j)
 
 abbrev pub no_result : Scene → Option Typing → List CheckFault
 no_result s v = return_rules s false None
 
-abbrev pub bare_return_at : Scene → ℕ → ℕ → Judged ir.Stmt
+abbrev pub bare_return_at : Scene → ℕ → ℕ → Judgement ir.Stmt
 bare_return_at s n k = with (λ t. ir.Return ir.no_result) (at_node k (no_result s) (fine n (integer_typing (pos 0))))
 
 abbrev pub with_line : ir.Stmts → ir.Stmts
@@ -228,11 +232,11 @@ item_literal e = None
 abbrev pub text_rules : {A : Type 0} → Scene → Option A → List CheckFault
 text_rules s v = constant_rules s
 
-abbrev pub text_item : Scene → ℕ → ℕ → List ℕ → Judged Typing → ℕ → Judged ir.Stmts
+abbrev pub text_item : Scene → ℕ → ℕ → List ℕ → Judgement Typing → ℕ → Judgement ir.Stmts
 text_item s n j text item node = if_true (nat_eq (length text) 1)
     (λ _. with (write_stmts s) (at_node node (write_rules s) item))
     (λ _. at_node j (text_rules s) (fine n (one_stmt (ir.WriteText text))))
 
-abbrev pub item_of : Scene → ℕ → ℕ → Option (ℕ × ℕ) → Judged Typing → Judged ir.Stmts
+abbrev pub item_of : Scene → ℕ → ℕ → Option (ℕ × ℕ) → Judgement Typing → Judgement ir.Stmts
 item_of s n node None item = with (write_stmts s) (at_node node (write_rules s) item)
 item_of s n node (Some l) item = text_item s n l.0 (literal_at s l.1) item node

@@ -76,13 +76,13 @@ boolean_typing m = record { shape = 2; constant = None; meaning = m }
 -- ---- designators
 
 -- a variable or a part of one: its shape, where the variable stands, its cells, and the selectors
-pub record Located : Type 0 where
+pub record Location : Type 0 where
   pub shape : ℕ
   pub root : Root
   pub cells : ℕ
   pub sels : ir.Sels
 
-abbrev pub desig_of : Located → ir.Desig
+abbrev pub desig_of : Location → ir.Desig
 desig_of l = ir.a_desig l.root l.cells l.sels
 
 abbrev pub with_sel : ir.Sels → ir.Sel → ir.Sels
@@ -90,34 +90,34 @@ with_sel ir.no_sels x = ir.more_sels x ir.no_sels
 with_sel (ir.more_sels y rest) x = ir.more_sels y (with_sel rest x)
 
 -- what a designator names: a constant, a variable, a routine, or nothing, since an index stands on a type that is no array
-pub data Denoted : Type 0 where
-  a_constant : (shape : ℕ) → ℤ → Denoted
-  a_variable : Located → Denoted
-  a_routine : (number up : ℕ) → Heading → Denoted
-  no_array : Denoted
+pub data Denotation : Type 0 where
+  a_constant : (shape : ℕ) → ℤ → Denotation
+  a_variable : Location → Denotation
+  a_routine : (number up : ℕ) → Heading → Denotation
+  no_array : Denotation
 
-abbrev pub denoted : Scene → Found → Option Denoted
-denoted s absent = None
-denoted s bad = None
-denoted s (constant shape v) = Some (a_constant shape v)
-denoted s (named shape) = None
-denoted s (variable shape root) = Some (a_variable (record { shape = shape; root = root; cells = cells s shape; sels = ir.no_sels }))
-denoted s (routine number up heading) = option_map (a_routine number up) heading
+abbrev pub denotation : Scene → Found → Option Denotation
+denotation s absent = None
+denotation s bad = None
+denotation s (constant shape v) = Some (a_constant shape v)
+denotation s (named shape) = None
+denotation s (variable shape root) = Some (a_variable (record { shape = shape; root = root; cells = cells s shape; sels = ir.no_sels }))
+denotation s (routine number up heading) = option_map (a_routine number up) heading
 
 -- the field of a name
-abbrev pub field_of : Scene → List ℕ → Located → Option (ℕ × ℕ)
+abbrev pub field_of : Scene → List ℕ → Location → Option (ℕ × ℕ)
 field_of s name l = field_at name (slice_get s.shapes l.shape)
 
-abbrev pub field_part : Scene → Located → ℕ × ℕ → Denoted
+abbrev pub field_part : Scene → Location → ℕ × ℕ → Denotation
 field_part s l f =
     a_variable (record { shape = f.1; root = l.root; cells = l.cells; sels = with_sel l.sels (ir.Field f.0 (cells s f.1)) })
 
-abbrev pub select_field : Scene → List ℕ → Denoted → Option Denoted
+abbrev pub select_field : Scene → List ℕ → Denotation → Option Denotation
 select_field s name (a_variable l) = option_map (field_part s l) (field_of s name l)
 select_field s name d = Some d
 
 -- the element of an index
-abbrev pub element_part : Scene → Located → ℕ × ℕ → Typing → Denoted
+abbrev pub element_part : Scene → Location → ℕ × ℕ → Typing → Denotation
 element_part s l r i =
     a_variable (record {
       shape = r.1;
@@ -127,25 +127,25 @@ element_part s l r i =
           with_sel l.sels (ir.Index (value_of i.meaning) (range s r.0) (cells s r.1));
     })
 
-abbrev pub select_in : Scene → Located → Option (ℕ × ℕ) → Option Typing → Option Denoted
+abbrev pub select_in : Scene → Location → Option (ℕ × ℕ) → Option Typing → Option Denotation
 select_in s l None i = Some no_array
 select_in s l (Some r) i = option_map (element_part s l r) i
 
-abbrev pub select_index : Scene → Option Denoted → Option Typing → Option Denoted
+abbrev pub select_index : Scene → Option Denotation → Option Typing → Option Denotation
 select_index s None i = None
 select_index s (Some (a_variable l)) i = select_in s l (row_at s l.shape) i
 select_index s (Some no_array) i = Some no_array
 select_index s (Some (a_constant shape v)) i = option_map (λ t. a_constant shape v) i
 select_index s (Some (a_routine number up heading)) i = option_map (λ t. a_routine number up heading) i
 
-abbrev pub located_in : Denoted → Option Located
+abbrev pub located_in : Denotation → Option Location
 located_in (a_variable l) = Some l
 located_in (a_constant shape v) = None
 located_in (a_routine number up heading) = None
 located_in no_array = None
 
 -- a designator as an expression: a routine is called without arguments
-abbrev pub typing_in : Denoted → Option Typing
+abbrev pub typing_in : Denotation → Option Typing
 typing_in (a_constant shape v) = Some (record { shape = shape; constant = Some v; meaning = plain (ir.Const v) })
 typing_in (a_variable l) = Some (record { shape = l.shape; constant = None; meaning = a_place (desig_of l) })
 typing_in (a_routine number up heading) = Some (boolean_typing (a_test (ir.CallTest number ir.no_args up)))
@@ -158,7 +158,7 @@ pub record Callee : Type 0 where
   pub up : ℕ
   pub heading : Heading
 
-abbrev pub callee_in : Denoted → Option Callee
+abbrev pub callee_in : Denotation → Option Callee
 callee_in (a_routine number up heading) = Some (record { number = number; up = up; heading = heading })
 callee_in (a_constant shape v) = None
 callee_in (a_variable l) = None
@@ -188,8 +188,8 @@ abbrev pub call_typing : Callee → Option ℕ → ir.Args → Typing
 call_typing c None args = boolean_typing (a_test (ir.CallTest c.number args c.up))
 call_typing c (Some shape) args = record { shape = shape; constant = None; meaning = plain (ir.CallExpr c.number args c.up) }
 
-abbrev pub called : Callee × ir.Args → Typing
-called p = call_typing p.0 p.0.heading.result p.1
+abbrev pub typing_of_call : Callee × ir.Args → Typing
+typing_of_call p = call_typing p.0 p.0.heading.result p.1
 
 -- ---- relations
 
@@ -213,8 +213,8 @@ abbrev pub relation_of : Scene → Relation → Typing × Typing → Meaning
 relation_of s relations.Equal p = equation_of s p.0 p.1 p.0.meaning p.1.meaning
 relation_of s relation p = plain (ir.Compare (compare_of relation) (value_of p.0.meaning) (value_of p.1.meaning))
 
-abbrev pub related : Scene → Relation → Typing × Typing → Typing
-related s relation p = boolean_typing (relation_of s relation p)
+abbrev pub relation_typing : Scene → Relation → Typing × Typing → Typing
+relation_typing s relation p = boolean_typing (relation_of s relation p)
 
 -- ---- operators
 
@@ -266,8 +266,8 @@ abbrev pub folded_from : Option ℤ → Operands → Option ℤ
 folded_from a [] = a
 folded_from a (x ∷ xs) = folded_from (option_and_then (apply_operator x.0 x.1) a) xs
 
-abbrev pub folded : Option Sign → Typing × Operands → Option ℤ
-folded sign p = folded_from (option_and_then (apply_sign sign) p.0.constant) p.1
+abbrev pub chain_value : Option Sign → Typing × Operands → Option ℤ
+chain_value sign p = folded_from (option_and_then (apply_sign sign) p.0.constant) p.1
 
 abbrev pub links_of : Operands → ir.Links
 links_of [] = ir.no_links
@@ -298,8 +298,8 @@ chain_shape [] = 0
 chain_shape ((arithmetic op, t) ∷ rest) = 0
 chain_shape ((logical, t) ∷ rest) = 2
 
-abbrev pub chained : (ir.Tests → ir.Test) → Option Sign → Typing × Operands → Typing
-chained join sign p = record { shape = chain_shape p.1; constant = folded sign p; meaning = chain_of join sign p }
+abbrev pub chain_typing : (ir.Tests → ir.Test) → Option Sign → Typing × Operands → Typing
+chain_typing join sign p = record { shape = chain_shape p.1; constant = chain_value sign p; meaning = chain_of join sign p }
 
 -- ---- statements
 
@@ -314,18 +314,18 @@ abbrev pub joined_stmts : ir.Stmts × ir.Stmts → ir.Stmts
 joined_stmts p = append_stmts p.0 p.1
 
 -- a structured value is copied cell by cell
-abbrev pub assigned_to : Scene → Located → Meaning → ir.Stmt
+abbrev pub assigned_to : Scene → Location → Meaning → ir.Stmt
 assigned_to s l (a_place d) =
     if is_structured s l.shape then ir.CopyCells (desig_of l) d else ir.Assign (desig_of l) (ir.Load d) (range s l.shape)
 assigned_to s l m = ir.Assign (desig_of l) (value_of m) (range s l.shape)
 
-abbrev pub assigned : Scene → Located × Typing → ir.Stmts
-assigned s p = one_stmt (assigned_to s p.0 p.1.meaning)
+abbrev pub assignment_stmts : Scene → Location × Typing → ir.Stmts
+assignment_stmts s p = one_stmt (assigned_to s p.0 p.1.meaning)
 
 abbrev pub read_as : Scene → ℕ → ReadAs
 read_as s shape = if has_integer s shape then reads.Int else reads.Char
 
-abbrev pub read_stmts : Scene → Located → ir.Stmts
+abbrev pub read_stmts : Scene → Location → ir.Stmts
 read_stmts s l = one_stmt (ir.Read (desig_of l) (read_as s l.shape) (range s l.shape))
 
 abbrev pub write_as : Scene → ℕ → WriteAs

@@ -10,13 +10,13 @@ pub data Mark : Type 0 where
   stmt_at : (token : ℕ) → Mark
 
 -- the marks of a phrase, a statement before those inside it, and the token behind the phrase
-pub record Marked : Type 0 where
+pub record PhraseMarks : Type 0 where
   pub marks : List Mark
   pub end : ℕ
 
 -- from the first token of a phrase
 abbrev pub Step : Type 0
-Step = ℕ → Marked
+Step = ℕ → PhraseMarks
 
 abbrev pub stay : Step
 stay at = record { marks = []; end = at }
@@ -25,16 +25,16 @@ stay at = record { marks = []; end = at }
 abbrev pub token : Step
 token at = record { marks = []; end = suc at }
 
-abbrev pub followed : Marked → Step → Marked
-followed a f = record { marks = a.marks ++ (f a.end).marks; end = (f a.end).end }
+abbrev pub step_on : PhraseMarks → Step → PhraseMarks
+step_on a f = record { marks = a.marks ++ (f a.end).marks; end = (f a.end).end }
 
 -- one phrase and then another
 infixr 10 ◌>>◌
 abbrev pub ◌>>◌ : Step → Step → Step
-(f >> g) at = followed (f at) g
+(f >> g) at = step_on (f at) g
 
 -- a node of these parts
-abbrev pub marked_node : ℕ → ℕ → Marked → Marked
+abbrev pub marked_node : ℕ → ℕ → PhraseMarks → PhraseMarks
 marked_node n at m = record { marks = m.marks ++ node_at n at ∷ []; end = m.end }
 
 abbrev pub whole : ℕ → Step → Step

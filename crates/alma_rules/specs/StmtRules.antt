@@ -4,17 +4,17 @@ use Rattle.alma_base.specs.declared.fault.CheckFault.{CheckFault}
 use Rattle.alma_base.specs.declared.fault.CheckFault.TheVariants as fault
 use Rattle.alma_base.specs.declared.number.Range.{Range}
 use Rattle.alma_base.specs.Numbers.{is_zero}
-use Rattle.alma_rules.specs.Judged.{when, holds, both_of}
+use Rattle.alma_rules.specs.Judgement.{when, holds, both_of}
 use Rattle.alma_rules.specs.Scene.{Scene, Returns, nothing, a_value, Found, absent, bad, variable, routine, base, is_structured}
 use Rattle.alma_rules.specs.Scene.{has_integer, has_char, has_boolean, are_compatible}
-use Rattle.alma_rules.specs.Parts.{Typing, Located, Span}
+use Rattle.alma_rules.specs.Parts.{Typing, Location, Span}
 use Rattle.alma_rules.specs.ExprRules.{undeclared, no_integer, structured}
 
 -- TypeMismatch: := with types that are not compatible
-abbrev pub unlike_sides : Scene → Located × Typing → Bool
+abbrev pub unlike_sides : Scene → Location × Typing → Bool
 unlike_sides s p = not (are_compatible s p.0.shape p.1.shape)
 
-abbrev pub assign_rules : Scene → Option (Located × Typing) → List CheckFault
+abbrev pub assign_rules : Scene → Option (Location × Typing) → List CheckFault
 assign_rules s v = when (holds (unlike_sides s) v) fault.TypeMismatch
 
 -- ---- loops
@@ -27,17 +27,17 @@ no_loop_variable s (variable shape root) = false
 no_loop_variable s (routine r up None) = s.constant
 no_loop_variable s f = true
 
-abbrev pub loop_name_rules : Scene → Found → Option Located → List CheckFault
+abbrev pub loop_name_rules : Scene → Found → Option Location → List CheckFault
 loop_name_rules s f v = when (undeclared f) fault.Undeclared ++ when (no_loop_variable s f) fault.NotVariable
 
 -- TypeMismatch: a loop variable that is structured, or a bound of another base
 abbrev pub other_base : Scene → ℕ → Typing → Bool
 other_base s shape t = not (nat_eq (base s shape) (base s t.shape))
 
-abbrev pub bad_loop : Scene → Option Typing → Option Typing → Located → Bool
+abbrev pub bad_loop : Scene → Option Typing → Option Typing → Location → Bool
 bad_loop s low high l = is_structured s l.shape || holds (other_base s l.shape) low || holds (other_base s l.shape) high
 
-abbrev pub loop_rules : {A : Type 0} → Scene → Option Located → Option Typing → Option Typing → Option A → List CheckFault
+abbrev pub loop_rules : {A : Type 0} → Scene → Option Location → Option Typing → Option Typing → Option A → List CheckFault
 loop_rules s var low high v = when (holds (bad_loop s low high) var) fault.TypeMismatch
 
 -- BY: TypeMismatch where it is not of base INTEGER, and ConstRange where it is zero
@@ -115,10 +115,10 @@ return_rules s with_value v =
 -- ---- READ and WRITE
 
 -- BadRead: a READ designator whose base is neither INTEGER nor CHAR
-abbrev pub unreadable : Scene → Located → Bool
+abbrev pub unreadable : Scene → Location → Bool
 unreadable s l = not (has_integer s l.shape || has_char s l.shape)
 
-abbrev pub read_rules : Scene → Option Located → List CheckFault
+abbrev pub read_rules : Scene → Option Location → List CheckFault
 read_rules s v = when (holds (unreadable s) v) fault.BadRead
 
 -- BadWrite: an item that is neither of base INTEGER, CHAR or BOOLEAN nor a literal

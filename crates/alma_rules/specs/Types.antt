@@ -10,7 +10,7 @@ use Rattle.alma_names.specs.Shapes.{PlainShape, PlainField, listed, sub, row, fi
 use Rattle.alma_names.specs.Blocks.{shape_id}
 use Rattle.alma_names.specs.Scopes.{with_declared}
 use Rattle.alma_rules.specs.Numbered as tree
-use Rattle.alma_rules.specs.Judged.{Broken, Judged, broken_at, unless, unbroken, both_of, when, holds}
+use Rattle.alma_rules.specs.Judgement.{BrokenRule, Judgement, broken_at, unless, if_unbroken, both_of, when, holds}
 use Rattle.alma_rules.specs.Scene.{Scene, Found, absent, bad, named, found, text_at, base, is_structured, is_first, in_constant}
 use Rattle.alma_rules.specs.Parts.{Typing}
 use Rattle.alma_rules.specs.ExprRules.{undeclared}
@@ -19,7 +19,7 @@ use Rattle.alma_rules.specs.Walk.{judge_expr}
 
 -- what a type expression gives: the rules broken in it, the scene with what it declares, and its value, or None where it is Bad
 pub record Reading (A : Type 0) : Type 0 where
-  pub faults : List Broken
+  pub faults : List BrokenRule
   pub scene : Scene
   pub value : Option A
 
@@ -42,15 +42,15 @@ abbrev pub reading_with : {A B : Type 0} → (A → B) → Reading A → Reading
 reading_with f r = record { faults = r.faults; scene = r.scene; value = option_map f r.value }
 
 -- a value that changes the scene
-abbrev pub changed : {B : Type 0} → Scene → List Broken → Option (Scene × B) → Reading B
-changed s faults None = record { faults = faults; scene = s; value = None }
-changed s faults (Some p) = record { faults = faults; scene = p.0; value = Some p.1 }
+abbrev pub with_change : {B : Type 0} → Scene → List BrokenRule → Option (Scene × B) → Reading B
+with_change s faults None = record { faults = faults; scene = s; value = None }
+with_change s faults (Some p) = record { faults = faults; scene = p.0; value = Some p.1 }
 
 abbrev pub reading_change : {A B : Type 0} → (Scene → A → Scene × B) → Reading A → Reading B
-reading_change f r = changed r.scene r.faults (option_map (f r.scene) r.value)
+reading_change f r = with_change r.scene r.faults (option_map (f r.scene) r.value)
 
 -- an expression in a constant place
-abbrev pub reading_of : {A : Type 0} → Scene → Judged A → Reading A
+abbrev pub reading_of : {A : Type 0} → Scene → Judgement A → Reading A
 reading_of s j = record { faults = j.faults; scene = s; value = j.value }
 
 abbrev pub read_constant : Scene → tree.Expr → Reading Typing
@@ -59,20 +59,20 @@ read_constant s e = reading_of s (judge_expr (in_constant s) 0 e)
 -- ---- declarations
 
 -- the scene with a name, visible from a token on, where it is the first of its name in its block
-abbrev pub declared : Scene → tree.Name → (from : ℕ) → Entry → Scene
-declared s name from e =
+abbrev pub declare_name : Scene → tree.Name → (from : ℕ) → Entry → Scene
+declare_name s name from e =
     if is_first s name then record s {
       blocks =
           with_declared s.blocks (record { name = text_at s name.token; from = from; entry = e });
     } else s
 
 -- Redeclared: a Name in a declaration whose block declares it earlier in the text
-abbrev pub redeclared : Scene → tree.Name → List CheckFault
-redeclared s name = when (not (is_first s name)) fault.Redeclared
+abbrev pub redeclaration_rules : Scene → tree.Name → List CheckFault
+redeclaration_rules s name = when (not (is_first s name)) fault.Redeclared
 
-abbrev pub redeclared_all : Scene → List tree.Name → List Broken
+abbrev pub redeclared_all : Scene → List tree.Name → List BrokenRule
 redeclared_all s [] = []
-redeclared_all s (x ∷ xs) = broken_at x.node (redeclared s x) ++ redeclared_all s xs
+redeclared_all s (x ∷ xs) = broken_at x.node (redeclaration_rules s x) ++ redeclared_all s xs
 
 -- ---- the rules
 
@@ -95,16 +95,16 @@ read_type_name s name =
     reading_at name.node (type_name_rules (found s name)) (record { faults = []; scene = s; value = shape_in (found s name) })
 
 -- a shape of the table, or one past a limit, which is in none
-pub data Formed : Type 0 where
-  formed : (shape : ℕ) → Formed
-  too_large : Formed
+pub data ShapeOrLimit : Type 0 where
+  formed : (shape : ℕ) → ShapeOrLimit
+  too_large : ShapeOrLimit
 
 -- IndexType: an index type of an array that is INTEGER itself or structured
-abbrev pub bad_index : Scene → Formed → Bool
+abbrev pub bad_index : Scene → ShapeOrLimit → Bool
 bad_index s (formed shape) = nat_eq shape 0 || is_structured s shape
 bad_index s too_large = true
 
-abbrev pub index_type_rules : Scene → Option Formed → List CheckFault
+abbrev pub index_type_rules : Scene → Option ShapeOrLimit → List CheckFault
 index_type_rules s v = when (holds (bad_index s) v) fault.IndexType
 
 -- TypeMismatch: the subrange whose bounds have different bases; ConstRange: one with low above high
@@ -118,42 +118,42 @@ abbrev pub subrange_rules : Scene → Option (Typing × Typing) → List CheckFa
 subrange_rules s v = when (holds (other_bounds s) v) fault.TypeMismatch ++ when (holds (no_subrange s) v) fault.ConstRange
 
 -- TooLarge: a TypeNode past a limit
-abbrev pub is_past : Formed → Bool
+abbrev pub is_past : ShapeOrLimit → Bool
 is_past (formed shape) = false
 is_past too_large = true
 
-abbrev pub size_rules : Option Formed → List CheckFault
+abbrev pub size_rules : Option ShapeOrLimit → List CheckFault
 size_rules v = when (holds is_past v) fault.TooLarge
 
 -- ---- shapes
 
 -- the table with one more shape, where it is not past a limit
-abbrev pub add_shape : Scene → PlainShape → Scene × Formed
+abbrev pub add_shape : Scene → PlainShape → Scene × ShapeOrLimit
 add_shape s shape = if_true (is_too_large s.shapes shape)
     (λ _. (s, too_large))
     (λ _. (record s { shapes = s.shapes ++ placed_shape (cell_counts s.shapes) shape ∷ [] }, formed (length s.shapes)))
 
-abbrev pub row_on : ℕ → Scene × Formed → Scene × Formed
+abbrev pub row_on : ℕ → Scene × ShapeOrLimit → Scene × ShapeOrLimit
 row_on i (s, formed e) = add_shape s (row i e)
 row_on i (s, too_large) = (s, too_large)
 
 -- the arrays with these indices, from the inside outwards
-abbrev pub rows_on : Scene → List ℕ → Formed → Scene × Formed
+abbrev pub rows_on : Scene → List ℕ → ShapeOrLimit → Scene × ShapeOrLimit
 rows_on s [] f = (s, f)
 rows_on s (i ∷ is) f = row_on i (rows_on s is f)
 
-abbrev pub rows_of : Scene → List ℕ × Formed → Scene × Formed
+abbrev pub rows_of : Scene → List ℕ × ShapeOrLimit → Scene × ShapeOrLimit
 rows_of s p = rows_on s p.0 p.1
 
-abbrev pub number_in : Formed → ℕ
+abbrev pub number_in : ShapeOrLimit → ℕ
 number_in (formed shape) = shape
 number_in too_large = 0
 
-abbrev pub subrange_from : Scene → ℕ → Option ℤ → Option ℤ → Scene × Formed
+abbrev pub subrange_from : Scene → ℕ → Option ℤ → Option ℤ → Scene × ShapeOrLimit
 subrange_from s b (Some low) (Some high) = add_shape s (sub b (record { low = low; high = high }))
 subrange_from s b low high = (s, too_large)
 
-abbrev pub subrange_of : Scene → Typing × Typing → Scene × Formed
+abbrev pub subrange_of : Scene → Typing × Typing → Scene × ShapeOrLimit
 subrange_of s p = subrange_from s (base s p.0.shape) p.0.constant p.1.constant
 
 -- ---- enumerations
@@ -173,14 +173,14 @@ value_entry (Some shape) i = entry.Constant (shape_id shape) (pos i)
 
 abbrev pub declare_values : Scene → (from : ℕ) → Option ℕ → (i : ℕ) → List tree.Name → Scene
 declare_values s from shape i [] = s
-declare_values s from shape i (x ∷ xs) = declare_values (declared s x from (value_entry shape i)) from shape (i + 1) xs
+declare_values s from shape i (x ∷ xs) = declare_values (declare_name s x from (value_entry shape i)) from shape (i + 1) xs
 
-abbrev pub listed_in : List Broken → (from : ℕ) → List tree.Name → Scene × Formed → Reading Formed
+abbrev pub listed_in : List BrokenRule → (from : ℕ) → List tree.Name → Scene × ShapeOrLimit → Reading ShapeOrLimit
 listed_in faults from names (s, formed shape) =
     record { faults = faults; scene = declare_values s from (Some shape) 0 names; value = Some (formed shape) }
 listed_in faults from names (s, too_large) = record { faults = faults; scene = declare_values s from None 0 names; value = Some too_large }
 
-abbrev pub read_listed : Scene → List tree.Name → (from : ℕ) → Reading Formed
+abbrev pub read_listed : Scene → List tree.Name → (from : ℕ) → Reading ShapeOrLimit
 read_listed s names from = if_true (all_first s names)
     (λ _. listed_in [] from names (add_shape s (listed (length names))))
     (λ _. record { faults = redeclared_all s names; scene = declare_values s from None 0 names; value = None })
@@ -195,7 +195,7 @@ abbrev pub is_field : Scene → tree.Name → List tree.Name → Bool
 is_field s x [] = false
 is_field s x (y ∷ ys) = bytes_eq (text_at s y.token) (text_at s x.token) || is_field s x ys
 
-abbrev pub redeclared_fields : Scene → (earlier : List tree.Name) → List tree.Name → List Broken
+abbrev pub redeclared_fields : Scene → (earlier : List tree.Name) → List tree.Name → List BrokenRule
 redeclared_fields s earlier [] = []
 redeclared_fields s earlier (x ∷ xs) =
     broken_at x.node (when (is_field s x earlier) fault.Redeclared) ++ redeclared_fields s (earlier ++ x ∷ []) xs
@@ -205,14 +205,14 @@ fields_with s [] shape = []
 fields_with s (x ∷ xs) shape = record { name = text_at s x.token; offset = 0; shape = shape } ∷ fields_with s xs shape
 
 -- the fields of a list, Bad where one is declared twice
-abbrev pub fields_of_type : Scene → List tree.Name → List Broken → Reading ℕ → Reading (List PlainField)
+abbrev pub fields_of_type : Scene → List tree.Name → List BrokenRule → Reading ℕ → Reading (List PlainField)
 fields_of_type s names faults t =
-    record { faults = faults ++ t.faults; scene = t.scene; value = unbroken faults (option_map (fields_with s names) t.value) }
+    record { faults = faults ++ t.faults; scene = t.scene; value = if_unbroken faults (option_map (fields_with s names) t.value) }
 
 abbrev pub joined_fields : List PlainField × List PlainField → List PlainField
 joined_fields p = p.0 ++ p.1
 
-abbrev pub record_of : Scene → List PlainField → Scene × Formed
+abbrev pub record_of : Scene → List PlainField → Scene × ShapeOrLimit
 record_of s fs = add_shape s (fields fs)
 
 -- the names of a field list
@@ -223,11 +223,11 @@ field_names (tree.fields n names t) = all_names names
 abbrev pub joined_indices : List ℕ × List ℕ → List ℕ
 joined_indices p = p.0 ++ p.1
 
-abbrev pub cons_index : Formed × List ℕ → List ℕ
+abbrev pub cons_index : ShapeOrLimit × List ℕ → List ℕ
 cons_index p = number_in p.0 ∷ p.1
 
 -- an index type
-abbrev pub index_at : tree.PlainType → Reading Formed → Reading Formed
+abbrev pub index_at : tree.PlainType → Reading ShapeOrLimit → Reading ShapeOrLimit
 index_at p r = reading_at (tree.plain_node p) (index_type_rules r.scene) r
 
 -- ---- the walk
@@ -254,7 +254,7 @@ unfoldable mutual
   read_plains s tree.no_plain = gives s []
   read_plains s (tree.more_plain p rest) = reading_with cons_index (reading_then (index_at p (read_plain s p)) (λ i. read_plains i rest))
 
-  pub read_plain : Scene → tree.PlainType → Reading Formed
+  pub read_plain : Scene → tree.PlainType → Reading ShapeOrLimit
   read_plain s (tree.type_name n name) = reading_with formed (read_type_name s name)
   read_plain s (tree.listed n names) = read_listed s (all_names names) (last_token names.first names.more + 2)
   read_plain s (tree.subrange n low high) =

@@ -6,7 +6,7 @@ use Rattle.alma_code.specs.declared.instr.Instr.{Instr}
 use Rattle.alma_code.specs.declared.instr.Instr.TheVariants as I
 use Rattle.alma_code.specs.Plain.{PlainCode}
 use Rattle.alma_code.specs.Reads.{is_read, code_reads}
-use Rattle.alma_code.specs.Machine.{Mode, Going, Failing, Ended, Stuck, State, Stepped, act, fetch_and_act, step_in, step, after, prints}
+use Rattle.alma_code.specs.Machine.{Mode, Going, Failing, Ended, Stuck, State, StepResult, act, fetch_and_act, step_in, step, after, prints}
 
 -- neither of two where not one of them
 neither : (a b : Bool) → (a || b) ≡ false → (a ≡ false) × (b ≡ false)
@@ -95,11 +95,11 @@ module _ (code : PlainCode) (input other : List ℕ) where
   pub after_alike : (n : ℕ) (s : State) → code_reads code ≡ false → after code input n s ≡ after code other n s
   after_alike zero s q = refl
   after_alike (suc n) s q =
-      ap (λ (x : Stepped). after code input n x.state) (step_alike s.mode s q) ∙ after_alike n (step code other s).state q
+      ap (λ (x : StepResult). after code input n x.state) (step_alike s.mode s q) ∙ after_alike n (step code other s).state q
 
   -- what steps print
   pub prints_alike : (n : ℕ) (s : State) → code_reads code ≡ false → prints code input n s ≡ prints code other n s
   prints_alike zero s q = refl
   prints_alike (suc n) s q =
-      ap (λ (x : Stepped). x.printed ++ prints code input n x.state) (step_alike s.mode s q)
+      ap (λ (x : StepResult). x.printed ++ prints code input n x.state) (step_alike s.mode s q)
       ∙ ap (λ (z : List ℕ). (step code other s).printed ++ z) (prints_alike n (step code other s).state q)

@@ -14,9 +14,9 @@ use Rattle.alma_tree.specs.Numbers.{IsNumbered}
 use Rattle.alma_tree.specs.View.{view_module as plain_module}
 use Rattle.alma_tree.specs.declared.module.Module.{Module as Tree}
 use Rattle.alma_ir.specs.Tree.{Program}
-use Rattle.alma_rules.specs.Judged.{Broken, least}
+use Rattle.alma_rules.specs.Judgement.{BrokenRule, least}
 use Rattle.alma_rules.specs.View.{view_module}
-use Rattle.alma_rules.specs.Modules.{resolved, check_fault, first_token_of}
+use Rattle.alma_rules.specs.Modules.{resolution, check_fault, first_token_of}
 use Rattle.alma_resolved.proofs.One.{one_tree_of_a_spelling}
 use Rattle.alma_tree.specs.Depth.{opens, closes, one_where, depth_from, depth}
 use Rattle.alma_grammar.specs.Laws.{Stops, Begins, IsProgram}
@@ -293,11 +293,11 @@ one_check_fault source fault other at place h i =
           ∙ ap (λ k. offset_of (length source) i.tokens (first_token_of (view_module i.tree) k)) node ∙ sym i.place,
     )
   where
-    node_in : Option Broken → ℕ
+    node_in : Option BrokenRule → ℕ
     node_in None = 0
     node_in (Some b) = b.node
 
-    fault_in : Option Broken → CheckFault
+    fault_in : Option BrokenRule → CheckFault
     fault_in None = fault
     fault_in (Some b) = b.fault
 
@@ -306,8 +306,8 @@ pub one_program : (source : List ℕ) (p q : Program) → IsProgramOf source p �
 one_program source p q h i =
     let same = same_tree source h.tokens i.tokens h.tree i.tree h.parsed i.parsed in
     let both : Some p ≡ Some q =
-    sym h.program ∙ ap (λ (ts : List Lexeme). resolved source ts (view_module h.tree)) same.tokens
-    ∙ ap (resolved source i.tokens) same.trees ∙ i.program in
+    sym h.program ∙ ap (λ (ts : List Lexeme). resolution source ts (view_module h.tree)) same.tokens
+    ∙ ap (resolution source i.tokens) same.trees ∙ i.program in
     ap (λ (o : Option Program). unwrap_or o p) both
 
 -- what the parser refuses has no tree

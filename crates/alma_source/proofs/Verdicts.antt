@@ -15,9 +15,9 @@ use Rattle.alma_scan.specs.Tokens.{Lexeme, Tokens}
 use Rattle.alma_scan.specs.Faults.{FaultAt}
 use Rattle.alma_scan.proofs.Always.{always}
 use Rattle.alma_scan.proofs.Slices.{count_of}
-use Rattle.alma_rules.specs.Judged.{Broken, lesser, least}
+use Rattle.alma_rules.specs.Judgement.{BrokenRule, lesser, least}
 use Rattle.alma_rules.specs.View.{view_module}
-use Rattle.alma_rules.specs.Modules.{broken, first_token_of}
+use Rattle.alma_rules.specs.Modules.{broken_rules, first_token_of}
 use Rattle.alma_resolved.proofs.ModuleSound.{program_resolved}
 use Rattle.alma_resolved.proofs.Standing.{numbered_stands}
 use Rattle.alma_source.specs.declared.fault.SourceFault.TheVariants.{Lex, Syntax, Check}
@@ -38,8 +38,8 @@ one_verdict source (Rejected fault place) (Rejected other at) a b =
 -- ---- each source comes to one
 
 -- where no rule is broken, to its program, and else to the least of the broken rules
-judged : (source : List ℕ) (tokens : List Lexeme) (tree : Module) (faults : List Broken) → IsParsed source tokens tree
-    → broken source tokens (view_module tree) ≡ faults → (verdict : Verdict) × IsVerdict source verdict
+judged : (source : List ℕ) (tokens : List Lexeme) (tree : Module) (faults : List BrokenRule) → IsParsed source tokens tree
+    → broken_rules source tokens (view_module tree) ≡ faults → (verdict : Verdict) × IsVerdict source verdict
 judged source tokens tree [] parsed none =
     let stands = numbered_stands tree (length tokens) parsed.whole.numbered in
     let p = program_resolved source tokens (view_module tree) stands none in (
@@ -71,7 +71,7 @@ read_so source tokens done scanned few h =
       };
       shallow = h.1;
     } in
-    judged source tokens m.value (broken source tokens (view_module m.value)) parsed refl
+    judged source tokens m.value (broken_rules source tokens (view_module m.value)) parsed refl
 read_so source tokens (unexpected rest) scanned few h =
     let offset = offset_of (length source) tokens (length h.0) in (
       Rejected (Syntax Unexpected) (place_of source offset),

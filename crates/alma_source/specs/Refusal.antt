@@ -8,7 +8,7 @@ use Rattle.alma_tree.specs.declared.module.Module.{Module}
 use Rattle.alma_tree.specs.Depth.{depth}
 use Rattle.alma_ir.specs.Tree.{Program}
 use Rattle.alma_rules.specs.View.{view_module}
-use Rattle.alma_rules.specs.Modules.{broken, resolved, check_fault, first_token_of}
+use Rattle.alma_rules.specs.Modules.{broken_rules, resolution, check_fault, first_token_of}
 use Rattle.alma_resolved.specs.Whole.{IsTreeOf}
 use Rattle.alma_scan.specs.Tokens.{Lexeme, Tokens}
 use Rattle.alma_scan.specs.Faults.{FaultAt}
@@ -40,8 +40,8 @@ pub record IsProgramOf (source : List ℕ) (p : Program) : Type 0 where
   pub tokens : List Lexeme
   pub tree : Module
   pub parsed : IsParsed source tokens tree
-  pub unbroken : broken source tokens (view_module tree) ≡ []
-  pub program : resolved source tokens (view_module tree) ≡ Some p
+  pub unbroken : broken_rules source tokens (view_module tree) ≡ []
+  pub program : resolution source tokens (view_module tree) ≡ Some p
 
 -- the source has tokens, and the parser refuses the one at this offset, or their end
 pub record SyntaxFaultAt (source : List ℕ) (fault : SyntaxFault) (offset : ℕ) : Type 0 where

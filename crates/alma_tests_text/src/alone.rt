@@ -14,7 +14,7 @@ use std::test::Fail;
 enum Answer {
     Constant(u32, i64),
     Type(u32),
-    Broken(CheckFault, usize),
+    BrokenRule(CheckFault, usize),
     Nothing,
     Memory,
 }
@@ -40,11 +40,11 @@ const ROWS: [Row; 9] = [
     },
     Row {
         source: b"MODULE A; CONST c = 1 + d; END A.",
-        answer: Answer::Broken(CheckFault::Undeclared, 8),
+        answer: Answer::BrokenRule(CheckFault::Undeclared, 8),
     },
     Row {
         source: b"MODULE A; CONST c = 7 DIV 0; END A.",
-        answer: Answer::Broken(CheckFault::ConstRange, 6),
+        answer: Answer::BrokenRule(CheckFault::ConstRange, 6),
     },
     Row {
         source: b"MODULE A; TYPE T = CHAR; END A.",
@@ -56,17 +56,17 @@ const ROWS: [Row; 9] = [
     },
     Row {
         source: b"MODULE A; TYPE T = RECORD a : INTEGER; b : U END; END A.",
-        answer: Answer::Broken(CheckFault::Undeclared, 13),
+        answer: Answer::BrokenRule(CheckFault::Undeclared, 13),
     },
     Row {
         source: b"MODULE A; TYPE T = [9 .. 1]; END A.",
-        answer: Answer::Broken(CheckFault::ConstRange, 6),
+        answer: Answer::BrokenRule(CheckFault::ConstRange, 6),
     },
 ];
 
 fn broken(error: CheckError) -> Answer {
     match error {
-        CheckError::Fault(fault, _, token) => Answer::Broken(fault, token),
+        CheckError::Fault(fault, _, token) => Answer::BrokenRule(fault, token),
         CheckError::Memory => Answer::Memory,
     }
 }

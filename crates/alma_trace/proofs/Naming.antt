@@ -9,7 +9,7 @@ use Rattle.alma_code.specs.declared.step.End.TheVariants as end
 use Rattle.alma_code.specs.declared.step.Step.{Step}
 use Rattle.alma_code.specs.declared.step.Step.TheVariants as answer
 use Rattle.alma_code.specs.ListText.{text_line}
-use Rattle.alma_code.specs.Machine.{State, Stepped, step, start}
+use Rattle.alma_code.specs.Machine.{State, StepResult, step, start}
 use Rattle.alma_code.specs.Picture.{PlainFrame}
 use Rattle.alma_code.specs.Plain.{PlainCode, PlainGlobal}
 use Rattle.alma_code.specs.TraceText.{same_name, value_of_name, watched_words, step_words, unless_done, trace_lines, cells_text}
@@ -72,7 +72,7 @@ lines_by_name : (code : PlainCode) (input : List ℕ) (watches : List Watch) (n 
     → run_lines code input watches steps_end n s ≡ trace_lines code input (map (λ watch. watch.name.now) watches) n s
 lines_by_name code input watches zero s h = refl
 lines_by_name code input watches (suc n) s h =
-    let x : Stepped = step code input s in
+    let x : StepResult = step code input s in
     ap (λ (z : List (List (List ℕ))). z ++ unless_done x.answer (λ _. run_lines code input watches steps_end n x.state))
     (step_by_name code watches x.answer x.printed x.state h)
     ∙ ap (λ (z : List (List (List ℕ))). step_words code (map (λ watch. watch.name.now) watches) x.answer x.printed x.state

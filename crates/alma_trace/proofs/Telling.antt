@@ -10,7 +10,7 @@ use Rattle.alma_code.specs.declared.step.End.{End}
 use Rattle.alma_code.specs.declared.step.Step.{Step}
 use Rattle.alma_code.specs.declared.step.Step.TheVariants as answer
 use Rattle.alma_code.specs.ListText.{text_line}
-use Rattle.alma_code.specs.Machine.{Mode, Going, Failing, Ended, Stuck, State, Stepped, step, after}
+use Rattle.alma_code.specs.Machine.{Mode, Going, Failing, Ended, Stuck, State, StepResult, step, after}
 use Rattle.alma_code.specs.TraceText.{unless_done}
 use Rattle.alma_machine.proofs.Budget.{Progress, made_is, out_front}
 use Rattle.alma_machine.specs.declared.machine.RunEnd.{RunEnd}
@@ -21,7 +21,7 @@ use Rattle.alma_machine.specs.View.{MachineView, goes_on}
 use Rattle.alma_io.specs.Fronts.{AppendsFront}
 use Rattle.alma_trace.specs.Cuts.{IsCut, OnCut, can_go}
 use Rattle.alma_trace.specs.declared.watch.Watch.{Watch}
-use Rattle.alma_trace.specs.Traced.{traced_words, step_text, steps_end, run_lines, traced, traced_within}
+use Rattle.alma_trace.specs.Traced.{traced_words, step_text, steps_end, run_lines, text_of_run, traced_within}
 
 -- what follows a step that goes on
 goes_behind : (a : Step) (rest : List (List (List ℕ))) → goes_on a ≡ true → unless_done a (λ _. rest) ≡ rest
@@ -74,7 +74,7 @@ lines_then old now new watches m a front p done behind k =
     ap (λ code. step code now.input now.state) p.code ∙ ap (λ input. step old.code input now.state) p.input
     ∙ ap (step old.code old.input) p.state in
     front.lines behind (suc k)
-    ∙ ap (λ (x : Stepped). lines_of old watches [] m ++ (traced_words old.code watches x.answer x.printed x.state
+    ∙ ap (λ (x : StepResult). lines_of old watches [] m ++ (traced_words old.code watches x.answer x.printed x.state
     ++ unless_done x.answer (λ _. run_lines old.code old.input watches behind k x.state))) (sym (done ∙ at))
 
 -- the lines with one step more
@@ -116,7 +116,7 @@ front_more old now new watches m a front p q done goes = record {
 pub text_whole : (old now new : MachineView) (watches : List Watch) (m budget : ℕ) (a : Step) (e : End) → IsFront old watches m
     → Progress old now m
     → stepped a new.printed new.state ≡ step now.code now.input now.state → a ≡ answer.Done e → m < budget
-    → traced old.code old.input watches budget old.state ≡ text_of old watches m ++ step_text old.code watches a new.printed new.state
+    → text_of_run old.code old.input watches budget old.state ≡ text_of old watches m ++ step_text old.code watches a new.printed new.state
 text_whole old now new watches m budget a e front p done is lt =
     let k : ℕ = budget - (m + 1) in
     let sum : budget ≡ m + suc (budget - (m + 1)) = omega arith in
@@ -130,7 +130,7 @@ text_whole old now new watches m budget a e front p done is lt =
 
 -- where all steps were made and none ended the run
 pub text_out : (old : MachineView) (watches : List Watch) (budget : ℕ) → IsFront old watches budget
-    → traced old.code old.input watches budget old.state ≡ text_of old watches budget ++ flat_map text_line steps_end
+    → text_of_run old.code old.input watches budget old.state ≡ text_of old watches budget ++ flat_map text_line steps_end
 text_out old watches budget front =
     let none : budget ≡ budget + 0 = omega arith in
     ap (λ (n : ℕ). flat_map text_line (lines_of old watches steps_end n)) none

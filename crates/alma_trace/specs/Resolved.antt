@@ -8,7 +8,7 @@ use Rattle.alma_code.specs.Rules.{IsSound}
 use Rattle.alma_code.specs.TraceText.{same_name, trace_text}
 use Rattle.alma_trace.specs.declared.watch.Watch.{Watch}
 use Rattle.alma_trace.specs.Places.{AreOfModule}
-use Rattle.alma_trace.specs.Traced.{traced}
+use Rattle.alma_trace.specs.Traced.{text_of_run}
 
 -- the place of the first global with a name, where there is one
 abbrev pub place_of_name : List PlainGlobal → (name : List ℕ) → Option (ℕ × ℕ)
@@ -24,7 +24,7 @@ IsResolved code watch = watch.at ≡ place_of_name code.globals watch.name.now
 abbrev pub TracesAreTheTraceText : PlainCode → (input : List ℕ) → Type 0
 TracesAreTheTraceText code input =
     (watches : List Watch) (steps : ℕ) → All (IsResolved code) watches
-    → traced code input watches steps (start code) ≡ trace_text code input (map (λ watch. watch.name.now) watches) steps
+    → text_of_run code input watches steps (start code) ≡ trace_text code input (map (λ watch. watch.name.now) watches) steps
 
 -- in a sound code such watches are of slots of the frame of the module
 abbrev pub ResolvedAreOfModule : PlainCode → Type 0

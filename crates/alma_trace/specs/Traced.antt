@@ -4,7 +4,7 @@ use Rattle.alma_base.specs.Choice.{if_true}
 use Rattle.alma_code.specs.declared.step.Step.{Step}
 use Rattle.alma_code.specs.declared.step.Step.TheVariants as answer
 use Rattle.alma_code.specs.ListText.{text_line}
-use Rattle.alma_code.specs.Machine.{State, Stepped, step}
+use Rattle.alma_code.specs.Machine.{State, StepResult, step}
 use Rattle.alma_code.specs.Plain.{PlainCode}
 use Rattle.alma_code.specs.TraceText.{step_words, unless_done}
 use Rattle.alma_trace.specs.declared.watch.Watch.{Watch}
@@ -39,12 +39,12 @@ abbrev pub run_lines : PlainCode → (input : List ℕ) → List Watch → (behi
     → List (List (List ℕ))
 run_lines code input watches behind zero s = behind
 run_lines code input watches behind (suc n) s =
-    let x : Stepped = step code input s in
+    let x : StepResult = step code input s in
     traced_words code watches x.answer x.printed x.state ++ unless_done x.answer (λ _. run_lines code input watches behind n x.state)
 
 -- the text of a run of at most so many steps
-abbrev pub traced : PlainCode → (input : List ℕ) → List Watch → (steps : ℕ) → State → List ℕ
-traced code input watches steps s = flat_map text_line (run_lines code input watches steps_end steps s)
+abbrev pub text_of_run : PlainCode → (input : List ℕ) → List Watch → (steps : ℕ) → State → List ℕ
+text_of_run code input watches steps s = flat_map text_line (run_lines code input watches steps_end steps s)
 
 -- the text of so many steps of a run of at most the budget: that the steps ran out is told only with the last of it
 abbrev pub traced_within : PlainCode → (input : List ℕ) → List Watch → (steps budget : ℕ) → State → List ℕ

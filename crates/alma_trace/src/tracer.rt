@@ -9,7 +9,7 @@ ghost use Rattle.alma_io.specs.Causes.{HasCause};
 ghost use Rattle.alma_io.specs.Fronts.{AppendsFront};
 ghost use Rattle.alma_trace.specs.Cuts.{IsCut, OnCut, can_go, cut_of};
 ghost use Rattle.alma_trace.specs.Places.{AreOfModule};
-ghost use Rattle.alma_trace.specs.Traced.{step_text, steps_end, traced, traced_within};
+ghost use Rattle.alma_trace.specs.Traced.{step_text, steps_end, text_of_run, traced_within};
 
 use crate::step::{put_step, put_steps_end};
 use crate::watch::Watch;
@@ -81,7 +81,7 @@ pub fn trace<K: Sink>(
     ensures state { OnWhole result (machine.new.state
         ≡ after machine.old.code machine.old.input budget machine.old.state) }
     ensures out { OnWhole result (Appends (K.side out.old).written (K.side out.new).written
-        (traced machine.old.code machine.old.input watches.now budget machine.old.state)) }
+        (text_of_run machine.old.code machine.old.input watches.now budget machine.old.state)) }
     ensures running { OnWhole result (machine.new.running ≡ is_steps_out result) }
 
     // In each case: what it does in the steps that were made.

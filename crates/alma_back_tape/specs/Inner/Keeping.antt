@@ -5,7 +5,7 @@ use Rattle.alma_code.specs.declared.cell.Cell.{Cell}
 use Rattle.alma_memory_store.specs.declared.carry.SlotPlace.{SlotPlace}
 use Rattle.alma_memory_store.specs.Carries.{cells_before_setting}
 use Rattle.alma_back_tape.specs.declared.change.Entry.{Entry}
-use Rattle.alma_back_tape.specs.Inner.Gained.{Gained}
+use Rattle.alma_back_tape.specs.Inner.PlainGain.{PlainGain}
 use Rattle.alma_back_tape.specs.Inner.Reel.{no_entry}
 
 -- the entry with these places set in its carry
@@ -17,5 +17,5 @@ abbrev pub entries_with_changes : (at : ℕ) → List (Change Cell) → List Ent
 entries_with_changes at changes entries = set entries at (entry_with_changes (get_or entries at no_entry) changes)
 
 -- what one of the entries gains by cells for places
-abbrev pub gained : (at : ℕ) → List (SlotPlace × Cell) → List Entry → Gained
-gained at places entries = record { at = at; places = places; had = cells_before_setting places (get_or entries at no_entry).carry }
+abbrev pub gain_of : (at : ℕ) → List (SlotPlace × Cell) → List Entry → PlainGain
+gain_of at places entries = record { at = at; places = places; had = cells_before_setting places (get_or entries at no_entry).carry }

@@ -6,7 +6,7 @@ use Rattle.alma_code.specs.declared.cell.ChoiceKind.TheVariants.{Branch, Forall,
 use Rattle.alma_code.specs.Picture.{PlainFrame, PlainEntry, frames_with_cell, without_last, cell_at, last_frame}
 use Rattle.alma_memory_store.specs.Carries.{all_put_back}
 use Rattle.alma_memory.specs.Machine.{Scene}
-use Rattle.alma_back_tape.specs.Inner.Gained.{Gained}
+use Rattle.alma_back_tape.specs.Inner.PlainGain.{PlainGain}
 use Rattle.alma_back_tape.specs.declared.change.Note.{Note}
 use Rattle.alma_back_tape.specs.declared.change.Note.TheVariants.{Wrote, Entered, Left}
 use Rattle.alma_back_tape.specs.declared.change.Entry.{Entry}
@@ -61,7 +61,7 @@ pub record Reel : Type 0 where
   pub entries : List Entry
   pub redo : List Note
   pub dropped : List Entry
-  pub kept : List Gained
+  pub kept : List PlainGain
 
 -- what a machine sees of it: the frames, and the entries with their whole copies
 abbrev pub scene_of : Reel → Scene
@@ -84,17 +84,17 @@ no_note = Entered
 abbrev pub no_entry : Entry
 no_entry = record { kind = Branch; resume = 0; mark = 0; carry = [] }
 
-abbrev pub no_gain : Gained
+abbrev pub no_gain : PlainGain
 no_gain = record { at = 0; places = []; had = [] }
 
 -- ---- changes
 
 -- the entry before its carry gained this
-abbrev pub without_gain : Gained → Entry → Entry
+abbrev pub without_gain : PlainGain → Entry → Entry
 without_gain gain entry = record entry { carry = all_put_back gain.places gain.had entry.carry }
 
 -- the entries before one of them gained this
-abbrev pub entries_without : Gained → List Entry → List Entry
+abbrev pub entries_without : PlainGain → List Entry → List Entry
 entries_without gain entries = set entries gain.at (without_gain gain (get_or entries gain.at no_entry))
 
 -- all before a change

@@ -13,7 +13,7 @@ use Rattle.alma_ir.specs.Tree as ir
 use Rattle.alma_ir.specs.View.{arg_of, args_list}
 use Rattle.alma_rules.specs.Numbered as tree
 use Rattle.alma_rules.specs.View as view
-use Rattle.alma_rules.specs.Judged.{Judged, fine, of_value}
+use Rattle.alma_rules.specs.Judgement.{Judgement, fine, of_value}
 use Rattle.alma_rules.specs.Scene.{inside_of}
 use Rattle.alma_rules.specs.Parts as parts
 use Rattle.alma_rules.specs.ExprRules as uses
@@ -257,7 +257,7 @@ designator::check_selectors-loop-selector-preserved g t c =
     c.loop-selector.invariant ∙ (desigs.selectors_next (scene_of c.args.env.now c.args.place)
     (of_value c.loop-selector.slot (denoted_in (headings_in c.args.env.now) c.loop-selector.found)) c.loop-selector.selector-index
     c.args.more.now c.selector-item.result c.loop-selector-test.true c.selector-item.is)
-    ∙ ap (λ (j : Judged parts.Denoted). walk.judge_selectors (scene_of c.args.env.now c.args.place) j
+    ∙ ap (λ (j : Judgement parts.Denotation). walk.judge_selectors (scene_of c.args.env.now c.args.place) j
     (view.selectors_of (drop (c.loop-selector.selector-index + 1) c.args.more.now))) c.in_ok-found.ensures
 
 pub designator::check_selectors-returns-in_err-found : goal.designator::check_selectors-returns-in_err-found
@@ -306,7 +306,7 @@ pub designator::check_indices-loop-index-init : goal.designator::check_indices-l
 designator::check_indices-loop-index-init g t c =
     desigs.indices_at (scene_of c.args.env.now c.args.place)
     (of_value c.args.slot.now (denoted_in (headings_in c.args.env.now) c.args.found)) c.args.indices.now
-    ∙ ap (λ (j : Judged parts.Denoted). walk.judge_index_tail (scene_of c.args.env.now c.args.place) j
+    ∙ ap (λ (j : Judgement parts.Denotation). walk.judge_index_tail (scene_of c.args.env.now c.args.place) j
     (view.exprs_of (dx.out-Exprs c.args.indices.now).more.items)) (rw c.deref.ensures at c.in_ok-part.ensures)
 
 pub designator::check_indices-loop-index-preserved : goal.designator::check_indices-loop-index-preserved
@@ -315,7 +315,7 @@ designator::check_indices-loop-index-preserved g t c =
     (of_value c.loop-index.slot (denoted_in (headings_in c.args.env.now) c.loop-index.part)) c.loop-index.index-index
     (dx.out-Exprs c.args.indices.now).more.items c.index-item.result (rw c.deref-index-items.ensures.value at c.loop-index-test.true)
     (rw c.deref-index-items.ensures.value at c.index-item.is))
-    ∙ ap (λ (j : Judged parts.Denoted). walk.judge_index_tail (scene_of c.args.env.now c.args.place) j
+    ∙ ap (λ (j : Judgement parts.Denotation). walk.judge_index_tail (scene_of c.args.env.now c.args.place) j
     (view.exprs_of (drop (c.loop-index.index-index + 1) (dx.out-Exprs c.args.indices.now).more.items))) c.in_ok-part-2.ensures
 
 pub designator::check_indices-returns-in_err-part-2 : goal.designator::check_indices-returns-in_err-part-2
@@ -340,7 +340,7 @@ designator::check_index-returns g t c =
     let found = of_value c.args.slot.now (denoted_in (headings_in c.args.env.now) c.args.found) in
     answers_as _ _ (denoted_of (headings_in c.args.env.now)) _ _
     (indexed_same c.args.env.now c.args.place found (tree.expr_node (view.view_expr c.args.index.now)) judged
-    ∙ ap (λ k. nodes.indexed (scene_of c.args.env.now somewhere) found k judged) (node_is c.args.index.now))
+    ∙ ap (λ k. nodes.index_at (scene_of c.args.env.now somewhere) found k judged) (node_is c.args.index.now))
     (c.join_index.ensures judged c.args.slot.now _ c.check_expr-typed.ensures)
 
 pub call::check_named-returns-in-None : goal.call::check_named-returns-in-None

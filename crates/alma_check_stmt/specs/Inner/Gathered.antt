@@ -2,35 +2,35 @@
 use Rattle.std.specs.Prelude.{◌≡◌, ℕ, ◌+◌, ◌<◌, ◌≤◌, List, [], ◌∷◌, get_or, Option, None, Some, option_map}
 use Rattle.alma_ir.specs.Tree as ir
 use Rattle.alma_rules.specs.Numbered as tree
-use Rattle.alma_rules.specs.Judged.{Broken, Judged, better, least, both_of}
+use Rattle.alma_rules.specs.Judgement.{BrokenRule, Judgement, better, least, both_of}
 use Rattle.alma_rules.specs.Answers.{first}
 use Rattle.alma_rules.specs.Scene.{Scene, Heading}
 use Rattle.alma_rules.specs.Decls.{Frame, block_routines, decls_routines, decl_routines}
-use Rattle.alma_rules.specs.Modules.{Bodied, joined_routines, judge_body, judge_bodies, judge_decl, routine_at, with_shapes}
+use Rattle.alma_rules.specs.Modules.{RoutineBodies, joined_routines, judge_body, judge_bodies, judge_decl, routine_at, with_shapes}
 use Rattle.alma_rules.specs.Rising.{rise_decls, rise_body}
 
 -- ---- broken rules and routines
 
 -- a value, where no rule is broken
-abbrev pub unless_broken : {A : Type 0} → Option Broken → Option A → Option A
+abbrev pub unless_broken : {A : Type 0} → Option BrokenRule → Option A → Option A
 unless_broken None v = v
 unless_broken (Some b) v = None
 
 -- how far a module is judged: the least broken rule so far; the routines, where no rule is broken and none is Bad; the number of the
 -- next routine; and the scene
 pub record Stage : Type 0 where
-  pub fault : Option Broken
+  pub fault : Option BrokenRule
   pub routines : Option (List ir.Routine)
   pub next : ℕ
   pub scene : Scene
 
 -- a stage, whose routines are told only where no rule is broken
-abbrev pub stage : Option Broken → Option (List ir.Routine) → (next : ℕ) → Scene → Stage
+abbrev pub stage : Option BrokenRule → Option (List ir.Routine) → (next : ℕ) → Scene → Stage
 stage fault routines next s = record { fault = fault; routines = unless_broken fault routines; next = next; scene = s }
 
 -- one more part of the module, with so many routines
-abbrev pub gathered : Stage → (count : ℕ) → Bodied → Stage
-gathered t count j =
+abbrev pub gather : Stage → (count : ℕ) → RoutineBodies → Stage
+gather t count j =
     record {
       fault = better t.fault (least j.faults);
       routines = unless_broken (better t.fault (least j.faults)) (option_map joined_routines (both_of t.routines j.value));
@@ -40,21 +40,21 @@ gathered t count j =
 
 -- the procedures of a block, and one declaration
 abbrev pub through_decls : Stage → tree.DeclTail → Stage
-through_decls t decls = gathered t (decls_routines decls) (judge_bodies t.scene t.next decls)
+through_decls t decls = gather t (decls_routines decls) (judge_bodies t.scene t.next decls)
 
 abbrev pub through_decl : Stage → tree.Decl → Stage
-through_decl t decl = gathered t (decl_routines decl) (judge_decl t.scene t.next decl)
+through_decl t decl = gather t (decl_routines decl) (judge_decl t.scene t.next decl)
 
 -- a block whose declarations are read, with no rule broken in them
 abbrev pub through_block : Stage → Frame → tree.Name → (outer end : ℕ) → tree.DeclTail → Option tree.Stmts → Stage
 through_block t f name outer end decls body =
-    gathered t (decls_routines decls) (routine_at f name outer end (judge_bodies t.scene t.next decls) body (judge_body f body))
+    gather t (decls_routines decls) (routine_at f name outer end (judge_bodies t.scene t.next decls) body (judge_body f body))
 
 -- a rule that is broken behind, and the least of some
-abbrev pub with_fault : Stage → Option Broken → Stage
+abbrev pub with_fault : Stage → Option BrokenRule → Stage
 with_fault t fault = record t { fault = better t.fault fault; routines = unless_broken (better t.fault fault) t.routines }
 
-abbrev pub with_least : Stage → List Broken → Stage
+abbrev pub with_least : Stage → List BrokenRule → Stage
 with_least t faults = with_fault t (least faults)
 
 -- a block whose declarations are not read yet, in a frame with its parameters
@@ -68,8 +68,8 @@ abbrev pub through_read : Stage → Frame → tree.Name → (outer end : ℕ) �
 through_read t g name outer end decls body = through_block (read_stage t g) (quiet g) name outer end decls body
 
 -- the next routine is begun
-abbrev pub counted : Stage → Stage
-counted t = record t { next = t.next + 1 }
+abbrev pub next_routine : Stage → Stage
+next_routine t = record t { next = t.next + 1 }
 
 -- ---- what holds of the numbers of a tree and of headings
 
@@ -125,7 +125,7 @@ abbrev pub joined_lists : Option (List ir.Routine) → Option (List ir.Routine) 
 joined_lists a b = option_map joined_routines (both_of a b)
 
 -- a routine is added to others, where no rule is broken in its body, and that is not Bad
-pub record Adds (j : Judged ir.Stmts) (routine : ℕ → ir.Stmts → ir.Routine) (fault : Option Broken)
+pub record Adds (j : Judgement ir.Stmts) (routine : ℕ → ir.Stmts → ir.Routine) (fault : Option BrokenRule)
     (before after : Option (List ir.Routine)) : Type 0 where
   pub broken : fault ≡ first j.faults
   pub added : unless_broken fault after ≡ unless_broken fault (joined_lists before (option_map (λ b. routine j.next b ∷ []) j.value))

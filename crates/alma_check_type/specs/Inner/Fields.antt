@@ -7,9 +7,9 @@ use Rattle.alma_base.specs.declared.fault.CheckFault.TheVariants as fault
 use Rattle.alma_names.specs.Shapes.{PlainField}
 use Rattle.alma_scan.specs.Tokens.{Lexeme}
 use Rattle.alma_rules.specs.Numbered as tree
-use Rattle.alma_rules.specs.Judged.{Broken}
+use Rattle.alma_rules.specs.Judgement.{BrokenRule}
 use Rattle.alma_rules.specs.Scene.{Scene, text_of}
-use Rattle.alma_rules.specs.Types.{Formed, record_of}
+use Rattle.alma_rules.specs.Types.{ShapeOrLimit, record_of}
 use Rattle.alma_check_type.specs.declared.field.Fields.{Fields}
 use Rattle.alma_check_type.specs.Told.{Told, fault_of, earlier, onward, told_change}
 use Rattle.alma_check_type.specs.Inner.Tables.{fields_view}
@@ -29,7 +29,7 @@ Knows tokens es earlier = (text : List ℕ) → is_some (lookup (λ k. bytes_eq 
 
 -- what is told of fields
 pub record ToldFields : Type 0 where
-  pub fault : Option Broken
+  pub fault : Option BrokenRule
   pub value : Option (List PlainField)
 
 abbrev pub unless_bad : Bool → List PlainField → Option (List PlainField)
@@ -46,7 +46,7 @@ nothing_told = record { fault = None; value = Some [] }
 abbrev pub field_at : List Lexeme → ℕ → tree.Name → PlainField
 field_at tokens shape x = record { name = text_in tokens x.token; offset = 0; shape = shape }
 
-abbrev pub redeclared_field : tree.Name → Broken
+abbrev pub redeclared_field : tree.Name → BrokenRule
 redeclared_field x = record { node = x.node; fault = fault.Redeclared }
 
 abbrev pub field_as : Bool → List Lexeme → ℕ → tree.Name → ToldFields → ToldFields
@@ -70,17 +70,17 @@ shape_or_zero None = 0
 shape_or_zero (Some shape) = shape
 
 -- some fields behind those of others
-abbrev pub shaped : List Lexeme → (before : List tree.Name) → Option ℕ → List tree.Name → ToldFields → ToldFields
-shaped tokens before shape xs t = with_fields tokens before (shape_or_zero shape) xs (begun shape t)
+abbrev pub shape_fields : List Lexeme → (before : List tree.Name) → Option ℕ → List tree.Name → ToldFields → ToldFields
+shape_fields tokens before shape xs t = with_fields tokens before (shape_or_zero shape) xs (begun shape t)
 
-abbrev pub joined : ToldFields → Told ℕ → ToldFields
-joined t shape = record { fault = earlier t.fault shape.fault; value = t.value }
+abbrev pub join_fields : ToldFields → Told ℕ → ToldFields
+join_fields t shape = record { fault = earlier t.fault shape.fault; value = t.value }
 
 -- the same, as what is told with a scene
 abbrev pub told_list : ToldFields → Scene → Told (List PlainField)
 told_list t s = record { fault = t.fault; scene = s; value = t.value }
 
-abbrev pub told_record : Told (List PlainField) → Told Formed
+abbrev pub told_record : Told (List PlainField) → Told ShapeOrLimit
 told_record t = told_change record_of t
 
 -- what is told of a list, behind a part of it that is read
@@ -88,5 +88,5 @@ abbrev pub told_on : ToldFields → Told (List PlainField) → Told (List PlainF
 told_on t u = onward t.fault t.value u
 
 -- with a rule that is broken behind them
-abbrev pub behind : ToldFields → Option Broken → ToldFields
+abbrev pub behind : ToldFields → Option BrokenRule → ToldFields
 behind t fault = record { fault = earlier t.fault fault; value = t.value }

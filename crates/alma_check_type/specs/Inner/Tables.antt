@@ -3,7 +3,7 @@ use Rattle.std.specs.Global.{Global}
 use Rattle.std.specs.Prelude.{ℕ, Bool, true, false, List, [], ◌∷◌, map, slice_get, Option, None, Some, Vec}
 use Rattle.alma_names.specs.Shapes.{PlainShape, PlainField, is_index}
 use Rattle.alma_rules.specs.Numbered as tree
-use Rattle.alma_rules.specs.Types.{Formed, formed, too_large}
+use Rattle.alma_rules.specs.Types.{ShapeOrLimit, formed, too_large}
 
 -- a truth that a test shows
 abbrev pub Shows : Bool → Type 0 → Type 0
@@ -28,7 +28,7 @@ fields_view es = map field_view es
 -- ---- enumerations
 
 -- the shape, where it is not past a limit
-abbrev pub shape_of_formed : Formed → Option ℕ
+abbrev pub shape_of_formed : ShapeOrLimit → Option ℕ
 shape_of_formed (formed shape) = Some shape
 shape_of_formed too_large = None
 

@@ -10,7 +10,7 @@ use Rattle.alma_ir.specs.Count.{test_nodes, expr_nodes, args_nodes, arg_nodes, s
 use Rattle.alma_ir.proofs.Views
 use Rattle.alma_lower_work.specs.Front.{around, front}
 use Rattle.std.specs.Prelude.{IfOk}
-use Rattle.alma_choice.specs.Emitted.{aimed}
+use Rattle.alma_choice.specs.Emitted.{aim_jump}
 use Rattle.alma_lower_templates.specs.Slots.{is_simple}
 use Rattle.alma_lower_work.specs.Puts.{PutsGuard}
 use Rattle.alma_lower_parts.proofs.Beginning.{both_ok}
@@ -855,7 +855,7 @@ condition::emit_guard-returns-in-Value g t c =
     record {
       guard = subst (λ x. IfOk c.jump_of.result
           (λ jump. PutsGuard (around c.args.scene.now) c.args.line (front c.args.work.now) (front c.jump_of.new.work)
-          (λ to xs. aimed xs jump to) x)) (sym view)
+          (λ to xs. aim_jump xs jump to) x)) (sym view)
           (jump_behind c.emit_value-number.result c.jump_of.result c.emit_value-number.ensures.puts c.emit_value-number.ensures.value
           c.jump_of.ensures.done c.jump_of.ensures.address c.jump_of.ensures.codes
           (λ at jump puts is here h. simple_guard (around c.args.scene.now) c.args.line _ _ _ _ _ jump

@@ -10,7 +10,7 @@ use Rattle.alma_code.specs.Plain.{PlainCode, head_at, start_at, end_at}
 use Rattle.alma_code.specs.Rules.{ends_routine}
 use Rattle.alma_lower_slots.specs.declared.stretch.Stretch.{Stretch}
 use Rattle.alma_lower_slots.specs.declared.sources.Sources.{Sources}
-use Rattle.alma_lower_slots.specs.Slots.{slots_from, reads, written, away, lays_over, is_finish, is_forall, body_of}
+use Rattle.alma_lower_slots.specs.Slots.{slots_from, reads, target_slot, away, lays_over, is_finish, is_forall, body_of}
 use Rattle.alma_lower_slots.specs.Sharing.{names_own, begins_own}
 use Rattle.alma_lower_slots.specs.Stretches.{no_end, own_count, stretch_at, is_kept, is_live}
 
@@ -96,7 +96,7 @@ IsCalm i at high = lays_over i ≡ true → (at ≡ high) × (away i ≡ None)
 -- behind no carry there
 pub record FitsSlot (code : PlainCode) (r : ℕ) (kind : Option SlotKind) (n : ℕ) (x : Stretch) : Type 0 where
   pub begins : start_at code r ≤ x.low
-  pub writes : written code (get_or code.instrs x.low I.Fail) ≡ Some n
+  pub writes : target_slot code (get_or code.instrs x.low I.Fail) ≡ Some n
   pub jumps : (at t : ℕ) → start_at code r ≤ at → at < end_at code r
       → away (get_or code.instrs at I.Fail) ≡ Some t → x.low < t → t ≤ x.high → (x.low < at) × (at ≤ x.high)
   pub calm : is_number kind ≡ true → (at : ℕ) → x.low < at → at ≤ x.high → IsCalm (get_or code.instrs at I.Fail) at x.high
@@ -130,7 +130,7 @@ pub record FitsFlow (code : PlainCode) (at : ℕ) (i : Instr) : Type 0 where
 pub record FitsInstr (code : PlainCode) (own : List ℕ) (kinds : List SlotKind) (stretches : List Stretch) (r at : ℕ) (i : Instr) :
     Type 0 where
   pub read : list_all (λ n. matters_at stretches at n) (reads code i) ≡ true
-  pub write : (w : ℕ) → written code i ≡ Some w → WritesIn stretches at w
+  pub write : (w : ℕ) → target_slot code i ≡ Some w → WritesIn stretches at w
   pub flow : FitsFlow code at i
   pub places : names_own (own_count own) kinds r i ≡ true
   pub begins : begins_own (own_count own) r i ≡ true

@@ -11,7 +11,7 @@ use Rattle.alma_code.specs.Plain.{PlainCode, PlainRoutine, no_routine, routine_a
 use Rattle.alma_lower_slots.specs.declared.stretch.Stretch.{Stretch}
 use Rattle.alma_lower_slots.specs.Runs.{HasHeads}
 use Rattle.alma_lower_slots.specs.Sharing.{Sharing, Shares, Renames}
-use Rattle.alma_lower_slots.specs.Slots.{renamed}
+use Rattle.alma_lower_slots.specs.Slots.{rename_slots}
 use Rattle.alma_lower_slots.specs.Stretches.{stretch_at, FitsRoutine}
 use Rattle.alma_lower_templates.specs.Runs.{NamesKinds}
 
@@ -80,7 +80,7 @@ pub record Adds (code : PlainCode) (own : List ℕ) (r : ℕ) (heads : List Plai
   pub new : PlainRoutine
   pub routine : RoutineOver code own stretches r new
   pub more_heads : heads' ≡ heads ++ new ∷ []
-  pub more_instrs : instrs' ≡ instrs ++ map (renamed (slot_in stretches)) (instrs_in code r)
+  pub more_instrs : instrs' ≡ instrs ++ map (rename_slots (slot_in stretches)) (instrs_in code r)
 
 -- the first n routines: what their slots become, their new heads, and their instructions renamed
 pub record SharesSoFar (code : PlainCode) (own : List ℕ) (n : ℕ) (heads : List PlainRoutine) (instrs : List Instr) : Type 0 where
@@ -90,7 +90,7 @@ pub record SharesSoFar (code : PlainCode) (own : List ℕ) (n : ℕ) (heads : Li
   pub size : length instrs ≡ start_at code n
   pub routines : (r : ℕ) → r < n → RoutineOver code own (get_or all r []) r (get_or heads r no_routine)
   pub renames : (r at : ℕ) → r < n → start_at code r ≤ at → at < end_at code r
-      → get_or instrs at I.Fail ≡ renamed (slot_in (get_or all r [])) (get_or code.instrs at I.Fail)
+      → get_or instrs at I.Fail ≡ rename_slots (slot_in (get_or all r [])) (get_or code.instrs at I.Fail)
 
 -- a code with these heads and these instructions
 abbrev pub code_with : PlainCode → List PlainRoutine → List Instr → PlainCode

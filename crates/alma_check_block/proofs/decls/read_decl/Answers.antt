@@ -1,7 +1,7 @@
 use Rattle.std.proofs.Common.{ap, sym, ◌∙◌}
 use Rattle.alma_rules.specs.View as view
-use Rattle.alma_rules.specs.Judged.{broken_at}
-use Rattle.alma_rules.specs.Types.{redeclared}
+use Rattle.alma_rules.specs.Judgement.{broken_at}
+use Rattle.alma_rules.specs.Types.{redeclaration_rules}
 use Rattle.alma_rules.specs.Decls as rules
 use Rattle.alma_check_rules.specs.Views.{heading_view}
 use Rattle.std.specs.Prelude.{option_map}
@@ -24,11 +24,11 @@ returns-in_ok-headed-in-Procedure c f h =
     c.read_heading.new.reader c.leave.new.self c.set_heading.new.self c.args.frame.now c.in_ok-headed-in-Procedure.headed.frame
     c.add_fault-in-Procedure.new.self _ (option_map heading_view c.in_ok-headed-in-Procedure.headed.heading) h
     (c.add_fault-in-Procedure.ensures c.args.reader.now
-    (rules.with_faults f (broken_at c.in-Procedure.name.node (redeclared c.args.reader.now (view.view_name c.in-Procedure.name))))
+    (rules.with_faults f (broken_at c.in-Procedure.name.node (redeclaration_rules c.args.reader.now (view.view_name c.in-Procedure.name))))
     (rules.read_heading c.args.reader.now c.args.number c.in-Procedure.node (view.params_of c.in-Procedure.params)
     (view.result_of c.in-Procedure.result) (view.view_block c.in-Procedure.block)).frame.faults
     (c.add_fault.ensures c.args.reader.now f
-    (broken_at c.in-Procedure.name.node (redeclared c.args.reader.now (view.view_name c.in-Procedure.name))) h
+    (broken_at c.in-Procedure.name.node (redeclaration_rules c.args.reader.now (view.view_name c.in-Procedure.name))) h
     c.redeclared-twice.ensures)
     (heading_fault c.args.reader.now f c.args.number c.in-Procedure.node (view.view_name c.in-Procedure.name)
     (view.params_of c.in-Procedure.params) (view.result_of c.in-Procedure.result) (view.view_block c.in-Procedure.block)

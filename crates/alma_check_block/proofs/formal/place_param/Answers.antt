@@ -1,7 +1,7 @@
 use Rattle.std.proofs.Common.{true, false, ap, sym, ◌∙◌}
-use Rattle.alma_rules.specs.Judged.{broken_at}
+use Rattle.alma_rules.specs.Judgement.{broken_at}
 use Rattle.alma_rules.specs.Scene.{is_first}
-use Rattle.alma_rules.specs.Types.{redeclared}
+use Rattle.alma_rules.specs.Types.{redeclaration_rules}
 use Rattle.alma_rules.specs.View as view
 use Rattle.alma_check_block.specs.Shown.{told_frame}
 use Rattle.alma_check_block.proofs.Texts.{ok_eq}
@@ -16,7 +16,8 @@ returns-then-is_first c f h =
 
 pub returns : goal.returns
 returns c f h =
-    c.add_fault.ensures c.args.reader.now f (broken_at c.args.name.now.node (redeclared f.scene (view.view_name c.args.name.now))) h
+    c.add_fault.ensures c.args.reader.now f (broken_at c.args.name.now.node (redeclaration_rules f.scene (view.view_name c.args.name.now)))
+    h
     (twice_at c.args.reader.now f.scene (view.view_name c.args.name.now) _ (scene_is c.args.reader.now c.args.frame.now f h)
     c.redeclared.ensures)
     ∙ ap (λ g. told_frame g) (sym (param_later f c.args.from c.args.mode c.args.shape (view.view_name c.args.name.now)

@@ -1,5 +1,5 @@
 use Rattle.std.proofs.Common.{ap, ◌∙◌}
-use Rattle.alma_rules.specs.Judged.{broken_at}
+use Rattle.alma_rules.specs.Judgement.{broken_at}
 use Rattle.alma_rules.specs.Decls as rules
 use Rattle.alma_check_block.specs.Shown.{told_frame}
 use Rattle.alma_check_block.proofs.Headings.{depth_kept, depth_frame, depth_heading, fault_in}
@@ -7,8 +7,9 @@ use Rattle.alma_check_block.proofs.heading.at_depth.Goals as goal
 
 pub returns-in-None : goal.returns-in-None
 returns-in-None c = record {
-  frame = λ s h faults node g e. g ∙ ap (λ (k : rules.Headed). told_frame k.frame) (depth_kept faults node h c.args.deep c.in-None.is e);
-  heading = λ h faults node g e. g ∙ ap (λ (k : rules.Headed). k.heading) (depth_kept faults node h c.args.deep c.in-None.is e);
+  frame = λ s h faults node g e. g ∙ ap (λ (k : rules.FramedHeading). told_frame k.frame)
+      (depth_kept faults node h c.args.deep c.in-None.is e);
+  heading = λ h faults node g e. g ∙ ap (λ (k : rules.FramedHeading). k.heading) (depth_kept faults node h c.args.deep c.in-None.is e);
 }
 
 pub returns-in-Some : goal.returns-in-Some

@@ -1,14 +1,14 @@
 use Rattle.std.proofs.Common.{◌≡◌, ℕ, List, ◌++◌, ap, sym, ◌∙◌}
 use Rattle.std.specs.Prelude.{option_and_then, option_map}
 use Rattle.alma_rules.specs.View as view
-use Rattle.alma_rules.specs.Judged.{Broken, broken_at}
+use Rattle.alma_rules.specs.Judgement.{BrokenRule, broken_at}
 use Rattle.alma_rules.specs.Scene.{a_value}
 use Rattle.alma_rules.specs.Types as types
 use Rattle.alma_rules.specs.Decls as rules
 use Rattle.alma_check_rules.specs.Views.{scene_of, somewhere, heading_view}
 use Rattle.alma_check_type.specs.declared.reading.Reading.{Reading as CodeReading}
 use Rattle.alma_check_type.specs.Told.{told, tells}
-use Rattle.alma_check_block.specs.Shown.{told_frame, shown}
+use Rattle.alma_check_block.specs.Shown.{told_frame, frame_with_scene}
 use Rattle.alma_check_block.proofs.Frames.{scene_is, read_in, read_fault, read_value}
 use Rattle.alma_check_block.proofs.Headings.{result_at, function_frame, faults_joined, ok_known, ok_to}
 use Rattle.alma_check_block.proofs.heading.read_function.Goals as goal
@@ -20,8 +20,8 @@ returns-in-None-clause-frame c f h =
     let k : told r ≡ tells v f.scene =
     read_in (λ i. told (types.read_type_name i (view.view_name c.args.name.now))) v (scene_of c.env.result.now somewhere) f.scene
     (c.env.ensures ∙ scene_is c.args.reader.now c.args.frame.now f h) c.in_ok-reading.ensures in
-    let bs : List Broken = broken_at c.args.name.now.node (rules.result_rules f.scene r.value) in
-    let g : shown c.args.reader.now c.add_fault-2.new.self ≡ told_frame (rules.with_faults (rules.with_faults f r.faults) bs) =
+    let bs : List BrokenRule = broken_at c.args.name.now.node (rules.result_rules f.scene r.value) in
+    let g : frame_with_scene c.args.reader.now c.add_fault-2.new.self ≡ told_frame (rules.with_faults (rules.with_faults f r.faults) bs) =
     c.add_fault-2.ensures c.args.reader.now (rules.with_faults f r.faults) bs
     (c.add_fault.ensures c.args.reader.now f r.faults h (read_fault r v f.scene k))
     (result_at c.args.reader.now f.scene c.args.name.now.node v.value r.value _ (scene_is c.args.reader.now c.args.frame.now f h)
@@ -36,8 +36,8 @@ returns-in-None-clause-heading c f h =
     let k : told r ≡ tells v f.scene =
     read_in (λ i. told (types.read_type_name i (view.view_name c.args.name.now))) v (scene_of c.env.result.now somewhere) f.scene
     (c.env.ensures ∙ scene_is c.args.reader.now c.args.frame.now f h) c.in_ok-reading.ensures in
-    let bs : List Broken = broken_at c.args.name.now.node (rules.result_rules f.scene r.value) in
-    let g : shown c.args.reader.now c.add_fault-2.new.self ≡ told_frame (rules.with_faults (rules.with_faults f r.faults) bs) =
+    let bs : List BrokenRule = broken_at c.args.name.now.node (rules.result_rules f.scene r.value) in
+    let g : frame_with_scene c.args.reader.now c.add_fault-2.new.self ≡ told_frame (rules.with_faults (rules.with_faults f r.faults) bs) =
     c.add_fault-2.ensures c.args.reader.now (rules.with_faults f r.faults) bs
     (c.add_fault.ensures c.args.reader.now f r.faults h (read_fault r v f.scene k))
     (result_at c.args.reader.now f.scene c.args.name.now.node v.value r.value _ (scene_is c.args.reader.now c.args.frame.now f h)
@@ -52,8 +52,8 @@ returns-in-Some-clause-frame c f h =
     let k : told r ≡ tells v f.scene =
     read_in (λ i. told (types.read_type_name i (view.view_name c.args.name.now))) v (scene_of c.env.result.now somewhere) f.scene
     (c.env.ensures ∙ scene_is c.args.reader.now c.args.frame.now f h) c.in_ok-reading.ensures in
-    let bs : List Broken = broken_at c.args.name.now.node (rules.result_rules f.scene r.value) in
-    let g : shown c.args.reader.now c.add_fault-2.new.self ≡ told_frame (rules.with_faults (rules.with_faults f r.faults) bs) =
+    let bs : List BrokenRule = broken_at c.args.name.now.node (rules.result_rules f.scene r.value) in
+    let g : frame_with_scene c.args.reader.now c.add_fault-2.new.self ≡ told_frame (rules.with_faults (rules.with_faults f r.faults) bs) =
     c.add_fault-2.ensures c.args.reader.now (rules.with_faults f r.faults) bs
     (c.add_fault.ensures c.args.reader.now f r.faults h (read_fault r v f.scene k))
     (result_at c.args.reader.now f.scene c.args.name.now.node v.value r.value _ (scene_is c.args.reader.now c.args.frame.now f h)
@@ -68,8 +68,8 @@ returns-in-Some-clause-heading c f h =
     let k : told r ≡ tells v f.scene =
     read_in (λ i. told (types.read_type_name i (view.view_name c.args.name.now))) v (scene_of c.env.result.now somewhere) f.scene
     (c.env.ensures ∙ scene_is c.args.reader.now c.args.frame.now f h) c.in_ok-reading.ensures in
-    let bs : List Broken = broken_at c.args.name.now.node (rules.result_rules f.scene r.value) in
-    let g : shown c.args.reader.now c.add_fault-2.new.self ≡ told_frame (rules.with_faults (rules.with_faults f r.faults) bs) =
+    let bs : List BrokenRule = broken_at c.args.name.now.node (rules.result_rules f.scene r.value) in
+    let g : frame_with_scene c.args.reader.now c.add_fault-2.new.self ≡ told_frame (rules.with_faults (rules.with_faults f r.faults) bs) =
     c.add_fault-2.ensures c.args.reader.now (rules.with_faults f r.faults) bs
     (c.add_fault.ensures c.args.reader.now f r.faults h (read_fault r v f.scene k))
     (result_at c.args.reader.now f.scene c.args.name.now.node v.value r.value _ (scene_is c.args.reader.now c.args.frame.now f h)

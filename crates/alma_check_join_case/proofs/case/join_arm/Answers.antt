@@ -1,5 +1,5 @@
 use Rattle.std.proofs.Common.{sym, ap, ◌∙◌}
-use Rattle.alma_rules.specs.Judged.{of_value, both}
+use Rattle.alma_rules.specs.Judgement.{of_value, both}
 use Rattle.alma_rules.specs.Nodes as nodes
 use Rattle.alma_check_rules.specs.Views.{spans_in}
 use Rattle.alma_check_build_expr.specs.Lists.{cases_of}

@@ -1,6 +1,6 @@
 use Rattle.std.proofs.Common.{sym, ap, ◌∙◌}
 use Rattle.alma_ir.specs.Tree as ir
-use Rattle.alma_rules.specs.Judged.{of_value, both, at_node, with}
+use Rattle.alma_rules.specs.Judgement.{of_value, both, at_node, with}
 use Rattle.alma_rules.specs.Parts as parts
 use Rattle.alma_rules.specs.StmtRules as stmt_rules
 use Rattle.alma_check_rules.specs.Views.{scene_of, somewhere, typing_in, stmts_of}

@@ -1,7 +1,7 @@
 use Rattle.std.proofs.Common.{sym, ap, ◌∙◌}
 use Rattle.alma_ir.specs.Tree as ir
 use Rattle.alma_ir.specs.View.{else_option}
-use Rattle.alma_rules.specs.Judged.{of_value}
+use Rattle.alma_rules.specs.Judgement.{of_value}
 use Rattle.alma_rules.proofs.Judging.{passed, with_fine}
 use Rattle.alma_check_join_case.proofs.case.join_else.Goals as goal
 

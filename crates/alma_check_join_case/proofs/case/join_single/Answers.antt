@@ -1,5 +1,5 @@
 use Rattle.std.proofs.Common.{refl, sym, ap, ◌∙◌}
-use Rattle.alma_rules.specs.Judged.{of_value, both, at_node}
+use Rattle.alma_rules.specs.Judgement.{of_value, both, at_node}
 use Rattle.alma_rules.specs.Parts as parts
 use Rattle.alma_rules.specs.StmtRules as stmt_rules
 use Rattle.alma_check_rules.specs.Views.{scene_of, somewhere, typing_in, span_view, spans_view}

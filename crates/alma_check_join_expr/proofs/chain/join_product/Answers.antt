@@ -1,5 +1,5 @@
 use Rattle.std.proofs.Common.{sym, ◌∙◌}
-use Rattle.alma_rules.specs.Judged.{of_value, both}
+use Rattle.alma_rules.specs.Judgement.{of_value, both}
 use Rattle.alma_rules.specs.View.{factors_of}
 use Rattle.alma_check_rules.specs.Views.{scene_of, typing_in, typing_of, operand_view, operands_in}
 use Rattle.alma_rules.proofs.Judging.{passed, answers_as}

@@ -1,5 +1,5 @@
 use Rattle.std.proofs.Common.{sym, ap, ◌∙◌}
-use Rattle.alma_rules.specs.Judged.{of_value, both}
+use Rattle.alma_rules.specs.Judgement.{of_value, both}
 use Rattle.alma_rules.specs.View.{terms_of}
 use Rattle.alma_rules.specs.Parts as parts
 use Rattle.alma_check_rules.specs.Views.{scene_of, typing_in, typing_of, operands_in}

@@ -1,4 +1,4 @@
-use Rattle.alma_rules.specs.Judged.{fine, at_node}
+use Rattle.alma_rules.specs.Judgement.{fine, at_node}
 use Rattle.alma_rules.specs.Scene.{literal_at}
 use Rattle.alma_rules.specs.ExprRules as rules
 use Rattle.alma_rules.specs.Nodes as nodes

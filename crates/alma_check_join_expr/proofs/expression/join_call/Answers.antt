@@ -1,5 +1,5 @@
 use Rattle.std.proofs.Common.{sym, ap, ◌∙◌}
-use Rattle.alma_rules.specs.Judged.{of_value, both, at_node}
+use Rattle.alma_rules.specs.Judgement.{of_value, both, at_node}
 use Rattle.alma_rules.specs.Parts as parts
 use Rattle.alma_rules.specs.ExprRules as rules
 use Rattle.alma_check_rules.specs.Views.{scene_of, headings_in, typing_of, callee_in}
@@ -16,7 +16,7 @@ returns-in_err-pass_call c = λ j n m a. passed _ typing_of m _ _ c.from_residua
     (both_fine n m (callee_in (headings_in c.args.env.now) c.args.callee) j _ (rw c.in_ok-args.was at a)) c.in_err-pass_call.ensures)
 
 pub returns : goal.returns
-returns c = λ j n m a. with_fine parts.called
+returns c = λ j n m a. with_fine parts.typing_of_call
     (at_node c.args.node (rules.call_rules (scene_of c.args.env.now c.args.place) (callee_in (headings_in c.args.env.now) c.args.callee)
     c.args.count) (both (of_value n (callee_in (headings_in c.args.env.now) c.args.callee)) j)) m _
     (node_fine c.args.node (rules.call_rules (scene_of c.args.env.now c.args.place) (callee_in (headings_in c.args.env.now) c.args.callee)

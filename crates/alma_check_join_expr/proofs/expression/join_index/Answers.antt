@@ -1,5 +1,5 @@
 use Rattle.std.proofs.Common.{sym, ap, ◌∙◌}
-use Rattle.alma_rules.specs.Judged.{of_value}
+use Rattle.alma_rules.specs.Judgement.{of_value}
 use Rattle.alma_rules.specs.ExprRules as rules
 use Rattle.alma_check_rules.specs.Views.{scene_of, somewhere, headings_in, denoted_in, denoted_of}
 use Rattle.alma_rules.proofs.Judging.{stops_more, passed, no_memory, node_stops, node_fine}

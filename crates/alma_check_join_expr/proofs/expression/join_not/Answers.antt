@@ -1,5 +1,5 @@
 use Rattle.std.proofs.Common.{sym, ap, ◌∙◌}
-use Rattle.alma_rules.specs.Judged.{of_value, at_node, with}
+use Rattle.alma_rules.specs.Judgement.{of_value, at_node, with}
 use Rattle.alma_rules.specs.ExprRules as rules
 use Rattle.alma_rules.specs.Nodes as nodes
 use Rattle.alma_check_rules.specs.Views.{scene_of, somewhere, operand_view, typing_of}

@@ -1,5 +1,5 @@
 use Rattle.std.proofs.Common.{sym, ap, ◌∙◌}
-use Rattle.alma_rules.specs.Judged.{of_value, both, at_node}
+use Rattle.alma_rules.specs.Judgement.{of_value, both, at_node}
 use Rattle.alma_rules.specs.Parts as parts
 use Rattle.alma_rules.specs.ExprRules as rules
 use Rattle.alma_check_rules.specs.Views.{scene_of, typing_in, typing_of}
@@ -20,7 +20,7 @@ pub returns-in_err-whole : goal.returns-in_err-whole
 returns-in_err-whole c = λ j n m a. no_memory _ typing_of m _ c.from_residual-in_err-whole.ensures.1
 
 pub returns : goal.returns
-returns c = λ j n m a. with_fine (parts.related (scene_of c.args.env.now c.args.place) c.args.relation)
+returns c = λ j n m a. with_fine (parts.relation_typing (scene_of c.args.env.now c.args.place) c.args.relation)
     (at_node c.args.node (rules.relation_rules (scene_of c.args.env.now c.args.place) c.args.relation)
     (both (of_value n (typing_in c.args.left)) j)) m _
     (node_fine c.args.node (rules.relation_rules (scene_of c.args.env.now c.args.place) c.args.relation)

@@ -1,6 +1,6 @@
 use Rattle.std.proofs.Common.{sym, ap, ◌∙◌}
 use Rattle.alma_ir.specs.Tree as ir
-use Rattle.alma_rules.specs.Judged.{of_value}
+use Rattle.alma_rules.specs.Judgement.{of_value}
 use Rattle.alma_check_build_expr.specs.Lists.{branches_in}
 use Rattle.alma_rules.proofs.Onwards.{onward_stops, passed_on, no_memory_on}
 use Rattle.alma_rules.specs.Appends.{append_branches}

@@ -1,6 +1,6 @@
 use Rattle.std.proofs.Common.{sym, ap, ◌∙◌, ◌++◌, List}
 use Rattle.std.specs.Prelude.{option_to_list}
-use Rattle.alma_rules.specs.Judged.{Judged}
+use Rattle.alma_rules.specs.Judgement.{Judgement}
 use Rattle.alma_rules.specs.Parts as parts
 use Rattle.alma_rules.specs.Nodes as nodes
 use Rattle.alma_check_rules.specs.Views.{spans_view, spans_in}
@@ -25,7 +25,7 @@ returns-clause-judged c = λ j m rest a. steps.span_added c.in_ok-whole.whole c.
 
 pub returns-clause-earlier : goal.returns-clause-earlier
 returns-clause-earlier c = λ j m a. c.in_ok-note.ensures
-    ∙ ap (λ (i : Judged parts.Span). spans_view c.args.earlier.now ++ option_to_list i.value) (sym (rw c.in_ok-span.was at a))
+    ∙ ap (λ (i : Judgement parts.Span). spans_view c.args.earlier.now ++ option_to_list i.value) (sym (rw c.in_ok-span.was at a))
 
 pub returns-clause-grown : goal.returns-clause-grown
 returns-clause-grown c = λ old g. label_grown c.in_ok-whole.whole c.args.kept c.in_ok-span.span old _ _ c.in_ok-whole.ensures

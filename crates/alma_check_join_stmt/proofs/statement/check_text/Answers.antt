@@ -1,6 +1,6 @@
 use Rattle.std.proofs.Common.{refl, sym, ap, ◌∙◌}
 use Rattle.alma_ir.specs.Tree as ir
-use Rattle.alma_rules.specs.Judged.{fine, of_value}
+use Rattle.alma_rules.specs.Judgement.{fine, of_value}
 use Rattle.alma_rules.specs.Parts as parts
 use Rattle.alma_rules.specs.Nodes as nodes
 use Rattle.alma_check_rules.specs.Views.{scene_of, stmts_of}

@@ -1,5 +1,5 @@
 use Rattle.std.proofs.Common.{sym, ap, ◌∙◌}
-use Rattle.alma_rules.specs.Judged.{of_value, both, at_node}
+use Rattle.alma_rules.specs.Judgement.{of_value, both, at_node}
 use Rattle.alma_rules.specs.Parts as parts
 use Rattle.alma_rules.specs.StmtRules as stmt_rules
 use Rattle.alma_check_rules.specs.Views.{scene_of, somewhere, located_in, stmts_of}
@@ -18,7 +18,7 @@ pub returns-in_err-whole : goal.returns-in_err-whole
 returns-in_err-whole c = λ j n m a. no_memory _ stmts_of m _ c.from_residual-in_err-whole.ensures.1
 
 pub returns : goal.returns
-returns c = λ j n m a. with_fine (parts.assigned (scene_of c.args.env.now somewhere))
+returns c = λ j n m a. with_fine (parts.assignment_stmts (scene_of c.args.env.now somewhere))
     (at_node c.args.node (stmt_rules.assign_rules (scene_of c.args.env.now somewhere)) (both (of_value n (located_in c.args.located)) j)) m
     _ (node_fine c.args.node (stmt_rules.assign_rules (scene_of c.args.env.now somewhere)) (both (of_value n (located_in c.args.located)) j)
     m _ (both_fine n m (located_in c.args.located) j _ (rw c.in_ok-typed.was at a)) c.in_ok-pass_assign.ensures)

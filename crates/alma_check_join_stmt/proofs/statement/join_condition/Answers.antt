@@ -1,6 +1,6 @@
 use Rattle.std.proofs.Common.{sym, ap, ◌∙◌}
 use Rattle.alma_ir.specs.View.{test_of}
-use Rattle.alma_rules.specs.Judged.{of_value, at_node}
+use Rattle.alma_rules.specs.Judgement.{of_value, at_node}
 use Rattle.alma_rules.specs.Parts as parts
 use Rattle.alma_rules.specs.ExprRules as rules
 use Rattle.alma_check_rules.specs.Views.{scene_of, somewhere}

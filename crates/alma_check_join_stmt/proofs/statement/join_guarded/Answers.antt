@@ -1,5 +1,5 @@
 use Rattle.std.proofs.Common.{sym, ap, ◌∙◌}
-use Rattle.alma_rules.specs.Judged.{of_value}
+use Rattle.alma_rules.specs.Judgement.{of_value}
 use Rattle.alma_check_build_expr.specs.Lists.{test_in, guarded_of}
 use Rattle.alma_rules.proofs.Judging.{passed, both_fine}
 use Rattle.alma_check_join_stmt.proofs.statement.join_guarded.Goals as goal

@@ -1,5 +1,5 @@
 use Rattle.std.proofs.Common.{sym, ap, ◌∙◌}
-use Rattle.alma_rules.specs.Judged.{of_value}
+use Rattle.alma_rules.specs.Judgement.{of_value}
 use Rattle.alma_rules.specs.Parts as parts
 use Rattle.alma_check_rules.specs.Views.{located_in, located_of}
 use Rattle.alma_rules.proofs.Judging.{passed, with_some_fine}

@@ -1,5 +1,5 @@
 use Rattle.std.proofs.Common.{sym, ap, ◌∙◌}
-use Rattle.alma_rules.specs.Judged.{of_value, at_node}
+use Rattle.alma_rules.specs.Judgement.{of_value, at_node}
 use Rattle.alma_rules.specs.Parts as parts
 use Rattle.alma_rules.specs.StmtRules as stmt_rules
 use Rattle.alma_check_rules.specs.Views.{scene_of, somewhere, stmts_of}

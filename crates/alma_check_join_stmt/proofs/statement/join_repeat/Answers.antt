@@ -1,6 +1,6 @@
 use Rattle.std.proofs.Common.{sym, ap, ◌∙◌}
 use Rattle.alma_ir.specs.Tree as ir
-use Rattle.alma_rules.specs.Judged.{of_value, both, with}
+use Rattle.alma_rules.specs.Judgement.{of_value, both, with}
 use Rattle.alma_rules.specs.Parts as parts
 use Rattle.alma_check_rules.specs.Views.{stmts_in, stmts_of}
 use Rattle.alma_rules.proofs.Judging.{passed, no_memory, both_fine, with_fine}

@@ -1,5 +1,5 @@
 use Rattle.std.proofs.Common.{refl, ap, ◌∙◌}
-use Rattle.alma_rules.specs.Judged.{of_value}
+use Rattle.alma_rules.specs.Judgement.{of_value}
 use Rattle.alma_check_join_stmt.proofs.Passed.{turned_passed, same_value}
 use Rattle.alma_check_join_stmt.proofs.turns.join_by.Goals as goal
 

@@ -1,7 +1,7 @@
 use Rattle.std.proofs.Common.{Option, sym, ap, ◌∙◌}
 use Rattle.std.specs.Prelude.{option_and_then}
 use Rattle.alma_ir.specs.Tree as ir
-use Rattle.alma_rules.specs.Judged.{of_value, both, at_node, with}
+use Rattle.alma_rules.specs.Judgement.{of_value, both, at_node, with}
 use Rattle.alma_rules.specs.Parts as parts
 use Rattle.alma_rules.specs.StmtRules as stmt_rules
 use Rattle.alma_rules.specs.Nodes as nodes
@@ -15,7 +15,7 @@ returns-in_err-body c = λ j n a0 b0 c0 m a. passed _ stmts_of m _ _ c.from_resi
 
 pub returns-in_err-pass_loop : goal.returns-in_err-pass_loop
 returns-in_err-pass_loop c = λ j n a0 b0 c0 m a. answers_as _ _ stmts_of m _
-    (ap (λ (v : Option parts.Located). (nodes.one
+    (ap (λ (v : Option parts.Location). (nodes.one
     (with ir.ForTo (nodes.loop_at (scene_of c.args.env.now somewhere) c.args.counter c.args.node (of_value n v)
     (of_value a0 (typing_in c.args.turns.low)) (of_value b0 (typing_in c.args.turns.high)) (of_value c0 c.args.turns.by) j))))
     (sym (c.as_located-variable.ensures ∙ ap (option_and_then parts.located_in) c.denoted.ensures)))
@@ -40,7 +40,7 @@ returns-in_err-whole c = λ j n a0 b0 c0 m a. no_memory _ stmts_of m _ c.from_re
 
 pub returns : goal.returns
 returns c = λ j n a0 b0 c0 m a. (ap
-    (λ (v : Option parts.Located). (nodes.one
+    (λ (v : Option parts.Location). (nodes.one
     (with ir.ForTo (nodes.loop_at (scene_of c.args.env.now somewhere) c.args.counter c.args.node (of_value n v)
     (of_value a0 (typing_in c.args.turns.low)) (of_value b0 (typing_in c.args.turns.high)) (of_value c0 c.args.turns.by) j))))
     (sym (c.as_located-variable.ensures ∙ ap (option_and_then parts.located_in) c.denoted.ensures)))

@@ -1,6 +1,6 @@
 use Rattle.std.proofs.Common.{sym, ap}
 use Rattle.alma_rules.specs.View as view
-use Rattle.alma_rules.specs.Judged.{of_value}
+use Rattle.alma_rules.specs.Judgement.{of_value}
 use Rattle.alma_check_rules.specs.Views.{scene_of}
 use Rattle.alma_rules.proofs.Stmts as stmts
 use Rattle.alma_check_phrases.proofs.branch.check_else.Goals as goal

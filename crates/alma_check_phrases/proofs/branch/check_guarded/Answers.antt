@@ -1,7 +1,7 @@
 use Rattle.std.proofs.Common.{refl}
 use Rattle.alma_ir.specs.Tree as ir
 use Rattle.alma_rules.specs.View as view
-use Rattle.alma_rules.specs.Judged.{Judged}
+use Rattle.alma_rules.specs.Judgement.{Judgement}
 use Rattle.alma_rules.specs.Nodes as nodes
 use Rattle.alma_rules.specs.Walk as walk
 use Rattle.alma_check_rules.specs.Views.{scene_of}
@@ -19,7 +19,7 @@ returns-in_err-test g c =
 
 pub returns : goal.returns
 returns g c =
-    first_fine (λ (j : Judged (ir.Test × ir.Stmts)). j) _
+    first_fine (λ (j : Judgement (ir.Test × ir.Stmts)). j) _
     (nodes.condition_at (scene_of c.args.env.now c.args.place) (view.view_expr c.args.test.now)
     (walk.judge_expr (scene_of c.args.env.now c.args.place) c.args.slot.now (view.view_expr c.args.test.now)))
     (λ m. walk.judge_stmts (scene_of c.args.env.now c.args.place) m (view.view_stmts c.args.then.now)) guarded_of _ _ _ _ refl

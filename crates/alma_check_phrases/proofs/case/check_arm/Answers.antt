@@ -4,7 +4,7 @@ use Rattle.alma_rules.proofs.Cases as cases
 use Rattle.alma_check_phrases.proofs.Begins.{on_ok}
 use Rattle.alma_check_phrases.proofs.Labels.{settled, spans_count}
 use Rattle.alma_rules.specs.View as view
-use Rattle.alma_rules.specs.Judged.{of_value}
+use Rattle.alma_rules.specs.Judgement.{of_value}
 use Rattle.alma_rules.specs.Walk as walk
 use Rattle.alma_check_rules.specs.Views.{scene_of, typing_in, spans_view, spans_in}
 use Rattle.alma_check_build_expr.specs.Lists.{cases_of}

@@ -1,7 +1,7 @@
 use Rattle.std.proofs.Common.{sym, ap, ◌∙◌}
 use Rattle.alma_rules.specs.Numbered as tree
 use Rattle.alma_rules.specs.View as view
-use Rattle.alma_rules.specs.Judged.{of_value}
+use Rattle.alma_rules.specs.Judgement.{of_value}
 use Rattle.alma_check_rules.specs.Views.{scene_of, stmts_of}
 use Rattle.alma_rules.proofs.Judging.{answers_as}
 use Rattle.alma_rules.proofs.Stmts as stmts

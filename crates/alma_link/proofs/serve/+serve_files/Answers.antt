@@ -7,7 +7,7 @@ use Rattle.alma_plan.proofs.Courses.{course_starved}
 use Rattle.alma_driver_words.specs.Words.{texts}
 use Rattle.alma_plan.proofs.Sources.{course_read_source, course_unread_source}
 use Rattle.alma_link.specs.Ends.{task_of}
-use Rattle.alma_link.specs.Link.{program, failed, files_plan}
+use Rattle.alma_link.specs.Link.{program, failure, files_plan}
 use Rattle.alma_link.proofs.UnitLemmas.{one_more}
 use Rattle.alma_link.proofs.WordLemmas.{same_count}
 use Rattle.alma_link.proofs.serve.+serve_files.Goals as goal
@@ -39,20 +39,20 @@ serve_files-requires g t c κs within =
 
 pub returns-then-is_err : goal.returns-then-is_err
 returns-then-is_err g t c =
-    rw c.in-Some.ensures (course_read_source program failed c.in-Some.name.now
+    rw c.in-Some.ensures (course_read_source program failure c.in-Some.name.now
     (λ p. files_plan (task_of c.args.task) (map program_of c.args.units.now.items ++ p ∷ []) (texts c.in-Some.rest.now)) c.in-Ok.unit
     _ _ _ _ _ _ _ _ (c.in-Ok.ensures.same, c.in-Ok.ensures.store_count) c.in-Ok.ensures.answer (course_starved program _ _ _ _ _))
 
 pub returns-else-is_err : goal.returns-else-is_err
 returns-else-is_err g t c =
     let more = rw (c.is_err.ensures.negation, c.if-is_err.false) at c.push.ensures.items in
-    rw c.in-Some.ensures (course_read_source program failed c.in-Some.name.now
+    rw c.in-Some.ensures (course_read_source program failure c.in-Some.name.now
     (λ p. files_plan (task_of c.args.task) (map program_of c.args.units.now.items ++ p ∷ []) (texts c.in-Some.rest.now)) c.in-Ok.unit
     _ _ _ _ _ _ _ _ (c.in-Ok.ensures.same, c.in-Ok.ensures.store_count) c.in-Ok.ensures.answer
     (rw (more, map-append program_of c.args.units.now.items (c.in-Ok.unit ∷ [])) at c.serve_files.ensures))
 
 pub returns-in-Err : goal.returns-in-Err
 returns-in-Err g t c =
-    rw (c.in-Some.ensures, c.from.ensures) (course_unread_source program failed c.in-Some.name.now
+    rw (c.in-Some.ensures, c.from.ensures) (course_unread_source program failure c.in-Some.name.now
     (λ p. files_plan (task_of c.args.task) (map program_of c.args.units.now.items ++ p ∷ []) (texts c.in-Some.rest.now)) c.in-Err.error
     _ _ _ _ (c.in-Err.ensures.same, c.in-Err.ensures.store_count) c.in-Err.ensures.answer)

@@ -1,14 +1,14 @@
 use Rattle.std.proofs.Common.{◌≡◌, ◌∙◌, suc, ◌+◌, ◌-◌, ◌<◌, ◌≤◌, [], ◌∷◌, length, drop, get_or, refl, ap, sym, subst, arith}
 use Rattle.std.proofs.Common.{length-drop, drop-cons, add-one}
 use Rattle.std.proofs.Math.ListN.{drop_of_length-le}
-use Rattle.alma_choice.specs.Emitted.{aimed}
+use Rattle.alma_choice.specs.Emitted.{aim_jump}
 use Rattle.alma_lower_work.specs.Front.{front, Holes}
 use Rattle.alma_lower_work.specs.Puts.{all_labels, behind_all}
 use Rattle.alma_lower_work.proofs.Joins.{holes_as}
 use Rattle.alma_lower_parts.proofs.LabelForms.{more_labels, no_range}
 use Rattle.alma_lower_parts.proofs.Said.{if_ok, some_elements}
 use Rattle.alma_lower_parts.proofs.label.put_labels.Goals as goal
-use Rattle.alma_lower_templates.specs.Lined.{own}
+use Rattle.alma_lower_templates.specs.LineInstr.{own}
 
 pub loop-i-preserved : goal.loop-i-preserved
 unfolding no_range
@@ -35,9 +35,9 @@ returns-clause-holes c = λ test.
     let none : drop (suc (length xs - 1)) xs ≡ [] = drop_of_length-le xs le in
     let one : drop l.i xs ≡ get_or xs (length xs - 1) no_range ∷ [] = ap (λ n. drop n xs) at ∙ drop-cons xs (length xs - 1) no_range lt
     ∙ ap (λ ys. get_or xs (length xs - 1) no_range ∷ ys) none in
-    if_ok c.put_label_test.result (λ miss h. holes_as _ _ _ _ _ _ (λ to xs. aimed (aimed xs miss.low to) miss.high to) _ _
-    (l.invariant test _ (λ to xs. aimed (aimed xs miss.low to) miss.high to)
-    (subst (λ z. Holes (front l.work) (front c.put_label_test.new.work) (λ to xs. aimed (aimed xs miss.low to) miss.high to)
+    if_ok c.put_label_test.result (λ miss h. holes_as _ _ _ _ _ _ (λ to xs. aim_jump (aim_jump xs miss.low to) miss.high to) _ _
+    (l.invariant test _ (λ to xs. aim_jump (aim_jump xs miss.low to) miss.high to)
+    (subst (λ z. Holes (front l.work) (front c.put_label_test.new.work) (λ to xs. aim_jump (aim_jump xs miss.low to) miss.high to)
     (λ none at lo ls. own c.args.line (all_labels c.args.labels.value c.args.labels.bound at c.in_ok-hit.hit none z)) (λ ls. [])
     (λ ls. ls)) (sym one) h))
     (λ to. ap (λ n. own c.args.line (all_labels c.args.labels.value c.args.labels.bound (length (front c.args.work.now).code) n to xs))

@@ -1,7 +1,7 @@
 use Rattle.std.proofs.Common.{rules, ◌≡◌, ap, refl, ◌∷◌, [], to_z, of_z, w64}
 use Rattle.std.proofs.lemmas.Int.{to_z-of_z}
 use Rattle.alma_code.specs.declared.instr.Instr.TheVariants as I
-use Rattle.alma_lower_templates.specs.Lined.{own}
+use Rattle.alma_lower_templates.specs.LineInstr.{own}
 use Rattle.alma_lower_templates.specs.Pieces.{count_from, entry_code}
 use Rattle.alma_lower_work.proofs.Joins.{code_holes, hole_put, holes_as}
 use Rattle.alma_lower_parts.proofs.loops.begin_for.Goals as goal

@@ -1,8 +1,8 @@
 -- The instructions so far.
 use Rattle.std.proofs.Common.{◌≡◌, ◌++◌, map, take}
-use Rattle.alma_lower_slots.specs.Slots.{renamed}
+use Rattle.alma_lower_slots.specs.Slots.{rename_slots}
 use Rattle.alma_lower_slots.specs.Inner.Shared.{slot_in}
 use Rattle.alma_lower_slots.proofs.rename.push_renamed.Given as goal
 
 abbrev pub invariant-loop-instr : goal.invariant-loop-instr
-invariant-loop-instr l = l.instrs.items ≡ l.fn.instrs.items ++ map (renamed (slot_in l.all)) (take l.instr-index l.code)
+invariant-loop-instr l = l.instrs.items ≡ l.fn.instrs.items ++ map (rename_slots (slot_in l.all)) (take l.instr-index l.code)

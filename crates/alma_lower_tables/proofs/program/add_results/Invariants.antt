@@ -4,7 +4,7 @@ use Rattle.std.specs.Prelude.{map}
 use Rattle.alma_ir.specs.View.{routine_of}
 use Rattle.alma_lower_sound.specs.Entries.{of_each}
 use Rattle.alma_lower_tables.specs.Numbers.{tables_of}
-use Rattle.alma_lower_tables.specs.Walked.{Names, checked_result}
+use Rattle.alma_lower_tables.specs.AddsPhrases.{Names, checked_result}
 use Rattle.alma_lower_tables.proofs.program.add_results.Given as goal
 
 abbrev pub invariant-loop-routine : goal.invariant-loop-routine

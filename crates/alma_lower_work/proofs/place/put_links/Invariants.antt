@@ -1,6 +1,6 @@
 use Rattle.std.proofs.Common.{◌≡◌, ◌+◌}
 use Rattle.alma_ir.specs.Checked.{outer_at}
-use Rattle.alma_lower_templates.specs.Lined.{own}
+use Rattle.alma_lower_templates.specs.LineInstr.{own}
 use Rattle.alma_lower_templates.specs.Pieces.{link_code}
 use Rattle.alma_lower_templates.specs.Slots.{chain_slots}
 use Rattle.alma_lower_work.specs.Front.{around, front, Adds}

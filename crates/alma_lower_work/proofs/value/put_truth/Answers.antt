@@ -1,7 +1,7 @@
 use Rattle.std.proofs.Common.{[], ◌∷◌, ap}
 use Rattle.std.specs.Prelude.{pos}
 use Rattle.alma_code.specs.declared.instr.Instr.TheVariants as I
-use Rattle.alma_lower_templates.specs.Lined.{own}
+use Rattle.alma_lower_templates.specs.LineInstr.{own}
 use Rattle.alma_lower_work.proofs.Joins.{codes_as, on_ok_map, then_code}
 use Rattle.alma_lower_work.proofs.value.put_truth.Goals as goal
 

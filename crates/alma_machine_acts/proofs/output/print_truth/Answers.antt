@@ -5,11 +5,11 @@ use Rattle.alma_base.specs.Value.{value_text}
 use Rattle.alma_base.specs.declared.value.Value.TheVariants as kind
 use Rattle.alma_code.specs.Machine.{prints_bytes}
 use Rattle.alma_machine_acts.specs.Rows.{state_of}
-use Rattle.alma_machine_acts.specs.Steps.{stepped}
+use Rattle.alma_machine_acts.specs.Steps.{step_result}
 use Rattle.alma_machine_acts.proofs.output.print_truth.Goals as goal
 
 pub returns-in-Err-clause-ok : goal.returns-in-Err-clause-ok
 returns-in-Err-clause-ok g c =
     let s = state_of g.M.MachineMemory.picture c.args.registers.now in
-    ap (λ b. stepped c.end.result b (state_of g.M.MachineMemory.picture c.end.new.self)) c.requires.empty ∙ c.end.ensures.step
+    ap (λ b. step_result c.end.result b (state_of g.M.MachineMemory.picture c.end.new.self)) c.requires.empty ∙ c.end.ensures.step
     ∙ sym (c.in-Err.ensures s (λ v. prints_bytes (value_text (kind.Bool (not (is_zero v)))) s) refl)

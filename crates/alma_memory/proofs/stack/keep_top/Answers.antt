@@ -1,6 +1,6 @@
 use Rattle.std.proofs.Common.{◌≡◌, ◌-◌, length, set, get_or, ap, ◌∙◌}
 use Rattle.alma_code.specs.Carries.{diffs}
-use Rattle.alma_memory_rewind.specs.Rewound.{top_copy}
+use Rattle.alma_memory_rewind.specs.PlainRewind.{top_copy}
 use Rattle.alma_memory_store.specs.Carries.{carry_of_entries}
 use Rattle.alma_memory_store.specs.Past.{SameGain}
 use Rattle.alma_memory.specs.Inner.Gain.{no_saved, entry_with_changes}

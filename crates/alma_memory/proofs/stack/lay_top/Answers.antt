@@ -1,7 +1,7 @@
 use Rattle.std.proofs.Common.{◌≡◌, length, ap, sym, ◌∙◌, arith}
 use Rattle.alma_code.specs.Picture.{PlainEntry, top_of}
 use Rattle.alma_code.specs.Carries.{frames_with_carry}
-use Rattle.alma_memory_rewind.specs.Rewound.{top_copy}
+use Rattle.alma_memory_rewind.specs.PlainRewind.{top_copy}
 use Rattle.alma_memory.specs.Inner.Stack.{entry_with, stack_of}
 use Rattle.alma_memory.proofs.Stacks.{stack-last, stack-rest}
 use Rattle.alma_memory.proofs.stack.lay_top.Goals as goal

@@ -1,6 +1,6 @@
 use Rattle.std.proofs.Common.{◌≡◌, ◌-◌, length, get_or, take, ap, sym, refl, ◌∙◌}
 use Rattle.alma_code.specs.Picture.{PlainEntry, top_of}
-use Rattle.alma_memory_rewind.specs.Rewound.{top_copy}
+use Rattle.alma_memory_rewind.specs.PlainRewind.{top_copy}
 use Rattle.alma_memory.specs.Inner.Gain.{no_saved}
 use Rattle.alma_memory.specs.Inner.Stack.{entry_with, stack_of}
 use Rattle.alma_memory.proofs.Stacks.{stack-top, pops-forall, pops-other}

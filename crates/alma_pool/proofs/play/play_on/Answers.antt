@@ -6,7 +6,7 @@ use Rattle.alma_plan.proofs.Courses.{gains_none}
 use Rattle.alma_pool.specs.Due.{program, bad_turn_behind, turns_in}
 use Rattle.alma_pool.specs.Ends.{pool_end}
 use Rattle.alma_pool.specs.Inner.{codes_of}
-use Rattle.alma_pool.specs.Pool.{Played, PoolView, after_turns}
+use Rattle.alma_pool.specs.Pool.{PlayerState, PoolView, after_turns}
 use Rattle.alma_pool.proofs.Playing.{begun_fresh, begun_count, played_count}
 use Rattle.alma_pool.proofs.Showing.{shown_alone}
 use Rattle.alma_pool.proofs.play.play_on.Goals as goal
@@ -16,7 +16,7 @@ play_in-requires-clause-whole g c = ap (λ (p : PoolView). p.whole) c.in-Ok.ensu
 
 pub play_in-requires-clause-fresh : goal.play_in-requires-clause-fresh
 play_in-requires-clause-fresh g c =
-    subst (λ (p : PoolView). All (λ (q : Played). q.state.steps ≡ 0) p.programs) (sym c.in-Ok.ensures)
+    subst (λ (p : PoolView). All (λ (q : PlayerState). q.state.steps ≡ 0) p.programs) (sym c.in-Ok.ensures)
     (begun_fresh (codes_of c.args.verified.now) c.args.input.now)
 
 pub play_in-requires-clause-good : goal.play_in-requires-clause-good

@@ -8,7 +8,7 @@ use Rattle.alma_machine.specs.Runs.{run_end_of, made}
 use Rattle.alma_trace.specs.Cuts.{can_go}
 use Rattle.alma_machine.proofs.Budget.{progress_more, made_is, on_whole, finished, goes_unless, live_is_out, out_more, out_front}
 use Rattle.alma_io.specs.Fronts.{AppendsFront}
-use Rattle.alma_trace.specs.Traced.{step_text, steps_end, traced, traced_within}
+use Rattle.alma_trace.specs.Traced.{step_text, steps_end, text_of_run, traced_within}
 use Rattle.alma_trace.proofs.Telling.{text_of, end_within, end_whole, front_more, text_more, text_whole, text_out, within_now, within_then}
 use Rattle.alma_trace.proofs.Telling.{on_cut, on_write_fault, on_memory, live_can_go, goes_can_go, front_behind}
 use Rattle.alma_trace.proofs.tracer.trace.Goals as goal
@@ -76,10 +76,10 @@ returns-in-Done-clause-out g c =
     let told = subst (λ (code : PlainCode). Appends (g.K.Sink.side c.loop-made.out).written (g.K.Sink.side c.tell.new.out).written
     (step_text code watches a new.printed new.state)) p.code c.in_default-tell.ensures.ok in
     on_whole c.from.result (Appends (g.K.Sink.side c.args.out.now).written (g.K.Sink.side c.tell.new.out).written
-    (traced old.code old.input watches c.args.budget old.state))
+    (text_of_run old.code old.input watches c.args.budget old.state))
     (out_more (g.K.Sink.side c.args.out.now).written (g.K.Sink.side c.loop-made.out).written (g.K.Sink.side c.tell.new.out).written
     (text_of old watches m) (step_text old.code watches a new.printed new.state)
-    (traced old.code old.input watches c.args.budget old.state) c.loop-made.invariant.out told
+    (text_of_run old.code old.input watches c.args.budget old.state) c.loop-made.invariant.out told
     (text_whole old c.loop-made.machine new watches m c.args.budget a c.in-Done.end c.loop-made.invariant.front
     c.loop-made.invariant.progress c.in-Ok.ensures.step c.in-Done.is c.loop-made-test.true))
 
@@ -152,8 +152,8 @@ returns-clause-out g c =
     let all : c.loop-made.made ≡ c.args.budget = omega (arith, c.loop-made.invariant.within, c.loop-made-test.false) in
     out_more (g.K.Sink.side c.args.out.now).written (g.K.Sink.side c.loop-made.out).written (g.K.Sink.side c.tell_steps_end.new.out).written
     (text_of old watches m) (flat_map text_line steps_end)
-    (traced old.code old.input watches c.args.budget old.state) c.loop-made.invariant.out c.in_default-tell_steps_end.ensures.ok
-    (ap (λ n. traced old.code old.input watches n old.state) (sym all) ∙ text_out old watches m c.loop-made.invariant.front)
+    (text_of_run old.code old.input watches c.args.budget old.state) c.loop-made.invariant.out c.in_default-tell_steps_end.ensures.ok
+    (ap (λ n. text_of_run old.code old.input watches n old.state) (sym all) ∙ text_out old watches m c.loop-made.invariant.front)
 
 pub returns-in-Err-clause-stopped : goal.returns-in-Err-clause-stopped
 returns-in-Err-clause-stopped g c =

@@ -1,6 +1,6 @@
 use Rattle.std.proofs.Common.{[], ◌∷◌, refl}
 use Rattle.alma_base.specs.declared.fault.CheckFault.TheVariants as fault
-use Rattle.alma_rules.specs.Judged.{broken_at}
+use Rattle.alma_rules.specs.Judgement.{broken_at}
 use Rattle.alma_rules.specs.View.{view_name}
 use Rattle.alma_check_block.proofs.Frames.{refused}
 use Rattle.alma_check_block.proofs.frame.Frame.refuse.Goals as goal

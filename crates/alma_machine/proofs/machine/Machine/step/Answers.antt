@@ -1,7 +1,7 @@
 use Rattle.std.proofs.Common.{rules, ◌≡◌, ◌∙◌, sym, subst, true, IfOk}
 use Rattle.alma_code.specs.Machine.{step}
 use Rattle.alma_machine.specs.View.{run_state}
-use Rattle.alma_machine_acts.specs.Steps.{stepped}
+use Rattle.alma_machine_acts.specs.Steps.{step_result}
 use Rattle.alma_machine.proofs.Stepping.{stands_after}
 use Rattle.alma_verify.specs.Verified.{code_of_verified}
 use Rattle.alma_machine.proofs.machine.Machine.step.Goals as goal
@@ -23,5 +23,5 @@ pub returns-clause-step : goal.returns-clause-step
 returns-clause-step c =
     let bytes = c.advance-step.new.printed.items in
     let new = run_state c.advance-step.new.registers in
-    subst (λ m. IfOk c.advance-step.result (λ answer. stepped answer bytes new ≡ step m.code m.input m.state)) c.self.view_is
+    subst (λ m. IfOk c.advance-step.result (λ answer. step_result answer bytes new ≡ step m.code m.input m.state)) c.self.view_is
     c.advance-step.ensures.step

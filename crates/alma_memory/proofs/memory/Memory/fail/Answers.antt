@@ -1,7 +1,7 @@
 use Rattle.std.proofs.Common.{◌≡◌, ◌<◌, ◌≤◌, ◌-◌, length, get_or, ap, sym, ◌∙◌, arith}
 use Rattle.std.proofs.lemmas.List.{get_or_read}
 use Rattle.alma_code.specs.Picture.{PlainEntry, top_of}
-use Rattle.alma_memory_rewind.specs.Rewound.{top_copy}
+use Rattle.alma_memory_rewind.specs.PlainRewind.{top_copy}
 use Rattle.alma_memory.specs.Picture.{Picture}
 use Rattle.alma_memory.specs.declared.stack.Entry.{Entry}
 use Rattle.alma_memory.specs.Inner.Gain.{no_saved}

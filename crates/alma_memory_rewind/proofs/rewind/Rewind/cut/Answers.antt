@@ -1,5 +1,5 @@
 use Rattle.std.proofs.Common.{◌≡◌, take, ap, ◌∙◌}
-use Rattle.alma_memory_rewind.specs.Rewound.{Rewound}
+use Rattle.alma_memory_rewind.specs.PlainRewind.{PlainRewind}
 use Rattle.alma_memory_rewind.specs.Trail.{held_of, trail_for}
 use Rattle.alma_memory_rewind.specs.Sound.{Sweeps}
 use Rattle.alma_memory_rewind.proofs.Changes.{cuts}
@@ -23,7 +23,7 @@ returns-clause-held g c =
     let cut = cuts c.args.height c.truncate.new.self.items c.self.inside.marks.items c.self.inside.trail.items c.settle.new.trail.items
     c.self.inside.items.items c.self.inside.stamps.items c.self.inside.counter c.truncate.ensures.items after c.self.invariant.0 in
     let vh : held_of c.self.inside.trail.items c.self.inside.items.items c.self.inside.marks.items ≡ c.args.self.now.held =
-    ap (λ (p : Rewound g.row.T.Denot). p.held) c.self.view_is in
+    ap (λ (p : PlainRewind g.row.T.Denot). p.held) c.self.view_is in
     let swept = c.sweep_full-self-inside.ensures.keeps in
     let own : Sweeps c.truncate.new.self.items c.settle.new.trail.items c.sweep_full-self-inside.new.trail.items =
     rw c.as_slice-2.ensures.value at swept in

@@ -1,5 +1,5 @@
 use Rattle.std.proofs.Common.{◌≡◌, ◌≤◌, length, sym, ap, ◌∙◌, arith}
-use Rattle.alma_memory_rewind.specs.Rewound.{Rewound, needed}
+use Rattle.alma_memory_rewind.specs.PlainRewind.{PlainRewind, needed}
 use Rattle.alma_memory_rewind.specs.Trail.{held_of, last_mark}
 use Rattle.alma_memory_rewind.proofs.Trails.{needed-top}
 use Rattle.alma_memory_rewind.proofs.Changes.{top-le}
@@ -12,7 +12,7 @@ returns-clause-value g c =
     needed-top c.self.inside.trail.items c.self.inside.items.items c.self.inside.marks.items (length c.self.inside.trail.items)
     c.self.invariant.0.rises in
     let v : needed (held_of c.self.inside.trail.items c.self.inside.items.items c.self.inside.marks.items) ≡ needed c.args.self.now.held =
-    ap (λ (p : Rewound g.row.T.Denot). needed p.held) c.self.view_is in
+    ap (λ (p : PlainRewind g.row.T.Denot). needed p.held) c.self.view_is in
     let a : (last_mark c.as_slice.result.now).top ≡ (last_mark c.self.inside.marks.items).top =
     ap (λ ms. (last_mark ms).top) c.as_slice.ensures.value in
     c.top_of.ensures ∙ (a ∙ (sym e ∙ v))
@@ -24,5 +24,5 @@ returns-clause-within g c =
     let low : (last_mark c.self.inside.marks.items).top ≤ length c.self.inside.items.items =
     top-le c.self.inside.marks.items (length c.self.inside.trail.items) (length c.self.inside.items.items) c.self.invariant.0.rises in
     let wide : length c.self.inside.items.items ≡ length c.args.self.now.now =
-    ap (λ (p : Rewound g.row.T.Denot). length p.now) c.self.view_is in
+    ap (λ (p : PlainRewind g.row.T.Denot). length p.now) c.self.view_is in
     omega (arith, c.top_of.ensures, a, low, wide)

@@ -1,5 +1,5 @@
 use Rattle.std.proofs.Common.{◌≡◌, ◌<◌, ◌+◌, sym, ap, ◌∙◌, arith}
-use Rattle.alma_memory_rewind.specs.Rewound.{needed, top_copy, first_or}
+use Rattle.alma_memory_rewind.specs.PlainRewind.{needed, top_copy, first_or}
 use Rattle.alma_memory_store.specs.Regions.{slot_number}
 use Rattle.std.specs.Prelude.{slice_get, Some}
 use Rattle.std.specs.BTreeMap.{get}

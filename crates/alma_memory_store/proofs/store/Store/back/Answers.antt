@@ -1,6 +1,6 @@
 use Rattle.std.proofs.Common.{◌≡◌, ◌<◌, ◌≤◌, ◌-◌, length, get_or, sym, ap, ◌∙◌, arith}
-use Rattle.alma_memory_rewind.specs.Rewound.{top_copy}
-use Rattle.alma_memory_store.specs.Stored.{Stored, copies_of}
+use Rattle.alma_memory_rewind.specs.PlainRewind.{top_copy}
+use Rattle.alma_memory_store.specs.PlainStore.{PlainStore, copies_of}
 use Rattle.std.proofs.lemmas.List.{get_or_read}
 use Rattle.alma_memory_store.proofs.Copies.{copies-length, states-length, top-at, backs-to}
 use Rattle.alma_memory_store.proofs.store.Store.back.Goals as goal
@@ -10,7 +10,7 @@ overflow_sub-len c =
     let cs = c.self.inside.slots.held in
     let rs = c.self.inside.regions.held in
     let ls = c.self.inside.lives.items in
-    let vh : copies_of cs rs ls ≡ c.args.self.now.held = ap (λ (p : Stored). p.held) c.self.view_is in
+    let vh : copies_of cs rs ls ≡ c.args.self.now.held = ap (λ (p : PlainStore). p.held) c.self.view_is in
     let many : length ls ≡ length c.args.self.now.held = sym (copies-length cs rs ls c.self.invariant.1) ∙ ap length vh in
     let some : 1 ≤ length ls = omega (arith, many, c.requires) in
     let len : c.len.result ≡ length ls = c.len.ensures ∙ c.self.inside.lives.ok.0 in
@@ -21,7 +21,7 @@ index-live-requires c =
     let cs = c.self.inside.slots.held in
     let rs = c.self.inside.regions.held in
     let ls = c.self.inside.lives.items in
-    let vh : copies_of cs rs ls ≡ c.args.self.now.held = ap (λ (p : Stored). p.held) c.self.view_is in
+    let vh : copies_of cs rs ls ≡ c.args.self.now.held = ap (λ (p : PlainStore). p.held) c.self.view_is in
     let many : length ls ≡ length c.args.self.now.held = sym (copies-length cs rs ls c.self.invariant.1) ∙ ap length vh in
     let some : 1 ≤ length ls = omega (arith, many, c.requires) in
     let len : c.len.result ≡ length ls = c.len.ensures ∙ c.self.inside.lives.ok.0 in
@@ -32,7 +32,7 @@ back-requires c =
     let cs = c.self.inside.slots.held in
     let rs = c.self.inside.regions.held in
     let ls = c.self.inside.lives.items in
-    let vh : copies_of cs rs ls ≡ c.args.self.now.held = ap (λ (p : Stored). p.held) c.self.view_is in
+    let vh : copies_of cs rs ls ≡ c.args.self.now.held = ap (λ (p : PlainStore). p.held) c.self.view_is in
     let many : length ls ≡ length c.args.self.now.held = sym (copies-length cs rs ls c.self.invariant.1) ∙ ap length vh in
     let some : 1 ≤ length ls = omega (arith, many, c.requires) in
     let len : c.len.result ≡ length ls = c.len.ensures ∙ c.self.inside.lives.ok.0 in
@@ -47,7 +47,7 @@ back-requires-2 c =
     let cs = c.self.inside.slots.held in
     let rs = c.self.inside.regions.held in
     let ls = c.self.inside.lives.items in
-    let vh : copies_of cs rs ls ≡ c.args.self.now.held = ap (λ (p : Stored). p.held) c.self.view_is in
+    let vh : copies_of cs rs ls ≡ c.args.self.now.held = ap (λ (p : PlainStore). p.held) c.self.view_is in
     let many : length ls ≡ length c.args.self.now.held = sym (copies-length cs rs ls c.self.invariant.1) ∙ ap length vh in
     let some : 1 ≤ length ls = omega (arith, many, c.requires) in
     let len : c.len.result ≡ length ls = c.len.ensures ∙ c.self.inside.lives.ok.0 in
@@ -62,7 +62,7 @@ overflow_sub-live c =
     let cs = c.self.inside.slots.held in
     let rs = c.self.inside.regions.held in
     let ls = c.self.inside.lives.items in
-    let vh : copies_of cs rs ls ≡ c.args.self.now.held = ap (λ (p : Stored). p.held) c.self.view_is in
+    let vh : copies_of cs rs ls ≡ c.args.self.now.held = ap (λ (p : PlainStore). p.held) c.self.view_is in
     let many : length ls ≡ length c.args.self.now.held = sym (copies-length cs rs ls c.self.invariant.1) ∙ ap length vh in
     let some : 1 ≤ length ls = omega (arith, many, c.requires) in
     let len : c.len.result ≡ length ls = c.len.ensures ∙ c.self.inside.lives.ok.0 in
@@ -78,7 +78,7 @@ get-self-inside-requires c =
     let cs = c.self.inside.slots.held in
     let rs = c.self.inside.regions.held in
     let ls = c.self.inside.lives.items in
-    let vh : copies_of cs rs ls ≡ c.args.self.now.held = ap (λ (p : Stored). p.held) c.self.view_is in
+    let vh : copies_of cs rs ls ≡ c.args.self.now.held = ap (λ (p : PlainStore). p.held) c.self.view_is in
     let many : length ls ≡ length c.args.self.now.held = sym (copies-length cs rs ls c.self.invariant.1) ∙ ap length vh in
     let some : 1 ≤ length ls = omega (arith, many, c.requires) in
     let len : c.len.result ≡ length ls = c.len.ensures ∙ c.self.inside.lives.ok.0 in
@@ -96,7 +96,7 @@ invariant_of-self c =
     let cs = c.self.inside.slots.held in
     let rs = c.self.inside.regions.held in
     let ls = c.self.inside.lives.items in
-    let vh : copies_of cs rs ls ≡ c.args.self.now.held = ap (λ (p : Stored). p.held) c.self.view_is in
+    let vh : copies_of cs rs ls ≡ c.args.self.now.held = ap (λ (p : PlainStore). p.held) c.self.view_is in
     let many : length ls ≡ length c.args.self.now.held = sym (copies-length cs rs ls c.self.invariant.1) ∙ ap length vh in
     let some : 1 ≤ length ls = omega (arith, many, c.requires) in
     let len : c.len.result ≡ length ls = c.len.ensures ∙ c.self.inside.lives.ok.0 in
@@ -114,7 +114,7 @@ returns-clause-now c =
     let cs = c.self.inside.slots.held in
     let rs = c.self.inside.regions.held in
     let ls = c.self.inside.lives.items in
-    let vh : copies_of cs rs ls ≡ c.args.self.now.held = ap (λ (p : Stored). p.held) c.self.view_is in
+    let vh : copies_of cs rs ls ≡ c.args.self.now.held = ap (λ (p : PlainStore). p.held) c.self.view_is in
     let many : length ls ≡ length c.args.self.now.held = sym (copies-length cs rs ls c.self.invariant.1) ∙ ap length vh in
     let some : 1 ≤ length ls = omega (arith, many, c.requires) in
     let len : c.len.result ≡ length ls = c.len.ensures ∙ c.self.inside.lives.ok.0 in
@@ -130,5 +130,5 @@ returns-clause-now c =
 pub returns-clause-held : goal.returns-clause-held
 returns-clause-held c =
     let vh : copies_of c.self.inside.slots.held c.self.inside.regions.held c.self.inside.lives.items ≡ c.args.self.now.held =
-    ap (λ (p : Stored). p.held) c.self.view_is in
+    ap (λ (p : PlainStore). p.held) c.self.view_is in
     rw (c.back.ensures.held, c.back-2.ensures.held) vh

@@ -1,6 +1,6 @@
 use Rattle.std.proofs.Common.{◌≡◌, ◌<◌, ◌≤◌, ◌-◌, length, get_or, sym, ap, subst, ◌∙◌, arith}
-use Rattle.alma_memory_rewind.specs.Rewound.{top_copy}
-use Rattle.alma_memory_store.specs.Stored.{Stored, copies_of}
+use Rattle.alma_memory_rewind.specs.PlainRewind.{top_copy}
+use Rattle.alma_memory_store.specs.PlainStore.{PlainStore, copies_of}
 use Rattle.std.proofs.lemmas.List.{get_or_read}
 use Rattle.alma_code.specs.Carries.{diffs}
 use Rattle.alma_memory_store.specs.Carries.{carry_of_entries}
@@ -14,7 +14,7 @@ overflow_sub-len c =
     let cs = c.self.inside.slots.held in
     let rs = c.self.inside.regions.held in
     let ls = c.self.inside.lives.items in
-    let vh : copies_of cs rs ls ≡ c.args.self.now.held = ap (λ (p : Stored). p.held) c.self.view_is in
+    let vh : copies_of cs rs ls ≡ c.args.self.now.held = ap (λ (p : PlainStore). p.held) c.self.view_is in
     let many : length ls ≡ length c.args.self.now.held = sym (copies-length cs rs ls c.self.invariant.1) ∙ ap length vh in
     let some : 1 ≤ length ls = omega (arith, many, c.requires) in
     let len : c.len.result ≡ length ls = c.len.ensures ∙ c.self.inside.lives.ok.0 in
@@ -25,7 +25,7 @@ index-live-requires c =
     let cs = c.self.inside.slots.held in
     let rs = c.self.inside.regions.held in
     let ls = c.self.inside.lives.items in
-    let vh : copies_of cs rs ls ≡ c.args.self.now.held = ap (λ (p : Stored). p.held) c.self.view_is in
+    let vh : copies_of cs rs ls ≡ c.args.self.now.held = ap (λ (p : PlainStore). p.held) c.self.view_is in
     let many : length ls ≡ length c.args.self.now.held = sym (copies-length cs rs ls c.self.invariant.1) ∙ ap length vh in
     let some : 1 ≤ length ls = omega (arith, many, c.requires) in
     let len : c.len.result ≡ length ls = c.len.ensures ∙ c.self.inside.lives.ok.0 in
@@ -36,7 +36,7 @@ of-requires-clause-slots c =
     let cs = c.self.inside.slots.held in
     let rs = c.self.inside.regions.held in
     let ls = c.self.inside.lives.items in
-    let vh : copies_of cs rs ls ≡ c.args.self.now.held = ap (λ (p : Stored). p.held) c.self.view_is in
+    let vh : copies_of cs rs ls ≡ c.args.self.now.held = ap (λ (p : PlainStore). p.held) c.self.view_is in
     let many : length ls ≡ length c.args.self.now.held = sym (copies-length cs rs ls c.self.invariant.1) ∙ ap length vh in
     let some : 1 ≤ length ls = omega (arith, many, c.requires) in
     let len : c.len.result ≡ length ls = c.len.ensures ∙ c.self.inside.lives.ok.0 in
@@ -52,7 +52,7 @@ of-requires-clause-regions c =
     let cs = c.self.inside.slots.held in
     let rs = c.self.inside.regions.held in
     let ls = c.self.inside.lives.items in
-    let vh : copies_of cs rs ls ≡ c.args.self.now.held = ap (λ (p : Stored). p.held) c.self.view_is in
+    let vh : copies_of cs rs ls ≡ c.args.self.now.held = ap (λ (p : PlainStore). p.held) c.self.view_is in
     let many : length ls ≡ length c.args.self.now.held = sym (copies-length cs rs ls c.self.invariant.1) ∙ ap length vh in
     let some : 1 ≤ length ls = omega (arith, many, c.requires) in
     let len : c.len.result ≡ length ls = c.len.ensures ∙ c.self.inside.lives.ok.0 in
@@ -68,7 +68,7 @@ of-requires-clause-before c =
     let cs = c.self.inside.slots.held in
     let rs = c.self.inside.regions.held in
     let ls = c.self.inside.lives.items in
-    let vh : copies_of cs rs ls ≡ c.args.self.now.held = ap (λ (p : Stored). p.held) c.self.view_is in
+    let vh : copies_of cs rs ls ≡ c.args.self.now.held = ap (λ (p : PlainStore). p.held) c.self.view_is in
     let many : length ls ≡ length c.args.self.now.held = sym (copies-length cs rs ls c.self.invariant.1) ∙ ap length vh in
     let some : 1 ≤ length ls = omega (arith, many, c.requires) in
     let len : c.len.result ≡ length ls = c.len.ensures ∙ c.self.inside.lives.ok.0 in
@@ -84,7 +84,7 @@ returns c =
     let cs = c.self.inside.slots.held in
     let rs = c.self.inside.regions.held in
     let ls = c.self.inside.lives.items in
-    let vh : copies_of cs rs ls ≡ c.args.self.now.held = ap (λ (p : Stored). p.held) c.self.view_is in
+    let vh : copies_of cs rs ls ≡ c.args.self.now.held = ap (λ (p : PlainStore). p.held) c.self.view_is in
     let many : length ls ≡ length c.args.self.now.held = sym (copies-length cs rs ls c.self.invariant.1) ∙ ap length vh in
     let some : 1 ≤ length ls = omega (arith, many, c.requires) in
     let len : c.len.result ≡ length ls = c.len.ensures ∙ c.self.inside.lives.ok.0 in
@@ -93,7 +93,7 @@ returns c =
     get_or_read ls (c.len.result - 1) c.index-live.result.now lt c.index-live.ensures 0 ∙ ap (λ k. get_or ls (k - 1) 0) len in
     let wide = states-length cs rs ls c.self.invariant.1 in
     let top = top-at cs rs ls c.index-live.result.now c.self.invariant.1 some last in
-    let now : c.in_ok-past.past.now ≡ c.args.self.now.now = c.in_ok-past.ensures.now ∙ ap (λ (p : Stored). p.now) c.self.view_is in
+    let now : c.in_ok-past.past.now ≡ c.args.self.now.now = c.in_ok-past.ensures.now ∙ ap (λ (p : PlainStore). p.now) c.self.view_is in
     let before : c.in_ok-past.past.before ≡ top_copy c.args.self.now.held = c.in_ok-past.ensures.before
     ∙ (sym top.frames ∙ ap top_copy vh) in
     if-ok c.changes.result _ _ (λ found g. subst (λ b. SameGain (carry_of_entries found.items) (diffs b c.args.self.now.now)) before

@@ -1,7 +1,7 @@
 use Rattle.std.proofs.Common.{◌≡◌, ◌≤◌, ◌++◌, ◌∷◌, [], length, take, ap, ◌∙◌, arith}
-use Rattle.alma_memory_rewind.specs.Rewound.{needed}
+use Rattle.alma_memory_rewind.specs.PlainRewind.{needed}
 use Rattle.alma_memory_store.specs.Regions.{end_of, frames_of}
-use Rattle.alma_memory_store.specs.Stored.{Stored, copies_of}
+use Rattle.alma_memory_store.specs.PlainStore.{PlainStore, copies_of}
 use Rattle.alma_memory_store.proofs.Frames.{laid-end}
 use Rattle.alma_memory_store.proofs.Copies.{chooses, states-push, copies-push, states-length}
 use Rattle.alma_memory_store.proofs.store.Store.choose.Goals as goal
@@ -91,9 +91,9 @@ returns-clause-held c =
     ∙ ap (λ xs. xs ++ n ∷ []) c.reserve-3.ensures.items in
     let same : c.choose_all.new.slots.now ≡ slots = c.choose_all.ensures.now.0 ∙ c.reserve.ensures.now in
     let same' : c.choose_all.new.regions.now ≡ regions = c.choose_all.ensures.now.1 ∙ c.reserve-2.ensures.now in
-    let vn : frames_of slots (take n regions) ≡ c.args.self.now.now = ap (λ (p : Stored). p.now) c.self.view_is in
+    let vn : frames_of slots (take n regions) ≡ c.args.self.now.now = ap (λ (p : PlainStore). p.now) c.self.view_is in
     let vh : copies_of c.self.inside.slots.held c.self.inside.regions.held c.self.inside.lives.items ≡ c.args.self.now.held =
-    ap (λ (p : Stored). p.held) c.self.view_is in
+    ap (λ (p : PlainStore). p.held) c.self.view_is in
     let len = states-length c.self.inside.slots.held c.self.inside.regions.held c.self.inside.lives.items c.self.invariant.1 in
     let pushed = copies-push c.self.inside.slots.held c.self.inside.regions.held c.self.inside.lives.items (take c.higher-top.result slots)
     (take c.higher-high.result regions) n len.0 len.1 in

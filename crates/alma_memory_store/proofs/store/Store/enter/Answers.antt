@@ -3,7 +3,7 @@ use Rattle.alma_code.specs.Picture.{live_cells}
 use Rattle.alma_memory_store.specs.declared.store.Region.{Region}
 use Rattle.alma_memory_store.specs.declared.store.Slot.{Slot}
 use Rattle.alma_memory_store.specs.Regions.{end_of, frames_of, frame_with_slots, declared_in}
-use Rattle.alma_memory_store.specs.Stored.{Stored, IsState, AreStates, flags_of}
+use Rattle.alma_memory_store.specs.PlainStore.{PlainStore, IsState, AreStates, flags_of}
 use Rattle.alma_base.specs.Limits.{cell_limit}
 use Rattle.alma_memory_store.proofs.Frames.{laid-end}
 use Rattle.alma_memory_store.proofs.Totals.{declared-frames}
@@ -33,7 +33,7 @@ invariant_of-self c =
     let up : end_of 0 (take n regions) ≤ c.higher-base.result = omega (arith, c.higher-base.ensures, c.end_of_live-end.ensures) in
     let inn : c.higher-base.result ≤ length slots =
     omega (arith, c.higher-base.ensures, c.end_of_live-end.ensures, low, c.needed.ensures.within) in
-    let vn : frames_of slots (take n regions) ≡ c.args.self.now.now = ap (λ (p : Stored). p.now) c.self.view_is in
+    let vn : frames_of slots (take n regions) ≡ c.args.self.now.now = ap (λ (p : PlainStore). p.now) c.self.view_is in
     let state : IsState c.lay.new.slots.now regions n =
     stays-state slots c.lay.new.slots.now regions n c.higher-base.result up c.lay.ensures.wide c.self.invariant.0 in
     let frames : frames_of c.lay.new.slots.now (take n regions) ≡ c.args.self.now.now =
@@ -51,7 +51,7 @@ returns-in_err-lay-clause-now c =
     let up : end_of 0 (take n regions) ≤ c.higher-base.result = omega (arith, c.higher-base.ensures, c.end_of_live-end.ensures) in
     let inn : c.higher-base.result ≤ length slots =
     omega (arith, c.higher-base.ensures, c.end_of_live-end.ensures, low, c.needed.ensures.within) in
-    let vn : frames_of slots (take n regions) ≡ c.args.self.now.now = ap (λ (p : Stored). p.now) c.self.view_is in
+    let vn : frames_of slots (take n regions) ≡ c.args.self.now.now = ap (λ (p : PlainStore). p.now) c.self.view_is in
     let state : IsState c.lay.new.slots.now regions n =
     stays-state slots c.lay.new.slots.now regions n c.higher-base.result up c.lay.ensures.wide c.self.invariant.0 in
     let frames : frames_of c.lay.new.slots.now (take n regions) ≡ c.args.self.now.now =
@@ -69,7 +69,8 @@ returns-in_err-lay-clause-kept c = λ f s h.
     let up : end_of 0 (take n regions) ≤ c.higher-base.result = omega (arith, c.higher-base.ensures, c.end_of_live-end.ensures) in
     let inn : c.higher-base.result ≤ length slots =
     omega (arith, c.higher-base.ensures, c.end_of_live-end.ensures, low, c.needed.ensures.within) in
-    let vf : flags_of c.self.inside.slots.noted (take n regions) ≡ c.args.self.now.noted = ap (λ (p : Stored). p.noted) c.self.view_is in
+    let vf : flags_of c.self.inside.slots.noted (take n regions) ≡ c.args.self.now.noted =
+    ap (λ (p : PlainStore). p.noted) c.self.view_is in
     low-kept c.self.inside.slots.noted c.lay.new.slots.noted (take n regions) c.higher-base.result (length slots) c.self.invariant.0.laid up
     c.lay.ensures.kept f s (ap (λ fs. get_or (get_or fs f []) s false) vf ∙ h)
 
@@ -82,7 +83,7 @@ invariant_of-self-in_err-put c =
     let up : end_of 0 (take n regions) ≤ c.higher-base.result = omega (arith, c.higher-base.ensures, c.end_of_live-end.ensures) in
     let inn : c.higher-base.result ≤ length slots =
     omega (arith, c.higher-base.ensures, c.end_of_live-end.ensures, low, c.needed.ensures.within) in
-    let vn : frames_of slots (take n regions) ≡ c.args.self.now.now = ap (λ (p : Stored). p.now) c.self.view_is in
+    let vn : frames_of slots (take n regions) ≡ c.args.self.now.now = ap (λ (p : PlainStore). p.now) c.self.view_is in
     let state : IsState c.lay.new.slots.now regions n =
     stays-state slots c.lay.new.slots.now regions n c.higher-base.result up c.lay.ensures.wide c.self.invariant.0 in
     let frames : frames_of c.lay.new.slots.now (take n regions) ≡ c.args.self.now.now =
@@ -104,7 +105,7 @@ returns-in_err-put-clause-now c =
     let up : end_of 0 (take n regions) ≤ c.higher-base.result = omega (arith, c.higher-base.ensures, c.end_of_live-end.ensures) in
     let inn : c.higher-base.result ≤ length slots =
     omega (arith, c.higher-base.ensures, c.end_of_live-end.ensures, low, c.needed.ensures.within) in
-    let vn : frames_of slots (take n regions) ≡ c.args.self.now.now = ap (λ (p : Stored). p.now) c.self.view_is in
+    let vn : frames_of slots (take n regions) ≡ c.args.self.now.now = ap (λ (p : PlainStore). p.now) c.self.view_is in
     let state : IsState c.lay.new.slots.now regions n =
     stays-state slots c.lay.new.slots.now regions n c.higher-base.result up c.lay.ensures.wide c.self.invariant.0 in
     let frames : frames_of c.lay.new.slots.now (take n regions) ≡ c.args.self.now.now =
@@ -125,7 +126,8 @@ returns-in_err-put-clause-kept c = λ f s h.
     let inn : c.higher-base.result ≤ length slots =
     omega (arith, c.higher-base.ensures, c.end_of_live-end.ensures, low, c.needed.ensures.within) in
     let same : c.put.new.regions.now ≡ regions = c.in_err-put.ensures.same in
-    let vf : flags_of c.self.inside.slots.noted (take n regions) ≡ c.args.self.now.noted = ap (λ (p : Stored). p.noted) c.self.view_is in
+    let vf : flags_of c.self.inside.slots.noted (take n regions) ≡ c.args.self.now.noted =
+    ap (λ (p : PlainStore). p.noted) c.self.view_is in
     ap (λ v. get_or (get_or (flags_of c.lay.new.slots.noted (take n v)) f []) s false) same
     ∙ low-kept c.self.inside.slots.noted c.lay.new.slots.noted (take n regions) c.higher-base.result (length slots) c.self.invariant.0.laid
     up c.lay.ensures.kept f s (ap (λ fs. get_or (get_or fs f []) s false) vf ∙ h)
@@ -149,7 +151,7 @@ invariant_of-self-2 c =
       base = c.higher-base.result;
       slots = length c.args.slots.now;
     } in
-    let vn : frames_of slots (take n regions) ≡ c.args.self.now.now = ap (λ (p : Stored). p.now) c.self.view_is in
+    let vn : frames_of slots (take n regions) ≡ c.args.self.now.now = ap (λ (p : PlainStore). p.now) c.self.view_is in
     let wide : length c.args.self.now.now ≡ n = sym (ap length vn) ∙ live-length slots regions n c.self.invariant.0.live in
     let laid : c.lay.new.slots.now ≡ take c.higher-base.result slots ++ more = c.in_ok-lay.ensures.all in
     let put : take (n + 1) c.put.new.regions.now ≡ take n regions ++ r ∷ [] = c.in_ok-put.ensures.now in
@@ -185,7 +187,7 @@ returns-clause-now c =
       base = c.higher-base.result;
       slots = length c.args.slots.now;
     } in
-    let vn : frames_of slots (take n regions) ≡ c.args.self.now.now = ap (λ (p : Stored). p.now) c.self.view_is in
+    let vn : frames_of slots (take n regions) ≡ c.args.self.now.now = ap (λ (p : PlainStore). p.now) c.self.view_is in
     let wide : length c.args.self.now.now ≡ n = sym (ap length vn) ∙ live-length slots regions n c.self.invariant.0.live in
     let laid : c.lay.new.slots.now ≡ take c.higher-base.result slots ++ more = c.in_ok-lay.ensures.all in
     let put : take (n + 1) c.put.new.regions.now ≡ take n regions ++ r ∷ [] = c.in_ok-put.ensures.now in
@@ -217,7 +219,8 @@ returns-clause-kept c = λ f s h.
       slots = length c.args.slots.now;
     } in
     let put : take (n + 1) c.put.new.regions.now ≡ take n regions ++ r ∷ [] = c.in_ok-put.ensures.now in
-    let vf : flags_of c.self.inside.slots.noted (take n regions) ≡ c.args.self.now.noted = ap (λ (p : Stored). p.noted) c.self.view_is in
+    let vf : flags_of c.self.inside.slots.noted (take n regions) ≡ c.args.self.now.noted =
+    ap (λ (p : PlainStore). p.noted) c.self.view_is in
     ap (λ v. get_or (get_or (flags_of c.lay.new.slots.noted v) f []) s false) put
     ∙ enter-kept c.self.inside.slots.noted c.lay.new.slots.noted (take n regions) r c.higher-base.result (length slots)
     c.self.invariant.0.laid up c.lay.ensures.kept f s (ap (λ fs. get_or (get_or fs f []) s false) vf ∙ h)

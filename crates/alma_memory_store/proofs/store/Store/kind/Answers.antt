@@ -1,7 +1,7 @@
 use Rattle.std.proofs.Common.{◌≡◌, ◌+◌, get_or, take, sym, ap, ◌∙◌, arith}
 use Rattle.alma_memory_store.specs.declared.store.Slot.{Slot}
 use Rattle.alma_memory_store.specs.Regions.{frames_of, no_slot}
-use Rattle.alma_memory_store.specs.Stored.{Stored}
+use Rattle.alma_memory_store.specs.PlainStore.{PlainStore}
 use Rattle.alma_memory_store.proofs.Finds.{finds, kind-cell}
 use Rattle.std.specs.Prelude.{Some}
 use Rattle.std.proofs.lemmas.Option.{get_or_from_slice_get}
@@ -12,7 +12,7 @@ place_of-at-requires c =
     let slots = c.self.inside.slots.now in
     let regions = c.self.inside.regions.now in
     let n = c.self.inside.live in
-    let vn : frames_of slots (take n regions) ≡ c.args.self.now.now = ap (λ (p : Stored). p.now) c.self.view_is in
+    let vn : frames_of slots (take n regions) ≡ c.args.self.now.now = ap (λ (p : PlainStore). p.now) c.self.view_is in
     let own = kind-cell slots (take n regions) c.args.self.now.now c.args.frame c.args.slot vn c.requires.slot_of in
     let f = finds slots regions n c.args.frame c.args.slot c.get-region.result c.args.self.now.now c.self.invariant.0 vn c.requires.live own
     c.get-region.ensures in
@@ -23,7 +23,7 @@ get-requires c =
     let slots = c.self.inside.slots.now in
     let regions = c.self.inside.regions.now in
     let n = c.self.inside.live in
-    let vn : frames_of slots (take n regions) ≡ c.args.self.now.now = ap (λ (p : Stored). p.now) c.self.view_is in
+    let vn : frames_of slots (take n regions) ≡ c.args.self.now.now = ap (λ (p : PlainStore). p.now) c.self.view_is in
     let own = kind-cell slots (take n regions) c.args.self.now.now c.args.frame c.args.slot vn c.requires.slot_of in
     let f = finds slots regions n c.args.frame c.args.slot c.get-region.result c.args.self.now.now c.self.invariant.0 vn c.requires.live own
     c.get-region.ensures in
@@ -34,7 +34,7 @@ returns c =
     let slots = c.self.inside.slots.now in
     let regions = c.self.inside.regions.now in
     let n = c.self.inside.live in
-    let vn : frames_of slots (take n regions) ≡ c.args.self.now.now = ap (λ (p : Stored). p.now) c.self.view_is in
+    let vn : frames_of slots (take n regions) ≡ c.args.self.now.now = ap (λ (p : PlainStore). p.now) c.self.view_is in
     let own = kind-cell slots (take n regions) c.args.self.now.now c.args.frame c.args.slot vn c.requires.slot_of in
     let f = finds slots regions n c.args.frame c.args.slot c.get-region.result c.args.self.now.now c.self.invariant.0 vn c.requires.live own
     c.get-region.ensures in

@@ -3,7 +3,7 @@ use Rattle.std.specs.Prelude.{Some}
 use Rattle.std.proofs.lemmas.Option.{get_or_from_slice_get}
 use Rattle.alma_memory_store.specs.declared.store.Slot.{Slot}
 use Rattle.alma_memory_store.specs.Regions.{frames_of, no_slot}
-use Rattle.alma_memory_store.specs.Stored.{Stored}
+use Rattle.alma_memory_store.specs.PlainStore.{PlainStore}
 use Rattle.alma_memory_store.proofs.Finds.{finds-top, kind-cell}
 use Rattle.alma_memory_store.proofs.store.Store.top_kind.Goals as goal
 
@@ -12,7 +12,7 @@ place_of-at-requires c =
     let slots = c.self.inside.slots.now in
     let regions = c.self.inside.regions.now in
     let n = c.self.inside.live in
-    let vn : frames_of slots (take n regions) ≡ c.args.self.now.now = ap (λ (p : Stored). p.now) c.self.view_is in
+    let vn : frames_of slots (take n regions) ≡ c.args.self.now.now = ap (λ (p : PlainStore). p.now) c.self.view_is in
     let own = kind-cell slots (take n regions) c.args.self.now.now (length c.args.self.now.now - 1) c.args.slot vn c.requires in
     let f = finds-top slots regions n c.args.slot c.self.inside.top c.args.self.now.now c.self.invariant.0 vn own c.self.invariant.2 in
     omega (arith, f.inside, c.len.ensures)
@@ -22,7 +22,7 @@ get-requires c =
     let slots = c.self.inside.slots.now in
     let regions = c.self.inside.regions.now in
     let n = c.self.inside.live in
-    let vn : frames_of slots (take n regions) ≡ c.args.self.now.now = ap (λ (p : Stored). p.now) c.self.view_is in
+    let vn : frames_of slots (take n regions) ≡ c.args.self.now.now = ap (λ (p : PlainStore). p.now) c.self.view_is in
     let own = kind-cell slots (take n regions) c.args.self.now.now (length c.args.self.now.now - 1) c.args.slot vn c.requires in
     let f = finds-top slots regions n c.args.slot c.self.inside.top c.args.self.now.now c.self.invariant.0 vn own c.self.invariant.2 in
     omega (arith, f.inside, c.place_of-at.ensures)
@@ -32,7 +32,7 @@ returns c =
     let slots = c.self.inside.slots.now in
     let regions = c.self.inside.regions.now in
     let n = c.self.inside.live in
-    let vn : frames_of slots (take n regions) ≡ c.args.self.now.now = ap (λ (p : Stored). p.now) c.self.view_is in
+    let vn : frames_of slots (take n regions) ≡ c.args.self.now.now = ap (λ (p : PlainStore). p.now) c.self.view_is in
     let own = kind-cell slots (take n regions) c.args.self.now.now (length c.args.self.now.now - 1) c.args.slot vn c.requires in
     let f = finds-top slots regions n c.args.slot c.self.inside.top c.args.self.now.now c.self.invariant.0 vn own c.self.invariant.2 in
     let got : get_or slots c.place_of-at.result no_slot ≡ c.get.result =

@@ -2,7 +2,7 @@ use Rattle.std.proofs.Common.{◌≡◌, ◌+◌, ◌-◌, length, get_or, take,
 use Rattle.alma_code.specs.Picture.{frames_with_cell}
 use Rattle.alma_memory_store.specs.declared.store.Slot.{Slot}
 use Rattle.alma_memory_store.specs.Regions.{frames_of, no_slot}
-use Rattle.alma_memory_store.specs.Stored.{Stored}
+use Rattle.alma_memory_store.specs.PlainStore.{PlainStore}
 use Rattle.alma_memory_store.proofs.Finds.{finds-top, write-result}
 use Rattle.alma_memory_store.proofs.store.Store.write_top.Goals as goal
 
@@ -11,7 +11,7 @@ place_of-at-requires c =
     let slots = c.self.inside.slots.now in
     let regions = c.self.inside.regions.now in
     let n = c.self.inside.live in
-    let vn : frames_of slots (take n regions) ≡ c.args.self.now.now = ap (λ (p : Stored). p.now) c.self.view_is in
+    let vn : frames_of slots (take n regions) ≡ c.args.self.now.now = ap (λ (p : PlainStore). p.now) c.self.view_is in
     let f = finds-top slots regions n c.args.slot c.self.inside.top c.args.self.now.now c.self.invariant.0 vn c.requires
     c.self.invariant.2 in
     omega (arith, f.inside, c.len.ensures)
@@ -21,7 +21,7 @@ write_cell-requires c =
     let slots = c.self.inside.slots.now in
     let regions = c.self.inside.regions.now in
     let n = c.self.inside.live in
-    let vn : frames_of slots (take n regions) ≡ c.args.self.now.now = ap (λ (p : Stored). p.now) c.self.view_is in
+    let vn : frames_of slots (take n regions) ≡ c.args.self.now.now = ap (λ (p : PlainStore). p.now) c.self.view_is in
     let f = finds-top slots regions n c.args.slot c.self.inside.top c.args.self.now.now c.self.invariant.0 vn c.requires
     c.self.invariant.2 in
     omega (arith, f.inside, c.place_of-at.ensures)
@@ -31,7 +31,7 @@ returns-clause-now c =
     let slots = c.self.inside.slots.now in
     let regions = c.self.inside.regions.now in
     let n = c.self.inside.live in
-    let vn : frames_of slots (take n regions) ≡ c.args.self.now.now = ap (λ (p : Stored). p.now) c.self.view_is in
+    let vn : frames_of slots (take n regions) ≡ c.args.self.now.now = ap (λ (p : PlainStore). p.now) c.self.view_is in
     let f = finds-top slots regions n c.args.slot c.self.inside.top c.args.self.now.now c.self.invariant.0 vn c.requires
     c.self.invariant.2 in
     let at = c.place_of-at.ensures in

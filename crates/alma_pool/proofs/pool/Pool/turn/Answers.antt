@@ -1,6 +1,6 @@
 use Rattle.std.proofs.Common.{◌≡◌, ◌≤◌, ◌+◌, sym, ap, ◌∙◌, arith, length}
 use Rattle.std.proofs.lemmas.List.{length-map}
-use Rattle.alma_pool.specs.Pool.{PoolView, turned}
+use Rattle.alma_pool.specs.Pool.{PoolView, take_turn}
 use Rattle.std.proofs.lemmas.List.Elements.{All-set}
 use Rattle.alma_pool.specs.declared.pool.Player.{Player}
 use Rattle.alma_pool.specs.Ready.{IsReady, played_of}
@@ -20,7 +20,7 @@ returns-clause-turn c =
     turned_view players c.args.k old c.play.new.player c.self.inside.whole c.args.self.now c.self.view_is
     (omega (arith, c.requires.there, ap (λ (p : PoolView). length p.programs) c.self.view_is, length-map players played_of))
     c.index_mut-player.ensures.value
-    (ok_of c.play.result (played_of c.play.new.player ≡ turned (played_of old)) (sym c.is_err.ensures.value ∙ c.if-is_err.false)
+    (ok_of c.play.result (played_of c.play.new.player ≡ take_turn (played_of old)) (sym c.is_err.ensures.value ∙ c.if-is_err.false)
     c.play.ensures.turn)
 
 pub returns-clause-counted : goal.returns-clause-counted

@@ -4,14 +4,14 @@ use Rattle.std.specs.Coded.{Coded, code_by, coded×, coded_ℕ, coded_bool, code
 
 -- the items of now, the copies from the bottom, for each item whether a write to it needs no note, and the
 -- free places for copies and for notes
-pub record Rewound (T : Type 0) : Type 0 where
+pub record PlainRewind (T : Type 0) : Type 0 where
   pub now : List T
   pub held : List (List T)
   pub noted : List Bool
   pub choice_room : ℕ
   pub trail_room : ℕ
 
-abbrev pub rewound_code : {T : Type 0} → Coded T → Coded (Rewound T)
+abbrev pub rewound_code : {T : Type 0} → Coded T → Coded (PlainRewind T)
 rewound_code {T} code =
     code_by
     (List T × (List (List T) × (List Bool × (ℕ × ℕ))))

@@ -8,7 +8,7 @@ use Rattle.alma_memory_store.specs.Regions.{frames_of, AreLaid, AreTotaled, decl
 
 -- the live frames, the whole copies from the bottom, for each slot of each live frame whether a write to it
 -- needs no note, and the free places
-pub record Stored : Type 0 where
+pub record PlainStore : Type 0 where
   pub now : List PlainFrame
   pub held : List (List PlainFrame)
   pub noted : List (List Bool)

@@ -17,20 +17,20 @@ unless_whole true range = []
 unless_whole false range = range ∷ []
 
 -- a range that is only checked
-abbrev pub checked : Range → List Range
-checked range = unless_whole (is_whole range) range
+abbrev pub check_range : Range → List Range
+check_range range = unless_whole (is_whole range) range
 
 -- the ranges that the code of a phrase itself names
 abbrev pub named_ranges : Phrase → List Range
-named_ranges (StmtPhrase (Assign d e range)) = checked range
-named_ranges (StmtPhrase (ForTo (a_loop d range counter limit from to by body))) = checked range
-named_ranges (StmtPhrase (SomeOf (a_loop d range counter limit from to by body))) = checked range
+named_ranges (StmtPhrase (Assign d e range)) = check_range range
+named_ranges (StmtPhrase (ForTo (a_loop d range counter limit from to by body))) = check_range range
+named_ranges (StmtPhrase (SomeOf (a_loop d range counter limit from to by body))) = check_range range
 named_ranges (StmtPhrase (Read d how range)) = range ∷ []
 named_ranges (TestPhrase (Bind d e range left)) = range ∷ []
 named_ranges (TestPhrase (Unify d range e range')) = range ∷ range' ∷ []
 named_ranges (ExprPhrase (Chr e)) = char_range ∷ []
-named_ranges (ArgPhrase (ByValue e range)) = checked range
-named_ranges (ArgPhrase (MixValue e range)) = checked range
+named_ranges (ArgPhrase (ByValue e range)) = check_range range
+named_ranges (ArgPhrase (MixValue e range)) = check_range range
 named_ranges (SelPhrase (Index e range cells)) = range ∷ []
 named_ranges _ = []
 
@@ -45,7 +45,7 @@ pub record Names (a b : Tables) (ranges : List Range) (texts : List (List ℕ)) 
   pub of_texts : b.texts ≡ with_entries same_text a.texts texts
 
 -- the tables b are a with what these phrases name, and the numbers of the phrases are of INTEGER
-pub record Walked (a b : Tables) (phrases : List Phrase) : Type 0 where
+pub record AddsPhrases (a b : Tables) (phrases : List Phrase) : Type 0 where
   pub names : Names a b (of_each named_ranges phrases) (of_each texts_of phrases)
   pub integers : AllByRecursion (λ x. HasIntegers x) phrases
 
@@ -56,7 +56,7 @@ HasIntegerEnds range = (is_integer range.low ≡ true) × (is_integer range.high
 -- the range of a result, where there is one, which is only checked
 abbrev pub checked_result : Option Range → List Range
 checked_result None = []
-checked_result (Some range) = checked range
+checked_result (Some range) = check_range range
 
 -- the ranges of the results of a program
 abbrev pub checked_results : Program → List Range
